@@ -167,7 +167,7 @@ module _ {S P : Type 0} (rules : ReadRules P) where
   -- what filled nothing hands out nothing for the same cause, where there is capacity
   pub empty_read : (s m t : Buffered S P) → EmptyFillCaused rules s m → 0 < m.block.capacity
       → ReaderConsumes rules 0 m t → EmptyReadCaused rules s t
-  empty_read s m t (inl said) room handed = inl (record { filled = m; declined = said; handed = handed })
+  empty_read s m t (inl said) room handed = inl (m, said, handed)
   empty_read s m t (inr (inl none)) room handed = absurd (omega (arith, none, room))
   empty_read s m t (inr (inr rose)) room handed =
       inr (omega (arith, ap (λ l. l.reads.zero_reads) handed.told, rose))

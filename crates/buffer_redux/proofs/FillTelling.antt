@@ -3,7 +3,7 @@ use Rattle.std.proofs.Common.{◌≡◌, ◌∙◌, ℕ, ◌+◌, ◌<◌, ◌�
 use Rattle.std.proofs.lemmas.Bool.{cases_lt}
 use Rattle.std.specs.declared.io.Error.{Error}
 use Rattle.redux_buffer.specs.GoesOn.{GoesOn-none}
-use Rattle.redux_buffer.specs.StreamLog.{StreamLog, with_end}
+use Rattle.redux_buffer.specs.StreamLog.{StreamLog, end_of_some, with_end}
 use Rattle.redux_buffer.specs.LogGrows.{ReadLogGrows, FillLogGrows}
 use Rattle.buffer_redux.specs.Policy.{ReadRules, ReadsSteadily}
 use Rattle.buffer_redux.specs.Buffered.{Buffered, with_calls}
@@ -17,9 +17,6 @@ use Rattle.buffer_redux.specs.ReaderTells.{after_fill, FaultsAlike, ReaderWent}
 
 end_rises : (n : ℕ) (shown : List ℕ) → n ≤ with_end n shown
 end_rises n shown = grind arith
-
-end_same : (n : ℕ) (shown : List ℕ) → 0 < length shown → with_end n shown ≡ n
-end_same n shown some = grind arith
 
 end_noted : (n : ℕ) (shown : List ℕ) → length shown ≡ 0 → with_end n shown ≡ n + 1
 end_noted n shown none = grind arith
@@ -104,7 +101,7 @@ module _ {S P : Type 0} (remaining : S → Option (List ℕ)) (rules : ReadRules
       → 0 < s.block.capacity → (after_fill s.own_calls answer t.block.bytes).fills.zero_fills + s.log.reads.zero_reads
       ≤ s.own_calls.fills.zero_fills + m.log.reads.zero_reads
   ends_bound (Ok a) f wants room = elim (cases_lt 0 (length t.block.bytes)) [
-    | inl some ↦ omega (arith, end_same s.own_calls.fills.zero_fills t.block.bytes some, f.grows.zero_reads)
+    | inl some ↦ omega (arith, end_of_some s.own_calls.fills.zero_fills t.block.bytes some, f.grows.zero_reads)
     | inr few ↦ (
         let none : length t.block.bytes ≡ 0 = omega (arith, few) in
         let dry = Fills-empty rules s a m f wants room (ap (λ b. length b.bytes) (sym block) ∙ none) in
@@ -119,7 +116,7 @@ module _ {S P : Type 0} (remaining : S → Option (List ℕ)) (rules : ReadRules
   once_bound (Ok a) f orders = elim (cases_lt 0 (length t.block.bytes)) [
     | inl some ↦ omega (
       arith,
-      end_same s.own_calls.fills.zero_fills t.block.bytes some,
+      end_of_some s.own_calls.fills.zero_fills t.block.bytes some,
       none_where_shown rules orders s m a f.filled (omega (arith, some, ap (λ b. length b.bytes) block)),
     )
     | inr few ↦ omega (

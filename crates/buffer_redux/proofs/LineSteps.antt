@@ -9,20 +9,21 @@ use Rattle.std.specs.IoError.{error_kind}
 use Rattle.std.specs.declared.io.Error.{Error}
 use Rattle.std.specs.declared.io.ErrorKind.TheVariants.{InvalidData}
 use Rattle.redux_buffer.specs.Block.{Block, IsBlock, Plain, Ring, limit_of}
+use Rattle.redux_buffer.specs.Faults.{OnlyInterrupts-same}
 use Rattle.redux_buffer.specs.Transfer.{ReadsOnce}
 use Rattle.redux_buffer.specs.StreamLog.{zero_of_none}
 use Rattle.buffer_redux.specs.Policy.{ReadRules}
 use Rattle.buffer_redux.specs.Buffered.{Buffered}
 use Rattle.buffer_redux.specs.BufReader.{RanDry, ReadsInOrder, ReadsIntoBuf}
-use Rattle.buffer_redux.specs.FillRetried.{FillRetried, InterruptedSteps}
+use Rattle.buffer_redux.specs.FillRetried.{FillRetried, InterruptedSteps, Retried}
 use Rattle.buffer_redux.specs.ReadAll.{HandedFront}
-use Rattle.buffer_redux.specs.ReadLine.{AppendsLine, AppendsText, BehindEnded, BehindRetried, EndsLine, FillsLine, FillsOn}
+use Rattle.buffer_redux.specs.ReadLine.{AppendsLine, AppendsText, BehindEnded, EndsLine, FillsLine, FillsOn}
 use Rattle.buffer_redux.specs.ReadLine.{IsPart, MakesSpace, NeverUtf8, ReadsBehind, no_text}
 use Rattle.buffer_redux.specs.ReadUntil.{FirstAt, Lacks, Passes}
 use Rattle.buffer_redux.specs.Sparing.{Spared}
 use Rattle.buffer_redux.specs.UntilLaws.{lacking_through}
 use Rattle.buffer_redux.proofs.ReadAll.{front_joins}
-use Rattle.buffer_redux.proofs.Retrying.{HandsNothing, no_fault, one_interrupt, refilling, retried_dry, retrying}
+use Rattle.buffer_redux.proofs.Retrying.{HandsNothing, one_interrupt, refilling, retried_dry, retrying}
 use Rattle.buffer_redux.proofs.Searching.{first_through}
 use Rattle.buffer_redux.proofs.UntilSteps.{front_filled, passes_first, until_end, until_failed, until_stopped}
 use Rattle.buffer_redux.proofs.Utf8Fronts.{never_line}
@@ -98,10 +99,10 @@ module _ {S P : Type 0} (remaining : S → Option (List ℕ)) (rules : ReadRules
   reading : HandsNothing remaining rules (ReadsBehind remaining rules)
   reading = record {
     front = λ s answer t b. b.front;
-    only = λ s t b. no_fault s.log.reads.faults t.log.reads.faults b.ended.0;
+    only = λ s t b. OnlyInterrupts-same s.log.reads.faults t.log.reads.faults b.ended.0;
     interrupt = λ s e t is b. elim b.ended.1 [
       | inl came ↦ one_interrupt s.log.reads.faults t.log.reads.faults e is came
-      | inr grew ↦ no_fault s.log.reads.faults t.log.reads.faults (ap (λ x. x.log.reads.faults) grew.1)
+      | inr grew ↦ OnlyInterrupts-same s.log.reads.faults t.log.reads.faults (ap (λ x. x.log.reads.faults) grew.1)
     ];
   }
 
@@ -125,7 +126,7 @@ module _ {S P : Type 0} (remaining : S → Option (List ℕ)) (rules : ReadRules
         omega (arith, before.1, i.2.went.front.keeps.grows.zero_reads),
       )
 
-  behind_ended : (s t : Buffered S P) → BehindRetried remaining rules s (Ok tt) t
+  behind_ended : (s t : Buffered S P) → Retried (ReadsBehind remaining rules) s (Ok tt) t
       → (length s.block.bytes < length t.block.bytes) ⊎ ((t.block.bytes ≡ s.block.bytes) × RanDry s t)
   behind_ended s t r =
       let before = interrupted_bytes r.count s r.last r.interrupted in
@@ -141,7 +142,7 @@ module _ {S P : Type 0} (remaining : S → Option (List ℕ)) (rules : ReadRules
   line_filled s (Err e) t none f = inl (inl (none, f))
 
   pub line_more : (s t : Buffered S P) → 0 < length s.block.bytes → IsPart s.block.bytes
-      → BehindRetried remaining rules s (Ok tt) t → ¬ (length t.block.bytes ≡ length s.block.bytes)
+      → Retried (ReadsBehind remaining rules) s (Ok tt) t → ¬ (length t.block.bytes ≡ length s.block.bytes)
       → FillsLine {A = Unit {0}} remaining rules s (Ok tt) t
   line_more s t some part read more = (
     inr (some, part, read),
@@ -152,7 +153,7 @@ module _ {S P : Type 0} (remaining : S → Option (List ℕ)) (rules : ReadRules
   )
 
   pub line_broken : (s : Buffered S P) (e : Error) (t : Buffered S P) → 0 < length s.block.bytes → IsPart s.block.bytes
-      → BehindRetried remaining rules s (Ok tt) t → length t.block.bytes ≡ length s.block.bytes
+      → Retried (ReadsBehind remaining rules) s (Ok tt) t → length t.block.bytes ≡ length s.block.bytes
       → error_kind e ≡ InvalidData → FillsLine {A = Unit {0}} remaining rules s (Err e) t
   line_broken s e t some part read same kind = elim (behind_ended s t read) [
     | inl grew ↦ absurd (omega (arith, grew, same))

@@ -267,24 +267,24 @@ module _ {S P : Type 0} (remaining : S → Option (List ℕ)) (rules : ReadRules
         keeps = inside_keeps n out' t r inside;
       }
   says (Err e) out' t r inside =
-      let f : Fills rules s (Err e) t = fills rules s (Err e) t r.fill.whole r.fill.filled in
+      let f : Fills rules s (Err e) t = fills rules s (Err e) t r.0.whole r.0.filled in
       record {
         bound = tt;
         bytes = Keeps-of (reader_remaining remaining rules s) (reader_remaining remaining rules t)
-            (remaining_gives remaining rules s t [] f.in_order r.fill.known f.claims f.capacity);
+            (remaining_gives remaining rules s t [] f.in_order r.0.known f.claims f.capacity);
         in_order = f.in_order;
         caused = f.caused;
         empty = λ is some. cc;
         ran_dry = λ is some wants. cc;
-        steps = through_buffer inside (record { filled = t; fills = f; handed = refl }) r.same;
-        keeps = filled_keeps remaining rules s (Err e) t f r.fill;
+        steps = through_buffer inside (record { filled = t; fills = f; handed = refl }) r.1;
+        keeps = filled_keeps remaining rules s (Err e) t f r.0;
       }
 
   -- the slice keeps its length
   pub keeps_length : (answer : Result ℕ Error) (out' : List ℕ) (t : Buffered S P)
       → ReadsInside remaining rules s out answer out' t → StaysInside s.block (length out) → length out' ≡ length out
   keeps_length (Ok n) out' t r inside = same_length n out' t r inside
-  keeps_length (Err e) out' t r inside = ap length r.same
+  keeps_length (Err e) out' t r inside = ap length r.1
 
   pub one_read_says : (answer : Result ℕ Error) (out' : List ℕ) (t : Buffered S P) → IsBlock s.block
       → ReadsInside remaining rules s out answer out' t → StaysInside s.block (length out)

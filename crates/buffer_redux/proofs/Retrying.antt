@@ -3,7 +3,7 @@ use Rattle.std.proofs.Common.{◌≡◌, ℕ, ◌+◌, ◌<◌, ◌≤◌, zero,
 use Rattle.std.proofs.lemmas.List.Elements.{All-nil, All-cons}
 use Rattle.std.specs.declared.io.Error.{Error}
 use Rattle.redux_buffer.specs.Block.{IsBlock}
-use Rattle.redux_buffer.specs.Faults.{IsInterrupt, OnlyInterrupts, OnlyInterrupts-none, OnlyInterrupts-joins}
+use Rattle.redux_buffer.specs.Faults.{IsInterrupt, OnlyInterrupts, OnlyInterrupts-same, OnlyInterrupts-joins}
 use Rattle.buffer_redux.specs.Policy.{ReadRules}
 use Rattle.buffer_redux.specs.Buffered.{Buffered}
 use Rattle.buffer_redux.specs.BufReader.{InnerGives, RanDry, ReadErrorCaused}
@@ -22,9 +22,6 @@ one_interrupt old new e is came = record {
   interrupted = All-cons IsInterrupt e [] is (All-nil IsInterrupt);
   faults = came;
 }
-
-pub no_fault : (old new : List Error) → new ≡ old → OnlyInterrupts old new
-no_fault old new same = subst (OnlyInterrupts old) (sym same) (OnlyInterrupts-none old)
 
 pub if_err : {A : Type 0} (answer : Result A Error) (F : Error → Type 0) → ((e : Error) → F e) → IfErr answer F
 if_err (Ok a) F h = tt
@@ -89,7 +86,7 @@ module _ {S P : Type 0} (remaining : S → Option (List ℕ)) (rules : ReadRules
   fault_interrupt : (s : Buffered S P) (e : Error) (t : Buffered S P) → IsInterrupt e
       → ReadErrorCaused {A = Unit {0}} rules s (Err e) t → OnlyInterrupts s.log.reads.faults t.log.reads.faults
   fault_interrupt s e t is (inl came) = one_interrupt s.log.reads.faults t.log.reads.faults e is came
-  fault_interrupt s e t is (inr gave) = no_fault s.log.reads.faults t.log.reads.faults
+  fault_interrupt s e t is (inr gave) = OnlyInterrupts-same s.log.reads.faults t.log.reads.faults
       (ap (λ l. l.reads.faults) gave.told ∙ (turns_facts rules gave.count s gave.last gave.turns).faults)
 
   pub filling : HandsNothing (OneFill remaining rules)
@@ -107,7 +104,7 @@ module _ {S P : Type 0} (remaining : S → Option (List ℕ)) (rules : ReadRules
         noted = f.noted;
       };
     };
-    only = λ s t f. no_fault s.log.reads.faults t.log.reads.faults f.fills.caused;
+    only = λ s t f. OnlyInterrupts-same s.log.reads.faults t.log.reads.faults f.fills.caused;
     interrupt = λ s e t is f. fault_interrupt s e t is f.fills.caused;
   }
 

@@ -41,12 +41,6 @@ pub record PolicyDeclined {S P : Type 0} (rules : ReadRules P) (s t : Buffered S
   pub none : s.block.bytes ≡ []
   pub declined : Declined rules s t
 
--- the policy ended filling with nothing buffered; then nothing was handed out, of which the policy was told
-pub record ReadDeclined {S P : Type 0} (rules : ReadRules P) (s t : Buffered S P) : Type 0 where
-  pub filled : Buffered S P
-  pub declined : PolicyDeclined rules s filled
-  pub handed : ReaderConsumes rules 0 filled t
-
 -- an error is the reader's last fault, or the policy's answer; an Ok met no fault
 abbrev pub ReadErrorCaused : {S P A : Type 0} → ReadRules P → Buffered S P → Result A Error → Buffered S P → Type 0
 ReadErrorCaused rules s (Ok a) t = t.log.reads.faults ≡ s.log.reads.faults
@@ -67,9 +61,10 @@ FillEnded rules s (Err e) t = ⊤
 abbrev pub EmptyFillCaused : {S P : Type 0} → ReadRules P → Buffered S P → Buffered S P → Type 0
 EmptyFillCaused rules s t = PolicyDeclined rules s t ⊎ ((t.block.capacity ≡ 0) ⊎ RanDry s t)
 
--- a read hands out nothing only where the policy said no over an empty buffer, or the reader ran dry
+-- a read hands out nothing only where the policy said no over an empty buffer, and then was told so, or the reader ran dry
 abbrev pub EmptyReadCaused : {S P : Type 0} → ReadRules P → Buffered S P → Buffered S P → Type 0
-EmptyReadCaused rules s t = ReadDeclined rules s t ⊎ RanDry s t
+EmptyReadCaused {S} {P} rules s t =
+    ((filled : Buffered S P) × PolicyDeclined rules s filled × ReaderConsumes rules 0 filled t) ⊎ RanDry s t
 
 -- the last ask: after these turns the policy, which saw all that came of them, ordered it, and it offered all the room
 pub record LastAsk {S P : Type 0} (rules : ReadRules P) (s t : Buffered S P) : Type 0 where
@@ -106,10 +101,6 @@ pub record SteadyFill {S P : Type 0} (s : Buffered S P) (ok : Bool) (t : Buffere
   pub faulted : ok ≡ false → length s.log.reads.faults < length t.log.reads.faults
   pub empty : ok ≡ true → 0 < s.block.capacity → length t.block.bytes ≡ 0 → RanDry s t
 
--- what a fill does under a steady policy
-abbrev pub FillsSteadily : {S P : Type 0} → ReadRules P → Buffered S P → Bool → Buffered S P → Type 0
-FillsSteadily rules s ok t = (rules.claims s.policy).steady ≡ true → SteadyFill s ok t
-
 -- all that filling promises
 pub record Fills {S P A : Type 0} (rules : ReadRules P) (s : Buffered S P) (answer : Result A Error) (t : Buffered S P)
     : Type 0 where
@@ -126,7 +117,7 @@ pub record Fills {S P A : Type 0} (rules : ReadRules P) (s : Buffered S P) (answ
   pub empty : is_ok answer ≡ true → length t.block.bytes ≡ 0 → EmptyFillCaused rules s t
   pub last : s.log.reads.asks < t.log.reads.asks → LastAsk rules s t
   pub ahead : LooksAhead (rules.claims s.policy).minimum s (is_ok answer) t
-  pub steadily : FillsSteadily rules s (is_ok answer) t
+  pub steadily : (rules.claims s.policy).steady ≡ true → SteadyFill s (is_ok answer) t
   pub sparing : SparesClaimed rules s t
 
 -- of what the reader inside was known to have left, just what it gave since is gone

@@ -6,7 +6,7 @@ use Rattle.std.specs.declared.io.ErrorKind.TheVariants.{WriteZero, TimedOut}
 use Rattle.std.specs.declared.io.traits.SeekFrom.{SeekFrom}
 use Rattle.redux_buffer.specs.Block.{Block, IsBlock, Extends, MakesRoomInFront, usable}
 use Rattle.redux_buffer.specs.LogGrows.{WriteLogGrows}
-use Rattle.redux_buffer.specs.StreamLog.{StreamLog, WriteLog, SeekCall, Readies, SeekTells, portion, after_write, after_flush}
+use Rattle.redux_buffer.specs.StreamLog.{StreamLog, WriteLog, Readies, SeekTells, portion, after_write, after_flush}
 use Rattle.redux_buffer.specs.Faults.{IsInterrupt, MetInterrupts, SendErrorCaused}
 use Rattle.redux_buffer.specs.Transfer.{DoesNothing, Sends}
 use Rattle.buffer_redux.specs.declared.policy.FlushAmt.{FlushAmt}
@@ -317,24 +317,16 @@ pub record SeeksFlushed {S P : Type 0} (tells : S → StreamLog) (trace : S → 
   pub flushed : WasFlushed tells trace s flushing left
   pub ended : MatchResult flushing (λ _. SeeksInner tells readies left to answer t) (λ e. (answer ≡ Err e) × (t ≡ left))
 
--- the seeks that were told, with one more
-abbrev pub with_seek : List SeekCall → SeekFrom → Result ℕ Error → List SeekCall
-with_seek calls to answer = calls ++ record { to = to; answer = answer } ∷ []
-
 -- what an Ok `seek(to)` has done: all is flushed, and the inner writer was asked once to seek, and gave this answer
 pub record IsSought {S P : Type 0} (s : Buffered S P) (to : SeekFrom) (answer : Result ℕ Error) (t : Buffered S P)
     : Type 0 where
   pub flushed : IsFlushed s t
-  pub asked : t.log.seeks.calls ≡ with_seek s.log.seeks.calls to answer
+  pub asked : t.log.seeks.calls ≡ s.log.seeks.calls ++ record { to = to; answer = answer } ∷ []
 
--- the flush failed, and the inner writer was not asked to seek
-pub record NotSought {S P : Type 0} (s : Buffered S P) (e : Error) (t : Buffered S P) : Type 0 where
-  pub caused : SendErrorCaused s.log.writes t.log.writes e
-  pub asked : t.log.seeks.calls ≡ s.log.seeks.calls
-
--- an error is that of the flush, or of the inner writer's seek
+-- an error is that of the flush, and the inner writer was not asked to seek; or it is that of its seek
 abbrev pub SeekErrorCaused : {S P : Type 0} → Buffered S P → SeekFrom → Error → Buffered S P → Type 0
-SeekErrorCaused s to e t = NotSought s e t ⊎ IsSought s to (Err e) t
+SeekErrorCaused s to e t = (SendErrorCaused s.log.writes t.log.writes e × (t.log.seeks.calls ≡ s.log.seeks.calls))
+    ⊎ IsSought s to (Err e) t
 
 -- all that `seek(to)` promises
 pub record WasSought {S P : Type 0} (tells : S → StreamLog) (trace : S → S → Type 0) (readies : Readies)

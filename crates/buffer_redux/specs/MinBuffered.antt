@@ -1,9 +1,9 @@
 -- What `MinBuffered` does before a read.
-use Rattle.std.specs.Prelude.{◌≡◌, ℕ, ◌-◌, ◌<◌, ◌≤◌, length, Ok, Err, MatchBool, Some, false}
+use Rattle.std.specs.Prelude.{◌≡◌, ℕ, ◌-◌, ◌<◌, ◌≤◌, length, MatchBool, MatchResult, Some, false}
 use Rattle.redux_buffer.specs.Block.{Block, MakesRoomInFront, Reserves, usable}
 use Rattle.redux_buffer.specs.GrowError.{GrowthFailed}
 use Rattle.buffer_redux.specs.declared.policy.min_buffered.MinBuffered.{MinBuffered}
-use Rattle.buffer_redux.specs.Policy.{BeforeReadTable, ReadRules}
+use Rattle.buffer_redux.specs.Policy.{ReadRules}
 
 -- how many bytes can be written once all free space is usable
 abbrev pub free_space : Block → ℕ
@@ -23,15 +23,11 @@ pub record ReadiesFor (n : ℕ) (old new : Block) : Type 0 where
 
 -- `MinBuffered` reads where fewer bytes than its number are there. It fails only where what a capacity of its number
 -- lacks was refused, and itself never changes
-abbrev pub min_before_read : BeforeReadTable MinBuffered
-min_before_read p b (Ok d) p' b' =
-    (p' ≡ p) × MatchBool d.0 ((length b.bytes < p.0) × ReadiesFor p.0 b b') ((p.0 ≤ length b.bytes) × (b' ≡ b))
-min_before_read p b (Err e) p' b' =
-    (p' ≡ p) × (b' ≡ b) × (length b.bytes < p.0) × GrowthFailed (p.0 - b.capacity) b e
-
 abbrev pub min_read_rules : ReadRules MinBuffered
 min_read_rules = record {
-  before_read = min_before_read;
+  before_read = λ p b answer p' b'. MatchResult answer
+      (λ d. (p' ≡ p) × MatchBool d.0 ((length b.bytes < p.0) × ReadiesFor p.0 b b') ((p.0 ≤ length b.bytes) × (b' ≡ b)))
+      (λ e. (p' ≡ p) × (b' ≡ b) × (length b.bytes < p.0) × GrowthFailed (p.0 - b.capacity) b e);
   after_consume = λ p b amount p' b'. (p' ≡ p) × (b' ≡ b);
   claims = λ p. record { minimum = Some p.0; steady = false; spares = Some p.0 };
 }

@@ -1,5 +1,5 @@
 -- What a policy may do, and what it may claim.
-use Rattle.std.specs.Prelude.{◌≡◌, ℕ, ◌*◌, ◌<◌, ◌≤◌, ◌==◌, Bool, true, false, length, Result, Ok, Err, IfOk, OnErr, IsOkAnd, MatchBool, ⊤, Option, None, Some, nat_lt, if◌then◌else◌}
+use Rattle.std.specs.Prelude.{◌≡◌, ℕ, ◌*◌, ◌<◌, ◌≤◌, ◌==◌, Bool, true, false, length, Result, Ok, Err, IfOk, OnErr, IsOkAnd, MatchBool, MatchResult, ⊤, Option, None, Some, nat_lt, if◌then◌else◌}
 use Rattle.std.specs.declared.io.Error.{Error}
 use Rattle.redux_buffer.specs.Block.{Block, IsBlock, OnKind, usable}
 use Rattle.redux_buffer.specs.Potential.{potential}
@@ -18,17 +18,9 @@ pub record Lawful (old new : Block) : Type 0 where
 abbrev pub BeforeReadTable : Type 0 → Type 1
 BeforeReadTable P = P → Block → Result DoRead Error → P → Block → Type 0
 
--- the same of `after_consume` of an amount
-abbrev pub AfterConsumeTable : Type 0 → Type 1
-AfterConsumeTable P = P → Block → ℕ → P → Block → Type 0
-
 -- the same of `before_write` of so many incoming bytes
 abbrev pub BeforeWriteTable : Type 0 → Type 1
 BeforeWriteTable P = P → Block → ℕ → Result FlushAmt Error → P → Block → Type 0
-
--- the same of `after_write`, which leaves the buffer
-abbrev pub AfterWriteTable : Type 0 → Type 1
-AfterWriteTable P = P → Block → FlushAmt → P → Type 0
 
 -- what a reader's policy may claim beyond its tables
 pub record ReadClaims : Type 0 where
@@ -49,16 +41,16 @@ pub record WriteClaims : Type 0 where
 abbrev pub no_write_claims : WriteClaims
 no_write_claims = record { steady = false }
 
--- what the calls of a reader's policy may answer and change beside the law, and what it claims
+-- what the calls of a reader's policy may answer and change beside the law, and what it claims. `after_consume` is of an amount
 pub record ReadRules (P : Type 0) : Type 1 where
   pub before_read : BeforeReadTable P
-  pub after_consume : AfterConsumeTable P
+  pub after_consume : P → Block → ℕ → P → Block → Type 0
   pub claims : P → ReadClaims
 
--- the same of a writer's policy
+-- the same of a writer's policy, whose `after_write` leaves the buffer
 pub record WriteRules (P : Type 0) : Type 1 where
   pub before_write : BeforeWriteTable P
-  pub after_write : AfterWriteTable P
+  pub after_write : P → Block → FlushAmt → P → Type 0
   pub claims : P → WriteClaims
 
 -- no more than the law
@@ -147,13 +139,10 @@ abbrev pub amount_when_full : Block → ℕ → ℕ
 amount_when_full b incoming = if nat_lt (usable b) incoming then length b.bytes else 0
 
 -- `StdPolicy` reads only where nothing is buffered, and changes nothing
-abbrev pub std_before_read : {P : Type 0} → BeforeReadTable P
-std_before_read p b (Ok d) p' b' = (p' ≡ p) × (b' ≡ b) × (d.0 ≡ (length b.bytes == 0))
-std_before_read p b (Err e) p' b' = ⊥
-
 abbrev pub std_read_rules : {P : Type 0} → ReadRules P
 std_read_rules = record {
-  before_read = std_before_read;
+  before_read = λ p b answer p' b'.
+      MatchResult answer (λ d. (p' ≡ p) × (b' ≡ b) × (d.0 ≡ (length b.bytes == 0))) (λ _. ⊥);
   after_consume = λ p b n p' b'. (p' ≡ p) × (b' ≡ b);
   claims = λ p. record { minimum = None; steady = true; spares = Some 0 };
 }

@@ -44,12 +44,7 @@ pub record ReadThrough {S P : Type 0} (remaining : S → Option (List ℕ)) (rul
   pub fill : FillDone remaining rules s (Ok n) filled
   pub hands : HandOut remaining rules filled out n out' t
 
-pub record ReadFillFailed {S P : Type 0} (remaining : S → Option (List ℕ)) (rules : ReadRules P)
-    (s : Buffered S P) (out : List ℕ) (e : Error) (out' : List ℕ) (t : Buffered S P) : Type 0 where
-  pub fill : FillDone {A = ℕ} remaining rules s (Err e) t
-  pub same : out' ≡ out
-
 abbrev pub ReadsInside : {S P : Type 0} → (S → Option (List ℕ)) → ReadRules P
     → Buffered S P → List ℕ → Result ℕ Error → List ℕ → Buffered S P → Type 0
 ReadsInside remaining rules s out (Ok n) out' t = ReadThrough remaining rules s out n out' t
-ReadsInside remaining rules s out (Err e) out' t = ReadFillFailed remaining rules s out e out' t
+ReadsInside remaining rules s out (Err e) out' t = FillDone {A = ℕ} remaining rules s (Err e) t × (out' ≡ out)

@@ -55,14 +55,10 @@ pub record ReadsBehind {S P A : Type 0} (remaining : S → Option (List ℕ)) (r
   pub policy : t.policy ≡ s.policy
   pub capacity : 2 * length s.block.bytes ≤ s.block.capacity → t.block.capacity ≡ s.block.capacity
 
--- that read, made again where it was interrupted
-abbrev pub BehindRetried : {S P : Type 0} → (S → Option (List ℕ)) → ReadRules P → Step (Buffered S P)
-BehindRetried remaining rules = Retried (ReadsBehind remaining rules)
-
 -- how a line goes on: by a fill where nothing is buffered, and by such a read behind a part of a character
 abbrev pub FillsOn : {S P : Type 0} → (S → Option (List ℕ)) → ReadRules P → Step (Buffered S P)
 FillsOn remaining rules s answer t = ((length s.block.bytes ≡ 0) × FillRetried remaining rules s answer t)
-    ⊎ ((0 < length s.block.bytes) × IsPart s.block.bytes × BehindRetried remaining rules s answer t)
+    ⊎ ((0 < length s.block.bytes) × IsPart s.block.bytes × Retried (ReadsBehind remaining rules) s answer t)
 
 -- a line went on, by more bytes behind a part of a character; or that failed; or the stream ended behind the part
 abbrev pub FillsLine : {S P A : Type 0} → (S → Option (List ℕ)) → ReadRules P → Buffered S P → Result A Error

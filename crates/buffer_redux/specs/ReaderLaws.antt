@@ -33,26 +33,12 @@ ReadsInOrder-joins s m t h k a b = record {
       ∙ ap (λ l. l ++ b.got) a.equal ∙ append_assoc s.block.bytes a.got b.got;
 }
 
--- a call that hands out nothing more
-pub ReadsInOrder-then : {S P : Type 0} (s m t : Buffered S P) (h : List ℕ)
-    → ReadsInOrder s h m → ReadsInOrder m [] t → ReadsInOrder s h t
-ReadsInOrder-then s m t h a b = subst (λ l. ReadsInOrder s l t) (append-nil h) (ReadsInOrder-joins s m t h [] a b)
-
 -- from an empty buffer on, what was given is what was handed out, then what is buffered
 pub ReadsInOrder-fresh : {S P : Type 0} (s t : Buffered S P) (handed : List ℕ) → s.block.bytes ≡ []
     → ReadsInOrder s handed t
     → t.log.reads.given ≡ s.log.reads.given ++ (handed ++ t.block.bytes)
 ReadsInOrder-fresh s t handed none a =
     a.given ∙ ap (λ l. s.log.reads.given ++ l) (sym (a.equal ∙ ap (λ l. l ++ a.got) none))
-
--- all that a fill showed and that was then consumed was handed out
-pub ReadsInOrder-shown : {S P : Type 0} (s m t : Buffered S P) (h shown : List ℕ) → ReadsInOrder s h m
-    → shown ≡ m.block.bytes
-    → ReadsInOrder m (take (length shown) m.block.bytes) t → ReadsInOrder s (h ++ shown) t
-ReadsInOrder-shown s m t h shown a same b =
-    let all : take (length shown) m.block.bytes ≡ shown =
-    ap (λ l. take (length l) m.block.bytes) same ∙ take-length m.block.bytes ∙ sym same in
-    ReadsInOrder-joins s m t h shown a (subst (λ l. ReadsInOrder m l t) all b)
 
 -- what is known ahead of a reader loses just what is handed out
 pub ReadsInOrder-ahead : {S P : Type 0} (remaining : S → Option (List ℕ)) (s t : Buffered S P) (handed : List ℕ)

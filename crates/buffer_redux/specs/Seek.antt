@@ -1,5 +1,5 @@
 -- Which seeks a seek of a buffered reader makes, and what it does to the reader.
-use Rattle.std.specs.Prelude.{◌≡◌, ℕ, ℤ, pos, ◌+◌, ◌-◌, ◌^◌, ◌<◌, ◌≤◌, ◌-ℤ◌, neg_ℤ, nat_le, int_le, ◌⊎◌, length, Option, None, Some, Result, Ok, Err, MatchResult, OnOk, OnErr, if◌then◌else◌}
+use Rattle.std.specs.Prelude.{◌≡◌, ℕ, ℤ, pos, ◌+◌, ◌-◌, ◌^◌, ◌<◌, ◌-ℤ◌, neg_ℤ, nat_le, int_le, ◌⊎◌, length, Option, None, Some, Result, Ok, Err, MatchResult, OnOk, OnErr, if◌then◌else◌}
 use Rattle.std.specs.IoError.{error_kind}
 use Rattle.std.specs.declared.io.Error.{Error}
 use Rattle.std.specs.declared.io.ErrorKind.TheVariants.{InvalidData}
@@ -68,10 +68,6 @@ pub record DropsWithin {S P : Type 0} (n : ℕ) (s : Buffered S P) (answer : Res
   pub dropped : ConsumesFirst n s.block t.block
   pub others : t ≡ with_block s t.block
 
-abbrev pub GoesOnWithin : {S P : Type 0} → ℤ → Buffered S P → Result (Unit {0}) Error → Buffered S P → Type 0
-GoesOnWithin offset s answer t =
-    (n : ℕ) → offset ≡ pos n → n ≤ length s.block.bytes → DropsWithin n s answer t
-
 -- a seek's answer without the place
 abbrev pub without_place : Result ℕ Error → Result (Unit {0}) Error
 without_place (Ok n) = Ok tt
@@ -84,11 +80,6 @@ pub record SeeksBy {S P : Type 0} (readies : Readies) (offset : ℤ) (s : Buffer
   pub answered : answer ≡ without_place place
   pub seeks : Seeks readies (plan_for (Current offset) (length s.block.bytes)) s place t
   pub leaves : SeekLeaves s place t
-
--- one seek from where the reader stands, back, or forward past what is buffered
-abbrev pub SeeksFar : {S P : Type 0} → Readies → ℤ → Buffered S P → Result (Unit {0}) Error → Buffered S P → Type 0
-SeeksFar readies offset s answer t =
-    ¬ ((n : ℕ) × (offset ≡ pos n) × (n ≤ length s.block.bytes)) → SeeksBy readies offset s answer t
 
 -- the place len bytes before the one that the stream inside said; where it said less than that, there is none
 abbrev pub SaysPlace : ℕ → Result ℕ Error → Result ℕ Error → Type 0

@@ -1,14 +1,14 @@
 -- How calls of a reader spare its plain buffer moves, over any trace of them.
 use Rattle.std.specs.Prelude.{◌≡◌, ℕ, ◌+◌, ◌*◌, ◌≤◌, ◌⊎◌, [], length, Result, Ok, Err}
-use Rattle.std.proofs.Common.{◌∙◌, ap, arith, le_refl, le_trans, refl}
+use Rattle.std.proofs.Common.{◌∙◌, arith, le_refl, le_trans, refl}
 use Rattle.std.specs.declared.io.Error.{Error}
 use Rattle.std.specs.declared.io.traits.SeekFrom.{SeekFrom}
-use Rattle.redux_buffer.specs.Block.{Block, Plain, IsBlock, Reserves, usable}
+use Rattle.redux_buffer.specs.Block.{Block, Plain, IsBlock, Reserves}
 use Rattle.redux_buffer.specs.GrowError.{GrowthFailed}
-use Rattle.redux_buffer.specs.Potential.{potential, of_plain}
+use Rattle.redux_buffer.specs.Potential.{potential}
 use Rattle.buffer_redux.specs.Policy.{ReadRules, ClaimsToSpare}
 use Rattle.redux_buffer.specs.StreamLog.{Readies, StreamLog}
-use Rattle.buffer_redux.specs.Buffered.{Buffered, with_block, with_calls, with_policy}
+use Rattle.buffer_redux.specs.Buffered.{Buffered, with_block, with_calls}
 use Rattle.buffer_redux.specs.Seek.{plan_for, Seeks}
 
 -- no move was undone, and the potential rose by no more than was given
@@ -73,27 +73,11 @@ Spared-joins keep s m t p q = record {
       };
 }
 
--- another policy moves nothing, nor does what is noted of calls
-spared_beside : {S P Q T : Type 0} (keep : ℕ) (s : Buffered S P) (t : Buffered S Q) (policy : T) (calls : StreamLog)
-    → Spared keep s t → Spared keep s (with_calls (with_policy t policy) calls)
-spared_beside keep s t policy calls p = record {
+-- what is noted of calls moves nothing
+pub Spared-noted : {S P Q : Type 0} (keep : ℕ) (s : Buffered S P) (t : Buffered S Q) (calls : StreamLog) → Spared keep s t
+    → Spared keep s (with_calls t calls)
+Spared-noted keep s t calls p = record {
   kind = p.kind;
   capacity = p.capacity;
   plain = λ plain three. let h = p.plain plain three in record { moved = h.moved; held = h.held };
 }
-
-pub Spared-under : {S P Q T : Type 0} (keep : ℕ) (s : Buffered S P) (t : Buffered S Q) (policy : T) → Spared keep s t
-    → Spared keep s (with_policy t policy)
-Spared-under keep s t policy = spared_beside keep s t policy t.own_calls
-
-pub Spared-noted : {S P Q : Type 0} (keep : ℕ) (s : Buffered S P) (t : Buffered S Q) (calls : StreamLog) → Spared keep s t
-    → Spared keep s (with_calls t calls)
-Spared-noted keep s t calls = spared_beside keep s t t.policy calls
-
--- since the buffer was empty, no more bytes were moved than were given
-pub Spared-moved : {S P Q : Type 0} (keep : ℕ) (s : Buffered S P) (t : Buffered S Q) → BeginsEmpty keep s
-    → Spared keep s t → MovedAtMostGiven s t
-Spared-moved keep s t begins p =
-    let all = of_plain s.block.kind (length s.block.bytes ≡ 0 → usable s.block ≡ s.block.capacity)
-    (length s.block.bytes + usable s.block ≡ s.block.capacity) begins.plain begins.whole.space in
-    omega (arith, (p.plain begins.plain begins.capacity).held, all (ap length begins.empty))

@@ -148,14 +148,3 @@ module _ {S P : Type 0} (remaining : S → Option (List ℕ)) (rules : ReadRules
     where
       nothing : reads.handed ≡ []
       nothing = nil_from_length reads.handed (sym reads.ends.0)
-
-  -- where the byte is buffered, nobody is asked
-  pub SkipsUntil-quiet : (answer : Result ℕ Error) (t : Buffered S P) → SkipsUntil remaining rules byte s answer t
-      → ¬ (Lacks byte s.block.bytes) → t.log ≡ s.log
-  SkipsUntil-quiet (Ok n) t skips some = (skips.buffered some).2.1.told
-  SkipsUntil-quiet (Err e) t skips some = absurd ((skips.buffered some).2)
-
-  pub ReadsUntil-quiet : (before : List ℕ) (answer : Result ℕ Error) (after : List ℕ) (t : Buffered S P)
-      → ReadsUntil remaining rules byte s before answer after t → ¬ (Lacks byte s.block.bytes) → t.log ≡ s.log
-  ReadsUntil-quiet before (Ok n) after t reads some = ((reads.buffered some).2.2.some (omega arith)).told
-  ReadsUntil-quiet before (Err e) after t reads some = ap (λ x. x.log) (reads.buffered some).2.1

@@ -53,16 +53,13 @@ module _ {S P : Type 0} (tells : S → StreamLog) (trace : S → S → Type 0) (
   TextWent s None t = (accepted : List ℕ) × WritesPieces s accepted t
   TextWent s (Some e) t = PieceFailed s e t
 
-  -- the formatting failed by itself, behind pieces, of which the last may have failed
-  abbrev pub FormatFailed : Buffered S P → Error → Buffered S P → Type 0
-  FormatFailed s e t = IsFormatError e × ((ended : Option Error) × TextWent s ended t)
-
   -- what a write of this text did. Where nothing is known of the text, or the formatting failed by itself, it still wrote
   -- pieces and did nothing else: some bytes were accepted, and none was lost
   pub record WritesText (s : Buffered S P) (text : Option (List ℕ)) (answer : Result (Unit {0}) Error) (t : Buffered S P)
       : Type 0 where
     pub along : ∥ ((accepted : List ℕ) × WritesAlong tells trace rules s accepted t) ∥₁
-    pub went : MatchResult answer (λ _. ∥ TextWent s None t ∥₁) (λ e. ∥ (FormatFailed s e t ⊎ PieceFailed s e t) ∥₁)
+    pub went : MatchResult answer (λ _. ∥ TextWent s None t ∥₁)
+        (λ e. ∥ ((IsFormatError e × ((ended : Option Error) × TextWent s ended t)) ⊎ PieceFailed s e t) ∥₁)
     pub whole : OnOk answer (IfSome text (λ bytes. WritesPieces s bytes t))
     pub beginning : IfErr answer (λ e. IfSome text (λ bytes. IsFormatError e ⊎ StoppedIn s bytes e t))
 

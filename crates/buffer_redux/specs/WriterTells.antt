@@ -3,7 +3,7 @@ use Rattle.std.specs.Prelude.{◌≡◌, ℕ, ◌+◌, ◌≤◌, ◌⊎◌, Lis
 use Rattle.std.proofs.Common.{refl, ap, ◌∙◌, arith, le_refl, le_trans}
 use Rattle.std.specs.declared.io.Error.{Error}
 use Rattle.std.specs.declared.io.ErrorKind.TheVariants.{WriteZero}
-use Rattle.redux_buffer.specs.Faults.{MetInterrupts, MetInterrupts-joins, MetInterrupts-parts, OnlyInterrupted-none, TookNothing, SendErrorCaused}
+use Rattle.redux_buffer.specs.Faults.{MetInterrupts, MetInterrupts-joins, MetInterrupts-none, MetInterrupts-parts, TookNothing, SendErrorCaused}
 use Rattle.redux_buffer.specs.StreamLog.{StreamLog, WriteLog, Readies, after_write, after_flush}
 use Rattle.redux_buffer.specs.LogGrows.{WriteLogGrows, WriteLogGrows-none, WriteLogGrows-joins, WritesGoOn, WritesGoOn-of}
 use Rattle.buffer_redux.specs.Policy.{WriteRules}
@@ -122,7 +122,7 @@ module _ {S P : Type 0} (trace : S → S → Type 0) (rules : WriteRules P) wher
     claims = refl;
     flushes = le_refl _;
     fails = λ steady. le_refl _;
-    met = λ tells only. record { interrupts = []; only = OnlyInterrupted-none s.log.writes };
+    met = λ tells only. MetInterrupts-none s.log.writes;
   }
 
   pub WriterWent-joins : ((u v w : S) → trace u v → trace v w → trace u w) → (a b c : Buffered S P)

@@ -14,7 +14,7 @@ use Rattle.redux_buffer.specs.Told.{ToldWrites, told_log, told_stream}
 use Rattle.redux_buffer.specs.declared.tell.memory.MemoryWriter.{MemoryWriter}
 use Rattle.redux_buffer.specs.declared.tell.told.Told.{Told}
 use Rattle.buffer_redux.specs.Policy.{WriteRules}
-use Rattle.buffer_redux.specs.Buffered.{Buffered, InnerWent}
+use Rattle.buffer_redux.specs.Buffered.{Buffered}
 use Rattle.buffer_redux.specs.BufWriter.{WritesInOrder, WriterKeeps, WriterFailed, WasSent, WasFlushed, WriteErrorCaused, WriteRefused, WritesSteadily, WritesAlong, FlushedAlong, WasInterrupted, WriterStopped, BegunAlong, StoppedAlong, FrontAlong, AllAlong, AllFlushed}
 use Rattle.buffer_redux.specs.WriteAll.{WritesAll, WritesAllSteadily}
 use Rattle.buffer_redux.specs.WriterLaws.{WritesInOrder-none, WritesInOrder-joins, WritesInOrder-contents}
@@ -128,11 +128,6 @@ module _ {S P : Type 0} (tells : S → StreamLog) (trace : S → S → Type 0) (
     kind = refl;
     claims = refl;
   }
-
-  pub WritesAlong-went : (s t : Buffered S P) (a : List ℕ) → s.log ≡ tells s.inner
-      → WritesAlong tells trace rules s a t → InnerWent tells trace s t
-  WritesAlong-went s t a is p =
-      record { calls = p.calls; told_before = is; told_after = p.told is; noted = p.noted }
 
   -- a steady policy stays one
   pub WritesAlong-steady : (s t : Buffered S P) (a : List ℕ) → WritesAlong tells trace rules s a t

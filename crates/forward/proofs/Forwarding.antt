@@ -1,14 +1,14 @@
 -- What is done for one payload, behind those that went over before.
 use Rattle.std.proofs.Common.{inl, inr, length, ◌<◌, ◌≡◌, ℕ, ◌+◌, ◌≤◌, List, [], ◌∷◌, ◌++◌, Bool, true, false, Result, Ok, Err, refl, sym, ap, subst, ◌∙◌, arith, append_assoc, length-append}
 use Rattle.std.specs.declared.io.Error.{Error}
-use Rattle.redux_buffer.specs.Faults.{MetInterrupts, OnlyInterrupts}
+use Rattle.redux_buffer.specs.Faults.{MetInterrupts, OnlyInterrupts, OnlyInterrupts-same}
 use Rattle.forward.specs.Filter.{AsksOnce, FilterRules, FlushesOnce, IsLawful, Moves, StaysOpen, Wrote}
 use Rattle.forward.specs.Forward.{Forwarded, ForwardedFirst, NoneFailed}
 use Rattle.forward.specs.Link.{Ask, Goes, LinkFlushes, LinkPasses, Linked, NotAsked}
 use Rattle.forward.specs.Prompt.{WritesOn}
 use Rattle.forward.specs.Steps.{AskedFrom, ForwardsNext, GivesUp, NextAnswers, OnTrue, OnlyInterrupted, TakesTurn, flushed_next}
 use Rattle.forward.specs.Streams.{ReadGaveUp}
-use Rattle.forward.specs.StreamsLaws.{MetNoFault-joins, ReadFailed-after, SendFailed-after, only_same}
+use Rattle.forward.specs.StreamsLaws.{MetNoFault-joins, ReadFailed-after, SendFailed-after}
 use Rattle.forward.specs.declared.error.AskError.{AskError}
 use Rattle.forward.specs.declared.error.AskError.TheVariants as asked
 use Rattle.forward.specs.declared.error.Cause.{Cause}
@@ -34,7 +34,7 @@ module _ {T W : Type 0} (rules : FilterRules T W) where
 
   met_writes : (s t : T) → rules.read t ≡ rules.read s → Wrote rules s t → NoneFailed rules s t
   met_writes s t told met = record {
-    reader = only_same (rules.read s).reads.faults (rules.read t).reads.faults (ap (λ l. l.reads.faults) told);
+    reader = OnlyInterrupts-same (rules.read s).reads.faults (rules.read t).reads.faults (ap (λ l. l.reads.faults) told);
     writer = met;
   }
 
@@ -175,7 +175,7 @@ module _ {T W : Type 0} (rules : FilterRules T W) where
         answers = (
           none_first s.filter m.filter p.passes.answers.0 p.passes.answers.1,
           record {
-            reader = only_same (rules.read s.filter).reads.faults (rules.read m.filter).reads.faults
+            reader = OnlyInterrupts-same (rules.read s.filter).reads.faults (rules.read m.filter).reads.faults
                 (ap (λ l. l.reads.faults) p.passes.told);
             writer = p.passes.answers.2;
           },
@@ -237,7 +237,7 @@ module _ {T W : Type 0} (rules : FilterRules T W) where
         answers = (
           none_first s.filter m.filter [] p.flushes.moves,
           record {
-            reader = only_same (rules.read s.filter).reads.faults (rules.read m.filter).reads.faults
+            reader = OnlyInterrupts-same (rules.read s.filter).reads.faults (rules.read m.filter).reads.faults
                 (ap (λ l. l.reads.faults) p.flushes.told);
             writer = p.flushes.answers;
           },

@@ -1,13 +1,10 @@
 -- How two streams fared, over calls that follow one another.
-use Rattle.std.proofs.Common.{◌≡◌, ◌+◌, ◌≤◌, List, [], ◌∷◌, ◌++◌, length, length-append, ap, subst, sym, ◌∙◌, arith, append_assoc}
+use Rattle.std.proofs.Common.{◌≡◌, ◌+◌, ◌≤◌, List, [], ◌∷◌, ◌++◌, length, length-append, ap, ◌∙◌, arith, append_assoc}
 use Rattle.std.proofs.lemmas.List.Elements.{All-push}
 use Rattle.std.specs.declared.io.Error.{Error}
-use Rattle.redux_buffer.specs.Faults.{IsInterrupt, OnlyInterrupts, OnlyInterrupts-none, OnlyInterrupts-joins, FaultAfterInterrupts-after, MetInterrupts, MetInterrupts-joins, OnlyInterrupted-none, SendErrorCaused-after}
-use Rattle.redux_buffer.specs.StreamLog.{StreamLog, WriteLog}
+use Rattle.redux_buffer.specs.Faults.{IsInterrupt, OnlyInterrupts, OnlyInterrupts-none, OnlyInterrupts-joins, FaultAfterInterrupts-after, MetInterrupts-joins, MetInterrupts-none, SendErrorCaused-after}
+use Rattle.redux_buffer.specs.StreamLog.{StreamLog}
 use Rattle.forward.specs.Streams.{MetNoFault, ReadFailed, ReadGaveUp, SendFailed}
-
-pub MetInterrupts-none : (l : WriteLog) → MetInterrupts l l
-MetInterrupts-none l = record { interrupts = []; only = OnlyInterrupted-none l }
 
 pub MetNoFault-none : (read written : StreamLog) → MetNoFault read read written written
 MetNoFault-none read written =
@@ -18,10 +15,6 @@ MetNoFault-joins a b c k l m p q = record {
   reader = OnlyInterrupts-joins a.reads.faults b.reads.faults c.reads.faults p.reader q.reader;
   writer = MetInterrupts-joins k.writes l.writes m.writes p.writer q.writer;
 }
-
--- no fault was met
-pub only_same : (old new : List Error) → new ≡ old → OnlyInterrupts old new
-only_same old new same = subst (OnlyInterrupts old) (sym same) (OnlyInterrupts-none old)
 
 -- after interrupted reads, one more was interrupted
 pub only_more : (a b c : List Error) (e : Error) → OnlyInterrupts a b → c ≡ b ++ e ∷ [] → IsInterrupt e → OnlyInterrupts a c

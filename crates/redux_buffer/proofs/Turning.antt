@@ -1,5 +1,5 @@
 -- What the turns of a copy come to.
-use Rattle.std.proofs.Common.{◌≡◌, ℕ, ◌+◌, ◌<◌, ◌≤◌, List, [], ◌∷◌, ◌++◌, length, Result, Ok, Err, refl, sym, ap, subst, ◌∙◌, arith, inl, inr, le_refl, append-nil, length-append}
+use Rattle.std.proofs.Common.{◌≡◌, ℕ, ◌+◌, ◌≤◌, List, [], ◌∷◌, ◌++◌, length, Result, Ok, Err, refl, sym, ap, subst, ◌∙◌, arith, inl, inr, le_refl, append-nil, length-append}
 use Rattle.std.proofs.lemmas.Bool.{cases_lt}
 use Rattle.std.proofs.lemmas.List.{nil_from_length}
 use Rattle.std.proofs.lemmas.List.Elements.{All-nil, All-cons}
@@ -9,8 +9,8 @@ use Rattle.std.specs.declared.io.Error.{Error}
 use Rattle.std.specs.declared.io.ErrorKind.TheVariants.{Interrupted}
 use Rattle.redux_buffer.specs.Copy.{MovedBy, EndsShown, FillsMade, TakesNothing, WritesEachFill, CopiesOn, CopyTurn, CopyRetried, FaultsRise, FaultsAtMost, consumed_since}
 use Rattle.redux_buffer.specs.CopyLaws.{TurnAnswers-after}
-use Rattle.redux_buffer.specs.Faults.{IsInterrupt, MetInterrupts, OnlyInterrupts-none, OnlyInterrupted-none}
-use Rattle.redux_buffer.specs.StreamLog.{StreamLog, FillLog, WriteLog, after_fill_fault, after_shown, after_write, with_end}
+use Rattle.redux_buffer.specs.Faults.{IsInterrupt, MetInterrupts-none, OnlyInterrupts-none}
+use Rattle.redux_buffer.specs.StreamLog.{StreamLog, FillLog, WriteLog, after_fill_fault, after_shown, after_write, end_of_some, with_end}
 
 -- nothing was consumed, and nothing received
 still : (a b : FillLog) (x y : WriteLog) → b.consumed ≡ a.consumed → b.consumes ≡ a.consumes → y.received ≡ x.received
@@ -31,16 +31,12 @@ one_interrupt e is = All-cons IsInterrupt e [] is (All-nil IsInterrupt)
 end_counted : (before : ℕ) (shown : List ℕ) → (before ≤ with_end before shown) × (with_end before shown ≤ before + 1)
 end_counted before shown = (grind arith, grind arith)
 
-no_end : (before : ℕ) (shown : List ℕ) → 0 < length shown → with_end before shown ≡ before
-no_end before shown some = grind arith
-
 module _ {W : Type 0} (tells : W → StreamLog) (trace call : W → W → Type 0) (from : StreamLog) (w : W) where
   -- a turn whose fill failed
   pub not_filled : (shown : List ℕ) (e : Error)
       → CopyTurn tells trace call (Err e) from.fills (after_fill_fault from shown e).fills w w
   not_filled shown e =
-      let none : MetInterrupts (tells w).writes (tells w).writes =
-      record { interrupts = []; only = OnlyInterrupted-none (tells w).writes } in
+      let none = MetInterrupts-none (tells w).writes in
       let kept = still from.fills (after_fill_fault from shown e).fills (tells w).writes (tells w).writes refl refl refl refl
       refl in
       let fills : FillsMade 0 from.fills (after_fill_fault from shown e).fills (tells w).writes (tells w).writes =
@@ -112,7 +108,7 @@ module _ {W : Type 0} (tells : W → StreamLog) (trace call : W → W → Type 0
               last = record {
                 before = w;
                 went = none w;
-                met = record { interrupts = []; only = OnlyInterrupted-none (tells w).writes };
+                met = MetInterrupts-none (tells w).writes;
                 called = called;
                 told = told;
               };
@@ -123,7 +119,7 @@ module _ {W : Type 0} (tells : W → StreamLog) (trace call : W → W → Type 0
           writes = omega (arith, once);
           ends_shown = shown;
           one_end = λ takes. elim (cases_lt 0 (length bytes)) [
-            | inl some ↦ no_end from.fills.zero_fills bytes some
+            | inl some ↦ end_of_some from.fills.zero_fills bytes some
             | inr few ↦
                 absurd (takes w w' e (none w) called
                 (subst (λ l. tells w' ≡ after_write (tells w) l (Err e)) (nil_from_length bytes (omega (arith, few))) told))

@@ -166,15 +166,11 @@ pub record MakesRoom (old new : Block) : Type 0 where
   pub kind : new.kind ≡ old.kind
   pub consumed : new.consumed ≡ old.consumed
 
--- how many bytes a step shifted that dropped n
-abbrev pub shift_count : ℕ → Placed → Placed → ℕ
-shift_count n old new =
-    if (length new.block.bytes == 0) || (nat_lt old.block.capacity new.block.capacity || (new.place == old.place + n))
-    then 0 else length new.block.bytes
-
--- the step that dropped n counts what it shifted
+-- the step that dropped n counts what it shifted: nothing where none are left, it grew, or its place rose by just n
 abbrev pub CountsShift : ℕ → Placed → Placed → Type 0
-CountsShift n old new = new.block.moved ≡ old.block.moved + shift_count n old new
+CountsShift n old new = new.block.moved ≡ old.block.moved + (
+    if (length new.block.bytes == 0) || (nat_lt old.block.capacity new.block.capacity || (new.place == old.place + n))
+    then 0 else length new.block.bytes)
 
 -- only a ring may move bytes unasked
 abbrev pub OnlyRingMoves : Block → Block → Type 0

@@ -106,11 +106,6 @@ FaultsAtMost n from from' to to' = length from'.faults + length to'.faults ≤ l
 abbrev pub consumed_since : FillLog → FillLog → ℕ
 consumed_since from from' = length from'.consumed - length from.consumed
 
--- the faults were at most 64 for each byte that went over, and 64 in the last turn, with one more where that failed
-abbrev pub MeetsFewFaults : {A : Type 0} → Result A Error → FillLog → FillLog → WriteLog → WriteLog → Type 0
-MeetsFewFaults (Ok a) from from' to to' = FaultsAtMost (64 * (consumed_since from from' + 1)) from from' to to'
-MeetsFewFaults (Err e) from from' to to' = FaultsAtMost (64 * (consumed_since from from' + 1) + 1) from from' to to'
-
 -- whatever calls the writer went through, no write of nothing fails
 abbrev pub TakesNothing : {W : Type 0} → (W → StreamLog) → (W → W → Type 0) → (W → W → Type 0) → W → Type 0
 TakesNothing {W} tells trace call w =
@@ -178,7 +173,8 @@ pub record CopyRetried {W : Type 0} (tells : W → StreamLog) (trace call : W �
       (λ _. FaultsAtMost 65 from from' (tells w).writes (tells w').writes)
 
 -- a whole copy: at Ok it ended, and the total is the number of bytes that went over; at an `Err` some went over, and
--- `Interrupted` comes only after 64 more such faults; and each fill and each write was one of a turn
+-- `Interrupted` comes only after 64 more such faults; and each fill and each write was one of a turn. The faults were at most
+-- 64 for each byte that went over, and 64 in the last turn, with one more where that failed
 pub record CopyBuf {W : Type 0} (tells : W → StreamLog) (trace call : W → W → Type 0) (result : Result ℕ Error)
     (from from' : FillLog) (w w' : W) : Type 0 where
   pub moved : MatchResult result
@@ -188,7 +184,9 @@ pub record CopyBuf {W : Type 0} (tells : W → StreamLog) (trace call : W → W 
   pub failed : IfErr result (λ e. CopyFailed tells trace call e from from' w w')
   pub often : IfErr result
       (λ e. error_kind e ≡ Interrupted → FaultsRise 65 from from' (tells w).writes (tells w').writes)
-  pub few : MeetsFewFaults result from from' (tells w).writes (tells w').writes
+  pub few : MatchResult result
+      (λ _. FaultsAtMost (64 * (consumed_since from from' + 1)) from from' (tells w).writes (tells w').writes)
+      (λ _. FaultsAtMost (64 * (consumed_since from from' + 1) + 1) from from' (tells w).writes (tells w').writes)
   pub fills : MatchResult result
       (λ _. FillsMade 1 from from' (tells w).writes (tells w').writes)
       (λ _. FillsMade 0 from from' (tells w).writes (tells w').writes)

@@ -2,7 +2,7 @@
 use Rattle.std.proofs.Common.{◌≡◌, ℕ, ◌+◌, List, Result, Ok, Err, inl, inr, subst, le_trans, arith, refl, sym, [], append-nil, ◌∙◌, ◌++◌, ap, append_assoc, length-append, le_refl}
 use Rattle.std.specs.declared.io.Error.{Error}
 use Rattle.redux_buffer.specs.StreamLog.{StreamLog, FillLog, WriteLog}
-use Rattle.redux_buffer.specs.Faults.{OnlyInterrupts-none, OnlyInterrupted-none, OnlyInterrupts-joins, FaultAfterInterrupts-after, MetInterrupts-joins}
+use Rattle.redux_buffer.specs.Faults.{OnlyInterrupts-none, OnlyInterrupts-joins, FaultAfterInterrupts-after, MetInterrupts-joins, MetInterrupts-none}
 use Rattle.redux_buffer.specs.Copy.{MovedBy, CopiesOn, LastWrite, CopyEnded, StreamFailed, TakesNothing, TurnEnded, TurnFailed, TurnAnswers, CopyBuf}
 
 -- no turn moves nothing, and two turns one after the other move what both do
@@ -42,7 +42,7 @@ CopiesOn-none from to = record {
   fills = omega arith;
   writes = omega arith;
   reader = OnlyInterrupts-none from.faults;
-  writer = record { interrupts = []; only = OnlyInterrupted-none to };
+  writer = MetInterrupts-none to;
 }
 
 -- turns that follow one another

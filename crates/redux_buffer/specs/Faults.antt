@@ -77,6 +77,9 @@ pub OnlyInterrupts-none : (faults : List Error) → OnlyInterrupts faults faults
 OnlyInterrupts-none faults =
     record { interrupts = []; interrupted = All-nil IsInterrupt; faults = sym (append-nil faults) }
 
+pub OnlyInterrupts-same : (old new : List Error) → new ≡ old → OnlyInterrupts old new
+OnlyInterrupts-same old new same = subst (OnlyInterrupts old) (sym same) (OnlyInterrupts-none old)
+
 pub OnlyInterrupts-joins : (a b c : List Error) → OnlyInterrupts a b → OnlyInterrupts b c → OnlyInterrupts a c
 OnlyInterrupts-joins a b c p q = record {
   interrupts = p.interrupts ++ q.interrupts;
@@ -104,6 +107,9 @@ OnlyInterrupted-joins es fs a b c p q = record {
   faults = rows_join es fs a.faults b.faults c.faults p.faults q.faults;
   zero_writes = q.zero_writes ∙ p.zero_writes;
 }
+
+pub MetInterrupts-none : (log : WriteLog) → MetInterrupts log log
+MetInterrupts-none log = record { interrupts = []; only = OnlyInterrupted-none log }
 
 pub MetInterrupts-joins : (a b c : WriteLog) → MetInterrupts a b → MetInterrupts b c → MetInterrupts a c
 MetInterrupts-joins a b c p q = record {

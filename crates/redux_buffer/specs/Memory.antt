@@ -28,10 +28,6 @@ writer_log w = w.calls.log
 pub reader-faultless : (r : MemoryReader) → (reader_log r).reads.faults ≡ []
 reader-faultless r = r.faultless
 
--- what was received is all that is held
-pub writer-held : (w : MemoryWriter) → written_bytes w ≡ (writer_log w).writes.received
-writer-held w = w.held
-
 -- no write took nothing of something
 pub writer-takes_some : (w : MemoryWriter) → (writer_log w).writes.zero_writes ≡ 0
 writer-takes_some w = w.takes_some

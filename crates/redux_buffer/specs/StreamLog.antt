@@ -208,6 +208,9 @@ with_shown log bytes = record log { fills = record log.fills { shown = bytes } }
 abbrev pub with_end : ℕ → List ℕ → ℕ
 with_end before shown = if length shown == 0 then before + 1 else before
 
+pub end_of_some : (before : ℕ) (shown : List ℕ) → 0 < length shown → with_end before shown ≡ before
+end_of_some before shown some = grind arith
+
 -- after `fill_buf()` showed these bytes
 abbrev pub after_shown : StreamLog → List ℕ → StreamLog
 after_shown log bytes = record log {

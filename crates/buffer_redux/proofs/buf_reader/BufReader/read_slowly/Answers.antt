@@ -7,16 +7,16 @@ pub returns-in_err-fill_on-clause-read : goal.returns-in_err-fill_on-clause-read
 returns-in_err-fill_on-clause-read g c s asked =
     let p = err_from_is_err_and c.from_residual.result c.from_residual.ensures.1 in
     let f = c.in_err-fill_on.ensures.fill s asked in
-    rw (p.1, p.2) (record {
-      fill = record {
+    rw (p.1, p.2) (
+      record {
         filled = Filled-err g.P.ReaderPolicy.rules _ _ _ f.filled;
         known = f.known;
         ended = f.ended;
         noted = f.noted;
         whole = f.whole;
-      };
-      same = refl;
-    })
+      },
+      refl,
+    )
 
 pub returns-clause-read : goal.returns-clause-read
 returns-clause-read g c s asked =

@@ -63,12 +63,11 @@ returns-in_err-before_read g c =
     let p = err_from_is_err_and c.from_residual.result c.from_residual.ensures.1 in
     let e = c.in_err-before_read.field-0.0 in
     let m = asked_reader g before in
-    rw (p.1, p.2) (says g.R.TellRead.remaining table c.args.self.now c.args.out.now (Err e) c.args.out.now m
-    (record {
-      fill = refused_did g.R.TellRead.remaining table c.args.self.now m e
-          (subst (λ a. AskedRead table a c.args.self.now m) c.in_err-before_read.was (asked g before));
-      same = refl;
-    })
+    rw (p.1, p.2) (says g.R.TellRead.remaining table c.args.self.now c.args.out.now (Err e) c.args.out.now m (
+      refused_did g.R.TellRead.remaining table c.args.self.now m e
+          (subst (λ a. AskedRead table a c.args.self.now m) c.in_err-before_read.was (asked g before)),
+      refl,
+    )
     (inside g before))
 
 -- the fill goes on

@@ -92,5 +92,5 @@ returns-in-Err g c =
     let is = subst (λ a. AskedRead table a c.args.self.now m) c.in-Err.is (asked g before) in
     exact_says _ _ _ _ _ _ (c.read_on_outlined.ensures.exact c.args.self.now (one_read_says remaining table c.args.self.now
     c.args.out.now (Err c.in-Err.e) c.args.out.now m (rw (← c.self-2.view_is) c.self-2.invariant)
-    (record { fill = refused_did remaining table c.args.self.now m c.in-Err.e is; same = refl })
+    (refused_did remaining table c.args.self.now m c.in-Err.e is, refl)
     (inl (has_some g before))))

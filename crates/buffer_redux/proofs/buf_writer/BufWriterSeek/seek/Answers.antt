@@ -1,11 +1,11 @@
-use Rattle.std.proofs.Common.{◌≡◌, ℕ, Result, Ok, Err, OnOk, inl, inr, refl, sym, ap, ◌∙◌, rules}
+use Rattle.std.proofs.Common.{◌≡◌, ℕ, List, [], ◌∷◌, ◌++◌, Result, Ok, Err, OnOk, inl, inr, refl, sym, ap, ◌∙◌, rules}
 use Rattle.std.specs.Prelude.{MatchResult}
 use Rattle.std.proofs.lemmas.Result.{err_from_is_err_and}
 use Rattle.std.specs.declared.io.Error.{Error}
 use Rattle.std.specs.declared.io.traits.SeekFrom.{SeekFrom}
-use Rattle.redux_buffer.specs.StreamLog.{StreamLog, Readies, SeekTells, after_flush}
+use Rattle.redux_buffer.specs.StreamLog.{StreamLog, SeekCall, SeekLog, Readies, SeekTells, after_flush}
 use Rattle.buffer_redux.specs.Buffered.{Buffered}
-use Rattle.buffer_redux.specs.BufWriter.{Flushes, IsFlushed, IsSought, with_seek}
+use Rattle.buffer_redux.specs.BufWriter.{Flushes, IsFlushed, IsSought}
 use Rattle.buffer_redux.proofs.buf_writer.BufWriterSeek.seek.Goals as goal
 
 -- a flush makes no seek
@@ -23,6 +23,7 @@ sought readies s m t to (Ok n) flushed steps block tells =
       | inl same ↦ same ∙ flushed.flushed
       | inr all ↦ all
     ] in
+    let asked : SeekLog → List SeekCall = λ log. log.calls ++ record { to = to; answer = Ok n } ∷ [] in
     record {
       flushed = record {
         empty = ap (λ b. b.bytes) block ∙ flushed.empty;
@@ -37,7 +38,7 @@ sought readies s m t to (Ok n) flushed steps block tells =
           };
         };
       };
-      asked = ap (λ l. l.seeks.calls) tells.told ∙ ap (λ l. with_seek l.calls to (Ok n))
+      asked = ap (λ l. l.seeks.calls) tells.told ∙ ap asked
           (flush_seeks steps.sending (Ok tt) s.log steps.sent_log m.log steps.sends.sent.others.seeks steps.ended);
     }
 sought readies s m t to (Err e) flushed steps block tells = tt
