@@ -440,8 +440,9 @@ def main():
             counts["kept"] += why.startswith(KEPT)
             print(f"{edit.crate}/{edit.path.name}: {'refused, as it must be' if well else 'FAILED'}: {why[:200]}", flush=True)
 
-    # A library that `rt ci` keeps from another checkout isn't built in this one, so no edit above it can be tried here.
-    unbuilt = [it for it in names if given.after_ci and not all(below.is_built() for below in crates[it].below())]
+    # A library that `rt ci` keeps from another checkout isn't built in this one, so no edit above it can be tried here. One that it
+    # builds has no stamp, as those of other commands have.
+    unbuilt = [it for it in names if given.after_ci and not all(pathlib.Path(below.rlib).is_dir() for below in crates[it].below())]
     names = [it for it in names if it not in unbuilt]
     with tempfile.TemporaryDirectory(prefix="edits-") as room:
         Lanes([Crate(crates[it], edits[it], room, budget, given.anew) for it in names], budget, tell).run(given.lanes)
