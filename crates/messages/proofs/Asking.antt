@@ -80,7 +80,7 @@ module _ {R : Type 0} {remaining : R → Option (List ℕ)} {n left : ℕ} {s m 
       let along = ReadsAlong-then _ _ _ _ _ before.wire before.along (FillBuf-along _ _ _ _ _ filled) in
       ((before.wire, along, before.few), fill_asked t (fill_asks m t answer filled.fills))
 
-  -- and some of what it shows is dropped
+  -- some of what it shows is dropped
   pub Skips-more : {f t : Buffered R StdPolicy} {shown : Bor (List ℕ)} → FillBuf remaining std_read_rules m (Ok shown) f
       → (k : ℕ) → 0 < k → k ≤ length shown.now → k ≤ left → t.inner ≡ f.inner → ReaderConsumes std_read_rules k f t
       → Skips remaining n s (left - k) t
@@ -98,7 +98,7 @@ module _ {R : Type 0} {remaining : R → Option (List ℕ)} {n left : ℕ} {s m 
         no_fault = ap (λ l. l.reads.faults) gone.told ∙ filled.fills.caused ∙ before.no_fault;
       }
 
--- in one in chunks
+-- in a body in chunks
 more_to_come : (limits : Limits) (p : Place) (later payload : List ℕ) → p ≢ Done → Completes limits p later payload
     → 0 < length later
 more_to_come limits p [] payload differs c = absurd (differs (Completes-nothing limits p payload c))
@@ -123,7 +123,7 @@ module _ {R : Type 0} {remaining : R → Option (List ℕ)} {s t : ChunkedState 
   chunks_idle (inl done) = ap (λ x. x.log) (reads.ended (IsWhole-done s is done))
   chunks_idle (inr held) = payload_idle remaining s t is out answer reads held.0 held.1
 
--- in reads of one that handed some out each
+-- reads of its payload that handed some out each
 module _ {R : Type 0} (remaining : R → Option (List ℕ)) {s : ChunkedState R StdPolicy} (is : IsChunkedReader s)
     (some : 0 < s.limits.line) where
   record Drained (m : ChunkedState R StdPolicy) : Type 0 where

@@ -34,7 +34,7 @@ chunks_done {S} {P} {t} is whole =
 
 module _ {S P : Type 0} {remaining : S → Option (List ℕ)} {rules : ReadRules P} {s : ChunkedState S P} (is : IsChunkedReader s)
     {handed : List ℕ} {t : ChunkedState S P} (went : BodyWent remaining rules s handed t) where
-  -- the rest of it
+  -- its rest
   pub chunks_end : IsWhole t → NoFault (unbuffered s.reader) (unbuffered t.reader)
       → Ends remaining (unbuffered s.reader) (Chunks s.limits s.place) (unbuffered t.reader)
   chunks_end whole no_fault =
@@ -70,7 +70,7 @@ module _ {S P : Type 0} {remaining : S → Option (List ℕ)} {rules : ReadRules
       onward = chunks_onward;
     }
 
--- why one in chunks doesn't go on is why none completes it
+-- an error of a reader of chunks says why no payload comes
 pub chunks_fail : {S : Type 0} (s t : ChunkedState S StdPolicy) → IsChunkedReader t → 0 < s.reader.block.capacity → (asked : ℕ)
     (e : ChunkedError) → PayloadAnswers std_read_rules s asked (Err e) t
     → Fails (unbuffered s.reader) (body_error e) (unbuffered t.reader) (Chunks t.limits t.place)
@@ -85,6 +85,7 @@ chunks_fail s t is room asked (Truncated right) answers = (
   answers.2.dry.dry (WantsBytes-std s.reader.policy) room,
   answers.2.dry.none,
   λ payload c. answers.2.none (handed_of t ++ payload) (rw append-nil at (is.leads.onward [] payload c)),
+  refl,
 )
 chunks_fail s t is room asked (Io e) answers =
     elim answers [ inl fault ↦ fault | inr failed ↦ absurd failed.gave.gave.allowed ]

@@ -107,26 +107,31 @@ IsReady s (Chunks limits place) = (place ≡ Done) ⊎ (IsSettled place × (0 < 
 abbrev pub NoFault : {S : Type 0} → Unbuffered S → Unbuffered S → Type 0
 NoFault s t = t.log.reads.faults ≡ s.log.reads.faults
 
+-- how many bytes of payload are due, where that is known
+abbrev pub due_of : Rest → Option ℕ
+due_of (Bytes n) = Some n
+due_of (Chunks limits place) = None
+
 -- why no payload comes: however it goes on, what comes next doesn't complete the body; or the stream was asked where nothing was
--- left, and gave nothing, and the body isn't complete; or the stream failed, once
+-- left, and gave nothing, and the body isn't complete, of which so much is due; or the stream failed, once
 abbrev pub Fails : {S : Type 0} → Unbuffered S → BodyError → Unbuffered S → Rest → Type 0
 Fails s (Wrong name) t r = NoFault s t × ((later payload : List ℕ) → ¬ (IsRest r (t.left ++ later) payload))
-Fails s Truncated t r =
+Fails s (Truncated due) t r =
     NoFault s t × (s.log.reads.zero_reads < t.log.reads.zero_reads) × (t.left ≡ [])
-    × ((payload : List ℕ) → ¬ (IsRest r [] payload))
+    × ((payload : List ℕ) → ¬ (IsRest r [] payload)) × (due ≡ due_of r)
 Fails s (Fault e) t r = t.log.reads.faults ≡ s.log.reads.faults ++ e ∷ []
 
 -- as a reader of chunks says it
 abbrev pub body_error : ChunkedError → BodyError
 body_error (chunks.NotChunked name right) = Wrong name
-body_error (chunks.Truncated right) = Truncated
+body_error (chunks.Truncated right) = Truncated None
 body_error (chunks.Io e) = Fault e
 
 -- a body of which this was dropped is of more pieces than are counted
 abbrev pub TooMany : List ℕ → BodyError → Type 0
 TooMany handed (Fault e) = (error_kind e ≡ Other) × (2 ^ 64 - 1 ≤ length handed)
 TooMany handed (Wrong name) = ⊥
-TooMany handed Truncated = ⊥
+TooMany handed (Truncated due) = ⊥
 
 -- why a body wasn't finished, of which this payload was dropped: none comes; or it is of more pieces than are counted; or it was
 -- taken to its end, and memory was refused for the next head

@@ -177,7 +177,7 @@ fn read_sized<R: TellRead>(
     }
     let count = reader.read(&mut out[..most])?;
     if count == 0 {
-        return Err(BodyError::Truncated);
+        return Err(BodyError::Truncated(Some(*left)));
     }
     *left -= count as u64;
     Ok(count)
@@ -268,7 +268,7 @@ fn skip<R: TellRead>(reader: &mut BufReader<R>, left: &mut u64) -> Result<(), Bo
     while *left > 0 {
         let shown = reader.fill_buf()?;
         if shown.is_empty() {
-            return Err(BodyError::Truncated);
+            return Err(BodyError::Truncated(Some(*left)));
         }
         let count = (*left).min(shown.len() as u64) as usize;
         reader.consume(count);

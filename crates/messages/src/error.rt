@@ -12,8 +12,9 @@ use std::{fmt, io};
 pub enum BodyError {
     /// What comes next is wrong, and stays: each further call says the same.
     Wrong(Malformed),
-    /// The stream ended within the body: it was asked, and gave nothing.
-    Truncated,
+    /// The stream ended within the body: it was asked, and gave nothing. Of a body of a length so many bytes were still due; of
+    /// one in chunks that isn't known.
+    Truncated(Option<u64>),
     /// The stream failed. The call can be made again.
     Io(io::Error),
 }
@@ -31,7 +32,10 @@ impl fmt::Display for BodyError {
     fn fmt<W: fmt::Write>(&self, f: &mut fmt::Formatter<W>) -> fmt::Result {
         match self {
             BodyError::Wrong(why) => fmt::Display::fmt(why, f),
-            BodyError::Truncated => f.write_str("the stream ended within a body"),
+            BodyError::Truncated(Some(due)) => {
+                write!(f, "the stream ended {due} bytes before a body did")
+            }
+            BodyError::Truncated(None) => f.write_str("the stream ended within a body"),
             BodyError::Io(e) => fmt::Display::fmt(e, f),
         }
     }
@@ -56,7 +60,7 @@ pub(crate) fn unread(e: ChunkedError) -> BodyError
 {
     match e {
         ChunkedError::NotChunked(why, _) => BodyError::Wrong(why),
-        ChunkedError::Truncated(_) => BodyError::Truncated,
+        ChunkedError::Truncated(_) => BodyError::Truncated(None),
         ChunkedError::Io(e) => BodyError::Io(e),
     }
 }

@@ -192,7 +192,7 @@ module _ {W : Type 0} {tells : W → StreamLog} {trace : W → W → Type 0} whe
         pub torn_answered : (why : FinishError) (answer : Result (Unit {0}) Error) → TakeFails b.stream handed why t
             → EndsBody tells trace v why answer w' → Serves remaining tells trace (left_of s) w (Inside t) answer w'
         torn_answered (Body (Wrong why)) answer (reads, torn) sends = refused_torn answer reads torn sends
-        torn_answered (Body Truncated) answer (reads, torn) sends = refused_torn answer reads torn sends
+        torn_answered (Body (Truncated due)) answer (reads, torn) sends = refused_torn answer reads torn sends
         torn_answered (Body (Io e)) answer stops (same, sends) =
             subst (λ r. Serves remaining tells trace (left_of s) w (Inside t) r w') (sym same) (failed_inside e (inl stops) sends)
         torn_answered (Memory e) (Err why) (reads, whole) (memory, sends) =

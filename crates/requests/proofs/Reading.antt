@@ -1,5 +1,5 @@
 -- What reads of a run met.
-use Rattle.std.proofs.Common.{◌≡◌, ℕ, ◌+◌, ◌≤◌, ◌⊎◌, Bool, true, List, [], ◌∷◌, ◌++◌, All, length, Option, sym, ap, subst, inl, inr, ◌∙◌, refl, arith, append_assoc, append-nil, length-append}
+use Rattle.std.proofs.Common.{◌≡◌, ℕ, ◌+◌, ◌<◌, ◌≤◌, ◌⊎◌, Bool, true, List, [], ◌∷◌, ◌++◌, All, length, Option, sym, ap, subst, inl, inr, ◌∙◌, refl, arith, append_assoc, append-nil, length-append}
 use Rattle.std.proofs.lemmas.List.{nil_from_length}
 use Rattle.std.proofs.lemmas.List.Elements.{All-append, All-cons, All-nil}
 use Rattle.std.specs.declared.io.Error.{Error}
@@ -99,7 +99,7 @@ module _ {S : Type 0} (s m : Unbuffered S) (reads : OnlyInterrupts (faults_of s)
   pub TakeFails-of : (handed : List ℕ) (b : InBody S) (e : BodyError) → ((why : Error) → e ≡ Io why → ¬ (IsInterrupt why))
       → Fails m e b.stream b.rest → TakeFails s handed (Body e) b
   TakeFails-of handed b (Wrong why) hard (none, torn) = (joined b.stream (none_met none), inl torn)
-  TakeFails-of handed b Truncated hard (none, more, left, cut) =
+  TakeFails-of handed b (Truncated due) hard (none, more, left, cut, so_many) =
       (joined b.stream (none_met none), inr (omega (arith, ends, more), left, cut))
   TakeFails-of handed b (Io e) hard fault =
       inl (failed_behind (faults_of s) (faults_of m) (faults_of b.stream) e reads fault, hard e refl)
@@ -115,7 +115,7 @@ module _ {S : Type 0} (s m : Unbuffered S) (reads : OnlyInterrupts (faults_of s)
       TakeFails-of (handed ++ more) b e (λ why is. absurd (no_fault b why (subst (λ x. Fails m x b.stream b.rest) is fails) same))
       fails
   TakeFails-behind handed more b (Body (Wrong why)) (inr odd) same = absurd odd
-  TakeFails-behind handed more b (Body Truncated) (inr odd) same = absurd odd
+  TakeFails-behind handed more b (Body (Truncated due)) (inr odd) same = absurd odd
   TakeFails-behind handed more b (Body (Io e)) (inr (other, many)) same = inr (
     joined b.stream (none_met same),
     record { other = other; large = omega (arith, many, length-append handed more) },
@@ -148,21 +148,19 @@ nothing_more (Bytes n) wire payload none is = is.1 ∙ nil_from_length wire (is.
 nothing_more (Chunks limits place) wire payload none is =
     (subst (λ p. Completes limits p wire payload) (Completes-nothing limits place [] none) is).0
 
--- so the stream isn't asked for more of it
+-- the stream isn't asked for more of it then
+none_follows : (r q : Rest) (bytes handed : List ℕ) → IsRest r [] [] → Onward r bytes handed q
+    → (later : List ℕ) × (payload : List ℕ) × (0 < length later) × IsRest q later payload → ⊥
+none_follows (Bytes n) q bytes handed none onward (later, payload, some, is) =
+    omega (arith, some, none.0, (onward later payload is).0, length-append bytes later)
+none_follows (Chunks limits place) q bytes handed none onward (later, payload, some, is) =
+    let done : Completes limits Done (bytes ++ later) (handed ++ payload) =
+    subst (λ p. Completes limits p (bytes ++ later) (handed ++ payload)) (Completes-nothing limits place [] none)
+    (onward later payload is) in
+    omega (arith, some, ap length done.1, length-append bytes later)
+
 none_asked : (r : Rest) (bytes : List ℕ) → IsRest r [] [] → ¬ (Unended r bytes)
-none_asked (Bytes n) bytes none (handed, on) =
-    omega (
-      arith,
-      on.some,
-      none.0,
-      (on.onward on.later on.payload on.is).0,
-      length-append bytes on.later,
-    )
-none_asked (Chunks limits place) bytes none (handed, on) =
-    let done : Completes limits Done (bytes ++ on.later) (handed ++ on.payload) =
-    subst (λ p. Completes limits p (bytes ++ on.later) (handed ++ on.payload)) (Completes-nothing limits place [] none)
-    (on.onward on.later on.payload on.is) in
-    omega (arith, on.some, ap length done.1, length-append bytes on.later)
+none_asked r bytes none (handed, on) = none_follows r on.rest bytes handed none on.onward on.more
 
 pub unasked : {S : Type 0} (s t : Unbuffered S) (r : Rest) → IsRest r [] [] → AskedWhere (Unended r) s t
     → faults_of t ≡ faults_of s

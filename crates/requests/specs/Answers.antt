@@ -139,7 +139,7 @@ LacksMemory s e (Inside body) = IsMemory e × OnlyInterrupts (faults_of s) (faul
 -- why a body isn't taken whole, of which this payload was: so, or it is wrong
 abbrev pub TakeFails : {S : Type 0} → Unbuffered S → List ℕ → FinishError → InBody S → Type 0
 TakeFails s handed (Body (Wrong why)) b = OnlyInterrupts (faults_of s) (faults_of b.stream) × IsWrong s (Inside b)
-TakeFails s handed (Body Truncated) b = OnlyInterrupts (faults_of s) (faults_of b.stream) × IsWrong s (Inside b)
+TakeFails s handed (Body (Truncated due)) b = OnlyInterrupts (faults_of s) (faults_of b.stream) × IsWrong s (Inside b)
 TakeFails s handed (Body (Io e)) b = ReadStops (length handed) s e b.stream
 TakeFails s handed (Memory e) b = OnlyInterrupts (faults_of s) (faults_of b.stream) × (b.rest ≡ Bytes 0)
 
@@ -159,7 +159,7 @@ pub record Sends {W : Type 0} (tells : W → StreamLog) (trace : W → W → Typ
 abbrev pub EndsBody : {W : Type 0} → (W → StreamLog) → (W → W → Type 0) → Buffered W StdPolicy → FinishError
     → Result (Unit {0}) Error → Buffered W StdPolicy → Type 0
 EndsBody tells trace w (Body (Wrong why)) answer w' = Sends tells trace w (refused true) answer w'
-EndsBody tells trace w (Body Truncated) answer w' = Sends tells trace w (refused true) answer w'
+EndsBody tells trace w (Body (Truncated due)) answer w' = Sends tells trace w (refused true) answer w'
 EndsBody tells trace w (Body (Io e)) answer w' = (answer ≡ Err e) × Sends tells trace w [] (Ok tt) w'
 EndsBody tells trace w (Memory e) answer w' = IsErrAnd answer IsMemory × Sends tells trace w [] (Ok tt) w'
 

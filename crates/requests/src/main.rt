@@ -222,7 +222,7 @@ fn unended<W: TellWrite>(e: FinishError, writer: &mut BufWriter<W>) -> io::Resul
 {
     match e {
         FinishError::Body(BodyError::Wrong(_)) => refuse(writer),
-        FinishError::Body(BodyError::Truncated) => refuse(writer),
+        FinishError::Body(BodyError::Truncated(_)) => refuse(writer),
         FinishError::Body(BodyError::Io(e)) => Err(e),
         FinishError::Memory(_) => Err(io::Error::from(ErrorKind::OutOfMemory)),
     }
