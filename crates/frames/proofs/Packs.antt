@@ -129,10 +129,6 @@ module _ {R W : Type 0} (remaining : R → Option (List ℕ)) (s t : Packing R W
   abbrev Ran : Result (Unit {0}) RunError → Type 0
   Ran = PackRan max s.source.pieces.reader.log t.source.pieces.reader.log s.target.writer.log t.target.writer.log
 
-  received : (handed p : List (List ℕ)) → Went handed p → AllSent t.target.writer
-      → t.target.writer.log.writes.received ≡ s.target.writer.log.writes.received ++ frames p
-  received = all_received remaining packing_sound s t fresh
-
   dry : HasEnded packing s ⊎ RanDry s.source.pieces.reader t.source.pieces.reader
       → GaveNothing s.source.pieces.reader.log t.source.pieces.reader.log
   dry (inl before) = absurd (true≢false (sym before ∙ going))
@@ -152,7 +148,7 @@ module _ {R W : Type 0} (remaining : R → Option (List ℕ)) (s t : Packing R W
       given = over.given ∙ ap (λ l. s.source.pieces.reader.log.reads.given ++ (over.bytes ++ l)) end.0
           ∙ ap (λ l. s.source.pieces.reader.log.reads.given ++ l) (append-nil over.bytes);
       ended = dry end.1;
-      received = received p p over sent;
+      received = all_received remaining packing_sound s t fresh p p over sent;
       flushed = sent.flushed;
     },
     met,
@@ -173,7 +169,7 @@ module _ {R W : Type 0} (remaining : R → Option (List ℕ)) (s t : Packing R W
         fit = all.2;
         such = such;
         given = over.given ∙ ap (λ l. s.source.pieces.reader.log.reads.given ++ (l ++ rest t.source.pieces)) all.0;
-        received = received p p over sent;
+        received = all_received remaining packing_sound s t fresh p p over sent;
         flushed = sent.flushed;
       }
 

@@ -105,9 +105,6 @@ module _ {R W : Type 0} (remaining : R → Option (List ℕ)) (s t : Unpacking R
   abbrev Ran : Result (Unit {0}) RunError → Type 0
   Ran = UnpackRan max s.source.reader.log t.source.reader.log s.target.log t.target.log
 
-  abbrev NoFault : Type 0
-  NoFault = MetNoFault s.source.reader.log t.source.reader.log s.target.log t.target.log
-
   -- no end is left to tell, so the pieces are whole
   whole : (handed p : List (List ℕ)) (over : Went handed p) → (over.bytes ≡ frames handed) × All (Fits max) handed
   whole handed p over = elim over.text [
@@ -125,8 +122,8 @@ module _ {R W : Type 0} (remaining : R → Option (List ℕ)) (s t : Unpacking R
     flushed = sent.flushed;
   }
 
-  wrong_ran : (p : List (List ℕ)) → Went p p → (why : RunError) → NoFrame s.source why t.source → AllSent t.target → NoFault
-      → Ran (Err why)
+  wrong_ran : (p : List (List ℕ)) → Went p p → (why : RunError) → NoFrame s.source why t.source → AllSent t.target
+      → MetNoFault s.source.reader.log t.source.reader.log s.target.log t.target.log → Ran (Err why)
   wrong_ran p over TooLong wrong sent met =
       (rest t.source, unpacked p over sent, subst (λ d. BeginsTooLong d.max (rest t.source)) over.decoder wrong, met)
   wrong_ran p over Truncated wrong sent met = (
