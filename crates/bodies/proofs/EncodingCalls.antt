@@ -2,23 +2,23 @@
 use Rattle.std.proofs.Common.{◌≡◌, ℕ, ◌+◌, ◌<◌, ◌≤◌, inl, inr, List, [], length, take, Result, Ok, Err, refl, subst, sym, ap, ◌∙◌, arith, length-append, zero, suc, ◌==◌, not, Bool, ◌∷◌, ◌++◌, true, false, Option, append-nil}
 use Rattle.std.proofs.lemmas.Bool.{cases_lt}
 use Rattle.buffer_redux.specs.BufWriter.{WasSent}
-use Rattle.buffer_redux.specs.WriterLaws.{WritesInOrder-then}
-use Rattle.programs.specs.FlushesLaws.{FlushesOnce-flush, flushed_once}
-use Rattle.programs.specs.PromptLaws.{WritesOn-grows, WritesOn-joins, WritesOn-unflushed}
-use Rattle.programs.specs.StreamsLaws.{MetInterrupts-none}
-use Rattle.bodies.specs.Words.{Error, WasFlushed, WritesInOrder, Buffered, MetInterrupts, MetInterrupts-joins, SendErrorCaused-after, StreamLog, StdPolicy, body_end, chunk, size_digits, ChunkedWriterState, IsChunkedWriter, PutsFirst, PutsIn, WritesChunk, around, room, ChunksWent, taken_more, RunError, Fills, ReadsAlong, std_read_rules, line_end, AskAnswers, Asks, FilterRules, FlushAnswers, Flushes, Passes}
-use Rattle.bodies.specs.Encode.{EndAnswers, EndsBody}
-use Rattle.bodies.specs.declared.error.RunError.TheVariants.{Write}
-use Rattle.buffer_redux.specs.EmptyReads.{ReadsWhenEmpty-std, none_before_fault, none_where_shown}
+use Rattle.buffer_redux.specs.EmptyReads.{none_before_fault, none_where_shown, ReadsWhenEmpty-std}
 use Rattle.buffer_redux.specs.ReaderLaws.{ReadsAlong-none}
+use Rattle.buffer_redux.specs.WriterLaws.{WritesInOrder-then}
 use Rattle.chunked.specs.AskingLaws.{fill_leaves, took_some}
 use Rattle.chunked.specs.ChunkedWriterLaws.{ChunksWent-none}
-use Rattle.forward.specs.declared.error.AskError.{AskError}
 use Rattle.forward.specs.declared.error.AskError.TheVariants.{Io}
-use Rattle.bodies.specs.Encoding.{IsReady, encoding_rules}
+use Rattle.forward.specs.declared.error.AskError.{AskError}
+use Rattle.programs.specs.FlushesLaws.{flushed_once, FlushesOnce-flush}
+use Rattle.programs.specs.PromptLaws.{WritesOn-grows, WritesOn-joins, WritesOn-unflushed}
+use Rattle.programs.specs.StreamsLaws.{MetInterrupts-none}
+use Rattle.bodies.specs.Words.{around, AskAnswers, Asks, body_end, Buffered, chunk, ChunkedWriterState, ChunksWent, Error, Fills, FilterRules, FlushAnswers, Flushes, IsChunkedWriter, line_end, MetInterrupts, MetInterrupts-joins, Passes, PutsFirst, PutsIn, ReadsAlong, room, RunError, SendErrorCaused-after, size_digits, std_read_rules, StdPolicy, StreamLog, taken_more, WasFlushed, WritesChunk, WritesInOrder}
+use Rattle.bodies.specs.Encode.{EndAnswers, EndsBody}
+use Rattle.bodies.specs.Encoding.{encoding_rules, IsReady}
 use Rattle.bodies.specs.Filters.{Asked}
 use Rattle.bodies.specs.FiltersLaws.{ended, fault_gives, fill_asked, some_of, std_fault}
 use Rattle.bodies.specs.declared.encoding.Encoding.{Encoding}
+use Rattle.bodies.specs.declared.error.RunError.TheVariants.{Write}
 
 -- the writer was at most interrupted, and flushed nothing
 pub record Quiet {W : Type 0} (u v : Buffered W StdPolicy) : Type 0 where

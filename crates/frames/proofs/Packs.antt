@@ -1,27 +1,27 @@
 -- What the calls of a filter of lines do, and what a whole run of `pack` comes to.
 use Rattle.std.proofs.Common.{◌≡◌, ℕ, ◌≤◌, ◌<◌, List, length, true, false, Option, None, Some, Ok, Err, refl, sym, ap, subst, ◌∙◌, arith, ◌^◌, ◌⊎◌, inl, inr, [], ◌∷◌, ◌++◌, Result, append-nil, append_assoc, length-append}
-use Rattle.line_reader.specs.Lines.{BeginsTooLong}
-use Rattle.line_reader.specs.NextLine.{NextAnswer, NextLine}
-use Rattle.line_reader.specs.NextLineLaws.{IsHanded-fits, NextLine-open, NextOpen, NextPiece-long, open_unended}
-use Rattle.frames.specs.Words.{Error, IsLent, bytes_at, Span, rest, room_for, Asks, HasLines, IsLine, IsUnended, with_ends, LineState, lined, error_kind, All, RanDry, StreamLog, Grammar, IsOpen, HasPieces, IsPieces, ForwardAnswers, Stopped, Fits, frames, AllSent, GaveNothing, MetNoFault, OverCount, RunError}
-use Rattle.frames.specs.Packing.{HeldFits, TakesLines, packing, packing_rules, NoLine}
-use Rattle.frames.specs.PackingLaws.{packing_sound, all_ended, all_fit}
-use Rattle.frames.specs.Pieces.{IsReady, HasEnded, PiecesEnd}
-use Rattle.frames.specs.declared.error.RunError.TheVariants.{TooLong, Io}
-use Rattle.frames.specs.declared.packing.Packing.{Packing}
 use Rattle.std.proofs.lemmas.Bool.{true≢false}
 use Rattle.std.proofs.lemmas.List.Elements.{All-nil}
 use Rattle.std.specs.declared.io.ErrorKind.TheVariants.{OutOfMemory}
-use Rattle.buffer_redux.specs.GrowError.{FitsWithin, kind_of}
+use Rattle.redux_buffer.specs.declared.grow_error.GrowError.TheVariants.{Memory, TooLarge}
 use Rattle.redux_buffer.specs.declared.grow_error.GrowError.{GrowError}
-use Rattle.redux_buffer.specs.declared.grow_error.GrowError.TheVariants.{TooLarge, Memory}
+use Rattle.buffer_redux.specs.GrowError.{FitsWithin, kind_of}
+use Rattle.forward.specs.declared.error.AskError.TheVariants as ask
+use Rattle.line_reader.specs.Lines.{BeginsTooLong}
+use Rattle.line_reader.specs.NextLine.{NextAnswer, NextLine}
+use Rattle.line_reader.specs.NextLineLaws.{IsHanded-fits, NextLine-open, NextOpen, NextPiece-long, open_unended}
 use Rattle.line_reader.specs.TextLaws.{lines_of}
+use Rattle.line_reader.specs.declared.error.LineError.TheVariants as error
+use Rattle.frames.specs.Words.{All, AllSent, Asks, bytes_at, Error, error_kind, Fits, ForwardAnswers, GaveNothing, Grammar, HasLines, HasPieces, IsLent, IsLine, IsOpen, IsPieces, IsUnended, lined, LineState, MetNoFault, OverCount, RanDry, rest, room_for, RunError, Span, Stopped, StreamLog, with_ends}
 use Rattle.frames.specs.Ending.{IsOutcome}
 use Rattle.frames.specs.Pack.{PackedFirst, PackedLines, PackRan, Packs}
+use Rattle.frames.specs.Packing.{HeldFits, NoLine, packing, packing_rules, TakesLines}
+use Rattle.frames.specs.PackingLaws.{all_ended, all_fit, packing_sound}
+use Rattle.frames.specs.Pieces.{HasEnded, IsReady, PiecesEnd}
 use Rattle.frames.specs.PiecesLaws.{whole_text}
-use Rattle.forward.specs.declared.error.AskError.TheVariants as ask
-use Rattle.line_reader.specs.declared.error.LineError.TheVariants as error
-use Rattle.frames.proofs.PieceRuns.{Over, all_received, outcome_ran}
+use Rattle.frames.specs.declared.error.RunError.TheVariants.{Io, TooLong}
+use Rattle.frames.specs.declared.packing.Packing.{Packing}
+use Rattle.frames.proofs.PieceRuns.{all_received, outcome_ran, Over}
 use Rattle.frames.proofs.PiecesCalls as pieces
 
 -- so it is still, where neither limit changed

@@ -1,25 +1,25 @@
 -- What the calls of a filter of frames do, and what a whole run of `unpack` comes to.
-use Rattle.std.proofs.Common.{true, ◌≡◌, ℕ, ◌+◌, ◌≤◌, ◌<◌, ◌⊎◌, inl, inr, List, [], length, false, Option, None, Some, Ok, Err, refl, sym, ap, subst, ◌∙◌, arith, ◌++◌, Result, append-nil}
-use Rattle.frame_reader.specs.Frames.{BeginsTooLong}
-use Rattle.frame_reader.specs.Next.{Next, NextAnswer, piece_answer}
-use Rattle.frame_reader.specs.NextLaws.{NextPiece-reads}
-use Rattle.frame_reader.specs.declared.frame.Frames.{Frames}
-use Rattle.codec.specs.NextPieceLaws.{MetEnd-once}
-use Rattle.frames.specs.Words.{Error, IsLent, bytes_at, Span, ReaderState, rest, Asks, framed, IsCutShort, Fits, frames, error_kind, All, RanDry, StreamLog, IsOpen, ForwardAnswers, Stopped, AllSent, GaveNothing, MetNoFault, RunError}
-use Rattle.frames.specs.Pieces.{IsReady, HasEnded}
-use Rattle.frames.specs.Unpacking.{TakesFrames, unpacking, unpacking_rules, NoFrame}
-use Rattle.frames.specs.UnpackingLaws.{unpacking_sound, all_frames}
-use Rattle.frames.specs.declared.error.RunError.TheVariants.{TooLong, Truncated, Io}
-use Rattle.frames.specs.declared.unpacking.Unpacking.{Unpacking}
+use Rattle.std.proofs.Common.{◌≡◌, ℕ, ◌+◌, ◌≤◌, ◌<◌, ◌⊎◌, inl, inr, true, false, List, [], length, Option, None, Some, Ok, Err, refl, sym, ap, subst, ◌∙◌, arith, ◌++◌, Result, append-nil}
 use Rattle.std.proofs.lemmas.Bool.{true≢false}
 use Rattle.std.proofs.lemmas.List.Elements.{All-nil}
 use Rattle.std.specs.declared.io.ErrorKind.TheVariants.{OutOfMemory}
-use Rattle.frames.specs.Ending.{IsOutcome}
-use Rattle.frames.specs.Unpack.{Unpacked, UnpackedFirst, UnpackRan, Unpacks}
+use Rattle.codec.specs.NextPieceLaws.{MetEnd-once}
 use Rattle.forward.specs.declared.error.AskError.TheVariants as ask
+use Rattle.frame_reader.specs.Frames.{BeginsTooLong}
+use Rattle.frame_reader.specs.Next.{Next, NextAnswer, piece_answer}
+use Rattle.frame_reader.specs.NextLaws.{NextPiece-reads}
 use Rattle.frame_reader.specs.declared.error.FrameError.TheVariants as error
 use Rattle.frame_reader.specs.declared.frame.FrameFault.TheVariants as Fault
-use Rattle.frames.proofs.PieceRuns.{Over, all_received, outcome_ran}
+use Rattle.frame_reader.specs.declared.frame.Frames.{Frames}
+use Rattle.frames.specs.Words.{All, AllSent, Asks, bytes_at, Error, error_kind, Fits, ForwardAnswers, framed, frames, GaveNothing, IsCutShort, IsLent, IsOpen, MetNoFault, RanDry, ReaderState, rest, RunError, Span, Stopped, StreamLog}
+use Rattle.frames.specs.Ending.{IsOutcome}
+use Rattle.frames.specs.Pieces.{HasEnded, IsReady}
+use Rattle.frames.specs.Unpack.{Unpacked, UnpackedFirst, UnpackRan, Unpacks}
+use Rattle.frames.specs.Unpacking.{NoFrame, TakesFrames, unpacking, unpacking_rules}
+use Rattle.frames.specs.UnpackingLaws.{all_frames, unpacking_sound}
+use Rattle.frames.specs.declared.error.RunError.TheVariants.{Io, TooLong, Truncated}
+use Rattle.frames.specs.declared.unpacking.Unpacking.{Unpacking}
+use Rattle.frames.proofs.PieceRuns.{all_received, outcome_ran, Over}
 use Rattle.frames.proofs.PiecesCalls as pieces
 
 -- so it is still, where the limit, the kind of the buffer and its capacity didn't change
