@@ -11,10 +11,10 @@ use std::io::ErrorKind;
 
 /// Forwards each payload, in order, until the stream that is read from ends, and returns how many those were.
 ///
-/// Nothing is held back: before the stream is asked, all that was taken in is sent and flushed. An ask that was interrupted is made
-/// again, 64 times in a row, which begins anew where bytes came in one; for all of these the writer is flushed once at most. An
-/// `Err` says which side stopped, and why, and how many payloads went over: where what came was wrong, or a read failed, all of
-/// these were sent and flushed.
+/// Nothing is held back: before the stream is asked, all that was taken in is sent and flushed. An ask that was interrupted is
+/// made again, 64 times in a row, which begins anew where bytes came in one; for all of these the writer is flushed once at
+/// most. An `Err` says which side stopped, and why, and how many payloads went over: where what came was wrong, or a read
+/// failed, all of these were sent and flushed.
 pub fn forward<F: Filter>(link: &mut Link<F>) -> Result<u64, Stopped<F::Wrong>>
     requires ready { F.rules.ready link.old.filter }
     requires fresh { F.rules.fresh link.old.filter }
@@ -41,8 +41,8 @@ pub fn forward<F: Filter>(link: &mut Link<F>) -> Result<u64, Stopped<F::Wrong>>
     })
 }
 
-// Forwards the next payload where none is there, and returns whether there was one: all that was taken in is sent and flushed, and
-// then it is asked for.
+// Forwards the next payload where none is there, and returns whether there was one: all that was taken in is sent and flushed,
+// and then it is asked for.
 #[inline(always)]
 fn forward_asked<F: Filter>(link: &mut Link<F>) -> Result<bool, Cause<F::Wrong>>
     requires ready { F.rules.ready link.old.filter }
