@@ -1,6 +1,5 @@
 -- What calls of the layers below take of a body, and of its stream, and why they fail.
 use Rattle.std.proofs.Common.{◌≡◌, ℕ, ◌+◌, ◌<◌, List, [], ◌++◌, length, Option, Err, inl, inr, sym, ap, subst, ◌∙◌, arith, refl, append_assoc, append-nil, length-append}
-use Rattle.std.specs.IoError.{error_kind}
 use Rattle.std.proofs.lemmas.List.{append_cancel_left, nil_from_length}
 use Rattle.buffer_redux.specs.Policy.{ReadRules, std_read_rules}
 use Rattle.buffer_redux.specs.ReaderLaws.{WantsBytes-std}
@@ -92,8 +91,6 @@ chunks_fail s t is room asked (Io e) answers =
 
 -- or it is of more pieces than are counted
 pub counts_many : (handed : List ℕ) (e : ChunkedError) → DropsTooMany handed (Err e) → TooMany handed (body_error e)
-counts_many handed (Io e) many =
-    let same : e ≡ many.error = (let is = many.answers in cc) in
-    (ap error_kind same ∙ many.kind, many.many)
-counts_many handed (NotChunked why right) many = absurd (let odd = many.answers in cc)
-counts_many handed (Truncated right) many = absurd (let odd = many.answers in cc)
+counts_many handed e many =
+    let same : e ≡ Io many.error = (let is = many.answers in cc) in
+    (many.error, ap body_error same, many.kind, many.many)

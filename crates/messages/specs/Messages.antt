@@ -1,6 +1,7 @@
 -- Messages, and what contracts see of a reader that stands in one.
 use Rattle.std.specs.Prelude.{◌≡◌, ◌⊎◌, ◌≤◌, ◌<◌, ◌-◌, ◌^◌, ℕ, List, [], ◌∷◌, ◌++◌, length, take, Option, None, Some, Result, Ok, Err}
 use Rattle.std.specs.IoError.{error_kind}
+use Rattle.std.specs.declared.io.Error.{Error}
 use Rattle.std.specs.declared.io.ErrorKind.TheVariants.{Other}
 use Rattle.buffer_redux.specs.Unbuffer.{StreamWent, Unbuffered, unbuffered}
 use Rattle.chunked.specs.declared.error.ChunkedError.{ChunkedError}
@@ -129,9 +130,7 @@ body_error (chunks.Io e) = Fault e
 
 -- a body of which this was dropped is of more pieces than are counted
 abbrev pub TooMany : List ℕ → BodyError → Type 0
-TooMany handed (Fault e) = (error_kind e ≡ Other) × (2 ^ 64 - 1 ≤ length handed)
-TooMany handed (Wrong name) = ⊥
-TooMany handed (Truncated due) = ⊥
+TooMany handed why = (e : Error) × (why ≡ Fault e) × (error_kind e ≡ Other) × (2 ^ 64 - 1 ≤ length handed)
 
 -- why a body wasn't finished, of which this payload was dropped: none comes; or it is of more pieces than are counted; or it was
 -- taken to its end, and memory was refused for the next head

@@ -114,12 +114,11 @@ module _ {S : Type 0} (s m : Unbuffered S) (reads : OnlyInterrupts (faults_of s)
   TakeFails-behind handed more b (Body e) (inl fails) same =
       TakeFails-of (handed ++ more) b e (λ why is. absurd (no_fault b why (subst (λ x. Fails m x b.stream b.rest) is fails) same))
       fails
-  TakeFails-behind handed more b (Body (Wrong why)) (inr odd) same = absurd odd
-  TakeFails-behind handed more b (Body (Truncated due)) (inr odd) same = absurd odd
-  TakeFails-behind handed more b (Body (Io e)) (inr (other, many)) same = inr (
-    joined b.stream (none_met same),
-    record { other = other; large = omega (arith, many, length-append handed more) },
-  )
+  TakeFails-behind handed more b (Body why) (inr (e, is, other, many)) same =
+      subst (λ x. TakeFails s (handed ++ more) (Body x) b) (sym is) (inr (
+        joined b.stream (none_met same),
+        record { other = other; large = omega (arith, many, length-append handed more) },
+      ))
   TakeFails-behind handed more b (Memory e) (none, whole) same = (joined b.stream (none_met none), whole)
 
 -- the head of a message went without a fault, and no end was met again
