@@ -24,7 +24,7 @@ use Rattle.frames.specs.declared.packing.Packing.{Packing}
 use Rattle.frames.proofs.PieceRuns.{all_received, outcome_ran, Over}
 use Rattle.frames.proofs.PiecesCalls as pieces
 
--- so it is still, where neither limit changed
+-- lines are taken still where neither limit changed
 pub lines_on : {R W : Type 0} {s : Packing R W} (t : Packing R W) → TakesLines s
     → t.source.pieces.decoder ≡ s.source.pieces.decoder → t.target.encoder ≡ s.target.encoder → t.source.skipping ≡ false
     → HeldFits t.source.pieces t.held → TakesLines t

@@ -122,7 +122,7 @@ module _ {T R D X W E : Type 0} (remaining : R → Option (List ℕ)) {f : Piece
         leaves = ready_then (Ok (Some payload)) next (none_shown none) also;
       }
 
-  -- it was taken in, or nothing was
+  -- a payload was taken in, or nothing was
   module _ (unflushed : (f.target t).log.writes.flushed ≡ (f.target s).log.writes.flushed)
       (steady : (f.target t).log.writes.flushes ≡ (f.target s).log.writes.flushes) where
     pub passed : (payload : List ℕ) → Took (payload ∷ [])
@@ -253,7 +253,7 @@ module _ {T R D X W E : Type 0} (remaining : R → Option (List ℕ)) {f : Piece
             ],
           )
 
-      -- or none
+      -- no payload came
       module _ (none : f.held t ≡ None) where
         asked_nothing : (found : NextAnswer X) (next : Next found) → next.bytes ≡ [] → (f.source t).ended ≡ false
             → empties (f.source t).reader ≤ empties (f.source s).reader + 1
@@ -279,7 +279,7 @@ module _ {T R D X W E : Type 0} (remaining : R → Option (List ℕ)) {f : Piece
               | inr cut ↦ omega (arith, MetEnd-once (f.source s) (f.source t) going cut.3)
             ]) (Err (Wrong why)) ((none, wrong), a.1)
 
-        -- or a read failed, behind bytes that came or not
+        -- a read failed, behind bytes that came or none
         module _ (e : Error) (next : Next (Err (Why.Io e))) where
           failed : (answer : Result Bool (AskError E))
               → (rules.waits t → Faulted (f.source s) e (f.source t) → StaysOpen rules s t → AskAnswers rules s answer t)

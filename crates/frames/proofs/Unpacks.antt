@@ -22,7 +22,7 @@ use Rattle.frames.specs.declared.unpacking.Unpacking.{Unpacking}
 use Rattle.frames.proofs.PieceRuns.{all_received, outcome_ran, Over}
 use Rattle.frames.proofs.PiecesCalls as pieces
 
--- so it is still, where the limit, the kind of the buffer and its capacity didn't change
+-- frames are taken still where the limit, the kind of the buffer and its capacity didn't change
 pub frames_on : {R W : Type 0} {s : Unpacking R W} (t : Unpacking R W) → TakesFrames s
     → t.source.decoder ≡ s.source.decoder → t.source.ended ≡ false → t.target.block.kind ≡ s.target.block.kind
     → t.target.block.capacity ≡ s.target.block.capacity → TakesFrames t

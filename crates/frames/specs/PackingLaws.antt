@@ -12,7 +12,7 @@ use Rattle.frames.specs.PiecesLaws.{piece_lawful, whole_text}
 pub all_fit : (max : ℕ) (bytes : List ℕ) (lines : List (List ℕ)) → HasPieces (lined max) bytes lines → All (Fits max) lines
 all_fit max bytes lines has = All-weaker (FitsLine max) (Fits max) (λ l fits. fits.fits) lines (fits_of max bytes lines has)
 
--- and where each has its end, that is all there is
+-- lines that each have their end are all there is
 pub all_ended : (max : ℕ) (bytes : List ℕ) (lines : List (List ℕ)) → IsPieces (lined max) bytes lines []
     → (bytes ≡ with_ends lines) × All IsLine lines × All (Fits max) lines
 all_ended max bytes lines is =

@@ -30,7 +30,7 @@ module _ {X : Type 0} (g : Grammar X) where
         equal = ap (λ l. l ++ b) starts.equal ∙ append_assoc starts.piece more b;
       }) (pieces_join P one more b p q is others)
 
-  -- and are a text
+  -- whole pieces are a text
   pub whole_text : (bytes : List ℕ) (p : List (List ℕ)) → IsPieces g bytes p [] → HasPieces g bytes p
   whole_text bytes [] is = is
   whole_text bytes (payload ∷ p) (more, starts, is) = inl (more, starts, whole_text more p is)
