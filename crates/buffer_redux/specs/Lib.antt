@@ -3,7 +3,6 @@ pub use Rattle.redux_buffer.specs.BufImpl
 pub use Rattle.redux_buffer.specs.Calls
 pub use Rattle.redux_buffer.specs.Copy
 pub use Rattle.redux_buffer.specs.CopyLaws
-pub use Rattle.redux_buffer.specs.FaultAt
 pub use Rattle.redux_buffer.specs.Faults
 pub use Rattle.redux_buffer.specs.GivesRemaining
 pub use Rattle.redux_buffer.specs.GoesOn
@@ -12,7 +11,6 @@ pub use Rattle.redux_buffer.specs.LogGrows
 pub use Rattle.redux_buffer.specs.Memory
 pub use Rattle.redux_buffer.specs.Potential
 pub use Rattle.redux_buffer.specs.RawLends
-pub use Rattle.redux_buffer.specs.Script
 pub use Rattle.redux_buffer.specs.StreamLog
 pub use Rattle.redux_buffer.specs.Told
 pub use Rattle.redux_buffer.specs.Transfer

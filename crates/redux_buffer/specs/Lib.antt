@@ -6,8 +6,6 @@ pub mod GivesRemaining
 pub mod Told
 pub mod Faults
 pub mod Memory
-pub mod Script
-pub mod FaultAt
 pub mod Copy
 pub mod CopyLaws
 pub mod GrowError

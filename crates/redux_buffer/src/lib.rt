@@ -1,5 +1,5 @@
 //! Buffers of bytes, plain and ring; the streams that fill and drain them, which tell, in their contracts alone, what they
-//! were asked and what they answered; scripted streams for tests; and copying from one stream to another.
+//! were asked and what they answered; and copying from one stream to another.
 //!
 //! The crate `buffer_redux` hands on every name of this one.
 #![tactic(auto)]
@@ -20,7 +20,6 @@ mod count;
 mod grow_error;
 pub mod laws;
 mod raw_buf;
-pub mod script;
 mod slice_deque_buf;
 mod std_buf;
 mod tail_span;

@@ -3,10 +3,10 @@ use crate::case::{BufferCall, BufferCase};
 use crate::play::{Unplayed, counting, first_buffer, low_byte};
 use crate::print;
 use crate::watched::{Fault, Watched};
-use buffer_redux::script::ScriptReader;
 use buffer_redux::tell::{TellRead, Told};
 use buffer_redux::{Buffer, GrowError};
 use redux_play::play::ReaderAnswer;
+use redux_script::ScriptReader;
 use std::alloc::{AllocError, Global};
 
 /// Plays a case of a bare buffer, and returns the line that answers it.

@@ -1,6 +1,6 @@
 //! What a line asks for: a buffered reader or writer, or a bare buffer, what the stream answers, and the calls.
-use buffer_redux::script::Answer;
 use redux_play::play::ReaderCall;
+use redux_script::Answer;
 
 /// What a line asks for.
 #[derive(Drop)]

@@ -4,8 +4,8 @@ use crate::case::{
     StreamCase, WriterCase, WriterRule, WriterWord,
 };
 use crate::words::{answer, buffer_call, hex_bytes, reader_call, writer_call};
-use buffer_redux::script::Answer;
 use programs::number;
+use redux_script::Answer;
 use std::alloc::{AllocError, AllocFailed, Global};
 use std::fmt;
 

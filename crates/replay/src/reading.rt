@@ -4,10 +4,10 @@ use crate::play::{Outcome, Unplayed, counting, first_buffer, is_refusal, low_byt
 use crate::print;
 use crate::watched::{Fault, Watched};
 use buffer_redux::policy::{MinBuffered, ReaderPolicy, StdPolicy};
-use buffer_redux::script::ScriptReader;
 use buffer_redux::tell::{TellRead, Told};
 use buffer_redux::{BufReader, Buffer};
 use redux_play::play::{ReaderAnswer, ReaderCall, ReaderRun, play_reader};
+use redux_script::ScriptReader;
 use std::alloc::{AllocError, Global};
 use std::io::{BufRead, ErrorKind};
 use tests_common::claims::{Halves, Header};

@@ -2,7 +2,7 @@
 use crate::case::StreamCase;
 use crate::play::{Outcome, Unplayed, play_case};
 use crate::watched::{Fault, Lie};
-use buffer_redux::script::Answer;
+use redux_script::Answer;
 use std::alloc::Global;
 use std::io::ErrorKind;
 

@@ -1,5 +1,5 @@
 //! A stream that goes wrong at one call, and notes its calls and its errors in order.
-use buffer_redux::script::{Answer, FaultAt};
+use redux_script::{Answer, FaultAt};
 use std::alloc::Global;
 use std::io;
 use std::io::{ErrorKind, Read, Write};

@@ -3,9 +3,9 @@ ghost use Rattle.std.specs.Prelude.{◌≡◌, ◌++◌, IfSome};
 ghost use Rattle.replay.specs.Words.{IsBufferWord, IsSized, IsReaderWord, IsWriterWord, mode_word};
 
 use crate::case::{BufferCall, Mode, ReaderWord, WriterWord};
-use buffer_redux::script::Answer;
 use programs::number;
 use redux_play::play::ReaderCall;
+use redux_script::Answer;
 use std::alloc::{AllocError, Global};
 use std::io::ErrorKind;
 

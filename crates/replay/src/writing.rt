@@ -6,10 +6,10 @@ use crate::watched::{Fault, Watched};
 use buffer_redux::policy::{
     FlushAtLeast, FlushExact, FlushOn, FlushOnNewline, MinBuffered, StdPolicy, WriterPolicy,
 };
-use buffer_redux::script::ScriptWriter;
 use buffer_redux::tell::{TellWrite, Told};
 use buffer_redux::{BufWriter, Buffer, IntoInnerError};
 use redux_play::play::{WriterAnswer, WriterCall, WriterRun, play_writer};
+use redux_script::ScriptWriter;
 use std::alloc::{AllocError, Global};
 use std::io::{ErrorKind, Write};
 use tests_common::claims::Halves;

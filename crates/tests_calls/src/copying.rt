@@ -1,10 +1,10 @@
 //! What `bufcopy` does, by worked examples: what its words ask for, what a run returns and leaves, and how it says that.
 use buffer_redux::add_total;
-use buffer_redux::script::{Answer, FaultAt};
 use buffer_redux::tell::{TellRead, TellWrite, Told};
 use copier::run::{run, said};
 use copier::settings::settings;
 use programs::Ending;
+use redux_script::{Answer, FaultAt};
 use std::alloc::{AllocError, Global};
 use std::io;
 use std::io::ErrorKind;

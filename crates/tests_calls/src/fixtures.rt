@@ -1,6 +1,6 @@
 //! What several of these modules make. Nothing here promises anything.
 use buffer_redux::BufReader;
-use buffer_redux::script::Answer;
+use redux_script::Answer;
 use std::alloc::Global;
 use std::test::Fail;
 use tests_common::{Source, reader, source};

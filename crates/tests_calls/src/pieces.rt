@@ -1,7 +1,7 @@
 //! A reader's own `lines` and `split`: wherever a fill ends, and whichever call of the stream fails.
 use crate::text_lines::{Faulty, SIZES, Text, text};
-use buffer_redux::script::Answer;
 use buffer_redux::{Lines, Split};
+use redux_script::Answer;
 use std::alloc::Global;
 use std::io;
 use std::io::ErrorKind;

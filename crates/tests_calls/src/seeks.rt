@@ -1,7 +1,7 @@
 //! Readers and writers that seek.
-use buffer_redux::script::{Answer, FaultAt};
 use buffer_redux::tell::{Tell, TellRead, TellSeek, TellWrite, Told};
 use buffer_redux::{BufReader, BufWriter, Buffer, GrowError, seek_plan};
+use redux_script::{Answer, FaultAt};
 use std::alloc::{AllocError, Global};
 use std::io;
 use std::io::SeekFrom::{Current, End, Start};

@@ -1,8 +1,8 @@
 //! Calls of std's readers, as a user of std writes them, so that `docs/STD.md` says what is there; and rows of those that a
 //! reader has of its own.
 use buffer_redux::BufReader;
-use buffer_redux::script::Answer;
 use buffer_redux::tell::Told;
+use redux_script::Answer;
 use std::alloc::Global;
 use std::io;
 use std::io::{BufRead, Cursor, ErrorKind, Read, Seek, SeekFrom};

@@ -3,8 +3,8 @@ ghost use Rattle.std.specs.Prelude.{◌≡◌, ◌++◌, IfOk, take, vec_items};
 ghost use Rattle.redux_buffer.specs.Told.{told_log, told_stream};
 ghost use Rattle.redux_buffer.specs.LogGrows.{FillLogGrows, FillLogGrows-none, FillLogGrows-joins, FillsGoOn-of};
 
-use buffer_redux::script::{Answer, FaultAt, ScriptSeeker};
 use buffer_redux::tell::{Call, CallLog, Tell, TellBufRead, TellRead, TellSeek, TellWrite, Told};
+use redux_script::{Answer, FaultAt, ScriptSeeker};
 use std::alloc::{AllocError, Global};
 use std::io;
 use std::io::{Cursor, ErrorKind, Read, Seek, SeekFrom, Write};

@@ -1,8 +1,8 @@
 //! A reader's own `read_line` over texts whose characters have up to four bytes: wherever a fill ends, whichever call of the
 //! stream fails, and wherever a byte is no UTF-8.
-use buffer_redux::script::{Answer, FaultAt, ScriptReader};
 use buffer_redux::tell::{TellRead, Told};
 use buffer_redux::{BufReader, GrowError};
+use redux_script::{Answer, FaultAt, ScriptReader};
 use std::alloc::Global;
 use std::io;
 use std::io::ErrorKind;

@@ -1,8 +1,8 @@
 //! A reader that gives its buffer up, by worked examples.
 use crate::fixtures::of_four;
-use buffer_redux::script::Answer;
 use buffer_redux::tell::{Tell, TellRead};
 use buffer_redux::{BufReader, Unbuffer};
+use redux_script::Answer;
 use std::alloc::Global;
 use std::io::ErrorKind;
 use std::test::Fail;

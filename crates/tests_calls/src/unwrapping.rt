@@ -1,7 +1,7 @@
 //! What becomes of a writer's bytes, and of the stream inside it, where it is taken apart or dropped.
-use buffer_redux::script::{Answer, ScriptWriter};
 use buffer_redux::tell::{TellWrite, Told};
 use buffer_redux::{BufWriter, Buffer, GrowError, IntoInnerError, MakeError};
+use redux_script::{Answer, ScriptWriter};
 use std::alloc::{AllocError, Global};
 use std::cell::Cell;
 use std::io;

@@ -2,13 +2,13 @@
 use End::{Truncated, Whole, Wrong};
 use buffer_redux::BufReader;
 use buffer_redux::policy::ReaderPolicy;
-use buffer_redux::script::Answer;
 use buffer_redux::tell::{Tell, TellRead};
 use chunked::Malformed::{
     BadField, BadSize, BareFeed, BareReturn, ChunkTooLong, LineTooLong, NoSize, SizeTooLarge,
     TrailersTooLong,
 };
 use chunked::{ChunkedError, ChunkedReader, Limits, Malformed};
+use redux_script::Answer;
 use std::alloc::{AllocError, Global};
 use std::io;
 use std::io::Read;

@@ -1,8 +1,8 @@
 //! The writer of bodies in the chunked coding.
-use buffer_redux::script::Answer;
 use buffer_redux::tell::TellWrite;
 use buffer_redux::{BufWriter, IntoInnerError};
 use chunked::{ChunkedWriter, FinishError, TrailersError};
+use redux_script::Answer;
 use std::alloc::Global;
 use std::io;
 use std::io::{ErrorKind, Write};

@@ -1,9 +1,9 @@
 //! What a writer that is dropped does to the stream inside, which is lent to it. A reader's drop is derived, and makes no call.
 use crate::{chunks, frames};
 use Way::{Body, Ended, Frames, Lines, Refused};
-use buffer_redux::script::{Answer, ScriptWriter};
 use buffer_redux::tell::{TellWrite, Told};
 use chunked::ChunkedWriter;
+use redux_script::{Answer, ScriptWriter};
 use std::alloc::Global;
 use std::io;
 use std::io::ErrorKind;

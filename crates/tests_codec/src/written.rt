@@ -1,9 +1,9 @@
 //! Pieces that are written to a stream that takes little, and that fails at each call in turn.
 use buffer_redux::MakeError;
-use buffer_redux::script::Answer;
 use buffer_redux::tell::TellWrite;
 use codec::{ByHeader, ByTextHeader, Delimited, Encoder, PieceWriter, WritePieceError};
 use decoders::{BulkStrings, Lengths, Netstrings, Order, Width};
+use redux_script::Answer;
 use std::alloc::Global;
 use std::io;
 use std::test::Fail;

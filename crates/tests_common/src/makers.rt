@@ -1,9 +1,9 @@
 //! Streams that answer by a script, and readers and writers over any stream. They promise nothing, as the calls of std don't.
 use crate::holding;
 use buffer_redux::policy::{ReaderPolicy, WriterPolicy};
-use buffer_redux::script::{Answer, ScriptReader, ScriptWriter};
 use buffer_redux::tell::{Tell, TellWrite, Told};
 use buffer_redux::{BufReader, BufWriter, GrowError, LineWriter};
+use redux_script::{Answer, ScriptReader, ScriptWriter};
 use std::alloc::{AllocError, Global};
 
 /// A stream that gives these bytes, and answers by this script.

@@ -1,5 +1,5 @@
 //! Lists of calls over a stream that comes in pieces, and that goes wrong at each call in turn.
-use buffer_redux::script::Answer;
+use redux_script::Answer;
 use std::alloc::{AllocError, Global};
 use std::io;
 use std::io::ErrorKind;

@@ -2,9 +2,9 @@
 use buffer_redux::policy::{
     DoRead, FlushAtLeast, FlushExact, FlushOn, FlushOnNewline, MinBuffered, ReaderPolicy,
 };
-use buffer_redux::script::{Answer, ScriptReader};
 use buffer_redux::tell::Told;
 use buffer_redux::{BufReader, BufWriter, Buffer};
+use redux_script::{Answer, ScriptReader};
 use std::io;
 use std::io::{BufRead, Write};
 use std::test::Fail;

@@ -1,6 +1,6 @@
 //! Streams of std that tell, and scripted ones.
-use buffer_redux::script::{Answer, FaultAt, ScriptReader, ScriptSeeker, ScriptWriter};
 use buffer_redux::tell::{TellWrite, Told};
+use redux_script::{Answer, FaultAt, ScriptReader, ScriptSeeker, ScriptWriter};
 use std::io::{ErrorKind, Read, Seek, SeekFrom, Write};
 use std::test::Fail;
 

@@ -1,8 +1,8 @@
 //! Writers, and what runs them.
-use buffer_redux::script::{Answer, ScriptWriter};
 use buffer_redux::tell::Told;
 use buffer_redux::{BufWriter, LineSender, LineWriter};
 use redux_play::play::{WriterAnswer, WriterCall, WriterRun, play_writer};
+use redux_script::{Answer, ScriptWriter};
 use std::io::{ErrorKind, Write};
 use std::test::Fail;
 

@@ -1,6 +1,6 @@
-use buffer_redux::script::Answer;
 use buffer_redux::tell::Told;
 use buffer_redux::{BufReader, LineSender, LineWriter};
+use redux_script::Answer;
 use std::alloc::Global;
 use std::io;
 use std::io::ErrorKind;

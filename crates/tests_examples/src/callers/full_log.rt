@@ -1,6 +1,6 @@
-use buffer_redux::script::Answer;
 use buffer_redux::tell::TellWrite;
 use buffer_redux::{Buffer, LineWriter};
+use redux_script::Answer;
 use std::alloc::Global;
 use std::io::ErrorKind;
 use std::test::Fail;

@@ -1,6 +1,6 @@
 use buffer_redux::BufReader;
-use buffer_redux::script::Answer;
 use buffer_redux::tell::TellRead;
+use redux_script::Answer;
 use std::io::ErrorKind;
 use std::test::Fail;
 use tests_common::{kind, reader, source};
