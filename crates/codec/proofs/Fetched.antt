@@ -4,11 +4,11 @@ use Rattle.std.specs.declared.io.Error.{Error}
 use Rattle.buffer_redux.specs.Buffered.{Buffered}
 use Rattle.buffer_redux.specs.StreamLog.{StreamLog}
 use Rattle.codec.specs.Fetching.{FlushedFirst, FlushesToAsk}
-use Rattle.codec.specs.Grammar.{Grammar, IsLawful}
-use Rattle.codec.specs.NextPiece.{NextAnswer, NextPiece, StaysLeft}
-use Rattle.codec.specs.NextPieceLaws.{AsksNone-settled}
-use Rattle.codec.specs.PieceReader.{ReaderState}
-use Rattle.codec.specs.StaysLeftLaws.{StaysLeft-settled}
+use Rattle.piece_reader.specs.Grammar.{Grammar, IsLawful}
+use Rattle.piece_reader.specs.NextPiece.{NextAnswer, NextPiece, StaysLeft}
+use Rattle.piece_reader.specs.NextPieceLaws.{AsksNone-settled}
+use Rattle.piece_reader.specs.PieceReader.{ReaderState}
+use Rattle.piece_reader.specs.StaysLeftLaws.{StaysLeft-settled}
 
 -- a test that failed
 pub untrue : {P : Type 0} (b : Bool) → b ≡ false → (IsTrue b ↔ P) → ¬ P

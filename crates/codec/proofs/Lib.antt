@@ -1,17 +1,7 @@
-pub mod Buffered
-pub mod Delimiting
 pub mod Fetched
-pub mod Headers
-pub mod Lending
-pub mod Loading
 pub mod Playing
-pub mod Reading
-pub mod Refilling
 pub mod Refusing
-pub mod Saying
-pub mod Searching
 pub mod Stepping
-pub mod Taking
 pub mod Writing
 pub mod Handover
 pub mod Turning

@@ -4,8 +4,8 @@ use Rattle.std.specs.Global.{Vec}
 use Rattle.std.proofs.Common.{sym, ap, subst, ◌∙◌, arith, inl, inr, append_assoc, length-append}
 use Rattle.std.proofs.lemmas.List.{length-map, take-map}
 use Rattle.codec.specs.PayloadsLaws.{before}
-use Rattle.codec.specs.Runs.{AnswersPlayed, AnswersStopped, kept_answer}
-use Rattle.codec.specs.RunsLaws.{gains_more}
+use Rattle.piece_reader.specs.Runs.{AnswersPlayed, AnswersStopped, kept_answer}
+use Rattle.piece_reader.specs.RunsLaws.{gains_more}
 use Rattle.codec.specs.WriteRuns.{CallsPlayed}
 
 -- the first so many calls were played: their answers were recorded, in a list with room for so many, which had this room at first

@@ -7,7 +7,7 @@ use Rattle.codec.specs.declared.error.WritePieceError.{WritePieceError}
 use Rattle.codec.specs.declared.laws.runs.WriteEachError.{WriteEachError}
 use Rattle.codec.specs.declared.error.WritePieceError.TheVariants.{Refused, Io}
 use Rattle.codec.specs.Encoding.{Encoding}
-use Rattle.codec.specs.KnownPieces.{BufferRefused}
+use Rattle.piece_reader.specs.KnownPieces.{BufferRefused}
 use Rattle.codec.specs.PieceWriter.{WriterState}
 use Rattle.codec.specs.WritePiece.{WriteAnswer, WritesPiece}
 use Rattle.codec.specs.WriteRuns.{CallsEach, IfFault}

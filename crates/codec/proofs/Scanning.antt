@@ -3,7 +3,7 @@ use Rattle.std.specs.Prelude.{◌≡◌, ℕ, zero, suc, ◌+◌, ◌<◌, ◌�
 use Rattle.std.proofs.Common.{sym, ap, ◌∙◌, arith, refl}
 use Rattle.std.proofs.lemmas.List.{drop_all, drop_more}
 use Rattle.codec.specs.Scanning.{says, scan_on}
-use Rattle.codec.specs.declared.header.Header.TheVariants as header
+use Rattle.piece_reader.specs.declared.header.Header.TheVariants as header
 use Rattle.codec.specs.declared.scan.ScanStep.{ScanStep}
 use Rattle.codec.specs.declared.scan.ScanStep.TheVariants.{More, Bad}
 

@@ -6,7 +6,7 @@ use Rattle.std.specs.IoError.{error_kind}
 use Rattle.std.specs.declared.io.Error.{Error}
 use Rattle.std.specs.declared.io.ErrorKind.TheVariants.{OutOfMemory}
 use Rattle.std.proofs.lemmas.List.{drop_all, map-append}
-use Rattle.codec.specs.KnownPayloads.{AllRead, AnswersKnown, NextFails, ReadStopped, found_each}
+use Rattle.piece_reader.specs.KnownPayloads.{AllRead, AnswersKnown, NextFails, ReadStopped, found_each}
 use Rattle.codec.specs.PayloadsLaws.{behind, kept_more, some_more}
 
 -- some of all the payloads were read and kept, and these are left to read

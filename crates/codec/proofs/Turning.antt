@@ -4,13 +4,13 @@ use Rattle.std.specs.declared.io.Error.{Error}
 use Rattle.buffer_redux.specs.Buffered.{Buffered}
 use Rattle.buffer_redux.specs.StreamLog.{StreamLog}
 use Rattle.codec.specs.Answering.{Answered}
-use Rattle.codec.specs.declared.decoder.Span.{Span}
-use Rattle.codec.specs.declared.error.NextError.{NextError}
-use Rattle.codec.specs.Decoding.{bytes_at}
+use Rattle.piece_reader.specs.declared.decoder.Span.{Span}
+use Rattle.piece_reader.specs.declared.error.NextError.{NextError}
+use Rattle.piece_reader.specs.Decoding.{bytes_at}
 use Rattle.codec.specs.Fetching.{FlushedFirst}
-use Rattle.codec.specs.Grammar.{Grammar}
-use Rattle.codec.specs.Items.{NextItem}
-use Rattle.codec.specs.PieceReader.{ReaderState}
+use Rattle.piece_reader.specs.Grammar.{Grammar}
+use Rattle.piece_reader.specs.Items.{NextItem}
+use Rattle.piece_reader.specs.PieceReader.{ReaderState}
 use Rattle.codec.specs.Serving.{AnswerFailed, Answering, Exchange, Fetched, FlushFailed, Server, TookPiece, server}
 
 module _ {S D W I A T P : Type 0} (remaining : S → Option (List ℕ)) (tells : T → StreamLog) (trace : T → T → Type 0)

@@ -1,7 +1,7 @@
 -- Laws of pieces that a byte ends, as they are written.
 use Rattle.std.specs.Prelude.{ℕ, List, [], ◌∷◌}
 use Rattle.std.proofs.Common.{arith, refl, length-append}
-use Rattle.codec.specs.Delimited.{IsDelimited}
+use Rattle.piece_reader.specs.Delimited.{IsDelimited}
 use Rattle.codec.specs.DelimitedOut.{IsRefused, IsTaken, delimited_out}
 use Rattle.codec.specs.Encoding.{IsWritable, coded}
 use Rattle.codec.specs.declared.delimited_writer.NotPlain.{NotPlain}

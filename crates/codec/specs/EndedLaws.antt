@@ -1,14 +1,14 @@
 -- Laws of pieces that have their own end.
 use Rattle.std.specs.Prelude.{ℕ, List, ◌++◌}
 use Rattle.std.proofs.Common.{refl}
-use Rattle.codec.specs.declared.decoder.Found.{Found}
-use Rattle.codec.specs.declared.decoder.Found.TheVariants as found
+use Rattle.piece_reader.specs.declared.decoder.Found.{Found}
+use Rattle.piece_reader.specs.declared.decoder.Found.TheVariants as found
 use Rattle.codec.specs.declared.ended.Unended.TheVariants.{Wrong}
-use Rattle.codec.specs.Decoding.{Decodes}
+use Rattle.piece_reader.specs.Decoding.{Decodes}
 use Rattle.codec.specs.Ended.{ended}
 use Rattle.codec.specs.FirstByte.{found_as}
 use Rattle.codec.specs.FirstByteLaws.{renamed_lawful}
-use Rattle.codec.specs.Grammar.{Grammar, IsLawful, IsOpen}
+use Rattle.piece_reader.specs.Grammar.{Grammar, IsLawful, IsOpen}
 
 module _ {W : Type 0} (g : Grammar W) where
   pub ended_lawful : IsLawful g → IsLawful (ended g)

@@ -4,9 +4,9 @@ use Rattle.std.specs.declared.io.Error.{Error}
 use Rattle.buffer_redux.specs.Buffered.{Buffered}
 use Rattle.buffer_redux.specs.BufWriter.{WasFlushed}
 use Rattle.buffer_redux.specs.StreamLog.{StreamLog}
-use Rattle.codec.specs.Grammar.{Grammar}
-use Rattle.codec.specs.NextPiece.{StaysLeft}
-use Rattle.codec.specs.PieceReader.{IsSettled, ReaderState}
+use Rattle.piece_reader.specs.Grammar.{Grammar}
+use Rattle.piece_reader.specs.NextPiece.{StaysLeft}
+use Rattle.piece_reader.specs.PieceReader.{IsSettled, ReaderState}
 
 module _ {S D V T P : Type 0} (tells : T → StreamLog) (trace : T → T → Type 0) (g : Grammar V) (s : ReaderState S D)
     (w : Buffered T P) where

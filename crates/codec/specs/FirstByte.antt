@@ -2,11 +2,11 @@
 use Rattle.std.specs.Prelude.{◌≡◌, ℕ, ◌==◌, List, [], ◌∷◌, max, Bool, true, false}
 use Rattle.codec.specs.declared.by_first.EitherWrong.{EitherWrong}
 use Rattle.codec.specs.declared.by_first.EitherWrong.TheVariants.{One, Other}
-use Rattle.codec.specs.declared.decoder.End.{End}
-use Rattle.codec.specs.declared.decoder.End.TheVariants as end
-use Rattle.codec.specs.declared.decoder.Found.{Found}
-use Rattle.codec.specs.declared.decoder.Found.TheVariants as found
-use Rattle.codec.specs.Grammar.{Grammar}
+use Rattle.piece_reader.specs.declared.decoder.End.{End}
+use Rattle.piece_reader.specs.declared.decoder.End.TheVariants as end
+use Rattle.piece_reader.specs.declared.decoder.Found.{Found}
+use Rattle.piece_reader.specs.declared.decoder.Found.TheVariants as found
+use Rattle.piece_reader.specs.Grammar.{Grammar}
 
 -- the same pieces, with other words for why bytes are none
 abbrev pub renamed : {V W : Type 0} → (V → W) → Grammar V → Grammar W

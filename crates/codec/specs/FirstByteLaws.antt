@@ -4,15 +4,15 @@ use Rattle.std.proofs.Common.{sym, ap, subst, ◌∙◌, arith, refl, inl, inr}
 use Rattle.std.proofs.Math.Nat.{le-max_left, le-max_right}
 use Rattle.codec.specs.declared.by_first.EitherWrong.{EitherWrong}
 use Rattle.codec.specs.declared.by_first.EitherWrong.TheVariants.{One, Other}
-use Rattle.codec.specs.declared.decoder.End.{End}
-use Rattle.codec.specs.declared.decoder.End.TheVariants as end
-use Rattle.codec.specs.declared.decoder.Found.{Found}
-use Rattle.codec.specs.declared.decoder.Found.TheVariants as found
-use Rattle.codec.specs.Decoding.{Decodes, Ends, bytes_at}
+use Rattle.piece_reader.specs.declared.decoder.End.{End}
+use Rattle.piece_reader.specs.declared.decoder.End.TheVariants as end
+use Rattle.piece_reader.specs.declared.decoder.Found.{Found}
+use Rattle.piece_reader.specs.declared.decoder.Found.TheVariants as found
+use Rattle.piece_reader.specs.Decoding.{Decodes, Ends, bytes_at}
 use Rattle.codec.specs.FirstByte.{OnFirst, by_first, either, end_as, found_as, one_or, renamed, side}
-use Rattle.codec.specs.Grammar.{Grammar, IsLawful, IsOpen}
-use Rattle.codec.specs.GrammarLaws.{lacks_one, open_none}
-use Rattle.codec.specs.Items.{IsWhole}
+use Rattle.piece_reader.specs.Grammar.{Grammar, IsLawful, IsOpen}
+use Rattle.piece_reader.specs.GrammarLaws.{lacks_one, open_none}
+use Rattle.piece_reader.specs.Items.{IsWhole}
 
 -- other words for why bytes are none change nothing else
 module _ {V W : Type 0} (f : V → W) (g : Grammar V) where

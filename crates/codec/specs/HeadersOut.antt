@@ -1,10 +1,10 @@
 -- Headers as they are written.
 use Rattle.std.specs.Prelude.{◌≡◌, ℕ, ◌+◌, ◌<◌, ◌≤◌, List, length}
 use Rattle.codec.specs.Encoding.{Encoding}
-use Rattle.codec.specs.HeaderFormat.{HeaderFormat}
-use Rattle.codec.specs.declared.header_error.HeaderError.{HeaderError}
-use Rattle.codec.specs.declared.header_error.HeaderError.TheVariants.{TooLong}
-use Rattle.codec.specs.declared.header.Header.TheVariants.{Sized}
+use Rattle.piece_reader.specs.HeaderFormat.{HeaderFormat}
+use Rattle.piece_reader.specs.declared.header_error.HeaderError.{HeaderError}
+use Rattle.piece_reader.specs.declared.header_error.HeaderError.TheVariants.{TooLong}
+use Rattle.piece_reader.specs.declared.header.Header.TheVariants.{Sized}
 
 -- what stands before a payload of so many bytes, and how many are written at most
 pub record HeadersOut : Type 0 where

@@ -4,7 +4,7 @@ use Rattle.std.proofs.Common.{arith, inl, inr, length-append}
 use Rattle.std.proofs.Math.Seq.{drop-append_seam}
 use Rattle.std.proofs.lemmas.Bool.{cases_lt}
 use Rattle.codec.specs.Encoding.{IsWritable, coded}
-use Rattle.codec.specs.HeaderFormat.{HeaderFormat, IsLengthPrefixed, IsHeaderFormat}
+use Rattle.piece_reader.specs.HeaderFormat.{HeaderFormat, IsLengthPrefixed, IsHeaderFormat}
 use Rattle.codec.specs.HeadersOut.{HeadersOut, IsReadBack, length_prefixed_out}
 
 module _ (h : HeaderFormat) (o : HeadersOut) (law : IsHeaderFormat h) (back : IsReadBack h o) where

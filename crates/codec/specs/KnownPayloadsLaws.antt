@@ -3,7 +3,7 @@ use Rattle.std.specs.Prelude.{◌≡◌, ℕ, List, [], ◌∷◌, length, Optio
 use Rattle.std.proofs.Common.{ap, arith, inl, inr, length-append}
 use Rattle.std.specs.declared.io.Error.{Error}
 use Rattle.buffer_redux.specs.Faults.{IsMemory}
-use Rattle.codec.specs.KnownPayloads.{ReadFails, ReadStopped}
+use Rattle.piece_reader.specs.KnownPayloads.{ReadFails, ReadStopped}
 
 -- a reader that met no fault at all, as over memory, fails for want of memory
 module _ {T E : Type 0} (HasLeft : T → List (List ℕ) → Type 0) (faults : T → List Error) (io : Error → E)

@@ -5,7 +5,7 @@ use Rattle.buffer_redux.specs.Buffered.{Buffered, with_inner}
 use Rattle.buffer_redux.specs.StreamLog.{StreamLog}
 use Rattle.buffer_redux.specs.Unbuffer.{unbuffered}
 use Rattle.buffer_redux.specs.declared.policy.StdPolicy.{StdPolicy}
-use Rattle.codec.specs.PieceReader.{room_for}
+use Rattle.piece_reader.specs.PieceReader.{room_for}
 
 -- the buffered writer, and the encoder
 pub record WriterState (S E : Type 0) : Type 0 where

@@ -1,10 +1,10 @@
 -- Headers that are read byte by byte.
 use Rattle.std.specs.Prelude.{ℕ, zero, suc, ◌+◌, ◌<◌, ◌^◌, List, [], ◌∷◌, length}
-use Rattle.codec.specs.declared.header.Header.{Header}
-use Rattle.codec.specs.declared.header.Header.TheVariants as header
+use Rattle.piece_reader.specs.declared.header.Header.{Header}
+use Rattle.piece_reader.specs.declared.header.Header.TheVariants as header
 use Rattle.codec.specs.declared.scan.ScanStep.{ScanStep}
 use Rattle.codec.specs.declared.scan.ScanStep.TheVariants.{More, Sized, Bad}
-use Rattle.codec.specs.HeaderFormat.{HeaderFormat}
+use Rattle.piece_reader.specs.HeaderFormat.{HeaderFormat}
 
 -- where a header stands before its first byte; what it is after one more; how many bytes a header and a payload have at most; and
 -- what stands behind a payload

@@ -1,10 +1,10 @@
 -- What is said byte by byte stays said.
 use Rattle.std.specs.Prelude.{◌≡◌, ℕ, zero, suc, ◌+◌, ◌<◌, ◌≤◌, List, [], ◌∷◌, ◌++◌, length, take}
 use Rattle.std.proofs.Common.{sym, ap, ◌∙◌, arith, refl}
-use Rattle.codec.specs.HeaderFormat.{IsHeaderFormat}
+use Rattle.piece_reader.specs.HeaderFormat.{IsHeaderFormat}
 use Rattle.codec.specs.Scanning.{Scanning, IsSmall, says, scan_on, scanned}
-use Rattle.codec.specs.declared.header.Header.{Header}
-use Rattle.codec.specs.declared.header.Header.TheVariants.{Short, Sized, Bad}
+use Rattle.piece_reader.specs.declared.header.Header.{Header}
+use Rattle.piece_reader.specs.declared.header.Header.TheVariants.{Short, Sized, Bad}
 use Rattle.codec.specs.declared.scan.ScanStep.{ScanStep}
 use Rattle.codec.specs.declared.scan.ScanStep.TheVariants as turn
 

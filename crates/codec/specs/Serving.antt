@@ -6,7 +6,7 @@ use Rattle.buffer_redux.specs.BufWriter.{FlushedAlong, WasFlushed, WritesAlong}
 use Rattle.buffer_redux.specs.Policy.{std_write_rules}
 use Rattle.buffer_redux.specs.StreamLog.{StreamLog}
 use Rattle.buffer_redux.specs.WriteParts.{PartsRefused}
-use Rattle.codec.specs.declared.error.NextError.TheVariants as next
+use Rattle.piece_reader.specs.declared.error.NextError.TheVariants as next
 use Rattle.codec.specs.declared.serving.ServeError.{ServeError}
 use Rattle.codec.specs.declared.serving.ServeError.TheVariants.{Read, Write, Wrong}
 use Rattle.codec.specs.declared.serving.Served.{Served}
@@ -14,9 +14,9 @@ use Rattle.codec.specs.declared.serving.Served.TheVariants as served
 use Rattle.codec.specs.declared.serving.Step.{Step}
 use Rattle.codec.specs.declared.serving.Step.TheVariants as step
 use Rattle.codec.specs.Fetching.{FlushedFirst}
-use Rattle.codec.specs.Grammar.{Grammar}
-use Rattle.codec.specs.NextPiece.{NextAnswer, NextPiece, PiecesWent}
-use Rattle.codec.specs.PieceReader.{ReaderState}
+use Rattle.piece_reader.specs.Grammar.{Grammar}
+use Rattle.piece_reader.specs.NextPiece.{NextAnswer, NextPiece, PiecesWent}
+use Rattle.piece_reader.specs.PieceReader.{ReaderState}
 
 -- the reader of pieces, what answers them, and the writer of answers
 pub record Server (S D A T P : Type 0) : Type 0 where

@@ -8,10 +8,10 @@ use Rattle.buffer_redux.specs.Policy.{std_write_rules}
 use Rattle.buffer_redux.specs.StreamLog.{StreamLog}
 use Rattle.buffer_redux.specs.WritesAlongLaws.{FlushedAlong-of, WasFlushed-along, WritesAlong-joins, WritesAlong-none, WritesAlong-then}
 use Rattle.codec.specs.Fetching.{FlushedFirst}
-use Rattle.codec.specs.Grammar.{Grammar}
-use Rattle.codec.specs.NextPiece.{PiecesWent}
-use Rattle.codec.specs.PiecesWentLaws.{PiecesWent-joins, PiecesWent-none}
-use Rattle.codec.specs.PieceReader.{ReaderState}
+use Rattle.piece_reader.specs.Grammar.{Grammar}
+use Rattle.piece_reader.specs.NextPiece.{PiecesWent}
+use Rattle.piece_reader.specs.PiecesWentLaws.{PiecesWent-joins, PiecesWent-none}
+use Rattle.piece_reader.specs.PieceReader.{ReaderState}
 use Rattle.codec.specs.Serving.{Answering, Converses, EndedBy, Ends, Exchange, FailedBy, Server, Serves, Stops, Talked, joined, server}
 use Rattle.codec.specs.declared.serving.ServeError.{ServeError}
 use Rattle.codec.specs.declared.serving.ServeError.TheVariants.{Write}

@@ -1,6 +1,6 @@
 -- Pieces whose payloads are shown otherwise.
 use Rattle.std.specs.Prelude.{◌≡◌, List, ℕ}
-use Rattle.codec.specs.Grammar.{Grammar}
+use Rattle.piece_reader.specs.Grammar.{Grammar}
 
 -- the bytes are such, with a payload that is shown so
 abbrev pub ShownAs : (List ℕ → List ℕ) → (List ℕ → List ℕ → Type 0) → List ℕ → List ℕ → Type 0

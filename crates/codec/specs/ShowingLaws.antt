@@ -1,9 +1,9 @@
 -- Laws of pieces whose payloads are shown otherwise.
 use Rattle.std.specs.Prelude.{◌≡◌, ℕ, ◌+◌, ◌≤◌, List, ◌++◌}
 use Rattle.std.proofs.Common.{sym, ap, ◌∙◌, arith, refl}
-use Rattle.codec.specs.declared.decoder.Span.{Span}
-use Rattle.codec.specs.Decoding.{IsPiece, bytes_at}
-use Rattle.codec.specs.Grammar.{Begins, Grammar, IsLawful, IsOpen, Lacks}
+use Rattle.piece_reader.specs.declared.decoder.Span.{Span}
+use Rattle.piece_reader.specs.Decoding.{IsPiece, bytes_at}
+use Rattle.piece_reader.specs.Grammar.{Begins, Grammar, IsLawful, IsOpen, Lacks}
 use Rattle.codec.specs.Showing.{showing}
 
 module _ {W : Type 0} (show : List ℕ → List ℕ) (g : Grammar W) where

@@ -1,10 +1,10 @@
 -- Headers that are text.
 use Rattle.std.specs.Prelude.{ℕ, ◌+◌, ◌<◌, ◌^◌, List, length, Bool, ◌&&◌, ◌==◌, nat_lt, if◌then◌else◌, slice_index, Option, None, Some}
 use Rattle.codec.specs.Number.{with_byte}
-use Rattle.codec.specs.Grammar.{Grammar}
-use Rattle.codec.specs.HeaderFormat.{length_prefixed}
+use Rattle.piece_reader.specs.Grammar.{Grammar}
+use Rattle.piece_reader.specs.HeaderFormat.{length_prefixed}
 use Rattle.codec.specs.Scanning.{Scanning, scanned}
-use Rattle.codec.specs.declared.header_error.HeaderError.{HeaderError}
+use Rattle.piece_reader.specs.declared.header_error.HeaderError.{HeaderError}
 use Rattle.codec.specs.declared.number.Number.{Number}
 use Rattle.codec.specs.declared.number.Number.TheVariants.{Empty, Is}
 use Rattle.codec.specs.declared.scan.ScanStep.{ScanStep}

@@ -5,11 +5,11 @@ use Rattle.std.proofs.Common.{sym, ap, subst, ◌∙◌, arith, refl, get_or, ap
 use Rattle.std.proofs.lemmas.Bool.{eqb-true, ltb-true, ltb-false}
 use Rattle.std.proofs.lemmas.Fmt.{decimal_digit, decimal_step}
 use Rattle.std.proofs.lemmas.List.{take-append-drop, take_all}
-use Rattle.codec.specs.HeaderFormat.{IsLengthPrefixed}
+use Rattle.piece_reader.specs.HeaderFormat.{IsLengthPrefixed}
 use Rattle.codec.specs.Number.{with_byte, with_digit}
 use Rattle.codec.specs.Scanning.{says, scan_on, scanned}
 use Rattle.codec.specs.TextHeaders.{Words, counts, ends, enters, stands, text_scanning, text_turn}
-use Rattle.codec.specs.declared.header.Header.TheVariants as header
+use Rattle.piece_reader.specs.declared.header.Header.TheVariants as header
 use Rattle.codec.specs.declared.number.Number.{Number}
 use Rattle.codec.specs.declared.number.Number.TheVariants.{Empty, Is}
 use Rattle.codec.specs.declared.scan.ScanStep.{ScanStep}

@@ -1,7 +1,7 @@
 -- Laws of pieces whose header is text.
 use Rattle.std.proofs.Common.{arith}
-use Rattle.codec.specs.Grammar.{IsLawful}
-use Rattle.codec.specs.HeaderFormatLaws.{length_prefixed_lawful}
+use Rattle.piece_reader.specs.Grammar.{IsLawful}
+use Rattle.piece_reader.specs.HeaderFormatLaws.{length_prefixed_lawful}
 use Rattle.codec.specs.Scanning.{IsSmall, scanned}
 use Rattle.codec.specs.ScanningLaws.{scanned_headers}
 use Rattle.codec.specs.TextHeaders.{Words, IsSound, text_scanning, texted}

@@ -11,8 +11,8 @@ use Rattle.codec.specs.Number.{with_byte, with_digit}
 use Rattle.codec.specs.Scanning.{says, scan_on, scanned}
 use Rattle.codec.specs.TextHeaders.{Words, IsSound, counts, ends, enters, stands, text_scanning, text_turn}
 use Rattle.codec.specs.TextHeadersOut.{IsWritten, text_out}
-use Rattle.codec.specs.declared.header.Header.{Header}
-use Rattle.codec.specs.declared.header.Header.TheVariants as header
+use Rattle.piece_reader.specs.declared.header.Header.{Header}
+use Rattle.piece_reader.specs.declared.header.Header.TheVariants as header
 use Rattle.codec.specs.declared.number.Number.{Number}
 use Rattle.codec.specs.declared.number.Number.TheVariants.{Empty, Is}
 use Rattle.codec.specs.declared.scan.ScanStep.TheVariants.{More, Sized, Bad}

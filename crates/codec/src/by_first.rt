@@ -3,8 +3,7 @@ ghost use Rattle.std.specs.Prelude.{◌≡◌, ◌<◌, ◌==◌, length, slice_
 ghost use Rattle.codec.specs.FirstByte.{end_as, found_as};
 ghost use Rattle.codec.specs.declared.by_first.EitherWrong.TheVariants.{One, Other};
 
-use crate::decoder::{Decoder, End, Found};
-use crate::items::Items;
+use piece_reader::{Decoder, End, Found, Items};
 use std::error::Error;
 use std::fmt;
 

@@ -1,12 +1,12 @@
 //! Pieces that a byte ends, as they are written.
 ghost use Rattle.std.specs.Prelude.{◌↔◌, IsTrue};
-ghost use Rattle.codec.specs.Plain.{IsPlain};
+ghost use Rattle.piece_reader.specs.Plain.{IsPlain};
 
 use crate::both::Codec;
-use crate::delimited::Delimited;
 use crate::encoder::Encoder;
 use crate::header_bytes::HeaderBytes;
 use memchr::memchr;
+use piece_reader::Delimited;
 use std::error::Error;
 use std::{fmt, slice};
 

@@ -3,7 +3,7 @@ ghost use Rattle.std.specs.Prelude.{◌≡◌};
 ghost use Rattle.codec.specs.FirstByte.{found_as};
 ghost use Rattle.codec.specs.declared.ended.Unended.TheVariants as unended;
 
-use crate::decoder::{Decoder, End, Found};
+use piece_reader::{Decoder, End, Found};
 use std::error::Error;
 use std::fmt;
 

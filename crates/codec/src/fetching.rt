@@ -1,17 +1,14 @@
 //! The next piece, before which replies are flushed where the stream is waited for.
 ghost use Rattle.std.specs.Prelude.{IfOk, IfSome};
-ghost use Rattle.codec.specs.Decoding.{IsLent};
+ghost use Rattle.piece_reader.specs.Decoding.{IsLent};
 ghost use Rattle.codec.specs.Fetching.{FlushedFirst, FlushesToAsk};
-ghost use Rattle.codec.specs.Items.{NextItem};
-ghost use Rattle.codec.specs.NextPiece.{NextPiece, load_answer};
+ghost use Rattle.piece_reader.specs.Items.{NextItem};
+ghost use Rattle.piece_reader.specs.NextPiece.{NextPiece, load_answer};
 
-use crate::decoder::{Decoder, Span};
-use crate::error::NextError;
-use crate::items::Items;
-use crate::reader::PieceReader;
 use buffer_redux::BufWriter;
 use buffer_redux::policy::WriterPolicy;
 use buffer_redux::tell::{TellRead, TellWrite};
+use piece_reader::{Decoder, Items, NextError, PieceReader, Span};
 use std::io;
 use std::io::Write;
 

@@ -3,28 +3,28 @@ ghost use Rattle.std.specs.Prelude.{◌≡◌, ℕ, List, [], ◌∷◌, ◌++�
 ghost use Rattle.buffer_redux.specs.Sparing.{MovedAtMostGiven};
 ghost use Rattle.buffer_redux.specs.Unbuffer.{StreamTook, StreamWent, unbuffered};
 ghost use Rattle.codec.specs.Encoding.{all_coded};
-ghost use Rattle.codec.specs.KnownPieces.{HasLeft, NextKnown};
-ghost use Rattle.codec.specs.NextPiece.{NextAnswer, NextPiece, PiecesWent};
+ghost use Rattle.piece_reader.specs.KnownPieces.{HasLeft, NextKnown};
+ghost use Rattle.piece_reader.specs.NextPiece.{NextAnswer, NextPiece, PiecesWent};
 ghost use Rattle.codec.specs.PieceWriter.{WriterState, IsUnused, unsent};
-ghost use Rattle.codec.specs.PieceReader.{ReaderState, IsFresh, left_of, rest};
-ghost use Rattle.codec.specs.Runs.{Cuts, NextRuns, NoneTold, RunWent, all_handed};
-ghost use Rattle.codec.specs.Texts.{HasPieces, Splits};
+ghost use Rattle.piece_reader.specs.PieceReader.{ReaderState, IsFresh, left_of, rest};
+ghost use Rattle.piece_reader.specs.Runs.{Cuts, NextRuns, NoneTold, RunWent, all_handed};
+ghost use Rattle.piece_reader.specs.Texts.{HasPieces, Splits};
 ghost use Rattle.codec.specs.WritePiece.{PiecesTaken};
 
 mod known;
 mod lists;
-mod pieces;
 mod runs;
+mod written;
 
-use crate::decoder::Decoder;
 use crate::encoder::Encoder;
-use crate::reader::PieceReader;
 use crate::writer::PieceWriter;
 use buffer_redux::tell::{TellRead, TellWrite};
 use buffer_redux::{Buffer, MakeError};
-pub use known::{KnownReader, read_each};
+pub use known::read_each;
 pub use lists::round_trip;
-pub use runs::{PayloadReader, PayloadWriter, WriteEachError, play_next, play_write, write_each};
+use piece_reader::{Decoder, PieceReader};
+pub use piece_reader::{KnownReader, PayloadReader};
+pub use runs::{PayloadWriter, WriteEachError, play_next, play_write, write_each};
 use std::alloc::Global;
 
 /// A text is pieces in one way, and so is a stream of pieces before what is left.

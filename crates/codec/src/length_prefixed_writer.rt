@@ -3,11 +3,9 @@ ghost use Rattle.std.specs.Prelude.{◌≡◌, ◌≤◌, take};
 ghost use Rattle.codec.specs.HeadersOut.{HeadersOut, IsReadBack};
 
 use crate::both::Codec;
-use crate::by_header::ByHeader;
 use crate::encoder::Encoder;
 use crate::header_bytes::HeaderBytes;
-use crate::header_error::HeaderError;
-use crate::length_prefixed::LengthPrefixed;
+use piece_reader::{ByHeader, HeaderError, LengthPrefixed};
 
 /// A protocol whose headers are written too: [`ByHeader`] over it is an [`Encoder`], and what is written is read again.
 pub trait LengthPrefixedOut: LengthPrefixed {

@@ -2,8 +2,7 @@
 ghost use Rattle.std.specs.Prelude.{◌≡◌, ℕ, ◌+◌, ◌<◌, ◌^◌, List, length};
 ghost use Rattle.codec.specs.Scanning.{Scanning, IsSmall, scanned};
 
-use crate::header::Header;
-use crate::length_prefixed::LengthPrefixed;
+use piece_reader::{Header, LengthPrefixed};
 
 /// What a header is after one more byte.
 #[derive(Clone, Copy, Debug, PartialEq, Eq, Drop)]

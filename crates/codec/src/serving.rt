@@ -3,12 +3,10 @@ ghost use Rattle.std.specs.Prelude.{ℕ, List, Bool, IfOk, IfErr};
 ghost use Rattle.codec.specs.Answering.{Answered};
 ghost use Rattle.codec.specs.Serving.{Ends, Serves, Stops, Turns, server};
 
-use crate::error::NextError;
 use crate::fetching::fetch_item;
-use crate::items::Items;
-use crate::reader::PieceReader;
 use buffer_redux::BufWriter;
 use buffer_redux::tell::{TellRead, TellWrite};
+use piece_reader::{Items, NextError, PieceReader};
 use std::io;
 use std::io::Write;
 

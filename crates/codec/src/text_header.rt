@@ -2,10 +2,9 @@
 ghost use Rattle.std.specs.Prelude.{◌≡◌, ◌+◌, IsTrue, ◌↔◌};
 ghost use Rattle.codec.specs.TextHeaders.{Words, IsSound, behind, ends, enters, stands};
 
-use crate::header::Header;
-use crate::length_prefixed::LengthPrefixed;
 use crate::number::Number;
 use crate::scan::{Scan, ScanStep, scan_header};
+use piece_reader::{Header, LengthPrefixed};
 
 /// A protocol whose pieces are some bytes, the payload's length in decimal, some bytes, the payload, and some bytes. Its
 /// decoder is [`ByHeader`](crate::ByHeader) over [`ByTextHeader`].

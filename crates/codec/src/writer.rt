@@ -9,15 +9,15 @@ ghost use Rattle.buffer_redux.specs.MakeError.{growth};
 ghost use Rattle.codec.specs.contracts.writer.PieceWriter.{the_row};
 ghost use Rattle.codec.specs.Encoding.{IsHeaderBytes, coded};
 ghost use Rattle.codec.specs.PieceWriter.{IsPieceWriter, IsOver, IsUnused, room, with_stream};
-ghost use Rattle.codec.specs.PieceReader.{room_for};
+ghost use Rattle.piece_reader.specs.PieceReader.{room_for};
 ghost use Rattle.codec.specs.WritePiece.{PiecesTaken, PutsIn, WritesBuffered, WritesPiece};
 
-use crate::buffer::{fit_buffer, piece_buffer};
 use crate::encoder::Encoder;
 use crate::error::WritePieceError;
 use crate::header_bytes::HeaderBytes;
 use buffer_redux::tell::TellWrite;
 use buffer_redux::{BufWriter, Buffer, DEFAULT_BUF_SIZE, IntoInnerError, MakeError};
+use piece_reader::{fit_buffer, piece_buffer};
 use std::alloc::Global;
 use std::io;
 use std::io::Write;

@@ -2,7 +2,7 @@
 use Rattle.std.specs.Prelude.{ℕ, List, [], length, take, nat_lt, if◌then◌else◌}
 use Rattle.std.specs.Int.{w8, w16, w32, w64, from_be_bytes, from_le_bytes}
 use Rattle.codec.specs.HeaderFormat.{HeaderFormat}
-use Rattle.codec.specs.declared.header.Header.TheVariants.{Short, Sized}
+use Rattle.codec.specs.declared.Header.TheVariants.{Short, Sized}
 use Rattle.decoders.specs.declared.lengths.Order.{Order}
 use Rattle.decoders.specs.declared.lengths.Order.TheVariants.{BigEndian, LittleEndian}
 use Rattle.decoders.specs.declared.lengths.Width.{Width}

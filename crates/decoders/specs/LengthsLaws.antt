@@ -4,8 +4,8 @@ use Rattle.std.proofs.Common.{sym, ap, subst, ◌∙◌, arith, refl, length-app
 use Rattle.std.proofs.lemmas.Bool.{ltb-true, ltb-false, lt-ltb, le-ltb}
 use Rattle.std.proofs.lemmas.List.{take-append-le, take_all}
 use Rattle.codec.specs.HeaderFormat.{IsHeaderFormat}
-use Rattle.codec.specs.declared.header.Header.{Header}
-use Rattle.codec.specs.declared.header.Header.TheVariants.{Short, Sized, Bad}
+use Rattle.codec.specs.declared.Header.{Header}
+use Rattle.codec.specs.declared.Header.TheVariants.{Short, Sized, Bad}
 use Rattle.decoders.specs.Lengths.{lengths, number_of_all, size_of}
 use Rattle.decoders.specs.Limits.{IsSmall}
 use Rattle.decoders.specs.declared.lengths.Order.{Order}

@@ -4,7 +4,7 @@ use Rattle.std.proofs.Common.{ap, ◌∙◌, arith, refl, sym}
 use Rattle.std.proofs.lemmas.List.{take_all}
 use Rattle.std.proofs.lemmas.Nat.{from_be_bytes-to_be_bytes_2, from_be_bytes-to_be_bytes_4, from_be_bytes-to_be_bytes_8, from_le_bytes-to_le_bytes_2, from_le_bytes-to_le_bytes_4, from_le_bytes-to_le_bytes_8}
 use Rattle.codec.specs.HeadersOut.{IsReadBack}
-use Rattle.codec.specs.declared.header.Header.TheVariants.{Sized}
+use Rattle.codec.specs.declared.Header.TheVariants.{Sized}
 use Rattle.decoders.specs.Lengths.{lengths, number_of_all, size_of}
 use Rattle.decoders.specs.LengthsLaws.{enough}
 use Rattle.decoders.specs.LengthsOut.{bytes_of, lengths_out, most_of}

@@ -10,9 +10,9 @@ use Rattle.codec.specs.Scanning.{scanned}
 use Rattle.codec.specs.Showing.{showing}
 use Rattle.codec.specs.Trimming.{trimming}
 use Rattle.codec.specs.declared.by_first.EitherWrong.{EitherWrong}
-use Rattle.codec.specs.declared.delimited.TooLong.{TooLong}
+use Rattle.codec.specs.declared.TooLong.{TooLong}
 use Rattle.codec.specs.declared.ended.Unended.{Unended}
-use Rattle.codec.specs.declared.header_error.HeaderError.{HeaderError}
+use Rattle.codec.specs.declared.HeaderError.{HeaderError}
 use Rattle.codec.specs.declared.number.Number.{Number}
 use Rattle.codec.specs.declared.number.Number.TheVariants as number
 use Rattle.decoders.specs.Nullable.{nullable}

@@ -2,9 +2,9 @@
 use Rattle.std.proofs.Common.{◌≡◌, ℕ, ◌+◌, ◌<◌, ◌≤◌, ◌⊎◌, List, [], ◌∷◌, length, true, false, sym, ap, subst, ◌∙◌, arith, inl, inr, refl, Option, None, Ok, Err, Some}
 use Rattle.std.proofs.lemmas.Bool.{cases_lt}
 use Rattle.std.specs.Int.{w16, from_be_bytes}
-use Rattle.codec.specs.declared.decoder.Found.{Found}
-use Rattle.codec.specs.declared.decoder.Found.TheVariants.{More}
-use Rattle.codec.specs.declared.decoder.Span.{Span}
+use Rattle.codec.specs.declared.Found.{Found}
+use Rattle.codec.specs.declared.Found.TheVariants.{More}
+use Rattle.codec.specs.declared.Span.{Span}
 use Rattle.codec.specs.Decoding.{Decodes}
 use Rattle.codec.specs.Grammar.{IsOpen}
 use Rattle.codec.specs.GrammarLaws.{begins_of, open_of}

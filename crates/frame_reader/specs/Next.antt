@@ -1,8 +1,8 @@
 -- What the calls of a reader of frames promise: it is a reader of pieces, which are frames.
 use Rattle.std.specs.Prelude.{◌≡◌, ℕ, ◌+◌, ◌<◌, ◌⊎◌, List, [], length, false, Option, Result, Ok, Err, IfErr}
 use Rattle.std.specs.List.{All}
-use Rattle.codec.specs.declared.error.NextError.{NextError}
-use Rattle.codec.specs.declared.error.NextError.TheVariants as piece
+use Rattle.codec.specs.declared.NextError.{NextError}
+use Rattle.codec.specs.declared.NextError.TheVariants as piece
 use Rattle.codec.specs.NextPiece as pieces
 use Rattle.codec.specs.NextPiece.{NextPiece, PiecesWent}
 use Rattle.codec.specs.PieceReader.{IsPieceReader, ReaderState, rest}

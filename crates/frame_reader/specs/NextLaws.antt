@@ -4,8 +4,8 @@ use Rattle.std.proofs.Common.{sym, ap, subst, ◌∙◌, inl, inr, refl, append-
 use Rattle.std.proofs.lemmas.List.Concat.{flat_map-append}
 use Rattle.std.proofs.lemmas.List.Elements.{All-append, All-cons, All-nil}
 use Rattle.std.specs.List.{All}
-use Rattle.codec.specs.declared.error.NextError.TheVariants.{Wrong}
-use Rattle.codec.specs.declared.error.NextError.TheVariants as piece
+use Rattle.codec.specs.declared.NextError.TheVariants.{Wrong}
+use Rattle.codec.specs.declared.NextError.TheVariants as piece
 use Rattle.codec.specs.KnownPayloads.{AnswersKnown}
 use Rattle.codec.specs.KnownPieces.{HasLeft}
 use Rattle.codec.specs.KnownPiecesLaws.{NextPiece-answers}

@@ -4,7 +4,7 @@ use Rattle.std.proofs.lemmas.Bool.{true≢false}
 use Rattle.buffer_redux.specs.Faults.{MetInterrupts, SendErrorCaused}
 use Rattle.buffer_redux.specs.LogGrows.{ReadLogGrows-none}
 use Rattle.buffer_redux.specs.WriterLaws.{WritesInOrder-none}
-use Rattle.codec.specs.declared.error.NextError.TheVariants as Why
+use Rattle.codec.specs.declared.NextError.TheVariants as Why
 use Rattle.codec.specs.NextPieceLaws.{MetEnd-once}
 use Rattle.codec.specs.PiecesWentLaws.{PiecesWent-none}
 use Rattle.codec.specs.StaysLeftLaws.{StaysLeft-went}

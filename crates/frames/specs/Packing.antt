@@ -1,6 +1,6 @@
 -- A filter that makes lines frames.
 use Rattle.std.specs.Prelude.{◌≡◌, ℕ, ◌≤◌, List, length, false, Option, None, Some}
-use Rattle.codec.specs.declared.delimited.TooLong as piece
+use Rattle.codec.specs.declared.TooLong as piece
 use Rattle.line_reader.specs.Lines.{BeginsTooLong}
 use Rattle.line_reader.specs.declared.line.Lines.{Lines}
 use Rattle.frames.specs.Words.{Span, bytes_at, ReaderState, rest, FilterRules, frame, lined, RunError}

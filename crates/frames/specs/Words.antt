@@ -7,7 +7,7 @@ pub use Rattle.codec.specs.Grammar.{Grammar, IsOpen}
 pub use Rattle.codec.specs.NextPiece.{AskedOver, AskedWhere, Faulted, HandsBytes, NextAnswer, NextBuffered, NextPiece, PiecesWent, StaysLeft, empties, load_answer}
 pub use Rattle.codec.specs.PieceReader.{IsPieceReader, ReaderState, rest, room_for}
 pub use Rattle.codec.specs.Texts.{HasPieces, IsPieces, StartsWith}
-pub use Rattle.codec.specs.declared.decoder.Span.{Span}
+pub use Rattle.codec.specs.declared.Span.{Span}
 pub use Rattle.forward.specs.Filter.{AskAnswers, Asks, AsksSent, FilterRules, FlushAnswers, Flushes, IsLawful, Moves, Passes, StaysOpen}
 pub use Rattle.forward.specs.Forward.{ForwardAnswers, Forwarded, ForwardedFirst, NoneFailed, StopsBy}
 pub use Rattle.forward.specs.declared.error.Stopped.{Stopped}

@@ -1,16 +1,16 @@
 -- What a call of a reader of pieces comes to in a reader of lines.
 use Rattle.std.proofs.Common.{[], ◌≡◌, ℕ, ◌+◌, ◌<◌, ◌≤◌, List, ◌∷◌, ◌++◌, length, length-append, length-drop, take, true, false, Option, Ok, Err, Some, None, IfSome, inl, inr, refl, sym, ap, subst, ◌∙◌, arith, append_assoc}
-use Rattle.codec.specs.declared.decoder.Span.{Span}
-use Rattle.codec.specs.Decoding.{bytes_at}
-use Rattle.codec.specs.DelimitedLaws.{delimited_lawful}
-use Rattle.codec.specs.Grammar.{Begins, Lacks}
-use Rattle.codec.specs.GrammarLaws.{lacks_one}
-use Rattle.codec.specs.NextPiece as pieces
-use Rattle.codec.specs.NextPiece.{NextPiece, StaysLeft, buffered_answer, empties, load_answer}
-use Rattle.codec.specs.NextPieceLaws.{MetEnd-once, NextPiece-ready, NextPiece-refused, NextPiece-wrong}
-use Rattle.codec.specs.PiecesWentLaws.{PiecesWent-unasked, drop_none}
-use Rattle.codec.specs.PieceReader.{IsPieceReader, IsSettled, ReaderState, Skips, rest}
-use Rattle.codec.specs.StaysLeftLaws.{StaysLeft-next}
+use Rattle.piece_reader.specs.declared.decoder.Span.{Span}
+use Rattle.piece_reader.specs.Decoding.{bytes_at}
+use Rattle.piece_reader.specs.DelimitedLaws.{delimited_lawful}
+use Rattle.piece_reader.specs.Grammar.{Begins, Lacks}
+use Rattle.piece_reader.specs.GrammarLaws.{lacks_one}
+use Rattle.piece_reader.specs.NextPiece as pieces
+use Rattle.piece_reader.specs.NextPiece.{NextPiece, StaysLeft, buffered_answer, empties, load_answer}
+use Rattle.piece_reader.specs.NextPieceLaws.{MetEnd-once, NextPiece-ready, NextPiece-refused, NextPiece-wrong}
+use Rattle.piece_reader.specs.PiecesWentLaws.{PiecesWent-unasked, drop_none}
+use Rattle.piece_reader.specs.PieceReader.{IsPieceReader, IsSettled, ReaderState, Skips, rest}
+use Rattle.piece_reader.specs.StaysLeftLaws.{StaysLeft-next}
 use Rattle.line_reader.specs.declared.error.LineError.TheVariants.{TooLong, Io}
 use Rattle.line_reader.specs.declared.line.Lines.{Lines}
 use Rattle.line_reader.specs.Lines.{BeginsTooLong, IsLine, newline, with_end}

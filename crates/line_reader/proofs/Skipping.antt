@@ -5,10 +5,10 @@ use Rattle.std.proofs.lemmas.List.Elements.{All-append, All-nil}
 use Rattle.std.specs.IoError.{error_kind}
 use Rattle.std.specs.declared.io.Error.{Error}
 use Rattle.std.specs.declared.io.ErrorKind.TheVariants.{Other}
-use Rattle.codec.specs.NextPiece.{AskedWhere, AsksGive, NoEnd, NoFault, PiecesWent, Refills}
-use Rattle.codec.specs.NextPieceLaws.{AskedWhere-told, MetEnd-joins, still_going}
-use Rattle.codec.specs.PiecesWentLaws.{PiecesWent-inside, PiecesWent-joins, PiecesWent-none}
-use Rattle.codec.specs.PieceReader.{ReaderState, rest}
+use Rattle.piece_reader.specs.NextPiece.{AskedWhere, AsksGive, NoEnd, NoFault, PiecesWent, Refills}
+use Rattle.piece_reader.specs.NextPieceLaws.{AskedWhere-told, MetEnd-joins, still_going}
+use Rattle.piece_reader.specs.PiecesWentLaws.{PiecesWent-inside, PiecesWent-joins, PiecesWent-none}
+use Rattle.piece_reader.specs.PieceReader.{ReaderState, rest}
 use Rattle.line_reader.specs.declared.line.Lines.{Lines}
 use Rattle.line_reader.specs.CallsLaws.{lines_join}
 use Rattle.line_reader.specs.Lines.{newline, IsLine, with_end}

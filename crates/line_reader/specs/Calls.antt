@@ -2,9 +2,9 @@
 use Rattle.std.specs.Prelude.{◌≡◌, ℕ, ◌+◌, ◌<◌, ◌≤◌, ◌⊎◌, List, [], ◌∷◌, ◌++◌, length, Bool, true, false, Option, None, Some, Result, Ok, Err}
 use Rattle.std.specs.List.{flat_map}
 use Rattle.std.specs.declared.io.Error.{Error}
-use Rattle.codec.specs.NextPiece.{PiecesWent}
-use Rattle.codec.specs.Runs.{handed_payload}
-use Rattle.codec.specs.Trimming.{IsTrimmed}
+use Rattle.piece_reader.specs.NextPiece.{PiecesWent}
+use Rattle.piece_reader.specs.Runs.{handed_payload}
+use Rattle.piece_reader.specs.Trimming.{IsTrimmed}
 use Rattle.line_reader.specs.Lines.{IsLine, with_end}
 use Rattle.line_reader.specs.LineReader.{LineState}
 use Rattle.line_reader.specs.NextLine.{NextAnswer, NextLine, NextTrimmed}

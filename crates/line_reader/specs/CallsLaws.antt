@@ -3,10 +3,10 @@ use Rattle.std.specs.Prelude.{◌+◌, ◌≡◌, ℕ, ◌<◌, List, [], ◌∷
 use Rattle.std.proofs.Common.{sym, ap, subst, ◌∙◌, arith, refl, inl, inr, append-nil, append_assoc, length-append}
 use Rattle.std.proofs.lemmas.List.Elements.{All-nil, All-append}
 use Rattle.std.specs.declared.io.Error.{Error}
-use Rattle.codec.specs.NextPiece.{PiecesWent}
-use Rattle.codec.specs.PiecesWentLaws.{PiecesWent-joins, PiecesWent-none, PiecesWent-unasked}
-use Rattle.codec.specs.PieceReader.{ReaderState, rest}
-use Rattle.codec.specs.Trimming.{IsTrimmed}
+use Rattle.piece_reader.specs.NextPiece.{PiecesWent}
+use Rattle.piece_reader.specs.PiecesWentLaws.{PiecesWent-joins, PiecesWent-none, PiecesWent-unasked}
+use Rattle.piece_reader.specs.PieceReader.{ReaderState, rest}
+use Rattle.piece_reader.specs.Trimming.{IsTrimmed}
 use Rattle.line_reader.specs.declared.error.LineError.TheVariants.{TooLong, Io}
 use Rattle.line_reader.specs.Calls.{Handed, Trimmed, Skipped, Ended, Event, LinesAlong, CutsInto, EndNext, next_events, trimmed_events}
 use Rattle.line_reader.specs.declared.line.Lines.{Lines}

@@ -3,9 +3,9 @@ use Rattle.std.specs.Prelude.{◌≡◌, ℕ, ◌+◌, ◌≤◌, List, [], ◌�
 use Rattle.std.proofs.Common.{sym, ap, subst, ◌∙◌, arith, refl, inl, inr, append-nil}
 use Rattle.std.proofs.lemmas.List.Concat.{flat_map-append}
 use Rattle.std.specs.declared.io.Error.{Error}
-use Rattle.codec.specs.PiecesWentLaws.{PiecesWent-none}
-use Rattle.codec.specs.PieceReader.{rest}
-use Rattle.codec.specs.Runs.{AnswerRuns, handed_payload}
+use Rattle.piece_reader.specs.PiecesWentLaws.{PiecesWent-none}
+use Rattle.piece_reader.specs.PieceReader.{rest}
+use Rattle.piece_reader.specs.Runs.{AnswerRuns, handed_payload}
 use Rattle.line_reader.specs.declared.error.LineError.TheVariants.{Io}
 use Rattle.line_reader.specs.Calls.{Handed, Trimmed, Skipped, Ended, Nexts, NextsTrimmed, Skips, Call, CallGoes, CallsWent, Event, call_asks, call_lines, event_lines, lines_of_calls, lines_of_events, next_events, pending, skip_calls, skipped_count, trimmed_events}
 use Rattle.line_reader.specs.CallsLaws.{CutsInto-after, LinesAlong-joins, NextLine-along, Trims-along, skip_fails, skip_last, skip_none, skip_whole}

@@ -1,7 +1,7 @@
 -- What a reader of lines takes out of a stream that is known.
 use Rattle.std.specs.Prelude.{◌≡◌, ℕ, ◌⊎◌, List, [], ◌∷◌, ◌++◌, true, false, Option, Some}
-use Rattle.codec.specs.KnownPieces.{HasLeft, ahead_of}
-use Rattle.codec.specs.Trimming.{IsTrimmed}
+use Rattle.piece_reader.specs.KnownPieces.{HasLeft, ahead_of}
+use Rattle.piece_reader.specs.Trimming.{IsTrimmed}
 use Rattle.line_reader.specs.Calls.{Handed, Trimmed, Skipped, Ended, Event, lines_of_events}
 use Rattle.line_reader.specs.Lines.{HasLines, IsLine}
 use Rattle.line_reader.specs.LineReader.{LineState, lined}

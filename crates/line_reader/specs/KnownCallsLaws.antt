@@ -7,14 +7,14 @@ use Rattle.std.proofs.lemmas.Bool.{true≢false}
 use Rattle.std.specs.Io.KnownBytes.{prepend_known}
 use Rattle.std.specs.declared.io.Error.{Error}
 use Rattle.buffer_redux.specs.StreamLog.{StreamLog}
-use Rattle.codec.specs.DelimitedLaws.{isnt_end}
-use Rattle.codec.specs.KnownPieces.{ahead_of}
-use Rattle.codec.specs.KnownPiecesLaws.{PiecesWent-dry, PiecesWent-front}
-use Rattle.codec.specs.NextPiece.{MetEnd, PiecesWent}
-use Rattle.codec.specs.PiecesWentLaws.{drop_none}
-use Rattle.codec.specs.PieceReader.{IsFresh, rest}
-use Rattle.codec.specs.Runs.{AnswerRuns, handed_payload}
-use Rattle.codec.specs.Trimming.{IsTrimmed}
+use Rattle.piece_reader.specs.DelimitedLaws.{isnt_end}
+use Rattle.piece_reader.specs.KnownPieces.{ahead_of}
+use Rattle.piece_reader.specs.KnownPiecesLaws.{PiecesWent-dry, PiecesWent-front}
+use Rattle.piece_reader.specs.NextPiece.{MetEnd, PiecesWent}
+use Rattle.piece_reader.specs.PiecesWentLaws.{drop_none}
+use Rattle.piece_reader.specs.PieceReader.{IsFresh, rest}
+use Rattle.piece_reader.specs.Runs.{AnswerRuns, handed_payload}
+use Rattle.piece_reader.specs.Trimming.{IsTrimmed}
 use Rattle.line_reader.specs.declared.error.LineError.TheVariants.{TooLong, Io}
 use Rattle.line_reader.specs.Calls.{Handed, Trimmed, Skipped, Ended, Nexts, NextsTrimmed, Skips, Call, CallGoes, Event, call_lines, event_lines, lines_of_calls, lines_of_events}
 use Rattle.line_reader.specs.CallsLaws.{no_line}

@@ -1,11 +1,11 @@
 -- What a call of `next` answers where it is known which lines are left.
 use Rattle.std.specs.Prelude.{◌≡◌, ℕ, List, [], ◌∷◌, false, Option, None, Some, Ok, Err}
 use Rattle.std.proofs.Common.{ap, refl}
-use Rattle.codec.specs.declared.error.NextError.TheVariants as why
-use Rattle.codec.specs.DelimitedLaws.{delimited_lawful}
-use Rattle.codec.specs.KnownPayloads.{AnswersKnown}
-use Rattle.codec.specs.KnownPieces.{HasLeft}
-use Rattle.codec.specs.KnownPiecesLaws.{NextPiece-answers}
+use Rattle.piece_reader.specs.declared.error.NextError.TheVariants as why
+use Rattle.piece_reader.specs.DelimitedLaws.{delimited_lawful}
+use Rattle.piece_reader.specs.KnownPayloads.{AnswersKnown}
+use Rattle.piece_reader.specs.KnownPieces.{HasLeft}
+use Rattle.piece_reader.specs.KnownPiecesLaws.{NextPiece-answers}
 use Rattle.line_reader.specs.declared.error.LineError.TheVariants.{TooLong, Io}
 use Rattle.line_reader.specs.declared.line.Lines.{Lines}
 use Rattle.line_reader.specs.KnownCalls.{LeavesLines}

@@ -1,6 +1,6 @@
-pub use Rattle.codec.specs.KnownPieces
-pub use Rattle.codec.specs.NextPiece
-pub use Rattle.codec.specs.PieceReader
+pub use Rattle.piece_reader.specs.KnownPieces
+pub use Rattle.piece_reader.specs.NextPiece
+pub use Rattle.piece_reader.specs.PieceReader
 pub mod Calls
 pub mod CallsLaws
 pub mod CallsWentLaws
@@ -14,9 +14,7 @@ pub mod LinesLaws
 pub mod LineReader
 pub mod NextLine
 pub mod NextLineLaws
-pub mod Played
 pub mod Runs
 pub mod RunsLaws
 pub mod SkipLine
 pub mod TextLaws
-pub mod WrittenLines

@@ -1,9 +1,9 @@
 -- What contracts see of a reader of lines.
 use Rattle.std.specs.Prelude.{◌≡◌, ℕ, [], Bool, true, false}
-use Rattle.codec.specs.declared.delimited.TooLong.{TooLong}
-use Rattle.codec.specs.Delimited.{delimited}
-use Rattle.codec.specs.Grammar.{Grammar}
-use Rattle.codec.specs.PieceReader.{IsPieceReader, IsSettled, ReaderState, rest}
+use Rattle.piece_reader.specs.declared.delimited.TooLong.{TooLong}
+use Rattle.piece_reader.specs.Delimited.{delimited}
+use Rattle.piece_reader.specs.Grammar.{Grammar}
+use Rattle.piece_reader.specs.PieceReader.{IsPieceReader, IsSettled, ReaderState, rest}
 use Rattle.line_reader.specs.declared.line.Lines.{Lines}
 use Rattle.line_reader.specs.Lines.{newline}
 

@@ -6,12 +6,12 @@ use Rattle.std.specs.Borrow.{Bor}
 use Rattle.std.specs.IoError.{error_kind}
 use Rattle.std.specs.declared.io.Error.{Error}
 use Rattle.std.specs.declared.io.ErrorKind.TheVariants.{Other}
-use Rattle.codec.specs.DelimitedLaws.{delimited_lawful}
-use Rattle.codec.specs.Grammar.{Begins}
-use Rattle.codec.specs.NextPiece.{Faulted, NoFault, StaysLeft, answer_of}
-use Rattle.codec.specs.NextPieceLaws.{AsksNone-settled}
-use Rattle.codec.specs.PiecesWentLaws.{PiecesWent-unasked}
-use Rattle.codec.specs.PieceReader.{rest}
+use Rattle.piece_reader.specs.DelimitedLaws.{delimited_lawful}
+use Rattle.piece_reader.specs.Grammar.{Begins}
+use Rattle.piece_reader.specs.NextPiece.{Faulted, NoFault, StaysLeft, answer_of}
+use Rattle.piece_reader.specs.NextPieceLaws.{AsksNone-settled}
+use Rattle.piece_reader.specs.PiecesWentLaws.{PiecesWent-unasked}
+use Rattle.piece_reader.specs.PieceReader.{rest}
 use Rattle.line_reader.specs.declared.error.LineError.{LineError}
 use Rattle.line_reader.specs.declared.error.LineError.TheVariants.{TooLong, Io}
 use Rattle.line_reader.specs.Calls.{Event, LinesAlong, Skipped, trimmed_events}

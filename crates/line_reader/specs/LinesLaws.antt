@@ -4,8 +4,8 @@ use Rattle.std.proofs.Common.{sym, ap, subst, ◌∙◌, refl, arith, inl, inr, 
 use Rattle.std.proofs.lemmas.Bool.{cases_lt}
 use Rattle.std.proofs.lemmas.List.{take-append-le}
 use Rattle.std.proofs.lemmas.List.Elements.{All-nil, All-cons, All-head, All-tail, All-take}
-use Rattle.codec.specs.DelimitedLaws.{end-within, first_end, isnt_end}
-use Rattle.codec.specs.Grammar.{Begins}
+use Rattle.piece_reader.specs.DelimitedLaws.{end-within, first_end, isnt_end}
+use Rattle.piece_reader.specs.Grammar.{Begins}
 use Rattle.line_reader.specs.Lines.{newline, BeginsTooLong, IsLine, with_end}
 use Rattle.line_reader.specs.LineReader.{lined}
 

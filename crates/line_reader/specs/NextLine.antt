@@ -1,11 +1,11 @@
 -- What `next`, `next_buffered` and `next_trimmed` promise.
 use Rattle.std.specs.Prelude.{◌≡◌, ℕ, ◌⊎◌, List, Bool, true, false, MatchBool, Option, None, Some, IfSome, Result, Ok, Err}
 use Rattle.std.specs.declared.io.Error.{Error}
-use Rattle.codec.specs.declared.delimited.TooLong as piece
-use Rattle.codec.specs.declared.error.NextError.TheVariants as why
-use Rattle.codec.specs.NextPiece as pieces
-use Rattle.codec.specs.NextPiece.{NextPiece}
-use Rattle.codec.specs.Trimming.{IsTrimmed}
+use Rattle.piece_reader.specs.declared.delimited.TooLong as piece
+use Rattle.piece_reader.specs.declared.error.NextError.TheVariants as why
+use Rattle.piece_reader.specs.NextPiece as pieces
+use Rattle.piece_reader.specs.NextPiece.{NextPiece}
+use Rattle.piece_reader.specs.Trimming.{IsTrimmed}
 use Rattle.line_reader.specs.declared.error.LineError.{LineError}
 use Rattle.line_reader.specs.declared.error.LineError.TheVariants.{TooLong, Io}
 use Rattle.line_reader.specs.LineReader.{LineState, lined}

@@ -3,12 +3,12 @@ use Rattle.std.specs.Prelude.{◌≡◌, ℕ, List, length, true, false, Option,
 use Rattle.std.proofs.Common.{sym, ap, subst, ◌∙◌, refl, arith, inl, inr}
 use Rattle.std.proofs.lemmas.Bool.{true≢false}
 use Rattle.std.specs.declared.io.Error.{Error}
-use Rattle.codec.specs.declared.delimited.TooLong as piece
-use Rattle.codec.specs.declared.error.NextError.TheVariants.{Wrong}
-use Rattle.codec.specs.DelimitedLaws.{open_plain}
-use Rattle.codec.specs.Grammar.{IsOpen}
-use Rattle.codec.specs.NextPiece.{IsHanded, NextPiece, NoEnd}
-use Rattle.codec.specs.PieceReader.{IsPieceReader, ReaderState, rest}
+use Rattle.piece_reader.specs.declared.delimited.TooLong as piece
+use Rattle.piece_reader.specs.declared.error.NextError.TheVariants.{Wrong}
+use Rattle.piece_reader.specs.DelimitedLaws.{open_plain}
+use Rattle.piece_reader.specs.Grammar.{IsOpen}
+use Rattle.piece_reader.specs.NextPiece.{IsHanded, NextPiece, NoEnd}
+use Rattle.piece_reader.specs.PieceReader.{IsPieceReader, ReaderState, rest}
 use Rattle.line_reader.specs.declared.error.LineError.TheVariants.{TooLong, Io}
 use Rattle.line_reader.specs.declared.line.Lines.{Lines}
 use Rattle.line_reader.specs.Lines.{BeginsTooLong, FitsLine, IsLine, IsUnended, newline, with_end}

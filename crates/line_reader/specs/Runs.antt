@@ -1,8 +1,8 @@
 -- Runs of calls of `next`, and what they come to.
 use Rattle.std.specs.Prelude.{◌≡◌, ℕ, List, map, false, Option}
-use Rattle.codec.specs.KnownPayloads as known
-use Rattle.codec.specs.Runs as pieces
-use Rattle.codec.specs.Runs.{AnswerPlays, AnswerRuns}
+use Rattle.piece_reader.specs.KnownPayloads as known
+use Rattle.piece_reader.specs.Runs as pieces
+use Rattle.piece_reader.specs.Runs.{AnswerPlays, AnswerRuns}
 use Rattle.line_reader.specs.LineReader.{LineState, lined}
 use Rattle.line_reader.specs.NextLine.{NextAnswer, NextLine, piece_answer}
 

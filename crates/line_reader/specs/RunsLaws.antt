@@ -2,11 +2,11 @@
 use Rattle.std.specs.Prelude.{◌≡◌, ℕ, List, [], ◌∷◌, ◌++◌, map, false, Option, None, Some, Ok, Err}
 use Rattle.std.proofs.Common.{ap, subst, refl}
 use Rattle.std.proofs.lemmas.List.{map-append}
-use Rattle.codec.specs.Runs as pieces
-use Rattle.codec.specs.Runs.{Cuts, NoneTold, all_handed}
-use Rattle.codec.specs.RunsLaws as pieces_laws
-use Rattle.codec.specs.RunsLaws.{AnswerPlays-more, AnswerPlays-none, AnswerRuns-more}
-use Rattle.codec.specs.Texts.{HasPieces}
+use Rattle.piece_reader.specs.Runs as pieces
+use Rattle.piece_reader.specs.Runs.{Cuts, NoneTold, all_handed}
+use Rattle.piece_reader.specs.RunsLaws as pieces_laws
+use Rattle.piece_reader.specs.RunsLaws.{AnswerPlays-more, AnswerPlays-none, AnswerRuns-more}
+use Rattle.piece_reader.specs.Texts.{HasPieces}
 use Rattle.line_reader.specs.declared.error.LineError.TheVariants.{TooLong, Io}
 use Rattle.line_reader.specs.Lines.{HasLines}
 use Rattle.line_reader.specs.LineReader.{LineState, lined}

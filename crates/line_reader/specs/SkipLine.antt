@@ -3,9 +3,9 @@ use Rattle.std.specs.Prelude.{◌≡◌, ℕ, ◌+◌, ◌^◌, ◌<◌, ◌≤�
 use Rattle.std.specs.IoError.{error_kind}
 use Rattle.std.specs.declared.io.Error.{Error}
 use Rattle.std.specs.declared.io.ErrorKind.TheVariants.{Other}
-use Rattle.codec.specs.NextPiece.{AskedWhere, Faulted, MetEnd, NoEnd, NoFault, PiecesWent}
-use Rattle.codec.specs.PieceReader.{IsPieceReader, ReaderState, Skips, rest}
-use Rattle.codec.specs.Plain.{EndsAt}
+use Rattle.piece_reader.specs.NextPiece.{AskedWhere, Faulted, MetEnd, NoEnd, NoFault, PiecesWent}
+use Rattle.piece_reader.specs.PieceReader.{IsPieceReader, ReaderState, Skips, rest}
+use Rattle.piece_reader.specs.Plain.{EndsAt}
 use Rattle.line_reader.specs.declared.line.Lines.{Lines}
 use Rattle.line_reader.specs.Lines.{IsLine, newline, with_end}
 use Rattle.line_reader.specs.LineReader.{LineState, lined}

@@ -3,10 +3,10 @@ use Rattle.std.specs.Prelude.{◌≡◌, ℕ, ◌<◌, ◌≤◌, List, [], ◌�
 use Rattle.std.proofs.Common.{sym, ap, subst, ◌∙◌, refl, arith, inl, inr, append_assoc, append-nil, length-append}
 use Rattle.std.proofs.lemmas.List.Elements.{All-nil, All-cons, All-head, All-tail}
 use Rattle.std.specs.List.{All}
-use Rattle.codec.specs.DelimitedLaws.{delimited_lawful, open_plain, plain_open}
-use Rattle.codec.specs.Grammar.{IsLawful}
-use Rattle.codec.specs.TextLaws.{Pieces-first, Pieces-last, Pieces-none, Pieces-same}
-use Rattle.codec.specs.Texts.{HasPieces}
+use Rattle.piece_reader.specs.DelimitedLaws.{delimited_lawful, open_plain, plain_open}
+use Rattle.piece_reader.specs.Grammar.{IsLawful}
+use Rattle.piece_reader.specs.TextLaws.{Pieces-first, Pieces-last, Pieces-none, Pieces-same}
+use Rattle.piece_reader.specs.Texts.{HasPieces}
 use Rattle.line_reader.specs.Lines.{FitsLine, HasLines, IsLine, last_line, newline, with_end, with_ends}
 use Rattle.line_reader.specs.LineReader.{lined}
 

@@ -7,8 +7,8 @@
 #![tactic(auto)]
 
 mod error;
-pub mod laws;
 mod line;
+mod payloads;
 mod reader;
 
 pub use error::LineError;

@@ -1,9 +1,9 @@
 //! Lines as pieces, and a line as it is shown.
 ghost use Rattle.std.specs.Prelude.{◌≡◌, ◌^◌, ◌<◌};
-ghost use Rattle.codec.specs.Trimming.{IsTrimmed};
+ghost use Rattle.piece_reader.specs.Trimming.{IsTrimmed};
 ghost use Rattle.line_reader.specs.Lines.{newline};
 
-use codec::{Decoder, Delimited, End, Found, TooLong};
+use piece_reader::{Decoder, Delimited, End, Found, TooLong};
 
 /// Lines of at most `max` bytes, their ends not counted. The line feed is known where this is compiled, so that a search for it
 /// may be made for it alone.
@@ -27,8 +27,8 @@ impl Lines {
 }
 
 impl Decoder for Lines {
-    ghost use Rattle.codec.specs.Delimited.{delimited};
-    ghost use Rattle.codec.specs.DelimitedLaws.{delimited_lawful};
+    ghost use Rattle.piece_reader.specs.Delimited.{delimited};
+    ghost use Rattle.piece_reader.specs.DelimitedLaws.{delimited_lawful};
     ghost use Rattle.line_reader.specs.Lines.{newline};
 
     type Wrong = TooLong;

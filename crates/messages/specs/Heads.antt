@@ -1,7 +1,7 @@
 -- Heads of requests, and what they say of the body.
 use Rattle.std.specs.Prelude.{◌≡◌, ℕ, ◌≤◌, ◌==◌, ◌&&◌, ◌||◌, not, nat_lt, if◌then◌else◌, Bool, true, false, List, [], length, IsTrue, Option, None, Some, Result, Ok}
-use Rattle.codec.specs.declared.header_error.HeaderError.{HeaderError}
-use Rattle.codec.specs.declared.header_error.HeaderError.TheVariants.{Truncated}
+use Rattle.codec.specs.declared.HeaderError.{HeaderError}
+use Rattle.codec.specs.declared.HeaderError.TheVariants.{Truncated}
 use Rattle.codec.specs.declared.scan.ScanStep.{ScanStep}
 use Rattle.codec.specs.declared.scan.ScanStep.TheVariants.{More, Sized, Bad}
 use Rattle.codec.specs.Grammar.{Begins, Grammar}

@@ -1,7 +1,7 @@
 -- Laws of heads.
 use Rattle.std.specs.Prelude.{◌≡◌, ℕ, List, [], ◌++◌, length}
 use Rattle.std.proofs.Common.{sym, ap, subst, ◌∙◌, arith, refl, append_assoc, length-append}
-use Rattle.codec.specs.declared.header_error.HeaderError.{HeaderError}
+use Rattle.codec.specs.declared.HeaderError.{HeaderError}
 use Rattle.codec.specs.Grammar.{Begins, IsLawful}
 use Rattle.codec.specs.HeaderFormatLaws.{length_prefixed_lawful}
 use Rattle.codec.specs.Scanning.{IsSmall, scanned}

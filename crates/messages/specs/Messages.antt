@@ -10,7 +10,7 @@ use Rattle.chunked.specs.declared.limits.Limits.{Limits}
 use Rattle.chunked.specs.declared.place.Place.{Place}
 use Rattle.chunked.specs.declared.place.Place.TheVariants.{Line, Done}
 use Rattle.chunked.specs.Place.{Completes, IsSettled}
-use Rattle.codec.specs.declared.error.NextError.TheVariants as why
+use Rattle.codec.specs.declared.NextError.TheVariants as why
 use Rattle.codec.specs.NextPiece.{NextAnswer, NextPiece}
 use Rattle.codec.specs.PieceReader.{ReaderState, left_of}
 use Rattle.messages.specs.declared.body.Source.{Source}

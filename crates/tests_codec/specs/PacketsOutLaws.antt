@@ -3,7 +3,7 @@ use Rattle.std.specs.Prelude.{◌≡◌, ℕ, ◌≤◌, zero, suc, length}
 use Rattle.std.proofs.Common.{arith, refl}
 use Rattle.codec.specs.HeadersOut.{IsReadBack}
 use Rattle.codec.specs.Scanning.{scanned}
-use Rattle.codec.specs.declared.header.Header.TheVariants.{Sized}
+use Rattle.codec.specs.declared.Header.TheVariants.{Sized}
 use Rattle.tests_codec.specs.Packets.{packets}
 use Rattle.tests_codec.specs.PacketsOut.{packets_out, short_header}
 

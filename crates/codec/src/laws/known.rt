@@ -1,33 +1,11 @@
 //! Payloads that are known are read.
-ghost use Rattle.std.specs.Prelude.{◌≡◌, ℕ, List, Option, Result, Ok, map, IfOk, IfErr, OnOk};
-ghost use Rattle.std.specs.declared.io.Error.{Error};
-ghost use Rattle.codec.specs.KnownPayloads.{AllRead, AnswersKnown, NextFails, ReadStopped};
-ghost use Rattle.codec.specs.Runs.{kept_answer};
+ghost use Rattle.std.specs.Prelude.{◌≡◌, ℕ, List, Ok, map, IfOk, IfErr, OnOk};
+ghost use Rattle.piece_reader.specs.KnownPayloads.{AllRead, NextFails, ReadStopped};
+ghost use Rattle.piece_reader.specs.Runs.{kept_answer};
 
-use crate::laws::runs::PayloadReader;
+use piece_reader::KnownReader;
 use std::alloc::Global;
 use std::io;
-
-/// A reader of payloads that says which of them are left, where the bytes of its stream are known.
-pub trait KnownReader: PayloadReader {
-    // Just these payloads are left, and each of them may be handed out.
-    ghost has_left: { Self → List (List ℕ) → Type 0 };
-
-    // The faults that the stream inside met so far.
-    ghost faults: { Self → List Error };
-
-    // An error of the stream inside, as it is answered.
-    ghost stream_error: { Error → Self.Error };
-
-    /// The error of the stream inside that this one is.
-    fn into_io(error: Self::Error) -> io::Error
-        requires { (e : Error) × (error ≡ stream_error e) }
-        ensures { error ≡ stream_error result };
-
-    // A call hands out the first of those that are left, and fails by a fault of the stream alone.
-    ghost answers_known: { (s : Self) (answer : Result (Option (List ℕ)) Self.Error) (payloads : List (List ℕ)) (t : Self)
-        → has_left s payloads → Self.goes s answer t → AnswersKnown has_left faults stream_error s answer payloads t };
-}
 
 /// Reads payloads of which it is known that they are left, and no others. An `Err` is refused memory for the payload that was
 /// handed out last, or the fault of the inner reader; what is left then is the last of them.

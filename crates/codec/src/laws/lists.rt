@@ -2,19 +2,18 @@
 ghost use Rattle.std.specs.Prelude.{◌≡◌, ◌⊎◌, map, Ok, IfOk, IfErr, OnOk};
 ghost use Rattle.std.specs.List.{All};
 ghost use Rattle.codec.specs.Encoding.{all_coded};
-ghost use Rattle.codec.specs.KnownPieces.{BufferRefused};
-ghost use Rattle.codec.specs.Texts.{HasPieces};
+ghost use Rattle.piece_reader.specs.KnownPieces.{BufferRefused};
+ghost use Rattle.piece_reader.specs.Texts.{HasPieces};
 ghost use Rattle.codec.specs.WriteRuns.{IfFault, IsFault};
 
 use crate::both::{Codec, written_text};
-use crate::decoder::Decoder;
 use crate::encoder::Encoder;
 use crate::error::WritePieceError;
 use crate::laws::known::read_each;
 use crate::laws::runs::write_each;
-use crate::reader::PieceReader;
 use crate::writer::PieceWriter;
 use buffer_redux::tell::{MemoryReader, MemoryWriter};
+use piece_reader::{Decoder, PieceReader};
 use std::alloc::Global;
 use std::io;
 

@@ -1,41 +1,13 @@
 //! Any number of calls, one after another, each with its answer.
-ghost use Rattle.std.specs.Prelude.{ℕ, List, [], ◌∷◌, ◌++◌, map, Option, Result, Err, IfOk, IfErr, OnOk, OnErr, is_ok, vec_capacity};
+ghost use Rattle.std.specs.Prelude.{ℕ, List, [], ◌∷◌, ◌++◌, map, Result, Err, IfErr, OnOk, OnErr, is_ok, vec_capacity};
 ghost use Rattle.std.specs.List.{All};
-ghost use Rattle.codec.specs.Runs.{AnswersPlayed, AnswersStopped, NextLost, kept_answer};
+ghost use Rattle.piece_reader.specs.Runs.{AnswersPlayed, AnswersStopped, kept_answer};
 ghost use Rattle.codec.specs.WriteRuns.{CallsEach, CallsPlayed};
 
+use piece_reader::PayloadReader;
 use std::alloc::{AllocError, Global};
 use std::error::Error;
 use std::fmt;
-
-/// A reader that hands out payloads, whatever they are cut from: pieces, frames or lines.
-pub trait PayloadReader {
-    /// Why a call hands out no payload.
-    type Error: Drop;
-
-    // What one call does to the reader, by its answer.
-    ghost goes: { Self → Result (Option (List ℕ)) Self.Error → Self → Type 0 };
-
-    // What calls do, one after another, by their answers: the run of them, and what they come to.
-    ghost plays: { Self → List (Result (Option (List ℕ)) Self.Error) → Self → Type 0 };
-
-    /// One call, with the payload copied. An `Err` is refused memory: the call was made, and its payload is lost, since how long
-    /// it is shows in the call alone.
-    fn next_copied(
-        &mut self,
-        alloc: Global,
-    ) -> Result<Result<Option<Vec<u8>>, Self::Error>, AllocError>
-        ensures next { IfOk result (λ answer. goes self.old (kept_answer answer) self.new) }
-        ensures lost { OnErr result (NextLost goes self.old self.new) };
-
-    // No call does nothing.
-    ghost plays_none: { (s : Self) → plays s [] s };
-
-    // One call more.
-    ghost plays_more: { (s : Self) (answers : List (Result (Option (List ℕ)) Self.Error)) (m : Self)
-        (answer : Result (Option (List ℕ)) Self.Error) (t : Self)
-        → plays s answers m → goes m answer t → plays s (answers ++ answer ∷ []) t };
-}
 
 /// Asks for the next payload so many times, whatever is answered, and adds each answer to `answers`. What was handed out, then
 /// what is left, are the stream, however it was cut.

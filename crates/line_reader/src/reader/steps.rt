@@ -1,11 +1,11 @@
 //! The steps of a reader of lines: what is buffered is handed out or dropped, and the stream is asked.
 ghost use Rattle.std.specs.Prelude.{◌≡◌, IfOk, IfSome, true, false};
 ghost use Rattle.std.specs.Bool.{OnFalse, OnTrue};
-ghost use Rattle.codec.specs.Decoding.{IsLent, bytes_at};
-ghost use Rattle.codec.specs.Grammar.{Begins};
-ghost use Rattle.codec.specs.NextPiece.{buffered_answer, load_answer};
-ghost use Rattle.codec.specs.PieceReader.{rest};
-ghost use Rattle.codec.specs.Trimming.{IsTrimmed};
+ghost use Rattle.piece_reader.specs.Decoding.{IsLent, bytes_at};
+ghost use Rattle.piece_reader.specs.Grammar.{Begins};
+ghost use Rattle.piece_reader.specs.NextPiece.{buffered_answer, load_answer};
+ghost use Rattle.piece_reader.specs.PieceReader.{rest};
+ghost use Rattle.piece_reader.specs.Trimming.{IsTrimmed};
 ghost use Rattle.line_reader.specs.LineReader.{IsLineReader, lined};
 ghost use Rattle.line_reader.specs.NextLine.{NextBuffered, NextLine};
 ghost use Rattle.line_reader.specs.SkipLine.{DropsLine, DropsThrough};
@@ -14,7 +14,7 @@ use crate::error::LineError;
 use crate::line::trimmed;
 use crate::reader::LineReader;
 use buffer_redux::tell::{Tell, TellRead};
-use codec::{NextError, Span, TooLong, find_end};
+use piece_reader::{NextError, Span, TooLong, find_end};
 use std::io;
 use std::io::ErrorKind;
 

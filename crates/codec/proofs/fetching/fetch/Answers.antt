@@ -1,7 +1,7 @@
 use Rattle.std.proofs.Common.{Err, Ok, ap, subst}
 use Rattle.codec.specs.Fetching.{FlushesToAsk}
-use Rattle.codec.specs.NextPiece.{NextPiece, StaysLeft, load_answer}
-use Rattle.codec.specs.StaysLeftLaws.{StaysLeft-next}
+use Rattle.piece_reader.specs.NextPiece.{NextPiece, StaysLeft, load_answer}
+use Rattle.piece_reader.specs.StaysLeftLaws.{StaysLeft-next}
 use Rattle.codec.proofs.Fetched.{first_err, first_ok}
 use Rattle.codec.proofs.fetching.fetch.Goals as goal
 

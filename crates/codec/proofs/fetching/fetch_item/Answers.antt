@@ -1,8 +1,8 @@
 use Rattle.std.proofs.Common.{Err, Ok, ap, subst}
 use Rattle.codec.specs.Fetching.{FlushesToAsk}
-use Rattle.codec.specs.Items.{NextItem, item_answer}
-use Rattle.codec.specs.NextPiece.{StaysLeft}
-use Rattle.codec.specs.StaysLeftLaws.{StaysLeft-item}
+use Rattle.piece_reader.specs.Items.{NextItem, item_answer}
+use Rattle.piece_reader.specs.NextPiece.{StaysLeft}
+use Rattle.piece_reader.specs.StaysLeftLaws.{StaysLeft-item}
 use Rattle.codec.proofs.Fetched.{first_err, first_ok}
 use Rattle.codec.proofs.fetching.fetch_item.Goals as goal
 

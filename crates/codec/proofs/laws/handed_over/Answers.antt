@@ -1,6 +1,6 @@
 use Rattle.std.proofs.Common.{◌≡◌, rules}
-use Rattle.codec.specs.PiecesWentLaws.{PiecesWent-then}
-use Rattle.codec.specs.PieceReader.{left_of}
+use Rattle.piece_reader.specs.PiecesWentLaws.{PiecesWent-then}
+use Rattle.piece_reader.specs.PieceReader.{left_of}
 use Rattle.codec.proofs.Handover.{on_ok}
 use Rattle.codec.proofs.laws.handed_over.Goals as goal
 

@@ -1,5 +1,5 @@
 use Rattle.std.proofs.Common.{false, subst, sym, true, ◌∙◌}
-use Rattle.codec.specs.Decoding.{Ends}
+use Rattle.piece_reader.specs.Decoding.{Ends}
 use Rattle.codec.specs.FirstByte.{either}
 use Rattle.codec.specs.FirstByteLaws.{open_all, renamed_ends, renamed_open, side_ends}
 use Rattle.codec.specs.declared.by_first.EitherWrong.TheVariants.{One, Other}

@@ -1,5 +1,5 @@
 use Rattle.std.proofs.Common.{◌<◌, rules, false, length, subst, sym, true, ◌∙◌}
-use Rattle.codec.specs.Decoding.{Decodes}
+use Rattle.piece_reader.specs.Decoding.{Decodes}
 use Rattle.codec.specs.FirstByte.{either}
 use Rattle.codec.specs.FirstByteLaws.{renamed_decodes, renamed_open, side_decodes, side_open}
 use Rattle.codec.specs.declared.by_first.EitherWrong.TheVariants.{One, Other}

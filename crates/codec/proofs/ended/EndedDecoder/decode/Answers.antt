@@ -1,5 +1,5 @@
 use Rattle.std.proofs.Common.{subst, sym, take}
-use Rattle.codec.specs.Decoding.{Decodes}
+use Rattle.piece_reader.specs.Decoding.{Decodes}
 use Rattle.codec.specs.Ended.{ended}
 use Rattle.codec.specs.EndedLaws.{ended_decodes, ended_open}
 use Rattle.codec.proofs.ended.EndedDecoder.decode.Goals as goal

@@ -1,5 +1,5 @@
 use Rattle.std.proofs.Common.{Err, subst}
-use Rattle.codec.specs.Runs.{kept_answer}
+use Rattle.piece_reader.specs.Runs.{kept_answer}
 use Rattle.codec.proofs.laws.known.next_of_known.Goals as goal
 
 pub into_io-requires : goal.into_io-requires

@@ -1,6 +1,6 @@
 use Rattle.std.proofs.Common.{map, drop, Ok, subst, arith}
 use Rattle.std.proofs.lemmas.Result.{err_from_is_err_and}
-use Rattle.codec.specs.Runs.{kept_answer}
+use Rattle.piece_reader.specs.Runs.{kept_answer}
 use Rattle.codec.proofs.Stepping.{end_fails, read_all, read_fails, read_lost, read_more, read_none, reads_on}
 use Rattle.codec.proofs.laws.known.read_each.Goals as goal
 

@@ -1,7 +1,7 @@
 use Rattle.std.proofs.Common.{ap, inl, sym, ◌∙◌}
 use Rattle.buffer_redux.specs.Memory.{reader-faultless}
 use Rattle.codec.specs.KnownPayloadsLaws.{read_refused}
-use Rattle.codec.specs.KnownPieces.{BufferRefused}
+use Rattle.piece_reader.specs.KnownPieces.{BufferRefused}
 use Rattle.codec.proofs.laws.lists.read_back.Goals as goal
 
 pub returns-clause-refused : goal.returns-clause-refused

@@ -1,6 +1,6 @@
 use Rattle.std.proofs.Common.{vec_capacity, [], ◌∷◌, ◌++◌, ◌∙◌, Ok, Some, arith, append-nil, refl, sym, ap, map}
-use Rattle.codec.specs.Runs.{kept_answer}
-use Rattle.codec.specs.RunsLaws.{on_err}
+use Rattle.piece_reader.specs.Runs.{kept_answer}
+use Rattle.piece_reader.specs.RunsLaws.{on_err}
 use Rattle.codec.proofs.Playing.{all_played, none_begun, one_lost, plays_on}
 use Rattle.codec.proofs.laws.runs.play_next.Goals as goal
 

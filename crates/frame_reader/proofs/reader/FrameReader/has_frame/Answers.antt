@@ -1,5 +1,5 @@
 use Rattle.std.proofs.Common.{◌∙◌, ap, inl, inr, refl, subst}
-use Rattle.codec.specs.declared.decoder.Found.TheVariants.{More, Piece, Wrong}
+use Rattle.codec.specs.declared.Found.TheVariants.{More, Piece, Wrong}
 use Rattle.codec.specs.GrammarLaws.{begins_of}
 use Rattle.codec.specs.PieceReader.{rest}
 use Rattle.frame_reader.specs.Framed.{framed}

@@ -1,8 +1,8 @@
 use Rattle.std.proofs.Common.{◌≡◌, true, false, ap, arith, length, subst, sym, take, ◌∙◌}
 use Rattle.std.proofs.lemmas.List.{take_all}
-use Rattle.codec.specs.DelimitedLaws.{open_plain}
-use Rattle.codec.specs.Plain.{EndsAt, IsPlain}
-use Rattle.codec.specs.PieceReader.{IsPieceReader, rest}
+use Rattle.piece_reader.specs.DelimitedLaws.{open_plain}
+use Rattle.piece_reader.specs.Plain.{EndsAt, IsPlain}
+use Rattle.piece_reader.specs.PieceReader.{IsPieceReader, rest}
 use Rattle.line_reader.specs.Lines.{IsLine, newline}
 use Rattle.line_reader.specs.LineReader.{lined}
 use Rattle.line_reader.specs.SkipLine.{DropsLine}

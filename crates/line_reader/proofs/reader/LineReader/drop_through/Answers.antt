@@ -1,6 +1,6 @@
 use Rattle.std.proofs.Common.{Ok, Err, ap, subst, refl, ◌∙◌, arith}
 use Rattle.std.proofs.lemmas.Result.{err_from_is_err_and}
-use Rattle.codec.specs.NextPiece.{Refills}
+use Rattle.piece_reader.specs.NextPiece.{Refills}
 use Rattle.line_reader.specs.LineReader.{lined}
 use Rattle.line_reader.proofs.Skipping.{SkipHead-none, none_left, skip_all, skip_ends, skip_fails, skip_found, skip_more, skip_too_long}
 use Rattle.line_reader.proofs.reader.LineReader.drop_through.Goals as goal

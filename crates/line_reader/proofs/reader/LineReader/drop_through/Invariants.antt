@@ -1,5 +1,5 @@
 use Rattle.std.proofs.Common.{◌≡◌, ◌-◌, ◌*◌, ◌^◌, ◌≤◌, length, min}
-use Rattle.codec.specs.PieceReader.{rest}
+use Rattle.piece_reader.specs.PieceReader.{rest}
 use Rattle.line_reader.proofs.Skipping.{SkipHead}
 use Rattle.line_reader.proofs.reader.LineReader.drop_through.Given as goal
 

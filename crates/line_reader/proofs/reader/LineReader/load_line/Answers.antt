@@ -1,7 +1,7 @@
 use Rattle.std.proofs.Common.{◌≡◌, Ok, Err, false, ap, arith, length, subst, sym, ◌∙◌}
-use Rattle.codec.specs.Grammar.{Begins}
-use Rattle.codec.specs.NextPiece.{NextPiece, load_answer}
-use Rattle.codec.specs.PieceReader.{rest}
+use Rattle.piece_reader.specs.Grammar.{Begins}
+use Rattle.piece_reader.specs.NextPiece.{NextPiece, load_answer}
+use Rattle.piece_reader.specs.PieceReader.{rest}
 use Rattle.line_reader.specs.declared.error.LineError.TheVariants.{TooLong, Io}
 use Rattle.line_reader.specs.LineReader.{LineState, lined}
 use Rattle.line_reader.specs.NextLine.{NextLine, piece_answer}

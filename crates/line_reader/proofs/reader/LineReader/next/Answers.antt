@@ -1,6 +1,6 @@
 use Rattle.std.proofs.Common.{Ok, Err, Some, None, refl, subst, sym}
 use Rattle.std.proofs.lemmas.Result.{err_from_is_err_and}
-use Rattle.codec.specs.NextPiece.{load_answer}
+use Rattle.piece_reader.specs.NextPiece.{load_answer}
 use Rattle.line_reader.specs.NextLine.{NextBuffered, NextLine}
 use Rattle.line_reader.proofs.Going.{NextLine-fits, NextLine-found, NextLine-looked, NextLine-ready, NextLine-told, NextLine-too_long}
 use Rattle.line_reader.proofs.reader.LineReader.next.Goals as goal

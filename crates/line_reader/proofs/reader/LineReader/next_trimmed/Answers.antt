@@ -1,8 +1,8 @@
 use Rattle.std.proofs.Common.{◌≡◌, Ok, Err, Some, None, refl, subst, sym}
 use Rattle.std.proofs.lemmas.Result.{err_from_is_err_and}
 use Rattle.std.specs.Prelude.{MatchBool}
-use Rattle.codec.specs.NextPiece.{load_answer}
-use Rattle.codec.specs.Trimming.{IsTrimmed}
+use Rattle.piece_reader.specs.NextPiece.{load_answer}
+use Rattle.piece_reader.specs.Trimming.{IsTrimmed}
 use Rattle.line_reader.specs.NextLine.{NextBuffered, NextLine}
 use Rattle.line_reader.proofs.Going.{NextLine-found, NextLine-looked}
 use Rattle.line_reader.proofs.Trimming.{trims_line}

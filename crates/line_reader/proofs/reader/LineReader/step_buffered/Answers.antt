@@ -1,5 +1,5 @@
 use Rattle.std.proofs.Common.{subst}
-use Rattle.codec.specs.NextPiece.{buffered_answer}
+use Rattle.piece_reader.specs.NextPiece.{buffered_answer}
 use Rattle.line_reader.specs.NextLine.{NextBuffered}
 use Rattle.line_reader.proofs.Going.{NextBuffered-of, going_buffered}
 use Rattle.line_reader.proofs.reader.LineReader.step_buffered.Goals as goal

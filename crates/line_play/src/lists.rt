@@ -1,0 +1,98 @@
+//! Lists of lines, written and read again.
+ghost use Rattle.std.specs.Prelude.{◌≡◌, ◌+◌, map, IfOk, IfErr, OnOk};
+ghost use Rattle.std.specs.List.{All};
+ghost use Rattle.buffer_redux.specs.BufWriter.{WritesInOrder, WriterStopped};
+ghost use Rattle.buffer_redux.specs.Faults.{IsMemory};
+ghost use Rattle.buffer_redux.specs.LogGrows.{WriteLogGrows};
+ghost use Rattle.buffer_redux.specs.WriteAll.{TookBeginning};
+ghost use Rattle.piece_reader.specs.KnownPieces.{BufferRefused};
+ghost use Rattle.line_reader.specs.Lines.{FitsLine, with_end, with_ends};
+ghost use Rattle.line_play.specs.WrittenLines.{StopsInLine};
+
+use buffer_redux::LineWriter;
+use buffer_redux::tell::{MemoryReader, MemoryWriter, TellWrite};
+use codec::laws::{WriteEachError, read_each};
+use line_reader::LineReader;
+use std::alloc::Global;
+use std::io;
+use std::io::Write;
+
+/// Writes each line, and its end, up to the first `Err`, which is one of the inner writer, and says how many lines were taken in
+/// before. A beginning of the next one may have been too, and no call tells how much: who goes on with that line may write this
+/// beginning twice. Nothing is flushed.
+pub fn write_each<W: TellWrite>(
+    writer: &mut LineWriter<W>,
+    lines: &[Vec<u8>],
+) -> Result<(), WriteEachError<io::Error>>
+    ensures written { OnOk result (WritesInOrder writer.old (with_ends (map (λ v. v.items) lines.now)) writer.new) }
+    ensures stopped { IfErr result (λ e.
+        StopsInLine (map (λ v. v.items) lines.now) e.taken writer.old writer.new) }
+    ensures caused { IfErr result (λ e. WriterStopped writer.old.log.writes writer.new.log.writes e.error) }
+    ensures not_flushed { writer.new.log.writes.flushed ≡ writer.old.log.writes.flushed }
+    ensures trace { W.trace writer.old.inner writer.new.inner }
+{
+    let mut taken = 0usize;
+    for line in lines {
+        match write_line(writer, line) {
+            Ok(()) => {
+                taken += 1;
+            }
+            Err(error) => return Err(WriteEachError { taken, error }),
+        }
+    }
+    Ok(())
+}
+
+// Writes one, and its end.
+fn write_line<W: TellWrite>(writer: &mut LineWriter<W>, line: &[u8]) -> io::Result<()>
+    ensures written { OnOk result (WritesInOrder writer.old (with_end line.now) writer.new) }
+    ensures beginning { TookBeginning (with_end line.now) writer.old writer.new }
+    ensures caused { IfErr result (WriterStopped writer.old.log.writes writer.new.log.writes) }
+    ensures grows { WriteLogGrows writer.old.log.writes writer.new.log.writes }
+    ensures not_flushed { writer.new.log.writes.flushed ≡ writer.old.log.writes.flushed }
+    ensures trace { W.trace writer.old.inner writer.new.inner }
+{
+    writer.write_all(line)?;
+    writer.write_all(b"\n")?;
+    Ok(())
+}
+
+/// Lines that are written, each with an end, and flushed are read again, each of them whole, in order, and no other. An `Err` is
+/// want of memory, or of a buffer for lines of `max` bytes, which no memory holds.
+pub fn round_trip(alloc: Global, lines: &[Vec<u8>], max: usize) -> io::Result<Vec<Vec<u8>>>
+    requires { All (FitsLine max) (map (λ v. v.items) lines.now) }
+    ensures same { IfOk result (λ kept. map (λ v. v.items) kept.items ≡ map (λ v. v.items) lines.now) }
+    ensures refused { IfErr result (BufferRefused (1 + max)) }
+{
+    let bytes = written(alloc, lines)?;
+    read_back(alloc, bytes.as_slice(), lines, max)
+}
+
+// The lines, each with its end.
+fn written(alloc: Global, lines: &[Vec<u8>]) -> io::Result<Vec<u8>>
+    ensures bytes { IfOk result (λ bytes. bytes.items ≡ with_ends (map (λ v. v.items) lines.now)) }
+    ensures memory { IfErr result IsMemory }
+{
+    let mut writer = LineWriter::new(alloc, MemoryWriter::new(alloc))?;
+    let wrote = write_each(&mut writer, lines);
+    // What it tells is what the stream inside tells, which says why that failed.
+    let _ = writer.get_ref();
+    match wrote {
+        Ok(()) => {}
+        Err(e) => return Err(e.error),
+    }
+    Ok(writer.into_inner()?.into_vec())
+}
+
+// The lines of the text, which are known to be these.
+fn read_back(alloc: Global, text: &[u8], lines: &[Vec<u8>], max: usize) -> io::Result<Vec<Vec<u8>>>
+    requires fit { All (FitsLine max) (map (λ v. v.items) lines.now) }
+    requires text { text.now ≡ with_ends (map (λ v. v.items) lines.now) }
+    ensures same { IfOk result (λ kept. map (λ v. v.items) kept.items ≡ map (λ v. v.items) lines.now) }
+    ensures refused { IfErr result (BufferRefused (1 + max)) }
+{
+    let mut reader = LineReader::new(alloc, MemoryReader::new(text), max)?;
+    let read = read_each(alloc, &mut reader, lines);
+    let _ = reader.get_ref();
+    read
+}

@@ -1,5 +1,0 @@
-use Rattle.line_reader.specs.TextLaws.{Lines-same}
-use Rattle.line_reader.proofs.laws.one_reading.Goals as goal
-
-pub returns : goal.returns
-returns c = Lines-same

@@ -1,0 +1,55 @@
+//! Lines are payloads that are read in runs.
+ghost use Rattle.line_reader.specs.declared.error.LineError.TheVariants.{Io};
+ghost use Rattle.line_reader.specs.KnownCalls.{LeavesLines};
+ghost use Rattle.line_reader.specs.KnownLinesLaws.{NextLine-answers};
+ghost use Rattle.line_reader.specs.Runs.{NextPlays};
+ghost use Rattle.line_reader.specs.RunsLaws.{NextPlays-more, NextPlays-none};
+ghost use Rattle.line_reader.specs.NextLine.{NextLine};
+
+use crate::error::LineError;
+use crate::reader::LineReader;
+use buffer_redux::tell::TellRead;
+use piece_reader::{KnownReader, PayloadReader};
+use std::alloc::{AllocError, Global};
+use std::io;
+
+/// A call is one of `next`.
+impl<R: TellRead> PayloadReader for LineReader<R> {
+    type Error = LineError;
+
+    ghost goes = { NextLine R.remaining };
+
+    ghost plays = { NextPlays R.remaining };
+
+    fn next_copied(
+        &mut self,
+        alloc: Global,
+    ) -> Result<Result<Option<Vec<u8>>, LineError>, AllocError> {
+        match self.next() {
+            Ok(Some(line)) => Ok(Ok(Some(Vec::from_slice(alloc, line)?))),
+            Ok(None) => Ok(Ok(None)),
+            Err(e) => Ok(Err(e)),
+        }
+    }
+
+    ghost plays_none = { NextPlays-none R.remaining };
+
+    ghost plays_more = { NextPlays-more R.remaining };
+}
+
+impl<R: TellRead> KnownReader for LineReader<R> {
+    ghost has_left = { LeavesLines R.remaining };
+
+    ghost faults = { λ s. s.pieces.reader.log.reads.faults };
+
+    ghost stream_error = { Io };
+
+    fn into_io(error: LineError) -> io::Error {
+        match error {
+            LineError::Io(e) => e,
+            LineError::TooLong(_) => unreachable!(),
+        }
+    }
+
+    ghost answers_known = { NextLine-answers R.remaining };
+}

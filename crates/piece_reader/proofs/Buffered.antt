@@ -1,0 +1,26 @@
+-- What is handed out of what is buffered alone.
+use Rattle.std.proofs.Common.{◌≡◌, ℕ, length, ap, subst, sym, ◌∙◌}
+use Rattle.piece_reader.specs.Grammar.{Begins, Grammar, IsLawful}
+use Rattle.piece_reader.specs.GrammarLaws.{open_of}
+use Rattle.piece_reader.specs.NextPiece.{StaysLeft}
+use Rattle.piece_reader.specs.PieceReader.{ReaderState, IsPieceReader, rest}
+use Rattle.piece_reader.specs.Steps.{WantsMore}
+
+module _ {S D W : Type 0} (g : Grammar W) (s t : ReaderState S D) (whole : IsPieceReader g t) where
+  -- a look alone hands nothing out
+  looked : (seen : ℕ) → t ≡ record s { seen = seen } → StaysLeft g s t
+  looked seen same = record {
+    same = same ∙ ap (λ n. record s { seen = n }) (sym (ap (λ x. x.seen) same));
+    whole = whole;
+  }
+
+  -- a step hands nothing out where more is wanted, or where no piece can come
+  pub none_yet : (need : ℕ) → WantsMore g s t need → StaysLeft g s t × ¬ (Begins g (rest s))
+  none_yet need wants =
+      (looked (length (rest s)) wants.same, (open_of g need (rest s) wants.few wants.lacks).no_piece)
+
+  pub none_wrong : IsLawful g → (e : W) → g.wrong (rest s) e → t ≡ s → StaysLeft g s t × ¬ (Begins g (rest s))
+  none_wrong law e wrong same = (
+    looked s.seen same,
+    λ b. law.apart b.piece b.payload b.more e b.is (subst (λ l. g.wrong l e) b.equal wrong),
+  )

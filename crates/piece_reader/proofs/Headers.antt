@@ -1,0 +1,100 @@
+-- What a call of a reader of pieces has done so far, turn by turn.
+use Rattle.std.proofs.Common.{◌≡◌, ℕ, ◌<◌, List, [], ◌++◌, length, Bool, true, refl, sym, ap, ◌∙◌, arith, inl, inr, append_assoc, length-append, Option, Result, Ok}
+use Rattle.std.specs.declared.io.Error.{Error}
+use Rattle.piece_reader.specs.Grammar.{Grammar, IsOpen, Lacks}
+use Rattle.piece_reader.specs.GrammarLaws.{open_with}
+use Rattle.piece_reader.specs.NextPiece.{AsksGive, PiecesWent, AskedWhere, NoFault, NoEnd}
+use Rattle.piece_reader.specs.NextPieceLaws.{AskedWhere-told}
+use Rattle.piece_reader.specs.PiecesWentLaws.{PiecesWent-none, PiecesWent-joins}
+use Rattle.piece_reader.specs.PieceReader.{ReaderState, rest}
+use Rattle.piece_reader.specs.Steps.{AsksFor}
+
+-- nothing was handed out so far, and no fault and no end was met; the stream was asked only where what was there settled
+-- nothing, and each time it gave a byte
+pub record HeaderBytes {S D W : Type 0} (remaining : S → Option (List ℕ)) (g : Grammar W) (s m : ReaderState S D) : Type 0 where
+  pub went : PiecesWent remaining g.most s [] m
+  pub ended : m.ended ≡ s.ended
+  pub faults : NoFault s m
+  pub no_end : NoEnd s m
+  pub asks : AsksGive s m
+  pub asked : AskedWhere (IsOpen g) s m
+
+module _ {S D W : Type 0} (remaining : S → Option (List ℕ)) (g : Grammar W) (s : ReaderState S D) where
+  -- nothing was done yet
+  pub HeaderBytes-none : HeaderBytes remaining g s s
+  HeaderBytes-none = record {
+    went = PiecesWent-none remaining g.most s;
+    ended = refl;
+    faults = refl;
+    no_end = refl;
+    asks = omega arith;
+    asked = inl refl;
+  }
+
+  module _ (m : ReaderState S D) (h : HeaderBytes remaining g s m) where
+    -- what was left, then what came, is what is left
+    pub came : rest m ≡ rest s ++ h.went.hands.got
+    came = h.went.hands.equal
+
+    -- a header goes on where nothing was read, and nothing was handed out
+    pub HeaderBytes-told : (t : ReaderState S D) → PiecesWent remaining g.most m [] t → t.reader.log ≡ m.reader.log
+        → t.ended ≡ m.ended → HeaderBytes remaining g s t
+    HeaderBytes-told t went told ended = record {
+      went = PiecesWent-joins remaining g.most s m t [] [] h.went went;
+      ended = ended ∙ h.ended;
+      faults = ap (λ l. l.reads.faults) told ∙ h.faults;
+      no_end = ap (λ l. l.reads.zero_reads) told ∙ h.no_end;
+      asks = omega (arith, h.asks, ap (λ l. l.reads.asks) told, ap (λ l. length l.reads.given) told);
+      asked = AskedWhere-told (IsOpen g) s m t told h.asked;
+    }
+
+    -- behind a header the stream was asked until so many bytes are there
+    module _ (n : ℕ) (lacks : Lacks g n (rest m)) (answer : Result Bool Error) (t : ReaderState S D)
+        (a : AsksFor remaining g n m answer t) where
+      pub went_on : PiecesWent remaining g.most s [] t
+      went_on = PiecesWent-joins remaining g.most s m t [] [] h.went a.went
+
+      pub asked_on : AskedWhere (IsOpen g) s t
+      asked_on = elim a.asked [
+        | inl same ↦ AskedWhere-told (IsOpen g) s m t same h.asked
+        | inr over ↦ inr (record {
+          not_ended = sym h.ended ∙ over.not_ended;
+          came = h.went.hands.got ++ over.came;
+          last = over.last;
+          given = over.given ∙ ap (λ l. l ++ (over.came ++ over.last)) h.went.hands.given
+              ∙ append_assoc s.reader.log.reads.given h.went.hands.got (over.came ++ over.last)
+              ∙ ap (λ l. s.reader.log.reads.given ++ l) (sym (append_assoc h.went.hands.got over.came over.last));
+          latest = over.latest;
+          such = open_with g n (rest m) over.came (rest s ++ (h.went.hands.got ++ over.came))
+              (sym (append_assoc (rest s) h.went.hands.got over.came) ∙ ap (λ l. l ++ over.came) (sym came))
+              (omega (
+                arith,
+                over.such,
+                ap (λ l. length (l ++ over.came)) came,
+                ap length (append_assoc (rest s) h.went.hands.got over.came),
+              )) lacks;
+          asks = omega (
+            arith,
+            h.asks,
+            over.asks,
+            ap length h.went.hands.given,
+            length-append s.reader.log.reads.given h.went.hands.got,
+            length-append h.went.hands.got over.came,
+          );
+        })
+      ]
+
+      -- what is there still settles nothing
+      pub still_open : length (rest t) < n → IsOpen g (rest t)
+      still_open few = open_with g n (rest m) a.went.hands.got (rest t) a.went.hands.equal few lacks
+
+    pub HeaderBytes-more : (n : ℕ) → Lacks g n (rest m) → (t : ReaderState S D) → AsksFor remaining g n m (Ok true) t
+        → HeaderBytes remaining g s t
+    HeaderBytes-more n lacks t a = record {
+      went = went_on n lacks (Ok true) t a;
+      ended = a.ended ∙ h.ended;
+      faults = (a.more refl).2 ∙ h.faults;
+      no_end = (a.more refl).1 ∙ h.no_end;
+      asks = omega (arith, h.asks, (a.more refl).3);
+      asked = asked_on n lacks (Ok true) t a;
+    }

@@ -1,0 +1,11 @@
+pub mod Buffered
+pub mod Delimiting
+pub mod Handover
+pub mod Headers
+pub mod Lending
+pub mod Loading
+pub mod Reading
+pub mod Refilling
+pub mod Saying
+pub mod Searching
+pub mod Taking

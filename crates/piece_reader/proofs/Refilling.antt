@@ -1,0 +1,109 @@
+-- What one ask of the stream does where nothing is left.
+use Rattle.std.proofs.Common.{◌≡◌, ℕ, ◌<◌, List, [], ◌∷◌, ◌++◌, length, Bool, true, false, Option, Ok, Err, refl, sym, ap, subst, ◌∙◌, arith, inl, inr}
+use Rattle.std.proofs.lemmas.List.{nil_from_length}
+use Rattle.std.specs.declared.io.Error.{Error}
+use Rattle.piece_reader.specs.Grammar.{Grammar}
+use Rattle.piece_reader.specs.NextPiece.{AskedWhere, Faulted, PiecesWent, Refills}
+use Rattle.piece_reader.specs.NextPieceLaws.{AskedWhere-told, MetEnd-joins, still_going}
+use Rattle.piece_reader.specs.PiecesWentLaws.{PiecesWent-inside, PiecesWent-joins}
+use Rattle.piece_reader.specs.PieceReader.{IsPieceReader, ReaderState, rest}
+use Rattle.piece_reader.specs.Steps.{AsksFor}
+use Rattle.piece_reader.proofs.Headers.{HeaderBytes, HeaderBytes-none, HeaderBytes-told}
+
+-- what was handed out was dropped, and nothing is left
+module _ {S D W : Type 0} (remaining : S → Option (List ℕ)) (g : Grammar W) (s m : ReaderState S D)
+    (went : PiecesWent remaining g.most s [] m) (left : rest m ≡ rest s) (ended : m.ended ≡ s.ended)
+    (told : m.reader.log ≡ s.reader.log) (none : rest s ≡ []) where
+  header : HeaderBytes remaining g s m
+  header = HeaderBytes-told remaining g s s (HeaderBytes-none remaining g s) m went told ended
+
+  asked_over : (t : ReaderState S D) → AskedWhere (λ bytes. length bytes < 1) m t → AskedWhere (λ bytes. bytes ≡ []) s t
+  asked_over t (inl same) = inl (same ∙ told)
+  asked_over t (inr over) = inr (record {
+    not_ended = sym ended ∙ over.not_ended;
+    came = over.came;
+    last = over.last;
+    given = over.given ∙ ap (λ l. l.reads.given ++ (over.came ++ over.last)) told;
+    latest = over.latest;
+    such = nil_from_length (rest s ++ over.came) (omega (arith, over.such, ap (λ l. length (l ++ over.came)) left));
+    asks = omega (arith, over.asks, ap (λ l. l.reads.asks) told);
+  })
+
+  -- what changes where the end alone is noted behind the answer
+  module _ (t : ReaderState S D) (came flag : Bool) where
+    abbrev pub noted : ReaderState S D
+    noted = record t { ended = flag }
+
+    went_on : AsksFor remaining g 1 m (Ok came) t → PiecesWent remaining g.most s [] noted
+    went_on a = PiecesWent-joins remaining g.most s t noted [] []
+        (PiecesWent-joins remaining g.most s m t [] [] went a.went)
+        (PiecesWent-inside remaining g.most t noted [] refl refl refl)
+
+    asked_then : AsksFor remaining g 1 m (Ok came) t → AskedWhere (λ bytes. bytes ≡ []) s noted
+    asked_then a = AskedWhere-told (λ bytes. bytes ≡ []) s t noted refl (asked_over t a.asked)
+
+    still_whole : AsksFor remaining g 1 m (Ok came) t → (flag ≡ true → rest t ≡ []) → IsPieceReader g noted
+    still_whole a none_left = record {
+      block = a.whole.block;
+      plain = a.whole.plain;
+      capacity = a.whole.capacity;
+      limit = a.whole.limit;
+      ahead = a.whole.ahead;
+      handed = a.whole.handed;
+      searched = a.whole.searched;
+      ended = none_left;
+    }
+
+    pub refilled : came ≡ true → flag ≡ false → AsksFor remaining g 1 m (Ok came) t → Refills remaining g s (Ok came) noted
+    refilled is open' a =
+        let more = a.more (ap (λ b. Ok b) is) in
+        let going : t.ended ≡ false = still_going t.ended (rest t) a.whole.ended (omega (arith, more.0)) in record {
+          went = went_on a;
+          asked = asked_then a;
+          more = λ _. (
+            omega (arith, more.0),
+            sym ended ∙ sym a.ended ∙ going,
+            open',
+            more.1 ∙ ap (λ l. l.reads.zero_reads) told,
+            more.2 ∙ ap (λ l. l.reads.faults) told,
+          );
+          end = λ odd. (let no : true ≡ false = sym is ∙ cc in cc);
+          failed = λ e odd. cc;
+          whole = still_whole a (λ odd. (let no : true ≡ false = sym odd ∙ open' in cc));
+        }
+
+    pub ends : came ≡ false → flag ≡ true → AsksFor remaining g 1 m (Ok came) t → Refills remaining g s (Ok came) noted
+    ends is closed a =
+        let end = a.end (ap (λ b. Ok b) is) in
+        let empty : rest t ≡ [] = nil_from_length (rest t) (omega (arith, end.0)) in record {
+          went = went_on a;
+          asked = asked_then a;
+          more = λ odd. (let no : true ≡ false = cc in cc);
+          end = λ _. (
+            empty,
+            closed,
+            MetEnd-joins s m t header.ended header.no_end end.1,
+            end.2 ∙ ap (λ l. l.reads.faults) told,
+          );
+          failed = λ e odd. cc;
+          whole = still_whole a (λ _. empty);
+        }
+
+  module _ (t : ReaderState S D) where
+    pub fails : (e : Error) → AsksFor remaining g 1 m (Err e) t → Refills remaining g s (Err e) t
+    fails e a =
+        let f = a.failed e refl in record {
+          went = PiecesWent-joins remaining g.most s m t [] [] went a.went;
+          asked = asked_over t a.asked;
+          more = λ odd. cc;
+          end = λ odd. cc;
+          failed = λ e' is. (
+            nil_from_length (rest t) (omega (arith, f.0)),
+            sym ended ∙ f.1,
+            a.ended ∙ f.1,
+            f.2 ∙ ap (λ l. l.reads.zero_reads) told,
+            (let same : e ≡ e' = cc in
+                subst (λ x. Faulted s x t) same (f.3 ∙ ap (λ l. l.reads.faults ++ e ∷ []) told)),
+          );
+          whole = a.whole;
+        }

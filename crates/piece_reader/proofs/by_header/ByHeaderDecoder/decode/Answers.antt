@@ -1,0 +1,37 @@
+use Rattle.std.proofs.Common.{◌≡◌, ◌+◌, ◌-◌, ◌≤◌, ap, arith, drop, length, subst, sym, take, ◌∙◌}
+use Rattle.piece_reader.specs.Decoding.{IsPiece}
+use Rattle.piece_reader.specs.Grammar.{Lacks}
+use Rattle.piece_reader.specs.HeaderFormat.{length_prefixed}
+use Rattle.piece_reader.specs.HeaderFormatLaws.{length_prefixed_piece, sized_lacks}
+use Rattle.piece_reader.proofs.by_header.ByHeaderDecoder.decode.Goals as goal
+
+pub returns-then-bytes-whole : goal.returns-then-bytes-whole
+returns-then-bytes-whole g c =
+    let h = g.H.LengthPrefixed.header_format c.args.self.now.0 in
+    let law = g.met.H.LengthPrefixed.headers c.args.self.now.0 in
+    let bytes = c.args.bytes.now in
+    let len = c.in-Sized.len in
+    let used = c.in-Sized.used in
+    let is = sym c.header.ensures ∙ c.in-Sized.is in
+    let fits : len ≤ h.max = omega (arith, c.if-len-max.false, c.max.ensures) in
+    let tail = ap length c.tail-tail.ensures in (
+      c.if-bytes-whole.true,
+      omega (arith, (law.some bytes len used is).2, fits, tail),
+      subst (λ n. Lacks (length_prefixed h) (used + len + n) bytes) (sym tail) (sized_lacks h law bytes len used is fits),
+    )
+
+pub returns-else-not-is_tail : goal.returns-else-not-is_tail
+returns-else-not-is_tail g c =
+    let h = g.H.LengthPrefixed.header_format c.args.self.now.0 in
+    let law = g.met.H.LengthPrefixed.headers c.args.self.now.0 in
+    let bytes = c.args.bytes.now in
+    let len = c.in-Sized.len in
+    let used = c.in-Sized.used in
+    let is = sym c.header.ensures ∙ c.in-Sized.is in
+    let fits : len ≤ h.max = omega (arith, c.if-len-max.false, c.max.ensures) in
+    let tail = ap length c.tail-tail.ensures in
+    let count : used + len + length c.tail-tail.result.now - (used + len) ≡ length h.tail = omega (arith, tail) in
+    let found : take (length h.tail) (drop (used + len) bytes) ≡ h.tail =
+    ap (λ n. take n (drop (used + len) bytes)) (sym count) ∙ c.is_tail.ensures.0 c.if-not-is_tail.false ∙ c.tail-tail.ensures in
+    subst (λ n. IsPiece (length_prefixed h) bytes (record { from = used; len = len }) (used + len + n)) (sym tail)
+    (length_prefixed_piece h law bytes len used is fits (omega (arith, c.if-bytes-whole.false, tail)) found)

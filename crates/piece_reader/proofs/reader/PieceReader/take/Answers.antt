@@ -1,0 +1,48 @@
+use Rattle.std.proofs.Common.{◌+◌, ap, sym, subst, ◌∙◌, length}
+use Rattle.piece_reader.specs.Decoding.{Decodes}
+use Rattle.piece_reader.specs.GrammarLaws.{open_of}
+use Rattle.piece_reader.specs.PieceReader.{ReaderState, IsPieceReader, rest}
+use Rattle.piece_reader.proofs.Taking.{taken_whole, looked_whole}
+use Rattle.piece_reader.proofs.reader.PieceReader.take.Goals as goal
+
+pub invariant_of-self : goal.invariant_of-self
+invariant_of-self g c =
+    let i = c.self.inside in
+    let f : ReaderState g.row.R.Denot g.row.D.Denot =
+    record { reader = i.reader; decoder = i.decoder; handed = i.handed; seen = i.seen; ended = i.ended } in
+    let gram = g.D.Decoder.grammar i.decoder in
+    let left = c.rest-left.ensures.value ∙ ap rest (sym c.self.view_is) in
+    let found = subst (Decodes gram c.rest-left.result.now) c.in-Piece.is c.decode-found.ensures in
+    taken_whole gram (g.met.D.Decoder.lawful i.decoder) f c.self.invariant c.in-Piece.field-0 c.in-Piece.used
+    (subst (λ l. Decodes gram l (Rattle.piece_reader.specs.declared.decoder.Found.TheVariants.Piece c.in-Piece.field-0 c.in-Piece.used))
+    left found)
+
+pub invariant_of-self-in-More : goal.invariant_of-self-in-More
+invariant_of-self-in-More g c =
+    let i = c.self.inside in
+    let f : ReaderState g.row.R.Denot g.row.D.Denot =
+    record { reader = i.reader; decoder = i.decoder; handed = i.handed; seen = i.seen; ended = i.ended } in
+    let gram = g.D.Decoder.grammar i.decoder in
+    let left = c.rest-left.ensures.value ∙ ap rest (sym c.self.view_is) in
+    let found = subst (Decodes gram c.rest-left.result.now) c.in-More.is c.decode-found.ensures in
+    looked_whole gram (g.met.D.Decoder.lawful i.decoder) f c.self.invariant (length c.rest-left.result.now) (ap length left)
+    (subst (Rattle.piece_reader.specs.Grammar.IsOpen gram) left (open_of gram c.in-More.field-0 c.rest-left.result.now found.0 found.2))
+
+pub returns-in-Piece-clause-whole : goal.returns-in-Piece-clause-whole
+returns-in-Piece-clause-whole g c =
+    let i = c.self.inside in
+    let new : ReaderState g.row.R.Denot g.row.D.Denot =
+    record { reader = i.reader; decoder = i.decoder; handed = i.handed + c.in-Piece.used; seen = 0; ended = i.ended } in
+    subst (λ x. IsPieceReader (g.D.Decoder.grammar x.decoder) new) c.self.view_is (invariant_of-self g c)
+
+pub returns-in-More-clause-whole : goal.returns-in-More-clause-whole
+returns-in-More-clause-whole g c =
+    let i = c.self.inside in
+    let new : ReaderState g.row.R.Denot g.row.D.Denot = record {
+      reader = i.reader;
+      decoder = i.decoder;
+      handed = i.handed;
+      seen = length c.rest-left.result.now;
+      ended = i.ended;
+    } in
+    subst (λ x. IsPieceReader (g.D.Decoder.grammar x.decoder) new) c.self.view_is (invariant_of-self-in-More g c)

@@ -1,0 +1,39 @@
+-- What the calls of a decoder answer.
+use Rattle.std.specs.Prelude.{ℕ, ◌+◌, ◌<◌, ◌≤◌, ◌⊎◌, List, length, take, drop}
+use Rattle.piece_reader.specs.declared.decoder.End.{End}
+use Rattle.piece_reader.specs.declared.decoder.End.TheVariants as end
+use Rattle.piece_reader.specs.declared.decoder.Found.{Found}
+use Rattle.piece_reader.specs.declared.decoder.Found.TheVariants.{Piece, More, Wrong}
+use Rattle.piece_reader.specs.declared.decoder.Span.{Span}
+use Rattle.piece_reader.specs.Grammar.{Grammar, Lacks}
+
+-- the bytes there
+abbrev pub bytes_at : Span → List ℕ → List ℕ
+bytes_at span bytes = take span.len (drop span.from bytes)
+
+-- the first of these bytes are a piece, with the payload there
+pub record IsPiece {W : Type 0} (g : Grammar W) (bytes : List ℕ) (span : Span) (used : ℕ) : Type 0 where
+  pub inside : used ≤ length bytes
+  pub within : span.from + span.len ≤ used
+  pub is : g.piece (take used bytes) (bytes_at span bytes)
+
+-- of so many first bytes that were handed out the last are a piece, or a last one, and its payload is there. So this holds of the
+-- place that the last step answered, and of one that an earlier step answered only where it shows just the same
+pub record IsLent {W : Type 0} (g : Grammar W) (handed : ℕ) (bytes : List ℕ) (span : Span) : Type 0 where
+  pub start : ℕ
+  pub after : start ≤ span.from
+  pub within : span.from + span.len ≤ handed
+  pub inside : handed ≤ length bytes
+  pub is : g.piece (drop start (take handed bytes)) (bytes_at span bytes)
+      ⊎ g.last (drop start (take handed bytes)) (bytes_at span bytes)
+
+-- what each answer of `decode` means
+abbrev pub Decodes : {W : Type 0} → Grammar W → List ℕ → Found W → Type 0
+Decodes g bytes (Piece span used) = IsPiece g bytes span used
+Decodes g bytes (More n) = (length bytes < n) × (n ≤ g.most) × Lacks g n bytes
+Decodes g bytes (Wrong e) = g.wrong bytes e
+
+-- what each answer of `at_end` means
+abbrev pub Ends : {W : Type 0} → Grammar W → List ℕ → End W → Type 0
+Ends g bytes (end.Last span) = (span.from + span.len ≤ length bytes) × g.last bytes (bytes_at span bytes)
+Ends g bytes (end.Wrong e) = g.cut bytes e

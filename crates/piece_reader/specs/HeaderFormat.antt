@@ -1,0 +1,66 @@
+-- Pieces that have a header.
+use Rattle.std.specs.Prelude.{◌≡◌, ℕ, ◌+◌, ◌<◌, ◌≤◌, ◌^◌, ◌⊎◌, List, [], ◌++◌, length, take, drop}
+use Rattle.piece_reader.specs.declared.header.Header.{Header}
+use Rattle.piece_reader.specs.declared.header.Header.TheVariants.{Short, Sized, Bad}
+use Rattle.piece_reader.specs.declared.header_error.HeaderError.{HeaderError}
+use Rattle.piece_reader.specs.declared.header_error.HeaderError.TheVariants.{NoHeader, TooLong, NoTail, Truncated}
+use Rattle.piece_reader.specs.Grammar.{Grammar}
+
+-- what a header says at the front of some bytes; how many bytes a header and a payload have at most; and what stands behind a
+-- payload
+pub record HeaderFormat : Type 0 where
+  pub header : List ℕ → Header
+  pub most_header : ℕ
+  pub max : ℕ
+  pub tail : List ℕ
+
+-- what a header says is said by its bytes alone, and stays so, whatever comes behind; a header has a byte, and at most so many;
+-- and so has what is none yet
+pub record IsHeaderFormat (h : HeaderFormat) : Type 0 where
+  pub sized : (bytes more : List ℕ) (len used : ℕ) → h.header bytes ≡ Sized len used
+      → h.header (bytes ++ more) ≡ Sized len used
+  pub front : (bytes : List ℕ) (len used : ℕ) → h.header bytes ≡ Sized len used
+      → h.header (take used bytes) ≡ Sized len used
+  pub bad : (bytes more : List ℕ) → h.header bytes ≡ Bad → h.header (bytes ++ more) ≡ Bad
+  pub some : (bytes : List ℕ) (len used : ℕ) → h.header bytes ≡ Sized len used
+      → (0 < used) × (used ≤ length bytes) × (used ≤ h.most_header)
+  pub short : (bytes : List ℕ) → h.header bytes ≡ Short → length bytes < h.most_header
+  pub nothing : h.header [] ≡ Short
+  pub small : h.most_header + h.max + length h.tail < 2 ^ 63
+
+-- a header, the payload that it says, and the tail
+pub record IsLengthPrefixed (h : HeaderFormat) (bytes payload : List ℕ) : Type 0 where
+  pub used : ℕ
+  pub is : h.header bytes ≡ Sized (length payload) used
+  pub fits : length payload ≤ h.max
+  pub equal : drop used bytes ≡ payload ++ h.tail
+
+-- the header is none; or it says too much; or something else stands where the tail should
+pub record HasNoHeader (h : HeaderFormat) (bytes : List ℕ) (e : HeaderError) : Type 0 where
+  pub is : h.header bytes ≡ Bad
+  pub told : e ≡ NoHeader
+
+pub record SaysTooMuch (h : HeaderFormat) (bytes : List ℕ) (e : HeaderError) : Type 0 where
+  pub len : ℕ
+  pub used : ℕ
+  pub is : h.header bytes ≡ Sized len used
+  pub above : h.max < len
+  pub told : e ≡ TooLong len
+
+pub record LacksTail (h : HeaderFormat) (bytes : List ℕ) (e : HeaderError) : Type 0 where
+  pub len : ℕ
+  pub used : ℕ
+  pub is : h.header bytes ≡ Sized len used
+  pub fits : len ≤ h.max
+  pub inside : used + len + length h.tail ≤ length bytes
+  pub other : ¬ (take (length h.tail) (drop (used + len) bytes) ≡ h.tail)
+  pub told : e ≡ NoTail
+
+abbrev pub length_prefixed : HeaderFormat → Grammar HeaderError
+length_prefixed h = record {
+  most = h.most_header + h.max + length h.tail;
+  piece = IsLengthPrefixed h;
+  wrong = λ bytes e. HasNoHeader h bytes e ⊎ (SaysTooMuch h bytes e ⊎ LacksTail h bytes e);
+  last = λ bytes payload. ⊥;
+  cut = λ bytes e. e ≡ Truncated (length bytes);
+}

@@ -1,0 +1,160 @@
+-- Laws of one call of `next`, for the proofs of those who call it.
+use Rattle.std.specs.Prelude.{◌≡◌, ℕ, ◌+◌, ◌<◌, List, [], ◌++◌, length, Bool, true, false, MatchBool, Option, None, Some, Ok, Err}
+use Rattle.std.proofs.Common.{sym, ap, subst, ◌∙◌, refl, arith, inl, inr, length-append, append_assoc, append-nil}
+use Rattle.std.proofs.lemmas.List.{append_cancel_left}
+use Rattle.piece_reader.specs.declared.error.NextError.TheVariants.{Wrong, Io}
+use Rattle.piece_reader.specs.Grammar.{Begins, Grammar, IsLawful, IsOpen}
+use Rattle.piece_reader.specs.GrammarLaws.{open_not}
+use Rattle.piece_reader.specs.NextPiece.{AskedWhere, AsksNone, MetEnd, NextAnswer, NextAnswers, NextPiece, NoEnd, empties}
+use Rattle.piece_reader.specs.PiecesWentLaws.{PiecesWent-none, PiecesWent-unasked}
+use Rattle.piece_reader.specs.PieceReader.{ReaderState, IsPieceReader, IsSettled, rest}
+
+-- the answer, by what was left, where the stream wasn't asked
+module _ {S D W : Type 0} (g : Grammar W) (law : IsLawful g) (s t : ReaderState S D) (bytes : List ℕ)
+    (same : bytes ++ rest t ≡ rest s) where
+  none_of : bytes ≡ [] → rest t ≡ rest s
+  none_of is = ap (λ l. l ++ rest t) (sym is) ∙ same
+
+  all_of : rest t ≡ [] → bytes ≡ rest s
+  all_of none = sym (append-nil bytes) ∙ ap (λ l. bytes ++ l) (sym none) ∙ same
+
+  ready : (piece payload more : List ℕ) → g.piece piece payload → rest s ≡ piece ++ more
+      → (answer : NextAnswer W) → NextAnswers g s answer bytes t → (answer ≡ Ok (Some payload)) × (rest t ≡ more)
+  ready piece payload more is front (Ok (Some found)) (fault, inl (other, open', none)) =
+      let parts = law.one bytes piece (rest t) more found payload other is (same ∙ front) in
+      (ap (λ l. Ok (Some l)) parts.1, append_cancel_left bytes (rest t) more (same ∙ front ∙ ap (λ l. l ++ more) (sym parts.0)))
+  ready piece payload more is front (Ok (Some found)) (fault, inr (last, open', some, none, ended, met)) =
+      absurd (open_not g piece payload more is (subst (IsOpen g) (all_of none ∙ front) open'))
+  ready piece payload more is front (Ok None) (nothing, none, fault, ended, met) =
+      absurd (omega (
+        arith,
+        ap length (sym (none_of nothing) ∙ none),
+        ap length front,
+        length-append piece more,
+        law.some piece payload is,
+      ))
+  ready piece payload more is front (Err (Wrong e)) (nothing, fault, ended, inl (wrong, none)) =
+      absurd (law.apart piece payload more e is (subst (λ l. g.wrong l e) (none_of nothing ∙ front) wrong))
+  ready piece payload more is front (Err (Wrong e)) (nothing, fault, ended, inr (cut, open', some, met)) =
+      absurd (open_not g piece payload more is (subst (IsOpen g) (none_of nothing ∙ front) open'))
+  ready piece payload more is front (Err (Io e)) (nothing, open', fault, ended, met) =
+      absurd (open_not g piece payload more is (subst (IsOpen g) (none_of nothing ∙ front) open'))
+
+  refused : (e : W) → g.wrong (rest s) e → (answer : NextAnswer W) → NextAnswers g s answer bytes t
+      → (answer ≡ Err (Wrong e)) × (rest t ≡ rest s)
+  refused e wrong (Ok (Some found)) (fault, inl (other, open', none)) =
+      absurd (law.apart bytes found (rest t) e other (subst (λ l. g.wrong l e) (sym same) wrong))
+  refused e wrong (Ok (Some found)) (fault, inr (last, open', some, none, ended, met)) =
+      absurd (open'.not_wrong e (subst (λ l. g.wrong l e) (sym (all_of none)) wrong))
+  refused e wrong (Ok None) (nothing, none, fault, ended, met) =
+      absurd (law.nothing e (subst (λ l. g.wrong l e) (sym (none_of nothing) ∙ none) wrong))
+  refused e wrong (Err (Wrong e')) (nothing, fault, ended, inl (other, none)) = (
+    ap (λ x. Err (Wrong x)) (law.reason (rest s) e' e (subst (λ l. g.wrong l e') (none_of nothing) other) wrong),
+    none_of nothing,
+  )
+  refused e wrong (Err (Wrong e')) (nothing, fault, ended, inr (cut, open', some, met)) =
+      absurd (open'.not_wrong e (subst (λ l. g.wrong l e) (sym (none_of nothing)) wrong))
+  refused e wrong (Err (Io e')) (nothing, open', fault, ended, met) =
+      absurd (open'.not_wrong e (subst (λ l. g.wrong l e) (sym (none_of nothing)) wrong))
+
+module _ {S D W : Type 0} (remaining : S → Option (List ℕ)) (g : Grammar W) (law : IsLawful g) (s : ReaderState S D)
+    (answer : NextAnswer W) (t : ReaderState S D) (next : NextPiece remaining g s answer t) where
+  -- a whole piece that is left is handed out, and the stream isn't asked
+  pub NextPiece-ready : (piece payload more : List ℕ) → g.piece piece payload → rest s ≡ piece ++ more
+      → (answer ≡ Ok (Some payload)) × (rest t ≡ more) × (t.reader.log ≡ s.reader.log)
+  NextPiece-ready piece payload more is front =
+      let told : t.reader.log ≡ s.reader.log = elim next.asked [
+        | inl same ↦ same
+        | inr over ↦ absurd (open_not g piece payload (more ++ over.came) is
+            (subst (IsOpen g) (ap (λ l. l ++ over.came) front ∙ append_assoc piece more over.came) over.such))
+      ] in
+      let same = PiecesWent-unasked remaining g.most s t next.bytes next.went told in
+      let is' = ready g law s t next.bytes same piece payload more is front answer next.answers in
+      (is'.0, is'.1, told)
+
+  -- the beginning of no piece is refused each time, and the stream isn't asked
+  pub NextPiece-wrong : (e : W) → g.wrong (rest s) e
+      → (answer ≡ Err (Wrong e)) × (rest t ≡ rest s) × (t.reader.log ≡ s.reader.log)
+  NextPiece-wrong e wrong =
+      let told : t.reader.log ≡ s.reader.log = elim next.asked [
+        | inl same ↦ same
+        | inr over ↦ absurd (over.such.not_wrong e (law.stays (rest s) over.came e wrong))
+      ] in
+      let same = PiecesWent-unasked remaining g.most s t next.bytes next.went told in
+      let is = refused g law s t next.bytes same e wrong answer next.answers in
+      (is.0, is.1, told)
+
+-- where a whole piece is left, the next call doesn't ask the stream
+pub AsksNone-begins : {S D W : Type 0} (remaining : S → Option (List ℕ)) (g : Grammar W) → IsLawful g → (s : ReaderState S D)
+    → Begins g (rest s) → AsksNone remaining g s
+AsksNone-begins remaining g law s b answer t next =
+    (NextPiece-ready remaining g law s answer t next b.piece b.payload b.more b.is b.equal).2
+
+-- where it is settled what the next call answers, that call doesn't ask the stream
+pub AsksNone-settled : {S D W : Type 0} (remaining : S → Option (List ℕ)) (g : Grammar W) → IsLawful g → (s : ReaderState S D)
+    → IsSettled g s → AsksNone remaining g s
+AsksNone-settled remaining g law s (inl ended) answer t next = elim next.asked [
+  | inl same ↦ same
+  | inr over ↦ (let odd : true ≡ false = sym ended ∙ over.not_ended in cc)
+]
+AsksNone-settled remaining g law s (inr (inl begins)) answer t next =
+    AsksNone-begins remaining g law s begins answer t next
+AsksNone-settled remaining g law s (inr (inr (e, wrong))) answer t next =
+    (NextPiece-wrong remaining g law s answer t next e wrong).2
+
+-- where the log stays as it is, so does what it was asked over
+pub AskedWhere-told : {S D : Type 0} (Such : List ℕ → Type 0) (s m t : ReaderState S D) → t.reader.log ≡ m.reader.log
+    → AskedWhere Such s m → AskedWhere Such s t
+AskedWhere-told Such s m t told (inl same) = inl (told ∙ same)
+AskedWhere-told Such s m t told (inr over) = inr (record {
+  not_ended = over.not_ended;
+  came = over.came;
+  last = over.last;
+  given = ap (λ l. l.reads.given) told ∙ over.given;
+  latest = ap (λ l. l.reads.latest) told ∙ over.latest;
+  such = over.such;
+  asks = omega (arith, over.asks, ap (λ l. l.reads.asks) told);
+})
+
+-- an end of the stream that was met: before, which no call had told yet, or now
+module _ {S D : Type 0} (s t : ReaderState S D) where
+  abbrev End : Bool → Type 0
+  End before = MatchBool before (NoEnd s t) (empties t.reader ≡ empties s.reader + 1)
+
+  pub MetEnd-before : s.ended ≡ true → NoEnd s t → MetEnd s t
+  MetEnd-before is = subst End (sym is)
+
+  pub MetEnd-now : s.ended ≡ false → empties t.reader ≡ empties s.reader + 1 → MetEnd s t
+  MetEnd-now is = subst End (sym is)
+
+  pub MetEnd-told : s.ended ≡ true → MetEnd s t → NoEnd s t
+  MetEnd-told is = subst End is
+
+  pub MetEnd-once : s.ended ≡ false → MetEnd s t → empties t.reader ≡ empties s.reader + 1
+  MetEnd-once is = subst End is
+
+-- one that was met by the last of some calls, where the others met none, was met by them all
+pub MetEnd-joins : {S D : Type 0} (s m t : ReaderState S D) → m.ended ≡ s.ended → NoEnd s m → MetEnd m t → MetEnd s t
+MetEnd-joins s m t same none met = elim m.ended as (λ b. b ≡ m.ended → MetEnd s t) [
+  | true ↦ λ is. MetEnd-before s t (sym same ∙ sym is) (MetEnd-told m t (sym is) met ∙ none)
+  | false ↦ λ is. MetEnd-now s t (sym same ∙ sym is) (MetEnd-once m t (sym is) met ∙ ap (λ n. n + 1) none)
+] refl
+
+-- where something is left the stream hasn't ended
+pub still_going : (ended : Bool) (left : List ℕ) → (ended ≡ true → left ≡ []) → 0 < length left → ended ≡ false
+still_going true left none some = absurd (omega (arith, some, ap length (none refl)))
+still_going false left none some = refl
+
+-- the beginning of no piece is refused as it stands
+pub NextPiece-refused : {S D W : Type 0} (remaining : S → Option (List ℕ)) (g : Grammar W) (s : ReaderState S D)
+    → IsPieceReader g s → 0 < length (rest s) → (e : W) → g.wrong (rest s) e → NextPiece remaining g s (Err (Wrong e)) s
+NextPiece-refused remaining g s whole some e wrong =
+    let going : s.ended ≡ false = still_going s.ended (rest s) whole.ended some in record {
+      bytes = [];
+      went = PiecesWent-none remaining g.most s;
+      answers = (refl, refl, going, inl (wrong, refl));
+      asked = inl refl;
+      gave = λ _ _. omega arith;
+      told = λ ended. (let odd : true ≡ false = sym ended ∙ going in cc);
+      whole = whole;
+    }

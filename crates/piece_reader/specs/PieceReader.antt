@@ -1,0 +1,123 @@
+-- What contracts see of a reader of pieces.
+use Rattle.std.specs.Prelude.{◌≡◌, ℕ, ◌+◌, ◌*◌, ◌≤◌, ◌⊎◌, List, [], drop, take, length, max, Bool, true, false}
+use Rattle.buffer_redux.specs.Block.{Block, IsBlock, Plain, usable, with_limit}
+use Rattle.buffer_redux.specs.Buffered.{Buffered, with_inner, with_policy}
+use Rattle.buffer_redux.specs.Potential.{potential}
+use Rattle.buffer_redux.specs.StreamLog.{StreamLog}
+use Rattle.buffer_redux.specs.Unbuffer.{Unbuffered}
+use Rattle.buffer_redux.specs.declared.policy.MinBuffered.{MinBuffered}
+use Rattle.piece_reader.specs.Grammar.{Begins, Grammar, IsOpen}
+
+-- the buffered reader; the decoder; how many of the first bytes that are buffered were handed out; how many behind them
+-- were looked at, and settle nothing; and whether the stream ended, which no call has told yet
+pub record ReaderState (S D : Type 0) : Type 0 where
+  pub reader : Buffered S MinBuffered
+  pub decoder : D
+  pub handed : ℕ
+  pub seen : ℕ
+  pub ended : Bool
+
+-- the buffered bytes that weren't handed out
+abbrev pub rest : {S D : Type 0} → ReaderState S D → List ℕ
+rest f = drop f.handed f.reader.block.bytes
+
+-- what is left: those, and what the stream behind them has and tells
+abbrev pub left_of : {S D : Type 0} → ReaderState S D → Unbuffered S
+left_of f = record { left = rest f; inner = f.reader.inner; log = f.reader.log }
+
+-- the capacity that is asked for pieces of at most so many bytes: three of them fit, so that moving a beginning to the front
+-- is paid for by the bytes that were given since it was moved last
+abbrev pub room_for : ℕ → ℕ → ℕ
+room_for least most = max least (3 * most)
+
+-- what is true of every reader of pieces
+pub record IsPieceReader {S D W : Type 0} (g : Grammar W) (f : ReaderState S D) : Type 0 where
+  pub block : IsBlock f.reader.block
+  pub plain : f.reader.block.kind ≡ Plain
+  pub capacity : 3 * g.most ≤ f.reader.block.capacity
+  pub limit : f.reader.block.limit ≡ f.reader.block.capacity
+  pub ahead : f.reader.policy.0 ≤ g.most
+  pub handed : f.handed + f.seen ≤ length f.reader.block.bytes
+  pub searched : IsOpen g (take f.seen (rest f))
+  pub ended : f.ended ≡ true → rest f ≡ []
+
+-- a plain block that was just made, and can't grow
+pub record IsFixed (size : ℕ) (b : Block) : Type 0 where
+  pub bytes : b.bytes ≡ []
+  pub usable : usable b ≡ size
+  pub kind : b.kind ≡ Plain
+  pub capacity : b.capacity ≡ size
+  pub limit : b.limit ≡ size
+  pub moved : b.moved ≡ 0
+
+-- just made over this stream, for pieces of at most so many bytes: nothing is buffered, and no byte was moved
+pub record IsFresh {S D : Type 0} (tells : S → StreamLog) (least most : ℕ) (stream : S) (finder : D) (f : ReaderState S D)
+    : Type 0 where
+  pub empty : f.reader.block.bytes ≡ []
+  pub inner : f.reader.inner ≡ stream
+  pub log : f.reader.log ≡ tells stream
+  pub decoder : f.decoder ≡ finder
+  pub ended : f.ended ≡ false
+  pub potential : potential most f.reader.block ≡ 0
+  pub capacity : f.reader.block.capacity ≡ room_for least most
+  pub limit : f.reader.block.limit ≡ room_for least most
+
+-- a plain block with the bytes of the other, in which three pieces of at most so many bytes fit, and which can't grow: the
+-- other itself, where they fit there
+pub record IsFitted (most : ℕ) (old b : Block) : Type 0 where
+  pub bytes : b.bytes ≡ old.bytes
+  pub kind : b.kind ≡ Plain
+  pub capacity : b.capacity ≡ room_for old.capacity most
+  pub limit : b.limit ≡ room_for old.capacity most
+  pub kept : old.kind ≡ Plain → 3 * most ≤ old.capacity → b ≡ with_limit old old.capacity
+
+-- made over this buffer and stream: just what they have is left. A plain buffer in which three pieces fit is the reader's, with
+-- no byte moved
+pub record IsOver {S D : Type 0} (tells : S → StreamLog) (most : ℕ) (buffer : Block) (stream : S) (finder : D)
+    (f : ReaderState S D) : Type 0 where
+  pub left : left_of f ≡ record { left = buffer.bytes; inner = stream; log = tells stream }
+  pub decoder : f.decoder ≡ finder
+  pub ended : f.ended ≡ false
+  pub capacity : f.reader.block.capacity ≡ room_for buffer.capacity most
+  pub kept : buffer.kind ≡ Plain → 3 * most ≤ buffer.capacity → f.reader.block ≡ with_limit buffer buffer.capacity
+
+-- the same reader with another decoder: nothing was looked at by that, and what is left stays, an untold end too
+abbrev pub redecoded : {S D E : Type 0} → E → ReaderState S D → ReaderState S E
+redecoded decoder f = record {
+  reader = with_policy f.reader (record { 0 = 0 });
+  decoder = decoder;
+  handed = f.handed;
+  seen = 0;
+  ended = f.ended;
+}
+
+-- with this stream inside
+abbrev pub with_stream : {S D : Type 0} → (S → StreamLog) → ReaderState S D → S → ReaderState S D
+with_stream tells f stream = record f { reader = with_inner tells f.reader stream }
+
+-- the same reader, with these in place of its decoder and of how many bytes were looked at
+abbrev pub retold : {S D E : Type 0} → E → ℕ → ReaderState S D → ReaderState S E
+retold decoder seen f =
+    record { reader = f.reader; decoder = decoder; handed = f.handed; seen = seen; ended = f.ended }
+
+-- the next call answers without the stream: a whole piece stands there, or what no piece begins with, or the stream has ended,
+-- which no call has told yet
+abbrev pub IsSettled : {S D W : Type 0} → Grammar W → ReaderState S D → Type 0
+IsSettled {S} {D} {W} g f = (f.ended ≡ true) ⊎ Begins g (rest f) ⊎ ((e : W) × g.wrong (rest f) e)
+
+-- the first bytes that were left were dropped, and nothing else was done
+pub record Skips {S D W : Type 0} (g : Grammar W) (s : ReaderState S D) (count : ℕ) (t : ReaderState S D) : Type 0 where
+  pub same : t ≡ record s { handed = s.handed + count; seen = 0 }
+  pub left : rest t ≡ drop count (rest s)
+  pub whole : IsPieceReader g t
+
+-- a reader of pieces was taken apart into the inner reader and a buffer with the bytes that weren't handed out, which may not
+-- grow
+pub record TakenApart {S D : Type 0} (tells : S → StreamLog) (f : ReaderState S D) (stream : S) (buffer : Block)
+    : Type 0 where
+  pub inner : stream ≡ f.reader.inner
+  pub log : tells stream ≡ f.reader.log
+  pub bytes : buffer.bytes ≡ rest f
+  pub limit : buffer.limit ≡ f.reader.block.limit
+  pub capacity : buffer.capacity ≡ f.reader.block.capacity
+  pub kind : buffer.kind ≡ f.reader.block.kind

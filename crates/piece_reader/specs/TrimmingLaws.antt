@@ -1,0 +1,88 @@
+-- Laws of pieces whose payloads are shown without a carriage return.
+use Rattle.std.specs.Prelude.{◌≡◌, ℕ, List, [], ◌∷◌, ◌++◌, length}
+use Rattle.std.proofs.Common.{sym, ap, ◌∙◌, arith, inl, inr, refl, length-append, subst}
+use Rattle.std.proofs.lemmas.Bool.{cases_lt}
+use Rattle.std.proofs.lemmas.List.{append_cancel_right}
+use Rattle.piece_reader.specs.Grammar.{Grammar, Begins, IsLawful, IsOpen, Lacks}
+use Rattle.piece_reader.specs.Trimming.{IsTrimmed, trimming}
+
+-- bytes are shown in one way
+trimmed_same : (bytes a b : List ℕ) → IsTrimmed bytes a → IsTrimmed bytes b → a ≡ b
+trimmed_same bytes a b (inl is) (inl is') = append_cancel_right a b (13 ∷ []) (sym is ∙ is')
+trimmed_same bytes a b (inl is) (inr other) = absurd (other.1 a is)
+trimmed_same bytes a b (inr other) (inl is) = absurd (other.1 b is)
+trimmed_same bytes a b (inr is) (inr is') = sym is.0 ∙ is'.0
+
+-- one byte is a carriage return, or is not
+trimmed_one : (byte : ℕ) → (shown : List ℕ) × IsTrimmed (byte ∷ []) shown
+trimmed_one byte =
+    let other : ¬ (byte ≡ 13) → (shown : List ℕ) × IsTrimmed (byte ∷ []) shown =
+    λ isnt. (byte ∷ [], inr (refl, λ front is. ends front is isnt)) in
+    elim (cases_lt byte 13) [
+      | inl less ↦ other (λ is. omega (arith, less, is))
+      | inr many ↦ elim (cases_lt 13 byte) [
+        | inl above ↦ other (λ is. omega (arith, above, is))
+        | inr few ↦
+            let is : byte ≡ 13 = omega (arith, many, few) in
+            ([], inl (ap (λ b. b ∷ []) is))
+      ]
+    ]
+  where
+    ends : (front : List ℕ) → byte ∷ [] ≡ front ++ 13 ∷ [] → ¬ (byte ≡ 13) → ⊥
+    ends [] is isnt = isnt (let e : byte ≡ 13 = cc in e)
+    ends (b ∷ front) is isnt = omega (arith, ap length is, length-append front (13 ∷ []))
+
+-- bytes are shown in some way
+trimmed_is : (bytes : List ℕ) → (shown : List ℕ) × IsTrimmed bytes shown
+trimmed_is [] = ([], inr (refl, λ front is. omega (arith, ap length is, length-append front (13 ∷ []))))
+trimmed_is (a ∷ []) = trimmed_one a
+trimmed_is (a ∷ b ∷ bytes) =
+    let later = trimmed_is (b ∷ bytes) in
+    elim later.1 [
+      | inl is ↦ (a ∷ later.0, inl (ap (λ l. a ∷ l) is))
+      | inr other ↦ (a ∷ b ∷ bytes, inr (refl, λ front is. behind front is other))
+    ]
+  where
+    behind : {shown : List ℕ} (front : List ℕ) → a ∷ b ∷ bytes ≡ front ++ 13 ∷ []
+        → (b ∷ bytes ≡ shown) × ((f : List ℕ) → ¬ (b ∷ bytes ≡ f ++ 13 ∷ [])) → ⊥
+    behind [] is other = omega (arith, ap length is)
+    behind (x ∷ front) is other = other.1 front (let e : b ∷ bytes ≡ front ++ 13 ∷ [] = cc in e)
+
+module _ {W : Type 0} (g : Grammar W) where
+  -- bytes that begin with a piece do so however it is shown
+  shown_begins : (bytes : List ℕ) → Begins g bytes → Begins (trimming g) bytes
+  shown_begins bytes b =
+      let shown = trimmed_is b.payload in record {
+        piece = b.piece;
+        payload = shown.0;
+        more = b.more;
+        is = record { payload = b.payload; is = b.is; trimmed = shown.1 };
+        equal = b.equal;
+      }
+
+  begins_shown : (bytes : List ℕ) → Begins (trimming g) bytes → Begins g bytes
+  begins_shown bytes b = record { piece = b.piece; payload = b.is.payload; more = b.more; is = b.is.is; equal = b.equal }
+
+  -- bytes that settle nothing do so however a piece is shown
+  pub open_shown : (bytes : List ℕ) → IsOpen (trimming g) bytes → IsOpen g bytes
+  open_shown bytes o = record { no_piece = λ b. o.no_piece (shown_begins bytes b); not_wrong = o.not_wrong }
+
+  pub lacks_shown : (n : ℕ) (bytes : List ℕ) → Lacks g n bytes → Lacks (trimming g) n bytes
+  lacks_shown n bytes lacks more few =
+      let o = lacks more few in
+      record { no_piece = λ b. o.no_piece (begins_shown (bytes ++ more) b); not_wrong = o.not_wrong }
+
+  pub trimming_lawful : IsLawful g → IsLawful (trimming g)
+  trimming_lawful law = record {
+    one = λ p q xs ys a b is is' same.
+        let parts = law.one p q xs ys is.payload is'.payload is.is is'.is same in
+        (parts.0, trimmed_same is'.payload a b (subst (λ l. IsTrimmed l a) parts.1 is.trimmed) is'.trimmed);
+    some = λ p a is. law.some p is.payload is.is;
+    room = law.room;
+    apart = λ p a more e is. law.apart p is.payload more e is.is;
+    reason = law.reason;
+    stays = law.stays;
+    nothing = law.nothing;
+    one_last = law.one_last;
+    end_apart = law.end_apart;
+  }

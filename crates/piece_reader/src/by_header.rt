@@ -1,0 +1,61 @@
+//! The decoder of pieces that have a header.
+ghost use Rattle.std.specs.Prelude.{◌≡◌, ◌↔◌, IsTrue};
+
+use crate::decoder::{Decoder, End, Found, Span};
+use crate::header::Header;
+use crate::header_error::HeaderError;
+use crate::length_prefixed::LengthPrefixed;
+
+/// The decoder of pieces that have a header. A length above the greatest is refused before anything is added to it.
+#[derive(Clone, Copy, Debug, Drop)]
+pub struct ByHeader<H: LengthPrefixed>(pub H);
+
+impl<H: LengthPrefixed> Decoder for ByHeader<H> {
+    ghost use Rattle.piece_reader.specs.HeaderFormat.{length_prefixed};
+    ghost use Rattle.piece_reader.specs.HeaderFormatLaws.{length_prefixed_lawful};
+
+    type Wrong = HeaderError;
+
+    ghost grammar = { λ d. length_prefixed (H.header_format d.0) };
+
+    fn most(&self) -> usize {
+        self.0.most_header() + self.0.max() + self.0.tail().len()
+    }
+
+    #[inline(always)]
+    fn decode(&self, bytes: &[u8], _seen: usize) -> Found<HeaderError> {
+        match self.0.header(bytes) {
+            Header::Short => Found::More(1 + bytes.len()),
+            Header::Bad => Found::Wrong(HeaderError::NoHeader),
+            Header::Sized(len, used) => {
+                if len > self.0.max() {
+                    return Found::Wrong(HeaderError::TooLong(len));
+                }
+                let tail = self.0.tail();
+                let whole = used + len + tail.len();
+                if bytes.len() < whole {
+                    return Found::More(whole);
+                }
+                let found = &bytes[used + len..whole];
+                if !is_tail(found, tail) {
+                    return Found::Wrong(HeaderError::NoTail);
+                }
+                Found::Piece(Span { from: used, len }, whole)
+            }
+        }
+    }
+
+    fn at_end(&self, bytes: &[u8]) -> End<HeaderError> {
+        End::Wrong(HeaderError::Truncated(bytes.len()))
+    }
+
+    ghost lawful = { λ d. length_prefixed_lawful (H.header_format d.0) (H.headers d.0) };
+}
+
+// Whether these are the bytes that stand behind a payload.
+#[inline(always)]
+fn is_tail(found: &[u8], tail: &[u8]) -> bool
+    ensures { IsTrue result ↔ (found.now ≡ tail.now) }
+{
+    found == tail
+}

@@ -1,0 +1,60 @@
+//! What a protocol says.
+ghost use Rattle.std.specs.Prelude.{◌≡◌, ◌<◌, ◌≤◌, length, take};
+ghost use Rattle.piece_reader.specs.Grammar.{Grammar, IsLawful, IsOpen};
+ghost use Rattle.piece_reader.specs.Decoding.{Decodes, Ends};
+
+/// A place in bytes, and how many bytes stand from it on.
+#[derive(Clone, Copy, Debug, Drop)]
+pub struct Span {
+    pub from: usize,
+    pub len: usize,
+}
+
+/// What stands at the front of some bytes.
+#[derive(Debug, Drop)]
+pub enum Found<W> {
+    /// A piece, of which this is the payload, and which takes so many bytes.
+    Piece(Span, usize),
+    /// Nothing yet: fewer than so many bytes in all settle nothing, however they go on.
+    More(usize),
+    /// The beginning of no piece.
+    Wrong(W),
+}
+
+/// What the bytes behind the last piece are, where the stream ended.
+#[derive(Debug, Drop)]
+pub enum End<W> {
+    /// The bytes are the last piece, of which this is the payload.
+    Last(Span),
+    /// The bytes are no piece.
+    Wrong(W),
+}
+
+/// Says which bytes are a piece, and finds them.
+pub trait Decoder: Drop {
+    /// Why bytes are no piece.
+    type Wrong: Copy;
+
+    // Which bytes are a piece, and with which payload; which are the beginning of none; and what those behind the last piece
+    // are at the end of the stream.
+    ghost grammar: { Self → Grammar Self.Wrong };
+
+    /// No piece takes more bytes.
+    fn most(&self) -> usize
+        ensures { result ≡ (grammar self.now).most };
+
+    /// Looks at the front of some bytes, of which the first `seen` were looked at before, and settled nothing.
+    fn decode(&self, bytes: &[u8], seen: usize) -> Found<Self::Wrong>
+        requires within { seen ≤ length bytes.now }
+        requires open { IsOpen (grammar self.now) (take seen bytes.now) }
+        ensures { Decodes (grammar self.now) bytes.now result };
+
+    /// Looks at what settles nothing and has nothing behind it.
+    fn at_end(&self, bytes: &[u8]) -> End<Self::Wrong>
+        requires some { 0 < length bytes.now }
+        requires open { IsOpen (grammar self.now) bytes.now }
+        ensures { Ends (grammar self.now) bytes.now result };
+
+    // No piece begins another, and the beginning of none begins no piece.
+    ghost lawful: { (d : Self) → IsLawful (grammar d) };
+}

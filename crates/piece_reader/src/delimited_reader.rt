@@ -1,0 +1,30 @@
+//! The reader of pieces that a byte ends.
+ghost use Rattle.std.specs.Borrow.{sem};
+ghost use Rattle.std.specs.Io.BufRead.{Rests};
+ghost use Rattle.piece_reader.specs.contracts.delimited.Delimited.{the_row as delimited_row};
+ghost use Rattle.piece_reader.specs.contracts.delimited.TooLong.{the_row as too_long_row};
+ghost use Rattle.piece_reader.specs.contracts.reader.PieceReader.{the_row};
+ghost use Rattle.piece_reader.specs.Delimited.{delimited};
+ghost use Rattle.piece_reader.specs.NextPiece.{NextPiece, answer_of};
+
+use crate::decoder::Decoder;
+use crate::delimited::{Delimited, TooLong};
+use crate::error::NextError;
+use crate::reader::PieceReader;
+use buffer_redux::tell::TellRead;
+
+impl<R: TellRead> PieceReader<R, Delimited> {
+    /// [`step`](PieceReader::step) and [`lent`](PieceReader::lent) in one.
+    #[inline(always)]
+    pub fn next(&mut self) -> Result<Option<&[u8]>, NextError<TooLong>>
+        ensures* after_borrow { sem 𝓛 (Rests
+            (the_row R.row delimited_row too_long_row R.Tell ⟦<Delimited as Decoder>⟧) self.entry
+            (NextPiece R.remaining (delimited self.entry.now.decoder.end self.entry.now.decoder.max) self.entry.now
+            (answer_of result))) }
+    {
+        match self.step()? {
+            Some(span) => Ok(Some(self.lent(span))),
+            None => Ok(None),
+        }
+    }
+}

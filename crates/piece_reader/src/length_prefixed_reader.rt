@@ -1,0 +1,32 @@
+//! The reader of pieces that have a header.
+ghost use Rattle.std.specs.Borrow.{sem};
+ghost use Rattle.std.specs.Io.BufRead.{Rests};
+ghost use Rattle.piece_reader.specs.contracts.by_header.ByHeader.{the_row as by_header_row};
+ghost use Rattle.piece_reader.specs.contracts.header_error.HeaderError.{the_row as error_row};
+ghost use Rattle.piece_reader.specs.contracts.reader.PieceReader.{the_row};
+ghost use Rattle.piece_reader.specs.HeaderFormat.{length_prefixed};
+ghost use Rattle.piece_reader.specs.NextPiece.{NextPiece, answer_of};
+
+use crate::by_header::ByHeader;
+use crate::decoder::Decoder;
+use crate::error::NextError;
+use crate::header_error::HeaderError;
+use crate::length_prefixed::LengthPrefixed;
+use crate::reader::PieceReader;
+use buffer_redux::tell::TellRead;
+
+impl<R: TellRead, H: LengthPrefixed> PieceReader<R, ByHeader<H>> {
+    /// Lends the payload of the next piece, as [`step`](PieceReader::step) and [`lent`](PieceReader::lent) do in two calls.
+    #[inline(always)]
+    pub fn next(&mut self) -> Result<Option<&[u8]>, NextError<HeaderError>>
+        ensures* after_borrow { sem 𝓛 (Rests
+            (the_row R.row (by_header_row H.row) error_row R.Tell ⟦<ByHeader<H> as Decoder>⟧) self.entry
+            (NextPiece R.remaining (length_prefixed (H.header_format self.entry.now.decoder.0)) self.entry.now
+            (answer_of result))) }
+    {
+        match self.step()? {
+            Some(span) => Ok(Some(self.lent(span))),
+            None => Ok(None),
+        }
+    }
+}

@@ -1,0 +1,65 @@
+//! Pieces whose payloads are shown without a carriage return.
+ghost use Rattle.std.specs.Prelude.{◌+◌, ◌≤◌, length};
+ghost use Rattle.piece_reader.specs.Decoding.{bytes_at};
+ghost use Rattle.piece_reader.specs.Trimming.{IsTrimmed};
+
+use crate::decoder::{Decoder, End, Found, Span};
+
+/// The pieces of another decoder, each without the carriage return that its payload may end with, as std's `lines` has them: a
+/// last one, behind which no end stands, is shown whole. A carriage return is a byte of the payload for the other decoder, so
+/// it counts where that has a greatest length.
+///
+/// ```
+/// let lines = Trimmed(Delimited { end: b'\n', max: 9 });
+/// let mut reader = PieceReader::new(alloc, Told::new(b"one\r\ntwo\n\r".as_slice()), lines)?;
+/// assert!(rt; matches!(reader.next(), Ok(Some(b"one"))));
+/// assert!(rt; matches!(reader.next(), Ok(Some(b"two"))));
+/// assert!(rt; matches!(reader.next(), Ok(Some(b"\r"))));
+/// assert!(rt; matches!(reader.next(), Ok(None)));
+/// ```
+#[derive(Clone, Copy, Debug, Drop)]
+pub struct Trimmed<D: Decoder>(pub D);
+
+impl<D: Decoder> Decoder for Trimmed<D> {
+    ghost use Rattle.piece_reader.specs.Trimming.{trimming};
+    ghost use Rattle.piece_reader.specs.TrimmingLaws.{trimming_lawful};
+
+    type Wrong = D::Wrong;
+
+    ghost grammar = { λ d. trimming (D.grammar d.0) };
+
+    fn most(&self) -> usize {
+        self.0.most()
+    }
+
+    #[inline(always)]
+    fn decode(&self, bytes: &[u8], seen: usize) -> Found<D::Wrong> {
+        match self.0.decode(bytes, seen) {
+            Found::Piece(span, used) => Found::Piece(without_cr(bytes, span), used),
+            Found::More(need) => Found::More(need),
+            Found::Wrong(e) => Found::Wrong(e),
+        }
+    }
+
+    fn at_end(&self, bytes: &[u8]) -> End<D::Wrong> {
+        self.0.at_end(bytes)
+    }
+
+    ghost lawful = { λ d. trimming_lawful (D.grammar d.0) (D.lawful d.0) };
+}
+
+// Where the bytes are without the carriage return that they may end with.
+#[inline(always)]
+fn without_cr(bytes: &[u8], span: Span) -> Span
+    requires { span.from + span.len ≤ length bytes.now }
+    ensures within { result.from + result.len ≤ span.from + span.len }
+    ensures trimmed { IsTrimmed (bytes_at span bytes.now) (bytes_at result bytes.now) }
+{
+    match &bytes[span.from..span.from + span.len] {
+        [front @ .., b'\r'] => Span {
+            from: span.from,
+            len: front.len(),
+        },
+        _ => span,
+    }
+}

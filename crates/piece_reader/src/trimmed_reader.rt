@@ -1,0 +1,34 @@
+//! The reader of pieces that are shown without a carriage return.
+ghost use Rattle.std.specs.Borrow.{sem};
+ghost use Rattle.std.specs.Io.BufRead.{Rests};
+ghost use Rattle.piece_reader.specs.contracts.delimited.Delimited.{the_row as delimited_row};
+ghost use Rattle.piece_reader.specs.contracts.delimited.TooLong.{the_row as too_long_row};
+ghost use Rattle.piece_reader.specs.contracts.trimmed.Trimmed.{the_row as trimmed_row};
+ghost use Rattle.piece_reader.specs.contracts.reader.PieceReader.{the_row};
+ghost use Rattle.piece_reader.specs.Delimited.{delimited};
+ghost use Rattle.piece_reader.specs.NextPiece.{NextPiece, answer_of};
+ghost use Rattle.piece_reader.specs.Trimming.{trimming};
+
+use crate::decoder::Decoder;
+use crate::delimited::{Delimited, TooLong};
+use crate::error::NextError;
+use crate::reader::PieceReader;
+use crate::trimmed::Trimmed;
+use buffer_redux::tell::TellRead;
+
+impl<R: TellRead> PieceReader<R, Trimmed<Delimited>> {
+    /// Lends the next piece without a carriage return at its end.
+    #[inline(always)]
+    pub fn next(&mut self) -> Result<Option<&[u8]>, NextError<TooLong>>
+        ensures* after_borrow { sem 𝓛 (Rests
+            (the_row R.row (trimmed_row delimited_row too_long_row) too_long_row R.Tell ⟦<Trimmed<Delimited> as Decoder>⟧)
+            self.entry
+            (NextPiece R.remaining (trimming (delimited self.entry.now.decoder.0.end self.entry.now.decoder.0.max))
+            self.entry.now (answer_of result))) }
+    {
+        match self.step()? {
+            Some(span) => Ok(Some(self.lent(span))),
+            None => Ok(None),
+        }
+    }
+}
