@@ -111,7 +111,7 @@ module _ {R : Type 0} {remaining : R → Option (List ℕ)} {s t : ChunkedState 
   goes_on bytes on = let end = Completes-some s.limits some on.place on.is_place in record {
     rest = Chunks s.limits on.place;
     onward = on.leads.onward;
-    more = (end.rest, end.payload, more_to_come s.limits on.place end.rest end.payload on.before_end end.completes, end.completes);
+    more = (end.rest, end.payload, more_to_come s.limits on.place _ _ on.before_end end.completes, end.completes);
   }
 
   pub chunks_asked : AskedWhere (GoesOn (Chunks s.limits s.place) []) (unbuffered s.reader) (unbuffered t.reader)
@@ -157,7 +157,8 @@ module _ {R : Type 0} (remaining : R → Option (List ℕ)) {s : ChunkedState R 
     asked = then_asked d reads;
   }
 
-  pub drain_asked : {answer : Result ℕ ChunkedError} {t : ChunkedState R StdPolicy} → DrainReads remaining std_read_rules s answer t
+  pub drain_asked : {answer : Result ℕ ChunkedError} {t : ChunkedState R StdPolicy}
+      → DrainReads remaining std_read_rules s answer t
       → AskedWhere (Unended (Chunks s.limits s.place)) (unbuffered s.reader) (unbuffered t.reader)
   drain_asked {answer} {t} reads =
       let d = drained reads.count reads.last reads.before in
