@@ -1,4 +1,3 @@
 pub mod Packs
 pub mod PieceRuns
-pub mod PiecesCalls
 pub mod Unpacks

@@ -12,17 +12,18 @@ use Rattle.line_reader.specs.NextLine.{NextAnswer, NextLine}
 use Rattle.line_reader.specs.NextLineLaws.{IsHanded-fits, NextLine-open, NextOpen, NextPiece-long, open_unended}
 use Rattle.line_reader.specs.TextLaws.{lines_of}
 use Rattle.line_reader.specs.declared.error.LineError.TheVariants as error
+use Rattle.piece_filter.specs.PieceRuns.{Over, all_received}
+use Rattle.piece_filter.specs.Pieces.{HasEnded, IsReady, PiecesEnd}
+use Rattle.piece_filter.specs.PiecesCalls as pieces
+use Rattle.piece_filter.specs.PiecesLaws.{whole_text}
 use Rattle.frames.specs.Words.{All, AllSent, Asks, bytes_at, Error, error_kind, Fits, ForwardAnswers, GaveNothing, Grammar, HasLines, HasPieces, IsLent, IsLine, IsOpen, IsPieces, IsUnended, lined, LineState, MetNoFault, OverCount, RanDry, rest, room_for, RunError, Span, Stopped, StreamLog, with_ends}
 use Rattle.frames.specs.Ending.{IsOutcome}
 use Rattle.frames.specs.Pack.{PackedFirst, PackedLines, PackRan, Packs}
 use Rattle.frames.specs.Packing.{HeldFits, NoLine, packing, packing_rules, TakesLines}
 use Rattle.frames.specs.PackingLaws.{all_ended, all_fit, packing_sound}
-use Rattle.frames.specs.Pieces.{HasEnded, IsReady, PiecesEnd}
-use Rattle.frames.specs.PiecesLaws.{whole_text}
 use Rattle.frames.specs.declared.error.RunError.TheVariants.{Io, TooLong}
 use Rattle.frames.specs.declared.packing.Packing.{Packing}
-use Rattle.frames.proofs.PieceRuns.{all_received, outcome_ran, Over}
-use Rattle.frames.proofs.PiecesCalls as pieces
+use Rattle.frames.proofs.PieceRuns.{outcome_ran}
 
 -- lines are taken still where neither limit changed
 pub lines_on : {R W : Type 0} {s : Packing R W} (t : Packing R W) → TakesLines s
@@ -124,7 +125,7 @@ module _ {R W : Type 0} (remaining : R → Option (List ℕ)) (s t : Packing R W
   max = s.source.pieces.decoder.max
 
   abbrev Went : List (List ℕ) → List (List ℕ) → Type 0
-  Went = Over remaining packing_sound s t fresh
+  Went = Over remaining packing s t fresh
 
   abbrev Ran : Result (Unit {0}) RunError → Type 0
   Ran = PackRan max s.source.pieces.reader.log t.source.pieces.reader.log s.target.writer.log t.target.writer.log
@@ -148,7 +149,7 @@ module _ {R W : Type 0} (remaining : R → Option (List ℕ)) (s t : Packing R W
       given = over.given ∙ ap (λ l. s.source.pieces.reader.log.reads.given ++ (over.bytes ++ l)) end.0
           ∙ ap (λ l. s.source.pieces.reader.log.reads.given ++ l) (append-nil over.bytes);
       ended = dry end.1;
-      received = all_received remaining packing_sound s t fresh p p over sent;
+      received = all_received remaining packing s t fresh p p over sent;
       flushed = sent.flushed;
     },
     met,
@@ -169,7 +170,7 @@ module _ {R W : Type 0} (remaining : R → Option (List ℕ)) (s t : Packing R W
         fit = all.2;
         such = such;
         given = over.given ∙ ap (λ l. s.source.pieces.reader.log.reads.given ++ (l ++ rest t.source.pieces)) all.0;
-        received = all_received remaining packing_sound s t fresh p p over sent;
+        received = all_received remaining packing s t fresh p p over sent;
         flushed = sent.flushed;
       }
 
@@ -233,7 +234,7 @@ module _ {R W : Type 0} (remaining : R → Option (List ℕ)) (s t : Packing R W
 
   pub packed : (answer : Result ℕ (Stopped RunError)) (outcome : Result (Unit {0}) RunError) → IsOutcome answer outcome
       → ForwardAnswers (packing_rules remaining) s answer t → Ran outcome
-  packed = outcome_ran remaining packing_sound s t fresh Ran ended_ran wrong_ran
+  packed = outcome_ran remaining packing s t fresh Ran ended_ran wrong_ran
       (λ p over open' still sent e failed. (
         some_lines (IsUnended max) p over still sent
             (open_unended max (rest t.source.pieces)

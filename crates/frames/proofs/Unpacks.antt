@@ -11,16 +11,17 @@ use Rattle.frame_reader.specs.NextLaws.{NextPiece-reads}
 use Rattle.frame_reader.specs.declared.error.FrameError.TheVariants as error
 use Rattle.frame_reader.specs.declared.frame.FrameFault.TheVariants as Fault
 use Rattle.frame_reader.specs.declared.frame.Frames.{Frames}
+use Rattle.piece_filter.specs.PieceRuns.{Over, all_received}
+use Rattle.piece_filter.specs.Pieces.{HasEnded, IsReady}
+use Rattle.piece_filter.specs.PiecesCalls as pieces
 use Rattle.frames.specs.Words.{All, AllSent, Asks, bytes_at, Error, error_kind, Fits, ForwardAnswers, framed, frames, GaveNothing, IsCutShort, IsLent, IsOpen, MetNoFault, RanDry, ReaderState, rest, RunError, Span, Stopped, StreamLog}
 use Rattle.frames.specs.Ending.{IsOutcome}
-use Rattle.frames.specs.Pieces.{HasEnded, IsReady}
 use Rattle.frames.specs.Unpack.{Unpacked, UnpackedFirst, UnpackRan, Unpacks}
 use Rattle.frames.specs.Unpacking.{NoFrame, TakesFrames, unpacking, unpacking_rules}
 use Rattle.frames.specs.UnpackingLaws.{all_frames, unpacking_sound}
 use Rattle.frames.specs.declared.error.RunError.TheVariants.{Io, TooLong, Truncated}
 use Rattle.frames.specs.declared.unpacking.Unpacking.{Unpacking}
-use Rattle.frames.proofs.PieceRuns.{all_received, outcome_ran, Over}
-use Rattle.frames.proofs.PiecesCalls as pieces
+use Rattle.frames.proofs.PieceRuns.{outcome_ran}
 
 -- frames are taken still where the limit, the kind of the buffer and its capacity didn't change
 pub frames_on : {R W : Type 0} {s : Unpacking R W} (t : Unpacking R W) → TakesFrames s
@@ -100,7 +101,7 @@ module _ {R W : Type 0} (remaining : R → Option (List ℕ)) (s t : Unpacking R
   max = s.source.decoder.max
 
   abbrev Went : List (List ℕ) → List (List ℕ) → Type 0
-  Went = Over remaining unpacking_sound s t fresh
+  Went = Over remaining unpacking s t fresh
 
   abbrev Ran : Result (Unit {0}) RunError → Type 0
   Ran = UnpackRan max s.source.reader.log t.source.reader.log s.target.log t.target.log
@@ -118,7 +119,7 @@ module _ {R W : Type 0} (remaining : R → Option (List ℕ)) (s t : Unpacking R
     payloads = p;
     fit = (whole p p over).1;
     given = over.given ∙ ap (λ l. s.source.reader.log.reads.given ++ (l ++ rest t.source)) (whole p p over).0;
-    received = all_received remaining unpacking_sound s t fresh p p over sent;
+    received = all_received remaining unpacking s t fresh p p over sent;
     flushed = sent.flushed;
   }
 
@@ -154,7 +155,7 @@ module _ {R W : Type 0} (remaining : R → Option (List ℕ)) (s t : Unpacking R
 
   pub unpacked_all : (answer : Result ℕ (Stopped RunError)) (outcome : Result (Unit {0}) RunError) → IsOutcome answer outcome
       → ForwardAnswers (unpacking_rules remaining) s answer t → Ran outcome
-  unpacked_all = outcome_ran remaining unpacking_sound s t fresh Ran
+  unpacked_all = outcome_ran remaining unpacking s t fresh Ran
       (λ p over end sent met. (
         subst (Unpacked max s.source.reader.log t.source.reader.log s.target.log t.target.log) end.0 (unpacked p over sent),
         dry end.1,

@@ -3,8 +3,6 @@ pub mod Ending
 pub mod Pack
 pub mod Packing
 pub mod PackingLaws
-pub mod Pieces
-pub mod PiecesLaws
 pub mod Unpack
 pub mod Unpacking
 pub mod UnpackingLaws

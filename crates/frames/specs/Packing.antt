@@ -5,7 +5,7 @@ use Rattle.line_reader.specs.Lines.{BeginsTooLong}
 use Rattle.line_reader.specs.declared.line.Lines.{Lines}
 use Rattle.frames.specs.Words.{Span, bytes_at, ReaderState, rest, FilterRules, frame, lined, RunError}
 use Rattle.frames.specs.Pack.{IsDue}
-use Rattle.frames.specs.Pieces.{Piecewise, piece_rules}
+use Rattle.piece_filter.specs.Pieces.{Piecewise, piece_rules}
 use Rattle.frames.specs.declared.error.RunError.TheVariants.{TooLong}
 use Rattle.frames.specs.declared.packing.Packing.{Packing}
 

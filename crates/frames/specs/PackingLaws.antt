@@ -5,8 +5,8 @@ use Rattle.line_reader.specs.NextLineLaws.{open_unended}
 use Rattle.line_reader.specs.TextLaws.{all_plain, fits_of}
 use Rattle.frames.specs.Words.{All, HasPieces, IsPieces, IsLawful, Fits, header, FitsLine, IsLine, with_end, with_ends, lined}
 use Rattle.frames.specs.Packing.{packing, packing_rules}
-use Rattle.frames.specs.Pieces.{IsSound}
-use Rattle.frames.specs.PiecesLaws.{piece_lawful, whole_text}
+use Rattle.piece_filter.specs.Pieces.{IsSound}
+use Rattle.piece_filter.specs.PiecesLaws.{piece_lawful, whole_text}
 
 -- lines that are pieces have frames
 pub all_fit : (max : ℕ) (bytes : List ℕ) (lines : List (List ℕ)) → HasPieces (lined max) bytes lines → All (Fits max) lines

@@ -7,7 +7,7 @@ use Rattle.frame_reader.specs.Frames.{BeginsTooLong}
 use Rattle.frame_reader.specs.declared.frame.FrameFault.{FrameFault}
 use Rattle.frame_reader.specs.declared.frame.Frames.{Frames}
 use Rattle.frames.specs.Words.{RanDry, ReaderState, rest, FilterRules, framed, IsCutShort, with_end, RunError}
-use Rattle.frames.specs.Pieces.{Piecewise, piece_rules}
+use Rattle.piece_filter.specs.Pieces.{Piecewise, piece_rules}
 use Rattle.frames.specs.Unpack.{IsDue}
 use Rattle.frames.specs.declared.error.RunError.TheVariants.{TooLong, Truncated}
 use Rattle.frames.specs.declared.unpacking.Unpacking.{Unpacking}

@@ -3,8 +3,8 @@ use Rattle.std.proofs.Common.{◌≡◌, ℕ, ◌≤◌, List, [], ◌∷◌, �
 use Rattle.std.proofs.lemmas.List.Elements.{All-cons, All-nil}
 use Rattle.frame_reader.specs.declared.frame.Frames.{Frames}
 use Rattle.frames.specs.Words.{All, empties, ReaderState, IsPieces, IsLawful, framed, Fits, frame, frames, newline, RunError}
-use Rattle.frames.specs.Pieces.{IsSound}
-use Rattle.frames.specs.PiecesLaws.{piece_lawful}
+use Rattle.piece_filter.specs.Pieces.{IsSound}
+use Rattle.piece_filter.specs.PiecesLaws.{piece_lawful}
 use Rattle.frames.specs.Unpacking.{NoFrame, unpacking, unpacking_rules}
 use Rattle.frames.specs.declared.error.RunError.TheVariants.{TooLong, Truncated}
 

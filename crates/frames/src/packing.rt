@@ -6,7 +6,7 @@ ghost use Rattle.forward.specs.Filter.{Passes};
 ghost use Rattle.frame_reader.specs.Framed.{framed_out};
 ghost use Rattle.frames.specs.Packing.{packing, packing_rules};
 ghost use Rattle.frames.specs.PackingLaws.{packing_lawful};
-ghost use Rattle.frames.specs.Pieces.{IsReady};
+ghost use Rattle.piece_filter.specs.Pieces.{IsReady};
 
 use crate::error::RunError;
 use buffer_redux::tell::{TellRead, TellWrite};

@@ -1,13 +1,7 @@
 -- How often a run flushes its writer: only where that sends something.
 use Rattle.std.specs.Prelude.{◌≡◌, ◌+◌, ◌≤◌, ◌⊎◌, length}
 use Rattle.buffer_redux.specs.Buffered.{Buffered}
-use Rattle.buffer_redux.specs.StreamLog.{WriteLog}
 pub use Rattle.forward.specs.Flushes.{FlushesSend, FlushesPerAsk}
-
--- a byte was taken in behind each flush
-abbrev pub FlushesTake : {W P : Type 0} → WriteLog → Buffered W P → Type 0
-FlushesTake old u =
-    u.log.writes.flushes + length old.received ≤ old.flushes + length u.log.writes.received + length u.block.bytes
 
 -- the writer was flushed once at most, and all that was buffered had been received then
 abbrev pub FlushesOnce : {W P : Type 0} → Buffered W P → Buffered W P → Type 0

@@ -4,7 +4,7 @@ use Rattle.frame_reader.specs.WriteFrameLaws.{PiecesTaken-frames}
 use Rattle.frames.specs.Words.{WritesInOrder, frames}
 use Rattle.frames.specs.PackingLaws.{packing_sound}
 use Rattle.frames.proofs.Packs.{lines_on}
-use Rattle.frames.proofs.PiecesCalls.{lost, passed, took_held, took_none}
+use Rattle.piece_filter.specs.PiecesCalls.{lost, passed, took_held, took_none}
 use Rattle.frames.proofs.packing.pass_held.Goals as goal
 
 pub returns-in_err-write_line : goal.returns-in_err-write_line

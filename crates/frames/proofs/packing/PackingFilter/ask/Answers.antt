@@ -3,7 +3,7 @@ use Rattle.line_reader.specs.NextLine.{NextLine}
 use Rattle.frames.specs.Words.{IsLent, load_answer, lined}
 use Rattle.frames.specs.PackingLaws.{packing_sound}
 use Rattle.frames.proofs.Packs.{asked_behind, asked_idle, asked_long, asked_more, asked_none}
-use Rattle.frames.proofs.PiecesCalls.{asked_ended}
+use Rattle.piece_filter.specs.PiecesCalls.{asked_ended}
 use Rattle.frames.proofs.packing.PackingFilter.ask.Goals as goal
 
 pub returns-in-Ok-Some : goal.returns-in-Ok-Some

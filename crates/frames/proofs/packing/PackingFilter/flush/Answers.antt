@@ -1,7 +1,7 @@
 use Rattle.std.proofs.Common.{refl}
 use Rattle.frames.specs.PackingLaws.{packing_sound}
 use Rattle.frames.proofs.Packs.{lines_on}
-use Rattle.frames.proofs.PiecesCalls.{flushed, took_none}
+use Rattle.piece_filter.specs.PiecesCalls.{flushed, took_none}
 use Rattle.frames.proofs.packing.PackingFilter.flush.Goals as goal
 
 pub returns : goal.returns

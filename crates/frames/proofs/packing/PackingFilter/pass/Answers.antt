@@ -5,7 +5,7 @@ use Rattle.line_reader.specs.LinesAlongLaws.{NextBuffered-none, NextBuffered-som
 use Rattle.frames.specs.Packing.{HeldFits}
 use Rattle.frames.specs.PackingLaws.{packing_sound}
 use Rattle.frames.proofs.Packs.{lines_on}
-use Rattle.frames.proofs.PiecesCalls.{lost, none_passed, not_held, passed, took_next}
+use Rattle.piece_filter.specs.PiecesCalls.{lost, none_passed, not_held, passed, took_next}
 use Rattle.frames.proofs.packing.PackingFilter.pass.Goals as goal
 
 pub returns-in_err-write_line-in-Some-next_buffered : goal.returns-in_err-write_line-in-Some-next_buffered

@@ -1,6 +1,6 @@
 use Rattle.std.proofs.Common.{refl}
 use Rattle.frames.specs.UnpackingLaws.{unpacking_sound}
-use Rattle.frames.proofs.PiecesCalls.{flushed, took_none}
+use Rattle.piece_filter.specs.PiecesCalls.{flushed, took_none}
 use Rattle.frames.proofs.Unpacks.{frames_on}
 use Rattle.frames.proofs.unpacking.UnpackingFilter.flush.Goals as goal
 

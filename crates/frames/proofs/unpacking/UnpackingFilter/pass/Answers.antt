@@ -4,7 +4,7 @@ use Rattle.std.proofs.lemmas.Result.{err_from_is_err_and}
 use Rattle.frame_reader.specs.NextLaws.{NextPiece-reads}
 use Rattle.frames.specs.Words.{WritesInOrder, NextBuffered, framed, with_end}
 use Rattle.frames.specs.UnpackingLaws.{unpacking_sound}
-use Rattle.frames.proofs.PiecesCalls.{lost, none_passed, not_held, passed, took_held, took_next, took_none}
+use Rattle.piece_filter.specs.PiecesCalls.{lost, none_passed, not_held, passed, took_held, took_next, took_none}
 use Rattle.frames.proofs.Unpacks.{frames_on}
 use Rattle.frames.proofs.unpacking.UnpackingFilter.pass.Goals as goal
 

@@ -1,10 +1,19 @@
 -- A filter that hands out the payloads of pieces, one by one.
 use Rattle.std.specs.Prelude.{◌≡◌, ℕ, ◌-◌, ◌<◌, ◌≤◌, ◌⊎◌, List, [], ◌∷◌, ◌++◌, length, Bool, true, false, Option, None, Some, Result, Ok, Err, flat_map}
+use Rattle.buffer_redux.specs.BufReader.{RanDry}
+use Rattle.buffer_redux.specs.BufWriter.{WritesInOrder}
 use Rattle.buffer_redux.specs.Buffered.{Buffered}
 use Rattle.buffer_redux.specs.LogGrows.{ReadLogGrows}
 use Rattle.buffer_redux.specs.declared.policy.StdPolicy.{StdPolicy}
+use Rattle.piece_reader.specs.Decoding.{IsLent, bytes_at}
+use Rattle.piece_reader.specs.Grammar.{Grammar, IsOpen}
+use Rattle.piece_reader.specs.NextPiece.{AskedWhere, PiecesWent, empties}
+use Rattle.piece_reader.specs.PieceReader.{IsPieceReader, ReaderState, rest}
+use Rattle.piece_reader.specs.Texts.{HasPieces, IsPieces}
+use Rattle.piece_reader.specs.declared.decoder.Span.{Span}
+use Rattle.forward.specs.Filter.{FilterRules}
+use Rattle.programs.specs.Streams.{AllSent}
 use Rattle.programs.specs.TakenIn.{taken_in}
-use Rattle.frames.specs.Words.{RanDry, WritesInOrder, IsLent, bytes_at, Span, Grammar, IsOpen, AskedWhere, PiecesWent, empties, IsPieceReader, ReaderState, rest, HasPieces, IsPieces, FilterRules, AllSent}
 
 -- the parts of such a filter: a reader, the place of a payload that is held until it is passed, and a writer; which bytes are
 -- pieces, and what is made of their payloads

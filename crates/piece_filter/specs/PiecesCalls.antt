@@ -1,22 +1,32 @@
 -- What the calls of a filter of pieces do.
 use Rattle.std.proofs.Common.{◌≡◌, ℕ, ◌+◌, ◌≤◌, ◌<◌, inl, inr, Bool, true, false, List, [], ◌∷◌, ◌++◌, length, Option, None, Some, Result, Ok, Err, refl, sym, ap, subst, ◌∙◌, arith, length-append}
 use Rattle.std.proofs.lemmas.Bool.{true≢false}
-use Rattle.buffer_redux.specs.Faults.{MetInterrupts, SendErrorCaused}
+use Rattle.std.specs.declared.io.Error.{Error}
+use Rattle.buffer_redux.specs.BufWriter.{WasFlushed, WritesInOrder}
+use Rattle.buffer_redux.specs.Faults.{MetInterrupts, SendErrorCaused, MetInterrupts-none}
 use Rattle.buffer_redux.specs.LogGrows.{ReadLogGrows-none}
+use Rattle.buffer_redux.specs.StreamLog.{StreamLog}
 use Rattle.buffer_redux.specs.WriterLaws.{WritesInOrder-none}
-use Rattle.codec.specs.declared.NextError.TheVariants as Why
-use Rattle.codec.specs.NextPieceLaws.{MetEnd-once}
-use Rattle.codec.specs.PiecesWentLaws.{PiecesWent-none}
-use Rattle.codec.specs.StaysLeftLaws.{StaysLeft-went}
-use Rattle.forward.specs.declared.error.AskError.{AskError}
+use Rattle.piece_reader.specs.Decoding.{IsLent, bytes_at}
+use Rattle.piece_reader.specs.Grammar.{IsOpen}
+use Rattle.piece_reader.specs.NextPiece.{AskedWhere, Faulted, NextAnswer, NextPiece, PiecesWent, StaysLeft, empties}
+use Rattle.piece_reader.specs.NextPieceLaws.{MetEnd-once}
+use Rattle.piece_reader.specs.PieceReader.{IsPieceReader, ReaderState, rest}
+use Rattle.piece_reader.specs.PiecesWentLaws.{PiecesWent-none}
+use Rattle.piece_reader.specs.StaysLeftLaws.{StaysLeft-went}
+use Rattle.piece_reader.specs.declared.decoder.Span.{Span}
+use Rattle.piece_reader.specs.declared.error.NextError.TheVariants as Why
+use Rattle.forward.specs.Filter.{AskAnswers, Asks, FilterRules, FlushAnswers, Flushes, Passes, StaysOpen}
+use Rattle.forward.specs.Prompt.{AsksGive, WritesOn}
+use Rattle.forward.specs.PromptLaws.{WritesOn-grows, WritesOn-none}
 use Rattle.forward.specs.declared.error.AskError.TheVariants.{Wrong, Io, IoBehind}
+use Rattle.forward.specs.declared.error.AskError.{AskError}
 use Rattle.programs.specs.FlushesLaws.{FlushesOnce-flush}
-use Rattle.programs.specs.PromptLaws.{WritesOn-grows, WritesOn-none, WritesOn-unflushed}
-use Rattle.programs.specs.StreamsLaws.{MetInterrupts-none}
+use Rattle.programs.specs.PromptLaws.{WritesOn-unflushed}
+use Rattle.programs.specs.Streams.{AllSent}
 use Rattle.programs.specs.TakenIn.{taken_more}
-use Rattle.frames.specs.Words.{Error, WasFlushed, WritesInOrder, StreamLog, IsLent, bytes_at, Span, IsOpen, AskedWhere, Faulted, NextAnswer, NextPiece, PiecesWent, StaysLeft, empties, IsPieceReader, ReaderState, rest, AskAnswers, Asks, FilterRules, FlushAnswers, Flushes, Passes, StaysOpen, AsksGive, WritesOn, AllSent}
-use Rattle.frames.specs.Pieces.{CanShow, HandsPieces, HasEnded, IsReady, IsSound, Piecewise, grammar_of, held_at, held_of, made, piece_rules}
-use Rattle.frames.specs.PiecesLaws.{hands_nothing, hands_one, none_held}
+use Rattle.piece_filter.specs.Pieces.{CanShow, HandsPieces, HasEnded, IsReady, IsSound, Piecewise, grammar_of, held_at, held_of, made, piece_rules}
+use Rattle.piece_filter.specs.PiecesLaws.{hands_nothing, hands_one, none_held}
 
 -- there is no place
 pub not_held : (h : Option Span) → ((span : Span) → ¬ (h ≡ Some span)) → h ≡ None

@@ -2,14 +2,21 @@
 use Rattle.std.proofs.Common.{◌≡◌, ℕ, inl, inr, List, [], ◌∷◌, ◌++◌, length, false, Option, None, Some, Result, Ok, Err, refl, sym, ap, subst, ◌∙◌, arith, append-nil, append_assoc, length-append}
 use Rattle.std.proofs.lemmas.Bool.{true≢false}
 use Rattle.std.proofs.lemmas.Grind.{flat_map-append}
+use Rattle.buffer_redux.specs.BufWriter.{WritesInOrder}
 use Rattle.buffer_redux.specs.LogGrows.{ReadLogGrows}
 use Rattle.buffer_redux.specs.WriterLaws.{WritesInOrder-joins, WritesInOrder-none}
-use Rattle.codec.specs.NextPieceLaws.{MetEnd-once}
-use Rattle.codec.specs.PiecesWentLaws.{PiecesWent-joins, PiecesWent-none, drop_none}
-use Rattle.programs.specs.PromptLaws.{AskedLast-after}
+use Rattle.piece_reader.specs.Grammar.{Grammar, IsOpen}
+use Rattle.piece_reader.specs.NextPiece.{AskedOver, HandsBytes, NextPiece, PiecesWent}
+use Rattle.piece_reader.specs.NextPieceLaws.{MetEnd-once}
+use Rattle.piece_reader.specs.PieceReader.{ReaderState, rest}
+use Rattle.piece_reader.specs.PiecesWentLaws.{PiecesWent-joins, PiecesWent-none, drop_none}
+use Rattle.piece_reader.specs.Texts.{HasPieces, IsPieces, StartsWith}
+use Rattle.forward.specs.Filter.{AsksSent, FilterRules, IsLawful, Moves, StaysOpen}
+use Rattle.forward.specs.Prompt.{AskedLast}
+use Rattle.forward.specs.PromptLaws.{AskedLast-after}
+use Rattle.programs.specs.Streams.{AllSent}
 use Rattle.programs.specs.TakenIn.{sent_all, taken_more}
-use Rattle.frames.specs.Words.{WritesInOrder, Grammar, IsOpen, AskedOver, HandsBytes, NextPiece, PiecesWent, ReaderState, rest, HasPieces, IsPieces, StartsWith, AsksSent, FilterRules, IsLawful, Moves, StaysOpen, AskedLast, AllSent}
-use Rattle.frames.specs.Pieces.{HandsPieces, IsSound, IsText, PiecesEnd, Piecewise, grammar_of, held_at, held_of, made, piece_rules}
+use Rattle.piece_filter.specs.Pieces.{HandsPieces, IsSound, IsText, PiecesEnd, Piecewise, grammar_of, held_at, held_of, made, piece_rules}
 
 -- from an empty buffer on, what was given is what was handed out, and what is left
 pub given_since : {S D : Type 0} (s t : ReaderState S D) (bytes : List ℕ) → s.reader.block.bytes ≡ [] → HandsBytes s bytes t

@@ -1,0 +1,4 @@
+pub mod Pieces
+pub mod PiecesLaws
+pub mod PiecesCalls
+pub mod PieceRuns

@@ -1,0 +1,62 @@
+-- What a whole run over pieces comes to.
+use Rattle.std.proofs.Common.{◌≡◌, ℕ, ◌⊎◌, List, ◌++◌, Option, None, refl, sym, ap, subst, ◌∙◌, append-nil, append_assoc}
+use Rattle.buffer_redux.specs.BufReader.{RanDry}
+use Rattle.buffer_redux.specs.WriterLaws.{WritesInOrder-fresh}
+use Rattle.piece_reader.specs.PieceReader.{rest}
+use Rattle.forward.specs.Filter.{FilterRules, Moves}
+use Rattle.forward.specs.Forward.{Forwarded, ForwardedFirst}
+use Rattle.programs.specs.Streams.{AllSent}
+use Rattle.piece_filter.specs.Pieces.{HasEnded, IsText, Piecewise, grammar_of, held_of, made, piece_rules}
+use Rattle.piece_filter.specs.PiecesLaws.{given_since, none_held}
+
+-- from empty buffers on
+module _ {T R D X W E : Type 0} (remaining : R → Option (List ℕ)) (f : Piecewise T R D X W E) (s t : T)
+    (fresh : (piece_rules remaining f).fresh s) where
+  abbrev rules : FilterRules T E
+  rules = piece_rules remaining f
+
+  -- these payloads were handed out, and what becomes of those was taken in
+  pub record Over (handed taken : List (List ℕ)) : Type 0 where
+    pub bytes : List ℕ
+    pub text : IsText (grammar_of f s) bytes handed (f.source t).ended
+    pub given : (f.source t).reader.log.reads.given
+        ≡ (f.source s).reader.log.reads.given ++ (bytes ++ rest (f.source t))
+    pub received : (f.target t).log.writes.received ++ (f.target t).block.bytes
+        ≡ (f.target s).log.writes.received ++ made f taken
+    pub decoder : (f.source t).decoder ≡ (f.source s).decoder
+    pub dry : HasEnded f t → HasEnded f s ⊎ RanDry (f.source s).reader (f.source t).reader
+
+  -- all of these were received
+  pub all_received : (handed taken : List (List ℕ)) → Over handed taken → AllSent (f.target t)
+      → (f.target t).log.writes.received ≡ (f.target s).log.writes.received ++ made f taken
+  all_received handed taken over sent =
+      let received = (f.target t).log.writes.received in
+      sym (append-nil received) ∙ ap (λ l. received ++ l) (sym sent.empty) ∙ over.received
+
+  over_of : (handed taken : List (List ℕ)) → Moves rules s handed taken t → (all : List (List ℕ))
+      → handed ++ held_of f t ≡ all → Over all taken
+  over_of handed taken moves all is =
+      let hands = moves.hands in
+      record {
+        bytes = hands.bytes;
+        text = subst (λ l. IsText (grammar_of f s) hands.bytes l (f.source t).ended)
+            (sym (ap (λ l. l ++ hands.got) (none_held remaining f s fresh.2)) ∙ hands.order ∙ is) hands.text;
+        given = given_since (f.source s) (f.source t) hands.bytes fresh.0 hands.went.hands;
+        received = WritesInOrder-fresh (f.target s) (f.target t) (made f taken) fresh.1 moves.takes;
+        decoder = hands.went.decoder;
+        dry = hands.dry;
+      }
+
+  module _ (count : ℕ) where
+    -- where none is held, just those that went over were handed out
+    pub all_over : (p : Forwarded rules count s t) → f.held t ≡ None → Over p.payloads p.payloads
+    all_over p none = over_of p.payloads p.payloads p.moves p.payloads
+        (ap (λ l. p.payloads ++ l) (none_held remaining f t none) ∙ append-nil p.payloads)
+
+    -- and else what is held, too; where the writer failed, some may be lost in front of it
+    pub over_held : (p : Forwarded rules count s t) → Over (p.payloads ++ held_of f t) p.payloads
+    over_held p = over_of p.payloads p.payloads p.moves (p.payloads ++ held_of f t) refl
+
+    pub over_lost : (p : ForwardedFirst rules count s t) → Over (p.payloads ++ (p.lost ++ held_of f t)) p.payloads
+    over_lost p = over_of (p.payloads ++ p.lost) p.payloads p.moves (p.payloads ++ (p.lost ++ held_of f t))
+        (append_assoc p.payloads p.lost (held_of f t))
