@@ -126,7 +126,8 @@ module _ {R W : Type 0} (remaining : R → Option (List ℕ)) (limits : Limits) 
       subst (λ x. Ran (Err x)) (sym is) (wrong count over held sent why end met)
   stopped count (cause.Read fault) e (over, (held, left), sent, failed) is =
       subst (λ x. Ran (Err x)) (sym is) (moved_all count over held sent, left, failed)
-  stopped count (cause.Write fault) e (first, failed) is = subst (λ x. Ran (Err x)) (sym is)
+  stopped count (cause.Write fault) e (first, inr refused) is = absurd refused.1
+  stopped count (cause.Write fault) e (first, inl failed) is = subst (λ x. Ran (Err x)) (sym is)
       (moved first.payloads first.lost (first.payloads ++ first.lost) refl first.moves, failed)
   stopped count cause.Count e (over, large, met) is = subst (λ x. Ran (Err x)) (sym is.2) (
     moved_over count over,

@@ -116,7 +116,7 @@ module _ {R W : Type 0} (remaining : R → Option (List ℕ)) (s : Decoding R W)
               hands = hands_held remaining s (record u { target = v }) held.hands.payload held.hands.went held.hands.order;
               takes = wrote.answers.0;
             },
-            wrote.answers.1,
+            inl wrote.answers.1,
           );
         }
 
@@ -145,7 +145,7 @@ module _ {R W : Type 0} (remaining : R → Option (List ℕ)) (s : Decoding R W)
               takes = subst (λ l. WritesInOrder s.target l v) (sym (append-nil piece)) wrote.answers.0;
             },
             wrote.answers.1,
-            omega (arith, long, taken_more s.target v piece wrote.answers.0),
+            inl (omega (arith, long, taken_more s.target v piece wrote.answers.0)),
           );
         }
 
@@ -170,6 +170,7 @@ module _ {R W : Type 0} (remaining : R → Option (List ℕ)) (s : Decoding R W)
       closed = λ closed. closed;
       writes = WritesOn-grows s.target.log.writes v.log.writes f.grows;
       flushes = FlushesOnce-flush s.target v answer f.steps;
+      quiet = λ drops. absurd drops;
       moves = record { hands = hands_none remaining s (record s { target = v }) refl refl; takes = f.in_order };
       lacks = λ lacks. lacks;
       answers = flush_answers answer f;

@@ -153,7 +153,8 @@ module _ {R W : Type 0} (remaining : R → Option (List ℕ)) (trace : W → W �
     not_ended over.payloads [] (none_lost count over) [] t.target.writer still refl,
     failed,
   )
-  stopped count (cause.Write fault) e (p, failed) is = subst Ran (sym is) (
+  stopped count (cause.Write fault) e (p, inr refused) is = absurd refused.1
+  stopped count (cause.Write fault) e (p, inl failed) is = subst Ran (sym is) (
     moved p.payloads p.lost p.moves [] t.target.writer still,
     inl (not_ended p.payloads p.lost p.moves [] t.target.writer still refl),
     failed,

@@ -125,7 +125,7 @@ module _ {R W : Type 0} (remaining : R → Option (List ℕ)) (tells : W → Str
           closed = λ closed. closed;
           writes = WritesOn-unflushed s.target.writer c.writer [] failed.in_order failed.not_flushed;
           flushes = failed.sends.sent.flushes;
-          answers = ([], record { hands = ReadsAlong-none remaining std_read_rules s.source; takes = p.went }, failed.caused);
+          answers = ([], record { hands = ReadsAlong-none remaining std_read_rules s.source; takes = p.went }, inl failed.caused);
         }
 
     pub passed : (n : ℕ) → n ≤ length s.source.block.bytes → WritesChunk tells trace s.target s.source.block.bytes (Ok n) c
@@ -150,12 +150,12 @@ module _ {R W : Type 0} (remaining : R → Option (List ℕ)) (tells : W → Str
               takes = p.went;
             },
             quiet.met,
-            omega (
+            inl (omega (
               arith,
               taken_more s.target.writer c.writer _ order,
               length-append (chunk payload) [],
               length-append (size_digits (length payload)) (line_end (payload ++ line_end [])),
-            ),
+            )),
           );
         }
 
@@ -174,6 +174,7 @@ module _ {R W : Type 0} (remaining : R → Option (List ℕ)) (tells : W → Str
       closed = λ closed. closed;
       writes = WritesOn-grows s.target.writer.log.writes c.writer.log.writes f.grows;
       flushes = FlushesOnce-flush s.target.writer c.writer answer f.steps;
+      quiet = λ drops. absurd drops;
       moves = record { hands = ReadsAlong-none remaining std_read_rules s.source; takes = went };
       lacks = λ lacks. lacks;
       answers = flush_answers answer f;

@@ -123,4 +123,6 @@ decoding_rules remaining = record {
   closed = λ s. ⊥;
   fresh = λ s. IsUnread s;
   due = λ s. IsDue s.source.limits;
+  drops = ⊥;
+  refused = λ e t. ⊥;
 }

@@ -34,4 +34,6 @@ encoding_rules remaining trace = record {
   closed = λ s. ⊥;
   fresh = λ s. (s.source.block.bytes ≡ []) × (s.target.writer.block.bytes ≡ []);
   due = λ s. IsDue;
+  drops = ⊥;
+  refused = λ e t. ⊥;
 }

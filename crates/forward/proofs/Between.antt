@@ -1,5 +1,5 @@
 -- What holds between two payloads.
-use Rattle.std.proofs.Common.{ℕ, ◌+◌, ◌≤◌, length}
+use Rattle.std.proofs.Common.{ℕ, ◌+◌, ◌≤◌, ◌⊎◌, length}
 use Rattle.forward.specs.Filter.{AsksOnce, FilterRules, StaysOpen}
 use Rattle.forward.specs.Flushes.{FlushesSend}
 use Rattle.forward.specs.Forward.{Forwarded, NoneFailed}
@@ -15,8 +15,8 @@ module _ {T W : Type 0} (rules : FilterRules T W) where
     pub met : NoneFailed rules first.filter s.filter
     pub ready : rules.ready s.filter
 
-  -- a byte was taken in behind each flush; and so was one received, but for one flush at most
+  -- a byte was taken in behind each flush, or the next flush is none; and one was received, but for one flush at most
   pub record Paced (first s : T) : Type 0 where
-    pub take : (rules.written s).writes.flushes + length (rules.written first).writes.received
-        ≤ (rules.written first).writes.flushes + rules.taken s
+    pub take : ((rules.written s).writes.flushes + length (rules.written first).writes.received
+        ≤ (rules.written first).writes.flushes + rules.taken s) ⊎ (rules.drops × rules.sent s)
     pub send : FlushesSend 1 (rules.written first).writes (rules.written s).writes

@@ -1,5 +1,5 @@
 -- What `forward` does for all payloads.
-use Rattle.std.proofs.Common.{inl, inr, ◌≡◌, ℕ, ◌+◌, ◌^◌, ◌≤◌, Bool, true, false, Result, Ok, Err, refl, ◌∙◌, arith}
+use Rattle.std.proofs.Common.{inl, inr, ◌≡◌, ◌⊎◌, ℕ, ◌+◌, ◌^◌, ◌≤◌, length, Bool, true, false, Result, Ok, Err, refl, ◌∙◌, arith}
 use Rattle.forward.specs.Filter.{AsksOnce, FilterRules, IsLawful}
 use Rattle.forward.specs.Flushes.{FlushesSend}
 use Rattle.forward.specs.Forward.{Forwards}
@@ -29,24 +29,51 @@ module _ {T W : Type 0} (rules : FilterRules T W) (lawful : IsLawful rules) wher
 
     pub paced_none : Paced rules first.filter first.filter
     paced_none =
-        record { take = omega (arith, lawful.received_taken first.filter); send = omega arith }
+        record { take = inl (omega (arith, lawful.received_taken first.filter)); send = omega arith }
 
     module _ (count : ℕ) (s t : Linked T) (before : SoFar rules Prompt count first s) (paced : Paced rules first.filter s.filter) where
       flushes_on : (answer : Result Bool (Cause W)) → ForwardsNext rules s answer t
           → FlushesSend 1 (rules.written first.filter).writes (rules.written t.filter).writes
-      flushes_on answer next = elim next.flushes [
-        | inl same ↦ omega (arith, paced.send, same, next.received)
-        | inr one ↦ omega (arith, paced.take, one.0, one.1)
+      flushes_on answer next = elim paced.take [
+        | inl take ↦ elim next.flushes [
+          | inl same ↦ omega (arith, paced.send, same, next.received)
+          | inr one ↦ omega (arith, take, one.0, one.1)
+        ]
+        | inr sent ↦ omega (arith, paced.send, next.quiet sent.0 sent.1, next.received)
+      ]
+
+      -- no less was taken in
+      taken_on : ForwardsNext rules s (Ok true) t → rules.taken s.filter ≤ rules.taken t.filter
+      taken_on next = lawful.taken_on s.filter t.filter next.answers.0.payloads next.answers.0.moves.takes
+
+      abbrev Take : Type 0
+      Take = ((rules.written t.filter).writes.flushes + length (rules.written first.filter).writes.received
+          ≤ (rules.written first.filter).writes.flushes + rules.taken t.filter) ⊎ (rules.drops × rules.sent t.filter)
+
+      take_on : ForwardsNext rules s (Ok true) t → Take
+      take_on next = elim next.more [
+        | inl more ↦ elim paced.take [
+          | inl take ↦ elim next.flushes [
+            | inl same ↦ inl (omega (arith, take, same, more))
+            | inr one ↦ inl (omega (arith, take, one.0, more))
+          ]
+          | inr sent ↦ inl (omega (
+            arith,
+            paced.send,
+            next.quiet sent.0 sent.1,
+            lawful.received_taken s.filter,
+            more,
+          ))
+        ]
+        | inr (drops, inl (same, still)) ↦ elim paced.take [
+          | inl take ↦ inl (omega (arith, take, same, taken_on next))
+          | inr sent ↦ inr (drops, still sent.1)
+        ]
+        | inr (drops, inr sent) ↦ inr (drops, sent)
       ]
 
       pub paced_more : ForwardsNext rules s (Ok true) t → Paced rules first.filter t.filter
-      paced_more next = record {
-        take = elim next.flushes [
-          | inl same ↦ omega (arith, paced.take, same, next.more)
-          | inr one ↦ omega (arith, paced.take, one.0, next.more)
-        ];
-        send = flushes_on (Ok true) next;
-      }
+      paced_more next = record { take = take_on next; send = flushes_on (Ok true) next }
 
       prompt_of : (ask : Ask T) → AskedFrom rules s.filter ask → Prompt ask
       prompt_of ask asked =

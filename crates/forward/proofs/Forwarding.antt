@@ -1,12 +1,12 @@
 -- What is done for one payload, behind those that went over before.
-use Rattle.std.proofs.Common.{inl, inr, length, ◌<◌, ◌≡◌, ℕ, ◌+◌, ◌≤◌, List, [], ◌∷◌, ◌++◌, Bool, true, false, Result, Ok, Err, refl, sym, ap, subst, ◌∙◌, arith, append_assoc, length-append}
+use Rattle.std.proofs.Common.{inl, inr, length, ◌≡◌, ◌⊎◌, ℕ, ◌+◌, ◌≤◌, List, [], ◌∷◌, ◌++◌, Bool, true, false, Result, Ok, Err, refl, sym, ap, subst, ◌∙◌, arith, append_assoc, length-append}
 use Rattle.std.specs.declared.io.Error.{Error}
-use Rattle.redux_buffer.specs.Faults.{MetInterrupts, OnlyInterrupts, OnlyInterrupts-same}
+use Rattle.redux_buffer.specs.Faults.{MetInterrupts, OnlyInterrupts, OnlyInterrupts-joins, OnlyInterrupts-same}
 use Rattle.forward.specs.Filter.{AsksOnce, FilterRules, FlushesOnce, IsLawful, Moves, StaysOpen, Wrote}
 use Rattle.forward.specs.Forward.{Forwarded, ForwardedFirst, NoneFailed}
 use Rattle.forward.specs.Link.{Ask, Goes, LinkFlushes, LinkPasses, Linked, NotAsked}
 use Rattle.forward.specs.Prompt.{WritesOn}
-use Rattle.forward.specs.Steps.{AskedFrom, ForwardsNext, GivesUp, NextAnswers, OnTrue, OnlyInterrupted, TakesTurn, flushed_next}
+use Rattle.forward.specs.Steps.{AskedFrom, ForwardsNext, GivesUp, GoesAhead, IsQuiet, NextAnswers, OnTrue, OnlyInterrupted, TakesTurn, flushed_next}
 use Rattle.forward.specs.Streams.{ReadGaveUp}
 use Rattle.forward.specs.StreamsLaws.{MetNoFault-joins, ReadFailed-after, SendFailed-after}
 use Rattle.forward.specs.declared.error.AskError.{AskError}
@@ -106,8 +106,15 @@ module _ {T W : Type 0} (rules : FilterRules T W) where
       )
       behind (Err (Write e)) once next = (
         first_joins first.filter s.filter t.filter count before.forwarded next.0,
-        SendFailed-after e (rules.read first.filter) (rules.read s.filter) (rules.read t.filter) (rules.written first.filter)
-            (rules.written s.filter) (rules.written t.filter) before.met next.1,
+        elim next.1 [
+          | inl failed ↦ inl (SendFailed-after e (rules.read first.filter) (rules.read s.filter) (rules.read t.filter)
+              (rules.written first.filter) (rules.written s.filter) (rules.written t.filter) before.met failed)
+          | inr (only, refused) ↦ inr (
+            OnlyInterrupts-joins (rules.read first.filter).reads.faults (rules.read s.filter).reads.faults
+                (rules.read t.filter).reads.faults before.met.reader only,
+            refused,
+          )
+        ],
       )
       behind (Err Count) once next = absurd (omega (arith, next.1))
 
@@ -133,13 +140,26 @@ module _ {T W : Type 0} (rules : FilterRules T W) where
       asks = asked.asks;
     }
 
-    more_after : (a b c : ℕ) (answer : Result Bool (Cause W)) → a ≤ b → OnTrue rules answer (b < c) → OnTrue rules answer (a < c)
-    more_after a b c (Ok true) before next = omega (arith, before, next)
-    more_after a b c (Ok false) before next = tt
-    more_after a b c (Err cause) before next = tt
+    -- behind what took nothing
+    module _ (a b c : T) (less : rules.taken a ≤ rules.taken b)
+        (dropped : rules.drops → IsQuiet rules b c → IsQuiet rules a c ⊎ rules.sent c) where
+      ahead_after : GoesAhead rules b c → GoesAhead rules a c
+      ahead_after (inl more) = inl (omega (arith, less, more))
+      ahead_after (inr (drops, inl quiet)) = inr (drops, dropped drops quiet)
+      ahead_after (inr (drops, inr sent)) = inr (drops, inr sent)
+
+      more_after : (answer : Result Bool (Cause W)) → OnTrue rules answer (GoesAhead rules b c)
+          → OnTrue rules answer (GoesAhead rules a c)
+      more_after (Ok true) next = ahead_after next
+      more_after (Ok false) next = tt
+      more_after (Err cause) next = tt
 
     -- a payload was there; or none was, and it was asked for; or sending failed
     module _ (s m : Linked T) where
+      unread : rules.read m.filter ≡ rules.read s.filter → OnlyInterrupted rules s.filter m.filter
+      unread told = OnlyInterrupts-same (rules.read s.filter).reads.faults (rules.read m.filter).reads.faults
+          (ap (λ l. l.reads.faults) told)
+
       unasked : (Such : Ask T → Type 0) (more : ℕ) (answer : Result Bool Error) → LinkPasses rules s answer m
           → Goes rules Such more s m
       unasked Such more answer p =
@@ -154,7 +174,8 @@ module _ {T W : Type 0} (rules : FilterRules T W) where
         goes = unasked (AskedFrom rules s.filter) 0 (Ok true) p;
         once = unasked_once (Ok true) p;
         flushes = inl p.passes.flushes;
-        more = p.passes.answers.3;
+        quiet = λ drops sent. p.passes.flushes;
+        more = elim p.passes.answers.3 [ inl more ↦ inl more | inr (drops, still) ↦ inr (drops, inl (p.passes.flushes, still)) ];
         received = longer s.filter m.filter p.passes.writes;
         ready = p.passes.ready;
         answers = (
@@ -169,16 +190,16 @@ module _ {T W : Type 0} (rules : FilterRules T W) where
         goes = unasked (AskedFrom rules s.filter) 1 (Err e) p;
         once = unasked_once (Err e) p;
         flushes = inl p.passes.flushes;
+        quiet = λ drops sent. p.passes.flushes;
         more = tt;
         received = longer s.filter m.filter p.passes.writes;
         ready = p.passes.ready;
         answers = (
           none_first s.filter m.filter p.passes.answers.0 p.passes.answers.1,
-          record {
-            reader = OnlyInterrupts-same (rules.read s.filter).reads.faults (rules.read m.filter).reads.faults
-                (ap (λ l. l.reads.faults) p.passes.told);
-            writer = p.passes.answers.2;
-          },
+          elim p.passes.answers.2 [
+            | inl failed ↦ inl (record { reader = unread p.passes.told; writer = failed })
+            | inr refused ↦ inr (unread p.passes.told, refused)
+          ],
         );
       }
 
@@ -198,22 +219,18 @@ module _ {T W : Type 0} (rules : FilterRules T W) where
           let Such = AskedFrom rules s.filter in
           let before = none_passed Such p in
           let so = asked_after s.filter m.filter p.passes.answers.0 before.once before.still in
+          let less = lawful.taken_on s.filter m.filter [] p.passes.answers.0.takes in
           record {
             goes = goes_on Such 0 s m t before so answer next;
             once = once_on Such 0 s m t before so answer next;
             flushes = elim next.flushes [
               | inl same ↦ inl (same ∙ p.passes.flushes)
-              | inr one ↦ inr (
-                omega (arith, one.0, p.passes.flushes),
-                omega (
-                  arith,
-                  one.1,
-                  lawful.taken_on s.filter m.filter []
-                      p.passes.answers.0.takes,
-                ),
-              )
+              | inr one ↦ inr (omega (arith, one.0, p.passes.flushes), omega (arith, one.1, less))
             ];
-            more = more_after _ _ _ answer (lawful.taken_on s.filter m.filter [] p.passes.answers.0.takes) next.more;
+            quiet = λ drops sent. next.quiet drops (p.passes.answers.4 drops sent) ∙ p.passes.flushes;
+            more = more_after s.filter m.filter t.filter less
+                (λ drops quiet. inl (quiet.0 ∙ p.passes.flushes, λ sent. quiet.1 (p.passes.answers.4 drops sent))) answer
+                next.more;
             received = omega (arith, longer s.filter m.filter p.passes.writes, next.received);
             ready = next.ready;
             answers = answers_on Such 0 s m t before so answer next;
@@ -231,16 +248,13 @@ module _ {T W : Type 0} (rules : FilterRules T W) where
             (once_more s.filter m.filter p.flushes.flushes);
         once = flush_once (Err e) p;
         flushes = p.flushes.flushes;
+        quiet = p.flushes.quiet;
         more = tt;
         received = longer s.filter m.filter p.flushes.writes;
         ready = p.flushes.ready;
         answers = (
           none_first s.filter m.filter [] p.flushes.moves,
-          record {
-            reader = OnlyInterrupts-same (rules.read s.filter).reads.faults (rules.read m.filter).reads.faults
-                (ap (λ l. l.reads.faults) p.flushes.told);
-            writer = p.flushes.answers;
-          },
+          inl (record { reader = unread p.flushes.told; writer = p.flushes.answers }),
         );
       }
 
@@ -282,12 +296,17 @@ module _ {T W : Type 0} (rules : FilterRules T W) where
       received : length (rules.written s.filter).writes.received ≤ length (rules.written t.filter).writes.received
       received = omega (arith, longer s.filter m.filter p.flushes.writes, ap (λ l. length l.writes.received) turn.told)
 
-      ended : (next : Result Bool (Cause W)) → OnTrue rules next (rules.taken s.filter < rules.taken t.filter)
+      quiet : rules.drops → rules.sent s.filter
+          → (rules.written t.filter).writes.flushes ≡ (rules.written s.filter).writes.flushes
+      quiet drops sent = ap (λ l. l.writes.flushes) turn.told ∙ p.flushes.quiet drops sent
+
+      ended : (next : Result Bool (Cause W)) → OnTrue rules next (GoesAhead rules s.filter t.filter)
           → NextAnswers rules 0 s.filter next t.filter → ForwardsNext rules s next t
       ended next more answers = record {
         goes = goes (flushed_next next);
         once = once;
         flushes = flushes;
+        quiet = quiet;
         more = more;
         received = received;
         ready = turn.ready;
@@ -356,8 +375,10 @@ module _ {T W : Type 0} (rules : FilterRules T W) where
                 | inl same ↦ inl (unflushed ∙ same)
                 | inr one ↦ inr (unflushed ∙ one.0, omega (arith, one.1, next.received))
               ];
-              more = more_after _ _ _ answer
-                  (lawful.taken_on s.filter t.filter [] (moves s m t p (Ok true) turn).takes) next.more;
+              quiet = λ drops sent. unflushed ∙ quiet s m t p (Ok true) turn drops sent;
+              more = more_after s.filter t.filter u.filter
+                  (lawful.taken_on s.filter t.filter [] (moves s m t p (Ok true) turn).takes)
+                  (λ drops still. inr (still.1 turn.sent)) answer next.more;
               received = omega (arith, received s m t p (Ok true) turn, next.received);
               ready = next.ready;
               answers = answers_on Such 0 s t u came so answer next;

@@ -36,6 +36,9 @@ pub record FilterRules (T W : Type 0) : Type 1 where
   pub fresh : T → Type 0
   -- what is due of bytes that were given
   pub due : T → List ℕ → List ℕ → Type 0
+  -- nothing may be taken in for a payload; and why one was refused, beside the writer's fault
+  pub drops : Type 0
+  pub refused : Error → T → Type 0
 
 module _ {T W : Type 0} (rules : FilterRules T W) where
   -- these payloads were handed out, and those were taken in
@@ -50,6 +53,10 @@ module _ {T W : Type 0} (rules : FilterRules T W) where
   abbrev pub FailedToWrite : Error → T → T → Type 0
   FailedToWrite e s t = SendErrorCaused (rules.written s).writes (rules.written t).writes e
 
+  -- where all had been sent it still is
+  abbrev pub StaysSent : T → T → Type 0
+  StaysSent s t = rules.sent s → rules.sent t
+
   -- the writer was flushed once at most, and all that had been taken in was received then
   abbrev pub FlushesOnce : T → T → Type 0
   FlushesOnce s t =
@@ -57,12 +64,15 @@ module _ {T W : Type 0} (rules : FilterRules T W) where
       ⊎ (((rules.written t).writes.flushes ≡ (rules.written s).writes.flushes + 1)
       × (rules.taken s ≤ length (rules.written t).writes.received))
 
-  -- what an answer of `pass` says. Where the writer failed, what was handed out may be lost
+  -- what an answer of `pass` says. Something was taken in, but for a payload that was dropped. Where the writer failed, or one
+  -- was refused, what was handed out may be lost
   abbrev pub PassAnswers : T → Result Bool Error → T → Type 0
   PassAnswers s (Ok true) t =
-      (payload : List ℕ) × Moves s (payload ∷ []) (payload ∷ []) t × Wrote s t × (rules.taken s < rules.taken t)
-  PassAnswers s (Ok false) t = Moves s [] [] t × Wrote s t × rules.lacks t × (¬ rules.has s)
-  PassAnswers s (Err e) t = (lost : List (List ℕ)) × Moves s lost [] t × FailedToWrite e s t
+      (payload : List ℕ) × Moves s (payload ∷ []) (payload ∷ []) t × Wrote s t
+      × ((rules.taken s < rules.taken t) ⊎ (rules.drops × StaysSent s t))
+  PassAnswers s (Ok false) t =
+      Moves s [] [] t × Wrote s t × rules.lacks t × (¬ rules.has s) × (rules.drops → StaysSent s t)
+  PassAnswers s (Err e) t = (lost : List (List ℕ)) × Moves s lost [] t × (FailedToWrite e s t ⊎ rules.refused e t)
 
   -- what `pass` does: the stream that is read from isn't asked
   pub record Passes (s : T) (answer : Result Bool Error) (t : T) : Type 0 where
@@ -77,13 +87,15 @@ module _ {T W : Type 0} (rules : FilterRules T W) where
   FlushAnswers s (Ok _) t = rules.sent t × Wrote s t
   FlushAnswers s (Err e) t = FailedToWrite e s t
 
-  -- what `flush` does: the stream that is read from isn't asked
+  -- what `flush` does: the stream that is read from isn't asked; and where payloads may be dropped, and all had been sent, no
+  -- call is made
   pub record Flushes (s : T) (answer : Result (Unit {0}) Error) (t : T) : Type 0 where
     pub told : rules.read t ≡ rules.read s
     pub ready : rules.ready t
     pub closed : rules.closed s → rules.closed t
     pub writes : WritesOn (rules.written s).writes (rules.written t).writes
     pub flushes : FlushesOnce s t
+    pub quiet : rules.drops → rules.sent s → (rules.written t).writes.flushes ≡ (rules.written s).writes.flushes
     pub moves : Moves s [] [] t
     pub lacks : rules.lacks s → rules.lacks t
     pub answers : FlushAnswers s answer t

@@ -1,5 +1,7 @@
 -- What `forward` promises.
-use Rattle.std.specs.Prelude.{◌≡◌, ℕ, ◌+◌, ◌^◌, ◌≤◌, List, ◌++◌, length, Result, Ok, Err}
+use Rattle.std.specs.Prelude.{◌≡◌, ℕ, ◌+◌, ◌^◌, ◌≤◌, ◌⊎◌, List, ◌++◌, length, Result, Ok, Err}
+use Rattle.std.specs.declared.io.Error.{Error}
+use Rattle.redux_buffer.specs.Faults.{OnlyInterrupts}
 use Rattle.forward.specs.Filter.{FilterRules, Moves}
 use Rattle.forward.specs.Flushes.{FlushesSend}
 use Rattle.forward.specs.Link.{Goes, IsPrompt, Linked}
@@ -37,14 +39,19 @@ module _ {T W : Type 0} (rules : FilterRules T W) where
     pub moves : Moves rules s (payloads ++ lost) payloads t
     pub all : length payloads ≡ count
 
+  -- sending failed; or a payload was refused. Reads were at most interrupted
+  abbrev pub NotWritten : Error → T → T → Type 0
+  NotWritten e s t =
+      SendFailed e (rules.read s) (rules.read t) (rules.written s) (rules.written t)
+      ⊎ (OnlyInterrupts (rules.read s).reads.faults (rules.read t).reads.faults × rules.refused e t)
+
   -- what each cause says, behind which so many payloads went over
   abbrev pub StopsBy : ℕ → T → Cause W → T → Type 0
   StopsBy count s (Wrong why) t = Forwarded count s t × rules.ends s (Err why) t × rules.sent t × NoneFailed s t
   StopsBy count s (Read e) t =
       Forwarded count s t × rules.waits t × rules.sent t
       × ReadFailed e (rules.read s) (rules.read t) (rules.written s) (rules.written t)
-  StopsBy count s (Write e) t =
-      ForwardedFirst count s t × SendFailed e (rules.read s) (rules.read t) (rules.written s) (rules.written t)
+  StopsBy count s (Write e) t = ForwardedFirst count s t × NotWritten e s t
   StopsBy count s Count t = Forwarded count s t × (2 ^ 64 ≤ count + 1) × NoneFailed s t
 
   -- what an answer says

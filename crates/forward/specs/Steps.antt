@@ -1,9 +1,9 @@
 -- The steps of `forward`: one turn of asks, and one payload.
-use Rattle.std.specs.Prelude.{◌≡◌, ℕ, ◌+◌, ◌<◌, ◌≤◌, List, [], ◌++◌, length, Bool, true, false, Option, None, Some, Result, Ok, Err}
+use Rattle.std.specs.Prelude.{◌≡◌, ℕ, ◌+◌, ◌<◌, ◌≤◌, ◌⊎◌, List, [], ◌++◌, length, Bool, true, false, Option, None, Some, Result, Ok, Err}
 use Rattle.std.specs.List.{All}
 use Rattle.std.specs.declared.io.Error.{Error}
 use Rattle.redux_buffer.specs.Faults.{IsInterrupt, OnlyInterrupts}
-use Rattle.forward.specs.Filter.{AsksOnce, FilterRules, FlushesOnce, Moves, StaysOpen}
+use Rattle.forward.specs.Filter.{AsksOnce, FilterRules, FlushesOnce, Moves, StaysOpen, StaysSent}
 use Rattle.forward.specs.Forward.{Forwarded, NoneFailed, StopsBy, flushed_last}
 use Rattle.forward.specs.Link.{Ask, AsksAlong, Goes, IsTurn, Linked, states_of}
 use Rattle.forward.specs.Streams.{ReadGaveUp}
@@ -76,12 +76,22 @@ module _ {T W : Type 0} (rules : FilterRules T W) where
   OnTrue (Ok false) fact = Unit {0}
   OnTrue (Err cause) fact = Unit {0}
 
+  -- nothing was flushed, and where all had been sent it still is
+  abbrev pub IsQuiet : T → T → Type 0
+  IsQuiet s t = ((rules.written t).writes.flushes ≡ (rules.written s).writes.flushes) × StaysSent rules s t
+
+  -- something was taken in; or a payload was dropped quietly, or so that all is sent
+  abbrev pub GoesAhead : T → T → Type 0
+  GoesAhead s t = (rules.taken s < rules.taken t) ⊎ (rules.drops × (IsQuiet s t ⊎ rules.sent t))
+
   -- what is done for one payload
   pub record ForwardsNext (s : Linked T) (answer : Result Bool (Cause W)) (t : Linked T) : Type 0 where
     pub goes : Goes rules (AskedFrom s.filter) (flushed_next answer) s t
     pub once : AsksOnce rules s.filter t.filter
     pub flushes : FlushesOnce rules s.filter t.filter
-    pub more : OnTrue answer (rules.taken s.filter < rules.taken t.filter)
+    pub quiet : rules.drops → rules.sent s.filter
+        → (rules.written t.filter).writes.flushes ≡ (rules.written s.filter).writes.flushes
+    pub more : OnTrue answer (GoesAhead s.filter t.filter)
     pub received : length (rules.written s.filter).writes.received ≤ length (rules.written t.filter).writes.received
     pub ready : rules.ready t.filter
     pub answers : NextAnswers 0 s.filter answer t.filter

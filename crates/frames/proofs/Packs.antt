@@ -13,10 +13,10 @@ use Rattle.line_reader.specs.NextLineLaws.{IsHanded-fits, NextLine-open, NextOpe
 use Rattle.line_reader.specs.TextLaws.{lines_of}
 use Rattle.line_reader.specs.declared.error.LineError.TheVariants as error
 use Rattle.piece_filter.specs.PieceRuns.{Over, all_received}
-use Rattle.piece_filter.specs.Pieces.{HasEnded, IsReady, PiecesEnd}
+use Rattle.piece_filter.specs.Pieces.{HasEnded, IsReady, Keeps, PiecesEnd}
 use Rattle.piece_filter.specs.PiecesCalls as pieces
-use Rattle.piece_filter.specs.PiecesLaws.{whole_text}
-use Rattle.frames.specs.Words.{All, AllSent, Asks, bytes_at, Error, error_kind, Fits, ForwardAnswers, GaveNothing, Grammar, HasLines, HasPieces, IsLent, IsLine, IsOpen, IsPieces, IsUnended, lined, LineState, MetNoFault, OverCount, RanDry, rest, room_for, RunError, Span, Stopped, StreamLog, with_ends}
+use Rattle.piece_filter.specs.PiecesLaws.{coded_all, whole_text}
+use Rattle.frames.specs.Words.{All, AllSent, Asks, bytes_at, Error, error_kind, Fits, ForwardAnswers, frame, frames, GaveNothing, Grammar, HasLines, HasPieces, IsLent, IsLine, IsOpen, IsPieces, IsUnended, lined, LineState, MetNoFault, OverCount, RanDry, rest, room_for, RunError, Span, Stopped, StreamLog, with_ends}
 use Rattle.frames.specs.Ending.{IsOutcome}
 use Rattle.frames.specs.Pack.{PackedFirst, PackedLines, PackRan, Packs}
 use Rattle.frames.specs.Packing.{HeldFits, NoLine, packing, packing_rules, TakesLines}
@@ -41,6 +41,9 @@ module _ {R W : Type 0} (remaining : R → Option (List ℕ)) {s : Packing R W} 
   abbrev after : Option Span → Packing R W
   after h = record s { source = m; held = h }
 
+  abbrev kept : (h : Option Span) → Keeps packing s (after h)
+  kept h = record { target = refl; service = refl; sent = λ sent. sent }
+
   opened : (answer : NextAnswer) → NextLine remaining s.source answer m → NextOpen remaining s.source answer m
   opened answer = NextLine-open remaining s.source m answer ready.also.open'
 
@@ -56,7 +59,7 @@ module _ {R W : Type 0} (remaining : R → Option (List ℕ)) {s : Packing R W} 
       let payload = bytes_at span m.pieces.reader.block.bytes in
       let next = (opened (Ok (Some payload)) line).0 in
       let fits = IsHanded-fits s.source.pieces.decoder.max s.source.pieces m.pieces payload next.bytes next.answers.1 in
-      pieces.asked_more remaining packing_sound ready (after (Some span)) lacks refl
+      pieces.asked_more remaining packing ready (after (Some span)) lacks (kept (Some span))
       (lines (Ok (Some payload)) line (Some span) (omega (arith, fits.fits, ap (λ d. d.max) next.went.decoder)))
       going span refl lent next
 
@@ -66,7 +69,7 @@ module _ {R W : Type 0} (remaining : R → Option (List ℕ)) {s : Packing R W} 
 
   pub asked_none : NextLine remaining s.source (Ok None) m
       → Asks (packing_rules remaining) s (Ok false) (after s.held)
-  asked_none line = pieces.asked_none remaining packing_sound ready (after s.held) lacks refl
+  asked_none line = pieces.asked_none remaining packing ready (after s.held) lacks (kept s.held)
       (lines_none (Ok None) line) going lacks (opened (Ok None) line).0
 
   pub asked_long : (n : ℕ) → NextLine remaining s.source (Err (error.TooLong n)) m
@@ -74,7 +77,7 @@ module _ {R W : Type 0} (remaining : R → Option (List ℕ)) {s : Packing R W} 
   asked_long n line =
       let next = (opened (Err (error.TooLong n)) line).0 in
       let long = NextPiece-long remaining s.source.pieces.decoder.max s.source.pieces m.pieces (record { 0 = n }) next in
-      pieces.asked_wrong remaining packing_sound ready (after s.held) lacks refl
+      pieces.asked_wrong remaining packing ready (after s.held) lacks (kept s.held)
       (lines_none (Err (error.TooLong n)) line) going lacks (record { 0 = n }) next TooLong
       (subst (λ d. BeginsTooLong d.max (rest m.pieces)) (sym next.went.decoder) long.0, next.answers.2)
 
@@ -82,7 +85,7 @@ module _ {R W : Type 0} (remaining : R → Option (List ℕ)) {s : Packing R W} 
   module _ (e : Error) (line : NextLine remaining s.source (Err (error.Io e)) m) where
     pub asked_idle : length (rest m.pieces) ≤ length (rest s.source.pieces)
         → Asks (packing_rules remaining) s (Err (ask.Io e)) (after s.held)
-    asked_idle = pieces.asked_idle remaining packing_sound ready (after s.held) lacks refl
+    asked_idle = pieces.asked_idle remaining packing ready (after s.held) lacks (kept s.held)
         (lines_none (Err (error.Io e)) line) going lacks e (opened (Err (error.Io e)) line).0
 
     pub asked_behind : length (rest s.source.pieces) < length (rest m.pieces)
@@ -90,7 +93,7 @@ module _ {R W : Type 0} (remaining : R → Option (List ℕ)) {s : Packing R W} 
     asked_behind came =
         let next = (opened (Err (error.Io e)) line).0 in
         let fits = (open_unended s.source.pieces.decoder.max (rest m.pieces) next.answers.1).fits in
-        pieces.asked_behind remaining packing_sound ready (after s.held) lacks refl
+        pieces.asked_behind remaining packing ready (after s.held) lacks (kept s.held)
         (lines_none (Err (error.Io e)) line) going lacks e next came (omega (arith, fits))
 
 -- lines, each with its end, are a text
@@ -130,6 +133,11 @@ module _ {R W : Type 0} (remaining : R → Option (List ℕ)) (s t : Packing R W
   abbrev Ran : Result (Unit {0}) RunError → Type 0
   Ran = PackRan max s.source.pieces.reader.log t.source.pieces.reader.log s.target.writer.log t.target.writer.log
 
+  replied : (handed p : List (List ℕ)) (over : Went handed p)
+      → s.target.writer.log.writes.received ++ over.reply ≡ s.target.writer.log.writes.received ++ frames p
+  replied handed p over =
+      ap (λ l. s.target.writer.log.writes.received ++ l) (coded_all frame tt tt p over.reply over.answers)
+
   dry : HasEnded packing s ⊎ RanDry s.source.pieces.reader t.source.pieces.reader
       → GaveNothing s.source.pieces.reader.log t.source.pieces.reader.log
   dry (inl before) = absurd (true≢false (sym before ∙ going))
@@ -149,7 +157,7 @@ module _ {R W : Type 0} (remaining : R → Option (List ℕ)) (s t : Packing R W
       given = over.given ∙ ap (λ l. s.source.pieces.reader.log.reads.given ++ (over.bytes ++ l)) end.0
           ∙ ap (λ l. s.source.pieces.reader.log.reads.given ++ l) (append-nil over.bytes);
       ended = dry end.1;
-      received = all_received remaining packing s t fresh p p over sent;
+      received = all_received remaining packing s t fresh p p over sent ∙ replied p p over;
       flushed = sent.flushed;
     },
     met,
@@ -170,7 +178,7 @@ module _ {R W : Type 0} (remaining : R → Option (List ℕ)) (s t : Packing R W
         fit = all.2;
         such = such;
         given = over.given ∙ ap (λ l. s.source.pieces.reader.log.reads.given ++ (l ++ rest t.source.pieces)) all.0;
-        received = all_received remaining packing s t fresh p p over sent;
+        received = all_received remaining packing s t fresh p p over sent ∙ replied p p over;
         flushed = sent.flushed;
       }
 
@@ -205,7 +213,7 @@ module _ {R W : Type 0} (remaining : R → Option (List ℕ)) (s t : Packing R W
             fit = fit;
             whole = whole;
             given = over.given ∙ ap (λ l. given ++ (l ++ left)) equal ∙ ap (λ l. given ++ l) (append_assoc text more left);
-            received = over.received;
+            received = over.received ∙ replied (p ++ lost) p over;
           },
           refl,
         )
@@ -234,7 +242,7 @@ module _ {R W : Type 0} (remaining : R → Option (List ℕ)) (s t : Packing R W
 
   pub packed : (answer : Result ℕ (Stopped RunError)) (outcome : Result (Unit {0}) RunError) → IsOutcome answer outcome
       → ForwardAnswers (packing_rules remaining) s answer t → Ran outcome
-  packed = outcome_ran remaining packing s t fresh Ran ended_ran wrong_ran
+  packed = outcome_ran remaining packing s t fresh packing_sound (λ e refused. refused) Ran ended_ran wrong_ran
       (λ p over open' still sent e failed. (
         some_lines (IsUnended max) p over still sent
             (open_unended max (rest t.source.pieces)

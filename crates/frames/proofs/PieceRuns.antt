@@ -1,16 +1,16 @@
 -- What the outcome of a whole run over pieces comes to.
-use Rattle.std.proofs.Common.{ℕ, List, ◌++◌, length, false, Option, Result, Ok, Err, ◌≡◌, sym, subst, arith}
+use Rattle.std.proofs.Common.{ℕ, inl, inr, List, ◌++◌, length, false, Option, Result, Ok, Err, ◌≡◌, sym, subst, arith}
 use Rattle.forward.specs.declared.error.Cause.{Cause}
 use Rattle.forward.specs.declared.error.Cause.TheVariants as cause
 use Rattle.piece_filter.specs.PieceRuns.{Over, all_over, over_held, over_lost}
-use Rattle.piece_filter.specs.Pieces.{PiecesEnd, Piecewise, grammar_of, held_of, piece_rules}
+use Rattle.piece_filter.specs.Pieces.{IsSound, PiecesEnd, Piecewise, grammar_of, held_of, piece_rules}
 use Rattle.frames.specs.Words.{Error, IsOpen, rest, FilterRules, ForwardAnswers, NoneFailed, StopsBy, Stopped, AllSent, OverCount, ReadFailed, SendFailed, RunError}
 use Rattle.frames.specs.Ending.{IsErrorOf, IsOutcome}
 use Rattle.frames.specs.declared.error.RunError.TheVariants.{Read, Write, Io}
 
 -- a run from empty buffers on that says so of each way to end says so of its outcome
-module _ {T R D X W : Type 0} (remaining : R → Option (List ℕ)) (f : Piecewise T R D X W RunError) (s t : T)
-    (fresh : (piece_rules remaining f).fresh s) where
+module _ {T R D X A W : Type 0} (remaining : R → Option (List ℕ)) (f : Piecewise T R D X A W RunError) (s t : T)
+    (fresh : (piece_rules remaining f).fresh s) (sound : IsSound f) (never : (e : Error) → ¬ (f.refused e t)) where
   abbrev rules : FilterRules T RunError
   rules = piece_rules remaining f
 
@@ -31,10 +31,11 @@ module _ {T R D X W : Type 0} (remaining : R → Option (List ℕ)) (f : Piecewi
       → OverCount e (length p) (rules.read s) (rules.read t) (rules.written s) (rules.written t) → Ran (Err (Io e))) where
     stopped : (count : ℕ) (why : Cause RunError) (e : RunError) → StopsBy rules count s why t → IsErrorOf why e → Ran (Err e)
     stopped count (cause.Wrong why) e (over, (none, end), sent, met) is = subst (λ x. Ran (Err x)) (sym is)
-        (wrong over.payloads (all_over remaining f s t fresh count over none) why end sent met)
+        (wrong over.payloads (all_over remaining f s t fresh count over none) why end (sound.all_sent t sent) met)
     stopped count (cause.Read fault) e (over, (none, open', going), sent, failed) is = subst (λ x. Ran (Err x)) (sym is)
-        (read over.payloads (all_over remaining f s t fresh count over none) open' going sent fault failed)
-    stopped count (cause.Write fault) e (first, failed) is = subst (λ x. Ran (Err x)) (sym is)
+        (read over.payloads (all_over remaining f s t fresh count over none) open' going (sound.all_sent t sent) fault failed)
+    stopped count (cause.Write fault) e (first, inr refused) is = absurd (never fault refused.1)
+    stopped count (cause.Write fault) e (first, inl failed) is = subst (λ x. Ran (Err x)) (sym is)
         (write first.payloads (first.lost ++ held_of f t) (over_lost remaining f s t fresh count first) fault failed)
     stopped count cause.Count e (over, large, met) is = subst (λ x. Ran (Err x)) (sym is.2)
         (full over.payloads (held_of f t) (over_held remaining f s t fresh count over) is.0
@@ -43,7 +44,7 @@ module _ {T R D X W : Type 0} (remaining : R → Option (List ℕ)) (f : Piecewi
     pub outcome_ran : (answer : Result ℕ (Stopped RunError)) (outcome : Result (Unit {0}) RunError) → IsOutcome answer outcome
         → ForwardAnswers rules s answer t → Ran outcome
     outcome_ran (Ok count) (Ok _) is (over, (none, end), sent, met) =
-        ended over.payloads (all_over remaining f s t fresh count over none) end sent met
+        ended over.payloads (all_over remaining f s t fresh count over none) end (sound.all_sent t sent) met
     outcome_ran (Ok count) (Err e) is p = absurd is
     outcome_ran (Err stopped) (Ok _) is p = absurd is
     outcome_ran (Err halt) (Err e) is p = stopped halt.count halt.cause e p is

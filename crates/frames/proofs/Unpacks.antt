@@ -12,9 +12,10 @@ use Rattle.frame_reader.specs.declared.error.FrameError.TheVariants as error
 use Rattle.frame_reader.specs.declared.frame.FrameFault.TheVariants as Fault
 use Rattle.frame_reader.specs.declared.frame.Frames.{Frames}
 use Rattle.piece_filter.specs.PieceRuns.{Over, all_received}
-use Rattle.piece_filter.specs.Pieces.{HasEnded, IsReady}
+use Rattle.piece_filter.specs.Pieces.{HasEnded, IsReady, Keeps}
 use Rattle.piece_filter.specs.PiecesCalls as pieces
-use Rattle.frames.specs.Words.{All, AllSent, Asks, bytes_at, Error, error_kind, Fits, ForwardAnswers, framed, frames, GaveNothing, IsCutShort, IsLent, IsOpen, MetNoFault, RanDry, ReaderState, rest, RunError, Span, Stopped, StreamLog}
+use Rattle.piece_filter.specs.PiecesLaws.{coded_all}
+use Rattle.frames.specs.Words.{All, AllSent, Asks, bytes_at, Error, error_kind, Fits, ForwardAnswers, framed, frames, GaveNothing, IsCutShort, IsLent, IsOpen, MetNoFault, RanDry, ReaderState, rest, RunError, Span, Stopped, StreamLog, with_end, with_ends}
 use Rattle.frames.specs.Ending.{IsOutcome}
 use Rattle.frames.specs.Unpack.{Unpacked, UnpackedFirst, UnpackRan, Unpacks}
 use Rattle.frames.specs.Unpacking.{NoFrame, TakesFrames, unpacking, unpacking_rules}
@@ -47,6 +48,9 @@ module _ {R W : Type 0} (remaining : R → Option (List ℕ)) {s : Unpacking R W
   abbrev after : Option Span → Unpacking R W
   after h = record s { source = m; held = h }
 
+  abbrev kept : (h : Option Span) → Keeps unpacking s (after h)
+  kept h = record { target = refl; service = refl; sent = λ sent. sent }
+
   takes_then : (answer : NextAnswer) → Next remaining s.source answer m → (h : Option Span) → TakesFrames (after h)
   takes_then answer next h = frames_on (after h) ready.also next.piece.went.decoder
       (NextPiece-reads remaining s.source m (piece_answer answer) next.piece).told refl refl
@@ -55,17 +59,17 @@ module _ {R W : Type 0} (remaining : R → Option (List ℕ)) {s : Unpacking R W
       → Next remaining s.source (Ok (Some (bytes_at span m.reader.block.bytes))) m
       → Asks (unpacking_rules remaining) s (Ok true) (after (Some span))
   asked_more span lent next =
-      pieces.asked_more remaining unpacking_sound ready (after (Some span)) lacks refl
+      pieces.asked_more remaining unpacking ready (after (Some span)) lacks (kept (Some span))
       (takes_then (Ok (Some (bytes_at span m.reader.block.bytes))) next (Some span)) ready.also.told span refl lent next.piece
 
   -- none came
   pub asked_none : Next remaining s.source (Ok None) m → Asks (unpacking_rules remaining) s (Ok false) (after s.held)
-  asked_none next = pieces.asked_none remaining unpacking_sound ready (after s.held) lacks refl
+  asked_none next = pieces.asked_none remaining unpacking ready (after s.held) lacks (kept s.held)
       (takes_then (Ok None) next s.held) ready.also.told lacks next.piece
 
   pub asked_long : (len : ℕ) → Next remaining s.source (Err (error.TooLong len)) m
       → Asks (unpacking_rules remaining) s (Err (ask.Wrong TooLong)) (after s.held)
-  asked_long len next = pieces.asked_wrong remaining unpacking_sound ready (after s.held) lacks refl
+  asked_long len next = pieces.asked_wrong remaining unpacking ready (after s.held) lacks (kept s.held)
       (takes_then (Err (error.TooLong len)) next s.held) ready.also.told lacks (Fault.TooLong len) next.piece TooLong
       (subst (λ d. BeginsTooLong d.max (rest m)) (sym next.piece.went.decoder)
       (record { len = len; above = next.leaves.0; begins = next.leaves.1 }))
@@ -77,7 +81,7 @@ module _ {R W : Type 0} (remaining : R → Option (List ℕ)) {s : Unpacking R W
         | inl wrong ↦ (let odd : Fault.Truncated have ≡ Fault.TooLong wrong.0.0.len = wrong.0.1 in cc)
         | inr cut ↦ MetEnd-once s.source m ready.also.told cut.3
       ] in
-      pieces.asked_wrong remaining unpacking_sound ready (after s.held) lacks refl
+      pieces.asked_wrong remaining unpacking ready (after s.held) lacks (kept s.held)
       (takes_then (Err (error.Truncated have)) next s.held) ready.also.told lacks (Fault.Truncated have) next.piece Truncated
       (subst (λ d. IsCutShort d.max (rest m)) (sym next.piece.went.decoder) next.leaves.1, omega (arith, once))
 
@@ -85,12 +89,12 @@ module _ {R W : Type 0} (remaining : R → Option (List ℕ)) {s : Unpacking R W
   module _ (e : Error) (next : Next remaining s.source (Err (error.Io e)) m) where
     pub asked_idle : length (rest m) ≤ length (rest s.source)
         → Asks (unpacking_rules remaining) s (Err (ask.Io e)) (after s.held)
-    asked_idle = pieces.asked_idle remaining unpacking_sound ready (after s.held) lacks refl
+    asked_idle = pieces.asked_idle remaining unpacking ready (after s.held) lacks (kept s.held)
         (takes_then (Err (error.Io e)) next s.held) ready.also.told lacks e next.piece
 
     pub asked_behind : length (rest s.source) < length (rest m)
         → Asks (unpacking_rules remaining) s (Err (ask.IoBehind e)) (after s.held)
-    asked_behind came = pieces.asked_behind remaining unpacking_sound ready (after s.held) lacks refl
+    asked_behind came = pieces.asked_behind remaining unpacking ready (after s.held) lacks (kept s.held)
         (takes_then (Err (error.Io e)) next s.held) ready.also.told lacks e next.piece came
         (few s.source.decoder.max (rest m) next.leaves)
 
@@ -106,6 +110,11 @@ module _ {R W : Type 0} (remaining : R → Option (List ℕ)) (s t : Unpacking R
   abbrev Ran : Result (Unit {0}) RunError → Type 0
   Ran = UnpackRan max s.source.reader.log t.source.reader.log s.target.log t.target.log
 
+  replied : (handed p : List (List ℕ)) (over : Went handed p)
+      → s.target.log.writes.received ++ over.reply ≡ s.target.log.writes.received ++ with_ends p
+  replied handed p over =
+      ap (λ l. s.target.log.writes.received ++ l) (coded_all with_end tt tt p over.reply over.answers)
+
   -- no end is left to tell, so the pieces are whole
   whole : (handed p : List (List ℕ)) (over : Went handed p) → (over.bytes ≡ frames handed) × All (Fits max) handed
   whole handed p over = elim over.text [
@@ -119,7 +128,7 @@ module _ {R W : Type 0} (remaining : R → Option (List ℕ)) (s t : Unpacking R
     payloads = p;
     fit = (whole p p over).1;
     given = over.given ∙ ap (λ l. s.source.reader.log.reads.given ++ (l ++ rest t.source)) (whole p p over).0;
-    received = all_received remaining unpacking s t fresh p p over sent;
+    received = all_received remaining unpacking s t fresh p p over sent ∙ replied p p over;
     flushed = sent.flushed;
   }
 
@@ -150,12 +159,12 @@ module _ {R W : Type 0} (remaining : R → Option (List ℕ)) (s t : Unpacking R
     unsent = t.target.block.bytes;
     fit = (whole (p ++ lost) p over).1;
     given = over.given ∙ ap (λ l. s.source.reader.log.reads.given ++ (l ++ rest t.source)) (whole (p ++ lost) p over).0;
-    received = over.received;
+    received = over.received ∙ replied (p ++ lost) p over;
   }
 
   pub unpacked_all : (answer : Result ℕ (Stopped RunError)) (outcome : Result (Unit {0}) RunError) → IsOutcome answer outcome
       → ForwardAnswers (unpacking_rules remaining) s answer t → Ran outcome
-  unpacked_all = outcome_ran remaining unpacking s t fresh Ran
+  unpacked_all = outcome_ran remaining unpacking s t fresh unpacking_sound (λ e refused. refused) Ran
       (λ p over end sent met. (
         subst (Unpacked max s.source.reader.log t.source.reader.log s.target.log t.target.log) end.0 (unpacked p over sent),
         dry end.1,

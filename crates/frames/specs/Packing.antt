@@ -3,9 +3,9 @@ use Rattle.std.specs.Prelude.{◌≡◌, ℕ, ◌≤◌, List, length, false, Op
 use Rattle.codec.specs.declared.TooLong as piece
 use Rattle.line_reader.specs.Lines.{BeginsTooLong}
 use Rattle.line_reader.specs.declared.line.Lines.{Lines}
-use Rattle.frames.specs.Words.{Span, bytes_at, ReaderState, rest, FilterRules, frame, lined, RunError}
+use Rattle.frames.specs.Words.{Span, bytes_at, ReaderState, rest, FilterRules, AllSent, frame, lined, RunError}
 use Rattle.frames.specs.Pack.{IsDue}
-use Rattle.piece_filter.specs.Pieces.{Piecewise, piece_rules}
+use Rattle.piece_filter.specs.Pieces.{Coded, Piecewise, piece_rules}
 use Rattle.frames.specs.declared.error.RunError.TheVariants.{TooLong}
 use Rattle.frames.specs.declared.packing.Packing.{Packing}
 
@@ -25,16 +25,20 @@ abbrev pub NoLine : {R : Type 0} → RunError → ReaderState R Lines → Type 0
 NoLine TooLong m = BeginsTooLong m.decoder.max (rest m) × (m.ended ≡ false)
 NoLine other m = ⊥
 
-abbrev pub packing : {R W : Type 0} → Piecewise (Packing R W) R Lines piece.TooLong W RunError
+abbrev pub packing : {R W : Type 0} → Piecewise (Packing R W) R Lines piece.TooLong (Unit {0}) W RunError
 packing = record {
   source = λ s. s.source.pieces;
   held = λ s. s.held;
   target = λ s. s.target.writer;
+  service = λ s. tt;
   also = λ s. TakesLines s;
   grammar = λ d. lined d.max;
-  coded = frame;
-  due = λ d. IsDue d.max;
+  answers = Coded frame;
+  due = λ d a. IsDue d.max;
   wrong = λ s why t. NoLine why t.source.pieces;
+  drops = ⊥;
+  sent = λ s. AllSent s.target.writer;
+  refused = λ e t. ⊥;
 }
 
 abbrev pub packing_rules : {R W : Type 0} → (R → Option (List ℕ)) → FilterRules (Packing R W) RunError

@@ -1,12 +1,12 @@
 -- Lines are taken in as frames, and what is due of whole lines is their frames.
-use Rattle.std.proofs.Common.{◌≡◌, ℕ, List, [], ◌∷◌, ◌++◌, length, Option, refl, ap, ◌∙◌, arith, length-append}
+use Rattle.std.proofs.Common.{◌≡◌, ◌<◌, ℕ, List, [], ◌∷◌, ◌++◌, length, Option, ap, ◌∙◌, arith, length-append}
 use Rattle.std.proofs.lemmas.List.Elements.{All-weaker}
 use Rattle.line_reader.specs.NextLineLaws.{open_unended}
 use Rattle.line_reader.specs.TextLaws.{all_plain, fits_of}
-use Rattle.frames.specs.Words.{All, HasPieces, IsPieces, IsLawful, Fits, header, FitsLine, IsLine, with_end, with_ends, lined}
+use Rattle.frames.specs.Words.{All, HasPieces, IsPieces, IsLawful, Fits, frame, frames, header, FitsLine, IsLine, with_end, with_ends, lined}
 use Rattle.frames.specs.Packing.{packing, packing_rules}
 use Rattle.piece_filter.specs.Pieces.{IsSound}
-use Rattle.piece_filter.specs.PiecesLaws.{piece_lawful, whole_text}
+use Rattle.piece_filter.specs.PiecesLaws.{coded_all, piece_lawful, whole_text}
 
 -- lines that are pieces have frames
 pub all_fit : (max : ℕ) (bytes : List ℕ) (lines : List (List ℕ)) → HasPieces (lined max) bytes lines → All (Fits max) lines
@@ -24,11 +24,14 @@ all_ended max bytes lines is =
     whole bytes (line ∷ lines) (more, starts, is) =
         starts.equal ∙ ap (λ l. l ++ more) starts.is.equal ∙ ap (λ l. with_end line ++ l) (whole more lines is)
 
+-- a frame has a byte
+pub some_frame : (line : List ℕ) → 0 < length (frames (line ∷ []))
+some_frame line = omega (arith, length-append (frame line) [], length-append (header (length line)) line)
+
 pub packing_sound : {R W : Type 0} → IsSound (packing {R = R} {W = W})
 packing_sound = record {
-  some = λ line. omega (arith, length-append (header (length line)) line);
   wrong_after = λ a b c why less wrong. wrong;
-  is_due = λ d bytes left lines is open'.
+  is_due = λ d a b bytes left reply lines is open' answers.
       let all = all_ended d.max bytes lines is in
       record {
         lines = lines;
@@ -37,8 +40,9 @@ packing_sound = record {
         plain = all.1;
         fit = all.2;
         no_more = open_unended d.max left open';
-        frames_are = refl;
+        frames_are = coded_all frame a b lines reply answers;
       };
+  all_sent = λ s sent. sent;
 }
 
 pub packing_lawful : {R W : Type 0} (remaining : R → Option (List ℕ)) → IsLawful (packing_rules {R = R} {W = W} remaining)

@@ -6,8 +6,8 @@ use Rattle.buffer_redux.specs.declared.policy.StdPolicy.{StdPolicy}
 use Rattle.frame_reader.specs.Frames.{BeginsTooLong}
 use Rattle.frame_reader.specs.declared.frame.FrameFault.{FrameFault}
 use Rattle.frame_reader.specs.declared.frame.Frames.{Frames}
-use Rattle.frames.specs.Words.{RanDry, ReaderState, rest, FilterRules, framed, IsCutShort, with_end, RunError}
-use Rattle.piece_filter.specs.Pieces.{Piecewise, piece_rules}
+use Rattle.frames.specs.Words.{RanDry, ReaderState, rest, FilterRules, AllSent, framed, IsCutShort, with_end, RunError}
+use Rattle.piece_filter.specs.Pieces.{Coded, Piecewise, piece_rules}
 use Rattle.frames.specs.Unpack.{IsDue}
 use Rattle.frames.specs.declared.error.RunError.TheVariants.{TooLong, Truncated}
 use Rattle.frames.specs.declared.unpacking.Unpacking.{Unpacking}
@@ -28,16 +28,20 @@ NoFrame s TooLong t = BeginsTooLong t.decoder.max (rest t)
 NoFrame s Truncated t = IsCutShort t.decoder.max (rest t) × RanDry s.reader t.reader
 NoFrame s other t = ⊥
 
-abbrev pub unpacking : {R W : Type 0} → Piecewise (Unpacking R W) R Frames FrameFault W RunError
+abbrev pub unpacking : {R W : Type 0} → Piecewise (Unpacking R W) R Frames FrameFault (Unit {0}) W RunError
 unpacking = record {
   source = λ s. s.source;
   held = λ s. s.held;
   target = λ s. s.target;
+  service = λ s. tt;
   also = λ s. TakesFrames s;
   grammar = λ d. framed d.max;
-  coded = with_end;
-  due = λ d. IsDue d.max;
+  answers = Coded with_end;
+  due = λ d a. IsDue d.max;
   wrong = λ s why t. NoFrame s.source why t.source;
+  drops = ⊥;
+  sent = λ s. AllSent s.target;
+  refused = λ e t. ⊥;
 }
 
 abbrev pub unpacking_rules : {R W : Type 0} → (R → Option (List ℕ)) → FilterRules (Unpacking R W) RunError

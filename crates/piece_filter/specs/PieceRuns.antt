@@ -6,11 +6,11 @@ use Rattle.piece_reader.specs.PieceReader.{rest}
 use Rattle.forward.specs.Filter.{FilterRules, Moves}
 use Rattle.forward.specs.Forward.{Forwarded, ForwardedFirst}
 use Rattle.programs.specs.Streams.{AllSent}
-use Rattle.piece_filter.specs.Pieces.{HasEnded, IsText, Piecewise, grammar_of, held_of, made, piece_rules}
+use Rattle.piece_filter.specs.Pieces.{AnswersAll, HasEnded, IsText, Piecewise, grammar_of, held_of, piece_rules}
 use Rattle.piece_filter.specs.PiecesLaws.{given_since, none_held}
 
 -- from empty buffers on
-module _ {T R D X W E : Type 0} (remaining : R → Option (List ℕ)) (f : Piecewise T R D X W E) (s t : T)
+module _ {T R D X A W E : Type 0} (remaining : R → Option (List ℕ)) (f : Piecewise T R D X A W E) (s t : T)
     (fresh : (piece_rules remaining f).fresh s) where
   abbrev rules : FilterRules T E
   rules = piece_rules remaining f
@@ -21,14 +21,15 @@ module _ {T R D X W E : Type 0} (remaining : R → Option (List ℕ)) (f : Piece
     pub text : IsText (grammar_of f s) bytes handed (f.source t).ended
     pub given : (f.source t).reader.log.reads.given
         ≡ (f.source s).reader.log.reads.given ++ (bytes ++ rest (f.source t))
-    pub received : (f.target t).log.writes.received ++ (f.target t).block.bytes
-        ≡ (f.target s).log.writes.received ++ made f taken
+    pub reply : List ℕ
+    pub answers : AnswersAll f.answers (f.service s) taken reply (f.service t)
+    pub received : (f.target t).log.writes.received ++ (f.target t).block.bytes ≡ (f.target s).log.writes.received ++ reply
     pub decoder : (f.source t).decoder ≡ (f.source s).decoder
     pub dry : HasEnded f t → HasEnded f s ⊎ RanDry (f.source s).reader (f.source t).reader
 
-  -- all of these were received
-  pub all_received : (handed taken : List (List ℕ)) → Over handed taken → AllSent (f.target t)
-      → (f.target t).log.writes.received ≡ (f.target s).log.writes.received ++ made f taken
+  -- all that was written for these was received
+  pub all_received : (handed taken : List (List ℕ)) (over : Over handed taken) → AllSent (f.target t)
+      → (f.target t).log.writes.received ≡ (f.target s).log.writes.received ++ over.reply
   all_received handed taken over sent =
       let received = (f.target t).log.writes.received in
       sym (append-nil received) ∙ ap (λ l. received ++ l) (sym sent.empty) ∙ over.received
@@ -42,7 +43,9 @@ module _ {T R D X W E : Type 0} (remaining : R → Option (List ℕ)) (f : Piece
         text = subst (λ l. IsText (grammar_of f s) hands.bytes l (f.source t).ended)
             (sym (ap (λ l. l ++ hands.got) (none_held remaining f s fresh.2)) ∙ hands.order ∙ is) hands.text;
         given = given_since (f.source s) (f.source t) hands.bytes fresh.0 hands.went.hands;
-        received = WritesInOrder-fresh (f.target s) (f.target t) (made f taken) fresh.1 moves.takes;
+        reply = moves.takes.reply;
+        answers = moves.takes.answers;
+        received = WritesInOrder-fresh (f.target s) (f.target t) moves.takes.reply fresh.1 moves.takes.in_order;
         decoder = hands.went.decoder;
         dry = hands.dry;
       }

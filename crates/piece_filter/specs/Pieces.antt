@@ -1,5 +1,6 @@
 -- A filter that hands out the payloads of pieces, one by one.
-use Rattle.std.specs.Prelude.{◌≡◌, ℕ, ◌-◌, ◌<◌, ◌≤◌, ◌⊎◌, List, [], ◌∷◌, ◌++◌, length, Bool, true, false, Option, None, Some, Result, Ok, Err, flat_map}
+use Rattle.std.specs.Prelude.{◌≡◌, ℕ, ◌-◌, ◌≤◌, ◌⊎◌, List, [], ◌∷◌, ◌++◌, length, Bool, true, false, Option, None, Some, Result, Ok, Err}
+use Rattle.std.specs.declared.io.Error.{Error}
 use Rattle.buffer_redux.specs.BufReader.{RanDry}
 use Rattle.buffer_redux.specs.BufWriter.{WritesInOrder}
 use Rattle.buffer_redux.specs.Buffered.{Buffered}
@@ -15,20 +16,36 @@ use Rattle.forward.specs.Filter.{FilterRules}
 use Rattle.programs.specs.Streams.{AllSent}
 use Rattle.programs.specs.TakenIn.{taken_in}
 
--- the parts of such a filter: a reader, the place of a payload that is held until it is passed, and a writer; which bytes are
--- pieces, and what is made of their payloads
-pub record Piecewise (T R D X W E : Type 0) : Type 1 where
+-- the parts of such a filter: a reader, the place of a payload that is held until it is passed, and a writer; what answers
+-- payloads; which bytes are pieces, and what becomes of their payloads
+pub record Piecewise (T R D X A W E : Type 0) : Type 1 where
   pub source : T → ReaderState R D
   pub held : T → Option Span
   pub target : T → Buffered W StdPolicy
+  pub service : T → A
   -- what each call wants, and leaves, beside what all such filters do
   pub also : T → Type 0
   pub grammar : D → Grammar X
-  -- what becomes of a payload, and what is due of bytes
-  pub coded : List ℕ → List ℕ
-  pub due : D → List ℕ → List ℕ → Type 0
+  -- what is written for a payload, and what it makes of what answers; and what is due of bytes
+  pub answers : A → List ℕ → List ℕ → A → Type 0
+  pub due : D → A → List ℕ → List ℕ → Type 0
   -- what comes next is no piece
   pub wrong : T → E → T → Type 0
+  -- nothing may be written for a payload; all that was is known to be sent; and why else a payload was refused
+  pub drops : Type 0
+  pub sent : T → Type 0
+  pub refused : Error → T → Type 0
+
+-- these payloads were answered, one after another
+abbrev pub AnswersAll : {A : Type 0} → (A → List ℕ → List ℕ → A → Type 0) → A → List (List ℕ) → List ℕ → A → Type 0
+AnswersAll Answers a [] reply b = (reply ≡ []) × (b ≡ a)
+AnswersAll {A} Answers a (payload ∷ payloads) reply b =
+    (between : A) × (first : List ℕ) × (more : List ℕ) × Answers a payload first between
+    × AnswersAll Answers between payloads more b × (reply ≡ first ++ more)
+
+-- each payload is answered so, whatever came before
+abbrev pub Coded : (List ℕ → List ℕ) → Unit {0} → List ℕ → List ℕ → Unit {0} → Type 0
+Coded coded a payload reply b = reply ≡ coded payload
 
 -- the payload that is held, where one is
 abbrev pub held_at : {R D : Type 0} → ReaderState R D → Option Span → List (List ℕ)
@@ -44,12 +61,9 @@ CanShow g m None = Unit {0}
 abbrev pub IsText : {X : Type 0} → Grammar X → List ℕ → List (List ℕ) → Bool → Type 0
 IsText g bytes payloads ended = IsPieces g bytes payloads [] ⊎ (HasPieces g bytes payloads × (ended ≡ true))
 
-module _ {T R D X W E : Type 0} (f : Piecewise T R D X W E) where
+module _ {T R D X A W E : Type 0} (f : Piecewise T R D X A W E) where
   abbrev pub grammar_of : T → Grammar X
   grammar_of s = f.grammar (f.source s).decoder
-
-  abbrev pub made : List (List ℕ) → List ℕ
-  made payloads = flat_map f.coded payloads
 
   abbrev pub held_of : T → List (List ℕ)
   held_of s = held_at (f.source s) (f.held s)
@@ -71,15 +85,27 @@ module _ {T R D X W E : Type 0} (f : Piecewise T R D X W E) where
       × (empties (f.source s).reader ≤ empties (f.source t).reader)
   PiecesEnd s (Err why) t = f.wrong s why t
 
-  -- a byte at least becomes of each payload; what is wrong stays so; and what is due of whole pieces is what becomes of them
+  -- what is wrong stays so; what is due of whole pieces is what becomes of them; and what is known to be sent was
   pub record IsSound : Type 0 where
-    pub some : (payload : List ℕ) → 0 < length (f.coded payload)
     pub wrong_after : (a b c : T) (why : E) → empties (f.source a).reader ≤ empties (f.source b).reader → f.wrong b why c
         → f.wrong a why c
-    pub is_due : (d : D) (bytes left : List ℕ) (p : List (List ℕ)) → IsPieces (f.grammar d) bytes p []
-        → IsOpen (f.grammar d) left → f.due d (bytes ++ left) (made p)
+    pub is_due : (d : D) (a b : A) (bytes left reply : List ℕ) (p : List (List ℕ)) → IsPieces (f.grammar d) bytes p []
+        → IsOpen (f.grammar d) left → AnswersAll f.answers a p reply b → f.due d a (bytes ++ left) reply
+    pub all_sent : (s : T) → f.sent s → AllSent (f.target s)
 
-module _ {T R D X W E : Type 0} (remaining : R → Option (List ℕ)) (f : Piecewise T R D X W E) where
+  -- what becomes of these payloads was taken in
+  pub record TakesPieces (s : T) (payloads : List (List ℕ)) (t : T) : Type 0 where
+    pub reply : List ℕ
+    pub answers : AnswersAll f.answers (f.service s) payloads reply (f.service t)
+    pub in_order : WritesInOrder (f.target s) reply (f.target t)
+
+  -- what writes, and what answers, were let be
+  pub record Keeps (s t : T) : Type 0 where
+    pub target : f.target t ≡ f.target s
+    pub service : f.service t ≡ f.service s
+    pub sent : f.sent s → f.sent t
+
+module _ {T R D X A W E : Type 0} (remaining : R → Option (List ℕ)) (f : Piecewise T R D X A W E) where
   -- these payloads are what was held, then what the reader handed out, but for what is held still
   pub record HandsPieces (s : T) (payloads : List (List ℕ)) (t : T) : Type 0 where
     pub bytes : List ℕ
@@ -96,12 +122,12 @@ module _ {T R D X W E : Type 0} (remaining : R → Option (List ℕ)) (f : Piece
     written = λ s. (f.target s).log;
     ready = λ s. IsReady f s;
     hands = HandsPieces;
-    takes = λ s payloads t. WritesInOrder (f.target s) (made f payloads) (f.target t);
+    takes = TakesPieces f;
     has = λ s. ¬ (f.held s ≡ None);
     lacks = λ s. f.held s ≡ None;
     waits = λ s.
         (f.held s ≡ None) × IsOpen (grammar_of f s) (rest (f.source s)) × ((f.source s).ended ≡ false);
-    sent = λ s. AllSent (f.target s);
+    sent = f.sent;
     taken = λ s. taken_in (f.target s);
     asks = λ s t. AskedWhere (IsOpen (grammar_of f s)) (f.source s) (f.source t)
         × ReadLogGrows (f.source s).reader.log.reads (f.source t).reader.log.reads;
@@ -109,5 +135,7 @@ module _ {T R D X W E : Type 0} (remaining : R → Option (List ℕ)) (f : Piece
     ends = λ s how t. (f.held t ≡ None) × PiecesEnd f s how t;
     closed = λ s. HasEnded f s;
     fresh = λ s. ((f.source s).reader.block.bytes ≡ []) × ((f.target s).block.bytes ≡ []) × (f.held s ≡ None);
-    due = λ s. f.due (f.source s).decoder;
+    due = λ s. f.due (f.source s).decoder (f.service s);
+    drops = f.drops;
+    refused = f.refused;
   }

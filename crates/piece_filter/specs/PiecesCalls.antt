@@ -1,5 +1,5 @@
 -- What the calls of a filter of pieces do.
-use Rattle.std.proofs.Common.{◌≡◌, ℕ, ◌+◌, ◌≤◌, ◌<◌, inl, inr, Bool, true, false, List, [], ◌∷◌, ◌++◌, length, Option, None, Some, Result, Ok, Err, refl, sym, ap, subst, ◌∙◌, arith, length-append}
+use Rattle.std.proofs.Common.{◌≡◌, ℕ, ◌+◌, ◌≤◌, ◌<◌, ◌⊎◌, inl, inr, Bool, true, false, List, [], ◌∷◌, ◌++◌, length, Option, None, Some, Result, Ok, Err, refl, sym, ap, subst, ◌∙◌, arith, length-append}
 use Rattle.std.proofs.lemmas.Bool.{true≢false}
 use Rattle.std.specs.declared.io.Error.{Error}
 use Rattle.buffer_redux.specs.BufWriter.{WasFlushed, WritesInOrder}
@@ -25,8 +25,8 @@ use Rattle.programs.specs.FlushesLaws.{FlushesOnce-flush}
 use Rattle.programs.specs.PromptLaws.{WritesOn-unflushed}
 use Rattle.programs.specs.Streams.{AllSent}
 use Rattle.programs.specs.TakenIn.{taken_more}
-use Rattle.piece_filter.specs.Pieces.{CanShow, HandsPieces, HasEnded, IsReady, IsSound, Piecewise, grammar_of, held_at, held_of, made, piece_rules}
-use Rattle.piece_filter.specs.PiecesLaws.{hands_nothing, hands_one, none_held}
+use Rattle.piece_filter.specs.Pieces.{CanShow, HandsPieces, HasEnded, IsReady, Keeps, Piecewise, TakesPieces, grammar_of, held_at, held_of, piece_rules}
+use Rattle.piece_filter.specs.PiecesLaws.{answers_one, hands_nothing, hands_one, none_held, takes_nothing}
 
 -- there is no place
 pub not_held : (h : Option Span) → ((span : Span) → ¬ (h ≡ Some span)) → h ≡ None
@@ -58,7 +58,7 @@ gave_but_failed Such s m e (inr over) fault = omega (
   length-append s.reader.log.reads.faults (e ∷ []),
 )
 
-module _ {T R D X W E : Type 0} (remaining : R → Option (List ℕ)) {f : Piecewise T R D X W E} (sound : IsSound f) {s : T}
+module _ {T R D X A W E : Type 0} (remaining : R → Option (List ℕ)) (f : Piecewise T R D X A W E) {s : T}
     (ready : IsReady f s) (t : T) where
   abbrev pub rules : FilterRules T E
   rules = piece_rules remaining f
@@ -132,66 +132,93 @@ module _ {T R D X W E : Type 0} (remaining : R → Option (List ℕ)) {f : Piece
         leaves = ready_then (Ok (Some payload)) next (none_shown none) also;
       }
 
-  -- a payload was taken in, or nothing was
+  -- or is held
+  pub took_hold : f.held s ≡ None → (span : Span) → f.held t ≡ Some span → f.also t
+      → IsLent (grammar_of f t) (f.source t).handed (f.source t).reader.block.bytes span
+      → Next (Ok (Some (bytes_at span (f.source t).reader.block.bytes))) → (f.source t).reader ≡ (f.source s).reader → Took []
+  took_hold lacks span is also lent next same =
+      let payload = bytes_at span (f.source t).reader.block.bytes in
+      let going = open_behind payload next in
+      record {
+        hands = hands_one remaining f s t payload [] going next
+            (ap (λ l. l ++ payload ∷ []) (none_held remaining f s lacks) ∙ ap (λ h. held_at (f.source t) h) (sym is));
+        told = ap (λ r. r.log) same;
+        closed = λ ended. absurd (true≢false (sym ended ∙ going));
+        leaves = ready_then (Ok (Some payload)) next (subst (CanShow (grammar_of f t) (f.source t)) (sym is) lent) also;
+      }
+
+  -- a payload was answered, or not
   module _ (unflushed : (f.target t).log.writes.flushed ≡ (f.target s).log.writes.flushed)
       (steady : (f.target t).log.writes.flushes ≡ (f.target s).log.writes.flushes) where
-    pub passed : (payload : List ℕ) → Took (payload ∷ [])
-        → WritesInOrder (f.target s) (made f (payload ∷ [])) (f.target t)
-        → MetInterrupts (f.target s).log.writes (f.target t).log.writes → Passes rules s (Ok true) t
-    passed payload took taken met = record {
+    pub passed : (payload reply : List ℕ) → Took (payload ∷ []) → f.answers (f.service s) payload reply (f.service t)
+        → WritesInOrder (f.target s) reply (f.target t) → MetInterrupts (f.target s).log.writes (f.target t).log.writes
+        → (0 < length reply) ⊎ (f.drops × (f.sent s → f.sent t)) → Passes rules s (Ok true) t
+    passed payload reply took is taken met some = record {
       told = took.told;
       ready = took.leaves;
       closed = took.closed;
-      writes = WritesOn-unflushed (f.target s) (f.target t) (made f (payload ∷ [])) taken unflushed;
+      writes = WritesOn-unflushed (f.target s) (f.target t) reply taken unflushed;
       flushes = steady;
       answers = (
         payload,
-        record { hands = took.hands; takes = taken },
+        record {
+          hands = took.hands;
+          takes = record {
+            reply = reply;
+            answers = answers_one f.answers (f.service s) (f.service t) payload reply is;
+            in_order = taken;
+          };
+        },
         met,
-        omega (
-          arith,
-          taken_more (f.target s) (f.target t) (made f (payload ∷ [])) taken,
-          length-append (f.coded payload) [],
-          sound.some payload,
-        ),
+        elim some [
+          | inl more ↦ inl (omega (arith, taken_more (f.target s) (f.target t) reply taken, more))
+          | inr dropped ↦ inr dropped
+        ],
       );
     }
 
-    pub lost : (p : List (List ℕ)) → Took p → WritesInOrder (f.target s) [] (f.target t) → (e : Error)
-        → SendErrorCaused (f.target s).log.writes (f.target t).log.writes e → Passes rules s (Err e) t
-    lost p took taken e caused = record {
+    pub lost : (p : List (List ℕ)) → Took p → f.service t ≡ f.service s → WritesInOrder (f.target s) [] (f.target t) → (e : Error)
+        → SendErrorCaused (f.target s).log.writes (f.target t).log.writes e ⊎ f.refused e t → Passes rules s (Err e) t
+    lost p took same taken e caused = record {
       told = took.told;
       ready = took.leaves;
       closed = took.closed;
       writes = WritesOn-unflushed (f.target s) (f.target t) [] taken unflushed;
       flushes = steady;
-      answers = (p, record { hands = took.hands; takes = taken }, caused);
+      answers = (p, record { hands = took.hands; takes = takes_nothing remaining f s t same taken }, caused);
     }
 
   -- all was flushed, or not
-  module _ (took : Took []) (held : f.held t ≡ f.held s) (tells : W → StreamLog) (trace : W → W → Type 0) where
+  module _ (took : Took []) (held : f.held t ≡ f.held s) (same : f.service t ≡ f.service s) (tells : W → StreamLog)
+      (trace : W → W → Type 0) where
     flush_answers : (answer : Result (Unit {0}) Error) → WasFlushed tells trace (f.target s) answer (f.target t)
-        → FlushAnswers rules s answer t
-    flush_answers (Ok _) w = (record { empty = w.ok.empty; flushed = w.ok.flushed }, w.ok.met)
-    flush_answers (Err e) w = w.caused
+        → ((x : Unit {0}) → answer ≡ Ok x → AllSent (f.target t) → f.sent t) → FlushAnswers rules s answer t
+    flush_answers (Ok x) w sends = (sends x refl (record { empty = w.ok.empty; flushed = w.ok.flushed }), w.ok.met)
+    flush_answers (Err e) w sends = w.caused
 
-    pub flushed : (answer : Result (Unit {0}) Error) → WasFlushed tells trace (f.target s) answer (f.target t)
-        → Flushes rules s answer t
-    flushed answer w = record {
+    pub flushed : (f.drops → ¬ (f.sent s)) → (answer : Result (Unit {0}) Error)
+        → WasFlushed tells trace (f.target s) answer (f.target t)
+        → ((x : Unit {0}) → answer ≡ Ok x → AllSent (f.target t) → f.sent t) → Flushes rules s answer t
+    flushed unsent answer w sends = record {
       told = took.told;
       ready = took.leaves;
       closed = took.closed;
       writes = WritesOn-grows (f.target s).log.writes (f.target t).log.writes w.grows;
       flushes = FlushesOnce-flush (f.target s) (f.target t) answer w.steps;
-      moves = record { hands = took.hands; takes = w.in_order };
+      quiet = λ drops sent. absurd (unsent drops sent);
+      moves = record { hands = took.hands; takes = takes_nothing remaining f s t same w.in_order };
       lacks = λ lacks. held ∙ lacks;
-      answers = flush_answers answer w;
+      answers = flush_answers answer w sends;
     }
 
-  -- none is held, and the writer is let be
-  module _ (lacks : f.held s ≡ None) (same : f.target t ≡ f.target s) (also : f.also t) where
-    taken : WritesInOrder (f.target s) [] (f.target t)
-    taken = subst (WritesInOrder (f.target s) []) (sym same) (WritesInOrder-none (f.target s))
+  -- none is held, and what writes and answers is let be
+  module _ (lacks : f.held s ≡ None) (keeps : Keeps f s t) (also : f.also t) where
+    same : f.target t ≡ f.target s
+    same = keeps.target
+
+    taken : TakesPieces f s [] t
+    taken = takes_nothing remaining f s t keeps.service
+        (subst (WritesInOrder (f.target s) []) (sym same) (WritesInOrder-none (f.target s)))
 
     -- none was there
     pub none_passed : f.held t ≡ None → StaysLeft (grammar_of f s) (f.source s) (f.source t) → Passes rules s (Ok false) t
@@ -216,6 +243,7 @@ module _ {T R D X W E : Type 0} (remaining : R → Option (List ℕ)) {f : Piece
             (MetInterrupts-none (f.target s).log.writes),
         none,
         λ has. has lacks,
+        λ _. keeps.sent,
       );
     }
 
@@ -228,7 +256,7 @@ module _ {T R D X W E : Type 0} (remaining : R → Option (List ℕ)) {f : Piece
         told = ap (λ v. v.log) same;
         ready = ready_then found next shows also;
         moves = record { hands = hands; takes = taken };
-        sent = λ sent. subst AllSent (sym same) sent;
+        sent = keeps.sent;
         asks = (next.asked, next.went.grows);
         once = record {
           once = once;
@@ -326,14 +354,14 @@ module _ {T R D X W E : Type 0} (remaining : R → Option (List ℕ)) {f : Piece
               failed (Err (IoBehind e)) (λ waits fault still. (waits, fault, still, omega (arith, came, few, most)))
 
 -- the end is known, and the reader isn't asked
-pub asked_ended : {T R D X W E : Type 0} (remaining : R → Option (List ℕ)) {f : Piecewise T R D X W E} (sound : IsSound f)
+pub asked_ended : {T R D X A W E : Type 0} (remaining : R → Option (List ℕ)) (f : Piecewise T R D X A W E)
     {s : T} → IsReady f s → f.held s ≡ None → HasEnded f s → Asks (piece_rules remaining f) s (Ok false) s
-asked_ended remaining {f} sound {s} ready lacks ended = record {
+asked_ended remaining f {s} ready lacks ended = record {
   told = refl;
   ready = ready;
   moves = record {
-    hands = (took_none remaining sound ready s refl ready.also refl).hands;
-    takes = WritesInOrder-none (f.target s);
+    hands = (took_none remaining f ready s refl ready.also refl).hands;
+    takes = takes_nothing remaining f s s refl (WritesInOrder-none (f.target s));
   };
   sent = λ sent. sent;
   asks = (inl refl, ReadLogGrows-none (f.source s).reader.log.reads);

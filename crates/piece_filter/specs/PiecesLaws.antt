@@ -1,7 +1,6 @@
 -- Payloads of pieces are handed out in order, and what is due is sent with what becomes of them.
-use Rattle.std.proofs.Common.{◌≡◌, ℕ, inl, inr, List, [], ◌∷◌, ◌++◌, length, false, Option, None, Some, Result, Ok, Err, refl, sym, ap, subst, ◌∙◌, arith, append-nil, append_assoc, length-append}
+use Rattle.std.proofs.Common.{◌≡◌, ℕ, inl, inr, List, [], ◌∷◌, ◌++◌, length, false, Option, None, Some, Result, Ok, Err, refl, sym, ap, subst, ◌∙◌, arith, append-nil, append_assoc, length-append, flat_map}
 use Rattle.std.proofs.lemmas.Bool.{true≢false}
-use Rattle.std.proofs.lemmas.Grind.{flat_map-append}
 use Rattle.buffer_redux.specs.BufWriter.{WritesInOrder}
 use Rattle.buffer_redux.specs.LogGrows.{ReadLogGrows}
 use Rattle.buffer_redux.specs.WriterLaws.{WritesInOrder-joins, WritesInOrder-none}
@@ -14,15 +13,38 @@ use Rattle.piece_reader.specs.Texts.{HasPieces, IsPieces, StartsWith}
 use Rattle.forward.specs.Filter.{AsksSent, FilterRules, IsLawful, Moves, StaysOpen}
 use Rattle.forward.specs.Prompt.{AskedLast}
 use Rattle.forward.specs.PromptLaws.{AskedLast-after}
-use Rattle.programs.specs.Streams.{AllSent}
 use Rattle.programs.specs.TakenIn.{sent_all, taken_more}
-use Rattle.piece_filter.specs.Pieces.{HandsPieces, IsSound, IsText, PiecesEnd, Piecewise, grammar_of, held_at, held_of, made, piece_rules}
+use Rattle.piece_filter.specs.Pieces.{AnswersAll, Coded, HandsPieces, IsSound, IsText, PiecesEnd, Piecewise, TakesPieces, grammar_of, held_at, held_of, piece_rules}
 
 -- from an empty buffer on, what was given is what was handed out, and what is left
 pub given_since : {S D : Type 0} (s t : ReaderState S D) (bytes : List ℕ) → s.reader.block.bytes ≡ [] → HandsBytes s bytes t
     → t.reader.log.reads.given ≡ s.reader.log.reads.given ++ (bytes ++ rest t)
 given_since s t bytes none hands = hands.given ∙ ap (λ l. s.reader.log.reads.given ++ l)
     (sym (hands.equal ∙ ap (λ l. l ++ hands.got) (drop_none s.handed s.reader.block.bytes none)))
+
+module _ {A : Type 0} (Answers : A → List ℕ → List ℕ → A → Type 0) where
+  pub answers_one : (a b : A) (payload reply : List ℕ) → Answers a payload reply b → AnswersAll Answers a (payload ∷ []) reply b
+  answers_one a b payload reply is = (b, reply, [], is, (refl, refl), sym (append-nil reply))
+
+  answers_join : (a b c : A) (p q : List (List ℕ)) (x y : List ℕ) → AnswersAll Answers a p x b → AnswersAll Answers b q y c
+      → AnswersAll Answers a (p ++ q) (x ++ y) c
+  answers_join a b c [] q x y first second =
+      subst (λ l. AnswersAll Answers a q (l ++ y) c) (sym first.0) (subst (λ s. AnswersAll Answers s q y c) first.1 second)
+  answers_join a b c (payload ∷ p) q x y (m, one, more, is, all, equal) second = (
+    m,
+    one,
+    more ++ y,
+    is,
+    answers_join m b c p q more y all second,
+    ap (λ l. l ++ y) equal ∙ append_assoc one more y,
+  )
+
+-- what is written for payloads whatever came before
+pub coded_all : (coded : List ℕ → List ℕ) (a b : Unit {0}) (p : List (List ℕ)) (reply : List ℕ)
+    → AnswersAll (Coded coded) a p reply b → reply ≡ flat_map coded p
+coded_all coded a b [] reply is = is.0
+coded_all coded a b (payload ∷ p) reply (m, first, more, is, all, equal) =
+    equal ∙ ap (λ l. l ++ more) is ∙ ap (λ l. coded payload ++ l) (coded_all coded m b p more all)
 
 module _ {X : Type 0} (g : Grammar X) where
   -- whole pieces stand in front of others
@@ -55,7 +77,7 @@ asked_last Such s m over grows = record {
   );
 }
 
-module _ {T R D X W E : Type 0} (remaining : R → Option (List ℕ)) (f : Piecewise T R D X W E) where
+module _ {T R D X A W E : Type 0} (remaining : R → Option (List ℕ)) (f : Piecewise T R D X A W E) where
   abbrev rules : FilterRules T E
   rules = piece_rules remaining f
 
@@ -153,6 +175,20 @@ module _ {T R D X W E : Type 0} (remaining : R → Option (List ℕ)) (f : Piece
           (ap (λ l. l ++ k.bytes) first.0 ∙ next.0, ap (λ l. l ++ k.got) first.1 ∙ next.1, next.2);
     }
 
+  -- nothing was taken in
+  pub takes_nothing : (s t : T) → f.service t ≡ f.service s → WritesInOrder (f.target s) [] (f.target t) → TakesPieces f s [] t
+  takes_nothing s t same order = record { reply = []; answers = (refl, same); in_order = order }
+
+  takes_none : (s : T) → TakesPieces f s [] s
+  takes_none s = takes_nothing s s refl (WritesInOrder-none (f.target s))
+
+  takes_joins : (a b c : T) (p q : List (List ℕ)) → TakesPieces f a p b → TakesPieces f b q c → TakesPieces f a (p ++ q) c
+  takes_joins a b c p q h k = record {
+    reply = h.reply ++ k.reply;
+    answers = answers_join f.answers (f.service a) (f.service b) (f.service c) p q h.reply k.reply h.answers k.answers;
+    in_order = WritesInOrder-joins (f.target a) (f.target b) (f.target c) h.reply k.reply h.in_order k.in_order;
+  }
+
   module _ (sound : IsSound f) where
     ends_after : (a b c : T) (p : List (List ℕ)) (how : Result (Unit {0}) E) → HandsPieces remaining f a p b
         → PiecesEnd f b how c → PiecesEnd f a how c
@@ -167,12 +203,13 @@ module _ {T R D X W E : Type 0} (remaining : R → Option (List ℕ)) (f : Piece
     ends_after a b c p (Err why) h end = sound.wrong_after a b c why h.went.grows.zero_reads end
 
     asks_sent : (first s t : T) (p : List (List ℕ)) → rules.fresh first → Moves rules first p p s → StaysOpen rules first s
-        → f.held s ≡ None → AllSent (f.target s) → rules.asks s t → AsksSent rules first s t
+        → f.held s ≡ None → f.sent s → rules.asks s t → AsksSent rules first s t
     asks_sent first s t p fresh moves still lacks sent (inl same, grows) = inl same
     asks_sent first s t p fresh moves (inr closed) lacks sent (inr over, grows) =
         absurd (true≢false (sym closed ∙ over.not_ended))
     asks_sent first s t p fresh moves (inl gives) lacks sent (inr over, grows) =
         let hands = moves.hands in
+        let takes = moves.takes in
         let left = rest (f.source s) in
         let d = (f.source first).decoder in
         let whole : IsPieces (f.grammar d) hands.bytes p [] = elim hands.text [
@@ -184,24 +221,22 @@ module _ {T R D X W E : Type 0} (remaining : R → Option (List ℕ)) (f : Piece
           asked = AskedLast-after (f.source first).reader.log (f.source s).reader.log (f.source t).reader.log
               (hands.bytes ++ left) over.came (given_since (f.source first) (f.source s) hands.bytes fresh.0 hands.went.hands)
               gives.give (asked_last (IsOpen (grammar_of f s)) (f.source s) (f.source t) over grows);
-          due = made f p;
-          is_due = subst (λ l. f.due d l (made f p)) (sym (append_assoc hands.bytes left over.came))
-              (sound.is_due d hands.bytes (left ++ over.came) p whole
-              (subst (λ d. IsOpen (f.grammar d) (left ++ over.came)) hands.went.decoder over.such));
-          sent = sent_all (f.target first) (f.target s) (made f p) moves.takes fresh.1 sent;
+          due = takes.reply;
+          is_due = subst (λ l. f.due d (f.service first) l takes.reply) (sym (append_assoc hands.bytes left over.came))
+              (sound.is_due d (f.service first) (f.service s) hands.bytes (left ++ over.came) takes.reply p whole
+              (subst (λ d. IsOpen (f.grammar d) (left ++ over.came)) hands.went.decoder over.such) takes.answers);
+          sent = sent_all (f.target first) (f.target s) takes.reply takes.in_order fresh.1 (sound.all_sent s sent);
         })
 
     pub piece_lawful : IsLawful (piece_rules remaining f)
     piece_lawful = record {
       hands_none = hands_none;
       hands_joins = hands_joins;
-      takes_none = λ s. WritesInOrder-none (f.target s);
-      takes_joins = λ a b c p q h k.
-          subst (λ l. WritesInOrder (f.target a) l (f.target c)) (sym (flat_map-append f.coded p q))
-          (WritesInOrder-joins (f.target a) (f.target b) (f.target c) (made f p) (made f q) h k);
+      takes_none = takes_none;
+      takes_joins = takes_joins;
       ends_after = λ a b c p how h still end. (end.0, ends_after a b c p how h end.1);
       waits_lacks = λ s waits. waits.0;
       received_taken = λ s. omega arith;
-      taken_on = λ s t p taken. omega (arith, taken_more (f.target s) (f.target t) (made f p) taken);
+      taken_on = λ s t p taken. omega (arith, taken_more (f.target s) (f.target t) taken.reply taken.in_order);
       asks_sent = asks_sent;
     }

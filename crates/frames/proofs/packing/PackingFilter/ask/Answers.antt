@@ -1,9 +1,9 @@
 use Rattle.std.proofs.Common.{IfSome, Ok, ap, arith, length, subst, sym, ◌∙◌}
 use Rattle.line_reader.specs.NextLine.{NextLine}
-use Rattle.frames.specs.Words.{IsLent, load_answer, lined}
-use Rattle.frames.specs.PackingLaws.{packing_sound}
-use Rattle.frames.proofs.Packs.{asked_behind, asked_idle, asked_long, asked_more, asked_none}
 use Rattle.piece_filter.specs.PiecesCalls.{asked_ended}
+use Rattle.frames.specs.Words.{IsLent, load_answer, lined}
+use Rattle.frames.specs.Packing.{packing}
+use Rattle.frames.proofs.Packs.{asked_behind, asked_idle, asked_long, asked_more, asked_none}
 use Rattle.frames.proofs.packing.PackingFilter.ask.Goals as goal
 
 pub returns-in-Ok-Some : goal.returns-in-Ok-Some
@@ -46,5 +46,5 @@ returns-else-rest-have g c =
 
 pub returns-then-has_ended : goal.returns-then-has_ended
 returns-then-has_ended g c =
-    asked_ended g.R.TellRead.remaining packing_sound c.requires.ready c.requires.lacks
+    asked_ended g.R.TellRead.remaining packing c.requires.ready c.requires.lacks
     (sym c.has_ended.ensures.value ∙ c.if-has_ended.true)

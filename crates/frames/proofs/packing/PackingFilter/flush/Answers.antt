@@ -1,12 +1,13 @@
 use Rattle.std.proofs.Common.{refl}
-use Rattle.frames.specs.PackingLaws.{packing_sound}
-use Rattle.frames.proofs.Packs.{lines_on}
 use Rattle.piece_filter.specs.PiecesCalls.{flushed, took_none}
+use Rattle.frames.specs.Packing.{packing}
+use Rattle.frames.proofs.Packs.{lines_on}
 use Rattle.frames.proofs.packing.PackingFilter.flush.Goals as goal
 
 pub returns : goal.returns
 returns g c =
     let t = record c.args.self.now { target = c.flush.new.self } in
     let lines = lines_on t c.requires.also refl c.flush.ensures.went.encoder c.requires.also.open' c.requires.also.fits in
-    flushed g.R.TellRead.remaining packing_sound c.requires t
-    (took_none g.R.TellRead.remaining packing_sound c.requires t refl lines refl) refl _ _ c.flush.result c.flush.ensures.flushed
+    flushed g.R.TellRead.remaining packing c.requires t
+    (took_none g.R.TellRead.remaining packing c.requires t refl lines refl) refl refl _ _
+    (λ drops. absurd drops) c.flush.result c.flush.ensures.flushed (λ x is all. all)

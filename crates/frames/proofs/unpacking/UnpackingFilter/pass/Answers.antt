@@ -1,10 +1,11 @@
-use Rattle.std.proofs.Common.{◌∷◌, [], None, ap, append-nil, refl, subst, sym, ◌∙◌}
+use Rattle.std.proofs.Common.{◌∷◌, [], None, ap, inl, refl, subst, ◌∙◌}
 use Rattle.std.specs.Prelude.{option_copied}
 use Rattle.std.proofs.lemmas.Result.{err_from_is_err_and}
 use Rattle.frame_reader.specs.NextLaws.{NextPiece-reads}
-use Rattle.frames.specs.Words.{WritesInOrder, NextBuffered, framed, with_end}
-use Rattle.frames.specs.UnpackingLaws.{unpacking_sound}
 use Rattle.piece_filter.specs.PiecesCalls.{lost, none_passed, not_held, passed, took_held, took_next, took_none}
+use Rattle.frames.specs.Words.{NextBuffered, framed, with_end}
+use Rattle.frames.specs.Unpacking.{unpacking}
+use Rattle.frames.specs.UnpackingLaws.{some_line}
 use Rattle.frames.proofs.Unpacks.{frames_on}
 use Rattle.frames.proofs.unpacking.UnpackingFilter.pass.Goals as goal
 
@@ -14,9 +15,9 @@ returns-in_err-print_line g c =
     let p = err_from_is_err_and c.from_residual.result c.from_residual.ensures.1 in
     let wrote = c.in_err-print_line.ensures in
     let frames = c.requires.also in
-    rw (p.1, p.2) (lost g.R.TellRead.remaining unpacking_sound c.requires t wrote.not_flushed wrote.flushes []
-    (took_none g.R.TellRead.remaining unpacking_sound c.requires t refl
-    (frames_on t frames refl frames.told wrote.kind wrote.capacity) refl) wrote.none _ wrote.caused)
+    rw (p.1, p.2) (lost g.R.TellRead.remaining unpacking c.requires t wrote.not_flushed wrote.flushes []
+    (took_none g.R.TellRead.remaining unpacking c.requires t refl
+    (frames_on t frames refl frames.told wrote.kind wrote.capacity) refl) refl wrote.none _ (inl wrote.caused))
 
 pub returns-in-Some : goal.returns-in-Some
 returns-in-Some g c =
@@ -24,11 +25,10 @@ returns-in-Some g c =
     let t = record s { target = c.print_line.new.target; held = None } in
     let wrote = c.in_ok-print_line.ensures in
     let frames = c.requires.also in
-    passed g.R.TellRead.remaining unpacking_sound c.requires t wrote.not_flushed wrote.flushes _
-    (took_held g.R.TellRead.remaining unpacking_sound c.requires t refl
+    passed g.R.TellRead.remaining unpacking c.requires t wrote.not_flushed wrote.flushes _ _
+    (took_held g.R.TellRead.remaining unpacking c.requires t refl
     (frames_on t frames refl frames.told wrote.kind wrote.capacity) c.in-Some.span c.in-Some.is refl)
-    (subst (λ l. WritesInOrder s.target l t.target) (ap (λ l. with_end l) c.lent.ensures ∙ sym (append-nil _)) wrote.taken)
-    wrote.met
+    (ap (λ l. with_end l) c.lent.ensures) wrote.taken wrote.met (inl (some_line c.lent.result.now))
 
 pub returns-in_err-print_line-in-Some-next_buffered : goal.returns-in_err-print_line-in-Some-next_buffered
 returns-in_err-print_line-in-Some-next_buffered g c =
@@ -42,10 +42,10 @@ returns-in_err-print_line-in-Some-next_buffered g c =
     let p = err_from_is_err_and from.result from.ensures.1 in
     let wrote = c.in_err-print_line-in-Some-next_buffered.ensures in
     let none = not_held s.held c.in_default.not-Some in
-    rw (p.1, p.2) (lost g.R.TellRead.remaining unpacking_sound c.requires t wrote.not_flushed wrote.flushes
-    (some.payload.now ∷ []) (took_next g.R.TellRead.remaining unpacking_sound c.requires t none none
+    rw (p.1, p.2) (lost g.R.TellRead.remaining unpacking c.requires t wrote.not_flushed wrote.flushes
+    (some.payload.now ∷ []) (took_next g.R.TellRead.remaining unpacking c.requires t none none
     (frames_on t c.requires.also next.0.went.decoder (NextPiece-reads g.R.TellRead.remaining s.source m _ next.0).told wrote.kind
-    wrote.capacity) some.payload.now next.0 next.1) wrote.none _ wrote.caused)
+    wrote.capacity) some.payload.now next.0 next.1) refl wrote.none _ (inl wrote.caused))
 
 pub returns-in_ok-print_line-in-Some-next_buffered : goal.returns-in_ok-print_line-in-Some-next_buffered
 returns-in_ok-print_line-in-Some-next_buffered g c =
@@ -57,11 +57,11 @@ returns-in_ok-print_line-in-Some-next_buffered g c =
     c.next_buffered.follows.holds-at-none in
     let wrote = c.in_ok-print_line-in-Some-next_buffered.ensures in
     let none = not_held s.held c.in_default.not-Some in
-    passed g.R.TellRead.remaining unpacking_sound c.requires t wrote.not_flushed wrote.flushes some.payload.now
-    (took_next g.R.TellRead.remaining unpacking_sound c.requires t none none
+    passed g.R.TellRead.remaining unpacking c.requires t wrote.not_flushed wrote.flushes some.payload.now _
+    (took_next g.R.TellRead.remaining unpacking c.requires t none none
     (frames_on t c.requires.also next.0.went.decoder (NextPiece-reads g.R.TellRead.remaining s.source m _ next.0).told wrote.kind
     wrote.capacity) some.payload.now next.0 next.1)
-    (subst (λ l. WritesInOrder s.target l t.target) (sym (append-nil (with_end some.payload.now))) wrote.taken) wrote.met
+    refl wrote.taken wrote.met (inl (some_line some.payload.now))
 
 pub returns-in-None : goal.returns-in-None
 returns-in-None g c =
@@ -71,6 +71,7 @@ returns-in-None g c =
     let stays = subst (λ r. NextBuffered g.R.TellRead.remaining (framed s.source.decoder.max) s.source (option_copied r) m)
     c.in-None.is c.next_buffered.follows.holds-at-none in
     let none = not_held s.held c.in_default.not-Some in
-    none_passed g.R.TellRead.remaining unpacking_sound c.requires t none refl
+    none_passed g.R.TellRead.remaining unpacking c.requires t none
+    (record { target = refl; service = refl; sent = λ sent. sent })
     (frames_on t c.requires.also (ap (λ x. x.decoder) stays.0.same) (ap (λ x. x.ended) stays.0.same ∙ c.requires.also.told)
     refl refl) none stays.0

@@ -1,0 +1,190 @@
+-- What the calls of a filter that answers payloads do.
+use Rattle.std.proofs.Common.{◌≡◌, ℕ, ◌≤◌, ◌<◌, inl, inr, Bool, true, false, List, [], ◌∷◌, length, Option, None, Some, Result, Ok, Err, refl, sym, ap, subst, arith, ◌∙◌}
+use Rattle.std.proofs.lemmas.Bool.{true≢false}
+use Rattle.std.specs.declared.io.Error.{Error}
+use Rattle.buffer_redux.specs.BufWriter.{WasFlushed, WritesInOrder}
+use Rattle.buffer_redux.specs.Faults.{MetInterrupts, MetInterrupts-none}
+use Rattle.buffer_redux.specs.StreamLog.{StreamLog}
+use Rattle.buffer_redux.specs.Buffered.{Buffered}
+use Rattle.buffer_redux.specs.WriterLaws.{WritesInOrder-none}
+use Rattle.buffer_redux.specs.declared.policy.StdPolicy.{StdPolicy}
+use Rattle.piece_reader.specs.Decoding.{IsLent, bytes_at}
+use Rattle.piece_reader.specs.Grammar.{Grammar, IsOpen}
+use Rattle.piece_reader.specs.NextPiece.{NextAnswer, NextPiece, StaysLeft}
+use Rattle.piece_reader.specs.NextPieceLaws.{MetEnd-once}
+use Rattle.piece_reader.specs.PieceReader.{ReaderState, rest}
+use Rattle.piece_reader.specs.declared.decoder.Span.{Span}
+use Rattle.piece_reader.specs.declared.error.NextError.TheVariants as Why
+use Rattle.forward.specs.Filter.{Asks, FilterRules, Flushes, Moves, PassAnswers, Passes}
+use Rattle.forward.specs.PromptLaws.{WritesOn-none}
+use Rattle.forward.specs.declared.error.AskError.TheVariants.{Wrong, Io, IoBehind}
+use Rattle.programs.specs.Streams.{AllSent}
+use Rattle.piece_filter.specs.Answering.{Answered, IsWrong, answering, answering_rules}
+use Rattle.piece_filter.specs.AnsweringLaws.{answering_lawful}
+use Rattle.piece_filter.specs.Pieces.{IsReady, Keeps, Piecewise}
+use Rattle.piece_filter.specs.PiecesCalls as pieces
+use Rattle.piece_filter.specs.PiecesLaws.{takes_nothing}
+use Rattle.piece_filter.specs.declared.answering.Answering.{Answering}
+
+module _ {R D X A W : Type 0} (remaining : R → Option (List ℕ)) (grammar : D → Grammar X)
+    (Answers : A → List ℕ → List ℕ → A → Type 0) {s : Answering R D W A X}
+    (ready : IsReady (answering grammar Answers) s) where
+  abbrev rules : FilterRules (Answering R D W A X) X
+  rules = answering_rules remaining grammar Answers
+
+  abbrev f : Piecewise (Answering R D W A X) R D X A W X
+  f = answering grammar Answers
+
+  -- a payload that was held is answered
+  module _ (span : Span) (held : s.held ≡ Some span) (b : A) (v : Buffered W StdPolicy) where
+    abbrev payload : List ℕ
+    payload = bytes_at span s.source.reader.block.bytes
+
+    abbrev answered : Bool → Answering R D W A X
+    answered sent = record s { target = v; service = b; held = None; sent = sent }
+
+    pub passes : Answered Answers s.service payload s.target (Ok true) b v → Passes rules s (Ok true) (answered false)
+    passes (reply, is, some, puts) =
+        pieces.passed remaining f ready (answered false) puts.not_flushed puts.flushes payload reply
+        (pieces.took_held remaining f ready (answered false) refl (λ sent. absurd (true≢false (sym sent))) span held refl)
+        is puts.taken puts.met (inl some)
+
+    pub drops : Answered Answers s.service payload s.target (Ok false) b v → Passes rules s (Ok true) (answered s.sent)
+    drops (is, same) =
+        let still : AllSent s.target → AllSent v = subst AllSent (sym same) in
+        pieces.passed remaining f ready (answered s.sent) (ap (λ x. x.log.writes.flushed) same)
+        (ap (λ x. x.log.writes.flushes) same) payload []
+        (pieces.took_held remaining f ready (answered s.sent) refl (λ sent. still (ready.also sent)) span held refl)
+        is (subst (WritesInOrder s.target []) (sym same) (WritesInOrder-none s.target))
+        (subst (λ x. MetInterrupts s.target.log.writes x.log.writes) (sym same) (MetInterrupts-none s.target.log.writes))
+        (inr (tt, λ sent. (sent.0, still sent.1)))
+
+    pub refused : (e : Error) → Answered Answers s.service payload s.target (Err e) b v
+        → Passes rules s (Err e) (record s { target = v; service = b; sent = false })
+    refused e (reply, same, puts) =
+        let t : Answering R D W A X = record s { target = v; service = b; sent = false } in
+        pieces.lost remaining f ready t puts.not_flushed puts.flushes []
+        (pieces.took_none remaining f ready t refl (λ sent. absurd (true≢false (sym sent))) refl) same puts.taken e puts.caused
+
+  -- the next was buffered, and is held; or none was
+  module _ (lacks : s.held ≡ None) (m : ReaderState R D) where
+    abbrev holding : Span → Answering R D W A X
+    holding span = record s { source = m; held = Some span }
+
+    module _ (span : Span) (lent : IsLent (grammar m.decoder) m.handed m.reader.block.bytes span)
+        (next : NextPiece remaining (grammar s.source.decoder) s.source (Ok (Some (bytes_at span m.reader.block.bytes))) m)
+        (same : m.reader ≡ s.source.reader) where
+      took : pieces.Took remaining f ready (holding span) []
+      took = pieces.took_hold remaining f ready (holding span) lacks span refl ready.also lent next same
+
+      joins : (t : Answering R D W A X) (p q : List (List ℕ)) → Moves rules (holding span) p q t → Moves rules s p q t
+      joins t p q moves = record {
+        hands = (answering_lawful grammar Answers remaining).hands_joins s (holding span) t [] p took.hands moves.hands;
+        takes = record {
+          reply = moves.takes.reply;
+          answers = moves.takes.answers;
+          in_order = moves.takes.in_order;
+        };
+      }
+
+      answers_behind : (t : Answering R D W A X) (answer : Result Bool Error) → PassAnswers rules (holding span) answer t
+          → PassAnswers rules s answer t
+      answers_behind t (Ok true) (p, moves, met, some) = (p, joins t (p ∷ []) (p ∷ []) moves, met, some)
+      answers_behind t (Ok false) (moves, met, none, isnt, still) =
+          (joins t [] [] moves, met, none, λ has. has lacks, still)
+      answers_behind t (Err e) (lost, moves, caused) = (lost, joins t lost [] moves, caused)
+
+      pub passes_behind : (t : Answering R D W A X) (answer : Result Bool Error) → Passes rules (holding span) answer t
+          → Passes rules s answer t
+      passes_behind t answer p = record {
+        told = p.told ∙ took.told;
+        ready = p.ready;
+        closed = λ ended. p.closed (took.closed ended);
+        writes = p.writes;
+        flushes = p.flushes;
+        answers = answers_behind t answer p.answers;
+      }
+
+    pub none_passes : StaysLeft (grammar s.source.decoder) s.source m → Passes rules s (Ok false) (record s { source = m })
+    none_passes stays = pieces.none_passed remaining f ready (record s { source = m }) lacks
+        (record { target = refl; service = refl; sent = λ sent. sent }) ready.also lacks stays
+
+    -- the reader was asked for the next
+    module _ (going : s.source.ended ≡ false) where
+      abbrev asked : Option Span → Answering R D W A X
+      asked h = record s { source = m; held = h }
+
+      abbrev kept : (h : Option Span) → Keeps f s (asked h)
+      kept h = record { target = refl; service = refl; sent = λ sent. sent }
+
+      abbrev Next : NextAnswer X → Type 0
+      Next answer = NextPiece remaining (grammar s.source.decoder) s.source answer m
+
+      pub asked_more : (span : Span) → IsLent (grammar m.decoder) m.handed m.reader.block.bytes span
+          → Next (Ok (Some (bytes_at span m.reader.block.bytes))) → Asks rules s (Ok true) (asked (Some span))
+      asked_more span lent next =
+          pieces.asked_more remaining f ready (asked (Some span)) lacks (kept (Some span)) ready.also going
+          span refl lent next
+
+      pub asked_none : Next (Ok None) → Asks rules s (Ok false) (asked s.held)
+      asked_none next = pieces.asked_none remaining f ready (asked s.held) lacks (kept s.held) ready.also going lacks next
+
+      pub asked_wrong : (why : X) → Next (Err (Why.Wrong why)) → Asks rules s (Err (Wrong why)) (asked s.held)
+      asked_wrong why next = pieces.asked_wrong remaining f ready (asked s.held) lacks (kept s.held) ready.also going lacks why
+          next why (subst (λ d. IsWrong (grammar d) s.source why m) (sym next.went.decoder) (elim next.answers.3 [
+            | inl begins ↦ inl begins.0
+            | inr (cut, is_open, some, met) ↦ inr (cut, is_open, some, omega (arith, MetEnd-once s.source m going met))
+          ]))
+
+      module _ (e : Error) (next : Next (Err (Why.Io e))) where
+        pub asked_idle : length (rest m) ≤ length (rest s.source) → Asks rules s (Err (Io e)) (asked s.held)
+        asked_idle = pieces.asked_idle remaining f ready (asked s.held) lacks (kept s.held) ready.also going lacks e next
+
+        pub left_open : IsOpen (grammar m.decoder) (rest m)
+        left_open = subst (λ d. IsOpen (grammar d) (rest m)) (sym next.went.decoder) next.answers.1
+
+        pub asked_behind : length (rest s.source) < length (rest m) → length (rest m) < (grammar m.decoder).most
+            → Asks rules s (Err (IoBehind e)) (asked s.held)
+        asked_behind came few =
+            pieces.asked_behind remaining f ready (asked s.held) lacks (kept s.held) ready.also going lacks e next came
+            (subst (λ d. length (rest m) < (grammar d).most) next.went.decoder few)
+
+  -- the stream had ended
+  pub asked_ended : s.held ≡ None → s.source.ended ≡ true → Asks rules s (Ok false) s
+  asked_ended = pieces.asked_ended remaining f ready
+
+  -- all had been sent
+  pub unflushed : s.sent ≡ true → Flushes rules s (Ok tt) s
+  unflushed sent = record {
+    told = refl;
+    ready = ready;
+    closed = λ closed. closed;
+    writes = WritesOn-none s.target.log.writes;
+    flushes = inl refl;
+    quiet = λ drops sent. refl;
+    moves = record {
+      hands = (answering_lawful grammar Answers remaining).hands_none s;
+      takes = takes_nothing remaining f s s refl (WritesInOrder-none s.target);
+    };
+    lacks = λ lacks. lacks;
+    answers = ((sent, ready.also sent), MetInterrupts-none s.target.log.writes);
+  }
+
+  -- it was flushed, or that failed
+  module _ (tells : W → StreamLog) (trace : W → W → Type 0) (unsent : s.sent ≡ false) (v : Buffered W StdPolicy) where
+    not_sent : f.drops → ¬ (f.sent s)
+    not_sent _ sent = true≢false (sym sent.0 ∙ unsent)
+
+    pub flushed : WasFlushed tells trace s.target (Ok tt) v → Flushes rules s (Ok tt) (record s { target = v; sent = true })
+    flushed w =
+        let t : Answering R D W A X = record s { target = v; sent = true } in
+        pieces.flushed remaining f ready t
+        (pieces.took_none remaining f ready t refl (λ sent. record { empty = w.ok.empty; flushed = w.ok.flushed }) refl) refl refl
+        tells trace not_sent (Ok tt) w (λ x is all. (refl, all))
+
+    pub not_flushed : (e : Error) → WasFlushed tells trace s.target (Err e) v → Flushes rules s (Err e) (record s { target = v })
+    not_flushed e w =
+        let t : Answering R D W A X = record s { target = v } in
+        pieces.flushed remaining f ready t
+        (pieces.took_none remaining f ready t refl (λ sent. absurd (true≢false (sym sent ∙ unsent))) refl) refl refl tells trace
+        not_sent (Err e) w (λ x is. absurd (let odd : ◌≡◌ {A = Result (Unit {0}) Error} (Err e) (Ok x) = is in cc))

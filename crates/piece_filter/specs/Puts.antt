@@ -1,0 +1,21 @@
+-- Bytes that a buffered writer takes in, all of them or none.
+use Rattle.std.specs.Prelude.{◌≡◌, ℕ, ◌⊎◌, List, [], Result, MatchResult, IfErr, OnOk}
+use Rattle.std.specs.declared.io.Error.{Error}
+use Rattle.buffer_redux.specs.BufWriter.{WritesInOrder}
+use Rattle.buffer_redux.specs.Buffered.{Buffered}
+use Rattle.buffer_redux.specs.Faults.{MetInterrupts, SendErrorCaused}
+use Rattle.buffer_redux.specs.GrowError.{GrowthFailed}
+use Rattle.buffer_redux.specs.declared.policy.StdPolicy.{StdPolicy}
+
+-- room for more bytes was refused
+abbrev pub IsRefused : {W P : Type 0} → Error → Buffered W P → Type 0
+IsRefused e t = (more : ℕ) × GrowthFailed more t.block e
+
+-- all of these bytes were taken in, or nothing, and nothing was flushed
+pub record Puts {W : Type 0} (s : Buffered W StdPolicy) (bytes : List ℕ) (answer : Result (Unit {0}) Error)
+    (t : Buffered W StdPolicy) : Type 0 where
+  pub taken : MatchResult answer (λ _. WritesInOrder s bytes t) (λ e. WritesInOrder s [] t)
+  pub met : OnOk answer (MetInterrupts s.log.writes t.log.writes)
+  pub caused : IfErr answer (λ e. SendErrorCaused s.log.writes t.log.writes e ⊎ IsRefused e t)
+  pub not_flushed : t.log.writes.flushed ≡ s.log.writes.flushed
+  pub flushes : t.log.writes.flushes ≡ s.log.writes.flushes
