@@ -1,6 +1,8 @@
--- What a filter writes for a piece.
-use Rattle.std.specs.Prelude.{◌≡◌, ℕ, List, [], ◌∷◌, ◌++◌, Bool, true, if◌then◌else◌}
+-- What a filter writes for a payload.
+use Rattle.std.specs.Prelude.{◌≡◌, ℕ, ◌==◌, List, [], ◌∷◌, ◌++◌, if◌then◌else◌}
+use Rattle.std.specs.List.{starts_with}
 
--- one of the kind goes on as a line, and for another nothing is written; a further piece is taken
-abbrev pub PassesOn : Bool → List ℕ → List ℕ → Bool → Type 0
-PassesOn chosen payload reply more = (reply ≡ (if chosen then payload ++ 10 ∷ [] else [])) × (more ≡ true)
+-- one of the kind goes on as a line, and for another nothing is written
+abbrev pub PassesOn : List ℕ → List ℕ → Type 0
+PassesOn payload reply =
+    reply ≡ (if starts_with (λ a b. a == b) payload (35 ∷ []) then payload ++ 10 ∷ [] else [])

@@ -1,29 +1,28 @@
-//! A filter: the pieces of one kind go on, each as a line.
+//! A filter: the payloads of one kind go on, each as a line.
 use buffer_redux::BufWriter;
 use buffer_redux::tell::TellWrite;
-use codec::{ByFirst, Decoder, Service};
+use piece_filter::{Answer, put_both};
 use std::io;
 
-/// What passes on the pieces that begin with the byte of a [`ByFirst`], and nothing of the others. [`serve`](codec::serve) does
-/// it for a whole stream, and holds none back while that is asked for more.
+/// What passes on the payloads that begin with `#`, and drops the others. [`forward`](forward::forward) does it for a whole
+/// stream, over an [`Answering`](piece_filter::Answering), and holds none back while that is asked for more.
 #[derive(Clone, Copy, Debug, Drop)]
 pub struct Sifted;
 
-impl<A: Decoder, B: Decoder> Service<ByFirst<A, B>> for Sifted {
+impl Answer for Sifted {
     ghost use Rattle.uses.specs.Sifted.{PassesOn};
 
-    ghost answers = { λ _ chosen payload reply more _. PassesOn chosen payload reply more };
+    ghost answers = { λ _ payload reply _. PassesOn payload reply };
 
     fn answer<W: TellWrite>(
         &mut self,
-        chosen: bool,
         payload: &[u8],
         writer: &mut BufWriter<W>,
     ) -> io::Result<bool> {
-        if !chosen {
-            return Ok(true);
+        if !payload.starts_with(b"#") {
+            return Ok(false);
         }
-        match writer.write_parts(&[payload, b"\n"]) {
+        match put_both(writer, payload, b"\n") {
             Ok(()) => Ok(true),
             Err(e) => Err(e),
         }

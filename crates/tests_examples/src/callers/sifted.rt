@@ -1,23 +1,28 @@
 use buffer_redux::BufWriter;
 use buffer_redux::tell::Told;
-use codec::{ByFirst, Delimited, PieceReader, Served, serve};
+use codec::{ByHeader, PieceReader};
+use decoders::{Lengths, Order, Width};
+use forward::{Link, forward};
+use piece_filter::Answering;
 use std::test::Fail;
 use uses::sifted::Sifted;
 
 #[test]
 fn passes_comments_on(rt: HostRuntime) -> Result<(), Fail> {
     let alloc = rt.alloc();
-    let lines = Delimited { end: b'\n', max: 9 };
-    let mixed = ByFirst {
-        byte: b'#',
-        one: lines,
-        other: lines,
+    let stream = Told::new(b"\x02#a\x01b\x01#\x00".as_slice());
+    let lengths = Lengths {
+        width: Width::One,
+        order: Order::BigEndian,
+        max: 100,
     };
-    let mut reader = PieceReader::new(alloc, Told::new(b"#a\nb\n#\nc".as_slice()), mixed)?;
-    let mut writer = BufWriter::new(alloc, Told::new(Vec::new(alloc)))?;
-    let ended = serve(&mut Sifted, &mut reader, &mut writer);
-    assert!(rt; matches!(ended, Ok(Served::End)));
-    assert!(rt; writer.get_ref().get_ref().as_slice() == b"#a\n#\n".as_slice());
-    drop(writer);
-    Ok(drop(reader))
+    let source = PieceReader::new(alloc, stream, ByHeader(lengths))?;
+    let target = BufWriter::new(alloc, Told::new(Vec::new(alloc)))?;
+    let mut link = Link::new(Answering::new(source, target, Sifted));
+    let went = forward(&mut link);
+    assert!(rt; matches!(went, Ok(4)));
+    drop(went);
+    let filter = link.into_inner();
+    assert!(rt; filter.target.get_ref().get_ref().as_slice() == b"#a\n#\n".as_slice());
+    Ok(drop(filter))
 }
