@@ -20,7 +20,7 @@ pub enum Cause<W> {
     Wrong(W),
     /// The stream that is read from failed.
     Read(io::Error),
-    /// The stream that is written to failed.
+    /// The stream that is written to failed, or a filter had no room for a payload.
     Write(io::Error),
     /// As many payloads went over as a `u64` counts.
     Count,
