@@ -19,8 +19,8 @@ pub trait Answer: Drop {
     // What it is before a payload, the payload, what is written for it, and what it is then.
     ghost answers: { Self → List ℕ → List ℕ → Self → Type 0 };
 
-    /// Answers a payload by one [`put_both`](crate::put_both), and returns `true`; or drops it: then the writer is as it was. An
-    /// `Err` is the writer's, and leaves all as it was.
+    /// Answers a payload by one [`put_both`](crate::put_both) of a byte or more, and returns `true`; or drops it, and leaves the
+    /// writer as it was. An `Err` is the writer's: nothing of the answer was taken in then, and what answers is as it was.
     fn answer<W: TellWrite>(
         &mut self,
         payload: &[u8],
