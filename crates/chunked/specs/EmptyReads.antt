@@ -1,7 +1,7 @@
--- How often the reader inside gives nothing in one read of payload, where a read is ordered over an empty buffer alone: once
--- where that ends the body early, and else never.
-use Rattle.std.proofs.Common.{◌≡◌, ℕ, zero, suc, ◌+◌, ◌<◌, ◌≤◌, List, Option, Result, Ok, Err, length, min, inl, inr, sym, ap, ◌∙◌, arith}
-use Rattle.std.proofs.lemmas.List.{length-drop}
+-- How often the reader inside gives nothing in one read of payload, or in all of a drain, where a read is ordered over an empty
+-- buffer alone: once where that ends the body early, and else never.
+use Rattle.std.proofs.Common.{◌≡◌, ℕ, zero, suc, ◌+◌, ◌<◌, ◌≤◌, List, [], Option, Result, Ok, Err, length, min, inl, inr, refl, sym, ap, subst, ◌∙◌, arith}
+use Rattle.std.proofs.lemmas.List.{length-drop, nil_from_length}
 use Rattle.std.specs.declared.io.Error.{Error}
 use Rattle.buffer_redux.specs.Buffered.{Buffered}
 use Rattle.buffer_redux.specs.BufReader.{Reads}
@@ -10,7 +10,7 @@ use Rattle.buffer_redux.specs.Policy.{ReadRules}
 use Rattle.buffer_redux.specs.StreamLog.{ReadLog, with_zero, zero_of_some}
 use Rattle.chunked.specs.Between.{FillsAndTakes, TakesTurns}
 use Rattle.chunked.specs.BetweenLaws.{Reads-ways}
-use Rattle.chunked.specs.ChunkedReader.{ChunkedState, ReadsPayload}
+use Rattle.chunked.specs.ChunkedReader.{ChunkedState, DrainReads, ReadsOn, ReadsPayload}
 use Rattle.chunked.specs.declared.error.ChunkedError.{ChunkedError}
 use Rattle.chunked.specs.declared.error.ChunkedError.TheVariants.{NotChunked, Truncated, Io}
 use Rattle.chunked.specs.declared.limits.Limits.{Limits}
@@ -22,6 +22,20 @@ EndsOnce old (Ok n) new = new.zero_reads ≡ old.zero_reads
 EndsOnce old (Err (NotChunked why count)) new = new.zero_reads ≡ old.zero_reads
 EndsOnce old (Err (Truncated count)) new = new.zero_reads ≤ old.zero_reads + 1
 EndsOnce old (Err (Io e)) new = new.zero_reads ≡ old.zero_reads
+
+-- behind calls in which it never did, and of none
+behind : (a b c : ReadLog) (answer : Result ℕ ChunkedError) → b.zero_reads ≡ a.zero_reads → EndsOnce b answer c
+    → EndsOnce a answer c
+behind a b c (Ok n) same ends = ends ∙ same
+behind a b c (Err (NotChunked why count)) same ends = ends ∙ same
+behind a b c (Err (Truncated count)) same ends = omega (arith, same, ends)
+behind a b c (Err (Io e)) same ends = ends ∙ same
+
+of_none : (a : ReadLog) (answer : Result ℕ ChunkedError) → EndsOnce a answer a
+of_none a (Ok n) = refl
+of_none a (Err (NotChunked why count)) = refl
+of_none a (Err (Truncated count)) = omega arith
+of_none a (Err (Io e)) = refl
 
 one_more_at_most : (n : ℕ) (bytes : List ℕ) (before : ℕ) → with_zero before bytes (Ok n) ≤ before + 1
 one_more_at_most n bytes before = grind arith
@@ -51,15 +65,15 @@ module _ {S P : Type 0} (rules : ReadRules P) (orders : ReadsWhenEmpty rules) wh
 
   -- one read, through the buffer, or past it
   module _ (s t : Buffered S P) (before after : List ℕ) where
-    read_some : (n : ℕ) → Reads rules s before (Ok (suc n)) after t → t.log.reads.zero_reads ≡ s.log.reads.zero_reads
-    read_some n reads = elim (Reads-ways rules s t before after (Ok (suc n)) reads) [
+    pub read_some : (n : ℕ) → 0 < n → Reads rules s before (Ok n) after t → t.log.reads.zero_reads ≡ s.log.reads.zero_reads
+    read_some n some reads = elim (Reads-ways rules s t before after (Ok n) reads) [
       | inl b ↦ ap (λ l. l.reads.zero_reads) b.handed.1.told
-          ∙ none_where_shown rules orders s b.filled (suc n) b.fills.filled (omega (arith, b.handed.0))
+          ∙ none_where_shown rules orders s b.filled n b.fills.filled (omega (arith, some, b.handed.0))
       | inr past ↦ ap (λ l. l.reads.zero_reads) past.1.told
-          ∙ zero_of_some (suc n) after s.log.reads.zero_reads (inl (omega arith))
+          ∙ zero_of_some n after s.log.reads.zero_reads (inl some)
     ]
 
-    read_none : Reads rules s before (Ok 0) after t → t.log.reads.zero_reads ≤ s.log.reads.zero_reads + 1
+    pub read_none : Reads rules s before (Ok 0) after t → t.log.reads.zero_reads ≤ s.log.reads.zero_reads + 1
     read_none reads = elim (Reads-ways rules s t before after (Ok 0) reads) [
       | inl b ↦ omega (
         arith,
@@ -73,7 +87,23 @@ module _ {S P : Type 0} (rules : ReadRules P) (orders : ReadsWhenEmpty rules) wh
       )
     ]
 
-    read_fault : (e : Error) → Reads rules s before (Err e) after t → t.log.reads.zero_reads ≡ s.log.reads.zero_reads
+    -- one of something, which then leaves nothing
+    pub read_leaves_none : Reads rules s before (Ok 0) after t → 0 < length before → t.block.bytes ≡ []
+    read_leaves_none reads some = elim (Reads-ways rules s t before after (Ok 0) reads) [
+      | inl b ↦
+          let took = b.handed.1 in
+          nil_from_length t.block.bytes (omega (
+            arith,
+            some,
+            b.handed.0,
+            ap length took.told_policy.law.bytes,
+            ap length took.dropped.bytes,
+            length-drop (min 0 (length b.filled.block.bytes)) b.filled.block.bytes,
+          ))
+      | inr past ↦ ap (λ b. b.bytes) past.1.block ∙ past.0
+    ]
+
+    pub read_fault : (e : Error) → Reads rules s before (Err e) after t → t.log.reads.zero_reads ≡ s.log.reads.zero_reads
     read_fault e reads = elim (Reads-ways rules s t before after (Err e) reads) [
       | inl b ↦
           ap (λ x. x.log.reads.zero_reads) b.handed ∙ none_before_fault rules orders s b.filled e b.fills.filled
@@ -92,7 +122,7 @@ module _ {S P : Type 0} (rules : ReadRules P) (orders : ReadsWhenEmpty rules) wh
         ap (λ x. x.log.reads.zero_reads) (sym reads.calls.call.0) ∙ gave (Ok zero) reads
     ReadsPayload-ends (Ok (suc n)) reads =
         let call = reads.calls.call in
-        read_some reads.calls.last t.reader call.before call.after n call.reads ∙ gave (Ok (suc n)) reads
+        read_some reads.calls.last t.reader call.before call.after (suc n) (omega arith) call.reads ∙ gave (Ok (suc n)) reads
     ReadsPayload-ends (Err (NotChunked why right)) reads =
         some_left reads.calls.last t.reader reads.calls.call.0 reads.calls.call.1
         (omega (arith, ap length reads.answers.2.next)) ∙ gave (Err (NotChunked why right)) reads
@@ -114,3 +144,23 @@ module _ {S P : Type 0} (rules : ReadRules P) (orders : ReadsWhenEmpty rules) wh
       | inr some ↦
           read_fault reads.calls.last t.reader some.before some.after e some.reads ∙ gave (Err (Io e)) reads
     ]
+
+  module _ (remaining : S → Option (List ℕ)) (s : ChunkedState S P) where
+    ReadsOn-ends : (count : ℕ) (t : ChunkedState S P) → ReadsOn remaining rules count s t
+        → t.reader.log.reads.zero_reads ≡ s.reader.log.reads.zero_reads
+    ReadsOn-ends zero t same = ap (λ x. x.reader.log.reads.zero_reads) (sym same)
+    ReadsOn-ends (suc count) t (m, out, n, before, reads) =
+        ReadsPayload-ends remaining m t out (Ok (suc n)) reads ∙ ReadsOn-ends count m before
+
+    pub DrainReads-ends : (answer : Result ℕ ChunkedError) (t : ChunkedState S P) → DrainReads remaining rules s answer t
+        → EndsOnce s.reader.log.reads answer t.reader.log.reads
+    DrainReads-ends answer t drains =
+        let last = drains.last in
+        let never = ReadsOn-ends drains.count last drains.before in
+        elim drains.end [
+          | inl same ↦ subst (λ x. EndsOnce s.reader.log.reads answer x.reader.log.reads) same
+              (behind s.reader.log.reads last.reader.log.reads last.reader.log.reads answer never
+              (of_none last.reader.log.reads answer))
+          | inr (out, room, read) ↦ behind s.reader.log.reads last.reader.log.reads t.reader.log.reads answer never
+              (ReadsPayload-ends remaining last t out answer read)
+        ]

@@ -13,6 +13,7 @@ pub mod BetweenLaws
 pub mod ChunkedReader
 pub mod ChunkedReaderLaws
 pub mod EmptyReads
+pub mod Kinds
 pub mod Asking
 pub mod AskingLaws
 pub mod Given
