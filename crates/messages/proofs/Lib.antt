@@ -1,4 +1,1 @@
 pub mod Going
-pub mod Beginning
-pub mod Passed
-pub mod Asking

@@ -1,6 +1,7 @@
 -- Laws of heads.
-use Rattle.std.specs.Prelude.{◌≡◌, ℕ, List, [], ◌++◌, length}
+use Rattle.std.specs.Prelude.{◌≡◌, ℕ, ◌≤◌, List, [], ◌++◌, length}
 use Rattle.std.proofs.Common.{sym, ap, subst, ◌∙◌, arith, refl, append_assoc, length-append}
+use Rattle.std.proofs.lemmas.List.{length-drop}
 use Rattle.codec.specs.declared.HeaderError.{HeaderError}
 use Rattle.codec.specs.Grammar.{Begins, IsLawful}
 use Rattle.codec.specs.HeaderFormatLaws.{length_prefixed_lawful}
@@ -15,6 +16,12 @@ lines_small = record { some = omega arith; small = omega arith }
 
 pub texts_lawful : IsLawful texts
 texts_lawful = length_prefixed_lawful (scanned lines) (scanned_headers lines lines_small)
+
+-- no head has more bytes
+pub text_few : (bytes none : List ℕ) → texts.piece bytes none → length bytes ≤ 8192
+text_few bytes none is =
+    let some = (scanned_headers lines lines_small).some bytes (length none) is.used is.is in
+    omega (arith, some, is.fits, ap length is.equal, length-append none [], length-drop is.used bytes)
 
 -- lines that stand in front aren't wrong
 clash : (bytes : List ℕ) (e : HeaderError) (b : Begins texts bytes) → ¬ (texts.wrong bytes e)

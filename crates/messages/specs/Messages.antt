@@ -1,8 +1,9 @@
 -- Messages, and what contracts see of a reader that stands in one.
-use Rattle.std.specs.Prelude.{◌≡◌, ◌⊎◌, ◌≤◌, ◌<◌, ◌-◌, ◌^◌, ℕ, List, [], ◌∷◌, ◌++◌, length, take, Option, None, Some, Result, Ok, Err}
+use Rattle.std.specs.Prelude.{◌≡◌, ◌⊎◌, ◌≤◌, ◌<◌, ◌+◌, ◌-◌, ◌*◌, ◌^◌, ℕ, List, [], ◌∷◌, ◌++◌, length, take, Option, None, Some, Result, Ok, Err}
 use Rattle.std.specs.IoError.{error_kind}
 use Rattle.std.specs.declared.io.Error.{Error}
 use Rattle.std.specs.declared.io.ErrorKind.TheVariants.{Other}
+use Rattle.buffer_redux.specs.Block.{Block, Plain}
 use Rattle.buffer_redux.specs.Unbuffer.{StreamWent, Unbuffered, unbuffered}
 use Rattle.chunked.specs.declared.error.ChunkedError.{ChunkedError}
 use Rattle.chunked.specs.declared.error.ChunkedError.TheVariants as chunks
@@ -17,8 +18,6 @@ use Rattle.messages.specs.declared.body.Source.{Source}
 use Rattle.messages.specs.declared.body.Source.TheVariants as source
 use Rattle.messages.specs.declared.error.BodyError.{BodyError}
 use Rattle.messages.specs.declared.error.BodyError.TheVariants.{Wrong, Truncated, Io as Fault}
-use Rattle.messages.specs.declared.error.FinishError.{FinishError}
-use Rattle.messages.specs.declared.error.FinishError.TheVariants.{Body, Memory}
 use Rattle.messages.specs.declared.head.Extent.{Extent}
 use Rattle.messages.specs.declared.head.Extent.TheVariants.{Sized, Chunked}
 use Rattle.messages.specs.declared.head.BadHead.{BadHead}
@@ -104,23 +103,24 @@ abbrev pub IsReady : {S : Type 0} → Unbuffered S → Rest → Type 0
 IsReady s (Bytes n) = (n ≡ 0) ⊎ (0 < length s.left)
 IsReady s (Chunks limits place) = (place ≡ Done) ⊎ (IsSettled place × (0 < length s.left))
 
--- no read of the stream failed
-abbrev pub NoFault : {S : Type 0} → Unbuffered S → Unbuffered S → Type 0
-NoFault s t = t.log.reads.faults ≡ s.log.reads.faults
+-- no read of the stream failed, or gave nothing though it was asked for something
+abbrev pub EachGave : {S : Type 0} → Unbuffered S → Unbuffered S → Type 0
+EachGave s t = (t.log.reads.faults ≡ s.log.reads.faults) × (t.log.reads.zero_reads ≡ s.log.reads.zero_reads)
 
 -- how many bytes of payload are due, where that is known
 abbrev pub due_of : Rest → Option ℕ
 due_of (Bytes n) = Some n
 due_of (Chunks limits place) = None
 
--- why no payload comes: however it goes on, what comes next doesn't complete the body; or the stream was asked where nothing was
--- left, and gave nothing, and the body isn't complete, of which so much is due; or the stream failed, once
+-- why no payload comes: however it goes on, what comes next doesn't complete the body; or the stream gave nothing, once, where
+-- nothing was left, and the body isn't complete, of which so much is due; or the stream failed, once
 abbrev pub Fails : {S : Type 0} → Unbuffered S → BodyError → Unbuffered S → Rest → Type 0
-Fails s (Wrong name) t r = NoFault s t × ((later payload : List ℕ) → ¬ (IsRest r (t.left ++ later) payload))
+Fails s (Wrong name) t r = EachGave s t × ((later payload : List ℕ) → ¬ (IsRest r (t.left ++ later) payload))
 Fails s (Truncated due) t r =
-    NoFault s t × (s.log.reads.zero_reads < t.log.reads.zero_reads) × (t.left ≡ [])
+    (t.log.reads.faults ≡ s.log.reads.faults) × (t.log.reads.zero_reads ≡ s.log.reads.zero_reads + 1) × (t.left ≡ [])
     × ((payload : List ℕ) → ¬ (IsRest r [] payload)) × (due ≡ due_of r)
-Fails s (Fault e) t r = t.log.reads.faults ≡ s.log.reads.faults ++ e ∷ []
+Fails s (Fault e) t r =
+    (t.log.reads.faults ≡ s.log.reads.faults ++ e ∷ []) × (t.log.reads.zero_reads ≡ s.log.reads.zero_reads)
 
 -- as a reader of chunks says it
 abbrev pub body_error : ChunkedError → BodyError
@@ -132,11 +132,9 @@ body_error (chunks.Io e) = Fault e
 abbrev pub TooMany : List ℕ → BodyError → Type 0
 TooMany handed why = (e : Error) × (why ≡ Fault e) × (error_kind e ≡ Other) × (2 ^ 64 - 1 ≤ length handed)
 
--- why a body wasn't finished, of which this payload was dropped: none comes; or it is of more pieces than are counted; or it was
--- taken to its end, and memory was refused for the next head
-abbrev pub FinishFails : {S : Type 0} → Unbuffered S → List ℕ → FinishError → Unbuffered S → Rest → Type 0
-FinishFails s handed (Body e) t r = Fails s e t r ⊎ TooMany handed e
-FinishFails s handed (Memory e) t r = NoFault s t × (r ≡ Bytes 0)
+-- why a body wasn't finished, of which this payload was dropped: none comes; or it is of more pieces than are counted
+abbrev pub FinishFails : {S : Type 0} → Unbuffered S → List ℕ → BodyError → Unbuffered S → Rest → Type 0
+FinishFails s handed e t r = Fails s e t r ⊎ TooMany handed e
 
 -- all of that was taken, and what stands behind the body is left
 pub record Ends {S : Type 0} (remaining : S → Option (List ℕ)) (s : Unbuffered S) (r : Rest) (t : Unbuffered S)
@@ -145,7 +143,7 @@ pub record Ends {S : Type 0} (remaining : S → Option (List ℕ)) (s : Unbuffer
   pub payload : List ℕ
   pub went : StreamWent remaining s wire t
   pub is : IsRest r wire payload
-  pub no_fault : NoFault s t
+  pub gave : EachGave s t
 
 -- a call of a reader in a body, which keeps the head and what that says, did so
 pub record InsideGoes {S : Type 0} (remaining : S → Option (List ℕ)) (s : InBody S) (handed : List ℕ) (t : InBody S)
@@ -191,7 +189,11 @@ abbrev pub rest_of : {S : Type 0} → Source S → Rest
 rest_of (source.Sized reader left) = Bytes left
 rest_of (source.Chunked body) = Chunks body.limits body.place
 
--- its buffer has some capacity, so that the stream ended where it shows nothing; and a chunk has room for its size
+-- a plain buffer in which three heads fit: a reader of heads keeps it, and takes no memory
+abbrev pub IsRoomy : Block → Type 0
+IsRoomy b = (b.kind ≡ Plain) × (3 * 8192 ≤ b.capacity)
+
+-- its buffer is such, and a chunk has room for its size
 abbrev pub HasRoom : {S : Type 0} → Source S → Type 0
-HasRoom (source.Sized reader left) = 0 < reader.block.capacity
-HasRoom (source.Chunked body) = (0 < body.reader.block.capacity) × (0 < body.limits.line)
+HasRoom (source.Sized reader left) = IsRoomy reader.block
+HasRoom (source.Chunked body) = IsRoomy body.reader.block × (0 < body.limits.line)

@@ -5,13 +5,13 @@ ghost use Rattle.buffer_redux.specs.BufReader.{ReadsAlong};
 ghost use Rattle.buffer_redux.specs.Policy.{std_read_rules};
 ghost use Rattle.buffer_redux.specs.Unbuffer.{unbuffered};
 ghost use Rattle.codec.specs.PieceReader.{left_of};
-ghost use Rattle.messages.specs.Messages.{Bytes, Chunks, Ends, Fails, FinishFails, GoesOn, HasRoom, InsideGoes, IsReady, IsRest, NoFault, Takes, Unended, begun, handed_out, rest_of, stream_of};
+ghost use Rattle.messages.specs.Messages.{Bytes, Chunks, EachGave, Ends, Fails, FinishFails, GoesOn, HasRoom, InsideGoes, IsReady, IsRest, IsRoomy, Takes, Unended, begun, handed_out, rest_of, stream_of};
 
-use crate::error::{BodyError, FinishError, unread};
+use crate::error::{BodyError, unread};
 use crate::head::{Extent, Heads, ParsedHead};
 use crate::requests::Requests;
 use buffer_redux::tell::{Tell, TellRead};
-use buffer_redux::{BufReader, Buffer, MakeError};
+use buffer_redux::{BufReader, Buffer};
 use chunked::{ChunkedReader, Limits};
 use codec::PieceReader;
 use std::alloc::Global;
@@ -61,7 +61,7 @@ impl<R: Tell> Body<R> {
     /// The body of a message with this head, of which the reader has the beginning.
     pub(crate) fn new(alloc: Global, reader: BufReader<R>, head: Buffer, said: ParsedHead) -> Self
         requires room { 8192 ≤ head.capacity }
-        requires some { 0 < reader.block.capacity }
+        requires roomy { IsRoomy reader.block }
         ensures { result ≡ begun (unbuffered reader) head.bytes said }
     {
         let source = match said.extent {
@@ -92,15 +92,16 @@ impl<R: Tell> Body<R> {
 }
 
 impl<R: TellRead> Body<R> {
-    /// Hands out payload, at least a byte unless the body ended or the slice is empty. After an `Io` the call can be made again;
-    /// what is wrong, or missing, is so at each further call.
+    /// Hands out payload, at least a byte unless the body ended or the slice is empty. What is wrong is so at each further call.
+    /// After an `Io` or a `Truncated` the call can be made again: it asks the stream, and goes on where more comes.
     ///
-    /// The stream is asked only where no payload is buffered and the body goes on behind all that is: for no byte behind it.
+    /// The stream is asked only where no payload is buffered and the body goes on behind all that is: for no byte behind it, and
+    /// once only where it fails or gives nothing.
     pub fn read(&mut self, out: &mut [u8]) -> Result<usize, BodyError>
         ensures bound { IfOk result (λ n. n ≤ length out.new) }
         ensures goes { InsideGoes R.remaining self.old (handed_out out.new result) self.new }
         ensures ended { result ≡ Ok 0 → 0 < length out.new → IsRest self.new.rest [] [] }
-        ensures no_fault { OnOk result (NoFault self.old.stream self.new.stream) }
+        ensures gave { OnOk result (EachGave self.old.stream self.new.stream) }
         ensures fails { IfErr result (λ e. Fails self.old.stream e self.new.stream self.new.rest) }
         ensures asked { AskedWhere (GoesOn self.old.rest []) self.old.stream self.new.stream }
         ensures idle { IsReady self.old.stream self.old.rest → self.new.stream.log ≡ self.old.stream.log }
@@ -112,8 +113,8 @@ impl<R: TellRead> Body<R> {
     }
 
     /// Goes on to the next head: takes what is left of the body, and drops its payload. The stream is asked for no byte behind
-    /// it. An `Err` hands the reader back, in the body still.
-    pub fn finish(self) -> Result<Requests<R>, (Self, FinishError)>
+    /// it, and no memory is taken. An `Err` hands the reader back, in the body still.
+    pub fn finish(self) -> Result<Requests<R>, (Self, BodyError)>
         ensures ends { MatchResult result (λ next. Ends R.remaining self.stream self.rest (left_of next))
             (λ e. (handed : List ℕ) × InsideGoes R.remaining self handed e.0
             × FinishFails self.stream handed e.1 e.0.stream e.0.rest) }
@@ -131,15 +132,7 @@ impl<R: TellRead> Body<R> {
                 let (inner, buffer) = reader.into_inner_with_buffer();
                 match PieceReader::with_buffer(alloc, buffer, inner, Heads) {
                     Ok(pieces) => Ok(Requests::before(alloc, pieces, head)),
-                    Err(MakeError(back, e)) => Err((
-                        Body {
-                            alloc,
-                            source: Source::Sized(BufReader::with_buffer(back.0, back.1), 0),
-                            head,
-                            said,
-                        },
-                        FinishError::Memory(e),
-                    )),
+                    Err(_) => unreachable!(),
                 }
             }
             Err((source, e)) => Err((
@@ -149,7 +142,7 @@ impl<R: TellRead> Body<R> {
                     head,
                     said,
                 },
-                FinishError::Body(e),
+                e,
             )),
         }
     }
@@ -162,11 +155,12 @@ fn read_sized<R: TellRead>(
     out: &mut [u8],
 ) -> Result<usize, BodyError>
     ensures bound { IfOk result (λ n. n ≤ length out.new) }
+    ensures kind { reader.new.block.kind ≡ reader.old.block.kind }
     ensures room { reader.old.block.capacity ≤ reader.new.block.capacity }
     ensures takes { Takes R.remaining (unbuffered reader.old) (Bytes left.old) (handed_out out.new result)
         (unbuffered reader.new) (Bytes left.new) }
     ensures ended { result ≡ Ok 0 → 0 < length out.new → left.new ≡ 0 }
-    ensures no_fault { OnOk result (NoFault (unbuffered reader.old) (unbuffered reader.new)) }
+    ensures gave { OnOk result (EachGave (unbuffered reader.old) (unbuffered reader.new)) }
     ensures fails { IfErr result (λ e. Fails (unbuffered reader.old) e (unbuffered reader.new) (Bytes left.new)) }
     ensures asked { AskedWhere (GoesOn (Bytes left.old) []) (unbuffered reader.old) (unbuffered reader.new) }
     ensures idle { IsReady (unbuffered reader.old) (Bytes left.old) → reader.new.log ≡ reader.old.log }
@@ -194,7 +188,7 @@ fn read_chunked<R: TellRead>(
     ensures takes { Takes R.remaining (unbuffered body.old.reader) (Chunks body.old.limits body.old.place)
         (handed_out out.new result) (unbuffered body.new.reader) (Chunks body.new.limits body.new.place) }
     ensures ended { result ≡ Ok 0 → 0 < length out.new → IsRest (Chunks body.new.limits body.new.place) [] [] }
-    ensures no_fault { OnOk result (NoFault (unbuffered body.old.reader) (unbuffered body.new.reader)) }
+    ensures gave { OnOk result (EachGave (unbuffered body.old.reader) (unbuffered body.new.reader)) }
     ensures fails { IfErr result (λ e. Fails (unbuffered body.old.reader) e (unbuffered body.new.reader)
         (Chunks body.new.limits body.new.place)) }
     ensures asked { AskedWhere (GoesOn (Chunks body.old.limits body.old.place) []) (unbuffered body.old.reader)
@@ -212,12 +206,12 @@ fn read_chunked<R: TellRead>(
 // Takes what is left of a body.
 fn end_of<R: TellRead>(source: Source<R>) -> Result<BufReader<R>, (Source<R>, BodyError)>
     requires { HasRoom source }
-    ensures room { MatchResult result (λ reader. 0 < reader.block.capacity) (λ e. HasRoom e.0) }
+    ensures room { MatchResult result (λ reader. IsRoomy reader.block) (λ e. HasRoom e.0) }
     ensures ends { MatchResult result
         (λ reader. Ends R.remaining (stream_of source) (rest_of source) (unbuffered reader))
         (λ e. (handed : List ℕ)
         × Takes R.remaining (stream_of source) (rest_of source) handed (stream_of e.0) (rest_of e.0)
-        × FinishFails (stream_of source) handed (FinishError.Body e.1) (stream_of e.0) (rest_of e.0)) }
+        × FinishFails (stream_of source) handed e.1 (stream_of e.0) (rest_of e.0)) }
     ensures asked { MatchResult result
         (λ reader. AskedWhere (Unended (rest_of source)) (stream_of source) (unbuffered reader))
         (λ e. AskedWhere (Unended (rest_of source)) (stream_of source) (stream_of e.0)) }
@@ -235,12 +229,12 @@ fn finish_chunked<R: TellRead>(
     body: ChunkedReader<R>,
 ) -> Result<BufReader<R>, (Source<R>, BodyError)>
     requires { HasRoom (Source.Chunked body) }
-    ensures room { MatchResult result (λ reader. 0 < reader.block.capacity) (λ e. HasRoom e.0) }
+    ensures room { MatchResult result (λ reader. IsRoomy reader.block) (λ e. HasRoom e.0) }
     ensures ends { MatchResult result
         (λ reader. Ends R.remaining (unbuffered body.reader) (Chunks body.limits body.place) (unbuffered reader))
         (λ e. (handed : List ℕ) × Takes R.remaining (unbuffered body.reader) (Chunks body.limits body.place) handed
         (stream_of e.0) (rest_of e.0)
-        × FinishFails (unbuffered body.reader) handed (FinishError.Body e.1) (stream_of e.0) (rest_of e.0)) }
+        × FinishFails (unbuffered body.reader) handed e.1 (stream_of e.0) (rest_of e.0)) }
     ensures asked { MatchResult result
         (λ reader. AskedWhere (Unended (Chunks body.limits body.place)) (unbuffered body.reader) (unbuffered reader))
         (λ e. AskedWhere (Unended (Chunks body.limits body.place)) (unbuffered body.reader) (stream_of e.0)) }
@@ -258,10 +252,11 @@ fn finish_chunked<R: TellRead>(
 // Drops so many bytes.
 fn skip<R: TellRead>(reader: &mut BufReader<R>, left: &mut u64) -> Result<(), BodyError>
     requires { 0 < reader.old.block.capacity }
+    ensures kind { reader.new.block.kind ≡ reader.old.block.kind }
     ensures dropped { (wire : List ℕ) × ReadsAlong R.remaining std_read_rules reader.old wire reader.new
         × (length wire + left.new ≡ left.old) }
     ensures all { OnOk result (left.new ≡ 0) }
-    ensures no_fault { OnOk result (NoFault (unbuffered reader.old) (unbuffered reader.new)) }
+    ensures gave { OnOk result (EachGave (unbuffered reader.old) (unbuffered reader.new)) }
     ensures fails { IfErr result (λ e. Fails (unbuffered reader.old) e (unbuffered reader.new) (Bytes left.new)) }
     ensures asked { AskedWhere (Unended (Bytes left.old)) (unbuffered reader.old) (unbuffered reader.new) }
 {

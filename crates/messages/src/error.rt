@@ -1,8 +1,7 @@
-//! Why there is no payload, or no way to the next head.
+//! Why there is no payload.
 ghost use Rattle.std.specs.Prelude.{◌≡◌};
 ghost use Rattle.messages.specs.Messages.{body_error};
 
-use buffer_redux::GrowError;
 use chunked::{ChunkedError, Malformed};
 use std::error::Error;
 use std::{fmt, io};
@@ -17,15 +16,6 @@ pub enum BodyError {
     Truncated(Option<u64>),
     /// The stream failed. The call can be made again.
     Io(io::Error),
-}
-
-/// Why the next head can't be gone on to.
-#[derive(Debug, Drop)]
-pub enum FinishError {
-    /// The body doesn't end.
-    Body(BodyError),
-    /// Memory was wanted for the next head. The call can be made again.
-    Memory(GrowError),
 }
 
 impl fmt::Display for BodyError {

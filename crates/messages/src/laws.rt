@@ -7,7 +7,7 @@ ghost use Rattle.messages.specs.Messages.{AreMessages, Begun, Ends, InBody, Mess
 ghost use Rattle.messages.specs.Passing.{StopsIn};
 
 use crate::body::Body;
-use crate::error::FinishError;
+use crate::error::BodyError;
 use crate::requests::{Requests, Stop};
 use buffer_redux::tell::{Tell, TellRead};
 
@@ -41,7 +41,7 @@ pub fn no_byte_between<R: TellRead>(requests: &Requests<R>)
 #[derive(Drop)]
 pub enum Stopped<R: Tell> {
     Before(Requests<R>, Stop),
-    Inside(Body<R>, FinishError),
+    Inside(Body<R>, BodyError),
 }
 
 /// Passes so many messages, however the stream is cut: each begins where the one before it ended, and what is left begins where

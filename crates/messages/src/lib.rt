@@ -12,6 +12,6 @@ mod lines;
 mod requests;
 
 pub use body::Body;
-pub use error::{BodyError, FinishError};
+pub use error::BodyError;
 pub use head::{BadHead, Extent, Heads, MAX_FIELDS, MAX_HEAD, ParsedHead, read_head};
 pub use requests::{Requests, Stop};

@@ -19,7 +19,7 @@ use std::marker::Model;
 pub enum Stop {
     /// The stream ended behind the last message.
     Ended,
-    /// What comes next is no head. Each further call says the same.
+    /// What comes next is no head. Each further call says the same, unless the stream ended in a head, and gives more then.
     Bad(BadHead),
     /// The stream failed. The call can be made again.
     Io(io::Error),

@@ -1,8 +1,8 @@
 -- Answers, one after another.
-use Rattle.std.proofs.Common.{◌≡◌, ℕ, ◌+◌, ◌≤◌, ◌⊎◌, Bool, true, false, List, [], ◌∷◌, ◌++◌, length, Option, Result, Ok, Err, OnOk, IfErr, sym, ap, subst, inl, inr, ◌∙◌, refl, arith, append_assoc, append-nil, length-append}
+use Rattle.std.proofs.Common.{◌≡◌, ℕ, ◌+◌, Bool, true, false, List, [], ◌∷◌, ◌++◌, length, Option, Result, Ok, Err, OnOk, IfErr, sym, ap, subst, inl, inr, ◌∙◌, refl, arith, append_assoc, append-nil, length-append}
 use Rattle.std.proofs.lemmas.List.Elements.{All-nil}
 use Rattle.std.specs.declared.io.Error.{Error}
-use Rattle.redux_buffer.specs.Faults.{OnlyInterrupts, OnlyInterrupts-joins}
+use Rattle.redux_buffer.specs.Faults.{OnlyInterrupts}
 use Rattle.buffer_redux.specs.BufWriter.{BegunAlong, WasFlushed, WritesAlong}
 use Rattle.buffer_redux.specs.Buffered.{Buffered}
 use Rattle.buffer_redux.specs.Policy.{std_write_rules}
@@ -12,18 +12,17 @@ use Rattle.buffer_redux.specs.UnbufferLaws.{StreamWent-joins}
 use Rattle.buffer_redux.specs.WritesAlongLaws.{BegunAlong-more, BegunAlong-of, FrontAlong-after, WasFlushed-along, WriterStopped-after, WriterStopped-send, WritesAlong-none, WritesAlong-then}
 use Rattle.buffer_redux.specs.declared.policy.StdPolicy.{StdPolicy}
 use Rattle.codec.specs.PieceReader.{ReaderState, left_of}
+use Rattle.messages.specs.declared.error.BodyError.{BodyError}
 use Rattle.messages.specs.declared.error.BodyError.TheVariants.{Wrong, Truncated, Io}
-use Rattle.messages.specs.declared.error.FinishError.{FinishError}
-use Rattle.messages.specs.declared.error.FinishError.TheVariants.{Body, Memory}
 use Rattle.messages.specs.declared.head.Heads.{Heads}
 use Rattle.messages.specs.declared.head.ParsedHead.{ParsedHead}
 use Rattle.messages.specs.Messages.{Begun, InBody, InsideGoes, IsMessage, Message}
 use Rattle.messages.specs.MessagesLaws.{Begun-went, InTurn-joins, InTurn-one, MessageWent-of, Takes-none}
-use Rattle.programs.specs.Streams.{AllSent}
+use Rattle.programs.specs.Streams.{AllSent, EndsOnce}
 use Rattle.requests.specs.declared.Place.{Place}
 use Rattle.requests.specs.declared.Place.TheVariants.{Inside}
-use Rattle.requests.proofs.Reading.{IsOver-still, IsWrong-still, begun_ends, begun_reads, is_part, unread_still}
-use Rattle.requests.specs.Answers.{Answers, EndsBody, Continues, IsAnswer, IsOver, IsPart, IsWrong, Keeps, LacksMemory, ReadStops, Sends, SendStops, Serves, TakeFails, TakesWhole, accepted, call_at, called, ends_of, faults_of, refused, stream_at, waits}
+use Rattle.requests.proofs.Reading.{IsOver-still, IsWrong-still, ReadStops-still, begun_once, begun_steady, is_part, joined}
+use Rattle.requests.specs.Answers.{Answers, EndsBody, Continues, IsAnswer, IsOver, IsPart, IsWrong, Keeps, ReadStops, Sends, SendStops, Serves, TakeFails, TakesWhole, accepted, call_at, called, faults_of, refused, stream_at, waits}
 
 pub on_ok : {P : Type 0} (answer : Result (Unit {0}) Error) → P → OnOk answer P
 on_ok (Ok x) p = p
@@ -109,10 +108,10 @@ module _ {W : Type 0} {tells : W → StreamLog} {trace : W → W → Type 0} whe
         (handed : List ℕ) (place : Place R) (refuses : Bool) (sending : Result (Unit {0}) Error)
         → IsPart place taken handed
         → Answers remaining tells trace messages s w taken (call_at place ++ refused refuses) (stream_at place) sending w'
-        → (refuses ≡ true → IsWrong s place)
+        → EndsOnce s.log.reads (stream_at place).log.reads → (refuses ≡ true → IsWrong s place)
         → OnOk sending (OnlyInterrupts (faults_of s) (faults_of (stream_at place)) × IsOver messages refuses s place)
         → Serves remaining tells trace s w place sending w'
-    Serves-sent {messages} {s} {w} {w'} {taken} handed place refuses (Ok tt) part answers wrong over = record {
+    Serves-sent {messages} {s} {w} {w'} {taken} handed place refuses (Ok tt) part answers once wrong over = record {
       messages = messages;
       taken = taken;
       handed = handed;
@@ -120,12 +119,13 @@ module _ {W : Type 0} {tells : W → StreamLog} {trace : W → W → Type 0} whe
       refuses = refuses;
       sending = Ok tt;
       answers = answers;
+      once = once;
       wrong = wrong;
       unsent = tt;
       over = over;
       unread = tt;
     }
-    Serves-sent {messages} {s} {w} {w'} {taken} handed place refuses (Err e) part answers wrong over = record {
+    Serves-sent {messages} {s} {w} {w'} {taken} handed place refuses (Err e) part answers once wrong over = record {
       messages = messages;
       taken = taken;
       handed = handed;
@@ -133,6 +133,7 @@ module _ {W : Type 0} {tells : W → StreamLog} {trace : W → W → Type 0} whe
       refuses = refuses;
       sending = Err e;
       answers = answers;
+      once = once;
       wrong = wrong;
       unsent = refl;
       over = tt;
@@ -143,9 +144,9 @@ module _ {W : Type 0} {tells : W → StreamLog} {trace : W → W → Type 0} whe
     pub Serves-unread : {messages : List Message} {s : Unbuffered R} {w w' : Buffered W StdPolicy} {taken : List ℕ}
         (handed : List ℕ) (place : Place R) (e : Error) → IsPart place taken handed
         → Answers remaining tells trace messages s w taken (call_at place ++ []) (stream_at place) (Ok tt) w'
-        → ReadStops (length messages + length handed) s e (stream_at place) ⊎ LacksMemory s e place
-        → Serves remaining tells trace s w place (Err e) w'
-    Serves-unread {messages} {s} {w} {w'} {taken} handed place e part answers stops = record {
+        → EndsOnce s.log.reads (stream_at place).log.reads
+        → ReadStops (length messages + length handed) s e (stream_at place) → Serves remaining tells trace s w place (Err e) w'
+    Serves-unread {messages} {s} {w} {w'} {taken} handed place e part answers once stops = record {
       messages = messages;
       taken = taken;
       handed = handed;
@@ -153,6 +154,7 @@ module _ {W : Type 0} {tells : W → StreamLog} {trace : W → W → Type 0} whe
       refuses = false;
       sending = Ok tt;
       answers = answers;
+      once = once;
       wrong = λ odd. absurd (cc);
       unsent = tt;
       over = tt;
@@ -171,33 +173,23 @@ module _ {W : Type 0} {tells : W → StreamLog} {trace : W → W → Type 0} whe
             Sends-after joins w v w' (call_at (Inside t)) last sending
             (subst (λ x. Sends tells trace w (called (waits x)) (Ok tt) v) (sym goes.said) call) sends
 
-        refused_torn : (answer : Result (Unit {0}) Error) → OnlyInterrupts (faults_of b.stream) (faults_of t.stream)
-            → IsWrong b.stream (Inside t) → Sends tells trace v (refused true) answer w'
-            → Serves remaining tells trace (left_of s) w (Inside t) answer w'
-        refused_torn answer reads torn sends =
+        refused_torn : (answer : Result (Unit {0}) Error) → EndsOnce b.stream.log.reads t.stream.log.reads
+            → OnlyInterrupts (faults_of b.stream) (faults_of t.stream) → IsWrong b.stream (Inside t)
+            → Sends tells trace v (refused true) answer w' → Serves remaining tells trace (left_of s) w (Inside t) answer w'
+        refused_torn answer once reads torn sends =
             Serves-sent handed (Inside t) true answer (is_part begun goes)
-            (part_answered begun goes (behind (refused true) answer sends))
-            (λ _. IsWrong-still (left_of s) b.stream (begun_reads begun) (begun_ends begun) (Inside t) torn)
-            (on_ok answer (
-              OnlyInterrupts-joins (faults_of (left_of s)) (faults_of b.stream) (faults_of t.stream) (begun_reads begun) reads,
-              inr (All-nil (Keeps true), inl refl),
-            ))
+            (part_answered begun goes (behind (refused true) answer sends)) (begun_once begun t.stream once)
+            (λ _. IsWrong-still (begun_steady begun) (Inside t) torn)
+            (on_ok answer (joined (begun_steady begun) t.stream reads, inr (All-nil (Keeps true), inl refl)))
 
-        failed_inside : (e : Error) → ReadStops (length handed) b.stream e t.stream ⊎ LacksMemory b.stream e (Inside t)
-            → Sends tells trace v [] (Ok tt) w' → Serves remaining tells trace (left_of s) w (Inside t) (Err e) w'
-        failed_inside e stops sends =
-            Serves-unread handed (Inside t) e (is_part begun goes) (part_answered begun goes (behind [] (Ok tt) sends))
-            (unread_still (left_of s) b.stream (begun_reads begun) (begun_ends begun) 0 (length handed) e (Inside t) stops)
-
-        pub torn_answered : (why : FinishError) (answer : Result (Unit {0}) Error) → TakeFails b.stream handed why t
+        pub torn_answered : (why : BodyError) (answer : Result (Unit {0}) Error) → TakeFails b.stream handed why t
             → EndsBody tells trace v why answer w' → Serves remaining tells trace (left_of s) w (Inside t) answer w'
-        torn_answered (Body (Wrong why)) answer (reads, torn) sends = refused_torn answer reads torn sends
-        torn_answered (Body (Truncated due)) answer (reads, torn) sends = refused_torn answer reads torn sends
-        torn_answered (Body (Io e)) answer stops (same, sends) =
-            subst (λ r. Serves remaining tells trace (left_of s) w (Inside t) r w') (sym same) (failed_inside e (inl stops) sends)
-        torn_answered (Memory e) (Err why) (reads, whole) (memory, sends) =
-            failed_inside why (inr (memory, reads, whole)) sends
-        torn_answered (Memory e) (Ok x) fails (odd, sends) = absurd odd
+        torn_answered (Wrong why) answer (once, reads, torn) sends = refused_torn answer once reads torn sends
+        torn_answered (Truncated due) answer (once, reads, torn) sends = refused_torn answer once reads torn sends
+        torn_answered (Io e) answer (once, stops) (same, sends) =
+            subst (λ r. Serves remaining tells trace (left_of s) w (Inside t) r w') (sym same)
+            (Serves-unread handed (Inside t) e (is_part begun goes) (part_answered begun goes (behind [] (Ok tt) sends))
+            (begun_once begun t.stream once) (ReadStops-still (begun_steady begun) 0 (length handed) e t.stream stops))
 
       -- one did, whole, and its payload was counted
       pub one_answered : {s : ReaderState R Heads} {b : InBody R} {t : Unbuffered R} {len : ℕ} {said : ParsedHead}
@@ -248,34 +240,31 @@ module _ {W : Type 0} {tells : W → StreamLog} {trace : W → W → Type 0} whe
           refuses = b.refuses;
           sending = b.sending;
           answers = Answers-joins a.answers b.answers;
-          wrong = λ is. IsWrong-still s m a.reads ends place (b.wrong is);
+          once = omega (arith, b.once, a.reads.ends);
+          wrong = λ is. IsWrong-still a.reads place (b.wrong is);
           unsent = b.unsent;
           over = over answer b.over;
           unread = unread b.sending answer b.unread;
         }
           where
-            ends : ends_of s ≤ ends_of m
-            ends = a.answers.went.grows.zero_reads
-
             over : (answer : Result (Unit {0}) Error)
                 → OnOk answer (OnlyInterrupts (faults_of m) (faults_of (stream_at place)) × IsOver b.messages b.refuses m place)
                 → OnOk answer (OnlyInterrupts (faults_of s) (faults_of (stream_at place))
                 × IsOver (a.messages ++ b.messages) b.refuses s place)
             over (Ok x) (met, is) = (
-              OnlyInterrupts-joins (faults_of s) (faults_of m) (faults_of (stream_at place)) a.reads met,
-              IsOver-still s m a.reads ends a.messages b.messages b.refuses place a.keep is,
+              joined a.reads (stream_at place) met,
+              IsOver-still a.reads a.messages b.messages b.refuses place a.keep is,
             )
             over (Err e) is = tt
 
             unread : (sending answer : Result (Unit {0}) Error)
-                → OnOk sending (IfErr answer (λ e. ReadStops (length b.messages + length b.handed) m e (stream_at place)
-                ⊎ LacksMemory m e place))
+                → OnOk sending (IfErr answer (λ e. ReadStops (length b.messages + length b.handed) m e (stream_at place)))
                 → OnOk sending (IfErr answer (λ e. ReadStops (length (a.messages ++ b.messages) + length b.handed) s e
-                (stream_at place) ⊎ LacksMemory s e place))
+                (stream_at place)))
             unread (Err e) answer is = tt
             unread (Ok x) (Ok y) is = tt
             unread (Ok x) (Err e) is =
                 let both : length a.messages + (length b.messages + length b.handed)
                 ≡ length (a.messages ++ b.messages) + length b.handed = omega (arith, length-append a.messages b.messages) in
-                subst (λ n. ReadStops n s e (stream_at place) ⊎ LacksMemory s e place) both
-                (unread_still s m a.reads ends (length a.messages) (length b.messages + length b.handed) e place is)
+                subst (λ n. ReadStops n s e (stream_at place)) both
+                (ReadStops-still a.reads (length a.messages) (length b.messages + length b.handed) e (stream_at place) is)

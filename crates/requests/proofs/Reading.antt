@@ -1,27 +1,28 @@
 -- What reads of a run met.
-use Rattle.std.proofs.Common.{◌≡◌, ℕ, ◌+◌, ◌<◌, ◌≤◌, ◌⊎◌, Bool, true, List, [], ◌∷◌, ◌++◌, All, length, Option, sym, ap, subst, inl, inr, ◌∙◌, refl, arith, append_assoc, append-nil, length-append}
+use Rattle.std.proofs.Common.{◌≡◌, ℕ, ◌+◌, ◌<◌, ◌≤◌, Bool, true, List, [], ◌∷◌, ◌++◌, All, length, Option, sym, ap, subst, inl, inr, ◌∙◌, refl, arith, append_assoc, append-nil, length-append}
 use Rattle.std.proofs.lemmas.List.{nil_from_length}
 use Rattle.std.proofs.lemmas.List.Elements.{All-append, All-cons, All-nil}
 use Rattle.std.specs.declared.io.Error.{Error}
 use Rattle.redux_buffer.specs.Faults.{FaultAfterInterrupts, FaultAfterInterrupts-after, IsInterrupt, OnlyInterrupts, OnlyInterrupts-joins, OnlyInterrupts-none}
-use Rattle.buffer_redux.specs.Unbuffer.{Unbuffered}
+use Rattle.buffer_redux.specs.Unbuffer.{StreamWent, Unbuffered}
 use Rattle.buffer_redux.specs.UnbufferLaws.{StreamWent-joins}
 use Rattle.chunked.specs.Asking.{AskedWhere}
 use Rattle.chunked.specs.ChunkedReaderLaws.{Completes-nothing}
 use Rattle.chunked.specs.Place.{Completes}
 use Rattle.chunked.specs.declared.place.Place.TheVariants.{Done}
+use Rattle.codec.specs.NextPiece.{NextAnswer, NextPiece}
+use Rattle.codec.specs.PiecesWentLaws.{PiecesWent-stream}
 use Rattle.codec.specs.PieceReader.{ReaderState, left_of}
 use Rattle.messages.specs.declared.error.BodyError.{BodyError}
 use Rattle.messages.specs.declared.error.BodyError.TheVariants.{Wrong, Truncated, Io}
-use Rattle.messages.specs.declared.error.FinishError.{FinishError}
-use Rattle.messages.specs.declared.error.FinishError.TheVariants.{Body, Memory}
+use Rattle.messages.specs.declared.head.BadHead.{BadHead}
 use Rattle.messages.specs.declared.head.Heads.{Heads}
-use Rattle.messages.specs.Heads.{IsHead}
-use Rattle.messages.specs.Messages.{Begun, Bytes, Chunks, Ends, Fails, FinishFails, InBody, InsideGoes, IsRest, Message, Onward, Rest, Unended, body_of}
-use Rattle.messages.specs.MessagesLaws.{Begun-went}
+use Rattle.messages.specs.Heads.{IsHead, heads}
+use Rattle.messages.specs.Messages.{Begun, Bytes, Chunks, EachGave, Ends, Fails, FinishFails, InBody, InsideGoes, IsRest, Message, Onward, Rest, Unended, body_of}
+use Rattle.programs.specs.Streams.{EndsOnce}
 use Rattle.requests.specs.declared.Place.{Place}
 use Rattle.requests.specs.declared.Place.TheVariants.{Before, Inside}
-use Rattle.requests.specs.Answers.{HasEnded, IsOver, IsPart, IsWrong, Keeps, LacksMemory, ReadStops, TakeFails, TakesWhole, ends_of, faults_of, stream_at}
+use Rattle.requests.specs.Answers.{HasEnded, IsOver, IsPart, IsWrong, Keeps, ReadStops, ReadsSteadily, TakeFails, TakesWhole, ends_of, faults_of}
 
 -- no fault was met, or one
 pub none_met : {a b : List Error} → b ≡ a → OnlyInterrupts a b
@@ -41,28 +42,33 @@ failed_behind a b c e reads faults = record {
   faults = faults ∙ ap (λ l. l ++ e ∷ []) reads.faults;
 }
 
+pub steady_none : {S : Type 0} {s t : Unbuffered S} → EachGave s t → ReadsSteadily s t
+steady_none gave = record { faults = none_met gave.0; ends = gave.1 }
+
 pub no_shorter : {a b : List Error} → OnlyInterrupts a b → length a ≤ length b
 no_shorter {a} {b} reads = omega (arith, ap length reads.faults, length-append a reads.interrupts)
 
 -- what was met from here on was met since
-module _ {S : Type 0} (s m : Unbuffered S) (reads : OnlyInterrupts (faults_of s) (faults_of m))
-    (ends : ends_of s ≤ ends_of m) where
-  joined : (t : Unbuffered S) → OnlyInterrupts (faults_of m) (faults_of t) → OnlyInterrupts (faults_of s) (faults_of t)
-  joined t met = OnlyInterrupts-joins (faults_of s) (faults_of m) (faults_of t) reads met
+module _ {S : Type 0} {s m : Unbuffered S} (steady : ReadsSteadily s m) where
+  pub joined : (t : Unbuffered S) → OnlyInterrupts (faults_of m) (faults_of t) → OnlyInterrupts (faults_of s) (faults_of t)
+  joined t met = OnlyInterrupts-joins (faults_of s) (faults_of m) (faults_of t) steady.faults met
+
+  pub steadily : {t : Unbuffered S} → ReadsSteadily m t → ReadsSteadily s t
+  steadily {t} more = record { faults = joined t more.faults; ends = more.ends ∙ steady.ends }
 
   pub IsWrong-still : (place : Place S) → IsWrong m place → IsWrong s place
   IsWrong-still (Before requests) (inl none) = inl none
-  IsWrong-still (Before requests) (inr (more, some, cut)) = inr (omega (arith, ends, more), some, cut)
+  IsWrong-still (Before requests) (inr (more, some, cut)) = inr (omega (arith, steady.ends, more), some, cut)
   IsWrong-still (Inside body) (inl torn) = inl torn
-  IsWrong-still (Inside body) (inr (more, none, cut)) = inr (omega (arith, ends, more), none, cut)
+  IsWrong-still (Inside body) (inr (more, none, cut)) = inr (omega (arith, steady.ends, more), none, cut)
 
   HasEnded-still : (place : Place S) → HasEnded m place → HasEnded s place
-  HasEnded-still (Before requests) (more, none) = (omega (arith, ends, more), none)
+  HasEnded-still (Before requests) (more, none) = (omega (arith, steady.ends, more), none)
   HasEnded-still (Inside body) odd = odd
 
   pub IsOver-still : (ms ns : List Message) (refuses : Bool) (place : Place S) → All (Keeps true) ms → IsOver ns refuses m place
       → IsOver (ms ++ ns) refuses s place
-  IsOver-still ms ns refuses place keep (inl (closes, not)) = inl (
+  IsOver-still ms ns refuses place keep (inl (closes, not, ends)) = inl (
     record {
       before = ms ++ closes.before;
       last = closes.last;
@@ -71,64 +77,73 @@ module _ {S : Type 0} (s m : Unbuffered S) (reads : OnlyInterrupts (faults_of s)
       close = closes.close;
     },
     not,
+    ends ∙ steady.ends,
   )
   IsOver-still ms ns refuses place keep (inr (more, inl is)) = inr (All-append (Keeps true) ms ns keep more, inl is)
   IsOver-still ms ns refuses place keep (inr (more, inr ended)) =
       inr (All-append (Keeps true) ms ns keep more, inr (HasEnded-still place ended))
 
-  ReadStops-still : (more count : ℕ) (e : Error) (t : Unbuffered S) → ReadStops count m e t
+  pub ReadStops-still : (more count : ℕ) (e : Error) (t : Unbuffered S) → ReadStops count m e t
       → ReadStops (more + count) s e t
   ReadStops-still more count e t (inl (fault, hard)) =
-      inl (FaultAfterInterrupts-after (faults_of s) (faults_of m) (faults_of t) e reads fault, hard)
+      inl (FaultAfterInterrupts-after (faults_of s) (faults_of m) (faults_of t) e steady.faults fault, hard)
   ReadStops-still more count e t (inr (met, many)) = inr (
     joined t met,
-    record { other = many.other; large = omega (arith, many.large, no_shorter reads, no_shorter met) },
+    record { other = many.other; large = omega (arith, many.large, no_shorter steady.faults, no_shorter met) },
   )
-
-  LacksMemory-still : (e : Error) (place : Place S) → LacksMemory m e place → LacksMemory s e place
-  LacksMemory-still e (Before requests) odd = odd
-  LacksMemory-still e (Inside body) (memory, met, whole) = (memory, joined body.stream met, whole)
-
-  pub unread_still : (more count : ℕ) (e : Error) (place : Place S)
-      → ReadStops count m e (stream_at place) ⊎ LacksMemory m e place
-      → ReadStops (more + count) s e (stream_at place) ⊎ LacksMemory s e place
-  unread_still more count e place (inl stops) = inl (ReadStops-still more count e (stream_at place) stops)
-  unread_still more count e place (inr lacks) = inr (LacksMemory-still e place lacks)
 
   -- why a read in a body failed is why the whole isn't taken
   pub TakeFails-of : (handed : List ℕ) (b : InBody S) (e : BodyError) → ((why : Error) → e ≡ Io why → ¬ (IsInterrupt why))
-      → Fails m e b.stream b.rest → TakeFails s handed (Body e) b
-  TakeFails-of handed b (Wrong why) hard (none, torn) = (joined b.stream (none_met none), inl torn)
-  TakeFails-of handed b (Truncated due) hard (none, more, left, cut, so_many) =
-      (joined b.stream (none_met none), inr (omega (arith, ends, more), left, cut))
-  TakeFails-of handed b (Io e) hard fault =
-      inl (failed_behind (faults_of s) (faults_of m) (faults_of b.stream) e reads fault, hard e refl)
+      → Fails m e b.stream b.rest → TakeFails s handed e b
+  TakeFails-of handed b (Wrong why) hard (gave, torn) =
+      (omega (arith, steady.ends, gave.1), joined b.stream (none_met gave.0), inl torn)
+  TakeFails-of handed b (Truncated due) hard (none, end, left, cut, so_many) = (
+    omega (arith, steady.ends, end),
+    joined b.stream (none_met none),
+    inr (omega (arith, steady.ends, end), left, cut),
+  )
+  TakeFails-of handed b (Io e) hard (fault, none) = (
+    omega (arith, steady.ends, none),
+    inl (failed_behind (faults_of s) (faults_of m) (faults_of b.stream) e steady.faults fault, hard e refl),
+  )
 
   -- where no fault was met, none is why
   no_fault : (b : InBody S) (e : Error) → Fails m (Io e) b.stream b.rest → faults_of b.stream ≡ faults_of m → ⊥
   no_fault b e fault same =
-      omega (arith, ap length fault, ap length same, length-append (faults_of m) (e ∷ []))
+      omega (arith, ap length fault.0, ap length same, length-append (faults_of m) (e ∷ []))
 
-  pub TakeFails-behind : (handed more : List ℕ) (b : InBody S) (why : FinishError) → FinishFails m more why b.stream b.rest
-      → faults_of b.stream ≡ faults_of m → TakeFails s (handed ++ more) why b
-  TakeFails-behind handed more b (Body e) (inl fails) same =
-      TakeFails-of (handed ++ more) b e (λ why is. absurd (no_fault b why (subst (λ x. Fails m x b.stream b.rest) is fails) same))
-      fails
-  TakeFails-behind handed more b (Body why) (inr (e, is, other, many)) same =
-      subst (λ x. TakeFails s (handed ++ more) (Body x) b) (sym is) (inr (
-        joined b.stream (none_met same),
-        record { other = other; large = omega (arith, many, length-append handed more) },
-      ))
-  TakeFails-behind handed more b (Memory e) (none, whole) same = (joined b.stream (none_met none), whole)
+  pub TakeFails-behind : (handed more : List ℕ) (b : InBody S) (why : BodyError) → FinishFails m more why b.stream b.rest
+      → EachGave m b.stream → TakeFails s (handed ++ more) why b
+  TakeFails-behind handed more b why (inl fails) gave =
+      TakeFails-of (handed ++ more) b why
+      (λ e is. absurd (no_fault b e (subst (λ x. Fails m x b.stream b.rest) is fails) gave.0)) fails
+  TakeFails-behind handed more b why (inr (e, is, other, many)) gave =
+      subst (λ x. TakeFails s (handed ++ more) x b) (sym is) (
+        omega (arith, steady.ends, gave.1),
+        inr (
+          joined b.stream (none_met gave.0),
+          record { other = other; large = omega (arith, many, length-append handed more) },
+        ),
+      )
 
--- the head of a message went without a fault, and no end was met again
+-- a call that goes into no message takes nothing
+pub nothing_went : {R : Type 0} {remaining : R → Option (List ℕ)} {s t : ReaderState R Heads} {answer : NextAnswer BadHead}
+    (next : NextPiece remaining heads s answer t) → next.bytes ≡ [] → StreamWent remaining (left_of s) [] (left_of t)
+nothing_went {R} {remaining} {s} {t} next none =
+    subst (λ l. StreamWent remaining (left_of s) l (left_of t)) none
+    (PiecesWent-stream remaining heads.most s t next.bytes next.went)
+
+-- the head of a message went without a fault, and no end was met
 module _ {R : Type 0} {remaining : R → Option (List ℕ)} {s : ReaderState R Heads} {b : InBody R}
     (begun : Begun remaining s b) where
-  pub begun_reads : OnlyInterrupts (faults_of (left_of s)) (faults_of b.stream)
-  begun_reads = none_met (ap faults_of begun.stream ∙ begun.next.answers.0)
+  pub begun_steady : ReadsSteadily (left_of s) b.stream
+  begun_steady = steady_none (
+    ap faults_of begun.stream ∙ begun.next.answers.0,
+    ap ends_of begun.stream ∙ elim begun.next.answers.1 [ inl is ↦ is.2 | inr last ↦ absurd last.0 ],
+  )
 
-  pub begun_ends : ends_of (left_of s) ≤ ends_of b.stream
-  begun_ends = (Begun-went remaining s b begun).grows.zero_reads
+  pub begun_once : (t : Unbuffered R) → EndsOnce b.stream.log.reads t.log.reads → EndsOnce (left_of s).log.reads t.log.reads
+  begun_once t once = omega (arith, once, begun_steady.ends)
 
   -- a part of it was taken
   pub is_part : {t : InBody R} {handed : List ℕ} (goes : InsideGoes remaining b handed t)
@@ -162,8 +177,8 @@ none_asked : (r : Rest) (bytes : List ℕ) → IsRest r [] [] → ¬ (Unended r 
 none_asked r bytes none (handed, on) = none_follows r on.rest bytes handed none on.onward on.more
 
 pub unasked : {S : Type 0} (s t : Unbuffered S) (r : Rest) → IsRest r [] [] → AskedWhere (Unended r) s t
-    → faults_of t ≡ faults_of s
-unasked s t r none (inl same) = ap (λ l. l.reads.faults) same
+    → EachGave s t
+unasked s t r none (inl same) = (ap (λ l. l.reads.faults) same, ap (λ l. l.reads.zero_reads) same)
 unasked s t r none (inr over) = absurd (none_asked r (s.left ++ over.came) none over.such)
 
 -- what was read, and what ended it, is the whole body

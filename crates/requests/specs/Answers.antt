@@ -1,10 +1,10 @@
 -- What is answered to requests.
-use Rattle.std.specs.Prelude.{◌≡◌, ◌≢◌, ℕ, ◌+◌, ◌-◌, ◌^◌, ◌<◌, ◌≤◌, ◌⊎◌, ◌&&◌, nat_lt, if◌then◌else◌, Bool, true, false, List, [], ◌∷◌, ◌++◌, All, length, drop, Option, Result, Ok, Err, MatchResult, OnOk, IfErr, IsErrAnd, codes}
+use Rattle.std.specs.Prelude.{◌≡◌, ◌≢◌, ℕ, ◌+◌, ◌-◌, ◌^◌, ◌<◌, ◌≤◌, ◌⊎◌, ◌&&◌, nat_lt, if◌then◌else◌, Bool, true, false, List, [], ◌∷◌, ◌++◌, All, length, drop, Option, Result, Ok, Err, MatchResult, OnOk, IfErr, codes}
 use Rattle.std.specs.Fmt.{decimal}
 use Rattle.std.specs.IoError.{error_kind}
 use Rattle.std.specs.declared.io.Error.{Error}
 use Rattle.std.specs.declared.io.ErrorKind.TheVariants.{Interrupted, Other}
-use Rattle.redux_buffer.specs.Faults.{FaultAfterInterrupts, IsMemory, OnlyInterrupts}
+use Rattle.redux_buffer.specs.Faults.{FaultAfterInterrupts, OnlyInterrupts}
 use Rattle.redux_buffer.specs.GrowError.{GrowthFailed}
 use Rattle.buffer_redux.specs.BufWriter.{FrontAlong, WriterStopped}
 use Rattle.buffer_redux.specs.Buffered.{Buffered}
@@ -14,17 +14,16 @@ use Rattle.buffer_redux.specs.Unbuffer.{StreamWent, Unbuffered}
 use Rattle.buffer_redux.specs.declared.policy.StdPolicy.{StdPolicy}
 use Rattle.codec.specs.Grammar.{IsOpen}
 use Rattle.codec.specs.PieceReader.{ReaderState, left_of, rest}
-use Rattle.messages.specs.declared.error.BodyError.TheVariants.{Wrong, Truncated, Io}
-use Rattle.messages.specs.declared.error.FinishError.{FinishError}
-use Rattle.messages.specs.declared.error.FinishError.TheVariants.{Body, Memory}
+use Rattle.messages.specs.declared.error.BodyError.{BodyError}
+use Rattle.messages.specs.declared.error.BodyError.TheVariants.{Io}
 use Rattle.messages.specs.declared.head.BadHead.{BadHead}
 use Rattle.messages.specs.declared.head.Extent.{Extent}
 use Rattle.messages.specs.declared.head.Extent.TheVariants.{Sized, Chunked}
 use Rattle.messages.specs.declared.head.ParsedHead.{ParsedHead}
 use Rattle.messages.specs.Heads.{IsHead, heads}
 use Rattle.messages.specs.declared.head.Heads.{Heads}
-use Rattle.messages.specs.Messages.{AreMessages, Bytes, InBody, InTurn, IsRest, Message, Onward, body_of}
-use Rattle.programs.specs.Streams.{AllSent}
+use Rattle.messages.specs.Messages.{AreMessages, InBody, InTurn, IsRest, Message, Onward, body_of}
+use Rattle.programs.specs.Streams.{AllSent, EndsOnce}
 use Rattle.requests.specs.declared.Place.{Place}
 use Rattle.requests.specs.declared.Place.TheVariants.{Before, Inside}
 
@@ -74,6 +73,11 @@ ends_of s = s.log.reads.zero_reads
 abbrev pub faults_of : {S : Type 0} → Unbuffered S → List Error
 faults_of s = s.log.reads.faults
 
+-- reads were at most interrupted, and each other gave some bytes
+pub record ReadsSteadily {S : Type 0} (s t : Unbuffered S) : Type 0 where
+  pub faults : OnlyInterrupts (faults_of s) (faults_of t)
+  pub ends : ends_of t ≡ ends_of s
+
 -- what the stream has left
 abbrev pub stream_at : {S : Type 0} → Place S → Unbuffered S
 stream_at (Before requests) = left_of requests
@@ -110,10 +114,12 @@ pub record Closes (messages : List Message) : Type 0 where
   pub keep : All (Keeps true) before
   pub close : Keeps false last
 
--- why no more is answered: behind the last message none may follow; or what comes was refused, or the stream ended
+-- why no more is answered: behind the last message none may follow, and no end was met, as who asks behind it may meet one; or
+-- what comes was refused, or the stream ended
 abbrev pub IsOver : {S : Type 0} → List Message → Bool → Unbuffered S → Place S → Type 0
 IsOver messages refuses s place =
-    (Closes messages × (refuses ≡ false)) ⊎ (All (Keeps true) messages × ((refuses ≡ true) ⊎ HasEnded s place))
+    (Closes messages × (refuses ≡ false) × (ends_of (stream_at place) ≡ ends_of s))
+    ⊎ (All (Keeps true) messages × ((refuses ≡ true) ⊎ HasEnded s place))
 
 -- these bytes behind whole messages are none, or a head, and of the body that it says some with this payload
 abbrev pub IsPart : {S : Type 0} → Place S → List ℕ → List ℕ → Type 0
@@ -131,17 +137,11 @@ abbrev pub ReadStops : {S : Type 0} → ℕ → Unbuffered S → Error → Unbuf
 ReadStops count s e t = (FaultAfterInterrupts (faults_of s) (faults_of t) e × (error_kind e ≢ Interrupted))
     ⊎ (OnlyInterrupts (faults_of s) (faults_of t) × IsCount e (count + (length (faults_of t) - length (faults_of s))))
 
--- behind a whole body memory was refused for the next head
-abbrev pub LacksMemory : {S : Type 0} → Unbuffered S → Error → Place S → Type 0
-LacksMemory s e (Before requests) = ⊥
-LacksMemory s e (Inside body) = IsMemory e × OnlyInterrupts (faults_of s) (faults_of body.stream) × (body.rest ≡ Bytes 0)
-
 -- why a body isn't taken whole, of which this payload was: so, or it is wrong
-abbrev pub TakeFails : {S : Type 0} → Unbuffered S → List ℕ → FinishError → InBody S → Type 0
-TakeFails s handed (Body (Wrong why)) b = OnlyInterrupts (faults_of s) (faults_of b.stream) × IsWrong s (Inside b)
-TakeFails s handed (Body (Truncated due)) b = OnlyInterrupts (faults_of s) (faults_of b.stream) × IsWrong s (Inside b)
-TakeFails s handed (Body (Io e)) b = ReadStops (length handed) s e b.stream
-TakeFails s handed (Memory e) b = OnlyInterrupts (faults_of s) (faults_of b.stream) × (b.rest ≡ Bytes 0)
+abbrev pub TakeFails : {S : Type 0} → Unbuffered S → List ℕ → BodyError → InBody S → Type 0
+TakeFails s handed (Io e) b = EndsOnce s.log.reads b.stream.log.reads × ReadStops (length handed) s e b.stream
+TakeFails s handed wrong b =
+    EndsOnce s.log.reads b.stream.log.reads × OnlyInterrupts (faults_of s) (faults_of b.stream) × IsWrong s (Inside b)
 
 -- why text wasn't sent: the writer failed, or room for it was refused
 abbrev pub SendStops : {W : Type 0} → List ℕ → Buffered W StdPolicy → Error → Buffered W StdPolicy → Type 0
@@ -156,12 +156,10 @@ pub record Sends {W : Type 0} (tells : W → StreamLog) (trace : W → W → Typ
   pub why : IfErr sending (λ e. SendStops text w e w')
 
 -- how that ends a run: what is wrong is refused
-abbrev pub EndsBody : {W : Type 0} → (W → StreamLog) → (W → W → Type 0) → Buffered W StdPolicy → FinishError
+abbrev pub EndsBody : {W : Type 0} → (W → StreamLog) → (W → W → Type 0) → Buffered W StdPolicy → BodyError
     → Result (Unit {0}) Error → Buffered W StdPolicy → Type 0
-EndsBody tells trace w (Body (Wrong why)) answer w' = Sends tells trace w (refused true) answer w'
-EndsBody tells trace w (Body (Truncated due)) answer w' = Sends tells trace w (refused true) answer w'
-EndsBody tells trace w (Body (Io e)) answer w' = (answer ≡ Err e) × Sends tells trace w [] (Ok tt) w'
-EndsBody tells trace w (Memory e) answer w' = IsErrAnd answer IsMemory × Sends tells trace w [] (Ok tt) w'
+EndsBody tells trace w (Io e) answer w' = (answer ≡ Err e) × Sends tells trace w [] (Ok tt) w'
+EndsBody tells trace w wrong answer w' = Sends tells trace w (refused true) answer w'
 
 module _ {R W : Type 0} (remaining : R → Option (List ℕ)) (tells : W → StreamLog) (trace : W → W → Type 0) where
   -- of what was given, these messages went, and then these bytes; what was written is the answer to each, in their order, and
@@ -180,10 +178,11 @@ module _ {R W : Type 0} (remaining : R → Option (List ℕ)) (tells : W → Str
     pub messages : List Message
     pub answers : Answers messages s w [] [] t (Ok tt) w'
     pub keep : All (Keeps true) messages
-    pub reads : OnlyInterrupts (faults_of s) (faults_of t)
+    pub reads : ReadsSteadily s t
 
   -- a run: behind the answers were written the call for a body that the client waits for, and a refusal of what is wrong; so
-  -- there is no 200 but for a whole message. It returns why sending failed; or all was sent, and it is over, or reading stopped
+  -- there is no 200 but for a whole message. It returns why sending failed; or all was sent, and it is over, or reading stopped.
+  -- The end is asked for once
   pub record Serves (s : Unbuffered R) (w : Buffered W StdPolicy) (place : Place R) (answer : Result (Unit {0}) Error)
       (w' : Buffered W StdPolicy) : Type 0 where
     pub messages : List Message
@@ -193,11 +192,11 @@ module _ {R W : Type 0} (remaining : R → Option (List ℕ)) (tells : W → Str
     pub refuses : Bool
     pub sending : Result (Unit {0}) Error
     pub answers : Answers messages s w taken (call_at place ++ refused refuses) (stream_at place) sending w'
+    pub once : EndsOnce s.log.reads (stream_at place).log.reads
     pub wrong : refuses ≡ true → IsWrong s place
     pub unsent : IfErr sending (λ e. answer ≡ Err e)
     pub over : OnOk answer (OnlyInterrupts (faults_of s) (faults_of (stream_at place)) × IsOver messages refuses s place)
-    pub unread : OnOk sending (IfErr answer (λ e. ReadStops (length messages + length handed) s e (stream_at place)
-        ⊎ LacksMemory s e place))
+    pub unread : OnOk sending (IfErr answer (λ e. ReadStops (length messages + length handed) s e (stream_at place)))
 
   -- one turn: a message went, or a read was interrupted; or the run ended
   abbrev pub Turns : Unbuffered R → Buffered W StdPolicy → Result (ReaderState R Heads) (Place R × Result (Unit {0}) Error)

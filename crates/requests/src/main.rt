@@ -9,7 +9,7 @@ ghost use Rattle.std.specs.Prelude.{◌≡◌, ℕ, if◌then◌else◌, true, f
 ghost use Rattle.std.specs.IoError.{error_kind};
 ghost use Rattle.std.specs.List.{concat};
 ghost use Rattle.std.specs.declared.io.Error.{Error};
-ghost use Rattle.redux_buffer.specs.Faults.{IsInterrupt, OnlyInterrupts};
+ghost use Rattle.redux_buffer.specs.Faults.{IsInterrupt};
 ghost use Rattle.buffer_redux.specs.Buffered.{Buffered};
 ghost use Rattle.buffer_redux.specs.declared.policy.StdPolicy.{StdPolicy};
 ghost use Rattle.codec.specs.NextPiece.{NextPiece};
@@ -18,11 +18,11 @@ ghost use Rattle.messages.specs.declared.head.Heads.{Heads};
 ghost use Rattle.messages.specs.Heads.{heads};
 ghost use Rattle.messages.specs.Messages.{Begun, InsideGoes, IsRest, answer_of};
 ghost use Rattle.programs.specs.Streams.{AllSent};
-ghost use Rattle.requests.specs.Answers.{EndsBody, Sends, Serves, TakeFails, TakesWhole, Turns, accepted, called, faults_of, has_body, length_line, refused, waits};
+ghost use Rattle.requests.specs.Answers.{EndsBody, ReadsSteadily, Sends, Serves, TakeFails, TakesWhole, Turns, accepted, called, has_body, length_line, refused, waits};
 
 use buffer_redux::BufWriter;
 use buffer_redux::tell::{Tell, TellRead, TellWrite, Told};
-use messages::{Body, BodyError, Extent, FinishError, ParsedHead, Requests, Stop};
+use messages::{Body, BodyError, Extent, ParsedHead, Requests, Stop};
 use std::io;
 use std::io::{ErrorKind, Write};
 
@@ -153,9 +153,9 @@ fn answer_called<R: TellRead, W: TellWrite>(
 }
 
 // Takes the whole body, and counts its payload.
-fn take_whole<R: TellRead>(body: Body<R>) -> Result<(u64, Requests<R>), (Body<R>, FinishError)>
+fn take_whole<R: TellRead>(body: Body<R>) -> Result<(u64, Requests<R>), (Body<R>, BodyError)>
     ensures whole { IfOk result (λ r. TakesWhole R.remaining body (left_of r.1) r.0) }
-    ensures steady { IfOk result (λ r. OnlyInterrupts (faults_of body.stream) (faults_of (left_of r.1))) }
+    ensures steady { IfOk result (λ r. ReadsSteadily body.stream (left_of r.1)) }
     ensures part { IfErr result (λ e. (handed : List ℕ) × InsideGoes R.remaining body handed e.0
         × TakeFails body.stream handed e.1 e.0) }
 {
@@ -165,7 +165,7 @@ fn take_whole<R: TellRead>(body: Body<R>) -> Result<(u64, Requests<R>), (Body<R>
             Ok(requests) => Ok((len, requests)),
             Err((body, e)) => Err((body, e)),
         },
-        Err(e) => Err((body, FinishError::Body(e))),
+        Err(e) => Err((body, e)),
     }
 }
 
@@ -174,9 +174,9 @@ fn take_whole<R: TellRead>(body: Body<R>) -> Result<(u64, Requests<R>), (Body<R>
 fn payload_len<R: TellRead>(body: &mut Body<R>) -> Result<u64, BodyError>
     ensures goes { (payload : List ℕ) × InsideGoes R.remaining body.old payload body.new
         × MatchResult result (λ len. len ≡ length payload)
-        (λ e. TakeFails body.old.stream payload (FinishError.Body e) body.new) }
+        (λ e. TakeFails body.old.stream payload e body.new) }
     ensures ended { OnOk result (IsRest body.new.rest [] []) }
-    ensures steady { OnOk result (OnlyInterrupts (faults_of body.old.stream) (faults_of body.new.stream)) }
+    ensures steady { OnOk result (ReadsSteadily body.old.stream body.new.stream) }
 {
     let mut out = [0; 4096];
     let mut len = 0u64;
@@ -216,15 +216,14 @@ fn too_many() -> io::Error
 }
 
 // Refuses a body that isn't whole, where that isn't the stream's fault.
-fn unended<W: TellWrite>(e: FinishError, writer: &mut BufWriter<W>) -> io::Result<()>
+fn unended<W: TellWrite>(e: BodyError, writer: &mut BufWriter<W>) -> io::Result<()>
     requires sent { AllSent writer.old }
     ensures { EndsBody W.log W.trace writer.old e result writer.new }
 {
     match e {
-        FinishError::Body(BodyError::Wrong(_)) => refuse(writer),
-        FinishError::Body(BodyError::Truncated(_)) => refuse(writer),
-        FinishError::Body(BodyError::Io(e)) => Err(e),
-        FinishError::Memory(_) => Err(io::Error::from(ErrorKind::OutOfMemory)),
+        BodyError::Wrong(_) => refuse(writer),
+        BodyError::Truncated(_) => refuse(writer),
+        BodyError::Io(e) => Err(e),
     }
 }
 

@@ -1,8 +1,8 @@
-use Rattle.std.proofs.Common.{[], Err, false}
+use Rattle.std.proofs.Common.{[], Err, false, arith}
 use Rattle.messages.specs.MessagesLaws.{InsideGoes-none}
 use Rattle.requests.specs.declared.Place.TheVariants.{Inside}
 use Rattle.requests.proofs.Answering.{Sends-more, Serves-sent, part_answered}
-use Rattle.requests.proofs.Reading.{is_part}
+use Rattle.requests.proofs.Reading.{begun_steady, is_part}
 use Rattle.requests.proofs.answer_body.Goals as goal
 
 pub answer_called-requires : goal.answer_called-requires
@@ -16,4 +16,5 @@ pub returns-in-Err : goal.returns-in-Err
 returns-in-Err g c = λ s begun.
     let none = InsideGoes-none g.R.TellRead.remaining c.args.body in
     Serves-sent [] (Inside c.args.body) false (Err c.in-Err.e) (is_part begun none)
-    (part_answered begun none (Sends-more [] (rw c.said.ensures at c.in-Err.ensures))) (λ odd. absurd (cc)) tt
+    (part_answered begun none (Sends-more [] (rw c.said.ensures at c.in-Err.ensures)))
+    (omega (arith, (begun_steady begun).ends)) (λ odd. absurd (cc)) tt

@@ -1,17 +1,16 @@
 use Rattle.std.proofs.Common.{[], ◌∷◌, Err, Ok, true, false, ap, sym, ◌∙◌, refl, inl, arith}
 use Rattle.std.proofs.lemmas.List.Elements.{All-cons, All-nil}
-use Rattle.redux_buffer.specs.Faults.{OnlyInterrupts-joins}
 use Rattle.requests.specs.declared.Place.TheVariants.{Before}
 use Rattle.requests.specs.Answers.{Keeps}
 use Rattle.requests.proofs.Answering.{Serves-sent, one_answered, torn_answered}
-use Rattle.requests.proofs.Reading.{begun_reads, no_shorter}
+use Rattle.requests.proofs.Reading.{begun_steady, no_shorter, steadily}
 use Rattle.requests.proofs.answer_called.Goals as goal
 
 pub returns-then-said : goal.returns-then-said
 returns-then-said g c = λ s w begun call.
     let b = c.args.body in
     let whole = c.in-Ok.ensures.whole in
-    let reads = OnlyInterrupts-joins _ _ _ (begun_reads begun) c.in-Ok.ensures.steady in
+    let reads = steadily (begun_steady begun) c.in-Ok.ensures.steady in
     let keeps = sym (ap (λ x. x.keeps) c.said-said.ensures) ∙ c.if-said.true in (
       record {
         messages = (b.head, whole.1) ∷ [];
@@ -19,17 +18,18 @@ returns-then-said g c = λ s w begun call.
         keep = All-cons (Keeps true) (b.head, whole.1) [] (b.said, begun.is, keeps) (All-nil (Keeps true));
         reads = reads;
       },
-      omega (arith, no_shorter reads),
+      omega (arith, no_shorter reads.faults),
     )
 
 pub returns-else-said : goal.returns-else-said
 returns-else-said g c = λ s w begun call.
     let b = c.args.body in
     let whole = c.in-Ok.ensures.whole in
+    let reads = steadily (begun_steady begun) c.in-Ok.ensures.steady in
     Serves-sent [] (Before c.in-Ok.requests) false (Ok tt) (refl, refl)
     (one_answered g.met.W.TellWrite.trace_joins begun whole c.said-said.ensures call c.in-Ok-accept.ensures)
-    (λ odd. absurd (cc)) (
-      OnlyInterrupts-joins _ _ _ (begun_reads begun) c.in-Ok.ensures.steady,
+    (omega (arith, reads.ends)) (λ odd. absurd (cc)) (
+      reads.faults,
       inl (
         record {
           before = [];
@@ -39,6 +39,7 @@ returns-else-said g c = λ s w begun call.
           close = (b.said, begun.is, sym (ap (λ x. x.keeps) c.said-said.ensures) ∙ c.if-said.false);
         },
         refl,
+        reads.ends,
       ),
     )
 
@@ -46,7 +47,7 @@ pub returns-in-Err-accept : goal.returns-in-Err-accept
 returns-in-Err-accept g c = λ s w begun call.
     Serves-sent [] (Before c.in-Ok.requests) false (Err c.in-Err-accept.e) (refl, refl)
     (one_answered g.met.W.TellWrite.trace_joins begun c.in-Ok.ensures.whole c.said-said.ensures call c.in-Err-accept.ensures)
-    (λ odd. absurd (cc)) tt
+    (omega (arith, (steadily (begun_steady begun) c.in-Ok.ensures.steady).ends)) (λ odd. absurd (cc)) tt
 
 pub returns-in-Err : goal.returns-in-Err
 returns-in-Err g c = λ s w begun call.

@@ -1,11 +1,10 @@
 use Rattle.std.proofs.Common.{◌≡◌, ℕ, ◌<◌, ◌≤◌, List, [], ◌∷◌, ◌++◌, length, Result, Ok, Err, IfOk, ap, inr, refl, arith, rules, ◌∙◌, length-append}
 use Rattle.std.proofs.lemmas.List.{length-take-le}
-use Rattle.redux_buffer.specs.Faults.{OnlyInterrupts-joins, OnlyInterrupts-none}
 use Rattle.messages.specs.declared.error.BodyError.{BodyError}
 use Rattle.messages.specs.Messages.{handed_out}
 use Rattle.messages.specs.MessagesLaws.{InsideGoes-joins, InsideGoes-none}
 use Rattle.requests.specs.Answers.{faults_of}
-use Rattle.requests.proofs.Reading.{TakeFails-of, interrupted_once, none_met}
+use Rattle.requests.proofs.Reading.{TakeFails-of, interrupted_once, joined, none_met, steadily, steady_none}
 use Rattle.requests.proofs.payload_len.Goals as goal
 use Rattle.requests.proofs.payload_len.Goals.{in-Ok+in-Some, in-Err+else-not-is_interrupted}
 
@@ -23,7 +22,7 @@ loop-read-init g c = record {
   payload = [];
   goes = InsideGoes-none g.R.TellRead.remaining c.args.body.now;
   many = refl;
-  steady = OnlyInterrupts-none (faults_of c.args.body.now.stream);
+  steady = steady_none (refl, refl);
   turns = omega arith;
 }
 
@@ -51,11 +50,15 @@ loop-read-preserved g c =
             omega (arith, both, before.many, none c.read.new.out c.read.result w.in-Err.e is))
       ];
       steady = elim c.match-read.branch [
-        | in-Ok+in-Some w ↦ OnlyInterrupts-joins _ _ _ before.steady (none_met w.in-Ok.ensures.no_fault)
+        | in-Ok+in-Some w ↦ steadily before.steady (steady_none w.in-Ok.ensures.gave)
         | in-Err+else-not-is_interrupted w ↦
             (let was = w.is_interrupted.ensures.yes w.if-not-is_interrupted.false in
-            OnlyInterrupts-joins _ _ _ before.steady (interrupted_once (faults_of c.loop-read.body.stream)
-            (faults_of c.read.new.self.stream) was.0 was.2 (rw was.1 at w.in-Err.ensures.fails)))
+            let fails = rw was.1 at w.in-Err.ensures.fails in
+            steadily before.steady (record {
+              faults = interrupted_once (faults_of c.loop-read.body.stream) (faults_of c.read.new.self.stream) was.0 was.2
+                  fails.0;
+              ends = fails.1;
+            }))
       ];
       turns = elim c.match-read.branch [
         | in-Ok+in-Some w ↦
@@ -66,12 +69,12 @@ loop-read-preserved g c =
               before.turns,
               some c.read.new.out c.read.result w.in-Ok.count is c.read.ensures.bound,
               w.in-Ok.count-test.1,
-              ap length w.in-Ok.ensures.no_fault,
+              ap length w.in-Ok.ensures.gave.0,
             ))
         | in-Err+else-not-is_interrupted w ↦
             (let was = w.is_interrupted.ensures.yes w.if-not-is_interrupted.false in
             let one : faults_of c.read.new.self.stream ≡ faults_of c.loop-read.body.stream ++ was.0 ∷ [] =
-            rw was.1 at w.in-Err.ensures.fails in
+            (rw was.1 at w.in-Err.ensures.fails).0 in
             omega (arith, both, before.turns, ap length one, length-append (faults_of c.loop-read.body.stream) (was.0 ∷ [])))
       ];
     }
@@ -95,7 +98,7 @@ returns-in-Ok-eq0 g c =
         ),
       );
       ended = c.read.ensures.ended zero room;
-      steady = OnlyInterrupts-joins _ _ _ before.steady (none_met (rw zero at c.read.ensures.no_fault));
+      steady = steadily before.steady (steady_none (rw zero at c.read.ensures.gave));
     }
 
 pub returns-in_default-clause-goes : goal.returns-in_default-clause-goes
@@ -105,18 +108,21 @@ returns-in_default-clause-goes g c =
     let is : c.read.result ≡ Ok c.in-Ok.count = cc in (
       before.payload ++ handed,
       InsideGoes-joins _ _ _ _ _ _ before.goes c.read.ensures.goes,
-      inr (
-        OnlyInterrupts-joins _ _ _ before.steady (none_met c.in-Ok.ensures.no_fault),
-        record {
-          other = c.too_many.ensures;
-          large = omega (
-            arith,
-            length-append before.payload handed,
-            before.many,
-            some c.read.new.out c.read.result c.in-Ok.count is c.read.ensures.bound,
-            c.in_default.ensures,
-          );
-        },
+      (
+        omega (arith, before.steady.ends, c.in-Ok.ensures.gave.1),
+        inr (
+          joined before.steady c.read.new.self.stream (none_met c.in-Ok.ensures.gave.0),
+          record {
+            other = c.too_many.ensures;
+            large = omega (
+              arith,
+              length-append before.payload handed,
+              before.many,
+              some c.read.new.out c.read.result c.in-Ok.count is c.read.ensures.bound,
+              c.in_default.ensures,
+            );
+          },
+        ),
       ),
     )
 
@@ -126,9 +132,8 @@ returns-then-not-is_interrupted-clause-goes g c =
     let payload = before.payload ++ handed_out c.read.new.out c.read.result in (
       payload,
       InsideGoes-joins _ _ _ _ _ _ before.goes c.read.ensures.goes,
-      TakeFails-of c.args.body.now.stream c.loop-read.body.stream before.steady before.goes.takes.went.grows.zero_reads payload
-          c.read.new.self c.in-Err.e (λ why same is. (let odd = c.is_interrupted.ensures.no why same is in absurd (cc)))
-          c.in-Err.ensures.fails,
+      TakeFails-of before.steady payload c.read.new.self c.in-Err.e
+          (λ why same is. (let odd = c.is_interrupted.ensures.no why same is in absurd (cc))) c.in-Err.ensures.fails,
     )
 
 pub returns-clause-goes : goal.returns-clause-goes
@@ -136,8 +141,11 @@ returns-clause-goes g c =
     let before = c.loop-read.invariant in (
       before.payload,
       before.goes,
-      inr (
-        before.steady,
-        record { other = c.too_many-2.ensures; large = omega (arith, before.turns, c.loop-read-test.false) },
+      (
+        omega (arith, before.steady.ends),
+        inr (
+          before.steady.faults,
+          record { other = c.too_many-2.ensures; large = omega (arith, before.turns, c.loop-read-test.false) },
+        ),
       ),
     )

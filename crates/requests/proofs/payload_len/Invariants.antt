@@ -1,7 +1,6 @@
 use Rattle.std.proofs.Common.{◌≡◌, ℕ, ◌+◌, ◌≤◌, List, length}
-use Rattle.redux_buffer.specs.Faults.{OnlyInterrupts}
 use Rattle.messages.specs.Messages.{InsideGoes}
-use Rattle.requests.specs.Answers.{faults_of}
+use Rattle.requests.specs.Answers.{ReadsSteadily, faults_of}
 use Rattle.requests.proofs.payload_len.Given as goal
 
 -- this payload was read, and each turn read some of it, or was interrupted
@@ -10,6 +9,6 @@ invariant-loop-read g l = record {
   payload : List ℕ;
   goes : InsideGoes g.R.TellRead.remaining l.initial.body payload l.body;
   many : l.len ≡ length payload;
-  steady : OnlyInterrupts (faults_of l.initial.body.stream) (faults_of l.body.stream);
+  steady : ReadsSteadily l.initial.body.stream l.body.stream;
   turns : l._read + length (faults_of l.initial.body.stream) ≤ length payload + length (faults_of l.body.stream);
 }

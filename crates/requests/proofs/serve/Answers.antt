@@ -1,11 +1,11 @@
-use Rattle.std.proofs.Common.{[], ◌++◌, true, inl, inr, refl, arith, length-append}
+use Rattle.std.proofs.Common.{[], ◌++◌, true, inr, refl, arith, length-append}
 use Rattle.std.proofs.lemmas.List.Elements.{All-append, All-nil}
-use Rattle.redux_buffer.specs.Faults.{OnlyInterrupts-joins, OnlyInterrupts-none}
 use Rattle.buffer_redux.specs.UnbufferLaws.{StreamWent-none}
 use Rattle.codec.specs.PieceReader.{left_of}
 use Rattle.requests.specs.declared.Place.TheVariants.{Before}
-use Rattle.requests.specs.Answers.{Keeps, faults_of}
+use Rattle.requests.specs.Answers.{Keeps}
 use Rattle.requests.proofs.Answering.{Answers-joins, Sends-none, Serves-after, Serves-unread, none_answered}
+use Rattle.requests.proofs.Reading.{steadily, steady_none}
 use Rattle.requests.proofs.serve.Goals as goal
 
 pub loop-message-init : goal.loop-message-init
@@ -15,7 +15,7 @@ loop-message-init g c = record {
     answers = none_answered (StreamWent-none g.R.TellRead.remaining (left_of c.args.requests))
         (Sends-none g.met.W.TellWrite.trace_none c.args.writer.now c.requires.sent);
     keep = All-nil (Keeps true);
-    reads = OnlyInterrupts-none (faults_of (left_of c.args.requests));
+    reads = steady_none (refl, refl);
   };
   turns = omega arith;
 }
@@ -33,7 +33,7 @@ loop-message-preserved g c =
         messages = a.messages ++ b.messages;
         answers = Answers-joins g.met.W.TellWrite.trace_joins a.answers b.answers;
         keep = All-append (Keeps true) a.messages b.messages a.keep b.keep;
-        reads = OnlyInterrupts-joins _ _ _ a.reads b.reads;
+        reads = steadily a.reads b.reads;
       };
       turns = omega (arith, before.turns, c.in-Ok.ensures.1, length-append a.messages b.messages);
     }
@@ -45,7 +45,8 @@ returns-in-Err g c =
 pub returns : goal.returns
 returns g c =
     let before = c.loop-message.invariant in
-    Serves-unread [] (Before c.loop-message.next) c.too_many.result (refl, refl) before.goes.answers (inl (inr (
-      before.goes.reads,
+    Serves-unread [] (Before c.loop-message.next) c.too_many.result (refl, refl) before.goes.answers
+    (omega (arith, before.goes.reads.ends)) (inr (
+      before.goes.reads.faults,
       record { other = c.too_many.ensures; large = omega (arith, before.turns, c.loop-message-test.false) },
-    )))
+    ))

@@ -1,9 +1,7 @@
-use Rattle.std.proofs.Common.{◌++◌, sym, subst}
-use Rattle.redux_buffer.specs.Faults.{OnlyInterrupts}
+use Rattle.std.proofs.Common.{◌++◌}
 use Rattle.codec.specs.PieceReader.{left_of}
 use Rattle.messages.specs.MessagesLaws.{InsideGoes-joins}
-use Rattle.requests.specs.Answers.{faults_of}
-use Rattle.requests.proofs.Reading.{TakeFails-behind, unasked, whole_taken}
+use Rattle.requests.proofs.Reading.{TakeFails-behind, steadily, steady_none, unasked, whole_taken}
 use Rattle.requests.proofs.take_whole.Goals as goal
 
 pub returns-in-Ok-finish-clause-whole : goal.returns-in-Ok-finish-clause-whole
@@ -14,7 +12,7 @@ returns-in-Ok-finish-clause-whole g c =
 
 pub returns-in-Ok-finish-clause-steady : goal.returns-in-Ok-finish-clause-steady
 returns-in-Ok-finish-clause-steady g c =
-    subst (OnlyInterrupts (faults_of c.args.body.stream)) (sym c.in-Ok-finish.ensures.ends.no_fault) c.in-Ok.ensures.steady
+    steadily c.in-Ok.ensures.steady (steady_none c.in-Ok-finish.ensures.ends.gave)
 
 pub returns-in-Err-finish-clause-part : goal.returns-in-Err-finish-clause-part
 returns-in-Err-finish-clause-part g c =
@@ -22,8 +20,7 @@ returns-in-Err-finish-clause-part g c =
     let rest = c.in-Err-finish.ensures.ends in (
       read.0 ++ rest.0,
       InsideGoes-joins g.R.TellRead.remaining c.args.body c.payload_len.new.body c.in-Err-finish.body read.0 rest.0 read.1 rest.1,
-      TakeFails-behind c.args.body.stream c.payload_len.new.body.stream c.in-Ok.ensures.steady
-          read.1.takes.went.grows.zero_reads read.0 rest.0 c.in-Err-finish.body c.in-Err-finish.e rest.2
+      TakeFails-behind c.in-Ok.ensures.steady read.0 rest.0 c.in-Err-finish.body c.in-Err-finish.e rest.2
           (unasked c.payload_len.new.body.stream c.in-Err-finish.body.stream c.payload_len.new.body.rest c.in-Ok.ensures.ended
           c.in-Err-finish.ensures.asked),
     )

@@ -1,18 +1,23 @@
-use Rattle.std.proofs.Common.{ap, arith, inl, inr}
-use Rattle.messages.proofs.Asking.{drain_asked}
-use Rattle.messages.proofs.Going.{chunks_end, chunks_fail, chunks_take, counts_many}
+use Rattle.std.proofs.Common.{inl, inr}
+use Rattle.buffer_redux.specs.EmptyReads.{ReadsWhenEmpty-std}
+use Rattle.buffer_redux.specs.Policy.{std_read_rules}
+use Rattle.chunked.specs.EmptyReads.{DrainReads-ends}
+use Rattle.chunked.specs.Kinds.{DrainReads-kind}
+use Rattle.messages.proofs.Going.{chunks_end, chunks_fail, chunks_room, chunks_take, counts_many, drain_asked}
 use Rattle.messages.proofs.body.finish_chunked.Goals as goal
 
 pub returns-in-Ok-clause-room : goal.returns-in-Ok-clause-room
 returns-in-Ok-clause-room g c =
     let left = c.in-Ok.ensures in
-    omega (arith, c.requires.0, left.drains.went.along.capacity, ap (λ r. r.block.capacity) left.is_rest)
+    rw left.is_rest (chunks_room left.drains.went (DrainReads-kind std_read_rules _ _ _ _ left.drains.reads) c.requires).0
 
 pub returns-in-Ok-clause-ends : goal.returns-in-Ok-clause-ends
 returns-in-Ok-clause-ends g c =
     let left = c.in-Ok.ensures in
-    rw left.is_rest (chunks_end c.get_ref.ensures.whole left.drains.went left.is_whole
-    (elim left.drains.answers [ inl answers ↦ answers.1 | inr many ↦ absurd (let odd = many.answers in cc) ]))
+    rw left.is_rest (chunks_end c.get_ref.ensures.whole left.drains.went left.is_whole (
+      elim left.drains.answers [ inl answers ↦ answers.1 | inr many ↦ absurd (let odd = many.answers in cc) ],
+      DrainReads-ends std_read_rules ReadsWhenEmpty-std _ _ _ _ left.drains.reads,
+    ))
 
 pub returns-in-Ok-clause-asked : goal.returns-in-Ok-clause-asked
 returns-in-Ok-clause-asked g c =
@@ -23,8 +28,8 @@ returns-in-Err-clause-asked g c = drain_asked _ c.get_ref.ensures.whole c.requir
 
 pub returns-in-Err-clause-room : goal.returns-in-Err-clause-room
 returns-in-Err-clause-room g c =
-    let went = c.in-Err.ensures.went in
-    (omega (arith, c.requires.0, went.along.capacity), rw went.limits c.requires.1)
+    let drains = c.in-Err.ensures in
+    chunks_room drains.went (DrainReads-kind std_read_rules _ _ _ _ drains.reads) c.requires
 
 pub returns-in-Err-clause-ends : goal.returns-in-Err-clause-ends
 returns-in-Err-clause-ends g c =
@@ -34,7 +39,8 @@ returns-in-Err-clause-ends g c =
       drains.payload,
       chunks_take c.get_ref.ensures.whole drains.went whole,
       elim drains.answers [
-        | inl answers ↦ inl (chunks_fail c.args.body c.in-Err.body whole c.requires.0 1 c.in-Err.e answers)
+        | inl answers ↦ inl (chunks_fail c.args.body c.in-Err.body whole c.requires.0 1 c.in-Err.e answers
+            (DrainReads-ends std_read_rules ReadsWhenEmpty-std _ _ _ _ drains.reads))
         | inr many ↦ inr (counts_many drains.payload c.in-Err.e many)
       ],
     )

@@ -1,8 +1,9 @@
 use Rattle.std.proofs.Common.{◌<◌, ◌∷◌, ◌∙◌, [], ◌++◌, ap, arith, inl, inr, length, refl, rules}
 use Rattle.std.proofs.lemmas.Result.{err_from_is_err_and}
+use Rattle.buffer_redux.specs.EmptyReads.{ReadsWhenEmpty-std, none_before_fault}
 use Rattle.buffer_redux.specs.Policy.{std_read_rules}
 use Rattle.buffer_redux.specs.ReaderLaws.{ReadsAlong-none}
-use Rattle.messages.proofs.Asking.{Skips-filled, Skips-more}
+use Rattle.messages.proofs.Going.{Skips-ended, Skips-filled, Skips-more}
 use Rattle.messages.proofs.body.skip.Goals as goal
 
 pub loop-left-init : goal.loop-left-init
@@ -12,7 +13,8 @@ loop-left-init g c = record {
   few = omega arith;
   gives = omega arith;
   asked = inl refl;
-  no_fault = refl;
+  gave = (refl, refl);
+  kind = refl;
 }
 
 pub loop-left-preserved : goal.loop-left-preserved
@@ -39,11 +41,19 @@ pub returns-then-is_empty-clause-asked : goal.returns-then-is_empty-clause-asked
 returns-then-is_empty-clause-asked g c =
     (Skips-filled c.loop-left.invariant c.loop-left-test.true c.fill_buf.follows.holds-at-none).1
 
+pub returns-then-is_empty-clause-fails : goal.returns-then-is_empty-clause-fails
+returns-then-is_empty-clause-fails g c =
+    Skips-ended c.loop-left.invariant c.loop-left-test.true (rw c.in_ok-shown.was at c.fill_buf.follows.holds-at-none)
+    c.requires (search rules)
+
 pub returns-in_err-shown-clause-fails : goal.returns-in_err-shown-clause-fails
 returns-in_err-shown-clause-fails g c =
     let filled = rw c.in_err-shown.was at c.fill_buf.follows.holds-at-none in
     let p = err_from_is_err_and c.from_residual.result c.from_residual.ensures.1 in
     rw (p.1, p.2) (elim filled.fills.caused [
-      | inl fault ↦ fault ∙ ap (λ l. l ++ c.in_err-shown.field-0.0 ∷ []) c.loop-left.invariant.no_fault
+      | inl fault ↦ (
+        fault ∙ ap (λ l. l ++ c.in_err-shown.field-0.0 ∷ []) c.loop-left.invariant.gave.0,
+        none_before_fault std_read_rules ReadsWhenEmpty-std _ _ _ filled.fills.filled ∙ c.loop-left.invariant.gave.1,
+      )
       | inr gave ↦ absurd gave.gave.allowed
     ])

@@ -1,4 +1,4 @@
-use Rattle.messages.proofs.Asking.{Skips}
+use Rattle.messages.proofs.Going.{Skips}
 use Rattle.messages.proofs.body.skip.Given as goal
 
 abbrev pub invariant-loop-left : goal.invariant-loop-left

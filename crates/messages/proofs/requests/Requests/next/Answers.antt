@@ -4,9 +4,9 @@ use Rattle.codec.specs.Decoding.{bytes_at}
 use Rattle.codec.specs.NextPiece.{NextPiece}
 use Rattle.codec.specs.PieceReader.{left_of}
 use Rattle.messages.specs.Heads.{IsHead, heads}
+use Rattle.messages.specs.HeadsLaws.{text_few}
 use Rattle.messages.specs.Messages.{Begun, begun}
 use Rattle.messages.specs.MessagesLaws.{lent}
-use Rattle.messages.proofs.Beginning.{text_few}
 use Rattle.messages.proofs.requests.Requests.next.Goals as goal
 
 pub unreachable-requires : goal.unreachable-requires
