@@ -155,6 +155,28 @@ pub record Sends {W : Type 0} (tells : W → StreamLog) (trace : W → W → Typ
   pub sent : OnOk sending (AllSent w')
   pub why : IfErr sending (λ e. SendStops text w e w')
 
+-- this is the 200 of the last of these messages
+abbrev pub IsLastAnswer : List Message → List ℕ → Type 0
+IsLastAnswer messages text = (before : List Message) × (m : Message) × (said : ParsedHead) × (messages ≡ before ++ m ∷ [])
+    × IsHead m.0 said × (text ≡ accepted said (length m.1))
+
+-- this is sent last, where the reader stands there: a refusal, or such a 200, or the call for a body of which nothing was taken
+abbrev pub IsLast : {S : Type 0} → List Message → List ℕ → Bool → Place S → List ℕ → Type 0
+IsLast messages taken true place text = text ≡ refused true
+IsLast messages taken false (Before requests) text = IsLastAnswer messages text
+IsLast messages taken false (Inside body) text = (text ≡ call_at (Inside body)) × (taken ≡ body.head)
+
+-- of this text all but such a last part was sent and flushed, and sending that failed
+pub record FailsLast {W : Type 0} (tells : W → StreamLog) (trace : W → W → Type 0) (Last : List ℕ → Type 0)
+    (w : Buffered W StdPolicy) (text : List ℕ) (e : Error) (w' : Buffered W StdPolicy) : Type 0 where
+  pub front : List ℕ
+  pub part : List ℕ
+  pub equal : text ≡ front ++ part
+  pub last : Last part
+  pub before : Buffered W StdPolicy
+  pub sent : Sends tells trace w front (Ok tt) before
+  pub fails : Sends tells trace before part (Err e) w'
+
 -- how that ends a run: what is wrong is refused
 abbrev pub EndsBody : {W : Type 0} → (W → StreamLog) → (W → W → Type 0) → Buffered W StdPolicy → BodyError
     → Result (Unit {0}) Error → Buffered W StdPolicy → Type 0
@@ -163,26 +185,27 @@ EndsBody tells trace w wrong answer w' = Sends tells trace w (refused true) answ
 
 module _ {R W : Type 0} (remaining : R → Option (List ℕ)) (tells : W → StreamLog) (trace : W → W → Type 0) where
   -- of what was given, these messages went, and then these bytes; what was written is the answer to each, in their order, and
-  -- then this text
+  -- then this text; and where sending failed, it did in such a last part
   pub record Answers (messages : List Message) (s : Unbuffered R) (w : Buffered W StdPolicy) (taken last : List ℕ)
-      (t : Unbuffered R) (sending : Result (Unit {0}) Error) (w' : Buffered W StdPolicy) : Type 0 where
+      (Last : List ℕ → Type 0) (t : Unbuffered R) (sending : Result (Unit {0}) Error) (w' : Buffered W StdPolicy) : Type 0 where
     pub bytes : List ℕ
     pub are : AreMessages messages bytes
     pub went : StreamWent remaining s (bytes ++ taken) t
     pub text : List ℕ
     pub answers : InTurn IsAnswer messages text
     pub sends : Sends tells trace w (text ++ last) sending w'
+    pub fails : IfErr sending (λ e. FailsLast tells trace Last w (text ++ last) e w')
 
   -- messages went, each was answered, and another may follow
   pub record Continues (s : Unbuffered R) (w : Buffered W StdPolicy) (t : Unbuffered R) (w' : Buffered W StdPolicy) : Type 0 where
     pub messages : List Message
-    pub answers : Answers messages s w [] [] t (Ok tt) w'
+    pub answers : Answers messages s w [] [] (IsLastAnswer messages) t (Ok tt) w'
     pub keep : All (Keeps true) messages
     pub reads : ReadsSteadily s t
 
   -- a run: behind the answers were written the call for a body that the client waits for, and a refusal of what is wrong; so
-  -- there is no 200 but for a whole message. It returns why sending failed; or all was sent, and it is over, or reading stopped.
-  -- The end is asked for once
+  -- there is no 200 but for a whole message. It returns why sending failed, and then nothing was taken that comes behind what
+  -- failed; or all was sent, and it is over, or reading stopped. The end is asked for once
   pub record Serves (s : Unbuffered R) (w : Buffered W StdPolicy) (place : Place R) (answer : Result (Unit {0}) Error)
       (w' : Buffered W StdPolicy) : Type 0 where
     pub messages : List Message
@@ -191,7 +214,8 @@ module _ {R W : Type 0} (remaining : R → Option (List ℕ)) (tells : W → Str
     pub part : IsPart place taken handed
     pub refuses : Bool
     pub sending : Result (Unit {0}) Error
-    pub answers : Answers messages s w taken (call_at place ++ refused refuses) (stream_at place) sending w'
+    pub answers : Answers messages s w taken (call_at place ++ refused refuses) (IsLast messages taken refuses place)
+        (stream_at place) sending w'
     pub once : EndsOnce s.log.reads (stream_at place).log.reads
     pub wrong : refuses ≡ true → IsWrong s place
     pub unsent : IfErr sending (λ e. answer ≡ Err e)

@@ -2,7 +2,8 @@
 //!
 //! 200 and that number, where all of the body came; 100 before it, where the client waits for that; 400 where what comes is no
 //! request, or its body is none, or ends early, and then no more. It ends behind a request after which none may follow, and
-//! where the stream does. It reads only where all that it answered was sent (`sent`).
+//! where the stream does. It reads only where all that it answered was sent: each turn wants that (`sent`), and where sending
+//! fails, nothing was taken behind what failed (`IsLast`).
 #![tactic(auto)]
 
 ghost use Rattle.std.specs.Prelude.{◌≡◌, ℕ, if◌then◌else◌, true, false, List, [], ◌++◌, codes, length, map, IfErr, IfOk, MatchResult, Ok, OnOk};

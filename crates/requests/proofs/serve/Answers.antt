@@ -4,7 +4,7 @@ use Rattle.buffer_redux.specs.UnbufferLaws.{StreamWent-none}
 use Rattle.codec.specs.PieceReader.{left_of}
 use Rattle.requests.specs.declared.Place.TheVariants.{Before}
 use Rattle.requests.specs.Answers.{Keeps}
-use Rattle.requests.proofs.Answering.{Answers-joins, Sends-none, Serves-after, Serves-unread, none_answered}
+use Rattle.requests.proofs.Answering.{Answers-joins, IsLastAnswer-after, Sends-none, Serves-after, Serves-unread, none_answered}
 use Rattle.requests.proofs.Reading.{steadily, steady_none}
 use Rattle.requests.proofs.serve.Goals as goal
 
@@ -13,7 +13,7 @@ loop-message-init g c = record {
   goes = record {
     messages = [];
     answers = none_answered (StreamWent-none g.R.TellRead.remaining (left_of c.args.requests))
-        (Sends-none g.met.W.TellWrite.trace_none c.args.writer.now c.requires.sent);
+        (Sends-none g.met.W.TellWrite.trace_none c.args.writer.now c.requires.sent) tt;
     keep = All-nil (Keeps true);
     reads = steady_none (refl, refl);
   };
@@ -31,7 +31,7 @@ loop-message-preserved g c =
     record {
       goes = record {
         messages = a.messages ++ b.messages;
-        answers = Answers-joins g.met.W.TellWrite.trace_joins a.answers b.answers;
+        answers = Answers-joins g.met.W.TellWrite.trace_joins a.answers b.answers (IsLastAnswer-after a.messages b.messages);
         keep = All-append (Keeps true) a.messages b.messages a.keep b.keep;
         reads = steadily a.reads b.reads;
       };

@@ -5,8 +5,8 @@ use Rattle.codec.specs.NextPiece.{MetEnd, NoEnd, empties}
 use Rattle.codec.specs.PieceReader.{ReaderState, left_of}
 use Rattle.messages.specs.declared.head.Heads.{Heads}
 use Rattle.requests.specs.declared.Place.TheVariants.{Before}
-use Rattle.requests.specs.Answers.{Keeps, ends_of, faults_of}
-use Rattle.requests.proofs.Answering.{Sends-none, Serves-sent, Serves-unread, none_answered, on_ok}
+use Rattle.requests.specs.Answers.{IsLast, Keeps, ends_of, faults_of}
+use Rattle.requests.proofs.Answering.{FailsLast-of, Sends-none, Serves-sent, Serves-unread, none_answered, on_ok}
 use Rattle.requests.proofs.Reading.{failed_behind, interrupted_once, none_met, nothing_went}
 use Rattle.requests.proofs.stopped.Goals as goal
 
@@ -22,7 +22,7 @@ returns-then-is_interrupt g c = λ s told next.
       record {
         messages = [];
         answers = none_answered (nothing_went fault answers.0)
-            (Sends-none g.met.W.TellWrite.trace_none c.args.writer.now c.requires.sent);
+            (Sends-none g.met.W.TellWrite.trace_none c.args.writer.now c.requires.sent) tt;
         keep = All-nil (Keeps true);
         reads = record {
           faults = interrupted_once (faults_of (left_of s)) (faults_of (left_of c.args.requests)) was.0 was.2 answers.2;
@@ -37,7 +37,7 @@ returns-in-Ended g c = λ s told next.
     let ended = rw c.in-Ended.is at next in
     let met = met_end s c.args.requests told ended.answers.4 in
     Serves-sent [] (Before c.args.requests) false (Ok tt) (refl, refl) (none_answered (nothing_went ended ended.answers.0)
-    (Sends-none g.met.W.TellWrite.trace_none c.args.writer.now c.requires.sent)) (omega (arith, met)) (λ odd. absurd (cc)) (
+    (Sends-none g.met.W.TellWrite.trace_none c.args.writer.now c.requires.sent) tt) (omega (arith, met)) (λ odd. absurd (cc)) (
       none_met ended.answers.2,
       inr (All-nil (Keeps true), inr (omega (arith, met), ended.answers.1)),
     )
@@ -46,7 +46,9 @@ pub returns-in-Bad : goal.returns-in-Bad
 returns-in-Bad g c = λ s told next.
     let bad = rw c.in-Bad.is at next in
     Serves-sent [] (Before c.args.requests) true c.refuse-ending.result (refl, refl)
-    (none_answered (nothing_went bad bad.answers.0) c.refuse-ending.ensures)
+    (none_answered (nothing_went bad bad.answers.0) c.refuse-ending.ensures
+    (FailsLast-of (IsLast [] [] true (Before c.args.requests)) c.refuse-ending.result refl refl
+    (Sends-none g.met.W.TellWrite.trace_none c.args.writer.now c.requires.sent) c.refuse-ending.ensures))
     (elim bad.answers.3 [
       | inl wrong ↦ omega (arith, wrong.1)
       | inr cut ↦ omega (arith, met_end s c.args.requests told cut.3)
@@ -61,7 +63,7 @@ returns-in-Io g c = λ s told next.
     let fault = rw c.in-Io.is at next in
     let answers = fault.answers in
     Serves-unread [] (Before c.args.requests) c.in-Io.e (refl, refl) (none_answered (nothing_went fault answers.0)
-    (Sends-none g.met.W.TellWrite.trace_none c.args.writer.now c.requires.sent))
+    (Sends-none g.met.W.TellWrite.trace_none c.args.writer.now c.requires.sent) tt)
     (omega (arith, answers.4)) (inl (
       failed_behind _ _ _ c.in-Io.e (OnlyInterrupts-none (faults_of (left_of s))) answers.2,
       λ is. absurd (let odd = c.is_interrupt.ensures.no c.in-Io.e c.in-Io.is is in cc),
