@@ -43,7 +43,7 @@ due_on d is bytes on = record {
 own_fault : {R : Type 0} (s : Buffered R StdPolicy) (e : Error) (t : Buffered R StdPolicy) → Faulted std_read_rules s e t
     → t.log.reads.faults ≡ s.log.reads.faults ++ e ∷ []
 own_fault s e t (inl fault) = fault
-own_fault s e t (inr failed) = absurd failed.gave.gave.allowed
+own_fault s e t (inr failed) = absurd failed.3.gave.allowed
 
 module _ {R W : Type 0} (remaining : R → Option (List ℕ)) (s : Decoding R W) (ready : IsReady s) where
   abbrev rules : FilterRules (Decoding R W) RunError

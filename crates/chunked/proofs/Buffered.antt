@@ -1,14 +1,15 @@
 -- What is handed out of what is buffered alone.
-use Rattle.std.proofs.Common.{◌≡◌, ℕ, zero, suc, ◌<◌, ◌⊎◌, List, ◌++◌, length, take, drop, min, Option, Ok, inl, inr, sym, ap, subst, ◌∙◌, arith, refl, append-nil}
+use Rattle.std.proofs.Common.{◌≡◌, ℕ, zero, suc, ◌<◌, ◌⊎◌, List, [], ◌++◌, length, take, drop, min, Option, Ok, inl, inr, sym, ap, subst, ◌∙◌, arith, refl, append-nil}
 use Rattle.buffer_redux.specs.Buffered.{Buffered}
 use Rattle.buffer_redux.specs.BufReader.{ReaderConsumes, ReadsAlong}
 use Rattle.buffer_redux.specs.Policy.{ReadRules}
 use Rattle.buffer_redux.specs.ReaderLaws.{ReaderConsumes-along}
 use Rattle.buffer_redux.specs.StreamLog.{StreamLog, after_read}
+use Rattle.chunked.specs.declared.error.Malformed.{Malformed}
 use Rattle.chunked.specs.declared.progress.Progress.{Progress}
 use Rattle.chunked.specs.declared.unchunk.Unchunked.{Unchunked}
 use Rattle.chunked.specs.Between.{HandsFront, HandsOnBuffered, NoneLeft}
-use Rattle.chunked.specs.ChunkedReader.{ChunkedState, HandsBuffered, HasNoneBuffered, IsChunkedReader, after_buffered}
+use Rattle.chunked.specs.ChunkedReader.{Breaks, ChunkedState, HandsBuffered, IsChunkedReader, IsWhole, after_buffered}
 use Rattle.chunked.specs.ChunkedReaderLaws.{IsWhole-done}
 use Rattle.chunked.specs.Place.{IsPlace, Leads}
 use Rattle.chunked.proofs.Payload.{body_went, breaks, seen, still_is}
@@ -61,7 +62,8 @@ module _ {S P : Type 0} (remaining : S → Option (List ℕ)) (rules : ReadRules
   given_buffered calls out zero = sym (append-nil calls.reads.given)
   given_buffered calls out (suc n) = refl
 
-  has_none : (t : ChunkedState S P) → IsChunkedReader t → NoneLeft t.limits t.place t.reader.block.bytes → HasNoneBuffered t
+  has_none : (t : ChunkedState S P) → IsChunkedReader t → NoneLeft t.limits t.place t.reader.block.bytes
+      → IsWhole t ⊎ ((t.reader.block.bytes ≡ []) ⊎ ((why : Malformed) × Breaks why t))
   has_none t is (inl done) = inl (IsWhole-done t is done)
   has_none t is (inr (inl empty)) = inr (inl empty)
   has_none t is (inr (inr (why, wrong))) = inr (inr (why, breaks t is why wrong))

@@ -63,7 +63,7 @@ module _ {S P : Type 0} (remaining : S → Option (List ℕ)) (rules : ReadRules
     too_many e kind many = record {
       payload = payload;
       went = went;
-      answers = inr (record { error = e; answers = refl; kind = kind; many = many });
+      answers = inr (e, refl, kind, many);
       ended = λ whole. absurd (open' whole);
       reads = record { count = count; last = m; before = before; end = inl refl };
     }
@@ -75,7 +75,7 @@ module _ {S P : Type 0} (remaining : S → Option (List ℕ)) (rules : ReadRules
     drains = drains;
     is_whole = elim drains.answers [
       | inl answers ↦ answers.2 refl (omega arith)
-      | inr odd ↦ (let never = odd.answers in cc)
+      | inr odd ↦ (let never = odd.1 in cc)
     ];
     is_rest = refl;
   }

@@ -1,10 +1,10 @@
 -- Which bytes lead on in an extension.
-use Rattle.std.proofs.Common.{◌≡◌, ◌≢◌, ℕ, ◌-◌, ◌<◌, ◌≤◌, [], ◌∷◌, Some, arith, refl}
+use Rattle.std.proofs.Common.{◌≡◌, ◌≢◌, ℕ, ◌-◌, ◌<◌, ◌≤◌, List, [], ◌∷◌, length, Some, arith, refl}
 use Rattle.chunked.specs.declared.extension.Within.{Within}
 use Rattle.chunked.specs.declared.limits.Limits.{Limits}
 use Rattle.chunked.specs.declared.place.Place.TheVariants.{Extension, SizeFeed}
 use Rattle.chunked.specs.Place.{BehindSize, Passes}
-use Rattle.chunked.specs.Within.{Extends, FitsIn, Follows, IsLeast, RunsOver}
+use Rattle.chunked.specs.Within.{Extends, Follows, IsLeast, RunsOver}
 use Rattle.chunked.specs.WithinLaws.{Extends-text}
 use Rattle.chunked.proofs.Passing.{quiet, line_back, line_on, return_back, return_on}
 
@@ -13,7 +13,7 @@ module _ (within next : Within) (b least : ℕ) (follows : Follows within b (Som
   no_return : b ≢ 13
   no_return = (Extends-text within (b ∷ is_least.text) ((follows is_least.text).1 is_least.extends)).0.0
 
-  pub fits_in : (room : ℕ) → least < room → FitsIn next (room - 1)
+  pub fits_in : (room : ℕ) → least < room → (text : List ℕ) × Extends next text × (length text ≤ room - 1)
   fits_in room some = (is_least.text, is_least.extends, omega (arith, is_least.many, some))
 
   pub runs_over : (room : ℕ) → room ≤ least → RunsOver within room b

@@ -99,9 +99,9 @@ module _ {S P : Type 0} (remaining : S → Option (List ℕ)) (rules : ReadRules
       takes = stays order;
       ends = elim caused [
         | inl fault ↦ inl fault
-        | inr gave ↦ inr (record { last = s; grows = ReadLogGrows-none s.log.reads; no_fault = refl; gave = gave })
+        | inr gave ↦ inr (s, ReadLogGrows-none s.log.reads, refl, gave)
       ];
-      calls = at_once (inr (record { before = before; after = after; some = some; reads = reads }));
+      calls = at_once (inr (before, after, some, reads));
     }
 
     pub data_dry : ReadsInOrder s [] t → NoFault s t → EmptyReadCaused rules s t
@@ -122,21 +122,15 @@ module _ {S P : Type 0} (remaining : S → Option (List ℕ)) (rules : ReadRules
           dry = λ wants _. dry wants;
         },
       );
-      calls = at_once (inr (record { before = before; after = after; some = some; reads = reads }));
+      calls = at_once (inr (before, after, some, reads));
     }
 
     given_last : (n room : ℕ) (before after : List ℕ) (q : Progress) → 0 < n → Reads rules s before (Ok n) after t
         → q.place ≡ Data (left - n) → n ≤ left → length before ≡ min left room
         → Calls rules p.limits s p.place room (Ok n) t q.place
     given_last zero room before after q some reads there few offered = absurd (omega (arith, some))
-    given_last (suc n) room before after q some reads there few offered = at_once (record {
-      before = before;
-      after = after;
-      reads = reads;
-      left = left - suc n;
-      place = there;
-      offered = omega (arith, offered, few);
-    })
+    given_last (suc n) room before after q some reads there few offered =
+        at_once (before, after, reads, (left - suc n, there, omega (arith, offered, few)))
 
     pub data_given : (n : ℕ) (before front more : List ℕ) (q : Progress) → out ≡ front ++ more → 0 < n → n ≤ length front
         → n ≤ left → ReadsInOrder s (take n front) t → NoFault s t → Notes p (Data (left - n)) (take n out) q
@@ -182,12 +176,8 @@ module _ {S P : Type 0} (remaining : S → Option (List ℕ)) (rules : ReadRules
 
     pub Faulted-after : (e : Error) → Faulted rules m e t → Faulted rules s e t
     Faulted-after e (inl fault) = inl (fault ∙ ap (λ l. l ++ e ∷ []) well)
-    Faulted-after e (inr failed) = inr (record {
-      last = failed.last;
-      grows = ReadLogGrows-joins s.log.reads m.log.reads failed.last.log.reads grows failed.grows;
-      no_fault = failed.no_fault ∙ well;
-      gave = failed.gave;
-    })
+    Faulted-after e (inr (last, further, no_fault, gave)) =
+        inr (last, ReadLogGrows-joins s.log.reads m.log.reads last.log.reads grows further, no_fault ∙ well, gave)
 
     FailsSo-after : (e : ChunkedError) (r : Progress) → FailsSo rules m e t r → FailsSo rules s e t r
     FailsSo-after (NotChunked why count) r (no_fault, right, wrong) = (no_fault ∙ well, right, wrong)

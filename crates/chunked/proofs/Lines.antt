@@ -18,17 +18,6 @@ longer_front (y ∷ a) b (x ∷ c) d len same =
     let found = longer_front a b c d (omega (arith, len)) rest in
     (found.0, ap (λ l. y ∷ l) found.1 ∙ ap (λ z. z ∷ (c ++ found.0)) head, found.2)
 
--- a text that stands in front of bytes in which a line ends is a beginning of the line
-pub text_front : (text xs behind rest : List ℕ) → IsText xs → xs ++ rest ≡ text ++ line_end behind
-    → (more : List ℕ) × (text ≡ xs ++ more) × (rest ≡ more ++ line_end behind)
-text_front text [] behind rest h same = (text, refl, same)
-text_front [] (x ∷ xs) behind rest h same = absurd (h.0.0 cc)
-text_front (y ∷ text) (x ∷ xs) behind rest h same =
-    let head : y ≡ x = cc in
-    let tails : xs ++ rest ≡ text ++ line_end behind = cc in
-    let found = text_front text xs behind rest h.1 tails in
-    (found.0, ap (λ l. y ∷ l) found.1 ∙ ap (λ z. z ∷ (xs ++ found.0)) head, found.2)
-
 pub text_behind : (xs more : List ℕ) → IsText (xs ++ more) → IsText more
 text_behind [] more h = h
 text_behind (x ∷ xs) more h = text_behind xs more h.1

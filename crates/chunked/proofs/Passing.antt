@@ -6,10 +6,10 @@ use Rattle.chunked.specs.declared.error.Malformed.{Malformed}
 use Rattle.chunked.specs.declared.error.Malformed.TheVariants.{LineTooLong, BareFeed, BadSize}
 use Rattle.chunked.specs.declared.limits.Limits.{Limits}
 use Rattle.chunked.specs.declared.place.Place.{Place}
-use Rattle.chunked.specs.declared.place.Place.TheVariants.{Line, Size, Extension, SizeFeed, Data, DataFeed, Fields, FieldFeed, LastFeed, Done}
+use Rattle.chunked.specs.declared.place.Place.TheVariants.{Line, Size, Extension, Data}
 use Rattle.chunked.specs.Extension.{IsExtension}
 use Rattle.chunked.specs.declared.extension.Within.TheVariants.{Behind}
-use Rattle.chunked.specs.Body.{line_end, IsTrailers}
+use Rattle.chunked.specs.Body.{line_end}
 use Rattle.chunked.specs.BodyLaws.{extension_no_digit}
 use Rattle.chunked.specs.Place.{BehindSize, Completes, CompletesSize, EndsLine, Feeds, Leads, Passes, IsDigit, IsSettled, StepsOver}
 use Rattle.chunked.proofs.Lines.{first_digit, digit_first}
@@ -191,53 +191,6 @@ module _ (limits : Limits) where
       back = λ rest whole c. goes.leads.back rest whole (as_extension b number room rest whole c.digits no_digit c refl);
     };
     few = goes.few;
-  }
-
-  -- an LF behind a CR
-  feed_on : (P : List ℕ → Type 0) (b : ℕ) (rest : List ℕ) → b ≡ 10 → P rest → Feeds P (b ∷ rest)
-  feed_on P b rest is h = (rest, ap (λ x. x ∷ rest) is, h)
-
-  feed_back : (P : List ℕ → Type 0) (b : ℕ) (rest : List ℕ) → Feeds P (b ∷ rest) → P rest
-  feed_back P b rest (behind, same, h) = let tails : behind ≡ rest = cc in subst P tails h
-
-  pub size_feed_last : (b : ℕ) → b ≡ 10 → Passes limits (SizeFeed 0) (b ∷ []) (Fields limits.trailers)
-  size_feed_last b is = record {
-    leads = quiet (SizeFeed 0) (Fields limits.trailers) (b ∷ [])
-        (λ rest payload c. (feed_on (λ l. BehindSize limits 0 l payload) b rest is c, omega arith))
-        (λ rest payload c. feed_back (λ l. BehindSize limits 0 l payload) b rest c.0);
-    few = omega arith;
-  }
-
-  pub size_feed_some : (b n : ℕ) → b ≡ 10 → suc n < 2 ^ 62 → Passes limits (SizeFeed (suc n)) (b ∷ []) (Data (suc n))
-  size_feed_some b n is small = record {
-    leads = quiet (SizeFeed (suc n)) (Data (suc n)) (b ∷ [])
-        (λ rest payload c. (feed_on (λ l. BehindSize limits (suc n) l payload) b rest is c, small))
-        (λ rest payload c. feed_back (λ l. BehindSize limits (suc n) l payload) b rest c.0);
-    few = omega arith;
-  }
-
-  pub data_feed : (b : ℕ) → b ≡ 10 → Passes limits DataFeed (b ∷ []) Line
-  data_feed b is = record {
-    leads = quiet DataFeed Line (b ∷ [])
-        (λ rest payload c. feed_on (λ l. Completes limits Line l payload) b rest is c)
-        (λ rest payload c. feed_back (λ l. Completes limits Line l payload) b rest c);
-    few = omega arith;
-  }
-
-  pub field_feed : (b room : ℕ) → b ≡ 10 → Passes limits (FieldFeed room) (b ∷ []) (Fields room)
-  field_feed b room is = record {
-    leads = quiet (FieldFeed room) (Fields room) (b ∷ [])
-        (λ rest payload c. (c.0, feed_on (IsTrailers room) b rest is c.1))
-        (λ rest payload c. (c.0, feed_back (IsTrailers room) b rest c.1));
-    few = omega arith;
-  }
-
-  pub last_feed : (b : ℕ) → b ≡ 10 → Passes limits LastFeed (b ∷ []) Done
-  last_feed b is = record {
-    leads = quiet LastFeed Done (b ∷ [])
-        (λ rest payload c. (c.0, ap (λ x. x ∷ rest) is ∙ ap (λ l. 10 ∷ l) c.1))
-        (λ rest payload c. (c.0, (let same = c.1 in cc)));
-    few = omega arith;
   }
 
   -- what stands behind a size is told as at the beginning of an extension

@@ -6,7 +6,7 @@ use Rattle.chunked.specs.declared.place.Place.TheVariants.{Data, DataFeed, Field
 use Rattle.chunked.specs.Token.{IsTokenByte, IsValueByte}
 use Rattle.chunked.specs.Body.{line_end, IsTrailers, IsField, fields_bytes}
 use Rattle.chunked.specs.FieldLaws.{IsField-longer, IsField-none, IsField-shorter, IsField-text, IsField-value, IsField-valued, other_first, token_is_text, value_is_text}
-use Rattle.chunked.specs.Place.{Completes, CompletesData, EndsField, Leads, Passes}
+use Rattle.chunked.specs.Place.{Completes, CompletesData, EndsLine, Leads, Passes}
 use Rattle.chunked.proofs.Lines.{longer_front}
 use Rattle.chunked.proofs.Passing.{line_back, line_on, quiet, return_back, return_on}
 
@@ -99,7 +99,8 @@ module _ (limits : Limits) where
 
   -- the first byte of a line of the trailers
   fields_first_back : (b room : ℕ) (rest : List ℕ) (fields : List (List ℕ)) → IsTokenByte b
-      → (t : IsTrailers room (b ∷ rest)) → t.fields ≡ fields → EndsField (codes "a") (room - 1) rest
+      → (t : IsTrailers room (b ∷ rest)) → t.fields ≡ fields
+      → EndsLine (λ text. IsField (codes "a" ++ text)) IsTrailers (room - 1) rest
   fields_first_back b room rest [] byte t same =
       let all : b ∷ rest ≡ line_end [] = t.equal ∙ ap fields_bytes same in
       let head : b ≡ 13 = cc in

@@ -28,28 +28,51 @@ pub record Notes (p : Progress) (there : Place) (bytes : List ℕ) (q : Progress
 not_done : (p : Place) → ¬ IsSettled p → p ≢ Done
 not_done p goes_on is = goes_on (subst IsSettled (sym is) tt)
 
+-- turns took these bytes, which hold no payload, and no read failed
+pub record Skipped {S P : Type 0} (remaining : S → Option (List ℕ)) (rules : ReadRules P) (s : Buffered S P) (p : Progress)
+    (m : Buffered S P) (q : Progress) : Type 0 where
+  pub wire : List ℕ
+  pub takes : Takes remaining rules s p wire [] m q
+  pub no_fault : NoFault s m
+  pub count : ℕ
+  pub turns : TakesTurns rules p.limits count s p.place m q.place
+
 module _ {S P : Type 0} (remaining : S → Option (List ℕ)) (rules : ReadRules P) where
-  module _ (s : Buffered S P) (p : Progress) (wire : List ℕ) (m : Buffered S P) (q : Progress)
-      (before : Takes remaining rules s p wire [] m q) (no_fault : NoFault s m)
-      (count : ℕ) (turns : TakesTurns rules p.limits count s p.place m q.place) where
+  module _ (s : Buffered S P) (p : Progress) (m : Buffered S P) (q : Progress) (so : Skipped remaining rules s p m q) where
     not_ended : {f : Buffered S P} → ¬ IsSettled q.place → (m ≡ f) ⊎ (q.place ≢ Done)
     not_ended goes_on = inr (not_done q.place goes_on)
+
+    -- they came to where a payload or nothing comes next
+    pub skips_all : IsSettled q.place → Skips remaining rules s p (Ok tt) m q
+    skips_all settled = record {
+      wire = so.wire;
+      takes = so.takes;
+      ends = (so.no_fault, settled);
+      calls = λ room. record {
+        count = so.count;
+        last = m;
+        place = q.place;
+        turns = so.turns;
+        call = (refl, refl);
+        before_end = inl refl;
+      };
+    }
 
     -- the fill failed
     pub skip_fails : (e : Error) (f : Buffered S P) → FillBuf remaining rules m (Err e) f → ¬ IsSettled q.place
         → Skips remaining rules s p (Err (Io e)) f q
     skip_fails e f filled goes_on = record {
-      wire = wire;
-      takes = Takes-still remaining rules s p m q f wire [] before (FillBuf-along remaining rules m (Err e) f filled);
+      wire = so.wire;
+      takes = Takes-still remaining rules s p m q f so.wire [] so.takes (FillBuf-along remaining rules m (Err e) f filled);
       ends = elim filled.fills.caused [
-        | inl fault ↦ inl (fault ∙ ap (λ l. l ++ e ∷ []) no_fault)
-        | inr gave ↦ inr (record { last = m; grows = before.along.grows; no_fault = no_fault; gave = gave })
+        | inl fault ↦ inl (fault ∙ ap (λ l. l ++ e ∷ []) so.no_fault)
+        | inr gave ↦ inr (m, so.takes.along.grows, so.no_fault, gave)
       ];
       calls = λ room. record {
-        count = count;
+        count = so.count;
         last = m;
         place = q.place;
-        turns = turns;
+        turns = so.turns;
         call = inl (Fills-err rules m e f filled.fills);
         before_end = not_ended goes_on;
       };
@@ -57,7 +80,7 @@ module _ {S P : Type 0} (remaining : S → Option (List ℕ)) (rules : ReadRules
 
     module _ (shown : Bor (List ℕ)) (f : Buffered S P) (filled : FillBuf remaining rules m (Ok shown) f) where
       filled_well : NoFault s f
-      filled_well = filled.fills.caused ∙ no_fault
+      filled_well = filled.fills.caused ∙ so.no_fault
 
       -- the fill showed nothing
       pub skip_dry : length shown.now ≡ 0 → ¬ IsSettled q.place
@@ -65,28 +88,29 @@ module _ {S P : Type 0} (remaining : S → Option (List ℕ)) (rules : ReadRules
       skip_dry none not_settled =
           let empty : length f.block.bytes ≡ 0 = sym (ap length filled.shown) ∙ none in
           record {
-            wire = wire;
-            takes = Takes-still remaining rules s p m q f wire [] before (FillBuf-along remaining rules m (Ok shown) f filled);
+            wire = so.wire;
+            takes = Takes-still remaining rules s p m q f so.wire [] so.takes
+                (FillBuf-along remaining rules m (Ok shown) f filled);
             ends = (
               filled_well,
               refl,
               not_done q.place not_settled,
               record {
                 last = m;
-                grows = before.along.grows;
+                grows = so.takes.along.grows;
                 caused = inl (filled.fills.empty refl empty);
                 none = nil_from_length f.block.bytes empty;
                 dry = λ wants room.
-                    let dry = Fills-empty rules m shown f filled.fills (subst WantsBytes (sym before.along.claims) wants)
-                    (omega (arith, room, before.along.capacity)) empty in
-                    omega (arith, before.along.grows.zero_reads, dry);
+                    let dry = Fills-empty rules m shown f filled.fills (subst WantsBytes (sym so.takes.along.claims) wants)
+                    (omega (arith, room, so.takes.along.capacity)) empty in
+                    omega (arith, so.takes.along.grows.zero_reads, dry);
               },
             );
             calls = λ room. record {
-              count = count;
+              count = so.count;
               last = m;
               place = q.place;
-              turns = turns;
+              turns = so.turns;
               call = inl (Fills-ok rules m shown 0 f filled.fills);
               before_end = not_ended not_settled;
             };
@@ -96,19 +120,19 @@ module _ {S P : Type 0} (remaining : S → Option (List ℕ)) (rules : ReadRules
           (notes : Notes q r.place (take r.taken shown.now) q') (t : Buffered S P) (inner : t.inner ≡ f.inner)
           (gone : ReaderConsumes rules r.taken f t) where
         -- a turn takes some
-        pub skip_turn : Takes remaining rules s p (wire ++ take r.taken shown.now) [] t q'
+        skip_turn : Takes remaining rules s p (so.wire ++ take r.taken shown.now) [] t q'
         skip_turn = record {
-          along = ReadsAlong-turn remaining rules s m wire shown f before.along filled r.taken t inner gone;
-          leads = Leads-joins p.limits p.place q.place q'.place wire (take r.taken shown.now) [] [] before.leads
-              (subst (λ l. Leads l q.place (take r.taken shown.now) [] q'.place) before.limits
+          along = ReadsAlong-turn remaining rules s m so.wire shown f so.takes.along filled r.taken t inner gone;
+          leads = Leads-joins p.limits p.place q.place q'.place so.wire (take r.taken shown.now) [] [] so.takes.leads
+              (subst (λ l. Leads l q.place (take r.taken shown.now) [] q'.place) so.takes.limits
               (subst (λ x. Leads q.limits q.place (take r.taken shown.now) [] x) (sym notes.place) reached.passes.leads));
-          taken = notes.taken ∙ ap (λ l. l ++ take r.taken shown.now) before.taken
-              ∙ append_assoc (taken_of p) wire (take r.taken shown.now);
-          limits = notes.limits ∙ before.limits;
+          taken = notes.taken ∙ ap (λ l. l ++ take r.taken shown.now) so.takes.taken
+              ∙ append_assoc (taken_of p) so.wire (take r.taken shown.now);
+          limits = notes.limits ∙ so.takes.limits;
           place = subst IsPlace (sym notes.place) reached.place;
         }
 
-        pub turn_well : NoFault s t
+        turn_well : NoFault s t
         turn_well = ap (λ l. l.reads.faults) gone.told ∙ filled_well
 
         fills_and_takes : r.taken ≤ length shown.now → FillsAndTakes rules r.taken m t
@@ -119,24 +143,33 @@ module _ {S P : Type 0} (remaining : S → Option (List ℕ)) (rules : ReadRules
           took = gone;
         }
 
-        pub turn_took : r.wrong ≡ None → ¬ IsSettled q.place → 0 < length shown.now
-            → TakesTurns rules p.limits (suc count) s p.place t q'.place
+        turn_took : r.wrong ≡ None → ¬ IsSettled q.place → 0 < length shown.now
+            → TakesTurns rules p.limits (suc so.count) s p.place t q'.place
         unfolding fills_and_takes
         turn_took right goes_on some = (
           m,
           q.place,
-          turns,
+          so.turns,
           record {
             count = r.taken;
             some = reached.some goes_on some right;
             takes = fills_and_takes reached.within;
             unsettled = goes_on;
             leads = subst (λ l. Leads p.limits q.place (take r.taken l) [] q'.place) filled.shown
-                (subst (λ l. Leads l q.place (take r.taken shown.now) [] q'.place) before.limits
+                (subst (λ l. Leads l q.place (take r.taken shown.now) [] q'.place) so.takes.limits
                 (subst (λ x. Leads q.limits q.place (take r.taken shown.now) [] x) (sym notes.place) reached.passes.leads));
             is_place = subst IsPlace (sym notes.place) reached.place;
           },
         )
+
+        pub skipped_on : r.wrong ≡ None → ¬ IsSettled q.place → 0 < length shown.now → Skipped remaining rules s p t q'
+        skipped_on right goes_on some = record {
+          wire = so.wire ++ take r.taken shown.now;
+          takes = skip_turn;
+          no_fault = turn_well;
+          count = suc so.count;
+          turns = turn_took right goes_on some;
+        }
 
         -- something is wrong with the next byte
         pub skip_wrong : (why : Malformed) → r.wrong ≡ Some why → ¬ IsSettled q.place
@@ -148,7 +181,7 @@ module _ {S P : Type 0} (remaining : S → Option (List ℕ)) (rules : ReadRules
             let bytes : f.block.bytes ≡ shown.now = sym filled.shown in
             let few : min r.taken (length f.block.bytes) ≡ r.taken = omega (arith, ap length bytes, found.0) in
             record {
-              wire = wire ++ take r.taken shown.now;
+              wire = so.wire ++ take r.taken shown.now;
               takes = skip_turn;
               ends = (
                 turn_well,
@@ -163,10 +196,10 @@ module _ {S P : Type 0} (remaining : S → Option (List ℕ)) (rules : ReadRules
                 },
               );
               calls = λ room. record {
-                count = count;
+                count = so.count;
                 last = m;
                 place = q.place;
-                turns = turns;
+                turns = so.turns;
                 call = (r.taken, fills_and_takes (omega (arith, found.0)));
                 before_end = not_ended goes_on;
               };

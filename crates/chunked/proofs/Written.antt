@@ -10,7 +10,7 @@ use Rattle.chunked.specs.declared.limits.Limits.{Limits}
 use Rattle.chunked.specs.Body.{IsBody}
 use Rattle.chunked.specs.Chunk.{body_end, chunks}
 use Rattle.chunked.specs.ChunkedWriter.{ChunkedWriterState, LetsThrough, accepted_of}
-use Rattle.chunked.specs.RoundTrip.{WroteBody, holds}
+use Rattle.chunked.specs.RoundTrip.{WroteBody}
 
 module _ {S : Type 0} (tells : S → StreamLog) (trace : S → S → Type 0) (first : Buffered S StdPolicy)
     (payloads fields : List (List ℕ)) (w : ChunkedWriterState S) (last : Buffered S StdPolicy) (wrote : List ℕ)
@@ -19,9 +19,10 @@ module _ {S : Type 0} (tells : S → StreamLog) (trace : S → S → Type 0) (fi
   the_bytes =
       let whole = WritesInOrder-joins first w.writer last (chunks payloads) (body_end fields) h.went.in_order
       h.finishes.in_order in
-      append_cancel_left (holds first) wrote (w.wire ++ body_end fields)
+      let held = first.log.writes.received ++ first.block.bytes in
+      append_cancel_left held wrote (w.wire ++ body_end fields)
       (sym h.gained ∙ WritesInOrder-contents first last (chunks payloads ++ body_end fields) whole
-      ∙ (λ i. holds first ++ (sym h.went.wire i ++ body_end fields)))
+      ∙ (λ i. held ++ (sym h.went.wire i ++ body_end fields)))
 
   pub written_body : (limits : Limits) → LetsThrough fields limits → IsBody limits wrote (flat_map (λ p. p) payloads)
   written_body limits lets =

@@ -16,7 +16,7 @@ use Rattle.chunked.specs.declared.extension.Within.TheVariants.{Behind}
 use Rattle.chunked.specs.Body.{line_end, IsSizeLine, IsTrailers, IsField, IsBody, fields_bytes}
 use Rattle.chunked.specs.BodyLaws.{digit_is_text, extension_no_digit}
 use Rattle.chunked.specs.FieldLaws.{IsField-first, IsField-next, IsField-none, IsField-value, token_is_text, token_plain, value_is_text}
-use Rattle.chunked.specs.Place.{Completes, CompletesData, CompletesSize, EndsField, Feeds, IsDigit, IsWrong}
+use Rattle.chunked.specs.Place.{Completes, CompletesData, CompletesSize, EndsLine, Feeds, IsDigit, IsWrong}
 use Rattle.chunked.proofs.Lines.{line_of}
 
 value_grows : (n : ℕ) (digits : List ℕ) → n ≤ digits_value_after 16 n digits
@@ -95,7 +95,8 @@ module _ (limits : Limits) where
       )
 
   -- in a name, and in a value
-  name_first : (b room : ℕ) (rest text : List ℕ) → (f : EndsField (codes "a") room (b ∷ rest)) → f.text ≡ text
+  name_first : (b room : ℕ) (rest text : List ℕ) → (f : EndsLine (λ t. IsField (codes "a" ++ t)) IsTrailers room (b ∷ rest))
+      → f.text ≡ text
       → (b ≡ 58) ⊎ (IsTokenByte b × (2 ≤ room))
   name_first b room rest [] f is =
       let begins = IsField-first 97 [] (subst (λ t. IsField (97 ∷ t)) is f.is_rest) in
@@ -111,7 +112,8 @@ module _ (limits : Limits) where
         | inr colon ↦ inl (sym head ∙ colon.0)
       ]
 
-  value_first : (b room : ℕ) (rest text : List ℕ) → (f : EndsField (codes "a:") room (b ∷ rest)) → f.text ≡ text
+  value_first : (b room : ℕ) (rest text : List ℕ) → (f : EndsLine (λ t. IsField (codes "a:" ++ t)) IsTrailers room (b ∷ rest))
+      → f.text ≡ text
       → (b ≡ 13) ⊎ (IsValueByte b × (0 < room))
   value_first b room rest [] f is =
       let same : b ∷ rest ≡ line_end f.behind = f.equal ∙ ap (λ l. l ++ line_end f.behind) is in inl cc

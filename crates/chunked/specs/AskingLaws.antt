@@ -323,15 +323,15 @@ module _ {R : Type 0} (limits : Limits) (s : Buffered R StdPolicy) (p : Place) w
   last_asks : (m f : Buffered R StdPolicy) (r q : Place) (room : ℕ) (answer : Result ℕ ChunkedError)
       → LastCall std_read_rules m r room answer f q → AsksEmpty m f
   last_asks m f r q room (Ok zero) call = inl (ap (λ x. x.log) (sym call.0))
-  last_asks m f r q room (Ok (suc n)) call = read_asks m f call.before call.after (Ok (suc n)) call.reads
+  last_asks m f r q room (Ok (suc n)) call = read_asks m f call.0 call.1 (Ok (suc n)) call.2
   last_asks m f r q room (Err (NotChunked why right)) call = take_asks call.0 m f call.1
   last_asks m f r q room (Err (Truncated right)) call = elim call [
     | inl fills ↦ fill_asks m f (Ok 0) fills
-    | inr reads ↦ read_asks m f reads.before reads.after (Ok 0) reads.reads
+    | inr reads ↦ read_asks m f reads.0 reads.1 (Ok 0) reads.3
   ]
   last_asks m f r q room (Err (Io e)) call = elim call [
     | inl fills ↦ fill_asks m f (Err e) fills
-    | inr reads ↦ read_asks m f reads.before reads.after (Err e) reads.reads
+    | inr reads ↦ read_asks m f reads.0 reads.1 (Err e) reads.3
   ]
 
 -- one read of payload
@@ -363,7 +363,7 @@ module _ {R : Type 0} (remaining : R → Option (List ℕ)) (s t : ChunkedState 
       gives (suc n) call = omega (
         arith,
         done.took.gives,
-        read_gives reads.calls.last t.reader call.before call.after n call.reads,
+        read_gives reads.calls.last t.reader call.0 call.1 n call.2,
       )
 
   -- where one failed nothing is left
@@ -372,7 +372,7 @@ module _ {R : Type 0} (remaining : R → Option (List ℕ)) (s t : ChunkedState 
       elim (subst (λ a. LastCall std_read_rules reads.calls.last reads.calls.place (length out) a t.reader t.place) is
       reads.calls.call) [
         | inl fills ↦ fill_leaves reads.calls.last t.reader e fills
-        | inr some ↦ read_leaves reads.calls.last t.reader some.before some.after e some.reads
+        | inr some ↦ read_leaves reads.calls.last t.reader some.0 some.1 e some.3
       ]
 
   -- and nobody where the next byte of payload is buffered

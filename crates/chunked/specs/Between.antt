@@ -35,16 +35,11 @@ pub record Takes {S P : Type 0} (remaining : S → Option (List ℕ)) (rules : R
 abbrev pub NoFault : {S P : Type 0} → Buffered S P → Buffered S P → Type 0
 NoFault s t = t.log.reads.faults ≡ s.log.reads.faults
 
--- the policy returned this error, and until then no read failed
-pub record PolicyFailed {S P : Type 0} (rules : ReadRules P) (s : Buffered S P) (e : Error) (t : Buffered S P) : Type 0 where
-  pub last : Buffered S P
-  pub grows : ReadLogGrows s.log.reads last.log.reads
-  pub no_fault : NoFault s last
-  pub gave : PolicyGave rules (Err e) last t
-
--- this error is the one fault that the stream met, or the policy's answer
+-- this error is the one fault that the stream met; or the policy's answer, until which no read failed
 abbrev pub Faulted : {S P : Type 0} → ReadRules P → Buffered S P → Error → Buffered S P → Type 0
-Faulted rules s e t = (t.log.reads.faults ≡ s.log.reads.faults ++ e ∷ []) ⊎ PolicyFailed rules s e t
+Faulted {S} {P} rules s e t =
+    (t.log.reads.faults ≡ s.log.reads.faults ++ e ∷ [])
+    ⊎ ((last : Buffered S P) × ReadLogGrows s.log.reads last.log.reads × NoFault s last × PolicyGave rules (Err e) last t)
 
 -- nothing is buffered, and no byte came where one was wanted, for one of the reasons of a fill or a read; under a policy that
 -- wants bytes, and with some capacity, that is the end of the stream
@@ -85,41 +80,23 @@ TakesTurns rules limits zero s p t q = (s ≡ t) × (p ≡ q)
 TakesTurns {S} {P} rules limits (suc count) s p t q =
     (m : Buffered S P) × (r : Place) × TakesTurns rules limits count s p m r × TakesTurn rules limits m r t q
 
--- one read into some room
-pub record ReadsSome {S P : Type 0} (rules : ReadRules P) (s : Buffered S P) (answer : Result ℕ Error) (t : Buffered S P)
-    : Type 0 where
-  pub before : List ℕ
-  pub after : List ℕ
-  pub some : 0 < length before
-  pub reads : Reads rules s before answer after t
-
--- one fill, or one such read, with this answer
+-- one fill, or one read into some room, with this answer
 abbrev pub AsksOnce : {S P : Type 0} → ReadRules P → Buffered S P → Result ℕ Error → Buffered S P → Type 0
-AsksOnce rules s answer t = Fills rules s answer t ⊎ ReadsSome rules s answer t
+AsksOnce rules s answer t = Fills rules s answer t
+    ⊎ ((before : List ℕ) × (after : List ℕ) × (0 < length before) × Reads rules s before answer after t)
 
--- one read that handed n bytes out, and had for them all of so much room, or as much of it as the chunk still had bytes
-pub record ReadsChunk {S P : Type 0} (rules : ReadRules P) (s : Buffered S P) (room n : ℕ) (t : Buffered S P) (p : Place)
-    : Type 0 where
-  pub before : List ℕ
-  pub after : List ℕ
-  pub reads : Reads rules s before (Ok n) after t
-  pub left : ℕ
-  pub place : p ≡ Data left
-  pub offered : length before ≡ min room (left + n)
-
--- the call that showed why there is no further payload: a fill that shows the wrong byte, or the one ask that brought none or
--- failed
-abbrev pub CallFails : {S P : Type 0} → ReadRules P → Buffered S P → ChunkedError → Buffered S P → Type 0
-CallFails rules s (NotChunked why count) t = (n : ℕ) × FillsAndTakes rules n s t
-CallFails rules s (Truncated count) t = AsksOnce rules s (Ok 0) t
-CallFails rules s (Io e) t = AsksOnce rules s (Err e) t
-
--- the last call of the buffered reader, by the answer. Where none is handed out, and nothing is wrong, there is none
+-- the last call of the buffered reader, by the answer. Where none is handed out, and nothing is wrong, there is none. One that
+-- handed bytes out is a read that had for them all of so much room, or as much of it as the chunk still had bytes; an error has a
+-- fill that shows the wrong byte, or the one ask that brought none or failed
 abbrev pub LastCall : {S P : Type 0} → ReadRules P → Buffered S P → Place → ℕ → Result ℕ ChunkedError → Buffered S P → Place
     → Type 0
 LastCall rules s p room (Ok zero) t q = (s ≡ t) × (p ≡ q)
-LastCall rules s p room (Ok (suc n)) t q = ReadsChunk rules s room (suc n) t q
-LastCall rules s p room (Err e) t q = CallFails rules s e t
+LastCall rules s p room (Ok (suc n)) t q =
+    (before : List ℕ) × (after : List ℕ) × Reads rules s before (Ok (suc n)) after t
+    × ((left : ℕ) × (q ≡ Data left) × (length before ≡ min room (left + suc n)))
+LastCall rules s p room (Err (NotChunked why count)) t q = (n : ℕ) × FillsAndTakes rules n s t
+LastCall rules s p room (Err (Truncated count)) t q = AsksOnce rules s (Ok 0) t
+LastCall rules s p room (Err (Io e)) t q = AsksOnce rules s (Err e) t
 
 -- how the buffered reader was called: by turns that took what is no payload, and then, unless the body ended there, by the last
 -- call

@@ -103,13 +103,6 @@ pub record ReadsPayload {S P : Type 0} (remaining : S → Option (List ℕ)) (ru
   pub noted : t.calls ≡ after_payload s.calls out answer
   pub whole : IsChunkedReader t
 
--- more pieces of payload were dropped than are counted
-pub record DropsTooMany (payload : List ℕ) (answer : Result (Unit {0}) ChunkedError) : Type 0 where
-  pub error : Error
-  pub answers : answer ≡ Err (Io error)
-  pub kind : error_kind error ≡ Other
-  pub many : 2 ^ 64 - 1 ≤ length payload
-
 -- this many reads of payload, one after another, each of which handed some out
 abbrev pub ReadsOn : {S P : Type 0} → (S → Option (List ℕ)) → ReadRules P → ℕ → ChunkedState S P → ChunkedState S P → Type 0
 ReadsOn remaining rules zero s t = s ≡ t
@@ -126,13 +119,14 @@ pub record DrainReads {S P : Type 0} (remaining : S → Option (List ℕ)) (rule
   pub before : ReadsOn remaining rules count s last
   pub end : (last ≡ t) ⊎ ((out : List ℕ) × (0 < length out) × ReadsPayload remaining rules last out answer t)
 
--- the rest of the body was taken, and its payload dropped, or why not: as one read answers that hands out nothing. Once the
--- body ended the buffered reader isn't called
+-- the rest of the body was taken, and its payload dropped, or why not: as one read answers that hands out nothing, or by `Other`
+-- where more pieces were dropped than are counted. Once the body ended the buffered reader isn't called
 pub record Drains {S P : Type 0} (remaining : S → Option (List ℕ)) (rules : ReadRules P) (s : ChunkedState S P)
     (answer : Result (Unit {0}) ChunkedError) (t : ChunkedState S P) : Type 0 where
   pub payload : List ℕ
   pub went : BodyWent remaining rules s payload t
-  pub answers : PayloadAnswers rules s 1 (none_handed answer) t ⊎ DropsTooMany payload answer
+  pub answers : PayloadAnswers rules s 1 (none_handed answer) t
+      ⊎ ((e : Error) × (answer ≡ Err (Io e)) × (error_kind e ≡ Other) × (2 ^ 64 - 1 ≤ length payload))
   pub ended : IsWhole s → t.reader ≡ s.reader
   pub reads : DrainReads remaining rules s (none_handed answer) t
 
@@ -152,44 +146,25 @@ pub record LooksBehind {S P : Type 0} (remaining : S → Option (List ℕ)) (rul
   pub none : IfOk answer (λ none. none ≡ (length t.reader.block.bytes == 0))
   pub still : t ≡ record s { reader = t.reader }
 
--- no further payload is buffered: the body ended, or all was taken, or the next byte is wrong
-abbrev pub HasNoneBuffered : {S P : Type 0} → ChunkedState S P → Type 0
-HasNoneBuffered t = IsWhole t ⊎ ((t.reader.block.bytes ≡ []) ⊎ ((why : Malformed) × Breaks why t))
-
 -- bytes that were handed out are noted as an Ok read, and none as no call
 abbrev pub after_buffered : StreamLog → List ℕ → ℕ → StreamLog
 after_buffered calls out zero = calls
 after_buffered calls out (suc n) = after_read calls out (Ok (suc n))
 
 -- what one call of `read_buffered` does, which left the slice as out: it hands out as many bytes as the slice takes, or all that
--- are buffered. The stream isn't asked
+-- are buffered: the body ended, or nothing is buffered, or the next byte is wrong. The stream isn't asked
 pub record HandsBuffered {S P : Type 0} (remaining : S → Option (List ℕ)) (rules : ReadRules P) (s : ChunkedState S P)
     (out : List ℕ) (n : ℕ) (t : ChunkedState S P) : Type 0 where
   pub went : BodyWent remaining rules s (take n out) t
   pub told : t.reader.log ≡ s.reader.log
   pub bound : n ≤ length out
-  pub all : (n ≡ length out) ⊎ HasNoneBuffered t
+  pub all : (n ≡ length out) ⊎ (IsWhole t ⊎ ((t.reader.block.bytes ≡ []) ⊎ ((why : Malformed) × Breaks why t)))
   pub noted : t.calls ≡ after_buffered s.calls out n
   pub whole : IsChunkedReader t
 
--- an answer of one of std's streams stands for an answer of a payload: the same number of bytes, the stream's own error, or
--- an error whose kind tells which it was
-abbrev pub StandsFor : Result ℕ ChunkedError → Result ℕ Error → Type 0
-StandsFor (Ok n) (Ok m) = m ≡ n
-StandsFor (Err e) (Err f) = BecomesIo e f
-StandsFor (Ok n) (Err f) = ⊥
-StandsFor (Err e) (Ok m) = ⊥
-
--- what a read as one of std's does: it hands payload out
-pub record ReadsAsIo {S P : Type 0} (remaining : S → Option (List ℕ)) (rules : ReadRules P) (s : ChunkedState S P)
-    (out : List ℕ) (answer : Result ℕ Error) (t : ChunkedState S P) : Type 0 where
-  pub payload : Result ℕ ChunkedError
-  pub reads : ReadsPayload remaining rules s out payload t
-  pub same : StandsFor payload answer
-
--- a read that is told does the same, and then notes a failure
-pub record ReadsTold {S P : Type 0} (remaining : S → Option (List ℕ)) (rules : ReadRules P) (s : ChunkedState S P)
-    (out : List ℕ) (answer : Result ℕ Error) (t : ChunkedState S P) : Type 0 where
-  pub untold : StreamLog
-  pub reads : ReadsAsIo remaining rules s out answer (record t { calls = untold })
-  pub whole : IsChunkedReader t
+-- what a read as one of std's does: it hands payload out, and an error is the stream's own, or its kind tells which it was
+abbrev pub ReadsAsIo : {S P : Type 0} → (S → Option (List ℕ)) → ReadRules P → ChunkedState S P → List ℕ → Result ℕ Error
+    → ChunkedState S P → Type 0
+ReadsAsIo remaining rules s out (Ok n) t = ReadsPayload remaining rules s out (Ok n) t
+ReadsAsIo remaining rules s out (Err e) t =
+    (why : ChunkedError) × ReadsPayload remaining rules s out (Err why) t × BecomesIo why e

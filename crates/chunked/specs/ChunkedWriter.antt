@@ -1,5 +1,5 @@
 -- What contracts see of a writer of a body, and what its calls promise.
-use Rattle.std.specs.Prelude.{◌≡◌, ℕ, zero, suc, ◌+◌, ◌-◌, ◌<◌, ◌≤◌, List, [], ◌∷◌, ◌++◌, length, min, take, flat_map, Option, Some, Result, Ok, Err}
+use Rattle.std.specs.Prelude.{◌≡◌, ℕ, zero, suc, ◌+◌, ◌-◌, ◌<◌, ◌≤◌, List, [], ◌∷◌, ◌++◌, length, min, take, flat_map, Result, Ok, Err, MatchResult}
 use Rattle.std.specs.List.{All, AllByRecursion}
 use Rattle.std.specs.declared.io.Error.{Error}
 use Rattle.buffer_redux.specs.Block.{IsBlock}
@@ -21,10 +21,6 @@ pub record ChunkedWriterState (S : Type 0) : Type 0 where
 -- the payload that was taken in so far
 abbrev pub accepted_of : {S : Type 0} → ChunkedWriterState S → List ℕ
 accepted_of c = c.calls.writes.received
-
--- the same, as what a stream holds
-abbrev pub accepted : {S : Type 0} → ChunkedWriterState S → Option (List ℕ)
-accepted c = Some (accepted_of c)
 
 -- the most bytes of a chunk that are no payload: a size of 16 digits, and the ends of two lines
 abbrev pub around : ℕ
@@ -93,13 +89,8 @@ SendsFirst tells trace s payload (Ok n) t =
     × PutsFirst tells trace s.writer (chunk (take n payload)) t.writer
 SendsFirst tells trace s payload (Err e) t = WasSent tells trace s.writer (Err e) t.writer
 
--- an Ok write is noted
-abbrev pub after_chunk : StreamLog → List ℕ → Result ℕ Error → StreamLog
-after_chunk calls payload (Ok n) = after_write calls payload (Ok n)
-after_chunk calls payload (Err e) = calls
-
 -- what one write does. No answer leaves a part of a chunk, and an empty payload makes none. Where the payload fits behind what is
--- buffered its chunk stands there, and the inner writer isn't called
+-- buffered its chunk stands there, and the inner writer isn't called. An Ok write is noted, and no other
 pub record WritesChunk {S : Type 0} (tells : S → StreamLog) (trace : S → S → Type 0) (s : ChunkedWriterState S) (payload : List ℕ)
     (answer : Result ℕ Error) (t : ChunkedWriterState S) : Type 0 where
   pub went : ChunksWent trace s (taken_payloads payload answer) t
@@ -107,7 +98,7 @@ pub record WritesChunk {S : Type 0} (tells : S → StreamLog) (trace : S → S �
   pub fits : 0 < length payload → around + length payload ≤ room s.writer
       → (answer ≡ Ok (length payload)) × PutsIn trace s.writer (chunk payload) t.writer
   pub full : 0 < length payload → room s.writer < around + length payload → SendsFirst tells trace s payload answer t
-  pub noted : t.calls ≡ after_chunk s.calls payload answer
+  pub noted : MatchResult answer (λ n. t.calls ≡ after_write s.calls payload (Ok n)) (λ _. t.calls ≡ s.calls)
   pub whole : IsChunkedWriter t
 
 -- what limits let through that was written with these trailers: the line of a size with 16 digits, and the lines
@@ -132,13 +123,6 @@ pub record NotFinished {S : Type 0} (tells : S → StreamLog) (trace : S → S �
   pub sends : WasSent tells trace s.writer (Err e) t.writer
   pub wire : t.wire ≡ s.wire
   pub calls : t.calls ≡ s.calls
-  pub whole : IsChunkedWriter t
-
--- a write that is told does the same, and then notes a failure
-pub record WritesTold {S : Type 0} (tells : S → StreamLog) (trace : S → S → Type 0) (s : ChunkedWriterState S) (payload : List ℕ)
-    (answer : Result ℕ Error) (t : ChunkedWriterState S) : Type 0 where
-  pub untold : StreamLog
-  pub writes : WritesChunk tells trace s payload answer (record t { calls = untold })
   pub whole : IsChunkedWriter t
 
 -- what any calls that are told do, one after another: some chunks went in, and the log of the writer's own calls only goes on

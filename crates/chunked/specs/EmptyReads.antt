@@ -122,7 +122,7 @@ module _ {S P : Type 0} (rules : ReadRules P) (orders : ReadsWhenEmpty rules) wh
         ap (λ x. x.log.reads.zero_reads) (sym reads.calls.call.0) ∙ gave (Ok zero) reads
     ReadsPayload-ends (Ok (suc n)) reads =
         let call = reads.calls.call in
-        read_some reads.calls.last t.reader call.before call.after (suc n) (omega arith) call.reads ∙ gave (Ok (suc n)) reads
+        read_some reads.calls.last t.reader call.0 call.1 (suc n) (omega arith) call.2 ∙ gave (Ok (suc n)) reads
     ReadsPayload-ends (Err (NotChunked why right)) reads =
         some_left reads.calls.last t.reader reads.calls.call.0 reads.calls.call.1
         (omega (arith, ap length reads.answers.2.next)) ∙ gave (Err (NotChunked why right)) reads
@@ -135,14 +135,14 @@ module _ {S P : Type 0} (rules : ReadRules P) (orders : ReadsWhenEmpty rules) wh
       | inr some ↦ omega (
         arith,
         gave (Err (Truncated right)) reads,
-        read_none reads.calls.last t.reader some.before some.after some.reads,
+        read_none reads.calls.last t.reader some.0 some.1 some.3,
       )
     ]
     ReadsPayload-ends (Err (Io e)) reads = elim reads.calls.call [
       | inl fills ↦
           none_before_fault rules orders reads.calls.last t.reader e fills.filled ∙ gave (Err (Io e)) reads
       | inr some ↦
-          read_fault reads.calls.last t.reader some.before some.after e some.reads ∙ gave (Err (Io e)) reads
+          read_fault reads.calls.last t.reader some.0 some.1 e some.3 ∙ gave (Err (Io e)) reads
     ]
 
   module _ (remaining : S → Option (List ℕ)) (s : ChunkedState S P) where

@@ -18,10 +18,6 @@ Sign sign Then text = One (λ b. b ≡ sign) Then text
 abbrev pub Blanks : (List ℕ → Type 0) → List ℕ → Type 0
 Blanks Then text = Many IsBlank Then text
 
--- a token has some byte
-abbrev pub Token : (List ℕ → Type 0) → List ℕ → Type 0
-Token Then text = One IsTokenByte (Many IsTokenByte Then) text
-
 -- a byte that may stand in quotes as it is
 abbrev pub IsQuotedByte : ℕ → Type 0
 IsQuotedByte b = IsValueByte b × (b ≢ 34) × (b ≢ 92)
@@ -34,16 +30,16 @@ InQuotes Then (b ∷ (c ∷ text)) =
     ((b ≡ 34) × Then (c ∷ text))
     ⊎ ((IsQuotedByte b × InQuotes Then (c ∷ text)) ⊎ ((b ≡ 92) × IsValueByte c × InQuotes Then text))
 
--- a value: a token, or a string in quotes
+-- a value: a token, which has some byte, or a string in quotes
 abbrev pub Value : (List ℕ → Type 0) → List ℕ → Type 0
-Value Then text = Token Then text ⊎ Sign 34 (InQuotes Then) text
+Value Then text = One IsTokenByte (Many IsTokenByte Then) text ⊎ Sign 34 (InQuotes Then) text
 
 -- what may stand behind a name: `=` and a value
 abbrev pub Assigned : (List ℕ → Type 0) → List ℕ → Type 0
 Assigned Then text = Blanks (Sign 61 (Blanks (Value Then))) text
 
 abbrev pub Name : (List ℕ → Type 0) → List ℕ → Type 0
-Name Then text = Token (λ rest. Then rest ⊎ Assigned Then rest) text
+Name Then text = One IsTokenByte (Many IsTokenByte (λ rest. Then rest ⊎ Assigned Then rest)) text
 
 -- a parameter: `;` and a name, and perhaps a value
 abbrev pub Parameter : (List ℕ → Type 0) → List ℕ → Type 0

@@ -109,7 +109,7 @@ IsField-longer a b text byte f =
     })
 
 -- the next byte of a line whose name begins so
-abbrev pub NextOfName : ℕ → ℕ → List ℕ → Type 0
+abbrev NextOfName : ℕ → ℕ → List ℕ → Type 0
 NextOfName a b text = (IsTokenByte b × IsField (a ∷ text)) ⊎ ((b ≡ 58) × AllByRecursion IsValueByte text)
 
 next_of_name : (a b : ℕ) (text more : List ℕ) → (begins : BeginsName a (b ∷ text)) → begins.more ≡ more → NextOfName a b text

@@ -43,12 +43,12 @@ module _ {S P : Type 0} (rules : ReadRules P) where
 
   asks_kind : (s t : Buffered S P) (answer : Result ℕ Error) → AsksOnce rules s answer t → KeepsKind s t
   asks_kind s t answer (inl fills) = fills.kind
-  asks_kind s t answer (inr some) = reads_kind s t some.before some.after answer some.reads
+  asks_kind s t answer (inr some) = reads_kind s t some.0 some.1 answer some.3
 
   call_kind : (s t : Buffered S P) (p q : Place) (room : ℕ) (answer : Result ℕ ChunkedError)
       → LastCall rules s p room answer t q → KeepsKind s t
   call_kind s t p q room (Ok zero) call = ap (λ x. x.block.kind) (sym call.0)
-  call_kind s t p q room (Ok (suc n)) call = reads_kind s t call.before call.after (Ok (suc n)) call.reads
+  call_kind s t p q room (Ok (suc n)) call = reads_kind s t call.0 call.1 (Ok (suc n)) call.2
   call_kind s t p q room (Err (NotChunked why right)) call = takes_kind call.0 s t call.1
   call_kind s t p q room (Err (Truncated right)) call = asks_kind s t (Ok 0) call
   call_kind s t p q room (Err (Io e)) call = asks_kind s t (Err e) call

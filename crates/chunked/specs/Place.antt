@@ -4,7 +4,7 @@ use Rattle.std.specs.Char.{digit_value}
 use Rattle.std.specs.Str.Parse.{AllDigits, digits_value_after}
 use Rattle.chunked.specs.Token.{IsTokenByte, IsValueByte}
 use Rattle.chunked.specs.Extension.{IsExtension}
-use Rattle.chunked.specs.Within.{EndsNoExtension, Extends, FitsIn, RunsOver}
+use Rattle.chunked.specs.Within.{EndsNoExtension, Extends, RunsOver}
 use Rattle.chunked.specs.Body.{line_end, IsTextByte, IsField, IsTrailers, IsBody}
 use Rattle.chunked.specs.declared.error.Malformed.{Malformed}
 use Rattle.chunked.specs.declared.error.Malformed.TheVariants.{NoSize, BadSize, BadField, SizeTooLarge, LineTooLong, TrailersTooLong, BareReturn, BareFeed, ChunkTooLong}
@@ -57,10 +57,6 @@ pub record EndsLine (IsRest : List ℕ → Type 0) (GoesOn : ℕ → List ℕ �
   pub fits : length text + left ≡ room
   pub goes_on : GoesOn left behind
 
--- it is one that ends a line of the trailers which begins so, and then come further lines and an empty one
-abbrev pub EndsField : List ℕ → ℕ → List ℕ → Type 0
-EndsField begun room rest = EndsLine (λ text. IsField (begun ++ text)) IsTrailers room rest
-
 -- these bytes complete the body from here, and this is the payload in them
 abbrev pub Completes : Limits → Place → List ℕ → List ℕ → Type 0
 Completes limits Line rest payload = IsBody limits rest payload
@@ -72,8 +68,10 @@ Completes limits (SizeFeed size) rest payload =
 Completes limits (Data left) rest payload = CompletesData limits left rest payload
 Completes limits DataFeed rest payload = Feeds (λ behind. IsBody limits behind payload) rest
 Completes limits (Fields room) rest payload = (payload ≡ []) × IsTrailers room rest
-Completes limits (FieldName room) rest payload = (payload ≡ []) × EndsField (codes "a") room rest
-Completes limits (FieldValue room) rest payload = (payload ≡ []) × EndsField (codes "a:") room rest
+Completes limits (FieldName room) rest payload =
+    (payload ≡ []) × EndsLine (λ text. IsField (codes "a" ++ text)) IsTrailers room rest
+Completes limits (FieldValue room) rest payload =
+    (payload ≡ []) × EndsLine (λ text. IsField (codes "a:" ++ text)) IsTrailers room rest
 Completes limits (FieldFeed room) rest payload = (payload ≡ []) × Feeds (IsTrailers room) rest
 Completes limits LastFeed rest payload = (payload ≡ []) × (rest ≡ 10 ∷ [])
 Completes limits Done rest payload = (payload ≡ []) × (rest ≡ [])
@@ -94,16 +92,13 @@ IsDigit b = digit_value b < 16
 abbrev pub sized : ℕ → ℕ → ℕ
 sized number b = number * 16 + digit_value b
 
--- a digit with which the number stays the size of a chunk
-abbrev pub IsSmallDigit : ℕ → ℕ → Type 0
-IsSmallDigit number b = IsDigit b × (sized number b < 2 ^ 62)
-
 -- what is wrong with the next byte in a place. There is nothing else that can be, and no byte is wrong in two ways
 abbrev pub IsWrong : Limits → Place → ℕ → Malformed → Type 0
 IsWrong limits Line b NoSize = ¬ IsDigit b
 IsWrong limits Line b LineTooLong = IsDigit b × (limits.line ≡ 0)
 IsWrong limits (Size number room) b SizeTooLarge = IsDigit b × (2 ^ 62 ≤ sized number b)
-IsWrong limits (Size number room) b LineTooLong = (IsSmallDigit number b × (room ≡ 0)) ⊎ RunsOver Behind room b
+IsWrong limits (Size number room) b LineTooLong =
+    ((IsDigit b × (sized number b < 2 ^ 62)) × (room ≡ 0)) ⊎ RunsOver Behind room b
 IsWrong limits (Size number room) b BareFeed = b ≡ 10
 IsWrong limits (Size number room) b BadSize = ¬ IsDigit b × EndsNoExtension Behind b
 IsWrong limits (Extension within size room) b LineTooLong = RunsOver within room b
@@ -152,10 +147,11 @@ pub record Passes (limits : Limits) (p : Place) (wire : List ℕ) (q : Place) : 
   pub leads : Leads limits p wire [] q
   pub few : most_between limits q + length wire ≤ most_between limits p
 
--- the size that is kept is one of a chunk, and there is room to end what was begun
+-- the size that is kept is one of a chunk, and `room` bytes are enough to end what was begun
 abbrev pub IsPlace : Place → Type 0
 IsPlace (Size number room) = number < 2 ^ 62
-IsPlace (Extension within size room) = (size < 2 ^ 62) × FitsIn within room
+IsPlace (Extension within size room) =
+    (size < 2 ^ 62) × ((text : List ℕ) × Extends within text × (length text ≤ room))
 IsPlace (SizeFeed size) = size < 2 ^ 62
 IsPlace (FieldName room) = 0 < room
 IsPlace p = ⊤

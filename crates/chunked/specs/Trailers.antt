@@ -16,36 +16,23 @@ use Rattle.chunked.specs.ChunkedWriter.{ChunkedWriterState, IsChunkedWriter, Not
 abbrev pub lines_of : List (Bor (List ℕ)) → List (List ℕ)
 lines_of fields = map (λ f. f.now) fields
 
--- the line of this index is the first that is none of trailers
-pub record IsFirstWrong (fields : List (List ℕ)) (index : ℕ) : Type 0 where
-  pub within : index < length fields
-  pub before : AllByRecursion IsField (take index fields)
-  pub wrong : ¬ IsField (get_or fields index [])
-
 -- the end of a body with these trailers goes into a buffer of this capacity
 pub record CanEnd (fields : List (List ℕ)) (capacity : ℕ) : Type 0 where
   pub lines : AllByRecursion IsField fields
   pub fits : length (body_end fields) ≤ capacity
 
--- why it can't
+-- why it can't: the line of this index is the first that is none of trailers, or all are too long
 abbrev pub CannotEnd : List (List ℕ) → ℕ → TrailersError → Type 0
-CannotEnd fields capacity (NoField index) = IsFirstWrong fields index
+CannotEnd fields capacity (NoField index) =
+    (index < length fields) × AllByRecursion IsField (take index fields) × ¬ IsField (get_or fields index [])
 CannotEnd fields capacity TooLong = AllByRecursion IsField fields × (capacity < length (body_end fields))
 CannotEnd fields capacity (Io e) = ⊥
 
--- the writer is as it was, and trailers that can't go into its buffer are why
-pub record Refuses {S : Type 0} (s : ChunkedWriterState S) (fields : List (List ℕ)) (why : TrailersError)
-    (t : ChunkedWriterState S) : Type 0 where
-  pub cannot : CannotEnd fields s.writer.block.capacity why
-  pub same : t ≡ s
-  pub whole : IsChunkedWriter t
-
--- what stands after an `Err` of finishing with trailers, one line for each
+-- what stands after an `Err` of finishing with trailers: where they can't go into its buffer the writer is as it was
 abbrev pub NotEnded : {S : Type 0} → (S → StreamLog) → (S → S → Type 0) → ChunkedWriterState S → List (List ℕ) → TrailersError
     → ChunkedWriterState S → Type 0
-NotEnded tells trace s fields (NoField index) t = Refuses s fields (NoField index) t
-NotEnded tells trace s fields TooLong t = Refuses s fields TooLong t
 NotEnded tells trace s fields (Io e) t = CanEnd fields s.writer.block.capacity × NotFinished tells trace s fields e t
+NotEnded tells trace s fields why t = CannotEnd fields s.writer.block.capacity why × (t ≡ s) × IsChunkedWriter t
 
 -- the same as an error of std's streams
 abbrev pub EndsAsIo : TrailersError → Error → Type 0

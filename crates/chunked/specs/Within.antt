@@ -33,10 +33,6 @@ pub record IsLeast (within : Within) (least : ℕ) : Type 0 where
   pub many : length text ≡ least
   pub none_less : (other : List ℕ) → Extends within other → least ≤ length other
 
--- `room` bytes are enough to complete an extension
-abbrev pub FitsIn : Within → ℕ → Type 0
-FitsIn within room = (text : List ℕ) × Extends within text × (length text ≤ room)
-
 -- one can go on with this byte, but isn't completed in so many then
 pub record RunsOver (within : Within) (room b : ℕ) : Type 0 where
   pub text : List ℕ

@@ -2,9 +2,9 @@
 ghost use Rattle.std.specs.Prelude.{None, ◌≡◌, ◌<◌, ◌≤◌, ◌↔◌, length, Err, IfOk, IsTrue, MatchResult, Ok};
 ghost use Rattle.std.specs.Io.{ReadsAtMost};
 ghost use Rattle.std.specs.Io.KnownBytes.{ReadConsumes};
-ghost use Rattle.buffer_redux.specs.StreamLog.{after_read};
+ghost use Rattle.buffer_redux.specs.StreamLog.{StreamLog, after_read};
 ghost use Rattle.chunked.specs.Between.{HandsOn, HandsOnBuffered, Skips};
-ghost use Rattle.chunked.specs.ChunkedReader.{Drains, HandsBuffered, IsChunkedReader, IsWhole, LeavesBody, LooksBehind, ReadsAsIo, ReadsPayload, ReadsTold, begun, taken_count};
+ghost use Rattle.chunked.specs.ChunkedReader.{Drains, HandsBuffered, IsChunkedReader, IsWhole, LeavesBody, LooksBehind, ReadsAsIo, ReadsPayload, begun, taken_count};
 ghost use Rattle.chunked.specs.Place.{IsPlace, IsSettled};
 
 use crate::error::ChunkedError;
@@ -227,7 +227,9 @@ impl<R: TellRead, P: ReaderPolicy> TellRead for ChunkedReader<R, P> {
         ensures bound { ReadsAtMost result out.new }
         ensures told { self.new.calls ≡ after_read self.old.calls out.new result }
         ensures bytes { ReadConsumes None None result out.new }
-        ensures read { ReadsTold R.remaining P.rules self.old out.new result self.new }
+        ensures read { (untold : StreamLog)
+            × ReadsAsIo R.remaining P.rules self.old out.new result (record self.new { calls = untold }) }
+        ensures whole { IsChunkedReader self.new }
     {
         let answer = self.read(out);
         if answer.is_err() {

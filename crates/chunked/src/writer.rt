@@ -1,13 +1,13 @@
 //! The writer of a body.
-ghost use Rattle.std.specs.Prelude.{◌≡◌, ◌<◌, [], length, MatchResult};
+ghost use Rattle.std.specs.Prelude.{◌≡◌, ◌<◌, [], length, MatchResult, Some};
 ghost use Rattle.std.specs.Io.{WritesAtMost};
 ghost use Rattle.std.specs.Io.KnownBytes.{Keeps, WriteAppends};
 ghost use Rattle.buffer_redux.specs.Buffered.{over_buffer};
 ghost use Rattle.buffer_redux.specs.BufWriter.{WasFlushed};
-ghost use Rattle.buffer_redux.specs.StreamLog.{after_flush, after_write};
+ghost use Rattle.buffer_redux.specs.StreamLog.{StreamLog, after_flush, after_write};
 ghost use Rattle.chunked.specs.Chunk.{body_end};
-ghost use Rattle.chunked.specs.ChunkedWriter.{ChunkingWent, ChunksWent, Finishes, IsChunkedWriter, NotFinished, WritesChunk, WritesTold};
-ghost use Rattle.chunked.specs.ChunkedWriter.{accepted, around, unbegun};
+ghost use Rattle.chunked.specs.ChunkedWriter.{ChunkingWent, ChunksWent, Finishes, IsChunkedWriter, NotFinished, WritesChunk};
+ghost use Rattle.chunked.specs.ChunkedWriter.{accepted_of, around, unbegun};
 ghost use Rattle.chunked.specs.ChunkedWriterLaws.{ChunkingWent-none, ChunkingWent-joins, ChunkingWent-grows};
 ghost use Rattle.chunked.specs.Trailers.{CanEnd, NotEnded, lines_of};
 
@@ -183,7 +183,7 @@ impl<W: TellWrite> ChunkedWriter<W> {
 
 /// Payload goes in, chunk by chunk.
 impl<W: TellWrite> Write for ChunkedWriter<W> {
-    ghost contents = { accepted };
+    ghost contents = { λ c. Some (accepted_of c) };
 
     /// Takes one chunk in, with all of `payload` where it fits behind what is buffered. Where it doesn't, all that is buffered is
     /// sent first, and the chunk has as much of it as fits. A chunk is taken to need 20 bytes beside its payload, which are
@@ -193,7 +193,7 @@ impl<W: TellWrite> Write for ChunkedWriter<W> {
     /// buffer, so the call can be made again.
     fn write(&mut self, payload: &[u8]) -> io::Result<usize>
         ensures bound { WritesAtMost result payload.now }
-        ensures bytes { WriteAppends (accepted self.old) (accepted self.new) result payload.now }
+        ensures bytes { WriteAppends (Some (accepted_of self.old)) (Some (accepted_of self.new)) result payload.now }
         ensures writes { WritesChunk W.log W.trace self.old payload.now result self.new }
     {
         if payload.is_empty() {
@@ -209,7 +209,7 @@ impl<W: TellWrite> Write for ChunkedWriter<W> {
 
     /// Sends all chunks, and flushes the inner writer. It makes no chunk, and doesn't end the body.
     fn flush(&mut self) -> io::Result<()>
-        ensures bytes { Keeps (accepted self.old) (accepted self.new) }
+        ensures bytes { Keeps (Some (accepted_of self.old)) (Some (accepted_of self.new)) }
         ensures flushed { WasFlushed W.log W.trace self.old.writer result self.new.writer }
         ensures went { ChunksWent W.trace self.old [] self.new }
         ensures calls { self.new.calls ≡ self.old.calls }
@@ -231,7 +231,9 @@ impl<W: TellWrite> TellWrite for ChunkedWriter<W> {
         ensures bound { WritesAtMost result payload.now }
         ensures told { self.new.calls ≡ after_write self.old.calls payload.now result }
         ensures trace { ChunkingWent W.trace self.old self.new }
-        ensures writes { WritesTold W.log W.trace self.old payload.now result self.new }
+        ensures writes { (untold : StreamLog)
+            × WritesChunk W.log W.trace self.old payload.now result (record self.new { calls = untold }) }
+        ensures whole { IsChunkedWriter self.new }
     {
         let answer = self.write(payload);
         if answer.is_err() {

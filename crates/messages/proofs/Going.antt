@@ -11,7 +11,7 @@ use Rattle.buffer_redux.specs.declared.policy.StdPolicy.{StdPolicy}
 use Rattle.buffer_redux.specs.BufReader.{FillBuf, ReaderConsumes, Reads, ReadsAlong}
 use Rattle.buffer_redux.specs.Buffered.{Buffered}
 use Rattle.buffer_redux.specs.EmptyReads.{ReadsWhenEmpty-std, none_where_shown, once_at_most}
-use Rattle.chunked.specs.ChunkedReader.{BodyWent, ChunkedState, DropsTooMany, IsChunkedReader, IsWhole, PayloadAnswers, handed_of, DrainReads, ReadsOn, ReadsPayload}
+use Rattle.chunked.specs.ChunkedReader.{BodyWent, ChunkedState, IsChunkedReader, IsWhole, PayloadAnswers, handed_of, DrainReads, ReadsOn, ReadsPayload}
 use Rattle.chunked.specs.ChunkedReaderLaws.{body_done, BodyWent-joins, BodyWent-none, Completes-nothing, IsWhole-done}
 use Rattle.chunked.specs.EmptyReads.{EndsOnce}
 use Rattle.chunked.specs.Kinds.{KeepsKind}
@@ -24,8 +24,8 @@ use Rattle.chunked.specs.declared.limits.Limits.{Limits}
 use Rattle.chunked.specs.declared.place.Place.{Place}
 use Rattle.chunked.specs.declared.place.Place.TheVariants.{Done}
 use Rattle.chunked.proofs.Alive.{Completes-some}
-use Rattle.messages.specs.Messages.{Bytes, Chunks, EachGave, Ends, Fails, IsRest, IsRoomy, Onward, Takes, TooMany, body_error, GoesOn, IsReady, Rest, Unended}
-use Rattle.messages.specs.declared.error.BodyError.TheVariants.{Truncated}
+use Rattle.messages.specs.Messages.{Bytes, Chunks, EachGave, Ends, Fails, IsRest, IsRoomy, Onward, Takes, body_error, GoesOn, IsReady, Rest, Unended}
+use Rattle.messages.specs.declared.error.BodyError.TheVariants.{Truncated, Io as Fault}
 use Rattle.messages.specs.MessagesLaws.{Onward-joins}
 
 -- some of so many bytes
@@ -102,13 +102,12 @@ chunks_fail s t is roomy asked (Truncated right) answers once = (
   refl,
 )
 chunks_fail s t is roomy asked (Io e) answers never =
-    elim answers [ inl fault ↦ (fault, never) | inr failed ↦ absurd failed.gave.gave.allowed ]
+    elim answers [ inl fault ↦ (fault, never) | inr failed ↦ absurd failed.3.gave.allowed ]
 
 -- or it is of more pieces than are counted
-pub counts_many : (handed : List ℕ) (e : ChunkedError) → DropsTooMany handed (Err e) → TooMany handed (body_error e)
-counts_many handed e many =
-    let same : e ≡ Io many.error = (let is = many.answers in cc) in
-    (many.error, ap body_error same, many.kind, many.many)
+pub body_fault : (e : ChunkedError) (why : Error) → ◌≡◌ {A = Result (Unit {0}) ChunkedError} (Err e) (Err (Io why))
+    → body_error e ≡ Fault why
+body_fault e why is = let same : e ≡ Io why = cc in ap body_error same
 
 -- calls behind others ask behind what those took
 pub asked_on : {R : Type 0} (r q : Rest) (s m t : Buffered R StdPolicy) (wire handed : List ℕ) → Took s wire m

@@ -128,13 +128,10 @@ body_error (chunks.NotChunked name right) = Wrong name
 body_error (chunks.Truncated right) = Truncated None
 body_error (chunks.Io e) = Fault e
 
--- a body of which this was dropped is of more pieces than are counted
-abbrev pub TooMany : List ℕ → BodyError → Type 0
-TooMany handed why = (e : Error) × (why ≡ Fault e) × (error_kind e ≡ Other) × (2 ^ 64 - 1 ≤ length handed)
-
 -- why a body wasn't finished, of which this payload was dropped: none comes; or it is of more pieces than are counted
 abbrev pub FinishFails : {S : Type 0} → Unbuffered S → List ℕ → BodyError → Unbuffered S → Rest → Type 0
-FinishFails s handed e t r = Fails s e t r ⊎ TooMany handed e
+FinishFails s handed why t r =
+    Fails s why t r ⊎ ((e : Error) × (why ≡ Fault e) × (error_kind e ≡ Other) × (2 ^ 64 - 1 ≤ length handed))
 
 -- all of that was taken, and what stands behind the body is left
 pub record Ends {S : Type 0} (remaining : S → Option (List ℕ)) (s : Unbuffered S) (r : Rest) (t : Unbuffered S)

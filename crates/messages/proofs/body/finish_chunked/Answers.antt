@@ -3,7 +3,7 @@ use Rattle.buffer_redux.specs.EmptyReads.{ReadsWhenEmpty-std}
 use Rattle.buffer_redux.specs.Policy.{std_read_rules}
 use Rattle.chunked.specs.EmptyReads.{DrainReads-ends}
 use Rattle.chunked.specs.Kinds.{DrainReads-kind}
-use Rattle.messages.proofs.Going.{chunks_end, chunks_fail, chunks_room, chunks_take, counts_many, drain_asked}
+use Rattle.messages.proofs.Going.{chunks_end, chunks_fail, chunks_room, chunks_take, body_fault, drain_asked}
 use Rattle.messages.proofs.body.finish_chunked.Goals as goal
 
 pub returns-in-Ok-clause-room : goal.returns-in-Ok-clause-room
@@ -15,7 +15,7 @@ pub returns-in-Ok-clause-ends : goal.returns-in-Ok-clause-ends
 returns-in-Ok-clause-ends g c =
     let left = c.in-Ok.ensures in
     rw left.is_rest (chunks_end c.get_ref.ensures.whole left.drains.went left.is_whole (
-      elim left.drains.answers [ inl answers ↦ answers.1 | inr many ↦ absurd (let odd = many.answers in cc) ],
+      elim left.drains.answers [ inl answers ↦ answers.1 | inr many ↦ absurd (let odd = many.1 in cc) ],
       DrainReads-ends std_read_rules ReadsWhenEmpty-std _ _ _ _ left.drains.reads,
     ))
 
@@ -41,6 +41,6 @@ returns-in-Err-clause-ends g c =
       elim drains.answers [
         | inl answers ↦ inl (chunks_fail c.args.body c.in-Err.body whole c.requires.0 1 c.in-Err.e answers
             (DrainReads-ends std_read_rules ReadsWhenEmpty-std _ _ _ _ drains.reads))
-        | inr many ↦ inr (counts_many drains.payload c.in-Err.e many)
+        | inr many ↦ inr (many.0, body_fault c.in-Err.e many.0 many.1, many.2, many.3)
       ],
     )

@@ -15,6 +15,7 @@ returns-clause-many g c = λ s m messages head payload.
 
 pub returns-clause-known : goal.returns-clause-known
 returns-clause-known g c = λ s messages others text behind went known are many.
-    let left = StreamWent-front g.R.TellRead.remaining s (left_of c.args.requests.now) went.bytes (text ++ behind) went.went known in
+    let end = left_of c.args.requests.now in
+    let left = StreamWent-front g.R.TellRead.remaining s end went.bytes (text ++ behind) went.went known in
     let same = one_cut messages others went.bytes text left.0 behind many went.are are (sym left.2) in
     (same.0, left.1 ∙ ap (λ l. Some l) same.1)
