@@ -1,5 +1,5 @@
 -- What requests ask for, and what is done and replied.
-use Rattle.std.specs.Prelude.{◌≡◌, ℕ, ℤ, pos, ◌+ℤ◌, ◌+◌, ◌≤◌, ◌⊎◌, List, [], ◌∷◌, length, map, codes, decimal, Bool, true, false, Option, None, Some, MatchOption}
+use Rattle.std.specs.Prelude.{◌≡◌, ℕ, ℤ, pos, ◌+ℤ◌, ◌+◌, ◌≤◌, ◌⊎◌, List, [], ◌∷◌, length, map, codes, decimal, Bool, true, false, None, Some, MatchOption}
 use Rattle.std.specs.Fmt.{signed_decimal}
 use Rattle.std.specs.Char.{to_ascii_lowercase}
 use Rattle.resp.specs.declared.command.Command.{Command}
@@ -62,15 +62,10 @@ Means [] c = c ≡ command.Unknown
 Means (word ∷ rest) c =
     ((n : Name) × SameWord word (word_of n) × MeansRest n rest c) ⊎ (IsNoName word × (c ≡ command.Unknown))
 
--- the number at a key, which is 0 where there is none
-abbrev pub IsNumberAt : Option (List ℕ) → ℤ → Type 0
-IsNumberAt None n = n ≡ pos 0
-IsNumberAt (Some text) n = text ≡ signed_decimal n
-
--- the number at a key is now this, one more than it was
+-- the number at a key, which is 0 where there is none, is now this, one more than it was
 abbrev pub Raises : Values → List ℕ → ℤ → Values → Type 0
-Raises old key n new = (m : ℤ) × IsNumberAt (old.value key) m × (n ≡ m +ℤ pos 1) × HasRoom key old
-    × Puts key (Some (signed_decimal n)) old new
+Raises old key n new = (m : ℤ) × MatchOption (old.value key) (m ≡ pos 0) (λ text. text ≡ signed_decimal m)
+    × (n ≡ m +ℤ pos 1) × HasRoom key old × Puts key (Some (signed_decimal n)) old new
 
 -- the number at a key is not raised, and why: no number can be raised there, or there is no room for one. That memory is refused,
 -- and which text is no number, is said of no state
@@ -107,14 +102,5 @@ Acts old command.Unknown reply new = (reply ≡ codes "-ERR unknown command\r\n"
 
 -- no request is taken behind `QUIT`
 abbrev pub goes_on : Command → Bool
-goes_on command.Ping = true
-goes_on (command.Echo text) = true
-goes_on (command.Get key) = true
-goes_on (command.Set key value) = true
-goes_on (command.Del keys) = true
-goes_on (command.Incr key) = true
-goes_on command.DbSize = true
 goes_on command.Quit = false
-goes_on command.Nothing = true
-goes_on command.Arguments = true
-goes_on command.Unknown = true
+goes_on c = true

@@ -19,4 +19,5 @@ bulk_reply bytes = codes "$" ++ (decimal (length bytes) ++ (codes "\r\n" ++ (byt
 abbrev pub Replied : {T P A : Type 0} → (T → StreamLog) → (T → T → Type 0) → Buffered T P → List ℕ → Result A Error
     → Buffered T P → Type 0
 Replied tells trace w reply answer v = MatchResult answer
-    (λ _. WritesAlong tells trace std_write_rules w reply v) (λ e. WritesAlong tells trace std_write_rules w [] v × PartsRefused (length reply) w e v)
+    (λ _. WritesAlong tells trace std_write_rules w reply v)
+    (λ e. WritesAlong tells trace std_write_rules w [] v × PartsRefused (length reply) w e v)

@@ -23,12 +23,6 @@ holding m most = record { value = value_in m; count = hash_map_len m; most = mos
 abbrev pub held : Store → Values
 held s = holding s.map s.most
 
--- nothing is held, of at most so many
-pub record HoldsNone (limit : ℕ) (values : Values) : Type 0 where
-  pub none : (q : List ℕ) → values.value q ≡ None
-  pub count : values.count ≡ 0
-  pub most : values.most ≡ limit
-
 -- nothing changed
 pub record Same (old new : Values) : Type 0 where
   pub values : (q : List ℕ) → new.value q ≡ old.value q

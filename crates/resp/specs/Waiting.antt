@@ -28,48 +28,23 @@ begun count = record { parts = []; left = count; lost = false }
 abbrev pub Keeps : Waiting → List ℕ → Waiting → Type 0
 Keeps s part t = (t ≡ record s { parts = s.parts ++ part ∷ [] }) ⊎ (t ≡ record s { lost = true })
 
--- the piece is none of a request, which stays as it is
-abbrev pub Refuses : Waiting → Fed → Fed → Waiting → Type 0
-Refuses s why fed t = (fed ≡ why) × (t ≡ s)
-
--- one part less is to come
-abbrev pub one_less : Waiting → Waiting
-one_less s = record s { left = s.left - 1 }
-
--- a bulk string is the next part, and the last one makes the request whole
-abbrev pub TakesBulk : Waiting → List ℕ → Fed → Waiting → Type 0
-TakesBulk s part More t = (1 < s.left) × Keeps (one_less s) part t
-TakesBulk s part Whole t = (s.left ≡ 1) × Keeps (one_less s) part t
-TakesBulk s part (Bad why) t = ⊥
-
+-- a bulk string is the next part, and the last one makes the request whole; any other piece is none of it, and it stays as it is
 abbrev pub TakesPart : Waiting → RespItem → List ℕ → Fed → Waiting → Type 0
-TakesPart s item.Bulk payload fed t = TakesBulk s payload fed t
-TakesPart s item.Null payload fed t = Refuses s (Bad NoBulk) fed t
-TakesPart s (item.Array n) payload fed t = Refuses s (Bad NoBulk) fed t
-TakesPart s item.NullArray payload fed t = Refuses s (Bad NoBulk) fed t
-TakesPart s item.Simple payload fed t = Refuses s (Bad NoBulk) fed t
-TakesPart s item.Error payload fed t = Refuses s (Bad NoBulk) fed t
-TakesPart s item.Number payload fed t = Refuses s (Bad NoBulk) fed t
-TakesPart s item.Inline payload fed t = Refuses s (Bad NoBulk) fed t
+TakesPart s item.Bulk payload More t = (1 < s.left) × Keeps (record s { left = s.left - 1 }) payload t
+TakesPart s item.Bulk payload Whole t = (s.left ≡ 1) × Keeps (record s { left = s.left - 1 }) payload t
+TakesPart s item.Bulk payload (Bad why) t = ⊥
+TakesPart s i payload fed t = (fed ≡ Bad NoBulk) × (t ≡ s)
 
--- an array begins a request of so many parts, but of 1,024 at most; a line is one of one part, and an empty line none
-abbrev pub BeginsArray : Waiting → ℕ → Fed → Waiting → Type 0
-BeginsArray s n fed t = ((n ≤ 1024) × (fed ≡ More) × (t ≡ begun n)) ⊎ ((1024 < n) × Refuses s (Bad Count) fed t)
-
-abbrev pub BeginsLine : List ℕ → Fed → Waiting → Type 0
-BeginsLine [] fed t = (fed ≡ More) × (t ≡ nothing)
-BeginsLine (byte ∷ line) fed t = (fed ≡ Whole) × Keeps nothing (byte ∷ line) t
-
+-- an array begins a request of so many parts, but of 1,024 at most; a line is one of one part, and an empty line none; any other
+-- piece begins none
 abbrev pub Begins : Waiting → RespItem → List ℕ → Fed → Waiting → Type 0
-Begins s (item.Array (Some n)) payload fed t = BeginsArray s n fed t
-Begins s (item.Array None) payload fed t = Refuses s (Bad Count) fed t
+Begins s (item.Array (Some n)) payload fed t =
+    ((n ≤ 1024) × (fed ≡ More) × (t ≡ begun n)) ⊎ ((1024 < n) × (fed ≡ Bad Count) × (t ≡ s))
+Begins s (item.Array None) payload fed t = (fed ≡ Bad Count) × (t ≡ s)
 Begins s item.NullArray payload fed t = (fed ≡ More) × (t ≡ s)
-Begins s item.Inline payload fed t = BeginsLine payload fed t
-Begins s item.Bulk payload fed t = Refuses s (Bad NoArray) fed t
-Begins s item.Null payload fed t = Refuses s (Bad NoArray) fed t
-Begins s item.Simple payload fed t = Refuses s (Bad NoArray) fed t
-Begins s item.Error payload fed t = Refuses s (Bad NoArray) fed t
-Begins s item.Number payload fed t = Refuses s (Bad NoArray) fed t
+Begins s item.Inline [] fed t = (fed ≡ More) × (t ≡ nothing)
+Begins s item.Inline (byte ∷ line) fed t = (fed ≡ Whole) × Keeps nothing (byte ∷ line) t
+Begins s i payload fed t = (fed ≡ Bad NoArray) × (t ≡ s)
 
 -- a piece is a part, where one is to come, and else begins a request
 abbrev pub Feeds : Waiting → RespItem → List ℕ → Fed → Waiting → Type 0

@@ -1,8 +1,7 @@
 //! Entries, at most so many.
 
-ghost use Rattle.std.specs.Prelude.{◌≡◌, ◌≤◌, ◌<◌, ◌↔◌, List, ℕ, None, Some, Err, IsTrue, IsSome, OnOk, OnErr, IfErr, IfSome, IfNone};
-ghost use Rattle.std.specs.HashMap.{hash_map_len};
-ghost use Rattle.resp.specs.Stored.{HasRoom, HoldsNone, IsFull, Puts, Same, held, value_in};
+ghost use Rattle.std.specs.Prelude.{◌≡◌, ◌<◌, ◌↔◌, List, ℕ, None, Some, Err, IsTrue, IsSome, OnOk, OnErr, IfSome, IfNone};
+ghost use Rattle.resp.specs.Stored.{HasRoom, IsFull, Puts, Same, held, value_in};
 
 use std::alloc::Global;
 use std::collections::HashMap;
@@ -26,7 +25,9 @@ pub enum Full {
 impl Store {
     /// An empty store of at most so many entries.
     pub fn new(alloc: Global, most: usize) -> Store
-        ensures { HoldsNone most (held result) }
+        ensures none { (key : List ℕ) → (held result).value key ≡ None }
+        ensures count { (held result).count ≡ 0 }
+        ensures most { (held result).most ≡ most }
     {
         Store {
             map: HashMap::new(alloc),

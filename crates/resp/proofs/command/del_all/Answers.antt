@@ -14,8 +14,10 @@ loop-key-preserved c =
     c.key-item.is c.as_slice.ensures.value (bytes_of c.args.keys.now) (held c.args.store.now) (held c.loop-key.store)
     (held c.del.new.self) c.loop-key.count c.if-del.count c.del.result c.del.ensures.was c.del.ensures.put in
     elim c.if-del.branch [
-      | then-del w ↦ record { few = omega (arith, before.few, w.count-is); rest = more (inl (w.if-del.true, w.count-is)) before.rest }
-      | else-del w ↦ record { few = omega (arith, before.few, w.count-is); rest = more (inr (w.if-del.false, w.count-is)) before.rest }
+      | then-del w ↦
+          record { few = omega (arith, before.few, w.count-is); rest = more (inl (w.if-del.true, w.count-is)) before.rest }
+      | else-del w ↦
+          record { few = omega (arith, before.few, w.count-is); rest = more (inr (w.if-del.false, w.count-is)) before.rest }
     ]
 
 pub returns : goal.returns
