@@ -5,7 +5,7 @@ use Rattle.std.proofs.lemmas.List.{drop_all, drop_more}
 use Rattle.codec.specs.Scanning.{says, scan_on}
 use Rattle.piece_reader.specs.declared.header.Header.TheVariants as header
 use Rattle.codec.specs.declared.scan.ScanStep.{ScanStep}
-use Rattle.codec.specs.declared.scan.ScanStep.TheVariants.{More, Bad}
+use Rattle.codec.specs.declared.scan.ScanStep.TheVariants.{More}
 
 module _ {S : Type 0} (go : S → ℕ → ScanStep S) where
   -- one byte more is read, where one may be the header's
@@ -15,10 +15,6 @@ module _ {S : Type 0} (go : S → ℕ → ScanStep S) where
   read zero state used byte more t some is = absurd (omega (arith, some))
   read (suc left) state used byte more t some is =
       (left, omega arith, ap (λ t. says t (used + 1) (λ next. scan_on go left next (used + 1) more)) is)
-
-  none_left : (left : ℕ) (state : S) (used : ℕ) (bytes : List ℕ) → left ≡ 0 → scan_on go left state used bytes ≡ header.Bad
-  none_left zero state used bytes is = refl
-  none_left (suc left) state used bytes is = absurd (omega (arith, is))
 
   no_byte : (left : ℕ) (state : S) (used : ℕ) → 0 < left → scan_on go left state used [] ≡ header.Short
   no_byte zero state used some = absurd (omega (arith, some))
@@ -31,14 +27,7 @@ module _ {S : Type 0} (go : S → ℕ → ScanStep S) where
       pub all : left + used ≡ most
       pub goes : scan_on go most start 0 bytes ≡ scan_on go left state used (drop used bytes)
 
-    pub scans_none : ScansOn start 0
-    scans_none = record { left = most; all = omega arith; goes = refl }
-
     module _ (state : S) (used : ℕ) (so : ScansOn state used) where
-      -- no more bytes may be the header's
-      pub scans_full : used ≡ most → scan_on go most start 0 bytes ≡ header.Bad
-      scans_full full = so.goes ∙ none_left so.left state used (drop used bytes) (omega (arith, full, so.all))
-
       -- there is none
       pub scans_short : length bytes ≤ used → ¬ (used ≡ most) → scan_on go most start 0 bytes ≡ header.Short
       scans_short end some =

@@ -48,8 +48,5 @@ abbrev pub side : {V W : Type 0} → Grammar V → Grammar W → Bool → Gramma
 side g h true = renamed (λ e. One e) g
 side g h false = renamed (λ e. Other e) h
 
-abbrev pub one_or : {V W : Type 0} → ℕ → Grammar V → Grammar W → ℕ → Grammar (EitherWrong V W)
-one_or byte g h first = side g h (first == byte)
-
 abbrev pub either : {V W : Type 0} → ℕ → Grammar V → Grammar W → Grammar (EitherWrong V W)
-either byte g h = by_first (max g.most h.most) (one_or byte g h)
+either byte g h = by_first (max g.most h.most) (λ first. side g h (first == byte))

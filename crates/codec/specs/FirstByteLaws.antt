@@ -9,9 +9,9 @@ use Rattle.piece_reader.specs.declared.decoder.End.TheVariants as end
 use Rattle.piece_reader.specs.declared.decoder.Found.{Found}
 use Rattle.piece_reader.specs.declared.decoder.Found.TheVariants as found
 use Rattle.piece_reader.specs.Decoding.{Decodes, Ends, bytes_at}
-use Rattle.codec.specs.FirstByte.{OnFirst, by_first, either, end_as, found_as, one_or, renamed, side}
+use Rattle.codec.specs.FirstByte.{OnFirst, by_first, either, end_as, found_as, renamed, side}
 use Rattle.piece_reader.specs.Grammar.{Grammar, IsLawful, IsOpen}
-use Rattle.piece_reader.specs.GrammarLaws.{lacks_one, open_none}
+use Rattle.piece_reader.specs.GrammarLaws.{open_none}
 use Rattle.piece_reader.specs.Items.{IsWhole}
 
 -- other words for why bytes are none change nothing else
@@ -102,14 +102,6 @@ module _ {W : Type 0} (most : ℕ) (of_byte : ℕ → Grammar W) (room : 0 < mos
     end_apart = end_apart;
   }
 
-  -- where nothing is left, a byte is wanted
-  pub first_none : Decodes (by_first most of_byte) [] (found.More 1)
-  first_none = (
-    omega arith,
-    omega (arith, room),
-    lacks_one (by_first most of_byte) [] (open_none (by_first most of_byte) by_first_lawful),
-  )
-
   module _ (byte : ℕ) where
     -- what settles nothing of the protocol of its first byte settles nothing, and the other way
     open_first : (bytes : List ℕ) → IsOpen (of_byte byte) (byte ∷ bytes) → IsOpen (by_first most of_byte) (byte ∷ bytes)
@@ -171,6 +163,9 @@ module _ {W : Type 0} (most : ℕ) (of_byte : ℕ → Grammar W) (room : 0 < mos
     first_ends bytes (end.Last span) is = is
     first_ends bytes (end.Wrong e) is = is
 
+abbrev one_or : {V W : Type 0} → ℕ → Grammar V → Grammar W → ℕ → Grammar (EitherWrong V W)
+one_or byte g h first = side g h (first == byte)
+
 module _ {V W : Type 0} (byte : ℕ) (g : Grammar V) (h : Grammar W) (one_law : IsLawful g) (other_law : IsLawful h) where
   laws : (first : ℕ) → IsLawful (one_or byte g h first)
   laws first = go (first == byte)
@@ -184,9 +179,6 @@ module _ {V W : Type 0} (byte : ℕ) (g : Grammar V) (h : Grammar W) (one_law : 
 
   pub either_lawful : IsLawful (either byte g h)
   either_lawful = by_first_lawful (max g.most h.most) (one_or byte g h) room laws
-
-  pub either_none : Decodes (either byte g h) [] (found.More 1)
-  either_none = first_none (max g.most h.most) (one_or byte g h) room laws
 
   fits : (b : Bool) → (side g h b).most ≤ max g.most h.most
   fits true = le-max_left g.most h.most

@@ -14,8 +14,6 @@ pub use Rattle.piece_reader.specs.NextPieceLaws
 pub use Rattle.piece_reader.specs.PieceReader
 pub use Rattle.piece_reader.specs.PiecesWentLaws
 pub use Rattle.piece_reader.specs.Plain
-pub use Rattle.piece_reader.specs.RefillsLaws
-pub use Rattle.piece_reader.specs.RetoldLaws
 pub use Rattle.piece_reader.specs.Runs
 pub use Rattle.piece_reader.specs.RunsLaws
 pub use Rattle.piece_reader.specs.StaysLeftLaws

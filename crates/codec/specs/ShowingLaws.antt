@@ -1,9 +1,7 @@
 -- Laws of pieces whose payloads are shown otherwise.
-use Rattle.std.specs.Prelude.{◌≡◌, ℕ, ◌+◌, ◌≤◌, List, ◌++◌}
-use Rattle.std.proofs.Common.{sym, ap, ◌∙◌, arith, refl}
-use Rattle.piece_reader.specs.declared.decoder.Span.{Span}
-use Rattle.piece_reader.specs.Decoding.{IsPiece, bytes_at}
-use Rattle.piece_reader.specs.Grammar.{Begins, Grammar, IsLawful, IsOpen, Lacks}
+use Rattle.std.specs.Prelude.{ℕ, List}
+use Rattle.std.proofs.Common.{sym, ap, ◌∙◌, refl}
+use Rattle.piece_reader.specs.Grammar.{Begins, Grammar, IsLawful, IsOpen}
 use Rattle.codec.specs.Showing.{showing}
 
 module _ {W : Type 0} (show : List ℕ → List ℕ) (g : Grammar W) where
@@ -16,24 +14,9 @@ module _ {W : Type 0} (show : List ℕ → List ℕ) (g : Grammar W) where
     equal = b.equal;
   }
 
-  begins_showing : (bytes : List ℕ) → Begins (showing show g) bytes → Begins g bytes
-  begins_showing bytes b = record { piece = b.piece; payload = b.is.0; more = b.more; is = b.is.1; equal = b.equal }
-
   -- what settles nothing settles nothing however it is shown
   pub open_showing : (bytes : List ℕ) → IsOpen (showing show g) bytes → IsOpen g bytes
   open_showing bytes o = record { no_piece = λ b. o.no_piece (showing_begins bytes b); not_wrong = o.not_wrong }
-
-  pub lacks_showing : (n : ℕ) (bytes : List ℕ) → Lacks g n bytes → Lacks (showing show g) n bytes
-  lacks_showing n bytes lacks more few =
-      let o = lacks more few in
-      record { no_piece = λ b. o.no_piece (begins_showing (bytes ++ more) b); not_wrong = o.not_wrong }
-
-  -- a piece that was found, and where it is shown
-  pub piece_showing : (bytes : List ℕ) (span shown : Span) (used : ℕ) → IsPiece g bytes span used
-      → shown.from + shown.len ≤ span.from + span.len → bytes_at shown bytes ≡ show (bytes_at span bytes)
-      → IsPiece (showing show g) bytes shown used
-  piece_showing bytes span shown used is within same =
-      record { inside = is.inside; within = omega (arith, within, is.within); is = (bytes_at span bytes, is.is, same) }
 
   pub showing_lawful : IsLawful g → IsLawful (showing show g)
   showing_lawful law = record {

@@ -1,10 +1,7 @@
 -- Headers that are text.
 use Rattle.std.specs.Prelude.{ℕ, ◌+◌, ◌<◌, ◌^◌, List, length, Bool, ◌&&◌, ◌==◌, nat_lt, if◌then◌else◌, slice_index, Option, None, Some}
 use Rattle.codec.specs.Number.{with_byte}
-use Rattle.piece_reader.specs.Grammar.{Grammar}
-use Rattle.piece_reader.specs.HeaderFormat.{length_prefixed}
-use Rattle.codec.specs.Scanning.{Scanning, scanned}
-use Rattle.piece_reader.specs.declared.header_error.HeaderError.{HeaderError}
+use Rattle.codec.specs.Scanning.{Scanning}
 use Rattle.codec.specs.declared.number.Number.{Number}
 use Rattle.codec.specs.declared.number.Number.TheVariants.{Empty, Is}
 use Rattle.codec.specs.declared.scan.ScanStep.{ScanStep}
@@ -46,13 +43,10 @@ abbrev pub counts : Words → Option Number → Number → ℕ → ScanStep Text
 counts w (Some more) number byte = More (Length more)
 counts w None number byte = closes w number byte
 
-abbrev pub behind : Words → Number → ℕ → ScanStep TextHeaderState
-behind w number byte = counts w (with_byte number byte) number byte
-
 -- the bytes before the length, one by one; the length; and the bytes behind it
 abbrev pub text_turn : Words → TextHeaderState → ℕ → ScanStep TextHeaderState
 text_turn w (Before at) byte = if stands w.before at byte then More (enters w (at + 1)) else Bad
-text_turn w (Length number) byte = behind w number byte
+text_turn w (Length number) byte = counts w (with_byte number byte) number byte
 text_turn w (After at len) byte = if stands w.after at byte then ends w (at + 1) len else Bad
 
 abbrev pub text_scanning : Words → Scanning TextHeaderState
@@ -63,7 +57,3 @@ text_scanning w = record {
   max = w.max;
   tail = w.tail;
 }
-
--- the pieces whose headers are such, as `ByHeader(ByTextHeader(..))` reads them
-abbrev pub texted : Words → Grammar HeaderError
-texted w = length_prefixed (scanned (text_scanning w))

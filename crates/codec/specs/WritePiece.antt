@@ -48,38 +48,28 @@ WriteAnswers e s payload (Ok _) t = e.takes payload × MetInterrupts s.writer.lo
 WriteAnswers e s payload (Err (Refused w)) t = e.refuses payload w × (t ≡ s)
 WriteAnswers e s payload (Err (Io x)) t = e.takes payload × SendErrorCaused s.writer.log.writes t.writer.log.writes x
 
--- where the piece fits behind what is buffered, it stands there, and the inner writer isn't called
-pub record PieceAdded {S E W : Type 0} (e : Encoding W) (s : WriterState S E) (payload : List ℕ) (answer : WriteAnswer W)
-    (t : WriterState S E) : Type 0 where
-  pub ok : answer ≡ Ok tt
-  pub told : t.writer.log ≡ s.writer.log
-  pub added : unsent t ≡ unsent s ++ coded e payload
-
 -- all that was buffered was sent, once, with this answer; where that failed, nothing was done since
 abbrev pub SendsAll : {S E : Type 0} → WriterState S E → Result (Unit {0}) Error → WriterState S E → Type 0
 SendsAll s (Ok _) t =
     (sent : Block) × Sends (length (unsent s)) s.writer.block s.writer.log (Ok tt) sent t.writer.log
 SendsAll s (Err x) t = Sends (length (unsent s)) s.writer.block s.writer.log (Err x) t.writer.block t.writer.log
 
--- all went out, and then the piece was taken in
-pub record SentFirst {S E W : Type 0} (e : Encoding W) (s : WriterState S E) (payload : List ℕ) (t : WriterState S E)
-    : Type 0 where
-  pub sends : SendsAll s (Ok tt) t
-  pub received : t.writer.log.writes.received ≡ s.writer.log.writes.received ++ unsent s
-  pub added : unsent t ≡ coded e payload
-
--- where it doesn't, all that was buffered is sent first, and the inner writer isn't flushed
+-- all that was buffered is sent first, and then the piece is taken in
 abbrev pub SendsFirst : {S E W : Type 0} → Encoding W → WriterState S E → List ℕ → WriteAnswer W → WriterState S E → Type 0
-SendsFirst e s payload (Ok _) t = SentFirst e s payload t
+SendsFirst e s payload (Ok _) t =
+    SendsAll s (Ok tt) t × (t.writer.log.writes.received ≡ s.writer.log.writes.received ++ unsent s)
+    × (unsent t ≡ coded e payload)
 SendsFirst e s payload (Err (Io x)) t = SendsAll s (Err x) t
 SendsFirst e s payload (Err (Refused w)) t = ⊥
 
--- what one call of `write_piece` does
+-- what one call of `write_piece` does. Where the piece fits behind what is buffered, it stands there, and the inner writer isn't
+-- called; else all that is buffered is sent first. The inner writer isn't flushed
 pub record WritesPiece {S E W : Type 0} (trace : S → S → Type 0) (e : Encoding W) (s : WriterState S E) (payload : List ℕ)
     (answer : WriteAnswer W) (t : WriterState S E) : Type 0 where
   pub went : PiecesTaken trace e s (accepted payload answer) t
   pub answers : WriteAnswers e s payload answer t
-  pub fits : e.takes payload → length (coded e payload) ≤ room s → PieceAdded e s payload answer t
+  pub fits : e.takes payload → length (coded e payload) ≤ room s
+      → (answer ≡ Ok tt) × (t.writer.log ≡ s.writer.log) × (unsent t ≡ unsent s ++ coded e payload)
   pub full : e.takes payload → room s < length (coded e payload) → SendsFirst e s payload answer t
   pub not_flushed : t.writer.log.writes.flushed ≡ s.writer.log.writes.flushed
   pub whole : IsPieceWriter e.most t

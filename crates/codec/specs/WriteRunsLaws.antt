@@ -16,13 +16,6 @@ pub all_accepted-ok : (X : Type 0) (payloads : List (List ℕ)) → all_accepted
 all_accepted-ok X [] = refl
 all_accepted-ok X (payload ∷ payloads) = ap (λ l. payload ∷ l) (all_accepted-ok X payloads)
 
-pub all_accepted-take : {X : Type 0} → (payloads : List (List ℕ)) (answers : List (Result (Unit {0}) X))
-    → all_accepted (take (length answers) payloads) answers ≡ all_accepted payloads answers
-all_accepted-take [] [] = refl
-all_accepted-take [] (a ∷ answers) = refl
-all_accepted-take (p ∷ payloads) [] = refl
-all_accepted-take (p ∷ payloads) (a ∷ answers) = ap (λ l. accepted p a ++ l) (all_accepted-take payloads answers)
-
 -- what is taken in where the last answer is an error
 all_accepted-stopped : {X : Type 0} (done : List (List ℕ)) (payload : List ℕ) (why : X)
     → all_accepted (done ++ payload ∷ []) (all_ok done ++ Err why ∷ []) ≡ done

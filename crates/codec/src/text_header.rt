@@ -1,6 +1,7 @@
 //! Headers that are text: some bytes, a number, and some bytes.
 ghost use Rattle.std.specs.Prelude.{◌≡◌, ◌+◌, IsTrue, ◌↔◌};
-ghost use Rattle.codec.specs.TextHeaders.{Words, IsSound, behind, ends, enters, stands};
+ghost use Rattle.codec.specs.Number.{with_byte};
+ghost use Rattle.codec.specs.TextHeaders.{Words, IsSound, counts, ends, enters, stands};
 
 use crate::number::Number;
 use crate::scan::{Scan, ScanStep, scan_header};
@@ -77,7 +78,7 @@ impl<T: TextHeader> ByTextHeader<T> {
     // What it is in a length, or behind it.
     #[inline(always)]
     fn counted(&self, number: Number, byte: u8) -> ScanStep<TextHeaderState>
-        ensures { result ≡ behind (T.words self.now.0) number byte }
+        ensures { result ≡ counts (T.words self.now.0) (with_byte number byte) number byte }
     {
         if let Some(more) = number.with(byte) {
             return ScanStep::More(TextHeaderState::Length(more));

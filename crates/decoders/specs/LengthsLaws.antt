@@ -1,5 +1,5 @@
 -- A length stays so, whatever comes behind.
-use Rattle.std.specs.Prelude.{◌≡◌, ℕ, ◌<◌, ◌≤◌, List, [], ◌++◌, length, take, Bool, true, false, nat_lt, if◌then◌else◌}
+use Rattle.std.specs.Prelude.{◌≡◌, ℕ, ◌^◌, ◌<◌, ◌≤◌, List, [], ◌++◌, length, take, Bool, true, false, nat_lt, if◌then◌else◌}
 use Rattle.std.proofs.Common.{sym, ap, subst, ◌∙◌, arith, refl, length-append, length-take-le}
 use Rattle.std.proofs.lemmas.Bool.{ltb-true, ltb-false, lt-ltb, le-ltb}
 use Rattle.std.proofs.lemmas.List.{take-append-le, take_all}
@@ -7,7 +7,6 @@ use Rattle.codec.specs.HeaderFormat.{IsHeaderFormat}
 use Rattle.codec.specs.declared.Header.{Header}
 use Rattle.codec.specs.declared.Header.TheVariants.{Short, Sized, Bad}
 use Rattle.decoders.specs.Lengths.{lengths, number_of_all, size_of}
-use Rattle.decoders.specs.Limits.{IsSmall}
 use Rattle.decoders.specs.declared.lengths.Order.{Order}
 use Rattle.decoders.specs.declared.lengths.Width.{Width}
 use Rattle.decoders.specs.declared.lengths.Width.TheVariants.{One, Two, Four, Eight}
@@ -77,7 +76,7 @@ has_some Two = (omega arith, omega arith)
 has_some Four = (omega arith, omega arith)
 has_some Eight = (omega arith, omega arith)
 
-pub lengths_headers : (width : Width) (order : Order) (max : ℕ) → IsSmall max → IsHeaderFormat (lengths width order max)
+pub lengths_headers : (width : Width) (order : Order) (max : ℕ) → max < 2 ^ 62 → IsHeaderFormat (lengths width order max)
 lengths_headers width order max fits =
     let size = size_of width in
     let number = number_of_all width order in

@@ -2,7 +2,6 @@ pub mod Lengths
 pub mod LengthsLaws
 pub mod LengthsOut
 pub mod LengthsOutLaws
-pub mod Limits
 pub mod Nullable
 pub mod NullableLaws
 pub mod Resp

@@ -2,11 +2,11 @@
 use Rattle.std.specs.Prelude.{ℕ, [], ◌∷◌, Bool, true, false, ◌&&◌, ◌==◌, if◌then◌else◌}
 use Rattle.codec.specs.Scanning.{Scanning}
 use Rattle.codec.specs.TextHeaders.{text_turn}
-use Rattle.codec.specs.declared.number.Number.TheVariants.{Empty, Is}
+use Rattle.codec.specs.declared.number.Number.TheVariants.{Empty}
 use Rattle.codec.specs.declared.scan.ScanStep.{ScanStep}
 use Rattle.codec.specs.declared.scan.ScanStep.TheVariants.{More, Sized, Bad}
 use Rattle.codec.specs.declared.text_header.TextHeaderState.{TextHeaderState}
-use Rattle.codec.specs.declared.text_header.TextHeaderState.TheVariants.{Before, Length, After}
+use Rattle.codec.specs.declared.text_header.TextHeaderState.TheVariants.{Before, Length}
 use Rattle.decoders.specs.TextWords.{bulk_strings}
 use Rattle.decoders.specs.declared.nullable.StringState.{StringState}
 use Rattle.decoders.specs.declared.nullable.StringState.TheVariants.{Text, Minus}
@@ -14,9 +14,7 @@ use Rattle.decoders.specs.declared.nullable.StringState.TheVariants.{Text, Minus
 -- a length begins here
 abbrev pub begins_length : TextHeaderState → Bool
 begins_length (Length Empty) = true
-begins_length (Length (Is n)) = false
-begins_length (Before at) = false
-begins_length (After at len) = false
+begins_length place = false
 
 -- a turn in the header of a bulk string
 abbrev pub in_text : ScanStep TextHeaderState → ScanStep StringState

@@ -53,14 +53,11 @@ count_in number [] = None
 count_in number (byte ∷ line) =
     count_on (with_byte number byte) (λ more. count_in more line) (counted number byte line)
 
--- what a piece is that this byte begins
-abbrev pub line_item : ℕ → List ℕ → RespItem
-line_item kind line =
+-- what a piece is, by the byte that it begins with
+abbrev pub resp_item : List ℕ → RespItem
+resp_item [] = Inline
+resp_item (kind ∷ line) =
     if kind == 36 then (if slice_index line 0 == 45 then Null else Bulk)
     else if kind == 42 then (if (slice_index line 0 == 45) && (slice_index line 1 == 49) then NullArray
     else Array (count_in number.Empty line))
     else if kind == 43 then Simple else if kind == 45 then Error else if kind == 58 then Numeral else Inline
-
-abbrev pub resp_item : List ℕ → RespItem
-resp_item [] = Inline
-resp_item (kind ∷ line) = line_item kind line

@@ -1,5 +1,5 @@
 -- The pieces of RESP are told apart in one way.
-use Rattle.std.specs.Prelude.{ℕ}
+use Rattle.std.specs.Prelude.{ℕ, ◌<◌, ◌^◌}
 use Rattle.codec.specs.Delimited.{delimited}
 use Rattle.codec.specs.DelimitedLaws.{delimited_lawful}
 use Rattle.codec.specs.EndedLaws.{ended_lawful}
@@ -13,7 +13,6 @@ use Rattle.codec.specs.ScanningLaws.{scanned_headers}
 use Rattle.codec.specs.ShowingLaws.{showing_lawful}
 use Rattle.codec.specs.Trimming.{trimming}
 use Rattle.codec.specs.TrimmingLaws.{trimming_lawful}
-use Rattle.decoders.specs.Limits.{IsSmall}
 use Rattle.decoders.specs.Nullable.{nullable}
 use Rattle.decoders.specs.NullableLaws.{nullable_small}
 use Rattle.decoders.specs.Resp.{behind_kind, lines, resp}
@@ -22,7 +21,7 @@ pub lines_lawful : (max : ℕ) → IsLawful (lines max)
 lines_lawful max = showing_lawful behind_kind (trimming (delimited 10 max))
     (trimming_lawful (delimited 10 max) (delimited_lawful 10 max))
 
-pub resp_lawful : (max : ℕ) → IsSmall max → IsLawful (resp max)
+pub resp_lawful : (max : ℕ) → max < 2 ^ 62 → IsLawful (resp max)
 resp_lawful max fits = either_lawful 36 (length_prefixed (scanned (nullable max))) (ended (lines max))
     (length_prefixed_lawful (scanned (nullable max)) (scanned_headers (nullable max) (nullable_small max fits)))
     (ended_lawful (lines max) (lines_lawful max))

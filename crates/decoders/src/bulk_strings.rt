@@ -1,5 +1,5 @@
 //! Bulk strings of RESP.
-ghost use Rattle.decoders.specs.Limits.{IsSmall};
+ghost use Rattle.std.specs.Prelude.{◌<◌, ◌^◌};
 
 use codec::{TextHeader, TextHeaderOut};
 
@@ -16,7 +16,7 @@ use codec::{TextHeader, TextHeaderOut};
 #[derive(Clone, Copy, Debug, Drop)]
 pub struct BulkStrings {
     pub max: usize,
-    pub ghost fits: { IsSmall max },
+    pub ghost fits: { max < 2 ^ 62 },
 }
 
 impl TextHeader for BulkStrings {

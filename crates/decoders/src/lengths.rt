@@ -1,7 +1,6 @@
 //! Pieces whose payload has its length in front, in bytes.
-ghost use Rattle.std.specs.Prelude.{◌≡◌, ◌≤◌, length};
+ghost use Rattle.std.specs.Prelude.{◌≡◌, ◌^◌, ◌<◌, ◌≤◌, length};
 ghost use Rattle.decoders.specs.Lengths.{number_of, size_of};
-ghost use Rattle.decoders.specs.Limits.{IsSmall};
 ghost use Rattle.decoders.specs.declared.lengths.Order.TheVariants as Order;
 
 use codec::{Header, LengthPrefixed};
@@ -47,7 +46,7 @@ pub struct Lengths {
     pub width: Width,
     pub order: Order,
     pub max: usize,
-    pub ghost fits: { IsSmall max },
+    pub ghost fits: { max < 2 ^ 62 },
 }
 
 impl LengthPrefixed for Lengths {

@@ -1,6 +1,5 @@
 //! Bulk strings of RESP, and the null string.
-ghost use Rattle.std.specs.Prelude.{◌≡◌};
-ghost use Rattle.decoders.specs.Limits.{IsSmall};
+ghost use Rattle.std.specs.Prelude.{◌≡◌, ◌<◌, ◌^◌};
 ghost use Rattle.decoders.specs.Nullable.{begins_length, in_text};
 
 use crate::bulk_strings::BulkStrings;
@@ -20,7 +19,7 @@ use codec::{ByTextHeader, Number, Scan, ScanStep, TextHeaderState};
 #[derive(Clone, Copy, Debug, Drop)]
 pub struct NullableStrings {
     pub max: usize,
-    pub ghost fits: { IsSmall max },
+    pub ghost fits: { max < 2 ^ 62 },
 }
 
 /// Where such a header stands.

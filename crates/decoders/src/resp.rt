@@ -1,9 +1,8 @@
 //! RESP, the protocol of Redis.
-ghost use Rattle.std.specs.Prelude.{◌≡◌, ◌+◌, ◌≤◌, length};
+ghost use Rattle.std.specs.Prelude.{◌≡◌, ◌∷◌, ◌+◌, ◌^◌, ◌<◌, ◌≤◌, length};
 ghost use Rattle.codec.specs.Decoding.{bytes_at};
-ghost use Rattle.decoders.specs.Limits.{IsSmall};
 ghost use Rattle.codec.specs.declared.number.Number.TheVariants as Number;
-ghost use Rattle.decoders.specs.Resp.{behind_kind, count_in, counted, ends_line, line_item};
+ghost use Rattle.decoders.specs.Resp.{behind_kind, count_in, counted, ends_line, resp_item};
 
 use crate::nullable::NullableStrings;
 use codec::{
@@ -32,7 +31,7 @@ use codec::{
 #[derive(Clone, Copy, Debug, Drop)]
 pub struct Resp {
     pub max: usize,
-    pub ghost fits: { IsSmall max },
+    pub ghost fits: { max < 2 ^ 62 },
 }
 
 /// What a piece of RESP is.
@@ -103,8 +102,6 @@ impl Decoder for Resp {
 }
 
 impl Items for Resp {
-    ghost use Rattle.decoders.specs.Resp.{resp_item};
-
     type Item = RespItem;
 
     ghost item_of = { λ _ bytes. resp_item bytes };
@@ -121,7 +118,7 @@ impl Items for Resp {
 // What a piece is that begins with this byte.
 #[inline(always)]
 fn kind_of(kind: u8, line: &[u8]) -> RespItem
-    ensures { result ≡ line_item kind line.now }
+    ensures { result ≡ resp_item (kind ∷ line.now) }
 {
     match kind {
         b'$' => match line {
@@ -187,7 +184,7 @@ fn ends_line(byte: u8, line: &[u8]) -> bool
 #[derive(Clone, Copy, Debug, Drop)]
 struct Lines {
     max: usize,
-    ghost fits: { IsSmall max },
+    ghost fits: { max < 2 ^ 62 },
 }
 
 impl Decoder for Lines {

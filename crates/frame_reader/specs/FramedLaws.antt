@@ -1,11 +1,11 @@
 -- Laws of frames as pieces.
 use Rattle.std.specs.Prelude.{◌≡◌, ℕ, suc, ◌+◌, ◌<◌, ◌≤◌, ◌^◌, List, [], ◌∷◌, ◌++◌, length, take, drop}
-use Rattle.std.proofs.Common.{sym, ap, subst, ◌∙◌, arith, refl, inl, append_assoc, append-nil, length-append, length-drop, length-take-le}
+use Rattle.std.proofs.Common.{sym, ap, ◌∙◌, arith, refl, inl, append_assoc, append-nil, length-append, length-drop, length-take-le}
 use Rattle.std.proofs.lemmas.List.Elements.{All-head, All-tail}
 use Rattle.std.specs.List.{All}
 use Rattle.codec.specs.Decoding.{IsPiece}
 use Rattle.codec.specs.Encoding.{IsWritable, all_coded, coded}
-use Rattle.codec.specs.Grammar.{IsLawful, Lacks}
+use Rattle.codec.specs.Grammar.{IsLawful}
 use Rattle.codec.specs.TextLaws as pieces
 use Rattle.codec.specs.Texts.{HasPieces, IsPieces}
 use Rattle.frame_reader.specs.declared.frame.FrameFault.TheVariants.{TooLong}
@@ -25,24 +25,6 @@ begins-more len bytes more s = record {
 
 size : (max : ℕ) (p a : List ℕ) → IsFrame max p a → length p ≡ 2 + length a
 size max p a is = ap length is.equal ∙ length-append (header (length a)) a
-
--- what a length isn't there of is open
-pub lacks_length : (max : ℕ) (bytes : List ℕ) → Lacks (framed max) 2 bytes
-lacks_length max bytes more few = record {
-  no_piece = λ b. omega (
-    arith,
-    few,
-    ap length b.equal,
-    length-append b.piece b.more,
-    size max b.piece b.payload b.is,
-  );
-  not_wrong = λ e wrong. omega (
-    arith,
-    few,
-    ap length wrong.0.begins.equal,
-    length-append (header wrong.0.len) wrong.0.begins.more,
-  );
-}
 
 -- a whole frame is there
 pub frame_there : (max len : ℕ) (bytes : List ℕ) → BeginsWith len bytes → len ≤ max → 2 + len ≤ length bytes
@@ -105,24 +87,6 @@ module _ (max : ℕ) (word : max < 2 ^ 16) where
     one_last = λ bytes a b is is'. absurd is;
     end_apart = λ bytes a e is cut. is;
   }
-
-  -- less than a frame is open
-  pub lacks_payload : (len : ℕ) (bytes : List ℕ) → BeginsWith len bytes → len ≤ max → Lacks (framed max) (2 + len) bytes
-  lacks_payload len bytes begins fits more few =
-      let here = begins-more len bytes more begins in record {
-        no_piece = λ b.
-            let there = subst (BeginsWith (length b.payload)) (sym b.equal) (begins-frame b.piece b.payload b.more b.is) in
-            omega (
-              arith,
-              few,
-              ap length b.equal,
-              length-append b.piece b.more,
-              size max b.piece b.payload b.is,
-              begins-same len (length b.payload) (bytes ++ more) here there,
-            );
-        not_wrong = λ e wrong.
-            omega (arith, fits, wrong.0.above, begins-same len wrong.0.len (bytes ++ more) here wrong.0.begins);
-      }
 
   -- two readings of a stream are one
   pub Splits-same : (stream : List ℕ) (ps qs : List (List ℕ)) (xs ys : List ℕ) → Splits max stream ps xs

@@ -10,7 +10,7 @@ use Rattle.codec.specs.KnownPayloads.{AnswersKnown}
 use Rattle.codec.specs.KnownPieces.{HasLeft}
 use Rattle.codec.specs.KnownPiecesLaws.{NextPiece-answers}
 use Rattle.codec.specs.NextPiece as pieces
-use Rattle.codec.specs.NextPiece.{NextPiece, PiecesWent, StaysLeft}
+use Rattle.codec.specs.NextPiece.{NextPiece, PiecesWent}
 use Rattle.codec.specs.NextPieceLaws.{NextPiece-ready, NextPiece-wrong}
 use Rattle.codec.specs.PiecesWentLaws.{PiecesWent-joins, PiecesWent-none}
 use Rattle.codec.specs.PieceReader.{IsPieceReader, ReaderState, rest}
@@ -83,13 +83,6 @@ module _ {S : Type 0} (remaining : S → Option (List ℕ)) where
     NextPiece-reads answer next = record {
       told = (frames_of answer next.bytes next.answers).2;
       whole = subst (λ d. IsPieceReader (framed d.max) t) (sym next.went.decoder) next.whole;
-    }
-
-    -- where nothing was done it reads frames still
-    pub StaysLeft-reads : ReadsFrames s → StaysLeft (framed s.decoder.max) s t → ReadsFrames t
-    StaysLeft-reads reads stays = record {
-      told = ap (λ x. x.ended) stays.same ∙ reads.told;
-      whole = subst (λ x. IsPieceReader (framed x.decoder.max) t) (sym stays.same) stays.whole;
     }
 
     module _ (answer : NextAnswer) (next : Next remaining s answer t) where

@@ -40,11 +40,13 @@ pub fn one_reading(max: u16)
 /// moved than were given.
 pub fn since_new<R: TellRead>(reader: &FrameReader<R>)
     ensures given { (least : ℕ) (stream : R) (first : ReaderState R Frames) (payloads : List (List ℕ))
-        → IsFresh R.log least (2 + first.decoder.max) stream first.decoder first → FramesWent R.remaining first payloads reader.now
+        → IsFresh R.log least (2 + first.decoder.max) stream first.decoder first
+        → FramesWent R.remaining first payloads reader.now
         → reader.now.reader.log.reads.given
         ≡ (R.log stream).reads.given ++ (frames payloads ++ rest reader.now) }
     ensures moved { (least : ℕ) (stream : R) (first : ReaderState R Frames) (payloads : List (List ℕ))
-        → IsFresh R.log least (2 + first.decoder.max) stream first.decoder first → FramesWent R.remaining first payloads reader.now
+        → IsFresh R.log least (2 + first.decoder.max) stream first.decoder first
+        → FramesWent R.remaining first payloads reader.now
         → MovedAtMostGiven first.reader reader.now.reader }
 {}
 

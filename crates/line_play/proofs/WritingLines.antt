@@ -1,5 +1,5 @@
 -- What the loop comes to that writes lines with their ends.
-use Rattle.std.proofs.Common.{◌≡◌, ℕ, ◌+◌, ◌<◌, ◌≤◌, List, [], ◌∷◌, ◌++◌, length, map, take, drop, sym, ap, subst, refl, ◌∙◌, arith, append-nil, get_or, length-append}
+use Rattle.std.proofs.Common.{◌≡◌, ℕ, ◌+◌, ◌<◌, List, [], ◌∷◌, ◌++◌, length, map, take, drop, sym, ap, subst, refl, ◌∙◌, arith, append-nil, get_or, length-append}
 use Rattle.std.proofs.Math.Seq.{take-append-add}
 use Rattle.std.proofs.lemmas.Grind.{flat_map-append}
 use Rattle.std.proofs.lemmas.List.{take_all, take-append-le, take-map}
@@ -81,13 +81,3 @@ module _ {V : Type 0} (f : V → List ℕ) (vs : List V) (i : ℕ) (x : V) (insi
         in_order = subst (λ l. WritesInOrder s l t) (sym same) all;
         went = joins s.inner m.inner t.inner so_far.went went;
       }
-
--- before the first, and after the last
-pub none_written : {S P : Type 0} (trace : S → S → Type 0) → ((x : S) → trace x x) → (s : Buffered S P)
-    → WroteLines trace s [] s
-none_written trace none s = record { in_order = WritesInOrder-none s; went = none s.inner }
-
-pub all_written : {V S P : Type 0} (f : V → List ℕ) (vs : List V) (i : ℕ) → length vs ≤ i → (trace : S → S → Type 0)
-    (s t : Buffered S P) → WroteLines trace s (map f (take i vs)) t → WritesInOrder s (with_ends (map f vs)) t
-all_written f vs i end trace s t wrote =
-    subst (λ l. WritesInOrder s (with_ends (map f l)) t) (take_all i vs end) wrote.in_order

@@ -3,13 +3,12 @@ use Rattle.std.proofs.Common.{[], ◌≡◌, ℕ, ◌+◌, ◌<◌, ◌≤◌, L
 use Rattle.piece_reader.specs.declared.decoder.Span.{Span}
 use Rattle.piece_reader.specs.Decoding.{bytes_at}
 use Rattle.piece_reader.specs.DelimitedLaws.{delimited_lawful}
-use Rattle.piece_reader.specs.Grammar.{Begins, Lacks}
-use Rattle.piece_reader.specs.GrammarLaws.{lacks_one}
+use Rattle.piece_reader.specs.Grammar.{Begins}
 use Rattle.piece_reader.specs.NextPiece as pieces
 use Rattle.piece_reader.specs.NextPiece.{NextPiece, StaysLeft, buffered_answer, empties, load_answer}
 use Rattle.piece_reader.specs.NextPieceLaws.{MetEnd-once, NextPiece-ready, NextPiece-refused, NextPiece-wrong}
-use Rattle.piece_reader.specs.PiecesWentLaws.{PiecesWent-unasked, drop_none}
-use Rattle.piece_reader.specs.PieceReader.{IsPieceReader, IsSettled, ReaderState, Skips, rest}
+use Rattle.piece_reader.specs.PiecesWentLaws.{PiecesWent-unasked}
+use Rattle.piece_reader.specs.PieceReader.{IsPieceReader, IsSettled, ReaderState, rest}
 use Rattle.piece_reader.specs.StaysLeftLaws.{StaysLeft-next}
 use Rattle.line_reader.specs.declared.error.LineError.TheVariants.{TooLong, Io}
 use Rattle.line_reader.specs.declared.line.Lines.{Lines}
@@ -17,16 +16,10 @@ use Rattle.line_reader.specs.Lines.{BeginsTooLong, IsLine, newline, with_end}
 use Rattle.line_reader.specs.LinesLaws.{line_or_end, line_or_long, take_plain}
 use Rattle.line_reader.specs.LineReader.{IsLineReader, LineState, lined}
 use Rattle.line_reader.specs.NextLine.{NextAnswer, NextBuffered, NextLine, piece_answer}
-use Rattle.line_reader.specs.NextLineLaws.{IsHanded-fits, IsPieceReader-same, NextLine-of, NextLine-open, NextOpen, NextOpen-whole, by_skipping, same_long, same_none, same_some}
+use Rattle.line_reader.specs.NextLineLaws.{IsHanded-fits, NextLine-of, NextLine-open, NextOpen, by_skipping, same_long, same_none, same_some}
 
 -- where no line that fits stands there, the bytes are a part of one, or too long
 module _ (max : ℕ) (bytes : List ℕ) (none : ¬ (Begins (lined max) bytes)) where
-  pub lacks_more : length bytes ≤ max → Lacks (lined max) (1 + length bytes) bytes
-  lacks_more few = lacks_one (lined max) bytes (record {
-    no_piece = none;
-    not_wrong = λ e wrong. absurd (omega (arith, wrong.above, few));
-  })
-
   long_plain : max < length bytes → IsLine (take (1 + max) bytes)
   long_plain above = elim (line_or_end bytes) [
     | inl plain ↦ take_plain (1 + max) bytes plain
@@ -56,32 +49,6 @@ module _ {S : Type 0} (f : LineState S) (whole : IsLineReader f) where
     (delimited_lawful newline f.pieces.decoder.max).some b.piece b.payload b.is,
   ))
   settled_open (inr (inr (e, wrong))) = open_left (omega (arith, wrong.above))
-
--- what is true of a reader of lines stays so
-module _ {S : Type 0} (f : LineState S) (t : ReaderState S Lines) (whole : IsLineReader f)
-    (decoder : t.decoder ≡ f.pieces.decoder)
-    (ended : t.ended ≡ f.pieces.ended) where
-  still_whole : IsPieceReader (lined f.pieces.decoder.max) t → (rest f.pieces ≡ [] → rest t ≡ [])
-      → IsLineReader (record { pieces = t; skipping = f.skipping })
-  still_whole is none = record {
-    whole = IsPieceReader-same f.pieces t decoder is;
-    skipped = λ skips. none (whole.skipped skips);
-    goes_on = λ skips. ended ∙ whole.goes_on skips;
-  }
-
--- where bytes are dropped, and where only more bytes were looked at
-module _ {S : Type 0} (f : LineState S) (t : ReaderState S Lines) (whole : IsLineReader f) where
-  pub Skips-whole : (count : ℕ) → Skips (lined f.pieces.decoder.max) f.pieces count t
-      → IsLineReader (record { pieces = t; skipping = f.skipping })
-  Skips-whole count skips =
-      still_whole f t whole (ap (λ x. x.decoder) skips.same) (ap (λ x. x.ended) skips.same) skips.whole
-      (λ none. skips.left ∙ drop_none count (rest f.pieces) none)
-
-  pub StaysLeft-whole : StaysLeft (lined f.pieces.decoder.max) f.pieces t
-      → IsLineReader (record { pieces = t; skipping = f.skipping })
-  StaysLeft-whole stays =
-      still_whole f t whole (ap (λ x. x.decoder) stays.same) (ap (λ x. x.ended) stays.same) stays.whole
-      (λ none. ap (λ x. rest x) stays.same ∙ none)
 
 module _ {S : Type 0} (remaining : S → Option (List ℕ)) where
   -- a line that is too long is refused as it stands
@@ -128,13 +95,6 @@ module _ {S : Type 0} (remaining : S → Option (List ℕ)) where
     NextBuffered-of (Some span) (next, same) =
         record { piece = (next, same); open' = open_found (bytes_at span t.reader.block.bytes) next same; skipping = refl }
     NextBuffered-of None (stays, none) = record { piece = (stays, none); open' = tt; skipping = refl }
-
-    pub whole_buffered : (found : Option Span)
-        → pieces.NextBuffered remaining (lined s.pieces.decoder.max) s.pieces (buffered_answer found t) t → IsLineReader after
-    whole_buffered (Some span) (next, same) =
-        NextOpen-whole remaining s after (Ok (Some (bytes_at span t.reader.block.bytes)))
-        (next, open_found (bytes_at span t.reader.block.bytes) next same)
-    whole_buffered None (stays, none) = StaysLeft-whole s t whole stays
 
     pub going_buffered : (found : Option Span)
         → pieces.NextBuffered remaining (lined s.pieces.decoder.max) s.pieces (buffered_answer found t) t

@@ -5,6 +5,7 @@ use Rattle.std.proofs.lemmas.List.Elements.{All-append, All-nil}
 use Rattle.std.specs.IoError.{error_kind}
 use Rattle.std.specs.declared.io.Error.{Error}
 use Rattle.std.specs.declared.io.ErrorKind.TheVariants.{Other}
+use Rattle.piece_reader.specs.DelimitedLaws.{isnt_end}
 use Rattle.piece_reader.specs.NextPiece.{AskedWhere, AsksGive, NoEnd, NoFault, PiecesWent, Refills}
 use Rattle.piece_reader.specs.NextPieceLaws.{AskedWhere-told, MetEnd-joins, still_going}
 use Rattle.piece_reader.specs.PiecesWentLaws.{PiecesWent-inside, PiecesWent-joins, PiecesWent-none}
@@ -15,9 +16,6 @@ use Rattle.line_reader.specs.Lines.{newline, IsLine, with_end}
 use Rattle.line_reader.specs.LineReader.{lined}
 use Rattle.line_reader.specs.NextLineLaws.{IsPieceReader-same}
 use Rattle.line_reader.specs.SkipLine.{DropsLine, DropsThrough}
-
-abbrev isnt_end : ℕ → Type 0
-isnt_end byte = ¬ (byte ≡ newline)
 
 -- what holds before each turn of `drop_through`: so many bytes went, and none of them ends a line. Neither a fault nor an end
 -- was met, and each ask gave a byte
@@ -38,7 +36,7 @@ SkipHead-none remaining s = record {
   bytes = [];
   went = PiecesWent-none remaining (1 + s.decoder.max) s;
   count = refl;
-  plain = All-nil isnt_end;
+  plain = All-nil (isnt_end newline);
   ended = refl;
   faults = refl;
   no_end = refl;
@@ -95,7 +93,7 @@ module _ {S : Type 0} (remaining : S → Option (List ℕ)) (s m : ReaderState S
             inl (
               record {
                 line = h.bytes ++ front;
-                plain = All-append isnt_end h.bytes front h.plain at.2.plain;
+                plain = All-append (isnt_end newline) h.bytes front h.plain at.2.plain;
                 equal = sym (append_assoc h.bytes front (newline ∷ []));
               },
               same_ended ∙ still_going m.ended (rest m) drops.before.ended (omega (arith, inside)),
@@ -119,7 +117,7 @@ module _ {S : Type 0} (remaining : S → Option (List ℕ)) (s m : ReaderState S
             bytes = h.bytes ++ rest m;
             went = went_on (rest m) (ap (λ l. rest m ++ l) none_left ∙ append-nil (rest m));
             count = omega (arith, h.count, all.0, length-append h.bytes (rest m));
-            plain = All-append isnt_end h.bytes (rest m) h.plain all.1;
+            plain = All-append (isnt_end newline) h.bytes (rest m) h.plain all.1;
             ended = same_ended ∙ h.ended;
             faults = faults_still;
             no_end = no_end_still;

@@ -58,16 +58,11 @@ pub record LinesAlong {S : Type 0} (remaining : S → Option (List ℕ)) (before
   pub closed : t.skipping ≡ false → after ≡ []
   pub told : s.pieces.ended ≡ true → EndNext t.pieces.ended events
 
--- what an answer of `next`, or of `next_trimmed`, comes to where no line is being skipped
-abbrev pub next_events : NextAnswer → List Event
-next_events (Ok (Some line)) = Handed line ∷ []
-next_events (Ok None) = Ended ∷ []
-next_events (Err e) = []
-
-abbrev pub trimmed_events : NextAnswer → List Event
-trimmed_events (Ok (Some shown)) = Trimmed shown ∷ []
-trimmed_events (Ok None) = Ended ∷ []
-trimmed_events (Err e) = []
+-- what an answer that hands lines out as such events comes to where no line is being skipped
+abbrev pub events_of : (List ℕ → Event) → NextAnswer → List Event
+events_of handed (Ok (Some line)) = handed line ∷ []
+events_of handed (Ok None) = Ended ∷ []
+events_of handed (Err e) = []
 
 -- a call, with its answer
 pub data Call : Type 0 where
@@ -87,17 +82,11 @@ call_lines (Nexts answer) = handed_payload answer
 call_lines (NextsTrimmed answer) = handed_payload answer
 call_lines (Skips answer) = []
 
-abbrev pub lines_of_calls : List Call → List (List ℕ)
-lines_of_calls calls = flat_map call_lines calls
-
 abbrev pub event_lines : Event → List (List ℕ)
 event_lines (Handed line) = line ∷ []
 event_lines (Trimmed shown) = shown ∷ []
 event_lines (Skipped line) = []
 event_lines Ended = []
-
-abbrev pub lines_of_events : List Event → List (List ℕ)
-lines_of_events events = flat_map event_lines events
 
 -- how many lines were skipped, and in how many calls this was asked for
 abbrev pub skipped_count : List Event → ℕ
@@ -128,5 +117,5 @@ pub record CallsWent {S : Type 0} (remaining : S → Option (List ℕ)) (before 
   pub events : List Event
   pub after : List ℕ
   pub along : LinesAlong remaining before s events after t
-  pub handed : lines_of_events events ≡ lines
+  pub handed : flat_map event_lines events ≡ lines
   pub few : skipped_count events + pending t.skipping ≤ asks + pending s.skipping

@@ -3,12 +3,13 @@ use Rattle.std.specs.Prelude.{◌+◌, ◌≡◌, ℕ, ◌<◌, List, [], ◌∷
 use Rattle.std.proofs.Common.{sym, ap, subst, ◌∙◌, arith, refl, inl, inr, append-nil, append_assoc, length-append}
 use Rattle.std.proofs.lemmas.List.Elements.{All-nil, All-append}
 use Rattle.std.specs.declared.io.Error.{Error}
+use Rattle.piece_reader.specs.DelimitedLaws.{isnt_end}
 use Rattle.piece_reader.specs.NextPiece.{PiecesWent}
 use Rattle.piece_reader.specs.PiecesWentLaws.{PiecesWent-joins, PiecesWent-none, PiecesWent-unasked}
 use Rattle.piece_reader.specs.PieceReader.{ReaderState, rest}
 use Rattle.piece_reader.specs.Trimming.{IsTrimmed}
 use Rattle.line_reader.specs.declared.error.LineError.TheVariants.{TooLong, Io}
-use Rattle.line_reader.specs.Calls.{Handed, Trimmed, Skipped, Ended, Event, LinesAlong, CutsInto, EndNext, next_events, trimmed_events}
+use Rattle.line_reader.specs.Calls.{Handed, Trimmed, Skipped, Ended, Event, LinesAlong, CutsInto, EndNext, events_of}
 use Rattle.line_reader.specs.declared.line.Lines.{Lines}
 use Rattle.line_reader.specs.Lines.{IsLine, newline, with_end}
 use Rattle.line_reader.specs.LineReader.{LineState}
@@ -16,11 +17,8 @@ use Rattle.line_reader.specs.NextLine.{NextAnswer, Trims}
 use Rattle.line_reader.specs.NextLineLaws.{IsHanded-fits, NextOpen, same_none}
 use Rattle.line_reader.specs.SkipLine.{IsWithEnd, SkipsLine}
 
-abbrev isnt_end : ℕ → Type 0
-isnt_end byte = ¬ (byte ≡ newline)
-
 pub no_line : IsLine []
-no_line = All-nil isnt_end
+no_line = All-nil (isnt_end newline)
 
 nil_front : (a b : List ℕ) → a ++ b ≡ [] → a ≡ []
 nil_front [] b is = refl
@@ -117,7 +115,7 @@ module _ {S : Type 0} (remaining : S → Option (List ℕ)) (s t : LineState S) 
   }
 
   pub NextLine-along : (answer : NextAnswer) → NextOpen remaining s answer t
-      → LinesAlong remaining [] s (next_events answer) [] t
+      → LinesAlong remaining [] s (events_of (λ l. Handed l) answer) [] t
   NextLine-along (Ok (Some line)) n = record {
     bytes = n.0.bytes;
     went = n.0.went;
@@ -148,7 +146,7 @@ module _ {S : Type 0} (remaining : S → Option (List ℕ)) (s t : LineState S) 
 
   -- a call of `next_trimmed` where no line is being skipped
   pub Trims-along : (whole answer : NextAnswer) → NextOpen remaining s whole t → Trims whole answer t.pieces.ended
-      → LinesAlong remaining [] s (trimmed_events answer) [] t
+      → LinesAlong remaining [] s (events_of (λ l. Trimmed l) answer) [] t
   Trims-along (Ok (Some line)) (Ok (Some shown)) n trims =
       let Shows : Bool → Type 0 = λ b. MatchBool b (shown ≡ line) (IsTrimmed line shown) in
       record {
@@ -171,9 +169,9 @@ module _ {S : Type 0} (remaining : S → Option (List ℕ)) (s t : LineState S) 
   Trims-along (Ok (Some line)) (Ok None) n trims = absurd trims
   Trims-along (Ok (Some line)) (Err e) n trims = absurd trims
   Trims-along (Ok None) answer n trims =
-      subst (λ a. LinesAlong remaining [] s (trimmed_events a) [] t) (sym trims) (NextLine-along (Ok None) n)
+      subst (λ a. LinesAlong remaining [] s (events_of (λ l. Trimmed l) a) [] t) (sym trims) (NextLine-along (Ok None) n)
   Trims-along (Err e) answer n trims =
-      subst (λ a. LinesAlong remaining [] s (trimmed_events a) [] t) (sym trims) (NextLine-along (Err e) n)
+      subst (λ a. LinesAlong remaining [] s (events_of (λ l. Trimmed l) a) [] t) (sym trims) (NextLine-along (Err e) n)
 
 -- a call of `skip_line`, or the part of another call that goes on skipping, behind so many bytes of the line
 module _ {S : Type 0} (remaining : S → Option (List ℕ)) (s t : LineState S) (before : List ℕ) (plain : IsLine before)
@@ -211,7 +209,7 @@ module _ {S : Type 0} (remaining : S → Option (List ℕ)) (s t : LineState S) 
       record {
         bytes = k.drops.bytes;
         went = k.drops.went;
-        cut = ([], All-append isnt_end before w.line plain w.plain, inl all, (no_line, refl));
+        cut = ([], All-append (isnt_end newline) before w.line plain w.plain, inl all, (no_line, refl));
         closed = λ open'. refl;
         told = λ ended. told_skip (Ok count) k ended (omega (
           arith,
@@ -230,7 +228,7 @@ module _ {S : Type 0} (remaining : S → Option (List ℕ)) (s t : LineState S) 
     went = k.drops.went;
     cut = (
       [],
-      All-append isnt_end before k.drops.bytes plain line,
+      All-append (isnt_end newline) before k.drops.bytes plain line,
       inr (sym (append-nil (before ++ k.drops.bytes)), some, ended),
       (no_line, refl),
     );
@@ -255,7 +253,7 @@ module _ {S : Type 0} (remaining : S → Option (List ℕ)) (s t : LineState S) 
   skip_fails e k = record {
     bytes = k.drops.bytes;
     went = k.drops.went;
-    cut = (All-append isnt_end before k.drops.bytes plain k.drops.answers.0, refl);
+    cut = (All-append (isnt_end newline) before k.drops.bytes plain k.drops.answers.0, refl);
     closed = λ open'. (let odd : true ≡ false = sym k.skipping ∙ open' in cc);
     told = λ ended.
         let u = unasked (Err e) k ended in

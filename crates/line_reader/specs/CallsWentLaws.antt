@@ -2,12 +2,13 @@
 use Rattle.std.specs.Prelude.{◌≡◌, ℕ, ◌+◌, ◌≤◌, List, [], ◌∷◌, ◌++◌, length, true, false, Option, None, Some, Ok, Err}
 use Rattle.std.proofs.Common.{sym, ap, subst, ◌∙◌, arith, refl, inl, inr, append-nil}
 use Rattle.std.proofs.lemmas.List.Concat.{flat_map-append}
+use Rattle.std.specs.List.{flat_map}
 use Rattle.std.specs.declared.io.Error.{Error}
 use Rattle.piece_reader.specs.PiecesWentLaws.{PiecesWent-none}
 use Rattle.piece_reader.specs.PieceReader.{rest}
 use Rattle.piece_reader.specs.Runs.{AnswerRuns, handed_payload}
 use Rattle.line_reader.specs.declared.error.LineError.TheVariants.{Io}
-use Rattle.line_reader.specs.Calls.{Handed, Trimmed, Skipped, Ended, Nexts, NextsTrimmed, Skips, Call, CallGoes, CallsWent, Event, call_asks, call_lines, event_lines, lines_of_calls, lines_of_events, next_events, pending, skip_calls, skipped_count, trimmed_events}
+use Rattle.line_reader.specs.Calls.{Handed, Trimmed, Skipped, Ended, Nexts, NextsTrimmed, Skips, Call, CallGoes, CallsWent, Event, call_asks, call_lines, event_lines, events_of, pending, skip_calls, skipped_count}
 use Rattle.line_reader.specs.CallsLaws.{CutsInto-after, LinesAlong-joins, NextLine-along, Trims-along, skip_fails, skip_last, skip_none, skip_whole}
 use Rattle.line_reader.specs.Lines.{IsLine}
 use Rattle.line_reader.specs.LineReader.{LineState, IsLineReader}
@@ -23,14 +24,14 @@ skipped_append (Trimmed shown ∷ first) later = skipped_append first later
 skipped_append (Skipped line ∷ first) later = omega (arith, skipped_append first later)
 skipped_append (Ended ∷ first) later = skipped_append first later
 
-next_lines : (answer : NextAnswer) → (lines_of_events (next_events answer) ≡ handed_payload answer)
-    × (skipped_count (next_events answer) ≡ 0)
+next_lines : (answer : NextAnswer) → (flat_map event_lines (events_of (λ l. Handed l) answer) ≡ handed_payload answer)
+    × (skipped_count (events_of (λ l. Handed l) answer) ≡ 0)
 next_lines (Ok (Some line)) = (refl, refl)
 next_lines (Ok None) = (refl, refl)
 next_lines (Err e) = (refl, refl)
 
-trimmed_lines : (answer : NextAnswer) → (lines_of_events (trimmed_events answer) ≡ handed_payload answer)
-    × (skipped_count (trimmed_events answer) ≡ 0)
+trimmed_lines : (answer : NextAnswer) → (flat_map event_lines (events_of (λ l. Trimmed l) answer) ≡ handed_payload answer)
+    × (skipped_count (events_of (λ l. Trimmed l) answer) ≡ 0)
 trimmed_lines (Ok (Some shown)) = (refl, refl)
 trimmed_lines (Ok None) = (refl, refl)
 trimmed_lines (Err e) = (refl, refl)
@@ -71,7 +72,7 @@ module _ {S : Type 0} (remaining : S → Option (List ℕ)) where
     after = d.after;
     along = LinesAlong-joins remaining s m t before c.after d.after c.events d.events c.along d.along;
     handed =
-        flat_map-append event_lines c.events d.events ∙ ap (λ l. l ++ lines_of_events d.events) c.handed
+        flat_map-append event_lines c.events d.events ∙ ap (λ l. l ++ flat_map event_lines d.events) c.handed
         ∙ ap (λ l. lines ++ l) d.handed;
     few = omega (arith, c.few, d.few, skipped_append c.events d.events);
   }
@@ -80,7 +81,7 @@ module _ {S : Type 0} (remaining : S → Option (List ℕ)) where
   next_plain : (s t : LineState S) (answer : NextAnswer) → NextOpen remaining s answer t
       → CallsWent remaining [] s (handed_payload answer) 0 t
   next_plain s t answer n = record {
-    events = next_events answer;
+    events = events_of (λ l. Handed l) answer;
     after = [];
     along = NextLine-along remaining s t answer n;
     handed = (next_lines answer).0;
@@ -91,7 +92,7 @@ module _ {S : Type 0} (remaining : S → Option (List ℕ)) where
       → Trims whole answer t.pieces.ended
       → CallsWent remaining [] s (handed_payload answer) 0 t
   trimmed_plain s t whole answer n trims = record {
-    events = trimmed_events answer;
+    events = events_of (λ l. Trimmed l) answer;
     after = [];
     along = Trims-along remaining s t whole answer n trims;
     handed = (trimmed_lines answer).0;
@@ -182,12 +183,12 @@ module _ {S : Type 0} (remaining : S → Option (List ℕ)) where
   -- what any come to
   pub Calls-went : (s : LineState S) (calls : List Call) (t : LineState S) → AnswerRuns (CallGoes remaining) s calls t
       → (before : List ℕ) → IsLine before → (s.skipping ≡ false → before ≡ []) → IsLineReader s
-      → CallsWent remaining before s (lines_of_calls calls) (skip_calls calls) t
+      → CallsWent remaining before s (flat_map call_lines calls) (skip_calls calls) t
   Calls-went s [] t same before plain closed whole =
       subst (CallsWent remaining before s [] 0) same (CallsWent-none s before plain closed)
   Calls-went s (call ∷ calls) t (m, goes, run) before plain closed whole =
       let first = CallGoes-went s call m goes before plain closed whole in
-      CallsWent-joins s m t before (call_lines call) (lines_of_calls calls) (call_asks call) (skip_calls calls) first
+      CallsWent-joins s m t before (call_lines call) (flat_map call_lines calls) (call_asks call) (skip_calls calls) first
       (Calls-went m calls t run first.after
       (CutsInto-after m.pieces.ended first.events first.after (before ++ first.along.bytes) first.along.cut) first.along.closed
       (call_whole s call m goes))

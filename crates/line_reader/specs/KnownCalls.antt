@@ -1,8 +1,9 @@
 -- What a reader of lines takes out of a stream that is known.
 use Rattle.std.specs.Prelude.{◌≡◌, ℕ, ◌⊎◌, List, [], ◌∷◌, ◌++◌, true, false, Option, Some}
+use Rattle.std.specs.List.{flat_map}
 use Rattle.piece_reader.specs.KnownPieces.{HasLeft, ahead_of}
 use Rattle.piece_reader.specs.Trimming.{IsTrimmed}
-use Rattle.line_reader.specs.Calls.{Handed, Trimmed, Skipped, Ended, Event, lines_of_events}
+use Rattle.line_reader.specs.Calls.{Handed, Trimmed, Skipped, Ended, Event, event_lines}
 use Rattle.line_reader.specs.Lines.{HasLines, IsLine}
 use Rattle.line_reader.specs.LineReader.{LineState, lined}
 
@@ -40,6 +41,6 @@ pub record TookFront {S : Type 0} (remaining : S → Option (List ℕ)) (lines h
   pub events : List Event
   pub later : List (List ℕ)
   pub takes : TakesLines lines events later
-  pub same : lines_of_events events ≡ handed
+  pub same : flat_map event_lines events ≡ handed
   pub before : List ℕ
   pub left : LeavesBehind remaining before t later

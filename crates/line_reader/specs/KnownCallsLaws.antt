@@ -2,6 +2,7 @@
 use Rattle.std.specs.Prelude.{◌≡◌, ℕ, ◌+◌, ◌<◌, ◌⊎◌, List, [], ◌∷◌, ◌++◌, length, true, false, MatchBool, Bool, Option, None, Some, Ok, Err}
 use Rattle.std.proofs.Common.{sym, ap, subst, ◌∙◌, refl, arith, inl, inr, append-nil, append_assoc}
 use Rattle.std.proofs.lemmas.List.Concat.{flat_map-append}
+use Rattle.std.specs.List.{flat_map}
 use Rattle.std.proofs.lemmas.List.Elements.{All-append}
 use Rattle.std.proofs.lemmas.Bool.{true≢false}
 use Rattle.std.specs.Io.KnownBytes.{prepend_known}
@@ -16,7 +17,7 @@ use Rattle.piece_reader.specs.PieceReader.{IsFresh, rest}
 use Rattle.piece_reader.specs.Runs.{AnswerRuns, handed_payload}
 use Rattle.piece_reader.specs.Trimming.{IsTrimmed}
 use Rattle.line_reader.specs.declared.error.LineError.TheVariants.{TooLong, Io}
-use Rattle.line_reader.specs.Calls.{Handed, Trimmed, Skipped, Ended, Nexts, NextsTrimmed, Skips, Call, CallGoes, Event, call_lines, event_lines, lines_of_calls, lines_of_events}
+use Rattle.line_reader.specs.Calls.{Handed, Trimmed, Skipped, Ended, Nexts, NextsTrimmed, Skips, Call, CallGoes, Event, call_lines, event_lines}
 use Rattle.line_reader.specs.CallsLaws.{no_line}
 use Rattle.line_reader.specs.KnownCalls.{LeavesBehind, LeavesLines, TakesLines, TookFront}
 use Rattle.line_reader.specs.Lines.{HasLines, IsLine, newline, with_end}
@@ -76,7 +77,7 @@ module _ {S : Type 0} (remaining : S → Option (List ℕ)) where
   -- the front of the lines went by these events
   front : (lines : List (List ℕ)) (t : LineState S) (events : List Event) (later : List (List ℕ)) (after : List ℕ)
       → TakesLines lines events later → LeavesBehind remaining after t later
-      → TookFront remaining lines (lines_of_events events) t
+      → TookFront remaining lines (flat_map event_lines events) t
   front lines t events later after takes left =
       record { events = events; later = later; takes = takes; same = refl; before = after; left = left }
 
@@ -87,7 +88,7 @@ module _ {S : Type 0} (remaining : S → Option (List ℕ)) where
     later = g.later;
     takes = TakesLines-joins f.events lines f.later g.events g.later f.takes g.takes;
     same =
-        flat_map-append event_lines f.events g.events ∙ ap (λ l. l ++ lines_of_events g.events) f.same
+        flat_map-append event_lines f.events g.events ∙ ap (λ l. l ++ flat_map event_lines g.events) f.same
         ∙ ap (λ l. handed ++ l) g.same;
     before = g.before;
     left = g.left;
@@ -300,7 +301,7 @@ module _ {S : Type 0} (remaining : S → Option (List ℕ)) where
   -- any calls, one after another
   pub Calls-takes : (s : LineState S) (calls : List Call) (t : LineState S) → AnswerRuns (CallGoes remaining) s calls t
       → (before : List ℕ) (lines : List (List ℕ)) → LeavesBehind remaining before s lines
-      → TookFront remaining lines (lines_of_calls calls) t
+      → TookFront remaining lines (flat_map call_lines calls) t
   Calls-takes s [] t same before lines b = record {
     events = [];
     later = lines;
@@ -311,5 +312,5 @@ module _ {S : Type 0} (remaining : S → Option (List ℕ)) where
   }
   Calls-takes s (call ∷ calls) t (m, goes, run) before lines b =
       let first = call_takes s call m goes before lines b in
-      TookFront-joins remaining m t lines (call_lines call) (lines_of_calls calls) first
+      TookFront-joins remaining m t lines (call_lines call) (flat_map call_lines calls) first
       (Calls-takes m calls t run first.before first.later first.left)

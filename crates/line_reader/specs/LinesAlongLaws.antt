@@ -14,7 +14,7 @@ use Rattle.piece_reader.specs.PiecesWentLaws.{PiecesWent-unasked}
 use Rattle.piece_reader.specs.PieceReader.{rest}
 use Rattle.line_reader.specs.declared.error.LineError.{LineError}
 use Rattle.line_reader.specs.declared.error.LineError.TheVariants.{TooLong, Io}
-use Rattle.line_reader.specs.Calls.{Event, LinesAlong, Skipped, trimmed_events}
+use Rattle.line_reader.specs.Calls.{Event, LinesAlong, Skipped, Trimmed, events_of}
 use Rattle.line_reader.specs.CallsLaws.{LinesAlong-joins, NextLine-along, Trims-along, no_line, skip_last, skip_none, skip_whole}
 use Rattle.line_reader.specs.CallsWentLaws.{ended_empty}
 use Rattle.line_reader.specs.Lines.{BeginsTooLong, IsLine, newline}
@@ -25,7 +25,7 @@ use Rattle.line_reader.specs.NextLineLaws.{NextLine-open, NextOpen, NextPiece-lo
 use Rattle.line_reader.specs.SkipLine.{IsWithEnd, SkipsLine}
 
 -- why a call failed: this error is the one fault that the stream met; or more than 2^63 bytes of a line were dropped
-abbrev pub LineFails : {S : Type 0} → LineState S → Error → LineState S → Type 0
+abbrev LineFails : {S : Type 0} → LineState S → Error → LineState S → Type 0
 LineFails s e t = Faulted s.pieces e t.pieces ⊎ (NoFault s.pieces t.pieces × (error_kind e ≡ Other))
 
 module _ {S : Type 0} (remaining : S → Option (List ℕ)) (s t : LineState S) where
@@ -92,7 +92,7 @@ module _ {S : Type 0} (remaining : S → Option (List ℕ)) (s t : LineState S) 
 
   -- what was taken by one call
   pub NextTrimmed-along : (answer : NextAnswer) → s.skipping ≡ false → NextTrimmed remaining s answer t
-      → LinesAlong remaining [] s (trimmed_events answer) [] t
+      → LinesAlong remaining [] s (events_of (λ l. Trimmed l) answer) [] t
   NextTrimmed-along answer open' n =
       Trims-along remaining s t n.whole answer (NextLine-open remaining s t n.whole open' n.next) n.trims
 
@@ -153,7 +153,7 @@ module _ {S : Type 0} (remaining : S → Option (List ℕ)) (s t : LineState S) 
   ]
 
 -- a line was skipped, or what was left of one; of one that was being skipped nothing may be left at the end of the stream
-abbrev pub IsSkip : List Event → Type 0
+abbrev IsSkip : List Event → Type 0
 IsSkip events = ((line : List ℕ) × (events ≡ Skipped line ∷ [])) ⊎ (events ≡ [])
 
 module _ {S : Type 0} (remaining : S → Option (List ℕ)) (s t : LineState S) (whole : IsLineReader s) (count : ℕ)

@@ -21,16 +21,12 @@ piece_answer (Ok found) = Ok found
 piece_answer (Err (TooLong n)) = Err (why.Wrong (record { 0 = n }))
 piece_answer (Err (Io e)) = Err (why.Io e)
 
--- where a line was being skipped, it came to its end
-abbrev pub SkipsFirst : {S : Type 0} → (S → Option (List ℕ)) → LineState S → LineState S → Type 0
-SkipsFirst remaining s t =
-    ((s.skipping ≡ false) × (t ≡ s)) ⊎ ((s.skipping ≡ true) × (count : ℕ) × SkipsLine remaining s (Ok count) t)
-
 -- what one call of `next` does. A line that is being skipped is skipped first: then it is a call of a reader of pieces; or the
 -- skip failed, and so did the call
 abbrev pub NextLine : {S : Type 0} → (S → Option (List ℕ)) → LineState S → NextAnswer → LineState S → Type 0
 NextLine {S} remaining s answer t =
-    ((m : LineState S) × SkipsFirst remaining s m
+    ((m : LineState S)
+    × (((s.skipping ≡ false) × (m ≡ s)) ⊎ ((s.skipping ≡ true) × (count : ℕ) × SkipsLine remaining s (Ok count) m))
     × NextPiece remaining (lined m.pieces.decoder.max) m.pieces (piece_answer answer) t.pieces × (t.skipping ≡ false))
     ⊎ ((s.skipping ≡ true) × (e : Error) × SkipsLine remaining s (Err e) t × (answer ≡ Err (Io e)))
 

@@ -16,22 +16,14 @@ pub record IsWithEnd (bytes : List ℕ) : Type 0 where
   pub plain : IsLine line
   pub equal : bytes ≡ with_end line
 
--- the bytes that were dropped are a line and its end; or they are all that came before the stream's, which the next call
--- of `next` tells
-abbrev pub IsSkipped : {S D : Type 0} → ReaderState S D → List ℕ → ReaderState S D → Type 0
-IsSkipped s bytes t =
-    (IsWithEnd bytes × (t.ended ≡ false) × NoEnd s t)
-    ⊎ (IsLine bytes × (rest t ≡ []) × (t.ended ≡ true) × MetEnd s t)
-
--- why no end came: the stream failed, or more bytes were dropped than this
-abbrev pub SkipFails : {S D : Type 0} → ReaderState S D → List ℕ → Error → ReaderState S D → Type 0
-SkipFails s bytes e t = Faulted s e t ⊎ (NoFault s t × (error_kind e ≡ Other) × (2 ^ 63 < length bytes))
-
--- what each answer means, by the bytes that were dropped and what is left
+-- what each answer means. The bytes that were dropped are a line and its end, or all that came before the stream's, which the
+-- next call of `next` tells; or no end came: the stream failed, or more bytes were dropped than this
 abbrev pub SkipAnswers : {S D : Type 0} → ReaderState S D → Result ℕ Error → List ℕ → ReaderState S D → Type 0
-SkipAnswers s (Ok n) bytes t = (n ≡ length bytes) × NoFault s t × IsSkipped s bytes t
-SkipAnswers s (Err e) bytes t =
-    IsLine bytes × (rest t ≡ []) × (t.ended ≡ false) × NoEnd s t × SkipFails s bytes e t
+SkipAnswers s (Ok n) bytes t = (n ≡ length bytes) × NoFault s t
+    × ((IsWithEnd bytes × (t.ended ≡ false) × NoEnd s t)
+    ⊎ (IsLine bytes × (rest t ≡ []) × (t.ended ≡ true) × MetEnd s t))
+SkipAnswers s (Err e) bytes t = IsLine bytes × (rest t ≡ []) × (t.ended ≡ false) × NoEnd s t
+    × (Faulted s e t ⊎ (NoFault s t × (error_kind e ≡ Other) × (2 ^ 63 < length bytes)))
 
 -- the first bytes that are left were dropped: through the first end of a line, or all
 pub record DropsLine {S : Type 0} (s : ReaderState S Lines) (count : ℕ) (found : Bool) (t : ReaderState S Lines) : Type 0 where

@@ -4,7 +4,8 @@ use Rattle.piece_reader.specs.Grammar.{Begins, Grammar, IsLawful}
 use Rattle.piece_reader.specs.GrammarLaws.{open_of}
 use Rattle.piece_reader.specs.NextPiece.{StaysLeft}
 use Rattle.piece_reader.specs.PieceReader.{ReaderState, IsPieceReader, rest}
-use Rattle.piece_reader.specs.Steps.{WantsMore}
+use Rattle.piece_reader.specs.Steps.{Takes}
+use Rattle.piece_reader.specs.declared.decoder.Found.TheVariants as found
 
 module _ {S D W : Type 0} (g : Grammar W) (s t : ReaderState S D) (whole : IsPieceReader g t) where
   -- a look alone hands nothing out
@@ -15,9 +16,9 @@ module _ {S D W : Type 0} (g : Grammar W) (s t : ReaderState S D) (whole : IsPie
   }
 
   -- a step hands nothing out where more is wanted, or where no piece can come
-  pub none_yet : (need : ℕ) → WantsMore g s t need → StaysLeft g s t × ¬ (Begins g (rest s))
+  pub none_yet : (need : ℕ) → Takes g s (found.More need) t → StaysLeft g s t × ¬ (Begins g (rest s))
   none_yet need wants =
-      (looked (length (rest s)) wants.same, (open_of g need (rest s) wants.few wants.lacks).no_piece)
+      (looked (length (rest s)) wants.3, (open_of g need (rest s) wants.0 wants.2).no_piece)
 
   pub none_wrong : IsLawful g → (e : W) → g.wrong (rest s) e → t ≡ s → StaysLeft g s t × ¬ (Begins g (rest s))
   none_wrong law e wrong same = (

@@ -12,9 +12,9 @@ use Rattle.piece_reader.specs.Grammar.{Grammar, IsLawful, IsOpen, Lacks}
 use Rattle.piece_reader.specs.NextPiece.{load_answer, AsksGive, AskedWhere, NextAnswer, NextPiece, MetEnd, NoEnd, PiecesWent}
 use Rattle.piece_reader.specs.NextPieceLaws.{AskedWhere-told, MetEnd-joins, MetEnd-once, still_going}
 use Rattle.piece_reader.specs.PiecesWentLaws.{PiecesWent-joins, PiecesWent-inside}
-use Rattle.piece_reader.specs.PieceReader.{ReaderState, IsPieceReader, rest, retold}
-use Rattle.piece_reader.specs.RetoldLaws.{NextPiece-retold}
-use Rattle.piece_reader.specs.Steps.{AsksFor, Takes, TakesEnd, TakesPiece, WantsMore}
+use Rattle.piece_reader.specs.PieceReader.{ReaderState, IsPieceReader, rest}
+use Rattle.piece_reader.specs.StaysLeftLaws.{NextPiece-looked}
+use Rattle.piece_reader.specs.Steps.{AsksFor, Takes, TakesEnd, TakesPiece}
 use Rattle.piece_reader.proofs.Reading.{rest_whole}
 use Rattle.piece_reader.proofs.Headers.{HeaderBytes, HeaderBytes-none, HeaderBytes-told, HeaderBytes-more, asked_on, still_open, went_on}
 
@@ -113,14 +113,14 @@ module _ {S D W : Type 0} (remaining : S → Option (List ℕ)) (g : Grammar W) 
   loads_on m t need turn =
       let wants = turn.takes in
       let w : ReaderState S D = record m { seen = length (rest m) } in
-      subst (λ x. LoadHead remaining g s x need) (sym wants.same) (record {
+      subst (λ x. LoadHead remaining g s x need) (sym wants.3) (record {
         header = HeaderBytes-told remaining g s m turn.header w
             (PiecesWent-inside remaining g.most m w [] refl refl refl) refl refl;
         handed = turn.handed;
-        few = wants.few;
-        most = wants.most;
-        lacks = wants.lacks;
-        whole = subst (IsPieceReader g) wants.same turn.whole;
+        few = wants.0;
+        most = wants.1;
+        lacks = wants.2;
+        whole = subst (IsPieceReader g) wants.3 turn.whole;
       })
 
   module _ (m : ReaderState S D) (need : ℕ) (h : LoadHead remaining g s m need) where
@@ -220,15 +220,14 @@ module _ {S D W : Type 0} (remaining : S → Option (List ℕ)) (g : Grammar W) 
       })
       load_finished (Err (Io e)) v ends' whole = absurd ends'
 
-  -- a look alone settles nothing
-  pub next_looked : (m t : ReaderState S D) (need : ℕ) (answer : NextAnswer W) → WantsMore g s m need
-      → NextPiece remaining g m answer t → NextPiece remaining g s answer t
-  next_looked m t need answer wants next =
-      let seen : m ≡ retold s.decoder (length (rest s)) s = wants.same in
-      let n : NextPiece remaining g (retold s.decoder (length (rest s)) s) answer t =
-      subst (λ x. NextPiece remaining g x answer t) seen next in
-      NextPiece-retold (retold s.decoder (length (rest s)) s) t s.decoder t.decoder s.seen t.seen g remaining answer
-      n.went.decoder n.whole n
+-- a look alone settles nothing
+pub next_looked : {S D W : Type 0} (remaining : S → Option (List ℕ)) (grammar : D → Grammar W) (s m t : ReaderState S D)
+    (need : ℕ) (answer : NextAnswer W) → Takes (grammar s.decoder) s (found.More need) m
+    → NextPiece remaining (grammar m.decoder) m answer t → NextPiece remaining (grammar s.decoder) s answer t
+next_looked remaining grammar s m t need answer wants next =
+    NextPiece-looked remaining (grammar s.decoder) s t (length (rest s)) answer
+    (subst (λ x. NextPiece remaining (grammar s.decoder) x answer t) wants.3
+    (subst (λ d. NextPiece remaining (grammar d) m answer t) (ap (λ x. x.decoder) wants.3) next))
 
 -- a piece that is buffered whole is handed out, and shown where it stands in the buffer
 pub takes_shown : {S D W : Type 0} (remaining : S → Option (List ℕ)) (g : Grammar W) → IsLawful g → (s t : ReaderState S D)

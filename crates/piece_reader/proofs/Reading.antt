@@ -11,8 +11,7 @@ use Rattle.buffer_redux.specs.MinBufferedLaws.{number_of, none_before_fault, non
 use Rattle.buffer_redux.specs.declared.policy.MinBuffered.{MinBuffered}
 use Rattle.piece_reader.specs.Grammar.{Grammar, IsOpen}
 use Rattle.piece_reader.specs.NextPiece.{AskedWhere, PiecesWent, Faulted}
-use Rattle.piece_reader.specs.NextPieceLaws.{MetEnd-before, MetEnd-now}
-use Rattle.piece_reader.specs.PiecesWentLaws.{PiecesWent-none}
+use Rattle.piece_reader.specs.NextPieceLaws.{MetEnd-now}
 use Rattle.piece_reader.specs.PieceReader.{ReaderState, IsPieceReader, rest}
 use Rattle.piece_reader.specs.Steps.{AsksFor}
 
@@ -99,8 +98,10 @@ module _ {S : Type 0} (s : Buffered S MinBuffered) where
   ]
   fill_asked (Err e) t f = elim f.ends [
     | inl refused ↦ asked_turns f.count f.last t f.turns refused.told
-    | inr fault ↦ inr (asked_after f.count f.last t f.turns fault.ordered.asked.allowed.1.0 []
-        (ap (λ l. l.reads.given) fault.read.told) (ap (λ l. l.reads.latest) fault.read.told) (ap (λ l. l.reads.asks) fault.read.told))
+    | inr fault ↦
+        let told = fault.read.told in
+        inr (asked_after f.count f.last t f.turns fault.ordered.asked.allowed.1.0 [] (ap (λ l. l.reads.given) told)
+        (ap (λ l. l.reads.latest) told) (ap (λ l. l.reads.asks) told))
   ]
 
   -- where enough came, each ask gave a byte
@@ -126,21 +127,6 @@ module _ {S : Type 0} (s : Buffered S MinBuffered) where
         | inr (inl full) ↦ quiet full.told
         | inr (inr dry) ↦ absurd (enough_never_dry s t a fills dry many)
       ]
-
--- where the stream had ended it isn't asked
-pub AsksFor-ended : {S D W : Type 0} (remaining : S → Option (List ℕ)) (g : Grammar W) (n : ℕ) (s : ReaderState S D)
-    → IsPieceReader g s → s.handed ≡ 0 → s.ended ≡ true → length (rest s) < n → AsksFor remaining g n s (Ok false) s
-AsksFor-ended remaining g n s whole handed ended few = record {
-  went = PiecesWent-none remaining g.most s;
-  handed = handed;
-  seen = refl;
-  ended = refl;
-  asked = inl refl;
-  more = λ other. cc;
-  end = λ _. (few, MetEnd-before s s ended refl, refl);
-  failed = λ e other. cc;
-  whole = whole;
-}
 
 module _ {S D W : Type 0} (remaining : S → Option (List ℕ)) (g : Grammar W) (n : ℕ) (s : ReaderState S D)
     (whole : IsPieceReader g s) (handed : s.handed ≡ 0) (few : length (rest s) < n) (most : n ≤ g.most)

@@ -1,49 +1,19 @@
 -- Where the first end is.
-use Rattle.std.proofs.Common.{◌≡◌, ℕ, zero, suc, ◌+◌, ◌-◌, ◌<◌, ◌≤◌, ◌==◌, true, List, [], ◌∷◌, ◌++◌, length, take, drop, slice_index, sym, ap, subst, ◌∙◌, arith, append_assoc, length-append, length-drop}
+use Rattle.std.proofs.Common.{◌≡◌, ℕ, zero, suc, ◌+◌, ◌-◌, ◌<◌, ◌≤◌, List, [], ◌∷◌, ◌++◌, length, take, drop, sym, ap, subst, ◌∙◌, arith, append_assoc, length-append, length-drop}
 use Rattle.std.proofs.Math.Seq.{take-add}
-use Rattle.std.proofs.lemmas.Bool.{eqb-true, eq-eqb}
 use Rattle.std.proofs.lemmas.List.{take-append-le, drop-append-le, take-append-drop}
-use Rattle.std.proofs.lemmas.List.Elements.{All-nil, All-cons, All-head, All-tail, All-append}
+use Rattle.std.proofs.lemmas.List.Elements.{All-cons, All-head, All-tail, All-append}
+use Rattle.piece_reader.specs.DelimitedLaws.{isnt_end}
 use Rattle.piece_reader.specs.Plain.{IsPlain, EndsAt}
 
 module _ (end_byte : ℕ) where
-  abbrev isnt_end : ℕ → Type 0
-  isnt_end byte = ¬ (byte ≡ end_byte)
-
-  -- no end_byte stands before this place
-  abbrev pub NoneBefore : List ℕ → ℕ → Type 0
-  NoneBefore bytes end = (k : ℕ) → 0 ≤ k → k < end → ¬ ((slice_index bytes k == end_byte) ≡ true)
-
-  not_end : (byte : ℕ) → ¬ ((byte == end_byte) ≡ true) → ¬ (byte ≡ end_byte)
-  not_end byte isnt is = isnt (eq-eqb byte end_byte is)
-
-  is_end : (byte : ℕ) → (byte == end_byte) ≡ true → byte ≡ end_byte
-  is_end byte is = eqb-true byte end_byte is
-
-  pub line_of_all : (bytes : List ℕ) → NoneBefore bytes (length bytes) → IsPlain end_byte bytes
-  line_of_all [] none = All-nil isnt_end
-  line_of_all (byte ∷ bytes) none = All-cons isnt_end byte bytes
-      (not_end byte (none 0 (omega arith) (omega arith)))
-      (line_of_all bytes (λ k low high. none (suc k) (omega arith) (omega (arith, high))))
-
   longer : (byte end : ℕ) (bytes : List ℕ) → ¬ (byte ≡ end_byte) → EndsAt end_byte end bytes
       → EndsAt end_byte (suc end) (byte ∷ bytes)
   longer byte end bytes isnt e =
       let count : 1 + suc end ≡ suc (1 + end) = omega arith in record {
-        plain = All-cons isnt_end byte (take end bytes) isnt e.plain;
+        plain = All-cons (isnt_end end_byte) byte (take end bytes) isnt e.plain;
         equal = ap (λ n. byte ∷ take end bytes ++ end_byte ∷ drop n (byte ∷ bytes)) count ∙ ap (λ l. byte ∷ l) e.equal;
       }
-
-  pub line_to_end : (bytes : List ℕ) (end : ℕ) → end < length bytes → NoneBefore bytes end
-      → (slice_index bytes end == end_byte) ≡ true → EndsAt end_byte end bytes
-  line_to_end [] end inside none is = absurd (omega (arith, inside))
-  line_to_end (byte ∷ bytes) zero inside none is = record {
-    plain = All-nil isnt_end;
-    equal = ap (λ b. b ∷ bytes) (sym (is_end byte is));
-  }
-  line_to_end (byte ∷ bytes) (suc end) inside none is =
-      longer byte end bytes (not_end byte (none 0 (omega arith) (omega arith)))
-      (line_to_end bytes end (omega (arith, inside)) (λ k low high. none (suc k) (omega arith) (omega (arith, high))) is)
 
   -- more bytes behind leave the end where it is
   ends_more : (end : ℕ) (window tail : List ℕ) → end < length window → EndsAt end_byte end window
@@ -74,8 +44,8 @@ module _ (end_byte : ℕ) where
   shift (suc from) at (byte ∷ bytes) plain e =
       let count : suc (from + at) ≡ suc from + at = omega arith in
       subst (λ n. EndsAt end_byte n (byte ∷ bytes)) count
-      (longer byte (from + at) bytes (All-head isnt_end byte (take from bytes) plain)
-      (shift from at bytes (All-tail isnt_end byte (take from bytes) plain) e))
+      (longer byte (from + at) bytes (All-head (isnt_end end_byte) byte (take from bytes) plain)
+      (shift from at bytes (All-tail (isnt_end end_byte) byte (take from bytes) plain) e))
 
   -- the end was found in a window
   pub found_in : (from to at : ℕ) (bytes : List ℕ) → IsPlain end_byte (take from bytes)
@@ -93,4 +63,4 @@ module _ (end_byte : ℕ) where
       let count : from + (to - from) ≡ to = omega (arith, order) in
       subst (λ n. IsPlain end_byte (take n bytes)) count
       (subst (IsPlain end_byte) (sym (take-add from (to - from) bytes))
-      (All-append isnt_end (take from bytes) (take (to - from) (drop from bytes)) plain window))
+      (All-append (isnt_end end_byte) (take from bytes) (take (to - from) (drop from bytes)) plain window))

@@ -35,11 +35,7 @@ pub record IsLengthPrefixed (h : HeaderFormat) (bytes payload : List ℕ) : Type
   pub fits : length payload ≤ h.max
   pub equal : drop used bytes ≡ payload ++ h.tail
 
--- the header is none; or it says too much; or something else stands where the tail should
-pub record HasNoHeader (h : HeaderFormat) (bytes : List ℕ) (e : HeaderError) : Type 0 where
-  pub is : h.header bytes ≡ Bad
-  pub told : e ≡ NoHeader
-
+-- the header says too much; or something else stands where the tail should
 pub record SaysTooMuch (h : HeaderFormat) (bytes : List ℕ) (e : HeaderError) : Type 0 where
   pub len : ℕ
   pub used : ℕ
@@ -56,11 +52,12 @@ pub record LacksTail (h : HeaderFormat) (bytes : List ℕ) (e : HeaderError) : T
   pub other : ¬ (take (length h.tail) (drop (used + len) bytes) ≡ h.tail)
   pub told : e ≡ NoTail
 
+-- what is wrong is that, or that the header is none
 abbrev pub length_prefixed : HeaderFormat → Grammar HeaderError
 length_prefixed h = record {
   most = h.most_header + h.max + length h.tail;
   piece = IsLengthPrefixed h;
-  wrong = λ bytes e. HasNoHeader h bytes e ⊎ (SaysTooMuch h bytes e ⊎ LacksTail h bytes e);
+  wrong = λ bytes e. ((h.header bytes ≡ Bad) × (e ≡ NoHeader)) ⊎ (SaysTooMuch h bytes e ⊎ LacksTail h bytes e);
   last = λ bytes payload. ⊥;
   cut = λ bytes e. e ≡ Truncated (length bytes);
 }

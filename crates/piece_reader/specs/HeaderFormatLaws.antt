@@ -1,5 +1,5 @@
 -- Laws of pieces that have a header.
-use Rattle.std.specs.Prelude.{◌≡◌, ℕ, ◌+◌, ◌≤◌, ◌⊎◌, List, [], ◌++◌, length, take, drop}
+use Rattle.std.specs.Prelude.{◌≡◌, ℕ, ◌+◌, ◌≤◌, List, [], ◌++◌, length, take, drop}
 use Rattle.std.proofs.Common.{sym, ap, subst, ◌∙◌, arith, refl, inl, inr, append_assoc, length-append, length-drop, length-take-le}
 use Rattle.std.proofs.Math.Seq.{take-add, take-append_seam}
 use Rattle.std.proofs.lemmas.List.{drop-append-le, drop-drop, drop_at, take-append-le}
@@ -9,8 +9,7 @@ use Rattle.piece_reader.specs.declared.header_error.HeaderError.{HeaderError}
 use Rattle.piece_reader.specs.declared.header_error.HeaderError.TheVariants.{TooLong}
 use Rattle.piece_reader.specs.Decoding.{IsPiece}
 use Rattle.piece_reader.specs.Grammar.{IsLawful, Lacks}
-use Rattle.piece_reader.specs.GrammarLaws.{lacks_one}
-use Rattle.piece_reader.specs.HeaderFormat.{HasNoHeader, HeaderFormat, IsLengthPrefixed, IsHeaderFormat, LacksTail, SaysTooMuch, length_prefixed}
+use Rattle.piece_reader.specs.HeaderFormat.{HeaderFormat, IsLengthPrefixed, IsHeaderFormat, length_prefixed}
 
 sized_same : (n u n' u' : ℕ) (x : Header) → x ≡ Sized n u → x ≡ Sized n' u' → (n ≡ n') × (u ≡ u')
 sized_same n u n' u' x is is' =
@@ -58,8 +57,8 @@ module _ (h : HeaderFormat) (law : IsHeaderFormat h) where
       )
 
   apart : (p a more : List ℕ) (e : HeaderError) → IsLengthPrefixed h p a
-      → ¬ (HasNoHeader h (p ++ more) e ⊎ (SaysTooMuch h (p ++ more) e ⊎ LacksTail h (p ++ more) e))
-  apart p a more e is (inl bad) = (let odd : Sized (length a) is.used ≡ Bad = sym (said p a more is) ∙ bad.is in cc)
+      → ¬ ((length_prefixed h).wrong (p ++ more) e)
+  apart p a more e is (inl bad) = (let odd : Sized (length a) is.used ≡ Bad = sym (said p a more is) ∙ bad.0 in cc)
   apart p a more e is (inr (inl much)) =
       let parts = sized_same (length a) is.used much.len much.used (h.header (p ++ more)) (said p a more is) much.is in
       omega (arith, is.fits, much.above, parts.0)
@@ -69,13 +68,13 @@ module _ (h : HeaderFormat) (law : IsHeaderFormat h) where
       lacks.other (subst (λ n. take (length h.tail) (drop n (p ++ more)) ≡ h.tail) there (tail_there p a more is))
 
   reason : (bytes : List ℕ) (e e' : HeaderError)
-      → HasNoHeader h bytes e ⊎ (SaysTooMuch h bytes e ⊎ LacksTail h bytes e)
-      → HasNoHeader h bytes e' ⊎ (SaysTooMuch h bytes e' ⊎ LacksTail h bytes e') → e ≡ e'
-  reason bytes e e' (inl bad) (inl bad') = bad.told ∙ sym bad'.told
-  reason bytes e e' (inl bad) (inr (inl much)) = (let odd : Bad ≡ Sized much.len much.used = sym bad.is ∙ much.is in cc)
-  reason bytes e e' (inl bad) (inr (inr lacks)) = (let odd : Bad ≡ Sized lacks.len lacks.used = sym bad.is ∙ lacks.is in cc)
-  reason bytes e e' (inr (inl much)) (inl bad) = (let odd : Bad ≡ Sized much.len much.used = sym bad.is ∙ much.is in cc)
-  reason bytes e e' (inr (inr lacks)) (inl bad) = (let odd : Bad ≡ Sized lacks.len lacks.used = sym bad.is ∙ lacks.is in cc)
+      → (length_prefixed h).wrong bytes e
+      → (length_prefixed h).wrong bytes e' → e ≡ e'
+  reason bytes e e' (inl bad) (inl bad') = bad.1 ∙ sym bad'.1
+  reason bytes e e' (inl bad) (inr (inl much)) = (let odd : Bad ≡ Sized much.len much.used = sym bad.0 ∙ much.is in cc)
+  reason bytes e e' (inl bad) (inr (inr lacks)) = (let odd : Bad ≡ Sized lacks.len lacks.used = sym bad.0 ∙ lacks.is in cc)
+  reason bytes e e' (inr (inl much)) (inl bad) = (let odd : Bad ≡ Sized much.len much.used = sym bad.0 ∙ much.is in cc)
+  reason bytes e e' (inr (inr lacks)) (inl bad) = (let odd : Bad ≡ Sized lacks.len lacks.used = sym bad.0 ∙ lacks.is in cc)
   reason bytes e e' (inr (inl m)) (inr (inl m')) =
       m.told ∙ ap (λ n. TooLong n) (sized_same m.len m.used m'.len m'.used (h.header bytes) m.is m'.is).0 ∙ sym m'.told
   reason bytes e e' (inr (inl m)) (inr (inr l)) =
@@ -84,9 +83,9 @@ module _ (h : HeaderFormat) (law : IsHeaderFormat h) where
       absurd (omega (arith, m.above, l.fits, (sized_same m.len m.used l.len l.used (h.header bytes) m.is l.is).0))
   reason bytes e e' (inr (inr l)) (inr (inr l')) = l.told ∙ sym l'.told
 
-  stays : (bytes more : List ℕ) (e : HeaderError) → HasNoHeader h bytes e ⊎ (SaysTooMuch h bytes e ⊎ LacksTail h bytes e)
-      → HasNoHeader h (bytes ++ more) e ⊎ (SaysTooMuch h (bytes ++ more) e ⊎ LacksTail h (bytes ++ more) e)
-  stays bytes more e (inl bad) = inl (record { is = law.bad bytes more bad.is; told = bad.told })
+  stays : (bytes more : List ℕ) (e : HeaderError) → (length_prefixed h).wrong bytes e
+      → (length_prefixed h).wrong (bytes ++ more) e
+  stays bytes more e (inl bad) = inl (law.bad bytes more bad.0, bad.1)
   stays bytes more e (inr (inl m)) = inr (inl (record {
     len = m.len;
     used = m.used;
@@ -109,8 +108,8 @@ module _ (h : HeaderFormat) (law : IsHeaderFormat h) where
         told = l.told;
       }))
 
-  nothing : (e : HeaderError) → ¬ (HasNoHeader h [] e ⊎ (SaysTooMuch h [] e ⊎ LacksTail h [] e))
-  nothing e (inl bad) = (let odd : Short ≡ Bad = sym law.nothing ∙ bad.is in cc)
+  nothing : (e : HeaderError) → ¬ ((length_prefixed h).wrong [] e)
+  nothing e (inl bad) = (let odd : Short ≡ Bad = sym law.nothing ∙ bad.0 in cc)
   nothing e (inr (inl m)) = (let odd : ◌≡◌ {A = Header} Short (Sized m.len m.used) = sym law.nothing ∙ m.is in cc)
   nothing e (inr (inr l)) = (let odd : ◌≡◌ {A = Header} Short (Sized l.len l.used) = sym law.nothing ∙ l.is in cc)
 
@@ -126,20 +125,6 @@ module _ (h : HeaderFormat) (law : IsHeaderFormat h) where
     one_last = λ bytes a b is is'. absurd is;
     end_apart = λ bytes a e is cut. is;
   }
-
-  -- where the header isn't there
-  pub short_lacks : (bytes : List ℕ) → h.header bytes ≡ Short → Lacks (length_prefixed h) (1 + length bytes) bytes
-  short_lacks bytes short = lacks_one (length_prefixed h) bytes (record {
-    no_piece = λ b.
-        let says = ap h.header b.equal ∙ said b.piece b.payload b.more b.is in
-        let odd : ◌≡◌ {A = Header} Short (Sized (length b.payload) b.is.used) = sym short ∙ says in cc;
-    not_wrong = λ e wrong. never e wrong;
-  })
-    where
-      never : (e : HeaderError) → ¬ (HasNoHeader h bytes e ⊎ (SaysTooMuch h bytes e ⊎ LacksTail h bytes e))
-      never e (inl bad) = (let odd : Short ≡ Bad = sym short ∙ bad.is in cc)
-      never e (inr (inl m)) = (let odd : ◌≡◌ {A = Header} Short (Sized m.len m.used) = sym short ∙ m.is in cc)
-      never e (inr (inr l)) = (let odd : ◌≡◌ {A = Header} Short (Sized l.len l.used) = sym short ∙ l.is in cc)
 
   -- where the rest isn't
   pub sized_lacks : (bytes : List ℕ) (len used : ℕ) → h.header bytes ≡ Sized len used → len ≤ h.max
@@ -163,9 +148,8 @@ module _ (h : HeaderFormat) (law : IsHeaderFormat h) where
       here : h.header (bytes ++ more) ≡ Sized len used
       here = law.sized bytes more len used is
 
-      never : (e : HeaderError) → ¬ (HasNoHeader h (bytes ++ more) e
-          ⊎ (SaysTooMuch h (bytes ++ more) e ⊎ LacksTail h (bytes ++ more) e))
-      never e (inl bad) = (let odd : Sized len used ≡ Bad = sym here ∙ bad.is in cc)
+      never : (e : HeaderError) → ¬ ((length_prefixed h).wrong (bytes ++ more) e)
+      never e (inl bad) = (let odd : Sized len used ≡ Bad = sym here ∙ bad.0 in cc)
       never e (inr (inl m)) =
           omega (arith, fits, m.above, (sized_same len used m.len m.used (h.header (bytes ++ more)) here m.is).0)
       never e (inr (inr l)) =

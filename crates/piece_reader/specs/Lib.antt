@@ -15,8 +15,6 @@ pub mod NextPieceLaws
 pub mod PieceReader
 pub mod PiecesWentLaws
 pub mod Plain
-pub mod RefillsLaws
-pub mod RetoldLaws
 pub mod Runs
 pub mod RunsLaws
 pub mod StaysLeftLaws

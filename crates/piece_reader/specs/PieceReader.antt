@@ -95,11 +95,6 @@ redecoded decoder f = record {
 abbrev pub with_stream : {S D : Type 0} → (S → StreamLog) → ReaderState S D → S → ReaderState S D
 with_stream tells f stream = record f { reader = with_inner tells f.reader stream }
 
--- the same reader, with these in place of its decoder and of how many bytes were looked at
-abbrev pub retold : {S D E : Type 0} → E → ℕ → ReaderState S D → ReaderState S E
-retold decoder seen f =
-    record { reader = f.reader; decoder = decoder; handed = f.handed; seen = seen; ended = f.ended }
-
 -- the next call answers without the stream: a whole piece stands there, or what no piece begins with, or the stream has ended,
 -- which no call has told yet
 abbrev pub IsSettled : {S D W : Type 0} → Grammar W → ReaderState S D → Type 0

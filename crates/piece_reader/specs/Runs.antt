@@ -32,17 +32,15 @@ EndFollows (Ok (Some payload) ∷ answers) = ⊥
 EndFollows (Ok None ∷ answers) = Unit {0}
 EndFollows (Err e ∷ answers) = ⊥
 
--- what was handed out begins with a piece with this payload; or, before an end of the stream, with a last one; and then
--- comes more
-abbrev pub CutsOff : {W : Type 0} → Grammar W → List ℕ → List (NextAnswer W) → List ℕ → List ℕ → Type 0
-CutsOff g payload answers bytes more =
-    StartsWith g bytes payload more
-    ⊎ ((piece : List ℕ) × IsLast g piece payload × (bytes ≡ piece ++ more) × EndFollows answers)
-
--- these bytes are what the answers hand out, one after another
+-- these bytes are what the answers hand out, one after another: pieces with these payloads, of which one before an end of the
+-- stream may be a last one
 abbrev pub Cuts : {W : Type 0} → Grammar W → List (NextAnswer W) → List ℕ → Type 0
 Cuts g [] bytes = bytes ≡ []
-Cuts g (Ok (Some payload) ∷ answers) bytes = (more : List ℕ) × CutsOff g payload answers bytes more × Cuts g answers more
+Cuts g (Ok (Some payload) ∷ answers) bytes =
+    (more : List ℕ)
+    × (StartsWith g bytes payload more
+    ⊎ ((piece : List ℕ) × IsLast g piece payload × (bytes ≡ piece ++ more) × EndFollows answers))
+    × Cuts g answers more
 Cuts g (Ok None ∷ answers) bytes = Cuts g answers bytes
 Cuts g (Err e ∷ answers) bytes = Cuts g answers bytes
 

@@ -1,25 +1,20 @@
 -- Laws of runs: they go on by one call, what their calls do joins, and their pieces are those of the text.
 use Rattle.std.specs.Prelude.{◌≡◌, ℕ, List, [], ◌∷◌, ◌++◌, map, true, Option, None, Some, Result, Ok, Err, OnErr}
 use Rattle.std.proofs.Common.{sym, ap, subst, ◌∙◌, refl, inl, inr, append_assoc, append-nil}
-use Rattle.std.proofs.lemmas.List.{flat_map_more, map-append}
+use Rattle.std.proofs.lemmas.List.{map-append}
 use Rattle.piece_reader.specs.declared.error.NextError.{NextError}
 use Rattle.piece_reader.specs.declared.error.NextError.TheVariants.{Wrong, Io}
 use Rattle.piece_reader.specs.Grammar.{Grammar}
 use Rattle.piece_reader.specs.NextPiece.{NextAnswer, NextAnswers, NextPiece, PiecesWent}
 use Rattle.piece_reader.specs.PiecesWentLaws.{PiecesWent-none, PiecesWent-joins}
 use Rattle.piece_reader.specs.PieceReader.{ReaderState}
-use Rattle.piece_reader.specs.Runs.{AnswerPlays, AnswerRuns, Cuts, EndFollows, NextPlays, NextRuns, NoneTold, RunWent, all_handed, handed_payload}
+use Rattle.piece_reader.specs.Runs.{AnswerPlays, AnswerRuns, Cuts, EndFollows, NextPlays, NextRuns, NoneTold, RunWent, all_handed}
 use Rattle.piece_reader.specs.Texts.{HasPieces, IsLast}
 
 -- what a `?` hands on is an `Err`
 pub on_err : {T E P : Type 0} (r : Result T E) → P → OnErr r P
 on_err (Ok x) p = tt
 on_err (Err e) p = p
-
--- one answer more hands its payload out behind the others, or none
-pub all_handed-more : {E : Type 0} (answers : List (Result (Option (List ℕ)) E)) (answer : Result (Option (List ℕ)) E)
-    → all_handed (answers ++ answer ∷ []) ≡ all_handed answers ++ handed_payload answer
-all_handed-more answers answer = sym (flat_map_more handed_payload [] answers answer)
 
 -- a record that gains one more
 pub gains_more : {X A : Type 0} (f : X → A) (old new new' : List X) (answers : List A) (x : X)

@@ -1,24 +1,63 @@
 -- What follows where a reader only looked at more bytes.
-use Rattle.std.specs.Prelude.{ℕ, List, [], Option, Result}
-use Rattle.std.proofs.Common.{sym, ap, subst}
+use Rattle.std.specs.Prelude.{ℕ, List, [], Option, None, Some, Result, Ok, Err}
+use Rattle.std.proofs.Common.{sym, ap, subst, inl, inr}
 use Rattle.piece_reader.specs.declared.decoder.Span.{Span}
 use Rattle.piece_reader.specs.declared.error.NextError.{NextError}
+use Rattle.piece_reader.specs.declared.error.NextError.TheVariants.{Wrong, Io}
 use Rattle.piece_reader.specs.Grammar.{Grammar}
 use Rattle.piece_reader.specs.Items.{NextItem, Says, item_answer}
-use Rattle.piece_reader.specs.NextPiece.{NextAnswer, NextPiece, NoFault, PiecesWent, StaysLeft}
+use Rattle.piece_reader.specs.NextPiece.{NextAnswer, NextAnswers, NextPiece, PiecesWent, StaysLeft}
 use Rattle.piece_reader.specs.PiecesWentLaws.{HandsBytes-looked, HandsBytes-same, PiecesWent-inside}
-use Rattle.piece_reader.specs.PieceReader.{IsSettled, ReaderState, rest, retold}
-use Rattle.piece_reader.specs.RetoldLaws.{NextPiece-retold}
+use Rattle.piece_reader.specs.PieceReader.{IsSettled, ReaderState, rest}
+
+-- what a call does is what it would have done with fewer bytes looked at, or more
+module _ {S D W : Type 0} (remaining : S → Option (List ℕ)) (g : Grammar W) (s t : ReaderState S D) (seen : ℕ) where
+  answers : (answer : NextAnswer W) (bytes : List ℕ) → NextAnswers g (record s { seen = seen }) answer bytes t
+      → NextAnswers g s answer bytes t
+  answers (Ok (Some payload)) bytes a = a
+  answers (Ok None) bytes a = a
+  answers (Err (Wrong e)) bytes a = a
+  answers (Err (Io e)) bytes a = a
+
+  pub NextPiece-looked : (answer : NextAnswer W) → NextPiece remaining g (record s { seen = seen }) answer t
+      → NextPiece remaining g s answer t
+  NextPiece-looked answer next =
+      let went = next.went in
+      record {
+        bytes = next.bytes;
+        went = record {
+          hands = record { got = went.hands.got; given = went.hands.given; equal = went.hands.equal };
+          known = went.known;
+          grows = went.grows;
+          held = went.held;
+          capacity = went.capacity;
+          limit = went.limit;
+          decoder = went.decoder;
+        };
+        answers = answers answer next.bytes next.answers;
+        asked = elim next.asked [
+          | inl same ↦ inl same
+          | inr over ↦ inr (record {
+            not_ended = over.not_ended;
+            came = over.came;
+            last = over.last;
+            given = over.given;
+            latest = over.latest;
+            such = over.such;
+            asks = over.asks;
+          })
+        ];
+        gave = next.gave;
+        told = next.told;
+        whole = next.whole;
+      }
 
 module _ {S D W : Type 0} (remaining : S → Option (List ℕ)) (g : Grammar W) (s m : ReaderState S D)
     (stays : StaysLeft g s m) where
-  -- nothing was handed out, and no fault was met
+  -- nothing was handed out
   pub StaysLeft-went : PiecesWent remaining g.most s [] m
   StaysLeft-went = PiecesWent-inside remaining g.most s m [] (ap (λ x. x.reader) stays.same) (ap (λ x. x.decoder) stays.same)
       (ap (λ x. rest x) stays.same)
-
-  pub StaysLeft-quiet : NoFault s m
-  StaysLeft-quiet = ap (λ x. x.reader.log.reads.faults) stays.same
 
   -- what was settled is so still
   pub StaysLeft-settled : IsSettled g s → IsSettled g m
@@ -28,10 +67,7 @@ module _ {S D W : Type 0} (remaining : S → Option (List ℕ)) (g : Grammar W) 
   pub StaysLeft-next : (t : ReaderState S D) (answer : NextAnswer W) → NextPiece remaining g m answer t
       → NextPiece remaining g s answer t
   StaysLeft-next t answer next =
-      let n : NextPiece remaining g (retold s.decoder m.seen s) answer t =
-      subst (λ x. NextPiece remaining g x answer t) stays.same next in
-      NextPiece-retold (retold s.decoder m.seen s) t s.decoder t.decoder s.seen t.seen g remaining answer
-      n.went.decoder n.whole n
+      NextPiece-looked remaining g s t m.seen answer (subst (λ x. NextPiece remaining g x answer t) stays.same next)
 
   pub StaysLeft-item : {I : Type 0} (item_of : List ℕ → I) (t : ReaderState S D)
       (answer : Result (Option (I × Span)) (NextError W))

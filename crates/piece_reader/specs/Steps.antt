@@ -16,17 +16,11 @@ pub record TakesPiece {S D W : Type 0} (g : Grammar W) (s t : ReaderState S D) (
   pub piece : IsPiece g (rest s) span used
   pub same : t ≡ record s { handed = s.handed + used; seen = 0 }
 
--- the next piece isn't there yet
-pub record WantsMore {S D W : Type 0} (g : Grammar W) (s t : ReaderState S D) (need : ℕ) : Type 0 where
-  pub few : length (rest s) < need
-  pub most : need ≤ g.most
-  pub lacks : Lacks g need (rest s)
-  pub same : t ≡ record s { seen = length (rest s) }
-
--- what stands at the front of what is left was looked at, and handed out where it is a piece
+-- what stands at the front of what is left was looked at, and handed out where it is a piece; or that isn't there yet
 abbrev pub Takes : {S D W : Type 0} → Grammar W → ReaderState S D → Found W → ReaderState S D → Type 0
 Takes g s (found.Piece span used) t = TakesPiece g s t span used
-Takes g s (found.More need) t = WantsMore g s t need
+Takes g s (found.More need) t =
+    (length (rest s) < need) × (need ≤ g.most) × Lacks g need (rest s) × (t ≡ record s { seen = length (rest s) })
 Takes g s (found.Wrong e) t = g.wrong (rest s) e × (t ≡ s)
 
 -- the stream was asked until n bytes are left, unless it has ended; nothing else was done

@@ -7,12 +7,6 @@ abbrev pub IsTrimmed : List ℕ → List ℕ → Type 0
 IsTrimmed bytes shown =
     (bytes ≡ shown ++ 13 ∷ []) ⊎ ((bytes ≡ shown) × ((front : List ℕ) → ¬ (bytes ≡ front ++ 13 ∷ [])))
 
--- the bytes are a piece, and this is its payload without one
-pub record IsShown {W : Type 0} (g : Grammar W) (bytes shown : List ℕ) : Type 0 where
-  pub payload : List ℕ
-  pub is : g.piece bytes payload
-  pub trimmed : IsTrimmed payload shown
-
 -- the same pieces, shown so. A last one, behind which no end stands, is shown whole
 abbrev pub trimming : {W : Type 0} → Grammar W → Grammar W
-trimming g = record g { piece = IsShown g }
+trimming g = record g { piece = λ bytes shown. (payload : List ℕ) × g.piece bytes payload × IsTrimmed payload shown }

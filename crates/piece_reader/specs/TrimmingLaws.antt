@@ -3,7 +3,7 @@ use Rattle.std.specs.Prelude.{◌≡◌, ℕ, List, [], ◌∷◌, ◌++◌, len
 use Rattle.std.proofs.Common.{sym, ap, ◌∙◌, arith, inl, inr, refl, length-append, subst}
 use Rattle.std.proofs.lemmas.Bool.{cases_lt}
 use Rattle.std.proofs.lemmas.List.{append_cancel_right}
-use Rattle.piece_reader.specs.Grammar.{Grammar, Begins, IsLawful, IsOpen, Lacks}
+use Rattle.piece_reader.specs.Grammar.{Grammar, Begins, IsLawful, IsOpen}
 use Rattle.piece_reader.specs.Trimming.{IsTrimmed, trimming}
 
 -- bytes are shown in one way
@@ -56,30 +56,22 @@ module _ {W : Type 0} (g : Grammar W) where
         piece = b.piece;
         payload = shown.0;
         more = b.more;
-        is = record { payload = b.payload; is = b.is; trimmed = shown.1 };
+        is = (b.payload, b.is, shown.1);
         equal = b.equal;
       }
-
-  begins_shown : (bytes : List ℕ) → Begins (trimming g) bytes → Begins g bytes
-  begins_shown bytes b = record { piece = b.piece; payload = b.is.payload; more = b.more; is = b.is.is; equal = b.equal }
 
   -- bytes that settle nothing do so however a piece is shown
   pub open_shown : (bytes : List ℕ) → IsOpen (trimming g) bytes → IsOpen g bytes
   open_shown bytes o = record { no_piece = λ b. o.no_piece (shown_begins bytes b); not_wrong = o.not_wrong }
 
-  pub lacks_shown : (n : ℕ) (bytes : List ℕ) → Lacks g n bytes → Lacks (trimming g) n bytes
-  lacks_shown n bytes lacks more few =
-      let o = lacks more few in
-      record { no_piece = λ b. o.no_piece (begins_shown (bytes ++ more) b); not_wrong = o.not_wrong }
-
   pub trimming_lawful : IsLawful g → IsLawful (trimming g)
   trimming_lawful law = record {
     one = λ p q xs ys a b is is' same.
-        let parts = law.one p q xs ys is.payload is'.payload is.is is'.is same in
-        (parts.0, trimmed_same is'.payload a b (subst (λ l. IsTrimmed l a) parts.1 is.trimmed) is'.trimmed);
-    some = λ p a is. law.some p is.payload is.is;
+        let parts = law.one p q xs ys is.0 is'.0 is.1 is'.1 same in
+        (parts.0, trimmed_same is'.0 a b (subst (λ l. IsTrimmed l a) parts.1 is.2) is'.2);
+    some = λ p a is. law.some p is.0 is.1;
     room = law.room;
-    apart = λ p a more e is. law.apart p is.payload more e is.is;
+    apart = λ p a more e is. law.apart p is.0 more e is.1;
     reason = law.reason;
     stays = law.stays;
     nothing = law.nothing;

@@ -174,8 +174,8 @@ impl<R: Tell, D: Decoder> PieceReader<R, D> {
         self.reader.get_ref()
     }
 
-    /// The inner reader, for changes. What is read through this is in no piece. Of a stream that is put in its place, the pieces come
-    /// behind what is buffered of the old one, and behind an end of that which no call has told.
+    /// The inner reader, for changes. What is read through this is in no piece. Of a stream that is put in its place, the pieces
+    /// come behind what is buffered of the old one, and behind an end of that which no call has told.
     pub fn get_mut(&mut self) -> &mut R
         ensures* writes_back { sem 𝓛 (Lends (the_row R.row D.row D.Wrong.row R.Tell D.Decoder) R.row
             self.entry result (with_stream R.log self.old)) }

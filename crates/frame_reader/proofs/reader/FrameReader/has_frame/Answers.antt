@@ -21,7 +21,8 @@ returns-in-More-clause-settled g c =
     let s = c.args.self.now in
     let found = decoded s _ _ (c.decoder.ensures ∙ ap (λ x. x.decoder) c.self.view_is)
     (c.rest.ensures.value ∙ ap rest c.self.view_is) (More c.in-More.field-0) c.in-More.ensures in
-    (λ odd. cc, λ settled. absurd (unsettled s c.in-More.field-0 (subst ReadsFrames c.self.view_is c.self.invariant) found settled))
+    let is = subst ReadsFrames c.self.view_is c.self.invariant in
+    (λ odd. cc, λ settled. absurd (unsettled s c.in-More.field-0 is found settled))
 
 pub returns-in-Wrong-clause-settled : goal.returns-in-Wrong-clause-settled
 returns-in-Wrong-clause-settled g c =

@@ -16,5 +16,8 @@ returns-in-Some g c =
     (subst (λ o. NextBuffered remaining (framed s.decoder.max) s (buffered_answer o t) t) c.in-Some.is
     c.step_buffered.ensures.next) in (
       (refl, (λ _. tt), lends),
-      record { after_borrow = tt; fits = All-head (Fits s.decoder.max) c.lent.result.now [] (NextPiece-frames remaining s t _ lends.0).fit },
+      record {
+        after_borrow = tt;
+        fits = All-head (Fits s.decoder.max) c.lent.result.now [] (NextPiece-frames remaining s t _ lends.0).fit;
+      },
     )

@@ -1,6 +1,6 @@
-use Rattle.std.proofs.Common.{ap, subst, arith}
+use Rattle.std.proofs.Common.{ap, arith}
 use Rattle.std.proofs.lemmas.Grind.{common_steps}
-use Rattle.piece_reader.specs.NextPiece.{NextPiece, load_answer}
+use Rattle.piece_reader.specs.NextPiece.{load_answer}
 use Rattle.piece_reader.specs.NextPieceLaws.{NextPiece-ready, NextPiece-wrong}
 use Rattle.piece_reader.proofs.Lending.{lends_piece}
 use Rattle.piece_reader.proofs.Loading.{next_looked, takes_shown}
@@ -18,28 +18,19 @@ returns-in-Piece-clause-next g c =
 
 pub returns-in-Piece-clause-ready : goal.returns-in-Piece-clause-ready
 returns-in-Piece-clause-ready g c piece payload more is front =
-    let s = c.args.self.now in
-    (NextPiece-ready g.R.TellRead.remaining (g.D.Decoder.grammar s.decoder) (g.met.D.Decoder.lawful s.decoder) s
-    _ c.take.new.self (returns-in-Piece-clause-next g c) piece payload more is front).0
+    (NextPiece-ready _ _ (g.met.D.Decoder.lawful c.args.self.now.decoder) _ _ _ (returns-in-Piece-clause-next g c)
+    piece payload more is front).0
 
 pub returns-in-Piece-clause-wrong : goal.returns-in-Piece-clause-wrong
 returns-in-Piece-clause-wrong g c e wrong =
-    let s = c.args.self.now in
-    (NextPiece-wrong g.R.TellRead.remaining (g.D.Decoder.grammar s.decoder) (g.met.D.Decoder.lawful s.decoder) s
-    _ c.take.new.self (returns-in-Piece-clause-next g c) e wrong).0
+    (NextPiece-wrong _ _ (g.met.D.Decoder.lawful c.args.self.now.decoder) _ _ _ (returns-in-Piece-clause-next g c)
+    e wrong).0
 
 pub returns-in-More-clause-next : goal.returns-in-More-clause-next
 returns-in-More-clause-next g c =
-    let remaining = g.R.TellRead.remaining in
-    let s = c.args.self.now in
-    let m = c.take.new.self in
     let t = c.load_outlined.new.self in
-    let gram = g.D.Decoder.grammar s.decoder in
-    let answer = load_answer c.load_outlined.result t in
-    let wants = c.in-More.ensures.takes in
-    let same = ap (λ x. x.decoder) wants.same in
-    next_looked remaining gram (g.met.D.Decoder.lawful s.decoder) s m t c.in-More.need answer wants
-    (subst (λ d. NextPiece remaining (g.D.Decoder.grammar d) m answer t) same c.load_outlined.ensures.next)
+    next_looked g.R.TellRead.remaining g.D.Decoder.grammar c.args.self.now c.take.new.self t c.in-More.need
+    (load_answer c.load_outlined.result t) c.in-More.ensures.takes c.load_outlined.ensures.next
 
 pub returns-in-Piece-clause-lends : goal.returns-in-Piece-clause-lends
 returns-in-Piece-clause-lends g c =
@@ -51,27 +42,23 @@ returns-in-Wrong-clause-next g c = grind (arith, common_steps)
 
 pub returns-in-More-clause-ready : goal.returns-in-More-clause-ready
 returns-in-More-clause-ready g c piece payload more is front =
-    let s = c.args.self.now in
-    (NextPiece-ready g.R.TellRead.remaining (g.D.Decoder.grammar s.decoder) (g.met.D.Decoder.lawful s.decoder) s
-    _ c.load_outlined.new.self (returns-in-More-clause-next g c) piece payload more is front).0
+    (NextPiece-ready _ _ (g.met.D.Decoder.lawful c.args.self.now.decoder) _ _ _ (returns-in-More-clause-next g c)
+    piece payload more is front).0
 
 pub returns-in-More-clause-wrong : goal.returns-in-More-clause-wrong
 returns-in-More-clause-wrong g c e wrong =
-    let s = c.args.self.now in
-    (NextPiece-wrong g.R.TellRead.remaining (g.D.Decoder.grammar s.decoder) (g.met.D.Decoder.lawful s.decoder) s
-    _ c.load_outlined.new.self (returns-in-More-clause-next g c) e wrong).0
+    (NextPiece-wrong _ _ (g.met.D.Decoder.lawful c.args.self.now.decoder) _ _ _ (returns-in-More-clause-next g c)
+    e wrong).0
 
 pub returns-in-Wrong-clause-ready : goal.returns-in-Wrong-clause-ready
 returns-in-Wrong-clause-ready g c piece payload more is front =
-    let s = c.args.self.now in
-    (NextPiece-ready g.R.TellRead.remaining (g.D.Decoder.grammar s.decoder) (g.met.D.Decoder.lawful s.decoder) s
-    _ c.take.new.self (returns-in-Wrong-clause-next g c) piece payload more is front).0
+    (NextPiece-ready _ _ (g.met.D.Decoder.lawful c.args.self.now.decoder) _ _ _ (returns-in-Wrong-clause-next g c)
+    piece payload more is front).0
 
 pub returns-in-Wrong-clause-wrong : goal.returns-in-Wrong-clause-wrong
 returns-in-Wrong-clause-wrong g c e wrong =
-    let s = c.args.self.now in
-    (NextPiece-wrong g.R.TellRead.remaining (g.D.Decoder.grammar s.decoder) (g.met.D.Decoder.lawful s.decoder) s
-    _ c.take.new.self (returns-in-Wrong-clause-next g c) e wrong).0
+    (NextPiece-wrong _ _ (g.met.D.Decoder.lawful c.args.self.now.decoder) _ _ _ (returns-in-Wrong-clause-next g c)
+    e wrong).0
 
 pub returns-in-Piece-clause-ended : goal.returns-in-Piece-clause-ended
 returns-in-Piece-clause-ended g c = (returns-in-Piece-clause-next g c).told

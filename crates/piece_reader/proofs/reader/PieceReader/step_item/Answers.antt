@@ -39,17 +39,14 @@ returns-in-Ok-Some-clause-next g c =
     let s = c.args.self.now in
     let m = c.take.new.self in
     let t = c.load_outlined.new.self in
-    let gram = g.D.Decoder.grammar s.decoder in
     let wants = c.in-More.ensures.takes in
-    let answer = load_answer (Ok (Some c.in-Ok-Some.span)) t in
-    let told = ap (λ x. x.decoder) wants.same in
     let found = c.in-Ok-Some.is ∙ ap (λ x. Ok x) c.in-Ok-Some.field-0-is in
-    let next = next_looked remaining gram (g.met.D.Decoder.lawful s.decoder) s m t c.in-More.need answer wants
-    (subst (λ d. NextPiece remaining (g.D.Decoder.grammar d) m answer t) told
-    (loaded_next g.D.Decoder.grammar m t remaining c.load_outlined.result c.in-Ok-Some.span found c.load_outlined.ensures.next))
+    let next = next_looked remaining g.D.Decoder.grammar s m t c.in-More.need
+    (load_answer (Ok (Some c.in-Ok-Some.span)) t) wants
+    (loaded_next g.D.Decoder.grammar m t remaining c.load_outlined.result c.in-Ok-Some.span found c.load_outlined.ensures.next)
     in
     let bytes = part_front t ∙ HandsBytes-same s t (take t.handed t.reader.block.bytes) next.bytes
-    (HandsBytes-looked s m t (take t.handed t.reader.block.bytes) _ wants.same
+    (HandsBytes-looked s m t (take t.handed t.reader.block.bytes) _ wants.3
     (loaded_front m t c.load_outlined.result c.in-Ok-Some.span found c.load_outlined.ensures.front)) next.went.hands in
     record {
       next = next;
@@ -61,31 +58,25 @@ returns-in-Ok-Some-clause-next g c =
 pub returns-in-Ok-None-clause-next : goal.returns-in-Ok-None-clause-next
 returns-in-Ok-None-clause-next g c =
     let remaining = g.R.TellRead.remaining in
-    let s = c.args.self.now in
     let m = c.take.new.self in
     let t = c.load_outlined.new.self in
-    let wants = c.in-More.ensures.takes in
     record {
-      next = next_looked remaining (g.D.Decoder.grammar s.decoder) (g.met.D.Decoder.lawful s.decoder) s m t c.in-More.need
-          (Ok None) wants (subst (λ d. NextPiece remaining (g.D.Decoder.grammar d) m (Ok None) t) (ap (λ x. x.decoder) wants.same)
+      next = next_looked remaining g.D.Decoder.grammar c.args.self.now m t c.in-More.need (Ok None) c.in-More.ensures.takes
           (subst (λ r. NextPiece remaining (g.D.Decoder.grammar m.decoder) m (load_answer r t) t)
-          (c.in-Ok-None.is ∙ ap (λ x. Ok x) c.in-Ok-None.field-0-is) c.load_outlined.ensures.next));
+          (c.in-Ok-None.is ∙ ap (λ x. Ok x) c.in-Ok-None.field-0-is) c.load_outlined.ensures.next);
       says = tt;
     }
 
 pub returns-in-Err-clause-next : goal.returns-in-Err-clause-next
 returns-in-Err-clause-next g c =
     let remaining = g.R.TellRead.remaining in
-    let s = c.args.self.now in
     let m = c.take.new.self in
     let t = c.load_outlined.new.self in
-    let wants = c.in-More.ensures.takes in
     record {
-      next = next_looked remaining (g.D.Decoder.grammar s.decoder) (g.met.D.Decoder.lawful s.decoder) s m t c.in-More.need
-          (Err c.in-Err.e) wants (subst (λ d. NextPiece remaining (g.D.Decoder.grammar d) m (Err c.in-Err.e) t)
-          (ap (λ x. x.decoder) wants.same)
+      next = next_looked remaining g.D.Decoder.grammar c.args.self.now m t c.in-More.need (Err c.in-Err.e)
+          c.in-More.ensures.takes
           (subst (λ r. NextPiece remaining (g.D.Decoder.grammar m.decoder) m (load_answer r t) t) c.in-Err.is
-          c.load_outlined.ensures.next));
+          c.load_outlined.ensures.next);
       says = tt;
     }
 

@@ -1,7 +1,9 @@
 use Rattle.std.proofs.Common.{◌+◌, ap, sym, subst, ◌∙◌, length}
 use Rattle.piece_reader.specs.Decoding.{Decodes}
+use Rattle.piece_reader.specs.Grammar.{IsOpen}
 use Rattle.piece_reader.specs.GrammarLaws.{open_of}
 use Rattle.piece_reader.specs.PieceReader.{ReaderState, IsPieceReader, rest}
+use Rattle.piece_reader.specs.declared.decoder.Found.TheVariants as found
 use Rattle.piece_reader.proofs.Taking.{taken_whole, looked_whole}
 use Rattle.piece_reader.proofs.reader.PieceReader.take.Goals as goal
 
@@ -12,10 +14,9 @@ invariant_of-self g c =
     record { reader = i.reader; decoder = i.decoder; handed = i.handed; seen = i.seen; ended = i.ended } in
     let gram = g.D.Decoder.grammar i.decoder in
     let left = c.rest-left.ensures.value ∙ ap rest (sym c.self.view_is) in
-    let found = subst (Decodes gram c.rest-left.result.now) c.in-Piece.is c.decode-found.ensures in
+    let is = subst (Decodes gram c.rest-left.result.now) c.in-Piece.is c.decode-found.ensures in
     taken_whole gram (g.met.D.Decoder.lawful i.decoder) f c.self.invariant c.in-Piece.field-0 c.in-Piece.used
-    (subst (λ l. Decodes gram l (Rattle.piece_reader.specs.declared.decoder.Found.TheVariants.Piece c.in-Piece.field-0 c.in-Piece.used))
-    left found)
+    (subst (λ l. Decodes gram l (found.Piece c.in-Piece.field-0 c.in-Piece.used)) left is)
 
 pub invariant_of-self-in-More : goal.invariant_of-self-in-More
 invariant_of-self-in-More g c =
@@ -24,9 +25,9 @@ invariant_of-self-in-More g c =
     record { reader = i.reader; decoder = i.decoder; handed = i.handed; seen = i.seen; ended = i.ended } in
     let gram = g.D.Decoder.grammar i.decoder in
     let left = c.rest-left.ensures.value ∙ ap rest (sym c.self.view_is) in
-    let found = subst (Decodes gram c.rest-left.result.now) c.in-More.is c.decode-found.ensures in
+    let is = subst (Decodes gram c.rest-left.result.now) c.in-More.is c.decode-found.ensures in
     looked_whole gram (g.met.D.Decoder.lawful i.decoder) f c.self.invariant (length c.rest-left.result.now) (ap length left)
-    (subst (Rattle.piece_reader.specs.Grammar.IsOpen gram) left (open_of gram c.in-More.field-0 c.rest-left.result.now found.0 found.2))
+    (subst (IsOpen gram) left (open_of gram c.in-More.field-0 c.rest-left.result.now is.0 is.2))
 
 pub returns-in-Piece-clause-whole : goal.returns-in-Piece-clause-whole
 returns-in-Piece-clause-whole g c =
