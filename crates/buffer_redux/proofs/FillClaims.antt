@@ -1,16 +1,17 @@
 -- What filling promises under a policy that claims something, and all that it promises.
-use Rattle.std.proofs.Common.{◌≡◌, ℕ, zero, suc, ◌+◌, ◌-◌, ◌≤◌, true, false, [], ◌∷◌, ◌++◌, length, Result, Ok, Err, refl, sym, ap, subst, ◌∙◌, arith, inl, inr, append-nil, length-append, Option, None, Some, is_ok}
+use Rattle.std.proofs.Common.{◌≡◌, ℕ, zero, suc, ◌+◌, ◌-◌, ◌≤◌, true, false, [], ◌∷◌, ◌++◌, length, Result, Ok, Err, refl, sym, ap, subst, ◌∙◌, arith, inl, inr, append-nil, length-append, Option, None, Some, is_ok, IsOkAnd, IfSome}
 use Rattle.std.specs.declared.io.Error.{Error}
 use Rattle.redux_buffer.specs.Block.{Block, IsBlock}
 use Rattle.redux_buffer.specs.Transfer.{ReadsOnce}
 use Rattle.buffer_redux.specs.declared.policy.DoRead.{DoRead}
-use Rattle.buffer_redux.specs.Policy.{ReadRules, BeforeRead, no_read, read_now, ReadsToMinimum, ReadsSteadily, ClaimsToSpare}
+use Rattle.buffer_redux.specs.Policy.{ReadRules, BeforeRead, no_read, read_now, ClaimsToSpare, ReadsUpTo}
 use Rattle.buffer_redux.specs.Buffered.{Buffered}
 use Rattle.buffer_redux.specs.Fill.{Turns, Ends, Filled}
 use Rattle.buffer_redux.specs.BufReader.{LooksAhead, FillsToMinimum, SteadyFill, Fills}
 use Rattle.buffer_redux.specs.Sparing.{Spared, Spared-none, Spared-joins}
 use Rattle.buffer_redux.proofs.SparingFacts.{Spared-asked, Spared-read}
 use Rattle.buffer_redux.proofs.FillFacts.{turns_facts, filled_facts, asked_once, zero_rose, full_empty}
+use Rattle.std.proofs.lemmas.Bool.{MatchBool-at_true}
 
 module _ {S P : Type 0} (rules : ReadRules P) where
   -- the claims after some turns are those before them
@@ -20,9 +21,9 @@ module _ {S P : Type 0} (rules : ReadRules P) where
   module _ (n : ℕ) (s : Buffered S P) (wants : (rules.claims s.policy).minimum ≡ Some n) where
     at_minimum : (k : ℕ) (m : Buffered S P) (b : Block) (r : Result DoRead Error) (p : Buffered S P)
         → Turns rules k s m → BeforeRead rules m.policy m.block r p.policy b
-        → ReadsToMinimum (Some n) m.block r b
+        → ReadsUpTo n m.block r b
     at_minimum k m b r p h asked =
-        subst (λ o. ReadsToMinimum o m.block r b)
+        subst (λ o. IfSome o (λ n. ReadsUpTo n m.block r b))
         (ap (λ c. c.minimum) (claimed k s m h) ∙ wants) asked.minimum
 
     -- each turn found fewer bytes than the minimum
@@ -143,9 +144,10 @@ module _ {S P : Type 0} (rules : ReadRules P) where
 
   module _ (s : Buffered S P) (steady : (rules.claims s.policy).steady ≡ true) where
     at_steady : (k : ℕ) (m : Buffered S P) (b : Block) (r : Result DoRead Error) (p : Buffered S P)
-        → Turns rules k s m → BeforeRead rules m.policy m.block r p.policy b → ReadsSteadily true m.block r
+        → Turns rules k s m → BeforeRead rules m.policy m.block r p.policy b
+        → IsOkAnd r (λ d. length m.block.bytes ≡ 0 → d.0 ≡ true)
     at_steady k m b r p h asked =
-        subst (λ o. ReadsSteadily o m.block r) (ap (λ c. c.steady) (claimed k s m h) ∙ steady) asked.steady
+        MatchBool-at_true _ _ (ap (λ c. c.steady) (claimed k s m h) ∙ steady) asked.steady
 
     steady_ok : {A : Type 0} (k : ℕ) (m t : Buffered S P) (a : A)
         → IsBlock t.block → Turns rules k s m → Ends rules m (Ok a) t → SteadyFill s true t

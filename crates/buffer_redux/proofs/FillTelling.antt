@@ -1,11 +1,11 @@
 -- How what was noted of a fill fits what it did.
 use Rattle.std.proofs.Common.{◌≡◌, ◌∙◌, ℕ, ◌+◌, ◌<◌, ◌≤◌, List, [], ◌∷◌, length, Option, Result, Ok, Err, true, inl, inr, refl, sym, ap, subst, append-nil, le_refl, arith}
-use Rattle.std.proofs.lemmas.Bool.{cases_lt}
+use Rattle.std.proofs.lemmas.Bool.{cases_lt, MatchBool-at_true}
 use Rattle.std.specs.declared.io.Error.{Error}
 use Rattle.redux_buffer.specs.GoesOn.{GoesOn-none}
 use Rattle.redux_buffer.specs.StreamLog.{StreamLog, end_of_some, with_end}
 use Rattle.redux_buffer.specs.LogGrows.{ReadLogGrows, FillLogGrows}
-use Rattle.buffer_redux.specs.Policy.{ReadRules, ReadsSteadily}
+use Rattle.buffer_redux.specs.Policy.{ReadRules}
 use Rattle.buffer_redux.specs.Buffered.{Buffered, with_calls}
 use Rattle.buffer_redux.specs.Fill.{Ends, Filled}
 use Rattle.redux_buffer.specs.GivesRemaining.{GivesRemaining}
@@ -92,8 +92,7 @@ module _ {S P : Type 0} (remaining : S → Option (List ℕ)) (rules : ReadRules
     second = elim f.caused [
       | inl fault ↦ fault
       | inr gave ↦
-          absurd (subst (λ b. ReadsSteadily b gave.last.block (Err e))
-          (ap (λ x. x.steady) (sym gave.gave.claims ∙ f.claims) ∙ steady) gave.gave.steady)
+          absurd (MatchBool-at_true _ _ (ap (λ x. x.steady) (sym gave.gave.claims ∙ f.claims) ∙ steady) gave.gave.steady)
     ];
   }
 

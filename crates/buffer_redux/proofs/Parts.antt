@@ -111,7 +111,9 @@ module _ {S P : Type 0} (tells : S → StreamLog) (trace : S → S → Type 0) (
         left = m;
         sent = sent;
         others = others;
-        kept = record { bytes = grown.bytes; capacity = omega (arith, up.0, grown.capacity); kind = grown.kind };
+        bytes = grown.bytes;
+        capacity = omega (arith, up.0, grown.capacity);
+        kind = grown.kind;
         room = omega (arith, up.1, grown.usable, grown.capacity);
         unsent = λ e is. (let odd : ◌≡◌ {A = Result (Unit {0}) Error} (Ok x) (Err e) = is in cc);
         refused = λ x is. tt;
@@ -125,7 +127,9 @@ module _ {S P : Type 0} (tells : S → StreamLog) (trace : S → S → Type 0) (
     left = m;
     sent = sent;
     others = refl;
-    kept = record { bytes = refl; capacity = le_refl _; kind = refl };
+    bytes = refl;
+    capacity = le_refl _;
+    kind = refl;
     room = tt;
     unsent = λ e is. (let odd : ◌≡◌ {A = Result (Unit {0}) Error} (Ok x) (Err e) = is in cc);
     refused = λ x is. failed;
@@ -139,7 +143,9 @@ module _ {S P : Type 0} (tells : S → StreamLog) (trace : S → S → Type 0) (
     left = t;
     sent = sent;
     others = refl;
-    kept = record { bytes = refl; capacity = le_refl _; kind = refl };
+    bytes = refl;
+    capacity = le_refl _;
+    kind = refl;
     room = tt;
     unsent = λ why is. (let same : ◌≡◌ {A = Result (Unit {0}) Error} (Err e) (Err why) = is in let back : why ≡ e = cc in back);
     refused = λ x is. (let odd : ◌≡◌ {A = Result (Unit {0}) Error} (Err e) (Ok x) = is in cc);
@@ -153,7 +159,7 @@ module _ {S P : Type 0} (tells : S → StreamLog) (trace : S → S → Type 0) (
         → WritesAlong tells trace std_write_rules s [] t
     place_along s t count answer p = WritesAlong-then tells trace std_write_rules joins s p.left t []
         (WasSent-along tells trace std_write_rules goes s p.sending p.left p.sent)
-        (block_along p.left t [] p.others (p.kept.bytes ∙ sym (append-nil p.left.block.bytes)) p.kept.capacity p.kept.kind)
+        (block_along p.left t [] p.others (p.bytes ∙ sym (append-nil p.left.block.bytes)) p.capacity p.kind)
 
     -- the parts moved in, once there was room
     pub parts_moved : (s m t : Buffered S P) (count : ℕ) (bytes : List ℕ) → usable s.block < length bytes

@@ -14,9 +14,11 @@ use Rattle.buffer_redux.specs.Policy.{WriteRules}
 use Rattle.buffer_redux.specs.Buffered.{Buffered}
 use Rattle.buffer_redux.specs.BufWriter.{WritesAlong, writer_contents}
 use Rattle.buffer_redux.specs.WriteAll.{WriteAllErrorCaused, WritesAll, WritesAllSteadily}
-use Rattle.buffer_redux.specs.WriteFmt.{IsFormatError, PieceFailed, StoppedIn, TakesPieces, TextWent, WritesEach, WritesPieces, WritesText}
+use Rattle.buffer_redux.specs.WriteFmt.{PieceFailed, StoppedIn, TakesPieces, TextWent, WritesEach, WritesPieces, WritesText}
 use Rattle.buffer_redux.specs.WriterLaws.{WritesInOrder-contents}
 use Rattle.buffer_redux.specs.WritesAlongLaws.{WritesAll-along, WritesAll-took, WritesAlong-joins, WritesAlong-none}
+use Rattle.std.specs.IoError.{error_kind}
+use Rattle.std.specs.declared.io.ErrorKind.TheVariants.{Uncategorized}
 
 module _ {S P : Type 0} (tells : S → StreamLog) (trace : S → S → Type 0) (rules : WriteRules P)
     (none : (u : S) → trace u u) (joins : (u v w : S) → trace u v → trace v w → trace u w) where
@@ -199,7 +201,7 @@ module _ {S P : Type 0} (tells : S → StreamLog) (trace : S → S → Type 0) (
 
   -- the formatting failed
   pub text_failed : (s : Buffered S P) (text : Option (List ℕ)) (k : Option Error) (e : Error) (t : Buffered S P)
-      → ∥ TextWent tells trace rules s k t ∥₁ → IsFormatError e → WritesText tells trace rules s text (Err e) t
+      → ∥ TextWent tells trace rules s k t ∥₁ → error_kind e ≡ Uncategorized → WritesText tells trace rules s text (Err e) t
   text_failed s text k e t went failed = record {
     along = ∥∥₁_map went (λ w. went_along s k t w);
     went = ∥∥₁_map went (λ w. inl (failed, (k, w)));
@@ -207,7 +209,8 @@ module _ {S P : Type 0} (tells : S → StreamLog) (trace : S → S → Type 0) (
     beginning = of text;
   }
     where
-      of : (text : Option (List ℕ)) → IfSome text (λ bytes. IsFormatError e ⊎ StoppedIn tells trace rules s bytes e t)
+      of : (text : Option (List ℕ))
+          → IfSome text (λ bytes. (error_kind e ≡ Uncategorized) ⊎ StoppedIn tells trace rules s bytes e t)
       of None = tt
       of (Some bytes) = inl failed
 
@@ -224,7 +227,7 @@ module _ {S P : Type 0} (tells : S → StreamLog) (trace : S → S → Type 0) (
   }
     where
       of : (text : Option (List ℕ)) → IfSome text (λ bytes. StoppedIn tells trace rules s bytes e t)
-          → IfSome text (λ bytes. IsFormatError e ⊎ StoppedIn tells trace rules s bytes e t)
+          → IfSome text (λ bytes. (error_kind e ≡ Uncategorized) ⊎ StoppedIn tells trace rules s bytes e t)
       of None p = tt
       of (Some bytes) p = inr p
 

@@ -1,5 +1,5 @@
 -- Why a write of all bytes fails.
-use Rattle.std.proofs.Common.{◌≡◌, ℕ, List, length, drop, Result, Ok, Err, sym, ap, subst, ◌∙◌, arith, inl, inr, true}
+use Rattle.std.proofs.Common.{◌≡◌, ℕ, List, length, drop, Result, Ok, Err, sym, ap, subst, ◌∙◌, arith, inl, inr, true, ◌+◌, ◌<◌, OnErr}
 use Rattle.std.specs.Prelude.{◌⊎◌}
 use Rattle.std.specs.IoError.{error_kind}
 use Rattle.std.specs.declared.io.Error.{Error}
@@ -8,8 +8,8 @@ use Rattle.redux_buffer.specs.Faults.{SendErrorCaused}
 use Rattle.redux_buffer.specs.StreamLog.{StreamLog}
 use Rattle.buffer_redux.specs.Policy.{WriteRules}
 use Rattle.buffer_redux.specs.AllBytes.{EndsBy, GaveUp}
-use Rattle.buffer_redux.specs.Buffered.{Buffered}
-use Rattle.buffer_redux.specs.BufWriter.{EmptyWriteCaused, NoSpace, SteadyWrite, TookNothingPast, WasInterrupted, WriteErrorCaused, WriteRefused, WriterStopped}
+use Rattle.buffer_redux.specs.Buffered.{Buffered, GoesPast}
+use Rattle.buffer_redux.specs.BufWriter.{EmptyWriteCaused, NoSpace, WasInterrupted, WriteErrorCaused, WriteRefused, WriterStopped, WriterFailed}
 use Rattle.buffer_redux.specs.WriteAll.{LastWriteFailed, LeftNoSpace, WriteAllErrorCaused, WriteTurns, WritesAll, WritesAllSteadily}
 use Rattle.buffer_redux.specs.WritesAlongLaws.{WriteErrorCaused-failed, WriterStopped-after, WriterStopped-send}
 use Rattle.buffer_redux.proofs.WriteTurns.{turned}
@@ -21,11 +21,13 @@ module _ {S P : Type 0} (rules : WriteRules P) (rest : List ℕ) (e : Error) (m 
   last_steady steady = of failed.answer failed.ends failed.caused (failed.steadily steady)
     where
       of : (answer : Result ℕ Error) → EndsBy WriteZero answer e → WriteErrorCaused rules m rest answer t
-          → SteadyWrite m (length rest) answer t → WriterStopped m.log.writes t.log.writes e
+          → OnErr answer (WriterFailed m.log.writes t.log.writes)
+          × (answer ≡ Ok 0 → 0 < length rest → m.log.writes.zero_writes < t.log.writes.zero_writes)
+          → WriterStopped m.log.writes t.log.writes e
       of (Ok k) ends caused steadily = inr (inl (record
-          { is_write_zero = ends.1; zero_writes = steadily.empty (ap (λ n. Ok n) ends.0) failed.some }))
+          { is_write_zero = ends.1; zero_writes = steadily.1 (ap (λ n. Ok n) ends.0) failed.some }))
       of (Err x) ends caused steadily = subst (λ y. WriterStopped m.log.writes t.log.writes y) ends.0
-          (WriteErrorCaused-failed rules m rest x t caused steadily.err)
+          (WriteErrorCaused-failed rules m rest x t caused steadily.0)
 
   -- the last write was stopped by the inner writer, refused by the policy, or found no space
   last_caused : WriterStopped m.log.writes t.log.writes e
@@ -40,11 +42,12 @@ module _ {S P : Type 0} (rules : WriteRules P) (rest : List ℕ) (e : Error) (m 
           (subst (λ y. WriterStopped m.log.writes t.log.writes y) same (WriterStopped-send m.log.writes t.log.writes x sent))
 
       empty : error_kind e ≡ WriteZero → (c : EmptyWriteCaused rules m rest t)
-          → TookNothingPast m (length rest) c.steps.before t ⊎ NoSpace m (length rest) c.steps.before
+          → (GoesPast c.steps.before.block (length rest) × (t.log.writes.zero_writes ≡ m.log.writes.zero_writes + 1))
+          ⊎ NoSpace m (length rest) c.steps.before
           → WriterStopped m.log.writes t.log.writes e
           ⊎ (WriteRefused rules m rest e t ⊎ LeftNoSpace rules m rest e t)
       empty is c (inl past) = inl (inr (inl (record
-          { is_write_zero = is; zero_writes = omega (arith, past.zero_writes) })))
+          { is_write_zero = is; zero_writes = omega (arith, past.1) })))
       empty is c (inr full) = inr (inr (record { is_write_zero = is; steps = c.steps; full = full }))
 
       of : (answer : Result ℕ Error) → EndsBy WriteZero answer e → WriteErrorCaused rules m rest answer t
@@ -91,7 +94,7 @@ module _ {S P : Type 0} (tells : S → StreamLog) (trace : S → S → Type 0) (
           ⊎ (GaveUp all.turns all.count (length bs) e × (t ≡ all.last)) → WriterStopped s.log.writes t.log.writes e
       of (inl failed) = WriterStopped-after s.log.writes all.last.log.writes t.log.writes e all.first.keeps.grows
           (last_steady rules _ e all.last t failed (ap (λ c. c.steady) all.first.keeps.claims ∙ steady))
-      of (inr gave) = inr (inr (record {
-        timed_out = gave.0.timed_out;
-        interrupted = subst (λ u. WasInterrupted s.log.writes u.log.writes) (sym gave.1) (interrupted gave.0);
-      }))
+      of (inr gave) = inr (inr (
+        gave.0.timed_out,
+        subst (λ u. WasInterrupted s.log.writes u.log.writes) (sym gave.1) (interrupted gave.0),
+      ))

@@ -31,20 +31,16 @@ module _ {S P : Type 0} (rules : WriteRules P) (s m : Buffered S P) (bs : List �
 
   pub writes_on : (answer : Result ℕ Error) (t : Buffered S P)
       → WritesOn rules (amount.0) m bs answer t → Writes rules s bs answer t
-  writes_on (Ok n) t w =
-      record {
-        before = w.before;
-        after = w.after;
-        prepared = prepared (Ok tt) w.before w.flush;
-        took_in = w.took_in;
-        finished = w.finished;
-      }
+  writes_on (Ok n) t (before, after, flush, took_in, finished) = record {
+    before = before;
+    after = after;
+    prepared = prepared (Ok tt) before flush;
+    took_in = took_in;
+    finished = finished;
+  }
   writes_on (Err e) t (inl unsent) = inr (inl (prepared (Err e) t unsent))
-  writes_on (Err e) t (inr faulted) = inr (inr (record {
-    before = faulted.before;
-    prepared = prepared (Ok tt) faulted.before faulted.flush;
-    took_in = faulted.took_in;
-  }))
+  writes_on (Err e) t (inr (before, flush, took_in)) =
+      inr (inr (record { before = before; prepared = prepared (Ok tt) before flush; took_in = took_in }))
 
 -- where nothing is sent first, and where bytes fit with room to spare
 pub flushes_none : {S P : Type 0} (m : Buffered S P) (amount : ℕ)

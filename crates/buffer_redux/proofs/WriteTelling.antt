@@ -1,5 +1,5 @@
 -- How what was noted of a write or a flush fits what it did.
-use Rattle.std.proofs.Common.{◌≡◌, ◌∙◌, ℕ, ◌+◌, ◌≤◌, List, [], ◌∷◌, ◌++◌, length, Result, Ok, Err, IfErr, true, inl, inr, refl, sym, ap, subst, length-append, arith, OnOk, MatchResult}
+use Rattle.std.proofs.Common.{◌≡◌, ◌∙◌, ℕ, ◌+◌, ◌≤◌, List, [], ◌∷◌, ◌++◌, length, Result, Ok, Err, IfErr, true, inl, inr, refl, sym, ap, subst, length-append, arith, OnOk, MatchResult, ◌<◌, OnErr}
 use Rattle.std.proofs.lemmas.Bool.{cases_lt}
 use Rattle.std.proofs.lemmas.List.{append_cancel_left}
 use Rattle.std.proofs.lemmas.List.Elements.{All-head}
@@ -11,7 +11,7 @@ use Rattle.redux_buffer.specs.LogGrows.{WriteLogGrows}
 use Rattle.redux_buffer.specs.Faults.{IsInterrupt, MetInterrupts, MetInterrupts-err, TookNothing, SendErrorCaused}
 use Rattle.buffer_redux.specs.Policy.{WriteRules}
 use Rattle.buffer_redux.specs.Buffered.{Buffered, with_calls, with_policy}
-use Rattle.buffer_redux.specs.BufWriter.{WriterFailed, SteadyWrite, Writes, WriteErrorCaused, IsFlushed, Flushes, FlushesAmount, TakesIn}
+use Rattle.buffer_redux.specs.BufWriter.{WriterFailed, Writes, WriteErrorCaused, IsFlushed, Flushes, FlushesAmount, TakesIn}
 use Rattle.buffer_redux.specs.WriterLaws.{Wrote-met}
 use Rattle.buffer_redux.proofs.WriterFacts.{blamed, steady_caused, steady_met_nothing}
 use Rattle.buffer_redux.specs.WriterTells.{writer_log, failures, TellsFailures, WriterWent}
@@ -94,13 +94,15 @@ failures_rise old new on (inr zero) =
 
 -- under a steady policy a failed write, or one that took nothing of something, is a failure of the inner writer's
 pub write_fails : {S P : Type 0} (s t : Buffered S P) (bs : List ℕ) (answer : Result ℕ Error)
-    → WriteLogGrows s.log.writes t.log.writes → SteadyWrite s (length bs) answer t
+    → WriteLogGrows s.log.writes t.log.writes
+    → OnErr answer (WriterFailed s.log.writes t.log.writes)
+    × (answer ≡ Ok 0 → 0 < length bs → s.log.writes.zero_writes < t.log.writes.zero_writes)
     → failures (after_write s.own_calls bs answer).writes + failures s.log.writes
     ≤ failures s.own_calls.writes + failures t.log.writes
 write_fails s t bs (Err e) on steadily =
     omega (
       arith,
-      failures_rise s.log.writes t.log.writes on steadily.err,
+      failures_rise s.log.writes t.log.writes on steadily.0,
       length-append s.own_calls.writes.faults (e ∷ []),
     )
 write_fails s t bs (Ok n) on steadily = elim (cases_lt 0 n) [
@@ -113,7 +115,7 @@ write_fails s t bs (Ok n) on steadily = elim (cases_lt 0 n) [
   | inr none ↦ elim (cases_lt 0 (length bs)) [
     | inl given ↦ (
         let zero : n ≡ 0 = omega (arith, none) in
-        let nothing = steadily.empty (ap Ok zero) given in
+        let nothing = steadily.1 (ap Ok zero) given in
         omega (
           arith,
           zero_of_none n bs s.own_calls.writes.zero_writes zero given,
@@ -240,7 +242,7 @@ module _ {S P : Type 0} (rules : WriteRules P) (s t : Buffered S P) (bs : List �
       → Writes rules s bs answer t → WriteErrorCaused rules s bs answer t
       → MetInterrupts s.own_calls.writes (after_write s.own_calls bs answer).writes
       → MetInterrupts s.log.writes t.log.writes
-  write_met (Ok n) wrote caused own = elim (Wrote-met rules s bs n t tells.1 wrote).met [
+  write_met (Ok n) wrote caused own = elim (Wrote-met rules s bs n t tells.1 wrote).1 [
     | inl only ↦ record { interrupts = _; only = only }
     | inr nothing ↦
         absurd (omega (

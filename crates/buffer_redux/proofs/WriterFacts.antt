@@ -1,16 +1,16 @@
 -- What follows from a whole write: what it keeps, why it failed, and why it took nothing.
-use Rattle.std.proofs.Common.{◌≡◌, ℕ, zero, suc, ◌+◌, ◌<◌, List, [], ◌∷◌, ◌++◌, true, length, take, Result, Ok, Err, refl, sym, ap, ◌∙◌, arith, inl, inr, append-nil, length-append, length-drop, min, subst}
-use Rattle.std.proofs.lemmas.Bool.{cases_lt}
+use Rattle.std.proofs.Common.{◌≡◌, ℕ, zero, suc, ◌+◌, ◌<◌, List, [], ◌∷◌, ◌++◌, true, length, take, Result, Ok, Err, refl, sym, ap, ◌∙◌, arith, inl, inr, append-nil, length-append, length-drop, min, subst, IsOkAnd}
+use Rattle.std.proofs.lemmas.Bool.{cases_lt, MatchBool-at_true}
 use Rattle.std.specs.declared.io.Error.{Error}
 use Rattle.std.specs.declared.io.ErrorKind.TheVariants.{WriteZero}
 use Rattle.redux_buffer.specs.Block.{Block, usable}
 use Rattle.std.proofs.lemmas.List.Elements.{All-nil}
 use Rattle.redux_buffer.specs.Faults.{IsInterrupt, TookNothing, SendErrorCaused, FaultedAfter-after}
 use Rattle.redux_buffer.specs.StreamLog.{WriteLog, portion, after_write}
-use Rattle.buffer_redux.specs.Policy.{WriteRules, BeforeWrite, FlushesSteadily}
+use Rattle.buffer_redux.specs.Policy.{WriteRules, BeforeWrite}
 use Rattle.buffer_redux.specs.declared.policy.FlushAmt.{FlushAmt}
 use Rattle.buffer_redux.specs.Buffered.{Buffered, GoesPast, StaysInside}
-use Rattle.buffer_redux.specs.BufWriter.{FlushesAmount, TakesIn, Prepared, Wrote, Writes, WriteErrorCaused, WriterFailed, WritesSteadily, NoSpace, TookNothingPast, EmptyWriteCaused}
+use Rattle.buffer_redux.specs.BufWriter.{FlushesAmount, TakesIn, Prepared, Wrote, Writes, WriteErrorCaused, WriterFailed, WritesSteadily, NoSpace, EmptyWriteCaused}
 use Rattle.buffer_redux.specs.WriterLaws.{flush_ways, ways_in, FlushesAmount-met}
 use Rattle.buffer_redux.proofs.WriteSteps.{StepKeeps, log_same, WritesInOrder-same, StepKeeps-joins, StepKeeps-then, capacity_stays, bytes_stay, StepKeeps-takes, StepKeeps-prepared, StepKeeps-finished}
 
@@ -59,8 +59,8 @@ module _ {S P : Type 0} (rules : WriteRules P) (s : Buffered S P) (bs : List ℕ
       )
 
   took_nothing : n ≡ 0 → 0 < length bs → GoesPast wrote.before.block (length bs)
-      → TookNothingPast s (length bs) wrote.before t
-  took_nothing none some past = record { past = past; zero_writes = (met_nothing none some past).1.zero_writes }
+      → GoesPast wrote.before.block (length bs) × (t.log.writes.zero_writes ≡ s.log.writes.zero_writes + 1)
+  took_nothing none some past = (past, (met_nothing none some past).1.zero_writes)
 
   no_space : n ≡ 0 → 0 < length bs → StaysInside wrote.before.block (length bs)
       → NoSpace s (length bs) wrote.before
@@ -121,9 +121,9 @@ writes_keep rules s bs (Err e) t (inr (inr faulted)) =
 asks_steadily : {P : Type 0} (rules : WriteRules P) (p : P) (b : Block) (incoming : ℕ)
     (answer : Result FlushAmt Error) (p' : P) (b' : Block)
     → (rules.claims p).steady ≡ true → BeforeWrite rules p b incoming answer p' b'
-    → FlushesSteadily true incoming answer b'
+    → IsOkAnd answer (λ a. usable b' < incoming → a.0 ≡ length b'.bytes)
 asks_steadily rules p b incoming answer p' b' steady asked =
-    subst (λ o. FlushesSteadily o incoming answer b') steady asked.steady
+    MatchBool-at_true _ _ steady asked.steady
 
 pub blamed : (old new : WriteLog) (e : Error) → SendErrorCaused old new e → WriterFailed old new
 blamed old new e caused = elim caused.cause [
@@ -218,7 +218,7 @@ module _ {S P : Type 0} (rules : WriteRules P) where
   steady_nothing : (s : Buffered S P) (bs : List ℕ) (t : Buffered S P) → (rules.claims s.policy).steady ≡ true
       → 0 < length bs → EmptyWriteCaused rules s bs t → s.log.writes.zero_writes < t.log.writes.zero_writes
   steady_nothing s bs t steady some caused = elim caused.why [
-    | inl nothing ↦ omega (arith, nothing.zero_writes)
+    | inl nothing ↦ omega (arith, nothing.1)
     | inr space ↦ absurd (steady_space s caused.steps.before (length bs) steady some caused.steps.prepared space)
   ]
 
@@ -239,11 +239,7 @@ module _ {S P : Type 0} (rules : WriteRules P) where
 
   pub writes_steadily : (s : Buffered S P) (bs : List ℕ) (answer : Result ℕ Error) (t : Buffered S P)
       → Writes rules s bs answer t → WritesSteadily rules s (length bs) answer t
-  writes_steadily s bs (Ok n) t wrote steady = record {
-    err = tt;
-    empty = λ is some. steady_nothing s bs t steady some (writes_nothing s bs (Ok n) t wrote is some);
-  }
-  writes_steadily s bs (Err e) t failed steady = record {
-    err = blamed s.log.writes t.log.writes e (steady_caused s t bs e steady (writes_caused s bs e t failed));
-    empty = λ is. cc;
-  }
+  writes_steadily s bs (Ok n) t wrote steady =
+      (tt, λ is some. steady_nothing s bs t steady some (writes_nothing s bs (Ok n) t wrote is some))
+  writes_steadily s bs (Err e) t failed steady =
+      (blamed s.log.writes t.log.writes e (steady_caused s t bs e steady (writes_caused s bs e t failed)), λ is. cc)

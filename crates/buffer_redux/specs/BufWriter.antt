@@ -92,38 +92,19 @@ Writes rules s bs (Ok n) t = Wrote rules s bs n t
 Writes rules s bs (Err e) t =
     WriteRefused rules s bs e t ⊎ (Prepared rules (length bs) s (Err e) t ⊎ WriteFaulted rules s bs e t)
 
--- the steps after the first question, where the write returned `Ok(n)`
-pub record WroteOn {S P : Type 0} (rules : WriteRules P) (amount : ℕ) (m : Buffered S P) (bs : List ℕ) (n : ℕ)
-    (t : Buffered S P) : Type 0 where
-  pub before : Buffered S P
-  pub after : Buffered S P
-  pub flush : FlushesAmount amount m (Ok tt) before
-  pub took_in : TakesIn bs before (Ok n) after
-  pub finished : Finished rules after t
-
--- the steps after the first question, where the inner writer returned the error to the write past the buffer
-pub record FaultedOn {S P : Type 0} (amount : ℕ) (m : Buffered S P) (bs : List ℕ) (e : Error) (t : Buffered S P)
-    : Type 0 where
-  pub before : Buffered S P
-  pub flush : FlushesAmount amount m (Ok tt) before
-  pub took_in : TakesIn bs before (Err e) t
-
--- what `write(bs)` does once the policy has answered the amount
+-- what `write(bs)` does once the policy has answered the amount; at an `Err` that flush failed, or the write past the buffer
 abbrev pub WritesOn : {S P : Type 0} → WriteRules P → ℕ → Buffered S P → List ℕ → Result ℕ Error → Buffered S P
     → Type 0
-WritesOn rules amount m bs (Ok n) t = WroteOn rules amount m bs n t
-WritesOn rules amount m bs (Err e) t = FlushesAmount amount m (Err e) t ⊎ FaultedOn amount m bs e t
+WritesOn {S} {P} rules amount m bs (Ok n) t = (before : Buffered S P) × (after : Buffered S P)
+    × FlushesAmount amount m (Ok tt) before × TakesIn bs before (Ok n) after × Finished rules after t
+WritesOn {S} {P} rules amount m bs (Err e) t = FlushesAmount amount m (Err e) t
+    ⊎ ((before : Buffered S P) × FlushesAmount amount m (Ok tt) before × TakesIn bs before (Err e) t)
 
 -- an error is the policy's answer, and nothing else was done, or it was caused by the inner writer
 abbrev pub WriteErrorCaused : {S P : Type 0} → WriteRules P → Buffered S P → List ℕ → Result ℕ Error → Buffered S P
     → Type 0
 WriteErrorCaused rules s bs answer t =
     IfErr answer (λ e. WriteRefused rules s bs e t ⊎ SendErrorCaused s.log.writes t.log.writes e)
-
--- the write past the buffer, which stood so before it, took nothing, and no other write did
-pub record TookNothingPast {S P : Type 0} (s : Buffered S P) (incoming : ℕ) (before t : Buffered S P) : Type 0 where
-  pub past : GoesPast before.block incoming
-  pub zero_writes : t.log.writes.zero_writes ≡ s.log.writes.zero_writes + 1
 
 -- no space was free as the call began, and the flush before the copy, which found the buffer so, made none
 pub record NoSpace {S P : Type 0} (s : Buffered S P) (incoming : ℕ) (before : Buffered S P) : Type 0 where
@@ -132,27 +113,23 @@ pub record NoSpace {S P : Type 0} (s : Buffered S P) (incoming : ℕ) (before : 
   pub kept : before.block.bytes ≡ s.block.bytes
   pub inside : StaysInside before.block incoming
 
--- nothing of something was taken in only where, after its first flush, the write past the buffer took nothing, or there
--- was no space
+-- nothing of something was taken in only where, after its first flush, the write past the buffer, and no other, took
+-- nothing, or there was no space
 pub record EmptyWriteCaused {S P : Type 0} (rules : WriteRules P) (s : Buffered S P) (bs : List ℕ) (t : Buffered S P)
     : Type 0 where
   pub steps : Wrote rules s bs 0 t
-  pub why : TookNothingPast s (length bs) steps.before t ⊎ NoSpace s (length bs) steps.before
+  pub why : (GoesPast steps.before.block (length bs) × (t.log.writes.zero_writes ≡ s.log.writes.zero_writes + 1))
+      ⊎ NoSpace s (length bs) steps.before
 
 -- a fault came, or a write took nothing of something
 abbrev pub WriterFailed : WriteLog → WriteLog → Type 0
 WriterFailed old new = (length old.faults < length new.faults) ⊎ (old.zero_writes < new.zero_writes)
 
--- an error is the inner writer's, and so is taking in nothing of something
-pub record SteadyWrite {S P : Type 0} (s : Buffered S P) (incoming : ℕ) (answer : Result ℕ Error) (t : Buffered S P)
-    : Type 0 where
-  pub err : OnErr answer (WriterFailed s.log.writes t.log.writes)
-  pub empty : answer ≡ Ok 0 → 0 < incoming
-      → s.log.writes.zero_writes < t.log.writes.zero_writes
-
--- what a write does under a steady policy
+-- under a steady policy an error is the inner writer's, and so is taking in nothing of something
 abbrev pub WritesSteadily : {S P : Type 0} → WriteRules P → Buffered S P → ℕ → Result ℕ Error → Buffered S P → Type 0
-WritesSteadily rules s incoming answer t = (rules.claims s.policy).steady ≡ true → SteadyWrite s incoming answer t
+WritesSteadily rules s incoming answer t = (rules.claims s.policy).steady ≡ true
+    → OnErr answer (WriterFailed s.log.writes t.log.writes)
+    × (answer ≡ Ok 0 → 0 < incoming → s.log.writes.zero_writes < t.log.writes.zero_writes)
 
 -- what each write keeps: the log only goes on, and nothing is flushed; the capacity doesn't fall, and the kind and the
 -- policy's claims stay; the inner writer went through a trace of calls, and no call of its own is noted
@@ -258,15 +235,11 @@ pub record WasInterrupted (old new : WriteLog) : Type 0 where
   pub after : List Error
   pub faults : new.faults ≡ ((old.faults ++ before) ++ interrupt ∷ []) ++ after
 
--- 2^64 - 1 writes didn't take all bytes of a slice, of which there are no more, since some were interrupted
-pub record InterruptedTooOften (old new : WriteLog) (e : Error) : Type 0 where
-  pub timed_out : error_kind e ≡ TimedOut
-  pub interrupted : WasInterrupted old new
-
 -- the inner writer ended them with this error: by a fault, by a write that took nothing, or by writes that were interrupted
--- again and again
+-- again and again, so that 2^64 - 1 of them didn't take all bytes of a slice
 abbrev pub WriterStopped : WriteLog → WriteLog → Error → Type 0
-WriterStopped old new e = LastFault old new e ⊎ (ZeroWritten old new e ⊎ InterruptedTooOften old new e)
+WriterStopped old new e = LastFault old new e
+    ⊎ (ZeroWritten old new e ⊎ ((error_kind e ≡ TimedOut) × WasInterrupted old new))
 
 -- calls accepted a beginning of these bytes, of which none is lost
 pub record BegunAlong {S P : Type 0} (tells : S → StreamLog) (trace : S → S → Type 0) (rules : WriteRules P)

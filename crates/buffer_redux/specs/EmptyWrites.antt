@@ -58,8 +58,8 @@ module _ {S P : Type 0} (s t : Buffered S P) (e : Error) (room : 0 < s.block.cap
 
   pub no_empty_failure : WriterCalled std_write_rules s t → ⊥
   no_empty_failure called = elim called.steps [
-    | inl write ↦ by_write write.bytes write.answer write.steps write.noted
-    | inr flush ↦ omega (arith, ap (λ l. l.writes.asks) flush.noted, ap (λ l. l.writes.asks) told)
+    | inl write ↦ by_write write.0 write.1 write.2 write.3
+    | inr flush ↦ omega (arith, ap (λ l. l.writes.asks) flush.2, ap (λ l. l.writes.asks) told)
   ]
 
 pub TakesNothing-std : {S P : Type 0} (trace : S → S → Type 0) (s : Buffered S P) → 0 < s.block.capacity

@@ -1,5 +1,5 @@
 -- What a policy may do, and what it may claim.
-use Rattle.std.specs.Prelude.{◌≡◌, ℕ, ◌*◌, ◌<◌, ◌≤◌, ◌==◌, Bool, true, false, length, Result, Ok, Err, IfOk, OnErr, IsOkAnd, MatchBool, MatchResult, ⊤, Option, None, Some, nat_lt, if◌then◌else◌}
+use Rattle.std.specs.Prelude.{◌≡◌, ℕ, ◌*◌, ◌<◌, ◌≤◌, ◌==◌, Bool, true, false, length, Result, Ok, Err, IfOk, OnErr, IsOkAnd, MatchBool, MatchResult, ⊤, Option, None, Some, nat_lt, if◌then◌else◌, IfSome}
 use Rattle.std.specs.declared.io.Error.{Error}
 use Rattle.redux_buffer.specs.Block.{Block, IsBlock, OnKind, usable}
 use Rattle.redux_buffer.specs.Potential.{potential}
@@ -38,9 +38,6 @@ no_read_claims = record { minimum = None; steady = false; spares = None }
 pub record WriteClaims : Type 0 where
   pub steady : Bool
 
-abbrev pub no_write_claims : WriteClaims
-no_write_claims = record { steady = false }
-
 -- what the calls of a reader's policy may answer and change beside the law, and what it claims. `after_consume` is of an amount
 pub record ReadRules (P : Type 0) : Type 1 where
   pub before_read : BeforeReadTable P
@@ -58,9 +55,9 @@ abbrev pub any_read_rules : {P : Type 0} → ReadRules P
 any_read_rules = record { before_read = λ _ _ _ _ _. ⊤; after_consume = λ _ _ _ _ _. ⊤; claims = λ _. no_read_claims }
 
 abbrev pub any_write_rules : {P : Type 0} → WriteRules P
-any_write_rules = record { before_write = λ _ _ _ _ _ _. ⊤; after_write = λ _ _ _ _. ⊤; claims = λ _. no_write_claims }
+any_write_rules = record { before_write = λ _ _ _ _ _ _. ⊤; after_write = λ _ _ _ _. ⊤; claims = λ _. record { steady = false } }
 
--- what each claim asks of a call of `before_read`. A minimum: it reads where fewer bytes are there, and leaves room then;
+-- what a minimum asks of a call of `before_read`: it reads where fewer bytes are there, and leaves room then;
 -- it fails only there, doesn't grow a buffer that can hold so many, and leaves the limit
 pub record ReadsUpTo (n : ℕ) (b : Block) (answer : Result DoRead Error) (b' : Block) : Type 0 where
   pub ok : IfOk answer (λ d. MatchBool d.0 ((length b.bytes < n) × (0 < usable b')) (n ≤ length b.bytes))
@@ -68,32 +65,16 @@ pub record ReadsUpTo (n : ℕ) (b : Block) (answer : Result DoRead Error) (b' : 
   pub capacity : n ≤ b.capacity → b'.capacity ≡ b.capacity
   pub limit : b'.limit ≡ b.limit
 
-abbrev pub ReadsToMinimum : Option ℕ → Block → Result DoRead Error → Block → Type 0
-ReadsToMinimum None b answer b' = ⊤
-ReadsToMinimum (Some n) b answer b' = ReadsUpTo n b answer b'
-
-abbrev pub ReadsSteadily : Bool → Block → Result DoRead Error → Type 0
-ReadsSteadily false b answer = ⊤
-ReadsSteadily true b answer = IsOkAnd answer (λ d. length b.bytes ≡ 0 → d.0 ≡ true)
-
 -- in a plain buffer of at least three times the number no move is undone, and the potential doesn't rise
-pub record SparesPlain (n : ℕ) (old new : Block) : Type 0 where
-  pub moved : old.moved ≤ new.moved
-  pub held : (keep : ℕ) → n ≤ keep → 3 * keep ≤ old.capacity → potential keep new ≤ potential keep old
-
-abbrev pub Spares : Option ℕ → Block → Block → Type 0
-Spares None old new = ⊤
-Spares (Some n) old new = OnKind old.kind (SparesPlain n old new) ⊤
+abbrev pub Spares : ℕ → Block → Block → Type 0
+Spares n old new = OnKind old.kind
+    ((old.moved ≤ new.moved) × ((keep : ℕ) → n ≤ keep → 3 * keep ≤ old.capacity → potential keep new ≤ potential keep old))
+    ⊤
 
 -- the numbers that such a claim speaks of
 abbrev pub ClaimsToSpare : Option ℕ → ℕ → Type 0
 ClaimsToSpare None keep = ⊥
 ClaimsToSpare (Some n) keep = n ≤ keep
-
--- what the claim asks of a call of `before_write`
-abbrev pub FlushesSteadily : Bool → ℕ → Result FlushAmt Error → Block → Type 0
-FlushesSteadily false incoming answer b' = ⊤
-FlushesSteadily true incoming answer b' = IsOkAnd answer (λ a. usable b' < incoming → a.0 ≡ length b'.bytes)
 
 -- one call of `before_read`. What the policy claims doesn't change in a call
 pub record BeforeRead {P : Type 0} (rules : ReadRules P)
@@ -101,9 +82,9 @@ pub record BeforeRead {P : Type 0} (rules : ReadRules P)
   pub law : Lawful b b'
   pub allowed : rules.before_read p b answer p' b'
   pub claims : rules.claims p' ≡ rules.claims p
-  pub minimum : ReadsToMinimum (rules.claims p).minimum b answer b'
-  pub steady : ReadsSteadily (rules.claims p).steady b answer
-  pub spares : Spares (rules.claims p).spares b b'
+  pub minimum : IfSome (rules.claims p).minimum (λ n. ReadsUpTo n b answer b')
+  pub steady : MatchBool (rules.claims p).steady (IsOkAnd answer (λ d. length b.bytes ≡ 0 → d.0 ≡ true)) ⊤
+  pub spares : IfSome (rules.claims p).spares (λ n. Spares n b b')
 
 -- one call of `after_consume` of so many bytes
 pub record AfterConsume {P : Type 0} (rules : ReadRules P)
@@ -111,7 +92,7 @@ pub record AfterConsume {P : Type 0} (rules : ReadRules P)
   pub law : Lawful b b'
   pub allowed : rules.after_consume p b amount p' b'
   pub claims : rules.claims p' ≡ rules.claims p
-  pub spares : Spares (rules.claims p).spares b b'
+  pub spares : IfSome (rules.claims p).spares (λ n. Spares n b b')
 
 -- one call of `before_write` of so many incoming bytes
 pub record BeforeWrite {P : Type 0} (rules : WriteRules P)
@@ -119,7 +100,7 @@ pub record BeforeWrite {P : Type 0} (rules : WriteRules P)
   pub law : Lawful b b'
   pub allowed : rules.before_write p b incoming answer p' b'
   pub claims : rules.claims p' ≡ rules.claims p
-  pub steady : FlushesSteadily (rules.claims p).steady incoming answer b'
+  pub steady : MatchBool (rules.claims p).steady (IsOkAnd answer (λ a. usable b' < incoming → a.0 ≡ length b'.bytes)) ⊤
 
 -- one call of `after_write`
 pub record AfterWrite {P : Type 0} (rules : WriteRules P) (p : P) (b : Block) (amount : FlushAmt)

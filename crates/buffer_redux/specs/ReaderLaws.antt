@@ -17,6 +17,7 @@ use Rattle.buffer_redux.specs.BufReader.{ReadsInOrder, InnerGives, RanDry, Looks
 use Rattle.buffer_redux.specs.Remaining.{ahead, wants_some, may_stop, reader_remaining}
 use Rattle.buffer_redux.specs.Unbuffer.{HandsOutInOrder, unbuffered, Unbuffered}
 use Rattle.buffer_redux.specs.Seek.{SeekLeaves}
+use Rattle.std.specs.Option.{IsSomeAnd}
 
 -- no call hands out nothing, and two traces of calls join
 pub ReadsInOrder-none : {S P : Type 0} (s : Buffered S P) → ReadsInOrder s [] s
@@ -62,18 +63,14 @@ InnerGives-joins remaining s m t p q = GivesRemaining-joins (remaining s.inner) 
 
 -- a policy that doesn't leave an empty buffer empty where the reader has bytes: it is steady, or claims a minimum
 -- of at least 1
-abbrev pub WantsSome : Option ℕ → Type 0
-WantsSome None = ⊥
-WantsSome (Some n) = 0 < n
-
 abbrev pub WantsBytes : ReadClaims → Type 0
-WantsBytes claims = (claims.steady ≡ true) ⊎ WantsSome claims.minimum
+WantsBytes claims = (claims.steady ≡ true) ⊎ IsSomeAnd claims.minimum (λ n. 0 < n)
 
 -- `StdPolicy` wants bytes
 pub WantsBytes-std : {P : Type 0} (p : P) → WantsBytes ((std_read_rules {P = P}).claims p)
 WantsBytes-std p = inl refl
 
-ahead_dry : {S P : Type 0} (s t : Buffered S P) (o : Option ℕ) → WantsSome o → LooksAhead o s true t
+ahead_dry : {S P : Type 0} (s t : Buffered S P) (o : Option ℕ) → IsSomeAnd o (λ n. 0 < n) → LooksAhead o s true t
     → length t.block.bytes ≡ 0 → RanDry s t
 ahead_dry s t None wants ahead none = absurd wants
 ahead_dry s t (Some n) wants ahead none = elim (ahead.enough refl) [
@@ -203,7 +200,7 @@ same_front m (Some x) (Some y) bs shown kept (inr ended) =
     ap (take m) (sym (append-nil shown) ∙ ap (λ l. shown ++ l) (sym ended) ∙ kept)
 
 -- a policy that wants bytes, and some capacity, make known what is left
-never_stops : (st : Bool) (o : Option ℕ) (c : ℕ) → (st ≡ true) ⊎ WantsSome o → 0 < c
+never_stops : (st : Bool) (o : Option ℕ) (c : ℕ) → (st ≡ true) ⊎ IsSomeAnd o (λ n. 0 < n) → 0 < c
     → (not (st || wants_some o) || (c == 0)) ≡ false
 never_stops true o c wants some = grind (arith, some)
 never_stops false o c (inl odd) some = cc

@@ -4,18 +4,20 @@ use Rattle.std.proofs.Common.{zero, suc, refl, arith, inl, inr}
 use Rattle.std.proofs.lemmas.Bool.{not-false}
 use Rattle.buffer_redux.specs.Policy.{ReadRules}
 use Rattle.buffer_redux.specs.Buffered.{Buffered}
-use Rattle.buffer_redux.specs.ReaderLaws.{WantsSome, WantsBytes}
+use Rattle.buffer_redux.specs.ReaderLaws.{WantsBytes}
 use Rattle.buffer_redux.specs.Remaining.{may_stop, wants_some}
+use Rattle.std.specs.Option.{IsSomeAnd}
 
 or_is_false : (a b : Bool) → (a || b) ≡ false → (a ≡ false) × (b ≡ false)
 or_is_false true b e = cc
 or_is_false false b e = (refl, e)
 
-wants_some_if : (m : Option ℕ) → wants_some m ≡ true → WantsSome m
+wants_some_if : (m : Option ℕ) → wants_some m ≡ true → IsSomeAnd m (λ n. 0 < n)
 wants_some_if None e = cc
 wants_some_if (Some n) e = grind (arith, e)
 
-wants_if : (st : Bool) (m : Option ℕ) → not (st || wants_some m) ≡ false → (st ≡ true) ⊎ WantsSome m
+wants_if : (st : Bool) (m : Option ℕ) → not (st || wants_some m) ≡ false
+    → (st ≡ true) ⊎ IsSomeAnd m (λ n. 0 < n)
 wants_if true m e = inl refl
 wants_if false m e = inr (wants_some_if m (not-false (wants_some m) e))
 

@@ -5,22 +5,19 @@ use Rattle.std.specs.declared.io.Error.{Error}
 use Rattle.std.specs.declared.io.ErrorKind.TheVariants.{InvalidData}
 use Rattle.std.specs.declared.io.traits.SeekFrom.{SeekFrom}
 use Rattle.std.specs.declared.io.traits.SeekFrom.TheVariants.{Start, End, Current}
-use Rattle.redux_buffer.specs.Block.{Clears, ConsumesFirst}
+use Rattle.redux_buffer.specs.Block.{Clears}
 use Rattle.redux_buffer.specs.StreamLog.{Readies, SeekTells}
 use Rattle.buffer_redux.specs.declared.buf_reader.seek.SeekPlan.{SeekPlan}
 use Rattle.buffer_redux.specs.declared.buf_reader.seek.SeekPlan.TheVariants.{One, Two}
-use Rattle.buffer_redux.specs.Buffered.{Buffered, with_block}
+use Rattle.buffer_redux.specs.Buffered.{Buffered}
 
--- the least i64
-abbrev pub least_offset : ℤ
-least_offset = neg_ℤ (pos (2 ^ 63))
-
--- the plan of a seek with len bytes buffered, by which the stream inside is ahead of the reader
+-- the plan of a seek with len bytes buffered, by which the stream inside is ahead of the reader: two seeks where no i64 is
+-- so small
 abbrev pub plan_for : SeekFrom → ℕ → SeekPlan
 plan_for (Start n) len = One (Start n)
 plan_for (End n) len = One (End n)
 plan_for (Current n) len =
-    if int_le least_offset (n -ℤ pos len) then One (Current (n -ℤ pos len)) else Two (neg_ℤ (pos len)) n
+    if int_le (neg_ℤ (pos (2 ^ 63))) (n -ℤ pos len) then One (Current (n -ℤ pos len)) else Two (neg_ℤ (pos len)) n
 
 -- one seek of the stream inside: an Ok empties the buffer, a fault leaves it
 pub record SeeksOnce {S P : Type 0} (readies : Readies) (to : SeekFrom) (s : Buffered S P) (answer : Result ℕ Error)
@@ -30,18 +27,13 @@ pub record SeeksOnce {S P : Type 0} (readies : Readies) (to : SeekFrom) (s : Buf
   pub policy : t.policy ≡ s.policy
   pub block : MatchResult answer (λ _. Clears s.block t.block) (λ _. t.block ≡ s.block)
 
--- two seeks from where the stream inside is, the second where the first didn't fail
-pub record SeeksTwice {S P : Type 0} (readies : Readies) (first second : ℤ) (s : Buffered S P)
-    (answer : Result ℕ Error) (t : Buffered S P) : Type 0 where
-  pub between : Buffered S P
-  pub answered : Result ℕ Error
-  pub begun : SeeksOnce readies (Current first) s answered between
-  pub ended : MatchResult answered (λ _. SeeksOnce readies (Current second) between answer t)
-      (λ e. (answer ≡ Err e) × (t ≡ between))
-
+-- one seek, or two from where the stream inside is, the second where the first didn't fail
 abbrev pub Seeks : {S P : Type 0} → Readies → SeekPlan → Buffered S P → Result ℕ Error → Buffered S P → Type 0
 Seeks readies (One to) s answer t = SeeksOnce readies to s answer t
-Seeks readies (Two first second) s answer t = SeeksTwice readies first second s answer t
+Seeks {S} {P} readies (Two first second) s answer t = (between : Buffered S P) × (answered : Result ℕ Error)
+    × SeeksOnce readies (Current first) s answered between
+    × MatchResult answered (λ _. SeeksOnce readies (Current second) between answer t)
+    (λ e. (answer ≡ Err e) × (t ≡ between))
 
 -- what a seek leaves of the reader: an Ok dropped what was buffered, an Err dropped all of it or nothing, and neither
 -- policy nor reads were touched
@@ -61,23 +53,11 @@ place_before len (Some place) = if nat_le len place then Some (place - len) else
 abbrev pub reader_position : {S P : Type 0} → (S → Option ℕ) → Buffered S P → Option ℕ
 reader_position position r = place_before (length r.block.bytes) (position r.inner)
 
--- forward within what is buffered, just so many bytes are dropped, and nothing else changes
-pub record DropsWithin {S P : Type 0} (n : ℕ) (s : Buffered S P) (answer : Result (Unit {0}) Error) (t : Buffered S P)
-    : Type 0 where
-  pub ok : answer ≡ Ok tt
-  pub dropped : ConsumesFirst n s.block t.block
-  pub others : t ≡ with_block s t.block
-
--- a seek's answer without the place
-abbrev pub without_place : Result ℕ Error → Result (Unit {0}) Error
-without_place (Ok n) = Ok tt
-without_place (Err e) = Err e
-
--- one seek from where the reader stands, as a seek is planned
+-- one seek from where the reader stands, as a seek is planned, and its answer without the place
 pub record SeeksBy {S P : Type 0} (readies : Readies) (offset : ℤ) (s : Buffered S P)
     (answer : Result (Unit {0}) Error) (t : Buffered S P) : Type 0 where
   pub place : Result ℕ Error
-  pub answered : answer ≡ without_place place
+  pub answered : MatchResult place (λ _. answer ≡ Ok tt) (λ e. answer ≡ Err e)
   pub seeks : Seeks readies (plan_for (Current offset) (length s.block.bytes)) s place t
   pub leaves : SeekLeaves s place t
 

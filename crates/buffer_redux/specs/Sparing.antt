@@ -1,5 +1,5 @@
 -- How calls of a reader spare its plain buffer moves, over any trace of them.
-use Rattle.std.specs.Prelude.{◌≡◌, ℕ, ◌+◌, ◌*◌, ◌≤◌, ◌⊎◌, [], length, Result, Ok, Err}
+use Rattle.std.specs.Prelude.{◌≡◌, ℕ, ◌+◌, ◌*◌, ◌≤◌, ◌⊎◌, [], length, Result}
 use Rattle.std.proofs.Common.{◌∙◌, arith, le_refl, le_trans, refl}
 use Rattle.std.specs.declared.io.Error.{Error}
 use Rattle.std.specs.declared.io.traits.SeekFrom.{SeekFrom}
@@ -10,6 +10,7 @@ use Rattle.buffer_redux.specs.Policy.{ReadRules, ClaimsToSpare}
 use Rattle.redux_buffer.specs.StreamLog.{Readies, StreamLog}
 use Rattle.buffer_redux.specs.Buffered.{Buffered, with_block, with_calls}
 use Rattle.buffer_redux.specs.Seek.{plan_for, Seeks}
+use Rattle.std.specs.Result.{IsErrAnd}
 
 -- no move was undone, and the potential rose by no more than was given
 pub record PotentialHeld {S P Q : Type 0} (keep : ℕ) (s : Buffered S P) (t : Buffered S Q) : Type 0 where
@@ -39,20 +40,13 @@ pub record BeginsEmpty {S P : Type 0} (keep : ℕ) (s : Buffered S P) : Type 0 w
   pub empty : s.block.bytes ≡ []
   pub capacity : 3 * keep ≤ s.block.capacity
 
--- the buffer grew by so many bytes, where they didn't fit, and then the reader sought
-pub record GrewAndSought {S P : Type 0} (readies : Readies) (more : ℕ) (to : SeekFrom) (s : Buffered S P)
-    (answer : Result ℕ Error) (t : Buffered S P) : Type 0 where
-  pub grown : Block
-  pub grows : Reserves more s.block grown
-  pub seeks : Seeks readies (plan_for to (length grown.bytes)) (with_block s grown) answer t
-
--- the buffer grew, and then the reader sought; an error is the refusal of the growth, which ended it and left all as it
--- was, or the seek's
+-- the buffer grew by so many bytes, where they didn't fit, and then the reader sought; or the growth was refused, which is
+-- the error, and left all as it was
 abbrev pub GrowsAndSeeks : {S P : Type 0} → Readies → ℕ → SeekFrom → Buffered S P → Result ℕ Error → Buffered S P
     → Type 0
-GrowsAndSeeks readies more to s (Ok n) t = GrewAndSought readies more to s (Ok n) t
-GrowsAndSeeks readies more to s (Err e) t =
-    (GrowthFailed more s.block e × (t ≡ s)) ⊎ GrewAndSought readies more to s (Err e) t
+GrowsAndSeeks readies more to s answer t = (IsErrAnd answer (GrowthFailed more s.block) × (t ≡ s))
+    ⊎ ((grown : Block) × Reserves more s.block grown
+    × Seeks readies (plan_for to (length grown.bytes)) (with_block s grown) answer t)
 
 -- no call spares every number, and two traces join, also where the policy is another from the second on
 pub Spared-none : {S P : Type 0} (keep : ℕ) (s : Buffered S P) → Spared keep s s

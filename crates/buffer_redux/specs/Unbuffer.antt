@@ -1,12 +1,11 @@
 -- What contracts see of an `Unbuffer`.
-use Rattle.std.specs.Prelude.{◌≡◌, ℕ, ◌<◌, List, [], ◌++◌, length, min, drop, Option, None, Some, Result, Ok, ⊤}
-use Rattle.std.specs.Io.{ReadsAtMost}
+use Rattle.std.specs.Prelude.{◌≡◌, ℕ, List, [], ◌++◌, length, min, drop, Option, None, Some, Result, Ok}
 use Rattle.std.specs.Io.KnownBytes.{prepend_known}
 use Rattle.std.specs.declared.io.Error.{Error}
 use Rattle.redux_buffer.specs.Block.{Block}
 use Rattle.redux_buffer.specs.GivesRemaining.{GivesRemaining}
 use Rattle.redux_buffer.specs.LogGrows.{ReadLogGrows}
-use Rattle.redux_buffer.specs.StreamLog.{StreamLog, after_read}
+use Rattle.redux_buffer.specs.StreamLog.{StreamLog}
 use Rattle.buffer_redux.specs.Buffered.{Buffered}
 
 -- the bytes that are left of the buffer, the reader inside, and what that reader tells
@@ -28,11 +27,6 @@ abbrev pub bytes_in : Option Block → List ℕ
 bytes_in None = []
 bytes_in (Some b) = b.bytes
 
--- a buffer that is there has bytes
-abbrev pub FreedWhenEmpty : Option Block → Type 0
-FreedWhenEmpty None = ⊤
-FreedWhenEmpty (Some b) = 0 < length b.bytes
-
 -- the bytes handed out, then those left, are those that were left, then those given since
 pub record HandsOutInOrder {R : Type 0} (s : Unbuffered R) (handed : List ℕ) (t : Unbuffered R) : Type 0 where
   pub got : List ℕ
@@ -47,13 +41,6 @@ pub record HandsOutLeft {R : Type 0} (s : Unbuffered R) (out : List ℕ) (answer
   pub rest : drop (length s.left) out' ≡ drop (length s.left) out
   pub inner : t.inner ≡ s.inner
   pub told : t.log ≡ s.log
-
--- the reader was asked once, for the whole slice, and its answer was given
-pub record AsksReader {R : Type 0} (s : Unbuffered R) (answer : Result ℕ Error) (out' : List ℕ) (t : Unbuffered R)
-    : Type 0 where
-  pub bound : ReadsAtMost answer out'
-  pub left : t.left ≡ []
-  pub told : t.log ≡ after_read s.log out' answer
 
 -- what readers of one stream do, one after another, each made of what the one before it left, of whichever layer they are: these
 -- bytes, then what is left, are what was left, then what was given since; and of what the stream is known to have left just

@@ -10,10 +10,6 @@ use Rattle.buffer_redux.specs.Buffered.{Buffered}
 use Rattle.buffer_redux.specs.BufWriter.{WritesAlong}
 use Rattle.buffer_redux.specs.WriteAll.{WriteAllErrorCaused, WritesAll, WritesAllSteadily}
 
--- the formatting failed by itself
-abbrev pub IsFormatError : Error → Type 0
-IsFormatError e = error_kind e ≡ Uncategorized
-
 module _ {S P : Type 0} (tells : S → StreamLog) (trace : S → S → Type 0) (rules : WriteRules P) where
   -- these pieces were written, one after another, each by a `write_all` of it, and nothing else was done
   abbrev pub WritesEach : Buffered S P → List (List ℕ) → Buffered S P → Type 0
@@ -53,15 +49,15 @@ module _ {S P : Type 0} (tells : S → StreamLog) (trace : S → S → Type 0) (
   TextWent s None t = (accepted : List ℕ) × WritesPieces s accepted t
   TextWent s (Some e) t = PieceFailed s e t
 
-  -- what a write of this text did. Where nothing is known of the text, or the formatting failed by itself, it still wrote
-  -- pieces and did nothing else: some bytes were accepted, and none was lost
+  -- what a write of this text did. Where nothing is known of the text, or the formatting failed by itself
+  -- (`Uncategorized`), it still wrote pieces and did nothing else: some bytes were accepted, and none was lost
   pub record WritesText (s : Buffered S P) (text : Option (List ℕ)) (answer : Result (Unit {0}) Error) (t : Buffered S P)
       : Type 0 where
     pub along : ∥ ((accepted : List ℕ) × WritesAlong tells trace rules s accepted t) ∥₁
     pub went : MatchResult answer (λ _. ∥ TextWent s None t ∥₁)
-        (λ e. ∥ ((IsFormatError e × ((ended : Option Error) × TextWent s ended t)) ⊎ PieceFailed s e t) ∥₁)
+        (λ e. ∥ (((error_kind e ≡ Uncategorized) × ((ended : Option Error) × TextWent s ended t)) ⊎ PieceFailed s e t) ∥₁)
     pub whole : OnOk answer (IfSome text (λ bytes. WritesPieces s bytes t))
-    pub beginning : IfErr answer (λ e. IfSome text (λ bytes. IsFormatError e ⊎ StoppedIn s bytes e t))
+    pub beginning : IfErr answer (λ e. IfSome text (λ bytes. (error_kind e ≡ Uncategorized) ⊎ StoppedIn s bytes e t))
 
   -- pieces of it were taken, one after another, and none behind the error that ended it
   abbrev pub TakesPieces : Buffered S P → Option Error → List ℕ → Buffered S P → Option Error → Type 0

@@ -9,12 +9,6 @@ use Rattle.buffer_redux.specs.Buffered.{Buffered, with_block}
 use Rattle.buffer_redux.specs.BufWriter.{WasSent, WritesAlong}
 use Rattle.buffer_redux.specs.Policy.{std_write_rules}
 
--- the same bytes, in a buffer that is no smaller
-pub record KeepsBytes (old new : Block) : Type 0 where
-  pub bytes : new.bytes ≡ old.bytes
-  pub capacity : old.capacity ≤ new.capacity
-  pub kind : new.kind ≡ old.kind
-
 -- these bytes were copied in behind those that were there
 pub record PutsIn (put : List ℕ) (old new : Block) : Type 0 where
   pub bytes : new.bytes ≡ old.bytes ++ put
@@ -34,7 +28,9 @@ module _ {S P : Type 0} (tells : S → StreamLog) (trace : S → S → Type 0) w
     pub left : Buffered S P
     pub sent : WasSent tells trace s sending left
     pub others : t ≡ with_block left t.block
-    pub kept : KeepsBytes left.block t.block
+    pub bytes : t.block.bytes ≡ left.block.bytes
+    pub capacity : left.block.capacity ≤ t.block.capacity
+    pub kind : t.block.kind ≡ left.block.kind
     pub room : OnOk answer (count ≤ usable t.block)
     pub unsent : (e : Error) → sending ≡ Err e → IfErr answer (λ why. e ≡ why)
     pub refused : (x : Unit {0}) → sending ≡ Ok x → IfErr answer (λ e. GrowthFailed count t.block e)

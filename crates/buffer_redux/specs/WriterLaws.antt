@@ -117,13 +117,6 @@ abbrev pub FlushesNothingAfter : {P : Type 0} → WriteRules P → Type 0
 FlushesNothingAfter {P} rules =
     (p : P) (b : Block) (a : FlushAmt) (p' : P) → rules.after_write p b a p' → a.0 ≡ 0
 
--- what an Ok write met where nothing is flushed after it: interrupted writes, and then perhaps one that took nothing of
--- something, where that is what it returns
-pub record WriteMet {S P : Type 0} (s : Buffered S P) (bs : List ℕ) (n : ℕ) (t : Buffered S P) : Type 0 where
-  pub interrupts : List Error
-  pub met : OnlyInterrupted interrupts s.log.writes t.log.writes
-      ⊎ ((n ≡ 0) × (0 < length bs) × TookNothing interrupts s.log.writes t.log.writes WriteZero)
-
 -- a call of the writer inside that took n of bs
 direct_met : (es : List Error) (n : ℕ) (bs : List ℕ) (a b c : WriteLog) → OnlyInterrupted es a b → c.faults ≡ b.faults
     → c.zero_writes ≡ with_zero b.zero_writes bs (Ok n)
@@ -156,8 +149,12 @@ direct_met es n bs a b c only faults zero = elim (cases_lt 0 n) [
   ]
 ]
 
+-- what an Ok write met where nothing is flushed after it: interrupted writes, and then perhaps one that took nothing of
+-- something, where that is what it returns
 pub Wrote-met : {S P : Type 0} (rules : WriteRules P) (s : Buffered S P) (bs : List ℕ) (n : ℕ) (t : Buffered S P)
-    → FlushesNothingAfter rules → Wrote rules s bs n t → WriteMet s bs n t
+    → FlushesNothingAfter rules → Wrote rules s bs n t
+    → (interrupts : List Error) × (OnlyInterrupted interrupts s.log.writes t.log.writes
+    ⊎ ((n ≡ 0) × (0 < length bs) × TookNothing interrupts s.log.writes t.log.writes WriteZero))
 Wrote-met rules s bs n t nothing_after wrote =
     let p = wrote.prepared in
     let first = FlushesAmount-met p.seen wrote.before (p.amount.0) p.flush in
@@ -175,9 +172,8 @@ Wrote-met rules s bs n t nothing_after wrote =
           )
       | inr inside ↦ inl
           (subst (λ l. OnlyInterrupted first.interrupts s.log.writes l.writes) (sym (wrote.took_in.inside inside).told) only)
-    ] in
-    record {
-      interrupts = first.interrupts;
-      met = subst (λ l. OnlyInterrupted first.interrupts s.log.writes l.writes
-          ⊎ ((n ≡ 0) × (0 < length bs) × TookNothing first.interrupts s.log.writes l.writes WriteZero)) (sym still) last;
-    }
+    ] in (
+      first.interrupts,
+      subst (λ l. OnlyInterrupted first.interrupts s.log.writes l.writes
+          ⊎ ((n ≡ 0) × (0 < length bs) × TookNothing first.interrupts s.log.writes l.writes WriteZero)) (sym still) last,
+    )

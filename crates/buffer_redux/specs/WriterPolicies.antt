@@ -1,9 +1,9 @@
 -- What the policies of writers do that flush by the bytes, or by how many are buffered.
-use Rattle.std.specs.Prelude.{◌≡◌, ℕ, List, ◌-◌, ◌<◌, ◌≤◌, ◌⊎◌, slice_index, length, max, true, Result, Ok, Err}
+use Rattle.std.specs.Prelude.{◌≡◌, ℕ, List, ◌-◌, ◌<◌, ◌≤◌, ◌⊎◌, slice_index, length, max, true, Result, Ok, Err, MatchResult, false}
 use Rattle.std.specs.declared.io.Error.{Error}
 use Rattle.redux_buffer.specs.Block.{Block, Reserves, MakesRoomInFront, usable}
 use Rattle.redux_buffer.specs.GrowError.{GrowthFailed}
-use Rattle.buffer_redux.specs.Policy.{WriteRules, BeforeWriteTable, amount_when_full, no_write_claims, std_before_write}
+use Rattle.buffer_redux.specs.Policy.{WriteRules, amount_when_full, std_before_write}
 
 -- an amount that goes through the last such byte, and is 0 where there is none
 pub record FlushesThrough (byte : ℕ) (bytes : List ℕ) (amount : ℕ) : Type 0 where
@@ -33,31 +33,24 @@ pub record MakesRoomBelow (n incoming : ℕ) (old new : Block) : Type 0 where
   pub tight : usable old < incoming → length old.bytes < n → MakesRoomInFront old new
   pub roomy : (incoming ≤ usable old) ⊎ (n ≤ length old.bytes) → new ≡ old
 
--- `FlushAtLeast` reserves what a capacity of its number lacks, and flushes all where the incoming bytes don't fit then
-abbrev pub at_least_before_write : {P : Type 0} → (P → ℕ) → BeforeWriteTable P
-at_least_before_write least p b incoming (Ok a) p' b' =
-    (p' ≡ p) × Ensured (least p) b b' × (a.0 ≡ amount_when_full b' incoming)
-at_least_before_write least p b incoming (Err e) p' b' = (p' ≡ p) × EnsuresCapacity (least p) b (Err e) b'
-
+-- `FlushAtLeast` reserves what a capacity of its number lacks, and flushes all where the incoming bytes don't fit then;
 -- after a write it flushes all, where that is at least its number
 abbrev pub at_least_rules : {P : Type 0} → (P → ℕ) → WriteRules P
 at_least_rules least = record {
-  before_write = at_least_before_write least;
+  before_write = λ p b incoming answer p' b'. (p' ≡ p) × MatchResult answer
+      (λ a. Ensured (least p) b b' × (a.0 ≡ amount_when_full b' incoming))
+      (λ e. EnsuresCapacity (least p) b (Err e) b');
   after_write = λ p b a p'. (p' ≡ p) × (a.0 ≡ max (length b.bytes) (least p));
-  claims = λ p. no_write_claims;
+  claims = λ p. record { steady = false };
 }
 
 -- `FlushExact` reserves what a capacity of its number lacks, makes room where fewer bytes are there and the incoming ones
--- don't fit behind them, and flushes its number
-abbrev pub exact_before_write : {P : Type 0} → (P → ℕ) → BeforeWriteTable P
-exact_before_write exact p b incoming (Ok a) p' b' =
-    (p' ≡ p) × (a.0 ≡ exact p) × ((m : Block) × Ensured (exact p) b m × MakesRoomBelow (exact p) incoming m b')
-exact_before_write exact p b incoming (Err e) p' b' = (p' ≡ p) × EnsuresCapacity (exact p) b (Err e) b'
-
--- `FlushExact` flushes its number after a write too
+-- don't fit behind them, and flushes its number, after a write too
 abbrev pub exact_rules : {P : Type 0} → (P → ℕ) → WriteRules P
 exact_rules exact = record {
-  before_write = exact_before_write exact;
+  before_write = λ p b incoming answer p' b'. (p' ≡ p) × MatchResult answer
+      (λ a. (a.0 ≡ exact p) × ((m : Block) × Ensured (exact p) b m × MakesRoomBelow (exact p) incoming m b'))
+      (λ e. EnsuresCapacity (exact p) b (Err e) b');
   after_write = λ p b a p'. (p' ≡ p) × (a.0 ≡ exact p);
-  claims = λ p. no_write_claims;
+  claims = λ p. record { steady = false };
 }

@@ -55,23 +55,13 @@ pub record WriterWent {S P : Type 0} (trace : S → S → Type 0) (rules : Write
   pub met : TellsFailures rules s.policy → MetInterrupts s.own_calls.writes t.own_calls.writes
       → MetInterrupts s.log.writes t.log.writes
 
--- one call was a write of these bytes, or a flush, with this answer
-pub record CalledWrite {S P : Type 0} (rules : WriteRules P) (s t : Buffered S P) : Type 0 where
-  pub bytes : List ℕ
-  pub answer : Result ℕ Error
-  pub steps : Writes rules s bytes answer t
-  pub noted : t.own_calls ≡ after_write s.own_calls bytes answer
-
-pub record CalledFlush {S P : Type 0} (s t : Buffered S P) : Type 0 where
-  pub answer : Result (Unit {0}) Error
-  pub steps : Flushes s answer t
-  pub noted : t.own_calls ≡ after_flush s.own_calls answer
-
--- one call, step after step. Under a steady policy an error that it returned is the one that the inner writer returned
--- last, or came of a write that took nothing of something; and so did an answer that took nothing of something. Before
--- that came interrupted writes alone
+-- one call, a write or a flush, step after step. Under a steady policy an error that it returned is the one that the inner
+-- writer returned last, or came of a write that took nothing of something; and so did an answer that took nothing of
+-- something. Before that came interrupted writes alone
 pub record WriterCalled {S P : Type 0} (rules : WriteRules P) (s t : Buffered S P) : Type 0 where
-  pub steps : CalledWrite rules s t ⊎ CalledFlush s t
+  pub steps : ((bytes : List ℕ) × (answer : Result ℕ Error)
+      × Writes rules s bytes answer t × (t.own_calls ≡ after_write s.own_calls bytes answer))
+      ⊎ ((answer : Result (Unit {0}) Error) × Flushes s answer t × (t.own_calls ≡ after_flush s.own_calls answer))
   pub fault : (rules.claims s.policy).steady ≡ true → (e : Error)
       → t.own_calls.writes.faults ≡ s.own_calls.writes.faults ++ e ∷ []
       → SendErrorCaused s.log.writes t.log.writes e

@@ -68,8 +68,7 @@ WriterStopped-after a b c e grows (inl fault) = inl (record {
 })
 WriterStopped-after a b c e grows (inr (inl zero)) = inr (inl (record
     { is_write_zero = zero.is_write_zero; zero_writes = omega (arith, zero.zero_writes, grows.zero_writes) }))
-WriterStopped-after a b c e grows (inr (inr late)) = inr (inr (record
-    { timed_out = late.timed_out; interrupted = WasInterrupted-after a b c grows late.interrupted }))
+WriterStopped-after a b c e grows (inr (inr late)) = inr (inr (late.0, WasInterrupted-after a b c grows late.1))
 
 -- what a send met ended it
 pub WriterStopped-send : (old new : WriteLog) (e : Error) → SendErrorCaused old new e → WriterStopped old new e
@@ -87,7 +86,7 @@ WriterStopped-memory w old e (inl fault) = fault-memory w (old.faults ++ fault.b
     (fault.faults ∙ sym (append-nil ((old.faults ++ fault.before) ++ e ∷ [])))
 WriterStopped-memory w old e (inr (inl zero)) = absurd (omega (arith, zero.zero_writes, writer-takes_some w))
 WriterStopped-memory w old e (inr (inr late)) =
-    let was = late.interrupted in
+    let was = late.1 in
     let memory = fault-memory w (old.faults ++ was.before) was.interrupt was.after was.faults in
     let interrupt = was.is in
     absurd (cc)
@@ -182,7 +181,7 @@ module _ {S P : Type 0} (tells : S → StreamLog) (trace : S → S → Type 0) (
   Writes-all s bs (Ok n) t order caused steadily keeps steady = WriterKeeps-along s (take n bs) t order keeps
   Writes-all s bs (Err e) t order caused steadily keeps steady = record {
     begun = BegunAlong-of s t [] [] (WriterKeeps-along s [] t order keeps);
-    why = WriteErrorCaused-failed rules s bs e t caused (steadily steady).err;
+    why = WriteErrorCaused-failed rules s bs e t caused (steadily steady).0;
   }
 
   -- a write of all bytes, which at Err accepted some of the first

@@ -1,10 +1,10 @@
 //! A reader that gives its buffer up.
-ghost use Rattle.std.specs.Prelude.{◌≡◌, ◌==◌, ◌<◌, length};
+ghost use Rattle.std.specs.Prelude.{◌≡◌, ◌==◌, ◌<◌, length, []};
 ghost use Rattle.std.specs.Io.{ReadsAtMost};
 ghost use Rattle.std.specs.Io.KnownBytes.{ReadConsumes};
 ghost use Rattle.redux_buffer.specs.LogGrows.{ReadLogGrows};
-ghost use Rattle.redux_buffer.specs.StreamLog.{portion};
-ghost use Rattle.buffer_redux.specs.Unbuffer.{unbuffered, unbuffer_remaining, HandsOutInOrder, HandsOutLeft, AsksReader};
+ghost use Rattle.redux_buffer.specs.StreamLog.{portion, after_read};
+ghost use Rattle.buffer_redux.specs.Unbuffer.{unbuffered, unbuffer_remaining, HandsOutInOrder, HandsOutLeft};
 
 use crate::buf_reader::BufReader;
 use redux_buffer::Buffer;
@@ -34,14 +34,15 @@ pub struct Unbuffer<R: Tell> {
 }
 
 impl<R: Tell> Model for Unbuffer<R> {
-    ghost use Rattle.buffer_redux.specs.Unbuffer.{Unbuffered, bytes_in, FreedWhenEmpty};
+    ghost use Rattle.std.specs.Prelude.{◌<◌, length, IfSome};
+    ghost use Rattle.buffer_redux.specs.Unbuffer.{Unbuffered, bytes_in};
 
     ghost Value = { Unbuffered R };
 
     ghost view = { λ u. record { left = bytes_in u.buf; inner = u.inner; log = R.log u.inner } };
 
     // A buffer without bytes is freed.
-    ghost invariant = { λ u. FreedWhenEmpty u.buf };
+    ghost invariant = { λ u. IfSome u.buf (λ b. 0 < length b.bytes) };
 }
 
 impl<R: Tell, P> BufReader<R, P> {
@@ -107,7 +108,8 @@ impl<R: TellRead> Read for Unbuffer<R> {
         ensures in_order { HandsOutInOrder self.old (portion out.new result) self.new }
         ensures grows { ReadLogGrows self.old.log.reads self.new.log.reads }
         ensures left { 0 < length self.old.left → HandsOutLeft self.old out.old result out.new self.new }
-        ensures asked { length self.old.left ≡ 0 → AsksReader self.old result out.new self.new }
+        ensures asked { length self.old.left ≡ 0
+            → (self.new.left ≡ []) × (self.new.log ≡ after_read self.old.log out.new result) }
     {
         let Some(buf) = &mut self.buf else {
             return self.inner.read_told(out);

@@ -1,3 +1,4 @@
+pub mod Runs
 pub mod PlayReading
 pub mod PlayWriting
 pub mod WriterCounts

@@ -6,7 +6,8 @@ use Rattle.buffer_redux.specs.Policy.{ReadRules}
 use Rattle.buffer_redux.specs.Buffered.{Buffered}
 use Rattle.buffer_redux.specs.BufReader.{Fills, ReaderConsumes, ReadsAlong}
 use Rattle.buffer_redux.specs.ReaderLaws.{ReadsAlong-joins, ReaderConsumes-along}
-use Rattle.redux_play.specs.NextByte.{TakesByte, taken_byte}
+use Rattle.redux_play.specs.NextByte.{TakesByte}
+use Rattle.buffer_redux.specs.ReadByte.{handed_byte}
 
 first_byte : (bytes : List ℕ) (byte : ℕ) → Some byte ≡ slice_get bytes 0 → take 1 bytes ≡ byte ∷ []
 first_byte [] byte is = cc
@@ -26,7 +27,7 @@ module _ {S P : Type 0} (rules : ReadRules P) (s filled t : Buffered S P) where
 
   pub byte_along : (remaining : S → Option (List ℕ)) (found : Option ℕ) → ReadsAlong remaining rules s [] filled
       → found ≡ slice_get filled.block.bytes 0 → true ≡ is_some found → t.inner ≡ filled.inner
-      → ReaderConsumes rules 1 filled t → ReadsAlong remaining rules s (taken_byte (Ok found)) t
+      → ReaderConsumes rules 1 filled t → ReadsAlong remaining rules s (handed_byte (Ok found)) t
   byte_along remaining None along shown some inner gone = cc
   byte_along remaining (Some byte) along shown some inner gone =
       subst (λ l. ReadsAlong remaining rules s l t) (first_byte filled.block.bytes byte shown)

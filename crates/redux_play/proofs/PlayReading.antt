@@ -1,4 +1,4 @@
--- Runs of a reader go on by one step, and hand out what their steps do.
+-- Runs of a reader hand out what their steps do, and spare what those spare.
 use Rattle.std.proofs.Common.{◌≡◌, ℕ, ◌<◌, Bool, List, [], ◌∷◌, ◌++◌, length, take, refl, sym, ap, subst, ◌∙◌, arith, append_assoc, append-nil, length-append}
 use Rattle.std.proofs.lemmas.List.Elements.{All-head, All-tail, All-take}
 use Rattle.std.specs.List.{All}
@@ -8,8 +8,9 @@ use Rattle.redux_play.specs.declared.play.ReaderCall.{ReaderCall}
 use Rattle.redux_play.specs.declared.play.ReaderAnswer.{ReaderAnswer}
 use Rattle.buffer_redux.specs.Policy.{ReadRules, ClaimsToSpare}
 use Rattle.buffer_redux.specs.ReaderLaws.{ReadsInOrder-none, ReadsInOrder-joins}
-use Rattle.redux_play.specs.PlayReader.{Handing, HandsOut, MakesNoRoom, ReaderStep, ReaderRuns, ReaderPlays}
+use Rattle.redux_play.specs.PlayReader.{Handing, HandsOut, MakesNoRoom, ReaderStep, ReaderPlays}
 use Rattle.buffer_redux.specs.Sparing.{Spared, Spared-none, Spared-joins, SparesClaimed}
+use Rattle.redux_play.specs.PlayRoom.{Runs}
 
 HandsOut-none : {S P : Type 0} (s : Handing S P) → HandsOut s [] s
 HandsOut-none s = record {
@@ -36,22 +37,10 @@ HandsOut-joins s m t a b p q = record {
 }
 
 module _ {S P : Type 0} (rules : ReadRules P) where
-  pub ReaderRuns-more : (s : Handing S P) (calls : List ReaderCall) (answers : List ReaderAnswer)
-      (m : Handing S P)
-      (call : ReaderCall) (answer : ReaderAnswer) (t : Handing S P)
-      → ReaderRuns rules s calls answers m → ReaderStep rules m call answer t
-      → ReaderRuns rules s (calls ++ call ∷ []) (answers ++ answer ∷ []) t
-  ReaderRuns-more s [] [] m call answer t e step =
-      (t, subst (λ x. ReaderStep rules x call answer t) (sym e) step, refl)
-  ReaderRuns-more s [] (a ∷ answers) m call answer t e step = absurd e
-  ReaderRuns-more s (c ∷ calls) [] m call answer t e step = absurd e
-  ReaderRuns-more s (c ∷ calls) (a ∷ answers) m call answer t h step =
-      (h.0, h.1, ReaderRuns-more h.0 calls answers m call answer t h.2 step)
-
   -- what a run handed out
   ReaderRuns-hands_out : (s : Handing S P) (calls : List ReaderCall) (answers : List ReaderAnswer)
       (t : Handing S P)
-      → ReaderRuns rules s calls answers t → (out : List ℕ) × HandsOut s out t
+      → Runs (ReaderStep rules) s calls answers t → (out : List ℕ) × HandsOut s out t
   ReaderRuns-hands_out s [] [] t e = ([], subst (HandsOut s []) e (HandsOut-none s))
   ReaderRuns-hands_out s [] (a ∷ answers) t e = absurd e
   ReaderRuns-hands_out s (c ∷ calls) [] t e = absurd e
@@ -62,7 +51,7 @@ module _ {S P : Type 0} (rules : ReadRules P) where
   -- what the policy claims stays in a run, and a run that doesn't make room spares what it claims to
   ReaderRuns-claims : (s : Handing S P) (calls : List ReaderCall) (answers : List ReaderAnswer)
       (t : Handing S P)
-      → ReaderRuns rules s calls answers t → rules.claims t.reader.policy ≡ rules.claims s.reader.policy
+      → Runs (ReaderStep rules) s calls answers t → rules.claims t.reader.policy ≡ rules.claims s.reader.policy
   ReaderRuns-claims s [] [] t e = ap (λ (x : Handing S P). rules.claims x.reader.policy) (sym e)
   ReaderRuns-claims s [] (a ∷ answers) t e = absurd e
   ReaderRuns-claims s (c ∷ calls) [] t e = absurd e
@@ -70,7 +59,7 @@ module _ {S P : Type 0} (rules : ReadRules P) where
 
   ReaderRuns-sparing : (s : Handing S P) (calls : List ReaderCall) (answers : List ReaderAnswer)
       (t : Handing S P)
-      → ReaderRuns rules s calls answers t → All MakesNoRoom calls → SparesClaimed rules s.reader t.reader
+      → Runs (ReaderStep rules) s calls answers t → All MakesNoRoom calls → SparesClaimed rules s.reader t.reader
   ReaderRuns-sparing s [] [] t e still keep claims =
       subst (λ (x : Handing S P). Spared keep s.reader x.reader) e (Spared-none keep s.reader)
   ReaderRuns-sparing s [] (a ∷ answers) t e still keep claims = absurd e
@@ -86,14 +75,14 @@ module _ {S P : Type 0} (rules : ReadRules P) where
   pub ReaderPlays-stops : (s : Handing S P) (calls : List ReaderCall) (old answers : List ReaderAnswer)
       (t : Handing S P)
       (new : List ReaderAnswer) → new ≡ old ++ answers → (ok : Bool) (index : ℕ) → length answers ≡ index
-      → ReaderRuns rules s (take index calls) answers t
+      → Runs (ReaderStep rules) s (take index calls) answers t
       → MatchBool ok (index ≡ length calls) (index < length calls) → ReaderPlays rules s calls old ok new t
   ReaderPlays-stops s calls old answers t new gained ok index count run ended =
       let out = ReaderRuns-hands_out s (take index calls) answers t run in
       record {
         answers = answers;
         gained = gained;
-        run = subst (λ n. ReaderRuns rules s (take n calls) answers t) (sym count) run;
+        run = subst (λ n. Runs (ReaderStep rules) s (take n calls) answers t) (sym count) run;
         ended = subst (λ n. MatchBool ok (n ≡ length calls) (n < length calls)) (sym count) ended;
         out = out.0;
         hands_out = out.1;

@@ -1,4 +1,4 @@
--- Runs of a writer go on by one step, and accept what their steps do; and no call consumes more than it sends.
+-- Runs of a writer accept what their steps do; and no call consumes more than it sends.
 use Rattle.std.proofs.Common.{◌≡◌, ℕ, ◌<◌, Bool, List, [], ◌∷◌, ◌++◌, length, take, refl, sym, subst, ◌∙◌, arith}
 use Rattle.std.specs.Prelude.{MatchBool}
 use Rattle.redux_buffer.specs.LogGrows.{WriteLogGrows-none, WriteLogGrows-joins}
@@ -7,7 +7,8 @@ use Rattle.redux_play.specs.declared.play.WriterAnswer.{WriterAnswer}
 use Rattle.buffer_redux.specs.Policy.{WriteRules}
 use Rattle.buffer_redux.specs.Buffered.{Buffered}
 use Rattle.buffer_redux.specs.WriterLaws.{WritesInOrder-none, WritesInOrder-joins}
-use Rattle.redux_play.specs.PlayWriter.{Accepts, WriterStep, WriterRuns, WriterPlays, accepted_bytes, bytes_accepted_by}
+use Rattle.redux_play.specs.PlayWriter.{Accepts, WriterStep, WriterPlays, accepted_bytes, bytes_accepted_by}
+use Rattle.redux_play.specs.PlayRoom.{Runs}
 
 Accepts-none : {S P : Type 0} (s : Buffered S P) → Accepts s [] s
 Accepts-none s = record {
@@ -31,22 +32,10 @@ Accepts-joins s m t a b p q = record {
 }
 
 module _ {S P : Type 0} (rules : WriteRules P) where
-  pub WriterRuns-more : (s : Buffered S P) (calls : List WriterCall) (answers : List WriterAnswer)
-      (m : Buffered S P)
-      (call : WriterCall) (answer : WriterAnswer) (t : Buffered S P)
-      → WriterRuns rules s calls answers m → WriterStep rules m call answer t
-      → WriterRuns rules s (calls ++ call ∷ []) (answers ++ answer ∷ []) t
-  WriterRuns-more s [] [] m call answer t e step =
-      (t, subst (λ x. WriterStep rules x call answer t) (sym e) step, refl)
-  WriterRuns-more s [] (a ∷ answers) m call answer t e step = absurd e
-  WriterRuns-more s (c ∷ calls) [] m call answer t e step = absurd e
-  WriterRuns-more s (c ∷ calls) (a ∷ answers) m call answer t h step =
-      (h.0, h.1, WriterRuns-more h.0 calls answers m call answer t h.2 step)
-
   -- what a run accepted
   WriterRuns-accepts : (s : Buffered S P) (calls : List WriterCall) (answers : List WriterAnswer)
       (t : Buffered S P)
-      → WriterRuns rules s calls answers t → Accepts s (accepted_bytes calls answers) t
+      → Runs (WriterStep rules) s calls answers t → Accepts s (accepted_bytes calls answers) t
   WriterRuns-accepts s [] [] t e = subst (Accepts s []) e (Accepts-none s)
   WriterRuns-accepts s [] (a ∷ answers) t e = absurd e
   WriterRuns-accepts s (c ∷ calls) [] t e = absurd e
@@ -58,11 +47,11 @@ module _ {S P : Type 0} (rules : WriteRules P) where
   pub WriterPlays-stops : (s : Buffered S P) (calls : List WriterCall) (old answers : List WriterAnswer)
       (t : Buffered S P)
       (new : List WriterAnswer) → new ≡ old ++ answers → (ok : Bool) (index : ℕ) → length answers ≡ index
-      → WriterRuns rules s (take index calls) answers t
+      → Runs (WriterStep rules) s (take index calls) answers t
       → MatchBool ok (index ≡ length calls) (index < length calls) → WriterPlays rules s calls old ok new t
   WriterPlays-stops s calls old answers t new gained ok index count run ended =
-      let run' : WriterRuns rules s (take (length answers) calls) answers t =
-      subst (λ n. WriterRuns rules s (take n calls) answers t) (sym count) run in
+      let run' : Runs (WriterStep rules) s (take (length answers) calls) answers t =
+      subst (λ n. Runs (WriterStep rules) s (take n calls) answers t) (sym count) run in
       record {
         answers = answers;
         gained = gained;

@@ -1,15 +1,9 @@
 -- What a call that takes the next byte does.
-use Rattle.std.specs.Prelude.{◌≡◌, ℕ, List, [], ◌∷◌, Option, None, Some, Result, Ok, Err, MatchOption, IfOk, OnErr, slice_get}
+use Rattle.std.specs.Prelude.{◌≡◌, ℕ, Option, Result, MatchOption, IfOk, OnErr, slice_get}
 use Rattle.std.specs.declared.io.Error.{Error}
 use Rattle.buffer_redux.specs.Policy.{ReadRules}
 use Rattle.buffer_redux.specs.Buffered.{Buffered}
 use Rattle.buffer_redux.specs.BufReader.{Fills, ReaderConsumes}
-
--- the byte that was taken, as a list
-abbrev pub taken_byte : Result (Option ℕ) Error → List ℕ
-taken_byte (Ok (Some byte)) = byte ∷ []
-taken_byte (Ok None) = []
-taken_byte (Err e) = []
 
 -- one fill, and a consume of the first byte that it shows; none where it shows nothing, or failed
 pub record TakesByte {S P : Type 0} (rules : ReadRules P) (s : Buffered S P) (answer : Result (Option ℕ) Error)

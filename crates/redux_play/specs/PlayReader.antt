@@ -1,9 +1,6 @@
 -- The calls of a buffered reader as steps, and whole runs of them.
-use Rattle.std.specs.Prelude.{◌≡◌, ℕ, ◌+◌, ◌<◌, ◌≤◌, List, [], ◌∷◌, ◌++◌, length, take, min, Ok, Err, Bool, MatchBool, ⊤}
+use Rattle.std.specs.Prelude.{◌≡◌, ℕ, ◌+◌, ◌<◌, ◌≤◌, List, [], ◌++◌, length, take, min, Ok, Err, Bool, MatchBool, ⊤}
 use Rattle.std.specs.List.{All}
-use Rattle.std.specs.IoError.{error_kind}
-use Rattle.std.specs.declared.io.Error.{Error}
-use Rattle.std.specs.declared.io.ErrorKind.{ErrorKind}
 use Rattle.redux_buffer.specs.Block.{LeavesBytes}
 use Rattle.redux_buffer.specs.GrowError.{GrowthRefused}
 use Rattle.redux_buffer.specs.LogGrows.{ReadLogGrows}
@@ -17,7 +14,7 @@ use Rattle.buffer_redux.specs.Buffered.{Buffered}
 use Rattle.buffer_redux.specs.Fill.{Filled}
 use Rattle.buffer_redux.specs.BufReader.{ReadsInOrder, ReadErrorCaused, EmptyReadCaused, EmptyFillCaused, ReaderConsumes}
 use Rattle.buffer_redux.specs.ReadAll.{ReadSteps}
-use Rattle.redux_play.specs.PlayRoom.{RoomMade, ReserveDone}
+use Rattle.redux_play.specs.PlayRoom.{RoomMade, ReserveDone, FaultOf, Runs}
 use Rattle.buffer_redux.specs.Sparing.{SparesClaimed}
 
 -- a reader, and the bytes that were handed out so far
@@ -47,59 +44,22 @@ pub record FillShown {S P : Type 0} (rules : ReadRules P) (s : Buffered S P) (k 
   pub empty : k ≡ 0 → EmptyFillCaused rules s t
   pub fills : Filled rules s (Ok k) t
 
--- `Fill` with `Fault(kind)`
-pub record FillFailed {S P : Type 0} (rules : ReadRules P) (s : Buffered S P) (kind : ErrorKind) (out : List ℕ)
-    (t : Buffered S P) : Type 0 where
-  pub none : out ≡ []
-  pub error : Error
-  pub is_kind : error_kind error ≡ kind
-  pub caused : ReadErrorCaused {A = ℕ} rules s (Err error) t
-  pub fills : Filled {A = ℕ} rules s (Err error) t
-
--- `Read(n)` with `Fault(kind)`: nothing was handed out
-pub record ReadFailed {S P : Type 0} (rules : ReadRules P) (s : Buffered S P) (n : ℕ) (kind : ErrorKind) (out : List ℕ)
-    (t : Buffered S P) : Type 0 where
-  pub none : out ≡ []
-  pub error : Error
-  pub is_kind : error_kind error ≡ kind
-  pub caused : ReadErrorCaused {A = ℕ} rules s (Err error) t
-  pub steps : ReadSteps rules s n (Err error) t
-
--- `Consume(n)` with `Count(k)`: the first n bytes, or all; the reader inside was not asked
-pub record ConsumeCounted {S P : Type 0} (rules : ReadRules P) (s : Buffered S P) (n k : ℕ) (out : List ℕ)
-    (t : Buffered S P) : Type 0 where
-  pub count : k ≡ min n (length s.block.bytes)
-  pub front : out ≡ take k s.block.bytes
-  pub consumes : ReaderConsumes rules n s t
-
--- `ReadIntoBuf` with `Count(k)`: one read into the buffer gave k bytes, or there was no room for one. The policy was not
--- asked
-pub record IntoBufCounted {S P : Type 0} (s : Buffered S P) (k : ℕ) (out : List ℕ) (t : Buffered S P) : Type 0 where
-  pub none : out ≡ []
-  pub read : ReadsFrom s.block s.log (Ok k) t.block t.log
-  pub policy : t.policy ≡ s.policy
-
--- `ReadIntoBuf` with `Fault(kind)`: one read into the buffer met this fault, and left the bytes
-pub record IntoBufFailed {S P : Type 0} (s : Buffered S P) (kind : ErrorKind) (out : List ℕ) (t : Buffered S P)
-    : Type 0 where
-  pub none : out ≡ []
-  pub error : Error
-  pub is_kind : error_kind error ≡ kind
-  pub read : ReadsFrom s.block s.log (Err error) t.block t.log
-  pub left : LeavesBytes s.block t.block
-  pub policy : t.policy ≡ s.policy
-
 -- what this answer to this call says of the reader before and after, and of the bytes handed out; other pairs are no
--- steps
+-- steps. A fault handed nothing out. A read into the buffer asked the policy nothing, and left the bytes where it failed
 abbrev pub ReaderAnswers : {S P : Type 0} → ReadRules P → Buffered S P → ReaderCall → ReaderAnswer → List ℕ
     → Buffered S P → Type 0
 ReaderAnswers rules s (Read n) (Count k) out t = ReadCounted rules s n k out t
-ReaderAnswers rules s (Read n) (Fault kind) out t = ReadFailed rules s n kind out t
+ReaderAnswers rules s (Read n) (Fault kind) out t = (out ≡ [])
+    × FaultOf kind (λ e. ReadErrorCaused {A = ℕ} rules s (Err e) t × ReadSteps rules s n (Err e) t)
 ReaderAnswers rules s Fill (Shown k) out t = FillShown rules s k out t
-ReaderAnswers rules s Fill (Fault kind) out t = FillFailed rules s kind out t
-ReaderAnswers rules s (Consume n) (Count k) out t = ConsumeCounted rules s n k out t
-ReaderAnswers rules s ReadIntoBuf (Count k) out t = IntoBufCounted s k out t
-ReaderAnswers rules s ReadIntoBuf (Fault kind) out t = IntoBufFailed s kind out t
+ReaderAnswers rules s Fill (Fault kind) out t = (out ≡ [])
+    × FaultOf kind (λ e. ReadErrorCaused {A = ℕ} rules s (Err e) t × Filled {A = ℕ} rules s (Err e) t)
+ReaderAnswers rules s (Consume n) (Count k) out t =
+    (k ≡ min n (length s.block.bytes)) × (out ≡ take k s.block.bytes) × ReaderConsumes rules n s t
+ReaderAnswers rules s ReadIntoBuf (Count k) out t =
+    (out ≡ []) × (t.policy ≡ s.policy) × ReadsFrom s.block s.log (Ok k) t.block t.log
+ReaderAnswers rules s ReadIntoBuf (Fault kind) out t = (out ≡ []) × (t.policy ≡ s.policy)
+    × FaultOf kind (λ e. ReadsFrom s.block s.log (Err e) t.block t.log × LeavesBytes s.block t.block)
 ReaderAnswers rules s MakeRoom Done out t = (out ≡ []) × RoomMade s t
 ReaderAnswers rules s (Reserve a) Done out t = (out ≡ []) × ReserveDone s a t
 ReaderAnswers rules s (Reserve a) (Refused e) out t = (out ≡ []) × GrowthRefused a s.block e × (t ≡ s)
@@ -130,22 +90,13 @@ pub record ReaderStep {S P : Type 0} (rules : ReadRules P) (s : Handing S P) (ca
   pub claims : rules.claims t.reader.policy ≡ rules.claims s.reader.policy
   pub sparing : MakesNoRoom call → SparesClaimed rules s.reader t.reader
 
--- calls with as many answers, one step after another
-abbrev pub ReaderRuns : {S P : Type 0} → ReadRules P → Handing S P → List ReaderCall → List ReaderAnswer → Handing S P
-    → Type 0
-ReaderRuns rules s [] [] t = s ≡ t
-ReaderRuns {S} {P} rules s (call ∷ calls) (answer ∷ answers) t =
-    (m : Handing S P) × ReaderStep rules s call answer m × ReaderRuns rules m calls answers t
-ReaderRuns rules s [] (answer ∷ answers) t = ⊥
-ReaderRuns rules s (call ∷ calls) [] t = ⊥
-
 -- what was played: the answers that were gained are a run of the first calls, as many as there are answers; at Ok these
 -- are all calls, and else some are left, of which none was begun
 pub record ReaderPlays {S P : Type 0} (rules : ReadRules P) (s : Handing S P) (calls : List ReaderCall)
     (old : List ReaderAnswer) (ok : Bool) (new : List ReaderAnswer) (t : Handing S P) : Type 0 where
   pub answers : List ReaderAnswer
   pub gained : new ≡ old ++ answers
-  pub run : ReaderRuns rules s (take (length answers) calls) answers t
+  pub run : Runs (ReaderStep rules) s (take (length answers) calls) answers t
   pub ended : MatchBool ok (length answers ≡ length calls) (length answers < length calls)
   pub out : List ℕ
   pub hands_out : HandsOut s out t

@@ -1,8 +1,5 @@
 -- The calls of a buffered writer as steps, and whole runs of them.
 use Rattle.std.specs.Prelude.{◌≡◌, ℕ, ◌+◌, ◌<◌, ◌≤◌, List, [], ◌∷◌, ◌++◌, length, take, Ok, Err, Bool, MatchBool}
-use Rattle.std.specs.IoError.{error_kind}
-use Rattle.std.specs.declared.io.Error.{Error}
-use Rattle.std.specs.declared.io.ErrorKind.{ErrorKind}
 use Rattle.redux_buffer.specs.GrowError.{GrowthRefused}
 use Rattle.redux_buffer.specs.Faults.{SendErrorCaused}
 use Rattle.redux_buffer.specs.LogGrows.{WriteLogGrows}
@@ -13,7 +10,7 @@ use Rattle.redux_play.specs.declared.play.WriterAnswer.TheVariants.{Count, Done,
 use Rattle.buffer_redux.specs.Policy.{WriteRules}
 use Rattle.buffer_redux.specs.Buffered.{Buffered}
 use Rattle.buffer_redux.specs.BufWriter.{WritesInOrder, WriteErrorCaused, EmptyWriteCaused, Writes, Flushes, IsFlushed}
-use Rattle.redux_play.specs.PlayRoom.{RoomMade, ReserveDone}
+use Rattle.redux_play.specs.PlayRoom.{RoomMade, ReserveDone, FaultOf, Runs}
 
 -- the bytes that a call with this answer took in: the first k of a write that returned `Ok(k)`, and of all calls
 abbrev pub bytes_accepted_by : WriterCall → WriterAnswer → List ℕ
@@ -32,33 +29,15 @@ pub record WriteCounted {S P : Type 0} (rules : WriteRules P) (s : Buffered S P)
   pub empty : k ≡ 0 → 0 < length bs → EmptyWriteCaused rules s bs t
   pub steps : Writes rules s bs (Ok k) t
 
--- `Write(bs)` with `Fault(kind)`: nothing was taken in
-pub record WriteFailed {S P : Type 0} (rules : WriteRules P) (s : Buffered S P) (bs : List ℕ) (kind : ErrorKind)
-    (t : Buffered S P) : Type 0 where
-  pub error : Error
-  pub is_kind : error_kind error ≡ kind
-  pub caused : WriteErrorCaused rules s bs (Err error) t
-  pub steps : Writes rules s bs (Err error) t
-
--- `Flush` with `Done`
-pub record FlushDone {S P : Type 0} (s t : Buffered S P) : Type 0 where
-  pub done : IsFlushed s t
-  pub steps : Flushes s (Ok tt) t
-
--- `Flush` with `Fault(kind)`: sending failed, or the flush of the writer inside
-pub record FlushFailed {S P : Type 0} (s : Buffered S P) (kind : ErrorKind) (t : Buffered S P) : Type 0 where
-  pub error : Error
-  pub is_kind : error_kind error ≡ kind
-  pub caused : SendErrorCaused s.log.writes t.log.writes error
-  pub steps : Flushes s (Err error) t
-
 -- what this answer to this call says of the writer before and after; other pairs are no steps
 abbrev pub WriterAnswers : {S P : Type 0} → WriteRules P → Buffered S P → WriterCall → WriterAnswer → Buffered S P
     → Type 0
 WriterAnswers rules s (Write bs) (Count k) t = WriteCounted rules s bs.now k t
-WriterAnswers rules s (Write bs) (Fault kind) t = WriteFailed rules s bs.now kind t
-WriterAnswers rules s Flush Done t = FlushDone s t
-WriterAnswers rules s Flush (Fault kind) t = FlushFailed s kind t
+WriterAnswers rules s (Write bs) (Fault kind) t =
+    FaultOf kind (λ e. WriteErrorCaused rules s bs.now (Err e) t × Writes rules s bs.now (Err e) t)
+WriterAnswers rules s Flush Done t = IsFlushed s t × Flushes s (Ok tt) t
+WriterAnswers rules s Flush (Fault kind) t =
+    FaultOf kind (λ e. SendErrorCaused s.log.writes t.log.writes e × Flushes s (Err e) t)
 WriterAnswers rules s MakeRoom Done t = RoomMade s t
 WriterAnswers rules s (Reserve a) Done t = ReserveDone s a t
 WriterAnswers rules s (Reserve a) (Refused e) t = GrowthRefused a s.block e × (t ≡ s)
@@ -84,21 +63,12 @@ pub record WriterStep {S P : Type 0} (rules : WriteRules P) (s : Buffered S P) (
   pub accepts : Accepts s (bytes_accepted_by call answer) t
   pub answers : WriterAnswers rules s call answer t
 
--- calls with as many answers, one step after another
-abbrev pub WriterRuns : {S P : Type 0} → WriteRules P → Buffered S P → List WriterCall → List WriterAnswer
-    → Buffered S P → Type 0
-WriterRuns rules s [] [] t = s ≡ t
-WriterRuns {S} {P} rules s (call ∷ calls) (answer ∷ answers) t =
-    (m : Buffered S P) × WriterStep rules s call answer m × WriterRuns rules m calls answers t
-WriterRuns rules s [] (answer ∷ answers) t = ⊥
-WriterRuns rules s (call ∷ calls) [] t = ⊥
-
 -- what was played: the answers that were gained are a run of the first calls, as many as there are answers; at Ok these
 -- are all calls, and else some are left, of which none was begun
 pub record WriterPlays {S P : Type 0} (rules : WriteRules P) (s : Buffered S P) (calls : List WriterCall)
     (old : List WriterAnswer) (ok : Bool) (new : List WriterAnswer) (t : Buffered S P) : Type 0 where
   pub answers : List WriterAnswer
   pub gained : new ≡ old ++ answers
-  pub run : WriterRuns rules s (take (length answers) calls) answers t
+  pub run : Runs (WriterStep rules) s (take (length answers) calls) answers t
   pub ended : MatchBool ok (length answers ≡ length calls) (length answers < length calls)
   pub accepts : Accepts s (accepted_bytes (take (length answers) calls) answers) t

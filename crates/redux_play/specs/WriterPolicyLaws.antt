@@ -9,24 +9,18 @@ use Rattle.buffer_redux.specs.declared.policy.FlushAmt.{FlushAmt}
 use Rattle.buffer_redux.specs.Policy.{WriteRules, std_before_write}
 use Rattle.buffer_redux.specs.Buffered.{Buffered, with_policy}
 use Rattle.buffer_redux.specs.BufWriter.{FlushesAmount, TakesIn, Prepared, Wrote, Writes}
-use Rattle.buffer_redux.specs.WriterPolicies.{at_least_before_write, at_least_rules, exact_before_write, exact_rules, flush_on_rules}
+use Rattle.buffer_redux.specs.WriterPolicies.{at_least_rules, exact_rules, flush_on_rules}
 use Rattle.buffer_redux.specs.WriterLaws.{flush_ways, ways_in}
 use Rattle.redux_play.specs.WroteExactly.{EachTook, Wrote-left, Wrote-took}
-
--- no place holds the byte
-abbrev pub HasNo : ℕ → List ℕ → Type 0
-HasNo byte bytes = (k : ℕ) → k < length bytes → ¬ (slice_index bytes k ≡ byte)
-
--- these bytes are so many, or none
-abbrev pub AllOrNone : ℕ → List ℕ → Type 0
-AllOrNone n bytes = (length bytes ≡ n) ⊎ (length bytes ≡ 0)
+use Rattle.std.proofs.lemmas.List.Elements.{All-from_get_or}
+use Rattle.buffer_redux.specs.ReadUntil.{Lacks}
 
 -- what a flush sent: so many of the first bytes that are buffered, or none
 pub record SentAllOrNone {S P : Type 0} (n : ℕ) (s t : Buffered S P) : Type 0 where
   pub sent : List ℕ
   pub front : sent ≡ take (length sent) s.block.bytes
   pub received : t.log.writes.received ≡ s.log.writes.received ++ sent
-  pub exact : AllOrNone n sent
+  pub exact : (length sent ≡ n) ⊎ (length sent ≡ 0)
 
 module _ {S P : Type 0} (amount : ℕ) where
   pub FlushesAmount-exact : (s t : Buffered S P) → FlushesAmount amount s (Ok tt) t → SentAllOrNone amount s t
@@ -48,38 +42,15 @@ module _ {S P : Type 0} (amount : ℕ) where
         )
   ]
 
--- each of these policies is the same after each of its calls
 std_stays : {P : Type 0} (p : P) (b : Block) (incoming : ℕ) (answer : Result FlushAmt Error) (p' : P) (b' : Block)
     → std_before_write p b incoming answer p' b' → p' ≡ p
 std_stays p b incoming (Ok amount) p' b' allowed = allowed.0
 std_stays p b incoming (Err e) p' b' allowed = absurd allowed
 
-at_least_stays : {P : Type 0} (least : P → ℕ) (p : P) (b : Block) (incoming : ℕ) (answer : Result FlushAmt Error) (p' : P)
-    (b' : Block) → at_least_before_write least p b incoming answer p' b' → p' ≡ p
-at_least_stays least p b incoming (Ok amount) p' b' allowed = allowed.0
-at_least_stays least p b incoming (Err e) p' b' allowed = allowed.0
-
-exact_stays : {P : Type 0} (exact : P → ℕ) (p : P) (b : Block) (incoming : ℕ) (answer : Result FlushAmt Error) (p' : P)
-    (b' : Block) → exact_before_write exact p b incoming answer p' b' → p' ≡ p
-exact_stays exact p b incoming (Ok amount) p' b' allowed = allowed.0
-exact_stays exact p b incoming (Err e) p' b' allowed = allowed.0
-
--- rules under which no call changes the policy
-pub record PolicyStays {P : Type 0} (rules : WriteRules P) : Type 0 where
-  pub before : (p : P) (b : Block) (incoming : ℕ) (answer : Result FlushAmt Error) (p' : P) (b' : Block)
-      → rules.before_write p b incoming answer p' b' → p' ≡ p
-  pub after : (p : P) (b : Block) (amount : FlushAmt) (p' : P) → rules.after_write p b amount p' → p' ≡ p
-
-pub PolicyStays-flush_on : {P : Type 0} (byte : P → ℕ) → PolicyStays (flush_on_rules byte)
-PolicyStays-flush_on byte = record { before = std_stays; after = λ p b amount p' allowed. allowed.0 }
-
-pub PolicyStays-at_least : {P : Type 0} (least : P → ℕ) → PolicyStays (at_least_rules least)
-PolicyStays-at_least least = record { before = at_least_stays least; after = λ p b amount p' allowed. allowed.0 }
-
-pub PolicyStays-exact : {P : Type 0} (exact : P → ℕ) → PolicyStays (exact_rules exact)
-PolicyStays-exact exact = record { before = exact_stays exact; after = λ p b amount p' allowed. allowed.0 }
-
-module _ {S P : Type 0} (rules : WriteRules P) (stays : PolicyStays rules) where
+-- up to its second question a write leaves a policy that the first one leaves
+module _ {S P : Type 0} (rules : WriteRules P)
+    (stays : (p : P) (b : Block) (incoming : ℕ) (answer : Result FlushAmt Error) (p' : P) (b' : Block)
+    → rules.before_write p b incoming answer p' b' → p' ≡ p) where
   -- the write itself leaves the policy between its two questions
   took_in_policy : (s t : Buffered S P) (bs : List ℕ) (answer : Result ℕ Error) → TakesIn bs s answer t
       → t.policy ≡ s.policy
@@ -91,7 +62,7 @@ module _ {S P : Type 0} (rules : WriteRules P) (stays : PolicyStays rules) where
   prepared_policy : (s m : Buffered S P) (incoming : ℕ) (answer : Result (Unit {0}) Error)
       → Prepared rules incoming s answer m → m.policy ≡ s.policy
   prepared_policy s m incoming answer p =
-      p.flush.policy ∙ stays.before s.policy s.block incoming (Ok p.amount) p.seen.policy p.seen.block p.asked.allowed
+      p.flush.policy ∙ stays s.policy s.block incoming (Ok p.amount) p.seen.policy p.seen.block p.asked.allowed
 
   asked_policy : (s t : Buffered S P) (bs : List ℕ) (n : ℕ) (wrote : Wrote rules s bs n t)
       → wrote.after.policy ≡ s.policy
@@ -99,25 +70,12 @@ module _ {S P : Type 0} (rules : WriteRules P) (stays : PolicyStays rules) where
       took_in_policy wrote.before wrote.after bs (Ok n) wrote.took_in
       ∙ prepared_policy s wrote.before (length bs) (Ok tt) wrote.prepared
 
-  -- a write leaves the policy
-  pub Writes-policy : (s t : Buffered S P) (bs : List ℕ) (answer : Result ℕ Error) → Writes rules s bs answer t
-      → t.policy ≡ s.policy
-  Writes-policy s t bs (Ok n) wrote =
-      stays.after wrote.after.policy wrote.after.block wrote.finished.amount t.policy wrote.finished.asked.allowed
-      ∙ asked_policy s t bs n wrote
-  Writes-policy s t bs (Err e) (inl refused) =
-      stays.before s.policy s.block (length bs) (Err e) t.policy t.block refused.asked.allowed
-  Writes-policy s t bs (Err e) (inr (inl prepared)) = prepared_policy s t (length bs) (Err e) prepared
-  Writes-policy s t bs (Err e) (inr (inr faulted)) =
-      took_in_policy faulted.before t bs (Err e) faulted.took_in
-      ∙ prepared_policy s faulted.before (length bs) (Ok tt) faulted.prepared
-
 -- a write under `FlushOn` leaves no such byte, where each write of the inner writer took something
 module _ {S P : Type 0} (byte : P → ℕ) (s : Buffered S P) (bs : List ℕ) (n : ℕ) (t : Buffered S P)
     (wrote : Wrote (flush_on_rules byte) s bs n t) where
-  pub Wrote-flush_on : EachTook s.log.writes t.log.writes → HasNo (byte s.policy) t.block.bytes
+  pub Wrote-flush_on : EachTook s.log.writes t.log.writes → Lacks (byte s.policy) t.block.bytes
   Wrote-flush_on took =
-      let same = asked_policy (flush_on_rules byte) (PolicyStays-flush_on byte) s t bs n wrote in
+      let same = asked_policy (flush_on_rules byte) std_stays s t bs n wrote in
       let through = wrote.finished.asked.allowed.1 in
       let amount = wrote.finished.amount.0 in
       let within : amount ≤ length wrote.after.block.bytes = elim (cases_lt 0 amount) [
@@ -125,10 +83,11 @@ module _ {S P : Type 0} (byte : P → ℕ) (s : Buffered S P) (bs : List ℕ) (n
         | inr none ↦ omega (arith, none)
       ] in
       let left = (Wrote-left (flush_on_rules byte) s bs n t wrote took).enough within in
-      λ k in_range is. through.none_after (amount + k) (omega arith)
+      All-from_get_or (λ b. ¬ (b ≡ byte s.policy)) t.block.bytes 0
+      (λ k in_range is. through.none_after (amount + k) (omega arith)
       (omega (arith, in_range, ap length left, length-drop amount wrote.after.block.bytes))
       (sym (get_or-drop amount wrote.after.block.bytes k 0) ∙ ap (λ l. slice_index l k) (sym left) ∙ is
-      ∙ ap byte (sym same))
+      ∙ ap byte (sym same)))
 
 -- a write under `FlushAtLeast` leaves fewer bytes than its number, where each write of the inner writer took
 -- something
@@ -136,7 +95,7 @@ module _ {S P : Type 0} (least : P → ℕ) (s : Buffered S P) (bs : List ℕ) (
     (wrote : Wrote (at_least_rules least) s bs n t) where
   pub Wrote-at_least : EachTook s.log.writes t.log.writes → length t.block.bytes < max (least s.policy) 1
   Wrote-at_least took =
-      let same = asked_policy (at_least_rules least) (PolicyStays-at_least least) s t bs n wrote in
+      let same = asked_policy (at_least_rules least) (λ _ _ _ _ _ _ allowed. allowed.0) s t bs n wrote in
       let amount : wrote.finished.amount.0 ≡ max (length wrote.after.block.bytes) (least s.policy) =
       wrote.finished.asked.allowed.1 ∙ ap (λ p. max (length wrote.after.block.bytes) (least p)) same in
       let left = Wrote-left (at_least_rules least) s bs n t wrote took in
@@ -174,20 +133,21 @@ module _ {S P : Type 0} (exact : P → ℕ) (s : Buffered S P) (bs : List ℕ) (
         sent = sent.sent;
         front = sent.front ∙ ap (take (length sent.sent)) p.asked.law.bytes;
         received = sent.received ∙ ap (λ l. l.writes.received ++ sent.sent) p.told;
-        exact = subst (λ a. AllOrNone a sent.sent) p.asked.allowed.1 sent.exact;
+        exact = subst (λ a. (length sent.sent ≡ a) ⊎ (length sent.sent ≡ 0)) p.asked.allowed.1.0 sent.exact;
       }
 
   exact_last : (answer : Result (Unit {0}) Error)
       → FlushesAmount (wrote.finished.amount.0) (with_policy wrote.after t.policy) answer t
       → OnOk answer (SentAllOrNone (exact s.policy) wrote.after t)
   exact_last (Ok u) flush =
-      let same = asked_policy (exact_rules exact) (PolicyStays-exact exact) s t bs n wrote in
+      let same = asked_policy (exact_rules exact) (λ _ _ _ _ _ _ allowed. allowed.0) s t bs n wrote in
       let sent = FlushesAmount-exact (wrote.finished.amount.0) (with_policy wrote.after t.policy) t flush in
       record {
         sent = sent.sent;
         front = sent.front;
         received = sent.received;
-        exact = subst (λ a. AllOrNone a sent.sent) (wrote.finished.asked.allowed.1 ∙ ap exact same) sent.exact;
+        exact = subst (λ a. (length sent.sent ≡ a) ⊎ (length sent.sent ≡ 0)) (wrote.finished.asked.allowed.1 ∙ ap exact same)
+            sent.exact;
       }
   exact_last (Err e) flush = tt
 
@@ -221,7 +181,7 @@ module _ {S P : Type 0} (exact : P → ℕ) (s : Buffered S P) (bs : List ℕ) (
 module _ {S P : Type 0} (s : Buffered S P) (bs : List ℕ) where
   pub Writes-flush_on : (byte : P → ℕ) (answer : Result ℕ Error) (t : Buffered S P)
       → Writes (flush_on_rules byte) s bs answer t
-      → OnOk answer (EachTook s.log.writes t.log.writes → HasNo (byte s.policy) t.block.bytes)
+      → OnOk answer (EachTook s.log.writes t.log.writes → Lacks (byte s.policy) t.block.bytes)
   Writes-flush_on byte (Ok n) t wrote = Wrote-flush_on byte s bs n t wrote
   Writes-flush_on byte (Err e) t failed = tt
 

@@ -1,6 +1,6 @@
 //! Policies that give the same answer to each question.
 ghost use Rattle.std.specs.Prelude.{true};
-ghost use Rattle.buffer_redux.specs.Policy.{any_read_rules, any_write_rules, no_read_claims, no_write_claims};
+ghost use Rattle.buffer_redux.specs.Policy.{any_read_rules, any_write_rules, no_read_claims};
 
 use buffer_redux::Buffer;
 use buffer_redux::policy::{DoRead, FlushAmt, ReaderPolicy, WriterPolicy};
@@ -43,7 +43,7 @@ impl ReaderPolicy for Always {
 }
 
 impl WriterPolicy for Always {
-    ghost rules = { record any_write_rules { claims = λ _. record no_write_claims { steady = true } } };
+    ghost rules = { record any_write_rules { claims = λ _. record { steady = true } } };
 
     fn before_write(&mut self, buf: &mut Buffer, _incoming: usize) -> io::Result<FlushAmt> {
         Ok(FlushAmt(buf.len()))

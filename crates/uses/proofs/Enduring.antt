@@ -6,8 +6,9 @@ use Rattle.std.specs.declared.io.Error.{Error}
 use Rattle.std.specs.declared.io.ErrorKind.TheVariants.{OutOfMemory}
 use Rattle.buffer_redux.specs.BufReader.{Fills, ReadsInOrder}
 use Rattle.buffer_redux.specs.Buffered.{Buffered}
-use Rattle.buffer_redux.specs.Policy.{ReadRules, ReadsSteadily}
+use Rattle.buffer_redux.specs.Policy.{ReadRules}
 use Rattle.uses.specs.Stops.{MetPassing, Passes}
+use Rattle.std.proofs.lemmas.Bool.{MatchBool-at_true}
 
 pub MetPassing-none : (faults : List Error) → MetPassing 0 faults faults
 MetPassing-none faults =
@@ -51,6 +52,5 @@ pub blamed : {S P A : Type 0} {rules : ReadRules P} {s t : Buffered S P} {e : Er
 blamed {e = e} steady f = elim f.caused [
   | inl fault ↦ fault
   | inr gave ↦
-      absurd (subst (λ b. ReadsSteadily b gave.last.block (Err e))
-      (ap (λ x. x.steady) (sym gave.gave.claims ∙ f.claims) ∙ steady) gave.gave.steady)
+      absurd (MatchBool-at_true _ _ (ap (λ x. x.steady) (sym gave.gave.claims ∙ f.claims) ∙ steady) gave.gave.steady)
 ]

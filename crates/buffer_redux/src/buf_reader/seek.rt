@@ -1,11 +1,12 @@
 //! Seeks of the buffered reader.
-ghost use Rattle.std.specs.Prelude.{◌≡◌, ℕ, pos, ◌^◌, ◌≤◌, length, IfSome, IfOk};
+ghost use Rattle.std.specs.Prelude.{◌≡◌, ℕ, pos, ◌^◌, ◌≤◌, length, IfSome, IfOk, Ok};
 ghost use Rattle.std.specs.Io.KnownBytes.{Keeps};
 ghost use Rattle.std.specs.Io.Seek.{MovesBy, SeekMoves, StaysAt};
-ghost use Rattle.redux_buffer.specs.Block.{IsBlock};
+ghost use Rattle.redux_buffer.specs.Block.{IsBlock, ConsumesFirst};
 ghost use Rattle.redux_buffer.specs.StreamLog.{with_fault};
-ghost use Rattle.buffer_redux.specs.Seek.{plan_for, reader_position, AsksPlace, DropsWithin, Seeks, SeeksBy, SeeksOnce, SeekLeaves};
+ghost use Rattle.buffer_redux.specs.Seek.{plan_for, reader_position, AsksPlace, Seeks, SeeksBy, SeeksOnce, SeekLeaves};
 ghost use Rattle.buffer_redux.specs.Sparing.{Spared};
+ghost use Rattle.buffer_redux.specs.Buffered.{with_block};
 
 use crate::buf_reader::BufReader;
 use redux_buffer::tell::TellSeek;
@@ -121,7 +122,8 @@ impl<R: TellSeek, P> Seek for BufReader<R, P> {
         ensures moves { MovesBy (reader_position R.stream_position self.old)
             (reader_position R.stream_position self.new) offset result }
         ensures bytes { Keeps (R.stream_bytes self.old.inner) (R.stream_bytes self.new.inner) }
-        ensures near { (n : ℕ) → offset ≡ pos n → n ≤ length self.old.block.bytes → DropsWithin n self.old result self.new }
+        ensures near { (n : ℕ) → offset ≡ pos n → n ≤ length self.old.block.bytes → (result ≡ Ok tt)
+            × ConsumesFirst n self.old.block self.new.block × (self.new ≡ with_block self.old self.new.block) }
         ensures far { ¬ ((n : ℕ) × (offset ≡ pos n) × (n ≤ length self.old.block.bytes))
             → SeeksBy R.readies offset self.old result self.new }
         ensures caused { self.new.log.seeks.faults ≡ with_fault self.old.log.seeks.faults result }

@@ -8,7 +8,8 @@ ghost use Rattle.buffer_redux.specs.BufReader.{Fills, FillsToMinimum, RanDry, Re
 ghost use Rattle.buffer_redux.specs.BufReader.{ReadsAlong, ReadsBuffered, ReadsToEnd, LeavesRest, ReaderKeeps};
 ghost use Rattle.buffer_redux.specs.ReaderLaws.{WantsBytes};
 ghost use Rattle.buffer_redux.specs.Remaining.{reader_remaining};
-ghost use Rattle.redux_play.specs.NextByte.{TakesByte, taken_byte};
+ghost use Rattle.redux_play.specs.NextByte.{TakesByte};
+ghost use Rattle.buffer_redux.specs.ReadByte.{handed_byte};
 
 use buffer_redux::BufReader;
 use buffer_redux::policy::{MinBuffered, ReaderPolicy};
@@ -79,7 +80,7 @@ pub fn next_byte<R: TellRead, P: ReaderPolicy>(
     reader: &mut BufReader<R, P>,
 ) -> io::Result<Option<u8>>
     ensures takes { TakesByte P.rules reader.old result reader.new }
-    ensures along { ReadsAlong R.remaining P.rules reader.old (taken_byte result) reader.new }
+    ensures along { ReadsAlong R.remaining P.rules reader.old (handed_byte result) reader.new }
     ensures end { result ≡ Ok None → WantsBytes (P.rules.claims reader.old.policy) → 0 < reader.old.block.capacity
         → ReadsToEnd R.remaining P.rules reader.old [] reader.new }
 {

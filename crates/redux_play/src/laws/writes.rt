@@ -4,7 +4,8 @@ ghost use Rattle.buffer_redux.specs.BufWriter.{WriterKeeps, Writes};
 ghost use Rattle.buffer_redux.specs.LineWriter.{line_rules};
 ghost use Rattle.redux_play.specs.WroteExactly.{EachTook, WroteExactly};
 ghost use Rattle.buffer_redux.specs.WriterPolicies.{at_least_rules, exact_rules, flush_on_rules};
-ghost use Rattle.redux_play.specs.WriterPolicyLaws.{HasNo, SendsExactly};
+ghost use Rattle.redux_play.specs.WriterPolicyLaws.{SendsExactly};
+ghost use Rattle.buffer_redux.specs.ReadUntil.{Lacks};
 
 use buffer_redux::policy::{FlushAtLeast, FlushExact, FlushOn, FlushOnNewline, WriterPolicy};
 use buffer_redux::{BufWriter, LineWriter};
@@ -33,7 +34,7 @@ pub fn flush_on_law<W: TellWrite>(
     bytes: &[u8],
 ) -> io::Result<usize>
     ensures none_left { OnOk result (EachTook writer.old.log.writes writer.new.log.writes
-        → HasNo writer.old.policy.0 writer.new.block.bytes) }
+        → Lacks writer.old.policy.0 writer.new.block.bytes) }
     ensures policy { writer.new.policy ≡ writer.old.policy }
     ensures steps { Writes (flush_on_rules (λ p. p.0)) writer.old bytes.now result writer.new }
     ensures keeps { WriterKeeps W.log W.trace (flush_on_rules (λ p. p.0)) writer.old writer.new }
@@ -47,7 +48,7 @@ pub fn flush_on_newline_law<W: TellWrite>(
     bytes: &[u8],
 ) -> io::Result<usize>
     ensures none_left { OnOk result (EachTook writer.old.log.writes writer.new.log.writes
-        → HasNo 10 writer.new.block.bytes) }
+        → Lacks 10 writer.new.block.bytes) }
     ensures policy { writer.new.policy ≡ writer.old.policy }
     ensures steps { Writes (flush_on_rules (λ p. 10)) writer.old bytes.now result writer.new }
     ensures keeps { WriterKeeps W.log W.trace (flush_on_rules (λ p. 10)) writer.old writer.new }
@@ -58,7 +59,7 @@ pub fn flush_on_newline_law<W: TellWrite>(
 /// An Ok write of a [`LineWriter`] leaves no newline, the byte 10, where each write of the inner writer took something.
 pub fn line_law<W: TellWrite>(writer: &mut LineWriter<W>, bytes: &[u8]) -> io::Result<usize>
     ensures none_left { OnOk result (EachTook writer.old.log.writes writer.new.log.writes
-        → HasNo 10 writer.new.block.bytes) }
+        → Lacks 10 writer.new.block.bytes) }
     ensures steps { Writes line_rules writer.old bytes.now result writer.new }
     ensures keeps { WriterKeeps W.log W.trace line_rules writer.old writer.new }
 {

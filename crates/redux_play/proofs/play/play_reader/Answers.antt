@@ -2,9 +2,11 @@ use Rattle.std.proofs.Common.{true, false, [], ◌∷◌, ◌++◌, take, sym, a
 use Rattle.std.proofs.lemmas.List.{take_more}
 use Rattle.std.proofs.lemmas.Result.{err_from_is_err_and}
 use Rattle.redux_play.specs.declared.play.ReaderCall.TheVariants.{Read}
-use Rattle.redux_play.specs.PlayReader.{ReaderRuns, ReaderStep, with_handed}
-use Rattle.redux_play.proofs.PlayReading.{ReaderRuns-more, ReaderPlays-stops}
+use Rattle.redux_play.specs.PlayReader.{ReaderStep, with_handed}
+use Rattle.redux_play.proofs.PlayReading.{ReaderPlays-stops}
 use Rattle.redux_play.proofs.play.play_reader.Goals as goal
+use Rattle.redux_play.specs.PlayRoom.{Runs}
+use Rattle.redux_play.proofs.Runs.{Runs-more}
 
 pub returns-in_err-out-clause-plays : goal.returns-in_err-out-clause-plays
 returns-in_err-out-clause-plays g c =
@@ -36,9 +38,9 @@ loop-call-preserved g c =
       gained = c.record.ensures ∙ ap (λ l. l ++ answer ∷ []) (stays.answers_stay ∙ inv.gained)
           ∙ append_assoc c.args.run.now.answers.items inv.answers (answer ∷ []);
       count = length-append inv.answers (answer ∷ []) ∙ omega (arith, inv.count);
-      run = subst (λ l. ReaderRuns rules s l (inv.answers ++ answer ∷ []) t)
+      run = subst (λ l. Runs (ReaderStep rules) s l (inv.answers ++ answer ∷ []) t)
           (sym (take_more c.args.calls.now c.loop-call.call-index (Read 0) c.loop-call-test.true))
-          (ReaderRuns-more rules s (take c.loop-call.call-index c.args.calls.now) inv.answers m
+          (Runs-more (ReaderStep rules) s (take c.loop-call.call-index c.args.calls.now) inv.answers m
           call answer t inv.run step);
       whole = c.step-answer.ensures.whole;
     }

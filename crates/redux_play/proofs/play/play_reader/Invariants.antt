@@ -1,8 +1,9 @@
 use Rattle.std.proofs.Common.{◌≡◌, List, ◌++◌, length, take}
 use Rattle.redux_buffer.specs.Block.{IsBlock}
 use Rattle.redux_play.specs.declared.play.ReaderAnswer.{ReaderAnswer}
-use Rattle.redux_play.specs.PlayReader.{ReaderRuns, with_handed}
+use Rattle.redux_play.specs.PlayReader.{with_handed, ReaderStep}
 use Rattle.redux_play.proofs.play.play_reader.Given as goal
+use Rattle.redux_play.specs.PlayRoom.{Runs}
 
 -- the answers so far are a run of the calls so far
 abbrev pub invariant-loop-call : goal.invariant-loop-call
@@ -10,7 +11,7 @@ invariant-loop-call g l = record {
   answers : List ReaderAnswer;
   gained : l.run.answers.items ≡ l.initial.run.answers.items ++ answers;
   count : length answers ≡ l.call-index;
-  run : ReaderRuns g.P.ReaderPolicy.rules (with_handed l.initial.reader l.initial.run.handed.items)
+  run : Runs (ReaderStep g.P.ReaderPolicy.rules) (with_handed l.initial.reader l.initial.run.handed.items)
       (take l.call-index l.calls) answers (with_handed l.reader l.run.handed.items);
   whole : IsBlock l.reader.block;
 }

@@ -1,9 +1,11 @@
 use Rattle.std.proofs.Common.{true, false, [], ◌∷◌, ◌++◌, take, sym, ap, subst, ◌∙◌, arith, append_assoc, length-append}
 use Rattle.std.proofs.lemmas.List.{take_more}
 use Rattle.std.proofs.lemmas.Result.{err_from_is_err_and}
-use Rattle.redux_play.specs.PlayWriter.{WriterRuns}
-use Rattle.redux_play.proofs.PlayWriting.{WriterRuns-more, WriterPlays-stops}
+use Rattle.redux_play.proofs.PlayWriting.{WriterPlays-stops}
 use Rattle.redux_play.proofs.play.play_writer.Goals as goal
+use Rattle.redux_play.specs.PlayRoom.{Runs}
+use Rattle.redux_play.specs.PlayWriter.{WriterStep}
+use Rattle.redux_play.proofs.Runs.{Runs-more}
 
 pub returns-in_err-reserve-clause-plays : goal.returns-in_err-reserve-clause-plays
 returns-in_err-reserve-clause-plays g c =
@@ -26,9 +28,9 @@ loop-call-preserved g c =
       gained = c.record.ensures ∙ ap (λ l. l ++ answer ∷ []) (c.in_ok-reserve.ensures.items ∙ inv.gained)
           ∙ append_assoc c.args.run.now.answers.items inv.answers (answer ∷ []);
       count = length-append inv.answers (answer ∷ []) ∙ omega (arith, inv.count);
-      run = subst (λ l. WriterRuns rules s l (inv.answers ++ answer ∷ []) t)
+      run = subst (λ l. Runs (WriterStep rules) s l (inv.answers ++ answer ∷ []) t)
           (sym (take_more c.args.calls.now c.loop-call.call-index _ c.loop-call-test.true))
-          (WriterRuns-more rules s (take c.loop-call.call-index c.args.calls.now) inv.answers c.loop-call.writer _ answer t
+          (Runs-more (WriterStep rules) s (take c.loop-call.call-index c.args.calls.now) inv.answers c.loop-call.writer _ answer t
           inv.run c.step.ensures.step);
       whole = c.step.ensures.whole;
     }

@@ -5,8 +5,5 @@ use Rattle.buffer_redux.proofs.buf_writer.BufWriter.write_slowly.Goals as goal
 pub returns-in_err-written-clause-steps : goal.returns-in_err-written-clause-steps
 returns-in_err-written-clause-steps g c =
     let p = err_from_is_err_and c.from_residual-in_err-written.result c.from_residual-in_err-written.ensures.1 in
-    rw (p.1, p.2) (inr (record {
-      before = c.flush_amount.new.self;
-      flush = c.in_ok-flush_amount.ensures.flushed;
-      took_in = c.in_err-written.ensures.took_in;
-    }))
+    rw (p.1, p.2)
+    (inr (c.flush_amount.new.self, c.in_ok-flush_amount.ensures.flushed, c.in_err-written.ensures.took_in))

@@ -52,12 +52,12 @@ returns g c =
     let went : InnerWent g.W.Tell.log g.W.TellWrite.trace c.args.self.now c.flush_after.new.self = search rules in
     write_says _ _ g.P.WriterPolicy.rules _ _ (Ok (length bytes)) _ (omega arith)
     c.flush_after.ensures.whole went (rw (← c.self.view_is) (writes_on g.P.WriterPolicy.rules _ before
-    bytes c.in_ok-first.field-0 c.in_ok-first.ensures whole refl (Ok (length bytes)) c.flush_after.new.self (record {
-      before = before;
-      after = after;
-      flush = flushes_none _ _ (omega (arith, c.if-first-gt0.false, c.in_ok-first.first-is));
-      took_in = takes_in_all _ _ bytes whole
+    bytes c.in_ok-first.field-0 c.in_ok-first.ensures whole refl (Ok (length bytes)) c.flush_after.new.self (
+      before,
+      after,
+      flushes_none _ _ (omega (arith, c.if-first-gt0.false, c.in_ok-first.first-is)),
+      takes_in_all _ _ bytes whole
           (omega (arith, c.if-bytes-usable_space.false, c.usable_space.ensures.value))
-          c.append.ensures.bytes refl refl;
-      finished = c.flush_after.ensures.finished;
-    })))
+          c.append.ensures.bytes refl refl,
+      c.flush_after.ensures.finished,
+    )))

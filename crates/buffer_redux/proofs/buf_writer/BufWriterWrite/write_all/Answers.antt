@@ -76,13 +76,13 @@ returns-else-usable_space-bytes g c =
     c.args.self.now bytes (length bytes) c.flush_after.new.self some refl
     (rw (← c.self.view_is) (record {
       steps = writes_on rules _ before bytes c.in-Ok.field-0 c.in-Ok.ensures whole refl (Ok (length bytes))
-          c.flush_after.new.self (record {
-            before = before;
-            after = after;
-            flush = flushes_none _ _ (omega (arith, c.if-first-gt0.false, c.in-Ok.first-is));
-            took_in = takes_in_all _ _ bytes whole roomy c.append.ensures.bytes refl refl;
-            finished = c.flush_after.ensures.finished;
-          });
+          c.flush_after.new.self (
+            before,
+            after,
+            flushes_none _ _ (omega (arith, c.if-first-gt0.false, c.in-Ok.first-is)),
+            takes_in_all _ _ bytes whole roomy c.append.ensures.bytes refl refl,
+            c.flush_after.ensures.finished,
+          );
       whole = (c.self.invariant, c.flush_after.ensures.whole);
       went = record {
         calls = c.flush_after.ensures.trace.calls;

@@ -48,13 +48,10 @@ returns-in-Err-clause-step g c handed =
     record {
       out = [];
       hands_out = hands_none rules _ _ t handed f.fills f.noted;
-      answers = record {
-        none = refl;
-        error = c.in-Err.e;
-        is_kind = sym c.kind.ensures;
-        caused = f.fills.caused;
-        fills = Filled-err rules c.args.reader.now c.in-Err.e t f.fills.filled;
-      };
+      answers = (
+        refl,
+        (c.in-Err.e, sym c.kind.ensures, (f.fills.caused, Filled-err rules c.args.reader.now c.in-Err.e t f.fills.filled)),
+      );
       claims = f.fills.claims;
       sparing = λ _. f.fills.sparing;
     }

@@ -14,7 +14,7 @@ returns-in-Ok-clause-step g c =
         kind = w.kind;
         noted = w.went.noted;
       };
-      answers = record { done = w.ok; steps = w.steps };
+      answers = (w.ok, w.steps);
     }
 
 pub returns-in-Err-clause-step : goal.returns-in-Err-clause-step
@@ -29,5 +29,5 @@ returns-in-Err-clause-step g c =
         kind = w.kind;
         noted = w.went.noted;
       };
-      answers = record { error = c.in-Err.e; is_kind = search rules; caused = search rules; steps = w.steps };
+      answers = (c.in-Err.e, search rules, (search rules, w.steps));
     }

@@ -31,5 +31,5 @@ returns-in-Err-clause-step g c =
         kind = w.keeps.kind;
         noted = w.keeps.went.noted;
       };
-      answers = record { error = c.in-Err.e; is_kind = search rules; caused = w.caused; steps = w.steps };
+      answers = (c.in-Err.e, search rules, (w.caused, w.steps));
     }

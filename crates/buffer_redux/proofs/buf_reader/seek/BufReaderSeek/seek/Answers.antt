@@ -1,4 +1,4 @@
-use Rattle.std.proofs.Common.{◌≡◌, ◌-ℤ◌, int_le, inl, inr, [], MatchResult, ℕ, ℤ, List, Option, None, Some, Result, Ok, Err, length, pos, neg_ℤ, zero, suc, ap, ◌∙◌, refl, arith, to_z-of_z, SFits, w64}
+use Rattle.std.proofs.Common.{◌≡◌, ◌-ℤ◌, int_le, inl, inr, [], MatchResult, ℕ, ℤ, List, Option, None, Some, Result, Ok, Err, length, pos, neg_ℤ, zero, suc, ap, ◌∙◌, refl, arith, to_z-of_z, SFits, w64, ◌^◌}
 use Rattle.std.specs.Io.Seek.{IsAtOffset, SeekMoves}
 use Rattle.std.specs.declared.io.Error.{Error}
 use Rattle.std.specs.declared.io.traits.SeekFrom.{SeekFrom}
@@ -6,7 +6,7 @@ use Rattle.std.specs.declared.io.traits.SeekFrom.TheVariants.{Start, End, Curren
 use Rattle.std.proofs.lemmas.Bool.{cases_Bool}
 use Rattle.redux_buffer.specs.Block.{Block, Clears}
 use Rattle.std.proofs.lemmas.Result.{err_from_is_err_and}
-use Rattle.buffer_redux.specs.Seek.{least_offset, place_before, plan_for}
+use Rattle.buffer_redux.specs.Seek.{place_before, plan_for}
 use Rattle.buffer_redux.specs.declared.buf_reader.seek.SeekPlan.TheVariants.{Two}
 use Rattle.buffer_redux.proofs.buf_reader.seek.BufReaderSeek.seek.Goals as goal
 
@@ -35,7 +35,7 @@ two_planned : (to : SeekFrom) (len : ℕ) (first second : ℤ) → plan_for to l
     → (to ≡ Current second) × (first ≡ neg_ℤ (pos len))
 two_planned (Start n) len first second plan = absurd (cc)
 two_planned (End n) len first second plan = absurd (cc)
-two_planned (Current n) len first second plan = elim (cases_Bool (int_le least_offset (n -ℤ pos len))) [
+two_planned (Current n) len first second plan = elim (cases_Bool (int_le (neg_ℤ (pos (2 ^ 63))) (n -ℤ pos len))) [
   | inl fits ↦ absurd (cc (rw fits at plan))
   | inr wide ↦
       let plan : Two (neg_ℤ (pos len)) n ≡ Two first second = rw wide at plan in
@@ -54,12 +54,8 @@ returns-in_err-seek_once-in-Two-clause-seeks g c =
     let plan : plan_for c.args.to (length c.args.self.now.block.bytes) ≡ Two c.in-Two.back c.in-Two.offset =
     rw (← c.self.view_is, ← c.len.ensures.value, ← c.seek_plan.ensures) c.in-Two.is in
     let p = err_from_is_err_and c.from_residual.result c.from_residual.ensures.1 in
-    rw (plan, p.1, p.2) (record {
-      between = c.seek_once-in-Two.new.self;
-      answered = _;
-      begun = simp to_z-of_z at c.in_err-seek_once-in-Two.ensures.seeks;
-      ended = (refl, refl);
-    })
+    rw (plan, p.1, p.2)
+    (c.seek_once-in-Two.new.self, _, simp to_z-of_z at c.in_err-seek_once-in-Two.ensures.seeks, (refl, refl))
 
 pub returns-in_ok-seek_once-in-Two-clause-seeks : goal.returns-in_ok-seek_once-in-Two-clause-seeks
 returns-in_ok-seek_once-in-Two-clause-seeks g c =
@@ -67,12 +63,12 @@ returns-in_ok-seek_once-in-Two-clause-seeks g c =
     let offset : SFits w64 c.in-Two.offset = search in
     let plan : plan_for c.args.to (length c.args.self.now.block.bytes) ≡ Two c.in-Two.back c.in-Two.offset =
     rw (← c.self.view_is, ← c.len.ensures.value, ← c.seek_plan.ensures) c.in-Two.is in
-    rw plan (record {
-      between = c.seek_once-in-Two.new.self;
-      answered = _;
-      begun = simp to_z-of_z at c.in_ok-seek_once-in-Two.ensures.seeks;
-      ended = simp to_z-of_z at c.seek_once-in-Two-2.ensures.seeks;
-    })
+    rw plan (
+      c.seek_once-in-Two.new.self,
+      _,
+      simp to_z-of_z at c.in_ok-seek_once-in-Two.ensures.seeks,
+      simp to_z-of_z at c.seek_once-in-Two-2.ensures.seeks,
+    )
 
 pub returns-in_ok-seek_once-in-Two-clause-moves : goal.returns-in_ok-seek_once-in-Two-clause-moves
 returns-in_ok-seek_once-in-Two-clause-moves g c =

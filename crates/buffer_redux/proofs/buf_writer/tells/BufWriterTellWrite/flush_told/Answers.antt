@@ -43,7 +43,7 @@ returns-clause-call g c =
     let flush = c.flush-answer.ensures.flushed in
     let noted : c.note.new.self.log ≡ after_flush s.own_calls answer = search rules in
     record {
-      steps = inr (record { answer = answer; steps = returns-clause-steps g c; noted = noted });
+      steps = inr (answer, returns-clause-steps g c, noted);
       fault = λ steady e is.
           subst (λ l. SendErrorCaused s.log.writes l e) (sym (ap (λ x. x.log.writes) c.self.view_is))
           (flush_fault s m answer e flush.caused (sym (ap (λ l. l.writes.faults) noted) ∙ is));

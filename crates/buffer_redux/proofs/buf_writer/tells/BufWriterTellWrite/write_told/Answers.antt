@@ -48,7 +48,7 @@ returns-clause-call g c =
     let noted : c.note.new.self.log ≡ after_write s.own_calls bs answer = search rules in
     let same = ap (λ x. x.log.writes) c.self.view_is in
     record {
-      steps = inl (record { bytes = bs; answer = answer; steps = returns-clause-steps g c; noted = noted });
+      steps = inl (bs, answer, returns-clause-steps g c, noted);
       fault = λ steady e is.
           subst (λ l. SendErrorCaused s.log.writes l e) (sym same)
           (write_fault table s m bs steady answer e wrote.caused
