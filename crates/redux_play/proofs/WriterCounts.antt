@@ -1,6 +1,6 @@
 -- What a writer's calls consume, the writer inside received.
 use Rattle.std.specs.Prelude.{MatchResult}
-use Rattle.std.proofs.Common.{◌≡◌, ℕ, ◌+◌, List, length, take, ap, arith, inl, inr, length-append, Result, Ok, Err}
+use Rattle.std.proofs.Common.{◌≡◌, ℕ, ◌+◌, List, length, take, ap, arith, inl, inr, length-append, Result, Ok, Err, []}
 use Rattle.std.proofs.lemmas.Bool.{cases_lt}
 use Rattle.std.proofs.lemmas.List.{length-take}
 use Rattle.std.specs.declared.io.Error.{Error}
@@ -9,9 +9,9 @@ use Rattle.redux_buffer.specs.StreamLog.{StreamLog, portion, after_write, after_
 use Rattle.redux_buffer.specs.Transfer.{Sends}
 use Rattle.buffer_redux.specs.Policy.{WriteRules}
 use Rattle.buffer_redux.specs.Buffered.{Buffered, GoesDirect, with_policy}
-use Rattle.buffer_redux.specs.BufWriter.{FlushesAmount, CopiesIn, TakesIn, Prepared, Finished, Writes, Flushes}
+use Rattle.buffer_redux.specs.BufWriter.{FlushesAmount, CopiesIn, TakesIn, Prepared, Finished, Writes, Flushes, WritesInOrder, WriterKeeps, WasFlushed}
 use Rattle.buffer_redux.specs.WriterLaws.{flush_ways, ways_in}
-use Rattle.redux_play.specs.PlayWriter.{ConsumesSent}
+use Rattle.redux_play.specs.PlayWriter.{ConsumesSent, Accepts}
 
 sends_counts : (amount : ℕ) (old : Block) (log : StreamLog) (answer : Result (Unit {0}) Error) (new : Block)
     (log' : StreamLog) → Sends amount old log answer new log'
@@ -32,7 +32,7 @@ flush_receives (Ok _) answer sent log' same = ap (λ l. l.writes.received) same
 flush_receives (Err e) answer sent log' p = ap (λ l. l.writes.received) p.1
 
 module _ {S P : Type 0} where
-  pub Flushes-counts : (s : Buffered S P) (answer : Result (Unit {0}) Error) (t : Buffered S P) → Flushes s answer t
+  Flushes-counts : (s : Buffered S P) (answer : Result (Unit {0}) Error) (t : Buffered S P) → Flushes s answer t
       → ConsumesSent s t
   Flushes-counts s answer t f =
       let same = sends_counts (length s.block.bytes) s.block s.log f.sending t.block f.sent_log f.sends in
@@ -84,7 +84,7 @@ module _ {S P : Type 0} where
   joins : (s m t : Buffered S P) → ConsumesSent s m → ConsumesSent m t → ConsumesSent s t
   joins s m t p q = omega (arith, p, q)
 
-  pub Writes-counts : (rules : WriteRules P) (s : Buffered S P) (bs : List ℕ) (answer : Result ℕ Error)
+  Writes-counts : (rules : WriteRules P) (s : Buffered S P) (bs : List ℕ) (answer : Result ℕ Error)
       (t : Buffered S P) → Writes rules s bs answer t → ConsumesSent s t
   Writes-counts rules s bs (Ok n) t f =
       joins s f.before t (prepared_counts rules (length bs) s (Ok tt) f.before f.prepared)
@@ -96,3 +96,27 @@ module _ {S P : Type 0} where
   Writes-counts rules s bs (Err e) t (inr (inr f)) =
       joins s f.before t (prepared_counts rules (length bs) s (Ok tt) f.before f.prepared)
       (takes_in_counts f.before bs (Err e) t f.took_in)
+
+  -- what a write takes in, and a flush, which takes in nothing
+  pub Writes-accepts : (tells : S → StreamLog) (trace : S → S → Type 0) (rules : WriteRules P) (s : Buffered S P)
+      (bs taken : List ℕ) (answer : Result ℕ Error) (t : Buffered S P) → WritesInOrder s taken t
+      → WriterKeeps tells trace rules s t → Writes rules s bs answer t → Accepts s taken t
+  Writes-accepts tells trace rules s bs taken answer t order keeps steps = record {
+    in_order = order;
+    grows = keeps.grows;
+    consumed = Writes-counts rules s bs answer t steps;
+    capacity = keeps.capacity;
+    kind = keeps.kind;
+    noted = keeps.went.noted;
+  }
+
+  pub Flushes-accepts : (tells : S → StreamLog) (trace : S → S → Type 0) (s : Buffered S P)
+      (answer : Result (Unit {0}) Error) (t : Buffered S P) → WasFlushed tells trace s answer t → Accepts s [] t
+  Flushes-accepts tells trace s answer t w = record {
+    in_order = w.in_order;
+    grows = w.grows;
+    consumed = Flushes-counts s answer t w.steps;
+    capacity = omega (arith, w.capacity);
+    kind = w.kind;
+    noted = w.went.noted;
+  }

@@ -22,17 +22,11 @@ accepted_bytes [] answers = []
 accepted_bytes (call ∷ calls) [] = []
 accepted_bytes (call ∷ calls) (answer ∷ answers) = bytes_accepted_by call answer ++ accepted_bytes calls answers
 
--- `Write(bs)` with `Count(k)`: the first k bytes of bs were taken in
-pub record WriteCounted {S P : Type 0} (rules : WriteRules P) (s : Buffered S P) (bs : List ℕ) (k : ℕ)
-    (t : Buffered S P) : Type 0 where
-  pub most : k ≤ length bs
-  pub empty : k ≡ 0 → 0 < length bs → EmptyWriteCaused rules s bs t
-  pub steps : Writes rules s bs (Ok k) t
-
 -- what this answer to this call says of the writer before and after; other pairs are no steps
 abbrev pub WriterAnswers : {S P : Type 0} → WriteRules P → Buffered S P → WriterCall → WriterAnswer → Buffered S P
     → Type 0
-WriterAnswers rules s (Write bs) (Count k) t = WriteCounted rules s bs.now k t
+WriterAnswers rules s (Write bs) (Count k) t = (k ≤ length bs.now)
+    × (k ≡ 0 → 0 < length bs.now → EmptyWriteCaused rules s bs.now t) × Writes rules s bs.now (Ok k) t
 WriterAnswers rules s (Write bs) (Fault kind) t =
     FaultOf kind (λ e. WriteErrorCaused rules s bs.now (Err e) t × Writes rules s bs.now (Err e) t)
 WriterAnswers rules s Flush Done t = IsFlushed s t × Flushes s (Ok tt) t

@@ -154,28 +154,28 @@ module _ {S P : Type 0} (exact : P → ℕ) (s : Buffered S P) (bs : List ℕ) (
   pub Wrote-exact-last : OnOk wrote.finished.flushed (SentAllOrNone (exact s.policy) wrote.after t)
   Wrote-exact-last = exact_last wrote.finished.flushed wrote.finished.flush
 
-  pub Wrote-exact : SendsExactly (exact_rules exact) (exact s.policy) s bs n t
-  Wrote-exact = elim (ways_in wrote.before.block (length bs)) [
-    | inl past ↦ record {
-      steps = wrote;
-      first = Wrote-exact-first;
-      past = take n bs;
-      went_past = ap (λ l. l.writes.received) (wrote.took_in.past past).told;
-      past_input = inr refl;
-      last = Wrote-exact-last;
-      all_took = Wrote-took (exact_rules exact) s bs n t wrote;
-    }
-    | inr inside ↦ record {
-      steps = wrote;
-      first = Wrote-exact-first;
-      past = [];
-      went_past = ap (λ l. l.writes.received) (wrote.took_in.inside inside).told
-          ∙ sym (append-nil wrote.before.log.writes.received);
-      past_input = inl refl;
-      last = Wrote-exact-last;
-      all_took = Wrote-took (exact_rules exact) s bs n t wrote;
-    }
+  -- what went past the buffer: bytes of the write, or none
+  went_past : (past : List ℕ) × (wrote.after.log.writes.received ≡ wrote.before.log.writes.received ++ past)
+      × ((past ≡ []) ⊎ (past ≡ take n bs))
+  went_past = elim (ways_in wrote.before.block (length bs)) [
+    | inl past ↦ (take n bs, ap (λ l. l.writes.received) (wrote.took_in.past past).told, inr refl)
+    | inr inside ↦ (
+      [],
+      ap (λ l. l.writes.received) (wrote.took_in.inside inside).told ∙ sym (append-nil wrote.before.log.writes.received),
+      inl refl,
+    )
   ]
+
+  pub Wrote-exact : SendsExactly (exact_rules exact) (exact s.policy) s bs n t
+  Wrote-exact = record {
+    steps = wrote;
+    first = Wrote-exact-first;
+    past = went_past.0;
+    went_past = went_past.1;
+    past_input = went_past.2;
+    last = Wrote-exact-last;
+    all_took = Wrote-took (exact_rules exact) s bs n t wrote;
+  }
 
 -- the same of a write that may have failed
 module _ {S P : Type 0} (s : Buffered S P) (bs : List ℕ) where

@@ -11,31 +11,24 @@ use Rattle.buffer_redux.specs.Buffered.{Buffered, GoesPast, StaysInside, with_po
 use Rattle.buffer_redux.specs.BufWriter.{FlushesAmount, CopiesIn, Wrote, WriteFaulted, Writes}
 use Rattle.buffer_redux.specs.WriterLaws.{flush_ways, ways_in, FlushesAmount-met}
 
--- a flush that failed: the bytes that the writer took are gone, and no more
-pub record FlushStopped {S P : Type 0} (amount : ℕ) (s : Buffered S P) (e : Error) (t : Buffered S P) : Type 0 where
-  pub count : ℕ
-  pub most : count ≤ amount
-  pub received : t.log.writes.received ≡ s.log.writes.received ++ take count s.block.bytes
-  pub left : t.block.bytes ≡ drop count s.block.bytes
-  pub caused : SendErrorCaused s.log.writes t.log.writes e
-
--- what the flush of an amount leaves: the bytes behind the first amount, or all of them where there are fewer
+-- what the flush of an amount leaves: the bytes behind the first amount, or all of them where there are fewer; where it
+-- failed, the bytes that the writer took are gone, and no more
 pub record FlushLeaves {S P : Type 0} (amount : ℕ)
     (s : Buffered S P) (answer : Result (Unit {0}) Error) (t : Buffered S P) : Type 0 where
   pub enough : OnOk answer (amount ≤ length s.block.bytes → t.block.bytes ≡ drop amount s.block.bytes)
   pub fewer : OnOk answer (length s.block.bytes < amount → t.block.bytes ≡ s.block.bytes)
-  pub failed : IfErr answer (λ e. FlushStopped amount s e t)
-
--- the space that a copy finds: what can be written behind the bytes, or all that is free where nothing can
-abbrev pub space_to_copy : Block → ℕ
-space_to_copy b = if nat_lt 0 (usable b) then usable b else b.capacity - length b.bytes
+  pub failed : IfErr answer (λ e. (count : ℕ) × (count ≤ amount)
+      × (t.log.writes.received ≡ s.log.writes.received ++ take count s.block.bytes)
+      × (t.block.bytes ≡ drop count s.block.bytes) × SendErrorCaused s.log.writes t.log.writes e)
 
 -- what an Ok write returned: as many of the bytes as one call of the inner writer took, exactly where the first flush
--- left nothing and they fill the capacity; else the smaller of their number and the space that the copy found
+-- left nothing and they fill the capacity; else the smaller of their number and the space that the copy found: what could be
+-- written behind the bytes, or all that was free where nothing could
 pub record WriteReturns {S P : Type 0} (bs : List ℕ) (n : ℕ) (before after : Buffered S P) : Type 0 where
   pub direct : GoesPast before.block (length bs) → (n ≤ length bs) × (after.log ≡ after_write before.log bs (Ok n))
   pub copied : StaysInside before.block (length bs)
-      → (n ≡ min (space_to_copy before.block) (length bs)) × (after.log ≡ before.log)
+      → (n ≡ min (if nat_lt 0 (usable before.block) then usable before.block
+      else before.block.capacity - length before.block.bytes) (length bs)) × (after.log ≡ before.log)
 
 -- what an Ok write did: its steps, what it returned, and what its last flush left of what was buffered then
 pub record WroteExactly {S P : Type 0} (rules : WriteRules P) (s : Buffered S P) (bs : List ℕ) (n : ℕ)
@@ -79,13 +72,13 @@ module _ {S P : Type 0} (amount : ℕ) where
         let sends = f.sends some.0 some.1 in record {
           enough = tt;
           fewer = tt;
-          failed = record {
-            count = sends.count;
-            most = sends.most;
-            received = sends.sent.received;
-            left = sends.sent.dropped.bytes;
-            caused = record { interrupts = sends.interrupts; cause = sends.failed.cause };
-          };
+          failed = (
+            sends.count,
+            sends.most,
+            sends.sent.received,
+            sends.sent.dropped.bytes,
+            record { interrupts = sends.interrupts; cause = sends.failed.cause },
+          );
         }
         )
   ]
@@ -93,19 +86,7 @@ module _ {S P : Type 0} (amount : ℕ) where
   -- the policy doesn't matter
   of_any_policy : (s t : Buffered S P) (p : P) (answer : Result (Unit {0}) Error)
       → FlushLeaves amount (with_policy s p) answer t → FlushLeaves amount s answer t
-  of_any_policy s t p (Ok u) f = record { enough = f.enough; fewer = f.fewer; failed = tt }
-  of_any_policy s t p (Err e) f =
-      let stopped = f.failed in record {
-        enough = tt;
-        fewer = tt;
-        failed = record {
-          count = stopped.count;
-          most = stopped.most;
-          received = stopped.received;
-          left = stopped.left;
-          caused = stopped.caused;
-        };
-      }
+  of_any_policy s t p answer f = record { enough = f.enough; fewer = f.fewer; failed = f.failed }
 
   -- where no fault came and no write took nothing, it didn't fail
   met_nothing : (s t : Buffered S P) (answer : Result (Unit {0}) Error)
@@ -113,15 +94,15 @@ module _ {S P : Type 0} (amount : ℕ) where
       → FlushesAmount amount s answer t → answer ≡ Ok tt
   met_nothing s t (Ok u) zero faults f = refl
   met_nothing s t (Err e) zero faults f =
-      let stopped = (FlushesAmount-leaves s t (Err e) f).failed in
-      elim stopped.caused.cause [
+      let caused = (FlushesAmount-leaves s t (Err e) f).failed.4 in
+      elim caused.cause [
         | inl nothing ↦ absurd (omega (arith, nothing.zero_writes, zero))
         | inr fault ↦ absurd (omega (
           arith,
           faults,
           ap length fault.faults,
-          length-append (s.log.writes.faults ++ stopped.caused.interrupts) (e ∷ []),
-          length-append s.log.writes.faults stopped.caused.interrupts,
+          length-append (s.log.writes.faults ++ caused.interrupts) (e ∷ []),
+          length-append s.log.writes.faults caused.interrupts,
         ))
       ]
 
@@ -130,7 +111,7 @@ zero_rises : (before n : ℕ) (bs : List ℕ) → before ≤ with_zero before bs
 zero_rises before n bs = search rules
 
 copied_space : {S P : Type 0} (bs : List ℕ) (n : ℕ) (s t : Buffered S P) → CopiesIn bs s (Ok n) t
-    → n ≡ min (space_to_copy s.block) (length bs)
+    → n ≡ min (if nat_lt 0 (usable s.block) then usable s.block else s.block.capacity - length s.block.bytes) (length bs)
 copied_space bs n s t copied =
     let same : n ≡ min (usable copied.settled) (length bs) = (let e = copied.answered in cc) in
     elim (cases_lt 0 (usable s.block)) [

@@ -1,33 +1,16 @@
-use Rattle.std.proofs.Common.{Ok, Err, rules, arith}
-use Rattle.redux_play.proofs.WriterCounts.{Flushes-counts}
+use Rattle.std.proofs.Common.{Ok, Err, rules}
+use Rattle.redux_play.proofs.WriterCounts.{Flushes-accepts}
 use Rattle.redux_play.proofs.play.writing.flush.Goals as goal
 
 pub returns-in-Ok-clause-step : goal.returns-in-Ok-clause-step
 returns-in-Ok-clause-step g c =
     let w = c.in-Ok.ensures.flushed in
-    record {
-      accepts = record {
-        in_order = w.in_order;
-        grows = w.grows;
-        consumed = Flushes-counts c.args.writer.now (Ok tt) c.flush.new.self w.steps;
-        capacity = omega (arith, w.capacity);
-        kind = w.kind;
-        noted = w.went.noted;
-      };
-      answers = (w.ok, w.steps);
-    }
+    record { accepts = Flushes-accepts _ _ c.args.writer.now (Ok tt) c.flush.new.self w; answers = (w.ok, w.steps) }
 
 pub returns-in-Err-clause-step : goal.returns-in-Err-clause-step
 returns-in-Err-clause-step g c =
     let w = c.in-Err.ensures.flushed in
     record {
-      accepts = record {
-        in_order = w.in_order;
-        grows = w.grows;
-        consumed = Flushes-counts c.args.writer.now (Err c.in-Err.e) c.flush.new.self w.steps;
-        capacity = omega (arith, w.capacity);
-        kind = w.kind;
-        noted = w.went.noted;
-      };
+      accepts = Flushes-accepts _ _ c.args.writer.now (Err c.in-Err.e) c.flush.new.self w;
       answers = (c.in-Err.e, search rules, (search rules, w.steps));
     }
