@@ -1,5 +1,6 @@
-use Rattle.std.proofs.Common.{◌≡◌, ℕ, List, [], ◌++◌, length, take, drop, min, Option, Ok, subst, sym, ap, ◌∙◌, arith, rules, append-nil, length-append, length-drop, length-take-le, take_at}
-use Rattle.std.specs.Io.KnownBytes.{Consumes, prepend_known}
+use Rattle.std.proofs.Common.{◌≡◌, ◌<◌, ℕ, List, [], ◌++◌, length, take, drop, min, Option, Ok, subst, sym, ap, ◌∙◌, arith, rules, append-nil, length-append, length-drop, length-take-le, take_at}
+use Rattle.std.specs.declared.io.Error.{Error}
+use Rattle.std.specs.Io.KnownBytes.{prepend_known, ReadConsumes}
 use Rattle.std.proofs.lemmas.Grind.{common_steps}
 use Rattle.std.proofs.lemmas.List.{take-append-drop, nil_from_length, drop_min}
 use Rattle.redux_buffer.specs.GivesRemaining.{GivesRemaining, GivesRemaining-none, GivesRemaining-ahead}
@@ -12,16 +13,19 @@ use Rattle.buffer_redux.proofs.unbuffer.UnbufferRead.read.Goals as goal
 record Handed {R : Type 0} (remaining : R → Option (List ℕ)) (s t : Unbuffered R) (n : ℕ) (old out : List ℕ) : Type 0 where
   in_order : HandsOutInOrder s (take n out) t
   left : HandsOutLeft s old (Ok n) out t
-  known : Consumes (prepend_known s.left (remaining s.inner)) (prepend_known t.left (remaining t.inner)) (take n out)
-  size : length out ≡ length old
+  bytes : ReadConsumes {E = Error} (prepend_known s.left (remaining s.inner)) (prepend_known t.left (remaining t.inner))
+      (Ok n) out
+  some : 0 < length s.left
   grows : ReadLogGrows s.log.reads t.log.reads
 
 handed : {R : Type 0} (remaining : R → Option (List ℕ)) (s t : Unbuffered R) (n : ℕ) (old out : List ℕ)
-    → n ≡ min (length s.left) (length old) → out ≡ take n s.left ++ drop n old → t.left ≡ drop n s.left
-    → t.inner ≡ s.inner → t.log ≡ s.log → Handed remaining s t n old out
-handed remaining s t n old out count copied left inner told =
+    → 0 < length s.left → n ≡ min (length s.left) (length old) → out ≡ take n s.left ++ drop n old
+    → t.left ≡ drop n s.left → t.inner ≡ s.inner → t.log ≡ s.log → Handed remaining s t n old out
+handed remaining s t n old out some count copied left inner told =
     let taken = length-take-le n s.left (omega (arith, count)) in
     let swapped : n ≡ min (length old) (length s.left) = omega (arith, count) in
+    let size : length out ≡ length old =
+    omega (arith, count, taken, ap length copied, length-append (take n s.left) (drop n old), length-drop n old) in
     let equal : take n out ++ t.left ≡ s.left ++ [] =
     ap (λ l. take n l ++ t.left) copied
     ∙ ap (λ l. l ++ t.left) (take_at (take n s.left) (drop n old) n taken)
@@ -39,11 +43,14 @@ handed remaining s t n old out count copied left inner told =
         inner = inner;
         told = told;
       };
-      known = GivesRemaining-ahead (remaining s.inner) (remaining t.inner) s.log.reads s.log.reads s.left t.left (take n out) []
-          (subst (λ i. GivesRemaining (remaining s.inner) s.log.reads (remaining i) s.log.reads) (sym inner)
-          (GivesRemaining-none (remaining s.inner) s.log.reads))
-          (sym (append-nil s.log.reads.given)) equal;
-      size = omega (arith, count, taken, ap length copied, length-append (take n s.left) (drop n old), length-drop n old);
+      bytes = (
+        GivesRemaining-ahead (remaining s.inner) (remaining t.inner) s.log.reads s.log.reads s.left t.left (take n out) []
+            (subst (λ i. GivesRemaining (remaining s.inner) s.log.reads (remaining i) s.log.reads) (sym inner)
+            (GivesRemaining-none (remaining s.inner) s.log.reads))
+            (sym (append-nil s.log.reads.given)) equal,
+        λ none room. absurd (omega (arith, some, none, room, size, count)),
+      );
+      some = some;
       grows = subst (λ l. ReadLogGrows s.log.reads l.reads) (sym told) (ReadLogGrows-none s.log.reads);
     }
 
@@ -75,6 +82,7 @@ then_handed g c =
     let inner : t.inner ≡ s.inner = search rules in
     let told : t.log ≡ s.log = search rules in
     handed _ s t copy.result c.args.out.now copy.new.out
+    (omega (arith, rw c.in-Some.is at c.self.invariant, ap length had))
     (copy.ensures.count ∙ ap (λ l. min (length l) (length c.args.out.now)) (sym had))
     (copy.ensures.copied ∙ ap (λ l. take copy.result l ++ drop copy.result c.args.out.now) (sym had))
     (freed ∙ sym none ∙ copy.ensures.bytes.bytes ∙ ap (drop copy.result) (sym had)) inner told
@@ -88,79 +96,38 @@ else_handed g c =
     let had : s.left ≡ c.in-Some.buf.bytes =
     sym (ap (λ u. u.left) c.self.view_is) ∙ ap bytes_in c.in-Some.is in
     handed _ s _ copy.result c.args.out.now copy.new.out
+    (omega (arith, rw c.in-Some.is at c.self.invariant, ap length had))
     (copy.ensures.count ∙ ap (λ l. min (length l) (length c.args.out.now)) (sym had))
     (copy.ensures.copied ∙ ap (λ l. take copy.result l ++ drop copy.result c.args.out.now) (sym had))
     (copy.ensures.bytes.bytes ∙ ap (drop copy.result) (sym had))
     (ap (λ u. u.inner) c.self.view_is) (ap (λ u. u.log) c.self.view_is)
 
 pub returns-then-is_empty-clause-in_order : goal.returns-then-is_empty-clause-in_order
-returns-then-is_empty-clause-in_order g c =
-    (then_handed g c).in_order
+returns-then-is_empty-clause-in_order g c = (then_handed g c).in_order
 
 pub returns-then-is_empty-clause-left : goal.returns-then-is_empty-clause-left
-returns-then-is_empty-clause-left g c =
-    λ _. (then_handed g c).left
+returns-then-is_empty-clause-left g c = λ _. (then_handed g c).left
 
 pub returns-then-is_empty-clause-grows : goal.returns-then-is_empty-clause-grows
-returns-then-is_empty-clause-grows g c =
-    (then_handed g c).grows
+returns-then-is_empty-clause-grows g c = (then_handed g c).grows
 
 pub returns-then-is_empty-clause-asked : goal.returns-then-is_empty-clause-asked
-returns-then-is_empty-clause-asked g c =
-    λ none. absurd (omega (
-      arith,
-      rw c.in-Some.is at c.self.invariant,
-      ap length (sym (ap (λ u. u.left) c.self.view_is) ∙ ap bytes_in c.in-Some.is),
-      none,
-    ))
+returns-then-is_empty-clause-asked g c = λ none. absurd (omega (arith, (then_handed g c).some, none))
 
 pub returns-then-is_empty-clause-bytes : goal.returns-then-is_empty-clause-bytes
-returns-then-is_empty-clause-bytes g c =
-    let h = (then_handed g c) in (
-      h.known,
-      λ none room. absurd (omega (
-        arith,
-        rw c.in-Some.is at c.self.invariant,
-        ap length (sym (ap (λ u. u.left) c.self.view_is) ∙ ap bytes_in c.in-Some.is),
-        none,
-        room,
-        h.size,
-        c.copy_to_slice-n.ensures.count,
-      )),
-    )
+returns-then-is_empty-clause-bytes g c = (then_handed g c).bytes
 
 pub returns-else-is_empty-clause-in_order : goal.returns-else-is_empty-clause-in_order
-returns-else-is_empty-clause-in_order g c =
-    (else_handed g c).in_order
+returns-else-is_empty-clause-in_order g c = (else_handed g c).in_order
 
 pub returns-else-is_empty-clause-left : goal.returns-else-is_empty-clause-left
-returns-else-is_empty-clause-left g c =
-    λ _. (else_handed g c).left
+returns-else-is_empty-clause-left g c = λ _. (else_handed g c).left
 
 pub returns-else-is_empty-clause-grows : goal.returns-else-is_empty-clause-grows
-returns-else-is_empty-clause-grows g c =
-    (else_handed g c).grows
+returns-else-is_empty-clause-grows g c = (else_handed g c).grows
 
 pub returns-else-is_empty-clause-asked : goal.returns-else-is_empty-clause-asked
-returns-else-is_empty-clause-asked g c =
-    λ none. absurd (omega (
-      arith,
-      rw c.in-Some.is at c.self.invariant,
-      ap length (sym (ap (λ u. u.left) c.self.view_is) ∙ ap bytes_in c.in-Some.is),
-      none,
-    ))
+returns-else-is_empty-clause-asked g c = λ none. absurd (omega (arith, (else_handed g c).some, none))
 
 pub returns-else-is_empty-clause-bytes : goal.returns-else-is_empty-clause-bytes
-returns-else-is_empty-clause-bytes g c =
-    let h = (else_handed g c) in (
-      h.known,
-      λ none room. absurd (omega (
-        arith,
-        rw c.in-Some.is at c.self.invariant,
-        ap length (sym (ap (λ u. u.left) c.self.view_is) ∙ ap bytes_in c.in-Some.is),
-        none,
-        room,
-        h.size,
-        c.copy_to_slice-n.ensures.count,
-      )),
-    )
+returns-else-is_empty-clause-bytes g c = (else_handed g c).bytes
