@@ -1,5 +1,5 @@
 //! A reader's own `lines` and `split`: wherever a fill ends, and whichever call of the stream fails.
-use crate::text_lines::{Faulty, SIZES, Text, text};
+use crate::text_lines::{Faulty, SIZES, Text, is_told, text};
 use buffer_redux::{Lines, Split};
 use redux_script::Answer;
 use std::alloc::Global;
@@ -45,18 +45,29 @@ static ROWS: [Row; 6] = [
     ),
 ];
 
+// How many calls of the stream come before the one that fails, and how.
+type Fault = (usize, Answer);
+
 // These calls promise nothing here, since the rows look at each answer. A fault is met once, and the next call goes on.
-fn piece(pieces: &mut Split<Faulty>) -> Option<io::Result<Vec<u8>>> {
+fn piece(pieces: &mut Split<Faulty>, failed: &mut usize) -> Option<io::Result<Vec<u8>>> {
     match pieces.next() {
-        Some(Err(e)) if e.kind() == ErrorKind::WouldBlock => pieces.next(),
+        Some(Err(e)) if e.kind() == ErrorKind::WouldBlock => {
+            *failed = failed.saturating_add(1);
+            pieces.next()
+        }
         given => given,
     }
 }
 
 // Where a fault comes, the lines are taken apart, and made again of what had begun.
-fn line(alloc: Global, mut lines: Lines<Faulty>) -> (Lines<Faulty>, Option<io::Result<String>>) {
+fn line(
+    alloc: Global,
+    mut lines: Lines<Faulty>,
+    failed: &mut usize,
+) -> (Lines<Faulty>, Option<io::Result<String>>) {
     match lines.next() {
         Some(Err(e)) if e.kind() == ErrorKind::WouldBlock => {
+            *failed = failed.saturating_add(1);
             let (reader, begun) = lines.into_parts();
             let mut again = Lines::from_parts(alloc, reader, begun);
             let given = again.next();
@@ -66,21 +77,25 @@ fn line(alloc: Global, mut lines: Lines<Faulty>) -> (Lines<Faulty>, Option<io::R
     }
 }
 
-fn is_cut(alloc: Global, from: Text, row: &Row) -> bool {
+fn is_cut(alloc: Global, from: Text, row: &Row, fault: Fault) -> bool {
     let mut pieces = from.split(alloc, row.1);
+    let mut failed = 0;
     for want in row.2 {
-        match piece(&mut pieces) {
+        match piece(&mut pieces, &mut failed) {
             Some(Ok(given)) if given.as_slice() == *want => {}
             _ => return false,
         }
     }
-    piece(&mut pieces).is_none() && pieces.into_parts().1.is_empty()
+    let is_all = piece(&mut pieces, &mut failed).is_none();
+    let (reader, begun) = pieces.into_parts();
+    is_all && begun.is_empty() && is_told(&reader, fault, failed)
 }
 
-fn is_read(alloc: Global, from: Text, row: &Row) -> bool {
+fn is_read(alloc: Global, from: Text, row: &Row, fault: Fault) -> bool {
     let mut lines = from.lines(alloc);
+    let mut failed = 0;
     for want in row.3 {
-        let (next, given) = line(alloc, lines);
+        let (next, given) = line(alloc, lines, &mut failed);
         lines = next;
         match given {
             Some(given) => {
@@ -91,8 +106,9 @@ fn is_read(alloc: Global, from: Text, row: &Row) -> bool {
             None => return false,
         }
     }
-    let (lines, given) = line(alloc, lines);
-    given.is_none() && lines.into_parts().1.is_empty()
+    let (lines, given) = line(alloc, lines, &mut failed);
+    let (reader, begun) = lines.into_parts();
+    given.is_none() && begun.is_empty() && is_told(&reader, fault, failed)
 }
 
 fn is_line(given: io::Result<String>, want: Result<&str, ErrorKind>) -> bool {
@@ -110,9 +126,19 @@ fn cut_as_stds_cut(rt: HostRuntime) -> Result<(), Fail> {
             for before in 0..20 {
                 let fault = (before, Answer::Fail(ErrorKind::WouldBlock));
                 let from = text(rt.alloc(), sizes, row.0, fault)?;
-                assert!(rt; is_cut(rt.alloc(), from, row), "{:?} {:?}", row.0, sizes);
+                assert!(rt;
+                    is_cut(rt.alloc(), from, row, fault),
+                    "{:?} {:?}",
+                    row.0,
+                    sizes
+                );
                 let from = text(rt.alloc(), sizes, row.0, fault)?;
-                assert!(rt; is_read(rt.alloc(), from, row), "{:?} {:?}", row.0, sizes);
+                assert!(rt;
+                    is_read(rt.alloc(), from, row, fault),
+                    "{:?} {:?}",
+                    row.0,
+                    sizes
+                );
             }
         }
     }

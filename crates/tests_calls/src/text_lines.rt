@@ -39,24 +39,42 @@ fn until<R: TellRead>(rdr: &mut BufReader<R>, out: &mut Vec<u8>) -> io::Result<u
     rdr.read_until(b'\n', out)
 }
 
-// Whether this line comes, of which each part stays appended where a call fails and is made again.
-fn comes(rdr: &mut Text, out: &mut String, want: &str) -> bool {
+// How often a call fails up to this line, of which each part stays appended where it is made again. Nothing where another comes.
+fn comes(rdr: &mut Text, out: &mut String, want: &str) -> Option<usize> {
     out.clear();
     match kind(line(rdr, out)) {
-        Ok(n) => n == want.len() && out.as_str() == want,
-        Err(ErrorKind::WouldBlock) => kind(line(rdr, out)).is_ok() && out.as_str() == want,
-        Err(_) => false,
+        Ok(n) => (n == want.len() && out.as_str() == want).then_some(0),
+        Err(ErrorKind::WouldBlock) => {
+            (kind(line(rdr, out)).is_ok() && out.as_str() == want).then_some(1)
+        }
+        Err(_) => None,
     }
 }
 
-fn all_come(alloc: Global, mut rdr: Text) -> bool {
+fn all_come(alloc: Global, rdr: &mut Text) -> Option<usize> {
     let mut out = String::new(alloc);
+    let mut failed = 0usize;
     for want in &LINES {
-        if !comes(&mut rdr, &mut out, want) {
-            return false;
-        }
+        failed = failed.saturating_add(comes(rdr, &mut out, want)?);
     }
-    true
+    Some(failed)
+}
+
+/// Whether so many calls failed as met the fault, which comes once.
+pub fn is_told(rdr: &Text, fault: (usize, Answer), failed: usize) -> bool {
+    match (failed, fault.1) {
+        (0, Answer::Interrupt(_)) => true,
+        (0, _) => rdr.get_ref().get_ref().calls() <= fault.0,
+        (1, Answer::Fail(_)) => rdr.get_ref().get_ref().calls() > fault.0,
+        _ => false,
+    }
+}
+
+fn tells(alloc: Global, mut rdr: Text, fault: (usize, Answer)) -> bool {
+    match all_come(alloc, &mut rdr) {
+        Some(failed) => is_told(&rdr, fault, failed),
+        None => false,
+    }
 }
 
 pub const SIZES: [(usize, usize); 12] = [
@@ -81,7 +99,7 @@ fn wherever_a_fill_ends(rt: HostRuntime) -> Result<(), Fail> {
             for answer in [Answer::Interrupt(64), Answer::Fail(ErrorKind::WouldBlock)] {
                 let fault = (before, answer);
                 let rdr = text(rt.alloc(), sizes, TEXT.as_bytes(), fault)?;
-                assert!(rt; all_come(rt.alloc(), rdr), "{:?} {:?}", sizes, fault);
+                assert!(rt; tells(rt.alloc(), rdr, fault), "{:?} {:?}", sizes, fault);
             }
         }
     }
