@@ -24,6 +24,7 @@ pub mod UntilSteps
 pub mod Utf8Parts
 pub mod Utf8Fronts
 pub mod LineSteps
+pub mod HandSteps
 pub mod ReadSteps
 pub mod LineSends
 pub mod Parts

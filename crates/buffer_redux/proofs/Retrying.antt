@@ -1,20 +1,20 @@
 -- Steps that are made again where they were interrupted, fills among them.
-use Rattle.std.proofs.Common.{◌≡◌, ℕ, ◌+◌, ◌<◌, ◌≤◌, zero, suc, List, [], ◌∷◌, length, arith, ◌++◌, Result, Ok, Err, IfErr, Option, sym, ap, subst, ◌∙◌, inl, inr}
+use Rattle.std.proofs.Common.{◌≡◌, ℕ, ◌<◌, ◌≤◌, zero, suc, List, [], ◌∷◌, length, arith, ◌++◌, Result, Ok, Err, Option, sym, ap, subst, ◌∙◌, inl, inr}
 use Rattle.std.proofs.lemmas.List.Elements.{All-nil, All-cons}
 use Rattle.std.specs.declared.io.Error.{Error}
 use Rattle.redux_buffer.specs.Block.{IsBlock}
+use Rattle.redux_buffer.specs.Retried.{InterruptedSteps, Retried, Step}
 use Rattle.redux_buffer.specs.Faults.{IsInterrupt, OnlyInterrupts, OnlyInterrupts-same, OnlyInterrupts-joins}
 use Rattle.buffer_redux.specs.Policy.{ReadRules}
 use Rattle.buffer_redux.specs.Buffered.{Buffered}
 use Rattle.buffer_redux.specs.BufReader.{InnerGives, RanDry, ReadErrorCaused}
 use Rattle.buffer_redux.specs.Fill.{Filled}
-use Rattle.buffer_redux.specs.FillRetried.{FillRetried, InterruptedSteps, OneFill, Retried, Step}
+use Rattle.buffer_redux.specs.FillRetried.{FillRetried, OneFill}
 use Rattle.buffer_redux.specs.ReadAll.{HandedFront}
 use Rattle.buffer_redux.specs.ReaderLaws.{Fills-empty, WantsBytes}
 use Rattle.buffer_redux.proofs.FillClaims.{fills}
 use Rattle.buffer_redux.proofs.FillFacts.{turns_facts}
 use Rattle.buffer_redux.proofs.ReadAll.{front_joins}
-use Rattle.buffer_redux.proofs.WriteAll.{one_more}
 
 pub one_interrupt : (old new : List Error) (e : Error) → IsInterrupt e → new ≡ old ++ e ∷ [] → OnlyInterrupts old new
 one_interrupt old new e is came = record {
@@ -23,32 +23,16 @@ one_interrupt old new e is came = record {
   faults = came;
 }
 
-pub if_err : {A : Type 0} (answer : Result A Error) (F : Error → Type 0) → ((e : Error) → F e) → IfErr answer F
-if_err (Ok a) F h = tt
-if_err (Err e) F h = h e
-
-module _ {T : Type 0} (step : Step T) where
-  -- one more was interrupted
-  pub interrupted_more : (k : ℕ) (s m t : T) (e : Error) → InterruptedSteps step k s m → IsInterrupt e → step m (Err e) t
-      → InterruptedSteps step (k + 1) s t
-  interrupted_more k s m t e before is went = subst (λ n. InterruptedSteps step n s t) (one_more k)
-      (m, before, record { error = e; interrupt = is; went = went })
-
-  pub retried_ends : (k : ℕ) (s m : T) (answer : Result (Unit {0}) Error) (t : T) → InterruptedSteps step k s m → k ≤ 64
-      → IfErr answer (λ e. IsInterrupt e → k ≡ 64) → step m answer t → Retried step s answer t
-  retried_ends k s m answer t before most often went =
-      record { count = k; last = m; interrupted = before; most = most; often = often; went = went }
-
 module _ {S P : Type 0} (remaining : S → Option (List ℕ)) (rules : ReadRules P) where
   -- such a step hands out nothing, and meets no fault but interrupted reads: where it's Ok, and where it's interrupted
-  pub record HandsNothing (step : Step (Buffered S P)) : Type 0 where
+  pub record HandsNothing (step : Step (Buffered S P) (Unit {0})) : Type 0 where
     pub front : (s : Buffered S P) (answer : Result (Unit {0}) Error) (t : Buffered S P) → step s answer t
         → HandedFront remaining rules s [] t
     pub only : (s t : Buffered S P) → step s (Ok tt) t → OnlyInterrupts s.log.reads.faults t.log.reads.faults
     pub interrupt : (s : Buffered S P) (e : Error) (t : Buffered S P) → IsInterrupt e → step s (Err e) t
         → OnlyInterrupts s.log.reads.faults t.log.reads.faults
 
-  module _ (step : Step (Buffered S P)) (h : HandsNothing step) where
+  module _ (step : Step (Buffered S P) (Unit {0})) (h : HandsNothing step) where
     after_interrupted : (k : ℕ) (s m t : Buffered S P) → InterruptedSteps step k s m
         → HandedFront remaining rules m [] t → HandedFront remaining rules s [] t
     after_interrupted zero s m t same f = subst (λ x. HandedFront remaining rules x [] t) (sym same) f
@@ -111,7 +95,7 @@ module _ {S P : Type 0} (remaining : S → Option (List ℕ)) (rules : ReadRules
   pub refilling : HandsNothing (FillRetried remaining rules)
   refilling = retrying (OneFill remaining rules) filling
 
-  still : (k : ℕ) (s m : Buffered S P) → InterruptedSteps (OneFill remaining rules) k s m
+  still : (k : ℕ) (s m : Buffered S P) → InterruptedSteps {A = Unit {0}} (OneFill remaining rules) k s m
       → (s.block.capacity ≤ m.block.capacity) × (s.log.reads.zero_reads ≤ m.log.reads.zero_reads)
   still zero s m same = (
     omega (arith, ap (λ x. x.block.capacity) same),

@@ -1,29 +1,24 @@
 -- The turns and the ends of a call that goes on up to a byte.
-use Rattle.std.proofs.Common.{◌≡◌, ℕ, suc, ◌+◌, ◌-◌, ◌^◌, ◌<◌, ◌≤◌, Bool, true, false, List, [], ◌++◌, length, take, Result, Ok}
+use Rattle.std.proofs.Common.{◌≡◌, ℕ, suc, ◌+◌, ◌-◌, ◌<◌, ◌≤◌, List, [], ◌++◌, length, take, Result, Ok}
 use Rattle.std.proofs.Common.{Err, Option}
-use Rattle.std.proofs.Common.{refl, sym, ap, subst, ◌∙◌, inl, inr, arith, append-nil, append_assoc, length-append}
+use Rattle.std.proofs.Common.{refl, sym, ap, subst, inl, inr, arith, append-nil, length-append}
 use Rattle.std.proofs.Common.{length-take-le}
-use Rattle.std.specs.Prelude.{IsTrue, ◌↔◌}
 use Rattle.std.proofs.lemmas.Bool.{cases_lt}
 use Rattle.std.proofs.lemmas.List.{nil_from_length}
-use Rattle.std.proofs.Math.Seq.{take-length}
-use Rattle.std.specs.IoError.{error_kind}
 use Rattle.std.specs.declared.io.Error.{Error}
-use Rattle.std.specs.declared.io.ErrorKind.TheVariants.{OutOfMemory}
 use Rattle.redux_buffer.specs.Block.{IsBlock}
 use Rattle.redux_buffer.specs.Faults.{OnlyInterrupts, OnlyInterrupts-none, OnlyInterrupts-joins}
+use Rattle.redux_buffer.specs.Retried.{Step}
 use Rattle.redux_buffer.specs.StreamLog.{StreamLog}
 use Rattle.buffer_redux.specs.Policy.{ReadRules}
 use Rattle.buffer_redux.specs.Buffered.{Buffered}
 use Rattle.buffer_redux.specs.BufReader.{RanDry, ReaderConsumes}
-use Rattle.buffer_redux.specs.FillRetried.{Step}
 use Rattle.buffer_redux.specs.ReadAll.{HandedFront}
 use Rattle.buffer_redux.specs.ReaderLaws.{ReaderKeeps-along, WantsBytes}
 use Rattle.buffer_redux.specs.ReadUntil.{DropsFirst, EndsUntil, FirstAt, Lacks, Passes, PassesAndFills, PassesToEnd, Reaches, Steps, Stops}
-use Rattle.buffer_redux.specs.ReadUntil.{no_memory}
 use Rattle.buffer_redux.proofs.ReadAll.{front_none, front_joins}
 use Rattle.buffer_redux.proofs.Retrying.{HandsNothing}
-use Rattle.buffer_redux.proofs.Searching.{ends_in, lacks_none, lacks_both}
+use Rattle.buffer_redux.proofs.Searching.{ends_in, first_through, lacks_none, lacks_both}
 
 -- where the log is the same, no fault came
 told_only : (old log log' : StreamLog) → log' ≡ log → OnlyInterrupts old.reads.faults log.reads.faults
@@ -42,7 +37,8 @@ pub drops_some : {S P : Type 0} (rules : ReadRules P) (s t : Buffered S P) (n : 
     → DropsFirst rules n s t
 drops_some rules s t n some gone = record { none = λ none. absurd (omega (arith, some, none)); some = λ _. gone }
 
-module _ {S P : Type 0} {step : Step (Buffered S P)} (remaining : S → Option (List ℕ)) (rules : ReadRules P) (byte : ℕ) where
+module _ {S P : Type 0} {step : Step (Buffered S P) (Unit {0})} (remaining : S → Option (List ℕ)) (rules : ReadRules P)
+    (byte : ℕ) where
   pub passes_none : (s : Buffered S P) → IsBlock s.block → Passes remaining rules step byte s [] s
   passes_none s whole = record {
     front = front_none remaining rules s whole;
@@ -69,15 +65,6 @@ module _ {S P : Type 0} {step : Step (Buffered S P)} (remaining : S → Option (
       faults = told_only s.log m.log t.log (drops_told rules m t n gone) before.faults;
       steps = steps_consumed t n within gone;
     }
-
-    pub passes_all : (t : Buffered S P) (n : ℕ) → n ≡ length m.block.bytes → Lacks byte m.block.bytes
-        → HandedFront remaining rules m (take n m.block.bytes) t → DropsFirst rules n m t
-        → Passes remaining rules step byte s (handed ++ m.block.bytes) t
-    passes_all t n count plain went gone =
-        let all : take n m.block.bytes ≡ m.block.bytes =
-        ap (λ k. take k m.block.bytes) count ∙ take-length m.block.bytes in
-        subst (λ l. Passes remaining rules step byte s (handed ++ l) t) all
-        (passes_first t n (omega (arith, count)) (subst (Lacks byte) (sym all) plain) went gone)
 
     -- a step that hands out nothing is made as a fill
     module _ (hands : HandsNothing remaining rules step) where
@@ -118,11 +105,6 @@ module _ {S P : Type 0} {step : Step (Buffered S P)} (remaining : S → Option (
         }
 
     -- the bytes up to the byte, with it, are handed out next
-    pub front_reached : (at : ℕ) (t : Buffered S P) → HandedFront remaining rules m (take (at + 1) m.block.bytes) t
-        → HandedFront remaining rules s (handed ++ take (at + 1) m.block.bytes) t
-    front_reached at t went =
-        front_joins remaining rules s m t handed (take (at + 1) m.block.bytes) before.front went
-
     pub reaches : (at : ℕ) (t : Buffered S P) → FirstAt byte at m.block.bytes → DropsFirst rules (at + 1) m t
         → Reaches rules step byte s (handed ++ take (at + 1) m.block.bytes) t
     reaches at t first gone = record {
@@ -131,100 +113,22 @@ module _ {S P : Type 0} {step : Step (Buffered S P)} (remaining : S → Option (
       steps = steps_consumed t (at + 1) (omega (arith, first.inside)) gone;
     }
 
-    -- how the call ends: with the fault of a fill, where a fill showed nothing, at the byte, or of its own
-    module _ (stops : Stops) where
-      pub until_failed : (e : Error) (t : Buffered S P) → step m (Err e) t
-          → EndsUntil remaining rules step stops byte s (Err e) handed t
-      until_failed e t f = inl (passes_and_fills (Err e) t f)
-
-      pub until_end : HandsNothing remaining rules step → (n : ℕ) (t : Buffered S P) → n ≡ length handed → step m (Ok tt) t
-          → (WantsBytes (rules.claims m.policy) → 0 < m.block.capacity → RanDry m t) → length t.block.bytes ≡ 0
-          → EndsUntil remaining rules step stops byte s (Ok n) handed t
-      until_end hands n t count f dry none = (count, inr (passes_to_end hands t f dry none))
-
-      pub until_reached : (n at : ℕ) (t : Buffered S P) → n ≡ length (handed ++ take (at + 1) m.block.bytes)
-          → FirstAt byte at m.block.bytes → DropsFirst rules (at + 1) m t
-          → EndsUntil remaining rules step stops byte s (Ok n) (handed ++ take (at + 1) m.block.bytes) t
-      until_reached n at t count first gone = (count, inl (reaches at t first gone))
-
-      pub until_stopped : (e : Error) → stops handed e m.block.bytes
-          → EndsUntil remaining rules step stops byte s (Err e) handed m
-      until_stopped e why = inr (before, why)
-
-    pub until_refused : (n : ℕ) (e : Error) (t : Buffered S P) → n ≤ length m.block.bytes → 0 < n → t ≡ m
-        → error_kind e ≡ OutOfMemory
-        → HandedFront remaining rules s handed t × EndsUntil remaining rules step no_memory byte s (Err e) handed t
-    until_refused n e t within some same kind = subst
-        (λ x. HandedFront remaining rules s handed x × EndsUntil remaining rules step no_memory byte s (Err e) handed x)
+    -- or the call stops before them, and does nothing
+    pub stopped : (stops : Stops) (at : ℕ) (e : Error) (t : Buffered S P) → FirstAt byte at m.block.bytes → t ≡ m
+        → stops handed e (take (at + 1) m.block.bytes)
+        → HandedFront remaining rules s handed t × EndsUntil {A = ℕ} remaining rules step stops byte s (Err e) handed t
+    stopped stops at e t first same why = subst
+        (λ x. HandedFront remaining rules s handed x × EndsUntil {A = ℕ} remaining rules step stops byte s (Err e) handed x)
         (sym same)
-        (before.front, until_stopped no_memory e (kind, omega (arith, some, within)))
-
--- where all that is buffered was handed out, nothing is left
-pub emptied : {S P : Type 0} (remaining : S → Option (List ℕ)) (rules : ReadRules P) (m t : Buffered S P) (n : ℕ)
-    → n ≡ length m.block.bytes → HandedFront remaining rules m (take n m.block.bytes) t → DropsFirst rules n m t
-    → length t.block.bytes ≡ 0
-emptied remaining rules m t n count went gone = omega (
-  arith,
-  count,
-  length-take-le n m.block.bytes (omega (arith, count)),
-  ap length went.in_order.equal,
-  length-append (take n m.block.bytes) t.block.bytes,
-  length-append m.block.bytes went.in_order.got,
-  ap length went.in_order.given,
-  length-append m.log.reads.given went.in_order.got,
-  ap (λ l. length l.reads.given) (drops_told rules m t n gone),
-)
-
--- a fill that leaves some bytes shows more than were left
-pub fills_more : (left len' : ℕ) (empty : Bool) → (0 < left → left < len') → IsTrue empty ↔ (len' ≡ 0) → empty ≡ false
-    → left < len'
-fills_more left len' empty more means full = elim (cases_lt 0 left) [
-  | inl some ↦ more some
-  | inr none ↦ elim (cases_lt 0 len') [
-    | inl some ↦ omega (arith, some, none)
-    | inr nothing ↦ let yes : empty ≡ true = means.1 (omega (arith, nothing)) in absurd (cc)
-  ]
-]
-
--- more was appended behind what was appended before
-pub appends : (old out h k : List ℕ) (new : List ℕ) → out ≡ old ++ h → new ≡ out ++ k → new ≡ old ++ (h ++ k)
-appends old out h k new before after = after ∙ ap (λ l. l ++ k) before ∙ append_assoc old h k
+        (before.front, inr (before, subst (stops handed e) (first_through byte at m.block.bytes first) why))
 
 -- how many bytes these are
-pub through_length : (byte at : ℕ) (handed bytes : List ℕ) → FirstAt byte at bytes
-    → length (handed ++ take (at + 1) bytes) ≡ length handed + (at + 1)
-through_length byte at handed bytes first = omega (
-  arith,
-  length-append handed (take (at + 1) bytes),
-  length-take-le (at + 1) bytes (omega (arith, first.inside)),
-)
+pub through_length : (byte at : ℕ) (bytes : List ℕ) → FirstAt byte at bytes → length (take (at + 1) bytes) ≡ at + 1
+through_length byte at bytes first = length-take-le (at + 1) bytes (omega (arith, first.inside))
 
 -- what was appended is counted by the lengths before and after
 pub appended_length : (old new handed : List ℕ) (before after : ℕ) → new ≡ old ++ handed → before ≡ length old
-    → after ≡ length new → after - before ≡ length handed
+    → after ≡ length new → (before ≤ after) × (after - before ≡ length handed)
 appended_length old new handed before after is first last =
-    omega (arith, ap length is, length-append old handed, first, last)
-
-pub take_whole : (n : ℕ) (bytes : List ℕ) → n ≡ length bytes → take n bytes ≡ bytes
-take_whole n bytes count = ap (λ k. take k bytes) count ∙ take-length bytes
-
--- the length before is no more than the length after, where bytes were appended
-pub starts_before : (old new handed : List ℕ) (before after : ℕ) → new ≡ old ++ handed → before ≡ length old
-    → after ≡ length new → before ≤ after
-starts_before old new handed before after is first last =
-    omega (arith, ap length is, length-append old handed, first, last)
-
--- what is appended and what is buffered come to more, where a fill shows more than was left
-pub comes_to_more : (old new handed : List ℕ) (before after room len left len' : ℕ) (empty : Bool) → new ≡ old ++ handed
-    → before ≡ length old → (after ≡ length new) × (after ≤ room) → room < 2 ^ 63 → len ≡ length handed + left
-    → left ≤ 2 ^ 62 → (0 < left → left < len') → IsTrue empty ↔ (len' ≡ 0) → empty ≡ false
-    → 2 ^ 65 - (after + len') < 2 ^ 65 - (before + len)
-comes_to_more old new handed before after room len left len' empty is first last fits size most more means full =
-    let grown = length-append old handed in
-    elim (cases_lt 0 left) [
-      | inl some ↦ omega (arith, ap length is, grown, first, last, fits, size, most, more some)
-      | inr none ↦ elim (cases_lt 0 len') [
-        | inl some ↦ omega (arith, ap length is, grown, first, last, fits, size, none, some)
-        | inr nothing ↦ let yes : empty ≡ true = means.1 (omega (arith, nothing)) in absurd (cc)
-      ]
-    ]
+    let sum = length-append old handed in
+    (omega (arith, ap length is, sum, first, last), omega (arith, ap length is, sum, first, last))

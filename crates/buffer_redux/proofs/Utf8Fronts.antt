@@ -161,3 +161,12 @@ never_line at bytes first bad more whole =
     ∙ ap (λ i. slice_index (take at bytes ++ 10 ∷ []) i) (sym size) ∙ last_is 10 (take at bytes) in
     bad (never_whole (take (at + 1) bytes) more at (length-take-le (at + 1) bytes (omega (arith, first.inside)))
     (omega (arith, last)) whole)
+
+-- no part of a character ends in a line feed
+pub never_part : (front : List ℕ) → ¬ (IsPart (front ++ 10 ∷ []))
+never_part front part =
+    let line = front ++ 10 ∷ [] in
+    let size : length line ≡ length front + 1 = length-append front (10 ∷ []) in
+    part.bad (length line) (omega (arith, size)) (omega arith)
+    (subst IsUtf8 (sym (take_at line [] (length line) refl) ∙ ap (take (length line)) (append-nil line))
+    (never_whole line part.may.0 (length front) size (omega (arith, last_is 10 front)) part.may.1))

@@ -11,6 +11,7 @@ pub use Rattle.redux_buffer.specs.LogGrows
 pub use Rattle.redux_buffer.specs.Memory
 pub use Rattle.redux_buffer.specs.Potential
 pub use Rattle.redux_buffer.specs.RawLends
+pub use Rattle.redux_buffer.specs.Retried
 pub use Rattle.redux_buffer.specs.StreamLog
 pub use Rattle.redux_buffer.specs.Told
 pub use Rattle.redux_buffer.specs.Transfer
@@ -34,8 +35,10 @@ pub mod ReadInside
 pub mod FillRetried
 pub mod Peek
 pub mod ReadByte
+pub mod ReadBehind
 pub mod ReadUntil
 pub mod UntilLaws
+pub mod Sink
 pub mod ReadLine
 pub mod LineLaws
 pub mod Pieces

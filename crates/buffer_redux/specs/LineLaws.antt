@@ -10,7 +10,8 @@ use Rattle.std.specs.declared.io.Error.{Error}
 use Rattle.buffer_redux.specs.Policy.{ReadRules}
 use Rattle.buffer_redux.specs.Buffered.{Buffered}
 use Rattle.buffer_redux.specs.ReaderLaws.{IfSome-unless, ReadsInOrder-ahead}
-use Rattle.buffer_redux.specs.ReadLine.{FillsOn, InvalidCaused, IsPart, NeverUtf8, ReadsLine, no_text}
+use Rattle.buffer_redux.specs.ReadBehind.{FillsOn}
+use Rattle.buffer_redux.specs.ReadLine.{InvalidCaused, IsPart, NeverUtf8, ReadsLine, no_text}
 use Rattle.buffer_redux.specs.ReadUntil.{Lacks}
 use Rattle.buffer_redux.specs.Remaining.{ahead, may_stop, reader_remaining}
 use Rattle.buffer_redux.specs.UntilLaws.{EndsUntil-known, appended_known, lacking_through}
@@ -70,7 +71,7 @@ module _ {S P : Type 0} (remaining : S → Option (List ℕ)) (rules : ReadRules
   ReadsLine-known before (Err e) after t reads = tt
   ReadsLine-known before (Ok n) after t reads = appended_known 10 before reads.handed after reads.appended
       (reader_remaining remaining rules s)
-      (EndsUntil-known remaining rules 10 s (FillsOn remaining rules) no_text n reads.handed t reads.front reads.ends)
+      (EndsUntil-known remaining rules 10 s (FillsOn IsPart remaining rules) no_text n reads.handed t reads.front reads.ends)
 
   -- a line is refused only where it is no UTF-8
   pub ReadsLine-invalid : (before : List ℕ) (answer : Result ℕ Error) (after : List ℕ) (t : Buffered S P)

@@ -1,15 +1,17 @@
 -- What calls promise that go on up to a byte, fill after fill.
-use Rattle.std.specs.Prelude.{◌≡◌, ℕ, zero, suc, ◌+◌, ◌^◌, ◌<◌, ◌≤◌, ◌⊎◌, List, [], ◌∷◌, ◌++◌, length, take, drop, Result, Ok, Err, Option, IsOkAnd}
+use Rattle.std.specs.Prelude.{◌≡◌, ℕ, zero, suc, ◌+◌, ◌^◌, ◌<◌, ◌≤◌, ◌⊎◌, List, [], ◌∷◌, ◌++◌, length, take, drop, Result, Ok, Err, Option, IfOk, IsOkAnd}
 use Rattle.std.specs.List.{All}
+use Rattle.std.specs.Io.BufRead.{take_through}
 use Rattle.std.specs.IoError.{error_kind}
 use Rattle.std.specs.declared.io.Error.{Error}
-use Rattle.std.specs.declared.io.ErrorKind.TheVariants.{OutOfMemory, TimedOut}
+use Rattle.std.specs.declared.io.ErrorKind.TheVariants.{InvalidData, OutOfMemory, TimedOut}
 use Rattle.redux_buffer.specs.Faults.{OnlyInterrupts}
+use Rattle.redux_buffer.specs.Retried.{Step}
 use Rattle.buffer_redux.specs.Policy.{ReadRules}
 use Rattle.buffer_redux.specs.Buffered.{Buffered}
-use Rattle.buffer_redux.specs.BufReader.{ReaderConsumes, ReadsToEnd}
-use Rattle.buffer_redux.specs.FillRetried.{FillRetried, Step}
+use Rattle.buffer_redux.specs.BufReader.{RanDry, ReaderConsumes, ReadsToEnd}
 use Rattle.buffer_redux.specs.ReadAll.{HandedFront}
+use Rattle.buffer_redux.specs.ReadBehind.{FillsOn}
 use Rattle.buffer_redux.specs.ReaderLaws.{WantsBytes}
 
 -- the byte is nowhere in these
@@ -36,14 +38,14 @@ pub record DropsFirst {S P : Type 0} (rules : ReadRules P) (n : ℕ) (s t : Buff
 -- this many steps led from s to t, each of them a consume of some bytes that are buffered, of which the policy is told, or a
 -- fill that showed more bytes, or what the call makes in place of one. So nobody is asked behind a fill that showed no
 -- more, which ends the call, and the policy is told of no consume of nothing
-abbrev pub Steps : {S P : Type 0} → ReadRules P → Step (Buffered S P) → ℕ → Buffered S P → Buffered S P → Type 0
+abbrev pub Steps : {S P : Type 0} → ReadRules P → Step (Buffered S P) (Unit {0}) → ℕ → Buffered S P → Buffered S P → Type 0
 Steps rules step zero s t = s ≡ t
 Steps {S} {P} rules step (suc count) s t = (m : Buffered S P) × Steps rules step count s m
     × (((n : ℕ) × (0 < n) × (n ≤ length m.block.bytes) × ReaderConsumes rules n m t)
     ⊎ (step m (Ok tt) t × (length m.block.bytes < length t.block.bytes)))
 
 -- these bytes were handed out, which lack the byte, and no fault came but interrupted reads
-pub record Passes {S P : Type 0} (remaining : S → Option (List ℕ)) (rules : ReadRules P) (step : Step (Buffered S P))
+pub record Passes {S P : Type 0} (remaining : S → Option (List ℕ)) (rules : ReadRules P) (step : Step (Buffered S P) (Unit {0}))
     (byte : ℕ) (s : Buffered S P) (handed : List ℕ) (t : Buffered S P) : Type 0 where
   pub front : HandedFront remaining rules s handed t
   pub plain : Lacks byte handed
@@ -52,45 +54,65 @@ pub record Passes {S P : Type 0} (remaining : S → Option (List ℕ)) (rules : 
 
 -- these bytes were handed out, which lack the byte, and then a fill answered so
 pub record PassesAndFills {S P : Type 0} (remaining : S → Option (List ℕ)) (rules : ReadRules P)
-    (step : Step (Buffered S P)) (byte : ℕ) (s : Buffered S P) (handed : List ℕ) (answer : Result (Unit {0}) Error)
+    (step : Step (Buffered S P) (Unit {0})) (byte : ℕ) (s : Buffered S P) (handed : List ℕ) (answer : Result (Unit {0}) Error)
     (t : Buffered S P) : Type 0 where
   pub last : Buffered S P
   pub passes : Passes remaining rules step byte s handed last
   pub fill : step last answer t
 
 -- that fill showed nothing. Where the policy wants bytes and there is capacity, the reader has no more
-pub record PassesToEnd {S P : Type 0} (remaining : S → Option (List ℕ)) (rules : ReadRules P) (step : Step (Buffered S P))
-    (byte : ℕ) (s : Buffered S P) (handed : List ℕ) (t : Buffered S P) : Type 0 where
+pub record PassesToEnd {S P : Type 0} (remaining : S → Option (List ℕ)) (rules : ReadRules P)
+    (step : Step (Buffered S P) (Unit {0})) (byte : ℕ) (s : Buffered S P) (handed : List ℕ) (t : Buffered S P) : Type 0 where
   pub fills : PassesAndFills remaining rules step byte s handed (Ok tt) t
   pub none : t.block.bytes ≡ []
   pub end : WantsBytes (rules.claims s.policy) → 0 < s.block.capacity → ReadsToEnd remaining rules s handed t
 
 -- these bytes end in the byte, and no fault came but interrupted reads
-pub record Reaches {S P : Type 0} (rules : ReadRules P) (step : Step (Buffered S P)) (byte : ℕ)
+pub record Reaches {S P : Type 0} (rules : ReadRules P) (step : Step (Buffered S P) (Unit {0})) (byte : ℕ)
     (s : Buffered S P) (handed : List ℕ) (t : Buffered S P) : Type 0 where
   pub ends : EndsIn byte handed
   pub faults : OnlyInterrupts s.log.reads.faults t.log.reads.faults
   pub steps : (count : ℕ) × Steps rules step count s t
 
--- the call stopped of its own before what is buffered, for which it had no memory, or which no usize counts
+-- the call stopped of its own before these bytes, for which it had no memory, or which no usize counts
 abbrev pub Stops : Type 1
 Stops = List ℕ → Error → List ℕ → Type 0
 
 abbrev pub no_memory : Stops
-no_memory handed e buffered = (error_kind e ≡ OutOfMemory) × (0 < length buffered)
+no_memory handed e bytes = (error_kind e ≡ OutOfMemory) × (0 < length bytes)
 
 abbrev pub no_count : Stops
-no_count handed e buffered = (error_kind e ≡ TimedOut) × (2 ^ 64 ≤ length handed + length buffered)
+no_count handed e bytes = (error_kind e ≡ TimedOut) × (2 ^ 64 ≤ length handed + length bytes)
 
--- how such a call ends which handed these bytes out: at Ok they are so many, and end in the byte or at the end of all; at
--- Err they lack it, and the last fill failed or the call stopped
-abbrev pub EndsUntil : {S P : Type 0} → (S → Option (List ℕ)) → ReadRules P → Step (Buffered S P) → Stops → ℕ
-    → Buffered S P → Result ℕ Error → List ℕ → Buffered S P → Type 0
-EndsUntil remaining rules step stops byte s (Ok n) handed t =
-    (n ≡ length handed) × (Reaches rules step byte s handed t ⊎ PassesToEnd remaining rules step byte s handed t)
+-- how such a call ends which handed these bytes out: at Ok they end in the byte or at the end of all; at Err they lack it,
+-- and the last fill failed, or the call stopped before what is buffered, up to the byte
+abbrev pub EndsUntil : {S P A : Type 0} → (S → Option (List ℕ)) → ReadRules P → Step (Buffered S P) (Unit {0}) → Stops → ℕ
+    → Buffered S P → Result A Error → List ℕ → Buffered S P → Type 0
+EndsUntil remaining rules step stops byte s (Ok a) handed t =
+    Reaches rules step byte s handed t ⊎ PassesToEnd remaining rules step byte s handed t
 EndsUntil remaining rules step stops byte s (Err e) handed t =
     PassesAndFills remaining rules step byte s handed (Err e) t
-    ⊎ (Passes remaining rules step byte s handed t × stops handed e t.block.bytes)
+    ⊎ (Passes remaining rules step byte s handed t × stops handed e (take_through byte t.block.bytes))
+
+-- behind bytes that the call leaves buffered the reader ran dry
+pub record BreaksOff {S P : Type 0} (leaves : List ℕ → Type 0) (remaining : S → Option (List ℕ)) (rules : ReadRules P)
+    (byte : ℕ) (s : Buffered S P) (handed : List ℕ) (e : Error) (t : Buffered S P) : Type 0 where
+  pub fills : PassesAndFills remaining rules (FillsOn leaves remaining rules) byte s handed (Ok tt) t
+  pub behind : fills.last.block.bytes ≡ t.block.bytes
+  pub dry : RanDry fills.last t
+  pub some : 0 < length t.block.bytes
+  pub part : leaves t.block.bytes
+  pub plain : Lacks byte t.block.bytes
+  pub kind : error_kind e ≡ InvalidData
+
+-- how a call ends that may leave such bytes buffered: so, or behind these
+abbrev pub EndsLeaving : {S P A : Type 0} → (List ℕ → Type 0) → Stops → (S → Option (List ℕ)) → ReadRules P → ℕ
+    → Buffered S P → Result A Error → List ℕ → Buffered S P → Type 0
+EndsLeaving leaves stops remaining rules byte s (Ok a) handed t =
+    EndsUntil remaining rules (FillsOn leaves remaining rules) stops byte s (Ok a) handed t
+EndsLeaving {A = A} leaves stops remaining rules byte s (Err e) handed t =
+    EndsUntil {A = A} remaining rules (FillsOn leaves remaining rules) stops byte s (Err e) handed t
+    ⊎ BreaksOff leaves remaining rules byte s handed e t
 
 -- the first n bytes that are buffered were handed out, behind those that were there; without memory nothing was done
 abbrev pub AppendsFirst : {S P A : Type 0} → (S → Option (List ℕ)) → ReadRules P → ℕ → Buffered S P → List ℕ
@@ -107,7 +129,8 @@ pub record SkipsUntil {S P : Type 0} (remaining : S → Option (List ℕ)) (rule
     (s : Buffered S P) (answer : Result ℕ Error) (t : Buffered S P) : Type 0 where
   pub handed : List ℕ
   pub front : HandedFront remaining rules s handed t
-  pub ends : EndsUntil remaining rules (FillRetried remaining rules) no_count byte s answer handed t
+  pub ends : EndsUntil remaining rules (FillsOn (λ left. left ≡ []) remaining rules) no_count byte s answer handed t
+  pub count : IfOk answer (λ n. n ≡ length handed)
   pub buffered : ¬ (Lacks byte s.block.bytes)
       → (at : ℕ) × FirstAt byte at s.block.bytes × IsOkAnd answer (λ n. (n ≡ at + 1) × ReaderConsumes rules n s t)
 
@@ -118,6 +141,7 @@ pub record ReadsUntil {S P : Type 0} (remaining : S → Option (List ℕ)) (rule
   pub handed : List ℕ
   pub appended : after ≡ before ++ handed
   pub front : HandedFront remaining rules s handed t
-  pub ends : EndsUntil remaining rules (FillRetried remaining rules) no_memory byte s answer handed t
+  pub ends : EndsUntil remaining rules (FillsOn (λ left. left ≡ []) remaining rules) no_memory byte s answer handed t
+  pub count : IfOk answer (λ n. n ≡ length handed)
   pub buffered : ¬ (Lacks byte s.block.bytes)
       → (at : ℕ) × FirstAt byte at s.block.bytes × AppendsFirst remaining rules (at + 1) s before answer after t

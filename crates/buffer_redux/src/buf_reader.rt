@@ -30,6 +30,7 @@ mod bytes;
 mod line;
 mod pieces;
 mod seek;
+mod sink;
 mod steps;
 mod tells;
 mod until;

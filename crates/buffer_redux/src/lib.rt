@@ -18,7 +18,8 @@ pub use buf_writer::BufWriter;
 pub use errors::{IntoInnerError, MakeError};
 pub use line_writer::{LineSender, LineWriter};
 pub use redux_buffer::{
-    BufImpl, Buffer, Count, DEFAULT_BUF_SIZE, GrowError, INTERRUPT_LIMIT, MAX_CAPACITY, MAX_RING,
-    RING_UNIT, RawBuf, SliceDequeBuf, StdBuf, add_total, copy_buf, copy_turn, tell,
+    Attempt, BufImpl, Buffer, Count, DEFAULT_BUF_SIZE, GrowError, INTERRUPT_LIMIT, MAX_CAPACITY,
+    MAX_RING, RING_UNIT, RawBuf, SliceDequeBuf, StdBuf, add_total, copy_buf, copy_turn, retried,
+    tell,
 };
 pub use unbuffer::Unbuffer;

@@ -1,5 +1,5 @@
 -- What sending does, write after write.
-use Rattle.std.proofs.Common.{◌≡◌, ◌∙◌, ℕ, zero, ◌+◌, ◌-◌, ◌*◌, ◌<◌, ◌≤◌, List, [], ◌∷◌, ◌++◌, length, min, take, sym, refl, ap, arith}
+use Rattle.std.proofs.Common.{◌≡◌, ◌∙◌, ℕ, zero, suc, ◌+◌, ◌-◌, ◌*◌, ◌<◌, ◌≤◌, List, [], ◌∷◌, ◌++◌, length, min, take, sym, refl, ap, subst, arith}
 use Rattle.std.proofs.Common.{append-nil, append_assoc, length-append, length-drop, take-take, Result, Ok, Err, IfErr, inl, inr}
 use Rattle.std.proofs.Math.Seq.{take-add}
 use Rattle.std.proofs.lemmas.List.Elements.{All-push}
@@ -9,11 +9,12 @@ use Rattle.std.specs.declared.io.ErrorKind.TheVariants.{WriteZero}
 use Rattle.redux_buffer.specs.Block.{Block, ConsumesFirst, OnlyRingMoves}
 use Rattle.redux_buffer.specs.StreamLog.{StreamLog, portion, with_fault, with_short, with_zero, after_write, zero_of_some, zero_of_none, short_of_less, short_of_all}
 use Rattle.redux_buffer.specs.Faults.{IsInterrupt, OnlyInterrupted, OnlyInterrupted-none, OnlyInterrupted-joins, TookNothing-after, FaultedAfter-after}
-use Rattle.redux_buffer.specs.Transfer.{OnlyWrites, WritesRetried, WholeWrites, Sent, Sends}
+use Rattle.redux_buffer.specs.Retried.{InterruptedSteps, Retried}
+use Rattle.redux_buffer.specs.Transfer.{Offers, OnlyWrites, WritesRetried, WholeWrites, Sent, Sends}
 use Rattle.redux_buffer.proofs.Steps.{OnlyRingMoves-joins, ConsumesFirst-joins}
 
 -- this many writes were interrupted, one after another
-pub record Interrupts (count : ℕ) (old new : StreamLog) : Type 0 where
+record Interrupts (count : ℕ) (old new : StreamLog) : Type 0 where
   pub received : new.writes.received ≡ old.writes.received
   pub flushed : new.writes.flushed ≡ old.writes.flushed
   pub flushes : new.writes.flushes ≡ old.writes.flushes
@@ -42,8 +43,8 @@ no_interrupts a = record {
 }
 
 -- one more
-pub Interrupts-more : (count : ℕ) (bs : List ℕ) (e : Error) (a b c : StreamLog) → Interrupts count a b
-    → IsInterrupt e → c ≡ after_write b bs (Err e) → Interrupts (count + 1) a c
+Interrupts-more : (count : ℕ) (bs : List ℕ) (e : Error) (a b c : StreamLog) → Interrupts count a b
+    → IsInterrupt e → c ≡ after_write b bs (Err e) → Interrupts (suc count) a c
 Interrupts-more count bs e a b c met is told = record {
   received = ap (λ l. l.writes.received) told ∙ append-nil b.writes.received ∙ met.received;
   flushed = ap (λ l. l.writes.flushed) told ∙ met.flushed;
@@ -65,13 +66,8 @@ Interrupts-more count bs e a b c met is told = record {
   };
 }
 
--- the first of them
-pub Interrupts-first : (bs : List ℕ) (e : Error) (a c : StreamLog) → IsInterrupt e → c ≡ after_write a bs (Err e)
-    → Interrupts 1 a c
-Interrupts-first bs e a c = Interrupts-more 0 bs e a a c (no_interrupts a)
-
 -- the write that came after them, whose answer ends it
-pub Interrupts-end : (count : ℕ) (bs : List ℕ) (answer : Result ℕ Error) (a b c : StreamLog) → Interrupts count a b
+Interrupts-end : (count : ℕ) (bs : List ℕ) (answer : Result ℕ Error) (a b c : StreamLog) → Interrupts count a b
     → count ≤ 64 → IfErr answer (λ e. IsInterrupt e → count ≡ 64) → c ≡ after_write b bs answer
     → WritesRetried bs a answer c
 Interrupts-end count bs answer a b c met few often told = record {
@@ -100,15 +96,26 @@ Interrupts-end count bs answer a b c met few often told = record {
     often_of (Ok n) is = tt
     often_of (Err e) is = λ interrupted. met.number ∙ is interrupted
 
--- where none was, and it wasn't either
-pub Interrupts-none : (bs : List ℕ) (answer : Result ℕ Error) (a c : StreamLog) → c ≡ after_write a bs answer
-    → IfErr answer (λ e. IsInterrupt e → ⊥) → WritesRetried bs a answer c
-Interrupts-none bs answer a c told other =
-    Interrupts-end 0 bs answer a a c (no_interrupts a) (omega arith) (of answer other) told
-  where
-    of : (x : Result ℕ Error) → IfErr x (λ e. IsInterrupt e → ⊥) → IfErr x (λ e. IsInterrupt e → zero ≡ 64)
-    of (Ok n) is = tt
-    of (Err e) is = λ interrupted. absurd (is interrupted)
+-- the writes of one that was asked again
+module _ {W : Type 0} (tells : W → StreamLog) (trace : W → W → Type 0) (none : (s : W) → trace s s)
+    (joins : (a b c : W) → trace a b → trace b c → trace a c) (bs : List ℕ) where
+  interrupts : (k : ℕ) (s t : W) → InterruptedSteps (Offers tells trace bs) k s t
+      → Interrupts k (tells s) (tells t) × trace s t
+  interrupts zero s t same = subst (λ x. Interrupts 0 (tells s) (tells x) × trace s x) same (no_interrupts (tells s), none s)
+  interrupts (suc k) s t i =
+      let before = interrupts k s i.0 i.1 in
+      let went = i.2.went in (
+        Interrupts-more k bs i.2.error (tells s) (tells i.0) (tells t) before.0 i.2.interrupt went.told,
+        joins s i.0 t before.1 went.traced,
+      )
+
+  module _ (s : W) (answer : Result ℕ Error) (t : W) (r : Retried (Offers tells trace bs) s answer t) where
+    pub wrote_retried : WritesRetried bs (tells s) answer (tells t)
+    wrote_retried = Interrupts-end r.count bs answer (tells s) (tells r.last) (tells t)
+        (interrupts r.count s r.last r.interrupted).0 r.most r.often r.went.told
+
+    pub traced_retried : trace s t
+    traced_retried = joins s r.last t (interrupts r.count s r.last r.interrupted).1 r.went.traced
 
 module _ (k : ℕ) (es : List Error) (len : ℕ) (a b : Block) (log log' log'' : StreamLog) (sent : Sent k a log b log')
     (only : OnlyInterrupted es log.writes log'.writes) (few : length es ≤ 64 * k) where

@@ -5,6 +5,7 @@ pub mod Calls
 pub mod GivesRemaining
 pub mod Told
 pub mod Faults
+pub mod Retried
 pub mod Memory
 pub mod Copy
 pub mod CopyLaws

@@ -48,6 +48,13 @@ pub record OnlyWrites (old new : StreamLog) : Type 0 where
   pub fills : new.fills ≡ old.fills
   pub seeks : new.seeks ≡ old.seeks
 
+-- one write of bs
+pub record Offers {W : Type 0} (tells : W → StreamLog) (trace : W → W → Type 0) (bs : List ℕ) (s : W)
+    (answer : Result ℕ Error) (t : W) : Type 0 where
+  pub bound : WritesAtMost answer bs
+  pub told : tells t ≡ after_write (tells s) bs answer
+  pub traced : trace s t
+
 -- a write of bs, asked again where it was interrupted: 64 times at the most, and `Interrupted` is answered only then
 pub record WritesRetried (bs : List ℕ) (log : StreamLog) (answer : Result ℕ Error) (log' : StreamLog) : Type 0 where
   pub interrupts : List Error

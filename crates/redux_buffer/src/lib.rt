@@ -10,6 +10,7 @@ pub use copy::{add_total, copy_buf, copy_turn};
 pub use count::Count;
 pub use grow_error::GrowError;
 pub use raw_buf::RawBuf;
+pub use retry::{Attempt, retried};
 pub use slice_deque_buf::SliceDequeBuf;
 pub use std_buf::StdBuf;
 
@@ -20,6 +21,7 @@ mod count;
 mod grow_error;
 pub mod laws;
 mod raw_buf;
+mod retry;
 mod slice_deque_buf;
 mod std_buf;
 mod tail_span;

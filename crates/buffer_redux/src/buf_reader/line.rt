@@ -1,11 +1,10 @@
 //! A line of text.
-ghost use Rattle.std.specs.Prelude.{◌≡◌, ◌+◌, ◌<◌, ◌≤◌, ◌++◌, length, take, drop, IfNone, IfOk, IfSome, MatchResult, OnErr, OnOk, string_bytes, IsUtf8};
+ghost use Rattle.std.specs.Prelude.{◌≡◌, ◌+◌, ◌<◌, ◌≤◌, ◌++◌, length, IfNone, IfOk, IfSome, OnOk, string_bytes};
+ghost use Rattle.std.proofs.Common.{subst, sym};
 ghost use Rattle.std.specs.Io.BufRead.{take_through};
-ghost use Rattle.std.specs.IoError.{error_kind};
 ghost use Rattle.redux_buffer.specs.Block.{IsBlock, usable};
-ghost use Rattle.redux_buffer.specs.GrowError.{GrowthRefused};
-ghost use Rattle.buffer_redux.specs.ReadLine.{AppendsLine, AppendsText, FillsLine, FrontOf, InvalidCaused, IsPart, MakesSpace, NeverUtf8, ReadsBehind, ReadsLine};
-ghost use Rattle.buffer_redux.specs.FillRetried.{Retried};
+ghost use Rattle.buffer_redux.specs.ReadBehind.{FillsMore, MakesSpace, ReadsBehind};
+ghost use Rattle.buffer_redux.specs.ReadLine.{AppendsLine, FrontOf, InvalidCaused, NeverUtf8, ReadsLine};
 ghost use Rattle.buffer_redux.specs.ReadUntil.{Lacks};
 ghost use Rattle.buffer_redux.specs.Remaining.{reader_remaining};
 
@@ -13,7 +12,7 @@ use crate::buf_reader::BufReader;
 use crate::buf_reader::until::first_of;
 use crate::policy::ReaderPolicy;
 use redux_buffer::tell::TellRead;
-use redux_buffer::{GrowError, INTERRUPT_LIMIT};
+use redux_buffer::{Attempt, GrowError, retried};
 use std::alloc::Allocator;
 use std::io::{BufRead, ErrorKind};
 use std::{io, str};
@@ -63,19 +62,9 @@ impl<R: TellRead, P: ReaderPolicy> BufReader<R, P> {
         requires plain { Lacks 10 self.old.block.bytes }
         ensures line { ReadsLine R.remaining P.rules self.old (string_bytes out.old) result (string_bytes out.new) self.new }
     {
-        let _ = &self.buf;
         let start = out.len();
-        'fills: loop {
-            self.append_text(out)?;
-            self.fill_line()?;
-            if self.buf.is_empty() {
-                return Ok(out.len() - start);
-            }
-            if let Some(at) = first_of(b'\n', self.buf.buf()) {
-                self.append_line(at + 1, out)?;
-                return Ok(out.len() - start);
-            }
-        }
+        self.hand_until(b'\n', out)?;
+        Ok(out.len() - start)
     }
 
     // Appends the first `n` bytes that are buffered to `out`, if they are a text, drops them, and returns `n`.
@@ -98,51 +87,19 @@ impl<R: TellRead, P: ReaderPolicy> BufReader<R, P> {
         Ok(count)
     }
 
-    // Appends what is buffered to `out`, up to a character that it ends within, and drops that.
-    fn append_text<A: Allocator>(&mut self, out: &mut String<A>) -> io::Result<()>
-        ensures appends { AppendsText R.remaining P.rules self.old (string_bytes out.old) result (string_bytes out.new) self.new }
-    {
-        let Some(text) = text_in_front(self.buf.buf()) else {
-            return Err(io::Error::from(ErrorKind::InvalidData));
-        };
-        let n = text.len();
-        out.push_str(text)?;
-        self.drop_first(n);
-        Ok(())
-    }
-
-    // Fills, or reads on behind a part of a character, which the end of the stream makes `InvalidData`.
-    fn fill_line(&mut self) -> io::Result<()>
-        requires part { IsPart self.old.block.bytes }
-        ensures fills { FillsLine R.remaining P.rules self.old result self.new }
+    // Fills, or reads on behind what is buffered: there the end of the stream is `InvalidData`.
+    pub(super) fn fill_more(&mut self) -> io::Result<()>
+        ensures fills { FillsMore R.remaining P.rules self.old result self.new }
     {
         let len = self.buf.len();
         if len == 0 {
             return self.fill_retried();
         }
-        self.read_behind_retried()?;
+        retried(&ReadingBehind, self)?;
         if self.buf.len() == len {
             return Err(io::Error::from(ErrorKind::InvalidData));
         }
         Ok(())
-    }
-
-    // Reads behind what is buffered, and again where that was interrupted, `INTERRUPT_LIMIT` times at the most.
-    fn read_behind_retried(&mut self) -> io::Result<()>
-        requires some { 0 < length self.old.block.bytes }
-        ensures retried { Retried (ReadsBehind R.remaining P.rules) self.old result self.new }
-    {
-        for _ in 0..INTERRUPT_LIMIT {
-            match self.read_behind() {
-                Ok(()) => return Ok(()),
-                Err(e) => {
-                    if e.kind() != ErrorKind::Interrupted {
-                        return Err(e);
-                    }
-                }
-            }
-        }
-        self.read_behind()
     }
 
     // Reads once past the policy, behind what is buffered.
@@ -173,9 +130,30 @@ impl<R: TellRead, P: ReaderPolicy> BufReader<R, P> {
     }
 }
 
+// A read past the policy, behind what is buffered.
+#[derive(Clone, Copy)]
+struct ReadingBehind;
+
+impl<R: TellRead, P: ReaderPolicy> Attempt<BufReader<R, P>> for ReadingBehind {
+    type Answer = ();
+
+    ghost may = { λ _ s. 0 < length s.block.bytes };
+
+    ghost step = { λ _. ReadsBehind R.remaining P.rules };
+
+    fn attempt(&self, reader: &mut BufReader<R, P>) -> io::Result<()>
+        requires may { 0 < length reader.old.block.bytes }
+        ensures step { ReadsBehind R.remaining P.rules reader.old result reader.new }
+    {
+        reader.read_behind()
+    }
+
+    ghost again = { λ _ s t e some went. subst (λ l. 0 < length l) (sym went.ended.0) some };
+}
+
 // The text that the bytes begin with, up to a character that they end within; `None` where they are no UTF-8, whatever follows
 // them.
-fn text_in_front(bytes: &[u8]) -> Option<&str>
+pub(super) fn text_in_front(bytes: &[u8]) -> Option<&str>
     ensures front { IfSome result (λ text. FrontOf bytes.now text.now) }
     ensures none { IfNone result (NeverUtf8 bytes.now) }
 {

@@ -1,21 +1,20 @@
 //! Calls that go on up to a byte.
-ghost use Rattle.std.specs.Prelude.{◌≡◌, ◌+◌, ◌^◌, ◌<◌, ◌≤◌, ◌++◌, length, take, drop, MatchResult, IfNone, IfOk, IfSome, OnOk};
+ghost use Rattle.std.specs.Prelude.{◌≡◌, ◌+◌, ◌<◌, ◌≤◌, ◌++◌, length, take, drop, IfNone, IfOk, IfSome, OnOk, ⊤};
 ghost use Rattle.std.specs.Io.BufRead.{take_through};
-ghost use Rattle.std.specs.IoError.{error_kind};
-ghost use Rattle.std.specs.declared.io.ErrorKind.TheVariants.{TimedOut};
-ghost use Rattle.buffer_redux.specs.FillRetried.{FillRetried};
+ghost use Rattle.buffer_redux.specs.FillRetried.{FillRetried, OneFill};
 ghost use Rattle.buffer_redux.specs.ReadAll.{HandedFront};
 ghost use Rattle.buffer_redux.specs.ReadUntil.{AppendsFirst, DropsFirst, FirstAt, Lacks, ReadsUntil, SkipsUntil};
 ghost use Rattle.buffer_redux.specs.Remaining.{reader_remaining};
 
 use crate::buf_reader::BufReader;
+use crate::buf_reader::sink::Tally;
 use crate::policy::ReaderPolicy;
 use memchr::memchr;
-use redux_buffer::INTERRUPT_LIMIT;
 use redux_buffer::tell::TellRead;
+use redux_buffer::{Attempt, retried};
 use std::alloc::Allocator;
 use std::io;
-use std::io::{BufRead, ErrorKind};
+use std::io::BufRead;
 
 impl<R: TellRead, P: ReaderPolicy> BufReader<R, P> {
     /// Appends to `out` the bytes up to the first `byte`, with it, or up to the end of the stream, and returns how many those
@@ -63,21 +62,8 @@ impl<R: TellRead, P: ReaderPolicy> BufReader<R, P> {
         ensures until { ReadsUntil R.remaining P.rules byte self.old out.old.items result out.new.items self.new }
     {
         let start = out.len();
-        let mut len = self.buf.len();
-        'fills: loop {
-            self.append_some(len, out)?;
-            self.fill_retried()?;
-            if self.buf.is_empty() {
-                return Ok(out.len() - start);
-            }
-            match first_of(byte, self.buf.buf()) {
-                Some(at) => {
-                    self.append_some(at + 1, out)?;
-                    return Ok(out.len() - start);
-                }
-                None => len = self.buf.len(),
-            }
-        }
+        self.hand_until(byte, out)?;
+        Ok(out.len() - start)
     }
 
     /// Drops the bytes up to the first `byte`, with it, or up to the end of the stream, and returns how many those are.
@@ -116,25 +102,9 @@ impl<R: TellRead, P: ReaderPolicy> BufReader<R, P> {
         requires plain { Lacks byte self.old.block.bytes }
         ensures until { SkipsUntil R.remaining P.rules byte self.old result self.new }
     {
-        let mut total = 0usize;
-        let mut len = self.buf.len();
-        'fills: loop {
-            total = counted(total, len)?;
-            self.drop_first(len);
-            self.fill_retried()?;
-            if self.buf.is_empty() {
-                return Ok(total);
-            }
-            match first_of(byte, self.buf.buf()) {
-                Some(at) => {
-                    let n = at + 1;
-                    total = counted(total, n)?;
-                    self.drop_first(n);
-                    return Ok(total);
-                }
-                None => len = self.buf.len(),
-            }
-        }
+        let mut tally = Tally { total: 0 };
+        self.hand_until(byte, &mut tally)?;
+        Ok(tally.total)
     }
 
     // Appends the first `n` bytes that are buffered to `out`, and drops them.
@@ -148,18 +118,6 @@ impl<R: TellRead, P: ReaderPolicy> BufReader<R, P> {
         out.extend_from_slice(&shown[..n])?;
         self.consume_exact(n);
         Ok(())
-    }
-
-    // The same where these may be none.
-    fn append_some<A: Allocator>(&mut self, n: usize, out: &mut Vec<u8, A>) -> io::Result<()>
-        requires within { n ≤ length self.old.block.bytes }
-        ensures appends { AppendsFirst R.remaining P.rules n self.old out.old.items result out.new.items self.new }
-    {
-        if n == 0 {
-            let _ = &self.buf;
-            return Ok(());
-        }
-        self.append_first(n, out)
     }
 
     // Drops the first `n` bytes that are buffered.
@@ -177,22 +135,32 @@ impl<R: TellRead, P: ReaderPolicy> BufReader<R, P> {
         self.consume_exact(n);
     }
 
-    // Fills, and again where that was interrupted, `INTERRUPT_LIMIT` times at the most.
+    // Fills, and again where that was interrupted.
     pub(super) fn fill_retried(&mut self) -> io::Result<()>
         ensures retried { FillRetried R.remaining P.rules self.old result self.new }
     {
-        for _ in 0..INTERRUPT_LIMIT {
-            match self.fill() {
-                Ok(()) => return Ok(()),
-                Err(e) => {
-                    if e.kind() != ErrorKind::Interrupted {
-                        return Err(e);
-                    }
-                }
-            }
-        }
-        self.fill()
+        retried(&Filling, self)
     }
+}
+
+// A fill.
+#[derive(Clone, Copy)]
+struct Filling;
+
+impl<R: TellRead, P: ReaderPolicy> Attempt<BufReader<R, P>> for Filling {
+    type Answer = ();
+
+    ghost may = { λ _ _. ⊤ };
+
+    ghost step = { λ _. OneFill R.remaining P.rules };
+
+    fn attempt(&self, reader: &mut BufReader<R, P>) -> io::Result<()>
+        ensures step { OneFill R.remaining P.rules reader.old result reader.new }
+    {
+        reader.fill()
+    }
+
+    ghost again = { λ _ _ _ _ _ _. tt };
 }
 
 // Where the byte stands first.
@@ -204,15 +172,5 @@ pub(super) fn first_of(byte: u8, bytes: &[u8]) -> Option<usize>
     match memchr(byte, bytes) {
         Some(at) => Some(at),
         None => None,
-    }
-}
-
-// `n` more than `total`, as far as a `usize` counts.
-fn counted(total: usize, n: usize) -> io::Result<usize>
-    ensures { MatchResult result (λ sum. sum ≡ total + n) (λ e. (error_kind e ≡ TimedOut) × (2 ^ 64 ≤ total + n)) }
-{
-    match total.checked_add(n) {
-        Some(sum) => Ok(sum),
-        None => Err(io::Error::from(ErrorKind::TimedOut)),
     }
 }

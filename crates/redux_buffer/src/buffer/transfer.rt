@@ -1,14 +1,13 @@
 //! What a buffer reads from and writes to a stream.
-ghost use Rattle.std.specs.Prelude.{◌≡◌, ◌<◌, ◌⊎◌, length, Ok, Err, OnErr};
+ghost use Rattle.std.specs.Prelude.{◌≡◌, ◌<◌, ◌⊎◌, length, Ok, OnErr, ⊤};
 ghost use Rattle.std.specs.Io.{WritesAtMost};
 ghost use Rattle.std.specs.Io.KnownBytes.{IsAtEnd};
 ghost use Rattle.redux_buffer.specs.Block.{IsBlock, LeavesBytes, OnlyRingMoves, usable};
 ghost use Rattle.redux_buffer.specs.GivesRemaining.{GivesRemaining};
-ghost use Rattle.redux_buffer.specs.StreamLog.{StreamLog, after_write};
-ghost use Rattle.redux_buffer.specs.Transfer.{ReadsFrom, WritesTo, WritesRetried, Sends};
+ghost use Rattle.redux_buffer.specs.Transfer.{Offers, ReadsFrom, WritesTo, WritesRetried, Sends};
 
-use crate::INTERRUPT_LIMIT;
 use crate::buffer::Buffer;
+use crate::retry::{Attempt, retried};
 use crate::tell::{TellRead, TellWrite};
 use std::io;
 use std::io::ErrorKind;
@@ -91,51 +90,35 @@ impl Buffer {
     }
 }
 
-// One write, asked again where it was interrupted, `INTERRUPT_LIMIT` times at the most.
+// A write of these bytes.
+#[derive(Clone, Copy)]
+struct Offer<'a> {
+    bytes: &'a [u8],
+}
+
+impl<W: TellWrite> Attempt<W> for Offer<'_> {
+    type Answer = usize;
+
+    ghost may = { λ _ _. ⊤ };
+
+    ghost step = { λ offer. Offers W.log W.trace offer.bytes.now };
+
+    #[inline(always)]
+    fn attempt(&self, wrt: &mut W) -> io::Result<usize>
+        ensures step { Offers W.log W.trace self.now.bytes.now wrt.old result wrt.new }
+    {
+        wrt.write_told(self.bytes)
+    }
+
+    ghost again = { λ _ _ _ _ _ _. tt };
+}
+
+// One write, asked again where it was interrupted.
 #[inline(always)]
 fn write_retried<W: TellWrite>(wrt: &mut W, bytes: &[u8]) -> io::Result<usize>
     ensures bound { WritesAtMost result bytes.now }
     ensures wrote { WritesRetried bytes.now (W.log wrt.old) result (W.log wrt.new) }
     ensures trace { W.trace wrt.old wrt.new }
 {
-    match wrt.write_told(bytes) {
-        Ok(n) => Ok(n),
-        Err(e) => retry_outlined(e, wrt, bytes),
-    }
-}
-
-// Goes on after a first write that failed so. It stands apart, and what it answers is cleared in here, which is inlined,
-// and so where it is called alone.
-#[inline(always)]
-fn retry_outlined<W: TellWrite>(e: io::Error, wrt: &mut W, bytes: &[u8]) -> io::Result<usize>
-    ensures bound { WritesAtMost result bytes.now }
-    ensures wrote { (log : StreamLog) → W.log wrt.old ≡ after_write log bytes.now (Err e)
-        → WritesRetried bytes.now log result (W.log wrt.new) }
-    ensures trace { W.trace wrt.old wrt.new }
-{
-    retry(e, wrt, bytes)
-}
-
-#[cold]
-#[inline(never)]
-fn retry<W: TellWrite>(e: io::Error, wrt: &mut W, bytes: &[u8]) -> io::Result<usize>
-    ensures bound { WritesAtMost result bytes.now }
-    ensures wrote { (log : StreamLog) → W.log wrt.old ≡ after_write log bytes.now (Err e)
-        → WritesRetried bytes.now log result (W.log wrt.new) }
-    ensures trace { W.trace wrt.old wrt.new }
-{
-    if e.kind() != ErrorKind::Interrupted {
-        return Err(e);
-    }
-    for _ in 1..INTERRUPT_LIMIT {
-        match wrt.write_told(bytes) {
-            Ok(n) => return Ok(n),
-            Err(e) => {
-                if e.kind() != ErrorKind::Interrupted {
-                    return Err(e);
-                }
-            }
-        }
-    }
-    wrt.write_told(bytes)
+    retried(&Offer { bytes }, wrt)
 }

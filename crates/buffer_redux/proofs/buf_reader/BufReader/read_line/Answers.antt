@@ -1,12 +1,13 @@
-use Rattle.std.proofs.Common.{◌≡◌, ◌+◌, ◌∙◌, [], take, subst, sym, ap, arith, append-nil}
+use Rattle.std.proofs.Common.{◌≡◌, ◌+◌, ◌∙◌, [], take, subst, sym, ap, arith, append-nil, inl, inr}
 use Rattle.std.proofs.lemmas.Result.{err_from_is_err_and}
 use Rattle.std.proofs.lemmas.Str.{IsUtf8-nil}
 use Rattle.redux_buffer.specs.Block.{IsBlock}
-use Rattle.buffer_redux.specs.ReadLine.{FillsOn, no_text}
+use Rattle.buffer_redux.specs.ReadBehind.{FillsOn}
+use Rattle.buffer_redux.specs.ReadLine.{IsPart, no_text}
 use Rattle.buffer_redux.specs.ReadUntil.{FirstAt, Passes}
 use Rattle.buffer_redux.specs.LineLaws.{ReadsLine-invalid, ReadsLine-known}
-use Rattle.buffer_redux.proofs.LineSteps.{line_stopped}
-use Rattle.buffer_redux.proofs.UntilSteps.{passes_none, through_length, until_reached}
+use Rattle.buffer_redux.proofs.UntilSteps.{passes_none, reaches, stopped, through_length}
+use Rattle.buffer_redux.proofs.Utf8Fronts.{never_line}
 use Rattle.buffer_redux.proofs.buf_reader.BufReader.read_line.Goals as goal
 
 pub returns-in_err-n-in-Some-clause-line : goal.returns-in_err-n-in-Some-clause-line
@@ -14,20 +15,25 @@ returns-in_err-n-in-Some-clause-line g c =
     let remaining = g.R.TellRead.remaining in
     let rules = g.P.ReaderPolicy.rules in
     let s = c.args.self.now in
+    let e = c.in_err-n-in-Some.field-0.0 in
     let a = c.in_err-n-in-Some.ensures.appends in
     let p = err_from_is_err_and c.from_residual.result c.from_residual.ensures.1 in
     let shown : c.buf.result.now ≡ s.block.bytes = c.buf.ensures ∙ ap (λ x. x.block.bytes) c.self.view_is in
     let first = subst (FirstAt 10 c.in-Some.at) shown c.in-Some.ensures.found in
-    let none : Passes remaining rules (FillsOn remaining rules) 10 s [] s =
+    let none : Passes remaining rules (FillsOn IsPart remaining rules) 10 s [] s =
     passes_none remaining rules 10 s (subst (λ x. IsBlock x.block) c.self.view_is c.self.invariant) in
-    let ends = line_stopped remaining rules s s [] none c.in-Some.at c.in_err-n-in-Some.field-0.0
-    c.append_line.new.self _ _ first a in
+    let why : no_text [] e (take (c.in-Some.at + 1) s.block.bytes) = elim a.2 [
+      | inl refused ↦ inl (refused.0, omega (arith, through_length 10 c.in-Some.at s.block.bytes first))
+      | inr bad ↦ inr (bad.0, never_line c.in-Some.at s.block.bytes first bad.1)
+    ] in
+    let ends = stopped remaining rules 10 s s [] none no_text c.in-Some.at e c.append_line.new.self first a.1 why in
     rw (p.1, p.2) (record {
       handed = [];
       appended = a.0 ∙ sym (append-nil _);
       text = IsUtf8-nil;
       front = ends.0;
-      ends = ends.1;
+      ends = inl ends.1;
+      count = tt;
       buffered = λ some. (c.in-Some.at, first, a);
     })
 
@@ -39,15 +45,14 @@ returns-in_ok-n-in-Some-clause-line g c =
     let a = c.in_ok-n-in-Some.ensures.appends in
     let shown : c.buf.result.now ≡ s.block.bytes = c.buf.ensures ∙ ap (λ x. x.block.bytes) c.self.view_is in
     let first = subst (FirstAt 10 c.in-Some.at) shown c.in-Some.ensures.found in
-    let none : Passes remaining rules (FillsOn remaining rules) 10 s [] s =
-    passes_none remaining rules 10 s (subst (λ x. IsBlock x.block) c.self.view_is c.self.invariant) in
-    let ends = until_reached remaining rules 10 s s [] none no_text (c.in-Some.at + 1) c.in-Some.at c.append_line.new.self
-    (omega (arith, through_length 10 c.in-Some.at [] s.block.bytes first)) first a.0.2 in record {
+    let none : Passes remaining rules (FillsOn IsPart remaining rules) 10 s [] s =
+    passes_none remaining rules 10 s (subst (λ x. IsBlock x.block) c.self.view_is c.self.invariant) in record {
       handed = take (c.in-Some.at + 1) s.block.bytes;
       appended = a.0.0;
       text = a.1;
       front = a.0.1;
-      ends = (c.in_ok-n-in-Some.ensures.count ∙ ends.0, ends.1);
+      ends = inl (reaches remaining rules 10 s s [] none c.in-Some.at c.append_line.new.self first a.0.2);
+      count = c.in_ok-n-in-Some.ensures.count ∙ sym (through_length 10 c.in-Some.at s.block.bytes first);
       buffered = λ some. (c.in-Some.at, first, a);
     }
 

@@ -1,8 +1,8 @@
-use Rattle.std.proofs.Common.{◌≡◌, ◌+◌, ◌∙◌, [], take, subst, ap, arith, refl}
+use Rattle.std.proofs.Common.{◌≡◌, ◌+◌, ◌∙◌, [], take, subst, ap, arith, refl, inl, sym}
 use Rattle.redux_buffer.specs.Block.{IsBlock}
-use Rattle.buffer_redux.specs.ReadUntil.{FirstAt, SkipsUntil, no_count}
+use Rattle.buffer_redux.specs.ReadUntil.{FirstAt, SkipsUntil}
 use Rattle.buffer_redux.specs.UntilLaws.{SkipsUntil-known}
-use Rattle.buffer_redux.proofs.UntilSteps.{drops_some, passes_none, through_length, until_reached}
+use Rattle.buffer_redux.proofs.UntilSteps.{drops_some, passes_none, reaches, through_length}
 use Rattle.buffer_redux.proofs.buf_reader.BufReader.skip_until.Goals as goal
 
 pub returns-in-Some : goal.returns-in-Some
@@ -17,10 +17,10 @@ returns-in-Some g c =
     let until : SkipsUntil remaining rules c.args.byte s _ _ = record {
       handed = take (c.in-Some.at + 1) s.block.bytes;
       front = record { in_order = gone.in_order; keeps = gone.keeps };
-      ends = until_reached remaining rules c.args.byte s s [] (passes_none remaining rules c.args.byte s whole) no_count
-          (c.in-Some.at + 1) c.in-Some.at c.consume_exact.new.self
-          (omega (arith, through_length c.args.byte c.in-Some.at [] s.block.bytes first)) first
-          (drops_some rules s c.consume_exact.new.self (c.in-Some.at + 1) (omega arith) gone.consumed);
+      ends = inl (reaches remaining rules c.args.byte s s [] (passes_none remaining rules c.args.byte s whole) c.in-Some.at
+          c.consume_exact.new.self first
+          (drops_some rules s c.consume_exact.new.self (c.in-Some.at + 1) (omega arith) gone.consumed));
+      count = sym (through_length c.args.byte c.in-Some.at s.block.bytes first);
       buffered = λ some. (c.in-Some.at, first, (refl, gone.consumed));
     } in
     record { until = until; count = SkipsUntil-known remaining rules c.args.byte s _ _ until }

@@ -1,0 +1,20 @@
+use Rattle.std.proofs.Common.{arith, refl}
+use Rattle.redux_buffer.proofs.retry.retried.Goals as goal
+
+pub returns-in-Ok : goal.returns-in-Ok
+returns-in-Ok g c = record {
+  retried = record {
+    count = 0;
+    last = c.args.state.now;
+    interrupted = refl;
+    most = omega arith;
+    often = tt;
+    went = c.in-Ok.ensures.step;
+  };
+}
+
+pub retry_outlined-requires : goal.retry_outlined-requires
+retry_outlined-requires g c = record { may = g.met.A.Attempt.again _ _ _ _ c.requires.may c.in-Err.ensures.step }
+
+pub returns-in-Err : goal.returns-in-Err
+returns-in-Err g c = record { retried = c.retry_outlined.ensures.retried _ c.in-Err.ensures.step }
