@@ -168,8 +168,8 @@ policy: StdPolicy }, place: Line, taken: 0 }"
     let text = shown(rt.alloc(), chunks::over(inner)?)?;
     assert!(rt;
         text.as_str()
-            == "chunked::ChunkedWriter { writer: buffer_redux::BufWriter { writer: Told { stream: [] }, buf_len: 0, capacity: 45, \
-policy: StdPolicy } }"
+            == "chunked::ChunkedWriter { writer: buffer_redux::BufWriter { writer: Told { stream: [] }, buf_len: 0, \
+capacity: 45, policy: StdPolicy } }"
     );
     Ok(())
 }
