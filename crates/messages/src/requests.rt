@@ -1,7 +1,7 @@
 //! The reader of requests, before a head.
 ghost use Rattle.std.specs.Prelude.{◌≡◌, ◌≤◌, IfErr, IfOk, MatchResult, false};
 ghost use Rattle.codec.specs.NextPiece.{NextPiece};
-ghost use Rattle.codec.specs.PieceReader.{IsFresh, TakenApart};
+ghost use Rattle.codec.specs.PieceReader.{IsFresh, IsOver, TakenApart};
 ghost use Rattle.messages.specs.Heads.{heads};
 ghost use Rattle.messages.specs.Messages.{Begun, answer_of};
 
@@ -64,6 +64,31 @@ impl<R: Tell> Requests<R> {
                 head,
             }),
             Err(MakeError(back, e)) => Err(MakeError(back.0, e)),
+        }
+    }
+
+    /// The same over a buffer of yours, as [`PieceReader::with_buffer`]: what it holds comes first, as the beginning of a head. A
+    /// refusal hands both back.
+    pub fn with_buffer(
+        alloc: Global,
+        buffer: Buffer,
+        inner: R,
+    ) -> Result<Self, MakeError<(Buffer, R)>>
+        ensures made { IfOk result (IsOver R.log 8192 buffer inner (record {})) }
+        ensures handed_back { IfErr result (λ e. (e.0.0 ≡ buffer) × (e.0.1 ≡ inner)) }
+        ensures refused { IfErr result (λ e. e.1 ≡ GrowError.Memory) }
+    {
+        let head = match Buffer::new(alloc) {
+            Ok(head) => head,
+            Err(e) => return Err(MakeError((buffer, inner), e)),
+        };
+        match PieceReader::with_buffer(alloc, buffer, inner, Heads) {
+            Ok(pieces) => Ok(Requests {
+                alloc,
+                pieces,
+                head,
+            }),
+            Err(MakeError(back, e)) => Err(MakeError((back.0, back.1), e)),
         }
     }
 
