@@ -41,6 +41,6 @@ returns-in-Ok-eq0-clause-caused g c =
       zero_writes = omega (
         arith,
         before.grows.zero_writes,
-        steady.empty refl (omega (arith, rest, length-drop at text, c.loop-at-test.true)),
+        steady.1 refl (omega (arith, rest, length-drop at text, c.loop-at-test.true)),
       );
     })
