@@ -70,5 +70,5 @@ fn decode_all<R: TellRead, W: TellWrite>(
         Ok(_) => Ok(()),
         Err(stopped) => Err(error_of(stopped.cause)),
     };
-    (answer, body.into_inner(), target)
+    (answer, body.into_inner_torn(), target)
 }

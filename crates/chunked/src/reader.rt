@@ -21,7 +21,7 @@ use std::marker::Model;
 use std::{fmt, io};
 
 /// A reader of one body, out of a buffered reader of yours. What follows the body stays in that:
-/// [`into_inner`](ChunkedReader::into_inner) hands it back.
+/// [`finish`](ChunkedReader::finish) hands it back.
 ///
 /// It takes no memory, and asks the buffered reader for nothing behind the payload that a call hands out, nor once the body
 /// ended.
@@ -37,7 +37,7 @@ use std::{fmt, io};
 /// assert!(rt; matches!(body.read_payload(&mut out), Ok(5)));
 /// assert!(rt; matches!(body.read_payload(&mut out), Ok(0)));
 /// assert!(rt; body.is_done());
-/// assert!(rt; body.into_inner().buffer() == b"GET".as_slice());
+/// assert!(rt; body.into_inner_torn().buffer() == b"GET".as_slice());
 /// ```
 #[derive(Drop)]
 pub struct ChunkedReader<R: Tell, P = StdPolicy> {
@@ -94,7 +94,7 @@ impl<R: Tell, P> ChunkedReader<R, P> {
     /// The buffered reader where it stands, which may be within the body: that is torn then. What comes next is the rest of the
     /// body unless [`is_done`](ChunkedReader::is_done), also where all of its payload was handed out, so no message begins there,
     /// and no other reader goes on with it. [`finish`](ChunkedReader::finish) is the way to what follows the body.
-    pub fn into_inner(self) -> BufReader<R, P>
+    pub fn into_inner_torn(self) -> BufReader<R, P>
         ensures { result ≡ self.reader }
     {
         let ChunkedReader {
@@ -159,7 +159,7 @@ impl<R: TellRead, P: ReaderPolicy> ChunkedReader<R, P> {
             (λ e. Drains R.remaining P.rules self (Err e.1) e.0) }
     {
         match self.drain() {
-            Ok(()) => Ok(self.into_inner()),
+            Ok(()) => Ok(self.into_inner_torn()),
             Err(e) => Err((self, e)),
         }
     }

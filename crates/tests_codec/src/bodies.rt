@@ -164,7 +164,7 @@ fn took<R: Tell, P>(body: &ChunkedReader<R, P>) -> u64 {
 }
 
 fn into_inner<R: Tell, P>(body: ChunkedReader<R, P>) -> BufReader<R, P> {
-    body.into_inner()
+    body.into_inner_torn()
 }
 
 // Hands payload out until it ends, again where the stream failed. How it ends, and how often it failed.

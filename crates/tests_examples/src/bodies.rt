@@ -21,7 +21,7 @@ fn chunked_reader(rt: HostRuntime) -> Result<(), Fail> {
     assert!(rt; matches!(body.read_payload(&mut out), Ok(5)));
     assert!(rt; matches!(body.read_payload(&mut out), Ok(0)));
     assert!(rt; body.is_done());
-    assert!(rt; body.into_inner().buffer() == b"GET".as_slice());
+    assert!(rt; body.into_inner_torn().buffer() == b"GET".as_slice());
     Ok(())
 }
 

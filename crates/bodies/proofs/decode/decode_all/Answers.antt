@@ -16,7 +16,7 @@ returns g c =
     let first = start a.limits a.source a.target a.piece in
     let t = c.forward-answer.new.link.filter in
     let over = rw (c.new-link.ensures, c.new.ensures.begun) at c.forward-answer.ensures in
-    rw (c.into_inner.ensures, c.into_inner-body.ensures) (record {
+    rw (c.into_inner_torn.ensures, c.into_inner-body.ensures) (record {
       ran = elim c.match-answer.branch [
         | in-Ok w ↦ subst (DecodeRan a.limits a.source.log t.source.reader.log a.target.log t.target.log) (sym w.answer-is)
             (ended remaining a.limits a.source a.target a.piece c.requires.source c.requires.empty t over.ready _

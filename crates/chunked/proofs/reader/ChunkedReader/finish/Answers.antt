@@ -3,5 +3,5 @@ use Rattle.chunked.proofs.reader.ChunkedReader.finish.Goals as goal
 
 pub returns-in-Ok : goal.returns-in-Ok
 returns-in-Ok g c =
-    rw c.into_inner.ensures
+    rw c.into_inner_torn.ensures
     (leaves g.R.TellRead.remaining g.P.ReaderPolicy.rules c.args.self c.drain.new.self c.in-Ok.ensures)
