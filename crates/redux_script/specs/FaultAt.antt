@@ -24,35 +24,21 @@ fault_stream s = s.stream
 abbrev pub with_call : FaultProgress → FaultProgress
 with_call p = record p { calls = min (p.calls + 1) (2 ^ 64 - 1) }
 
--- a call that goes on as it is
-abbrev pub as_it_is : Reply
-as_it_is = Serves (2 ^ 64 - 1)
-
--- how a call answers, so many calls after the one that was named
+-- how a call answers, so many calls after the one that was named; one that serves up to 2^64 - 1 goes on as it is
 abbrev pub reply_since : Answer → ℕ → Reply
-reply_since (Serve n) since = if since == 0 then Serves n else as_it_is
-reply_since (Fail kind) since = if since == 0 then Fails kind else as_it_is
-reply_since (Interrupt n) since = if nat_lt since n then Fails Interrupted else as_it_is
+reply_since (Serve n) since = if since == 0 then Serves n else Serves (2 ^ 64 - 1)
+reply_since (Fail kind) since = if since == 0 then Fails kind else Serves (2 ^ 64 - 1)
+reply_since (Interrupt n) since = if nat_lt since n then Fails Interrupted else Serves (2 ^ 64 - 1)
 reply_since (ServeEach n) since = Serves n
 
 -- how the next call answers
 abbrev pub fault_reply : FaultProgress → Reply
-fault_reply p = if nat_lt p.calls p.before then as_it_is else reply_since p.answer (p.calls - p.before)
+fault_reply p = if nat_lt p.calls p.before then Serves (2 ^ 64 - 1) else reply_since p.answer (p.calls - p.before)
 
 -- no more bytes are served than the reply says
 abbrev pub ServesWithin : Reply → Result ℕ Error → Type 0
 ServesWithin (Serves most) answer = IfOk answer (λ n. n ≤ most)
 ServesWithin (Fails kind) answer = ⊤
-
--- where nothing is served of something, that is answered, and the stream inside isn't called
-abbrev pub ServesNothing : {S : Type 0} → Reply → ℕ → S → Result ℕ Error → S → Type 0
-ServesNothing (Serves most) offered old answer new = most ≡ 0 → 0 < offered → (answer ≡ Ok 0) × (new ≡ old)
-ServesNothing (Fails kind) offered old answer new = ⊤
-
--- some bytes go on to the stream inside
-abbrev pub ServesSome : Reply → Type 0
-ServesSome (Serves most) = 0 < most
-ServesSome (Fails kind) = ⊥
 
 -- a fault is of the kind that was named, and leaves the stream inside as it was
 abbrev pub FailsBy : {S X : Type 0} → Reply → S → Result X Error → S → Type 0

@@ -39,13 +39,6 @@ step_from zero most (Fail kind ∷ answers) = record
 step_from zero most (Interrupt n ∷ answers) = step_from n most answers
 step_from zero most (ServeEach n ∷ answers) = step_from 0 n answers
 
-abbrev pub next_step : Plan → Step
-next_step p = step_from p.interrupts p.most p.answers
-
--- a script that was not begun
-abbrev pub whole_plan : List Answer → Plan
-whole_plan answers = record { interrupts = 0; most = 2 ^ 64 - 1; answers = answers }
-
 -- what is left of a script, and the lengths of the slices that were offered so far
 pub record Progress : Type 0 where
   pub plan : Plan
@@ -61,11 +54,11 @@ Replies (Fails kind) room (Err e) = error_kind e ≡ kind
 -- a call that was noted goes by the next answer
 pub record Answers (old : Progress) (offered room : ℕ) (answer : Result ℕ Error) (new : Progress) : Type 0 where
   pub noted : new.offers ≡ old.offers ++ offered ∷ []
-  pub plan : new.plan ≡ (next_step old.plan).left
-  pub reply : Replies (next_step old.plan).reply room answer
+  pub plan : new.plan ≡ (step_from old.plan.interrupts old.plan.most old.plan.answers).left
+  pub reply : Replies (step_from old.plan.interrupts old.plan.most old.plan.answers).reply room answer
 
--- a call that could not be noted changes nothing
-pub record RunsOut (old : Progress) (answer : Result ℕ Error) (new : Progress) : Type 0 where
+-- a call that could not be noted, of a reader, a writer or a seeker, changes nothing
+pub record RunsOut {P : Type 0} (old : P) (answer : Result ℕ Error) (new : P) : Type 0 where
   pub kind : IsErrAnd answer (λ e. error_kind e ≡ OutOfMemory)
   pub unchanged : new ≡ old
 
@@ -114,15 +107,6 @@ pub record SeekAnswers (old : SeekProgress) (to : SeekFrom) (answer : Result ℕ
   pub noted : new.targets ≡ old.targets ++ to ∷ []
   pub left : new.answers ≡ drop 1 old.answers
   pub reply : SeekReplies old.answers answer
-
--- a seek that could not be noted changes nothing
-pub record SeekRunsOut (old : SeekProgress) (answer : Result ℕ Error) (new : SeekProgress) : Type 0 where
-  pub kind : IsErrAnd answer (λ e. error_kind e ≡ OutOfMemory)
-  pub unchanged : new ≡ old
-
--- one seek of a `ScriptSeeker`
-abbrev pub Sought : SeekProgress → SeekFrom → Result ℕ Error → SeekProgress → Type 0
-Sought old to answer new = SeekAnswers old to answer new ⊎ SeekRunsOut old answer new
 
 -- what contracts see of a `ScriptSeeker`: its progress, and the stream inside
 abbrev pub seeker_progress : {S : Type 0} → ScriptSeeker S → SeekProgress

@@ -1,5 +1,5 @@
 //! A stream that goes wrong at one call.
-ghost use Rattle.std.specs.Prelude.{◌≡◌, ◌<◌, None, Ok, IfOk, OnErr, length, take};
+ghost use Rattle.std.specs.Prelude.{◌≡◌, ◌<◌, ℕ, None, Ok, IfOk, OnErr, length, take};
 ghost use Rattle.std.specs.Io.{ReadsAtMost, WritesAtMost};
 ghost use Rattle.std.specs.Io.KnownBytes.{Consumes, IsAtEnd, Keeps, ReadConsumes, WriteAppends};
 ghost use Rattle.std.specs.Io.Seek.{SeekMoves};
@@ -89,21 +89,22 @@ impl<S> FaultAt<S> {
 
 // What is left is not told as `remaining`, since an answer `Ok(0)` need not be the end.
 impl<S: Read> Read for FaultAt<S> {
-    ghost use Rattle.redux_script.specs.FaultAt.{fault_progress, fault_stream, fault_reply, with_call, ServesNothing, ServesSome, ServesWithin, FailsBy};
+    ghost use Rattle.redux_script.specs.FaultAt.{fault_progress, fault_stream, fault_reply, with_call, ServesWithin, FailsBy};
+    ghost use Rattle.redux_script.specs.Script.Reply.{Serves};
 
     fn read(&mut self, buf: &mut [u8]) -> io::Result<usize>
         ensures bound { ReadsAtMost result buf.new }
         ensures bytes { ReadConsumes None None result buf.new }
         ensures counted { fault_progress self.new ≡ with_call (fault_progress self.old) }
         ensures within { ServesWithin (fault_reply (fault_progress self.old)) result }
-        ensures nothing { ServesNothing (fault_reply (fault_progress self.old)) (length buf.old) (fault_stream self.old)
-            result (fault_stream self.new) }
+        ensures nothing { fault_reply (fault_progress self.old) ≡ Serves 0 → 0 < length buf.old
+            → (result ≡ Ok 0) × (fault_stream self.new ≡ fault_stream self.old) }
         ensures fails { FailsBy (fault_reply (fault_progress self.old)) (fault_stream self.old) result (fault_stream self.new) }
         ensures given { IfOk result (λ n. Consumes (S.remaining (fault_stream self.old))
             (S.remaining (fault_stream self.new)) (take n buf.new)) }
         ensures err { OnErr result (Keeps (S.remaining (fault_stream self.old)) (S.remaining (fault_stream self.new))) }
-        ensures end { result ≡ Ok 0 → 0 < length buf.old → ServesSome (fault_reply (fault_progress self.old))
-            → IsAtEnd (S.remaining (fault_stream self.new)) }
+        ensures end { result ≡ Ok 0 → 0 < length buf.old → (most : ℕ)
+            → fault_reply (fault_progress self.old) ≡ Serves most → 0 < most → IsAtEnd (S.remaining (fault_stream self.new)) }
     {
         let most = self.next(buf.len())?;
         if most == 0 && !buf.is_empty() {
@@ -114,7 +115,8 @@ impl<S: Read> Read for FaultAt<S> {
 }
 
 impl<S: Write> Write for FaultAt<S> {
-    ghost use Rattle.redux_script.specs.FaultAt.{fault_progress, fault_stream, fault_reply, with_call, ServesNothing, ServesWithin, FailsBy};
+    ghost use Rattle.redux_script.specs.FaultAt.{fault_progress, fault_stream, fault_reply, with_call, ServesWithin, FailsBy};
+    ghost use Rattle.redux_script.specs.Script.Reply.{Serves};
 
     ghost contents = { λ w. S.contents w.stream };
 
@@ -123,8 +125,8 @@ impl<S: Write> Write for FaultAt<S> {
         ensures bytes { WriteAppends (S.contents (fault_stream self.old)) (S.contents (fault_stream self.new)) result buf.now }
         ensures counted { fault_progress self.new ≡ with_call (fault_progress self.old) }
         ensures within { ServesWithin (fault_reply (fault_progress self.old)) result }
-        ensures nothing { ServesNothing (fault_reply (fault_progress self.old)) (length buf.now) (fault_stream self.old)
-            result (fault_stream self.new) }
+        ensures nothing { fault_reply (fault_progress self.old) ≡ Serves 0 → 0 < length buf.now
+            → (result ≡ Ok 0) × (fault_stream self.new ≡ fault_stream self.old) }
         ensures fails { FailsBy (fault_reply (fault_progress self.old)) (fault_stream self.old) result (fault_stream self.new) }
     {
         let most = self.next(buf.len())?;

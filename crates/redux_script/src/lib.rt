@@ -1,7 +1,7 @@
 //! Streams of std that answer by a script, for tests.
 #![tactic(auto)]
 
-ghost use Rattle.std.specs.Prelude.{◌≡◌, ◌≤◌, [], IfOk};
+ghost use Rattle.std.specs.Prelude.{◌≡◌, ◌-◌, ◌^◌, ◌≤◌, [], IfOk};
 
 mod fault_at;
 mod reader;
@@ -42,10 +42,11 @@ struct Script {
 }
 
 impl Script {
-    ghost use Rattle.redux_script.specs.Script.{whole_plan, Called, progress_of};
+    ghost use Rattle.redux_script.specs.Script.{Called, progress_of};
 
     fn new(alloc: Global, answers: &[Answer]) -> Result<Script, AllocError>
-        ensures plan { IfOk result (λ s. (progress_of s).plan ≡ whole_plan answers.now) }
+        ensures plan { IfOk result (λ s. (progress_of s).plan
+            ≡ record { interrupts = 0; most = 2 ^ 64 - 1; answers = answers.now }) }
         ensures offers { IfOk result (λ s. (progress_of s).offers ≡ []) }
     {
         let answers = Vec::from_slice(alloc, answers)?;

@@ -1,5 +1,5 @@
 //! A reader that serves bytes by a script.
-ghost use Rattle.std.specs.Prelude.{◌≡◌, ◌+◌, ◌≤◌, None, [], ◌++◌, length, min, take, drop, vec_len, IfOk, OnErr};
+ghost use Rattle.std.specs.Prelude.{◌≡◌, ◌+◌, ◌-◌, ◌^◌, ◌≤◌, None, [], ◌++◌, length, min, take, drop, vec_len, IfOk, OnErr};
 ghost use Rattle.std.specs.Io.{ReadsAtMost};
 ghost use Rattle.std.specs.Io.KnownBytes.{ReadConsumes};
 
@@ -30,14 +30,15 @@ pub struct ScriptReader {
 }
 
 impl ScriptReader {
-    ghost use Rattle.redux_script.specs.Script.{whole_plan, reader_progress, served_count, bytes_left};
+    ghost use Rattle.redux_script.specs.Script.{reader_progress, served_count, bytes_left};
 
     /// A reader of `bytes` that answers by `answers`. Fails where memory is refused.
     pub fn new(alloc: Global, bytes: &[u8], answers: &[Answer]) -> Result<Self, AllocError>
         ensures bytes { IfOk result (λ r. bytes_left r ≡ bytes.now) }
         ensures served { IfOk result (λ r. served_count r ≡ 0) }
         ensures offers { IfOk result (λ r. (reader_progress r).offers ≡ []) }
-        ensures plan { IfOk result (λ r. (reader_progress r).plan ≡ whole_plan answers.now) }
+        ensures plan { IfOk result (λ r. (reader_progress r).plan
+            ≡ record { interrupts = 0; most = 2 ^ 64 - 1; answers = answers.now }) }
     {
         Ok(ScriptReader {
             script: Script::new(alloc, answers)?,

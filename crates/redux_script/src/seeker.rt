@@ -1,5 +1,5 @@
 //! A stream that seeks by a script.
-ghost use Rattle.std.specs.Prelude.{◌≡◌, None, [], IfOk};
+ghost use Rattle.std.specs.Prelude.{◌≡◌, ◌⊎◌, None, [], IfOk};
 ghost use Rattle.std.specs.Io.{ReadsAtMost, WritesAtMost};
 ghost use Rattle.std.specs.Io.KnownBytes.{Keeps, ReadConsumes, WriteAppends};
 ghost use Rattle.std.specs.Io.Seek.{SeekMoves};
@@ -65,12 +65,13 @@ impl<S> ScriptSeeker<S> {
 }
 
 impl<S> Seek for ScriptSeeker<S> {
-    ghost use Rattle.redux_script.specs.Script.{seeker_stream, seeker_progress, Sought};
+    ghost use Rattle.redux_script.specs.Script.{seeker_stream, seeker_progress, SeekAnswers, RunsOut};
 
     fn seek(&mut self, to: SeekFrom) -> io::Result<u64>
         ensures moves { SeekMoves None None None to result }
         ensures bytes { Keeps None None }
-        ensures sought { Sought (seeker_progress self.old) to result (seeker_progress self.new) }
+        ensures sought { SeekAnswers (seeker_progress self.old) to result (seeker_progress self.new)
+            ⊎ RunsOut (seeker_progress self.old) result (seeker_progress self.new) }
         ensures stream { seeker_stream self.new ≡ seeker_stream self.old }
     {
         self.targets.push(to)?;

@@ -27,14 +27,15 @@ pub struct ScriptWriter {
 }
 
 impl ScriptWriter {
-    ghost use Rattle.redux_script.specs.Script.{whole_plan, writer_progress, taken_bytes, flush_count};
+    ghost use Rattle.redux_script.specs.Script.{writer_progress, taken_bytes, flush_count};
 
     /// A writer that answers by `answers`. Fails where memory is refused.
     pub fn new(alloc: Global, answers: &[Answer]) -> Result<Self, AllocError>
         ensures taken { IfOk result (λ w. taken_bytes w ≡ []) }
         ensures flushes { IfOk result (λ w. flush_count w ≡ 0) }
         ensures offers { IfOk result (λ w. (writer_progress w).offers ≡ []) }
-        ensures plan { IfOk result (λ w. (writer_progress w).plan ≡ whole_plan answers.now) }
+        ensures plan { IfOk result (λ w. (writer_progress w).plan
+            ≡ record { interrupts = 0; most = 2 ^ 64 - 1; answers = answers.now }) }
     {
         Ok(ScriptWriter {
             script: Script::new(alloc, answers)?,
