@@ -5,7 +5,7 @@ use Rattle.std.specs.IoError.{error_kind}
 use Rattle.std.specs.declared.io.Error.{Error}
 use Rattle.std.specs.declared.io.ErrorKind.TheVariants.{Interrupted, WriteZero}
 use Rattle.buffer_redux.specs.Faults.{TookNothing, TookNothing-after, MetInterrupts, MetInterrupts-joins, OnlyInterrupts, SendErrorCaused, SendErrorCaused-after}
-use Rattle.buffer_redux.specs.StreamLog.{StreamLog, after_flush, zero_of_some, zero_of_none}
+use Rattle.buffer_redux.specs.StreamLog.{StreamLog, FillLog, after_flush, zero_of_some, zero_of_none}
 use Rattle.buffer_redux.specs.Transfer.{Sends}
 use Rattle.buffer_redux.specs.Policy.{std_read_rules, std_write_rules}
 use Rattle.buffer_redux.specs.Buffered.{Buffered}
@@ -16,7 +16,7 @@ use Rattle.buffer_redux.specs.EmptyWrites.{TakesNothing-std}
 use Rattle.buffer_redux.specs.WriterLaws.{WritesInOrder-then}
 use Rattle.buffer_redux.specs.ReaderTells.{reader_log, ReaderWent, FaultsAlike-only, FaultsAlike-fault}
 use Rattle.buffer_redux.specs.WriterTells.{writer_log, TellsFailures, WriterWent, WriterCalled}
-use Rattle.buffer_redux.specs.Copy.{MovedBy, LastWrite, CopyEnded, CopyFailed, FaultsRise, TakesNothing}
+use Rattle.buffer_redux.specs.Copy.{MovedBy, MovedTooMuch, LastWrite, CopyEnded, StreamFailed, TakesNothing, faults_met}
 use Rattle.programs.specs.Streams.{EndsOnce}
 use Rattle.copier.specs.Copy.{Copied, EitherFailed, IsBeginning, OnlyFlushLeft, InterruptedOften, OverTotal, RunFlushes}
 use Rattle.copier.specs.Copy as RunFaults
@@ -78,9 +78,9 @@ own_met u v met = record {
 }
 
 -- what the writer inside met where the last write of a copy had this answer
-module _ {W Q : Type 0} (trace : W → W → Type 0) (u v : Buffered W Q) (bytes : List ℕ) where
+module _ {W Q : Type 0} (trace : W → W → Type 0) (a b : FillLog) (u v : Buffered W Q) where
   err_caused : (e : Error)
-      → LastWrite writer_log (WriterWent trace std_write_rules) (WriterCalled std_write_rules) u bytes (Err e) v
+      → LastWrite writer_log (WriterWent trace std_write_rules) (WriterCalled std_write_rules) (Err e) a b u v
       → SendErrorCaused u.log.writes v.log.writes e
   err_caused e last =
       let m = last.before in
@@ -89,20 +89,20 @@ module _ {W Q : Type 0} (trace : W → W → Type 0) (u v : Buffered W Q) (bytes
       (last.called.fault (tells_all m.policy).0 e (ap (λ l. l.writes.faults) last.told))
 
   module _ (last : LastWrite writer_log (WriterWent trace std_write_rules)
-      (WriterCalled std_write_rules) u bytes (Ok 0) v) where
-    stuck_caused : 0 < length bytes → 0 < u.block.capacity
+      (WriterCalled std_write_rules) (Ok 0) a b u v) where
+    stuck_caused : 0 < length b.shown → 0 < u.block.capacity
         → (interrupts : List Error) × TookNothing interrupts u.log.writes v.log.writes WriteZero
     stuck_caused some room =
         let m = last.before in
         let met = last.went.met (tells_all u.policy) (own_met u m last.met) in
         let nothing = last.called.nothing (tells_all m.policy).0
         (ap (λ l. l.writes.zero_writes) last.told
-        ∙ zero_of_none 0 bytes m.own_calls.writes.zero_writes refl some) in (
+        ∙ zero_of_none 0 b.shown m.own_calls.writes.zero_writes refl some) in (
           met.interrupts ++ nothing.0,
           TookNothing-after met.interrupts nothing.0 u.log.writes m.log.writes v.log.writes WriteZero met.only nothing.1,
         )
 
-    out_met : length bytes ≡ 0 → WriterWent trace std_write_rules u v
+    out_met : length b.shown ≡ 0 → WriterWent trace std_write_rules u v
         → MetInterrupts u.log.writes v.log.writes
     out_met none went =
         let m = last.before in
@@ -113,7 +113,7 @@ module _ {W Q : Type 0} (trace : W → W → Type 0) (u v : Buffered W Q) (bytes
             faults = ap (λ l. l.writes.faults) last.told ∙ last.met.only.faults;
             zero_writes =
                 ap (λ l. l.writes.zero_writes) last.told
-                ∙ zero_of_some 0 bytes m.own_calls.writes.zero_writes (inr none) ∙ last.met.only.zero_writes;
+                ∙ zero_of_some 0 b.shown m.own_calls.writes.zero_writes (inr none) ∙ last.met.only.zero_writes;
           };
         })
 
@@ -176,8 +176,9 @@ module _ {R P W Q : Type 0} {remaining : R → Option (List ℕ)} {trace : W →
   copy_once room shows = omega (arith, went.once ReadsWhenEmpty-std, shows (TakesNothing-std trace u room))
 
   pub copy_caused : (e : Error)
-      → CopyFailed writer_log (WriterWent trace std_write_rules) (WriterCalled std_write_rules) e
+      → StreamFailed writer_log (WriterWent trace std_write_rules) (WriterCalled std_write_rules) e
       (reader_log s).fills (reader_log t).fills u v
+      ⊎ MovedTooMuch e (reader_log s).fills (reader_log t).fills (writer_log u).writes (writer_log v).writes
       → EitherFailed e s.log t.log u.log v.log ⊎ OverTotal e s.log t.log u.log v.log
   copy_caused e (inl (inl source)) = inl (inl (record {
     fault = FaultsAlike-fault s.own_calls.fills.faults t.own_calls.fills.faults s.log.reads.faults t.log.reads.faults
@@ -186,7 +187,7 @@ module _ {R P W Q : Type 0} {remaining : R → Option (List ℕ)} {trace : W →
   }))
   copy_caused e (inl (inr target)) = inl (inr (record {
     reader = only target.reader;
-    writer = err_caused trace u v t.block.bytes e target.last;
+    writer = err_caused trace (reader_log s).fills (reader_log t).fills u v e target;
   }))
   copy_caused e (inr much) = inr (record {
     other = much.other;
@@ -198,7 +199,8 @@ module _ {R P W Q : Type 0} {remaining : R → Option (List ℕ)} {trace : W →
   })
 
   -- what the copy met of faults, the streams inside met
-  rise_inside : FaultsRise 65 (reader_log s).fills (reader_log t).fills (writer_log u).writes (writer_log v).writes
+  rise_inside : faults_met (reader_log s).fills (writer_log u).writes + 65
+      ≤ faults_met (reader_log t).fills (writer_log v).writes
       → v.log.writes.zero_writes ≡ u.log.writes.zero_writes → RunFaults.FaultsRise 65 s.log t.log u.log v.log
   rise_inside rise same =
       let alike = went.faults refl in
@@ -219,15 +221,16 @@ module _ {R P W Q : Type 0} {remaining : R → Option (List ℕ)} {trace : W →
   zero_same e is caused = elim caused.cause [ inl nothing ↦ cc | inr fault ↦ fault.zero_writes ]
 
   pub copy_often : (e : Error)
-      → CopyFailed writer_log (WriterWent trace std_write_rules) (WriterCalled std_write_rules) e
+      → StreamFailed writer_log (WriterWent trace std_write_rules) (WriterCalled std_write_rules) e
       (reader_log s).fills (reader_log t).fills u v
+      ⊎ MovedTooMuch e (reader_log s).fills (reader_log t).fills (writer_log u).writes (writer_log v).writes
       → (error_kind e ≡ Interrupted
-      → FaultsRise 65 (reader_log s).fills (reader_log t).fills (writer_log u).writes (writer_log v).writes)
+      → faults_met (reader_log s).fills (writer_log u).writes + 65 ≤ faults_met (reader_log t).fills (writer_log v).writes)
       → InterruptedOften e s.log t.log u.log v.log
   copy_often e (inl (inl source)) often is =
       inl (rise_inside (often is) (went'.met (tells_all u.policy) (own_met u v source.writer)).only.zero_writes)
   copy_often e (inl (inr target)) often is =
-      inl (rise_inside (often is) (zero_same e is (err_caused trace u v t.block.bytes e target.last)))
+      inl (rise_inside (often is) (zero_same e is (err_caused trace (reader_log s).fills (reader_log t).fills u v e target)))
   copy_often e (inr much) often is = let kind = much.other in cc
 
   module _ (ended : CopyEnded writer_log (WriterWent trace std_write_rules) (WriterCalled std_write_rules)
@@ -236,9 +239,9 @@ module _ {R P W Q : Type 0} {remaining : R → Option (List ℕ)} {trace : W →
     pub left_caused : (e : Error) → error_kind e ≡ WriteZero → 0 < length t.block.bytes → 0 < u.block.capacity
         → EitherFailed e s.log t.log u.log v.log
     left_caused e is some room =
-        let stuck = stuck_caused trace u v t.block.bytes ended.last some room in
+        let stuck = stuck_caused trace (reader_log s).fills (reader_log t).fills u v ended.last some room in
         inr (record {
-          reader = only ended.reader;
+          reader = only ended.last.reader;
           writer = record {
             interrupts = stuck.0;
             cause = inl (subst (TookNothing stuck.0 u.log.writes v.log.writes) (sym is) stuck.1);
@@ -249,9 +252,9 @@ module _ {R P W Q : Type 0} {remaining : R → Option (List ℕ)} {trace : W →
       pub flush_caused : (e : Error)
           → SendErrorCaused v.log.writes v'.log.writes e → EitherFailed e s.log t.log u.log v'.log
       flush_caused e caused = inr (record {
-        reader = only ended.reader;
+        reader = only ended.last.reader;
         writer = SendErrorCaused-after u.log.writes v.log.writes v'.log.writes e
-            (out_met trace u v t.block.bytes ended.last left went') caused;
+            (out_met trace (reader_log s).fills (reader_log t).fills u v ended.last left went') caused;
       })
 
       -- all was sent, and then the flush was left
@@ -366,9 +369,9 @@ module _ {R P W Q : Type 0} {remaining : R → Option (List ℕ)} {trace : W →
             flushed = flushed.flushed;
             ended = omega (arith, went.ends (inl refl) room, ended.ends left);
             met = record {
-              reader = only ended.reader;
+              reader = only ended.last.reader;
               writer =
                   MetInterrupts-joins u.log.writes v.log.writes v'.log.writes
-                  (out_met trace u v t.block.bytes ended.last left went') flushed.met;
+                  (out_met trace (reader_log s).fills (reader_log t).fills u v ended.last left went') flushed.met;
             };
           }

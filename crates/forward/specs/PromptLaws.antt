@@ -21,7 +21,7 @@ WritesOn-joins a b c p q = record {
 pub WritesOn-grows : (old new : WriteLog) → WriteLogGrows old new → WritesOn old new
 WritesOn-grows old new grows = record {
   received = grows.received;
-  flushed = elim grows.flushed [ inl same ↦ inl same | inr since ↦ inr since.all ];
+  flushed = elim grows.flushed [ inl same ↦ inl same | inr since ↦ inr since.0 ];
 }
 
 -- what was sent stays so

@@ -1,5 +1,5 @@
 -- What the turns of a copy come to.
-use Rattle.std.proofs.Common.{◌≡◌, ℕ, ◌+◌, ◌≤◌, List, [], ◌∷◌, ◌++◌, length, Result, Ok, Err, refl, sym, ap, subst, ◌∙◌, arith, inl, inr, le_refl, append-nil, length-append}
+use Rattle.std.proofs.Common.{◌≡◌, ℕ, ◌+◌, ◌-◌, ◌≤◌, List, [], ◌∷◌, ◌++◌, length, Result, Ok, Err, refl, sym, ap, subst, ◌∙◌, arith, inl, inr, le_refl, append-nil, length-append}
 use Rattle.std.proofs.lemmas.Bool.{cases_lt}
 use Rattle.std.proofs.lemmas.List.{nil_from_length}
 use Rattle.std.proofs.lemmas.List.Elements.{All-nil, All-cons}
@@ -7,7 +7,7 @@ use Rattle.std.specs.IoError.{error_kind}
 use Rattle.std.specs.List.{All}
 use Rattle.std.specs.declared.io.Error.{Error}
 use Rattle.std.specs.declared.io.ErrorKind.TheVariants.{Interrupted}
-use Rattle.redux_buffer.specs.Copy.{MovedBy, EndsShown, FillsMade, TakesNothing, WritesEachFill, CopiesOn, CopyTurn, CopyRetried, FaultsRise, FaultsAtMost, consumed_since}
+use Rattle.redux_buffer.specs.Copy.{MovedBy, EndsShown, FillsMade, TakesNothing, WritesEachFill, CopiesOn, CopyTurn, CopyRetried, faults_met}
 use Rattle.redux_buffer.specs.CopyLaws.{TurnAnswers-after}
 use Rattle.redux_buffer.specs.Faults.{IsInterrupt, MetInterrupts-none, OnlyInterrupts-none}
 use Rattle.redux_buffer.specs.StreamLog.{StreamLog, FillLog, WriteLog, after_fill_fault, after_shown, after_write, end_of_some, with_end}
@@ -46,19 +46,17 @@ module _ {W : Type 0} (tells : W → StreamLog) (trace call : W → W → Type 0
       record {
         answers = record {
           copies = tt;
-          ended = λ is. cc;
-          failed = record {
-            failed = inl (record {
-              fault = record {
-                interrupts = [];
-                interrupted = All-nil IsInterrupt;
-                faults = ap (λ l. l ++ e ∷ []) (sym (append-nil from.fills.faults));
-              };
-              writer = none;
-            });
-            nothing = kept;
-            fills = fills;
-          };
+          ended = tt;
+          failed = inl (record {
+            fault = record {
+              interrupts = [];
+              interrupted = All-nil IsInterrupt;
+              faults = ap (λ l. l ++ e ∷ []) (sym (append-nil from.fills.faults));
+            };
+            writer = none;
+          });
+          nothing = kept;
+          fills = fills;
           writes = writes;
           ends_shown = omega arith;
           one_end = λ takes. refl;
@@ -101,21 +99,17 @@ module _ {W : Type 0} (tells : W → StreamLog) (trace call : W → W → Type 0
       record {
         answers = record {
           copies = tt;
-          ended = λ is. cc;
-          failed = record {
-            failed = inr (record {
-              reader = OnlyInterrupts-none from.fills.faults;
-              last = record {
-                before = w;
-                went = none w;
-                met = MetInterrupts-none (tells w).writes;
-                called = called;
-                told = told;
-              };
-            });
-            nothing = kept;
-            fills = fills;
-          };
+          ended = tt;
+          failed = inr (record {
+            reader = OnlyInterrupts-none from.fills.faults;
+            before = w;
+            went = none w;
+            met = MetInterrupts-none (tells w).writes;
+            called = called;
+            told = told;
+          });
+          nothing = kept;
+          fills = fills;
           writes = omega (arith, once);
           ends_shown = shown;
           one_end = λ takes. elim (cases_lt 0 (length bytes)) [
@@ -158,7 +152,8 @@ module _ {W : Type 0} (tells : W → StreamLog) (trace call : W → W → Type 0
     (before : CopiesOn 0 a b (tells x).writes (tells y).writes) (went : trace x y)
     (still : TakesNothing tells trace call x → b.zero_fills ≡ a.zero_fills) where
   pub last_retried : {c : FillLog} {z : W} (answer : Result ℕ Error)
-      → FaultsRise 64 a b (tells x).writes (tells y).writes → FaultsAtMost 64 a b (tells x).writes (tells y).writes
+      → faults_met a (tells x).writes + 64 ≤ faults_met b (tells y).writes
+      → faults_met b (tells y).writes ≤ faults_met a (tells x).writes + 64
       → CopyTurn tells trace call answer b c y z → CopyRetried tells trace call answer a c x z
   last_retried (Ok n) rise few turn = record {
     answers = TurnAnswers-after tells trace call joins before went still (Ok n) turn.answers;
@@ -172,10 +167,12 @@ module _ {W : Type 0} (tells : W → StreamLog) (trace call : W → W → Type 0
   }
 
 -- how many bytes were consumed, and that faults only come
-pub moved_count : {n : ℕ} {a b : FillLog} {x y : WriteLog} → MovedBy n a b x y → consumed_since a b ≡ n
+pub moved_count : {n : ℕ} {a b : FillLog} {x y : WriteLog} → MovedBy n a b x y
+    → length b.consumed - length a.consumed ≡ n
 moved_count {n} {a} p = omega (arith, p.count, ap length p.consumed, length-append a.consumed p.bytes)
 
-pub faults_come : {n : ℕ} {a b : FillLog} {x y : WriteLog} → CopiesOn n a b x y → FaultsRise 0 a b x y
+pub faults_come : {n : ℕ} {a b : FillLog} {x y : WriteLog} → CopiesOn n a b x y
+    → faults_met a x ≤ faults_met b y
 faults_come {n} {a} {b} {x} {y} p = omega (
   arith,
   ap length p.reader.faults,

@@ -1,6 +1,5 @@
 -- What copying from a buffered reader to a writer does.
 use Rattle.std.specs.Prelude.{◌≡◌, ◌≢◌, ℕ, ◌+◌, ◌-◌, ◌*◌, ◌^◌, ◌<◌, ◌≤◌, ◌⊎◌, List, [], ◌++◌, length, Option, IfSome, Result, Ok, Err, IfOk, IfErr, OnOk, MatchResult}
-use Rattle.std.specs.Io.KnownBytes.{Consumes}
 use Rattle.std.specs.IoError.{error_kind}
 use Rattle.std.specs.declared.io.Error.{Error}
 use Rattle.std.specs.declared.io.ErrorKind.TheVariants.{Interrupted, Other}
@@ -17,11 +16,14 @@ pub record MovedBy (n : ℕ) (from from' : FillLog) (to to' : WriteLog) : Type 0
   pub not_flushed : to'.flushed ≡ to.flushed
   pub flushes : to'.flushes ≡ to.flushes
 
+-- how many faults the streams met, both together
+abbrev pub faults_met : FillLog → WriteLog → ℕ
+faults_met from to = length from.faults + length to.faults
+
 -- a fill was made for each consume and each fault that the streams met, and so many more
 abbrev pub FillsMade : ℕ → FillLog → FillLog → WriteLog → WriteLog → Type 0
 FillsMade n from from' to to' =
-    from'.asks + from.consumes + (length from.faults + length to.faults)
-    ≡ from.asks + from'.consumes + (length from'.faults + length to'.faults) + n
+    from'.asks + from.consumes + faults_met from to ≡ from.asks + from'.consumes + faults_met from' to' + n
 
 -- a write was made for each fill that didn't fail
 abbrev pub WritesEachFill : FillLog → FillLog → WriteLog → WriteLog → Type 0
@@ -42,21 +44,20 @@ pub record CopiesOn (n : ℕ) (from from' : FillLog) (to to' : WriteLog) : Type 
   pub reader : OnlyInterrupts from.faults from'.faults
   pub writer : MetInterrupts to to'
 
--- the writer was at most interrupted, up to its last call: a write of these bytes with this answer
+-- the streams were at most interrupted, up to the writer's last call: a write of all that is shown, with this answer
 pub record LastWrite {W : Type 0} (tells : W → StreamLog) (trace call : W → W → Type 0)
-    (w : W) (bytes : List ℕ) (answer : Result ℕ Error) (w' : W) : Type 0 where
+    (answer : Result ℕ Error) (from from' : FillLog) (w w' : W) : Type 0 where
+  pub reader : OnlyInterrupts from.faults from'.faults
   pub before : W
   pub went : trace w before
   pub met : MetInterrupts (tells w).writes (tells before).writes
   pub called : call before w'
-  pub told : tells w' ≡ after_write (tells before) bytes answer
+  pub told : tells w' ≡ after_write (tells before) from'.shown answer
 
--- copying ended: the last write took nothing of all that is shown, the reader was at most interrupted, and where it had
--- nothing to show it told so
+-- copying ended: the last write took nothing, and where the reader had nothing to show it told so
 pub record CopyEnded {W : Type 0} (tells : W → StreamLog) (trace call : W → W → Type 0)
     (from from' : FillLog) (w w' : W) : Type 0 where
-  pub reader : OnlyInterrupts from.faults from'.faults
-  pub last : LastWrite tells trace call w from'.shown (Ok 0) w'
+  pub last : LastWrite tells trace call (Ok 0) from from' w w'
   pub ends : length from'.shown ≡ 0 → from.zero_fills < from'.zero_fills
 
 -- the reader, whose faults these are, failed with this error, and the writer was at most interrupted
@@ -64,17 +65,12 @@ pub record SourceFailed (e : Error) (faults faults' : List Error) (to to' : Writ
   pub fault : FaultAfterInterrupts faults faults' e
   pub writer : MetInterrupts to to'
 
--- the last write, of all that is shown, failed with this error, and the reader was at most interrupted
-pub record TargetFailed {W : Type 0} (tells : W → StreamLog) (trace call : W → W → Type 0)
-    (e : Error) (from from' : FillLog) (w w' : W) : Type 0 where
-  pub reader : OnlyInterrupts from.faults from'.faults
-  pub last : LastWrite tells trace call w from'.shown (Err e) w'
-
+-- a stream failed with this error: the reader, or the writer at its last write
 abbrev pub StreamFailed : {W : Type 0} → (W → StreamLog) → (W → W → Type 0) → (W → W → Type 0) → Error
     → FillLog → FillLog → W → W → Type 0
 StreamFailed tells trace call e from from' w w' =
     SourceFailed e from.faults from'.faults (tells w).writes (tells w').writes
-    ⊎ TargetFailed tells trace call e from from' w w'
+    ⊎ LastWrite tells trace call (Err e) from from' w w'
 
 -- more bytes were moved than a `u64` counts, and the streams were at most interrupted
 pub record MovedTooMuch (e : Error) (from from' : FillLog) (to to' : WriteLog) : Type 0 where
@@ -83,65 +79,31 @@ pub record MovedTooMuch (e : Error) (from from' : FillLog) (to to' : WriteLog) :
   pub large : 2 ^ 64 ≤ count
   pub copies : CopiesOn count from from' to to'
 
--- why a copy failed with this error
-abbrev pub CopyFailed : {W : Type 0} → (W → StreamLog) → (W → W → Type 0) → (W → W → Type 0) → Error
-    → FillLog → FillLog → W → W → Type 0
-CopyFailed tells trace call e from from' w w' =
-    StreamFailed tells trace call e from from' w w'
-    ⊎ MovedTooMuch e from from' (tells w).writes (tells w').writes
-
--- the streams met just so many faults, both together
-abbrev pub FaultsMet : ℕ → FillLog → FillLog → WriteLog → WriteLog → Type 0
-FaultsMet n from from' to to' = length from'.faults + length to'.faults ≡ length from.faults + length to.faults + n
-
--- at least so many
-abbrev pub FaultsRise : ℕ → FillLog → FillLog → WriteLog → WriteLog → Type 0
-FaultsRise n from from' to to' = length from.faults + length to.faults + n ≤ length from'.faults + length to'.faults
-
--- at most so many
-abbrev pub FaultsAtMost : ℕ → FillLog → FillLog → WriteLog → WriteLog → Type 0
-FaultsAtMost n from from' to to' = length from'.faults + length to'.faults ≤ length from.faults + length to.faults + n
-
--- how many bytes were consumed since
-abbrev pub consumed_since : FillLog → FillLog → ℕ
-consumed_since from from' = length from'.consumed - length from.consumed
-
 -- whatever calls the writer went through, no write of nothing fails
 abbrev pub TakesNothing : {W : Type 0} → (W → StreamLog) → (W → W → Type 0) → (W → W → Type 0) → W → Type 0
 TakesNothing {W} tells trace call w =
     (before after : W) (e : Error) → trace w before → call before after → tells after ≢ after_write (tells before) [] (Err e)
 
--- at Ok the reader showed nothing once at most, and at an `Err` never
-abbrev pub ShowsOneEnd : {A : Type 0} → Result A Error → FillLog → FillLog → Type 0
-ShowsOneEnd (Ok a) from from' = from'.zero_fills ≤ from.zero_fills + 1
-ShowsOneEnd (Err e) from from' = from'.zero_fills ≡ from.zero_fills
-
--- the last turn of a copy: it moved nothing, and its fill had no consume
-pub record TurnEnded {W : Type 0} (tells : W → StreamLog) (trace call : W → W → Type 0)
-    (from from' : FillLog) (w w' : W) : Type 0 where
-  pub ended : CopyEnded tells trace call from from' w w'
-  pub nothing : MovedBy 0 from from' (tells w).writes (tells w').writes
-  pub fills : FillsMade 1 from from' (tells w).writes (tells w').writes
-
--- a turn in which a stream failed: it moved nothing
-pub record TurnFailed {W : Type 0} (tells : W → StreamLog) (trace call : W → W → Type 0) (e : Error)
-    (from from' : FillLog) (w w' : W) : Type 0 where
-  pub failed : StreamFailed tells trace call e from from' w w'
-  pub nothing : MovedBy 0 from from' (tells w).writes (tells w').writes
-  pub fills : FillsMade 0 from from' (tells w).writes (tells w').writes
-
 -- what one turn of a copy answered, also one that was begun again where it was interrupted: how many bytes went over, none
--- at the end, or why a stream failed
+-- at the end, or why a stream failed. At the end and where it failed it moved nothing, and one fill had no consume at the
+-- end. At Ok the reader showed nothing once at most, and at an `Err` never, where the writer fails no write of nothing
 pub record TurnAnswers {W : Type 0} (tells : W → StreamLog) (trace call : W → W → Type 0) (result : Result ℕ Error)
     (from from' : FillLog) (w w' : W) : Type 0 where
   pub copies : IfOk result (λ n. 0 < n → CopiesOn n from from' (tells w).writes (tells w').writes)
-  pub ended : result ≡ Ok 0 → TurnEnded tells trace call from from' w w'
-  pub failed : IfErr result (λ e. TurnFailed tells trace call e from from' w w')
+  pub ended : IfOk result (λ n. n ≡ 0 → CopyEnded tells trace call from from' w w')
+  pub failed : IfErr result (λ e. StreamFailed tells trace call e from from' w w')
+  pub nothing : MatchResult result
+      (λ n. n ≡ 0 → MovedBy 0 from from' (tells w).writes (tells w').writes)
+      (λ _. MovedBy 0 from from' (tells w).writes (tells w').writes)
+  pub fills : MatchResult result
+      (λ n. n ≡ 0 → FillsMade 1 from from' (tells w).writes (tells w').writes)
+      (λ _. FillsMade 0 from from' (tells w).writes (tells w').writes)
   pub writes : WritesEachFill from from' (tells w).writes (tells w').writes
   pub ends_shown : MatchResult result
       (λ _. EndsShown 1 from from' (tells w).writes (tells w').writes)
       (λ _. EndsShown 0 from from' (tells w).writes (tells w').writes)
-  pub one_end : TakesNothing tells trace call w → ShowsOneEnd result from from'
+  pub one_end : TakesNothing tells trace call w → MatchResult result
+      (λ _. from'.zero_fills ≤ from.zero_fills + 1) (λ _. from'.zero_fills ≡ from.zero_fills)
   pub none_ended : TakesNothing tells trace call w → IfOk result (λ n. 0 < n → from'.zero_fills ≡ from.zero_fills)
 
 -- one turn of a copy: one fill, then one write of all that it shows, none where the fill failed, and so one consume where
@@ -159,18 +121,18 @@ pub record CopyTurn {W : Type 0} (tells : W → StreamLog) (trace call : W → W
   pub none_ended : IfOk result (λ n. 0 < n → from'.zero_fills ≡ from.zero_fills)
   pub ended_once : from'.zero_fills ≤ from.zero_fills + 1
   pub one_fault : MatchResult result
-      (λ _. FaultsMet 0 from from' (tells w).writes (tells w').writes)
-      (λ _. FaultsMet 1 from from' (tells w).writes (tells w').writes)
+      (λ _. faults_met from' (tells w').writes ≡ faults_met from (tells w).writes)
+      (λ _. faults_met from' (tells w').writes ≡ faults_met from (tells w).writes + 1)
 
 -- a turn that is begun again where it was interrupted, 64 times at the most
 pub record CopyRetried {W : Type 0} (tells : W → StreamLog) (trace call : W → W → Type 0) (result : Result ℕ Error)
     (from from' : FillLog) (w w' : W) : Type 0 where
   pub answers : TurnAnswers tells trace call result from from' w w'
   pub often : IfErr result
-      (λ e. error_kind e ≡ Interrupted → FaultsRise 65 from from' (tells w).writes (tells w').writes)
+      (λ e. error_kind e ≡ Interrupted → faults_met from (tells w).writes + 65 ≤ faults_met from' (tells w').writes)
   pub few : MatchResult result
-      (λ _. FaultsAtMost 64 from from' (tells w).writes (tells w').writes)
-      (λ _. FaultsAtMost 65 from from' (tells w).writes (tells w').writes)
+      (λ _. faults_met from' (tells w').writes ≤ faults_met from (tells w).writes + 64)
+      (λ _. faults_met from' (tells w').writes ≤ faults_met from (tells w).writes + 65)
 
 -- a whole copy: at Ok it ended, and the total is the number of bytes that went over; at an `Err` some went over, and
 -- `Interrupted` comes only after 64 more such faults; and each fill and each write was one of a turn. The faults were at most
@@ -181,12 +143,15 @@ pub record CopyBuf {W : Type 0} (tells : W → StreamLog) (trace call : W → W 
       (λ n. MovedBy n from from' (tells w).writes (tells w').writes)
       (λ _. (n : ℕ) × MovedBy n from from' (tells w).writes (tells w').writes)
   pub ended : OnOk result (CopyEnded tells trace call from from' w w')
-  pub failed : IfErr result (λ e. CopyFailed tells trace call e from from' w w')
+  pub failed : IfErr result (λ e. StreamFailed tells trace call e from from' w w'
+      ⊎ MovedTooMuch e from from' (tells w).writes (tells w').writes)
   pub often : IfErr result
-      (λ e. error_kind e ≡ Interrupted → FaultsRise 65 from from' (tells w).writes (tells w').writes)
+      (λ e. error_kind e ≡ Interrupted → faults_met from (tells w).writes + 65 ≤ faults_met from' (tells w').writes)
   pub few : MatchResult result
-      (λ _. FaultsAtMost (64 * (consumed_since from from' + 1)) from from' (tells w).writes (tells w').writes)
-      (λ _. FaultsAtMost (64 * (consumed_since from from' + 1) + 1) from from' (tells w).writes (tells w').writes)
+      (λ _. faults_met from' (tells w').writes
+      ≤ faults_met from (tells w).writes + 64 * (length from'.consumed - length from.consumed + 1))
+      (λ _. faults_met from' (tells w').writes
+      ≤ faults_met from (tells w).writes + 64 * (length from'.consumed - length from.consumed + 1) + 1)
   pub fills : MatchResult result
       (λ _. FillsMade 1 from from' (tells w).writes (tells w').writes)
       (λ _. FillsMade 0 from from' (tells w).writes (tells w').writes)
@@ -194,13 +159,8 @@ pub record CopyBuf {W : Type 0} (tells : W → StreamLog) (trace call : W → W 
   pub ends_shown : MatchResult result
       (λ _. EndsShown 1 from from' (tells w).writes (tells w').writes)
       (λ _. EndsShown 0 from from' (tells w).writes (tells w').writes)
-  pub one_end : TakesNothing tells trace call w → ShowsOneEnd result from from'
-
--- the writer received just what the reader, of which all that is left is known, lost
-pub record MovesKnown (left left' : Option (List ℕ)) (to to' : WriteLog) : Type 0 where
-  pub bytes : List ℕ
-  pub received : to'.received ≡ to.received ++ bytes
-  pub went : Consumes left left' bytes
+  pub one_end : TakesNothing tells trace call w → MatchResult result
+      (λ _. from'.zero_fills ≤ from.zero_fills + 1) (λ _. from'.zero_fills ≡ from.zero_fills)
 
 -- the writer received all that the reader was known to have left, or once took nothing of something
 abbrev pub ReceivesAll : Option (List ℕ) → WriteLog → WriteLog → Type 0

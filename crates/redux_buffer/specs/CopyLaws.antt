@@ -3,7 +3,7 @@ use Rattle.std.proofs.Common.{◌≡◌, ℕ, ◌+◌, List, Result, Ok, Err, in
 use Rattle.std.specs.declared.io.Error.{Error}
 use Rattle.redux_buffer.specs.StreamLog.{StreamLog, FillLog, WriteLog}
 use Rattle.redux_buffer.specs.Faults.{OnlyInterrupts-none, OnlyInterrupts-joins, FaultAfterInterrupts-after, MetInterrupts-joins, MetInterrupts-none}
-use Rattle.redux_buffer.specs.Copy.{MovedBy, CopiesOn, LastWrite, CopyEnded, StreamFailed, TakesNothing, TurnEnded, TurnFailed, TurnAnswers, CopyBuf}
+use Rattle.redux_buffer.specs.Copy.{MovedBy, CopiesOn, LastWrite, CopyEnded, StreamFailed, TakesNothing, TurnAnswers, CopyBuf}
 
 -- no turn moves nothing, and two turns one after the other move what both do
 pub MovedBy-none : (from : FillLog) (to : WriteLog) → MovedBy 0 from from to to
@@ -62,9 +62,10 @@ module _ {n : ℕ} {a b : FillLog} {x y : WriteLog} (before : CopiesOn n a b x y
 module _ {W : Type 0} (tells : W → StreamLog) (trace call : W → W → Type 0)
     (joins : (u v w : W) → trace u v → trace v w → trace u w) {n : ℕ} {a b : FillLog} {x y : W}
     (before : CopiesOn n a b (tells x).writes (tells y).writes) (went : trace x y) where
-  LastWrite-after : {z : W} (bytes : List ℕ) (answer : Result ℕ Error)
-      → LastWrite tells trace call y bytes answer z → LastWrite tells trace call x bytes answer z
-  LastWrite-after bytes answer last = record {
+  LastWrite-after : {c : FillLog} {z : W} (answer : Result ℕ Error)
+      → LastWrite tells trace call answer b c y z → LastWrite tells trace call answer a c x z
+  LastWrite-after {c} answer last = record {
+    reader = OnlyInterrupts-joins a.faults b.faults c.faults before.reader last.reader;
     before = last.before;
     went = joins x y last.before went last.went;
     met = MetInterrupts-joins (tells x).writes (tells y).writes
@@ -75,9 +76,8 @@ module _ {W : Type 0} (tells : W → StreamLog) (trace call : W → W → Type 0
 
   pub CopyEnded-after : {c : FillLog} {z : W}
       → CopyEnded tells trace call b c y z → CopyEnded tells trace call a c x z
-  CopyEnded-after {c} ended = record {
-    reader = OnlyInterrupts-joins a.faults b.faults c.faults before.reader ended.reader;
-    last = LastWrite-after c.shown (Ok 0) ended.last;
+  CopyEnded-after ended = record {
+    last = LastWrite-after (Ok 0) ended.last;
     ends = λ none. omega (arith, before.ends, ended.ends none);
   }
 
@@ -88,10 +88,7 @@ module _ {W : Type 0} (tells : W → StreamLog) (trace call : W → W → Type 0
     writer =
         MetInterrupts-joins (tells x).writes (tells y).writes (tells z).writes before.writer source.writer;
   })
-  StreamFailed-after {e} {c} (inr target) = inr (record {
-    reader = OnlyInterrupts-joins a.faults b.faults c.faults before.reader target.reader;
-    last = LastWrite-after c.shown (Err e) target.last;
-  })
+  StreamFailed-after {e} (inr target) = inr (LastWrite-after (Err e) target)
 
 -- a turn after turns that were only interrupted
 module _ {a b : FillLog} {x y : WriteLog} (before : CopiesOn 0 a b x y) where
@@ -111,21 +108,6 @@ module _ {W : Type 0} (tells : W → StreamLog) (trace call : W → W → Type 0
     (joins : (u v w : W) → trace u v → trace v w → trace u w) {a b : FillLog} {x y : W}
     (before : CopiesOn 0 a b (tells x).writes (tells y).writes) (went : trace x y)
     (still : TakesNothing tells trace call x → b.zero_fills ≡ a.zero_fills) where
-  TurnEnded-after : {c : FillLog} {z : W} → TurnEnded tells trace call b c y z → TurnEnded tells trace call a c x z
-  TurnEnded-after turn = record {
-    ended = CopyEnded-after tells trace call joins before went turn.ended;
-    nothing = MovedBy-still before.moved turn.nothing;
-    fills = omega (arith, before.fills, turn.fills);
-  }
-
-  TurnFailed-after : {e : Error} {c : FillLog} {z : W}
-      → TurnFailed tells trace call e b c y z → TurnFailed tells trace call e a c x z
-  TurnFailed-after turn = record {
-    failed = StreamFailed-after tells trace call joins before went turn.failed;
-    nothing = MovedBy-still before.moved turn.nothing;
-    fills = omega (arith, before.fills, turn.fills);
-  }
-
   takes_on : TakesNothing tells trace call x → TakesNothing tells trace call y
   takes_on = TakesNothing-after tells trace call joins went
 
@@ -133,8 +115,10 @@ module _ {W : Type 0} (tells : W → StreamLog) (trace call : W → W → Type 0
       → TurnAnswers tells trace call answer b c y z → TurnAnswers tells trace call answer a c x z
   TurnAnswers-after (Ok n) turn = record {
     copies = λ some. CopiesOn-after before (turn.copies some);
-    ended = λ is. TurnEnded-after (turn.ended is);
+    ended = λ none. CopyEnded-after tells trace call joins before went (turn.ended none);
     failed = tt;
+    nothing = λ none. MovedBy-still before.moved (turn.nothing none);
+    fills = λ none. omega (arith, before.fills, turn.fills none);
     writes = omega (arith, before.writes, turn.writes);
     ends_shown = omega (arith, before.ends_shown, turn.ends_shown);
     one_end = λ takes. omega (arith, still takes, turn.one_end (takes_on takes));
@@ -142,8 +126,10 @@ module _ {W : Type 0} (tells : W → StreamLog) (trace call : W → W → Type 0
   }
   TurnAnswers-after (Err e) turn = record {
     copies = tt;
-    ended = λ is. cc;
-    failed = TurnFailed-after turn.failed;
+    ended = tt;
+    failed = StreamFailed-after tells trace call joins before went turn.failed;
+    nothing = MovedBy-still before.moved turn.nothing;
+    fills = omega (arith, before.fills, turn.fills);
     writes = omega (arith, before.writes, turn.writes);
     ends_shown = omega (arith, before.ends_shown, turn.ends_shown);
     one_end = λ takes. turn.one_end (takes_on takes) ∙ still takes;

@@ -11,14 +11,10 @@ pub record ReadLogGrows (old new : ReadLog) : Type 0 where
   pub zero_reads : old.zero_reads ≤ new.zero_reads
   pub faults : GoesOn old.faults new.faults
 
--- a writer was flushed since: what is flushed holds all that was received at first, and nothing that wasn't received
-pub record FlushedSince (old new : WriteLog) : Type 0 where
-  pub all : GoesOn old.received new.flushed
-  pub front : GoesOn new.flushed new.received
-
+-- where a writer was flushed since, what is flushed holds all that was received at first, and nothing that wasn't received
 pub record WriteLogGrows (old new : WriteLog) : Type 0 where
   pub received : GoesOn old.received new.received
-  pub flushed : (new.flushed ≡ old.flushed) ⊎ FlushedSince old new
+  pub flushed : (new.flushed ≡ old.flushed) ⊎ (GoesOn old.received new.flushed × GoesOn new.flushed new.received)
   pub flushes : old.flushes ≤ new.flushes
   pub asks : old.asks ≤ new.asks
   pub short_writes : old.short_writes ≤ new.short_writes
@@ -53,17 +49,15 @@ ReadLogGrows-joins a b c p q = record {
 }
 
 flushed-joins : (a b c : WriteLog) → GoesOn a.received b.received → GoesOn b.received c.received
-    → (b.flushed ≡ a.flushed) ⊎ FlushedSince a b → (c.flushed ≡ b.flushed) ⊎ FlushedSince b c
-    → (c.flushed ≡ a.flushed) ⊎ FlushedSince a c
+    → (b.flushed ≡ a.flushed) ⊎ (GoesOn a.received b.flushed × GoesOn b.flushed b.received)
+    → (c.flushed ≡ b.flushed) ⊎ (GoesOn b.received c.flushed × GoesOn c.flushed c.received)
+    → (c.flushed ≡ a.flushed) ⊎ (GoesOn a.received c.flushed × GoesOn c.flushed c.received)
 flushed-joins a b c first second (inl same) (inl same') = inl (same' ∙ same)
-flushed-joins a b c first second (inr since) (inl same) = inr (record {
-  all = subst (GoesOn a.received) (sym same) since.all;
-  front = subst (λ l. GoesOn l c.received) (sym same) (GoesOn-joins b.flushed b.received c.received since.front second);
-})
-flushed-joins a b c first second before (inr since) = inr (record {
-  all = GoesOn-joins a.received b.received c.flushed first since.all;
-  front = since.front;
-})
+flushed-joins a b c first second (inr since) (inl same) = inr (
+  subst (GoesOn a.received) (sym same) since.0,
+  subst (λ l. GoesOn l c.received) (sym same) (GoesOn-joins b.flushed b.received c.received since.1 second),
+)
+flushed-joins a b c first second before (inr since) = inr (GoesOn-joins a.received b.received c.flushed first since.0, since.1)
 
 pub WriteLogGrows-none : (s : WriteLog) → WriteLogGrows s s
 WriteLogGrows-none s = record {
@@ -121,8 +115,9 @@ fault_goes_on (Err e) faults = record { more = e ∷ []; equal = refl }
 
 flush_goes_on : (answer : Result (Unit {0}) Error) (log : WriteLog)
     → (with_flush log.flushed log.received answer ≡ log.flushed)
-    ⊎ FlushedSince log (record log { flushed = with_flush log.flushed log.received answer })
-flush_goes_on (Ok _) log = inr (record { all = GoesOn-none log.received; front = GoesOn-none log.received })
+    ⊎ (GoesOn log.received (with_flush log.flushed log.received answer)
+    × GoesOn (with_flush log.flushed log.received answer) log.received)
+flush_goes_on (Ok _) log = inr (GoesOn-none log.received, GoesOn-none log.received)
 flush_goes_on (Err e) log = inl refl
 
 pub ReadLogGrows-read : (log : StreamLog) (buf : List ℕ) (answer : Result ℕ Error)
@@ -150,10 +145,7 @@ pub WriteLogGrows-flush : (log : StreamLog) (answer : Result (Unit {0}) Error)
     → WriteLogGrows log.writes (after_flush log answer).writes
 WriteLogGrows-flush log answer = record {
   received = GoesOn-none log.writes.received;
-  flushed = elim (flush_goes_on answer log.writes) [
-    | inl same ↦ inl same
-    | inr since ↦ inr (record { all = since.all; front = since.front })
-  ];
+  flushed = flush_goes_on answer log.writes;
   flushes = omega arith;
   asks = le_refl _;
   short_writes = le_refl _;

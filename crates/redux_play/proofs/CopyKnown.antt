@@ -2,13 +2,14 @@
 use Rattle.std.proofs.Common.{◌≡◌, ℕ, List, ◌++◌, length, Option, Result, Ok, Err, OnOk, refl, sym, ap, ◌∙◌, arith, inl, inr}
 use Rattle.std.proofs.lemmas.Bool.{cases_lt}
 use Rattle.std.proofs.lemmas.List.{append_cancel_left, nil_from_length}
+use Rattle.std.specs.Io.KnownBytes.{Consumes}
 use Rattle.std.specs.declared.io.Error.{Error}
 use Rattle.redux_buffer.specs.StreamLog.{StreamLog, WriteLog, zero_of_none}
 use Rattle.buffer_redux.specs.Policy.{ReadRules}
 use Rattle.buffer_redux.specs.Buffered.{Buffered}
 use Rattle.buffer_redux.specs.ReaderLaws.{ReadsInOrder-ahead, remaining_gives, IfSome-unless, handed_all, IfSome-any}
 use Rattle.buffer_redux.specs.ReaderTells.{reader_log, ReaderWent}
-use Rattle.redux_buffer.specs.Copy.{MovedBy, CopyEnded, MovesKnown, ReceivesAll}
+use Rattle.redux_buffer.specs.Copy.{MovedBy, CopyEnded, ReceivesAll}
 use Rattle.buffer_redux.specs.Remaining.{ahead, may_stop, reader_remaining}
 use Rattle.buffer_redux.specs.RemainingLaws.{may_stop-false}
 
@@ -26,13 +27,13 @@ module _ {S P : Type 0} (remaining : S → Option (List ℕ)) (rules : ReadRules
   received : to'.received ≡ to.received ++ went.handed
   received = moved.received ∙ ap (λ l. to.received ++ l) moved_handed
 
-  pub moves_known : MovesKnown (reader_remaining remaining rules s)
-      (reader_remaining remaining rules t) to to'
-  moves_known = record {
-    bytes = went.handed;
-    received = received;
-    went = remaining_gives remaining rules s t went.handed went.in_order went.known went.claims went.capacity;
-  }
+  pub moves_known : (bytes : List ℕ) × (to'.received ≡ to.received ++ bytes)
+      × Consumes (reader_remaining remaining rules s) (reader_remaining remaining rules t) bytes
+  moves_known = (
+    went.handed,
+    received,
+    remaining_gives remaining rules s t went.handed went.in_order went.known went.claims went.capacity,
+  )
 
   pub receives_all : {W : Type 0} (tells : W → StreamLog) (trace call : W → W → Type 0) (w w' : W)
       → (tells w).writes ≡ to → (tells w').writes ≡ to'

@@ -1,9 +1,8 @@
 -- What a copy that tells its progress says.
-use Rattle.std.specs.Prelude.{◌≡◌, ℕ, ◌+◌, ◌^◌, ◌≤◌, zero, suc}
+use Rattle.std.specs.Prelude.{◌≡◌, ℕ, ◌+◌, ◌-◌, ◌^◌, ◌≤◌, length, zero, suc}
 use Rattle.std.specs.IoError.{error_kind}
 use Rattle.std.specs.declared.io.Error.{Error}
 use Rattle.std.specs.declared.io.ErrorKind.TheVariants.{Other}
-use Rattle.buffer_redux.specs.Copy.{consumed_since}
 use Rattle.buffer_redux.specs.StreamLog.{FillLog}
 use Rattle.std.specs.Io.Iter.{u64_saturate}
 
@@ -20,4 +19,4 @@ pub record Tells {F : Type 0} (step : F → ℕ → F → Type 0) (report : F) (
 -- the error was `Other`, since more bytes went over than a `u64` counts
 pub record TooManyTurns (e : Error) (from from' : FillLog) : Type 0 where
   pub other : error_kind e ≡ Other
-  pub large : 2 ^ 64 ≤ consumed_since from from' + 1
+  pub large : 2 ^ 64 ≤ length from'.consumed - length from.consumed + 1

@@ -1,7 +1,7 @@
 //! What goes over to a stream where std knows what the streams hold.
-ghost use Rattle.std.specs.Prelude.{◌≡◌, IfErr, OnOk};
-ghost use Rattle.std.specs.Io.KnownBytes.{Appends};
-ghost use Rattle.redux_buffer.specs.Copy.{CopyBuf, MovesKnown, ReceivesAll};
+ghost use Rattle.std.specs.Prelude.{◌≡◌, ℕ, List, ◌++◌, IfErr, OnOk};
+ghost use Rattle.std.specs.Io.KnownBytes.{Appends, Consumes};
+ghost use Rattle.redux_buffer.specs.Copy.{CopyBuf, ReceivesAll};
 ghost use Rattle.redux_buffer.specs.Faults.{SendErrorCaused};
 ghost use Rattle.redux_buffer.specs.Told.{told_stream};
 ghost use Rattle.buffer_redux.specs.BufWriter.{Flushes, IsFlushed};
@@ -21,8 +21,8 @@ pub fn copy_known<R: TellRead, P: ReaderPolicy, W: TellWrite>(
     from: &mut BufReader<R, P>,
     to: &mut W,
 ) -> io::Result<u64>
-    ensures moved { MovesKnown (reader_remaining R.remaining P.rules from.old)
-        (reader_remaining R.remaining P.rules from.new) (W.log to.old).writes (W.log to.new).writes }
+    ensures moved { (bytes : List ℕ) × ((W.log to.new).writes.received ≡ (W.log to.old).writes.received ++ bytes)
+        × Consumes (reader_remaining R.remaining P.rules from.old) (reader_remaining R.remaining P.rules from.new) bytes }
     ensures all { OnOk result (ReceivesAll (reader_remaining R.remaining P.rules from.old)
         (W.log to.old).writes (W.log to.new).writes) }
     ensures copied { CopyBuf W.log W.trace W.call result

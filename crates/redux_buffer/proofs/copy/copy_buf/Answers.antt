@@ -18,15 +18,15 @@ returns-in_err-taken-clause-copied g c =
     let p = err_from_is_err_and c.from_residual.result c.from_residual.ensures.1 in
     let before = c.turns.invariant in
     let turn = c.in_err-taken.ensures.retried in
-    let moved = MovedBy-still before.copies.moved turn.answers.failed.nothing in
+    let moved = MovedBy-still before.copies.moved turn.answers.nothing in
     rw (p.1, p.2) (record {
       moved = (c.turns.total, moved);
       ended = tt;
       failed = inl (StreamFailed-after _ _ _ g.met.W.TellWrite.trace_joins before.copies before.writer
-          turn.answers.failed.failed);
+          turn.answers.failed);
       often = λ is. omega (arith, turn.often is, faults_come before.copies);
       few = omega (arith, before.few, turn.few, moved_count moved);
-      fills = omega (arith, before.copies.fills, turn.answers.failed.fills);
+      fills = omega (arith, before.copies.fills, turn.answers.fills);
       writes = omega (arith, before.copies.writes, turn.answers.writes);
       ends_shown = omega (arith, before.copies.ends_shown, turn.answers.ends_shown);
       one_end = λ takes.
@@ -46,15 +46,15 @@ pub returns-then-taken-eq0-clause-copied : goal.returns-then-taken-eq0-clause-co
 returns-then-taken-eq0-clause-copied g c =
     let before = c.turns.invariant in
     let turn = c.in_ok-taken.ensures.retried in
-    let last = turn.answers.ended (cc) in
-    let moved = MovedBy-still before.copies.moved last.nothing in
+    let none = c.if-taken-eq0.true in
+    let moved = MovedBy-still before.copies.moved (turn.answers.nothing none) in
     record {
       moved = moved;
-      ended = CopyEnded-after _ _ _ g.met.W.TellWrite.trace_joins before.copies before.writer last.ended;
+      ended = CopyEnded-after _ _ _ g.met.W.TellWrite.trace_joins before.copies before.writer (turn.answers.ended none);
       failed = tt;
       often = tt;
       few = omega (arith, before.few, turn.few, moved_count moved);
-      fills = omega (arith, before.copies.fills, last.fills);
+      fills = omega (arith, before.copies.fills, turn.answers.fills none);
       writes = omega (arith, before.copies.writes, turn.answers.writes);
       ends_shown = omega (arith, before.copies.ends_shown, turn.answers.ends_shown);
       one_end = λ takes. omega (

@@ -1,13 +1,13 @@
-use Rattle.std.proofs.Common.{◌≡◌, ◌-◌, ◌*◌, ◌^◌}
-use Rattle.redux_buffer.specs.Copy.{CopiesOn, FaultsAtMost, TakesNothing}
+use Rattle.std.proofs.Common.{◌≡◌, ◌≤◌, ◌+◌, ◌-◌, ◌*◌, ◌^◌}
+use Rattle.redux_buffer.specs.Copy.{CopiesOn, faults_met, TakesNothing}
 use Rattle.redux_buffer.proofs.copy.copy_buf.Given as goal
 
 abbrev pub invariant-turns : goal.invariant-turns
 invariant-turns g l = record {
   copies : CopiesOn l.total (g.B.Tell.log l.initial.b).fills (g.B.Tell.log l.b).fills
       (g.W.Tell.log l.initial.w).writes (g.W.Tell.log l.w).writes;
-  few : FaultsAtMost (64 * l.total) (g.B.Tell.log l.initial.b).fills (g.B.Tell.log l.b).fills
-      (g.W.Tell.log l.initial.w).writes (g.W.Tell.log l.w).writes;
+  few : faults_met (g.B.Tell.log l.b).fills (g.W.Tell.log l.w).writes
+      ≤ faults_met (g.B.Tell.log l.initial.b).fills (g.W.Tell.log l.initial.w).writes + 64 * l.total;
   reader : g.B.TellBufRead.trace l.initial.b l.b;
   writer : g.W.TellWrite.trace l.initial.w l.w;
   still : TakesNothing g.W.Tell.log g.W.TellWrite.trace g.W.TellWrite.call l.initial.w

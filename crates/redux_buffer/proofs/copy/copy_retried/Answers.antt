@@ -7,7 +7,6 @@ pub loop-init : goal.loop-init
 loop-init g c = record {
   copies = CopiesOn-none _ _;
   faults = omega arith;
-  few = omega arith;
   reader = g.met.B.TellBufRead.trace_none _;
   writer = g.met.W.TellWrite.trace_none _;
   still = λ takes. refl;
@@ -21,7 +20,7 @@ returns-in-Ok-clause-retried g c =
       answers = TurnAnswers-after _ _ _ g.met.W.TellWrite.trace_joins before.copies before.writer before.still
           (Ok c.in-Ok.n) turn.answers;
       often = tt;
-      few = omega (arith, before.few, turn.one_fault);
+      few = omega (arith, before.faults, turn.one_fault);
     }
 
 pub returns-in-Ok-clause-reader : goal.returns-in-Ok-clause-reader
@@ -40,7 +39,7 @@ returns-then-ne-clause-retried g c =
       answers = TurnAnswers-after _ _ _ g.met.W.TellWrite.trace_joins before.copies before.writer before.still
           (Err c.in-Err.e) turn.answers;
       often = search rules;
-      few = omega (arith, before.few, turn.one_fault);
+      few = omega (arith, before.faults, turn.one_fault);
     }
 
 pub returns-then-ne-clause-reader : goal.returns-then-ne-clause-reader
@@ -58,7 +57,6 @@ loop-preserved g c =
     record {
       copies = CopiesOn-after before.copies (turn.interrupted (search rules));
       faults = omega (arith, before.faults, turn.one_fault);
-      few = omega (arith, before.few, turn.one_fault);
       reader = g.met.B.TellBufRead.trace_joins _ _ _ before.reader c.in-Err.ensures.reader;
       writer = g.met.W.TellWrite.trace_joins _ _ _ before.writer c.in-Err.ensures.writer;
       still = λ takes.

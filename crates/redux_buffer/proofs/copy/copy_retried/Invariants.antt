@@ -1,15 +1,13 @@
-use Rattle.std.proofs.Common.{◌≡◌}
-use Rattle.redux_buffer.specs.Copy.{CopiesOn, FaultsRise, FaultsAtMost, TakesNothing}
+use Rattle.std.proofs.Common.{◌≡◌, ◌+◌}
+use Rattle.redux_buffer.specs.Copy.{CopiesOn, faults_met, TakesNothing}
 use Rattle.redux_buffer.proofs.copy.copy_retried.Given as goal
 
 abbrev pub invariant-loop : goal.invariant-loop
 invariant-loop g l = record {
   copies : CopiesOn 0 (g.B.Tell.log l.initial.b).fills (g.B.Tell.log l.b).fills
       (g.W.Tell.log l.initial.w).writes (g.W.Tell.log l.w).writes;
-  faults : FaultsRise l.counter (g.B.Tell.log l.initial.b).fills (g.B.Tell.log l.b).fills
-      (g.W.Tell.log l.initial.w).writes (g.W.Tell.log l.w).writes;
-  few : FaultsAtMost l.counter (g.B.Tell.log l.initial.b).fills (g.B.Tell.log l.b).fills
-      (g.W.Tell.log l.initial.w).writes (g.W.Tell.log l.w).writes;
+  faults : faults_met (g.B.Tell.log l.initial.b).fills (g.W.Tell.log l.initial.w).writes + l.counter
+      ≡ faults_met (g.B.Tell.log l.b).fills (g.W.Tell.log l.w).writes;
   reader : g.B.TellBufRead.trace l.initial.b l.b;
   writer : g.W.TellWrite.trace l.initial.w l.w;
   still : TakesNothing g.W.Tell.log g.W.TellWrite.trace g.W.TellWrite.call l.initial.w

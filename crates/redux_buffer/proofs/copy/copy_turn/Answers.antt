@@ -26,8 +26,10 @@ returns-clause-turn g c =
     record {
       answers = record {
         copies = search rules;
-        ended = search rules;
+        ended = λ none. absurd (c.if-taken-eq0.false none);
         failed = tt;
+        nothing = λ none. absurd (c.if-taken-eq0.false none);
+        fills = λ none. absurd (c.if-taken-eq0.false none);
         writes = search rules;
         ends_shown = search rules;
         one_end = λ takes. search rules;

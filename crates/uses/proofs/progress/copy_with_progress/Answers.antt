@@ -28,10 +28,10 @@ pub returns-in_err-taken-clause-moved : goal.returns-in_err-taken-clause-moved
 returns-in_err-taken-clause-moved g c =
     let before = c.loop.invariant in
     let turn = c.in_err-taken.ensures.turn in
-    let moved = MovedBy-still before.copies.moved turn.answers.failed.nothing in (
+    let moved = MovedBy-still before.copies.moved turn.answers.nothing in (
       before.count,
       moved,
-      Tells-of _ _ (omega (arith, before.made, turn.answers.failed.fills, turn.one_fill, turn.one_fault)) before.told,
+      Tells-of _ _ (omega (arith, before.made, turn.answers.fills, turn.one_fill, turn.one_fault)) before.told,
       search rules,
     )
 
@@ -41,7 +41,7 @@ returns-in_err-taken-clause-caused g c =
     let before = c.loop.invariant in
     rw (p.1, p.2)
     (inl (StreamFailed-after _ _ _ g.met.W.TellWrite.trace_joins before.copies before.writer
-    c.in_err-taken.ensures.turn.answers.failed.failed))
+    c.in_err-taken.ensures.turn.answers.failed))
 
 pub returns-in_err-taken-clause-at_once : goal.returns-in_err-taken-clause-at_once
 returns-in_err-taken-clause-at_once g c =
@@ -60,11 +60,11 @@ pub returns-then-taken-eq0-clause-moved : goal.returns-then-taken-eq0-clause-mov
 returns-then-taken-eq0-clause-moved g c =
     let before = c.loop.invariant in
     let turn = c.in_ok-taken.ensures.turn in
-    let last = turn.answers.ended (cc) in
-    let moved = MovedBy-still before.copies.moved last.nothing in (
+    let none = c.if-taken-eq0.true in
+    let moved = MovedBy-still before.copies.moved (turn.answers.nothing none) in (
       before.count,
       moved,
-      Tells-of _ _ (omega (arith, before.made, last.fills, turn.one_fill, turn.one_fault)) before.told,
+      Tells-of _ _ (omega (arith, before.made, turn.answers.fills none, turn.one_fill, turn.one_fault)) before.told,
       before.total,
     )
 
@@ -74,7 +74,7 @@ returns-then-taken-eq0-clause-at_once g c = omega (arith, c.loop.invariant.none,
 pub returns-then-taken-eq0-clause-ended : goal.returns-then-taken-eq0-clause-ended
 returns-then-taken-eq0-clause-ended g c =
     CopyEnded-after _ _ _ g.met.W.TellWrite.trace_joins c.loop.invariant.copies c.loop.invariant.writer
-    (c.in_ok-taken.ensures.turn.answers.ended (cc)).ended
+    (c.in_ok-taken.ensures.turn.answers.ended c.if-taken-eq0.true)
 
 pub returns-clause-moved : goal.returns-clause-moved
 returns-clause-moved g c =

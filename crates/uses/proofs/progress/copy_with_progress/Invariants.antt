@@ -1,6 +1,6 @@
 use Rattle.std.proofs.Common.{◌≡◌, ℕ, ◌+◌, ◌≤◌}
 use Rattle.std.specs.Io.Iter.{u64_saturate}
-use Rattle.buffer_redux.specs.Copy.{CopiesOn, FaultsMet}
+use Rattle.buffer_redux.specs.Copy.{CopiesOn, faults_met}
 use Rattle.uses.specs.Progress.{Reports}
 use Rattle.uses.proofs.progress.copy_with_progress.Given as goal
 
@@ -13,8 +13,8 @@ invariant-loop g l = record {
   total : l.total ≡ u64_saturate count;
   calls : ℕ;
   made : (g.B.Tell.log l.from).fills.consumes ≡ (g.B.Tell.log l.initial.from).fills.consumes + calls;
-  none : FaultsMet 0 (g.B.Tell.log l.initial.from).fills (g.B.Tell.log l.from).fills
-      (g.W.Tell.log l.initial.to).writes (g.W.Tell.log l.to).writes;
+  none : faults_met (g.B.Tell.log l.from).fills (g.W.Tell.log l.to).writes
+      ≡ faults_met (g.B.Tell.log l.initial.from).fills (g.W.Tell.log l.initial.to).writes;
   turns : l.counter ≤ count;
   told : Reports (λ p n q. goal.F-step g p n tt q) l.fn.report calls (u64_saturate count) l.report;
   reader : g.B.TellBufRead.trace l.initial.from l.from;
