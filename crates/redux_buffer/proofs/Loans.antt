@@ -3,12 +3,11 @@ use Rattle.std.proofs.Common.{◌≡◌, ◌≤◌, ◌+◌, ◌-◌, ◌++◌, 
 use Rattle.std.proofs.lemmas.Bool.{le-ltb, le-leb}
 use Rattle.std.proofs.lemmas.Slice.{between_to_end}
 use Rattle.redux_buffer.specs.Block.{BytesWritten, overwrite, with_tail}
-use Rattle.redux_buffer.specs.RawLends.{refilled_from}
 use Rattle.redux_buffer.specs.declared.std_buf.StdBuf.TheInside.{Inside as StdInside}
 use Rattle.redux_buffer.specs.contracts.std_buf.StdBuf.{the_view as std_view}
 use Rattle.redux_buffer.specs.declared.slice_deque_buf.SliceDequeBuf.TheInside.{Inside as RingInside}
 use Rattle.redux_buffer.specs.contracts.slice_deque_buf.SliceDequeBuf.{the_view as ring_view}
-use Rattle.redux_buffer.proofs.Ranges.{drop_refilled_from, length_range, length_refilled_from, range_refilled, range_refilled_below, range_takes}
+use Rattle.redux_buffer.proofs.Ranges.{drop_refilled_from, length_range, length_refilled_from, range_refilled, range_refilled_below, range_takes, refilled_from}
 
 -- a plain buffer whose tail was written
 pub std_tail_written : (b : StdInside) (w : List ℕ) → b.end ≤ length b.buf

@@ -7,10 +7,10 @@ use Rattle.std.specs.IoError.{error_kind}
 use Rattle.std.specs.declared.io.Error.{Error}
 use Rattle.std.specs.declared.io.ErrorKind.TheVariants.{WriteZero}
 use Rattle.redux_buffer.specs.Block.{Block, ConsumesFirst, OnlyRingMoves}
-use Rattle.redux_buffer.specs.StreamLog.{StreamLog, portion, with_fault, with_short, with_zero, after_write, zero_of_some, zero_of_none, short_of_less, short_of_all}
+use Rattle.redux_buffer.specs.StreamLog.{StreamLog, WriteLog, portion, with_fault, with_short, with_zero, after_write, zero_of_some, zero_of_none, short_of_less, short_of_all}
 use Rattle.redux_buffer.specs.Faults.{IsInterrupt, OnlyInterrupted, OnlyInterrupted-none, OnlyInterrupted-joins, TookNothing-after, FaultedAfter-after}
 use Rattle.redux_buffer.specs.Retried.{InterruptedSteps, Retried}
-use Rattle.redux_buffer.specs.Transfer.{Offers, OnlyWrites, WritesRetried, WholeWrites, Sent, Sends}
+use Rattle.redux_buffer.specs.Transfer.{Offers, WritesRetried, Sent, Sends}
 use Rattle.redux_buffer.proofs.Steps.{OnlyRingMoves-joins, ConsumesFirst-joins}
 
 -- this many writes were interrupted, one after another
@@ -23,10 +23,15 @@ record Interrupts (count : ℕ) (old new : StreamLog) : Type 0 where
   pub asks : new.writes.asks ≡ old.writes.asks + count
   pub short_writes : new.writes.short_writes ≡ old.writes.short_writes + count
   pub only : OnlyInterrupted errors old.writes new.writes
-  pub others : OnlyWrites old new
+  pub others : new ≡ record old { writes = new.writes }
 
-OnlyWrites-joins : (a b c : StreamLog) → OnlyWrites a b → OnlyWrites b c → OnlyWrites a c
-OnlyWrites-joins a b c p q = record { reads = q.reads ∙ p.reads; fills = q.fills ∙ p.fills; seeks = q.seeks ∙ p.seeks }
+others-joins : (a b c : StreamLog) → b ≡ record a { writes = b.writes } → c ≡ record b { writes = c.writes }
+    → c ≡ record a { writes = c.writes }
+others-joins a b c p q = q ∙ ap (λ (l : StreamLog). record l { writes = c.writes }) p
+
+only_writes : (bs : List ℕ) (answer : Result ℕ Error) (a b : StreamLog) → b ≡ after_write a bs answer
+    → b ≡ record a { writes = b.writes }
+only_writes bs answer a b told = told ∙ ap (λ (l : StreamLog). record a { writes = l.writes }) (sym told)
 
 -- none
 no_interrupts : (a : StreamLog) → Interrupts 0 a a
@@ -39,7 +44,7 @@ no_interrupts a = record {
   asks = omega arith;
   short_writes = omega arith;
   only = OnlyInterrupted-none a.writes;
-  others = record { reads = refl; fills = refl; seeks = refl };
+  others = refl;
 }
 
 -- one more
@@ -59,11 +64,7 @@ Interrupts-more count bs e a b c met is told = record {
         ∙ append_assoc a.writes.faults met.errors (e ∷ []);
     zero_writes = ap (λ l. l.writes.zero_writes) told ∙ met.only.zero_writes;
   };
-  others = record {
-    reads = ap (λ l. l.reads) told ∙ met.others.reads;
-    fills = ap (λ l. l.fills) told ∙ met.others.fills;
-    seeks = ap (λ l. l.seeks) told ∙ met.others.seeks;
-  };
+  others = others-joins a b c met.others (only_writes bs (Err e) b c told);
 }
 
 -- the write that came after them, whose answer ends it
@@ -84,11 +85,7 @@ Interrupts-end count bs answer a b c met few often told = record {
   offered = ap (λ l. l.writes.offer) told;
   zero_writes = ap (λ l. l.writes.zero_writes) told ∙ ap (λ n. with_zero n bs answer) met.only.zero_writes;
   faults = ap (λ l. l.writes.faults) told ∙ ap (λ l. with_fault l answer) met.only.faults;
-  others = record {
-    reads = ap (λ l. l.reads) told ∙ met.others.reads;
-    fills = ap (λ l. l.fills) told ∙ met.others.fills;
-    seeks = ap (λ l. l.seeks) told ∙ met.others.seeks;
-  };
+  others = others-joins a b c met.others (only_writes bs answer b c told);
 }
   where
     often_of : (x : Result ℕ Error) → IfErr x (λ e. IsInterrupt e → count ≡ 64)
@@ -104,8 +101,8 @@ module _ {W : Type 0} (tells : W → StreamLog) (trace : W → W → Type 0) (no
   interrupts zero s t same = subst (λ x. Interrupts 0 (tells s) (tells x) × trace s x) same (no_interrupts (tells s), none s)
   interrupts (suc k) s t i =
       let before = interrupts k s i.0 i.1 in
-      let went = i.2.went in (
-        Interrupts-more k bs i.2.error (tells s) (tells i.0) (tells t) before.0 i.2.interrupt went.told,
+      let went = i.4 in (
+        Interrupts-more k bs i.2 (tells s) (tells i.0) (tells t) before.0 i.3 went.told,
         joins s i.0 t before.1 went.traced,
       )
 
@@ -116,6 +113,11 @@ module _ {W : Type 0} (tells : W → StreamLog) (trace : W → W → Type 0) (no
 
     pub traced_retried : trace s t
     traced_retried = joins s r.last t (interrupts r.count s r.last r.interrupted).1 r.went.traced
+
+-- n writes took all that they were offered, and every other one fell short
+abbrev pub WholeWrites : ℕ → WriteLog → WriteLog → Type 0
+WholeWrites n old new = (old.short_writes ≤ new.short_writes)
+    × (new.asks + old.short_writes ≡ old.asks + new.short_writes + n)
 
 module _ (k : ℕ) (es : List Error) (len : ℕ) (a b : Block) (log log' log'' : StreamLog) (sent : Sent k a log b log')
     (only : OnlyInterrupted es log.writes log'.writes) (few : length es ≤ 64 * k) where
@@ -135,7 +137,7 @@ module _ (k : ℕ) (es : List Error) (len : ℕ) (a b : Block) (log log' log'' :
             ∙ ap (λ l. log.writes.received ++ l) (sym (take-add k n a.bytes));
         flushed = wrote.flushed ∙ sent.flushed;
         flushes = wrote.flushes ∙ sent.flushes;
-        others = OnlyWrites-joins log log' log'' sent.others wrote.others;
+        others = others-joins log log' log'' sent.others wrote.others;
       }
 
   pub only_more : (n : ℕ) → 0 < n → (wrote : WritesRetried (take len b.bytes) log' (Ok n) log'')
@@ -146,33 +148,23 @@ module _ (k : ℕ) (es : List Error) (len : ℕ) (a b : Block) (log log' log'' :
     zero_writes = wrote.zero_writes ∙ zero_of_some n (take len b.bytes) log'.writes.zero_writes (inl some);
   })
 
-  -- a write that took less than it was offered, and one that took all
+  -- a write that took less than it was offered, one that took all, and one that failed
   pub short_more : (n : ℕ) → WholeWrites 0 log.writes log'.writes → WritesRetried (take len b.bytes) log' (Ok n) log''
       → n < length (take len b.bytes) → WholeWrites 0 log.writes log''.writes
   short_more n before wrote less =
-      let counted = short_of_less n (take len b.bytes) (log'.writes.short_writes + length wrote.interrupts) less in record {
-        short = before.short + length wrote.interrupts + 1;
-        fell_short = omega (arith, before.fell_short, wrote.short_writes, counted);
-        asks = omega (arith, before.asks, wrote.asks);
-      }
+      let counted = short_of_less n (take len b.bytes) (log'.writes.short_writes + length wrote.interrupts) less in
+      (omega (arith, before.0, wrote.short_writes, counted), omega (arith, before.1, wrote.asks, wrote.short_writes, counted))
 
   pub whole_more : (n : ℕ) → WholeWrites 0 log.writes log'.writes → WritesRetried (take len b.bytes) log' (Ok n) log''
       → length (take len b.bytes) ≤ n → WholeWrites 1 log.writes log''.writes
   whole_more n before wrote all =
-      let counted = short_of_all n (take len b.bytes) (log'.writes.short_writes + length wrote.interrupts) all in record {
-        short = before.short + length wrote.interrupts;
-        fell_short = omega (arith, before.fell_short, wrote.short_writes, counted);
-        asks = omega (arith, before.asks, wrote.asks);
-      }
+      let counted = short_of_all n (take len b.bytes) (log'.writes.short_writes + length wrote.interrupts) all in
+      (omega (arith, before.0, wrote.short_writes, counted), omega (arith, before.1, wrote.asks, wrote.short_writes, counted))
 
-  -- one that failed
   failed_more : (e : Error) → WholeWrites 0 log.writes log'.writes → WritesRetried (take len b.bytes) log' (Err e) log''
       → WholeWrites 0 log.writes log''.writes
-  failed_more e before wrote = record {
-    short = before.short + length wrote.interrupts + 1;
-    fell_short = omega (arith, before.fell_short, wrote.short_writes);
-    asks = omega (arith, before.asks, wrote.asks);
-  }
+  failed_more e before wrote =
+      (omega (arith, before.0, wrote.short_writes), omega (arith, before.1, wrote.asks, wrote.short_writes))
 
   -- the same where the last write failed, or took nothing
   Sent-still : (answer : Result ℕ Error) → WritesRetried (take len b.bytes) log' answer log''
@@ -184,7 +176,7 @@ module _ (k : ℕ) (es : List Error) (len : ℕ) (a b : Block) (log log' log'' :
     received = wrote.received ∙ ap (λ l. log'.writes.received ++ l) none ∙ append-nil log'.writes.received ∙ sent.received;
     flushed = wrote.flushed ∙ sent.flushed;
     flushes = wrote.flushes ∙ sent.flushes;
-    others = OnlyWrites-joins log log' log'' sent.others wrote.others;
+    others = others-joins log log' log'' sent.others wrote.others;
   }
 
   -- the next write failed
@@ -209,7 +201,8 @@ module _ (k : ℕ) (es : List Error) (len : ℕ) (a b : Block) (log log' log'' :
     };
     idle = λ none. absurd (omega (arith, fewer, none));
     offered = λ _. omega (arith, some, wrote.offered);
-    whole_writes = failed_more e before wrote;
+    fell_short = (failed_more e before wrote).0;
+    whole_writes = omega (arith, (failed_more e before wrote).1);
     few = omega (arith, few, wrote.most, length-append es wrote.interrupts);
   }
 
@@ -236,6 +229,7 @@ module _ (k : ℕ) (es : List Error) (len : ℕ) (a b : Block) (log log' log'' :
     };
     idle = λ none. absurd (omega (arith, fewer, none));
     offered = λ _. omega (arith, some, wrote.offered);
-    whole_writes = short_more n before wrote (omega (arith, none, some));
+    fell_short = (short_more n before wrote (omega (arith, none, some))).0;
+    whole_writes = omega (arith, (short_more n before wrote (omega (arith, none, some))).1);
     few = omega (arith, few, wrote.most, length-append es wrote.interrupts);
   }

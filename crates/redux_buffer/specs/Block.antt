@@ -48,15 +48,11 @@ round c = (c + 4095) / 4096 * 4096
 abbrev pub limit_of : Kind → ℕ
 limit_of k = by_kind k (2 ^ 62) (2 ^ 61)
 
--- the capacity that `reserve a` needs, where there is too little usable space
-abbrev pub needed_capacity : Block → ℕ → ℕ
-needed_capacity b a = by_kind b.kind
+-- the capacity after `reserve a`, which needs more only where there is too little usable space
+abbrev pub capacity_for : Block → ℕ → ℕ
+capacity_for b a = if nat_le a (usable b) then b.capacity else by_kind b.kind
     (if length b.bytes == 0 then b.capacity + a else b.capacity - usable b + a)
     (round (length b.bytes + a))
-
--- the capacity after `reserve a`
-abbrev pub capacity_for : Block → ℕ → ℕ
-capacity_for b a = if nat_le a (usable b) then b.capacity else needed_capacity b a
 
 -- the capacity after `push_bytes(xs)`, which reserves twice their number where they don't fit
 abbrev pub capacity_to_push : Block → List ℕ → ℕ
@@ -88,10 +84,6 @@ pub record IsNew (k : Kind) (cap : ℕ) (b : Block) : Type 0 where
   pub consumed : b.consumed ≡ 0
   pub moved : b.moved ≡ 0
 
--- a ring that grew has its bytes at the front
-abbrev pub GrowsToFront : Placed → Placed → Type 0
-GrowsToFront old new = OnKind old.block.kind ⊤ (old.block.capacity < new.block.capacity → new.place ≡ 0)
-
 -- ws written over xs, which keeps its length
 abbrev pub overwrite : List ℕ → List ℕ → List ℕ
 overwrite xs ws = take (length xs) (ws ++ drop (length ws) xs)
@@ -102,10 +94,6 @@ compact p = by_kind p.block.kind p (
     if nat_lt p.block.capacity p.place
     then record { block = record p.block { moved = p.block.moved + length p.block.bytes; tail_behind = true }; place = 0 }
     else p)
-
--- a tail that does not reach past the storage, as that of a plain block never does
-abbrev pub IsInFront : Placed → Type 0
-IsInFront p = OnKind p.block.kind ⊤ (p.place ≤ p.block.capacity)
 
 -- p with ws written over its tail
 abbrev pub with_tail : Placed → List ℕ → Placed
@@ -157,9 +145,11 @@ pub record Reserves (a : ℕ) (old new : Block) : Type 0 where
   pub consumed : new.consumed ≡ old.consumed
   pub moved : new.moved ≡ old.moved
 
--- all free space is usable
+-- all free space is usable. A plain block counts its bytes as moved to the front, unless they stood there; a ring moves none
 pub record MakesRoom (old new : Block) : Type 0 where
   pub bytes : new.bytes ≡ old.bytes
+  pub moved : new.moved ≡ old.moved + by_kind old.kind
+      (if old.capacity - usable old - length old.bytes == 0 then 0 else length old.bytes) 0
   pub usable : usable new ≡ old.capacity - length old.bytes
   pub capacity : new.capacity ≡ old.capacity
   pub limit : new.limit ≡ old.limit
@@ -205,26 +195,3 @@ pub record PushesBytes (xs : List ℕ) (old new : Block) : Type 0 where
   pub kind : new.kind ≡ old.kind
   pub consumed : new.consumed ≡ old.consumed
   pub moved : OnlyRingMoves old new
-
--- where the first byte of a plain block stands
-abbrev pub place_of : Block → ℕ
-place_of b = b.capacity - usable b - length b.bytes
-
--- a plain block that is settled counts its bytes as moved, unless they stood at the front; a ring moves none
-abbrev pub MovesToFront : Block → Block → Type 0
-MovesToFront old new = new.moved ≡ old.moved + by_kind old.kind (if place_of old == 0 then 0 else length old.bytes) 0
-
--- all free space was made usable, and a plain buffer's bytes moved to the front for that
-pub record MakesRoomInFront (old new : Block) : Type 0 where
-  pub bytes : MakesRoom old new
-  pub moved : MovesToFront old new
-
--- all is as before but what stands in the tail
-pub record SameButTail (old new : Block) : Type 0 where
-  pub bytes : new.bytes ≡ old.bytes
-  pub usable : usable new ≡ usable old
-  pub capacity : new.capacity ≡ old.capacity
-  pub limit : new.limit ≡ old.limit
-  pub kind : new.kind ≡ old.kind
-  pub consumed : new.consumed ≡ old.consumed
-  pub moved : new.moved ≡ old.moved

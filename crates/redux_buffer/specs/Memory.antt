@@ -1,5 +1,5 @@
 -- What contracts see of streams in memory.
-use Rattle.std.specs.Prelude.{◌≡◌, ℕ, List, [], ◌∷◌, ◌++◌, length, vec_items}
+use Rattle.std.specs.Prelude.{◌≡◌, ℕ, List, [], ◌∷◌, ◌++◌, length}
 use Rattle.std.proofs.Common.{arith, inl, inr, refl, subst, sym, ◌∙◌, append-nil}
 use Rattle.std.proofs.lemmas.List.{take_at, drop_at}
 use Rattle.std.proofs.lemmas.List.Elements.{All-head, All-take, All-drop}
@@ -17,10 +17,7 @@ bytes_left r = r.bytes.now
 abbrev pub reader_log : MemoryReader → StreamLog
 reader_log r = r.calls.log
 
--- the bytes that were written, and what was told of that
-abbrev pub written_bytes : MemoryWriter → List ℕ
-written_bytes w = vec_items w.bytes
-
+-- what was told of the bytes that were written
 abbrev pub writer_log : MemoryWriter → StreamLog
 writer_log w = w.calls.log
 

@@ -7,16 +7,11 @@ use Rattle.redux_buffer.specs.Faults.{IsInterrupt}
 abbrev pub Step : Type 0 → Type 0 → Type 1
 Step S A = S → Result A Error → S → Type 0
 
--- one that answered `Interrupted`
-pub record InterruptedStep {S A : Type 0} (step : Step S A) (s t : S) : Type 0 where
-  pub error : Error
-  pub interrupt : IsInterrupt error
-  pub went : step s (Err error) t
-
 -- this many calls that answered `Interrupted`, one after another
 abbrev pub InterruptedSteps : {S A : Type 0} → Step S A → ℕ → S → S → Type 0
 InterruptedSteps step zero s t = s ≡ t
-InterruptedSteps {S} step (suc k) s t = (m : S) × InterruptedSteps step k s m × InterruptedStep step m t
+InterruptedSteps {S} step (suc k) s t = (m : S) × InterruptedSteps step k s m
+    × (e : Error) × IsInterrupt e × step m (Err e) t
 
 -- a call, made again where it was interrupted: 64 times at the most, and `Interrupted` is answered only then
 pub record Retried {S A : Type 0} (step : Step S A) (s : S) (answer : Result A Error) (t : S) : Type 0 where

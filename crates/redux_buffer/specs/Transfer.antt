@@ -29,24 +29,13 @@ pub record ReadsFrom (old : Block) (log : StreamLog) (answer : Result ℕ Error)
   pub no_room : usable old ≡ 0 → DoesNothing 0 old log answer new log'
   pub read : 0 < usable old → ReadsOnce old log answer new log'
 
--- one write of all the bytes, of which those that were taken are dropped
-pub record WritesOnce (old : Block) (log : StreamLog) (answer : Result ℕ Error) (new : Block)
-    (log' : StreamLog) : Type 0 where
-  pub bound : WritesAtMost answer old.bytes
-  pub told : log' ≡ after_write log old.bytes answer
-  pub dropped : MatchResult answer (λ n. ConsumesFirst n old new) (λ _. new ≡ old)
-
--- one write, or none of an empty buffer
+-- one write of all the bytes, of which those that were taken are dropped, or none of an empty buffer
 pub record WritesTo (old : Block) (log : StreamLog) (answer : Result ℕ Error) (new : Block)
     (log' : StreamLog) : Type 0 where
   pub empty : length old.bytes ≡ 0 → DoesNothing 0 old log answer new log'
-  pub write : 0 < length old.bytes → WritesOnce old log answer new log'
-
--- all that is told but of writes and flushes is as before
-pub record OnlyWrites (old new : StreamLog) : Type 0 where
-  pub reads : new.reads ≡ old.reads
-  pub fills : new.fills ≡ old.fills
-  pub seeks : new.seeks ≡ old.seeks
+  pub bound : 0 < length old.bytes → WritesAtMost answer old.bytes
+  pub told : 0 < length old.bytes → log' ≡ after_write log old.bytes answer
+  pub dropped : 0 < length old.bytes → MatchResult answer (λ n. ConsumesFirst n old new) (λ _. new ≡ old)
 
 -- one write of bs
 pub record Offers {W : Type 0} (tells : W → StreamLog) (trace : W → W → Type 0) (bs : List ℕ) (s : W)
@@ -69,7 +58,7 @@ pub record WritesRetried (bs : List ℕ) (log : StreamLog) (answer : Result ℕ 
   pub offered : log'.writes.offer ≡ length bs
   pub zero_writes : log'.writes.zero_writes ≡ with_zero log.writes.zero_writes bs answer
   pub faults : log'.writes.faults ≡ with_fault (log.writes.faults ++ interrupts) answer
-  pub others : OnlyWrites log log'
+  pub others : log' ≡ record log { writes = log'.writes }
 
 -- the first count bytes went out
 pub record Sent (count : ℕ) (old : Block) (log : StreamLog) (new : Block) (log' : StreamLog) : Type 0 where
@@ -79,18 +68,12 @@ pub record Sent (count : ℕ) (old : Block) (log : StreamLog) (new : Block) (log
   pub received : log'.writes.received ≡ log.writes.received ++ take count old.bytes
   pub flushed : log'.writes.flushed ≡ log.writes.flushed
   pub flushes : log'.writes.flushes ≡ log.writes.flushes
-  pub others : OnlyWrites log log'
-
--- n writes took all that they were offered, and every other one fell short
-pub record WholeWrites (n : ℕ) (old new : WriteLog) : Type 0 where
-  pub short : ℕ
-  pub fell_short : new.short_writes ≡ old.short_writes + short
-  pub asks : new.asks ≡ old.asks + short + n
+  pub others : log' ≡ record log { writes = log'.writes }
 
 -- the first amount bytes were sent, or all where there are fewer; where that failed, those that the writer took, and not
 -- all of them. For each byte that went out there were at most 64 interrupted writes, and 64 more before a failure. The
 -- stream isn't called where there is nothing to send, and else its last write offered something. Just that one took all
--- that it was offered, and none before a failure: so each write offered all that was left
+-- that it was offered, none before a failure, and every other one fell short: so each write offered all that was left
 pub record Sends (amount : ℕ) (old : Block) (log : StreamLog) (answer : Result (Unit {0}) Error) (new : Block)
     (log' : StreamLog) : Type 0 where
   pub count : ℕ
@@ -103,8 +86,10 @@ pub record Sends (amount : ℕ) (old : Block) (log : StreamLog) (answer : Result
   pub failed : IfErr answer (λ e. SendFailed interrupts log.writes log'.writes e)
   pub idle : min amount (length old.bytes) ≡ 0 → log' ≡ log
   pub offered : 0 < min amount (length old.bytes) → 0 < log'.writes.offer
+  pub fell_short : log.writes.short_writes ≤ log'.writes.short_writes
   pub whole_writes : MatchResult answer
-      (λ _. 0 < min amount (length old.bytes) → WholeWrites 1 log.writes log'.writes)
-      (λ _. WholeWrites 0 log.writes log'.writes)
+      (λ _. 0 < min amount (length old.bytes)
+      → log'.writes.asks + log.writes.short_writes ≡ log.writes.asks + log'.writes.short_writes + 1)
+      (λ _. log'.writes.asks + log.writes.short_writes ≡ log.writes.asks + log'.writes.short_writes)
   pub few : MatchResult answer (λ _. length interrupts ≤ 64 * count)
       (λ _. length interrupts ≤ 64 * count + 64)

@@ -3,7 +3,7 @@ ghost use Rattle.std.specs.Prelude.{◌≡◌, true, false, ◌+◌, ◌-◌, �
 ghost use Rattle.std.specs.Borrow.{Lends, Array, sem, u8};
 ghost use Rattle.redux_buffer.specs.GrowError.{FitsWithin};
 ghost use Rattle.redux_buffer.specs.contracts.buffer.Buffer.{the_row};
-ghost use Rattle.redux_buffer.specs.Block.{Plain, with_bytes, with_limit, limit_of, Ring, IsBlock, IsNew, ConsumesFirst, Clears, Reserves, MakesRoom, Extends, PushesBytes, OnlyRingMoves, MovesToFront, usable, capacity_for, capacity_to_push, round};
+ghost use Rattle.redux_buffer.specs.Block.{Plain, with_bytes, with_limit, limit_of, Ring, IsBlock, IsNew, ConsumesFirst, Clears, Reserves, MakesRoom, Extends, PushesBytes, OnlyRingMoves, usable, capacity_for, capacity_to_push, round};
 
 use crate::buf_impl::BufImpl;
 use crate::grow_error::GrowError;
@@ -217,7 +217,6 @@ impl Buffer {
     /// Makes all free space usable: a plain buffer moves its bytes to the front, a ring does nothing.
     pub fn make_room(&mut self)
         ensures bytes { MakesRoom self.old self.new }
-        ensures moved { MovesToFront self.old self.new }
         ensures whole { IsBlock self.new }
     {
         self.imp.make_room();

@@ -1,6 +1,6 @@
 //! Laws of the buffer, each as the contract of a function over its calls.
 ghost use Rattle.std.specs.Prelude.{◌≡◌, ◌+◌, ◌-◌, ◌≤◌, [], length, min, take, drop};
-ghost use Rattle.redux_buffer.specs.Block.{Ring, IsBlock, OnlyRingMoves, SameButTail, usable};
+ghost use Rattle.redux_buffer.specs.Block.{Ring, IsBlock, LeavesBytes, OnlyRingMoves, usable};
 
 use crate::buffer::Buffer;
 
@@ -26,7 +26,8 @@ pub fn ring_law(buffer: &Buffer)
 /// Making room where all free space is usable changes nothing, as it is after making room.
 pub fn make_room_again(buffer: &mut Buffer)
     requires { usable buffer.old ≡ buffer.old.capacity - length buffer.old.bytes }
-    ensures { SameButTail buffer.old buffer.new }
+    ensures same { LeavesBytes buffer.old buffer.new }
+    ensures moved { buffer.new.moved ≡ buffer.old.moved }
 {
     buffer.make_room();
 }

@@ -2,7 +2,7 @@
 ghost use Rattle.std.specs.Prelude.{◌≡◌, false, ◌+◌, ◌-◌, ◌^◌, ◌≤◌, ◌<◌, ℕ, List, ◌++◌, length, take, drop, slice_range, replicate, IfOk, IsOk, IsOkUnless, OnOk, OnErr};
 ghost use Rattle.std.specs.Borrow.{sem};
 ghost use Rattle.redux_buffer.specs.GrowError.{FitsWithin};
-ghost use Rattle.redux_buffer.specs.RawLends.{lends_all, lends_range};
+ghost use Rattle.redux_buffer.specs.RawLends.{lends_range};
 
 use crate::MAX_CAPACITY;
 use crate::grow_error::GrowError;
@@ -68,7 +68,7 @@ impl RawBuf {
 
     /// The bytes, for writing.
     pub fn as_mut_slice(&mut self) -> &mut [u8]
-        ensures* writes_back { sem 𝓛 (lends_all self.entry result) }
+        ensures* writes_back { sem 𝓛 (lends_range self.entry 0 result) }
         ensures value { result.now ≡ self.old }
     {
         self.buf.as_mut_slice()

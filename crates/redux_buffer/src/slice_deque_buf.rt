@@ -2,7 +2,7 @@
 ghost use Rattle.std.specs.Prelude.{◌≡◌, ◌+◌, ◌-◌, ◌^◌, ◌≤◌, ◌<◌, ◌↔◌, ◌++◌, length, min, take, drop, nat_le, IsTrue, IfOk, IsOk, OnOk, OnErr};
 ghost use Rattle.std.specs.Borrow.{Lends, Array, sem, u8};
 ghost use Rattle.redux_buffer.specs.GrowError.{FitsWithin};
-ghost use Rattle.redux_buffer.specs.Block.{Ring, IsPlaced, IsNew, GrowsToFront, BytesWritten, ConsumesFirst, Reserves, MakesRoom, CountsShift, usable, capacity_for, with_tail, with_bytes, compact, round};
+ghost use Rattle.redux_buffer.specs.Block.{Ring, IsPlaced, IsNew, BytesWritten, ConsumesFirst, Reserves, MakesRoom, CountsShift, usable, capacity_for, with_tail, with_bytes, compact, round};
 ghost use Rattle.redux_buffer.specs.contracts.slice_deque_buf.SliceDequeBuf.{the_row};
 
 use crate::count::Count;
@@ -296,7 +296,6 @@ impl SliceDequeBuf {
     pub fn make_room(&mut self)
         ensures unchanged { self.new ≡ self.old }
         ensures bytes { MakesRoom self.old.block self.new.block }
-        ensures shift { CountsShift 0 self.old self.new }
         ensures whole { IsPlaced self.new }
     {
         // Names a field, so that what is true of every ring is known here.
@@ -307,7 +306,7 @@ impl SliceDequeBuf {
     /// a ring that grew stand at the front. A refusal changes nothing.
     pub fn reserve(&mut self, additional: usize) -> Result<(), GrowError>
         ensures grown { OnOk result (Reserves additional self.old.block self.new.block) }
-        ensures place { GrowsToFront self.old self.new }
+        ensures place { self.old.block.capacity < self.new.block.capacity → self.new.place ≡ 0 }
         ensures shift { CountsShift 0 self.old self.new }
         ensures unchanged { OnErr result (self.new ≡ self.old) }
         ensures limit { FitsWithin result (capacity_for self.old.block additional) self.old.block.limit }

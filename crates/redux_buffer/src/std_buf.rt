@@ -2,7 +2,7 @@
 ghost use Rattle.std.specs.Prelude.{◌≡◌, true, false, ◌+◌, ◌-◌, ◌^◌, ◌≤◌, ◌<◌, ◌↔◌, ◌++◌, length, min, take, drop, nat_le, IsTrue, IfOk, IsOk, OnOk, OnErr};
 ghost use Rattle.std.specs.Borrow.{Lends, Array, sem, u8};
 ghost use Rattle.redux_buffer.specs.GrowError.{FitsWithin};
-ghost use Rattle.redux_buffer.specs.Block.{Plain, IsPlaced, IsNew, GrowsToFront, BytesWritten, ConsumesFirst, Reserves, MakesRoom, CountsShift, usable, capacity_for, with_tail, with_bytes};
+ghost use Rattle.redux_buffer.specs.Block.{Plain, IsPlaced, IsNew, BytesWritten, ConsumesFirst, Reserves, MakesRoom, CountsShift, usable, capacity_for, with_tail, with_bytes};
 ghost use Rattle.redux_buffer.specs.contracts.std_buf.StdBuf.{the_row};
 
 use crate::MAX_CAPACITY;
@@ -257,7 +257,6 @@ impl StdBuf {
     /// Moves the bytes to the front, so that all free space can be written.
     pub fn make_room(&mut self)
         ensures bytes { MakesRoom self.old.block self.new.block }
-        ensures shift { CountsShift 0 self.old self.new }
         ensures whole { IsPlaced self.new }
         ensures kind { self.new.block.kind ≡ Plain }
     {
@@ -274,7 +273,7 @@ impl StdBuf {
     /// Makes sure that `additional` more bytes can be written. A refusal changes nothing.
     pub fn reserve(&mut self, additional: usize) -> Result<(), GrowError>
         ensures grown { OnOk result (Reserves additional self.old.block self.new.block) }
-        ensures place { GrowsToFront self.old self.new }
+        ensures kind { self.old.block.kind ≡ Plain }
         ensures shift { CountsShift 0 self.old self.new }
         ensures unchanged { OnErr result (self.new ≡ self.old) }
         ensures limit { FitsWithin result (capacity_for self.old.block additional) self.old.block.limit }

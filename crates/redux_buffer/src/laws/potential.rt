@@ -5,11 +5,11 @@
 //! no more bytes than were appended.
 //!
 //! Each function is its call, and promises what that did beside.
-ghost use Rattle.std.specs.Prelude.{◌≡◌, ◌≤◌, ℕ, ◌++◌, length, min, take, drop, MatchResult, OnOk, OnErr, IsOk, IsOkUnless};
+ghost use Rattle.std.specs.Prelude.{◌≡◌, ◌*◌, ◌≤◌, ℕ, ◌++◌, length, min, take, drop, MatchResult, OnOk, OnErr, IsOk, IsOkUnless};
 ghost use Rattle.redux_buffer.specs.Block.{Plain, ConsumesFirst, Clears, Reserves, Extends, PushesBytes};
-ghost use Rattle.redux_buffer.specs.Block.{MakesRoom, MovesToFront, usable, capacity_for, capacity_to_push, limit_of, with_limit};
+ghost use Rattle.redux_buffer.specs.Block.{MakesRoom, usable, capacity_for, capacity_to_push, limit_of, with_limit};
 ghost use Rattle.redux_buffer.specs.GrowError.{FitsWithin};
-ghost use Rattle.redux_buffer.specs.Potential.{PlainRises, RisesAtMost, RoomPays};
+ghost use Rattle.redux_buffer.specs.Potential.{PlainRises, potential};
 ghost use Rattle.redux_buffer.specs.Transfer.{ReadsFrom, WritesTo, Sends};
 
 use crate::buffer::Buffer;
@@ -129,9 +129,8 @@ pub fn write_all<W: TellWrite>(buffer: &mut Buffer, wrt: &mut W) -> io::Result<(
 /// number is buffered, nor fits behind what is.
 pub fn make_room(buffer: &mut Buffer)
     ensures bytes { MakesRoom buffer.old buffer.new }
-    ensures moved { MovesToFront buffer.old buffer.new }
-    ensures potential { buffer.old.kind ≡ Plain → (keep : ℕ) → RoomPays keep buffer.old
-        → RisesAtMost keep 0 buffer.old buffer.new }
+    ensures potential { (keep : ℕ) → 3 * keep ≤ buffer.old.capacity → length buffer.old.bytes ≤ keep
+        → usable buffer.old ≤ keep → buffer.old.kind ≡ Plain → potential keep buffer.new ≤ potential keep buffer.old }
 {
     buffer.make_room();
 }

@@ -67,7 +67,7 @@ pub struct MemoryWriter {
 }
 
 impl MemoryWriter {
-    ghost use Rattle.redux_buffer.specs.Memory.{written_bytes, writer_log};
+    ghost use Rattle.redux_buffer.specs.Memory.{writer_log};
 
     /// A writer behind no bytes. It takes no memory yet.
     pub fn new(alloc: Global) -> MemoryWriter
@@ -81,7 +81,7 @@ impl MemoryWriter {
 
     /// All bytes that were written.
     pub fn into_vec(self) -> Vec<u8>
-        ensures { vec_items result ≡ written_bytes self }
+        ensures { vec_items result ≡ (writer_log self).writes.received }
     {
         let MemoryWriter { bytes, calls: _ } = self;
         bytes

@@ -24,7 +24,7 @@ returns-in-Ok g c = record {
       let before = c.loop.invariant.failed s went in record {
         count = suc c.loop.counter;
         last = c.loop.state;
-        interrupted = (before.0, before.1, record { error = c.loop.last; interrupt = search rules; went = before.2 });
+        interrupted = (before.0, before.1, c.loop.last, search rules, before.2);
         most = omega (arith, c.loop.auto.counter-end);
         often = tt;
         went = c.in-Ok.ensures.step;
@@ -36,7 +36,7 @@ loop-preserved g c = record {
   failed = λ s went.
       let before = c.loop.invariant.failed s went in (
         c.loop.state,
-        rw add-one (before.0, before.1, record { error = c.loop.last; interrupt = search rules; went = before.2 }),
+        rw add-one (before.0, before.1, c.loop.last, search rules, before.2),
         c.in-Err.ensures.step,
       );
   may = g.met.A.Attempt.again _ _ _ _ c.loop.invariant.may c.in-Err.ensures.step;

@@ -33,7 +33,7 @@ loop-left-init g c = record {
   few = omega arith;
   untouched = search rules;
   offered = omega arith;
-  short = λ _. record { short = 0; fell_short = omega arith; asks = omega arith };
+  short = λ _. (omega arith, omega arith);
   last = λ _ some. absurd (omega (arith, some));
   trace = search rules;
   whole = search rules;

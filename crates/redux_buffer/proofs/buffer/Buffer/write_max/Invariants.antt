@@ -2,7 +2,8 @@ use Rattle.std.proofs.Common.{◌≡◌, ◌<◌, ◌≤◌, ◌+◌, ◌*◌, �
 use Rattle.std.specs.declared.io.Error.{Error}
 use Rattle.redux_buffer.specs.Block.{IsBlock}
 use Rattle.redux_buffer.specs.Faults.{OnlyInterrupted}
-use Rattle.redux_buffer.specs.Transfer.{Sent, WholeWrites}
+use Rattle.redux_buffer.specs.Transfer.{Sent}
+use Rattle.redux_buffer.proofs.Sending.{WholeWrites}
 use Rattle.redux_buffer.proofs.buffer.Buffer.write_max.Given as goal
 
 abbrev pub invariant-loop-left : goal.invariant-loop-left
