@@ -2,7 +2,7 @@
 use Rattle.std.proofs.Common.{◌≡◌, ℕ, ◌+◌, ◌-◌, ◌<◌, ◌≤◌, List, [], length, Result, Ok, Err, Option, inl, inr, refl, sym, ap, subst, ◌∙◌, arith, length-append, length-take-le}
 use Rattle.std.specs.Prelude.{◌⊎◌}
 use Rattle.std.specs.declared.io.Error.{Error}
-use Rattle.redux_buffer.specs.Block.{IsBlock, MakesRoom, MovesToFront, usable}
+use Rattle.redux_buffer.specs.Block.{IsBlock, MakesRoom, usable}
 use Rattle.redux_buffer.specs.Potential.{potential-make_room}
 use Rattle.redux_buffer.specs.Transfer.{ReadsOnce}
 use Rattle.redux_buffer.specs.LogGrows.{ReadLogGrows, ReadLogGrows-none}
@@ -43,9 +43,9 @@ room_there more s enough = record {
 }
 
 pub room_made : {S P : Type 0} (more : ℕ) (s t : Buffered S P) → usable s.block < more
-    → length s.block.bytes + more ≤ s.block.capacity → MakesRoom s.block t.block → MovesToFront s.block t.block
+    → length s.block.bytes + more ≤ s.block.capacity → MakesRoom s.block t.block
     → ReadsInOrder s [] t → t ≡ with_block s t.block → MakesRoomFor more s t
-room_made more s t few fits room moves order others = record {
+room_made more s t few fits room order others = record {
   in_order = order;
   others = others;
   bytes = room.bytes;
@@ -56,14 +56,10 @@ room_made more s t few fits room moves order others = record {
     kind = room.kind;
     capacity = omega (arith, room.capacity);
     plain = λ plain three.
-        let rises = potential-make_room keep s.block t.block room moves (record {
-          capacity = three;
-          held = omega (arith, holds);
-          usable = omega (arith, few, holds);
-        }) plain in
+        let held = potential-make_room keep s.block t.block room three (omega (arith, holds)) (omega (arith, few, holds)) plain in
         record {
-          moved = rises.moved;
-          held = omega (arith, rises.held, ap (λ x. length x.log.reads.given) others);
+          moved = omega (arith, room.moved);
+          held = omega (arith, held, ap (λ x. length x.log.reads.given) others);
         };
   };
 }

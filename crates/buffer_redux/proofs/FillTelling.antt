@@ -3,7 +3,7 @@ use Rattle.std.proofs.Common.{◌≡◌, ◌∙◌, ℕ, ◌+◌, ◌<◌, ◌�
 use Rattle.std.proofs.lemmas.Bool.{cases_lt, MatchBool-at_true}
 use Rattle.std.specs.declared.io.Error.{Error}
 use Rattle.redux_buffer.specs.GoesOn.{GoesOn-none}
-use Rattle.redux_buffer.specs.StreamLog.{StreamLog, end_of_some, with_end}
+use Rattle.redux_buffer.specs.StreamLog.{StreamLog, after_fill, end_of_some, with_end}
 use Rattle.redux_buffer.specs.LogGrows.{ReadLogGrows, FillLogGrows}
 use Rattle.buffer_redux.specs.Policy.{ReadRules}
 use Rattle.buffer_redux.specs.Buffered.{Buffered, with_calls}
@@ -13,7 +13,7 @@ use Rattle.buffer_redux.specs.BufReader.{Fills, InnerGives}
 use Rattle.buffer_redux.specs.EmptyReads.{ReadsWhenEmpty, none_before_fault, none_where_shown, once_at_most}
 use Rattle.buffer_redux.specs.ReaderLaws.{Fills-empty, WantsBytes}
 use Rattle.buffer_redux.specs.Sparing.{Spared, Spared-noted}
-use Rattle.buffer_redux.specs.ReaderTells.{after_fill, FaultsAlike, ReaderWent}
+use Rattle.buffer_redux.specs.ReaderTells.{FaultsAlike, ReaderWent}
 
 end_rises : (n : ℕ) (shown : List ℕ) → n ≤ with_end n shown
 end_rises n shown = grind arith

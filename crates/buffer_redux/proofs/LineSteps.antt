@@ -114,8 +114,8 @@ module _ {S P : Type 0} (remaining : S → Option (List ℕ)) (rules : ReadRules
       (ap (λ x. x.block.bytes) (sym same), omega (arith, ap (λ x. x.log.reads.zero_reads) same))
   interrupted_bytes (suc k) s m i =
       let before = interrupted_bytes k s i.0 i.1 in (
-        i.2.went.ended.0 ∙ before.0,
-        omega (arith, before.1, i.2.went.front.keeps.grows.zero_reads),
+        i.4.ended.0 ∙ before.0,
+        omega (arith, before.1, i.4.front.keeps.grows.zero_reads),
       )
 
   behind_ended : (s t : Buffered S P) → Retried {A = Unit {0}} (ReadsBehind remaining rules) s (Ok tt) t

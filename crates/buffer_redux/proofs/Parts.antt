@@ -1,12 +1,12 @@
 -- Parts that are taken in together.
 use Rattle.std.proofs.Common.{◌≡◌, ℕ, ◌+◌, ◌-◌, ◌%◌, ◌<◌, ◌≤◌, List, [], ◌++◌, length, map, min, drop, get_or, Bor, Result, Ok, Err, IfErr, refl, sym, ap, subst, ◌∙◌, arith, inl, inr, add-one, drop-cons, append_assoc, append-nil, length-drop, le_refl}
-use Rattle.std.specs.Prelude.{◌⊎◌, ◌==◌, nat_le}
+use Rattle.std.specs.Prelude.{◌⊎◌, ◌==◌, if◌then◌else◌, nat_le}
 use Rattle.std.specs.List.{concat}
 use Rattle.std.specs.declared.io.Error.{Error}
 use Rattle.std.proofs.lemmas.Bool.{cond_both, leb-false, leb-true}
 use Rattle.std.proofs.lemmas.List.{nil_from_length}
 use Rattle.std.proofs.lemmas.Nat.{div-add-mod'}
-use Rattle.redux_buffer.specs.Block.{Block, IsBlock, Kind, OnKind, Plain, Ring, Reserves, capacity_for, limit_of, needed_capacity, round, usable}
+use Rattle.redux_buffer.specs.Block.{Block, IsBlock, Kind, OnKind, Plain, Ring, Reserves, capacity_for, limit_of, by_kind, round, usable}
 use Rattle.redux_buffer.specs.Faults.{SendErrorCaused}
 use Rattle.redux_buffer.specs.GrowError.{GrowthFailed}
 use Rattle.redux_buffer.specs.LogGrows.{WriteLogGrows-none, WritesGoOn}
@@ -58,7 +58,11 @@ ring_grows held room capacity a all few =
     let rest : (held + a + 4095) % 4096 < 4096 = omega arith in
     (omega (arith, all, few, up, rest), omega (arith, all, few, up, rest))
 
-grows : (k : Kind) (b : Block) (a : ℕ) → b.kind ≡ k → IsBlock b → usable b < a → Roomy b a (needed_capacity b a)
+-- the capacity that is needed where so many more bytes don't fit
+abbrev needed : Block → ℕ → ℕ
+needed b a = by_kind b.kind (if length b.bytes == 0 then b.capacity + a else b.capacity - usable b + a) (round (length b.bytes + a))
+
+grows : (k : Kind) (b : Block) (a : ℕ) → b.kind ≡ k → IsBlock b → usable b < a → Roomy b a (needed b a)
 grows Plain b a is whole few = rw is (cond_both (length b.bytes == 0) (b.capacity + a) (b.capacity - usable b + a)
     (Roomy b a) (λ _. (omega arith, omega arith))
     (λ _. (omega (arith, whole.fits, few), omega (arith, whole.fits, few))))
@@ -67,7 +71,7 @@ grows Ring b a is whole few = rw is (ring_grows (length b.bytes) (usable b) b.ca
     whole.space) few)
 
 roomy : (b : Block) (a : ℕ) → IsBlock b → Roomy b a (capacity_for b a)
-roomy b a whole = cond_both (nat_le a (usable b)) b.capacity (needed_capacity b a) (Roomy b a)
+roomy b a whole = cond_both (nat_le a (usable b)) b.capacity (needed b a) (Roomy b a)
     (λ yes. (le_refl _, omega (arith, leb-true a (usable b) yes)))
     (λ no. grows b.kind b a refl whole (leb-false a (usable b) no))
 

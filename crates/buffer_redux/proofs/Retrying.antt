@@ -37,14 +37,14 @@ module _ {S P : Type 0} (remaining : S → Option (List ℕ)) (rules : ReadRules
         → HandedFront remaining rules m [] t → HandedFront remaining rules s [] t
     after_interrupted zero s m t same f = subst (λ x. HandedFront remaining rules x [] t) (sym same) f
     after_interrupted (suc k) s m t i f = after_interrupted k s i.0 t i.1
-        (front_joins remaining rules i.0 m t [] [] (h.front i.0 (Err i.2.error) m i.2.went) f)
+        (front_joins remaining rules i.0 m t [] [] (h.front i.0 (Err i.2) m i.4) f)
 
     only_after : (k : ℕ) (s m t : Buffered S P) → InterruptedSteps step k s m
         → OnlyInterrupts m.log.reads.faults t.log.reads.faults → OnlyInterrupts s.log.reads.faults t.log.reads.faults
     only_after zero s m t same f = subst (λ x. OnlyInterrupts x.log.reads.faults t.log.reads.faults) (sym same) f
     only_after (suc k) s m t i f = only_after k s i.0 t i.1
         (OnlyInterrupts-joins i.0.log.reads.faults m.log.reads.faults t.log.reads.faults
-        (h.interrupt i.0 i.2.error m i.2.interrupt i.2.went) f)
+        (h.interrupt i.0 i.2 m i.3 i.4) f)
 
     -- a retried step hands out nothing, and at Ok met no fault but `Interrupted`
     retried_front : (s : Buffered S P) (answer : Result (Unit {0}) Error) (t : Buffered S P)
@@ -103,7 +103,7 @@ module _ {S P : Type 0} (remaining : S → Option (List ℕ)) (rules : ReadRules
   )
   still (suc k) s m h =
       let before = still k s h.0 h.1 in
-      let fills = h.2.went.fills in
+      let fills = h.4.fills in
       (omega (arith, before.0, fills.capacity), omega (arith, before.1, fills.grows.zero_reads))
 
   -- under a policy that wants bytes, where there is capacity, a fill shows nothing only where the reader ran dry

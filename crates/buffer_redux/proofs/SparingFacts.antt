@@ -31,6 +31,6 @@ module _ {S P Q : Type 0} (keep : ℕ) (s : Buffered S P) (t : Buffered S Q) whe
         kind = read.added.kind;
         capacity = omega (arith, read.added.capacity);
         plain = λ plain three.
-            let h = potential-append came s.block t.block read.added plain keep in
-            record { moved = h.moved; held = omega (arith, h.held, more, sum) };
+            let h = potential-append came s.block t.block read.added plain in
+            record { moved = h.0; held = omega (arith, h.1 keep, more, sum) };
       }

@@ -37,12 +37,12 @@ sent_writes : (amount : ℕ) (b b' : Block) (log log' : StreamLog) (answer : Res
     → (log.writes.asks ≤ log'.writes.asks) × (log.writes.short_writes ≤ log'.writes.short_writes)
 sent_writes amount b b' log log' (Ok _) f = elim (cases_lt 0 (min amount (length b.bytes))) [
   | inl some ↦ (let writes = f.whole_writes some in
-      (omega (arith, writes.asks), omega (arith, writes.fell_short)))
+      (omega (arith, writes, f.fell_short), f.fell_short))
   | inr none ↦ (let same = f.idle (omega (arith, none)) in
       (omega (arith, ap (λ l. l.writes.asks) same), omega (arith, ap (λ l. l.writes.short_writes) same)))
 ]
 sent_writes amount b b' log log' (Err e) f =
-    (omega (arith, f.whole_writes.asks), omega (arith, f.whole_writes.fell_short))
+    (omega (arith, f.whole_writes, f.fell_short), f.fell_short)
 
 pub sends_grow : (amount : ℕ) (b b' : Block) (log log' : StreamLog) (answer : Result (Unit {0}) Error)
     → Sends amount b log answer b' log' → WriteLogGrows log.writes log'.writes

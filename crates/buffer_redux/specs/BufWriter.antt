@@ -4,7 +4,7 @@ use Rattle.std.specs.IoError.{error_kind}
 use Rattle.std.specs.declared.io.Error.{Error}
 use Rattle.std.specs.declared.io.ErrorKind.TheVariants.{WriteZero, TimedOut}
 use Rattle.std.specs.declared.io.traits.SeekFrom.{SeekFrom}
-use Rattle.redux_buffer.specs.Block.{Block, IsBlock, Extends, MakesRoomInFront, usable}
+use Rattle.redux_buffer.specs.Block.{Block, IsBlock, Extends, MakesRoom, usable}
 use Rattle.redux_buffer.specs.LogGrows.{WriteLogGrows}
 use Rattle.redux_buffer.specs.StreamLog.{StreamLog, WriteLog, Readies, SeekTells, portion, after_write, after_flush}
 use Rattle.redux_buffer.specs.Faults.{IsInterrupt, MetInterrupts, SendErrorCaused}
@@ -36,7 +36,7 @@ pub record CopiesIn {S P : Type 0} (bs : List ℕ) (s : Buffered S P) (answer : 
   pub policy : t.policy ≡ s.policy
   pub settled : Block
   pub roomy : 0 < usable s.block → settled ≡ s.block
-  pub tight : usable s.block ≡ 0 → MakesRoomInFront s.block settled
+  pub tight : usable s.block ≡ 0 → MakesRoom s.block settled
   pub answered : answer ≡ Ok (min (usable settled) (length bs))
   pub added : Extends (portion bs answer) settled t.block
   pub told : t.log ≡ s.log
@@ -294,7 +294,7 @@ pub record SeeksFlushed {S P : Type 0} (tells : S → StreamLog) (trace : S → 
 pub record IsSought {S P : Type 0} (s : Buffered S P) (to : SeekFrom) (answer : Result ℕ Error) (t : Buffered S P)
     : Type 0 where
   pub flushed : IsFlushed s t
-  pub asked : t.log.seeks.calls ≡ s.log.seeks.calls ++ record { to = to; answer = answer } ∷ []
+  pub asked : t.log.seeks.calls ≡ s.log.seeks.calls ++ (to, answer) ∷ []
 
 -- an error is that of the flush, and the inner writer was not asked to seek; or it is that of its seek
 abbrev pub SeekErrorCaused : {S P : Type 0} → Buffered S P → SeekFrom → Error → Buffered S P → Type 0

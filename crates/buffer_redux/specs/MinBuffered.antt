@@ -1,6 +1,6 @@
 -- What `MinBuffered` does before a read.
 use Rattle.std.specs.Prelude.{◌≡◌, ℕ, ◌-◌, ◌<◌, ◌≤◌, length, MatchBool, MatchResult, Some, false}
-use Rattle.redux_buffer.specs.Block.{Block, MakesRoomInFront, Reserves, usable}
+use Rattle.redux_buffer.specs.Block.{Block, MakesRoom, Reserves, usable}
 use Rattle.redux_buffer.specs.GrowError.{GrowthFailed}
 use Rattle.buffer_redux.specs.declared.policy.min_buffered.MinBuffered.{MinBuffered}
 use Rattle.buffer_redux.specs.Policy.{ReadRules}
@@ -14,11 +14,11 @@ pub record ReadiesFor (n : ℕ) (old new : Block) : Type 0 where
   -- n bytes fit behind its bytes
   pub enough : n ≤ usable old → new ≡ old
   -- n bytes fit once room is made
-  pub behind : usable old < n → n ≤ free_space old → MakesRoomInFront old new
+  pub behind : usable old < n → n ≤ free_space old → MakesRoom old new
   -- the buffer is too small to hold n bytes
   pub too_small : old.capacity < n → Reserves (n - old.capacity) old new
   -- the buffer can hold n bytes, and can't take in n more: room is made only where nothing can be written
-  pub full : n ≤ old.capacity → free_space old < n → usable old ≡ 0 → MakesRoomInFront old new
+  pub full : n ≤ old.capacity → free_space old < n → usable old ≡ 0 → MakesRoom old new
   pub not_full : n ≤ old.capacity → free_space old < n → 0 < usable old → new ≡ old
 
 -- `MinBuffered` reads where fewer bytes than its number are there. It fails only where what a capacity of its number

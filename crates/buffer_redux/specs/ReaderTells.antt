@@ -5,7 +5,7 @@ use Rattle.std.specs.Borrow.{Bor}
 use Rattle.std.specs.declared.io.Error.{Error}
 use Rattle.std.proofs.lemmas.List.{append_cancel_left}
 use Rattle.redux_buffer.specs.Faults.{OnlyInterrupts, FaultAfterInterrupts}
-use Rattle.redux_buffer.specs.StreamLog.{StreamLog, FillTells, Readies, with_shown, after_shown, after_fill_fault}
+use Rattle.redux_buffer.specs.StreamLog.{StreamLog, FillTells, Readies, with_shown}
 use Rattle.redux_buffer.specs.LogGrows.{ReadLogGrows, ReadLogGrows-none, ReadLogGrows-joins, FillLogGrows, FillLogGrows-none, FillLogGrows-joins, FillsGoOn, FillsGoOn-of}
 use Rattle.buffer_redux.specs.Policy.{ReadRules, ClaimsToSpare}
 use Rattle.buffer_redux.specs.Buffered.{Buffered}
@@ -17,11 +17,6 @@ use Rattle.buffer_redux.specs.ReaderLaws.{ReadsInOrder-none, ReadsInOrder-joins,
 -- what it shows is what is buffered; the rest was noted call by call
 abbrev pub reader_log : {S P : Type 0} → Buffered S P → StreamLog
 reader_log b = with_shown b.own_calls b.block.bytes
-
--- after a fill with this answer, by which these bytes are shown
-abbrev pub after_fill : {A : Type 0} → StreamLog → Result A Error → List ℕ → StreamLog
-after_fill log (Ok a) shown = after_shown log shown
-after_fill log (Err e) shown = after_fill_fault log shown e
 
 -- a seek drops what is shown, and a failed one that or nothing
 abbrev pub drops_shown : Readies

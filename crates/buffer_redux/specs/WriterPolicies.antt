@@ -1,7 +1,7 @@
 -- What the policies of writers do that flush by the bytes, or by how many are buffered.
 use Rattle.std.specs.Prelude.{◌≡◌, ℕ, List, ◌-◌, ◌<◌, ◌≤◌, ◌⊎◌, slice_index, length, max, true, Result, Ok, Err, MatchResult, false, IfOk}
 use Rattle.std.specs.declared.io.Error.{Error}
-use Rattle.redux_buffer.specs.Block.{Block, Reserves, MakesRoomInFront, usable}
+use Rattle.redux_buffer.specs.Block.{Block, Reserves, MakesRoom, usable}
 use Rattle.redux_buffer.specs.GrowError.{GrowthFailed}
 use Rattle.buffer_redux.specs.Policy.{WriteRules, amount_when_full, std_before_write}
 use Rattle.buffer_redux.specs.declared.policy.FlushAmt.{FlushAmt}
@@ -27,7 +27,7 @@ EnsuresCapacity n old (Err e) new = (new ≡ old) × GrowthFailed (n - old.capac
 
 -- all free space became usable where the incoming bytes don't fit behind fewer than n bytes
 pub record MakesRoomBelow (n incoming : ℕ) (old new : Block) : Type 0 where
-  pub tight : usable old < incoming → length old.bytes < n → MakesRoomInFront old new
+  pub tight : usable old < incoming → length old.bytes < n → MakesRoom old new
   pub roomy : (incoming ≤ usable old) ⊎ (n ≤ length old.bytes) → new ≡ old
 
 -- `FlushAtLeast` reserves what a capacity of its number lacks, and flushes all where the incoming bytes don't fit then;

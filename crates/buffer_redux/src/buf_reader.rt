@@ -5,7 +5,7 @@ ghost use Rattle.std.specs.Io.{ReadsAtMost, StartsWith};
 ghost use Rattle.std.specs.Io.BufRead.{Rests, DropsConsumable};
 ghost use Rattle.std.specs.Io.KnownBytes.{Consumes, IsAtEnd, ReadConsumes};
 ghost use Rattle.std.specs.IoError.{error_kind};
-ghost use Rattle.redux_buffer.specs.Block.{Plain, Ring, IsBlock, LeavesBytes, MakesRoom, MovesToFront, Reserves, capacity_for, round, usable};
+ghost use Rattle.redux_buffer.specs.Block.{Plain, Ring, IsBlock, LeavesBytes, MakesRoom, Reserves, capacity_for, round, usable};
 ghost use Rattle.redux_buffer.specs.GrowError.{FitsWithin};
 ghost use Rattle.redux_buffer.specs.StreamLog.{portion};
 ghost use Rattle.buffer_redux.specs.contracts.buf_reader.BufReader.{the_row};
@@ -210,7 +210,6 @@ impl<R: Tell, P> BufReader<R, P> {
     /// Makes all free space of the buffer usable: a plain one moves its bytes to the front, a ring does nothing.
     pub fn make_room(&mut self)
         ensures room { MakesRoom self.old.block self.new.block }
-        ensures moved { MovesToFront self.old.block self.new.block }
         ensures in_order { ReadsInOrder self.old [] self.new }
         ensures others { self.new ≡ with_block self.old self.new.block }
         ensures whole { IsBlock self.new.block }

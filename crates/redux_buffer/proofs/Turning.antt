@@ -10,7 +10,7 @@ use Rattle.std.specs.declared.io.ErrorKind.TheVariants.{Interrupted}
 use Rattle.redux_buffer.specs.Copy.{MovedBy, EndsShown, FillsMade, TakesNothing, WritesEachFill, CopiesOn, CopyTurn, CopyRetried, faults_met}
 use Rattle.redux_buffer.specs.CopyLaws.{TurnAnswers-after}
 use Rattle.redux_buffer.specs.Faults.{IsInterrupt, MetInterrupts-none, OnlyInterrupts-none}
-use Rattle.redux_buffer.specs.StreamLog.{StreamLog, FillLog, WriteLog, after_fill_fault, after_shown, after_write, end_of_some, with_end}
+use Rattle.redux_buffer.specs.StreamLog.{StreamLog, FillLog, WriteLog, after_fill, after_write, end_of_some, with_end}
 
 -- nothing was consumed, and nothing received
 still : (a b : FillLog) (x y : WriteLog) → b.consumed ≡ a.consumed → b.consumes ≡ a.consumes → y.received ≡ x.received
@@ -34,14 +34,14 @@ end_counted before shown = (grind arith, grind arith)
 module _ {W : Type 0} (tells : W → StreamLog) (trace call : W → W → Type 0) (from : StreamLog) (w : W) where
   -- a turn whose fill failed
   pub not_filled : (shown : List ℕ) (e : Error)
-      → CopyTurn tells trace call (Err e) from.fills (after_fill_fault from shown e).fills w w
+      → CopyTurn tells trace call (Err e) from.fills (after_fill {A = Unit {0}} from (Err e) shown).fills w w
   not_filled shown e =
       let none = MetInterrupts-none (tells w).writes in
-      let kept = still from.fills (after_fill_fault from shown e).fills (tells w).writes (tells w).writes refl refl refl refl
+      let kept = still from.fills (after_fill {A = Unit {0}} from (Err e) shown).fills (tells w).writes (tells w).writes refl refl refl refl
       refl in
-      let fills : FillsMade 0 from.fills (after_fill_fault from shown e).fills (tells w).writes (tells w).writes =
+      let fills : FillsMade 0 from.fills (after_fill {A = Unit {0}} from (Err e) shown).fills (tells w).writes (tells w).writes =
       omega (arith, length-append from.fills.faults (e ∷ [])) in
-      let writes : WritesEachFill from.fills (after_fill_fault from shown e).fills (tells w).writes (tells w).writes =
+      let writes : WritesEachFill from.fills (after_fill {A = Unit {0}} from (Err e) shown).fills (tells w).writes (tells w).writes =
       omega (arith, length-append from.fills.faults (e ∷ [])) in
       record {
         answers = record {
@@ -84,16 +84,16 @@ module _ {W : Type 0} (tells : W → StreamLog) (trace call : W → W → Type 0
   -- a turn whose write failed
   pub not_written : ((x : W) → trace x x) → (bytes : List ℕ) (e : Error) (w' : W)
       → tells w' ≡ after_write (tells w) bytes (Err e) → call w w'
-      → CopyTurn tells trace call (Err e) from.fills (after_shown from bytes).fills w w'
+      → CopyTurn tells trace call (Err e) from.fills (after_fill from (Ok bytes) bytes).fills w w'
   not_written none bytes e w' told called =
       let faults = ap (λ l. l.writes.faults) told in
-      let kept = still from.fills (after_shown from bytes).fills (tells w).writes (tells w').writes refl refl
+      let kept = still from.fills (after_fill from (Ok bytes) bytes).fills (tells w).writes (tells w').writes refl refl
       (ap (λ l. l.writes.received) told ∙ append-nil (tells w).writes.received) (ap (λ l. l.writes.flushed) told)
       (ap (λ l. l.writes.flushes) told) in
       let ends = end_counted from.fills.zero_fills bytes in
-      let fills : FillsMade 0 from.fills (after_shown from bytes).fills (tells w).writes (tells w').writes =
+      let fills : FillsMade 0 from.fills (after_fill from (Ok bytes) bytes).fills (tells w).writes (tells w').writes =
       omega (arith, ap length faults, length-append (tells w).writes.faults (e ∷ [])) in
-      let shown : EndsShown 0 from.fills (after_shown from bytes).fills (tells w).writes (tells w').writes =
+      let shown : EndsShown 0 from.fills (after_fill from (Ok bytes) bytes).fills (tells w).writes (tells w').writes =
       omega (arith, ends.1, ap length faults, length-append (tells w).writes.faults (e ∷ [])) in
       let once = ap (λ l. l.writes.asks) told in
       record {

@@ -39,14 +39,9 @@ pub record FillLog : Type 0 where
   pub zero_fills : ℕ
   pub faults : List Error
 
--- one seek, with its answer
-pub record SeekCall : Type 0 where
-  pub to : SeekFrom
-  pub answer : Result ℕ Error
-
--- what a seeker tells: all its seeks in order, and its faults
+-- what a seeker tells: all its seeks in order, each with its answer, and its faults
 pub record SeekLog : Type 0 where
-  pub calls : List SeekCall
+  pub calls : List (SeekFrom × Result ℕ Error)
   pub faults : List Error
 
 pub record StreamLog : Type 0 where
@@ -161,7 +156,7 @@ after_flush log answer = record log {
 abbrev pub after_seek : StreamLog → SeekFrom → Result ℕ Error → StreamLog
 after_seek log to answer = record log {
   seeks = record {
-    calls = log.seeks.calls ++ record { to = to; answer = answer } ∷ [];
+    calls = log.seeks.calls ++ (to, answer) ∷ [];
     faults = with_fault log.seeks.faults answer;
   };
 }
@@ -211,9 +206,9 @@ with_end before shown = if length shown == 0 then before + 1 else before
 pub end_of_some : (before : ℕ) (shown : List ℕ) → 0 < length shown → with_end before shown ≡ before
 end_of_some before shown some = grind arith
 
--- after `fill_buf()` showed these bytes
-abbrev pub after_shown : StreamLog → List ℕ → StreamLog
-after_shown log bytes = record log {
+-- after `fill_buf()` with this answer, by which these bytes are shown
+abbrev pub after_fill : {A : Type 0} → StreamLog → Result A Error → List ℕ → StreamLog
+after_fill log (Ok a) bytes = record log {
   fills = record {
     shown = bytes;
     consumed = log.fills.consumed;
@@ -223,12 +218,9 @@ after_shown log bytes = record log {
     faults = log.fills.faults;
   };
 }
-
--- after `fill_buf()` answered this error, with these bytes shown by then
-abbrev pub after_fill_fault : StreamLog → List ℕ → Error → StreamLog
-after_fill_fault log shown e = record log {
+after_fill log (Err e) bytes = record log {
   fills = record {
-    shown = shown;
+    shown = bytes;
     consumed = log.fills.consumed;
     asks = log.fills.asks + 1;
     consumes = log.fills.consumes;
@@ -240,5 +232,6 @@ after_fill_fault log shown e = record log {
 -- what `fill_buf()` makes of a log, once its slice is given back. What was shown is shown still, and more may have come,
 -- also before a fault
 abbrev pub FillTells : StreamLog → Result (Bor (List ℕ)) Error → StreamLog → Type 0
-FillTells old (Ok bytes) new = (new ≡ after_shown old bytes.now) × GoesOn old.fills.shown bytes.now
-FillTells old (Err e) new = (shown : List ℕ) × (new ≡ after_fill_fault old shown e) × GoesOn old.fills.shown shown
+FillTells old (Ok bytes) new = (new ≡ after_fill old (Ok bytes) bytes.now) × GoesOn old.fills.shown bytes.now
+FillTells old (Err e) new =
+    (shown : List ℕ) × (new ≡ after_fill {A = Bor (List ℕ)} old (Err e) shown) × GoesOn old.fills.shown shown

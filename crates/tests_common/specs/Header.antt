@@ -1,6 +1,6 @@
 -- What `Header` does before a read.
 use Rattle.std.specs.Prelude.{◌≡◌, ◌<◌, ◌≤◌, length, Ok, Err, MatchBool, Some, false}
-use Rattle.buffer_redux.specs.Block.{Block, MakesRoomInFront, Reserves, usable}
+use Rattle.buffer_redux.specs.Block.{Block, MakesRoom, Reserves, usable}
 use Rattle.buffer_redux.specs.GrowError.{GrowthFailed}
 use Rattle.buffer_redux.specs.Policy.{BeforeReadTable, ReadRules}
 use Rattle.tests_common.specs.declared.claims.Header.{Header}
@@ -8,7 +8,7 @@ use Rattle.tests_common.specs.declared.claims.Header.{Header}
 -- a buffer that can't hold sixteen bytes grows; one in which they don't fit behind its bytes makes room; another stays
 pub record ReadiesHeader (old new : Block) : Type 0 where
   pub small : old.capacity < 16 → Reserves 48 old new
-  pub tight : 16 ≤ old.capacity → usable old < 16 → MakesRoomInFront old new
+  pub tight : 16 ≤ old.capacity → usable old < 16 → MakesRoom old new
   pub roomy : 16 ≤ old.capacity → 16 ≤ usable old → new ≡ old
 
 -- it reads where fewer than sixteen bytes are there, and fails only where it can't hold them and its growth was refused

@@ -5,12 +5,12 @@ ghost use Rattle.std.specs.Io.BufRead.{Rests};
 ghost use Rattle.std.specs.Io.KnownBytes.{Keeps};
 ghost use Rattle.std.specs.Io.Seek.{SeekMoves};
 ghost use Rattle.redux_buffer.specs.Block.{IsBlock};
-ghost use Rattle.redux_buffer.specs.StreamLog.{after_consume, SeekTells};
+ghost use Rattle.redux_buffer.specs.StreamLog.{after_consume, after_fill, SeekTells};
 ghost use Rattle.buffer_redux.specs.contracts.buf_reader.BufReader.{the_row};
 ghost use Rattle.buffer_redux.specs.BufReader.{ReaderConsumes};
 ghost use Rattle.buffer_redux.specs.Buffered.{with_calls};
 ghost use Rattle.buffer_redux.specs.Fill.{Filled};
-ghost use Rattle.buffer_redux.specs.ReaderTells.{reader_log, after_fill, drops_shown, FillTold, ReaderWent, ReaderWent-none, ReaderWent-joins, ReaderWent-grows};
+ghost use Rattle.buffer_redux.specs.ReaderTells.{reader_log, drops_shown, FillTold, ReaderWent, ReaderWent-none, ReaderWent-joins, ReaderWent-grows};
 ghost use Rattle.buffer_redux.specs.Seek.{plan_for, reader_position, Seeks};
 
 use crate::buf_reader::BufReader;

@@ -3,7 +3,7 @@ use Rattle.std.specs.Prelude.{MatchResult}
 use Rattle.std.proofs.lemmas.Result.{err_from_is_err_and}
 use Rattle.std.specs.declared.io.Error.{Error}
 use Rattle.std.specs.declared.io.traits.SeekFrom.{SeekFrom}
-use Rattle.redux_buffer.specs.StreamLog.{StreamLog, SeekCall, SeekLog, Readies, SeekTells, after_flush}
+use Rattle.redux_buffer.specs.StreamLog.{StreamLog, SeekLog, Readies, SeekTells, after_flush}
 use Rattle.buffer_redux.specs.Buffered.{Buffered}
 use Rattle.buffer_redux.specs.BufWriter.{Flushes, IsFlushed, IsSought}
 use Rattle.buffer_redux.proofs.buf_writer.BufWriterSeek.seek.Goals as goal
@@ -23,7 +23,7 @@ sought readies s m t to (Ok n) flushed steps block tells =
       | inl same ↦ same ∙ flushed.flushed
       | inr all ↦ all
     ] in
-    let asked : SeekLog → List SeekCall = λ log. log.calls ++ record { to = to; answer = Ok n } ∷ [] in
+    let asked : SeekLog → List (SeekFrom × Result ℕ Error) = λ log. log.calls ++ (to, Ok n) ∷ [] in
     record {
       flushed = record {
         empty = ap (λ b. b.bytes) block ∙ flushed.empty;
@@ -39,7 +39,7 @@ sought readies s m t to (Ok n) flushed steps block tells =
         };
       };
       asked = ap (λ l. l.seeks.calls) tells.told ∙ ap asked
-          (flush_seeks steps.sending (Ok tt) s.log steps.sent_log m.log steps.sends.sent.others.seeks steps.ended);
+          (flush_seeks steps.sending (Ok tt) s.log steps.sent_log m.log (ap (λ l. l.seeks) steps.sends.sent.others) steps.ended);
     }
 sought readies s m t to (Err e) flushed steps block tells = tt
 

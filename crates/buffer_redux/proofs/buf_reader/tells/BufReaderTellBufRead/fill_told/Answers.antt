@@ -1,7 +1,7 @@
 use Rattle.std.proofs.Common.{◌≡◌, Ok, refl, subst, sym, ap, ◌∙◌}
 use Rattle.std.proofs.lemmas.Result.{err_from_is_err_and}
 use Rattle.redux_buffer.specs.GoesOn.{GoesOn}
-use Rattle.redux_buffer.specs.StreamLog.{with_shown, after_shown}
+use Rattle.redux_buffer.specs.StreamLog.{with_shown, after_fill}
 use Rattle.buffer_redux.specs.BufReader.{Fills}
 use Rattle.buffer_redux.specs.ReaderTells.{reader_log, ReaderWent}
 use Rattle.buffer_redux.specs.FillLaws.{Filled-ok, Filled-err}
@@ -39,8 +39,8 @@ returns g c =
     let done = fills rules s _ t f.whole (Filled-ok rules _ _ c.buf.result _ f.filled) in
     let shown : t.block.bytes ≡ c.buf.result.now =
     sym (c.buf.ensures ∙ ap (λ x. x.block.bytes) c.self.view_is) in
-    let tells : reader_log t ≡ after_shown (reader_log s) c.buf.result.now =
-    subst (λ l. reader_log t ≡ after_shown (reader_log s) l) shown
+    let tells : reader_log t ≡ after_fill (reader_log s) (Ok c.buf.result) c.buf.result.now =
+    subst (λ l. reader_log t ≡ after_fill (reader_log s) (Ok c.buf.result) l) shown
     (ap (λ l. with_shown l t.block.bytes) f.noted) in (
       (
         refl,
