@@ -1,5 +1,5 @@
 -- What a scripted stream answers, and what contracts see of one.
-use Rattle.std.specs.Prelude.{◌≡◌, ℕ, zero, suc, ◌-◌, ◌^◌, ◌⊎◌, List, [], ◌∷◌, ◌++◌, min, drop, Result, Ok, Err, IsErrAnd}
+use Rattle.std.specs.Prelude.{◌≡◌, ℕ, zero, suc, ◌-◌, ◌^◌, List, [], ◌∷◌, ◌++◌, min, drop, Result, Ok, Err, IsErrAnd}
 use Rattle.std.specs.IoError.{error_kind}
 use Rattle.std.specs.declared.io.Error.{Error}
 use Rattle.std.specs.declared.io.ErrorKind.{ErrorKind}
@@ -51,7 +51,7 @@ Replies (Serves most) room (Err e) = ⊥
 Replies (Fails kind) room (Ok n) = ⊥
 Replies (Fails kind) room (Err e) = error_kind e ≡ kind
 
--- a call that was noted goes by the next answer
+-- a call that was noted, which offered so many bytes, with room for so many, goes by the next answer
 pub record Answers (old : Progress) (offered room : ℕ) (answer : Result ℕ Error) (new : Progress) : Type 0 where
   pub noted : new.offers ≡ old.offers ++ offered ∷ []
   pub plan : new.plan ≡ (step_from old.plan.interrupts old.plan.most old.plan.answers).left
@@ -61,10 +61,6 @@ pub record Answers (old : Progress) (offered room : ℕ) (answer : Result ℕ Er
 pub record RunsOut {P : Type 0} (old : P) (answer : Result ℕ Error) (new : P) : Type 0 where
   pub kind : IsErrAnd answer (λ e. error_kind e ≡ OutOfMemory)
   pub unchanged : new ≡ old
-
--- one call of a scripted stream, which offered so many bytes, with room for so many
-abbrev pub Called : Progress → ℕ → ℕ → Result ℕ Error → Progress → Type 0
-Called old offered room answer new = Answers old offered room answer new ⊎ RunsOut old answer new
 
 abbrev pub progress_of : Script → Progress
 progress_of s = record

@@ -1,7 +1,7 @@
 //! Streams of std that answer by a script, for tests.
 #![tactic(auto)]
 
-ghost use Rattle.std.specs.Prelude.{◌≡◌, ◌-◌, ◌^◌, ◌≤◌, [], IfOk};
+ghost use Rattle.std.specs.Prelude.{◌≡◌, ◌-◌, ◌^◌, ◌≤◌, ◌⊎◌, [], IfOk};
 
 mod fault_at;
 mod reader;
@@ -42,7 +42,7 @@ struct Script {
 }
 
 impl Script {
-    ghost use Rattle.redux_script.specs.Script.{Called, progress_of};
+    ghost use Rattle.redux_script.specs.Script.{Answers, RunsOut, progress_of};
 
     fn new(alloc: Global, answers: &[Answer]) -> Result<Script, AllocError>
         ensures plan { IfOk result (λ s. (progress_of s).plan
@@ -60,7 +60,8 @@ impl Script {
 
     // Notes a call that offers `offered` bytes, and answers how many of the `room` bytes it serves.
     fn next(&mut self, offered: usize, room: usize) -> io::Result<usize>
-        ensures called { Called (progress_of self.old) offered room result (progress_of self.new) }
+        ensures called { Answers (progress_of self.old) offered room result (progress_of self.new)
+            ⊎ RunsOut (progress_of self.old) result (progress_of self.new) }
         ensures bound { IfOk result (λ n. n ≤ room) }
     {
         self.offers.push(offered)?;

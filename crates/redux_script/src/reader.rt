@@ -1,5 +1,5 @@
 //! A reader that serves bytes by a script.
-ghost use Rattle.std.specs.Prelude.{◌≡◌, ◌+◌, ◌-◌, ◌^◌, ◌≤◌, None, [], ◌++◌, length, min, take, drop, vec_len, IfOk, OnErr};
+ghost use Rattle.std.specs.Prelude.{◌≡◌, ◌+◌, ◌-◌, ◌^◌, ◌≤◌, ◌⊎◌, None, [], ◌++◌, length, min, take, drop, vec_len, IfOk, OnErr};
 ghost use Rattle.std.specs.Io.{ReadsAtMost};
 ghost use Rattle.std.specs.Io.KnownBytes.{ReadConsumes};
 
@@ -64,13 +64,14 @@ impl ScriptReader {
 
 // The bytes that are left are not told as `remaining`, since an answer `Ok(0)` need not be the end.
 impl Read for ScriptReader {
-    ghost use Rattle.redux_script.specs.Script.{Called, reader_progress, served_count, bytes_left};
+    ghost use Rattle.redux_script.specs.Script.{Answers, RunsOut, reader_progress, served_count, bytes_left};
 
     fn read(&mut self, buf: &mut [u8]) -> io::Result<usize>
         ensures bound { ReadsAtMost result buf.new }
         ensures bytes { ReadConsumes None None result buf.new }
-        ensures called { Called (reader_progress self.old) (length buf.old)
-            (min (length (bytes_left self.old)) (length buf.old)) result (reader_progress self.new) }
+        ensures called { Answers (reader_progress self.old) (length buf.old)
+            (min (length (bytes_left self.old)) (length buf.old)) result (reader_progress self.new)
+            ⊎ RunsOut (reader_progress self.old) result (reader_progress self.new) }
         ensures given { IfOk result (λ n. buf.new ≡ take n (bytes_left self.old) ++ drop n buf.old) }
         ensures left { IfOk result (λ n. bytes_left self.new ≡ drop n (bytes_left self.old)) }
         ensures served { IfOk result (λ n. served_count self.new ≡ served_count self.old + n) }

@@ -1,5 +1,5 @@
 //! A writer that takes bytes by a script.
-ghost use Rattle.std.specs.Prelude.{◌≡◌, ◌+◌, ◌-◌, ◌^◌, Some, [], length, min, IfOk, IsOk};
+ghost use Rattle.std.specs.Prelude.{◌≡◌, ◌+◌, ◌-◌, ◌^◌, ◌⊎◌, Some, [], length, min, IfOk, IsOk};
 ghost use Rattle.std.specs.Io.{WritesAtMost};
 ghost use Rattle.std.specs.Io.KnownBytes.{Keeps, WriteAppends};
 
@@ -67,15 +67,15 @@ impl ScriptWriter {
 }
 
 impl Write for ScriptWriter {
-    ghost use Rattle.redux_script.specs.Script.{Called, writer_progress, taken_bytes, flush_count};
+    ghost use Rattle.redux_script.specs.Script.{Answers, RunsOut, writer_progress, taken_bytes, flush_count};
 
     ghost contents = { λ w. Some w.taken.items };
 
     fn write(&mut self, buf: &[u8]) -> io::Result<usize>
         ensures bound { WritesAtMost result buf.now }
         ensures bytes { WriteAppends (Some (taken_bytes self.old)) (Some (taken_bytes self.new)) result buf.now }
-        ensures called { Called (writer_progress self.old) (length buf.now) (length buf.now) result
-            (writer_progress self.new) }
+        ensures called { Answers (writer_progress self.old) (length buf.now) (length buf.now) result (writer_progress self.new)
+            ⊎ RunsOut (writer_progress self.old) result (writer_progress self.new) }
         ensures flushes { flush_count self.new ≡ flush_count self.old }
     {
         self.taken.reserve(buf.len())?;
