@@ -32,7 +32,7 @@ module _ {S P : Type 0} where
         let copied = f.inside inside in
         copied.added.kind ∙ elim (cases_lt 0 (usable m.block)) [
           | inl some ↦ ap (λ b. b.kind) (copied.roomy some)
-          | inr none ↦ (copied.tight (omega (arith, none))).bytes.kind
+          | inr none ↦ (copied.tight (omega (arith, none))).kind
         ]
         )
   ]

@@ -201,7 +201,7 @@ module _ {S P : Type 0} where
       → (copied.settled.bytes ≡ s.block.bytes) × (copied.settled.capacity ≡ s.block.capacity)
   settled_bytes bs s answer t copied = elim (cases_lt 0 (usable s.block)) [
     | inl some ↦ (let same = copied.roomy some in (ap (λ b. b.bytes) same, ap (λ b. b.capacity) same))
-    | inr none ↦ (let made = (copied.tight (omega (arith, none))).bytes in (made.bytes, made.capacity))
+    | inr none ↦ (let made = copied.tight (omega (arith, none)) in (made.bytes, made.capacity))
   ]
 
   -- bytes taken in past the buffer, or into it

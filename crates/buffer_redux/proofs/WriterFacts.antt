@@ -73,7 +73,7 @@ module _ {S P : Type 0} (rules : WriteRules P) (s : Buffered S P) (bs : List ℕ
         | inl roomy ↦ absurd (omega (arith, roomy, full, ap usable (copied.roomy roomy)))
         | inr few ↦ omega (arith, few)
       ] in
-      let settled = (copied.tight tight).bytes in
+      let settled = copied.tight tight in
       let capacity = capacity_stays p.seen wrote.before (p.amount.0) (Ok tt) p.flush in
       let law = p.asked.law in
       let kept : wrote.before.block.bytes ≡ s.block.bytes =

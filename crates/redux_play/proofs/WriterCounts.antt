@@ -1,6 +1,6 @@
 -- What a writer's calls consume, the writer inside received.
 use Rattle.std.specs.Prelude.{MatchResult}
-use Rattle.std.proofs.Common.{◌≡◌, ℕ, ◌+◌, List, length, take, ap, arith, inl, inr, length-append, Result, Ok, Err, []}
+use Rattle.std.proofs.Common.{◌≡◌, ℕ, ◌+◌, ◌≤◌, List, length, take, ap, arith, inl, inr, length-append, Result, Ok, Err, []}
 use Rattle.std.proofs.lemmas.Bool.{cases_lt}
 use Rattle.std.proofs.lemmas.List.{length-take}
 use Rattle.std.specs.declared.io.Error.{Error}
@@ -11,7 +11,7 @@ use Rattle.buffer_redux.specs.Policy.{WriteRules}
 use Rattle.buffer_redux.specs.Buffered.{Buffered, GoesDirect, with_policy}
 use Rattle.buffer_redux.specs.BufWriter.{FlushesAmount, CopiesIn, TakesIn, Prepared, Finished, Writes, Flushes, WritesInOrder, WriterKeeps, WasFlushed}
 use Rattle.buffer_redux.specs.WriterLaws.{flush_ways, ways_in}
-use Rattle.redux_play.specs.PlayWriter.{ConsumesSent, Accepts}
+use Rattle.redux_play.specs.PlayWriter.{Accepts}
 
 sends_counts : (amount : ℕ) (old : Block) (log : StreamLog) (answer : Result (Unit {0}) Error) (new : Block)
     (log' : StreamLog) → Sends amount old log answer new log'
@@ -30,6 +30,10 @@ flush_receives : (sending answer : Result (Unit {0}) Error) (sent log' : StreamL
     → log'.writes.received ≡ sent.writes.received
 flush_receives (Ok _) answer sent log' same = ap (λ l. l.writes.received) same
 flush_receives (Err e) answer sent log' p = ap (λ l. l.writes.received) p.1
+
+-- no more was consumed than the writer inside received
+abbrev ConsumesSent : {S P : Type 0} → Buffered S P → Buffered S P → Type 0
+ConsumesSent s t = t.block.consumed + length s.log.writes.received ≤ s.block.consumed + length t.log.writes.received
 
 module _ {S P : Type 0} where
   Flushes-counts : (s : Buffered S P) (answer : Result (Unit {0}) Error) (t : Buffered S P) → Flushes s answer t
@@ -61,7 +65,7 @@ module _ {S P : Type 0} where
   copy_counts s bs answer t f =
       let settled : f.settled.consumed ≡ s.block.consumed = elim (cases_lt 0 (usable s.block)) [
         | inl some ↦ ap (λ b. b.consumed) (f.roomy some)
-        | inr none ↦ (f.tight (omega (arith, none))).bytes.consumed
+        | inr none ↦ (f.tight (omega (arith, none))).consumed
       ] in
       omega (arith, settled, f.added.consumed, ap (λ l. length l.writes.received) f.told)
 

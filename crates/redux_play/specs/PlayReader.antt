@@ -1,7 +1,7 @@
 -- The calls of a buffered reader as steps, and whole runs of them.
 use Rattle.std.specs.Prelude.{◌≡◌, ℕ, ◌+◌, ◌<◌, ◌≤◌, List, [], ◌++◌, length, take, min, Ok, Err, Bool, MatchBool, ⊤}
 use Rattle.std.specs.List.{All}
-use Rattle.redux_buffer.specs.Block.{LeavesBytes}
+use Rattle.redux_buffer.specs.Block.{LeavesBytes, MakesRoom, Reserves, usable}
 use Rattle.redux_buffer.specs.GrowError.{GrowthRefused}
 use Rattle.redux_buffer.specs.LogGrows.{ReadLogGrows}
 use Rattle.redux_buffer.specs.Transfer.{ReadsFrom}
@@ -10,11 +10,11 @@ use Rattle.redux_play.specs.declared.play.ReaderCall.TheVariants.{Read, Fill, Co
 use Rattle.redux_play.specs.declared.play.ReaderAnswer.{ReaderAnswer}
 use Rattle.redux_play.specs.declared.play.ReaderAnswer.TheVariants.{Count, Shown, Done, Fault, Refused}
 use Rattle.buffer_redux.specs.Policy.{ReadRules}
-use Rattle.buffer_redux.specs.Buffered.{Buffered}
+use Rattle.buffer_redux.specs.Buffered.{Buffered, with_block}
 use Rattle.buffer_redux.specs.Fill.{Filled}
 use Rattle.buffer_redux.specs.BufReader.{ReadsInOrder, ReadErrorCaused, EmptyReadCaused, EmptyFillCaused, ReaderConsumes}
 use Rattle.buffer_redux.specs.ReadAll.{ReadSteps}
-use Rattle.redux_play.specs.PlayRoom.{RoomMade, ReserveDone, FaultOf, Runs}
+use Rattle.redux_play.specs.PlayRoom.{FaultOf, Runs}
 use Rattle.buffer_redux.specs.Sparing.{SparesClaimed}
 
 -- a reader, and the bytes that were handed out so far
@@ -60,8 +60,9 @@ ReaderAnswers rules s ReadIntoBuf (Count k) out t =
     (out ≡ []) × (t.policy ≡ s.policy) × ReadsFrom s.block s.log (Ok k) t.block t.log
 ReaderAnswers rules s ReadIntoBuf (Fault kind) out t = (out ≡ []) × (t.policy ≡ s.policy)
     × FaultOf kind (λ e. ReadsFrom s.block s.log (Err e) t.block t.log × LeavesBytes s.block t.block)
-ReaderAnswers rules s MakeRoom Done out t = (out ≡ []) × RoomMade s t
-ReaderAnswers rules s (Reserve a) Done out t = (out ≡ []) × ReserveDone s a t
+ReaderAnswers rules s MakeRoom Done out t = (out ≡ []) × MakesRoom s.block t.block × (t ≡ with_block s t.block)
+ReaderAnswers rules s (Reserve a) Done out t = (out ≡ []) × Reserves a s.block t.block × (a ≤ usable t.block)
+    × (t ≡ with_block s t.block)
 ReaderAnswers rules s (Reserve a) (Refused e) out t = (out ≡ []) × GrowthRefused a s.block e × (t ≡ s)
 ReaderAnswers rules s call answer out t = ⊥
 

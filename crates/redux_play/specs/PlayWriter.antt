@@ -1,5 +1,6 @@
 -- The calls of a buffered writer as steps, and whole runs of them.
 use Rattle.std.specs.Prelude.{◌≡◌, ℕ, ◌+◌, ◌<◌, ◌≤◌, List, [], ◌∷◌, ◌++◌, length, take, Ok, Err, Bool, MatchBool}
+use Rattle.redux_buffer.specs.Block.{MakesRoom, Reserves, usable}
 use Rattle.redux_buffer.specs.GrowError.{GrowthRefused}
 use Rattle.redux_buffer.specs.Faults.{SendErrorCaused}
 use Rattle.redux_buffer.specs.LogGrows.{WriteLogGrows}
@@ -8,9 +9,9 @@ use Rattle.redux_play.specs.declared.play.WriterCall.TheVariants.{Write, Flush, 
 use Rattle.redux_play.specs.declared.play.WriterAnswer.{WriterAnswer}
 use Rattle.redux_play.specs.declared.play.WriterAnswer.TheVariants.{Count, Done, Fault, Refused}
 use Rattle.buffer_redux.specs.Policy.{WriteRules}
-use Rattle.buffer_redux.specs.Buffered.{Buffered}
+use Rattle.buffer_redux.specs.Buffered.{Buffered, with_block}
 use Rattle.buffer_redux.specs.BufWriter.{WritesInOrder, WriteErrorCaused, EmptyWriteCaused, Writes, Flushes, IsFlushed}
-use Rattle.redux_play.specs.PlayRoom.{RoomMade, ReserveDone, FaultOf, Runs}
+use Rattle.redux_play.specs.PlayRoom.{FaultOf, Runs}
 
 -- the bytes that a call with this answer took in: the first k of a write that returned `Ok(k)`, and of all calls
 abbrev pub bytes_accepted_by : WriterCall → WriterAnswer → List ℕ
@@ -32,21 +33,17 @@ WriterAnswers rules s (Write bs) (Fault kind) t =
 WriterAnswers rules s Flush Done t = IsFlushed s t × Flushes s (Ok tt) t
 WriterAnswers rules s Flush (Fault kind) t =
     FaultOf kind (λ e. SendErrorCaused s.log.writes t.log.writes e × Flushes s (Err e) t)
-WriterAnswers rules s MakeRoom Done t = RoomMade s t
-WriterAnswers rules s (Reserve a) Done t = ReserveDone s a t
+WriterAnswers rules s MakeRoom Done t = MakesRoom s.block t.block × (t ≡ with_block s t.block)
+WriterAnswers rules s (Reserve a) Done t = Reserves a s.block t.block × (a ≤ usable t.block) × (t ≡ with_block s t.block)
 WriterAnswers rules s (Reserve a) (Refused e) t = GrowthRefused a s.block e × (t ≡ s)
 WriterAnswers rules s call answer t = ⊥
 
--- no more was consumed than the writer inside received
-abbrev pub ConsumesSent : {S P : Type 0} → Buffered S P → Buffered S P → Type 0
-ConsumesSent s t = t.block.consumed + length s.log.writes.received ≤ s.block.consumed + length t.log.writes.received
-
--- bytes were taken in, and none was lost or changed place. The capacity didn't fall, the kind stayed, and the writer noted
--- no call of its own
+-- bytes were taken in, and none was lost or changed place. No more was consumed than the writer inside received. The capacity
+-- didn't fall, the kind stayed, and the writer noted no call of its own
 pub record Accepts {S P : Type 0} (s : Buffered S P) (taken_in : List ℕ) (t : Buffered S P) : Type 0 where
   pub in_order : WritesInOrder s taken_in t
   pub grows : WriteLogGrows s.log.writes t.log.writes
-  pub consumed : ConsumesSent s t
+  pub consumed : t.block.consumed + length s.log.writes.received ≤ s.block.consumed + length t.log.writes.received
   pub capacity : s.block.capacity ≤ t.block.capacity
   pub kind : t.block.kind ≡ s.block.kind
   pub noted : t.own_calls ≡ s.own_calls

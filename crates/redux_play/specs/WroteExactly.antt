@@ -117,7 +117,7 @@ copied_space bs n s t copied =
     elim (cases_lt 0 (usable s.block)) [
       | inl some ↦ rw (lt-ltb 0 (usable s.block) some) (same ∙ ap (λ b. min (usable b) (length bs)) (copied.roomy some))
       | inr none ↦ rw (le-ltb 0 (usable s.block) none)
-          (same ∙ ap (λ k. min k (length bs)) (copied.tight (omega (arith, none))).bytes.usable)
+          (same ∙ ap (λ k. min k (length bs)) (copied.tight (omega (arith, none))).usable)
     ]
 
 module _ {S P : Type 0} (rules : WriteRules P) (s : Buffered S P) (bs : List ℕ) (n : ℕ) (t : Buffered S P)
