@@ -3,7 +3,7 @@ use Rattle.std.proofs.Common.{◌≡◌, ◌∙◌, ℕ, ◌+◌, ◌<◌, ◌�
 use Rattle.std.proofs.lemmas.Bool.{cases_lt, MatchBool-at_true}
 use Rattle.std.specs.declared.io.Error.{Error}
 use Rattle.redux_buffer.specs.GoesOn.{GoesOn-none}
-use Rattle.redux_buffer.specs.StreamLog.{StreamLog, end_of_some, with_end}
+use Rattle.redux_buffer.specs.StreamLog.{StreamLog, after_fill_fault, after_shown, end_of_some, with_end}
 use Rattle.redux_buffer.specs.LogGrows.{ReadLogGrows, FillLogGrows}
 use Rattle.buffer_redux.specs.Policy.{ReadRules}
 use Rattle.buffer_redux.specs.Buffered.{Buffered, with_calls}
@@ -13,13 +13,18 @@ use Rattle.buffer_redux.specs.BufReader.{Fills, InnerGives}
 use Rattle.buffer_redux.specs.EmptyReads.{ReadsWhenEmpty, none_before_fault, none_where_shown, once_at_most}
 use Rattle.buffer_redux.specs.ReaderLaws.{Fills-empty, WantsBytes}
 use Rattle.buffer_redux.specs.Sparing.{Spared, Spared-noted}
-use Rattle.buffer_redux.specs.ReaderTells.{after_fill, FaultsAlike, ReaderWent}
+use Rattle.buffer_redux.specs.ReaderTells.{FaultsAlike, ReaderWent}
 
 end_rises : (n : ℕ) (shown : List ℕ) → n ≤ with_end n shown
 end_rises n shown = grind arith
 
 end_noted : (n : ℕ) (shown : List ℕ) → length shown ≡ 0 → with_end n shown ≡ n + 1
 end_noted n shown none = grind arith
+
+-- after a fill with this answer, by which these bytes are shown
+abbrev after_fill : {A : Type 0} → StreamLog → Result A Error → List ℕ → StreamLog
+after_fill log (Ok a) shown = after_shown log shown
+after_fill log (Err e) shown = after_fill_fault log shown e
 
 consumed_stays : {A : Type 0} (log : StreamLog) (answer : Result A Error) (shown : List ℕ)
     → (after_fill log answer shown).fills.consumed ≡ log.fills.consumed
@@ -50,16 +55,18 @@ module _ {S P A : Type 0} (rules : ReadRules P) (t : Buffered S P) (calls : Stre
   ends_noted : (s : Buffered S P) (answer : Result A Error) → Ends rules s answer t
       → Ends rules s answer (with_calls t calls)
   ends_noted s (Ok a) (inl end) = inl (record { asked = end.asked; told = end.told })
-  ends_noted s (Ok a) (inr (inl end)) = inr (inl (record { asked = end.asked; full = end.full; told = end.told }))
+  ends_noted s (Ok a) (inr (inl end)) = inr (inl (end.0, record { asked = end.1.asked; told = end.1.told }))
   ends_noted s (Ok a) (inr (inr end)) = inr (inr (record {
     seen = end.seen;
-    ordered = record { asked = end.ordered.asked; room = end.ordered.room };
+    asked = end.asked;
+    room = end.room;
     read = end.read;
   }))
   ends_noted s (Err e) (inl end) = inl (record { asked = end.asked; told = end.told })
   ends_noted s (Err e) (inr end) = inr (record {
     seen = end.seen;
-    ordered = record { asked = end.ordered.asked; room = end.ordered.room };
+    asked = end.asked;
+    room = end.room;
     read = end.read;
   })
 

@@ -1,15 +1,14 @@
 -- What a buffered reader tells of its own calls, and what any of them, one after another, may do to it.
-use Rattle.std.specs.Prelude.{◌≡◌, ℕ, ◌+◌, ◌<◌, ◌≤◌, ◌⊎◌, List, [], ◌∷◌, ◌++◌, Option, Result, Ok, Err, true}
+use Rattle.std.specs.Prelude.{◌≡◌, ℕ, ◌+◌, ◌<◌, ◌≤◌, ◌⊎◌, List, [], ◌∷◌, ◌++◌, Option, Ok, Err, true}
 use Rattle.std.proofs.Common.{refl, sym, ap, subst, ◌∙◌, arith, le_refl, le_trans, append-nil, append_assoc}
-use Rattle.std.specs.Borrow.{Bor}
 use Rattle.std.specs.declared.io.Error.{Error}
 use Rattle.std.proofs.lemmas.List.{append_cancel_left}
 use Rattle.redux_buffer.specs.Faults.{OnlyInterrupts, FaultAfterInterrupts}
-use Rattle.redux_buffer.specs.StreamLog.{StreamLog, FillTells, Readies, with_shown, after_shown, after_fill_fault}
+use Rattle.redux_buffer.specs.StreamLog.{StreamLog, Readies, with_shown}
 use Rattle.redux_buffer.specs.LogGrows.{ReadLogGrows, ReadLogGrows-none, ReadLogGrows-joins, FillLogGrows, FillLogGrows-none, FillLogGrows-joins, FillsGoOn, FillsGoOn-of}
 use Rattle.buffer_redux.specs.Policy.{ReadRules, ClaimsToSpare}
 use Rattle.buffer_redux.specs.Buffered.{Buffered}
-use Rattle.buffer_redux.specs.BufReader.{Fills, ReadsInOrder, InnerGives}
+use Rattle.buffer_redux.specs.BufReader.{ReadsInOrder, InnerGives}
 use Rattle.buffer_redux.specs.Sparing.{SparesClaimed, Spared-none, Spared-joins}
 use Rattle.buffer_redux.specs.EmptyReads.{ReadsWhenEmpty}
 use Rattle.buffer_redux.specs.ReaderLaws.{ReadsInOrder-none, ReadsInOrder-joins, InnerGives-none, InnerGives-joins, WantsBytes}
@@ -17,11 +16,6 @@ use Rattle.buffer_redux.specs.ReaderLaws.{ReadsInOrder-none, ReadsInOrder-joins,
 -- what it shows is what is buffered; the rest was noted call by call
 abbrev pub reader_log : {S P : Type 0} → Buffered S P → StreamLog
 reader_log b = with_shown b.own_calls b.block.bytes
-
--- after a fill with this answer, by which these bytes are shown
-abbrev pub after_fill : {A : Type 0} → StreamLog → Result A Error → List ℕ → StreamLog
-after_fill log (Ok a) shown = after_shown log shown
-after_fill log (Err e) shown = after_fill_fault log shown e
 
 -- a seek drops what is shown, and a failed one that or nothing
 abbrev pub drops_shown : Readies
@@ -58,13 +52,6 @@ pub record ReaderWent {S P : Type 0} (remaining : S → Option (List ℕ))
       → t.own_calls.fills.zero_fills + s.log.reads.zero_reads ≤ s.own_calls.fills.zero_fills + t.log.reads.zero_reads
   pub once : ReadsWhenEmpty rules
       → s.own_calls.fills.zero_fills + t.log.reads.zero_reads ≤ t.own_calls.fills.zero_fills + s.log.reads.zero_reads
-
--- what `fill_told()` does, once its slice is given back: it fills, and tells what it shows
-pub record FillTold {S P : Type 0} (remaining : S → Option (List ℕ)) (rules : ReadRules P)
-    (s : Buffered S P) (answer : Result (Bor (List ℕ)) Error) (t : Buffered S P) : Type 0 where
-  pub tells : FillTells (reader_log s) answer (reader_log t)
-  pub went : ReaderWent remaining rules s t
-  pub fills : Fills rules s answer t
 
 FaultsAlike-none : (xs ys : List Error) → FaultsAlike xs xs ys ys
 FaultsAlike-none xs ys = record { more = []; first = sym (append-nil xs); second = sym (append-nil ys) }

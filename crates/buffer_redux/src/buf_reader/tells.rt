@@ -1,16 +1,16 @@
 //! A buffered reader as a stream that tells of its own calls.
-ghost use Rattle.std.specs.Prelude.{◌≡◌, length};
+ghost use Rattle.std.specs.Prelude.{◌≡◌, length, IfErr, OnOk};
 ghost use Rattle.std.specs.Borrow.{sem};
 ghost use Rattle.std.specs.Io.BufRead.{Rests};
 ghost use Rattle.std.specs.Io.KnownBytes.{Keeps};
 ghost use Rattle.std.specs.Io.Seek.{SeekMoves};
 ghost use Rattle.redux_buffer.specs.Block.{IsBlock};
-ghost use Rattle.redux_buffer.specs.StreamLog.{after_consume, SeekTells};
+ghost use Rattle.redux_buffer.specs.StreamLog.{after_consume, after_fill_fault, after_shown, FillTells, SeekTells};
 ghost use Rattle.buffer_redux.specs.contracts.buf_reader.BufReader.{the_row};
-ghost use Rattle.buffer_redux.specs.BufReader.{ReaderConsumes};
+ghost use Rattle.buffer_redux.specs.BufReader.{Fills, ReaderConsumes};
 ghost use Rattle.buffer_redux.specs.Buffered.{with_calls};
 ghost use Rattle.buffer_redux.specs.Fill.{Filled};
-ghost use Rattle.buffer_redux.specs.ReaderTells.{reader_log, after_fill, drops_shown, FillTold, ReaderWent, ReaderWent-none, ReaderWent-joins, ReaderWent-grows};
+ghost use Rattle.buffer_redux.specs.ReaderTells.{reader_log, drops_shown, ReaderWent, ReaderWent-none, ReaderWent-joins, ReaderWent-grows};
 ghost use Rattle.buffer_redux.specs.Seek.{plan_for, reader_position, Seeks};
 
 use crate::buf_reader::BufReader;
@@ -26,7 +26,9 @@ impl<R: Tell, P> Tell for BufReader<R, P> {
 impl<R: TellRead, P: ReaderPolicy> BufReader<R, P> {
     // Fills, and notes the call before what it shows is lent.
     fn fill_noted(&mut self) -> io::Result<()>
-        ensures noted { self.new.own_calls ≡ after_fill self.old.own_calls result self.new.block.bytes }
+        ensures shown { OnOk result (self.new.own_calls ≡ after_shown self.old.own_calls self.new.block.bytes) }
+        ensures fault { IfErr result
+            (λ e. self.new.own_calls ≡ after_fill_fault self.old.own_calls self.new.block.bytes e) }
         ensures went { ReaderWent R.remaining P.rules self.old self.new }
         ensures filled { Filled P.rules self.old result self.new }
         ensures whole { IsBlock self.new.block }
@@ -45,7 +47,8 @@ impl<R: TellRead, P: ReaderPolicy> TellBufRead for BufReader<R, P> {
 
     fn fill_told(&mut self) -> io::Result<&[u8]>
         ensures* after_borrow { sem 𝓛 (Rests (the_row R.row P.row R.Tell) self.entry
-            (FillTold R.remaining P.rules self.entry.now result)) }
+            (λ t. FillTells (reader_log self.entry.now) result (reader_log t)
+            × ReaderWent R.remaining P.rules self.entry.now t × Fills P.rules self.entry.now result t)) }
     {
         self.fill_noted()?;
         Ok(self.buf.buf())

@@ -21,11 +21,7 @@ returns-in_err-fill_noted g c =
       (
         refl,
         (λ _. tt),
-        record {
-          tells = (bytes, ap (λ l. with_shown l bytes) f.noted, shows);
-          went = f.went;
-          fills = done;
-        },
+        ((bytes, ap (λ l. with_shown l bytes) f.fault, shows), f.went, done),
       ),
       record { after_borrow = tt },
     )
@@ -41,18 +37,18 @@ returns g c =
     sym (c.buf.ensures ∙ ap (λ x. x.block.bytes) c.self.view_is) in
     let tells : reader_log t ≡ after_shown (reader_log s) c.buf.result.now =
     subst (λ l. reader_log t ≡ after_shown (reader_log s) l) shown
-    (ap (λ l. with_shown l t.block.bytes) f.noted) in (
+    (ap (λ l. with_shown l t.block.bytes) f.shown) in (
       (
         refl,
         (λ _. tt),
-        record {
-          tells = (
+        (
+          (
             ap reader_log c.self.view_is ∙ tells,
             subst (GoesOn s.block.bytes) shown (record { more = done.in_order.got; equal = done.in_order.equal }),
-          );
-          went = subst (ReaderWent g.R.TellRead.remaining rules s) (sym c.self.view_is) f.went;
-          fills = subst (Fills rules s (Ok c.buf.result)) (sym c.self.view_is) done;
-        },
+          ),
+          subst (ReaderWent g.R.TellRead.remaining rules s) (sym c.self.view_is) f.went,
+          subst (Fills rules s (Ok c.buf.result)) (sym c.self.view_is) done,
+        ),
       ),
       record { after_borrow = tt },
     )
