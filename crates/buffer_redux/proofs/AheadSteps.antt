@@ -1,6 +1,7 @@
 -- The turns and the ends of reads ahead.
 use Rattle.std.proofs.Common.{◌≡◌, ℕ, ◌+◌, ◌-◌, ◌<◌, ◌≤◌, List, [], length, Result, Ok, Err, Option, inl, inr, refl, sym, ap, subst, ◌∙◌, arith, length-append, length-take-le}
-use Rattle.std.specs.Prelude.{◌⊎◌}
+use Rattle.std.specs.Prelude.{◌⊎◌, MatchResult}
+use Rattle.std.proofs.lemmas.Bool.{cases_lt}
 use Rattle.std.specs.declared.io.Error.{Error}
 use Rattle.redux_buffer.specs.Block.{IsBlock, MakesRoom, usable}
 use Rattle.redux_buffer.specs.Potential.{potential-make_room}
@@ -10,7 +11,7 @@ use Rattle.redux_buffer.specs.StreamLog.{portion, with_fault, with_zero, zero_of
 use Rattle.buffer_redux.specs.Policy.{ReadRules}
 use Rattle.buffer_redux.specs.Buffered.{Buffered, with_block}
 use Rattle.buffer_redux.specs.BufReader.{ReadsAlong, ReadsInOrder, ReadsIntoBuf}
-use Rattle.buffer_redux.specs.Peek.{AheadEnded, MakesRoomFor, ReadsAhead, SparesFrom}
+use Rattle.buffer_redux.specs.Peek.{ReadsAhead}
 use Rattle.buffer_redux.specs.Sparing.{Spared, Spared-joins, Spared-none}
 use Rattle.buffer_redux.specs.ReaderLaws.{InnerGives-same, ReadsAlong-none, ReadsAlong-then, ReadsInOrder-none}
 use Rattle.buffer_redux.proofs.FillFacts.{ReadsInOrder-read_from}
@@ -28,10 +29,19 @@ pub record AheadTurns {S P : Type 0} (remaining : S → Option (List ℕ)) (rule
   pub capacity : m.block.capacity ≡ s.block.capacity
   pub kind : m.block.kind ≡ s.block.kind
   pub noted : m.own_calls ≡ s.own_calls
-  pub sparing : SparesFrom n s m
+  pub sparing : (keep : ℕ) → n ≤ keep → Spared keep s m
 
--- room is made where it lacks, which spares what holds the bytes
-pub room_there : {S P : Type 0} (more : ℕ) (s : Buffered S P) → more ≤ usable s.block → MakesRoomFor more s s
+-- `more` bytes fit behind those that are buffered. At most room was made, which spares each number that holds all of them
+pub record MakesRoomFor {S P : Type 0} (more : ℕ) (s t : Buffered S P) : Type 0 where
+  pub in_order : ReadsInOrder s [] t
+  pub others : t ≡ with_block s t.block
+  pub bytes : t.block.bytes ≡ s.block.bytes
+  pub room : more ≤ usable t.block
+  pub capacity : t.block.capacity ≡ s.block.capacity
+  pub kind : t.block.kind ≡ s.block.kind
+  pub spared : (keep : ℕ) → length s.block.bytes + more ≤ keep → Spared keep s t
+
+room_there : {S P : Type 0} (more : ℕ) (s : Buffered S P) → more ≤ usable s.block → MakesRoomFor more s s
 room_there more s enough = record {
   in_order = ReadsInOrder-none s;
   others = refl;
@@ -42,7 +52,7 @@ room_there more s enough = record {
   spared = λ keep _. Spared-none keep s;
 }
 
-pub room_made : {S P : Type 0} (more : ℕ) (s t : Buffered S P) → usable s.block < more
+room_made : {S P : Type 0} (more : ℕ) (s t : Buffered S P) → usable s.block < more
     → length s.block.bytes + more ≤ s.block.capacity → MakesRoom s.block t.block
     → ReadsInOrder s [] t → t ≡ with_block s t.block → MakesRoomFor more s t
 room_made more s t few fits room order others = record {
@@ -62,6 +72,34 @@ room_made more s t few fits room order others = record {
           held = omega (arith, held, ap (λ x. length x.log.reads.given) others);
         };
   };
+}
+
+-- room is made where it lacks
+pub makes_room : {S P : Type 0} (more : ℕ) (s t : Buffered S P) → length s.block.bytes + more ≤ s.block.capacity
+    → (more ≤ usable s.block → t ≡ s)
+    → (usable s.block < more → MakesRoom s.block t.block × MovesToFront s.block t.block × ReadsInOrder s [] t
+    × (t ≡ with_block s t.block))
+    → MakesRoomFor more s t
+makes_room more s t fits enough lacking = elim (cases_lt (usable s.block) more) [
+  | inl few ↦ (let made = lacking few in room_made more s t few fits made.0 made.1 made.2 made.3)
+  | inr many ↦ subst (MakesRoomFor more s) (sym (enough many)) (room_there more s many)
+]
+
+-- what it did doesn't hang on what the call that made it carries in its Ok
+pub ahead_as : {S P A C : Type 0} (remaining : S → Option (List ℕ)) (rules : ReadRules P) {n : ℕ} (s : Buffered S P) (a : A)
+    (b : C) (t : Buffered S P) → ReadsAhead remaining rules n s (Ok a) t → ReadsAhead remaining rules n s (Ok b) t
+ahead_as remaining rules s a b t r = record {
+  along = r.along;
+  ended = r.ended;
+  caused = r.caused;
+  asks = r.asks;
+  buffered = r.buffered;
+  policy = r.policy;
+  capacity = r.capacity;
+  kind = r.kind;
+  noted = r.noted;
+  sparing = r.sparing;
+  whole = r.whole;
 }
 
 -- after such turns to m there was room, in r, and the reader was asked once more
@@ -87,7 +125,7 @@ module _ {S P : Type 0} (remaining : S → Option (List ℕ)) (rules : ReadRules
     capacity = refl;
     kind = refl;
     noted = refl;
-    sparing = record { each = λ keep _. Spared-none keep s };
+    sparing = λ keep _. Spared-none keep s;
   }
 
   -- n bytes are buffered, which ends reading ahead
@@ -154,14 +192,15 @@ module _ {S P : Type 0} (remaining : S → Option (List ℕ)) (rules : ReadRules
     most_now : t.log.reads.asks ≤ s.log.reads.asks + (n - length s.block.bytes)
     most_now = omega (arith, asked, a.turns.asks, a.few, a.turns.along.grows.asks)
 
-    spared_now : SparesFrom n s t
-    spared_now = record {
-      each = λ keep holds. Spared-joins keep s m t (a.turns.sparing.each keep holds)
-          (Spared-joins keep m r t (a.room.spared keep (omega (arith, a.few, holds))) (a.spared keep));
-    }
+    spared_now : (keep : ℕ) → n ≤ keep → Spared keep s t
+    spared_now keep holds = Spared-joins keep s m t (a.turns.sparing keep holds)
+        (Spared-joins keep m r t (a.room.spared keep (omega (arith, a.few, holds))) (a.spared keep))
 
     -- which ended it
-    ahead_last : {A : Type 0} (end : Result A Error) → AheadEnded n s end t
+    ahead_last : {A : Type 0} (end : Result A Error)
+        → MatchResult end (λ _. ((n ≤ length t.block.bytes) × (t.log.reads.zero_reads ≡ s.log.reads.zero_reads))
+        ⊎ ((length t.block.bytes < n) × (t.log.reads.zero_reads ≡ s.log.reads.zero_reads + 1)))
+        (λ _. (length t.block.bytes < n) × (t.log.reads.zero_reads ≡ s.log.reads.zero_reads))
         → t.log.reads.faults ≡ with_fault s.log.reads.faults end → ReadsAhead remaining rules n s end t
     ahead_last end ended caused = record {
       along = asked_along;

@@ -1,5 +1,5 @@
 -- What filling promises under a policy that claims something, and all that it promises.
-use Rattle.std.proofs.Common.{◌≡◌, ℕ, zero, suc, ◌+◌, ◌-◌, ◌≤◌, true, false, [], ◌∷◌, ◌++◌, length, Result, Ok, Err, refl, sym, ap, subst, ◌∙◌, arith, inl, inr, append-nil, length-append, Option, None, Some, is_ok, IsOkAnd, IfSome}
+use Rattle.std.proofs.Common.{◌≡◌, ℕ, zero, suc, ◌+◌, ◌-◌, ◌<◌, ◌≤◌, true, false, [], ◌∷◌, ◌++◌, length, Result, Ok, Err, refl, sym, ap, subst, ◌∙◌, arith, inl, inr, append-nil, length-append, Option, None, Some, is_ok, IsOkAnd, IfSome, MatchResult}
 use Rattle.std.specs.declared.io.Error.{Error}
 use Rattle.redux_buffer.specs.Block.{Block, IsBlock}
 use Rattle.redux_buffer.specs.Transfer.{ReadsOnce}
@@ -7,7 +7,7 @@ use Rattle.buffer_redux.specs.declared.policy.DoRead.{DoRead}
 use Rattle.buffer_redux.specs.Policy.{ReadRules, BeforeRead, no_read, read_now, ClaimsToSpare, ReadsUpTo}
 use Rattle.buffer_redux.specs.Buffered.{Buffered}
 use Rattle.buffer_redux.specs.Fill.{Turns, Ends, Filled}
-use Rattle.buffer_redux.specs.BufReader.{LooksAhead, FillsToMinimum, SteadyFill, Fills}
+use Rattle.buffer_redux.specs.BufReader.{FillsToMinimum, Fills, RanDry}
 use Rattle.buffer_redux.specs.Sparing.{Spared, Spared-none, Spared-joins}
 use Rattle.buffer_redux.proofs.SparingFacts.{Spared-asked, Spared-read}
 use Rattle.buffer_redux.proofs.FillFacts.{turns_facts, filled_facts, asked_once, zero_rose, full_empty}
@@ -31,9 +31,9 @@ module _ {S P : Type 0} (rules : ReadRules P) where
     few_turns zero t e = omega arith
     few_turns (suc k) t h =
         let m = h.0 in
-        let turn = h.2 in
+        let turn = h.4 in
         let before = few_turns k m h.1 in
-        let found = (at_minimum k m turn.seen read_now t h.1 turn.ordered.asked).ok in
+        let found = (at_minimum k m turn.seen read_now t h.1 turn.asked).ok in
         let facts = turns_facts rules k s m h.1 in
         omega (arith, before, facts.longer, found.0)
 
@@ -48,9 +48,9 @@ module _ {S P : Type 0} (rules : ReadRules P) where
     same_capacity zero m e holds = ap (λ x. x.block.capacity) (sym e)
     same_capacity (suc k) t h holds =
         let m = h.0 in
-        let turn = h.2 in
+        let turn = h.4 in
         let before = same_capacity k m h.1 holds in
-        let found = at_minimum k m turn.seen read_now t h.1 turn.ordered.asked in
+        let found = at_minimum k m turn.seen read_now t h.1 turn.asked in
         turn.read.added.capacity ∙ found.capacity (omega (arith, before, holds)) ∙ before
 
     -- no turn changed the limit
@@ -58,8 +58,8 @@ module _ {S P : Type 0} (rules : ReadRules P) where
     same_limit zero m e = ap (λ x. x.block.limit) (sym e)
     same_limit (suc k) t h =
         let m = h.0 in
-        let turn = h.2 in
-        let found = at_minimum k m turn.seen read_now t h.1 turn.ordered.asked in
+        let turn = h.4 in
+        let found = at_minimum k m turn.seen read_now t h.1 turn.asked in
         turn.read.added.limit ∙ found.limit ∙ same_limit k m h.1
 
     to_minimum_ok : {A : Type 0} (k : ℕ) (m t : Buffered S P) (a : A)
@@ -79,13 +79,13 @@ module _ {S P : Type 0} (rules : ReadRules P) where
               let before = same_capacity k m h holds in found.capacity (omega (arith, before, holds)) ∙ before;
           limit = found.limit ∙ same_limit k m h;
         }
-    to_minimum_ok k m t a h (inr (inl end)) =
+    to_minimum_ok k m t a h (inr (inl (full, end))) =
         let found = at_minimum k m t.block read_now t h end.asked in
-        absurd (omega (arith, found.ok.1, end.full))
+        absurd (omega (arith, found.ok.1, full))
     to_minimum_ok k m t a h (inr (inr end)) =
-        let found = at_minimum k m end.seen read_now t h end.ordered.asked in
+        let found = at_minimum k m end.seen read_now t h end.asked in
         let facts = turns_facts rules k s m h in
-        let rose = zero_rose end.seen t.block m.log t.log end.read end.ordered.room in
+        let rose = zero_rose end.seen t.block m.log t.log end.read end.room in
         let once = asked_once end.seen t.block m.log t.log 0 end.read in
         record {
           enough = λ _. inr (omega (arith, facts.zero_reads, rose));
@@ -116,11 +116,11 @@ module _ {S P : Type 0} (rules : ReadRules P) where
           limit = found.limit ∙ same_limit k m h;
         }
     to_minimum_err A k m t e h (inr end) =
-        let found = at_minimum k m end.seen read_now t h end.ordered.asked in
+        let found = at_minimum k m end.seen read_now t h end.asked in
         let facts = turns_facts rules k s m h in
         let once : t.log.reads.asks ≡ m.log.reads.asks + 1 = ap (λ l. l.reads.asks) end.read.told in
         let long : length t.block.bytes ≡ length m.block.bytes =
-        ap length (end.read.added.bytes ∙ append-nil end.seen.bytes ∙ end.ordered.asked.law.bytes) in
+        ap length (end.read.added.bytes ∙ append-nil end.seen.bytes ∙ end.asked.law.bytes) in
         record {
           enough = λ no. cc;
           few = λ _. omega (arith, long, found.ok.0);
@@ -138,7 +138,8 @@ module _ {S P : Type 0} (rules : ReadRules P) where
     to_minimum {A} (Err e) t f = to_minimum_err A f.count f.last t e f.turns f.ends
 
   looks_ahead : {A : Type 0} (o : Option ℕ) (s : Buffered S P) (r : Result A Error) (t : Buffered S P)
-      → (rules.claims s.policy).minimum ≡ o → Filled rules s r t → LooksAhead o s (is_ok r) t
+      → (rules.claims s.policy).minimum ≡ o → Filled rules s r t
+      → IfSome o (λ n. FillsToMinimum n s (is_ok r) t)
   looks_ahead None s r t w f = tt
   looks_ahead (Some n) s r t w f = to_minimum n s w r t f
 
@@ -150,46 +151,36 @@ module _ {S P : Type 0} (rules : ReadRules P) where
         MatchBool-at_true _ _ (ap (λ c. c.steady) (claimed k s m h) ∙ steady) asked.steady
 
     steady_ok : {A : Type 0} (k : ℕ) (m t : Buffered S P) (a : A)
-        → IsBlock t.block → Turns rules k s m → Ends rules m (Ok a) t → SteadyFill s true t
-    steady_ok k m t a whole h (inl end) =
-        let says = at_steady k m t.block no_read t h end.asked in
-        record {
-          faulted = λ no. cc;
-          empty = λ _ _ none. let odd = says (omega (arith, ap length end.asked.law.bytes)) in cc;
-        }
-    steady_ok k m t a whole h (inr (inl end)) =
-        let facts = turns_facts rules k s m h in
-        record {
-          faulted = λ no. cc;
-          empty = λ _ room none.
-              let no_capacity = full_empty t.block whole end.full none in
-              absurd (omega (arith, no_capacity, facts.holds.capacity, end.asked.law.capacity));
-        }
-    steady_ok k m t a whole h (inr (inr end)) =
-        let facts = turns_facts rules k s m h in
-        let rose = zero_rose end.seen t.block m.log t.log end.read end.ordered.room in
-        record { faulted = λ no. cc; empty = λ _ _ _. omega (arith, facts.zero_reads, rose) }
+        → IsBlock t.block → Turns rules k s m → Ends rules m (Ok a) t
+        → 0 < s.block.capacity → length t.block.bytes ≡ 0 → RanDry s t
+    steady_ok k m t a whole h (inl end) room none =
+        let odd = at_steady k m t.block no_read t h end.asked (omega (arith, ap length end.asked.law.bytes)) in cc
+    steady_ok k m t a whole h (inr (inl (full, end))) room none = absurd (omega (
+      arith,
+      full_empty t.block whole full none,
+      (turns_facts rules k s m h).holds.capacity,
+      end.asked.law.capacity,
+    ))
+    steady_ok k m t a whole h (inr (inr end)) room none = omega (
+      arith,
+      (turns_facts rules k s m h).zero_reads,
+      zero_rose end.seen t.block m.log t.log end.read end.room,
+    )
 
     steady_err : (A : Type 0) (k : ℕ) (m t : Buffered S P) (e : Error)
-        → Turns rules k s m → Ends {A = A} rules m (Err e) t → SteadyFill s false t
+        → Turns rules k s m → Ends {A = A} rules m (Err e) t
+        → length s.log.reads.faults < length t.log.reads.faults
     steady_err A k m t e h (inl end) = (let odd = at_steady k m t.block (Err e) t h end.asked in absurd odd)
     steady_err A k m t e h (inr end) =
         let facts = turns_facts rules k s m h in
         let more : t.log.reads.faults ≡ m.log.reads.faults ++ e ∷ [] =
         ap (λ l. l.reads.faults) end.read.told in
-        record {
-          faulted = λ _.
-              omega (
-                arith,
-                ap length more,
-                length-append m.log.reads.faults (e ∷ []),
-                ap length facts.faults,
-              );
-          empty = λ no. cc;
-        }
+        omega (arith, ap length more, length-append m.log.reads.faults (e ∷ []), ap length facts.faults)
 
     steady_fill : {A : Type 0} (r : Result A Error) (t : Buffered S P)
-        → IsBlock t.block → Filled rules s r t → SteadyFill s (is_ok r) t
+        → IsBlock t.block → Filled rules s r t
+        → MatchResult r (λ _. 0 < s.block.capacity → length t.block.bytes ≡ 0 → RanDry s t)
+        (λ _. length s.log.reads.faults < length t.log.reads.faults)
     steady_fill (Ok a) t whole f = steady_ok f.count f.last t a whole f.turns f.ends
     steady_fill {A} (Err e) t whole f = steady_err A f.count f.last t e f.turns f.ends
 
@@ -221,17 +212,17 @@ module _ {S P : Type 0} (rules : ReadRules P) where
     spared_turns zero t e = subst (λ x. Spared keep s x) e (Spared-none keep s)
     spared_turns (suc k) t h =
         let m = h.0 in
-        let turn = h.2 in
+        let turn = h.4 in
         Spared-joins keep s m t (spared_turns k m h.1)
-        (spared_read k m t turn.seen (Ok turn.count) h.1 turn.ordered.asked turn.read)
+        (spared_read k m t turn.seen (Ok h.2) h.1 turn.asked turn.read)
 
     spared_end : {A : Type 0} (k : ℕ) (m : Buffered S P) (r : Result A Error) (t : Buffered S P)
         → Turns rules k s m → Ends rules m r t → Spared keep m t
     spared_end k m (Ok a) t h (inl end) = spared_asked k m t no_read h end.asked end.told
-    spared_end k m (Ok a) t h (inr (inl end)) = spared_asked k m t read_now h end.asked end.told
-    spared_end k m (Ok a) t h (inr (inr end)) = spared_read k m t end.seen (Ok 0) h end.ordered.asked end.read
+    spared_end k m (Ok a) t h (inr (inl (full, end))) = spared_asked k m t read_now h end.asked end.told
+    spared_end k m (Ok a) t h (inr (inr end)) = spared_read k m t end.seen (Ok 0) h end.asked end.read
     spared_end k m (Err e) t h (inl end) = spared_asked k m t (Err e) h end.asked end.told
-    spared_end k m (Err e) t h (inr end) = spared_read k m t end.seen (Err e) h end.ordered.asked end.read
+    spared_end k m (Err e) t h (inr end) = spared_read k m t end.seen (Err e) h end.asked end.read
 
     spared_filled : {A : Type 0} (r : Result A Error) (t : Buffered S P)
         → Filled rules s r t → Spared keep s t

@@ -1,5 +1,5 @@
 -- What follows from the turns of filling.
-use Rattle.std.proofs.Common.{◌≡◌, ℕ, zero, suc, ◌+◌, ◌<◌, ◌≤◌, true, List, [], ◌∷◌, ◌++◌, length, take, Result, Ok, Err, refl, sym, ap, subst, ◌∙◌, arith, inl, inr, append-nil, length-append, length-take-le, le_refl, le_trans, is_ok}
+use Rattle.std.proofs.Common.{◌≡◌, ◌⊎◌, ℕ, zero, suc, ◌+◌, ◌<◌, ◌≤◌, true, List, [], ◌∷◌, ◌++◌, length, take, Result, Ok, Err, refl, sym, ap, subst, ◌∙◌, arith, inl, inr, append-nil, length-append, length-take-le, le_refl, le_trans, is_ok, OnOk}
 use Rattle.std.proofs.lemmas.Bool.{cases_lt}
 use Rattle.std.proofs.lemmas.List.{nil_from_length}
 use Rattle.std.specs.declared.io.Error.{Error}
@@ -10,8 +10,8 @@ use Rattle.redux_buffer.specs.Transfer.{ReadsOnce, ReadsFrom}
 use Rattle.buffer_redux.specs.Policy.{no_read, read_now, ReadRules, BeforeRead}
 use Rattle.buffer_redux.specs.declared.policy.DoRead.{DoRead}
 use Rattle.buffer_redux.specs.Buffered.{Buffered, GoesDirect, StaysInside}
-use Rattle.buffer_redux.specs.Fill.{Ordered, Turns, Declined, Ends, Filled}
-use Rattle.buffer_redux.specs.BufReader.{PolicyGave, PolicyDeclined, ReadsInOrder, ReaderConsumes, ReadErrorCaused, FillEnded, LastAsk, EmptyFillCaused, EmptyReadCaused}
+use Rattle.buffer_redux.specs.Fill.{Answered, Ordered, Turns, Ends, Filled}
+use Rattle.buffer_redux.specs.BufReader.{PolicyGave, RanDry, ReadsInOrder, ReaderConsumes, ReadErrorCaused, LastAsk, EmptyFillCaused, EmptyReadCaused}
 use Rattle.buffer_redux.specs.ReaderLaws.{ReadsInOrder-none, ReadsInOrder-joins}
 
 -- one read that gave n bytes
@@ -167,7 +167,7 @@ module _ {S P : Type 0} (rules : ReadRules P) where
   -- what filled nothing hands out nothing for the same cause, where there is capacity
   pub empty_read : (s m t : Buffered S P) → EmptyFillCaused rules s m → 0 < m.block.capacity
       → ReaderConsumes rules 0 m t → EmptyReadCaused rules s t
-  empty_read s m t (inl said) room handed = inl (m, said, handed)
+  empty_read s m t (inl said) room handed = inl (m, said.0, said.1, handed)
   empty_read s m t (inr (inl none)) room handed = absurd (omega (arith, none, room))
   empty_read s m t (inr (inr rose)) room handed =
       inr (omega (arith, ap (λ l. l.reads.zero_reads) handed.told, rose))
@@ -193,55 +193,51 @@ module _ {S P : Type 0} (rules : ReadRules P) where
   turns_facts (suc k) s t h =
       let m = h.0 in
       let before = turns_facts k s m h.1 in
-      let turn = h.2 in
+      let turn = h.4 in
       let read = turn.read in
-      let asked = turn.ordered.asked in
-      let once = asked_once turn.seen t.block m.log t.log turn.count read in
-      let more = length_after_read turn.seen t.block m.log t.log turn.count read in
+      let asked = turn.asked in
+      let once = asked_once turn.seen t.block m.log t.log h.2 read in
+      let more = length_after_read turn.seen t.block m.log t.log h.2 read in
       record {
-        holds = Holds-joins s m t before.holds (Holds-read m t turn.seen _ (Ok turn.count) asked read);
+        holds = Holds-joins s m t before.holds (Holds-read m t turn.seen _ (Ok h.2) asked read);
         faults = ap (λ l. l.reads.faults) read.told ∙ before.faults;
         zero_reads =
-            zero_kept turn.seen t.block m.log t.log turn.count read turn.some ∙ before.zero_reads;
+            zero_kept turn.seen t.block m.log t.log h.2 read h.3 ∙ before.zero_reads;
         asks = omega (arith, once, before.asks);
-        longer = omega (arith, more, before.longer, turn.some, ap length asked.law.bytes);
+        longer = omega (arith, more, before.longer, h.3, ap length asked.law.bytes);
       }
 
   -- the ask that this answer was given to, after these turns, where nothing was asked since
-  asked_last : (k : ℕ) (s m t : Buffered S P) (policy : P) (seen left : Block) (answer : Result ℕ Error) (log : StreamLog)
-      → Turns rules k s m → Ordered rules m policy seen → ReadsOnce seen m.log answer left log → t.log ≡ log
-      → LastAsk rules s t
-  asked_last k s m t policy seen left answer log turns ordered read same =
+  asked_last : (k : ℕ) (s m after t : Buffered S P) (answer : Result ℕ Error)
+      → Turns rules k s m → Ordered rules answer m after → t.log ≡ after.log → LastAsk rules s t
+  asked_last k s m after t answer turns ordered same =
       let before = turns_facts k s m turns in
-      let told : t.log ≡ after_read m.log read.out answer = same ∙ read.told in record {
+      let told : t.log ≡ after_read m.log ordered.read.out answer = same ∙ ordered.read.told in record {
         count = k;
         before = m;
-        policy = policy;
-        seen = seen;
+        after = after;
+        answer = answer;
         turns = turns;
         ordered = ordered;
         saw = before.longer;
         asks = ap (λ l. l.reads.asks) told ∙ ap (λ n. n + 1) before.asks;
-        out = read.out;
-        answer = answer;
-        told = told;
-        offer = ap (λ l. l.reads.offer) told ∙ read.offered;
+        told = same;
+        offer = ap (λ l. l.reads.offer) told ∙ ordered.read.offered;
       }
 
   -- that of the last turn
   last_kept : (k : ℕ) (s m t : Buffered S P)
       → Turns rules k s m → t.log ≡ m.log → s.log.reads.asks < t.log.reads.asks → LastAsk rules s t
   last_kept zero s m t e same some = absurd (omega (arith, some, ap (λ l. l.reads.asks) same, ap (λ x. x.log.reads.asks) e))
-  last_kept (suc k) s m t h same some =
-      let turn = h.2 in
-      asked_last k s h.0 t m.policy turn.seen m.block (Ok turn.count) m.log h.1 turn.ordered turn.read same
+  last_kept (suc k) s m t h same some = asked_last k s h.0 m t (Ok h.2) h.1 h.4 same
 
   -- the facts of a whole filling
   pub record FilledFacts {A : Type 0} (s : Buffered S P) (answer : Result A Error)
       (t : Buffered S P) : Type 0 where
     pub holds : Holds s t
     pub caused : ReadErrorCaused rules s answer t
-    pub ended : FillEnded rules s answer t
+    pub ended : OnOk answer
+        (PolicyGave rules no_read s t ⊎ ((usable t.block ≡ 0) × PolicyGave rules read_now s t) ⊎ RanDry s t)
     pub empty : is_ok answer ≡ true → length t.block.bytes ≡ 0 → EmptyFillCaused rules s t
     pub last : s.log.reads.asks < t.log.reads.asks → LastAsk rules s t
 
@@ -252,11 +248,9 @@ module _ {S P : Type 0} (rules : ReadRules P) where
 
   -- where nothing is buffered, there was no turn
   said_first : (k : ℕ) (s m t : Buffered S P) → Turns rules k s m → TurnsFacts k s m
-      → Declined rules m t → length t.block.bytes ≡ 0 → PolicyDeclined rules s t
-  said_first zero s m t e facts end none = subst (λ x. PolicyDeclined rules x t) (sym e) (record {
-    none = nil_from_length m.block.bytes (omega (arith, ap length end.asked.law.bytes, none));
-    declined = end;
-  })
+      → Answered rules no_read m t → length t.block.bytes ≡ 0 → (s.block.bytes ≡ []) × Answered rules no_read s t
+  said_first zero s m t e facts end none = subst (λ x. (x.block.bytes ≡ []) × Answered rules no_read x t) (sym e)
+      (nil_from_length m.block.bytes (omega (arith, ap length end.asked.law.bytes, none)), end)
   said_first (suc k) s m t h facts end none =
       absurd (omega (arith, facts.longer, ap length end.asked.law.bytes, none))
 
@@ -269,20 +263,20 @@ module _ {S P : Type 0} (rules : ReadRules P) where
     empty = λ _ none. inl (said_first k s m t turns before end none);
     last = last_kept k s m t turns end.told;
   }
-  ok_facts k s m t a whole before turns (inr (inl end)) = record {
+  ok_facts k s m t a whole before turns (inr (inl (full, end))) = record {
     holds = Holds-joins s m t before.holds (Holds-asked m t _ end.asked end.told);
     caused = ap (λ l. l.reads.faults) end.told ∙ before.faults;
-    ended = inr (inl (end.full, gave_last k s m t read_now turns end.asked end.told));
-    empty = λ _ none. inr (inl (full_empty t.block whole end.full none));
+    ended = inr (inl (full, gave_last k s m t read_now turns end.asked end.told));
+    empty = λ _ none. inr (inl (full_empty t.block whole full none));
     last = last_kept k s m t turns end.told;
   }
   ok_facts k s m t a whole before turns (inr (inr end)) =
-      let rose = zero_rose end.seen t.block m.log t.log end.read end.ordered.room in record {
-        holds = Holds-joins s m t before.holds (Holds-read m t end.seen _ (Ok 0) end.ordered.asked end.read);
+      let rose = zero_rose end.seen t.block m.log t.log end.read end.room in record {
+        holds = Holds-joins s m t before.holds (Holds-read m t end.seen _ (Ok 0) end.asked end.read);
         caused = ap (λ l. l.reads.faults) end.read.told ∙ before.faults;
         ended = inr (inr (omega (arith, before.zero_reads, rose)));
         empty = λ _ none. inr (inr (omega (arith, before.zero_reads, rose)));
-        last = λ some. asked_last k s m t t.policy end.seen t.block (Ok 0) t.log turns end.ordered end.read refl;
+        last = λ some. asked_last k s m t t (Ok 0) turns end refl;
       }
 
   err_facts : {A : Type 0} (k : ℕ) (s m t : Buffered S P) (e : Error) → TurnsFacts k s m → Turns rules k s m
@@ -295,11 +289,11 @@ module _ {S P : Type 0} (rules : ReadRules P) where
     last = last_kept k s m t turns end.told;
   }
   err_facts k s m t e before turns (inr end) = record {
-    holds = Holds-joins s m t before.holds (Holds-read m t end.seen _ (Err e) end.ordered.asked end.read);
+    holds = Holds-joins s m t before.holds (Holds-read m t end.seen _ (Err e) end.asked end.read);
     caused = inl (ap (λ l. l.reads.faults) end.read.told ∙ ap (λ l. l ++ e ∷ []) before.faults);
     ended = tt;
     empty = λ no. cc;
-    last = λ some. asked_last k s m t t.policy end.seen t.block (Err e) t.log turns end.ordered end.read refl;
+    last = λ some. asked_last k s m t t (Err e) turns end refl;
   }
 
   pub filled_facts : {A : Type 0} (s : Buffered S P) (answer : Result A Error) (t : Buffered S P)

@@ -50,16 +50,18 @@ module _ {S P A : Type 0} (rules : ReadRules P) (t : Buffered S P) (calls : Stre
   ends_noted : (s : Buffered S P) (answer : Result A Error) → Ends rules s answer t
       → Ends rules s answer (with_calls t calls)
   ends_noted s (Ok a) (inl end) = inl (record { asked = end.asked; told = end.told })
-  ends_noted s (Ok a) (inr (inl end)) = inr (inl (record { asked = end.asked; full = end.full; told = end.told }))
+  ends_noted s (Ok a) (inr (inl end)) = inr (inl (end.0, record { asked = end.1.asked; told = end.1.told }))
   ends_noted s (Ok a) (inr (inr end)) = inr (inr (record {
     seen = end.seen;
-    ordered = record { asked = end.ordered.asked; room = end.ordered.room };
+    asked = end.asked;
+    room = end.room;
     read = end.read;
   }))
   ends_noted s (Err e) (inl end) = inl (record { asked = end.asked; told = end.told })
   ends_noted s (Err e) (inr end) = inr (record {
     seen = end.seen;
-    ordered = record { asked = end.ordered.asked; room = end.ordered.room };
+    asked = end.asked;
+    room = end.room;
     read = end.read;
   })
 

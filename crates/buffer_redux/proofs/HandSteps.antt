@@ -12,11 +12,11 @@ use Rattle.redux_buffer.specs.Block.{Block, IsBlock, Plain, Ring, limit_of}
 use Rattle.buffer_redux.specs.Policy.{ReadRules}
 use Rattle.buffer_redux.specs.Buffered.{Buffered}
 use Rattle.buffer_redux.specs.ReadAll.{HandedFront}
-use Rattle.buffer_redux.specs.ReadBehind.{FillsMore, FillsOn}
+use Rattle.buffer_redux.specs.ReadBehind.{FillsOn}
 use Rattle.buffer_redux.specs.ReadUntil.{DropsFirst, FirstAt, Lacks, Passes}
 use Rattle.buffer_redux.specs.Sink.{HandsFirst, HandsUntil, IsLawful, SinkRules}
 use Rattle.buffer_redux.specs.UntilLaws.{lacking_through}
-use Rattle.buffer_redux.proofs.LineSteps.{going_on}
+use Rattle.buffer_redux.proofs.LineSteps.{FillsMore, going_on}
 use Rattle.buffer_redux.proofs.ReadAll.{front_joins}
 use Rattle.buffer_redux.proofs.Retrying.{retried_dry}
 use Rattle.buffer_redux.proofs.Searching.{first_through, through}
@@ -112,14 +112,14 @@ module _ {S P K : Type 0} (remaining : S → Option (List ℕ)) (rules : ReadRul
       took = before.took;
       front = front_filled remaining rules byte s m before.handed before.passes (going_on remaining rules sink.leaves) (Err e) t
           (leaves, f);
-      ends = inl (inl (passes_and_fills remaining rules byte s m before.handed before.passes (Err e) t (leaves, f)));
+      ends = inl (passes_and_fills remaining rules byte s m before.handed before.passes (Err e) t (leaves, f));
     }
     ends_failed e t leaves plain (inr ended) = record {
       handed = before.handed;
       took = before.took;
       front = front_filled remaining rules byte s m before.handed before.passes (going_on remaining rules sink.leaves) (Ok tt) t
           (leaves, ended.1);
-      ends = inr (record {
+      ends = inr (inr (record {
         fills = record { last = m; passes = before.passes; fill = (leaves, ended.1) };
         behind = sym ended.3;
         dry = ended.4;
@@ -127,7 +127,7 @@ module _ {S P K : Type 0} (remaining : S → Option (List ℕ)) (rules : ReadRul
         part = subst sink.leaves (sym ended.3) leaves;
         plain = subst (Lacks byte) (sym ended.3) plain;
         kind = ended.0;
-      });
+      }));
     }
 
     -- it showed nothing, and nothing is left
@@ -152,7 +152,7 @@ module _ {S P K : Type 0} (remaining : S → Option (List ℕ)) (rules : ReadRul
       handed = before.handed;
       took = subst (λ x. sink.takes k x u) (append-nil before.handed) (law.joins k l u before.handed [] before.took h.1);
       front = before.passes.front;
-      ends = inl (inr (before.passes, subst (λ x. sink.refuses u x e) all h.2));
+      ends = inr (inl (before.passes, subst (λ x. sink.refuses u x e) all h.2));
     })
 
     -- the bytes up to the byte, with it, are handed to the sink

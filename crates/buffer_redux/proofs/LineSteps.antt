@@ -1,36 +1,62 @@
 -- Reads past the policy, behind what is buffered.
-use Rattle.std.proofs.Common.{◌≡◌, ℕ, zero, suc, ◌<◌, ◌≤◌, List, [], ◌∷◌, ◌++◌, length, take, Result, Ok, Err}
+use Rattle.std.proofs.Common.{◌≡◌, ℕ, zero, suc, ◌*◌, ◌<◌, ◌≤◌, List, [], ◌∷◌, ◌++◌, length, take, Result, Ok, Err}
 use Rattle.std.proofs.Common.{Option, sym, ap, ◌∙◌, inl, inr, arith, append-nil, length-append}
 use Rattle.std.proofs.Common.{length-take-le}
-use Rattle.std.specs.Prelude.{◌⊎◌}
+use Rattle.std.specs.Prelude.{◌⊎◌, MatchResult}
 use Rattle.std.proofs.lemmas.Bool.{cases_lt}
 use Rattle.std.specs.IoError.{error_kind}
 use Rattle.std.specs.declared.io.Error.{Error}
 use Rattle.std.specs.declared.io.ErrorKind.TheVariants.{InvalidData}
+use Rattle.redux_buffer.specs.GrowError.{GrowthFailed}
 use Rattle.redux_buffer.specs.Faults.{OnlyInterrupts-same}
 use Rattle.redux_buffer.specs.Retried.{InterruptedSteps, Retried}
 use Rattle.redux_buffer.specs.Transfer.{ReadsOnce}
 use Rattle.redux_buffer.specs.StreamLog.{zero_of_none}
 use Rattle.buffer_redux.specs.Policy.{ReadRules}
-use Rattle.buffer_redux.specs.Buffered.{Buffered}
+use Rattle.redux_buffer.specs.Block.{usable}
+use Rattle.buffer_redux.specs.Buffered.{Buffered, with_block}
 use Rattle.buffer_redux.specs.BufReader.{RanDry, ReadsInOrder, ReadsIntoBuf}
 use Rattle.buffer_redux.specs.FillRetried.{FillRetried}
-use Rattle.buffer_redux.specs.ReadBehind.{BehindEnded, FillsMore, FillsOn, MakesSpace, ReadsBehind}
+use Rattle.buffer_redux.specs.ReadBehind.{FillsOn, FillsOrReads, ReadsBehind}
 use Rattle.buffer_redux.specs.Sparing.{Spared}
+use Rattle.buffer_redux.specs.ReadAll.{HandedFront}
 use Rattle.buffer_redux.proofs.ReadAll.{front_joins}
 use Rattle.buffer_redux.proofs.Retrying.{HandsNothing, one_interrupt, refilling, retrying}
+
+-- space was made behind what is buffered, where bytes can be written now
+pub record SpaceMade {S P : Type 0} (remaining : S → Option (List ℕ)) (rules : ReadRules P) (s t : Buffered S P)
+    : Type 0 where
+  pub front : HandedFront remaining rules s [] t
+  pub room : 0 < usable t.block
+  pub bytes : t.block.bytes ≡ s.block.bytes
+  pub others : t ≡ with_block s t.block
+  pub capacity : 2 * length s.block.bytes ≤ s.block.capacity → t.block.capacity ≡ s.block.capacity
+
+-- a call went on, by more bytes behind those that are buffered; or that failed; or the stream ended behind them
+abbrev pub FillsMore : {S P A : Type 0} → (S → Option (List ℕ)) → ReadRules P → Buffered S P → Result A Error
+    → Buffered S P → Type 0
+FillsMore remaining rules s (Ok a) t = FillsOrReads remaining rules s (Ok tt) t
+    × (0 < length s.block.bytes → length s.block.bytes < length t.block.bytes)
+FillsMore remaining rules s (Err e) t = FillsOrReads remaining rules s (Err e) t
+    ⊎ ((error_kind e ≡ InvalidData) × FillsOrReads remaining rules s (Ok tt) t × (0 < length s.block.bytes)
+    × (t.block.bytes ≡ s.block.bytes) × RanDry s t)
 
 module _ {S P : Type 0} (remaining : S → Option (List ℕ)) (rules : ReadRules P) where
   -- one read, for which space was made
   module _ (s r : Buffered S P) (answer : Result ℕ Error) (t : Buffered S P)
-      (space : MakesSpace {A = Unit {0}} remaining rules s (Ok tt) r) (reads : ReadsIntoBuf remaining r answer t)
+      (space : SpaceMade remaining rules s r) (reads : ReadsIntoBuf remaining r answer t)
       (order : ReadsInOrder r [] t) (spared : (keep : ℕ) → Spared keep r t) where
     once : ReadsOnce r.block r.log answer t.block t.log
-    once = reads.read.read space.1
+    once = reads.read.read space.room
 
-    read_so : {A : Type 0} (end : Result A Error) → BehindEnded s end t → ReadsBehind remaining rules s end t
+    read_so : {A : Type 0} (end : Result A Error)
+        → MatchResult end (λ _. (t.log.reads.faults ≡ s.log.reads.faults)
+        × ((length s.block.bytes < length t.block.bytes) ⊎ ((t.block.bytes ≡ s.block.bytes) × RanDry s t)))
+        (λ e. (t.block.bytes ≡ s.block.bytes)
+        × ((t.log.reads.faults ≡ s.log.reads.faults ++ e ∷ []) ⊎ (GrowthFailed 1 s.block e × (t ≡ s))))
+        → ReadsBehind remaining rules s end t
     read_so end ended = record {
-      front = front_joins remaining rules s r t [] [] space.0 (record {
+      front = front_joins remaining rules s r t [] [] space.front (record {
         in_order = order;
         keeps = record {
           known = reads.known;
@@ -44,28 +70,28 @@ module _ {S P : Type 0} (remaining : S → Option (List ℕ)) (rules : ReadRules
         };
       });
       ended = ended;
-      asks = omega (arith, ap (λ l. l.reads.asks) once.told, ap (λ l. l.reads.asks) space.3);
-      policy = reads.policy ∙ space.4;
-      capacity = λ few. once.added.capacity ∙ space.5 few;
+      asks = omega (arith, ap (λ l. l.reads.asks) once.told, ap (λ x. x.log.reads.asks) space.others);
+      policy = reads.policy ∙ ap (λ x. x.policy) space.others;
+      capacity = λ few. once.added.capacity ∙ space.capacity few;
     }
 
   pub behind_failed : (s r : Buffered S P) (e : Error) (t : Buffered S P)
-      → MakesSpace {A = Unit {0}} remaining rules s (Ok tt) r → ReadsIntoBuf remaining r (Err e) t → ReadsInOrder r [] t
+      → SpaceMade remaining rules s r → ReadsIntoBuf remaining r (Err e) t → ReadsInOrder r [] t
       → ((keep : ℕ) → Spared keep r t) → ReadsBehind {A = Unit {0}} remaining rules s (Err e) t
   behind_failed s r e t space reads order spared =
       let one = once s r (Err e) t space reads order spared in
       read_so s r (Err e) t space reads order spared (Err e) (
-        one.added.bytes ∙ append-nil r.block.bytes ∙ space.2,
-        inl (ap (λ l. l.reads.faults) one.told ∙ ap (λ l. l.reads.faults ++ e ∷ []) space.3),
+        one.added.bytes ∙ append-nil r.block.bytes ∙ space.bytes,
+        inl (ap (λ l. l.reads.faults) one.told ∙ ap (λ x. x.log.reads.faults ++ e ∷ []) space.others),
       )
 
   pub behind_read : (s r : Buffered S P) (n : ℕ) (t : Buffered S P)
-      → MakesSpace {A = Unit {0}} remaining rules s (Ok tt) r → ReadsIntoBuf remaining r (Ok n) t → ReadsInOrder r [] t
+      → SpaceMade remaining rules s r → ReadsIntoBuf remaining r (Ok n) t → ReadsInOrder r [] t
       → ((keep : ℕ) → Spared keep r t) → ReadsBehind {A = Unit {0}} remaining rules s (Ok tt) t
   behind_read s r n t space reads order spared =
       let one = once s r (Ok n) t space reads order spared in
       read_so s r (Ok n) t space reads order spared (Ok tt) (
-        ap (λ l. l.reads.faults) one.told ∙ ap (λ l. l.reads.faults) space.3,
+        ap (λ l. l.reads.faults) one.told ∙ ap (λ x. x.log.reads.faults) space.others,
         elim (cases_lt 0 n) [
           | inl some ↦ inl (omega (
             arith,
@@ -73,16 +99,16 @@ module _ {S P : Type 0} (remaining : S → Option (List ℕ)) (rules : ReadRules
             ap length one.added.bytes,
             length-append r.block.bytes (take n one.out),
             length-take-le n one.out one.bound.0,
-            ap length space.2,
+            ap length space.bytes,
           ))
           | inr none ↦
               let zero : n ≡ 0 = omega (arith, none) in inr (
-                one.added.bytes ∙ ap (λ k. r.block.bytes ++ take k one.out) zero ∙ append-nil r.block.bytes ∙ space.2,
+                one.added.bytes ∙ ap (λ k. r.block.bytes ++ take k one.out) zero ∙ append-nil r.block.bytes ∙ space.bytes,
                 omega (
                   arith,
                   ap (λ l. l.reads.zero_reads) one.told,
-                  zero_of_none n one.out r.log.reads.zero_reads zero (omega (arith, one.offered, space.1)),
-                  ap (λ l. l.reads.zero_reads) space.3,
+                  zero_of_none n one.out r.log.reads.zero_reads zero (omega (arith, one.offered, space.room)),
+                  ap (λ x. x.log.reads.zero_reads) space.others,
                 ),
               )
         ],

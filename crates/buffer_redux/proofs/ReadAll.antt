@@ -1,6 +1,5 @@
 -- A read of a whole slice, read after read.
 use Rattle.std.proofs.Common.{◌≡◌, ◌≢◌, ℕ, ◌+◌, ◌-◌, ◌<◌, ◌≤◌, List, [], ◌++◌, length, take, drop, Result, Ok, Err, IfErr, OnOk, Option, refl, sym, ap, subst, ◌∙◌, arith, le_refl, le_trans, inl, inr, append-nil, take_all, take-add, take-append-drop, drop_at, length-append, length-drop, length-take-le}
-use Rattle.std.specs.Prelude.{MatchResult, ◌⊎◌}
 use Rattle.std.proofs.lemmas.List.{drop_all}
 use Rattle.std.proofs.lemmas.Slice.{take-put_mid_below}
 use borrow.Rule.Slice.PartMut.{put_mid, post_of}
@@ -14,12 +13,12 @@ use Rattle.redux_buffer.specs.LogGrows.{ReadLogGrows-none, ReadLogGrows-joins}
 use Rattle.redux_buffer.specs.StreamLog.{portion}
 use Rattle.buffer_redux.specs.Policy.{ReadRules, ClaimsToSpare}
 use Rattle.buffer_redux.specs.AllBytes.{GoesBy, EndsBy, GaveUp}
-use Rattle.buffer_redux.specs.Buffered.{Buffered, GoesPast, StaysInside}
-use Rattle.buffer_redux.specs.BufReader.{ReadsInOrder, ReaderKeeps, ReadErrorCaused, EmptyReadCaused, RanDry, Reads, ReadsBuffered}
+use Rattle.buffer_redux.specs.Buffered.{Buffered}
+use Rattle.buffer_redux.specs.BufReader.{ReadsInOrder, ReaderKeeps, ReadErrorCaused, EmptyReadCaused, RanDry, Reads}
 use Rattle.buffer_redux.specs.ReaderLaws.{ReadsInOrder-none, ReadsInOrder-joins, InnerGives-none, InnerGives-joins, WantsBytes, remaining_gives}
 use Rattle.buffer_redux.specs.Remaining.{reader_remaining}
 use Rattle.buffer_redux.specs.Sparing.{Spared-none, Spared-joins}
-use Rattle.buffer_redux.specs.ReadAll.{ReadTurns, HandedFront, HandedBeginning, LastReadFailed, ReadsExactly, OneRead}
+use Rattle.buffer_redux.specs.ReadAll.{ReadTurns, HandedFront, ReadsExactly, OneRead}
 use Rattle.buffer_redux.proofs.WriteAll.{one_more, none_taken, not_interrupted}
 
 -- how many bytes a turn took that was gone on from
@@ -122,16 +121,14 @@ module _ {S P : Type 0} (remaining : S → Option (List ℕ)) (rules : ReadRules
               handed,
               m,
               before.run,
-              record {
-                fewer = fewer;
-                slice = slice;
-                offered = offered;
-                answer = answer;
-                read = one;
-                further = n;
-                goes = goes;
-                adds = sym same;
-              },
+              fewer,
+              slice,
+              offered,
+              answer,
+              one,
+              n,
+              goes,
+              sym same,
             );
             front = subst (λ l. HandedFront remaining rules s l t) same
                 (front_joins s m t handed (portion slice answer) before.front one.front);
@@ -151,23 +148,13 @@ module _ {S P : Type 0} (remaining : S → Option (List ℕ)) (rules : ReadRules
             front = rw same (subst (λ l. HandedFront remaining rules s l t)
                 (ap (λ l. handed ++ l) (none_taken UnexpectedEof answer e ends slice) ∙ append-nil handed)
                 (front_joins s m t handed (portion slice answer) before.front one.front));
-            ended = inl (record {
-              some = omega (arith, fewer, count, long);
-              slice = slice;
-              offered = omega (arith, offered, count, long);
-              answer = answer;
-              ends = ends;
-              read = one;
-            });
+            ended = inl (omega (arith, fewer, count, long), slice, omega (arith, offered, count, long), answer, one, ends);
           }
 
     module _ (out : List ℕ) (at : ℕ) (long : length out ≡ room) (within : at ≤ length out)
         (same : take at out ≡ handed) where
-      ended : (answer : Result (Unit {0}) Error)
-          → MatchResult answer (λ _. (at ≡ length out) × (m ≡ m))
-          (λ e. LastReadFailed remaining rules (length out - at) e m m ⊎ (GaveUp turns at (length out) e × (m ≡ m)))
-          → ReadsExactly remaining rules s answer out m
-      ended answer is = record {
+      pub ended_all : length out ≤ at → ReadsExactly remaining rules s (Ok tt) out m
+      ended_all enough = record {
         turns = turns;
         count = at;
         within = within;
@@ -175,14 +162,20 @@ module _ {S P : Type 0} (remaining : S → Option (List ℕ)) (rules : ReadRules
         run = rw (long, same) before.run;
         first = rw same before.front;
         front = rw same before.front;
-        ended = is;
+        ended = (omega (arith, enough, within), refl);
       }
 
-      pub ended_all : length out ≤ at → ReadsExactly remaining rules s (Ok tt) out m
-      ended_all enough = ended (Ok tt) (omega (arith, enough, within), refl)
-
       pub ended_late : (e : Error) → GaveUp turns at (length out) e → ReadsExactly remaining rules s (Err e) out m
-      ended_late e late = ended (Err e) (inr (late, refl))
+      ended_late e late = record {
+        turns = turns;
+        count = at;
+        within = within;
+        last = m;
+        run = rw (long, same) before.run;
+        first = rw same before.front;
+        front = rw same before.front;
+        ended = inr (late, refl);
+      }
 
   -- no byte, and the first read into a slice that has some
   pub all_none : (s : Buffered S P) → IsBlock s.block → ReadsExactly remaining rules s (Ok tt) [] s
@@ -243,11 +236,7 @@ module _ {S P : Type 0} (remaining : S → Option (List ℕ)) (rules : ReadRules
   one_read s out answer out' t same whole bound steps in_order keeps caused empty ran_dry = record {
     whole = whole;
     bound = bound;
-    steps = record {
-      past = λ past. (out', refl, steps.direct (subst (GoesPast s.block) same past));
-      inside = λ inside. subst (λ k. ReadsBuffered rules s k answer t) (sym same)
-          (steps.buffered (subst (StaysInside s.block) same inside));
-    };
+    steps = (out, steps);
     front = record { in_order = in_order; keeps = keeps };
     caused = caused;
     empty = λ is some. empty is (omega (arith, some, same));
@@ -257,13 +246,13 @@ module _ {S P : Type 0} (remaining : S → Option (List ℕ)) (rules : ReadRules
   -- all that `read_exact` promises, as its clauses say it
   module _ (s : Buffered S P) (out : List ℕ) (t : Buffered S P) where
     beginning : {answer : Result (Unit {0}) Error} → ReadsExactly remaining rules s answer out t
-        → HandedBeginning out s t
-    beginning r = record { count = r.count; within = r.within; in_order = r.front.in_order }
+        → (count : ℕ) × (count ≤ length out) × ReadsInOrder s (take count out) t
+    beginning r = (r.count, r.within, r.front.in_order)
 
     pub exact_says : (answer : Result (Unit {0}) Error) → ReadsExactly remaining rules s answer out t → record {
       bytes : OnOk answer (Consumes (reader_remaining remaining rules s) (reader_remaining remaining rules t) out);
       in_order : OnOk answer (ReadsInOrder s out t);
-      beginning : HandedBeginning out s t;
+      beginning : (count : ℕ) × (count ≤ length out) × ReadsInOrder s (take count out) t;
       retried : IfErr answer (λ e. error_kind e ≢ Interrupted);
       whole : IsBlock t.block;
       steps : ReadsExactly remaining rules s answer out t;
@@ -285,7 +274,7 @@ module _ {S P : Type 0} (remaining : S → Option (List ℕ)) (rules : ReadRules
       in_order = tt;
       beginning = beginning r;
       retried = elim r.ended [
-        | inl failed ↦ not_interrupted UnexpectedEof (λ odd. cc) failed.answer e failed.ends
+        | inl failed ↦ not_interrupted UnexpectedEof (λ odd. cc) failed.3 e failed.5
         | inr late ↦ λ odd. (let two = sym late.0.timed_out ∙ odd in cc)
       ];
       whole = r.front.keeps.whole;

@@ -1,5 +1,5 @@
 -- What follows from the fill of a read and from what is handed out after it.
-use Rattle.std.proofs.Common.{◌≡◌, ℕ, zero, suc, ◌<◌, ◌≤◌, List, [], length, min, take, drop, Bool, true, false, Result, Ok, Err, Option, refl, sym, ap, subst, ◌∙◌, arith, inl, inr, take_at, drop_at, length-take-le, length-append, length-drop}
+use Rattle.std.proofs.Common.{◌≡◌, ℕ, zero, suc, ◌<◌, ◌≤◌, List, [], length, min, take, drop, Bool, true, false, Result, Ok, Err, MatchResult, Option, refl, sym, ap, subst, ◌∙◌, arith, inl, inr, take_at, drop_at, length-take-le, length-append, length-drop}
 use Rattle.std.proofs.lemmas.List.{nil_from_length}
 use Rattle.std.specs.Io.{ReadsAtMost}
 use Rattle.std.specs.Io.KnownBytes.{IsAtEnd, ReadConsumes}
@@ -10,25 +10,26 @@ use Rattle.redux_buffer.specs.Transfer.{ReadsFrom}
 use Rattle.buffer_redux.specs.declared.policy.DoRead.{DoRead}
 use Rattle.buffer_redux.specs.Policy.{ReadRules, read_now}
 use Rattle.buffer_redux.specs.Buffered.{Buffered, StaysInside}
-use Rattle.buffer_redux.specs.Fill.{Turn, Turns, Filled}
-use Rattle.buffer_redux.specs.BufReader.{ReadsInOrder, ReadErrorCaused, EmptyReadCaused, RanDry, InnerGives, ReaderConsumes, ReaderKeeps, Fills, Reads, ReadsBuffered, ReadsIntoBuf, LeavesRest}
+use Rattle.buffer_redux.specs.Fill.{Ordered, Turns, Filled}
+use Rattle.buffer_redux.specs.BufReader.{ReadsInOrder, ReadErrorCaused, EmptyReadCaused, RanDry, InnerGives, ReaderConsumes, ReaderKeeps, Fills, Reads, ReadsBuffered, ReadsIntoBuf}
 use Rattle.buffer_redux.specs.ReaderLaws.{ReadsInOrder-joins, InnerGives-same, InnerGives-joins, Fills-empty, WantsBytes, Keeps-of, remaining_gives}
 use Rattle.buffer_redux.specs.Remaining.{reader_remaining}
-use Rattle.buffer_redux.specs.ReadInside.{AskedRead, FillDone, ReadThrough, ReadsInside}
+use Rattle.buffer_redux.specs.ReadInside.{AskedRead, FillDone, ReadsInside}
 use Rattle.buffer_redux.specs.ReadAll.{OneRead}
 use Rattle.buffer_redux.proofs.ReadAll.{keeps_joins, one_read}
 use Rattle.buffer_redux.proofs.FillFacts.{turns_facts, empty_read, inside_room}
 use Rattle.buffer_redux.proofs.FillClaims.{fills}
 use Rattle.buffer_redux.proofs.KnownAhead.{err_counts_none, remaining_ends}
-use Rattle.buffer_redux.proofs.Turning.{declined_made, full_made, turn_made, dry_made, faulted_made}
+use Rattle.buffer_redux.proofs.Turning.{declined_made, full_made, ordered_made}
 
 -- a turn before others
-turn_first : {S P : Type 0} (rules : ReadRules P) (k : ℕ) (s m t : Buffered S P) → Turn rules s m → Turns rules k m t
+turn_first : {S P : Type 0} (rules : ReadRules P) (k : ℕ) (s m t : Buffered S P) → Turns rules 1 s m → Turns rules k m t
     → Turns rules (suc k) s t
-turn_first rules zero s m t turn none = (s, refl, subst (Turn rules s) none turn)
-turn_first rules (suc k) s m t turn turns = (turns.0, turn_first rules k s m turns.0 turn turns.1, turns.2)
+turn_first rules zero s m t turn none = subst (Turns rules 1 s) none turn
+turn_first rules (suc k) s m t turn (v, turns, count, some, last) =
+    (v, turn_first rules k s m v turn turns, count, some, last)
 
-filled_after : {S P A : Type 0} (rules : ReadRules P) (s m t : Buffered S P) (answer : Result A Error) → Turn rules s m
+filled_after : {S P A : Type 0} (rules : ReadRules P) (s m t : Buffered S P) (answer : Result A Error) → Turns rules 1 s m
     → Filled rules m answer t → Filled rules s answer t
 filled_after rules s m t answer turn f = record {
   count = suc f.count;
@@ -94,7 +95,7 @@ module _ {S P : Type 0} (remaining : S → Option (List ℕ)) (rules : ReadRules
         count = 0;
         last = s;
         turns = refl;
-        ends = inr (faulted_made rules s t (record { 0 = true }) m.policy m.block asked.asked refl room r.policy e
+        ends = inr (ordered_made rules s t (record { 0 = true }) m.policy m.block asked.asked refl room r.policy (Err e)
             (since (Err e) r.read));
       };
       known = known_since r.known;
@@ -115,8 +116,8 @@ module _ {S P : Type 0} (remaining : S → Option (List ℕ)) (rules : ReadRules
         count = 0;
         last = s;
         turns = refl;
-        ends = inr (inr (dry_made rules s t (record { 0 = true }) m.policy m.block asked.asked refl room r.policy n
-            (since (Ok n) r.read) none));
+        ends = inr (inr (subst (λ k. Ordered rules (Ok k) s t) none (ordered_made rules s t (record { 0 = true }) m.policy
+            m.block asked.asked refl room r.policy (Ok n) (since (Ok n) r.read))));
       };
       known = known_since r.known;
       ended = λ rose. ended;
@@ -128,9 +129,15 @@ module _ {S P : Type 0} (remaining : S → Option (List ℕ)) (rules : ReadRules
         → (answer : Result A Error) (u : Buffered S P) → FillDone remaining rules t answer u
         → FillDone remaining rules s answer u
     more_did n some r answer u f =
-        let turn : Turn rules s t = turn_made rules s t (record { 0 = true }) m.policy m.block asked.asked refl room
-        r.policy n (since (Ok n) r.read) some in
-        let facts = turns_facts rules 1 s t (s, refl, turn) in
+        let turn : Turns rules 1 s t = (
+          s,
+          refl,
+          n,
+          omega (arith, some),
+          ordered_made rules s t (record { 0 = true })
+              m.policy m.block asked.asked refl room r.policy (Ok n) (since (Ok n) r.read),
+        ) in
+        let facts = turns_facts rules 1 s t turn in
         record {
           filled = filled_after rules s t u answer turn f.filled;
           known = InnerGives-joins remaining s t u (known_since r.known) f.known;
@@ -169,46 +176,46 @@ ReadSays remaining rules s out answer out' t = record {
 }
 
 module _ {S P : Type 0} (remaining : S → Option (List ℕ)) (rules : ReadRules P) (s : Buffered S P) (out : List ℕ) where
-  module _ (n : ℕ) (out' : List ℕ) (t : Buffered S P) (r : ReadThrough remaining rules s out n out' t)
+  module _ (n : ℕ) (out' : List ℕ) (t : Buffered S P) (r : ReadsInside remaining rules s out (Ok n) out' t)
       (inside : StaysInside s.block (length out)) where
-    filled : Fills rules s (Ok n) r.filled
-    filled = fills rules s (Ok n) r.filled r.fill.whole r.fill.filled
+    filled : Fills rules s (Ok n) r.0
+    filled = fills rules s (Ok n) r.0 r.1.whole r.1.filled
 
     -- where nothing is handed out, the fill showed nothing, and there was capacity
-    showed_nothing : n ≡ 0 → 0 < length out → length r.filled.block.bytes ≡ 0
-    showed_nothing none some = omega (arith, r.hands.count, none, some)
+    showed_nothing : n ≡ 0 → 0 < length out → length r.0.block.bytes ≡ 0
+    showed_nothing none some = omega (arith, r.2.count, none, some)
 
-    had_capacity : length r.filled.block.bytes ≡ 0 → 0 < s.block.capacity
-    had_capacity none = inside_room s r.filled (length out) inside filled.in_order none
+    had_capacity : length r.0.block.bytes ≡ 0 → 0 < s.block.capacity
+    had_capacity none = inside_room s r.0 (length out) inside filled.in_order none
 
-    front_length : length (take n r.filled.block.bytes) ≡ n
-    front_length = length-take-le n r.filled.block.bytes (omega (arith, r.hands.count))
+    front_length : length (take n r.0.block.bytes) ≡ n
+    front_length = length-take-le n r.0.block.bytes (omega (arith, r.2.count))
 
-    front_same : take n r.filled.block.bytes ≡ take n out'
-    front_same = sym (ap (take n) r.hands.copied ∙ take_at (take n r.filled.block.bytes) (drop n out) n front_length)
+    front_same : take n r.0.block.bytes ≡ take n out'
+    front_same = sym (ap (take n) r.2.copied ∙ take_at (take n r.0.block.bytes) (drop n out) n front_length)
 
     same_length : length out' ≡ length out
     same_length = omega (
       arith,
-      ap length r.hands.copied,
-      length-append (take n r.filled.block.bytes) (drop n out),
+      ap length r.2.copied,
+      length-append (take n r.0.block.bytes) (drop n out),
       front_length,
       length-drop n out,
-      r.hands.count,
+      r.2.count,
     )
 
     inside_order : ReadsInOrder s (take n out') t
-    inside_order = ReadsInOrder-joins s r.filled t [] (take n out') filled.in_order
-        (subst (λ l. ReadsInOrder r.filled l t) front_same r.hands.in_order)
+    inside_order = ReadsInOrder-joins s r.0 t [] (take n out') filled.in_order
+        (subst (λ l. ReadsInOrder r.0 l t) front_same r.2.in_order)
 
     inside_keeps : ReaderKeeps remaining rules s t
-    inside_keeps = keeps_joins remaining rules s r.filled t (filled_keeps remaining rules s (Ok n) r.filled filled r.fill)
-        r.hands.keeps
+    inside_keeps = keeps_joins remaining rules s r.0 t (filled_keeps remaining rules s (Ok n) r.0 filled r.1)
+        r.2.keeps
 
-    inside_dry : n ≡ 0 → 0 < length out → WantsBytes (rules.claims s.policy) → RanDry s r.filled
+    inside_dry : n ≡ 0 → 0 < length out → WantsBytes (rules.claims s.policy) → RanDry s r.0
     inside_dry is some wants =
         let none = showed_nothing is some in
-        Fills-empty rules s n r.filled filled wants (had_capacity none) none
+        Fills-empty rules s n r.0 filled wants (had_capacity none) none
 
     inside_bytes : ReadConsumes {E = Error} (reader_remaining remaining rules s) (reader_remaining remaining rules t)
         (Ok n) out'
@@ -218,22 +225,25 @@ module _ {S P : Type 0} (remaining : S → Option (List ℕ)) (rules : ReadRules
       λ none some.
           let empty = showed_nothing none (omega (arith, some, same_length)) in
           remaining_ends remaining rules t
-          (λ wants room. subst (λ i. IsAtEnd (remaining i)) (sym r.hands.inner)
-          (r.fill.ended (inside_dry none (omega (arith, some, same_length)) (subst WantsBytes inside_keeps.claims wants))))
+          (λ wants room. subst (λ i. IsAtEnd (remaining i)) (sym r.2.inner)
+          (r.1.ended (inside_dry none (omega (arith, some, same_length)) (subst WantsBytes inside_keeps.claims wants))))
           (nil_from_length t.block.bytes
           (omega (
             arith,
-            ap length r.hands.consumed.told_policy.law.bytes,
-            ap length r.hands.consumed.dropped.bytes,
-            length-drop (min n (length r.filled.block.bytes)) r.filled.block.bytes,
+            ap length r.2.consumed.told_policy.law.bytes,
+            ap length r.2.consumed.dropped.bytes,
+            length-drop (min n (length r.0.block.bytes)) r.0.block.bytes,
             empty,
           ))),
     )
 
   -- a read inside goes through the buffer alone
-  through_buffer : {answer : Result ℕ Error} {out' : List ℕ} {t : Buffered S P} → StaysInside s.block (length out)
-      → ReadsBuffered rules s (length out) answer t → LeavesRest out answer out' → Reads rules s out answer out' t
-  through_buffer inside buffered rest = record {
+  through_buffer : {answer : Result ℕ Error} {out' : List ℕ} {t : Buffered S P} → length out' ≡ length out
+      → StaysInside s.block (length out)
+      → ReadsBuffered rules s (length out) answer t → MatchResult answer (λ n. drop n out' ≡ drop n out) (λ _. out' ≡ out)
+      → Reads rules s out answer out' t
+  through_buffer size inside buffered rest = record {
+    size = size;
     direct = λ past. absurd (elim inside [ inl some ↦ omega (arith, past.0, some) | inr less ↦ omega (arith, past.1, less) ]);
     buffered = λ _. buffered;
     rest = λ _. rest;
@@ -243,27 +253,27 @@ module _ {S P : Type 0} (remaining : S → Option (List ℕ)) (rules : ReadRules
       → StaysInside s.block (length out) → ReadSays remaining rules s out answer out' t
   says (Ok n) out' t r inside =
       let f = filled n out' t r inside in
-      let short : n ≤ length out' = omega (arith, r.hands.count, same_length n out' t r inside) in
+      let short : n ≤ length out' = omega (arith, r.2.count, same_length n out' t r inside) in
       record {
         bound = (short, sym (length-take-le n out' short));
         bytes = inside_bytes n out' t r inside;
         in_order = inside_order n out' t r inside;
-        caused = ap (λ l. l.reads.faults) r.hands.consumed.told ∙ f.caused;
+        caused = ap (λ l. l.reads.faults) r.2.consumed.told ∙ f.caused;
         empty = λ is some.
             let none = showed_nothing n out' t r inside (cc) some in
             let room = had_capacity n out' t r inside none in
-            empty_read rules s r.filled t (f.empty refl none) (omega (arith, room, f.capacity))
-            (subst (λ k. ReaderConsumes rules k r.filled t) (cc) r.hands.consumed);
+            empty_read rules s r.0 t (f.empty refl none) (omega (arith, room, f.capacity))
+            (subst (λ k. ReaderConsumes rules k r.0 t) (cc) r.2.consumed);
         ran_dry = λ is some wants.
             let dry = inside_dry n out' t r inside (cc) some wants in
-            omega (arith, dry, ap (λ l. l.reads.zero_reads) r.hands.consumed.told);
-        steps = through_buffer inside (record {
-          filled = r.filled;
+            omega (arith, dry, ap (λ l. l.reads.zero_reads) r.2.consumed.told);
+        steps = through_buffer (same_length n out' t r inside) inside (record {
+          filled = r.0;
           fills = f;
-          handed = (omega (arith, r.hands.count), r.hands.consumed);
+          handed = (omega (arith, r.2.count), r.2.consumed);
         })
-            (ap (drop n) r.hands.copied
-            ∙ drop_at (take n r.filled.block.bytes) (drop n out) n (front_length n out' t r inside));
+            (ap (drop n) r.2.copied
+            ∙ drop_at (take n r.0.block.bytes) (drop n out) n (front_length n out' t r inside));
         keeps = inside_keeps n out' t r inside;
       }
   says (Err e) out' t r inside =
@@ -276,7 +286,7 @@ module _ {S P : Type 0} (remaining : S → Option (List ℕ)) (rules : ReadRules
         caused = f.caused;
         empty = λ is some. cc;
         ran_dry = λ is some wants. cc;
-        steps = through_buffer inside (record { filled = t; fills = f; handed = refl }) r.1;
+        steps = through_buffer (ap length r.1) inside (record { filled = t; fills = f; handed = refl }) r.1;
         keeps = filled_keeps remaining rules s (Err e) t f r.0;
       }
 

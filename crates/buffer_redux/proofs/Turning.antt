@@ -1,12 +1,12 @@
 -- Each way through one turn of filling.
-use Rattle.std.proofs.Common.{◌≡◌, ℕ, ◌<◌, Bool, true, false, Ok, Err, sym, subst, arith}
+use Rattle.std.proofs.Common.{◌≡◌, ℕ, ◌<◌, Bool, true, false, Result, Ok, sym, subst}
 use Rattle.std.specs.declared.io.Error.{Error}
 use Rattle.redux_buffer.specs.Block.{Block, usable}
 use Rattle.redux_buffer.specs.Transfer.{ReadsFrom}
 use Rattle.buffer_redux.specs.declared.policy.DoRead.{DoRead}
-use Rattle.buffer_redux.specs.Policy.{ReadRules, BeforeRead}
+use Rattle.buffer_redux.specs.Policy.{ReadRules, BeforeRead, no_read, read_now}
 use Rattle.buffer_redux.specs.Buffered.{Buffered}
-use Rattle.buffer_redux.specs.Fill.{Ordered, Turn, Declined, Full, Dry, Faulted}
+use Rattle.buffer_redux.specs.Fill.{Answered, Ordered}
 
 module _ {S P : Type 0} (rules : ReadRules P) (s : Buffered S P) where
   -- the answer as the rules name it
@@ -14,46 +14,22 @@ module _ {S P : Type 0} (rules : ReadRules P) (s : Buffered S P) where
       → d.0 ≡ v → BeforeRead rules s.policy s.block (Ok (record { 0 = v })) p b
   asked_as d v p b a e = subst (λ w. BeforeRead rules s.policy s.block (Ok (record { 0 = w })) p b) e a
 
-  ordered : (d : DoRead) (p p' : P) (b : Block) → BeforeRead rules s.policy s.block (Ok d) p b → d.0 ≡ true
-      → 0 < usable b → p' ≡ p → Ordered rules s p' b
-  ordered d p p' b a e room q =
-      subst (λ x. Ordered rules s x b) (sym q) (record { asked = asked_as d true p b a e; room = room })
-
   pub declined_made : (d : DoRead) (t : Buffered S P)
       → BeforeRead rules s.policy s.block (Ok d) t.policy t.block → d.0 ≡ false
-      → t.log ≡ s.log → Declined rules s t
+      → t.log ≡ s.log → Answered rules no_read s t
   declined_made d t a e same = record { asked = asked_as d false t.policy t.block a e; told = same }
 
   pub full_made : (d : DoRead) (t : Buffered S P) → BeforeRead rules s.policy s.block (Ok d) t.policy t.block
-      → d.0 ≡ true → usable t.block ≡ 0 → t.log ≡ s.log → Full rules s t
-  full_made d t a e full same = record {
-    asked = asked_as d true t.policy t.block a e;
-    full = full;
-    told = same;
+      → d.0 ≡ true → usable t.block ≡ 0 → t.log ≡ s.log → (usable t.block ≡ 0) × Answered rules read_now s t
+  full_made d t a e full same = (full, record { asked = asked_as d true t.policy t.block a e; told = same })
+
+  -- the policy ordered a read, and this was its answer
+  pub ordered_made : (t : Buffered S P) (d : DoRead) (p : P) (b : Block) → BeforeRead rules s.policy s.block (Ok d) p b
+      → d.0 ≡ true → 0 < usable b → t.policy ≡ p → (answer : Result ℕ Error) → ReadsFrom b s.log answer t.block t.log
+      → Ordered rules answer s t
+  ordered_made t d p b asked says room same answer read = record {
+    seen = b;
+    asked = subst (λ x. BeforeRead rules s.policy s.block read_now x b) (sym same) (asked_as d true p b asked says);
+    room = room;
+    read = read.read room;
   }
-
-  module _ (t : Buffered S P) (d : DoRead) (p : P) (b : Block)
-      (asked : BeforeRead rules s.policy s.block (Ok d) p b) (yes : d.0 ≡ true) (room : 0 < usable b)
-      (same : t.policy ≡ p) where
-    pub turn_made : (n : ℕ) → ReadsFrom b s.log (Ok n) t.block t.log → (n ≡ 0 → ⊥) → Turn rules s t
-    turn_made n read some = record {
-      seen = b;
-      count = n;
-      ordered = ordered d p t.policy b asked yes room same;
-      some = omega (arith, some);
-      read = read.read room;
-    }
-
-    pub dry_made : (n : ℕ) → ReadsFrom b s.log (Ok n) t.block t.log → n ≡ 0 → Dry rules s t
-    dry_made n read none = record {
-      seen = b;
-      ordered = ordered d p t.policy b asked yes room same;
-      read = (subst (λ k. ReadsFrom b s.log (Ok k) t.block t.log) none read).read room;
-    }
-
-    pub faulted_made : (e : Error) → ReadsFrom b s.log (Err e) t.block t.log → Faulted rules s e t
-    faulted_made e read = record {
-      seen = b;
-      ordered = ordered d p t.policy b asked yes room same;
-      read = read.read room;
-    }

@@ -14,8 +14,9 @@ use Rattle.buffer_redux.specs.Policy.{ReadRules}
 use Rattle.buffer_redux.specs.Buffered.{Buffered}
 use Rattle.buffer_redux.specs.BufReader.{RanDry, ReaderConsumes}
 use Rattle.buffer_redux.specs.ReadAll.{HandedFront}
+use Rattle.buffer_redux.specs.ReadBehind.{FillsOn}
 use Rattle.buffer_redux.specs.ReaderLaws.{ReaderKeeps-along, WantsBytes}
-use Rattle.buffer_redux.specs.ReadUntil.{DropsFirst, EndsUntil, FirstAt, Lacks, Passes, PassesAndFills, PassesToEnd, Reaches, Steps, Stops}
+use Rattle.buffer_redux.specs.ReadUntil.{DropsFirst, EndsIn, EndsUntil, FirstAt, Lacks, Passes, PassesAndFills, PassesToEnd, Steps, Stops}
 use Rattle.buffer_redux.proofs.ReadAll.{front_none, front_joins}
 use Rattle.buffer_redux.proofs.Retrying.{HandsNothing}
 use Rattle.buffer_redux.proofs.Searching.{ends_in, first_through, lacks_none, lacks_both}
@@ -106,21 +107,24 @@ module _ {S P : Type 0} {step : Step (Buffered S P) (Unit {0})} (remaining : S �
 
     -- the bytes up to the byte, with it, are handed out next
     pub reaches : (at : ℕ) (t : Buffered S P) → FirstAt byte at m.block.bytes → DropsFirst rules (at + 1) m t
-        → Reaches rules step byte s (handed ++ take (at + 1) m.block.bytes) t
-    reaches at t first gone = record {
-      ends = ends_in byte at handed m.block.bytes first before.plain;
-      faults = told_only s.log m.log t.log (drops_told rules m t (at + 1) gone) before.faults;
-      steps = steps_consumed t (at + 1) (omega (arith, first.inside)) gone;
-    }
+        → EndsIn byte (handed ++ take (at + 1) m.block.bytes) × OnlyInterrupts s.log.reads.faults t.log.reads.faults
+        × ((count : ℕ) × Steps rules step count s t)
+    reaches at t first gone = (
+      ends_in byte at handed m.block.bytes first before.plain,
+      told_only s.log m.log t.log (drops_told rules m t (at + 1) gone) before.faults,
+      steps_consumed t (at + 1) (omega (arith, first.inside)) gone,
+    )
 
-    -- or the call stops before them, and does nothing
-    pub stopped : (stops : Stops) (at : ℕ) (e : Error) (t : Buffered S P) → FirstAt byte at m.block.bytes → t ≡ m
-        → stops handed e (take (at + 1) m.block.bytes)
-        → HandedFront remaining rules s handed t × EndsUntil {A = ℕ} remaining rules step stops byte s (Err e) handed t
-    stopped stops at e t first same why = subst
-        (λ x. HandedFront remaining rules s handed x × EndsUntil {A = ℕ} remaining rules step stops byte s (Err e) handed x)
-        (sym same)
-        (before.front, inr (before, subst (stops handed e) (first_through byte at m.block.bytes first) why))
+-- or the call stops before them, and does nothing
+pub stopped : {S P : Type 0} {leaves : List ℕ → Type 0} (remaining : S → Option (List ℕ)) (rules : ReadRules P) (byte : ℕ)
+    (s m : Buffered S P) (handed : List ℕ) → Passes remaining rules (FillsOn leaves remaining rules) byte s handed m
+    → (stops : Stops) (at : ℕ) (e : Error) (t : Buffered S P) → FirstAt byte at m.block.bytes → t ≡ m
+    → stops handed e (take (at + 1) m.block.bytes)
+    → HandedFront remaining rules s handed t × EndsUntil {A = ℕ} leaves stops remaining rules byte s (Err e) handed t
+stopped {leaves = leaves} remaining rules byte s m handed before stops at e t first same why = subst
+    (λ x. HandedFront remaining rules s handed x × EndsUntil {A = ℕ} leaves stops remaining rules byte s (Err e) handed x)
+    (sym same)
+    (before.front, inr (inl (before, subst (stops handed e) (first_through byte at m.block.bytes first) why)))
 
 -- how many bytes these are
 pub through_length : (byte at : ℕ) (bytes : List ℕ) → FirstAt byte at bytes → length (take (at + 1) bytes) ≡ at + 1

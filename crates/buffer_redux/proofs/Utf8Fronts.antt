@@ -8,7 +8,7 @@ use Rattle.std.proofs.lemmas.Str.{IsUtf8-append, IsUtf8-nil, IsUtf8-take, IsUtf8
 use Rattle.std.proofs.lemmas.List.{drop_all, get_or_append_left, take_at, take-append-le, drop-append-le}
 use Rattle.std.proofs.lemmas.Bool.Decides.{nat_tests, leb_tells, eqb_tells}
 use lib.Utf8.{scalars}
-use Rattle.buffer_redux.specs.ReadLine.{FrontOf, IsPart, NeverUtf8}
+use Rattle.buffer_redux.specs.ReadLine.{IsPart, NeverUtf8}
 use Rattle.buffer_redux.specs.ReadUntil.{FirstAt}
 use Rattle.buffer_redux.proofs.Searching.{through}
 use Rattle.buffer_redux.proofs.Utf8Parts.{can_finish, ltb_false, ltb_true}
@@ -117,35 +117,37 @@ never_whole line more i size low whole =
     (IsUtf8-take (line ++ more) (i + 1) whole seam)
 
 -- all of the bytes are a text
-pub front_whole : (bytes text : List ℕ) → text ≡ bytes → IsUtf8 bytes → FrontOf bytes text
+pub front_whole : (bytes text : List ℕ) → text ≡ bytes → IsUtf8 bytes
+    → (text ++ drop (length text) bytes ≡ bytes) × IsUtf8 text × IsPart (drop (length text) bytes)
 front_whole bytes text same whole =
-    let none : drop (length text) bytes ≡ [] = drop_all (length text) bytes (omega (arith, ap length same)) in record {
-      equal = ap (λ l. text ++ l) none ∙ append-nil text ∙ same;
-      utf8 = subst IsUtf8 (sym same) whole;
-      part = record {
+    let none : drop (length text) bytes ≡ [] = drop_all (length text) bytes (omega (arith, ap length same)) in (
+      ap (λ l. text ++ l) none ∙ append-nil text ∙ same,
+      subst IsUtf8 (sym same) whole,
+      record {
         few = omega (arith, ap length none);
         bad = λ n some within. absurd (omega (arith, some, within, ap length none));
         may = ([], subst IsUtf8 (sym (append-nil (drop (length text) bytes) ∙ none)) IsUtf8-nil);
-      };
-    }
+      },
+    )
 
 -- all of the bytes but a part of a character are a text
 pub front_part : (bytes text : List ℕ) (v : ℕ) → IsValidUpTo bytes v → length bytes < v + 4
-    → utf8_error_len (drop v bytes) ≡ None → text ≡ take v bytes → FrontOf bytes text
+    → utf8_error_len (drop v bytes) ≡ None → text ≡ take v bytes
+    → (text ++ drop (length text) bytes ≡ bytes) × IsUtf8 text × IsPart (drop (length text) bytes)
 front_part bytes text v found few fault same =
     let size : length text ≡ v = ap length same ∙ length-take-le v bytes (omega (arith, found.short)) in
     let rest : drop (length text) bytes ≡ drop v bytes = ap (λ n. drop n bytes) size in
     let left : length (drop v bytes) ≡ length bytes - v = length-drop v bytes in
     let bad : (n : ℕ) → 0 < n → n ≤ length (drop v bytes) → ¬ (IsUtf8 (take n (drop v bytes))) =
-    λ n some within text. found.longest (v + n) (omega (arith, some)) (text_behind bytes v n found.front text) in record {
-      equal = ap (λ l. text ++ l) rest ∙ ap (λ l. l ++ drop v bytes) same ∙ take-append-drop v bytes;
-      utf8 = subst IsUtf8 (sym same) found.front;
-      part = subst IsPart (sym rest) (record {
+    λ n some within text. found.longest (v + n) (omega (arith, some)) (text_behind bytes v n found.front text) in (
+      ap (λ l. text ++ l) rest ∙ ap (λ l. l ++ drop v bytes) same ∙ take-append-drop v bytes,
+      subst IsUtf8 (sym same) found.front,
+      subst IsPart (sym rest) (record {
         few = omega (arith, few, found.short, left);
         bad = bad;
         may = can_finish (drop v bytes) (omega (arith, found.short, left)) (omega (arith, few, found.short, left)) fault bad;
-      });
-    }
+      }),
+    )
 
 last_is : (byte : ℕ) (front : List ℕ) → slice_index (front ++ byte ∷ []) (length front) ≡ byte
 last_is byte [] = refl

@@ -1,5 +1,5 @@
 -- What the calls of a buffered reader promise.
-use Rattle.std.specs.Prelude.{◌≡◌, ℕ, ◌+◌, ◌-◌, ◌<◌, ◌≤◌, ◌⊎◌, List, [], ◌∷◌, ◌++◌, length, drop, min, Result, Ok, Err, Bool, true, false, Option, None, Some, is_ok, IfOk, MatchResult, ⊤}
+use Rattle.std.specs.Prelude.{◌≡◌, ℕ, ◌+◌, ◌-◌, ◌<◌, ◌≤◌, ◌⊎◌, List, [], ◌∷◌, ◌++◌, length, drop, min, Result, Ok, Err, Bool, true, false, Option, is_ok, IfOk, IfSome, OnOk, MatchResult}
 use Rattle.std.specs.Borrow.{Bor}
 use Rattle.std.specs.declared.io.Error.{Error}
 use Rattle.redux_buffer.specs.Block.{Block, IsBlock, ConsumesFirst, OnlyRingMoves, usable}
@@ -10,7 +10,7 @@ use Rattle.redux_buffer.specs.Transfer.{ReadsFrom}
 use Rattle.buffer_redux.specs.declared.policy.DoRead.{DoRead}
 use Rattle.buffer_redux.specs.Policy.{ReadRules, BeforeRead, AfterConsume, no_read, read_now}
 use Rattle.buffer_redux.specs.Buffered.{Buffered, GoesPast, StaysInside, GoesDirect}
-use Rattle.buffer_redux.specs.Fill.{Turns, Ordered, Declined, Filled}
+use Rattle.buffer_redux.specs.Fill.{Answered, Ordered, Turns, Filled}
 use Rattle.buffer_redux.specs.Sparing.{SparesClaimed}
 
 -- the bytes handed out, then those buffered, are those that were buffered, then those given since
@@ -36,11 +36,6 @@ pub record PolicyGave {S P : Type 0} (rules : ReadRules P) (answer : Result DoRe
   pub gave : BeforeRead rules last.policy last.block answer t.policy t.block
   pub told : t.log ≡ last.log
 
--- nothing is buffered, and the policy, asked about that, said no, which ended the filling
-pub record PolicyDeclined {S P : Type 0} (rules : ReadRules P) (s t : Buffered S P) : Type 0 where
-  pub none : s.block.bytes ≡ []
-  pub declined : Declined rules s t
-
 -- an error is the reader's last fault, or the policy's answer; an Ok met no fault
 abbrev pub ReadErrorCaused : {S P A : Type 0} → ReadRules P → Buffered S P → Result A Error → Buffered S P → Type 0
 ReadErrorCaused rules s (Ok a) t = t.log.reads.faults ≡ s.log.reads.faults
@@ -51,35 +46,29 @@ ReadErrorCaused rules s (Err e) t =
 abbrev pub RanDry : {S P : Type 0} → Buffered S P → Buffered S P → Type 0
 RanDry s t = s.log.reads.zero_reads < t.log.reads.zero_reads
 
--- filling ended since the policy said no, or left no room, or the reader gave nothing
-abbrev pub FillEnded : {S P A : Type 0} → ReadRules P → Buffered S P → Result A Error → Buffered S P → Type 0
-FillEnded rules s (Ok a) t =
-    PolicyGave rules no_read s t ⊎ ((usable t.block ≡ 0) × PolicyGave rules read_now s t) ⊎ RanDry s t
-FillEnded rules s (Err e) t = ⊤
-
 -- a fill shows nothing only where the policy said no over an empty buffer, there is no capacity, or the reader ran dry
 abbrev pub EmptyFillCaused : {S P : Type 0} → ReadRules P → Buffered S P → Buffered S P → Type 0
-EmptyFillCaused rules s t = PolicyDeclined rules s t ⊎ ((t.block.capacity ≡ 0) ⊎ RanDry s t)
+EmptyFillCaused rules s t =
+    ((s.block.bytes ≡ []) × Answered rules no_read s t) ⊎ ((t.block.capacity ≡ 0) ⊎ RanDry s t)
 
 -- a read hands out nothing only where the policy said no over an empty buffer, and then was told so, or the reader ran dry
 abbrev pub EmptyReadCaused : {S P : Type 0} → ReadRules P → Buffered S P → Buffered S P → Type 0
 EmptyReadCaused {S} {P} rules s t =
-    ((filled : Buffered S P) × PolicyDeclined rules s filled × ReaderConsumes rules 0 filled t) ⊎ RanDry s t
+    ((filled : Buffered S P) × (s.block.bytes ≡ []) × Answered rules no_read s filled × ReaderConsumes rules 0 filled t)
+    ⊎ RanDry s t
 
 -- the last ask: after these turns the policy, which saw all that came of them, ordered it, and it offered all the room
 pub record LastAsk {S P : Type 0} (rules : ReadRules P) (s t : Buffered S P) : Type 0 where
   pub count : ℕ
   pub before : Buffered S P
-  pub policy : P
-  pub seen : Block
+  pub after : Buffered S P
+  pub answer : Result ℕ Error
   pub turns : Turns rules count s before
-  pub ordered : Ordered rules before policy seen
+  pub ordered : Ordered rules answer before after
   pub saw : length s.block.bytes + count ≤ length before.block.bytes
   pub asks : t.log.reads.asks ≡ s.log.reads.asks + count + 1
-  pub out : List ℕ
-  pub answer : Result ℕ Error
-  pub told : t.log ≡ after_read before.log out answer
-  pub offer : t.log.reads.offer ≡ usable seen
+  pub told : t.log ≡ after.log
+  pub offer : t.log.reads.offer ≡ usable ordered.seen
 
 -- filling up to a minimum goes on until so many bytes are there, and asks for no more. An `Err` leaves fewer. Where so
 -- many are there, the reader isn't called; a capacity that holds so many stays, and so does the limit
@@ -91,17 +80,8 @@ pub record FillsToMinimum {S P : Type 0} (n : ℕ) (s : Buffered S P) (ok : Bool
   pub capacity : n ≤ s.block.capacity → t.block.capacity ≡ s.block.capacity
   pub limit : t.block.limit ≡ s.block.limit
 
--- what a fill does where the policy claims a minimum
-abbrev pub LooksAhead : {S P : Type 0} → Option ℕ → Buffered S P → Bool → Buffered S P → Type 0
-LooksAhead None s ok t = ⊤
-LooksAhead (Some n) s ok t = FillsToMinimum n s ok t
-
--- an error is the reader's, and so is an empty answer where there is capacity
-pub record SteadyFill {S P : Type 0} (s : Buffered S P) (ok : Bool) (t : Buffered S P) : Type 0 where
-  pub faulted : ok ≡ false → length s.log.reads.faults < length t.log.reads.faults
-  pub empty : ok ≡ true → 0 < s.block.capacity → length t.block.bytes ≡ 0 → RanDry s t
-
--- all that filling promises
+-- all that filling promises. An Ok ended since the policy said no, or left no room, or the reader gave nothing. Under a steady
+-- policy an error is the reader's, and so is an empty answer where there is capacity
 pub record Fills {S P A : Type 0} (rules : ReadRules P) (s : Buffered S P) (answer : Result A Error) (t : Buffered S P)
     : Type 0 where
   pub filled : Filled rules s answer t
@@ -113,11 +93,14 @@ pub record Fills {S P A : Type 0} (rules : ReadRules P) (s : Buffered S P) (answ
   pub whole : IsBlock t.block
   pub claims : rules.claims t.policy ≡ rules.claims s.policy
   pub caused : ReadErrorCaused rules s answer t
-  pub ended : FillEnded rules s answer t
+  pub ended : OnOk answer
+      (PolicyGave rules no_read s t ⊎ ((usable t.block ≡ 0) × PolicyGave rules read_now s t) ⊎ RanDry s t)
   pub empty : is_ok answer ≡ true → length t.block.bytes ≡ 0 → EmptyFillCaused rules s t
   pub last : s.log.reads.asks < t.log.reads.asks → LastAsk rules s t
-  pub ahead : LooksAhead (rules.claims s.policy).minimum s (is_ok answer) t
-  pub steadily : (rules.claims s.policy).steady ≡ true → SteadyFill s (is_ok answer) t
+  pub ahead : IfSome (rules.claims s.policy).minimum (λ n. FillsToMinimum n s (is_ok answer) t)
+  pub steadily : (rules.claims s.policy).steady ≡ true
+      → MatchResult answer (λ _. 0 < s.block.capacity → length t.block.bytes ≡ 0 → RanDry s t)
+      (λ _. length s.log.reads.faults < length t.log.reads.faults)
   pub sparing : SparesClaimed rules s t
 
 -- of what the reader inside was known to have left, just what it gave since is gone
@@ -173,10 +156,6 @@ pub record FillBuf {S P : Type 0} (remaining : S → Option (List ℕ)) (rules :
   pub shown : IfOk answer (λ bytes. bytes.now ≡ t.block.bytes)
   pub noted : t.own_calls ≡ s.own_calls
 
--- what stands behind the bytes that were handed out is as it was, and all of the slice where none were
-abbrev pub LeavesRest : List ℕ → Result ℕ Error → List ℕ → Type 0
-LeavesRest out answer out' = MatchResult answer (λ n. drop n out' ≡ drop n out) (λ _. out' ≡ out)
-
 -- the buffer was filled, and as many bytes as there are or as fit into room were handed out
 pub record ReadsBuffered {S P : Type 0} (rules : ReadRules P)
     (s : Buffered S P) (room : ℕ) (answer : Result ℕ Error) (t : Buffered S P) : Type 0 where
@@ -186,9 +165,10 @@ pub record ReadsBuffered {S P : Type 0} (rules : ReadRules P)
       (λ n. (n ≡ min room (length filled.block.bytes)) × ReaderConsumes rules n filled t) (λ _. t ≡ filled)
 
 -- what `read(out)` does, which left the slice as out': past the buffer one ask for the whole slice, or a fill and a copy,
--- which leaves what stands behind its bytes
+-- which leaves what stands behind its bytes, and all of the slice where it fails
 pub record Reads {S P : Type 0} (rules : ReadRules P) (s : Buffered S P) (out : List ℕ) (answer : Result ℕ Error)
     (out' : List ℕ) (t : Buffered S P) : Type 0 where
+  pub size : length out' ≡ length out
   pub direct : GoesPast s.block (length out) → GoesDirect after_read s out' answer t
   pub buffered : StaysInside s.block (length out) → ReadsBuffered rules s (length out) answer t
-  pub rest : StaysInside s.block (length out) → LeavesRest out answer out'
+  pub rest : StaysInside s.block (length out) → MatchResult answer (λ n. drop n out' ≡ drop n out) (λ _. out' ≡ out)

@@ -6,7 +6,7 @@ use Rattle.redux_buffer.specs.Block.{Block}
 use Rattle.buffer_redux.specs.Policy.{ReadRules, read_now, std_read_rules}
 use Rattle.redux_buffer.specs.StreamLog.{zero_of_none}
 use Rattle.buffer_redux.specs.Buffered.{Buffered}
-use Rattle.buffer_redux.specs.Fill.{Dry, Filled}
+use Rattle.buffer_redux.specs.Fill.{Filled, Ordered}
 use Rattle.buffer_redux.specs.FillLaws.{Turns-gave}
 
 -- the rules order a read over an empty buffer alone, as those of `StdPolicy` do
@@ -30,9 +30,9 @@ module _ {S P A : Type 0} (rules : ReadRules P) (orders : ReadsWhenEmpty rules) 
       ]
 
   module _ (a : A) (f : Filled rules s (Ok a) t) where
-    dry_shows_none : Dry rules f.last t → length t.block.bytes ≡ 0
+    dry_shows_none : Ordered rules (Ok 0) f.last t → length t.block.bytes ≡ 0
     dry_shows_none end =
-        let asked = end.ordered.asked in
+        let asked = end.asked in
         ap length (end.read.added.bytes ∙ append-nil end.seen.bytes ∙ asked.law.bytes)
         ∙ orders f.last.policy f.last.block t.policy end.seen asked.allowed
 
@@ -42,7 +42,7 @@ module _ {S P A : Type 0} (rules : ReadRules P) (orders : ReadsWhenEmpty rules) 
         let gave = Turns-gave rules f.count s f.last f.turns in
         elim f.ends [
           | inl declined ↦ ap (λ l. l.reads.zero_reads) declined.told ∙ gave
-          | inr (inl full) ↦ ap (λ l. l.reads.zero_reads) full.told ∙ gave
+          | inr (inl full) ↦ ap (λ l. l.reads.zero_reads) full.1.told ∙ gave
           | inr (inr end) ↦ absurd (omega (arith, dry_shows_none end, some))
         ]
 
@@ -51,11 +51,11 @@ module _ {S P A : Type 0} (rules : ReadRules P) (orders : ReadsWhenEmpty rules) 
         let gave = Turns-gave rules f.count s f.last f.turns in
         elim f.ends [
           | inl declined ↦ omega (arith, gave, ap (λ l. l.reads.zero_reads) declined.told)
-          | inr (inl full) ↦ omega (arith, gave, ap (λ l. l.reads.zero_reads) full.told)
+          | inr (inl full) ↦ omega (arith, gave, ap (λ l. l.reads.zero_reads) full.1.told)
           | inr (inr end) ↦ omega (
             arith,
             gave,
             ap (λ l. l.reads.zero_reads) end.read.told,
-            zero_of_none 0 end.read.out f.last.log.reads.zero_reads refl (omega (arith, end.read.offered, end.ordered.room)),
+            zero_of_none 0 end.read.out f.last.log.reads.zero_reads refl (omega (arith, end.read.offered, end.room)),
           )
         ]

@@ -11,9 +11,9 @@ use Rattle.buffer_redux.specs.BufReader.{Fills}
 pub Turns-gave : {S P : Type 0} (rules : ReadRules P) (k : ℕ) (s t : Buffered S P) → Turns rules k s t
     → t.log.reads.zero_reads ≡ s.log.reads.zero_reads
 Turns-gave rules zero s t same = ap (λ x. x.log.reads.zero_reads) (sym same)
-Turns-gave rules (suc k) s t (m, run, turn) =
+Turns-gave rules (suc k) s t (m, run, count, some, turn) =
     ap (λ l. l.reads.zero_reads) turn.read.told
-    ∙ zero_of_some turn.count turn.read.out m.log.reads.zero_reads (inl turn.some) ∙ Turns-gave rules k s m run
+    ∙ zero_of_some count turn.read.out m.log.reads.zero_reads (inl some) ∙ Turns-gave rules k s m run
 
 pub Filled-ok : {S P A B : Type 0} (rules : ReadRules P) (s : Buffered S P) (a : A) (b : B) (t : Buffered S P)
     → Filled rules s (Ok a) t → Filled rules s (Ok b) t

@@ -1,18 +1,20 @@
 -- What a call that appends a line does to the bytes that are known to be left.
-use Rattle.std.specs.Prelude.{◌≡◌, ℕ, ◌<◌, ◌==◌, Bool, false, true, cond, List, [], ◌∷◌, ◌++◌, Result, Ok, Err, Option, None, Some, IfSome, OnOk, IsUtf8, length, take}
+use Rattle.std.specs.Prelude.{◌≡◌, ℕ, ◌<◌, ◌==◌, ◌⊎◌, Bool, false, true, cond, List, [], ◌∷◌, ◌++◌, Result, Ok, Err, Option, None, Some, IfErr, IfSome, OnOk, IsUtf8, length, take}
 use Rattle.std.proofs.Common.{◌∙◌, ap, append-nil, arith, drop_at, inl, inr, length-append, refl, subst, sym}
 use Rattle.std.proofs.BufReadLemmas.{take_through-append}
 use Rattle.std.proofs.lemmas.List.{take_at}
 use Rattle.std.proofs.lemmas.Str.{IsCharBoundary-from_take, IsUtf8-drop}
 use Rattle.std.specs.Io.BufRead.{take_through}
 use Rattle.std.specs.Io.KnownBytes.{Consumes, IsAtEnd, prepend_known}
+use Rattle.std.specs.IoError.{error_kind}
 use Rattle.std.specs.declared.io.Error.{Error}
+use Rattle.std.specs.declared.io.ErrorKind.TheVariants.{InvalidData}
 use Rattle.buffer_redux.specs.Policy.{ReadRules}
 use Rattle.buffer_redux.specs.Buffered.{Buffered}
 use Rattle.buffer_redux.specs.ReaderLaws.{IfSome-unless, ReadsInOrder-ahead}
 use Rattle.buffer_redux.specs.ReadBehind.{FillsOn}
-use Rattle.buffer_redux.specs.ReadLine.{InvalidCaused, IsPart, NeverUtf8, ReadsLine, no_text}
-use Rattle.buffer_redux.specs.ReadUntil.{Lacks}
+use Rattle.buffer_redux.specs.ReadLine.{IsPart, NeverUtf8, ReadsLine, no_text}
+use Rattle.buffer_redux.specs.ReadUntil.{Lacks, PassesAndFills}
 use Rattle.buffer_redux.specs.Remaining.{ahead, may_stop, reader_remaining}
 use Rattle.buffer_redux.specs.UntilLaws.{EndsUntil-known, appended_known, lacking_through}
 
@@ -71,22 +73,25 @@ module _ {S P : Type 0} (remaining : S → Option (List ℕ)) (rules : ReadRules
   ReadsLine-known before (Err e) after t reads = tt
   ReadsLine-known before (Ok n) after t reads = appended_known 10 before reads.handed after reads.appended
       (reader_remaining remaining rules s)
-      (EndsUntil-known remaining rules 10 s (FillsOn IsPart remaining rules) no_text n reads.handed t reads.front reads.ends)
+      (EndsUntil-known remaining rules 10 s IsPart no_text n reads.handed t reads.front reads.ends)
 
   -- a line is refused only where it is no UTF-8
   pub ReadsLine-invalid : (before : List ℕ) (answer : Result ℕ Error) (after : List ℕ) (t : Buffered S P)
-      → ReadsLine remaining rules s before answer after t → InvalidCaused remaining rules s answer t
+      → ReadsLine remaining rules s before answer after t
+      → IfErr answer (λ e. error_kind e ≡ InvalidData → ((handed : List ℕ) × PassesAndFills remaining rules
+      (FillsOn IsPart remaining rules) 10 s handed (Err e) t)
+      ⊎ IfSome (reader_remaining remaining rules s) (λ xs. ¬ (IsUtf8 (take_through 10 xs))))
   ReadsLine-invalid before (Ok n) after t reads = tt
   ReadsLine-invalid before (Err e) after t reads = λ kind.
       let keeps = reads.front.keeps in
       let went = ReadsInOrder-ahead remaining s t reads.handed reads.front.in_order keeps.known in
       let unless = IfSome-unless (may_stop rules s) (ahead remaining s) (λ xs. ¬ (IsUtf8 (take_through 10 xs))) in
       elim reads.ends [
-        | inl (inl failed) ↦ inl (reads.handed, failed)
-        | inl (inr (passes, inl refused)) ↦ absurd (cc (kind, refused.0))
-        | inl (inr (passes, inr never)) ↦ inr (unless (λ _. never_known (remaining s.inner) (remaining t.inner)
+        | inl failed ↦ inl (reads.handed, failed)
+        | inr (inl (passes, inl refused)) ↦ absurd (cc (kind, refused.0))
+        | inr (inl (passes, inr never)) ↦ inr (unless (λ _. never_known (remaining s.inner) (remaining t.inner)
             s.block.bytes t.block.bytes reads.handed went reads.text passes.plain never.1))
-        | inr breaks ↦ inr (unless (λ _. broken_known (remaining s.inner) (remaining t.inner) s.block.bytes t.block.bytes
+        | inr (inr breaks) ↦ inr (unless (λ _. broken_known (remaining s.inner) (remaining t.inner) s.block.bytes t.block.bytes
             reads.handed went
             (keeps.known.dry (omega (arith, breaks.fills.passes.front.keeps.grows.zero_reads, breaks.dry)))
             reads.text breaks.fills.passes.plain breaks.plain (part_bad t.block.bytes breaks.some breaks.part)))

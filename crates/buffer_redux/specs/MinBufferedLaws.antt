@@ -3,7 +3,7 @@ use Rattle.std.proofs.Common.{◌≡◌, ℕ, ◌+◌, ◌<◌, ◌≤◌, lengt
 use Rattle.std.specs.declared.io.Error.{Error}
 use Rattle.buffer_redux.specs.BufReader.{Fills, RanDry}
 use Rattle.buffer_redux.specs.Buffered.{Buffered}
-use Rattle.buffer_redux.specs.Fill.{Dry}
+use Rattle.buffer_redux.specs.Fill.{Ordered}
 use Rattle.buffer_redux.specs.FillLaws.{Turns-gave}
 use Rattle.buffer_redux.specs.MinBuffered.{min_read_rules}
 use Rattle.buffer_redux.specs.declared.policy.min_buffered.MinBuffered.{MinBuffered}
@@ -31,9 +31,9 @@ module _ {S A : Type 0} (s t : Buffered S MinBuffered) where
   -- a fill that left too few, and one that found enough
   module _ (a : A) (fills : Fills min_read_rules s (Ok a) t) where
     -- a read that is ordered wants more than enough
-    pub enough_never_dry : Dry min_read_rules fills.filled.last t → s.policy.0 ≤ length t.block.bytes → ⊥
+    pub enough_never_dry : Ordered min_read_rules (Ok 0) fills.filled.last t → s.policy.0 ≤ length t.block.bytes → ⊥
     enough_never_dry end many =
-        let asked = end.ordered.asked in
+        let asked = end.asked in
         let claimed : t.policy.0 ≡ s.policy.0 = ap (λ c. number_of c.minimum) fills.claims in
         let same = ap length (end.read.added.bytes ∙ append-nil end.seen.bytes ∙ asked.law.bytes) in
         omega (arith, many, same, asked.allowed.1.0, ap (λ p. p.0) asked.allowed.0, claimed)
@@ -45,9 +45,9 @@ module _ {S A : Type 0} (s t : Buffered S MinBuffered) where
         let dry : RanDry s t = elim (fills.ahead.enough refl) [ inl many ↦ absurd (omega (arith, many, few)) | inr is ↦ is ] in
         elim f.ends [
           | inl declined ↦ absurd (omega (arith, dry, gave, ap (λ l. l.reads.zero_reads) declined.told))
-          | inr (inl full) ↦ absurd (omega (arith, dry, gave, ap (λ l. l.reads.zero_reads) full.told))
+          | inr (inl full) ↦ absurd (omega (arith, dry, gave, ap (λ l. l.reads.zero_reads) full.1.told))
           | inr (inr end) ↦ ap (λ l. l.reads.zero_reads) end.read.told
-              ∙ zero_of_none 0 end.read.out (empties f.last) refl (omega (arith, end.read.offered, end.ordered.room))
+              ∙ zero_of_none 0 end.read.out (empties f.last) refl (omega (arith, end.read.offered, end.room))
               ∙ ap (λ n. n + 1) gave
         ]
 
@@ -57,6 +57,6 @@ module _ {S A : Type 0} (s t : Buffered S MinBuffered) where
         let gave = Turns-gave min_read_rules f.count s f.last f.turns in
         elim f.ends [
           | inl declined ↦ ap (λ l. l.reads.zero_reads) declined.told ∙ gave
-          | inr (inl full) ↦ ap (λ l. l.reads.zero_reads) full.told ∙ gave
+          | inr (inl full) ↦ ap (λ l. l.reads.zero_reads) full.1.told ∙ gave
           | inr (inr end) ↦ absurd (enough_never_dry end many)
         ]

@@ -1,6 +1,6 @@
 -- What the iterators over pieces, and over lines, give.
-use Rattle.std.specs.Prelude.{◌≡◌, ℕ, ◌+◌, ◌-◌, ◌^◌, ◌<◌, ◌⊎◌, List, [], length, if◌then◌else◌, Result, Ok, Err, Option, Some, None, String, string_bytes, vec_items, IsUtf8}
-use Rattle.std.specs.Global.{Global, Vec}
+use Rattle.std.specs.Prelude.{◌≡◌, ℕ, ◌+◌, ◌-◌, ◌^◌, ◌<◌, ◌⊎◌, List, [], length, if◌then◌else◌, Result, Ok, Err, Option, Some, None, String, string_bytes, IsUtf8}
+use Rattle.std.specs.Global.{Global}
 use Rattle.std.specs.Io.BufRead.{ends_with_byte, strip_last}
 use Rattle.std.specs.IoError.{error_kind}
 use Rattle.std.specs.declared.io.Error.{Error}
@@ -19,10 +19,6 @@ pub record Splitting (S P : Type 0) : Type 0 where
 -- a reader of which nothing was asked yet, and of whose next piece these bytes came before
 abbrev pub goes_on : {S P : Type 0} → ℕ → Buffered S P → List ℕ → Splitting S P
 goes_on byte reader begun = record { reader = reader; byte = byte; begun = begun; left = 2 ^ 64 - 1 }
-
--- a reader of which nothing was asked yet, and of whose next piece no bytes came before
-abbrev pub begins : {S P : Type 0} → ℕ → Buffered S P → Splitting S P
-begins byte reader = goes_on byte reader []
 
 -- the next piece was gone on with up to its byte or the end of all, or to this error
 pub record GoesOnWith {S P : Type 0} (remaining : S → Option (List ℕ)) (rules : ReadRules P) (s : Splitting S P)
@@ -56,11 +52,6 @@ abbrev pub Gives : {S P A : Type 0} → (S → Option (List ℕ)) → ReadRules 
 Gives remaining rules Made s None t = Ended remaining rules s t
 Gives remaining rules Made s (Some (Ok a)) t = (piece : List ℕ) × GivesWhole remaining rules s piece t × Made a piece
 Gives remaining rules Made s (Some (Err e)) t = Stopped remaining rules s e t
-
--- what `next` of `Split` gives: the piece without its byte
-abbrev pub GivesPiece : {S P : Type 0} → (S → Option (List ℕ)) → ReadRules P → Splitting S P
-    → Option (Result (Vec ℕ) Error) → Splitting S P → Type 0
-GivesPiece remaining rules s = Gives remaining rules (λ v piece. vec_items v ≡ strip_last s.byte piece) s
 
 -- these bytes without the line feed at their end, and without the carriage return before that
 abbrev pub without_end : List ℕ → List ℕ

@@ -6,7 +6,7 @@ use Rattle.std.specs.Global.{Global, Vec}
 use Rattle.std.specs.Io.BufRead.{ends_with_byte, first_line, first_piece, strip_last, take_through, DropsThrough}
 use Rattle.std.specs.Io.KnownBytes.{IsAtEnd}
 use Rattle.buffer_redux.specs.Policy.{ReadRules}
-use Rattle.buffer_redux.specs.Pieces.{Ended, GivesLine, GivesPiece, GivesWhole, GoesOnWith, Splitting, without_end}
+use Rattle.buffer_redux.specs.Pieces.{Ended, Gives, GivesLine, GivesWhole, GoesOnWith, Splitting, without_end}
 use Rattle.buffer_redux.specs.Remaining.{reader_remaining}
 use Rattle.buffer_redux.specs.UntilLaws.{ReadsUntil-drops, ReadsUntil-known}
 
@@ -46,10 +46,11 @@ module _ {S P : Type 0} (remaining : S → Option (List ℕ)) (rules : ReadRules
       ReadsUntil-drops remaining rules s.byte s.reader s.begun whole.count piece t.reader whole.went.reads
 
   -- the piece is what the kit's `split` gives first
-  pub GivesPiece-known : (v : Vec ℕ) → GivesPiece remaining rules s (Some (Ok v)) t
+  pub Gives-known : (v : Vec ℕ)
+      → Gives {A = Vec ℕ} remaining rules (λ v piece. vec_items v ≡ strip_last s.byte piece) s (Some (Ok v)) t
       → IfSome (reader_remaining remaining rules s.reader)
       (λ xs. (0 < length xs) × (vec_items v ≡ first_piece s.byte xs))
-  GivesPiece-known v (piece, whole, is) = some_known s.byte (reader_remaining remaining rules s.reader) piece (vec_items v)
+  Gives-known v (piece, whole, is) = some_known s.byte (reader_remaining remaining rules s.reader) piece (vec_items v)
       (strip_last s.byte) whole.some (went_known whole.count piece whole.went) is
 
   -- the line is what its `lines` gives first, where the byte is the line feed

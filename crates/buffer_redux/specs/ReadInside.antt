@@ -38,13 +38,8 @@ pub record HandOut {S P : Type 0} (remaining : S → Option (List ℕ)) (rules :
   pub keeps : ReaderKeeps remaining rules m t
 
 -- a fill, and then bytes were handed out unless it failed
-pub record ReadThrough {S P : Type 0} (remaining : S → Option (List ℕ)) (rules : ReadRules P)
-    (s : Buffered S P) (out : List ℕ) (n : ℕ) (out' : List ℕ) (t : Buffered S P) : Type 0 where
-  pub filled : Buffered S P
-  pub fill : FillDone remaining rules s (Ok n) filled
-  pub hands : HandOut remaining rules filled out n out' t
-
 abbrev pub ReadsInside : {S P : Type 0} → (S → Option (List ℕ)) → ReadRules P
     → Buffered S P → List ℕ → Result ℕ Error → List ℕ → Buffered S P → Type 0
-ReadsInside remaining rules s out (Ok n) out' t = ReadThrough remaining rules s out n out' t
+ReadsInside {S} {P} remaining rules s out (Ok n) out' t = (filled : Buffered S P)
+    × FillDone remaining rules s (Ok n) filled × HandOut remaining rules filled out n out' t
 ReadsInside remaining rules s out (Err e) out' t = FillDone {A = ℕ} remaining rules s (Err e) t × (out' ≡ out)

@@ -1,15 +1,12 @@
 -- What a call promises that appends a line to a text.
-use Rattle.std.specs.Prelude.{◌≡◌, ℕ, ◌+◌, ◌<◌, ◌≤◌, ◌⊎◌, List, ◌++◌, length, take, drop, Result, Ok, Err, Option, IfOk, IfSome, IsUtf8, ⊤}
-use Rattle.std.specs.Io.BufRead.{take_through}
+use Rattle.std.specs.Prelude.{◌≡◌, ℕ, ◌+◌, ◌<◌, ◌≤◌, ◌⊎◌, List, ◌++◌, length, take, Result, Ok, Err, Option, IfOk, IsUtf8}
 use Rattle.std.specs.IoError.{error_kind}
 use Rattle.std.specs.declared.io.Error.{Error}
 use Rattle.std.specs.declared.io.ErrorKind.TheVariants.{InvalidData, OutOfMemory}
 use Rattle.buffer_redux.specs.Policy.{ReadRules}
 use Rattle.buffer_redux.specs.Buffered.{Buffered}
 use Rattle.buffer_redux.specs.ReadAll.{HandedFront}
-use Rattle.buffer_redux.specs.ReadBehind.{FillsOn}
-use Rattle.buffer_redux.specs.Remaining.{reader_remaining}
-use Rattle.buffer_redux.specs.ReadUntil.{AppendsFirst, EndsLeaving, FirstAt, Lacks, PassesAndFills, Stops, no_memory}
+use Rattle.buffer_redux.specs.ReadUntil.{AppendsFirst, EndsUntil, FirstAt, Lacks, Stops, no_memory}
 
 -- whatever follows these bytes, they are no UTF-8
 abbrev pub NeverUtf8 : List ℕ → Type 0
@@ -20,12 +17,6 @@ pub record IsPart (bytes : List ℕ) : Type 0 where
   pub few : length bytes < 4
   pub bad : (n : ℕ) → 0 < n → n ≤ length bytes → ¬ (IsUtf8 (take n bytes))
   pub may : (more : List ℕ) × IsUtf8 (bytes ++ more)
-
--- a text of so many bytes, and then a part of a character
-pub record FrontOf (bytes text : List ℕ) : Type 0 where
-  pub equal : text ++ drop (length text) bytes ≡ bytes
-  pub utf8 : IsUtf8 text
-  pub part : IsPart (drop (length text) bytes)
 
 -- the call stopped before bytes for which it had no memory, or which are no UTF-8
 abbrev pub no_text : Stops
@@ -47,15 +38,7 @@ pub record ReadsLine {S P : Type 0} (remaining : S → Option (List ℕ)) (rules
   pub appended : after ≡ before ++ handed
   pub text : IsUtf8 handed
   pub front : HandedFront remaining rules s handed t
-  pub ends : EndsLeaving IsPart no_text remaining rules 10 s answer handed t
+  pub ends : EndsUntil IsPart no_text remaining rules 10 s answer handed t
   pub count : IfOk answer (λ n. n ≡ length handed)
   pub buffered : ¬ (Lacks 10 s.block.bytes)
       → (at : ℕ) × FirstAt 10 at s.block.bytes × AppendsLine remaining rules (at + 1) s before answer after t
-
--- an `InvalidData` is of the last fill or read, so the stream's or the policy's; or the line is no UTF-8, where std knows it
-abbrev pub InvalidCaused : {S P A : Type 0} → (S → Option (List ℕ)) → ReadRules P → Buffered S P → Result A Error
-    → Buffered S P → Type 0
-InvalidCaused remaining rules s (Ok a) t = ⊤
-InvalidCaused remaining rules s (Err e) t = error_kind e ≡ InvalidData
-    → ((handed : List ℕ) × PassesAndFills remaining rules (FillsOn IsPart remaining rules) 10 s handed (Err e) t)
-    ⊎ IfSome (reader_remaining remaining rules s) (λ xs. ¬ (IsUtf8 (take_through 10 xs)))

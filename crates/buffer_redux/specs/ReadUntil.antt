@@ -67,32 +67,13 @@ pub record PassesToEnd {S P : Type 0} (remaining : S → Option (List ℕ)) (rul
   pub none : t.block.bytes ≡ []
   pub end : WantsBytes (rules.claims s.policy) → 0 < s.block.capacity → ReadsToEnd remaining rules s handed t
 
--- these bytes end in the byte, and no fault came but interrupted reads
-pub record Reaches {S P : Type 0} (rules : ReadRules P) (step : Step (Buffered S P) (Unit {0})) (byte : ℕ)
-    (s : Buffered S P) (handed : List ℕ) (t : Buffered S P) : Type 0 where
-  pub ends : EndsIn byte handed
-  pub faults : OnlyInterrupts s.log.reads.faults t.log.reads.faults
-  pub steps : (count : ℕ) × Steps rules step count s t
-
--- the call stopped of its own before these bytes, for which it had no memory, or which no usize counts
+-- why a call stopped of its own before these bytes, which handed those out
 abbrev pub Stops : Type 1
 Stops = List ℕ → Error → List ℕ → Type 0
 
+-- it had no memory for them
 abbrev pub no_memory : Stops
 no_memory handed e bytes = (error_kind e ≡ OutOfMemory) × (0 < length bytes)
-
-abbrev pub no_count : Stops
-no_count handed e bytes = (error_kind e ≡ TimedOut) × (2 ^ 64 ≤ length handed + length bytes)
-
--- how such a call ends which handed these bytes out: at Ok they end in the byte or at the end of all; at Err they lack it,
--- and the last fill failed, or the call stopped before what is buffered, up to the byte
-abbrev pub EndsUntil : {S P A : Type 0} → (S → Option (List ℕ)) → ReadRules P → Step (Buffered S P) (Unit {0}) → Stops → ℕ
-    → Buffered S P → Result A Error → List ℕ → Buffered S P → Type 0
-EndsUntil remaining rules step stops byte s (Ok a) handed t =
-    Reaches rules step byte s handed t ⊎ PassesToEnd remaining rules step byte s handed t
-EndsUntil remaining rules step stops byte s (Err e) handed t =
-    PassesAndFills remaining rules step byte s handed (Err e) t
-    ⊎ (Passes remaining rules step byte s handed t × stops handed e (take_through byte t.block.bytes))
 
 -- behind bytes that the call leaves buffered the reader ran dry
 pub record BreaksOff {S P : Type 0} (leaves : List ℕ → Type 0) (remaining : S → Option (List ℕ)) (rules : ReadRules P)
@@ -105,14 +86,19 @@ pub record BreaksOff {S P : Type 0} (leaves : List ℕ → Type 0) (remaining : 
   pub plain : Lacks byte t.block.bytes
   pub kind : error_kind e ≡ InvalidData
 
--- how a call ends that may leave such bytes buffered: so, or behind these
-abbrev pub EndsLeaving : {S P A : Type 0} → (List ℕ → Type 0) → Stops → (S → Option (List ℕ)) → ReadRules P → ℕ
+-- how a call ends that may leave such bytes buffered, and handed these out: at Ok they end in the byte, after no fault but
+-- interrupted reads, or at the end of all; at Err they lack it, and the last fill failed, or the call stopped before what is
+-- buffered, up to the byte, or behind bytes that it leaves
+abbrev pub EndsUntil : {S P A : Type 0} → (List ℕ → Type 0) → Stops → (S → Option (List ℕ)) → ReadRules P → ℕ
     → Buffered S P → Result A Error → List ℕ → Buffered S P → Type 0
-EndsLeaving leaves stops remaining rules byte s (Ok a) handed t =
-    EndsUntil remaining rules (FillsOn leaves remaining rules) stops byte s (Ok a) handed t
-EndsLeaving {A = A} leaves stops remaining rules byte s (Err e) handed t =
-    EndsUntil {A = A} remaining rules (FillsOn leaves remaining rules) stops byte s (Err e) handed t
-    ⊎ BreaksOff leaves remaining rules byte s handed e t
+EndsUntil leaves stops remaining rules byte s (Ok a) handed t = (EndsIn byte handed
+    × OnlyInterrupts s.log.reads.faults t.log.reads.faults
+    × ((count : ℕ) × Steps rules (FillsOn leaves remaining rules) count s t))
+    ⊎ PassesToEnd remaining rules (FillsOn leaves remaining rules) byte s handed t
+EndsUntil leaves stops remaining rules byte s (Err e) handed t =
+    PassesAndFills remaining rules (FillsOn leaves remaining rules) byte s handed (Err e) t
+    ⊎ ((Passes remaining rules (FillsOn leaves remaining rules) byte s handed t
+    × stops handed e (take_through byte t.block.bytes)) ⊎ BreaksOff leaves remaining rules byte s handed e t)
 
 -- the first n bytes that are buffered were handed out, behind those that were there; without memory nothing was done
 abbrev pub AppendsFirst : {S P A : Type 0} → (S → Option (List ℕ)) → ReadRules P → ℕ → Buffered S P → List ℕ
@@ -124,12 +110,14 @@ AppendsFirst remaining rules n s before (Err e) after t =
     (after ≡ before) × (t ≡ s) × (0 < n) × (error_kind e ≡ OutOfMemory)
 
 -- what `skip_until(byte)` does: these bytes were handed out to nobody. Where the byte is buffered, those up to it are
--- dropped, and nobody is asked
+-- dropped, and nobody is asked. It stops before bytes that no usize counts
 pub record SkipsUntil {S P : Type 0} (remaining : S → Option (List ℕ)) (rules : ReadRules P) (byte : ℕ)
     (s : Buffered S P) (answer : Result ℕ Error) (t : Buffered S P) : Type 0 where
   pub handed : List ℕ
   pub front : HandedFront remaining rules s handed t
-  pub ends : EndsUntil remaining rules (FillsOn (λ left. left ≡ []) remaining rules) no_count byte s answer handed t
+  pub ends : EndsUntil (λ left. left ≡ [])
+      (λ handed e bytes. (error_kind e ≡ TimedOut) × (2 ^ 64 ≤ length handed + length bytes)) remaining rules byte s answer
+      handed t
   pub count : IfOk answer (λ n. n ≡ length handed)
   pub buffered : ¬ (Lacks byte s.block.bytes)
       → (at : ℕ) × FirstAt byte at s.block.bytes × IsOkAnd answer (λ n. (n ≡ at + 1) × ReaderConsumes rules n s t)
@@ -141,7 +129,7 @@ pub record ReadsUntil {S P : Type 0} (remaining : S → Option (List ℕ)) (rule
   pub handed : List ℕ
   pub appended : after ≡ before ++ handed
   pub front : HandedFront remaining rules s handed t
-  pub ends : EndsUntil remaining rules (FillsOn (λ left. left ≡ []) remaining rules) no_memory byte s answer handed t
+  pub ends : EndsUntil (λ left. left ≡ []) no_memory remaining rules byte s answer handed t
   pub count : IfOk answer (λ n. n ≡ length handed)
   pub buffered : ¬ (Lacks byte s.block.bytes)
       → (at : ℕ) × FirstAt byte at s.block.bytes × AppendsFirst remaining rules (at + 1) s before answer after t

@@ -1,5 +1,5 @@
 -- Laws of a buffered reader, for the proofs of those who call one.
-use Rattle.std.specs.Prelude.{◌≡◌, ℕ, ◌<◌, ◌≤◌, ◌==◌, ◌||◌, ◌⊎◌, not, List, [], ◌++◌, length, take, drop, min, Result, Ok, Err, Option, None, Some, IfSome, Bool, is_ok, true, false}
+use Rattle.std.specs.Prelude.{◌≡◌, ℕ, ◌<◌, ◌≤◌, ◌==◌, ◌||◌, ◌⊎◌, nat_lt, not, List, [], ◌++◌, length, take, drop, min, Result, Ok, Err, Option, None, Some, IfSome, Bool, is_ok, true, false}
 use Rattle.std.proofs.Common.{zero, suc, cond, sym, ap, subst, refl, ◌∙◌, arith, inl, inr, le_refl, le_trans, append_assoc, append-nil}
 use Rattle.std.proofs.Math.Seq.{take-length}
 use Rattle.std.proofs.KnownBytes.{Consumes-whole}
@@ -13,11 +13,11 @@ use Rattle.redux_buffer.specs.LogGrows.{ReadLogGrows, ReadLogGrows-none, ReadLog
 use Rattle.redux_buffer.specs.StreamLog.{StreamLog}
 use Rattle.buffer_redux.specs.Policy.{ReadRules, ReadClaims, std_read_rules}
 use Rattle.buffer_redux.specs.Buffered.{Buffered, IsMade}
-use Rattle.buffer_redux.specs.BufReader.{ReadsInOrder, InnerGives, RanDry, LooksAhead, FillsToMinimum, Fills, FillBuf, ReaderConsumes, ReaderKeeps, ReadsAlong, ReadsToEnd}
-use Rattle.buffer_redux.specs.Remaining.{ahead, wants_some, may_stop, reader_remaining}
+use Rattle.buffer_redux.specs.BufReader.{ReadsInOrder, InnerGives, RanDry, FillsToMinimum, Fills, FillBuf, ReaderConsumes, ReaderKeeps, ReadsAlong, ReadsToEnd}
+use Rattle.buffer_redux.specs.Remaining.{ahead, may_stop, reader_remaining}
 use Rattle.buffer_redux.specs.Unbuffer.{HandsOutInOrder, unbuffered, Unbuffered}
 use Rattle.buffer_redux.specs.Seek.{SeekLeaves}
-use Rattle.std.specs.Option.{IsSomeAnd}
+use Rattle.std.specs.Option.{IsSomeAnd, unwrap_or}
 
 -- no call hands out nothing, and two traces of calls join
 pub ReadsInOrder-none : {S P : Type 0} (s : Buffered S P) → ReadsInOrder s [] s
@@ -70,7 +70,8 @@ WantsBytes claims = (claims.steady ≡ true) ⊎ IsSomeAnd claims.minimum (λ n.
 pub WantsBytes-std : {P : Type 0} (p : P) → WantsBytes ((std_read_rules {P = P}).claims p)
 WantsBytes-std p = inl refl
 
-ahead_dry : {S P : Type 0} (s t : Buffered S P) (o : Option ℕ) → IsSomeAnd o (λ n. 0 < n) → LooksAhead o s true t
+ahead_dry : {S P : Type 0} (s t : Buffered S P) (o : Option ℕ) → IsSomeAnd o (λ n. 0 < n)
+    → IfSome o (λ n. FillsToMinimum n s true t)
     → length t.block.bytes ≡ 0 → RanDry s t
 ahead_dry s t None wants ahead none = absurd wants
 ahead_dry s t (Some n) wants ahead none = elim (ahead.enough refl) [
@@ -83,7 +84,7 @@ pub Fills-empty : {S P A : Type 0} (rules : ReadRules P) (s : Buffered S P) (a :
     → Fills rules s (Ok a) t
     → WantsBytes (rules.claims s.policy) → 0 < s.block.capacity → length t.block.bytes ≡ 0 → RanDry s t
 Fills-empty rules s a t fills wants room none = elim wants [
-  | inl steady ↦ (fills.steadily steady).empty refl room none
+  | inl steady ↦ fills.steadily steady room none
   | inr some ↦ ahead_dry s t (rules.claims s.policy).minimum some fills.ahead none
 ]
 
@@ -92,7 +93,8 @@ Fills-empty rules s a t fills wants room none = elim wants [
 pub Fills-ahead : {S P A : Type 0} (rules : ReadRules P) (n : ℕ) (s : Buffered S P) (answer : Result A Error)
     (t : Buffered S P) → Fills rules s answer t → (rules.claims s.policy).minimum ≡ Some n
     → FillsToMinimum n s (is_ok answer) t
-Fills-ahead rules n s answer t fills claimed = subst (λ o. LooksAhead o s (is_ok answer) t) claimed fills.ahead
+Fills-ahead rules n s answer t fills claimed =
+    subst (λ o. IfSome o (λ n. FillsToMinimum n s (is_ok answer) t)) claimed fills.ahead
 
 -- an Ok seek drops what was buffered as if it had been handed out, and nothing is given in it. From there on
 -- `ReadsInOrder-fresh` says what is handed out
@@ -162,9 +164,9 @@ module _ {S P : Type 0} (remaining : S → Option (List ℕ)) (rules : ReadRules
       → Consumes (reader_remaining remaining rules s) (reader_remaining remaining rules t) handed
   remaining_gives claims grown =
       Consumes-unless (may_stop rules s) (may_stop rules t) (ahead remaining s) (ahead remaining t) handed
-      (λ is. subst (λ c. (not (c.steady || wants_some c.minimum) || (t.block.capacity == 0)) ≡ false)
+      (λ is. subst (λ c. (not (c.steady || nat_lt 0 (unwrap_or c.minimum 0)) || (t.block.capacity == 0)) ≡ false)
       (sym claims)
-      (goes_on_if (not ((rules.claims s.policy).steady || wants_some (rules.claims s.policy).minimum))
+      (goes_on_if (not ((rules.claims s.policy).steady || nat_lt 0 (unwrap_or (rules.claims s.policy).minimum 0)))
       s.block.capacity t.block.capacity grown is))
       (ReadsInOrder-ahead remaining s t handed order known)
 
@@ -201,7 +203,7 @@ same_front m (Some x) (Some y) bs shown kept (inr ended) =
 
 -- a policy that wants bytes, and some capacity, make known what is left
 never_stops : (st : Bool) (o : Option ℕ) (c : ℕ) → (st ≡ true) ⊎ IsSomeAnd o (λ n. 0 < n) → 0 < c
-    → (not (st || wants_some o) || (c == 0)) ≡ false
+    → (not (st || nat_lt 0 (unwrap_or o 0)) || (c == 0)) ≡ false
 never_stops true o c wants some = grind (arith, some)
 never_stops false o c (inl odd) some = cc
 never_stops false None c (inr none) some = absurd none

@@ -54,13 +54,6 @@ pub record ReaderWent {S P : Type 0} (remaining : S → Option (List ℕ))
   pub once : ReadsWhenEmpty rules
       → s.own_calls.fills.zero_fills + t.log.reads.zero_reads ≤ t.own_calls.fills.zero_fills + s.log.reads.zero_reads
 
--- what `fill_told()` does, once its slice is given back: it fills, and tells what it shows
-pub record FillTold {S P : Type 0} (remaining : S → Option (List ℕ)) (rules : ReadRules P)
-    (s : Buffered S P) (answer : Result (Bor (List ℕ)) Error) (t : Buffered S P) : Type 0 where
-  pub tells : FillTells (reader_log s) answer (reader_log t)
-  pub went : ReaderWent remaining rules s t
-  pub fills : Fills rules s answer t
-
 FaultsAlike-none : (xs ys : List Error) → FaultsAlike xs xs ys ys
 FaultsAlike-none xs ys = record { more = []; first = sym (append-nil xs); second = sym (append-nil ys) }
 

@@ -1,10 +1,9 @@
 -- Which seeks a seek of a buffered reader makes, and what it does to the reader.
-use Rattle.std.specs.Prelude.{◌≡◌, ℕ, ℤ, pos, ◌+◌, ◌-◌, ◌^◌, ◌<◌, ◌-ℤ◌, neg_ℤ, nat_le, int_le, ◌⊎◌, length, Option, None, Some, Result, Ok, Err, MatchResult, OnOk, OnErr, if◌then◌else◌}
-use Rattle.std.specs.IoError.{error_kind}
+use Rattle.std.specs.Prelude.{◌≡◌, ℕ, ℤ, pos, ◌-◌, ◌^◌, ◌-ℤ◌, neg_ℤ, nat_le, int_le, ◌⊎◌, length, Option, None, Some, Result, Ok, Err, MatchResult, OnOk, OnErr, if◌then◌else◌}
 use Rattle.std.specs.declared.io.Error.{Error}
-use Rattle.std.specs.declared.io.ErrorKind.TheVariants.{InvalidData}
 use Rattle.std.specs.declared.io.traits.SeekFrom.{SeekFrom}
 use Rattle.std.specs.declared.io.traits.SeekFrom.TheVariants.{Start, End, Current}
+use Rattle.std.specs.Option.{option_and_then}
 use Rattle.redux_buffer.specs.Block.{Clears}
 use Rattle.redux_buffer.specs.StreamLog.{Readies, SeekTells}
 use Rattle.buffer_redux.specs.declared.buf_reader.seek.SeekPlan.{SeekPlan}
@@ -44,14 +43,10 @@ pub record SeekLeaves {S P A : Type 0} (s : Buffered S P) (answer : Result A Err
   pub ok : OnOk answer (Clears s.block t.block)
   pub err : OnErr answer ((t.block ≡ s.block) ⊎ Clears s.block t.block)
 
--- the place that is len bytes before one that is known
-abbrev pub place_before : ℕ → Option ℕ → Option ℕ
-place_before len None = None
-place_before len (Some place) = if nat_le len place then Some (place - len) else None
-
 -- where a reader is known to stand: before the stream inside by the bytes that are buffered
 abbrev pub reader_position : {S P : Type 0} → (S → Option ℕ) → Buffered S P → Option ℕ
-reader_position position r = place_before (length r.block.bytes) (position r.inner)
+reader_position position r = option_and_then
+    (λ place. if nat_le (length r.block.bytes) place then Some (place - length r.block.bytes) else None) (position r.inner)
 
 -- one seek from where the reader stands, as a seek is planned, and its answer without the place
 pub record SeeksBy {S P : Type 0} (readies : Readies) (offset : ℤ) (s : Buffered S P)
@@ -60,19 +55,3 @@ pub record SeeksBy {S P : Type 0} (readies : Readies) (offset : ℤ) (s : Buffer
   pub answered : MatchResult place (λ _. answer ≡ Ok tt) (λ e. answer ≡ Err e)
   pub seeks : Seeks readies (plan_for (Current offset) (length s.block.bytes)) s place t
   pub leaves : SeekLeaves s place t
-
--- the place len bytes before the one that the stream inside said; where it said less than that, there is none
-abbrev pub SaysPlace : ℕ → Result ℕ Error → Result ℕ Error → Type 0
-SaysPlace len (Ok at) (Ok n) = n + len ≡ at
-SaysPlace len (Ok at) (Err e) = (at < len) × (error_kind e ≡ InvalidData)
-SaysPlace len (Err x) answer = answer ≡ Err x
-
--- the stream inside was asked for its place, by one seek by nothing, and nothing else was done
-pub record AsksPlace {S P : Type 0} (readies : Readies) (s : Buffered S P) (answer : Result ℕ Error)
-    (t : Buffered S P) : Type 0 where
-  pub place : Result ℕ Error
-  pub told : SeekTells readies s.log (Current (pos 0)) place t.log
-  pub says : SaysPlace (length s.block.bytes) place answer
-  pub block : t.block ≡ s.block
-  pub policy : t.policy ≡ s.policy
-  pub noted : t.own_calls ≡ s.own_calls

@@ -7,7 +7,7 @@ use Rattle.std.specs.declared.io.ErrorKind.TheVariants.{TimedOut}
 use Rattle.buffer_redux.specs.Policy.{ReadRules}
 use Rattle.buffer_redux.specs.Buffered.{Buffered}
 use Rattle.buffer_redux.specs.ReadAll.{HandedFront}
-use Rattle.buffer_redux.specs.ReadUntil.{DropsFirst, EndsLeaving}
+use Rattle.buffer_redux.specs.ReadUntil.{DropsFirst, EndsUntil}
 
 -- what a sink is: how it takes bytes in, and how much it holds then; what it may leave at the end of those that it is shown; and
 -- why it takes none of them
@@ -83,4 +83,4 @@ module _ {S P K : Type 0} (remaining : S → Option (List ℕ)) (rules : ReadRul
     pub handed : List ℕ
     pub took : sink.takes k handed l
     pub front : HandedFront remaining rules s handed t
-    pub ends : EndsLeaving sink.leaves (λ _ e bytes. sink.refuses l bytes e) remaining rules byte s answer handed t
+    pub ends : EndsUntil sink.leaves (λ _ e bytes. sink.refuses l bytes e) remaining rules byte s answer handed t

@@ -1,16 +1,11 @@
 -- How calls of a reader spare its plain buffer moves, over any trace of them.
-use Rattle.std.specs.Prelude.{◌≡◌, ℕ, ◌+◌, ◌*◌, ◌≤◌, ◌⊎◌, [], length, Result}
+use Rattle.std.specs.Prelude.{◌≡◌, ℕ, ◌+◌, ◌*◌, ◌≤◌, [], length}
 use Rattle.std.proofs.Common.{◌∙◌, arith, le_refl, le_trans, refl}
-use Rattle.std.specs.declared.io.Error.{Error}
-use Rattle.std.specs.declared.io.traits.SeekFrom.{SeekFrom}
-use Rattle.redux_buffer.specs.Block.{Block, Plain, IsBlock, Reserves}
-use Rattle.redux_buffer.specs.GrowError.{GrowthFailed}
+use Rattle.redux_buffer.specs.Block.{Plain, IsBlock}
 use Rattle.redux_buffer.specs.Potential.{potential}
 use Rattle.buffer_redux.specs.Policy.{ReadRules, ClaimsToSpare}
-use Rattle.redux_buffer.specs.StreamLog.{Readies, StreamLog}
-use Rattle.buffer_redux.specs.Buffered.{Buffered, with_block, with_calls}
-use Rattle.buffer_redux.specs.Seek.{plan_for, Seeks}
-use Rattle.std.specs.Result.{IsErrAnd}
+use Rattle.redux_buffer.specs.StreamLog.{StreamLog}
+use Rattle.buffer_redux.specs.Buffered.{Buffered, with_calls}
 
 -- no move was undone, and the potential rose by no more than was given
 pub record PotentialHeld {S P Q : Type 0} (keep : ℕ) (s : Buffered S P) (t : Buffered S Q) : Type 0 where
@@ -39,14 +34,6 @@ pub record BeginsEmpty {S P : Type 0} (keep : ℕ) (s : Buffered S P) : Type 0 w
   pub plain : s.block.kind ≡ Plain
   pub empty : s.block.bytes ≡ []
   pub capacity : 3 * keep ≤ s.block.capacity
-
--- the buffer grew by so many bytes, where they didn't fit, and then the reader sought; or the growth was refused, which is
--- the error, and left all as it was
-abbrev pub GrowsAndSeeks : {S P : Type 0} → Readies → ℕ → SeekFrom → Buffered S P → Result ℕ Error → Buffered S P
-    → Type 0
-GrowsAndSeeks readies more to s answer t = (IsErrAnd answer (GrowthFailed more s.block) × (t ≡ s))
-    ⊎ ((grown : Block) × Reserves more s.block grown
-    × Seeks readies (plan_for to (length grown.bytes)) (with_block s grown) answer t)
 
 -- no call spares every number, and two traces join, also where the policy is another from the second on
 pub Spared-none : {S P : Type 0} (keep : ℕ) (s : Buffered S P) → Spared keep s s

@@ -8,7 +8,8 @@ use Rattle.buffer_redux.specs.Buffered.{Buffered}
 use Rattle.buffer_redux.specs.BufReader.{ReadsAlong}
 use Rattle.buffer_redux.specs.BufWriter.{WritesInOrder}
 use Rattle.buffer_redux.specs.Policy.{ReadRules}
-use Rattle.buffer_redux.specs.Unbuffer.{StreamTook, StreamWent, Unbuffered, unbuffer_remaining, unbuffered}
+use Rattle.buffer_redux.specs.WriterLaws.{WritesInOrder-joins}
+use Rattle.buffer_redux.specs.Unbuffer.{StreamWent, Unbuffered, unbuffer_remaining, unbuffered}
 
 -- known bytes are those that went, and then what is left
 pub left_then : (left left' : Option (List ℕ)) (bytes lost : List ℕ) → left ≡ Some bytes → Consumes left left' lost
@@ -58,16 +59,11 @@ module _ {R : Type 0} (remaining : R → Option (List ℕ)) where
     grows = along.grows;
   }
 
-pub StreamTook-joins : {W : Type 0} (s m t : Unbuffered W) (h k : List ℕ) → StreamTook s h m → StreamTook m k t
-    → StreamTook s (h ++ k) t
-StreamTook-joins s m t h k a b = record {
-  sent = a.sent ++ b.sent;
-  received = b.received ∙ ap (λ l. l ++ b.sent) a.received ∙ append_assoc s.log.writes.received a.sent b.sent;
-  equal = append_assoc a.sent b.sent t.left ∙ ap (λ l. a.sent ++ l) b.equal ∙ sym (append_assoc a.sent m.left k)
-      ∙ ap (λ l. l ++ k) a.equal ∙ append_assoc s.left h k;
-}
-
--- any calls of a buffered writer do so
-pub WritesInOrder-stream : {W P : Type 0} (s : Buffered W P) (bytes : List ℕ) (t : Buffered W P) → WritesInOrder s bytes t
-    → StreamTook (unbuffered s) bytes (unbuffered t)
-WritesInOrder-stream s bytes t went = record { sent = went.sent; received = went.received; equal = went.equal }
+-- what two writers of one stream took, one after another, where the second was made of what the first left
+pub WritesInOrder-over : {W P : Type 0} (s m n t : Buffered W P) (h k : List ℕ) → unbuffered n ≡ unbuffered m
+    → WritesInOrder s h m → WritesInOrder n k t → WritesInOrder s (h ++ k) t
+WritesInOrder-over s m n t h k same p q = WritesInOrder-joins s m t h k p (record {
+  sent = q.sent;
+  received = q.received ∙ ap (λ u. u.log.writes.received ++ q.sent) same;
+  equal = q.equal ∙ ap (λ u. u.left ++ k) same;
+})

@@ -6,14 +6,12 @@ use Rattle.std.proofs.lemmas.List.{append_cancel_left, nil_from_length}
 use Rattle.std.specs.Io.BufRead.{take_through, drop_through, DropsThrough}
 use Rattle.std.specs.Io.KnownBytes.{Consumes}
 use Rattle.std.specs.declared.io.Error.{Error}
-use Rattle.redux_buffer.specs.Retried.{Step}
 use Rattle.buffer_redux.specs.Policy.{ReadRules}
 use Rattle.buffer_redux.specs.Buffered.{Buffered}
 use Rattle.buffer_redux.specs.BufReader.{ReadsAlong, ReadsToEnd}
 use Rattle.buffer_redux.specs.ReadAll.{HandedFront}
-use Rattle.buffer_redux.specs.ReadBehind.{FillsOn}
 use Rattle.buffer_redux.specs.ReaderLaws.{ReadsAlong-left, ReadsToEnd-known, ReaderKeeps-along, WantsBytes}
-use Rattle.buffer_redux.specs.ReadUntil.{EndsIn, EndsUntil, Lacks, ReadsUntil, SkipsUntil, Stops, no_count, no_memory}
+use Rattle.buffer_redux.specs.ReadUntil.{EndsIn, EndsUntil, Lacks, ReadsUntil, SkipsUntil, Stops, no_memory}
 use Rattle.buffer_redux.specs.Remaining.{ahead, may_stop, reader_remaining}
 use Rattle.buffer_redux.specs.RemainingLaws.{may_stop-false}
 
@@ -71,12 +69,12 @@ IfSome-if false a Q h = h refl
 
 module _ {S P : Type 0} (remaining : S → Option (List ℕ)) (rules : ReadRules P) (byte : ℕ) (s : Buffered S P) where
   -- at Ok just those were handed out that are known to be left up to the byte
-  pub EndsUntil-known : (fill : Step (Buffered S P) (Unit {0})) (stops : Stops) (n : ℕ) (handed : List ℕ) (t : Buffered S P)
-      → HandedFront remaining rules s handed t → EndsUntil remaining rules fill stops byte s (Ok n) handed t
+  pub EndsUntil-known : (leaves : List ℕ → Type 0) (stops : Stops) (n : ℕ) (handed : List ℕ) (t : Buffered S P)
+      → HandedFront remaining rules s handed t → EndsUntil leaves stops remaining rules byte s (Ok n) handed t
       → IfSome (reader_remaining remaining rules s) (λ xs. handed ≡ take_through byte xs)
-  EndsUntil-known fill stops n handed t front ends = elim ends [
+  EndsUntil-known leaves stops n handed t front ends = elim ends [
     | inl reached ↦ ending_known byte (reader_remaining remaining rules s) (reader_remaining remaining rules t) handed
-        reached.ends
+        reached.0
         (ReadsAlong-left remaining rules s handed t
         (ReaderKeeps-along remaining rules s handed t front.in_order front.keeps))
     | inr all ↦ IfSome-if (may_stop rules s) (ahead remaining s) (λ xs. handed ≡ take_through byte xs)
@@ -90,7 +88,7 @@ module _ {S P : Type 0} (remaining : S → Option (List ℕ)) (rules : ReadRules
       → IfOk answer (λ n. IfSome (reader_remaining remaining rules s) (λ xs. n ≡ length (take_through byte xs)))
   SkipsUntil-known (Err e) t skips = tt
   SkipsUntil-known (Ok n) t skips = counted_known byte skips.handed n skips.count (reader_remaining remaining rules s)
-      (EndsUntil-known (FillsOn (λ left. left ≡ []) remaining rules) no_count n skips.handed t skips.front skips.ends)
+      (EndsUntil-known (λ left. left ≡ []) no_memory n skips.handed t skips.front skips.ends)
 
   -- at Ok just the bytes known to be left up to the byte were appended
   pub ReadsUntil-known : (before : List ℕ) (answer : Result ℕ Error) (after : List ℕ) (t : Buffered S P)
@@ -99,7 +97,7 @@ module _ {S P : Type 0} (remaining : S → Option (List ℕ)) (rules : ReadRules
   ReadsUntil-known before (Err e) after t reads = tt
   ReadsUntil-known before (Ok n) after t reads = appended_known byte before reads.handed after reads.appended
       (reader_remaining remaining rules s)
-      (EndsUntil-known (FillsOn (λ left. left ≡ []) remaining rules) no_memory n reads.handed t reads.front reads.ends)
+      (EndsUntil-known (λ left. left ≡ []) no_memory n reads.handed t reads.front reads.ends)
 
   -- at Ok just the bytes known to be left up to the byte are gone
   pub ReadsUntil-drops : (before : List ℕ) (n : ℕ) (after : List ℕ) (t : Buffered S P)
@@ -109,7 +107,7 @@ module _ {S P : Type 0} (remaining : S → Option (List ℕ)) (rules : ReadRules
       (reader_remaining remaining rules t) reads.handed
       (ReadsAlong-left remaining rules s reads.handed t
       (ReaderKeeps-along remaining rules s reads.handed t reads.front.in_order reads.front.keeps))
-      (EndsUntil-known (FillsOn (λ left. left ≡ []) remaining rules) no_memory n reads.handed t reads.front reads.ends)
+      (EndsUntil-known (λ left. left ≡ []) no_memory n reads.handed t reads.front reads.ends)
 
   -- the call as a trace, whatever it answers
   pub ReadsUntil-along : (before : List ℕ) (answer : Result ℕ Error) (after : List ℕ) (t : Buffered S P)
@@ -126,7 +124,7 @@ module _ {S P : Type 0} (remaining : S → Option (List ℕ)) (rules : ReadRules
   pub ReadsUntil-piece : (before : List ℕ) (n : ℕ) (after : List ℕ) (t : Buffered S P)
       → (reads : ReadsUntil remaining rules byte s before (Ok n) after t) → EndsIn byte reads.handed ⊎ Lacks byte reads.handed
   ReadsUntil-piece before n after t reads = elim reads.ends [
-    | inl reached ↦ inl reached.ends
+    | inl reached ↦ inl reached.0
     | inr ended ↦ inr ended.fills.passes.plain
   ]
 
@@ -138,8 +136,8 @@ module _ {S P : Type 0} (remaining : S → Option (List ℕ)) (rules : ReadRules
     | inl reached ↦ absurd (omega (
       arith,
       reads.count,
-      ap length reached.ends.equal,
-      length-append reached.ends.front (byte ∷ []),
+      ap length reached.0.equal,
+      length-append reached.0.front (byte ∷ []),
     ))
     | inr ended ↦ (
       reads.appended ∙ ap (λ l. before ++ l) nothing ∙ append-nil before,

@@ -11,7 +11,7 @@ ghost use Rattle.redux_buffer.specs.StreamLog.{portion};
 ghost use Rattle.buffer_redux.specs.contracts.buf_reader.BufReader.{the_row};
 ghost use Rattle.buffer_redux.specs.Buffered.{over_buffer, with_block, with_inner, with_policy, Makes};
 ghost use Rattle.buffer_redux.specs.BufReader.{ReadsInOrder, ReadErrorCaused, EmptyReadCaused, RanDry, FillBuf, ReaderConsumes, ReaderKeeps, Reads, ReadsIntoBuf};
-ghost use Rattle.buffer_redux.specs.ReadAll.{HandedBeginning, ReadsExactly};
+ghost use Rattle.buffer_redux.specs.ReadAll.{ReadsExactly};
 ghost use Rattle.buffer_redux.specs.ReaderLaws.{WantsBytes};
 ghost use Rattle.buffer_redux.specs.Remaining.{reader_remaining};
 ghost use Rattle.buffer_redux.specs.Sparing.{Spared};
@@ -314,7 +314,7 @@ impl<R: TellRead, P: ReaderPolicy> Read for BufReader<R, P> {
         ensures bytes { OnOk result (Consumes (reader_remaining R.remaining P.rules self.old)
             (reader_remaining R.remaining P.rules self.new) out.new) }
         ensures in_order { OnOk result (ReadsInOrder self.old out.new self.new) }
-        ensures beginning { HandedBeginning out.new self.old self.new }
+        ensures beginning { (count : ℕ) × (count ≤ length out.new) × ReadsInOrder self.old (take count out.new) self.new }
         ensures retried { IfErr result (λ e. error_kind e ≢ ErrorKind.Interrupted) }
         ensures whole { IsBlock self.new.block }
         ensures steps { ReadsExactly R.remaining P.rules self.old result out.new self.new }

@@ -1,10 +1,10 @@
 //! A reader that gives its buffer up.
-ghost use Rattle.std.specs.Prelude.{◌≡◌, ◌==◌, ◌<◌, length, []};
+ghost use Rattle.std.specs.Prelude.{◌≡◌, ◌==◌, ◌<◌, length, min, drop, Ok, []};
 ghost use Rattle.std.specs.Io.{ReadsAtMost};
 ghost use Rattle.std.specs.Io.KnownBytes.{ReadConsumes};
 ghost use Rattle.redux_buffer.specs.LogGrows.{ReadLogGrows};
 ghost use Rattle.redux_buffer.specs.StreamLog.{portion, after_read};
-ghost use Rattle.buffer_redux.specs.Unbuffer.{unbuffered, unbuffer_remaining, HandsOutInOrder, HandsOutLeft};
+ghost use Rattle.buffer_redux.specs.Unbuffer.{unbuffered, unbuffer_remaining, HandsOutInOrder};
 
 use crate::buf_reader::BufReader;
 use redux_buffer::Buffer;
@@ -107,7 +107,9 @@ impl<R: TellRead> Read for Unbuffer<R> {
             (unbuffer_remaining R.remaining self.new) result out.new }
         ensures in_order { HandsOutInOrder self.old (portion out.new result) self.new }
         ensures grows { ReadLogGrows self.old.log.reads self.new.log.reads }
-        ensures left { 0 < length self.old.left → HandsOutLeft self.old out.old result out.new self.new }
+        ensures left { 0 < length self.old.left → (result ≡ Ok (min (length self.old.left) (length out.old)))
+            × (self.new ≡ record self.old { left = drop (length out.old) self.old.left })
+            × (drop (length self.old.left) out.new ≡ drop (length self.old.left) out.old) }
         ensures asked { length self.old.left ≡ 0
             → (self.new.left ≡ []) × (self.new.log ≡ after_read self.old.log out.new result) }
     {

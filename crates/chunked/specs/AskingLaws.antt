@@ -112,7 +112,7 @@ module _ {R : Type 0} where
   turns_asked : (k : ℕ) (s t : Buffered R StdPolicy) → Turns std_read_rules k s t
       → t.log.reads.asks ≡ s.log.reads.asks + k
   turns_asked zero s t same = omega (arith, ap (λ x. x.log.reads.asks) same)
-  turns_asked (suc k) s t (m, run, turn) = omega (arith, turns_asked k s m run, ap (λ l. l.reads.asks) turn.read.told)
+  turns_asked (suc k) s t (m, run, count, some, turn) = omega (arith, turns_asked k s m run, ap (λ l. l.reads.asks) turn.read.told)
 
   no_turn : (k : ℕ) (s t : Buffered R StdPolicy) → Turns std_read_rules k s t → k ≡ 0 → t.log ≡ s.log
   no_turn zero s t same none = ap (λ x. x.log) (sym same)
@@ -138,8 +138,8 @@ module _ {R : Type 0} where
         elim f.ends [
           | inl declined ↦ declined.told
               ∙ no_turn f.count s f.last f.turns (omega (arith, same, asked, ap (λ l. l.reads.asks) declined.told))
-          | inr (inl full) ↦ full.told
-              ∙ no_turn f.count s f.last f.turns (omega (arith, same, asked, ap (λ l. l.reads.asks) full.told))
+          | inr (inl full) ↦ full.1.told
+              ∙ no_turn f.count s f.last f.turns (omega (arith, same, asked, ap (λ l. l.reads.asks) full.1.told))
           | inr (inr end) ↦ absurd (omega (arith, same, asked, ap (λ l. l.reads.asks) end.read.told))
         ]
     unasked (Err e) fills same =
@@ -156,8 +156,8 @@ module _ {R : Type 0} where
       | inl more ↦
           let ask = fills.last more in
           let none = none_of (length ask.before.block.bytes) ask.ordered.asked.allowed.2 in
-          once s ask.before t ask.out ask.answer (nil_from_length s.block.bytes (omega (arith, ask.saw, none)))
-          (no_turn ask.count s ask.before ask.turns (omega (arith, ask.saw, none))) ask.told
+          once s ask.before t ask.ordered.read.out ask.answer (nil_from_length s.block.bytes (omega (arith, ask.saw, none)))
+          (no_turn ask.count s ask.before ask.turns (omega (arith, ask.saw, none))) (ask.told ∙ ask.ordered.read.told)
       | inr same ↦ inl (unasked answer fills (omega (arith, same, fills.grows.asks)))
     ]
 
@@ -232,7 +232,7 @@ module _ {R : Type 0} where
       elim fills.filled.ends [
         | inl refused ↦ absurd refused.asked.allowed
         | inr faulted ↦
-            let asked = faulted.ordered.asked in
+            let asked = faulted.asked in
             faulted.read.added.bytes ∙ append-nil faulted.seen.bytes ∙ asked.law.bytes
             ∙ nil_from_length last.block.bytes (none_of (length last.block.bytes) asked.allowed.2)
       ]

@@ -1,7 +1,8 @@
 //! Laws, each as the contract of a function over the calls.
 ghost use Rattle.std.specs.Prelude.{◌≡◌, ℕ, List, [], ◌∷◌, ◌++◌, IfOk, None, Ok};
+ghost use Rattle.buffer_redux.specs.BufWriter.{WritesInOrder};
 ghost use Rattle.buffer_redux.specs.Sparing.{MovedAtMostGiven};
-ghost use Rattle.buffer_redux.specs.Unbuffer.{StreamTook, StreamWent, unbuffered};
+ghost use Rattle.buffer_redux.specs.Unbuffer.{StreamWent, unbuffered};
 ghost use Rattle.codec.specs.Encoding.{all_coded};
 ghost use Rattle.piece_reader.specs.KnownPieces.{HasLeft, NextKnown};
 ghost use Rattle.piece_reader.specs.NextPiece.{NextAnswer, NextPiece, PiecesWent};
@@ -104,8 +105,8 @@ pub fn written_over<W: TellWrite, E: Encoder, F: Encoder>(
     ensures took { IfOk result (λ next. (first : WriterState W E) (last : WriterState W F) (payloads later : List (List ℕ))
         → PiecesTaken W.trace (E.encoding writer.encoder) first payloads writer
         → PiecesTaken W.trace (F.encoding encoder) next later last
-        → StreamTook (unbuffered first.writer)
-        (all_coded (E.encoding writer.encoder) payloads ++ all_coded (F.encoding encoder) later) (unbuffered last.writer)) }
+        → WritesInOrder first.writer
+        (all_coded (E.encoding writer.encoder) payloads ++ all_coded (F.encoding encoder) later) last.writer) }
 {
     let (inner, buffer) = writer.into_inner_with_buffer();
     PieceWriter::with_buffer(alloc, buffer, inner, encoder)

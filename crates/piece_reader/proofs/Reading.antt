@@ -37,19 +37,19 @@ turns_gave zero s m same = record {
   many = omega arith;
   policy = ap (λ x. x.policy) (sym same);
 }
-turns_gave (suc k) s t (m, run, turn) =
+turns_gave (suc k) s t (m, run, count, some, turn) =
     let before = turns_gave k s m run in
-    let more = take turn.count turn.read.out in
-    let size : length more ≡ turn.count = length-take-le turn.count turn.read.out turn.read.bound.0 in
+    let more = take count turn.read.out in
+    let size : length more ≡ count = length-take-le count turn.read.out turn.read.bound.0 in
     record {
       got = before.got ++ more;
       given = ap (λ l. l.reads.given) turn.read.told ∙ ap (λ l. l ++ more) before.given
           ∙ append_assoc s.log.reads.given before.got more;
-      bytes = turn.read.added.bytes ∙ ap (λ l. l ++ more) (turn.ordered.asked.law.bytes ∙ before.bytes)
+      bytes = turn.read.added.bytes ∙ ap (λ l. l ++ more) (turn.asked.law.bytes ∙ before.bytes)
           ∙ append_assoc s.block.bytes before.got more;
       asks = omega (arith, ap (λ l. l.reads.asks) turn.read.told, before.asks);
-      many = omega (arith, before.many, size, turn.some, length-append before.got more);
-      policy = turn.ordered.asked.allowed.0 ∙ before.policy;
+      many = omega (arith, before.many, size, some, length-append before.got more);
+      policy = turn.asked.allowed.0 ∙ before.policy;
     }
 
 -- the log of a fill: nothing was asked; or the stream was asked, the last time where fewer bytes than the policy's number
@@ -81,8 +81,8 @@ module _ {S : Type 0} (s : Buffered S MinBuffered) where
   asked_turns : (k : ℕ) (m t : Buffered S MinBuffered) → Turns min_read_rules k s m → t.log ≡ m.log
       → (t.log ≡ s.log) ⊎ AsksFew s t
   asked_turns zero m t same told = inl (told ∙ ap (λ x. x.log) (sym same))
-  asked_turns (suc k) m t (v, run, turn) told =
-      inr (asked_after k v t run turn.ordered.asked.allowed.1.0 (take turn.count turn.read.out)
+  asked_turns (suc k) m t (v, run, count, some, turn) told =
+      inr (asked_after k v t run turn.asked.allowed.1.0 (take count turn.read.out)
       (ap (λ l. l.reads.given) told ∙ ap (λ l. l.reads.given) turn.read.told)
       (ap (λ l. l.reads.latest) told ∙ ap (λ l. l.reads.latest) turn.read.told)
       (ap (λ l. l.reads.asks) told ∙ ap (λ l. l.reads.asks) turn.read.told))
@@ -92,15 +92,15 @@ module _ {S : Type 0} (s : Buffered S MinBuffered) where
       → Filled min_read_rules s answer t → (t.log ≡ s.log) ⊎ AsksFew s t
   fill_asked (Ok a) t f = elim f.ends [
     | inl declined ↦ asked_turns f.count f.last t f.turns declined.told
-    | inr (inl full) ↦ asked_turns f.count f.last t f.turns full.told
-    | inr (inr dry) ↦ inr (asked_after f.count f.last t f.turns dry.ordered.asked.allowed.1.0 (take 0 dry.read.out)
+    | inr (inl full) ↦ asked_turns f.count f.last t f.turns full.1.told
+    | inr (inr dry) ↦ inr (asked_after f.count f.last t f.turns dry.asked.allowed.1.0 (take 0 dry.read.out)
         (ap (λ l. l.reads.given) dry.read.told) (ap (λ l. l.reads.latest) dry.read.told) (ap (λ l. l.reads.asks) dry.read.told))
   ]
   fill_asked (Err e) t f = elim f.ends [
     | inl refused ↦ asked_turns f.count f.last t f.turns refused.told
     | inr fault ↦
         let told = fault.read.told in
-        inr (asked_after f.count f.last t f.turns fault.ordered.asked.allowed.1.0 [] (ap (λ l. l.reads.given) told)
+        inr (asked_after f.count f.last t f.turns fault.asked.allowed.1.0 [] (ap (λ l. l.reads.given) told)
         (ap (λ l. l.reads.latest) told) (ap (λ l. l.reads.asks) told))
   ]
 

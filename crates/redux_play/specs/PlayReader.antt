@@ -12,8 +12,7 @@ use Rattle.redux_play.specs.declared.play.ReaderAnswer.TheVariants.{Count, Shown
 use Rattle.buffer_redux.specs.Policy.{ReadRules}
 use Rattle.buffer_redux.specs.Buffered.{Buffered, with_block}
 use Rattle.buffer_redux.specs.Fill.{Filled}
-use Rattle.buffer_redux.specs.BufReader.{ReadsInOrder, ReadErrorCaused, EmptyReadCaused, EmptyFillCaused, ReaderConsumes}
-use Rattle.buffer_redux.specs.ReadAll.{ReadSteps}
+use Rattle.buffer_redux.specs.BufReader.{Reads, ReadsInOrder, ReadErrorCaused, EmptyReadCaused, EmptyFillCaused, ReaderConsumes}
 use Rattle.redux_play.specs.PlayRoom.{FaultOf, Runs}
 use Rattle.buffer_redux.specs.Sparing.{SparesClaimed}
 
@@ -33,7 +32,7 @@ pub record ReadCounted {S P : Type 0} (rules : ReadRules P) (s : Buffered S P) (
   pub whole : 0 < length t.block.bytes → k ≡ n
   pub caused : ReadErrorCaused rules s (Ok k) t
   pub empty : k ≡ 0 → 0 < n → EmptyReadCaused rules s t
-  pub steps : ReadSteps rules s n (Ok k) t
+  pub steps : (before : List ℕ) × (after : List ℕ) × (length before ≡ n) × Reads rules s before (Ok k) after t
 
 -- `Fill` with `Shown(k)`: all that is buffered was shown
 pub record FillShown {S P : Type 0} (rules : ReadRules P) (s : Buffered S P) (k : ℕ) (out : List ℕ)
@@ -50,7 +49,8 @@ abbrev pub ReaderAnswers : {S P : Type 0} → ReadRules P → Buffered S P → R
     → Buffered S P → Type 0
 ReaderAnswers rules s (Read n) (Count k) out t = ReadCounted rules s n k out t
 ReaderAnswers rules s (Read n) (Fault kind) out t = (out ≡ [])
-    × FaultOf kind (λ e. ReadErrorCaused {A = ℕ} rules s (Err e) t × ReadSteps rules s n (Err e) t)
+    × FaultOf kind (λ e. ReadErrorCaused {A = ℕ} rules s (Err e) t
+    × ((before : List ℕ) × (after : List ℕ) × (length before ≡ n) × Reads rules s before (Err e) after t))
 ReaderAnswers rules s Fill (Shown k) out t = FillShown rules s k out t
 ReaderAnswers rules s Fill (Fault kind) out t = (out ≡ [])
     × FaultOf kind (λ e. ReadErrorCaused {A = ℕ} rules s (Err e) t × Filled {A = ℕ} rules s (Err e) t)

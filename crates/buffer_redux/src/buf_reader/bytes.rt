@@ -1,9 +1,12 @@
 //! Calls for one byte, and for a look at bytes ahead.
-ghost use Rattle.std.specs.Prelude.{◌+◌, ◌≤◌, length, min};
+ghost use Rattle.std.specs.Prelude.{◌≡◌, ◌+◌, ◌<◌, ◌≤◌, [], length, min, take, IfOk};
 ghost use Rattle.std.specs.Borrow.{sem};
 ghost use Rattle.std.specs.Io.BufRead.{Rests};
+ghost use Rattle.redux_buffer.specs.Block.{MakesRoom, MovesToFront, usable};
+ghost use Rattle.buffer_redux.specs.BufReader.{ReadsInOrder};
+ghost use Rattle.buffer_redux.specs.Buffered.{with_block};
 ghost use Rattle.buffer_redux.specs.contracts.buf_reader.BufReader.{the_row};
-ghost use Rattle.buffer_redux.specs.Peek.{MakesRoomFor, Peeks, ReadsAhead};
+ghost use Rattle.buffer_redux.specs.Peek.{ReadsAhead};
 ghost use Rattle.buffer_redux.specs.ReadByte.{FillsAndTakes, ReadsByte, TakesFirst};
 
 use crate::buf_reader::BufReader;
@@ -78,7 +81,8 @@ impl<R: TellRead, P: ReaderPolicy> BufReader<R, P> {
     #[inline(always)]
     pub fn peek(&mut self, n: usize) -> io::Result<&[u8]>
         ensures* after_borrow { sem 𝓛 (Rests (the_row R.row P.row R.Tell) self.entry
-            (Peeks R.remaining P.rules (min n self.entry.now.block.capacity) self.entry.now result)) }
+            (λ t. ReadsAhead R.remaining P.rules (min n self.entry.now.block.capacity) self.entry.now result t
+            × IfOk result (λ bytes. bytes.now ≡ take (min n self.entry.now.block.capacity) t.block.bytes))) }
     {
         let n = n.min(self.buf.capacity());
         self.read_ahead(n)?;
@@ -126,7 +130,10 @@ impl<R: TellRead, P: ReaderPolicy> BufReader<R, P> {
     // Makes room, unless `more` bytes fit behind those that are buffered.
     fn make_room_for(&mut self, more: usize)
         requires fits { length self.old.block.bytes + more ≤ self.old.block.capacity }
-        ensures makes { MakesRoomFor more self.old self.new }
+        ensures enough { more ≤ usable self.old.block → self.new ≡ self.old }
+        ensures lacking { usable self.old.block < more → MakesRoom self.old.block self.new.block
+            × MovesToFront self.old.block self.new.block × ReadsInOrder self.old [] self.new
+            × (self.new ≡ with_block self.old self.new.block) }
     {
         if self.buf.usable_space() < more {
             self.make_room();

@@ -1,11 +1,17 @@
 //! A line of text.
-ghost use Rattle.std.specs.Prelude.{◌≡◌, ◌+◌, ◌<◌, ◌≤◌, ◌++◌, length, IfNone, IfOk, IfSome, OnOk, string_bytes};
+ghost use Rattle.std.specs.Prelude.{◌≡◌, ◌+◌, ◌*◌, ◌<◌, ◌≤◌, ◌++◌, ◌⊎◌, ℕ, List, [], length, drop, Ok, Err, IfErr, IfNone, IfOk, IfSome, IsUtf8, MatchResult, OnOk, string_bytes};
 ghost use Rattle.std.proofs.Common.{subst, sym};
 ghost use Rattle.std.specs.Io.BufRead.{take_through};
+ghost use Rattle.std.specs.IoError.{error_kind};
+ghost use Rattle.std.specs.declared.io.ErrorKind.TheVariants.{InvalidData};
 ghost use Rattle.redux_buffer.specs.Block.{IsBlock, usable};
-ghost use Rattle.buffer_redux.specs.ReadBehind.{FillsMore, MakesSpace, ReadsBehind};
-ghost use Rattle.buffer_redux.specs.ReadLine.{AppendsLine, FrontOf, InvalidCaused, NeverUtf8, ReadsLine};
-ghost use Rattle.buffer_redux.specs.ReadUntil.{Lacks};
+ghost use Rattle.redux_buffer.specs.GrowError.{GrowthRefused};
+ghost use Rattle.buffer_redux.specs.BufReader.{RanDry};
+ghost use Rattle.buffer_redux.specs.Buffered.{with_block};
+ghost use Rattle.buffer_redux.specs.ReadAll.{HandedFront};
+ghost use Rattle.buffer_redux.specs.ReadBehind.{FillsOn, FillsOrReads, ReadsBehind};
+ghost use Rattle.buffer_redux.specs.ReadLine.{AppendsLine, IsPart, NeverUtf8, ReadsLine};
+ghost use Rattle.buffer_redux.specs.ReadUntil.{Lacks, PassesAndFills};
 ghost use Rattle.buffer_redux.specs.Remaining.{reader_remaining};
 
 use crate::buf_reader::BufReader;
@@ -36,7 +42,10 @@ impl<R: TellRead, P: ReaderPolicy> BufReader<R, P> {
         ensures line { ReadsLine R.remaining P.rules self.old (string_bytes out.old) result (string_bytes out.new) self.new }
         ensures bytes { OnOk result (IfSome (reader_remaining R.remaining P.rules self.old)
             (λ xs. string_bytes out.new ≡ string_bytes out.old ++ take_through 10 xs)) }
-        ensures invalid { InvalidCaused R.remaining P.rules self.old result self.new }
+        // It is of the last fill or read, so the stream's or the policy's; or the line is no UTF-8, where std knows it.
+        ensures invalid { IfErr result (λ e. error_kind e ≡ InvalidData → ((handed : List ℕ) × PassesAndFills R.remaining
+            P.rules (FillsOn IsPart R.remaining P.rules) 10 self.old handed (Err e) self.new)
+            ⊎ IfSome (reader_remaining R.remaining P.rules self.old) (λ xs. ¬ (IsUtf8 (take_through 10 xs)))) }
     {
         match first_of(b'\n', self.buf.buf()) {
             Some(at) => {
@@ -89,7 +98,12 @@ impl<R: TellRead, P: ReaderPolicy> BufReader<R, P> {
 
     // Fills, or reads on behind what is buffered: there the end of the stream is `InvalidData`.
     pub(super) fn fill_more(&mut self) -> io::Result<()>
-        ensures fills { FillsMore R.remaining P.rules self.old result self.new }
+        ensures fills { MatchResult result (λ _. FillsOrReads R.remaining P.rules self.old (Ok tt) self.new
+            × (0 < length self.old.block.bytes → length self.old.block.bytes < length self.new.block.bytes))
+            (λ e. FillsOrReads R.remaining P.rules self.old (Err e) self.new
+            ⊎ ((error_kind e ≡ InvalidData) × FillsOrReads R.remaining P.rules self.old (Ok tt) self.new
+            × (0 < length self.old.block.bytes) × (self.new.block.bytes ≡ self.old.block.bytes)
+            × RanDry self.old self.new)) }
     {
         let len = self.buf.len();
         if len == 0 {
@@ -116,7 +130,13 @@ impl<R: TellRead, P: ReaderPolicy> BufReader<R, P> {
     // since some other was moved; else it grows.
     fn make_space(&mut self) -> Result<(), GrowError>
         requires some { 0 < length self.old.block.bytes }
-        ensures space { MakesSpace R.remaining P.rules self.old result self.new }
+        ensures front { OnOk result (HandedFront R.remaining P.rules self.old [] self.new) }
+        ensures room { OnOk result (0 < usable self.new.block) }
+        ensures others { self.new ≡ with_block self.old self.new.block }
+        ensures bytes { self.new.block.bytes ≡ self.old.block.bytes }
+        ensures capacity { 2 * length self.old.block.bytes ≤ self.old.block.capacity
+            → self.new.block.capacity ≡ self.old.block.capacity }
+        ensures refused { IfErr result (λ refusal. (self.new ≡ self.old) × GrowthRefused 1 self.old.block refusal) }
         ensures whole { IsBlock self.new.block }
     {
         if self.buf.usable_space() > 0 {
@@ -154,7 +174,8 @@ impl<R: TellRead, P: ReaderPolicy> Attempt<BufReader<R, P>> for ReadingBehind {
 // The text that the bytes begin with, up to a character that they end within; `None` where they are no UTF-8, whatever follows
 // them.
 pub(super) fn text_in_front(bytes: &[u8]) -> Option<&str>
-    ensures front { IfSome result (λ text. FrontOf bytes.now text.now) }
+    ensures front { IfSome result (λ text. (text.now ++ drop (length text.now) bytes.now ≡ bytes.now)
+        × IsUtf8 text.now × IsPart (drop (length text.now) bytes.now)) }
     ensures none { IfNone result (NeverUtf8 bytes.now) }
 {
     match str::from_utf8(bytes) {

@@ -1,10 +1,10 @@
 //! Iterators over the pieces of a stream that end in a byte, and over its lines.
-ghost use Rattle.std.specs.Prelude.{◌≡◌, ◌<◌, string_bytes, vec_items, IsUtf8, MatchResult, OnSome};
+ghost use Rattle.std.specs.Prelude.{◌≡◌, ◌<◌, [], string_bytes, vec_items, IsUtf8, MatchResult, OnSome};
 ghost use Rattle.std.specs.Iterator.{at_most};
 ghost use Rattle.std.specs.Io.BufRead.{ends_with_byte, strip_last};
 ghost use Rattle.std.specs.IoError.{error_kind};
 ghost use Rattle.std.specs.declared.io.ErrorKind.TheVariants.{InvalidData};
-ghost use Rattle.buffer_redux.specs.Pieces.{begins, goes_on, without_end, Gives, GivesLine, GivesPiece};
+ghost use Rattle.buffer_redux.specs.Pieces.{goes_on, without_end, Gives, GivesLine};
 
 use crate::buf_reader::BufReader;
 use crate::policy::{ReaderPolicy, StdPolicy};
@@ -55,14 +55,14 @@ impl<R: TellRead, P> Model for Lines<R, P> {
 impl<R: TellRead, P: ReaderPolicy> BufReader<R, P> {
     /// The pieces of what is left that end in `byte`, each in a vector without it, by [`read_until`](BufReader::read_until).
     pub fn split(self, alloc: Global, byte: u8) -> Split<R, P>
-        ensures { result ≡ begins byte self }
+        ensures { result ≡ goes_on byte self [] }
     {
         Split::from_parts(alloc, self, byte, Vec::new(alloc))
     }
 
     /// The lines of what is left, each in a string without its end.
     pub fn lines(self, alloc: Global) -> Lines<R, P>
-        ensures { result ≡ begins 10 self }
+        ensures { result ≡ goes_on 10 self [] }
     {
         Lines {
             lines: self.split(alloc, b'\n'),
@@ -130,7 +130,7 @@ impl<R: TellRead, P: ReaderPolicy> Split<R, P> {
 impl<R: TellRead + Drop, P: ReaderPolicy + Drop> Iterator for Split<R, P> {
     type Item = io::Result<Vec<u8>>;
 
-    ghost next_gives = { GivesPiece R.remaining P.rules };
+    ghost next_gives = { λ s. Gives R.remaining P.rules (λ v piece. vec_items v ≡ strip_last s.byte piece) s };
 
     ghost remaining = { λ s. at_most s.left };
 

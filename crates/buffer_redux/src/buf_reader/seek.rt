@@ -1,10 +1,14 @@
 //! Seeks of the buffered reader.
-ghost use Rattle.std.specs.Prelude.{◌≡◌, ℕ, pos, ◌^◌, ◌≤◌, length, IfSome, IfOk, Ok};
+ghost use Rattle.std.specs.Prelude.{◌≡◌, ℕ, pos, ◌+◌, ◌^◌, ◌<◌, ◌≤◌, length, IfSome, IfOk, MatchResult, Result, Ok, Err};
 ghost use Rattle.std.specs.Io.KnownBytes.{Keeps};
+ghost use Rattle.std.specs.IoError.{error_kind};
+ghost use Rattle.std.specs.declared.io.Error.{Error};
+ghost use Rattle.std.specs.declared.io.ErrorKind.TheVariants.{InvalidData};
+ghost use Rattle.std.specs.declared.io.traits.SeekFrom.TheVariants.{Current};
 ghost use Rattle.std.specs.Io.Seek.{MovesBy, SeekMoves, StaysAt};
 ghost use Rattle.redux_buffer.specs.Block.{IsBlock, ConsumesFirst};
-ghost use Rattle.redux_buffer.specs.StreamLog.{with_fault};
-ghost use Rattle.buffer_redux.specs.Seek.{plan_for, reader_position, AsksPlace, Seeks, SeeksBy, SeeksOnce, SeekLeaves};
+ghost use Rattle.redux_buffer.specs.StreamLog.{with_fault, SeekTells};
+ghost use Rattle.buffer_redux.specs.Seek.{plan_for, reader_position, Seeks, SeeksBy, SeeksOnce, SeekLeaves};
 ghost use Rattle.buffer_redux.specs.Sparing.{Spared};
 ghost use Rattle.buffer_redux.specs.Buffered.{with_block};
 
@@ -143,7 +147,10 @@ impl<R: TellSeek, P> Seek for BufReader<R, P> {
         ensures stays { StaysAt (reader_position R.stream_position self.old)
             (reader_position R.stream_position self.new) }
         ensures bytes { Keeps (R.stream_bytes self.old.inner) (R.stream_bytes self.new.inner) }
-        ensures asks { AsksPlace R.readies self.old result self.new }
+        ensures asks { (place : Result ℕ Error) × SeekTells R.readies self.old.log (Current (pos 0)) place self.new.log
+            × MatchResult place (λ at. MatchResult result (λ n. n + length self.old.block.bytes ≡ at)
+            (λ e. (at < length self.old.block.bytes) × (error_kind e ≡ InvalidData))) (λ e. result ≡ Err e) }
+        ensures others { self.new ≡ record self.old { inner = self.new.inner; log = self.new.log } }
         ensures whole { IsBlock self.new.block }
     {
         let at = self.inner.seek_told(SeekFrom::Current(0))?;

@@ -5,12 +5,12 @@ ghost use Rattle.std.specs.Io.BufRead.{Rests};
 ghost use Rattle.std.specs.Io.KnownBytes.{Keeps};
 ghost use Rattle.std.specs.Io.Seek.{SeekMoves};
 ghost use Rattle.redux_buffer.specs.Block.{IsBlock};
-ghost use Rattle.redux_buffer.specs.StreamLog.{after_consume, after_fill, SeekTells};
+ghost use Rattle.redux_buffer.specs.StreamLog.{after_consume, after_fill, FillTells, SeekTells};
 ghost use Rattle.buffer_redux.specs.contracts.buf_reader.BufReader.{the_row};
-ghost use Rattle.buffer_redux.specs.BufReader.{ReaderConsumes};
+ghost use Rattle.buffer_redux.specs.BufReader.{Fills, ReaderConsumes};
 ghost use Rattle.buffer_redux.specs.Buffered.{with_calls};
 ghost use Rattle.buffer_redux.specs.Fill.{Filled};
-ghost use Rattle.buffer_redux.specs.ReaderTells.{reader_log, drops_shown, FillTold, ReaderWent, ReaderWent-none, ReaderWent-joins, ReaderWent-grows};
+ghost use Rattle.buffer_redux.specs.ReaderTells.{reader_log, drops_shown, ReaderWent, ReaderWent-none, ReaderWent-joins, ReaderWent-grows};
 ghost use Rattle.buffer_redux.specs.Seek.{plan_for, reader_position, Seeks};
 
 use crate::buf_reader::BufReader;
@@ -45,7 +45,8 @@ impl<R: TellRead, P: ReaderPolicy> TellBufRead for BufReader<R, P> {
 
     fn fill_told(&mut self) -> io::Result<&[u8]>
         ensures* after_borrow { sem 𝓛 (Rests (the_row R.row P.row R.Tell) self.entry
-            (FillTold R.remaining P.rules self.entry.now result)) }
+            (λ t. FillTells (reader_log self.entry.now) result (reader_log t)
+            × ReaderWent R.remaining P.rules self.entry.now t × Fills P.rules self.entry.now result t)) }
     {
         self.fill_noted()?;
         Ok(self.buf.buf())

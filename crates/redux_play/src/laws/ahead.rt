@@ -1,11 +1,10 @@
 //! What a reader shows under a minimum, and when it answers that nothing is left.
 ghost use Rattle.std.specs.Prelude.{◌≡◌, ◌<◌, [], length, take, Ok, None, IfOk, IfSome, OnOk, is_ok, slice_get};
 ghost use Rattle.std.specs.Io.KnownBytes.{Keeps};
-ghost use Rattle.redux_buffer.specs.StreamLog.{portion, after_read};
+ghost use Rattle.redux_buffer.specs.StreamLog.{portion};
 ghost use Rattle.buffer_redux.specs.MinBuffered.{min_read_rules};
-ghost use Rattle.buffer_redux.specs.Buffered.{GoesPast, StaysInside, GoesDirect};
 ghost use Rattle.buffer_redux.specs.BufReader.{Fills, FillsToMinimum, RanDry, ReadErrorCaused, ReadsInOrder};
-ghost use Rattle.buffer_redux.specs.BufReader.{ReadsAlong, ReadsBuffered, ReadsToEnd, LeavesRest, ReaderKeeps};
+ghost use Rattle.buffer_redux.specs.BufReader.{Reads, ReadsAlong, ReadsToEnd, ReaderKeeps};
 ghost use Rattle.buffer_redux.specs.ReaderLaws.{WantsBytes};
 ghost use Rattle.buffer_redux.specs.Remaining.{reader_remaining};
 ghost use Rattle.redux_play.specs.NextByte.{TakesByte};
@@ -45,11 +44,7 @@ pub fn read_until_dry<R: TellRead>(
     ensures ran_dry { result ≡ Ok 0 → 0 < length out.old → 0 < reader.old.policy.0 → RanDry reader.old reader.new }
     ensures in_order { ReadsInOrder reader.old (portion out.new result) reader.new }
     ensures caused { ReadErrorCaused min_read_rules reader.old result reader.new }
-    ensures direct { GoesPast reader.old.block (length out.old)
-        → GoesDirect after_read reader.old out.new result reader.new }
-    ensures buffered { StaysInside reader.old.block (length out.old)
-        → ReadsBuffered min_read_rules reader.old (length out.old) result reader.new }
-    ensures rest { StaysInside reader.old.block (length out.old) → LeavesRest out.old result out.new }
+    ensures steps { Reads min_read_rules reader.old out.old result out.new reader.new }
     ensures keeps { ReaderKeeps R.remaining min_read_rules reader.old reader.new }
 {
     reader.read(out)

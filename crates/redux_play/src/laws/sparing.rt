@@ -1,11 +1,15 @@
 //! Runs that spare a plain buffer moves, one after another.
-ghost use Rattle.std.specs.Prelude.{◌≡◌, ℕ, ◌≤◌, is_ok};
+ghost use Rattle.std.specs.Prelude.{◌≡◌, ℕ, ◌≤◌, ◌⊎◌, is_ok, length};
 ghost use Rattle.std.specs.List.{All};
-ghost use Rattle.buffer_redux.specs.Buffered.{Buffered, with_policy};
+ghost use Rattle.std.specs.Result.{IsErrAnd};
+ghost use Rattle.redux_buffer.specs.Block.{Block, Reserves};
+ghost use Rattle.redux_buffer.specs.GrowError.{GrowthFailed};
+ghost use Rattle.buffer_redux.specs.Buffered.{Buffered, with_block, with_policy};
 ghost use Rattle.buffer_redux.specs.MinBuffered.{min_read_rules};
 ghost use Rattle.redux_play.specs.PlayReader.{MakesNoRoom, ReaderPlays, with_handed};
 ghost use Rattle.buffer_redux.specs.Policy.{ClaimsToSpare};
-ghost use Rattle.buffer_redux.specs.Sparing.{BeginsEmpty, GrowsAndSeeks, MovedAtMostGiven, Spared};
+ghost use Rattle.buffer_redux.specs.Seek.{plan_for, Seeks};
+ghost use Rattle.buffer_redux.specs.Sparing.{BeginsEmpty, MovedAtMostGiven, Spared};
 
 use crate::play::{ReaderCall, ReaderRun, play_reader};
 use buffer_redux::BufReader;
@@ -51,8 +55,10 @@ pub fn spare_between<R: TellSeek>(
         → Spared keep first reader.new }
     ensures claims { (keep : ℕ) → min ≤ keep
         → ClaimsToSpare (min_read_rules.claims reader.new.policy).spares keep }
-    ensures ended { GrowsAndSeeks R.readies more to (with_policy reader.old (record { 0 = min }))
-        result reader.new }
+    ensures ended { (IsErrAnd result (GrowthFailed more reader.old.block)
+        × (reader.new ≡ with_policy reader.old (record { 0 = min })))
+        ⊎ ((grown : Block) × Reserves more reader.old.block grown × Seeks R.readies (plan_for to (length grown.bytes))
+        (with_block (with_policy reader.old (record { 0 = min })) grown) result reader.new) }
 {
     reader.policy_mut().set_min(min);
     reader.reserve(more)?;

@@ -6,7 +6,7 @@ use Rattle.buffer_redux.specs.Buffered.{Buffered}
 use Rattle.buffer_redux.specs.BufReader.{InnerGives, RanDry}
 use Rattle.buffer_redux.specs.Fill.{Ends, Filled, Turns}
 use Rattle.buffer_redux.proofs.KnownAhead.{dry_never, err_counts_none}
-use Rattle.buffer_redux.proofs.Turning.{declined_made, full_made, turn_made, dry_made, faulted_made}
+use Rattle.buffer_redux.proofs.Turning.{declined_made, full_made, ordered_made}
 use Rattle.buffer_redux.proofs.buf_reader.BufReader.fill.Goals as goal
 use Rattle.buffer_redux.proofs.buf_reader.BufReader.fill.Goals.{After-before_read, After-read_into_buf}
 
@@ -54,9 +54,11 @@ loop-self-preserved g c =
       turns = (
         _,
         turned g at.After-before_read,
-        turn_made g.P.ReaderPolicy.rules _ _ c.in_ok-before_read.field-0 _ _ c.in_ok-before_read.ensures
+        c.in_ok-read_into_buf.field-0,
+        omega (arith, c.if-branch-eq0.false),
+        ordered_made g.P.ReaderPolicy.rules _ _ c.in_ok-before_read.field-0 _ _ c.in_ok-before_read.ensures
             c.if-branch.true (omega (arith, c.usable_space.ensures.value)) c.read_into_buf.ensures.reads.policy
-            c.in_ok-read_into_buf.field-0 c.in_ok-read_into_buf.ensures.reads.read c.if-branch-eq0.false,
+            (Ok _) c.in_ok-read_into_buf.ensures.reads.read,
       );
       noted = search rules;
       known = gave_more g at.After-read_into_buf;
@@ -83,9 +85,9 @@ returns-in_err-read_into_buf g c =
     c.from_residual-in_err-read_into_buf.ensures.1 in
     let read = c.in_err-read_into_buf.ensures.reads.read in
     record {
-      filled = rw (p.1, p.2) (filled g before (Err _) _ (inr (faulted_made g.P.ReaderPolicy.rules _ _
+      filled = rw (p.1, p.2) (filled g before (Err _) _ (inr (ordered_made g.P.ReaderPolicy.rules _ _
           c.in_ok-before_read.field-0 _ _ c.in_ok-before_read.ensures c.if-branch.true
-          (omega (arith, c.usable_space.ensures.value)) c.read_into_buf.ensures.reads.policy _ read)));
+          (omega (arith, c.usable_space.ensures.value)) c.read_into_buf.ensures.reads.policy (Err _) read)));
       known = gave_more g at.After-read_into_buf;
       end = λ rose.
           let same = err_counts_none _ _ _ _ _ read (omega (arith, c.usable_space.ensures.value)) in
@@ -122,10 +124,10 @@ pub returns-then-branch-eq0 : goal.returns-then-branch-eq0
 returns-then-branch-eq0 g c =
     let at = goal.at.returns-then-branch-eq0 g c in
     record {
-      filled = filled g at.After-before_read (Ok tt) _ (inr (inr (dry_made g.P.ReaderPolicy.rules _ _
+      filled = filled g at.After-before_read (Ok tt) _ (inr (inr (ordered_made g.P.ReaderPolicy.rules _ _
           c.in_ok-before_read.field-0 _ _ c.in_ok-before_read.ensures c.if-branch.true
-          (omega (arith, c.usable_space.ensures.value)) c.read_into_buf.ensures.reads.policy
-          c.in_ok-read_into_buf.field-0 c.in_ok-read_into_buf.ensures.reads.read c.if-branch-eq0.true)));
+          (omega (arith, c.usable_space.ensures.value)) c.read_into_buf.ensures.reads.policy (Ok 0)
+          (rw (sym c.if-branch-eq0.true) c.in_ok-read_into_buf.ensures.reads.read))));
       known = gave_more g at.After-read_into_buf;
       end = search rules;
       noted = search rules;

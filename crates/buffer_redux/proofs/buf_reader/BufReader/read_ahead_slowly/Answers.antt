@@ -1,10 +1,9 @@
-use Rattle.std.proofs.Common.{ℕ, ◌-◌, ◌∙◌, length, Result, Ok, Err, arith, ap, subst}
+use Rattle.std.proofs.Common.{ℕ, ◌-◌, ◌∙◌, length, Result, Ok, Err, arith, rules, ap, subst}
 use Rattle.std.proofs.lemmas.Result.{err_from_is_err_and}
 use Rattle.std.specs.declared.io.Error.{Error}
 use Rattle.buffer_redux.specs.BufReader.{ReadsIntoBuf}
-use Rattle.buffer_redux.specs.Peek.{MakesRoomFor}
 use Rattle.buffer_redux.specs.Sparing.{Spared}
-use Rattle.buffer_redux.proofs.AheadSteps.{AsksOnce, ahead_dry, ahead_failed, turns_more, turns_none}
+use Rattle.buffer_redux.proofs.AheadSteps.{AsksOnce, MakesRoomFor, ahead_dry, ahead_failed, makes_room, turns_more, turns_none}
 use Rattle.buffer_redux.proofs.buf_reader.BufReader.read_ahead_slowly.Goals as goal
 use Rattle.buffer_redux.proofs.buf_reader.BufReader.read_ahead_slowly.Goals.{After-read_into_buf}
 
@@ -18,7 +17,9 @@ asked g c answer reads spared = record {
   few = omega (arith, c.len.ensures.value, c.loop-self-test.true, ap (λ x. length x.block.bytes) c.self.view_is);
   fits = c.requires.fits;
   room = subst (λ k. MakesRoomFor (c.args.n - k) c.loop-self.self c.make_room_for.new.self)
-      (c.len-in-loop-self.ensures.value ∙ ap (λ x. length x.block.bytes) c.self.view_is) c.make_room_for.ensures.makes;
+      (c.len-in-loop-self.ensures.value ∙ ap (λ x. length x.block.bytes) c.self.view_is)
+      (makes_room _ c.loop-self.self c.make_room_for.new.self (search rules) c.make_room_for.ensures.enough
+      c.make_room_for.ensures.lacking);
   reads = reads;
   spared = spared;
 }

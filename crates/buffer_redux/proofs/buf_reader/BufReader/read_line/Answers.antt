@@ -32,7 +32,7 @@ returns-in_err-n-in-Some-clause-line g c =
       appended = a.0 ∙ sym (append-nil _);
       text = IsUtf8-nil;
       front = ends.0;
-      ends = inl ends.1;
+      ends = ends.1;
       count = tt;
       buffered = λ some. (c.in-Some.at, first, a);
     })

@@ -18,11 +18,10 @@ returns g c = record {
       let full : usable c.args.self.now.block ≡ 0 =
       omega (arith, c.usable_space.ensures.value, c.if-usable_space-gt0.false, ap (λ x. usable x.block) c.self.view_is) in
       c.read_on-2.ensures.exact s (one_read_says g.R.TellRead.remaining g.P.ReaderPolicy.rules s c.args.out.now
-      (Ok c.hand_out-n.result) c.hand_out-n.new.out c.hand_out-n.new.self asked.whole
-      (record {
-        filled = c.args.self.now;
-        fill = full_did g.R.TellRead.remaining g.P.ReaderPolicy.rules s c.args.self.now (record { 0 = true }) asked
-            c.hand_out-n.result refl full;
-        hands = h.hands;
-      }) (inl some));
+      (Ok c.hand_out-n.result) c.hand_out-n.new.out c.hand_out-n.new.self asked.whole (
+        c.args.self.now,
+        full_did g.R.TellRead.remaining g.P.ReaderPolicy.rules s c.args.self.now (record { 0 = true }) asked
+            c.hand_out-n.result refl full,
+        h.hands,
+      ) (inl some));
 }

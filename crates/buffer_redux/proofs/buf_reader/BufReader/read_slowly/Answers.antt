@@ -21,15 +21,14 @@ returns-in_err-fill_on-clause-read g c s asked =
 pub returns-clause-read : goal.returns-clause-read
 returns-clause-read g c s asked =
     let f = c.in_ok-fill_on.ensures.fill s asked in
-    let h = c.hand_out.ensures in
-    record {
-      filled = c.fill_on.new.self;
-      fill = record {
+    let h = c.hand_out.ensures in (
+      c.fill_on.new.self,
+      record {
         filled = Filled-ok g.P.ReaderPolicy.rules _ _ c.hand_out.result _ f.filled;
         known = f.known;
         ended = f.ended;
         noted = f.noted;
         whole = f.whole;
-      };
-      hands = h.hands;
-    }
+      },
+      h.hands,
+    )

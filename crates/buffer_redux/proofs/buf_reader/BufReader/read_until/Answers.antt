@@ -1,6 +1,7 @@
 use Rattle.std.proofs.Common.{◌≡◌, ◌+◌, ◌∙◌, [], take, subst, sym, ap, arith, append-nil, inl}
 use Rattle.std.proofs.lemmas.Result.{err_from_is_err_and}
 use Rattle.redux_buffer.specs.Block.{IsBlock}
+use Rattle.buffer_redux.specs.ReadBehind.{FillsOn}
 use Rattle.buffer_redux.specs.ReadUntil.{FirstAt, ReadsUntil, no_memory}
 use Rattle.buffer_redux.specs.UntilLaws.{ReadsUntil-known}
 use Rattle.buffer_redux.proofs.UntilSteps.{passes_none, reaches, stopped, through_length}
@@ -44,7 +45,7 @@ returns-in_ok-append_first-in-Some g c =
       handed = take (c.in-Some.at + 1) s.block.bytes;
       appended = a.0;
       front = a.1;
-      ends = inl (reaches remaining rules c.args.byte s s [] (passes_none remaining rules c.args.byte s whole) c.in-Some.at
+      ends = inl (reaches {step = FillsOn (λ left. left ≡ []) remaining rules} remaining rules c.args.byte s s [] (passes_none remaining rules c.args.byte s whole) c.in-Some.at
           c.append_first.new.self first a.2);
       count = sym (through_length c.args.byte c.in-Some.at s.block.bytes first);
       buffered = λ some. (c.in-Some.at, first, a);

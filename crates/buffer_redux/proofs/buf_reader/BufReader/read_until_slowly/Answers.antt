@@ -1,4 +1,4 @@
-use Rattle.std.proofs.Common.{◌∙◌, ap, arith, inl, inr, length}
+use Rattle.std.proofs.Common.{◌∙◌}
 use Rattle.std.proofs.lemmas.Result.{err_from_is_err_and}
 use Rattle.buffer_redux.proofs.HandSteps.{some_last}
 use Rattle.buffer_redux.proofs.UntilSteps.{appended_length}
@@ -16,10 +16,7 @@ returns-in_err-hand_until g c =
         handed = h.handed;
         appended = h.took.0;
         front = h.front;
-        ends = elim h.ends [
-          | inl until ↦ until
-          | inr broken ↦ absurd (omega (arith, broken.some, ap length broken.part))
-        ];
+        ends = h.ends;
         count = tt;
         buffered = λ some. absurd (some c.requires.plain);
       };

@@ -1,4 +1,4 @@
-use Rattle.std.proofs.Common.{ap, arith, inl, inr, length}
+use Rattle.std.proofs.Common.{arith, inl, inr}
 use Rattle.std.proofs.lemmas.Result.{err_from_is_err_and}
 use Rattle.buffer_redux.proofs.HandSteps.{some_last}
 use Rattle.buffer_redux.proofs.buf_reader.BufReader.skip_until_slowly.Goals as goal
@@ -15,9 +15,9 @@ returns-in_err-hand_until g c =
         handed = h.handed;
         front = h.front;
         ends = elim h.ends [
-          | inl (inl failed) ↦ inl failed
-          | inl (inr stopped) ↦ inr (stopped.0, (stopped.1.0, omega (arith, stopped.1.1, h.took)))
-          | inr broken ↦ absurd (omega (arith, broken.some, ap length broken.part))
+          | inl failed ↦ inl failed
+          | inr (inl stopped) ↦ inr (inl (stopped.0, (stopped.1.0, omega (arith, stopped.1.1, h.took))))
+          | inr (inr broken) ↦ inr (inr broken)
         ];
         count = tt;
         buffered = λ some. absurd (some c.requires.plain);

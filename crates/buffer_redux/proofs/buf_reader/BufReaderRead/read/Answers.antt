@@ -99,7 +99,7 @@ returns g c =
           c.hand_out.result w.if-branch.false)
     ] in
     says remaining table c.args.self.now c.args.out.now (Ok c.hand_out.result) c.hand_out.new.out c.hand_out.new.self
-    (record { filled = c.else-branch.self; fill = fill; hands = c.hand_out.ensures.hands }) (inside g before)
+    (c.else-branch.self, fill, c.hand_out.ensures.hands) (inside g before)
 
 pub returns-then-out-capacity-clause-bound : goal.returns-then-out-capacity-clause-bound
 returns-then-out-capacity-clause-bound g c = grind (arith, common_steps)

@@ -60,11 +60,8 @@ returns-else-more g c =
     let h = c.hand_out-count.ensures in
     let m = asked_reader g before in
     let is = subst (λ a. AskedRead table a c.args.self.now m) c.in-Ok.is (asked g before) in
-    let all : ReadsInside remaining table c.args.self.now c.args.out.now (Ok n) out t = record {
-      filled = m;
-      fill = declined_did remaining table c.args.self.now m c.in-Ok.field-0 is n c.if-more.false;
-      hands = h.hands;
-    } in
+    let all : ReadsInside remaining table c.args.self.now c.args.out.now (Ok n) out t =
+    (m, declined_did remaining table c.args.self.now m c.in-Ok.field-0 is n c.if-more.false, h.hands) in
     let inside = inl (has_some g before) in
     let one = one_read_says remaining table c.args.self.now c.args.out.now (Ok n) out t
     (rw (← c.self-2.view_is) c.self-2.invariant) all inside in

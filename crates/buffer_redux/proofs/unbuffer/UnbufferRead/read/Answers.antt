@@ -1,18 +1,26 @@
-use Rattle.std.proofs.Common.{◌≡◌, ◌<◌, ℕ, List, [], ◌++◌, length, take, drop, min, Option, Ok, subst, sym, ap, ◌∙◌, arith, rules, append-nil, length-append, length-drop, length-take-le, take_at}
+use Rattle.std.proofs.Common.{◌≡◌, ◌<◌, ℕ, List, [], ◌++◌, length, take, drop, min, Option, Result, Ok, subst, sym, ap, ◌∙◌, arith, rules, append-nil, length-append, length-drop, length-take-le, take_at}
 use Rattle.std.specs.declared.io.Error.{Error}
 use Rattle.std.specs.Io.KnownBytes.{prepend_known, ReadConsumes}
 use Rattle.std.proofs.lemmas.Grind.{common_steps}
 use Rattle.std.proofs.lemmas.List.{take-append-drop, nil_from_length, drop_min}
 use Rattle.redux_buffer.specs.GivesRemaining.{GivesRemaining, GivesRemaining-none, GivesRemaining-ahead}
 use Rattle.redux_buffer.specs.LogGrows.{ReadLogGrows, ReadLogGrows-none, ReadLogGrows-read}
-use Rattle.redux_buffer.specs.StreamLog.{portion}
-use Rattle.buffer_redux.specs.Unbuffer.{Unbuffered, HandsOutInOrder, HandsOutLeft, bytes_in}
+use Rattle.redux_buffer.specs.StreamLog.{StreamLog, portion}
+use Rattle.buffer_redux.specs.Unbuffer.{Unbuffered, HandsOutInOrder, bytes_in}
 use Rattle.buffer_redux.proofs.unbuffer.UnbufferRead.read.Goals as goal
+
+-- the parts of an `Unbuffer` are all of it
+same_parts : {R : Type 0} (s t : Unbuffered R) (left : List ℕ) → t.left ≡ left → t.inner ≡ s.inner → t.log ≡ s.log
+    → t ≡ record s { left = left }
+same_parts {R} s t left is inner told =
+    let part : List ℕ → R → StreamLog → Unbuffered R = λ l i g. record { left = l; inner = i; log = g } in
+    ap (λ l. part l t.inner t.log) is ∙ ap (λ i. part left i t.log) inner ∙ ap (λ g. part left s.inner g) told
 
 -- the front of what was left was handed out
 record Handed {R : Type 0} (remaining : R → Option (List ℕ)) (s t : Unbuffered R) (n : ℕ) (old out : List ℕ) : Type 0 where
   in_order : HandsOutInOrder s (take n out) t
-  left : HandsOutLeft s old (Ok n) out t
+  left : (◌≡◌ {A = Result ℕ Error} (Ok n) (Ok (min (length s.left) (length old))))
+      × (t ≡ record s { left = drop (length old) s.left }) × (drop (length s.left) out ≡ drop (length s.left) old)
   bytes : ReadConsumes {E = Error} (prepend_known s.left (remaining s.inner)) (prepend_known t.left (remaining t.inner))
       (Ok n) out
   some : 0 < length s.left
@@ -36,13 +44,12 @@ handed remaining s t n old out some count copied left inner told =
         given = ap (λ l. l.reads.given) told ∙ sym (append-nil s.log.reads.given);
         equal = equal;
       };
-      left = record {
-        count = ap Ok count;
-        left = left ∙ ap (λ k. drop k s.left) swapped ∙ drop_min (length old) s.left;
-        rest = grind (arith, common_steps);
-        inner = inner;
-        told = told;
-      };
+      left = (
+        ap Ok count,
+        same_parts s t (drop (length old) s.left) (left ∙ ap (λ k. drop k s.left) swapped ∙ drop_min (length old) s.left)
+            inner told,
+        grind (arith, common_steps),
+      );
       bytes = (
         GivesRemaining-ahead (remaining s.inner) (remaining t.inner) s.log.reads s.log.reads s.left t.left (take n out) []
             (subst (λ i. GivesRemaining (remaining s.inner) s.log.reads (remaining i) s.log.reads) (sym inner)

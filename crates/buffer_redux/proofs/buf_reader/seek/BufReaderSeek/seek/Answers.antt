@@ -1,4 +1,6 @@
-use Rattle.std.proofs.Common.{◌≡◌, ◌-ℤ◌, int_le, inl, inr, [], MatchResult, ℕ, ℤ, List, Option, None, Some, Result, Ok, Err, length, pos, neg_ℤ, zero, suc, ap, ◌∙◌, refl, arith, to_z-of_z, SFits, w64, ◌^◌}
+use Rattle.std.proofs.Common.{◌≡◌, ◌-◌, ◌-ℤ◌, int_le, inl, inr, [], MatchResult, ℕ, ℤ, List, Option, None, Some, Result, Ok, Err, length, pos, neg_ℤ, zero, suc, ap, ◌∙◌, refl, arith, to_z-of_z, SFits, w64, ◌^◌}
+use Rattle.std.specs.Prelude.{nat_le, if◌then◌else◌}
+use Rattle.std.specs.Option.{option_and_then}
 use Rattle.std.specs.Io.Seek.{IsAtOffset, SeekMoves}
 use Rattle.std.specs.declared.io.Error.{Error}
 use Rattle.std.specs.declared.io.traits.SeekFrom.{SeekFrom}
@@ -6,9 +8,13 @@ use Rattle.std.specs.declared.io.traits.SeekFrom.TheVariants.{Start, End, Curren
 use Rattle.std.proofs.lemmas.Bool.{cases_Bool}
 use Rattle.redux_buffer.specs.Block.{Block, Clears}
 use Rattle.std.proofs.lemmas.Result.{err_from_is_err_and}
-use Rattle.buffer_redux.specs.Seek.{place_before, plan_for}
+use Rattle.buffer_redux.specs.Seek.{plan_for}
 use Rattle.buffer_redux.specs.declared.buf_reader.seek.SeekPlan.TheVariants.{Two}
 use Rattle.buffer_redux.proofs.buf_reader.seek.BufReaderSeek.seek.Goals as goal
+
+-- the place that is len bytes before one that is known
+abbrev place_before : ℕ → Option ℕ → Option ℕ
+place_before len known = option_and_then (λ place. if nat_le len place then Some (place - len) else None) known
 
 -- a seek back by what is buffered goes to where the reader stands, and the next one goes on from there
 went_back : (len place n : ℕ) → IsAtOffset place (neg_ℤ (pos len)) n → place_before len (Some place) ≡ Some n

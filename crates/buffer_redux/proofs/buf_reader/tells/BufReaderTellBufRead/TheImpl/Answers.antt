@@ -1,6 +1,7 @@
 use Rattle.std.specs.Prelude.{[]}
 use Rattle.redux_buffer.specs.StreamLog.{FillTells}
-use Rattle.buffer_redux.specs.ReaderTells.{reader_log, FillTold, ReaderWent}
+use Rattle.buffer_redux.specs.BufReader.{Fills}
+use Rattle.buffer_redux.specs.ReaderTells.{reader_log, ReaderWent}
 use Rattle.buffer_redux.specs.contracts.buf_reader.BufReader.{the_row}
 use Rattle.buffer_redux.proofs.Resting.{rests_widens}
 use base.Logic.{id⊢}
@@ -20,8 +21,8 @@ fill_told-meets g c =
     (λ _. id⊢ 𝓤 _)
     (λ r e. fact_i 𝓤 (Unit {0}) _ tt)
     (λ r e _. rests_widens g.world.𝓛 (the_row (param 0 g.row.R) (param 1 g.row.P) g.R.Tell) c.args.self
-    (FillTold remaining rules s r)
+    (λ new. FillTells (reader_log s) r (reader_log new) × ReaderWent remaining rules s new × Fills rules s r new)
     (λ new. FillTells (reader_log s) r (reader_log new) × ReaderWent remaining rules s new)
-    (λ new f. (f.tells, f.went)))
+    (λ new f. (f.0, f.1)))
     (λ _. tt)
     (λ _ r e _. tt)

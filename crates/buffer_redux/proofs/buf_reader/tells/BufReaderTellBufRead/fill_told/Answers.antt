@@ -21,11 +21,7 @@ returns-in_err-fill_noted g c =
       (
         refl,
         (λ _. tt),
-        record {
-          tells = (bytes, ap (λ l. with_shown l bytes) f.noted, shows);
-          went = f.went;
-          fills = done;
-        },
+        ((bytes, ap (λ l. with_shown l bytes) f.noted, shows), f.went, done),
       ),
       record { after_borrow = tt },
     )
@@ -45,14 +41,14 @@ returns g c =
       (
         refl,
         (λ _. tt),
-        record {
-          tells = (
+        (
+          (
             ap reader_log c.self.view_is ∙ tells,
             subst (GoesOn s.block.bytes) shown (record { more = done.in_order.got; equal = done.in_order.equal }),
-          );
-          went = subst (ReaderWent g.R.TellRead.remaining rules s) (sym c.self.view_is) f.went;
-          fills = subst (Fills rules s (Ok c.buf.result)) (sym c.self.view_is) done;
-        },
+          ),
+          subst (ReaderWent g.R.TellRead.remaining rules s) (sym c.self.view_is) f.went,
+          subst (Fills rules s (Ok c.buf.result)) (sym c.self.view_is) done,
+        ),
       ),
       record { after_borrow = tt },
     )
