@@ -1,10 +1,10 @@
 -- What filling promises under a policy that claims something, and all that it promises.
-use Rattle.std.proofs.Common.{◌≡◌, ℕ, zero, suc, ◌+◌, ◌-◌, ◌<◌, ◌≤◌, true, false, [], ◌∷◌, ◌++◌, length, Result, Ok, Err, refl, sym, ap, subst, ◌∙◌, arith, inl, inr, append-nil, length-append, Option, None, Some, is_ok, IsOkAnd, IfSome, MatchResult}
+use Rattle.std.proofs.Common.{◌≡◌, ℕ, zero, suc, ◌+◌, ◌-◌, ◌<◌, ◌≤◌, true, false, [], ◌∷◌, ◌++◌, length, Result, Ok, Err, refl, sym, ap, subst, ◌∙◌, arith, inl, inr, append-nil, length-append, Option, None, Some, is_ok, IsOkAnd, IfSome, MatchResult, IfOk, MatchBool, OnErr}
 use Rattle.std.specs.declared.io.Error.{Error}
-use Rattle.redux_buffer.specs.Block.{Block, IsBlock}
+use Rattle.redux_buffer.specs.Block.{Block, IsBlock, usable}
 use Rattle.redux_buffer.specs.Transfer.{ReadsOnce}
 use Rattle.buffer_redux.specs.declared.policy.DoRead.{DoRead}
-use Rattle.buffer_redux.specs.Policy.{ReadRules, BeforeRead, no_read, read_now, ClaimsToSpare, ReadsUpTo}
+use Rattle.buffer_redux.specs.Policy.{ReadRules, BeforeRead, no_read, read_now, ClaimsToSpare}
 use Rattle.buffer_redux.specs.Buffered.{Buffered}
 use Rattle.buffer_redux.specs.Fill.{Turns, Ends, Filled}
 use Rattle.buffer_redux.specs.BufReader.{FillsToMinimum, Fills, RanDry}
@@ -21,10 +21,13 @@ module _ {S P : Type 0} (rules : ReadRules P) where
   module _ (n : ℕ) (s : Buffered S P) (wants : (rules.claims s.policy).minimum ≡ Some n) where
     at_minimum : (k : ℕ) (m : Buffered S P) (b : Block) (r : Result DoRead Error) (p : Buffered S P)
         → Turns rules k s m → BeforeRead rules m.policy m.block r p.policy b
-        → ReadsUpTo n m.block r b
-    at_minimum k m b r p h asked =
-        subst (λ o. IfSome o (λ n. ReadsUpTo n m.block r b))
-        (ap (λ c. c.minimum) (claimed k s m h) ∙ wants) asked.minimum
+        → record {
+          ok : IfOk r (λ d. MatchBool d.0 ((length m.block.bytes < n) × (0 < usable b)) (n ≤ length m.block.bytes));
+          err : OnErr r (length m.block.bytes < n);
+          capacity : n ≤ m.block.capacity → b.capacity ≡ m.block.capacity;
+          limit : b.limit ≡ m.block.limit;
+        }
+    at_minimum k m b r p h asked = rw (ap (λ c. c.minimum) (claimed k s m h) ∙ wants) at asked.minimum
 
     -- each turn found fewer bytes than the minimum
     few_turns : (k : ℕ) (t : Buffered S P) → Turns rules k s t → k ≤ n - length s.block.bytes

@@ -5,10 +5,10 @@ use Rattle.std.specs.declared.io.Error.{Error}
 use Rattle.std.specs.declared.io.traits.SeekFrom.{SeekFrom}
 use Rattle.redux_buffer.specs.StreamLog.{StreamLog, Readies, SeekTells, with_flush, with_ready, with_shown, after_flush, after_seek}
 use Rattle.buffer_redux.specs.Buffered.{Buffered, with_calls}
-use Rattle.buffer_redux.specs.BufWriter.{IsFlushed, SeeksFlushed, SeeksInner, WasFlushed, WritesInOrder}
+use Rattle.buffer_redux.specs.BufWriter.{IsFlushed, WasFlushed, WasSought, WritesInOrder}
 use Rattle.buffer_redux.specs.ReaderTells.{drops_shown, reader_log}
 use Rattle.buffer_redux.specs.Seek.{SeekLeaves}
-use Rattle.buffer_redux.specs.WriterTells.{all_flushed, flushes_received, writer_log}
+use Rattle.buffer_redux.specs.WriterTells.{flushes_received, writer_log}
 
 module _ {S P : Type 0} (s m : Buffered S P) (to : SeekFrom) where
   pub reader_sought : (answer : Result ℕ Error) → SeekLeaves s answer m
@@ -55,6 +55,10 @@ stays_flushed (Ok _) answer sent new e failed told = ap (λ l. l.writes.flushed)
     ∙ ap (with_flush sent.writes.flushed sent.writes.received) failed
 stays_flushed (Err e') answer sent new e failed told = ap (λ l. l.writes.flushed) told.1
 
+-- the same log, where all that was received is flushed
+abbrev all_flushed : StreamLog → StreamLog
+all_flushed log = record log { writes = record log.writes { flushed = log.writes.received } }
+
 module _ {S P : Type 0} (tells : S → StreamLog) (trace : S → S → Type 0) (readies : Readies) (s m : Buffered S P)
     (to : SeekFrom) where
   after_failed_flush : (e : Error) → WasFlushed tells trace s (Err e) m
@@ -74,13 +78,13 @@ module _ {S P : Type 0} (tells : S → StreamLog) (trace : S → S → Type 0) (
       }
 
   after_flush_of : (answer : Result ℕ Error) (left : Buffered S P) → IsFlushed s left
-      → SeeksInner tells readies left to answer m → flushes_received (writer_log s) answer (all_flushed (writer_log s))
+      → m.block ≡ left.block → SeekTells readies left.log to answer m.log → flushes_received (writer_log s) answer (all_flushed (writer_log s))
       → SeekTells flushes_received (writer_log s) to answer (writer_log (with_calls m (after_seek s.own_calls to answer)))
-  after_flush_of answer left flushed sought ready =
-      let received = ap (λ l. l.writes.received) sought.log.told ∙ flushed.received in
-      let empty = ap (λ b. b.bytes) sought.block ∙ flushed.empty in
+  after_flush_of answer left flushed block sought ready =
+      let received = ap (λ l. l.writes.received) sought.told ∙ flushed.received in
+      let empty = ap (λ b. b.bytes) block ∙ flushed.empty in
       let held = (λ i. received i ++ empty i) ∙ append-nil (s.log.writes.received ++ s.block.bytes) in
-      let all = ap (λ l. l.writes.flushed) sought.log.told ∙ elim sought.log.flushes [
+      let all = ap (λ l. l.writes.flushed) sought.told ∙ elim sought.flushes [
         | inl same ↦ same ∙ flushed.flushed
         | inr all ↦ all
       ] ∙ flushed.received in record {
@@ -95,13 +99,13 @@ module _ {S P : Type 0} (tells : S → StreamLog) (trace : S → S → Type 0) (
       }
 
   sought_from : (flushing : Result (Unit {0}) Error) (answer : Result ℕ Error) (left : Buffered S P)
-      → WasFlushed tells trace s flushing left
-      → MatchResult flushing (λ _. SeeksInner tells readies left to answer m) (λ e. (answer ≡ Err e) × (m ≡ left))
+      → WasFlushed tells trace s flushing left → m.block ≡ left.block
+      → MatchResult flushing (λ _. SeekTells readies left.log to answer m.log) (λ e. (answer ≡ Err e) × (m ≡ left))
       → SeekTells flushes_received (writer_log s) to answer (writer_log (with_calls m (after_seek s.own_calls to answer)))
-  sought_from (Ok _) (Ok n) left was sought = after_flush_of (Ok n) left was.ok sought refl
-  sought_from (Ok _) (Err e) left was sought = after_flush_of (Err e) left was.ok sought (inr refl)
-  sought_from (Err e) answer left was ended = rw (ended.0) (after_failed_flush e (rw ended.1 was))
+  sought_from (Ok _) (Ok n) left was block sought = after_flush_of (Ok n) left was.ok block sought refl
+  sought_from (Ok _) (Err e) left was block sought = after_flush_of (Err e) left was.ok block sought (inr refl)
+  sought_from (Err e) answer left was block ended = rw (ended.0) (after_failed_flush e (rw ended.1 was))
 
-  pub writer_sought : (answer : Result ℕ Error) → SeeksFlushed tells trace readies s to answer m
+  pub writer_sought : (answer : Result ℕ Error) → WasSought tells trace readies s to answer m
       → SeekTells flushes_received (writer_log s) to answer (writer_log (with_calls m (after_seek s.own_calls to answer)))
-  writer_sought answer steps = sought_from steps.flushing answer steps.left steps.flushed steps.ended
+  writer_sought answer sought = sought_from sought.flushing answer sought.left sought.flushed sought.block sought.ended

@@ -13,7 +13,7 @@ use Rattle.redux_buffer.specs.StreamLog.{StreamLog}
 use Rattle.buffer_redux.specs.Policy.{WriteRules}
 use Rattle.buffer_redux.specs.Buffered.{Buffered}
 use Rattle.buffer_redux.specs.BufWriter.{WritesAlong, writer_contents}
-use Rattle.buffer_redux.specs.WriteAll.{WriteAllErrorCaused, WritesAll, WritesAllSteadily}
+use Rattle.buffer_redux.specs.WriteAll.{WritesAll}
 use Rattle.buffer_redux.specs.WriteFmt.{PieceFailed, StoppedIn, TakesPieces, TextWent, WritesEach, WritesPieces, WritesText}
 use Rattle.buffer_redux.specs.WriterLaws.{WritesInOrder-contents}
 use Rattle.buffer_redux.specs.WritesAlongLaws.{WritesAll-along, WritesAll-took, WritesAlong-joins, WritesAlong-none}
@@ -52,18 +52,9 @@ module _ {S P : Type 0} (tells : S → StreamLog) (trace : S → S → Type 0) (
 
   -- a piece whose write failed
   pub stopped : (s : Buffered S P) (piece : List ℕ) (e : Error) (t : Buffered S P)
-      → WritesAll tells trace rules s piece (Err e) t → WriteAllErrorCaused tells trace rules s piece (Err e) t
-      → WritesAllSteadily rules s (Err e) t → StoppedIn tells trace rules s piece e t
-  stopped s piece e t all caused steadily = record {
-    why = record {
-      before = [];
-      last = s;
-      went = pieces_none s;
-      piece = piece;
-      steps = all;
-      caused = caused;
-      steadily = steadily;
-    };
+      → WritesAll tells trace rules s piece (Err e) t → StoppedIn tells trace rules s piece e t
+  stopped s piece e t all = record {
+    why = record { before = []; last = s; went = pieces_none s; piece = piece; steps = all };
     behind = [];
     piece_of = sym (append-nil piece);
     accepted = take all.count piece;
@@ -80,8 +71,6 @@ module _ {S P : Type 0} (tells : S → StreamLog) (trace : S → S → Type 0) (
     went = pieces_behind s m q.last a q.before p q.went;
     piece = q.piece;
     steps = q.steps;
-    caused = q.caused;
-    steadily = q.steadily;
   }
 
   stopped_after : (s m t : Buffered S P) (a b : List ℕ) (e : Error) → WritesPieces tells trace rules s a m

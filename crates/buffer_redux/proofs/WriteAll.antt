@@ -17,7 +17,7 @@ use Rattle.buffer_redux.specs.AllBytes.{GoesBy, EndsBy, GaveUp}
 use Rattle.buffer_redux.specs.Buffered.{Buffered, InnerWent}
 use Rattle.buffer_redux.specs.BufWriter.{writer_contents, WritesInOrder, FlushesAmount, TakesIn, Prepared, Finished, Writes, WriterKeeps, WriteErrorCaused}
 use Rattle.buffer_redux.specs.WriterLaws.{WritesInOrder-none, WritesInOrder-joins, WritesInOrder-contents, flush_ways, ways_in}
-use Rattle.buffer_redux.specs.WriteAll.{LastWriteFailed, WriteTurns, TookFront, TookBeginning, WriteAllErrorCaused, WritesAll, WritesAllSteadily, OneWrite}
+use Rattle.buffer_redux.specs.WriteAll.{LastWriteFailed, WriteTurns, TookFront, TookBeginning, WritesAll}
 use Rattle.buffer_redux.proofs.WriteAllCauses.{all_caused, all_steadily}
 use Rattle.buffer_redux.proofs.WriteTurns.{claims_stay}
 use Rattle.buffer_redux.proofs.WriterFacts.{writes_keep, writes_caused, writes_steadily, writes_nothing}
@@ -96,6 +96,13 @@ one_more k = omega arith
 pub bound_rest : (answer : Result ℕ Error) (bs : List ℕ) (at : ℕ)
     → WritesAtMost answer (take (length bs - at) (drop at bs)) → WritesAtMost answer (drop at bs)
 bound_rest answer bs at bound = subst (WritesAtMost answer) (between_to_end bs at (length bs) (le_refl _)) bound
+
+-- one write, with this answer
+pub record OneWrite {S P : Type 0} (tells : S → StreamLog) (trace : S → S → Type 0) (rules : WriteRules P)
+    (s : Buffered S P) (bs : List ℕ) (answer : Result ℕ Error) (t : Buffered S P) : Type 0 where
+  pub steps : Writes rules s bs answer t
+  pub whole : IsBlock s.block × IsBlock t.block
+  pub went : InnerWent tells trace s t
 
 pub one_rest : {S P : Type 0} (tells : S → StreamLog) (trace : S → S → Type 0) (rules : WriteRules P)
     (m : Buffered S P) (bs : List ℕ) (at : ℕ) (answer : Result ℕ Error) (t : Buffered S P) → IsBlock m.block
@@ -188,6 +195,25 @@ module _ {S P : Type 0} (tells : S → StreamLog) (trace : S → S → Type 0)
 
   module _ (s : Buffered S P) (bs : List ℕ) (turns at : ℕ) (m : Buffered S P)
       (before : Turned tells trace rules s bs turns at m) where
+    ended : (answer : Result (Unit {0}) Error) (t : Buffered S P) → TookFront tells trace rules s (take at bs) t
+        → MatchResult answer (λ _. (at ≡ length bs) × (t ≡ m))
+        (λ e. LastWriteFailed rules (drop at bs) e m t ⊎ (GaveUp turns at (length bs) e × (t ≡ m)))
+        → WritesAll tells trace rules s bs answer t
+    ended answer t front is =
+        let keeps = before.front.keeps in
+        record {
+          turns = turns;
+          count = at;
+          within = before.within;
+          last = m;
+          run = before.run;
+          first = before.front;
+          front = front;
+          ended = is;
+          caused = all_caused rules s bs turns at m t before.run keeps.grows keeps.claims answer is;
+          steadily = all_steadily rules s bs turns at m t before.run keeps.grows keeps.claims answer is;
+        }
+
     -- one more write of the bytes that are left
     module _ (answer : Result ℕ Error) (t : Buffered S P) (fewer : at < length bs)
         (one : OneWrite tells trace rules m (drop at bs) answer t) where
@@ -214,46 +240,23 @@ module _ {S P : Type 0} (tells : S → StreamLog) (trace : S → S → Type 0)
       pub ended_failed : (e : Error) → EndsBy WriteZero answer e → WritesAll tells trace rules s bs (Err e) t
       ended_failed e ends =
           let some : 0 < length (drop at bs) = omega (arith, fewer, length-drop at bs) in
-          record {
-            turns = turns;
-            count = at;
-            within = before.within;
-            last = m;
-            run = before.run;
-            first = before.front;
-            front = subst (λ l. TookFront tells trace rules s l t)
-                (ap (λ l. take at bs ++ l) (none_taken WriteZero answer e ends (drop at bs)) ∙ append-nil (take at bs)) both;
-            ended = inl (record {
-              some = some;
-              answer = answer;
-              ends = ends;
-              caused = caused_of rules m (drop at bs) answer t one.steps;
-              empty = λ is. writes_nothing rules m (drop at bs) answer t one.steps is some;
-              steadily = writes_steadily rules m (drop at bs) answer t one.steps;
-              steps = one.steps;
-            });
-          }
-
-    ended : (answer : Result (Unit {0}) Error)
-        → MatchResult answer (λ _. (at ≡ length bs) × (m ≡ m))
-        (λ e. LastWriteFailed rules (drop at bs) e m m ⊎ (GaveUp turns at (length bs) e × (m ≡ m)))
-        → WritesAll tells trace rules s bs answer m
-    ended answer is = record {
-      turns = turns;
-      count = at;
-      within = before.within;
-      last = m;
-      run = before.run;
-      first = before.front;
-      front = before.front;
-      ended = is;
-    }
+          ended (Err e) t (subst (λ l. TookFront tells trace rules s l t)
+          (ap (λ l. take at bs ++ l) (none_taken WriteZero answer e ends (drop at bs)) ∙ append-nil (take at bs)) both)
+          (inl (record {
+            some = some;
+            answer = answer;
+            ends = ends;
+            caused = caused_of rules m (drop at bs) answer t one.steps;
+            empty = λ is. writes_nothing rules m (drop at bs) answer t one.steps is some;
+            steadily = writes_steadily rules m (drop at bs) answer t one.steps;
+            steps = one.steps;
+          }))
 
     pub ended_all : length bs ≤ at → WritesAll tells trace rules s bs (Ok tt) m
-    ended_all long = ended (Ok tt) (omega (arith, long, before.within), refl)
+    ended_all long = ended (Ok tt) m before.front (omega (arith, long, before.within), refl)
 
     pub ended_late : (e : Error) → GaveUp turns at (length bs) e → WritesAll tells trace rules s bs (Err e) m
-    ended_late e late = ended (Err e) (inr (late, refl))
+    ended_late e late = ended (Err e) m before.front (inr (late, refl))
 
   -- the first write of some bytes
   module _ (s : Buffered S P) (bs : List ℕ) (answer : Result ℕ Error) (t : Buffered S P) (some : 0 < length bs)
@@ -289,8 +292,6 @@ module _ {S P : Type 0} (tells : S → StreamLog) (trace : S → S → Type 0) (
     bytes : OnOk answer (Appends (writer_contents s) (writer_contents t) bs);
     in_order : OnOk answer (WritesInOrder s bs t);
     beginning : TookBeginning bs s t;
-    caused : WriteAllErrorCaused tells trace rules s bs answer t;
-    steadily : WritesAllSteadily rules s answer t;
     retried : IfErr answer (λ e. error_kind e ≢ Interrupted);
     whole : IsBlock t.block;
     steps : WritesAll tells trace rules s bs answer t;
@@ -303,8 +304,6 @@ module _ {S P : Type 0} (tells : S → StreamLog) (trace : S → S → Type 0) (
         bytes = WritesInOrder-contents s t bs in_order;
         in_order = in_order;
         beginning = beginning w;
-        caused = tt;
-        steadily = λ steady. tt;
         retried = tt;
         whole = w.front.keeps.whole;
         steps = w;
@@ -314,8 +313,6 @@ module _ {S P : Type 0} (tells : S → StreamLog) (trace : S → S → Type 0) (
     bytes = tt;
     in_order = tt;
     beginning = beginning w;
-    caused = all_caused tells trace rules s bs e t w;
-    steadily = all_steadily tells trace rules s bs e t w;
     retried = elim w.ended [
       | inl failed ↦ not_interrupted WriteZero (λ odd. cc) failed.answer e failed.ends
       | inr late ↦ λ odd. (let two = sym late.0.timed_out ∙ odd in cc)

@@ -1,5 +1,5 @@
 -- What follows from the steps of a write, whatever it returned.
-use Rattle.std.proofs.Common.{◌≡◌, ℕ, ◌<◌, List, [], ◌++◌, length, min, take, Result, Ok, Err, refl, sym, ap, subst, ◌∙◌, arith, inl, inr, append-nil}
+use Rattle.std.proofs.Common.{◌≡◌, ℕ, ◌<◌, ◌⊎◌, List, [], ◌++◌, length, min, take, Result, Ok, Err, refl, sym, ap, subst, ◌∙◌, arith, inl, inr, append-nil}
 use Rattle.std.proofs.Math.Seq.{take-length}
 use Rattle.std.specs.Io.{WritesAtMost}
 use Rattle.std.specs.Io.KnownBytes.{WriteAppends}
@@ -9,10 +9,19 @@ use Rattle.redux_buffer.specs.StreamLog.{StreamLog, portion}
 use Rattle.buffer_redux.specs.Policy.{WriteRules, BeforeWrite}
 use Rattle.buffer_redux.specs.declared.policy.FlushAmt.{FlushAmt}
 use Rattle.buffer_redux.specs.Buffered.{Buffered, InnerWent}
-use Rattle.buffer_redux.specs.BufWriter.{writer_contents, EmptyWriteCaused, FlushesAmount, TakesIn, Prepared, WriteErrorCaused, WriterKeeps, Writes, WritesInOrder, WritesOn, WritesSteadily}
+use Rattle.buffer_redux.specs.BufWriter.{writer_contents, EmptyWriteCaused, FlushesAmount, TakesIn, Prepared, Finished, WriteErrorCaused, WriterKeeps, Writes, WritesInOrder, WritesSteadily}
+use Rattle.buffer_redux.specs.WriteAll.{AskedFirst}
 use Rattle.buffer_redux.specs.WriterLaws.{WritesInOrder-contents}
 use Rattle.buffer_redux.proofs.WriteAll.{caused_of, writer_keeps}
 use Rattle.buffer_redux.proofs.WriterFacts.{writes_keep, writes_nothing, writes_steadily}
+
+-- what a write does once the policy has answered the amount; at an `Err` that flush failed, or the write past the buffer
+abbrev pub WritesOn : {S P : Type 0} → WriteRules P → ℕ → Buffered S P → List ℕ → Result ℕ Error → Buffered S P
+    → Type 0
+WritesOn {S} {P} rules amount m bs (Ok n) t = (before : Buffered S P) × (after : Buffered S P)
+    × FlushesAmount amount m (Ok tt) before × TakesIn bs before (Ok n) after × Finished rules after t
+WritesOn {S} {P} rules amount m bs (Err e) t = FlushesAmount amount m (Err e) t
+    ⊎ ((before : Buffered S P) × FlushesAmount amount m (Ok tt) before × TakesIn bs before (Err e) t)
 
 -- the first question, and what is left of the write
 module _ {S P : Type 0} (rules : WriteRules P) (s m : Buffered S P) (bs : List ℕ) (amount : FlushAmt)
@@ -41,6 +50,13 @@ module _ {S P : Type 0} (rules : WriteRules P) (s m : Buffered S P) (bs : List �
   writes_on (Err e) t (inl unsent) = inr (inl (prepared (Err e) t unsent))
   writes_on (Err e) t (inr (before, flush, took_in)) =
       inr (inr (record { before = before; prepared = prepared (Ok tt) before flush; took_in = took_in }))
+
+-- the same behind the first question
+pub asked_on : {S P : Type 0} (tells : S → StreamLog) (rules : WriteRules P) (amount : ℕ) (s m : Buffered S P)
+    (bs : List ℕ) → AskedFirst tells rules (length bs) amount s m → (answer : Result ℕ Error) (t : Buffered S P)
+    → WritesOn rules amount m bs answer t → Writes rules s bs answer t
+asked_on tells rules amount s m bs first answer t steps = writes_on rules s m bs first.answer first.asked
+    (first.asked.law.whole first.whole) first.told answer t (rw first.is steps)
 
 -- where nothing is sent first, and where bytes fit with room to spare
 pub flushes_none : {S P : Type 0} (m : Buffered S P) (amount : ℕ)

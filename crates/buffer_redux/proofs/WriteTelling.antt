@@ -1,5 +1,5 @@
 -- How what was noted of a write or a flush fits what it did.
-use Rattle.std.proofs.Common.{◌≡◌, ◌∙◌, ℕ, ◌+◌, ◌≤◌, List, [], ◌∷◌, ◌++◌, length, Result, Ok, Err, IfErr, true, inl, inr, refl, sym, ap, subst, length-append, arith, OnOk, MatchResult, ◌<◌, OnErr}
+use Rattle.std.proofs.Common.{◌≡◌, ◌∙◌, ℕ, ◌+◌, ◌≤◌, List, [], ◌∷◌, ◌++◌, length, Result, Ok, Err, IfErr, true, inl, inr, refl, sym, ap, subst, length-append, arith, OnOk, MatchResult, ◌<◌}
 use Rattle.std.proofs.lemmas.Bool.{cases_lt}
 use Rattle.std.proofs.lemmas.List.{append_cancel_left}
 use Rattle.std.proofs.lemmas.List.Elements.{All-head}
@@ -11,9 +11,9 @@ use Rattle.redux_buffer.specs.LogGrows.{WriteLogGrows}
 use Rattle.redux_buffer.specs.Faults.{IsInterrupt, MetInterrupts, MetInterrupts-err, TookNothing, SendErrorCaused}
 use Rattle.buffer_redux.specs.Policy.{WriteRules}
 use Rattle.buffer_redux.specs.Buffered.{Buffered, with_calls, with_policy}
-use Rattle.buffer_redux.specs.BufWriter.{WriterFailed, Writes, WriteErrorCaused, IsFlushed, Flushes, FlushesAmount, TakesIn}
+use Rattle.buffer_redux.specs.BufWriter.{Writes, WriteErrorCaused, IsFlushed, Flushes, FlushesAmount, TakesIn}
 use Rattle.buffer_redux.specs.WriterLaws.{Wrote-met}
-use Rattle.buffer_redux.proofs.WriterFacts.{blamed, steady_caused, steady_met_nothing}
+use Rattle.buffer_redux.proofs.WriterFacts.{steady_caused, steady_met_nothing}
 use Rattle.buffer_redux.specs.WriterTells.{writer_log, failures, TellsFailures, WriterWent}
 
 -- noting a call changes nothing of what a write or a flush did
@@ -87,22 +87,31 @@ failures_kept : (old new : WriteLog) → WriteLogGrows old new → failures old 
 failures_kept old new on =
     omega (arith, on.zero_writes, ap length on.faults.equal, length-append old.faults on.faults.more)
 
-failures_rise : (old new : WriteLog) → WriteLogGrows old new → WriterFailed old new → failures old + 1 ≤ failures new
-failures_rise old new on (inl fault) = omega (arith, fault, on.zero_writes)
-failures_rise old new on (inr zero) =
-    omega (arith, zero, ap length on.faults.equal, length-append old.faults on.faults.more)
+failures_rise : (old new : WriteLog) (e : Error) → SendErrorCaused old new e → failures old + 1 ≤ failures new
+failures_rise old new e caused =
+    let joined = length-append old.faults caused.interrupts in
+    elim caused.cause [
+      | inl nothing ↦ omega (arith, nothing.zero_writes, ap length nothing.faults, joined)
+      | inr fault ↦ omega (
+        arith,
+        fault.zero_writes,
+        ap length fault.faults,
+        length-append (old.faults ++ caused.interrupts) (e ∷ []),
+        joined,
+      )
+    ]
 
 -- under a steady policy a failed write, or one that took nothing of something, is a failure of the inner writer's
 pub write_fails : {S P : Type 0} (s t : Buffered S P) (bs : List ℕ) (answer : Result ℕ Error)
     → WriteLogGrows s.log.writes t.log.writes
-    → OnErr answer (WriterFailed s.log.writes t.log.writes)
+    → IfErr answer (SendErrorCaused s.log.writes t.log.writes)
     × (answer ≡ Ok 0 → 0 < length bs → s.log.writes.zero_writes < t.log.writes.zero_writes)
     → failures (after_write s.own_calls bs answer).writes + failures s.log.writes
     ≤ failures s.own_calls.writes + failures t.log.writes
 write_fails s t bs (Err e) on steadily =
     omega (
       arith,
-      failures_rise s.log.writes t.log.writes on steadily.0,
+      failures_rise s.log.writes t.log.writes e steadily.0,
       length-append s.own_calls.writes.faults (e ∷ []),
     )
 write_fails s t bs (Ok n) on steadily = elim (cases_lt 0 n) [
@@ -119,7 +128,9 @@ write_fails s t bs (Ok n) on steadily = elim (cases_lt 0 n) [
         omega (
           arith,
           zero_of_none n bs s.own_calls.writes.zero_writes zero given,
-          failures_rise s.log.writes t.log.writes on (inr nothing),
+          nothing,
+          ap length on.faults.equal,
+          length-append s.log.writes.faults on.faults.more,
         )
         )
     | inr empty ↦
@@ -139,7 +150,7 @@ pub flush_fails : {S P : Type 0} (s t : Buffered S P) (answer : Result (Unit {0}
 flush_fails s t (Ok a) on caused = omega (arith, failures_kept s.log.writes t.log.writes on)
 flush_fails s t (Err e) on caused = omega (
   arith,
-  failures_rise s.log.writes t.log.writes on (blamed s.log.writes t.log.writes e caused),
+  failures_rise s.log.writes t.log.writes e caused,
   length-append s.own_calls.writes.faults (e ∷ []),
 )
 

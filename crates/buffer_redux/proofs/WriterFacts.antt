@@ -1,16 +1,16 @@
 -- What follows from a whole write: what it keeps, why it failed, and why it took nothing.
-use Rattle.std.proofs.Common.{◌≡◌, ℕ, zero, suc, ◌+◌, ◌<◌, List, [], ◌∷◌, ◌++◌, true, length, take, Result, Ok, Err, refl, sym, ap, ◌∙◌, arith, inl, inr, append-nil, length-append, length-drop, min, subst, IsOkAnd}
+use Rattle.std.proofs.Common.{◌≡◌, ℕ, zero, suc, ◌+◌, ◌<◌, List, [], ◌∷◌, ◌++◌, true, length, take, Result, Ok, Err, refl, sym, ap, ◌∙◌, arith, inl, inr, append-nil, length-drop, min, subst, IsOkAnd}
 use Rattle.std.proofs.lemmas.Bool.{cases_lt, MatchBool-at_true}
 use Rattle.std.specs.declared.io.Error.{Error}
 use Rattle.std.specs.declared.io.ErrorKind.TheVariants.{WriteZero}
 use Rattle.redux_buffer.specs.Block.{Block, usable}
 use Rattle.std.proofs.lemmas.List.Elements.{All-nil}
 use Rattle.redux_buffer.specs.Faults.{IsInterrupt, TookNothing, SendErrorCaused, FaultedAfter-after}
-use Rattle.redux_buffer.specs.StreamLog.{WriteLog, portion, after_write}
+use Rattle.redux_buffer.specs.StreamLog.{portion, after_write}
 use Rattle.buffer_redux.specs.Policy.{WriteRules, BeforeWrite}
 use Rattle.buffer_redux.specs.declared.policy.FlushAmt.{FlushAmt}
 use Rattle.buffer_redux.specs.Buffered.{Buffered, GoesPast, StaysInside}
-use Rattle.buffer_redux.specs.BufWriter.{FlushesAmount, TakesIn, Prepared, Wrote, Writes, WriteErrorCaused, WriterFailed, WritesSteadily, NoSpace, EmptyWriteCaused}
+use Rattle.buffer_redux.specs.BufWriter.{FlushesAmount, TakesIn, Prepared, Wrote, Writes, WriteErrorCaused, WritesSteadily, NoSpace, EmptyWriteCaused}
 use Rattle.buffer_redux.specs.WriterLaws.{flush_ways, ways_in, FlushesAmount-met}
 use Rattle.buffer_redux.proofs.WriteSteps.{StepKeeps, log_same, WritesInOrder-same, StepKeeps-joins, StepKeeps-then, capacity_stays, bytes_stay, StepKeeps-takes, StepKeeps-prepared, StepKeeps-finished}
 
@@ -125,17 +125,6 @@ asks_steadily : {P : Type 0} (rules : WriteRules P) (p : P) (b : Block) (incomin
 asks_steadily rules p b incoming answer p' b' steady asked =
     MatchBool-at_true _ _ steady asked.steady
 
-pub blamed : (old new : WriteLog) (e : Error) → SendErrorCaused old new e → WriterFailed old new
-blamed old new e caused = elim caused.cause [
-  | inl nothing ↦ inr (omega (arith, nothing.zero_writes))
-  | inr fault ↦ inl (omega (
-    arith,
-    ap length fault.faults,
-    length-append (old.faults ++ caused.interrupts) (e ∷ []),
-    length-append old.faults caused.interrupts,
-  ))
-]
-
 module _ {S P : Type 0} (rules : WriteRules P) where
   -- a steady policy flushes all before a write that doesn't fit, so there is space where the write stays inside
   steady_space : (s before : Buffered S P) (incoming : ℕ) → (rules.claims s.policy).steady ≡ true → 0 < incoming
@@ -242,4 +231,4 @@ module _ {S P : Type 0} (rules : WriteRules P) where
   writes_steadily s bs (Ok n) t wrote steady =
       (tt, λ is some. steady_nothing s bs t steady some (writes_nothing s bs (Ok n) t wrote is some))
   writes_steadily s bs (Err e) t failed steady =
-      (blamed s.log.writes t.log.writes e (steady_caused s t bs e steady (writes_caused s bs e t failed)), λ is. cc)
+      (steady_caused s t bs e steady (writes_caused s bs e t failed), λ is. cc)

@@ -1,5 +1,5 @@
 -- What the calls of a buffered writer do and promise.
-use Rattle.std.specs.Prelude.{◌≡◌, ℕ, ◌+◌, ◌-◌, ◌<◌, ◌≤◌, ◌⊎◌, List, [], ◌∷◌, ◌++◌, length, min, Option, Some, Result, Ok, Err, MatchResult, true, IfErr, OnOk, OnErr}
+use Rattle.std.specs.Prelude.{◌≡◌, ℕ, ◌+◌, ◌-◌, ◌<◌, ◌≤◌, ◌⊎◌, List, [], ◌∷◌, ◌++◌, length, min, Option, Some, Result, Ok, Err, MatchResult, true, IfErr, IsErrAnd, OnOk, OnErr}
 use Rattle.std.specs.IoError.{error_kind}
 use Rattle.std.specs.declared.io.Error.{Error}
 use Rattle.std.specs.declared.io.ErrorKind.TheVariants.{WriteZero, TimedOut}
@@ -79,26 +79,15 @@ pub record WriteRefused {S P : Type 0} (rules : WriteRules P)
   pub asked : BeforeWrite rules s.policy s.block (length bs) (Err e) t.policy t.block
   pub told : t.log ≡ s.log
 
--- the inner writer returned the error to the write past the buffer
-pub record WriteFaulted {S P : Type 0} (rules : WriteRules P)
-    (s : Buffered S P) (bs : List ℕ) (e : Error) (t : Buffered S P) : Type 0 where
-  pub before : Buffered S P
-  pub prepared : Prepared rules (length bs) s (Ok tt) before
-  pub took_in : TakesIn bs before (Err e) t
-
--- what `write(bs)` does, step after step
+-- what `write(bs)` does, step after step. At an `Err` the policy returned it, the flush before did, or the inner writer to
+-- the write past the buffer
 abbrev pub Writes : {S P : Type 0} → WriteRules P → Buffered S P → List ℕ → Result ℕ Error → Buffered S P → Type 0
 Writes rules s bs (Ok n) t = Wrote rules s bs n t
-Writes rules s bs (Err e) t =
-    WriteRefused rules s bs e t ⊎ (Prepared rules (length bs) s (Err e) t ⊎ WriteFaulted rules s bs e t)
-
--- what `write(bs)` does once the policy has answered the amount; at an `Err` that flush failed, or the write past the buffer
-abbrev pub WritesOn : {S P : Type 0} → WriteRules P → ℕ → Buffered S P → List ℕ → Result ℕ Error → Buffered S P
-    → Type 0
-WritesOn {S} {P} rules amount m bs (Ok n) t = (before : Buffered S P) × (after : Buffered S P)
-    × FlushesAmount amount m (Ok tt) before × TakesIn bs before (Ok n) after × Finished rules after t
-WritesOn {S} {P} rules amount m bs (Err e) t = FlushesAmount amount m (Err e) t
-    ⊎ ((before : Buffered S P) × FlushesAmount amount m (Ok tt) before × TakesIn bs before (Err e) t)
+Writes {S} {P} rules s bs (Err e) t = WriteRefused rules s bs e t ⊎ (Prepared rules (length bs) s (Err e) t ⊎ record {
+  before : Buffered S P;
+  prepared : Prepared rules (length bs) s (Ok tt) before;
+  took_in : TakesIn bs before (Err e) t;
+})
 
 -- an error is the policy's answer, and nothing else was done, or it was caused by the inner writer
 abbrev pub WriteErrorCaused : {S P : Type 0} → WriteRules P → Buffered S P → List ℕ → Result ℕ Error → Buffered S P
@@ -121,14 +110,10 @@ pub record EmptyWriteCaused {S P : Type 0} (rules : WriteRules P) (s : Buffered 
   pub why : (GoesPast steps.before.block (length bs) × (t.log.writes.zero_writes ≡ s.log.writes.zero_writes + 1))
       ⊎ NoSpace s (length bs) steps.before
 
--- a fault came, or a write took nothing of something
-abbrev pub WriterFailed : WriteLog → WriteLog → Type 0
-WriterFailed old new = (length old.faults < length new.faults) ⊎ (old.zero_writes < new.zero_writes)
-
--- under a steady policy an error is the inner writer's, and so is taking in nothing of something
+-- under a steady policy an error is caused by the inner writer, and so is taking in nothing of something
 abbrev pub WritesSteadily : {S P : Type 0} → WriteRules P → Buffered S P → ℕ → Result ℕ Error → Buffered S P → Type 0
 WritesSteadily rules s incoming answer t = (rules.claims s.policy).steady ≡ true
-    → OnErr answer (WriterFailed s.log.writes t.log.writes)
+    → IfErr answer (SendErrorCaused s.log.writes t.log.writes)
     × (answer ≡ Ok 0 → 0 < incoming → s.log.writes.zero_writes < t.log.writes.zero_writes)
 
 -- what each write keeps: the log only goes on, and nothing is flushed; the capacity doesn't fall, and the kind and the
@@ -144,19 +129,17 @@ pub record WriterKeeps {S P : Type 0} (tells : S → StreamLog) (trace : S → S
   pub whole : IsBlock t.block
   pub went : InnerWent tells trace s t
 
--- what an Ok `send()` has done: nothing is buffered, the inner writer received what was, and nothing went wrong but that
--- writes were interrupted
-pub record IsSent {S P : Type 0} (s t : Buffered S P) : Type 0 where
-  pub empty : t.block.bytes ≡ []
-  pub received : t.log.writes.received ≡ s.log.writes.received ++ s.block.bytes
-  pub met : MetInterrupts s.log.writes t.log.writes
-
 -- all that is promised of a send with this answer
 pub record WasSent {S P : Type 0} (tells : S → StreamLog) (trace : S → S → Type 0)
     (s : Buffered S P) (answer : Result (Unit {0}) Error) (t : Buffered S P) : Type 0 where
   pub sends : Sends (length s.block.bytes) s.block s.log answer t.block t.log
   pub in_order : WritesInOrder s [] t
-  pub ok : OnOk answer (IsSent s t)
+  -- nothing is buffered, the inner writer received what was, and nothing went wrong but that writes were interrupted
+  pub ok : OnOk answer (record {
+    empty : t.block.bytes ≡ [];
+    received : t.log.writes.received ≡ s.log.writes.received ++ s.block.bytes;
+    met : MetInterrupts s.log.writes t.log.writes;
+  })
   pub caused : IfErr answer (λ e. SendErrorCaused s.log.writes t.log.writes e)
   pub not_flushed : t.log.writes.flushed ≡ s.log.writes.flushed
   pub policy : t.policy ≡ s.policy
@@ -217,16 +200,6 @@ pub record FlushedAlong {S P : Type 0} (tells : S → StreamLog) (trace : S → 
   pub received : t.log.writes.received ≡ s.log.writes.received ++ (s.block.bytes ++ accepted)
   pub flushed : t.log.writes.flushed ≡ t.log.writes.received
 
--- the inner writer returned this very error since, and no other after it
-pub record LastFault (old new : WriteLog) (e : Error) : Type 0 where
-  pub before : List Error
-  pub faults : new.faults ≡ (old.faults ++ before) ++ e ∷ []
-
--- a write took nothing of something since, which is answered by an error of this kind
-pub record ZeroWritten (old new : WriteLog) (e : Error) : Type 0 where
-  pub is_write_zero : error_kind e ≡ WriteZero
-  pub zero_writes : old.zero_writes < new.zero_writes
-
 -- a write was interrupted since
 pub record WasInterrupted (old new : WriteLog) : Type 0 where
   pub before : List Error
@@ -235,11 +208,12 @@ pub record WasInterrupted (old new : WriteLog) : Type 0 where
   pub after : List Error
   pub faults : new.faults ≡ ((old.faults ++ before) ++ interrupt ∷ []) ++ after
 
--- the inner writer ended them with this error: by a fault, by a write that took nothing, or by writes that were interrupted
--- again and again, so that 2^64 - 1 of them didn't take all bytes of a slice
+-- the inner writer ended them with this error: it is its last fault, or a write took nothing of something, or writes were
+-- interrupted again and again, so that 2^64 - 1 of them didn't take all bytes of a slice
 abbrev pub WriterStopped : WriteLog → WriteLog → Error → Type 0
-WriterStopped old new e = LastFault old new e
-    ⊎ (ZeroWritten old new e ⊎ ((error_kind e ≡ TimedOut) × WasInterrupted old new))
+WriterStopped old new e = record { before : List Error; faults : new.faults ≡ (old.faults ++ before) ++ e ∷ [] }
+    ⊎ (record { is_write_zero : error_kind e ≡ WriteZero; zero_writes : old.zero_writes < new.zero_writes }
+    ⊎ ((error_kind e ≡ TimedOut) × WasInterrupted old new))
 
 -- calls accepted a beginning of these bytes, of which none is lost
 pub record BegunAlong {S P : Type 0} (tells : S → StreamLog) (trace : S → S → Type 0) (rules : WriteRules P)
@@ -273,41 +247,23 @@ abbrev pub AllFlushed : {S P A : Type 0} → (S → StreamLog) → (S → S → 
 AllFlushed tells trace rules s bytes answer t = MatchResult answer
     (λ _. FlushedAlong tells trace rules s bytes t) (λ e. StoppedAlong tells trace rules s bytes e t)
 
--- one seek of the inner writer; neither the policy nor the buffer was touched
-pub record SeeksInner {S P : Type 0} (tells : S → StreamLog) (readies : Readies) (s : Buffered S P) (to : SeekFrom)
-    (answer : Result ℕ Error) (t : Buffered S P) : Type 0 where
-  pub policy : t.policy ≡ s.policy
-  pub block : t.block ≡ s.block
-  pub log : SeekTells readies s.log to answer t.log
-  pub told : t.log ≡ tells t.inner
-  pub noted : t.own_calls ≡ s.own_calls
-
 -- what `seek(to)` does: a flush, whose error it returns, and then one seek of the inner writer to the same place
-pub record SeeksFlushed {S P : Type 0} (tells : S → StreamLog) (trace : S → S → Type 0) (readies : Readies)
+pub record WasSought {S P : Type 0} (tells : S → StreamLog) (trace : S → S → Type 0) (readies : Readies)
     (s : Buffered S P) (to : SeekFrom) (answer : Result ℕ Error) (t : Buffered S P) : Type 0 where
   pub flushing : Result (Unit {0}) Error
   pub left : Buffered S P
   pub flushed : WasFlushed tells trace s flushing left
-  pub ended : MatchResult flushing (λ _. SeeksInner tells readies left to answer t) (λ e. (answer ≡ Err e) × (t ≡ left))
-
--- what an Ok `seek(to)` has done: all is flushed, and the inner writer was asked once to seek, and gave this answer
-pub record IsSought {S P : Type 0} (s : Buffered S P) (to : SeekFrom) (answer : Result ℕ Error) (t : Buffered S P)
-    : Type 0 where
-  pub flushed : IsFlushed s t
-  pub asked : t.log.seeks.calls ≡ s.log.seeks.calls ++ (to, answer) ∷ []
-
--- an error is that of the flush, and the inner writer was not asked to seek; or it is that of its seek
-abbrev pub SeekErrorCaused : {S P : Type 0} → Buffered S P → SeekFrom → Error → Buffered S P → Type 0
-SeekErrorCaused s to e t = (SendErrorCaused s.log.writes t.log.writes e × (t.log.seeks.calls ≡ s.log.seeks.calls))
-    ⊎ IsSought s to (Err e) t
-
--- all that `seek(to)` promises
-pub record WasSought {S P : Type 0} (tells : S → StreamLog) (trace : S → S → Type 0) (readies : Readies)
-    (s : Buffered S P) (to : SeekFrom) (answer : Result ℕ Error) (t : Buffered S P) : Type 0 where
-  pub steps : SeeksFlushed tells trace readies s to answer t
+  pub ended : MatchResult flushing
+      (λ _. SeekTells readies left.log to answer t.log) (λ e. (answer ≡ Err e) × (t ≡ left))
+  pub policy : t.policy ≡ s.policy
+  pub block : t.block ≡ left.block
+  pub told : t.log ≡ tells t.inner
+  pub noted : t.own_calls ≡ s.own_calls
   pub in_order : WritesInOrder s [] t
   pub grows : WriteLogGrows s.log.writes t.log.writes
-  pub ok : OnOk answer (IsSought s to answer t)
-  pub caused : IfErr answer (λ e. SeekErrorCaused s to e t)
+  -- all is flushed, and the inner writer was asked once to seek, and gave this answer; or an error is that of the flush, and
+  -- it was not asked
+  pub asked : (IsFlushed s t × (t.log.seeks.calls ≡ s.log.seeks.calls ++ (to, answer) ∷ []))
+      ⊎ IsErrAnd answer (λ e. SendErrorCaused s.log.writes t.log.writes e × (t.log.seeks.calls ≡ s.log.seeks.calls))
   pub capacity : t.block.capacity ≡ s.block.capacity
   pub whole : IsBlock t.block

@@ -16,19 +16,16 @@ pub record Buffered (S P : Type 0) : Type 0 where
   pub log : StreamLog
   pub own_calls : StreamLog
 
--- made over this stream, with an empty buffer
-pub record IsMade {S P : Type 0} (tells : S → StreamLog) (kind : Kind) (cap : ℕ) (stream : S) (b : Buffered S P)
-    : Type 0 where
-  pub new : IsNew kind cap b.block
-  pub whole : IsBlock b.block
-  pub inner : b.inner ≡ stream
-  pub log : b.log ≡ tells stream
-  pub calls : b.own_calls ≡ no_calls
-
--- what a maker returns: such a one, or the stream and why no buffer of this capacity was had
+-- what a maker returns: one over this stream, with an empty buffer, or the stream and why no buffer of this capacity was had
 pub record Makes {S P : Type 0} (tells : S → StreamLog) (kind : Kind) (cap limit : ℕ) (stream : S)
     (answer : Result (Buffered S P) (MakeError S)) : Type 0 where
-  pub made : IfOk answer (IsMade tells kind cap stream)
+  pub made : IfOk answer (λ b. record {
+    new : IsNew kind cap b.block;
+    whole : IsBlock b.block;
+    inner : b.inner ≡ stream;
+    log : b.log ≡ tells stream;
+    calls : b.own_calls ≡ no_calls;
+  })
   pub handed_back : IfErr answer (λ e. e.0 ≡ stream)
   pub within : FitsWithin (growth answer) cap limit
 

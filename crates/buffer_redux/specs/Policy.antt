@@ -1,5 +1,5 @@
 -- What a policy may do, and what it may claim.
-use Rattle.std.specs.Prelude.{◌≡◌, ℕ, ◌*◌, ◌<◌, ◌≤◌, ◌==◌, Bool, true, false, length, Result, Ok, Err, IfOk, OnErr, IsOkAnd, MatchBool, MatchResult, ⊤, Option, None, Some, nat_lt, if◌then◌else◌, IfSome}
+use Rattle.std.specs.Prelude.{◌≡◌, ℕ, ◌*◌, ◌<◌, ◌≤◌, ◌==◌, Bool, true, false, length, Result, Ok, IfOk, OnErr, IsOkAnd, MatchBool, MatchResult, ⊤, Option, None, Some, nat_lt, if◌then◌else◌, IfSome}
 use Rattle.std.specs.declared.io.Error.{Error}
 use Rattle.redux_buffer.specs.Block.{Block, IsBlock, OnKind, usable}
 use Rattle.redux_buffer.specs.Potential.{potential}
@@ -14,14 +14,6 @@ pub record Lawful (old new : Block) : Type 0 where
   pub capacity : old.capacity ≤ new.capacity
   pub whole : IsBlock old → IsBlock new
 
--- a table: which calls of `before_read` there may be, by the policy and the buffer before, the answer, and both after
-abbrev pub BeforeReadTable : Type 0 → Type 1
-BeforeReadTable P = P → Block → Result DoRead Error → P → Block → Type 0
-
--- the same of `before_write` of so many incoming bytes
-abbrev pub BeforeWriteTable : Type 0 → Type 1
-BeforeWriteTable P = P → Block → ℕ → Result FlushAmt Error → P → Block → Type 0
-
 -- what a reader's policy may claim beyond its tables
 pub record ReadClaims : Type 0 where
   -- the policy has filling go on until this many bytes are there, and no longer
@@ -34,21 +26,19 @@ pub record ReadClaims : Type 0 where
 abbrev pub no_read_claims : ReadClaims
 no_read_claims = record { minimum = None; steady = false; spares = None }
 
--- what a writer's policy may claim: that it returns no error, and flushes all where the incoming bytes don't fit
-pub record WriteClaims : Type 0 where
-  pub steady : Bool
-
--- what the calls of a reader's policy may answer and change beside the law, and what it claims. `after_consume` is of an amount
+-- what the calls of a reader's policy may answer and change beside the law, and what it claims. Each table says which calls
+-- there may be, by the policy and the buffer before, the answer, and both after; `after_consume` is of an amount
 pub record ReadRules (P : Type 0) : Type 1 where
-  pub before_read : BeforeReadTable P
+  pub before_read : P → Block → Result DoRead Error → P → Block → Type 0
   pub after_consume : P → Block → ℕ → P → Block → Type 0
   pub claims : P → ReadClaims
 
--- the same of a writer's policy, whose `after_write` leaves the buffer
+-- the same of a writer's policy: `before_write` is of so many incoming bytes, and `after_write` leaves the buffer
 pub record WriteRules (P : Type 0) : Type 1 where
-  pub before_write : BeforeWriteTable P
+  pub before_write : P → Block → ℕ → Result FlushAmt Error → P → Block → Type 0
   pub after_write : P → Block → FlushAmt → P → Type 0
-  pub claims : P → WriteClaims
+  -- whether it is steady: returns no error, and flushes all where the incoming bytes don't fit
+  pub claims : P → record { steady : Bool }
 
 -- no more than the law
 abbrev pub any_read_rules : {P : Type 0} → ReadRules P
@@ -56,14 +46,6 @@ any_read_rules = record { before_read = λ _ _ _ _ _. ⊤; after_consume = λ _ 
 
 abbrev pub any_write_rules : {P : Type 0} → WriteRules P
 any_write_rules = record { before_write = λ _ _ _ _ _ _. ⊤; after_write = λ _ _ _ _. ⊤; claims = λ _. record { steady = false } }
-
--- what a minimum asks of a call of `before_read`: it reads where fewer bytes are there, and leaves room then;
--- it fails only there, doesn't grow a buffer that can hold so many, and leaves the limit
-pub record ReadsUpTo (n : ℕ) (b : Block) (answer : Result DoRead Error) (b' : Block) : Type 0 where
-  pub ok : IfOk answer (λ d. MatchBool d.0 ((length b.bytes < n) × (0 < usable b')) (n ≤ length b.bytes))
-  pub err : OnErr answer (length b.bytes < n)
-  pub capacity : n ≤ b.capacity → b'.capacity ≡ b.capacity
-  pub limit : b'.limit ≡ b.limit
 
 -- in a plain buffer of at least three times the number no move is undone, and the potential doesn't rise
 abbrev pub Spares : ℕ → Block → Block → Type 0
@@ -82,7 +64,14 @@ pub record BeforeRead {P : Type 0} (rules : ReadRules P)
   pub law : Lawful b b'
   pub allowed : rules.before_read p b answer p' b'
   pub claims : rules.claims p' ≡ rules.claims p
-  pub minimum : IfSome (rules.claims p).minimum (λ n. ReadsUpTo n b answer b')
+  -- under a minimum it reads where fewer bytes are there, and leaves room then; it fails only there, doesn't grow a buffer
+  -- that can hold so many, and leaves the limit
+  pub minimum : IfSome (rules.claims p).minimum (λ n. record {
+    ok : IfOk answer (λ d. MatchBool d.0 ((length b.bytes < n) × (0 < usable b')) (n ≤ length b.bytes));
+    err : OnErr answer (length b.bytes < n);
+    capacity : n ≤ b.capacity → b'.capacity ≡ b.capacity;
+    limit : b'.limit ≡ b.limit;
+  })
   pub steady : MatchBool (rules.claims p).steady (IsOkAnd answer (λ d. length b.bytes ≡ 0 → d.0 ≡ true)) ⊤
   pub spares : IfSome (rules.claims p).spares (λ n. Spares n b b')
 
@@ -129,13 +118,10 @@ std_read_rules = record {
 }
 
 -- `StdPolicy` flushes all before a write that doesn't fit, nothing after one, and changes nothing
-abbrev pub std_before_write : {P : Type 0} → BeforeWriteTable P
-std_before_write p b incoming (Ok a) p' b' = (p' ≡ p) × (b' ≡ b) × (a.0 ≡ amount_when_full b incoming)
-std_before_write p b incoming (Err e) p' b' = ⊥
-
 abbrev pub std_write_rules : {P : Type 0} → WriteRules P
 std_write_rules = record {
-  before_write = std_before_write;
+  before_write = λ p b incoming answer p' b'.
+      MatchResult answer (λ a. (p' ≡ p) × (b' ≡ b) × (a.0 ≡ amount_when_full b incoming)) (λ _. ⊥);
   after_write = λ p b a p'. (p' ≡ p) × (a.0 ≡ 0);
   claims = λ p. record { steady = true };
 }

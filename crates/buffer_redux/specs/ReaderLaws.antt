@@ -12,7 +12,7 @@ use Rattle.redux_buffer.specs.GivesRemaining.{GivesRemaining, GivesRemaining-non
 use Rattle.redux_buffer.specs.LogGrows.{ReadLogGrows, ReadLogGrows-none, ReadLogGrows-joins}
 use Rattle.redux_buffer.specs.StreamLog.{StreamLog}
 use Rattle.buffer_redux.specs.Policy.{ReadRules, ReadClaims, std_read_rules}
-use Rattle.buffer_redux.specs.Buffered.{Buffered, IsMade}
+use Rattle.buffer_redux.specs.Buffered.{Buffered, Makes}
 use Rattle.buffer_redux.specs.BufReader.{ReadsInOrder, InnerGives, RanDry, FillsToMinimum, Fills, FillBuf, ReaderConsumes, ReaderKeeps, ReadsAlong, ReadsToEnd}
 use Rattle.buffer_redux.specs.Remaining.{ahead, may_stop, reader_remaining}
 use Rattle.buffer_redux.specs.Unbuffer.{HandsOutInOrder, unbuffered, Unbuffered}
@@ -215,10 +215,11 @@ nothing_before (Some x) = refl
 
 module _ {S P : Type 0} (remaining : S → Option (List ℕ)) (rules : ReadRules P) where
   -- a reader that was just made has left what its stream has
-  pub IsMade-left : (tells : S → StreamLog) (kind : Kind) (cap : ℕ) (stream : S) (r : Buffered S P)
-      → IsMade tells kind cap stream r → WantsBytes (rules.claims r.policy) → 0 < cap
+  pub Makes-left : (tells : S → StreamLog) (kind : Kind) (cap limit : ℕ) (stream : S) (r : Buffered S P)
+      → Makes tells kind cap limit stream (Ok r) → WantsBytes (rules.claims r.policy) → 0 < cap
       → reader_remaining remaining rules r ≡ remaining stream
-  IsMade-left tells kind cap stream r made wants some =
+  Makes-left tells kind cap limit stream r makes wants some =
+      let made = makes.made in
       let goes = never_stops (rules.claims r.policy).steady (rules.claims r.policy).minimum r.block.capacity wants
       (omega (arith, some, made.new.capacity)) in
       ap (λ b. cond b None (ahead remaining r)) goes

@@ -16,32 +16,26 @@ pub record InnerOfFlushed {S P : Type 0} (tells : S → StreamLog) (trace : S �
   pub flushed : WasFlushed tells trace s answer left
   pub is_inner : left.inner ≡ inner
 
--- what a handler may do: the writer and the buffer that it is lent, the fault, and both when it gives them back
-abbrev pub Handler : Type 0 → Type 1
-Handler S = MutBor S → MutBor Block → Error → MutBor S → MutBor Block → Type 0
-
--- the handler was called with this writer, this buffer and this fault, and left these
-pub record Handled {S : Type 0} (handler : Handler S) (inner : S) (b : Block) (e : Error) (inner' : S) (b' : Block)
-    : Type 0 where
-  pub lent_inner : MutBor S
-  pub lent_buffer : MutBor Block
-  pub left_inner : MutBor S
-  pub left_buffer : MutBor Block
-  pub called : handler lent_inner lent_buffer e left_inner left_buffer
-  pub shows_inner : lent_inner.now ≡ inner
-  pub shows_buffer : lent_buffer.now ≡ b
-  pub leaves_inner : left_inner.now ≡ inner'
-  pub leaves_buffer : left_buffer.now ≡ b'
-
--- all bytes were sent, and both parts come as that left them; where it failed, as the handler left them after that
-pub record SendsOrHandles {S P : Type 0} (tells : S → StreamLog) (trace : S → S → Type 0) (handler : Handler S)
+-- all bytes were sent, and both parts come as that left them; where it failed, as the handler left them, which was called
+-- with both, and the fault. What it may do is of the writer and the buffer that it is lent, the fault, and both as it left them
+pub record SendsOrHandles {S P : Type 0} (tells : S → StreamLog) (trace : S → S → Type 0)
+    (handler : MutBor S → MutBor Block → Error → MutBor S → MutBor Block → Type 0)
     (s : Buffered S P) (inner : S) (b : Block) : Type 0 where
   pub sending : Result (Unit {0}) Error
   pub sent : Buffered S P
   pub sends : Sends (length s.block.bytes) s.block s.log sending sent.block sent.log
   pub went : InnerWent tells trace s sent
-  pub ended : MatchResult sending
-      (λ _. (inner ≡ sent.inner) × (b ≡ sent.block)) (λ e. Handled handler sent.inner sent.block e inner b)
+  pub ended : MatchResult sending (λ _. (inner ≡ sent.inner) × (b ≡ sent.block)) (λ e. record {
+    lent_inner : MutBor S;
+    lent_buffer : MutBor Block;
+    left_inner : MutBor S;
+    left_buffer : MutBor Block;
+    called : handler lent_inner lent_buffer e left_inner left_buffer;
+    shows_inner : lent_inner.now ≡ sent.inner;
+    shows_buffer : lent_buffer.now ≡ sent.block;
+    leaves_inner : left_inner.now ≡ inner;
+    leaves_buffer : left_buffer.now ≡ b;
+  })
 
 -- all bytes were sent, or those stay that a fault left unsent, and the inner writer tells of no other call. So no byte
 -- was lost: what was received since, then what is left, is what was buffered, and bytes are left only where sending

@@ -8,24 +8,21 @@ use Rattle.redux_buffer.specs.StreamLog.{StreamLog}
 use Rattle.buffer_redux.specs.declared.policy.FlushAmt.{FlushAmt}
 use Rattle.buffer_redux.specs.Policy.{WriteRules, BeforeWrite}
 use Rattle.buffer_redux.specs.AllBytes.{GoesBy, EndsBy, GaveUp}
-use Rattle.buffer_redux.specs.Buffered.{Buffered, InnerWent}
+use Rattle.buffer_redux.specs.Buffered.{Buffered}
 use Rattle.buffer_redux.specs.BufWriter.{WritesInOrder, Writes, Wrote, WriterKeeps, WriteErrorCaused, WriteRefused, NoSpace, EmptyWriteCaused, WritesSteadily, WriterStopped}
 
--- a write of the bytes behind the first `before` was gone on from; the first `count` are taken in now
-pub record WriteTurn {S P : Type 0} (rules : WriteRules P) (bs : List ℕ) (before count : ℕ) (s t : Buffered S P)
-    : Type 0 where
-  pub fewer : before < length bs
-  pub answer : Result ℕ Error
-  pub steps : Writes rules s (drop before bs) answer t
-  pub further : ℕ
-  pub goes : GoesBy answer further
-  pub adds : count ≡ before + further
-
--- this many turns, one after another, took the first `count` bytes in
+-- this many turns, one after another, took the first `count` bytes in: writes, each of what was left, that were gone on from
 abbrev pub WriteTurns : {S P : Type 0} → WriteRules P → List ℕ → ℕ → ℕ → Buffered S P → Buffered S P → Type 0
 WriteTurns rules bs zero count s t = (count ≡ 0) × (s ≡ t)
 WriteTurns {S} {P} rules bs (suc k) count s t =
-    (before : ℕ) × (m : Buffered S P) × WriteTurns rules bs k before s m × WriteTurn rules bs before count m t
+    (before : ℕ) × (m : Buffered S P) × WriteTurns rules bs k before s m × record {
+      fewer : before < length bs;
+      answer : Result ℕ Error;
+      steps : Writes rules m (drop before bs) answer t;
+      further : ℕ;
+      goes : GoesBy answer further;
+      adds : count ≡ before + further;
+    }
 
 -- just these bytes were taken in, and none was lost or changed place
 pub record TookFront {S P : Type 0} (tells : S → StreamLog) (trace : S → S → Type 0) (rules : WriteRules P)
@@ -63,49 +60,13 @@ pub record WritesAll {S P : Type 0} (tells : S → StreamLog) (trace : S → S �
   pub front : TookFront tells trace rules s (take count bs) t
   pub ended : MatchResult answer (λ _. (count ≡ length bs) × (t ≡ last))
       (λ e. LastWriteFailed rules (drop count bs) e last t ⊎ (GaveUp turns count (length bs) e × (t ≡ last)))
-
--- there was no space, and the policy's answer made none, so that a write of these bytes took nothing
-pub record LeftNoSpace {S P : Type 0} (rules : WriteRules P) (m : Buffered S P) (rest : List ℕ) (e : Error)
-    (t : Buffered S P) : Type 0 where
-  pub is_write_zero : error_kind e ≡ WriteZero
-  pub steps : Wrote rules m rest 0 t
-  pub full : NoSpace m (length rest) steps.before
-
--- some first bytes were taken in, and the policy's answer to the write of the others ended it
-pub record PolicyStopped {S P : Type 0} (tells : S → StreamLog) (trace : S → S → Type 0) (rules : WriteRules P)
-    (s : Buffered S P) (bs : List ℕ) (e : Error) (t : Buffered S P) : Type 0 where
-  pub count : ℕ
-  pub last : Buffered S P
-  pub first : TookFront tells trace rules s (take count bs) last
-  pub why : WriteRefused rules last (drop count bs) e t ⊎ LeftNoSpace rules last (drop count bs) e t
-
--- as many writes as std makes were gone on from, and some bytes are left
-pub record RanOutOfTurns {S P : Type 0} (rules : WriteRules P) (s : Buffered S P) (bs : List ℕ) (e : Error)
-    (t : Buffered S P) : Type 0 where
-  pub turns : ℕ
-  pub count : ℕ
-  pub run : WriteTurns rules bs turns count s t
-  pub gave_up : GaveUp turns count (length bs) e
-
--- an error is the inner writer's or the policy's, or there were too many turns
-abbrev pub WriteAllErrorCaused : {S P : Type 0} → (S → StreamLog) → (S → S → Type 0) → WriteRules P → Buffered S P
-    → List ℕ → Result (Unit {0}) Error → Buffered S P → Type 0
-WriteAllErrorCaused tells trace rules s bs answer t = IfErr answer
-    (λ e. WriterStopped s.log.writes t.log.writes e
-    ⊎ (PolicyStopped tells trace rules s bs e t ⊎ RanOutOfTurns rules s bs e t))
-
--- under a steady policy an error is the inner writer's
-abbrev pub WritesAllSteadily : {S P : Type 0} → WriteRules P → Buffered S P → Result (Unit {0}) Error → Buffered S P
-    → Type 0
-WritesAllSteadily rules s answer t =
-    (rules.claims s.policy).steady ≡ true → IfErr answer (WriterStopped s.log.writes t.log.writes)
-
--- one write, with this answer
-pub record OneWrite {S P : Type 0} (tells : S → StreamLog) (trace : S → S → Type 0) (rules : WriteRules P)
-    (s : Buffered S P) (bs : List ℕ) (answer : Result ℕ Error) (t : Buffered S P) : Type 0 where
-  pub steps : Writes rules s bs answer t
-  pub whole : IsBlock s.block × IsBlock t.block
-  pub went : InnerWent tells trace s t
+  -- an error is the inner writer's; or the policy's answer to the last write; or `WriteZero`, where there was no space and the
+  -- policy's answer made none; or there were too many turns
+  pub caused : IfErr answer (λ e. WriterStopped s.log.writes t.log.writes e ⊎ (WriteRefused rules last (drop count bs) e t
+      ⊎ (((error_kind e ≡ WriteZero) × (wrote : Wrote rules last (drop count bs) 0 t)
+      × NoSpace last (length (drop count bs)) wrote.before) ⊎ GaveUp turns count (length bs) e)))
+  -- under a steady policy it is the inner writer's
+  pub steadily : (rules.claims s.policy).steady ≡ true → IfErr answer (WriterStopped s.log.writes t.log.writes)
 
 -- the policy was asked before so many incoming bytes and answered this amount, and nothing else was done
 pub record AskedFirst {S P : Type 0} (tells : S → StreamLog) (rules : WriteRules P) (incoming amount : ℕ)

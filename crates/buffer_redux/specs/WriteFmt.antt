@@ -8,7 +8,7 @@ use Rattle.redux_buffer.specs.StreamLog.{StreamLog}
 use Rattle.buffer_redux.specs.Policy.{WriteRules}
 use Rattle.buffer_redux.specs.Buffered.{Buffered}
 use Rattle.buffer_redux.specs.BufWriter.{WritesAlong}
-use Rattle.buffer_redux.specs.WriteAll.{WriteAllErrorCaused, WritesAll, WritesAllSteadily}
+use Rattle.buffer_redux.specs.WriteAll.{WritesAll}
 
 module _ {S P : Type 0} (tells : S → StreamLog) (trace : S → S → Type 0) (rules : WriteRules P) where
   -- these pieces were written, one after another, each by a `write_all` of it, and nothing else was done
@@ -31,8 +31,6 @@ module _ {S P : Type 0} (tells : S → StreamLog) (trace : S → S → Type 0) (
     pub went : WritesPieces s before last
     pub piece : List ℕ
     pub steps : WritesAll tells trace rules last piece (Err e) t
-    pub caused : WriteAllErrorCaused tells trace rules last piece (Err e) t
-    pub steadily : WritesAllSteadily rules last (Err e) t
 
   -- just a beginning of the text was accepted, and that piece was one of the text's
   pub record StoppedIn (s : Buffered S P) (text : List ℕ) (e : Error) (t : Buffered S P) : Type 0 where

@@ -21,14 +21,12 @@ writer_log b = record b.own_calls {
   };
 }
 
--- the same log, where all that was received is flushed
-abbrev pub all_flushed : StreamLog → StreamLog
-all_flushed log = record log { writes = record log.writes { flushed = log.writes.received } }
-
--- a seek flushes what was received, and a failed one that or nothing
+-- a seek flushes all that was received, and a failed one that or nothing
 abbrev pub flushes_received : Readies
-flushes_received before (Ok n) after = after ≡ all_flushed before
-flushes_received before (Err e) after = (after ≡ before) ⊎ (after ≡ all_flushed before)
+flushes_received before (Ok n) after =
+    after ≡ record before { writes = record before.writes { flushed = before.writes.received } }
+flushes_received before (Err e) after =
+    (after ≡ before) ⊎ (after ≡ record before { writes = record before.writes { flushed = before.writes.received } })
 
 -- the faults, and the writes that took nothing of something
 abbrev pub failures : WriteLog → ℕ

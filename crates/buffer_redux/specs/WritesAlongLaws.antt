@@ -15,8 +15,8 @@ use Rattle.redux_buffer.specs.declared.tell.memory.MemoryWriter.{MemoryWriter}
 use Rattle.redux_buffer.specs.declared.tell.told.Told.{Told}
 use Rattle.buffer_redux.specs.Policy.{WriteRules}
 use Rattle.buffer_redux.specs.Buffered.{Buffered}
-use Rattle.buffer_redux.specs.BufWriter.{WritesInOrder, WriterKeeps, WriterFailed, WasSent, WasFlushed, WriteErrorCaused, WriteRefused, WritesSteadily, WritesAlong, FlushedAlong, WasInterrupted, WriterStopped, BegunAlong, StoppedAlong, FrontAlong, AllAlong, AllFlushed}
-use Rattle.buffer_redux.specs.WriteAll.{WritesAll, WritesAllSteadily}
+use Rattle.buffer_redux.specs.BufWriter.{WritesInOrder, WriterKeeps, WasSent, WasFlushed, WritesSteadily, WritesAlong, FlushedAlong, WasInterrupted, WriterStopped, BegunAlong, StoppedAlong, FrontAlong, AllAlong, AllFlushed}
+use Rattle.buffer_redux.specs.WriteAll.{WritesAll}
 use Rattle.buffer_redux.specs.WriterLaws.{WritesInOrder-none, WritesInOrder-joins, WritesInOrder-contents}
 
 -- the log as a word that goes on
@@ -97,23 +97,6 @@ pub WasFlushed-memory : {P : Type 0} (trace : MemoryWriter → MemoryWriter → 
 WasFlushed-memory trace s t e f = send-memory t.inner s.log.writes e
     (subst (λ l. SendErrorCaused s.log.writes l.writes e) f.went.told_after f.caused)
 
--- the same list is no longer, and the same count no larger
-nothing_failed : (old new : WriteLog) → new ≡ old → WriterFailed old new → ⊥
-nothing_failed old new same (inl fault) = omega (arith, fault, ap (λ l. length l.faults) same)
-nothing_failed old new same (inr zero) = omega (arith, zero, ap (λ l. l.zero_writes) same)
-
--- an error that came with a failure of the inner writer is the inner writer's
-pub WriteErrorCaused-failed : {S P : Type 0} (rules : WriteRules P) (s : Buffered S P) (bs : List ℕ) (e : Error)
-    (t : Buffered S P) → WriteErrorCaused rules s bs (Err e) t → WriterFailed s.log.writes t.log.writes
-    → WriterStopped s.log.writes t.log.writes e
-WriteErrorCaused-failed rules s bs e t caused failed = of caused
-  where
-    of : WriteRefused rules s bs e t ⊎ SendErrorCaused s.log.writes t.log.writes e
-        → WriterStopped s.log.writes t.log.writes e
-    of (inl refused) =
-        absurd (nothing_failed s.log.writes t.log.writes (ap (λ l. l.writes) refused.told) failed)
-    of (inr sent) = WriterStopped-send s.log.writes t.log.writes e sent
-
 module _ {S P : Type 0} (tells : S → StreamLog) (trace : S → S → Type 0) (rules : WriteRules P) where
   -- no call accepts nothing
   pub WritesAlong-none : ((u : S) → trace u u) → (s : Buffered S P) → WritesAlong tells trace rules s [] s
@@ -175,13 +158,12 @@ module _ {S P : Type 0} (tells : S → StreamLog) (trace : S → S → Type 0) (
 
   -- the same with why it failed, under a steady policy
   pub Writes-all : (s : Buffered S P) (bs : List ℕ) (answer : Result ℕ Error) (t : Buffered S P)
-      → WritesInOrder s (portion bs answer) t → WriteErrorCaused rules s bs answer t
-      → WritesSteadily rules s (length bs) answer t → WriterKeeps tells trace rules s t
+      → WritesInOrder s (portion bs answer) t → WritesSteadily rules s (length bs) answer t → WriterKeeps tells trace rules s t
       → (rules.claims s.policy).steady ≡ true → AllAlong tells trace rules s (portion bs answer) answer t
-  Writes-all s bs (Ok n) t order caused steadily keeps steady = WriterKeeps-along s (take n bs) t order keeps
-  Writes-all s bs (Err e) t order caused steadily keeps steady = record {
+  Writes-all s bs (Ok n) t order steadily keeps steady = WriterKeeps-along s (take n bs) t order keeps
+  Writes-all s bs (Err e) t order steadily keeps steady = record {
     begun = BegunAlong-of s t [] [] (WriterKeeps-along s [] t order keeps);
-    why = WriteErrorCaused-failed rules s bs e t caused (steadily steady).0;
+    why = WriterStopped-send s.log.writes t.log.writes e (steadily steady).0;
   }
 
   -- a write of all bytes, which at Err accepted some of the first
@@ -206,11 +188,11 @@ module _ {S P : Type 0} (tells : S → StreamLog) (trace : S → S → Type 0) (
 
   -- the same with why it failed, under a steady policy
   pub WritesAll-all : (s : Buffered S P) (bs : List ℕ) (answer : Result (Unit {0}) Error) (t : Buffered S P)
-      → WritesAll tells trace rules s bs answer t → WritesAllSteadily rules s answer t
+      → WritesAll tells trace rules s bs answer t
       → (rules.claims s.policy).steady ≡ true → AllAlong tells trace rules s bs answer t
-  WritesAll-all s bs (Ok x) t all steadily steady = WritesAll-took s bs x t all
-  WritesAll-all s bs (Err e) t all steadily steady =
-      record { begun = WritesAll-front s bs (Err e) t all; why = steadily steady }
+  WritesAll-all s bs (Ok x) t all steady = WritesAll-took s bs x t all
+  WritesAll-all s bs (Err e) t all steady =
+      record { begun = WritesAll-front s bs (Err e) t all; why = all.steadily steady }
 
   -- a flush accepts nothing, whatever it answers
   pub WasFlushed-along : (s : Buffered S P) (answer : Result (Unit {0}) Error) (t : Buffered S P)

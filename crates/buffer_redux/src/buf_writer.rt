@@ -13,7 +13,7 @@ ghost use Rattle.buffer_redux.specs.contracts.buf_writer.BufWriter.{the_row};
 ghost use Rattle.buffer_redux.specs.Buffered.{over_buffer, with_block, with_inner, with_policy, InnerWent, Makes};
 ghost use Rattle.buffer_redux.specs.BufWriter.{writer_contents, FlushesAmount, TakesIn, Finished, Writes};
 ghost use Rattle.buffer_redux.specs.BufWriter.{WritesSteadily, WritesInOrder, WriterKeeps, WriteErrorCaused, EmptyWriteCaused, WasSent, WasFlushed, WasSought};
-ghost use Rattle.buffer_redux.specs.WriteAll.{TookBeginning, WriteAllErrorCaused, WritesAll, WritesAllSteadily};
+ghost use Rattle.buffer_redux.specs.WriteAll.{TookBeginning, WritesAll};
 
 use crate::errors::MakeError;
 use crate::policy::{FlushAmt, StdPolicy, WriterPolicy};
@@ -318,8 +318,6 @@ impl<W: TellWrite, P: WriterPolicy> Write for BufWriter<W, P> {
         ensures bytes { OnOk result (Appends (writer_contents self.old) (writer_contents self.new) bytes.now) }
         ensures in_order { OnOk result (WritesInOrder self.old bytes.now self.new) }
         ensures beginning { TookBeginning bytes.now self.old self.new }
-        ensures caused { WriteAllErrorCaused W.log W.trace P.rules self.old bytes.now result self.new }
-        ensures steadily { WritesAllSteadily P.rules self.old result self.new }
         ensures retried { IfErr result (λ e. error_kind e ≢ ErrorKind.Interrupted) }
         ensures whole { IsBlock self.new.block }
         ensures steps { WritesAll W.log W.trace P.rules self.old bytes.now result self.new }

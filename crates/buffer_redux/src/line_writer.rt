@@ -12,7 +12,7 @@ ghost use Rattle.buffer_redux.specs.Buffered.{over_buffer, with_block, with_inne
 ghost use Rattle.buffer_redux.specs.BufWriter.{writer_contents, Writes, WritesSteadily, WritesInOrder, WriterKeeps, WriteErrorCaused, EmptyWriteCaused, WasSent, WasFlushed};
 ghost use Rattle.buffer_redux.specs.LineWriter.{line_rules};
 ghost use Rattle.buffer_redux.specs.Unwrapping.{InnerOfFlushed, SendsOrHandles};
-ghost use Rattle.buffer_redux.specs.WriteAll.{TookBeginning, WriteAllErrorCaused, WritesAll, WritesAllSteadily};
+ghost use Rattle.buffer_redux.specs.WriteAll.{TookBeginning, WritesAll};
 ghost use Rattle.buffer_redux.specs.WriteFmt.{WritesText};
 
 mod sender;
@@ -255,8 +255,6 @@ impl<W: TellWrite> Write for LineWriter<W> {
         ensures bytes { OnOk result (Appends (writer_contents self.old) (writer_contents self.new) bytes.now) }
         ensures in_order { OnOk result (WritesInOrder self.old bytes.now self.new) }
         ensures beginning { TookBeginning bytes.now self.old self.new }
-        ensures caused { WriteAllErrorCaused W.log W.trace line_rules self.old bytes.now result self.new }
-        ensures steadily { WritesAllSteadily line_rules self.old result self.new }
         ensures retried { IfErr result (λ e. error_kind e ≢ ErrorKind.Interrupted) }
         ensures whole { IsBlock self.new.block }
         ensures steps { WritesAll W.log W.trace line_rules self.old bytes.now result self.new }

@@ -10,26 +10,30 @@ use Rattle.redux_buffer.specs.Faults.{SendErrorCaused}
 use Rattle.redux_buffer.specs.StreamLog.{StreamLog}
 use Rattle.redux_buffer.specs.Transfer.{Sends}
 use Rattle.buffer_redux.specs.Buffered.{Buffered, with_block, with_inner}
-use Rattle.buffer_redux.specs.Unwrapping.{Handler, Handled, SendsOrHandles, KeepsUnsent, DropsUnsent}
+use Rattle.buffer_redux.specs.Unwrapping.{SendsOrHandles, KeepsUnsent, DropsUnsent}
 use Rattle.buffer_redux.specs.WriterLaws.{WritesInOrder-sends}
 
 -- a handler leaves the inner writer as it was, and the buffer in this relation to what it was
-abbrev pub Leaves : {S : Type 0} → Handler S → (Block → Block → Type 0) → Type 0
+abbrev pub Leaves : {S : Type 0} → (MutBor S → MutBor Block → Error → MutBor S → MutBor Block → Type 0)
+    → (Block → Block → Type 0) → Type 0
 Leaves {S} handler Left =
     (w w' : MutBor S) (b b' : MutBor Block) (e : Error) → handler w b e w' b'
     → (w'.now ≡ w.now) × Left b.now b'.now
 
-module _ {S P : Type 0} (tells : S → StreamLog) (trace : S → S → Type 0) (handler : Handler S)
-    (s : Buffered S P) where
-  parts_left : (Left : Block → Block → Type 0) → Leaves handler Left
-      → (sending : Result (Unit {0}) Error) (sent : Buffered S P) (inner : S) (b : Block)
-      → MatchResult sending
-      (λ _. (inner ≡ sent.inner) × (b ≡ sent.block)) (λ e. Handled handler sent.inner sent.block e inner b)
-      → (inner ≡ sent.inner) × MatchResult sending (λ _. b ≡ sent.block) (λ _. Left sent.block b)
-  parts_left Left leaves (Ok _) sent inner b same = same
-  parts_left Left leaves (Err e) sent inner b h =
+module _ {S P : Type 0} (tells : S → StreamLog) (trace : S → S → Type 0)
+    (handler : MutBor S → MutBor Block → Error → MutBor S → MutBor Block → Type 0) (s : Buffered S P) where
+  on_err : (sending : Result (Unit {0}) Error) (A B C : Type 0) (Y : Error → Type 0) → MatchResult sending (λ _. A × B) Y
+      → ((e : Error) → Y e → A × C) → A × MatchResult sending (λ _. B) (λ _. C)
+  on_err (Ok _) A B C Y same left = same
+  on_err (Err e) A B C Y handled left = left e handled
+
+  parts_left : (Left : Block → Block → Type 0) → Leaves handler Left → (inner : S) (b : Block)
+      → (f : SendsOrHandles tells trace handler s inner b)
+      → (inner ≡ f.sent.inner) × MatchResult f.sending (λ _. b ≡ f.sent.block) (λ _. Left f.sent.block b)
+  parts_left Left leaves inner b f =
+      on_err f.sending (inner ≡ f.sent.inner) (b ≡ f.sent.block) (Left f.sent.block b) _ f.ended (λ e h.
       let left = leaves h.lent_inner h.left_inner h.lent_buffer h.left_buffer e h.called in
-      (sym h.leaves_inner ∙ left.0 ∙ h.shows_inner, rw (sym h.shows_buffer, sym h.leaves_buffer) left.1)
+      (sym h.leaves_inner ∙ left.0 ∙ h.shows_inner, rw (sym h.shows_buffer, sym h.leaves_buffer) left.1))
 
   same_left : (sending : Result (Unit {0}) Error) (b b' : Block)
       → MatchResult sending (λ _. b' ≡ b) (λ _. b' ≡ b) → b' ≡ b
@@ -60,14 +64,14 @@ module _ {S P : Type 0} (tells : S → StreamLog) (trace : S → S → Type 0) (
   pub keeps_unsent : Leaves handler (λ b b'. b' ≡ b)
       → (inner : S) (b : Block) → SendsOrHandles tells trace handler s inner b → KeepsUnsent tells s inner b
   keeps_unsent leaves inner b f =
-      let left = parts_left (λ b b'. b' ≡ b) leaves f.sending f.sent inner b f.ended in
+      let left = parts_left (λ b b'. b' ≡ b) leaves inner b f in
       rw (left.0, same_left f.sending f.sent.block b left.1) (sending_keeps inner b f)
 
   pub drops_unsent : Leaves handler Clears
       → (inner : S) (b : Block) → SendsOrHandles tells trace handler s inner b → DropsUnsent tells s inner b
   unfolding sending_keeps
   drops_unsent leaves inner b f =
-      let left = parts_left Clears leaves f.sending f.sent inner b f.ended in
+      let left = parts_left Clears leaves inner b f in
       rw (left.0) (record {
         unsent = f.sent.block;
         kept = sending_keeps inner b f;

@@ -6,7 +6,7 @@ use Rattle.std.proofs.lemmas.List.{get_or-drop}
 use Rattle.std.specs.declared.io.Error.{Error}
 use Rattle.redux_buffer.specs.Block.{Block}
 use Rattle.buffer_redux.specs.declared.policy.FlushAmt.{FlushAmt}
-use Rattle.buffer_redux.specs.Policy.{WriteRules, std_before_write}
+use Rattle.buffer_redux.specs.Policy.{WriteRules, std_write_rules}
 use Rattle.buffer_redux.specs.Buffered.{Buffered, with_policy}
 use Rattle.buffer_redux.specs.BufWriter.{FlushesAmount, TakesIn, Prepared, Wrote, Writes}
 use Rattle.buffer_redux.specs.WriterPolicies.{at_least_rules, exact_rules, flush_on_rules}
@@ -43,7 +43,7 @@ module _ {S P : Type 0} (amount : ℕ) where
   ]
 
 std_stays : {P : Type 0} (p : P) (b : Block) (incoming : ℕ) (answer : Result FlushAmt Error) (p' : P) (b' : Block)
-    → std_before_write p b incoming answer p' b' → p' ≡ p
+    → std_write_rules.before_write p b incoming answer p' b' → p' ≡ p
 std_stays p b incoming (Ok amount) p' b' allowed = allowed.0
 std_stays p b incoming (Err e) p' b' allowed = absurd allowed
 

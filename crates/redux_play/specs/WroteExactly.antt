@@ -8,7 +8,7 @@ use Rattle.redux_buffer.specs.Faults.{SendErrorCaused}
 use Rattle.redux_buffer.specs.StreamLog.{WriteLog, after_write, with_zero}
 use Rattle.buffer_redux.specs.Policy.{WriteRules}
 use Rattle.buffer_redux.specs.Buffered.{Buffered, GoesPast, StaysInside, with_policy}
-use Rattle.buffer_redux.specs.BufWriter.{FlushesAmount, CopiesIn, Wrote, WriteFaulted, Writes}
+use Rattle.buffer_redux.specs.BufWriter.{FlushesAmount, CopiesIn, TakesIn, Wrote, Writes}
 use Rattle.buffer_redux.specs.WriterLaws.{flush_ways, ways_in, FlushesAmount-met}
 
 -- what the flush of an amount leaves: the bytes behind the first amount, or all of them where there are fewer; where it
@@ -206,10 +206,9 @@ Writes-exactly rules s bs (Ok n) t wrote = Wrote-exactly rules s bs n t wrote
 Writes-exactly rules s bs (Err e) t failed = tt
 
 -- a write that failed as it took bytes in had gone past the buffer, and offered all of them
-pub WriteFaulted-past : {S P : Type 0} (rules : WriteRules P) (s : Buffered S P) (bs : List ℕ) (e : Error)
-    (t : Buffered S P) (faulted : WriteFaulted rules s bs e t)
-    → GoesPast faulted.before.block (length bs) × (t.log ≡ after_write faulted.before.log bs (Err e))
-WriteFaulted-past rules s bs e t faulted = elim (ways_in faulted.before.block (length bs)) [
-  | inl past ↦ (past, (faulted.took_in.past past).told)
-  | inr inside ↦ (let odd = (faulted.took_in.inside inside).answered in cc)
+pub TakesIn-failed : {S P : Type 0} (before : Buffered S P) (bs : List ℕ) (e : Error) (t : Buffered S P)
+    → TakesIn bs before (Err e) t → GoesPast before.block (length bs) × (t.log ≡ after_write before.log bs (Err e))
+TakesIn-failed before bs e t took_in = elim (ways_in before.block (length bs)) [
+  | inl past ↦ (past, (took_in.past past).told)
+  | inr inside ↦ (let odd = (took_in.inside inside).answered in cc)
 ]

@@ -1,10 +1,14 @@
 -- What `Halves` does before a read and around a write.
-use Rattle.std.specs.Prelude.{◌≡◌, ◌*◌, length, nat_le, if◌then◌else◌, Ok, Err, Some, None, true}
-use Rattle.buffer_redux.specs.Policy.{BeforeReadTable, BeforeWriteTable, ReadRules, WriteRules, amount_when_full}
+use Rattle.std.specs.Prelude.{◌≡◌, ℕ, ◌*◌, length, nat_le, if◌then◌else◌, Result, Ok, Err, Some, None, true}
+use Rattle.std.specs.declared.io.Error.{Error}
+use Rattle.buffer_redux.specs.Block.{Block}
+use Rattle.buffer_redux.specs.declared.policy.DoRead.{DoRead}
+use Rattle.buffer_redux.specs.declared.policy.FlushAmt.{FlushAmt}
+use Rattle.buffer_redux.specs.Policy.{ReadRules, WriteRules, amount_when_full}
 use Rattle.tests_common.specs.declared.claims.Halves.{Halves}
 
 -- it reads until more than half of the capacity is buffered
-abbrev pub halves_before_read : BeforeReadTable Halves
+abbrev pub halves_before_read : Halves → Block → Result DoRead Error → Halves → Block → Type 0
 halves_before_read p b (Ok d) p' b' = (p' ≡ p) × (b' ≡ b) × (d.0 ≡ nat_le (2 * length b.bytes) b.capacity)
 halves_before_read p b (Err e) p' b' = ⊥
 
@@ -17,7 +21,7 @@ halves_read_rules = record {
 }
 
 -- before a write it flushes all where the incoming bytes don't fit
-abbrev pub halves_before_write : BeforeWriteTable Halves
+abbrev pub halves_before_write : Halves → Block → ℕ → Result FlushAmt Error → Halves → Block → Type 0
 halves_before_write p b incoming (Ok a) p' b' = (p' ≡ p) × (b' ≡ b) × (a.0 ≡ amount_when_full b incoming)
 halves_before_write p b incoming (Err e) p' b' = ⊥
 

@@ -1,8 +1,10 @@
 -- What `Header` does before a read.
-use Rattle.std.specs.Prelude.{◌≡◌, ◌<◌, ◌≤◌, length, Ok, Err, MatchBool, Some, false}
+use Rattle.std.specs.Prelude.{◌≡◌, ◌<◌, ◌≤◌, length, Ok, Err, MatchBool, Some, false, Result}
 use Rattle.buffer_redux.specs.Block.{Block, MakesRoom, Reserves, usable}
+use Rattle.std.specs.declared.io.Error.{Error}
+use Rattle.buffer_redux.specs.declared.policy.DoRead.{DoRead}
 use Rattle.buffer_redux.specs.GrowError.{GrowthFailed}
-use Rattle.buffer_redux.specs.Policy.{BeforeReadTable, ReadRules}
+use Rattle.buffer_redux.specs.Policy.{ReadRules}
 use Rattle.tests_common.specs.declared.claims.Header.{Header}
 
 -- a buffer that can't hold sixteen bytes grows; one in which they don't fit behind its bytes makes room; another stays
@@ -12,7 +14,7 @@ pub record ReadiesHeader (old new : Block) : Type 0 where
   pub roomy : 16 ≤ old.capacity → 16 ≤ usable old → new ≡ old
 
 -- it reads where fewer than sixteen bytes are there, and fails only where it can't hold them and its growth was refused
-abbrev pub header_before_read : BeforeReadTable Header
+abbrev pub header_before_read : Header → Block → Result DoRead Error → Header → Block → Type 0
 header_before_read p b (Ok d) p' b' =
     (p' ≡ p) × MatchBool d.0 ((length b.bytes < 16) × ReadiesHeader b b') ((16 ≤ length b.bytes) × (b' ≡ b))
 header_before_read p b (Err e) p' b' =

@@ -1,10 +1,9 @@
 -- Why what reads or writes on and on stopped.
-use Rattle.std.specs.Prelude.{◌≡◌, ℕ, ◌+◌, ◌^◌, ◌≤◌, ◌⊎◌, List, ◌∷◌, [], ◌++◌, length, All, Result, Ok, Err}
+use Rattle.std.specs.Prelude.{◌≡◌, ℕ, ◌+◌, ◌^◌, ◌<◌, ◌≤◌, ◌⊎◌, List, ◌∷◌, [], ◌++◌, length, All, Result, Ok, Err}
 use Rattle.std.specs.IoError.{error_kind}
 use Rattle.std.specs.declared.io.Error.{Error}
-use Rattle.std.specs.declared.io.ErrorKind.TheVariants.{Interrupted, Other, OutOfMemory, TimedOut, WouldBlock}
+use Rattle.std.specs.declared.io.ErrorKind.TheVariants.{Interrupted, Other, OutOfMemory, TimedOut, WouldBlock, WriteZero}
 use Rattle.buffer_redux.specs.Buffered.{Buffered}
-use Rattle.buffer_redux.specs.BufWriter.{LastFault, ZeroWritten}
 use Rattle.buffer_redux.specs.StreamLog.{WriteLog}
 use Rattle.buffer_redux.specs.WriterTells.{failures}
 
@@ -51,7 +50,8 @@ Endures most (Err e) s t = MetLast most s.log.reads.faults t.log.reads.faults e 
 
 -- the device failed with this error, or took nothing of something
 abbrev pub DeviceFailed : WriteLog → WriteLog → Error → Type 0
-DeviceFailed old new e = LastFault old new e ⊎ ZeroWritten old new e
+DeviceFailed old new e = record { before : List Error; faults : new.faults ≡ (old.faults ++ before) ++ e ∷ [] }
+    ⊎ record { is_write_zero : error_kind e ≡ WriteZero; zero_writes : old.zero_writes < new.zero_writes }
 
 -- the device failed so often since
 abbrev pub FailedTimes : ℕ → WriteLog → WriteLog → Type 0

@@ -3,8 +3,8 @@ ghost use Rattle.std.specs.Prelude.{◌<◌, Err, length};
 ghost use Rattle.std.specs.Io.{WritesAtMost};
 ghost use Rattle.redux_buffer.specs.Block.{IsBlock};
 ghost use Rattle.buffer_redux.specs.Buffered.{Buffered, InnerWent};
-ghost use Rattle.buffer_redux.specs.BufWriter.{Writes, WritesOn};
-ghost use Rattle.buffer_redux.specs.WriteAll.{AskedFirst, OneWrite, WritesAll};
+ghost use Rattle.buffer_redux.specs.BufWriter.{Writes};
+ghost use Rattle.buffer_redux.specs.WriteAll.{AskedFirst, WritesAll};
 
 use crate::all_bytes::progress;
 use crate::buf_writer::BufWriter;
@@ -18,7 +18,8 @@ impl<W: TellWrite, P: WriterPolicy> BufWriter<W, P> {
     #[inline(always)]
     fn write_slowly(&mut self, first: usize, bytes: &[u8]) -> io::Result<usize>
         ensures bound { WritesAtMost result bytes.now }
-        ensures steps { WritesOn P.rules first self.old bytes.now result self.new }
+        ensures steps { (s : Buffered W P) → AskedFirst W.log P.rules (length bytes.now) first s self.old
+            → Writes P.rules s bytes.now result self.new }
         ensures whole { IsBlock self.new.block }
         ensures trace { InnerWent W.log W.trace self.old self.new }
     {
@@ -33,7 +34,8 @@ impl<W: TellWrite, P: WriterPolicy> BufWriter<W, P> {
     #[inline(never)]
     fn write_cold(&mut self, first: usize, bytes: &[u8]) -> io::Result<usize>
         ensures bound { WritesAtMost result bytes.now }
-        ensures steps { WritesOn P.rules first self.old bytes.now result self.new }
+        ensures steps { (s : Buffered W P) → AskedFirst W.log P.rules (length bytes.now) first s self.old
+            → Writes P.rules s bytes.now result self.new }
         ensures whole { IsBlock self.new.block }
         ensures trace { InnerWent W.log W.trace self.old self.new }
     {
@@ -73,7 +75,8 @@ impl<W: TellWrite, P: WriterPolicy> BufWriter<W, P> {
     #[inline(always)]
     pub(super) fn write_outlined(&mut self, first: usize, bytes: &[u8]) -> io::Result<usize>
         ensures bound { WritesAtMost result bytes.now }
-        ensures steps { WritesOn P.rules first self.old bytes.now result self.new }
+        ensures steps { (s : Buffered W P) → AskedFirst W.log P.rules (length bytes.now) first s self.old
+            → Writes P.rules s bytes.now result self.new }
         ensures whole { IsBlock self.new.block }
         ensures trace { InnerWent W.log W.trace self.old self.new }
     {
@@ -90,7 +93,8 @@ impl<W: TellWrite, P: WriterPolicy> BufWriter<W, P> {
     fn write_on(&mut self, answer: io::Result<usize>, bytes: &[u8]) -> io::Result<()>
         requires bound { WritesAtMost answer bytes.now }
         requires some { 0 < length bytes.now }
-        ensures all { (s : Buffered W P) → OneWrite W.log W.trace P.rules s bytes.now answer self.old
+        ensures all { (s : Buffered W P) → Writes P.rules s bytes.now answer self.old
+            → IsBlock s.block × IsBlock self.old.block → InnerWent W.log W.trace s self.old
             → WritesAll W.log W.trace P.rules s bytes.now result self.new }
     {
         let mut at = progress(answer, ErrorKind::WriteZero)?;
@@ -151,7 +155,8 @@ impl<W: TellWrite, P: WriterPolicy> BufWriter<W, P> {
     #[inline(always)]
     pub(super) fn write_on_outlined(&mut self, e: io::Error, bytes: &[u8]) -> io::Result<()>
         requires some { 0 < length bytes.now }
-        ensures all { (s : Buffered W P) → OneWrite W.log W.trace P.rules s bytes.now (Err e) self.old
+        ensures all { (s : Buffered W P) → Writes P.rules s bytes.now (Err e) self.old
+            → IsBlock s.block × IsBlock self.old.block → InnerWent W.log W.trace s self.old
             → WritesAll W.log W.trace P.rules s bytes.now result self.new }
     {
         self.write_on(Err(e), bytes)

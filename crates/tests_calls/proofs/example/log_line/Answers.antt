@@ -10,7 +10,7 @@ returns-in_err-write_all g c =
     let s = c.args.writer.now in
     let m = c.write_all.new.self in
     rw (p.1, p.2) (StoppedAlong-more _ _ _ s m _ _ _
-    (WritesAll-all _ _ _ s _ _ m e.steps e.steadily c.requires.steady))
+    (WritesAll-all _ _ _ s _ _ m e.steps c.requires.steady))
 
 -- its end was
 pub returns-in_err-write_all-2 : goal.returns-in_err-write_all-2
@@ -21,7 +21,7 @@ returns-in_err-write_all-2 g c =
     let e = c.in_err-write_all-2.ensures in
     let line = WritesAll-took _ _ _ s _ _ m c.in_ok-write_all.ensures.steps in
     rw (p.1, p.2) (StoppedAlong-after _ _ _ g.met.W.TellWrite.trace_joins s m c.write_all-2.new.self _ _ _ line
-    (WritesAll-all _ _ _ m _ _ c.write_all-2.new.self e.steps e.steadily (WritesAlong-steady _ _ _ s m _ line c.requires.steady)))
+    (WritesAll-all _ _ _ m _ _ c.write_all-2.new.self e.steps (WritesAlong-steady _ _ _ s m _ line c.requires.steady)))
 
 pub returns : goal.returns
 returns g c =

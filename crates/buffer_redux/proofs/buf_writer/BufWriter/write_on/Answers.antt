@@ -5,10 +5,10 @@ use Rattle.buffer_redux.proofs.buf_writer.BufWriter.write_on.Goals as goal
 
 pub returns-in_err-at : goal.returns-in_err-at
 returns-in_err-at g c = record {
-  all = λ s one.
+  all = λ s steps whole went.
       let p = err_from_is_err_and c.from_residual.result c.from_residual.ensures.1 in
       rw (p.1, p.2) (first_failed _ _ g.met.W.TellWrite.trace_none g.met.W.TellWrite.trace_joins _ s _ _ _
-      c.requires.some one _ c.in_err-at.ensures);
+      c.requires.some (record { steps = steps; whole = whole; went = went }) _ c.in_err-at.ensures);
 }
 
 pub loop-init : goal.loop-init
@@ -39,8 +39,8 @@ loop-preserved g c = record {
 
 pub returns-then-at-bytes : goal.returns-then-at-bytes
 returns-then-at-bytes g c = record {
-  all = λ s first. ended_all _ _ g.met.W.TellWrite.trace_none g.met.W.TellWrite.trace_joins _ s _ _ _ _
-      (c.loop.invariant.turned s first) c.if-at-bytes.true;
+  all = λ s steps whole went. ended_all _ _ g.met.W.TellWrite.trace_none g.met.W.TellWrite.trace_joins _ s _ _ _ _
+      (c.loop.invariant.turned s (record { steps = steps; whole = whole; went = went })) c.if-at-bytes.true;
 }
 
 pub overflow_add-at : goal.overflow_add-at
@@ -48,8 +48,8 @@ overflow_add-at g c = let fits = within g c in search rules
 
 pub returns-in_err-at-2 : goal.returns-in_err-at-2
 returns-in_err-at-2 g c = record {
-  all = λ s first.
-      let before = c.loop.invariant.turned s first in
+  all = λ s steps whole went.
+      let before = c.loop.invariant.turned s (record { steps = steps; whole = whole; went = went }) in
       let p = err_from_is_err_and c.from_residual-in_err-at-2.result c.from_residual-in_err-at-2.ensures.1 in
       rw (p.1, p.2) (ended_failed _ _ g.met.W.TellWrite.trace_none g.met.W.TellWrite.trace_joins _ s _ _ _ _ before
       _ _ c.if-at-bytes.false
@@ -60,14 +60,14 @@ returns-in_err-at-2 g c = record {
 
 pub returns-then-at-bytes-2 : goal.returns-then-at-bytes-2
 returns-then-at-bytes-2 g c = record {
-  all = λ s first. ended_all _ _ g.met.W.TellWrite.trace_none g.met.W.TellWrite.trace_joins _ s _ _ _ _
-      (c.loop.invariant.turned s first) c.if-at-bytes-2.true;
+  all = λ s steps whole went. ended_all _ _ g.met.W.TellWrite.trace_none g.met.W.TellWrite.trace_joins _ s _ _ _ _
+      (c.loop.invariant.turned s (record { steps = steps; whole = whole; went = went })) c.if-at-bytes-2.true;
 }
 
 pub returns : goal.returns
 returns g c = record {
-  all = λ s first. ended_late _ _ g.met.W.TellWrite.trace_none g.met.W.TellWrite.trace_joins _ s _ _ _ _
-      (c.loop.invariant.turned s first) _
+  all = λ s steps whole went. ended_late _ _ g.met.W.TellWrite.trace_none g.met.W.TellWrite.trace_joins _ s _ _ _ _
+      (c.loop.invariant.turned s (record { steps = steps; whole = whole; went = went })) _
       (record {
         some = omega (arith, c.if-at-bytes-2.false);
         fits = search rules;

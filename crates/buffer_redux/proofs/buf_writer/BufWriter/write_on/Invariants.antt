@@ -1,8 +1,7 @@
 -- as many writes as turns are counted took the bytes before `at` in
 use Rattle.std.proofs.Common.{◌≤◌, length}
 use Rattle.buffer_redux.specs.Buffered.{Buffered}
-use Rattle.buffer_redux.specs.WriteAll.{OneWrite}
-use Rattle.buffer_redux.proofs.WriteAll.{Turned}
+use Rattle.buffer_redux.proofs.WriteAll.{OneWrite, Turned}
 use Rattle.buffer_redux.proofs.buf_writer.BufWriter.write_on.Given as goal
 
 abbrev pub invariant-loop : goal.invariant-loop

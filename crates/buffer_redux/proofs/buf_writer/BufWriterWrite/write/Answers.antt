@@ -1,18 +1,29 @@
-use Rattle.std.proofs.Common.{◌≡◌, Ok, length, refl, arith, rules}
+use Rattle.std.proofs.Common.{◌≡◌, ℕ, Ok, length, refl, arith, rules}
 use Rattle.buffer_redux.specs.Buffered.{Buffered, InnerWent}
+use Rattle.buffer_redux.specs.WriteAll.{AskedFirst}
 use Rattle.buffer_redux.proofs.WriteOn.{writes_on, write_says, flushes_none, takes_in_all}
 use Rattle.buffer_redux.proofs.buf_writer.BufWriterWrite.write.Goals as goal
-use Rattle.buffer_redux.proofs.buf_writer.BufWriterWrite.write.Goals.{After-before_write}
+use Rattle.buffer_redux.proofs.buf_writer.BufWriterWrite.write.Goals.{In_ok-first}
 
--- the writer once its policy was asked
-abbrev asked_writer : (g : _) → goal.After-before_write g → Buffered g.row.W.Denot g.row.P.Denot
-asked_writer g c = record {
-  policy = c.before_write.new.self;
-  block = c.before_write.new.buf;
-  inner = c.self.inside.inner;
-  log = g.W.Tell.log c.self.inside.inner;
-  own_calls = c.self.inside.calls.log;
-}
+-- what the policy answered
+asked_first : (g : _) (c : goal.In_ok-first g) (amount : ℕ) → c.in_ok-first.field-0.0 ≡ amount → AskedFirst g.W.Tell.log
+    g.P.WriterPolicy.rules (length c.args.bytes.now) amount c.args.self.now (record {
+      policy = c.before_write.new.self;
+      block = c.before_write.new.buf;
+      inner = c.self.inside.inner;
+      log = g.W.Tell.log c.self.inside.inner;
+      own_calls = c.self.inside.calls.log;
+    })
+asked_first g c amount is = rw (← c.self.view_is) (record {
+  answer = c.in_ok-first.field-0;
+  is = is;
+  asked = c.in_ok-first.ensures;
+  whole = c.self.invariant;
+  inner = refl;
+  told_before = refl;
+  told = refl;
+  noted = refl;
+})
 
 -- the bytes may not fit, before the policy was asked
 pub returns-then-not-has_space_behind : goal.returns-then-not-has_space_behind
@@ -25,29 +36,32 @@ pub returns-then-first-gt0 : goal.returns-then-first-gt0
 returns-then-first-gt0 g c =
     let went : InnerWent g.W.Tell.log g.W.TellWrite.trace c.args.self.now c.write_outlined.new.self = search rules in
     write_says _ _ g.P.WriterPolicy.rules _ _ _ _ c.write_outlined.ensures.bound c.write_outlined.ensures.whole went
-    (rw (← c.self.view_is) (writes_on g.P.WriterPolicy.rules _ _ c.args.bytes.now c.in_ok-first.field-0
-    c.in_ok-first.ensures (c.in_ok-first.ensures.law.whole c.self.invariant) refl c.write_outlined.result
-    c.write_outlined.new.self c.write_outlined.ensures.steps))
+    (c.write_outlined.ensures.steps c.args.self.now
+    (asked_first g (goal.at.returns-then-first-gt0 g c).In_ok-first _ refl))
 
 -- the bytes may not fit
 pub returns-then-bytes-usable_space : goal.returns-then-bytes-usable_space
 returns-then-bytes-usable_space g c =
     let none : c.in_ok-first.field-0.0 ≡ 0 = omega (arith, c.if-first-gt0.false, c.in_ok-first.first-is) in
-    let before = asked_writer g (goal.at.returns-then-bytes-usable_space g c).After-before_write in
     let t = c.write_outlined-then-bytes-usable_space.new.self in
     let went : InnerWent g.W.Tell.log g.W.TellWrite.trace c.args.self.now t = search rules in
     let wrote = c.write_outlined-then-bytes-usable_space.ensures in
     write_says _ _ g.P.WriterPolicy.rules _ _ _ _ wrote.bound wrote.whole went
-    (rw (← c.self.view_is) (writes_on g.P.WriterPolicy.rules _ before c.args.bytes.now c.in_ok-first.field-0
-    c.in_ok-first.ensures (c.in_ok-first.ensures.law.whole c.self.invariant) refl
-    c.write_outlined-then-bytes-usable_space.result t (rw none wrote.steps)))
+    (wrote.steps c.args.self.now
+    (asked_first g (goal.at.returns-then-bytes-usable_space g c).In_ok-first 0 none))
 
 -- neither is so
 pub returns : goal.returns
 returns g c =
     let bytes = c.args.bytes.now in
     let whole = c.in_ok-first.ensures.law.whole c.self.invariant in
-    let before = asked_writer g (goal.at.returns g c).After-before_write in
+    let before : Buffered g.row.W.Denot g.row.P.Denot = record {
+      policy = c.before_write.new.self;
+      block = c.before_write.new.buf;
+      inner = c.self.inside.inner;
+      log = g.W.Tell.log c.self.inside.inner;
+      own_calls = c.self.inside.calls.log;
+    } in
     let after : Buffered g.row.W.Denot g.row.P.Denot = record before { block = c.append.new.self } in
     let went : InnerWent g.W.Tell.log g.W.TellWrite.trace c.args.self.now c.flush_after.new.self = search rules in
     write_says _ _ g.P.WriterPolicy.rules _ _ (Ok (length bytes)) _ (omega arith)

@@ -95,9 +95,8 @@ returns-else-usable_space-bytes g c =
 -- the policy returned an error
 pub returns-in-Err : goal.returns-in-Err
 returns-in-Err g c =
-    all_says _ _ _ _ _ _ _ (c.write_on_outlined.ensures.all c.args.self.now (rw (← c.self.view_is) (record {
-      steps = inl (record { asked = c.in-Err.ensures; told = refl });
-      whole = (c.self.invariant, c.in-Err.ensures.law.whole c.self.invariant);
-      went = record
-          { calls = g.met.W.TellWrite.trace_none c.self.inside.inner; told_before = refl; told_after = refl; noted = refl };
-    })))
+    all_says _ _ _ _ _ _ _ (c.write_on_outlined.ensures.all c.args.self.now
+    (rw (← c.self.view_is) (inl (record { asked = c.in-Err.ensures; told = refl })))
+    (rw (← c.self.view_is) (c.self.invariant, c.in-Err.ensures.law.whole c.self.invariant))
+    (rw (← c.self.view_is) (record
+    { calls = g.met.W.TellWrite.trace_none c.self.inside.inner; told_before = refl; told_after = refl; noted = refl })))

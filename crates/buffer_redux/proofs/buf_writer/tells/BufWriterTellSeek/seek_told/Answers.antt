@@ -12,7 +12,7 @@ returns-clause-told g c =
     let noted : c.note.new.self.log ≡ after_seek s.own_calls c.args.to c.seek-answer.result = search rules in
     let told : SeekTells flushes_received (writer_log s) c.args.to c.seek-answer.result
     (writer_log (with_calls m (after_seek s.own_calls c.args.to c.seek-answer.result))) =
-    writer_sought _ _ _ s m c.args.to c.seek-answer.result c.seek-answer.ensures.sought.steps in
+    writer_sought _ _ _ s m c.args.to c.seek-answer.result c.seek-answer.ensures.sought in
     let goes = SeekTells flushes_received (writer_log s) c.args.to c.seek-answer.result in
     subst (λ x. goes (writer_log (with_calls x c.note.new.self.log))) (sym c.self.view_is)
     (subst (λ l. goes (writer_log (with_calls m l))) (sym noted) told)

@@ -10,12 +10,11 @@ invariant_of-self-clause-went g c =
     let joins = g.met.W.TellWrite.trace_joins in
     let s = c.args.self.now.writer.now in
     let t = c.write_all.new.self in
-    let e = c.in-Err.ensures in
     rw c.kept-self.ensures (went_wrong g.W.Tell.log g.W.TellWrite.trace g.P.WriterPolicy.rules none joins g.B.Began.writer
     c.args.self.now.ended s t c.as_bytes.result.now c.in-Err.e (c.is_none.ensures ∙ ap not c.if-is_none.true)
     c.args.self.now.went
     (stopped g.W.Tell.log g.W.TellWrite.trace g.P.WriterPolicy.rules none joins s c.as_bytes.result.now c.in-Err.e t
-    e.steps e.caused e.steadily))
+    c.in-Err.ensures.steps))
 
 pub invariant_of-self-in_default-clause-went : goal.invariant_of-self-in_default-clause-went
 invariant_of-self-in_default-clause-went g c =
@@ -34,7 +33,6 @@ returns-in-Err g c =
     let joins = g.met.W.TellWrite.trace_joins in
     let s = c.args.self.now.writer.now in
     let t = c.write_all.new.self in
-    let e = c.in-Err.ensures in
     record {
       ok = λ _. subst
           (λ l. TakesPieces g.W.Tell.log g.W.TellWrite.trace g.P.WriterPolicy.rules s c.args.self.now.ended l t
@@ -43,7 +41,7 @@ returns-in-Err g c =
           (piece_stopped g.W.Tell.log g.W.TellWrite.trace g.P.WriterPolicy.rules none joins c.args.self.now.ended s
           c.as_bytes.result.now c.in-Err.e t (c.is_none.ensures ∙ ap not c.if-is_none.true)
           (stopped g.W.Tell.log g.W.TellWrite.trace g.P.WriterPolicy.rules none joins s c.as_bytes.result.now c.in-Err.e t
-          e.steps e.caused e.steadily)));
+          c.in-Err.ensures.steps)));
     }
 
 pub returns-in_default : goal.returns-in_default

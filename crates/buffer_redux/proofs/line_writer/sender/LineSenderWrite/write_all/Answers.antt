@@ -11,7 +11,7 @@ returns-in_err-write_all-clause-all g c =
     let p = err_from_is_err_and c.from_residual.result c.from_residual.ensures.1 in
     let e = c.in_err-write_all.ensures in
     rw (p.1, p.2) (rw (← c.self.view_is) (WritesAll-all g.W.Tell.log g.W.TellWrite.trace line_rules
-    _ c.args.bytes.now _ c.write_all.new.self e.steps e.steadily refl))
+    _ c.args.bytes.now _ c.write_all.new.self e.steps refl))
 
 pub returns-in_err-write_all-clause-steps : goal.returns-in_err-write_all-clause-steps
 returns-in_err-write_all-clause-steps g c =
@@ -22,7 +22,7 @@ returns-in_err-write_all-clause-steps g c =
 
 pub returns-clause-bytes : goal.returns-clause-bytes
 returns-clause-bytes g c = appends_sent g.W.Tell.log g.W.TellWrite.trace c.args.self.now c.write_all.new.self
-    c.send_lines.result c.send_lines.new.self c.send_lines.ensures.sends c.args.bytes.now
+    c.send_lines.result c.send_lines.new.self (record { some = c.send_lines.ensures.some; none = c.send_lines.ensures.none }) c.args.bytes.now
     (rw (← c.self.view_is) c.in_ok-write_all.ensures.bytes)
 
 pub returns-clause-all : goal.returns-clause-all
@@ -30,10 +30,10 @@ returns-clause-all g c = all_sent g.W.Tell.log g.W.TellWrite.trace line_rules g.
     g.met.W.TellWrite.trace_joins g.met.W.TellWrite.trace_grows c.args.self.now c.write_all.new.self c.args.bytes.now
     c.send_lines.result c.send_lines.new.self (WritesAll-took g.W.Tell.log g.W.TellWrite.trace line_rules
     c.args.self.now c.args.bytes.now _ c.write_all.new.self (rw (← c.self.view_is) c.in_ok-write_all.ensures.steps))
-    c.send_lines.ensures.sends
+    (record { some = c.send_lines.ensures.some; none = c.send_lines.ensures.none })
 
 pub returns-clause-steps : goal.returns-clause-steps
 returns-clause-steps g c = steps_sent g.W.Tell.log g.W.TellWrite.trace
     (WritesAll g.W.Tell.log g.W.TellWrite.trace line_rules c.args.self.now c.args.bytes.now) _
     c.write_all.new.self c.send_lines.result c.send_lines.new.self
-    (rw (← c.self.view_is) c.in_ok-write_all.ensures.steps) c.send_lines.ensures.sends
+    (rw (← c.self.view_is) c.in_ok-write_all.ensures.steps) (record { some = c.send_lines.ensures.some; none = c.send_lines.ensures.none })
