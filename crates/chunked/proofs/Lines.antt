@@ -1,10 +1,10 @@
 -- What completes a body goes on from byte to byte.
 use Rattle.std.proofs.Common.{◌≡◌, ℕ, zero, suc, ◌-◌, ◌<◌, ◌≤◌, List, [], ◌∷◌, ◌++◌, length, sym, ap, subst, ◌∙◌, arith, refl, append_assoc, length-append, zero-add}
 use Rattle.std.specs.Char.{digit_value}
-use Rattle.std.specs.List.{flat_map}
+use Rattle.std.specs.List.{flat_map, AllByRecursion}
 use Rattle.std.specs.Str.Parse.{AllDigits, digits_value_after}
 use Rattle.chunked.specs.declared.limits.Limits.{Limits}
-use Rattle.chunked.specs.Body.{line_end, IsText, IsSizeLine, HasChunks, IsBody}
+use Rattle.chunked.specs.Body.{line_end, IsSizeLine, HasChunks, IsBody, IsTextByte}
 use Rattle.chunked.specs.Place.{BehindSize, CompletesSize}
 
 -- a front that is no longer than another's is its beginning
@@ -18,7 +18,7 @@ longer_front (y ∷ a) b (x ∷ c) d len same =
     let found = longer_front a b c d (omega (arith, len)) rest in
     (found.0, ap (λ l. y ∷ l) found.1 ∙ ap (λ z. z ∷ (c ++ found.0)) head, found.2)
 
-pub text_behind : (xs more : List ℕ) → IsText (xs ++ more) → IsText more
+pub text_behind : (xs more : List ℕ) → AllByRecursion IsTextByte (xs ++ more) → AllByRecursion IsTextByte more
 text_behind [] more h = h
 text_behind (x ∷ xs) more h = text_behind xs more h.1
 

@@ -43,7 +43,7 @@ module _ {S P : Type 0} (remaining : S → Option (List ℕ)) (rules : ReadRules
     not_ended goes_on = inr (not_done q.place goes_on)
 
     -- they came to where a payload or nothing comes next
-    pub skips_all : IsSettled q.place → Skips remaining rules s p (Ok tt) m q
+    pub skips_all : IsSettled q.place → Skips remaining rules s p (Ok 0) m q
     skips_all settled = record {
       wire = so.wire;
       takes = so.takes;

@@ -10,12 +10,9 @@ use Rattle.chunked.specs.Extension.{IsExtension}
 abbrev pub line_end : List ℕ → List ℕ
 line_end behind = 13 ∷ 10 ∷ behind
 
--- a text of a line: it holds neither CR nor LF
+-- a byte of a text of a line: neither CR nor LF
 abbrev pub IsTextByte : ℕ → Type 0
 IsTextByte b = (b ≢ 13) × (b ≢ 10)
-
-abbrev pub IsText : List ℕ → Type 0
-IsText text = AllByRecursion IsTextByte text
 
 -- the line of a size: hexadecimal digits that write it, and then an extension, which may be empty
 pub record IsSizeLine (limit size : ℕ) (text : List ℕ) : Type 0 where
