@@ -44,21 +44,21 @@ module _ (limits : Limits) where
 
   begins : (bytes payload : List ℕ) (ps : List (List ℕ)) → HasChunks limits ps bytes → payload ≡ flat_map (λ p. p) ps
       → BeginsLine limits bytes payload
-  begins bytes payload [] h is = record {
+  begins bytes payload [] (behind, h, trailers) is = record {
     size = 0;
     text = h.text;
-    behind = h.behind;
+    behind = behind;
     size_line = h.size_line;
     equal = h.equal;
-    goes_on = (is, h.trailers);
+    goes_on = (is, trailers);
   }
-  begins bytes payload (p ∷ ps) (behind, h, more) is = record {
+  begins bytes payload (p ∷ ps) (behind, h, some, more) is = record {
     size = length p;
     text = h.text;
     behind = p ++ line_end behind;
     size_line = h.size_line;
     equal = h.equal;
-    goes_on = begins_chunk p behind (flat_map (λ p. p) ps) payload h.some is
+    goes_on = begins_chunk p behind (flat_map (λ p. p) ps) payload some is
         (record { payloads = ps; chunks = more; equal = refl });
   }
 
@@ -69,7 +69,7 @@ module _ (limits : Limits) where
       → bytes ≡ text ++ line_end behind → BehindSize limits size behind payload → IsBody limits bytes payload
   body_of zero bytes payload text behind size_line is (none, trailers) = record {
     payloads = [];
-    chunks = record { text = text; size_line = size_line; behind = behind; trailers = trailers; equal = is };
+    chunks = (behind, record { text = text; size_line = size_line; equal = is }, trailers);
     equal = none;
   }
   body_of (suc n) bytes payload text behind size_line is c = record {
@@ -79,9 +79,9 @@ module _ (limits : Limits) where
       record {
         text = text;
         size_line = subst (λ size. IsSizeLine limits.line size text) (sym c.many) size_line;
-        some = omega (arith, c.many);
         equal = is ∙ ap (λ l. text ++ line_end l) c.equal;
       },
+      omega (arith, c.many),
       c.body.chunks,
     );
     equal = c.both ∙ ap (λ l. c.front ++ l) c.body.equal;

@@ -8,7 +8,7 @@ use Rattle.chunked.specs.declared.error.ChunkedError.TheVariants.{NotChunked, Tr
 use Rattle.chunked.specs.declared.error.Malformed.{Malformed}
 use Rattle.chunked.specs.declared.place.Place.TheVariants.{Line, Done}
 use Rattle.chunked.specs.declared.progress.Progress.{Progress}
-use Rattle.chunked.specs.Between.{FailsSo, HandsOn, MeetsWrong, NoFault, Takes, handed_out, taken_of}
+use Rattle.chunked.specs.Between.{FailsSo, HandsOn, MeetsWrong, NoFault, Takes, handed_out}
 use Rattle.chunked.specs.ChunkedReader.{BodyWent, Breaks, ChunkedState, IsChunkedReader, PayloadAnswers, ReadsPayload}
 use Rattle.chunked.specs.ChunkedReaderLaws.{IsWhole-done, body_done}
 use Rattle.chunked.specs.Place.{Leads}
@@ -17,7 +17,7 @@ use Rattle.chunked.proofs.Wrong.{IsWrong-none}
 
 -- a reader of a body, by its parts
 abbrev pub seen : {S P : Type 0} → Buffered S P → Progress → StreamLog → ChunkedState S P
-seen r p calls = record { reader = r; limits = p.limits; place = p.place; taken = taken_of p; calls = calls }
+seen r p calls = record { reader = r; limits = p.limits; place = p.place; taken = p.taken.log.fills.consumed; calls = calls }
 
 -- a wrong byte
 pub breaks : {S P : Type 0} (t : ChunkedState S P) → IsChunkedReader t → (why : Malformed)
@@ -39,11 +39,11 @@ module _ {S P : Type 0} (remaining : S → Option (List ℕ)) (rules : ReadRules
     (given : later.reads.given ≡ calls.reads.given ++ handed) where
   pub still_is : IsChunkedReader (seen r' q later)
   still_is =
-      let joined = Leads-joins p.limits Line p.place q.place (taken_of p) wire calls.reads.given handed is.leads takes.leads in
+      let joined = Leads-joins p.limits Line p.place q.place p.taken.log.fills.consumed wire calls.reads.given handed is.leads takes.leads in
       record {
-        leads = subst (λ l. Leads l Line (taken_of q) later.reads.given q.place) (sym takes.limits)
+        leads = subst (λ l. Leads l Line q.taken.log.fills.consumed later.reads.given q.place) (sym takes.limits)
             (subst (λ l. Leads p.limits Line l later.reads.given q.place) (sym takes.taken)
-            (subst (λ l. Leads p.limits Line (taken_of p ++ wire) l q.place) (sym given) joined));
+            (subst (λ l. Leads p.limits Line (p.taken.log.fills.consumed ++ wire) l q.place) (sym given) joined));
         place = takes.place;
       }
 

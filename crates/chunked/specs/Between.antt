@@ -18,16 +18,12 @@ use Rattle.chunked.specs.declared.progress.Progress.{Progress}
 use Rattle.chunked.specs.declared.unchunk.Unchunked.{Unchunked}
 use Rattle.chunked.specs.Place.{IsPlace, IsSettled, IsWrong, Leads}
 
--- the bytes of the body that were taken so far
-abbrev pub taken_of : Progress → List ℕ
-taken_of p = p.taken.log.fills.consumed
-
 -- what any calls do that take these bytes of a body, in which there is this payload
 pub record Takes {S P : Type 0} (remaining : S → Option (List ℕ)) (rules : ReadRules P)
     (s : Buffered S P) (p : Progress) (wire handed : List ℕ) (t : Buffered S P) (q : Progress) : Type 0 where
   pub along : ReadsAlong remaining rules s wire t
   pub leads : Leads p.limits p.place wire handed q.place
-  pub taken : taken_of q ≡ taken_of p ++ wire
+  pub taken : q.taken.log.fills.consumed ≡ p.taken.log.fills.consumed ++ wire
   pub limits : q.limits ≡ p.limits
   pub place : IsPlace q.place
 
@@ -136,7 +132,7 @@ pub record HandsFront (limits : Limits) (p : Place) (shown out : List ℕ) (r : 
   pub place : IsPlace r.place
 
 -- the payload that an answer hands out of a slice: its first bytes, or none
-abbrev pub handed_out : List ℕ → Result ℕ ChunkedError → List ℕ
+abbrev pub handed_out : {E : Type 0} → List ℕ → Result ℕ E → List ℕ
 handed_out out (Ok n) = take n out
 handed_out out (Err e) = []
 

@@ -110,23 +110,22 @@ sized_same limit limit' m n a b xs ys u v more more' p q is is' same =
 -- no body begins another
 chunks_same : (l m : Limits) (ps qs : List (List ℕ)) (a b xs ys : List ℕ) → HasChunks l ps a → HasChunks m qs b
     → a ++ xs ≡ b ++ ys → (a ≡ b) × (ps ≡ qs) × (xs ≡ ys)
-chunks_same l m [] [] a b xs ys p q same =
-    let first = sized_same l.line m.line 0 0 p.text q.text p.behind q.behind a b xs ys p.size_line q.size_line
-    p.equal q.equal same in
-    let others = trailers_same l.trailers m.trailers p.behind q.behind xs ys p.trailers q.trailers first.2 in (
-      p.equal ∙ ap (λ t. t ++ line_end p.behind) first.0 ∙ ap (λ t. q.text ++ line_end t) others.0 ∙ sym q.equal,
+chunks_same l m [] [] a b xs ys (u, p, s) (v, q, t) same =
+    let first = sized_same l.line m.line 0 0 p.text q.text u v a b xs ys p.size_line q.size_line p.equal q.equal same in
+    let others = trailers_same l.trailers m.trailers u v xs ys s t first.2 in (
+      p.equal ∙ ap (λ t. t ++ line_end u) first.0 ∙ ap (λ t. q.text ++ line_end t) others.0 ∙ sym q.equal,
       refl,
       others.1,
     )
-chunks_same l m [] (q ∷ qs) a b xs ys p (behind, c, k) same =
-    let first = sized_same l.line m.line 0 (length q) p.text c.text p.behind (q ++ line_end behind) a b xs ys
-    p.size_line c.size_line p.equal c.equal same in
-    absurd (omega (arith, first.1, c.some))
-chunks_same l m (p ∷ ps) [] a b xs ys (behind, c, h) q same =
-    let first = sized_same l.line m.line (length p) 0 c.text q.text (p ++ line_end behind) q.behind a b xs ys
-    c.size_line q.size_line c.equal q.equal same in
-    absurd (omega (arith, first.1, c.some))
-chunks_same l m (p ∷ ps) (q ∷ qs) a b xs ys (u, c, h) (v, d, k) same =
+chunks_same l m [] (q ∷ qs) a b xs ys (u, p, s) (v, c, some, k) same =
+    let first = sized_same l.line m.line 0 (length q) p.text c.text u (q ++ line_end v) a b xs ys p.size_line c.size_line
+    p.equal c.equal same in
+    absurd (omega (arith, first.1, some))
+chunks_same l m (p ∷ ps) [] a b xs ys (u, c, some, h) (v, q, t) same =
+    let first = sized_same l.line m.line (length p) 0 c.text q.text (p ++ line_end u) v a b xs ys c.size_line q.size_line
+    c.equal q.equal same in
+    absurd (omega (arith, first.1, some))
+chunks_same l m (p ∷ ps) (q ∷ qs) a b xs ys (u, c, some, h) (v, d, some', k) same =
     let first = sized_same l.line m.line (length p) (length q) c.text d.text (p ++ line_end u) (q ++ line_end v) a b xs ys
     c.size_line d.size_line c.equal d.equal same in
     let payload = front_same p q (line_end (u ++ xs)) (line_end (v ++ ys)) first.1

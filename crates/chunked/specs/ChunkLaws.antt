@@ -81,13 +81,11 @@ module _ (limits : Limits) (line : 16 ≤ limits.line) (fields : List (List ℕ)
     (few : length (flat_map (λ f. f) fields) ≤ limits.trailers) where
   has_chunks : (payloads : List (List ℕ)) → All IsCarried payloads
       → HasChunks limits payloads (flat_map chunk payloads ++ body_end fields)
-  has_chunks [] carried = record {
-    text = 48 ∷ [];
-    size_line = zero_line limits.line (omega (arith, line));
-    behind = fields_bytes fields;
-    trailers = record { fields = fields; equal = refl; lines = lines; few = few };
-    equal = refl;
-  }
+  has_chunks [] carried = (
+    fields_bytes fields,
+    record { text = 48 ∷ []; size_line = zero_line limits.line (omega (arith, line)); equal = refl },
+    record { fields = fields; equal = refl; lines = lines; few = few },
+  )
   has_chunks (p ∷ payloads) carried =
       let is = All-head IsCarried p payloads carried in
       let later = flat_map chunk payloads ++ body_end fields in (
@@ -95,11 +93,11 @@ module _ (limits : Limits) (line : 16 ≤ limits.line) (fields : List (List ℕ)
         record {
           text = size_digits (length p);
           size_line = size_digits-line limits.line (length p) is.0 is.1 line;
-          some = is.0;
           equal = append_assoc (chunk p) (flat_map chunk payloads) (body_end fields)
               ∙ append_assoc (size_digits (length p)) (line_end (p ++ line_end [])) later
               ∙ ap (λ l. size_digits (length p) ++ line_end l) (append_assoc p (line_end []) later);
         },
+        is.0,
         has_chunks payloads (All-tail IsCarried p payloads carried),
       )
 

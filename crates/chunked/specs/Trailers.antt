@@ -1,10 +1,7 @@
 -- What a writer of a body is given as trailers, and what it does with them.
 use Rattle.std.specs.Prelude.{◌≡◌, ℕ, ◌<◌, List, [], length, map, take, get_or}
 use Rattle.std.specs.Borrow.{Bor}
-use Rattle.std.specs.IoError.{error_kind}
 use Rattle.std.specs.List.{AllByRecursion}
-use Rattle.std.specs.declared.io.Error.{Error}
-use Rattle.std.specs.declared.io.ErrorKind.TheVariants.{InvalidInput}
 use Rattle.chunked.specs.declared.error.TrailersError.{TrailersError}
 use Rattle.chunked.specs.declared.error.TrailersError.TheVariants.{NoField, TooLong, Io}
 use Rattle.chunked.specs.Body.{IsField}
@@ -21,9 +18,3 @@ CannotEnd fields capacity (NoField index) =
     (index < length fields) × AllByRecursion IsField (take index fields) × ¬ IsField (get_or fields index [])
 CannotEnd fields capacity TooLong = AllByRecursion IsField fields × (capacity < length (body_end fields))
 CannotEnd fields capacity (Io e) = ⊥
-
--- why a body couldn't be ended with its trailers, as an error of std's streams
-abbrev pub EndsAsIo : TrailersError → Error → Type 0
-EndsAsIo (NoField index) e = error_kind e ≡ InvalidInput
-EndsAsIo TooLong e = error_kind e ≡ InvalidInput
-EndsAsIo (Io same) e = e ≡ same

@@ -49,7 +49,6 @@ pub struct ChunkedReader<R: Tell, P = StdPolicy> {
 }
 
 impl<R: Tell, P> Model for ChunkedReader<R, P> {
-    ghost use Rattle.chunked.specs.Between.{taken_of};
     ghost use Rattle.chunked.specs.ChunkedReader.{ChunkedState, IsChunkedReader};
 
     ghost Value = { ChunkedState R P };
@@ -58,7 +57,7 @@ impl<R: Tell, P> Model for ChunkedReader<R, P> {
       reader = c.reader;
       limits = c.progress.limits;
       place = c.progress.place;
-      taken = taken_of c.progress;
+      taken = c.progress.taken.log.fills.consumed;
       calls = c.calls.log;
     } };
 
@@ -66,7 +65,7 @@ impl<R: Tell, P> Model for ChunkedReader<R, P> {
       reader = c.reader;
       limits = c.progress.limits;
       place = c.progress.place;
-      taken = taken_of c.progress;
+      taken = c.progress.taken.log.fills.consumed;
       calls = c.calls.log;
     }) };
 }
