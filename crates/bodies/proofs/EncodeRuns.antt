@@ -2,6 +2,7 @@
 use Rattle.std.proofs.Common.{◌≡◌, ℕ, ◌+◌, ◌<◌, inl, inr, List, [], ◌++◌, length, length-append, Option, Result, Ok, Err, refl, sym, ap, subst, ◌∙◌, arith, append_assoc, append-nil}
 use Rattle.std.proofs.lemmas.Grind.{flat_map-append}
 use Rattle.std.proofs.lemmas.List.Elements.{All-weaker}
+use Rattle.std.specs.List.{flat_map}
 use Rattle.buffer_redux.specs.ReaderLaws.{ReadsInOrder-fresh}
 use Rattle.buffer_redux.specs.WriterLaws.{WritesInOrder-joins, WritesInOrder-none}
 use Rattle.chunked.specs.BodyLaws.{IsBody-same}
@@ -10,7 +11,7 @@ use Rattle.forward.specs.Forward.{Forwarded, NoneFailed, StopsBy}
 use Rattle.forward.specs.declared.error.Cause.{Cause}
 use Rattle.forward.specs.declared.error.Cause.TheVariants as cause
 use Rattle.programs.specs.StreamsLaws.{MetNoFault-joins, SendFailed-after}
-use Rattle.bodies.specs.Words.{Error, WritesInOrder, Buffered, OnlyInterrupts-none, StreamLog, StdPolicy, IsBody, IsCarried, IsChunks, body_end, chunks, unbegun, Limits, FilterRules, Moves, AllSent, BufferRefused, RunError}
+use Rattle.bodies.specs.Words.{Error, WritesInOrder, Buffered, OnlyInterrupts-none, StreamLog, StdPolicy, IsBody, IsCarried, IsChunks, body_end, unbegun, Limits, FilterRules, Moves, AllSent, BufferRefused, RunError, chunk}
 use Rattle.bodies.specs.Encode.{EncodeRan, Encodes, EndsBody, IsCut, IsUnended, IsUnflushed, IsWritten, Moved, MovedAll}
 use Rattle.bodies.specs.Encoding.{encoding_rules}
 use Rattle.bodies.specs.Filters.{IsErrorOf, joined}
@@ -69,8 +70,8 @@ module _ {R W : Type 0} (remaining : R → Option (List ℕ)) (trace : W → W �
   -- these payloads went over, and some may be lost; and these bytes were taken in behind their chunks
   module _ (p lost : List (List ℕ)) (moves : Moves rules begin (p ++ lost) p t) (end : List ℕ) (v : Buffered W StdPolicy)
       (taken : WritesInOrder t.target.writer end v) where
-    order : WritesInOrder u (chunks p ++ end) v
-    order = WritesInOrder-joins u t.target.writer v (chunks p) end moves.takes.in_order taken
+    order : WritesInOrder u (flat_map chunk p ++ end) v
+    order = WritesInOrder-joins u t.target.writer v (flat_map chunk p) end moves.takes.in_order taken
 
     abbrev moved : Moved first.log t.source.log u.log v.log
     moved = record {
@@ -84,21 +85,21 @@ module _ {R W : Type 0} (remaining : R → Option (List ℕ)) (trace : W → W �
       received = order.received;
     }
 
-    part : order.sent ++ v.block.bytes ≡ chunks p ++ end
-    part = order.equal ∙ ap (λ l. l ++ (chunks p ++ end)) none'
+    part : order.sent ++ v.block.bytes ≡ flat_map chunk p ++ end
+    part = order.equal ∙ ap (λ l. l ++ (flat_map chunk p ++ end)) none'
 
-    is_chunks : IsChunks (chunks p) (joined p)
+    is_chunks : IsChunks (flat_map chunk p) (joined p)
     is_chunks = record { payloads = p; carried = moves.takes.carried; equal = refl; joined = refl }
 
     -- the body's end wasn't taken in, or was
     not_ended : end ≡ [] → IsUnended moved
     not_ended nothing =
         unended moved (subst (λ l. IsChunks l (joined p))
-        (sym (part ∙ ap (λ l. chunks p ++ l) nothing ∙ append-nil (chunks p))) is_chunks)
+        (sym (part ∙ ap (λ l. flat_map chunk p ++ l) nothing ∙ append-nil (flat_map chunk p))) is_chunks)
 
     is_written : end ≡ body_end [] → IsWritten (order.sent ++ v.block.bytes) (joined p)
-    is_written all = subst (λ l. IsWritten l (joined p)) (sym (part ∙ ap (λ l. chunks p ++ l) all))
-        (written (chunks p) (joined p) is_chunks)
+    is_written all = subst (λ l. IsWritten l (joined p)) (sym (part ∙ ap (λ l. flat_map chunk p ++ l) all))
+        (written (flat_map chunk p) (joined p) is_chunks)
 
   -- all that was handed out went over
   module _ (count : ℕ) (over : Forwarded rules count begin t) where

@@ -4,6 +4,7 @@ use Rattle.std.proofs.lemmas.Bool.{cases_lt}
 use Rattle.buffer_redux.specs.BufWriter.{WasSent}
 use Rattle.buffer_redux.specs.EmptyReads.{none_before_fault, none_where_shown, ReadsWhenEmpty-std}
 use Rattle.buffer_redux.specs.ReaderLaws.{ReadsAlong-none}
+use Rattle.buffer_redux.specs.WritePartsLaws.{PutsIn-told}
 use Rattle.buffer_redux.specs.WriterLaws.{WritesInOrder-then}
 use Rattle.chunked.specs.AskingLaws.{fill_leaves, took_some}
 use Rattle.chunked.specs.ChunkedWriterLaws.{ChunksWent-none}
@@ -12,7 +13,7 @@ use Rattle.forward.specs.declared.error.AskError.{AskError}
 use Rattle.programs.specs.FlushesLaws.{flushed_once, FlushesOnce-flush}
 use Rattle.programs.specs.PromptLaws.{WritesOn-grows, WritesOn-joins, WritesOn-unflushed}
 use Rattle.programs.specs.StreamsLaws.{MetInterrupts-none}
-use Rattle.bodies.specs.Words.{around, AskAnswers, Asks, body_end, Buffered, chunk, ChunkedWriterState, ChunksWent, Error, Fills, FilterRules, FlushAnswers, Flushes, IsChunkedWriter, line_end, MetInterrupts, MetInterrupts-joins, Passes, PutsFirst, PutsIn, ReadsAlong, room, RunError, SendErrorCaused-after, size_digits, std_read_rules, StdPolicy, StreamLog, taken_more, WasFlushed, WritesChunk, WritesInOrder}
+use Rattle.bodies.specs.Words.{around, AskAnswers, Asks, body_end, Buffered, chunk, ChunkedWriterState, ChunksWent, Error, Fills, FilterRules, FlushAnswers, Flushes, IsChunkedWriter, line_end, MetInterrupts, MetInterrupts-joins, Passes, PutsIn, ReadsAlong, room, RunError, SendErrorCaused-after, SendsFirst, size_digits, std_read_rules, StdPolicy, StreamLog, taken_more, WasFlushed, WritesChunk, WritesInOrder}
 use Rattle.bodies.specs.Encode.{EndAnswers, EndsBody}
 use Rattle.bodies.specs.Encoding.{encoding_rules, IsReady}
 use Rattle.bodies.specs.Filters.{Asked}
@@ -28,18 +29,19 @@ pub record Quiet {W : Type 0} (u v : Buffered W StdPolicy) : Type 0 where
 
 module _ {W : Type 0} (tells : W → StreamLog) (trace : W → W → Type 0) where
   -- so it is where bytes go in, whether or not what was buffered had to be sent first
-  pub put_quietly : (u v : Buffered W StdPolicy) (bytes more : List ℕ) (n : ℕ) → (n ≤ room u → PutsIn trace u bytes v)
-      → (room u < n → PutsFirst tells trace u more v) → Quiet u v
+  pub put_quietly : (u v : Buffered W StdPolicy) (bytes more : List ℕ) (n : ℕ) → (n ≤ room u → PutsIn u bytes v)
+      → (room u < n → SendsFirst tells trace u more v) → Quiet u v
   put_quietly u v bytes more n fits full = elim (cases_lt (room u) n) [
     | inl none ↦
         let p = full none in
+        let told = PutsIn-told p.sent v more p.puts in
         record {
-          met = subst (λ l. MetInterrupts u.log.writes l.writes) (sym p.puts.told) p.sends.ok.met;
-          not_flushed = ap (λ l. l.writes.flushed) p.puts.told ∙ p.sends.not_flushed;
-          flushes = ap (λ l. l.writes.flushes) p.puts.told ∙ p.sends.sends.sent.flushes;
+          met = subst (λ l. MetInterrupts u.log.writes l.writes) (sym told) p.sends.ok.met;
+          not_flushed = ap (λ l. l.writes.flushed) told ∙ p.sends.not_flushed;
+          flushes = ap (λ l. l.writes.flushes) told ∙ p.sends.sends.sent.flushes;
         }
     | inr there ↦
-        let told = (fits there).told in
+        let told = PutsIn-told u v bytes (fits there) in
         record {
           met = subst (λ l. MetInterrupts u.log.writes l.writes) (sym told) (MetInterrupts-none u.log.writes);
           not_flushed = ap (λ l. l.writes.flushed) told;

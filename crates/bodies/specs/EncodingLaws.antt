@@ -1,9 +1,10 @@
 -- What is given is handed out in order, and what is due is sent with it.
 use Rattle.std.proofs.Common.{◌≡◌, ℕ, inl, inr, List, [], ◌++◌, Option, Result, Ok, Err, refl, sym, ap, subst, ◌∙◌, arith, append-nil}
 use Rattle.std.proofs.lemmas.Grind.{flat_map-append}
+use Rattle.std.specs.List.{flat_map}
 use Rattle.buffer_redux.specs.ReaderLaws.{ReadsAlong-joins, ReadsAlong-none}
 use Rattle.chunked.specs.ChunkedWriterLaws.{ChunksWent-joins, ChunksWent-none}
-use Rattle.bodies.specs.Words.{ReadsAlong, std_read_rules, chunks, AsksSent, IsLawful, Moves, StaysOpen, AskedLast, AllSent, sent_all, taken_more, RunError}
+use Rattle.bodies.specs.Words.{ReadsAlong, std_read_rules, AsksSent, IsLawful, Moves, StaysOpen, AskedLast, AllSent, sent_all, taken_more, RunError, chunk}
 use Rattle.bodies.specs.Encoding.{ReaderEnds, encoding_rules}
 use Rattle.bodies.specs.Filters.{Asked, joined}
 use Rattle.bodies.specs.FiltersLaws.{asked_after}
@@ -36,9 +37,9 @@ module _ {R W : Type 0} (remaining : R → Option (List ℕ)) (trace : W → W �
           before = joined p;
           asked = subst (λ l. AskedLast l first.source.log t.source.log) (ap (λ l. joined p ++ l) none ∙ append-nil (joined p))
               last;
-          due = chunks p;
+          due = flat_map chunk p;
           is_due = record { payloads = p; carried = moves.takes.carried; equal = refl; joined = refl };
-          sent = sent_all first.target.writer s.target.writer (chunks p) moves.takes.in_order fresh.1 sent;
+          sent = sent_all first.target.writer s.target.writer (flat_map chunk p) moves.takes.in_order fresh.1 sent;
         })
       ]
 
@@ -52,6 +53,6 @@ module _ {R W : Type 0} (remaining : R → Option (List ℕ)) (trace : W → W �
     ends_after = λ a b c p how hands still end. ends_after a b c how still end;
     waits_lacks = λ s waits. waits;
     received_taken = λ s. omega arith;
-    taken_on = λ s t p taken. omega (arith, taken_more s.target.writer t.target.writer (chunks p) taken.in_order);
+    taken_on = λ s t p taken. omega (arith, taken_more s.target.writer t.target.writer (flat_map chunk p) taken.in_order);
     asks_sent = λ first s t p fresh moves still lacks sent asked. asks_sent first s t p fresh moves still sent asked.0;
   }

@@ -6,11 +6,12 @@ pub use Rattle.buffer_redux.specs.Buffered.{Buffered}
 pub use Rattle.buffer_redux.specs.Faults.{MetInterrupts, MetInterrupts-joins, OnlyInterrupts-none, SendErrorCaused, SendErrorCaused-after}
 pub use Rattle.buffer_redux.specs.Policy.{std_read_rules}
 pub use Rattle.buffer_redux.specs.StreamLog.{StreamLog}
+pub use Rattle.buffer_redux.specs.WriteParts.{PutsIn, SendsFirst, room}
 pub use Rattle.buffer_redux.specs.declared.policy.StdPolicy.{StdPolicy}
 pub use Rattle.chunked.specs.Body.{IsBody, line_end}
-pub use Rattle.chunked.specs.Chunk.{IsCarried, IsChunks, body_end, chunk, chunks, size_digits}
+pub use Rattle.chunked.specs.Chunk.{IsCarried, IsChunks, body_end, chunk, size_digits}
 pub use Rattle.chunked.specs.ChunkedReader.{BodyWent, Breaks, BreaksAt, ChunkedState, IsChunkedReader, IsWhole, LooksBehind, ReadsPayload, begun, handed_of, taken_count}
-pub use Rattle.chunked.specs.ChunkedWriter.{ChunkedWriterState, ChunksWent, IsChunkedWriter, PutsFirst, PutsIn, WritesChunk, around, room, unbegun}
+pub use Rattle.chunked.specs.ChunkedWriter.{ChunkedWriterState, ChunksWent, IsChunkedWriter, WritesChunk, around, unbegun}
 pub use Rattle.chunked.specs.declared.limits.Limits.{Limits}
 pub use Rattle.forward.specs.Filter.{AskAnswers, Asks, AsksSent, FilterRules, FlushAnswers, Flushes, Gives, IsLawful, Moves, Passes, StaysOpen}
 pub use Rattle.programs.specs.Prompt.{AskedLast, AsksGive, HoldsNothingBack, WritesOn}

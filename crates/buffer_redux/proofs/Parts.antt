@@ -91,17 +91,15 @@ module _ {S P : Type 0} (tells : S → StreamLog) (trace : S → S → Type 0) (
     claims = refl;
   })
 
-  put_along : (s t : Buffered S P) (bytes : List ℕ) → PutsIn bytes s.block t.block → t ≡ with_block s t.block
-      → WritesAlong tells trace std_write_rules s bytes t
-  put_along s t bytes p others = block_along s t bytes others p.bytes (omega (arith, p.capacity)) p.kind
+  put_along : (s t : Buffered S P) (bytes : List ℕ) → PutsIn s bytes t → WritesAlong tells trace std_write_rules s bytes t
+  put_along s t bytes p = block_along s t bytes p.others p.added (omega (arith, p.capacity)) p.kind
 
   -- where they fit nothing else is done
-  pub parts_fit : (s t : Buffered S P) (bytes : List ℕ) → PutsIn bytes s.block t.block → t ≡ with_block s t.block
-      → WritesParts tells trace s bytes (Ok tt) t
-  parts_fit s t bytes p others = record {
-    along = put_along s t bytes p others;
-    fits = λ _. (refl, ap (λ x. x.log) others);
-    calls = inl (ap (λ x. x.log) others);
+  pub parts_fit : (s t : Buffered S P) (bytes : List ℕ) → PutsIn s bytes t → WritesParts tells trace s bytes (Ok tt) t
+  parts_fit s t bytes p = record {
+    along = put_along s t bytes p;
+    fits = λ _. (refl, ap (λ x. x.log) p.others);
+    calls = inl (ap (λ x. x.log) p.others);
     caused = tt;
     whole = p.whole;
   }
@@ -167,13 +165,12 @@ module _ {S P : Type 0} (tells : S → StreamLog) (trace : S → S → Type 0) (
 
     -- the parts moved in, once there was room
     pub parts_moved : (s m t : Buffered S P) (count : ℕ) (bytes : List ℕ) → usable s.block < length bytes
-        → MakesPlace tells trace count s (Ok tt) m → PutsIn bytes m.block t.block → t ≡ with_block m t.block
-        → WritesParts tells trace s bytes (Ok tt) t
-    parts_moved s m t count bytes few p put others = record {
+        → MakesPlace tells trace count s (Ok tt) m → PutsIn m bytes t → WritesParts tells trace s bytes (Ok tt) t
+    parts_moved s m t count bytes few p put = record {
       along = WritesAlong-joins tells trace std_write_rules joins s m t [] bytes (place_along s m count (Ok tt) p)
-          (put_along m t bytes put others);
+          (put_along m t bytes put);
       fits = λ fit. absurd (omega (arith, fit, few));
-      calls = inr (p.sending, p.left, p.sent, ap (λ x. x.log) others ∙ ap (λ x. x.log) p.others);
+      calls = inr (p.sending, p.left, p.sent, ap (λ x. x.log) put.others ∙ ap (λ x. x.log) p.others);
       caused = tt;
       whole = put.whole;
     }

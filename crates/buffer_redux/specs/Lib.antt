@@ -48,6 +48,7 @@ pub mod UnbufferLaws
 pub mod BufWriter
 pub mod WriteAll
 pub mod WriteParts
+pub mod WritePartsLaws
 pub mod WriteFmt
 pub mod Unwrapping
 pub mod LineWriter

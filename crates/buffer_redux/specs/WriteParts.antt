@@ -1,7 +1,7 @@
--- What a write of parts does.
-use Rattle.std.specs.Prelude.{◌≡◌, ℕ, ◌≤◌, ◌⊎◌, List, [], ◌++◌, length, Result, Ok, Err, MatchResult, IfErr, IsOk, OnOk}
+-- What is copied into a writer where it fits, and what a write of parts does.
+use Rattle.std.specs.Prelude.{◌≡◌, ℕ, ◌-◌, ◌≤◌, ◌⊎◌, List, [], ◌++◌, length, Result, Ok, Err, MatchResult, IfErr, IsOk, OnOk}
 use Rattle.std.specs.declared.io.Error.{Error}
-use Rattle.redux_buffer.specs.Block.{Block, IsBlock, usable}
+use Rattle.redux_buffer.specs.Block.{IsBlock, usable}
 use Rattle.redux_buffer.specs.Faults.{SendErrorCaused}
 use Rattle.redux_buffer.specs.GrowError.{GrowthFailed}
 use Rattle.redux_buffer.specs.StreamLog.{StreamLog}
@@ -9,12 +9,25 @@ use Rattle.buffer_redux.specs.Buffered.{Buffered, with_block}
 use Rattle.buffer_redux.specs.BufWriter.{WasSent, WritesAlong}
 use Rattle.buffer_redux.specs.Policy.{std_write_rules}
 
--- these bytes were copied in behind those that were there
-pub record PutsIn (put : List ℕ) (old new : Block) : Type 0 where
-  pub bytes : new.bytes ≡ old.bytes ++ put
-  pub capacity : new.capacity ≡ old.capacity
-  pub kind : new.kind ≡ old.kind
-  pub whole : IsBlock new
+-- how many more bytes fit behind those that are buffered
+abbrev pub room : {S P : Type 0} → Buffered S P → ℕ
+room w = w.block.capacity - length w.block.bytes
+
+-- these bytes were copied in behind those that are buffered, and nothing else was done
+pub record PutsIn {S P : Type 0} (s : Buffered S P) (bytes : List ℕ) (t : Buffered S P) : Type 0 where
+  pub others : t ≡ with_block s t.block
+  pub added : t.block.bytes ≡ s.block.bytes ++ bytes
+  pub capacity : t.block.capacity ≡ s.block.capacity
+  pub limit : t.block.limit ≡ s.block.limit
+  pub kind : t.block.kind ≡ s.block.kind
+  pub whole : IsBlock t.block
+
+-- all that was buffered was sent first, without a flush of the inner writer, and then these bytes were copied in
+pub record SendsFirst {S P : Type 0} (tells : S → StreamLog) (trace : S → S → Type 0) (s : Buffered S P) (bytes : List ℕ)
+    (t : Buffered S P) : Type 0 where
+  pub sent : Buffered S P
+  pub sends : WasSent tells trace s (Ok tt) sent
+  pub puts : PutsIn sent bytes t
 
 -- why nothing was taken in of so many bytes: what was buffered couldn't be sent, or room for them was refused
 abbrev pub PartsRefused : {S P : Type 0} → ℕ → Buffered S P → Error → Buffered S P → Type 0

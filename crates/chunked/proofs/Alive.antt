@@ -16,13 +16,11 @@ module _ (limits : Limits) where
   least_body : 0 < limits.line → IsBody limits (48 ∷ line_end (line_end [])) []
   least_body some = record {
     payloads = [];
-    chunks = record {
-      text = 48 ∷ [];
-      size_line = zero_line limits.line some;
-      behind = line_end [];
-      trailers = no_trailers limits.trailers;
-      equal = refl;
-    };
+    chunks = (
+      line_end [],
+      record { text = 48 ∷ []; size_line = zero_line limits.line some; equal = refl },
+      no_trailers limits.trailers,
+    );
     equal = refl;
   }
 

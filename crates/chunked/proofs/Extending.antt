@@ -1,26 +1,28 @@
 -- Which bytes lead on in an extension.
-use Rattle.std.proofs.Common.{◌≡◌, ◌≢◌, ℕ, ◌-◌, ◌<◌, ◌≤◌, List, [], ◌∷◌, length, Some, arith, refl}
+use Rattle.std.proofs.Common.{◌≡◌, ◌≢◌, ℕ, ◌-◌, ◌<◌, ◌≤◌, List, [], ◌∷◌, length, ◌↔◌, arith, refl}
 use Rattle.chunked.specs.declared.extension.Within.{Within}
 use Rattle.chunked.specs.declared.limits.Limits.{Limits}
 use Rattle.chunked.specs.declared.place.Place.TheVariants.{Extension, SizeFeed}
 use Rattle.chunked.specs.Place.{BehindSize, Passes}
-use Rattle.chunked.specs.Within.{Extends, Follows, IsLeast, RunsOver}
+use Rattle.chunked.specs.Within.{Extends, RunsOver}
 use Rattle.chunked.specs.WithinLaws.{Extends-text}
+use Rattle.chunked.proofs.Least.{IsLeast}
 use Rattle.chunked.proofs.Passing.{quiet, line_back, line_on, return_back, return_on}
 
 -- a byte that leads on, to where an extension may be completed, and in how many bytes at least
-module _ (within next : Within) (b least : ℕ) (follows : Follows within b (Some next)) (is_least : IsLeast next least) where
+module _ (within next : Within) (b least : ℕ) (follows : (text : List ℕ) → Extends within (b ∷ text) ↔ Extends next text)
+    (is_least : IsLeast next least) where
   no_return : b ≢ 13
-  no_return = (Extends-text within (b ∷ is_least.text) ((follows is_least.text).1 is_least.extends)).0.0
+  no_return = (Extends-text within (b ∷ is_least.0.0) ((follows is_least.0.0).1 is_least.0.1)).0.0
 
   pub fits_in : (room : ℕ) → least < room → (text : List ℕ) × Extends next text × (length text ≤ room - 1)
-  fits_in room some = (is_least.text, is_least.extends, omega (arith, is_least.many, some))
+  fits_in room some = (is_least.0.0, is_least.0.1, omega (arith, is_least.0.2, some))
 
   pub runs_over : (room : ℕ) → room ≤ least → RunsOver within room b
   runs_over room none = record {
-    text = is_least.text;
-    extends = (follows is_least.text).1 is_least.extends;
-    over = λ other e. omega (arith, none, is_least.none_less other ((follows other).0 e));
+    text = is_least.0.0;
+    extends = (follows is_least.0.0).1 is_least.0.1;
+    over = λ other e. omega (arith, none, is_least.1 other ((follows other).0 e));
   }
 
   pub extension_on : (limits : Limits) (size room : ℕ) → least < room

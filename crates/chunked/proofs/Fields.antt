@@ -5,11 +5,11 @@ use Rattle.std.proofs.lemmas.List.Concat.{flat_map-append}
 use Rattle.std.proofs.lemmas.List.Folds.{length-flat_map-take}
 use Rattle.std.specs.List.{AllByRecursion, flat_map}
 use Rattle.buffer_redux.specs.Buffered.{Buffered}
+use Rattle.buffer_redux.specs.WriteParts.{PutsIn}
+use Rattle.buffer_redux.specs.WritePartsLaws.{PutsIn-joins}
 use Rattle.buffer_redux.specs.declared.policy.StdPolicy.{StdPolicy}
 use Rattle.chunked.specs.Body.{IsField, fields_bytes, line_end}
 use Rattle.chunked.specs.Chunk.{body_end}
-use Rattle.chunked.specs.ChunkedWriter.{PutsIn}
-use Rattle.chunked.specs.ChunkedWriterLaws.{PutsIn-joins}
 use Rattle.chunked.specs.Trailers.{lines_of}
 
 -- a line with its end
@@ -102,20 +102,19 @@ line_noted start w m t fields i line within is was put ends =
     (noted start w m line (front (take i fields)) (front (take i fields) ++ line) was put refl) ends
     (line_behind fields i line within is)
 
-module _ {S : Type 0} (trace : S → S → Type 0) (none : (x : S) → trace x x)
-    (joins : (a b c : S) → trace a b → trace b c → trace a c) where
+module _ {S : Type 0} where
   -- one more line was copied in, with its end
   pub line_in : (s m n t : Buffered S StdPolicy) (fields : List (List ℕ)) (i : ℕ) (line : List ℕ) → i < length fields
-      → line ≡ get_or fields i [] → PutsIn trace s (front (take i fields)) m → PutsIn trace m line n
-      → PutsIn trace n (line_end []) t → PutsIn trace s (front (take (i + 1) fields)) t
+      → line ≡ get_or fields i [] → PutsIn s (front (take i fields)) m → PutsIn m line n → PutsIn n (line_end []) t
+      → PutsIn s (front (take (i + 1) fields)) t
   line_in s m n t fields i line within is so_far puts ends =
-      subst (λ l. PutsIn trace s l t) (line_behind fields i line within is)
-      (PutsIn-joins trace none joins s n t (front (take i fields) ++ line) (line_end [])
-      (PutsIn-joins trace none joins s m n (front (take i fields)) line so_far puts) ends)
+      subst (λ l. PutsIn s l t) (line_behind fields i line within is)
+      (PutsIn-joins s n t (front (take i fields) ++ line) (line_end [])
+      (PutsIn-joins s m n (front (take i fields)) line so_far puts) ends)
 
   -- the empty line was copied in behind all lines
-  pub end_in : (s m t : Buffered S StdPolicy) (fields so_far : List (List ℕ)) → so_far ≡ fields
-      → PutsIn trace s (front so_far) m → PutsIn trace m (line_end []) t → PutsIn trace s (body_end fields) t
+  pub end_in : (s m t : Buffered S StdPolicy) (fields so_far : List (List ℕ)) → so_far ≡ fields → PutsIn s (front so_far) m
+      → PutsIn m (line_end []) t → PutsIn s (body_end fields) t
   end_in s m t fields so_far all puts ends =
-      subst (λ l. PutsIn trace s l t) (ap (λ l. front l ++ line_end []) all ∙ front_ended fields)
-      (PutsIn-joins trace none joins s m t (front so_far) (line_end []) puts ends)
+      subst (λ l. PutsIn s l t) (ap (λ l. front l ++ line_end []) all ∙ front_ended fields)
+      (PutsIn-joins s m t (front so_far) (line_end []) puts ends)

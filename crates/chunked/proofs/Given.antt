@@ -33,7 +33,7 @@ line_some : (limit size : ℕ) (text : List ℕ) → IsSizeLine limit size text 
 line_some limit size text h = omega (arith, h.fits, h.numeral.0, ap length h.equal, length-append h.digits h.extension)
 
 chunks_some : (limits : Limits) (payloads : List (List ℕ)) (bytes : List ℕ) → HasChunks limits payloads bytes → 0 < limits.line
-chunks_some limits [] bytes h = line_some limits.line 0 h.text h.size_line
+chunks_some limits [] bytes h = line_some limits.line 0 h.1.text h.1.size_line
 chunks_some limits (p ∷ payloads) bytes h = line_some limits.line (length p) h.1.text h.1.size_line
 
 -- behind a body nothing is wrong

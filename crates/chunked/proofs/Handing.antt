@@ -1,5 +1,5 @@
 -- Payload is handed out, and how that ends.
-use Rattle.std.proofs.Common.{◌≡◌, ℕ, zero, suc, ◌-◌, ◌<◌, ◌≤◌, List, [], ◌∷◌, ◌++◌, length, min, take, Option, Result, Ok, Err, sym, ap, subst, ◌∙◌, arith, inl, inr, refl, length-append}
+use Rattle.std.proofs.Common.{◌≡◌, ℕ, zero, suc, ◌-◌, ◌<◌, ◌≤◌, List, [], ◌∷◌, ◌++◌, length, min, take, Option, Result, MatchResult, Ok, Err, sym, ap, subst, ◌∙◌, arith, inl, inr, refl, length-append}
 use Rattle.std.proofs.lemmas.List.{length-drop, length-take-le, nil_from_length, take-append-le}
 use Rattle.std.specs.declared.io.Error.{Error}
 use Rattle.buffer_redux.specs.Buffered.{Buffered}
@@ -13,7 +13,7 @@ use Rattle.chunked.specs.declared.limits.Limits.{Limits}
 use Rattle.chunked.specs.declared.place.Place.{Place}
 use Rattle.chunked.specs.declared.place.Place.TheVariants.{Data, Done}
 use Rattle.chunked.specs.declared.progress.Progress.{Progress}
-use Rattle.chunked.specs.Between.{Calls, FailsSo, Faulted, HandsOn, LastCall, NoFault, NothingCame, ReadEnds, Takes, TakesTurns, handed_out}
+use Rattle.chunked.specs.Between.{Calls, FailsSo, Faulted, HandsOn, LastCall, NoFault, NothingCame, Takes, TakesTurns, handed_out}
 use Rattle.chunked.specs.BetweenLaws.{Reads-ways, Takes-joins, Takes-none, Takes-still}
 use Rattle.chunked.specs.Place.{IsPlace, Leads}
 use Rattle.chunked.proofs.PassingOn.{data_payload}
@@ -185,11 +185,16 @@ module _ {S P : Type 0} (remaining : S → Option (List ℕ)) (rules : ReadRules
         (no_fault ∙ well, right, within, NothingCame-after none)
     FailsSo-after (Io e) r fault = Faulted-after e fault
 
-  ReadEnds-after : (s m : Buffered S P) (p q : Progress) (wire : List ℕ) → Takes remaining rules s p wire [] m q → NoFault s m
-      → (room : ℕ) (answer : Result ℕ ChunkedError) (t : Buffered S P) (r : Progress) → ReadEnds rules m room answer t r
-      → ReadEnds rules s room answer t r
-  ReadEnds-after s m p q wire before well room (Ok n) t r ends = (ends.0, ends.1 ∙ well, ends.2)
-  ReadEnds-after s m p q wire before well room (Err e) t r ends =
+  -- what an answer to a slice of so many bytes says
+  abbrev Ends : Buffered S P → ℕ → Result ℕ ChunkedError → Buffered S P → Progress → Type 0
+  Ends s room answer t q = MatchResult answer
+      (λ n. (n ≤ room) × NoFault s t × (n ≡ 0 → 0 < room → q.place ≡ Done)) (λ e. FailsSo rules s e t q)
+
+  Ends-after : (s m : Buffered S P) (p q : Progress) (wire : List ℕ) → Takes remaining rules s p wire [] m q → NoFault s m
+      → (room : ℕ) (answer : Result ℕ ChunkedError) (t : Buffered S P) (r : Progress) → Ends m room answer t r
+      → Ends s room answer t r
+  Ends-after s m p q wire before well room (Ok n) t r ends = (ends.0, ends.1 ∙ well, ends.2)
+  Ends-after s m p q wire before well room (Err e) t r ends =
       FailsSo-after s m before.along.capacity before.along.claims before.along.grows well t e r ends
 
   -- payload is handed out behind what is none
@@ -204,7 +209,7 @@ module _ {S P : Type 0} (remaining : S → Option (List ℕ)) (rules : ReadRules
       record {
         wire = wire ++ h.wire;
         takes = Takes-joins remaining rules s p m q t r wire [] h.wire (handed_out out answer) before h.takes;
-        ends = ReadEnds-after s m p q wire before well (length out) answer t r h.ends;
+        ends = Ends-after s m p q wire before well (length out) answer t r h.ends;
         calls = Calls-after rules p.limits calls.count s p.place m q.place turns
             (subst (λ l. Calls rules l m q.place (length out) answer t r.place) limits h.calls);
       }

@@ -1,10 +1,10 @@
 -- What completes a body goes on from byte to byte.
 use Rattle.std.proofs.Common.{◌≡◌, ℕ, zero, suc, ◌-◌, ◌<◌, ◌≤◌, List, [], ◌∷◌, ◌++◌, length, sym, ap, subst, ◌∙◌, arith, refl, append_assoc, length-append, zero-add}
 use Rattle.std.specs.Char.{digit_value}
-use Rattle.std.specs.List.{flat_map}
+use Rattle.std.specs.List.{flat_map, AllByRecursion}
 use Rattle.std.specs.Str.Parse.{AllDigits, digits_value_after}
 use Rattle.chunked.specs.declared.limits.Limits.{Limits}
-use Rattle.chunked.specs.Body.{line_end, IsText, IsSizeLine, HasChunks, IsBody}
+use Rattle.chunked.specs.Body.{line_end, IsSizeLine, HasChunks, IsBody, IsTextByte}
 use Rattle.chunked.specs.Place.{BehindSize, CompletesSize}
 
 -- a front that is no longer than another's is its beginning
@@ -18,7 +18,7 @@ longer_front (y ∷ a) b (x ∷ c) d len same =
     let found = longer_front a b c d (omega (arith, len)) rest in
     (found.0, ap (λ l. y ∷ l) found.1 ∙ ap (λ z. z ∷ (c ++ found.0)) head, found.2)
 
-pub text_behind : (xs more : List ℕ) → IsText (xs ++ more) → IsText more
+pub text_behind : (xs more : List ℕ) → AllByRecursion IsTextByte (xs ++ more) → AllByRecursion IsTextByte more
 text_behind [] more h = h
 text_behind (x ∷ xs) more h = text_behind xs more h.1
 
@@ -44,21 +44,21 @@ module _ (limits : Limits) where
 
   begins : (bytes payload : List ℕ) (ps : List (List ℕ)) → HasChunks limits ps bytes → payload ≡ flat_map (λ p. p) ps
       → BeginsLine limits bytes payload
-  begins bytes payload [] h is = record {
+  begins bytes payload [] (behind, h, trailers) is = record {
     size = 0;
     text = h.text;
-    behind = h.behind;
+    behind = behind;
     size_line = h.size_line;
     equal = h.equal;
-    goes_on = (is, h.trailers);
+    goes_on = (is, trailers);
   }
-  begins bytes payload (p ∷ ps) (behind, h, more) is = record {
+  begins bytes payload (p ∷ ps) (behind, h, some, more) is = record {
     size = length p;
     text = h.text;
     behind = p ++ line_end behind;
     size_line = h.size_line;
     equal = h.equal;
-    goes_on = begins_chunk p behind (flat_map (λ p. p) ps) payload h.some is
+    goes_on = begins_chunk p behind (flat_map (λ p. p) ps) payload some is
         (record { payloads = ps; chunks = more; equal = refl });
   }
 
@@ -69,7 +69,7 @@ module _ (limits : Limits) where
       → bytes ≡ text ++ line_end behind → BehindSize limits size behind payload → IsBody limits bytes payload
   body_of zero bytes payload text behind size_line is (none, trailers) = record {
     payloads = [];
-    chunks = record { text = text; size_line = size_line; behind = behind; trailers = trailers; equal = is };
+    chunks = (behind, record { text = text; size_line = size_line; equal = is }, trailers);
     equal = none;
   }
   body_of (suc n) bytes payload text behind size_line is c = record {
@@ -79,9 +79,9 @@ module _ (limits : Limits) where
       record {
         text = text;
         size_line = subst (λ size. IsSizeLine limits.line size text) (sym c.many) size_line;
-        some = omega (arith, c.many);
         equal = is ∙ ap (λ l. text ++ line_end l) c.equal;
       },
+      omega (arith, c.many),
       c.body.chunks,
     );
     equal = c.both ∙ ap (λ l. c.front ++ l) c.body.equal;

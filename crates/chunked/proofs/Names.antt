@@ -1,5 +1,6 @@
 -- A byte that is wrong has one name.
-use Rattle.std.proofs.Common.{◌≡◌, ℕ, ◌∷◌, inl, inr, refl, arith}
+use Rattle.std.proofs.Common.{◌≡◌, ℕ, ◌∷◌, inl, inr, refl, arith, ◌<◌}
+use Rattle.std.specs.Char.{digit_value}
 use Rattle.chunked.specs.declared.error.Malformed.{Malformed}
 use Rattle.chunked.specs.declared.error.Malformed.TheVariants.{NoSize, BadSize, BadField, SizeTooLarge, LineTooLong, TrailersTooLong, BareReturn, BareFeed, ChunkTooLong}
 use Rattle.chunked.specs.declared.limits.Limits.{Limits}
@@ -11,16 +12,16 @@ use Rattle.chunked.specs.WithinLaws.{Extends-text}
 use Rattle.chunked.specs.BodyLaws.{digit_is_text, extension_no_digit}
 use Rattle.chunked.specs.FieldLaws.{token_is_text, value_is_text}
 use Rattle.chunked.specs.Within.{RunsOver}
-use Rattle.chunked.specs.Place.{IsDigit, IsWrong}
+use Rattle.chunked.specs.Place.{IsWrong}
 
 module _ (l : Limits) (b : ℕ) where
   over_no_feed : (within : Within) (room : ℕ) → RunsOver within room b → b ≡ 10 → ⊥
   over_no_feed within room over feed = (Extends-text within (b ∷ over.text) over.extends).0.1 feed
 
-  over_no_digit : (room : ℕ) → RunsOver Behind room b → IsDigit b → ⊥
+  over_no_digit : (room : ℕ) → RunsOver Behind room b → digit_value b < 16 → ⊥
   over_no_digit room over digit = extension_no_digit b over.text over.extends digit
 
-  digit_no_feed : IsDigit b → b ≡ 10 → ⊥
+  digit_no_feed : digit_value b < 16 → b ≡ 10 → ⊥
   digit_no_feed digit feed = (digit_is_text b digit).1 feed
 
   -- in an extension

@@ -11,7 +11,7 @@ use Rattle.chunked.specs.Extension.{IsExtension}
 use Rattle.chunked.specs.declared.extension.Within.TheVariants.{Behind}
 use Rattle.chunked.specs.Body.{line_end}
 use Rattle.chunked.specs.BodyLaws.{extension_no_digit}
-use Rattle.chunked.specs.Place.{BehindSize, Completes, CompletesSize, EndsLine, Feeds, Leads, Passes, IsDigit, IsSettled, StepsOver}
+use Rattle.chunked.specs.Place.{BehindSize, Completes, CompletesSize, EndsLine, Feeds, Leads, Passes, IsSettled, StepsOver}
 use Rattle.chunked.proofs.Lines.{first_digit, digit_first}
 
 -- in a line, of whatever kind its rest is and what stands behind it
@@ -81,7 +81,7 @@ module _ (limits : Limits) where
   quiet p q wire on off = record { onward = on; back = λ rest whole c. (whole, refl, off rest whole c) }
 
   -- a digit begins a size, and goes on with it
-  pub line_digit : (b : ℕ) → IsDigit b → 0 < limits.line
+  pub line_digit : (b : ℕ) → digit_value b < 16 → 0 < limits.line
       → Passes limits Line (b ∷ []) (Size (digit_value b) (limits.line - 1))
   line_digit b digit some = record {
     leads = quiet Line (Size (digit_value b) (limits.line - 1)) (b ∷ [])
@@ -91,7 +91,7 @@ module _ (limits : Limits) where
   }
 
   further_digit : (b number room : ℕ) (rest payload digits : List ℕ)
-      → (c : CompletesSize limits number room (b ∷ rest) payload) → c.digits ≡ digits → IsDigit b
+      → (c : CompletesSize limits number room (b ∷ rest) payload) → c.digits ≡ digits → digit_value b < 16
       → CompletesSize limits (number * 16 + digit_value b) (room - 1) rest payload
   further_digit b number room rest payload [] c is digit =
       let here : b ∷ rest ≡ c.extension ++ line_end c.behind =
@@ -99,11 +99,11 @@ module _ (limits : Limits) where
       absurd (no_digit_there b rest c.extension c.behind c.follows here digit)
     where
       no_digit_there : (b : ℕ) (rest text behind : List ℕ) → IsExtension text → b ∷ rest ≡ text ++ line_end behind
-          → IsDigit b → ⊥
+          → digit_value b < 16 → ⊥
       no_digit_there b rest [] behind h same digit =
           let odd : b ≡ 13 = cc in omega (arith, subst (λ x. digit_value x < 16) odd digit)
       no_digit_there b rest (x ∷ text) behind h same digit =
-          let head : b ≡ x = cc in extension_no_digit x text h (subst IsDigit head digit)
+          let head : b ≡ x = cc in extension_no_digit x text h (subst (λ d. digit_value d < 16) head digit)
   further_digit b number room rest payload (d ∷ digits) c is digit = record {
     digits = digits;
     extension = c.extension;
@@ -123,7 +123,7 @@ module _ (limits : Limits) where
     goes_on = c.goes_on;
   }
 
-  pub size_digit : (b number room : ℕ) → IsDigit b → 0 < room
+  pub size_digit : (b number room : ℕ) → digit_value b < 16 → 0 < room
       → Passes limits (Size number room) (b ∷ []) (Size (number * 16 + digit_value b) (room - 1))
   size_digit b number room digit some = record {
     leads = quiet (Size number room) (Size (number * 16 + digit_value b) (room - 1)) (b ∷ [])
@@ -145,7 +145,7 @@ module _ (limits : Limits) where
   }
 
   -- where no digit comes, digits lead on as the beginning of an extension does
-  as_extension : (b number room : ℕ) (rest payload digits : List ℕ) → ¬ IsDigit b
+  as_extension : (b number room : ℕ) (rest payload digits : List ℕ) → ¬ (digit_value b < 16)
       → (c : CompletesSize limits number room (b ∷ rest) payload) → c.digits ≡ digits
       → Completes limits (Extension Behind number room) (b ∷ rest) payload
   as_extension b number room rest payload [] no_digit c is =
@@ -165,7 +165,7 @@ module _ (limits : Limits) where
       let same : b ∷ rest ≡ d ∷ (digits ++ (c.extension ++ line_end c.behind)) =
       c.equal ∙ ap (λ l. l ++ (c.extension ++ line_end c.behind)) is in
       let head : d ≡ b = cc in
-      absurd (no_digit (subst IsDigit head (subst (λ ds. AllDigits 16 ds) is c.all).0))
+      absurd (no_digit (subst (λ d. digit_value d < 16) head (subst (λ ds. AllDigits 16 ds) is c.all).0))
 
   of_extension : (number room : ℕ) (bytes payload : List ℕ) → Completes limits (Extension Behind number room) bytes payload
       → CompletesSize limits number room bytes payload
@@ -183,7 +183,7 @@ module _ (limits : Limits) where
     goes_on = c.0.goes_on;
   }
 
-  pub size_as_extension : (b number room : ℕ) (q : Place) → ¬ IsDigit b
+  pub size_as_extension : (b number room : ℕ) (q : Place) → ¬ (digit_value b < 16)
       → Passes limits (Extension Behind number room) (b ∷ []) q → Passes limits (Size number room) (b ∷ []) q
   size_as_extension b number room q no_digit goes = record {
     leads = record {
@@ -194,7 +194,7 @@ module _ (limits : Limits) where
   }
 
   -- what stands behind a size is told as at the beginning of an extension
-  pub StepsOver-size : (b number room : ℕ) (answer : Result Place Malformed) → ¬ IsDigit b
+  pub StepsOver-size : (b number room : ℕ) (answer : Result Place Malformed) → ¬ (digit_value b < 16)
       → StepsOver limits (Extension Behind number room) b answer → StepsOver limits (Size number room) b answer
   StepsOver-size b number room (Ok q) no_digit (goes, small) = (size_as_extension b number room q no_digit goes, small)
   StepsOver-size b number room (Err LineTooLong) no_digit wrong = inr wrong

@@ -1,15 +1,15 @@
 -- What a call that hands payload out comes to, seen by contracts.
-use Rattle.std.proofs.Common.{◌≡◌, ℕ, List, ◌∷◌, ◌++◌, length, Option, Result, Ok, Err, sym, ap, subst, ◌∙◌, refl, append-nil}
+use Rattle.std.proofs.Common.{◌≡◌, ℕ, ◌<◌, ◌≤◌, List, ◌∷◌, ◌++◌, length, Option, Result, MatchResult, Ok, Err, sym, ap, subst, ◌∙◌, refl, append-nil}
 use Rattle.buffer_redux.specs.Buffered.{Buffered}
 use Rattle.buffer_redux.specs.Policy.{ReadRules}
-use Rattle.buffer_redux.specs.StreamLog.{StreamLog}
+use Rattle.buffer_redux.specs.StreamLog.{StreamLog, after_read}
 use Rattle.chunked.specs.declared.error.ChunkedError.{ChunkedError}
 use Rattle.chunked.specs.declared.error.ChunkedError.TheVariants.{NotChunked, Truncated, Io}
 use Rattle.chunked.specs.declared.error.Malformed.{Malformed}
 use Rattle.chunked.specs.declared.place.Place.TheVariants.{Line, Done}
 use Rattle.chunked.specs.declared.progress.Progress.{Progress}
-use Rattle.chunked.specs.Between.{HandsOn, MeetsWrong, ReadEnds, Takes, handed_out, taken_of}
-use Rattle.chunked.specs.ChunkedReader.{BodyWent, Breaks, ChunkedState, IsChunkedReader, PayloadAnswers, ReadsPayload, after_payload}
+use Rattle.chunked.specs.Between.{FailsSo, HandsOn, MeetsWrong, NoFault, Takes, handed_out}
+use Rattle.chunked.specs.ChunkedReader.{BodyWent, Breaks, ChunkedState, IsChunkedReader, PayloadAnswers, ReadsPayload}
 use Rattle.chunked.specs.ChunkedReaderLaws.{IsWhole-done, body_done}
 use Rattle.chunked.specs.Place.{Leads}
 use Rattle.chunked.specs.PlaceLaws.{Leads-joins}
@@ -17,7 +17,7 @@ use Rattle.chunked.proofs.Wrong.{IsWrong-none}
 
 -- a reader of a body, by its parts
 abbrev pub seen : {S P : Type 0} → Buffered S P → Progress → StreamLog → ChunkedState S P
-seen r p calls = record { reader = r; limits = p.limits; place = p.place; taken = taken_of p; calls = calls }
+seen r p calls = record { reader = r; limits = p.limits; place = p.place; taken = p.taken.log.fills.consumed; calls = calls }
 
 -- a wrong byte
 pub breaks : {S P : Type 0} (t : ChunkedState S P) → IsChunkedReader t → (why : Malformed)
@@ -39,16 +39,27 @@ module _ {S P : Type 0} (remaining : S → Option (List ℕ)) (rules : ReadRules
     (given : later.reads.given ≡ calls.reads.given ++ handed) where
   pub still_is : IsChunkedReader (seen r' q later)
   still_is =
-      let joined = Leads-joins p.limits Line p.place q.place (taken_of p) wire calls.reads.given handed is.leads takes.leads in
+      let joined = Leads-joins p.limits Line p.place q.place p.taken.log.fills.consumed wire calls.reads.given handed is.leads takes.leads in
       record {
-        leads = subst (λ l. Leads l Line (taken_of q) later.reads.given q.place) (sym takes.limits)
+        leads = subst (λ l. Leads l Line q.taken.log.fills.consumed later.reads.given q.place) (sym takes.limits)
             (subst (λ l. Leads p.limits Line l later.reads.given q.place) (sym takes.taken)
-            (subst (λ l. Leads p.limits Line (taken_of p ++ wire) l q.place) (sym given) joined));
+            (subst (λ l. Leads p.limits Line (p.taken.log.fills.consumed ++ wire) l q.place) (sym given) joined));
         place = takes.place;
       }
 
   pub body_went : BodyWent remaining rules (seen r p calls) handed (seen r' q later)
   body_went = record { wire = wire; along = takes.along; taken = takes.taken; handed = given; limits = takes.limits }
+
+-- an Ok read is noted
+abbrev pub after_payload : StreamLog → List ℕ → Result ℕ ChunkedError → StreamLog
+after_payload calls out (Ok n) = after_read calls out (Ok n)
+after_payload calls out (Err e) = calls
+
+noted_after : (calls : StreamLog) (out : List ℕ) (answer : Result ℕ ChunkedError)
+    → MatchResult answer (λ n. after_payload calls out answer ≡ after_read calls out (Ok n))
+    (λ _. after_payload calls out answer ≡ calls)
+noted_after calls out (Ok n) = refl
+noted_after calls out (Err e) = refl
 
 -- the payload that a call handed out is noted
 given_after : (calls : StreamLog) (out : List ℕ) (answer : Result ℕ ChunkedError)
@@ -66,8 +77,9 @@ module _ {S P : Type 0} (remaining : S → Option (List ℕ)) (rules : ReadRules
   still = still_is remaining rules r p calls is (handed_out out answer) r' q hands.wire hands.takes
       (after_payload calls out answer) (given_after calls out answer)
 
-  answered : (a : Result ℕ ChunkedError) → a ≡ answer → ReadEnds rules r (length out) a r' q
-      → PayloadAnswers rules (seen r p calls) (length out) a after
+  answered : (a : Result ℕ ChunkedError) → a ≡ answer
+      → MatchResult a (λ n. (n ≤ length out) × NoFault r r' × (n ≡ 0 → 0 < length out → q.place ≡ Done))
+      (λ e. FailsSo rules r e r' q) → PayloadAnswers rules (seen r p calls) (length out) a after
   answered (Ok n) same ends = (ends.0, ends.1, (λ none some. IsWhole-done after still (ends.2 none some)))
   answered (Err (NotChunked why count)) same (well, right, wrong) = (right ∙ q.counted, well, breaks after still why wrong)
   answered (Err (Truncated count)) same (well, right, open', dry) =
@@ -83,7 +95,7 @@ module _ {S P : Type 0} (remaining : S → Option (List ℕ)) (rules : ReadRules
     calls = hands.calls;
     ended = λ whole. done (body_done (seen r p calls) calls.reads.given is whole);
     idle = idle;
-    noted = refl;
+    noted = noted_after calls out answer;
     whole = still;
   }
 

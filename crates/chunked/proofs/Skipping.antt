@@ -14,7 +14,7 @@ use Rattle.chunked.specs.declared.place.Place.{Place}
 use Rattle.chunked.specs.declared.place.Place.TheVariants.{Done}
 use Rattle.chunked.specs.declared.progress.Progress.{Progress}
 use Rattle.chunked.specs.declared.step.Reached.{Reached}
-use Rattle.chunked.specs.Between.{FillsAndTakes, NoFault, Skips, Takes, TakesTurns, taken_of}
+use Rattle.chunked.specs.Between.{FillsAndTakes, NoFault, Skips, Takes, TakesTurns}
 use Rattle.chunked.specs.BetweenLaws.{Takes-still}
 use Rattle.chunked.specs.Place.{Advances, IsPlace, IsSettled, IsWrong, Leads}
 use Rattle.chunked.specs.PlaceLaws.{Leads-joins}
@@ -23,7 +23,7 @@ use Rattle.chunked.specs.PlaceLaws.{Leads-joins}
 pub record Notes (p : Progress) (there : Place) (bytes : List ℕ) (q : Progress) : Type 0 where
   pub limits : q.limits ≡ p.limits
   pub place : q.place ≡ there
-  pub taken : taken_of q ≡ taken_of p ++ bytes
+  pub taken : q.taken.log.fills.consumed ≡ p.taken.log.fills.consumed ++ bytes
 
 not_done : (p : Place) → ¬ IsSettled p → p ≢ Done
 not_done p goes_on is = goes_on (subst IsSettled (sym is) tt)
@@ -43,7 +43,7 @@ module _ {S P : Type 0} (remaining : S → Option (List ℕ)) (rules : ReadRules
     not_ended goes_on = inr (not_done q.place goes_on)
 
     -- they came to where a payload or nothing comes next
-    pub skips_all : IsSettled q.place → Skips remaining rules s p (Ok tt) m q
+    pub skips_all : IsSettled q.place → Skips remaining rules s p (Ok 0) m q
     skips_all settled = record {
       wire = so.wire;
       takes = so.takes;
@@ -127,7 +127,7 @@ module _ {S P : Type 0} (remaining : S → Option (List ℕ)) (rules : ReadRules
               (subst (λ l. Leads l q.place (take r.taken shown.now) [] q'.place) so.takes.limits
               (subst (λ x. Leads q.limits q.place (take r.taken shown.now) [] x) (sym notes.place) reached.passes.leads));
           taken = notes.taken ∙ ap (λ l. l ++ take r.taken shown.now) so.takes.taken
-              ∙ append_assoc (taken_of p) so.wire (take r.taken shown.now);
+              ∙ append_assoc p.taken.log.fills.consumed so.wire (take r.taken shown.now);
           limits = notes.limits ∙ so.takes.limits;
           place = subst IsPlace (sym notes.place) reached.place;
         }

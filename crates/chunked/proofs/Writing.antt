@@ -10,12 +10,13 @@ use Rattle.buffer_redux.specs.Buffered.{Buffered}
 use Rattle.buffer_redux.specs.BufWriter.{WasSent, WritesInOrder}
 use Rattle.buffer_redux.specs.LogGrows.{WriteLogGrows, WriteLogGrows-flush}
 use Rattle.buffer_redux.specs.StreamLog.{StreamLog, after_flush, after_write}
+use Rattle.buffer_redux.specs.WriteParts.{PutsIn, SendsFirst, room}
+use Rattle.buffer_redux.specs.WritePartsLaws.{PutsIn-order, SendsFirst-order}
 use Rattle.buffer_redux.specs.declared.policy.StdPolicy.{StdPolicy}
 use Rattle.chunked.specs.Body.{IsField}
-use Rattle.chunked.specs.Chunk.{IsCarried, IsChunks, body_end, chunk, chunks}
+use Rattle.chunked.specs.Chunk.{IsCarried, IsChunks, body_end, chunk}
 use Rattle.chunked.specs.ChunkLaws.{IsChunks-body, IsChunks-joins}
-use Rattle.chunked.specs.ChunkedWriter.{ChunkedWriterState, ChunkingWent, ChunksWent, Finishes, IsChunkedWriter, PutsFirst, PutsIn, WritesChunk, accepted_of, around, room, taken_payloads}
-use Rattle.chunked.specs.ChunkedWriterLaws.{PutsFirst-order, PutsIn-order}
+use Rattle.chunked.specs.ChunkedWriter.{ChunkedWriterState, ChunkingWent, ChunksWent, Finishes, IsChunkedWriter, WritesChunk, accepted_of, around, taken_payloads}
 
 -- a slice that isn't empty has some byte
 pub some_of : (n : ℕ) → (n == 0) ≡ false → 0 < n
@@ -42,31 +43,34 @@ record WentIn {S : Type 0} (trace : S → S → Type 0) (s : Buffered S StdPolic
   pub capacity : t.block.capacity ≡ s.block.capacity
   pub limit : t.block.limit ≡ s.block.limit
 
-module _ {S : Type 0} (tells : S → StreamLog) (trace : S → S → Type 0)
+module _ {S : Type 0} (tells : S → StreamLog) (trace : S → S → Type 0) (none : (a : S) → trace a a)
     (joins : (a b c : S) → trace a b → trace b c → trace a c) where
-  module _ (s m t : Buffered S StdPolicy) (n : ℕ) (spaced : Spaced tells trace n s m) (bytes : List ℕ)
-      (puts : PutsIn trace m bytes t) where
-    pub straight : n ≤ room s → PutsIn trace s bytes t
-    straight there = subst (λ w. PutsIn trace w bytes t) (spaced.0 there) puts
+  untouched : (s t : Buffered S StdPolicy) (bytes : List ℕ) → PutsIn s bytes t → trace s.inner t.inner
+  untouched s t bytes puts = subst (trace s.inner) (ap (λ x. x.inner) (sym puts.others)) (none s.inner)
 
-    pub behind : room s < n → PutsFirst tells trace s bytes t
+  module _ (s m t : Buffered S StdPolicy) (n : ℕ) (spaced : Spaced tells trace n s m) (bytes : List ℕ)
+      (puts : PutsIn m bytes t) where
+    pub straight : n ≤ room s → PutsIn s bytes t
+    straight there = subst (λ w. PutsIn w bytes t) (spaced.0 there) puts
+
+    pub behind : room s < n → SendsFirst tells trace s bytes t
     behind none = record { sent = m; sends = spaced.1 none; puts = puts }
 
     put : WentIn trace s bytes t
     put = elim (cases_lt (room s) n) [
-      | inl none ↦
-          let sent = spaced.1 none in
+      | inl none' ↦
+          let sent = spaced.1 none' in
           record {
-            in_order = PutsFirst-order tells trace s t bytes (behind none);
-            went = joins s.inner m.inner t.inner sent.went.calls puts.calls;
+            in_order = SendsFirst-order tells trace s t bytes (behind none');
+            went = joins s.inner m.inner t.inner sent.went.calls (untouched m t bytes puts);
             capacity = puts.capacity ∙ sent.capacity;
             limit = puts.limit ∙ sent.sends.sent.dropped.limit;
           }
       | inr there ↦
           let puts = straight there in
           record {
-            in_order = PutsIn-order tells trace s t bytes puts;
-            went = puts.calls;
+            in_order = PutsIn-order s t bytes puts;
+            went = untouched s t bytes puts;
             capacity = puts.capacity;
             limit = puts.limit;
           }
@@ -79,7 +83,7 @@ module _ {S : Type 0} (tells : S → StreamLog) (trace : S → S → Type 0)
   module _ (s : ChunkedWriterState S) (is : IsChunkedWriter s) (payload : List ℕ) (some : 0 < length payload)
       (m t : Buffered S StdPolicy)
       (spaced : Spaced tells trace (around + length payload) s.writer m) (n : ℕ)
-      (count : n ≡ min (length payload) (m.block.capacity - around)) (puts : PutsIn trace m (chunk (take n payload)) t)
+      (count : n ≡ min (length payload) (m.block.capacity - around)) (puts : PutsIn m (chunk (take n payload)) t)
       (wire : List ℕ) (wired : wire ≡ s.wire ++ chunk (take n payload)) (calls : StreamLog)
       (noted : calls ≡ after_write s.calls payload (Ok n)) where
     abbrev Left : ChunkedWriterState S
@@ -103,7 +107,7 @@ module _ {S : Type 0} (tells : S → StreamLog) (trace : S → S → Type 0)
     one : All IsCarried (take n payload ∷ [])
     one = All-cons IsCarried (take n payload) [] carried (All-nil IsCarried)
 
-    wire_more : wire ≡ s.wire ++ chunks (take n payload ∷ [])
+    wire_more : wire ≡ s.wire ++ flat_map chunk (take n payload ∷ [])
     wire_more = wired ∙ ap (λ l. s.wire ++ l) (sym (append-nil (chunk (take n payload))))
 
     accepted_more : accepted_of Left ≡ accepted_of s ++ flat_map (λ p. p) (take n payload ∷ [])
@@ -136,7 +140,7 @@ module _ {S : Type 0} (tells : S → StreamLog) (trace : S → S → Type 0)
       nothing = λ none. absurd (omega (arith, none, some));
       fits = λ _ there. (
         ap (λ k. Ok k) (all there),
-        subst (λ l. PutsIn trace s.writer (chunk l) t) (take_all n payload (omega (arith, all there)))
+        subst (λ l. PutsIn s.writer (chunk l) t) (take_all n payload (omega (arith, all there)))
             (straight s.writer m t (around + length payload) spaced (chunk (take n payload)) puts there),
       );
       full = λ _ none. (
@@ -155,7 +159,7 @@ module _ {S : Type 0} (tells : S → StreamLog) (trace : S → S → Type 0)
   -- the end of the body went in behind the chunks
   pub finishes : (v s : ChunkedWriterState S) → v ≡ s → (is : IsChunkedWriter v) → (m t : Buffered S StdPolicy)
       → (fields : List (List ℕ)) → AllByRecursion IsField fields → (n : ℕ) → n ≡ length (body_end fields)
-      → Spaced tells trace n v.writer m → PutsIn trace m (body_end fields) t → Finishes tells trace s fields t
+      → Spaced tells trace n v.writer m → PutsIn m (body_end fields) t → Finishes tells trace s fields t
   finishes v s same is m t fields lines n len spaced puts =
       let there = subst (λ k. Spaced tells trace k v.writer m) len spaced in
       subst (λ c. Finishes tells trace c fields t) same (record {

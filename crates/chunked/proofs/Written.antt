@@ -8,7 +8,7 @@ use Rattle.buffer_redux.specs.WriterLaws.{WritesInOrder-contents, WritesInOrder-
 use Rattle.buffer_redux.specs.declared.policy.StdPolicy.{StdPolicy}
 use Rattle.chunked.specs.declared.limits.Limits.{Limits}
 use Rattle.chunked.specs.Body.{IsBody}
-use Rattle.chunked.specs.Chunk.{body_end, chunks}
+use Rattle.chunked.specs.Chunk.{body_end, chunk}
 use Rattle.chunked.specs.ChunkedWriter.{ChunkedWriterState, LetsThrough, accepted_of}
 use Rattle.chunked.specs.RoundTrip.{WroteBody}
 
@@ -17,11 +17,11 @@ module _ {S : Type 0} (tells : S → StreamLog) (trace : S → S → Type 0) (fi
     (h : WroteBody tells trace first payloads fields w last wrote) where
   the_bytes : wrote ≡ w.wire ++ body_end fields
   the_bytes =
-      let whole = WritesInOrder-joins first w.writer last (chunks payloads) (body_end fields) h.went.in_order
+      let whole = WritesInOrder-joins first w.writer last (flat_map chunk payloads) (body_end fields) h.went.in_order
       h.finishes.in_order in
       let held = first.log.writes.received ++ first.block.bytes in
       append_cancel_left held wrote (w.wire ++ body_end fields)
-      (sym h.gained ∙ WritesInOrder-contents first last (chunks payloads ++ body_end fields) whole
+      (sym h.gained ∙ WritesInOrder-contents first last (flat_map chunk payloads ++ body_end fields) whole
       ∙ (λ i. held ++ (sym h.went.wire i ++ body_end fields)))
 
   pub written_body : (limits : Limits) → LetsThrough fields limits → IsBody limits wrote (flat_map (λ p. p) payloads)

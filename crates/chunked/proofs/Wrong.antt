@@ -16,7 +16,7 @@ use Rattle.chunked.specs.declared.extension.Within.TheVariants.{Behind}
 use Rattle.chunked.specs.Body.{line_end, IsSizeLine, IsTrailers, IsField, IsBody, fields_bytes}
 use Rattle.chunked.specs.BodyLaws.{digit_is_text, extension_no_digit}
 use Rattle.chunked.specs.FieldLaws.{IsField-first, IsField-next, IsField-none, IsField-value, token_is_text, token_plain, value_is_text}
-use Rattle.chunked.specs.Place.{Completes, CompletesData, CompletesSize, EndsLine, Feeds, IsDigit, IsWrong}
+use Rattle.chunked.specs.Place.{Completes, CompletesData, CompletesSize, EndsLine, Feeds, IsWrong}
 use Rattle.chunked.proofs.Lines.{line_of}
 
 value_grows : (n : ℕ) (digits : List ℕ) → n ≤ digits_value_after 16 n digits
@@ -31,21 +31,21 @@ OfExtension within b room =
 -- what may stand behind digits of a size: a further one, or what may stand first in an extension
 abbrev OfSize : ℕ → ℕ → ℕ → Type 0
 OfSize number b room =
-    (IsDigit b × (0 < room) × (number * 16 + digit_value b < 2 ^ 62)) ⊎ OfExtension Behind b room
+    ((digit_value b < 16) × (0 < room) × (number * 16 + digit_value b < 2 ^ 62)) ⊎ OfExtension Behind b room
 
 module _ (limits : Limits) where
   first_of_line : (b : ℕ) (rest text behind digits : List ℕ) (size : ℕ) → (h : IsSizeLine limits.line size text)
-      → h.digits ≡ digits → b ∷ rest ≡ text ++ line_end behind → IsDigit b × (0 < limits.line)
+      → h.digits ≡ digits → b ∷ rest ≡ text ++ line_end behind → (digit_value b < 16) × (0 < limits.line)
   first_of_line b rest text behind [] size h is same = absurd (omega (arith, h.numeral.0, ap length is))
   first_of_line b rest text behind (d ∷ digits) size h is same =
       let whole : b ∷ rest ≡ d ∷ ((digits ++ h.extension) ++ line_end behind) =
       same ∙ ap (λ l. l ++ line_end behind) (h.equal ∙ ap (λ l. l ++ h.extension) is) in
       let head : d ≡ b = cc in (
-        subst IsDigit head (subst (λ ds. AllDigits 16 ds) is h.numeral.1).0,
+        subst (λ d. digit_value d < 16) head (subst (λ ds. AllDigits 16 ds) is h.numeral.1).0,
         omega (arith, h.fits, ap length h.equal, length-append h.digits h.extension, ap length is),
       )
 
-  line_first : (b : ℕ) (rest payload : List ℕ) → IsBody limits (b ∷ rest) payload → IsDigit b × (0 < limits.line)
+  line_first : (b : ℕ) (rest payload : List ℕ) → IsBody limits (b ∷ rest) payload → (digit_value b < 16) × (0 < limits.line)
   line_first b rest payload body =
       let line = line_of limits (b ∷ rest) payload body in
       first_of_line b rest line.text line.behind line.size_line.digits line.size line.size_line refl line.equal
@@ -71,7 +71,7 @@ module _ (limits : Limits) where
       let small : number * 16 + digit_value d < 2 ^ 62 =
       omega (arith, value, c.small, value_grows (number * 16 + digit_value d) digits) in
       inl (
-        subst IsDigit head (subst (λ ds. AllDigits 16 ds) is c.all).0,
+        subst (λ d. digit_value d < 16) head (subst (λ ds. AllDigits 16 ds) is c.all).0,
         omega (arith, c.fits, ap length is),
         subst (λ x. number * 16 + digit_value x < 2 ^ 62) head small,
       )
@@ -143,7 +143,7 @@ module _ (limits : Limits) where
   wrong_extension within size room b BadSize wrong (inr goes) = wrong.none goes.0 goes.1
   wrong_extension within size room b why wrong first = absurd wrong
 
-  digit_no_extension : (b room : ℕ) → IsDigit b → OfExtension Behind b room → ⊥
+  digit_no_extension : (b room : ℕ) → digit_value b < 16 → OfExtension Behind b room → ⊥
   digit_no_extension b room digit (inl ends) = (digit_is_text b digit).0 ends.0
   digit_no_extension b room digit (inr goes) = extension_no_digit b goes.0 goes.1 digit
 

@@ -18,16 +18,12 @@ use Rattle.chunked.specs.declared.progress.Progress.{Progress}
 use Rattle.chunked.specs.declared.unchunk.Unchunked.{Unchunked}
 use Rattle.chunked.specs.Place.{IsPlace, IsSettled, IsWrong, Leads}
 
--- the bytes of the body that were taken so far
-abbrev pub taken_of : Progress → List ℕ
-taken_of p = p.taken.log.fills.consumed
-
 -- what any calls do that take these bytes of a body, in which there is this payload
 pub record Takes {S P : Type 0} (remaining : S → Option (List ℕ)) (rules : ReadRules P)
     (s : Buffered S P) (p : Progress) (wire handed : List ℕ) (t : Buffered S P) (q : Progress) : Type 0 where
   pub along : ReadsAlong remaining rules s wire t
   pub leads : Leads p.limits p.place wire handed q.place
-  pub taken : taken_of q ≡ taken_of p ++ wire
+  pub taken : q.taken.log.fills.consumed ≡ p.taken.log.fills.consumed ++ wire
   pub limits : q.limits ≡ p.limits
   pub place : IsPlace q.place
 
@@ -115,18 +111,14 @@ FailsSo rules s (NotChunked why count) t q = NoFault s t × (count ≡ q.count) 
 FailsSo rules s (Truncated count) t q = NoFault s t × (count ≡ q.count) × (q.place ≢ Done) × NothingCame rules s t
 FailsSo rules s (Io e) t q = Faulted rules s e t
 
--- the same answer of a call that hands nothing out
-abbrev pub none_handed : Result (Unit {0}) ChunkedError → Result ℕ ChunkedError
-none_handed (Ok _) = Ok 0
-none_handed (Err e) = Err e
-
--- what taking all of that does; how the buffered reader is called so doesn't depend on the room that there is for payload
+-- what taking all of that does, and handing nothing out; how the buffered reader is called so doesn't depend on the room that there
+-- is for payload
 pub record Skips {S P : Type 0} (remaining : S → Option (List ℕ)) (rules : ReadRules P) (s : Buffered S P) (p : Progress)
-    (answer : Result (Unit {0}) ChunkedError) (t : Buffered S P) (q : Progress) : Type 0 where
+    (answer : Result ℕ ChunkedError) (t : Buffered S P) (q : Progress) : Type 0 where
   pub wire : List ℕ
   pub takes : Takes remaining rules s p wire [] t q
   pub ends : MatchResult answer (λ _. NoFault s t × IsSettled q.place) (λ e. FailsSo rules s e t q)
-  pub calls : (room : ℕ) → Calls rules p.limits s p.place room (none_handed answer) t q.place
+  pub calls : (room : ℕ) → Calls rules p.limits s p.place room answer t q.place
 
 -- no payload can be handed out of these bytes: the body ended, or there is none, or the next is wrong
 abbrev pub NoneLeft : Limits → Place → List ℕ → Type 0
@@ -139,32 +131,18 @@ pub record HandsFront (limits : Limits) (p : Place) (shown out : List ℕ) (r : 
   pub leads : Leads limits p (take r.taken shown) (take r.handed out) r.place
   pub place : IsPlace r.place
 
--- as much payload of what is buffered was handed out as the slice takes, or all. The stream wasn't asked
-pub record HandsOnBuffered {S P : Type 0} (remaining : S → Option (List ℕ)) (rules : ReadRules P) (s : Buffered S P)
-    (p : Progress) (out : List ℕ) (n : ℕ) (t : Buffered S P) (q : Progress) : Type 0 where
-  pub wire : List ℕ
-  pub takes : Takes remaining rules s p wire (take n out) t q
-  pub told : t.log ≡ s.log
-  pub bound : n ≤ length out
-  pub all : (n ≡ length out) ⊎ NoneLeft q.limits q.place t.block.bytes
-
 -- the payload that an answer hands out of a slice: its first bytes, or none
-abbrev pub handed_out : List ℕ → Result ℕ ChunkedError → List ℕ
+abbrev pub handed_out : {E : Type 0} → List ℕ → Result ℕ E → List ℕ
 handed_out out (Ok n) = take n out
 handed_out out (Err e) = []
 
--- what an answer to a slice of so many bytes says: none of them comes only where the body ended
-abbrev pub ReadEnds : {S P : Type 0} → ReadRules P → Buffered S P → ℕ → Result ℕ ChunkedError → Buffered S P → Progress → Type 0
-ReadEnds rules s room (Ok n) t q =
-    (n ≤ room) × NoFault s t × (n ≡ 0 → 0 < room → q.place ≡ Done)
-ReadEnds rules s room (Err e) t q = FailsSo rules s e t q
-
--- what handing payload out into a slice, which is left so, does
+-- what handing payload out into a slice, which is left so, does. None comes into one that isn't empty only where the body ended
 pub record HandsOn {S P : Type 0} (remaining : S → Option (List ℕ)) (rules : ReadRules P) (s : Buffered S P) (p : Progress)
     (out : List ℕ) (answer : Result ℕ ChunkedError) (t : Buffered S P) (q : Progress) : Type 0 where
   pub wire : List ℕ
   pub takes : Takes remaining rules s p wire (handed_out out answer) t q
-  pub ends : ReadEnds rules s (length out) answer t q
+  pub ends : MatchResult answer
+      (λ n. (n ≤ length out) × NoFault s t × (n ≡ 0 → 0 < length out → q.place ≡ Done)) (λ e. FailsSo rules s e t q)
   pub calls : Calls rules p.limits s p.place (length out) answer t q.place
 
 -- an error as one of std's streams

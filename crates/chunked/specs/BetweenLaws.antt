@@ -9,7 +9,7 @@ use Rattle.buffer_redux.specs.Policy.{ReadRules}
 use Rattle.buffer_redux.specs.ReaderLaws.{ReadsAlong-none, ReadsAlong-joins}
 use Rattle.buffer_redux.specs.StreamLog.{after_read}
 use Rattle.chunked.specs.declared.progress.Progress.{Progress}
-use Rattle.chunked.specs.Between.{Takes, taken_of}
+use Rattle.chunked.specs.Between.{Takes}
 use Rattle.chunked.specs.Place.{IsPlace, Leads}
 use Rattle.chunked.specs.PlaceLaws.{Leads-none, Leads-joins}
 
@@ -19,7 +19,7 @@ module _ {S P : Type 0} (remaining : S → Option (List ℕ)) (rules : ReadRules
   Takes-none s p place = record {
     along = ReadsAlong-none remaining rules s;
     leads = Leads-none p.limits p.place;
-    taken = sym (append-nil (taken_of p));
+    taken = sym (append-nil p.taken.log.fills.consumed);
     limits = refl;
     place = place;
   }
@@ -31,7 +31,7 @@ module _ {S P : Type 0} (remaining : S → Option (List ℕ)) (rules : ReadRules
     along = ReadsAlong-joins remaining rules s m t a b x.along y.along;
     leads = Leads-joins p.limits p.place q.place r.place a b h k x.leads
         (subst (λ l. Leads l q.place b k r.place) x.limits y.leads);
-    taken = y.taken ∙ ap (λ l. l ++ b) x.taken ∙ append_assoc (taken_of p) a b;
+    taken = y.taken ∙ ap (λ l. l ++ b) x.taken ∙ append_assoc p.taken.log.fills.consumed a b;
     limits = y.limits ∙ x.limits;
     place = y.place;
   }

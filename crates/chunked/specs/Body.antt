@@ -10,12 +10,9 @@ use Rattle.chunked.specs.Extension.{IsExtension}
 abbrev pub line_end : List ℕ → List ℕ
 line_end behind = 13 ∷ 10 ∷ behind
 
--- a text of a line: it holds neither CR nor LF
+-- a byte of a text of a line: neither CR nor LF
 abbrev pub IsTextByte : ℕ → Type 0
 IsTextByte b = (b ≢ 13) × (b ≢ 10)
-
-abbrev pub IsText : List ℕ → Type 0
-IsText text = AllByRecursion IsTextByte text
 
 -- the line of a size: hexadecimal digits that write it, and then an extension, which may be empty
 pub record IsSizeLine (limit size : ℕ) (text : List ℕ) : Type 0 where
@@ -47,26 +44,19 @@ pub record IsTrailers (limit : ℕ) (bytes : List ℕ) : Type 0 where
   pub lines : AllByRecursion IsField fields
   pub few : length (flat_map (λ field. field) fields) ≤ limit
 
--- a chunk, and what stands behind it: the line of its size, which isn't 0, as many bytes, and the end of a line
-pub record BeginsChunk (limits : Limits) (payload bytes behind : List ℕ) : Type 0 where
+-- these bytes begin with the line of this size, behind which these stand
+pub record BeginsSize (limits : Limits) (size : ℕ) (bytes behind : List ℕ) : Type 0 where
   pub text : List ℕ
-  pub size_line : IsSizeLine limits.line (length payload) text
-  pub some : 0 < length payload
-  pub equal : bytes ≡ text ++ line_end (payload ++ line_end behind)
-
--- the last chunk, which is the line of the size 0, and then the trailers
-pub record EndsBody (limits : Limits) (bytes : List ℕ) : Type 0 where
-  pub text : List ℕ
-  pub size_line : IsSizeLine limits.line 0 text
-  pub behind : List ℕ
-  pub trailers : IsTrailers limits.trailers behind
+  pub size_line : IsSizeLine limits.line size text
   pub equal : bytes ≡ text ++ line_end behind
 
--- chunks of these payloads, one behind the other, and then the end
+-- chunks of these payloads, one behind the other: each is the line of its size, which isn't 0, as many bytes, and the end of a line.
+-- And then the end: the last chunk, which is the line of the size 0, and the trailers
 abbrev pub HasChunks : Limits → List (List ℕ) → List ℕ → Type 0
-HasChunks limits [] bytes = EndsBody limits bytes
+HasChunks limits [] bytes = (behind : List ℕ) × BeginsSize limits 0 bytes behind × IsTrailers limits.trailers behind
 HasChunks limits (payload ∷ later) bytes =
-    (behind : List ℕ) × BeginsChunk limits payload bytes behind × HasChunks limits later behind
+    (behind : List ℕ) × BeginsSize limits (length payload) bytes (payload ++ line_end behind) × (0 < length payload)
+    × HasChunks limits later behind
 
 -- these bytes are a body with this payload, which is that of its chunks
 pub record IsBody (limits : Limits) (bytes payload : List ℕ) : Type 0 where

@@ -7,7 +7,7 @@ use Rattle.std.specs.List.{AllByRecursion}
 use Rattle.std.specs.Str.Parse.{AllDigits, digits_value}
 use Rattle.chunked.specs.declared.limits.Limits.{Limits}
 use Rattle.chunked.specs.Extension.{IsExtension}
-use Rattle.chunked.specs.Body.{line_end, IsTextByte, IsText, IsSizeLine, IsField, fields_bytes, IsTrailers, HasChunks, IsBody}
+use Rattle.chunked.specs.Body.{line_end, IsTextByte, IsSizeLine, IsField, fields_bytes, IsTrailers, HasChunks, IsBody}
 use Rattle.chunked.specs.FieldLaws.{IsField-none, IsField-text}
 use Rattle.chunked.specs.WithinLaws.{Extends-text, IsExtension-first}
 use Rattle.chunked.specs.declared.extension.Within.TheVariants.{Behind}
@@ -26,16 +26,16 @@ extension_no_digit b text h small = elim (IsExtension-first b text h) [
 ]
 
 -- the whole line is a text
-pub digits_text : (digits text : List ℕ) → AllDigits 16 digits → IsText text → IsText (digits ++ text)
+pub digits_text : (digits text : List ℕ) → AllDigits 16 digits → AllByRecursion IsTextByte text → AllByRecursion IsTextByte (digits ++ text)
 digits_text [] text all h = h
 digits_text (d ∷ digits) text all h = (digit_is_text d all.0, digits_text digits text all.1 h)
 
-pub IsSizeLine-text : (limit size : ℕ) (text : List ℕ) → IsSizeLine limit size text → IsText text
+pub IsSizeLine-text : (limit size : ℕ) (text : List ℕ) → IsSizeLine limit size text → AllByRecursion IsTextByte text
 IsSizeLine-text limit size text h =
-    subst IsText (sym h.equal) (digits_text h.digits h.extension h.numeral.1 (Extends-text Behind h.extension h.follows))
+    subst (AllByRecursion IsTextByte) (sym h.equal) (digits_text h.digits h.extension h.numeral.1 (Extends-text Behind h.extension h.follows))
 
 -- two texts that end at a CR are one
-pub text_same : (a b xs ys : List ℕ) → IsText a → IsText b → a ++ 13 ∷ xs ≡ b ++ 13 ∷ ys → (a ≡ b) × (xs ≡ ys)
+pub text_same : (a b xs ys : List ℕ) → AllByRecursion IsTextByte a → AllByRecursion IsTextByte b → a ++ 13 ∷ xs ≡ b ++ 13 ∷ ys → (a ≡ b) × (xs ≡ ys)
 text_same [] [] xs ys p q same = (refl, cc)
 text_same [] (b ∷ bs) xs ys p q same = absurd (q.0.0 cc)
 text_same (a ∷ as') [] xs ys p q same = absurd (p.0.0 cc)
@@ -45,7 +45,7 @@ text_same (a ∷ as') (b ∷ bs) xs ys p q same =
     let found = text_same as' bs xs ys p.1 q.1 rest in
     (ap (λ l. a ∷ l) found.0 ∙ ap (λ x. x ∷ bs) head, found.1)
 
-pub line_same : (a b xs ys : List ℕ) → IsText a → IsText b → a ++ line_end xs ≡ b ++ line_end ys → (a ≡ b) × (xs ≡ ys)
+pub line_same : (a b xs ys : List ℕ) → AllByRecursion IsTextByte a → AllByRecursion IsTextByte b → a ++ line_end xs ≡ b ++ line_end ys → (a ≡ b) × (xs ≡ ys)
 line_same a b xs ys p q same =
     let found = text_same a b (10 ∷ xs) (10 ∷ ys) p q same in
     (found.0, (let tails = found.1 in cc))
@@ -110,23 +110,22 @@ sized_same limit limit' m n a b xs ys u v more more' p q is is' same =
 -- no body begins another
 chunks_same : (l m : Limits) (ps qs : List (List ℕ)) (a b xs ys : List ℕ) → HasChunks l ps a → HasChunks m qs b
     → a ++ xs ≡ b ++ ys → (a ≡ b) × (ps ≡ qs) × (xs ≡ ys)
-chunks_same l m [] [] a b xs ys p q same =
-    let first = sized_same l.line m.line 0 0 p.text q.text p.behind q.behind a b xs ys p.size_line q.size_line
-    p.equal q.equal same in
-    let others = trailers_same l.trailers m.trailers p.behind q.behind xs ys p.trailers q.trailers first.2 in (
-      p.equal ∙ ap (λ t. t ++ line_end p.behind) first.0 ∙ ap (λ t. q.text ++ line_end t) others.0 ∙ sym q.equal,
+chunks_same l m [] [] a b xs ys (u, p, s) (v, q, t) same =
+    let first = sized_same l.line m.line 0 0 p.text q.text u v a b xs ys p.size_line q.size_line p.equal q.equal same in
+    let others = trailers_same l.trailers m.trailers u v xs ys s t first.2 in (
+      p.equal ∙ ap (λ t. t ++ line_end u) first.0 ∙ ap (λ t. q.text ++ line_end t) others.0 ∙ sym q.equal,
       refl,
       others.1,
     )
-chunks_same l m [] (q ∷ qs) a b xs ys p (behind, c, k) same =
-    let first = sized_same l.line m.line 0 (length q) p.text c.text p.behind (q ++ line_end behind) a b xs ys
-    p.size_line c.size_line p.equal c.equal same in
-    absurd (omega (arith, first.1, c.some))
-chunks_same l m (p ∷ ps) [] a b xs ys (behind, c, h) q same =
-    let first = sized_same l.line m.line (length p) 0 c.text q.text (p ++ line_end behind) q.behind a b xs ys
-    c.size_line q.size_line c.equal q.equal same in
-    absurd (omega (arith, first.1, c.some))
-chunks_same l m (p ∷ ps) (q ∷ qs) a b xs ys (u, c, h) (v, d, k) same =
+chunks_same l m [] (q ∷ qs) a b xs ys (u, p, s) (v, c, some, k) same =
+    let first = sized_same l.line m.line 0 (length q) p.text c.text u (q ++ line_end v) a b xs ys p.size_line c.size_line
+    p.equal c.equal same in
+    absurd (omega (arith, first.1, some))
+chunks_same l m (p ∷ ps) [] a b xs ys (u, c, some, h) (v, q, t) same =
+    let first = sized_same l.line m.line (length p) 0 c.text q.text (p ++ line_end u) v a b xs ys c.size_line q.size_line
+    c.equal q.equal same in
+    absurd (omega (arith, first.1, some))
+chunks_same l m (p ∷ ps) (q ∷ qs) a b xs ys (u, c, some, h) (v, d, some', k) same =
     let first = sized_same l.line m.line (length p) (length q) c.text d.text (p ++ line_end u) (q ++ line_end v) a b xs ys
     c.size_line d.size_line c.equal d.equal same in
     let payload = front_same p q (line_end (u ++ xs)) (line_end (v ++ ys)) first.1

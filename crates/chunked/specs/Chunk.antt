@@ -13,10 +13,6 @@ size_digits size = map digit_char (digits_of 16 size)
 abbrev pub chunk : List ℕ → List ℕ
 chunk payload = size_digits (length payload) ++ line_end (payload ++ line_end [])
 
--- the chunks of these payloads, one behind the other
-abbrev pub chunks : List (List ℕ) → List ℕ
-chunks payloads = flat_map chunk payloads
-
 -- the end of a body: the last chunk, the lines of its trailers, and an empty line
 abbrev pub body_end : List (List ℕ) → List ℕ
 body_end fields = 48 ∷ line_end (fields_bytes fields)
@@ -29,5 +25,5 @@ IsCarried payload = (0 < length payload) × (length payload < 2 ^ 62)
 pub record IsChunks (bytes payload : List ℕ) : Type 0 where
   pub payloads : List (List ℕ)
   pub carried : All IsCarried payloads
-  pub equal : bytes ≡ chunks payloads
+  pub equal : bytes ≡ flat_map chunk payloads
   pub joined : payload ≡ flat_map (λ p. p) payloads

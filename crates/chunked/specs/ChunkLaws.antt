@@ -12,7 +12,7 @@ use Rattle.std.specs.List.{All, AllByRecursion}
 use Rattle.std.specs.Str.Parse.{AllDigits}
 use Rattle.chunked.specs.declared.limits.Limits.{Limits}
 use Rattle.chunked.specs.Body.{line_end, IsField, IsSizeLine, HasChunks, IsBody, fields_bytes}
-use Rattle.chunked.specs.Chunk.{IsCarried, IsChunks, body_end, chunk, chunks, size_digits}
+use Rattle.chunked.specs.Chunk.{IsCarried, IsChunks, body_end, chunk, size_digits}
 
 -- a digit that is written is read as what it was
 digit_back : (d : ℕ) → d < 16 → digit_value (digit_char d) ≡ d
@@ -69,37 +69,35 @@ pub IsChunks-none : IsChunks [] []
 IsChunks-none = record { payloads = []; carried = All-nil IsCarried; equal = refl; joined = refl }
 
 pub IsChunks-joins : (bytes payload : List ℕ) (more : List (List ℕ)) → IsChunks bytes payload → All IsCarried more
-    → IsChunks (bytes ++ chunks more) (payload ++ flat_map (λ p. p) more)
+    → IsChunks (bytes ++ flat_map chunk more) (payload ++ flat_map (λ p. p) more)
 IsChunks-joins bytes payload more h carried = record {
   payloads = h.payloads ++ more;
   carried = All-append IsCarried h.payloads more h.carried carried;
-  equal = ap (λ l. l ++ chunks more) h.equal ∙ sym (flat_map-append chunk h.payloads more);
+  equal = ap (λ l. l ++ flat_map chunk more) h.equal ∙ sym (flat_map-append chunk h.payloads more);
   joined = ap (λ l. l ++ flat_map (λ p. p) more) h.joined ∙ sym (flat_map-append (λ p. p) h.payloads more);
 }
 
 module _ (limits : Limits) (line : 16 ≤ limits.line) (fields : List (List ℕ)) (lines : AllByRecursion IsField fields)
     (few : length (flat_map (λ f. f) fields) ≤ limits.trailers) where
   has_chunks : (payloads : List (List ℕ)) → All IsCarried payloads
-      → HasChunks limits payloads (chunks payloads ++ body_end fields)
-  has_chunks [] carried = record {
-    text = 48 ∷ [];
-    size_line = zero_line limits.line (omega (arith, line));
-    behind = fields_bytes fields;
-    trailers = record { fields = fields; equal = refl; lines = lines; few = few };
-    equal = refl;
-  }
+      → HasChunks limits payloads (flat_map chunk payloads ++ body_end fields)
+  has_chunks [] carried = (
+    fields_bytes fields,
+    record { text = 48 ∷ []; size_line = zero_line limits.line (omega (arith, line)); equal = refl },
+    record { fields = fields; equal = refl; lines = lines; few = few },
+  )
   has_chunks (p ∷ payloads) carried =
       let is = All-head IsCarried p payloads carried in
-      let later = chunks payloads ++ body_end fields in (
+      let later = flat_map chunk payloads ++ body_end fields in (
         later,
         record {
           text = size_digits (length p);
           size_line = size_digits-line limits.line (length p) is.0 is.1 line;
-          some = is.0;
-          equal = append_assoc (chunk p) (chunks payloads) (body_end fields)
+          equal = append_assoc (chunk p) (flat_map chunk payloads) (body_end fields)
               ∙ append_assoc (size_digits (length p)) (line_end (p ++ line_end [])) later
               ∙ ap (λ l. size_digits (length p) ++ line_end l) (append_assoc p (line_end []) later);
         },
+        is.0,
         has_chunks payloads (All-tail IsCarried p payloads carried),
       )
 

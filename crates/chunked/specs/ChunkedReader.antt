@@ -1,5 +1,5 @@
 -- What contracts see of a reader of a body, and what its calls promise.
-use Rattle.std.specs.Prelude.{◌≡◌, ℕ, zero, suc, ◌-◌, ◌^◌, ◌<◌, ◌≤◌, ◌⊎◌, List, [], ◌∷◌, ◌++◌, length, min, take, ◌==◌, Bool, Option, Result, Ok, Err, IfOk}
+use Rattle.std.specs.Prelude.{◌≡◌, ℕ, zero, suc, ◌-◌, ◌^◌, ◌<◌, ◌≤◌, ◌⊎◌, List, [], ◌∷◌, ◌++◌, length, min, ◌==◌, Bool, Option, Result, Ok, Err, IfOk, MatchResult}
 use Rattle.std.specs.IoError.{error_kind}
 use Rattle.std.specs.declared.io.Error.{Error}
 use Rattle.std.specs.declared.io.ErrorKind.TheVariants.{Other}
@@ -13,7 +13,7 @@ use Rattle.chunked.specs.declared.error.Malformed.{Malformed}
 use Rattle.chunked.specs.declared.limits.Limits.{Limits}
 use Rattle.chunked.specs.declared.place.Place.{Place}
 use Rattle.chunked.specs.declared.place.Place.TheVariants.{Line}
-use Rattle.chunked.specs.Between.{BecomesIo, Calls, Faulted, NoFault, NothingCame, handed_out, none_handed}
+use Rattle.chunked.specs.Between.{BecomesIo, Calls, Faulted, NoFault, NothingCame, handed_out}
 use Rattle.chunked.specs.Body.{IsBody}
 use Rattle.chunked.specs.Place.{IsPlace, IsWrong, Leads}
 
@@ -86,13 +86,8 @@ PayloadAnswers rules s room (Err (Truncated right)) t =
     (right ≡ taken_count t) × NoFault s.reader t.reader × EndsEarly rules s t
 PayloadAnswers rules s room (Err (Io e)) t = Faulted rules s.reader e t.reader
 
--- an Ok read is noted
-abbrev pub after_payload : StreamLog → List ℕ → Result ℕ ChunkedError → StreamLog
-after_payload calls out (Ok n) = after_read calls out (Ok n)
-after_payload calls out (Err e) = calls
-
 -- what one call of `read_payload` does, which left the slice as out. Once the body ended, or where the slice is empty, the
--- buffered reader isn't called
+-- buffered reader isn't called. An Ok read is noted, and no other
 pub record ReadsPayload {S P : Type 0} (remaining : S → Option (List ℕ)) (rules : ReadRules P) (s : ChunkedState S P)
     (out : List ℕ) (answer : Result ℕ ChunkedError) (t : ChunkedState S P) : Type 0 where
   pub went : BodyWent remaining rules s (handed_out out answer) t
@@ -100,7 +95,7 @@ pub record ReadsPayload {S P : Type 0} (remaining : S → Option (List ℕ)) (ru
   pub calls : Calls rules s.limits s.reader s.place (length out) answer t.reader t.place
   pub ended : IsWhole s → t.reader ≡ s.reader
   pub idle : length out ≡ 0 → (answer ≡ Ok 0) × (t.reader ≡ s.reader)
-  pub noted : t.calls ≡ after_payload s.calls out answer
+  pub noted : MatchResult answer (λ n. t.calls ≡ after_read s.calls out (Ok n)) (λ _. t.calls ≡ s.calls)
   pub whole : IsChunkedReader t
 
 -- this many reads of payload, one after another, each of which handed some out
@@ -110,33 +105,20 @@ ReadsOn {S} {P} remaining rules (suc count) s t =
     (m : ChunkedState S P) × (out : List ℕ) × (n : ℕ) × ReadsOn remaining rules count s m
     × ReadsPayload remaining rules m out (Ok (suc n)) t
 
--- how the rest of a body is read: so, and then by one read with this answer, unless none was to be made. So nobody is asked
--- behind the end of the body, as no such read does
-pub record DrainReads {S P : Type 0} (remaining : S → Option (List ℕ)) (rules : ReadRules P) (s : ChunkedState S P)
+-- the rest of the body was taken, and its payload dropped, or why not: as one read answers that hands out nothing, or by `Other`
+-- where more pieces were dropped than are counted. Once the body ended the buffered reader isn't called. The rest is read so, and
+-- then by one read with this answer, unless none was to be made: so nobody is asked behind the end of the body, as no such read does
+pub record Drains {S P : Type 0} (remaining : S → Option (List ℕ)) (rules : ReadRules P) (s : ChunkedState S P)
     (answer : Result ℕ ChunkedError) (t : ChunkedState S P) : Type 0 where
+  pub payload : List ℕ
+  pub went : BodyWent remaining rules s payload t
+  pub answers : PayloadAnswers rules s 1 answer t
+      ⊎ ((e : Error) × (answer ≡ Err (Io e)) × (error_kind e ≡ Other) × (2 ^ 64 - 1 ≤ length payload))
+  pub ended : IsWhole s → t.reader ≡ s.reader
   pub count : ℕ
   pub last : ChunkedState S P
   pub before : ReadsOn remaining rules count s last
   pub end : (last ≡ t) ⊎ ((out : List ℕ) × (0 < length out) × ReadsPayload remaining rules last out answer t)
-
--- the rest of the body was taken, and its payload dropped, or why not: as one read answers that hands out nothing, or by `Other`
--- where more pieces were dropped than are counted. Once the body ended the buffered reader isn't called
-pub record Drains {S P : Type 0} (remaining : S → Option (List ℕ)) (rules : ReadRules P) (s : ChunkedState S P)
-    (answer : Result (Unit {0}) ChunkedError) (t : ChunkedState S P) : Type 0 where
-  pub payload : List ℕ
-  pub went : BodyWent remaining rules s payload t
-  pub answers : PayloadAnswers rules s 1 (none_handed answer) t
-      ⊎ ((e : Error) × (answer ≡ Err (Io e)) × (error_kind e ≡ Other) × (2 ^ 64 - 1 ≤ length payload))
-  pub ended : IsWhole s → t.reader ≡ s.reader
-  pub reads : DrainReads remaining rules s (none_handed answer) t
-
--- the same where that ended well, of the buffered reader alone, which has what follows the body
-pub record LeavesBody {S P : Type 0} (remaining : S → Option (List ℕ)) (rules : ReadRules P) (s : ChunkedState S P)
-    (rest : Buffered S P) : Type 0 where
-  pub body : ChunkedState S P
-  pub drains : Drains remaining rules s (Ok tt) body
-  pub is_whole : IsWhole body
-  pub is_rest : rest ≡ body.reader
 
 -- it was asked whether nothing follows what was taken: the buffer was filled, and nothing else is done
 pub record LooksBehind {S P : Type 0} (remaining : S → Option (List ℕ)) (rules : ReadRules P) (s : ChunkedState S P)
@@ -145,22 +127,6 @@ pub record LooksBehind {S P : Type 0} (remaining : S → Option (List ℕ)) (rul
   pub along : ReadsAlong remaining rules s.reader [] t.reader
   pub none : IfOk answer (λ none. none ≡ (length t.reader.block.bytes == 0))
   pub still : t ≡ record s { reader = t.reader }
-
--- bytes that were handed out are noted as an Ok read, and none as no call
-abbrev pub after_buffered : StreamLog → List ℕ → ℕ → StreamLog
-after_buffered calls out zero = calls
-after_buffered calls out (suc n) = after_read calls out (Ok (suc n))
-
--- what one call of `read_buffered` does, which left the slice as out: it hands out as many bytes as the slice takes, or all that
--- are buffered: the body ended, or nothing is buffered, or the next byte is wrong. The stream isn't asked
-pub record HandsBuffered {S P : Type 0} (remaining : S → Option (List ℕ)) (rules : ReadRules P) (s : ChunkedState S P)
-    (out : List ℕ) (n : ℕ) (t : ChunkedState S P) : Type 0 where
-  pub went : BodyWent remaining rules s (take n out) t
-  pub told : t.reader.log ≡ s.reader.log
-  pub bound : n ≤ length out
-  pub all : (n ≡ length out) ⊎ (IsWhole t ⊎ ((t.reader.block.bytes ≡ []) ⊎ ((why : Malformed) × Breaks why t)))
-  pub noted : t.calls ≡ after_buffered s.calls out n
-  pub whole : IsChunkedReader t
 
 -- what a read as one of std's does: it hands payload out, and an error is the stream's own, or its kind tells which it was
 abbrev pub ReadsAsIo : {S P : Type 0} → (S → Option (List ℕ)) → ReadRules P → ChunkedState S P → List ℕ → Result ℕ Error

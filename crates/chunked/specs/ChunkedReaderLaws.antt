@@ -26,8 +26,8 @@ no_fields [] same = cc
 no_fields (field ∷ fields) same = no_line field (fields_bytes fields) same
 
 no_chunks : (limits : Limits) (payloads : List (List ℕ)) → HasChunks limits payloads [] → ⊥
-no_chunks limits [] ends = no_line ends.text ends.behind ends.equal
-no_chunks limits (p ∷ payloads) (behind, chunk, more) = no_line chunk.text (p ++ line_end behind) chunk.equal
+no_chunks limits [] (behind, ends, trailers) = no_line ends.text behind ends.equal
+no_chunks limits (p ∷ payloads) (behind, chunk, some, more) = no_line chunk.text (p ++ line_end behind) chunk.equal
 
 -- nothing completes a body only behind it
 pub Completes-nothing : (limits : Limits) (p : Place) (payload : List ℕ) → Completes limits p [] payload → p ≡ Done

@@ -7,10 +7,11 @@ use Rattle.buffer_redux.specs.Buffered.{Buffered}
 use Rattle.buffer_redux.specs.BufWriter.{WasSent, WritesInOrder}
 use Rattle.buffer_redux.specs.LogGrows.{WriteLogGrows}
 use Rattle.buffer_redux.specs.StreamLog.{StreamLog, after_write, no_calls}
+use Rattle.buffer_redux.specs.WriteParts.{PutsIn, SendsFirst, room}
 use Rattle.buffer_redux.specs.declared.policy.StdPolicy.{StdPolicy}
 use Rattle.chunked.specs.declared.limits.Limits.{Limits}
 use Rattle.chunked.specs.Body.{IsBody, IsField}
-use Rattle.chunked.specs.Chunk.{IsCarried, IsChunks, body_end, chunk, chunks}
+use Rattle.chunked.specs.Chunk.{IsCarried, IsChunks, body_end, chunk}
 
 -- the buffered writer; the bytes of the body that it took in so far; and the writer's own calls, as a stream tells them
 pub record ChunkedWriterState (S : Type 0) : Type 0 where
@@ -37,41 +38,18 @@ pub record IsChunkedWriter {S : Type 0} (c : ChunkedWriterState S) : Type 0 wher
 abbrev pub unbegun : {S : Type 0} → Buffered S StdPolicy → ChunkedWriterState S
 unbegun writer = record { writer = writer; wire = []; calls = no_calls }
 
--- how many more bytes fit behind those that are buffered
-abbrev pub room : {S : Type 0} → Buffered S StdPolicy → ℕ
-room w = w.block.capacity - length w.block.bytes
-
 -- what any calls do, one after another, that took in these payloads, each in a chunk of its own: the buffered writer took in
 -- these chunks, whole and in order, and no memory is taken
 pub record ChunksWent {S : Type 0} (trace : S → S → Type 0) (s : ChunkedWriterState S) (payloads : List (List ℕ))
     (t : ChunkedWriterState S)
     : Type 0 where
   pub carried : All IsCarried payloads
-  pub in_order : WritesInOrder s.writer (chunks payloads) t.writer
-  pub wire : t.wire ≡ s.wire ++ chunks payloads
+  pub in_order : WritesInOrder s.writer (flat_map chunk payloads) t.writer
+  pub wire : t.wire ≡ s.wire ++ flat_map chunk payloads
   pub accepted : accepted_of t ≡ accepted_of s ++ flat_map (λ p. p) payloads
   pub calls : trace s.writer.inner t.writer.inner
   pub capacity : t.writer.block.capacity ≡ s.writer.block.capacity
   pub limit : t.writer.block.limit ≡ s.writer.block.limit
-
--- these bytes were copied behind those that are buffered, and the inner writer wasn't called
-pub record PutsIn {S : Type 0} (trace : S → S → Type 0) (s : Buffered S StdPolicy) (bytes : List ℕ)
-    (t : Buffered S StdPolicy) : Type 0 where
-  pub added : t.block.bytes ≡ s.block.bytes ++ bytes
-  pub told : t.log ≡ s.log
-  pub calls : trace s.inner t.inner
-  pub noted : t.own_calls ≡ s.own_calls
-  pub capacity : t.block.capacity ≡ s.block.capacity
-  pub limit : t.block.limit ≡ s.block.limit
-  pub kind : t.block.kind ≡ s.block.kind
-  pub whole : IsBlock t.block
-
--- all that was buffered was sent first, without a flush of the inner writer, and then these bytes were copied in
-pub record PutsFirst {S : Type 0} (tells : S → StreamLog) (trace : S → S → Type 0) (s : Buffered S StdPolicy)
-    (bytes : List ℕ) (t : Buffered S StdPolicy) : Type 0 where
-  pub sent : Buffered S StdPolicy
-  pub sends : WasSent tells trace s (Ok tt) sent
-  pub puts : PutsIn trace sent bytes t
 
 -- the payloads of the chunks that an answer took in: of one, or of none
 abbrev pub taken_payloads : List ℕ → Result ℕ Error → List (List ℕ)
@@ -79,25 +57,18 @@ taken_payloads payload (Ok zero) = []
 taken_payloads payload (Ok (suc n)) = take (suc n) payload ∷ []
 taken_payloads payload (Err e) = []
 
--- where the payload doesn't fit behind what is buffered, all that was buffered is sent first, and then the chunk has as much
--- of it as fits; where sending fails, no byte is taken in
-abbrev pub SendsFirst : {S : Type 0} → (S → StreamLog) → (S → S → Type 0) → ChunkedWriterState S → List ℕ → Result ℕ Error
-    → ChunkedWriterState S
-    → Type 0
-SendsFirst tells trace s payload (Ok n) t =
-    (n ≡ min (length payload) (s.writer.block.capacity - around))
-    × PutsFirst tells trace s.writer (chunk (take n payload)) t.writer
-SendsFirst tells trace s payload (Err e) t = WasSent tells trace s.writer (Err e) t.writer
-
 -- what one write does. No answer leaves a part of a chunk, and an empty payload makes none. Where the payload fits behind what is
--- buffered its chunk stands there, and the inner writer isn't called. An Ok write is noted, and no other
+-- buffered its chunk stands there, and the inner writer isn't called. Where it doesn't, all that was buffered is sent first, and the
+-- chunk has as much of it as fits then; where sending fails, no byte is taken in. An Ok write is noted, and no other
 pub record WritesChunk {S : Type 0} (tells : S → StreamLog) (trace : S → S → Type 0) (s : ChunkedWriterState S) (payload : List ℕ)
     (answer : Result ℕ Error) (t : ChunkedWriterState S) : Type 0 where
   pub went : ChunksWent trace s (taken_payloads payload answer) t
   pub nothing : length payload ≡ 0 → (answer ≡ Ok 0) × (t.writer ≡ s.writer)
   pub fits : 0 < length payload → around + length payload ≤ room s.writer
-      → (answer ≡ Ok (length payload)) × PutsIn trace s.writer (chunk payload) t.writer
-  pub full : 0 < length payload → room s.writer < around + length payload → SendsFirst tells trace s payload answer t
+      → (answer ≡ Ok (length payload)) × PutsIn s.writer (chunk payload) t.writer
+  pub full : 0 < length payload → room s.writer < around + length payload → MatchResult answer
+      (λ n. (n ≡ min (length payload) (s.writer.block.capacity - around))
+      × SendsFirst tells trace s.writer (chunk (take n payload)) t.writer) (λ e. WasSent tells trace s.writer (Err e) t.writer)
   pub noted : MatchResult answer (λ n. t.calls ≡ after_write s.calls payload (Ok n)) (λ _. t.calls ≡ s.calls)
   pub whole : IsChunkedWriter t
 
@@ -113,12 +84,15 @@ pub record Finishes {S : Type 0} (tells : S → StreamLog) (trace : S → S → 
   pub lines : AllByRecursion IsField fields
   pub in_order : WritesInOrder s.writer (body_end fields) t
   pub body : (limits : Limits) → LetsThrough fields limits → IsBody limits (s.wire ++ body_end fields) (accepted_of s)
-  pub fits : length (body_end fields) ≤ room s.writer → PutsIn trace s.writer (body_end fields) t
-  pub full : room s.writer < length (body_end fields) → PutsFirst tells trace s.writer (body_end fields) t
+  pub fits : length (body_end fields) ≤ room s.writer → PutsIn s.writer (body_end fields) t
+  pub full : room s.writer < length (body_end fields) → SendsFirst tells trace s.writer (body_end fields) t
 
--- what was buffered had to be sent first, and that failed: no byte was taken in, so the call can be made again
+-- the end of a body with these trailers would go into the buffer, but what was buffered had to be sent first, and that failed: no
+-- byte was taken in, so the call can be made again
 pub record NotFinished {S : Type 0} (tells : S → StreamLog) (trace : S → S → Type 0) (s : ChunkedWriterState S)
     (fields : List (List ℕ)) (e : Error) (t : ChunkedWriterState S) : Type 0 where
+  pub lines : AllByRecursion IsField fields
+  pub fits : length (body_end fields) ≤ s.writer.block.capacity
   pub full : room s.writer < length (body_end fields)
   pub sends : WasSent tells trace s.writer (Err e) t.writer
   pub wire : t.wire ≡ s.wire

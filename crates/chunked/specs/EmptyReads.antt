@@ -10,7 +10,7 @@ use Rattle.buffer_redux.specs.Policy.{ReadRules}
 use Rattle.buffer_redux.specs.StreamLog.{ReadLog, with_zero, zero_of_some}
 use Rattle.chunked.specs.Between.{FillsAndTakes, TakesTurns}
 use Rattle.chunked.specs.BetweenLaws.{Reads-ways}
-use Rattle.chunked.specs.ChunkedReader.{ChunkedState, DrainReads, ReadsOn, ReadsPayload}
+use Rattle.chunked.specs.ChunkedReader.{ChunkedState, Drains, ReadsOn, ReadsPayload}
 use Rattle.chunked.specs.declared.error.ChunkedError.{ChunkedError}
 use Rattle.chunked.specs.declared.error.ChunkedError.TheVariants.{NotChunked, Truncated, Io}
 use Rattle.chunked.specs.declared.limits.Limits.{Limits}
@@ -152,9 +152,9 @@ module _ {S P : Type 0} (rules : ReadRules P) (orders : ReadsWhenEmpty rules) wh
     ReadsOn-ends (suc count) t (m, out, n, before, reads) =
         ReadsPayload-ends remaining m t out (Ok (suc n)) reads ∙ ReadsOn-ends count m before
 
-    pub DrainReads-ends : (answer : Result ℕ ChunkedError) (t : ChunkedState S P) → DrainReads remaining rules s answer t
+    pub Drains-ends : (answer : Result ℕ ChunkedError) (t : ChunkedState S P) → Drains remaining rules s answer t
         → EndsOnce s.reader.log.reads answer t.reader.log.reads
-    DrainReads-ends answer t drains =
+    Drains-ends answer t drains =
         let last = drains.last in
         let never = ReadsOn-ends drains.count last drains.before in
         elim drains.end [

@@ -4,7 +4,7 @@ use Rattle.std.proofs.Common.{sym, ap, subst, ◌∙◌, arith, refl, inl, inr}
 use Rattle.std.proofs.lemmas.Bool.Decides.{nat_tests}
 use Rattle.std.specs.List.{AllByRecursion}
 use Rattle.chunked.specs.Token.{IsTokenByte, IsValueByte}
-use Rattle.chunked.specs.Body.{IsTextByte, IsText, IsField}
+use Rattle.chunked.specs.Body.{IsTextByte, IsField}
 
 -- a byte of a token is a visible one, and none of the signs of which lines are made
 pub token_plain : (b : ℕ) → IsTokenByte b
@@ -25,19 +25,19 @@ pub value_is_text : (b : ℕ) → IsValueByte b → IsTextByte b
 value_is_text b h = (λ is. grind (arith, nat_tests), λ is. grind (arith, nat_tests))
 
 -- bytes of such a kind are a text
-pub all_text : (P : ℕ → Type 0) → ((b : ℕ) → P b → IsTextByte b) → (xs : List ℕ) → AllByRecursion P xs → IsText xs
+pub all_text : (P : ℕ → Type 0) → ((b : ℕ) → P b → IsTextByte b) → (xs : List ℕ) → AllByRecursion P xs → AllByRecursion IsTextByte xs
 all_text P is [] all = tt
 all_text P is (x ∷ xs) all = (is x all.0, all_text P is xs all.1)
 
-pub text_both : (xs more : List ℕ) → IsText xs → IsText more → IsText (xs ++ more)
+pub text_both : (xs more : List ℕ) → AllByRecursion IsTextByte xs → AllByRecursion IsTextByte more → AllByRecursion IsTextByte (xs ++ more)
 text_both [] more h k = k
 text_both (x ∷ xs) more h k = (h.0, text_both xs more h.1 k)
 
-pub IsField-text : (text : List ℕ) → IsField text → IsText text
+pub IsField-text : (text : List ℕ) → IsField text → AllByRecursion IsTextByte text
 IsField-text text f =
-    let colon : IsText (58 ∷ f.value) =
+    let colon : AllByRecursion IsTextByte (58 ∷ f.value) =
     ((λ is. omega (arith, is), λ is. omega (arith, is)), all_text IsValueByte value_is_text f.value f.all) in
-    subst IsText (sym f.equal)
+    subst (AllByRecursion IsTextByte) (sym f.equal)
     (text_both f.name (58 ∷ f.value) (all_text IsTokenByte token_is_text f.name f.token.0) colon)
 
 -- one has a byte of a name, and a colon behind that

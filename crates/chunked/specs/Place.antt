@@ -84,23 +84,15 @@ pub record Leads (limits : Limits) (p : Place) (wire handed : List ℕ) (q : Pla
   pub back : (rest whole : List ℕ) → Completes limits p (wire ++ rest) whole
       → (payload : List ℕ) × (whole ≡ handed ++ payload) × Completes limits q rest payload
 
--- a hexadecimal digit
-abbrev pub IsDigit : ℕ → Type 0
-IsDigit b = digit_value b < 16
-
--- what this number and then a digit write
-abbrev pub sized : ℕ → ℕ → ℕ
-sized number b = number * 16 + digit_value b
-
 -- what is wrong with the next byte in a place. There is nothing else that can be, and no byte is wrong in two ways
 abbrev pub IsWrong : Limits → Place → ℕ → Malformed → Type 0
-IsWrong limits Line b NoSize = ¬ IsDigit b
-IsWrong limits Line b LineTooLong = IsDigit b × (limits.line ≡ 0)
-IsWrong limits (Size number room) b SizeTooLarge = IsDigit b × (2 ^ 62 ≤ sized number b)
+IsWrong limits Line b NoSize = ¬ (digit_value b < 16)
+IsWrong limits Line b LineTooLong = (digit_value b < 16) × (limits.line ≡ 0)
+IsWrong limits (Size number room) b SizeTooLarge = (digit_value b < 16) × (2 ^ 62 ≤ number * 16 + digit_value b)
 IsWrong limits (Size number room) b LineTooLong =
-    ((IsDigit b × (sized number b < 2 ^ 62)) × (room ≡ 0)) ⊎ RunsOver Behind room b
+    (((digit_value b < 16) × (number * 16 + digit_value b < 2 ^ 62)) × (room ≡ 0)) ⊎ RunsOver Behind room b
 IsWrong limits (Size number room) b BareFeed = b ≡ 10
-IsWrong limits (Size number room) b BadSize = ¬ IsDigit b × EndsNoExtension Behind b
+IsWrong limits (Size number room) b BadSize = ¬ (digit_value b < 16) × EndsNoExtension Behind b
 IsWrong limits (Extension within size room) b LineTooLong = RunsOver within room b
 IsWrong limits (Extension within size room) b BareFeed = b ≡ 10
 IsWrong limits (Extension within size room) b BadSize = EndsNoExtension within b

@@ -1,41 +1,20 @@
 -- What a writer of a body is given as trailers, and what it does with them.
-use Rattle.std.specs.Prelude.{◌≡◌, ℕ, ◌<◌, ◌≤◌, List, [], length, map, take, get_or}
+use Rattle.std.specs.Prelude.{◌≡◌, ℕ, ◌<◌, List, [], length, map, take, get_or}
 use Rattle.std.specs.Borrow.{Bor}
-use Rattle.std.specs.IoError.{error_kind}
 use Rattle.std.specs.List.{AllByRecursion}
-use Rattle.std.specs.declared.io.Error.{Error}
-use Rattle.std.specs.declared.io.ErrorKind.TheVariants.{InvalidInput}
-use Rattle.buffer_redux.specs.StreamLog.{StreamLog}
 use Rattle.chunked.specs.declared.error.TrailersError.{TrailersError}
 use Rattle.chunked.specs.declared.error.TrailersError.TheVariants.{NoField, TooLong, Io}
 use Rattle.chunked.specs.Body.{IsField}
 use Rattle.chunked.specs.Chunk.{body_end}
-use Rattle.chunked.specs.ChunkedWriter.{ChunkedWriterState, IsChunkedWriter, NotFinished}
 
 -- the lines in a slice of slices
 abbrev pub lines_of : List (Bor (List ℕ)) → List (List ℕ)
 lines_of fields = map (λ f. f.now) fields
 
--- the end of a body with these trailers goes into a buffer of this capacity
-pub record CanEnd (fields : List (List ℕ)) (capacity : ℕ) : Type 0 where
-  pub lines : AllByRecursion IsField fields
-  pub fits : length (body_end fields) ≤ capacity
-
--- why it can't: the line of this index is the first that is none of trailers, or all are too long
+-- why the end of a body with these trailers doesn't go into a buffer of this capacity: the line of this index is the first that is
+-- none of trailers, or all are too long
 abbrev pub CannotEnd : List (List ℕ) → ℕ → TrailersError → Type 0
 CannotEnd fields capacity (NoField index) =
     (index < length fields) × AllByRecursion IsField (take index fields) × ¬ IsField (get_or fields index [])
 CannotEnd fields capacity TooLong = AllByRecursion IsField fields × (capacity < length (body_end fields))
 CannotEnd fields capacity (Io e) = ⊥
-
--- what stands after an `Err` of finishing with trailers: where they can't go into its buffer the writer is as it was
-abbrev pub NotEnded : {S : Type 0} → (S → StreamLog) → (S → S → Type 0) → ChunkedWriterState S → List (List ℕ) → TrailersError
-    → ChunkedWriterState S → Type 0
-NotEnded tells trace s fields (Io e) t = CanEnd fields s.writer.block.capacity × NotFinished tells trace s fields e t
-NotEnded tells trace s fields why t = CannotEnd fields s.writer.block.capacity why × (t ≡ s) × IsChunkedWriter t
-
--- the same as an error of std's streams
-abbrev pub EndsAsIo : TrailersError → Error → Type 0
-EndsAsIo (NoField index) e = error_kind e ≡ InvalidInput
-EndsAsIo TooLong e = error_kind e ≡ InvalidInput
-EndsAsIo (Io same) e = e ≡ same

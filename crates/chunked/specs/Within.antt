@@ -1,37 +1,22 @@
 -- Places within an extension: what is left of it there.
-use Rattle.std.specs.Prelude.{◌≡◌, ◌≢◌, ℕ, ◌<◌, ◌≤◌, ◌⊎◌, ◌↔◌, List, [], ◌∷◌, length, Option, None, Some}
-use Rattle.chunked.specs.Token.{IsTokenByte, IsValueByte}
-use Rattle.chunked.specs.Extension.{Assigned, Blanks, InQuotes, Many, Name, One, Parameter, Parameters, Value}
+use Rattle.std.specs.Prelude.{◌≡◌, ◌≢◌, ℕ, ◌<◌, ◌⊎◌, List, [], ◌∷◌, length}
+use Rattle.chunked.specs.Token.{IsBlank, IsTokenByte, IsValueByte}
+use Rattle.chunked.specs.Extension.{Assigned, InQuotes, Many, Name, One, Parameter, Parameters, Value}
 use Rattle.chunked.specs.declared.extension.Within.{Within}
 use Rattle.chunked.specs.declared.extension.Within.TheVariants.{Blank, BeforeName, InName, BehindName, BeforeValue, InValue, Quoted, Escaped, Behind}
 
--- what is left of an extension, with so many parameters behind the one that has begun
-abbrev pub LeftOf : Within → ℕ → List ℕ → Type 0
-LeftOf Behind count text = Parameters count text
-LeftOf Blank count text = Parameter (Parameters count) text
-LeftOf BeforeName count text = Blanks (Name (Parameters count)) text
-LeftOf InName count text = Many IsTokenByte (λ rest. Parameters count rest ⊎ Assigned (Parameters count) rest) text
-LeftOf BehindName count text = Parameter (Parameters count) text ⊎ Assigned (Parameters count) text
-LeftOf BeforeValue count text = Blanks (Value (Parameters count)) text
-LeftOf InValue count text = Many IsTokenByte (Parameters count) text
-LeftOf Quoted count text = InQuotes (Parameters count) text
-LeftOf Escaped count text = One IsValueByte (InQuotes (Parameters count)) text
-
--- a text that completes an extension from there
+-- a text that completes an extension from there, with so many parameters behind the one that has begun
 abbrev pub Extends : Within → List ℕ → Type 0
-Extends within text = (count : ℕ) × LeftOf within count text
-
--- this byte leads there: just what completes the extension there completes it here, with the byte in front. Or none does
-abbrev pub Follows : Within → ℕ → Option Within → Type 0
-Follows within b (Some next) = (text : List ℕ) → Extends within (b ∷ text) ↔ Extends next text
-Follows within b None = (text : List ℕ) → ¬ Extends within (b ∷ text)
-
--- no fewer bytes than these complete one, and so many do
-pub record IsLeast (within : Within) (least : ℕ) : Type 0 where
-  pub text : List ℕ
-  pub extends : Extends within text
-  pub many : length text ≡ least
-  pub none_less : (other : List ℕ) → Extends within other → least ≤ length other
+Extends Behind text = (count : ℕ) × Parameters count text
+Extends Blank text = (count : ℕ) × Parameter (Parameters count) text
+Extends BeforeName text = (count : ℕ) × Many IsBlank (Name (Parameters count)) text
+Extends InName text =
+    (count : ℕ) × Many IsTokenByte (λ rest. Parameters count rest ⊎ Assigned (Parameters count) rest) text
+Extends BehindName text = (count : ℕ) × (Parameter (Parameters count) text ⊎ Assigned (Parameters count) text)
+Extends BeforeValue text = (count : ℕ) × Many IsBlank (Value (Parameters count)) text
+Extends InValue text = (count : ℕ) × Many IsTokenByte (Parameters count) text
+Extends Quoted text = (count : ℕ) × InQuotes (Parameters count) text
+Extends Escaped text = (count : ℕ) × One IsValueByte (InQuotes (Parameters count)) text
 
 -- one can go on with this byte, but isn't completed in so many then
 pub record RunsOver (within : Within) (room b : ℕ) : Type 0 where

@@ -1,9 +1,10 @@
 -- Laws of places within an extension: where each byte leads, and what stands first in what is left.
-use Rattle.std.proofs.Common.{◌≡◌, ◌≢◌, ℕ, zero, suc, ◌<◌, ◌≤◌, ◌⊎◌, List, [], ◌∷◌, None, Some, inl, inr, refl, subst, arith}
+use Rattle.std.proofs.Common.{◌≡◌, ◌≢◌, ℕ, zero, suc, ◌<◌, ◌≤◌, ◌⊎◌, ◌↔◌, List, [], ◌∷◌, inl, inr, refl, subst, arith}
+use Rattle.std.specs.List.{AllByRecursion}
 use Rattle.chunked.specs.Token.{IsBlank, IsTokenByte, IsValueByte}
-use Rattle.chunked.specs.Extension.{Assigned, IsExtension, IsQuotedByte, Parameter, Parameters}
-use Rattle.chunked.specs.Within.{Extends, Follows, LeftOf}
-use Rattle.chunked.specs.Body.{IsTextByte, IsText}
+use Rattle.chunked.specs.Extension.{Assigned, IsExtension, Parameter, Parameters}
+use Rattle.chunked.specs.Within.{Extends}
+use Rattle.chunked.specs.Body.{IsTextByte}
 use Rattle.chunked.specs.FieldLaws.{token_is_text, token_plain, value_is_text}
 use Rattle.chunked.specs.declared.extension.Within.{Within}
 use Rattle.chunked.specs.declared.extension.Within.TheVariants.{Blank, BeforeName, InName, BehindName, BeforeValue, InValue, Quoted, Escaped, Behind}
@@ -23,7 +24,7 @@ module _ (IsToken : ℕ → Type 0) (plain : (b : ℕ) → IsToken b → (33 ≤
     StepsBy BeforeValue b v = (IsBlank b × (v ≡ BeforeValue)) ⊎ ((IsToken b × (v ≡ InValue)) ⊎ ((b ≡ 34) × (v ≡ Quoted)))
     StepsBy InValue b v = (IsBlank b × (v ≡ Blank)) ⊎ ((IsToken b × (v ≡ InValue)) ⊎ ((b ≡ 59) × (v ≡ BeforeName)))
     StepsBy Quoted b v =
-        (IsQuotedByte b × (v ≡ Quoted)) ⊎ (((b ≡ 92) × (v ≡ Escaped)) ⊎ ((b ≡ 34) × (v ≡ Behind)))
+        ((IsValueByte b × (b ≢ 34) × (b ≢ 92)) × (v ≡ Quoted)) ⊎ (((b ≡ 92) × (v ≡ Escaped)) ⊎ ((b ≡ 34) × (v ≡ Behind)))
     StepsBy Escaped b v = IsValueByte b × (v ≡ Quoted)
 
     one_way_by : (w : Within) (b : ℕ) (v v' : Within) → StepsBy w b v → StepsBy w b v' → v ≡ v'
@@ -123,46 +124,43 @@ assigned_on w b count text blanks signs (inl (sign, left)) =
 assigned_on w b count text blanks signs (inr (blank, left)) =
     record { next = BehindName; steps = blanks blank; left = (count, inr left) }
 
-first_of : (w : Within) (b count : ℕ) (text : List ℕ) → LeftOf w count (b ∷ text) → StepsOn w b text
-first_of Behind b count text left =
-    step_on Behind b text (λ is. inl (is, refl)) (λ is. inr (is, refl)) (parameters_first b count text left)
-first_of Blank b count text left =
-    step_on Blank b text (λ is. inl (is, refl)) (λ is. inr (is, refl)) (parameter_first b count text left)
-first_of BeforeName b count text (inl (token, left)) =
-    record { next = InName; steps = inr (token, refl); left = (count, left) }
-first_of BeforeName b count text (inr (blank, left)) =
-    record { next = BeforeName; steps = inl (blank, refl); left = (count, left) }
-first_of InName b count text (inl (inl left)) =
-    name_on InName b text (λ is. inl (is, refl)) (λ is. inr (inr (inr (is, refl)))) (parameters_first b count text left)
-first_of InName b count text (inl (inr left)) =
-    assigned_on InName b count text (λ is. inl (is, refl)) (λ is. inr (inr (inl (is, refl)))) left
-first_of InName b count text (inr (token, left)) =
-    record { next = InName; steps = inr (inl (token, refl)); left = (count, left) }
-first_of BehindName b count text (inl left) =
-    name_on BehindName b text (λ is. inl (is, refl)) (λ is. inr (inr (is, refl))) (parameter_first b count text left)
-first_of BehindName b count text (inr left) =
-    assigned_on BehindName b count text (λ is. inl (is, refl)) (λ is. inr (inl (is, refl))) left
-first_of BeforeValue b count text (inl (inl (token, left))) =
-    record { next = InValue; steps = inr (inl (token, refl)); left = (count, left) }
-first_of BeforeValue b count text (inl (inr (sign, left))) =
-    record { next = Quoted; steps = inr (inr (sign, refl)); left = (count, left) }
-first_of BeforeValue b count text (inr (blank, left)) =
-    record { next = BeforeValue; steps = inl (blank, refl); left = (count, left) }
-first_of InValue b count text (inl left) =
-    step_on InValue b text (λ is. inl (is, refl)) (λ is. inr (inr (is, refl))) (parameters_first b count text left)
-first_of InValue b count text (inr (token, left)) =
-    record { next = InValue; steps = inr (inl (token, refl)); left = (count, left) }
-first_of Quoted b count [] (sign, left) = record { next = Behind; steps = inr (inr (sign, refl)); left = (count, left) }
-first_of Quoted b count (c ∷ text) (inl (sign, left)) =
-    record { next = Behind; steps = inr (inr (sign, refl)); left = (count, left) }
-first_of Quoted b count (c ∷ text) (inr (inl (quoted, left))) =
-    record { next = Quoted; steps = inl (quoted, refl); left = (count, left) }
-first_of Quoted b count (c ∷ text) (inr (inr (sign, byte, left))) =
-    record { next = Escaped; steps = inr (inl (sign, refl)); left = (count, (byte, left)) }
-first_of Escaped b count text (byte, left) = record { next = Quoted; steps = (byte, refl); left = (count, left) }
-
 pub first : (w : Within) (b : ℕ) (text : List ℕ) → Extends w (b ∷ text) → StepsOn w b text
-first w b text e = first_of w b e.0 text e.1
+first Behind b text (count, left) =
+    step_on Behind b text (λ is. inl (is, refl)) (λ is. inr (is, refl)) (parameters_first b count text left)
+first Blank b text (count, left) =
+    step_on Blank b text (λ is. inl (is, refl)) (λ is. inr (is, refl)) (parameter_first b count text left)
+first BeforeName b text (count, (inl (token, left))) =
+    record { next = InName; steps = inr (token, refl); left = (count, left) }
+first BeforeName b text (count, (inr (blank, left))) =
+    record { next = BeforeName; steps = inl (blank, refl); left = (count, left) }
+first InName b text (count, (inl (inl left))) =
+    name_on InName b text (λ is. inl (is, refl)) (λ is. inr (inr (inr (is, refl)))) (parameters_first b count text left)
+first InName b text (count, (inl (inr left))) =
+    assigned_on InName b count text (λ is. inl (is, refl)) (λ is. inr (inr (inl (is, refl)))) left
+first InName b text (count, (inr (token, left))) =
+    record { next = InName; steps = inr (inl (token, refl)); left = (count, left) }
+first BehindName b text (count, (inl left)) =
+    name_on BehindName b text (λ is. inl (is, refl)) (λ is. inr (inr (is, refl))) (parameter_first b count text left)
+first BehindName b text (count, (inr left)) =
+    assigned_on BehindName b count text (λ is. inl (is, refl)) (λ is. inr (inl (is, refl))) left
+first BeforeValue b text (count, (inl (inl (token, left)))) =
+    record { next = InValue; steps = inr (inl (token, refl)); left = (count, left) }
+first BeforeValue b text (count, (inl (inr (sign, left)))) =
+    record { next = Quoted; steps = inr (inr (sign, refl)); left = (count, left) }
+first BeforeValue b text (count, (inr (blank, left))) =
+    record { next = BeforeValue; steps = inl (blank, refl); left = (count, left) }
+first InValue b text (count, (inl left)) =
+    step_on InValue b text (λ is. inl (is, refl)) (λ is. inr (inr (is, refl))) (parameters_first b count text left)
+first InValue b text (count, (inr (token, left))) =
+    record { next = InValue; steps = inr (inl (token, refl)); left = (count, left) }
+first Quoted b [] (count, (sign, left)) = record { next = Behind; steps = inr (inr (sign, refl)); left = (count, left) }
+first Quoted b (c ∷ text) (count, (inl (sign, left))) =
+    record { next = Behind; steps = inr (inr (sign, refl)); left = (count, left) }
+first Quoted b (c ∷ text) (count, (inr (inl (quoted, left)))) =
+    record { next = Quoted; steps = inl (quoted, refl); left = (count, left) }
+first Quoted b (c ∷ text) (count, (inr (inr (sign, byte, left)))) =
+    record { next = Escaped; steps = inr (inl (sign, refl)); left = (count, (byte, left)) }
+first Escaped b text (count, (byte, left)) = record { next = Quoted; steps = (byte, refl); left = (count, left) }
 
 -- all of an extension is text
 blank_is_text : (b : ℕ) → IsBlank b → IsTextByte b
@@ -196,7 +194,7 @@ steps_text Quoted b v (inr (inl (sign, is))) = sign_is_text b 92 (omega arith) s
 steps_text Quoted b v (inr (inr (sign, is))) = sign_is_text b 34 (omega arith) sign
 steps_text Escaped b v (byte, is) = value_is_text b byte
 
-pub Extends-text : (w : Within) (text : List ℕ) → Extends w text → IsText text
+pub Extends-text : (w : Within) (text : List ℕ) → Extends w text → AllByRecursion IsTextByte text
 Extends-text w [] e = tt
 Extends-text w (b ∷ text) e = let f = first w b text e in (steps_text w b f.next f.steps, Extends-text f.next text f.left)
 
@@ -205,11 +203,12 @@ pub IsExtension-first : (b : ℕ) (text : List ℕ) → IsExtension (b ∷ text)
 IsExtension-first b text e = elim (parameters_first b e.0 text e.1) [ inl blank ↦ inl blank.0 | inr sign ↦ inr sign.0 ]
 
 -- a byte leads on as the steps say, or nowhere
-pub leads : (w : Within) (b : ℕ) (v : Within) → Steps w b v → Follows w b (Some v)
+pub leads : (w : Within) (b : ℕ) (v : Within) → Steps w b v
+    → (text : List ℕ) → Extends w (b ∷ text) ↔ Extends v text
 leads w b v s = λ text. (
   (λ e. let f = first w b text e in subst (λ x. Extends x text) (one_way w b f.next v f.steps s) f.left),
   λ e. on w b v text s e,
 )
 
-pub none : (w : Within) (b : ℕ) → ((v : Within) → Steps w b v → ⊥) → Follows w b None
+pub none : (w : Within) (b : ℕ) → ((v : Within) → Steps w b v → ⊥) → (text : List ℕ) → ¬ Extends w (b ∷ text)
 none w b never = λ text e. let f = first w b text e in never f.next f.steps

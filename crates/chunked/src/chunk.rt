@@ -1,15 +1,15 @@
 //! What a chunk is made of, and how it goes into a buffered writer.
-ghost use Rattle.std.specs.Prelude.{◌≡◌, ◌^◌, ◌<◌, ◌≤◌, ◌+◌, ◌++◌, [], drop, length, Ok};
+ghost use Rattle.std.specs.Prelude.{◌≡◌, ◌^◌, ◌<◌, ◌≤◌, ◌+◌, ◌-◌, ◌++◌, [], drop, length, Ok};
 ghost use Rattle.buffer_redux.specs.Block.{usable};
 ghost use Rattle.buffer_redux.specs.BufWriter.{WasSent};
+ghost use Rattle.buffer_redux.specs.WriteParts.{PutsIn, room};
 ghost use Rattle.chunked.specs.Body.{line_end};
 ghost use Rattle.chunked.specs.Chunk.{chunk, size_digits};
-ghost use Rattle.chunked.specs.ChunkedWriter.{PutsIn, around, room};
+ghost use Rattle.chunked.specs.ChunkedWriter.{around};
 
 use buffer_redux::BufWriter;
 use buffer_redux::tell::{Call, CallLog, TellWrite};
 use std::io;
-use std::io::Write;
 
 const DIGITS: &[u8; 16] = b"0123456789abcdef";
 
@@ -68,13 +68,12 @@ pub fn make_space<W: TellWrite>(writer: &mut BufWriter<W>, bytes: usize) -> io::
 /// Copies bytes in, for which there is room, and notes them.
 #[inline(always)]
 pub fn put<W: TellWrite>(writer: &mut BufWriter<W>, wire: &mut CallLog, bytes: &[u8])
-    requires room { length bytes.now ≤ usable writer.old.block }
-    requires inside { length bytes.now < writer.old.block.capacity }
-    ensures put { PutsIn W.trace writer.old bytes.now writer.new }
-    ensures usable { usable writer.old.block ≤ usable writer.new.block + length bytes.now }
+    requires { length bytes.now ≤ usable writer.old.block }
+    ensures put { PutsIn writer.old bytes.now writer.new }
+    ensures usable { usable writer.new.block ≡ usable writer.old.block - length bytes.now }
     ensures wire { wire.new.log.writes.received ≡ wire.old.log.writes.received ++ bytes.now }
 {
-    let _ = writer.write(bytes);
+    writer.put(bytes);
     wire.note(&Call::Write(bytes, &Ok(bytes.len())));
 }
 
@@ -84,7 +83,7 @@ pub fn put_chunk<W: TellWrite>(writer: &mut BufWriter<W>, wire: &mut CallLog, pa
     requires some { 0 < length payload.now }
     requires small { length payload.now < 2 ^ 62 }
     requires room { around + length payload.now ≤ room writer.old }
-    ensures put { PutsIn W.trace writer.old (chunk payload.now) writer.new }
+    ensures put { PutsIn writer.old (chunk payload.now) writer.new }
     ensures wire { wire.new.log.writes.received ≡ wire.old.log.writes.received ++ chunk payload.now }
 {
     let line = SizeLine::new(payload.len() as u64);

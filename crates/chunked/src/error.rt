@@ -169,9 +169,14 @@ impl<B: fmt::Debug + Drop> Error for FinishError<B> {}
 
 /// The fault, or `InvalidInput` where trailers were refused. The writer is dropped.
 impl<B: Drop> From<FinishError<B>> for io::Error {
-    ghost use Rattle.chunked.specs.Trailers.{EndsAsIo};
+    ghost use Rattle.std.specs.Prelude.{◌≡◌, ◌≢◌, ◌⊎◌};
+    ghost use Rattle.std.specs.IoError.{error_kind};
+    ghost use Rattle.std.specs.declared.io.Error.{Error};
+    ghost use Rattle.std.specs.declared.io.ErrorKind.TheVariants.{InvalidInput};
+    ghost use Rattle.chunked.specs.declared.error.TrailersError.TheVariants.{Io};
 
-    ghost from_gives = { λ e r. EndsAsIo e.1 r };
+    ghost from_gives = { λ e r. (e.1 ≡ Io r)
+        ⊎ (((fault : Error) → e.1 ≢ Io fault) × (error_kind r ≡ InvalidInput)) };
 
     fn from(e: FinishError<B>) -> io::Error {
         match e.1 {

@@ -1,6 +1,6 @@
 //! Where in an extension of the line of a size a reader stands, and where a byte leads from there.
-ghost use Rattle.std.specs.Prelude.{◌↔◌, [], IsTrue};
-ghost use Rattle.chunked.specs.Within.{Extends, Follows, IsLeast};
+ghost use Rattle.std.specs.Prelude.{◌≡◌, ℕ, ◌≤◌, ◌↔◌, List, [], ◌∷◌, length, MatchOption, IsTrue};
+ghost use Rattle.chunked.specs.Within.{Extends};
 
 use crate::token::{is_token_byte, is_value_byte};
 
@@ -28,9 +28,10 @@ pub enum Within {
 }
 
 impl Within {
-    /// Where a byte leads, if one can stand there.
+    /// Where a byte leads: just what completes an extension from there completes it here, with the byte in front. Or none does.
     pub fn next(self, byte: u8) -> Option<Within>
-        ensures { Follows self byte result }
+        ensures { MatchOption result ((text : List ℕ) → ¬ Extends self (byte ∷ text))
+            (λ next. (text : List ℕ) → Extends self (byte ∷ text) ↔ Extends next text) }
     {
         match self {
             Within::Blank | Within::Behind => match byte {
@@ -91,7 +92,8 @@ impl Within {
 
     /// How many bytes complete an extension from there, at least.
     pub fn least(self) -> usize
-        ensures { IsLeast self result }
+        ensures so_many { (text : List ℕ) × Extends self text × (length text ≡ result) }
+        ensures none_less { (other : List ℕ) → Extends self other → result ≤ length other }
     {
         match self {
             Within::InName | Within::InValue | Within::Behind => 0,

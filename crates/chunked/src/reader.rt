@@ -1,10 +1,11 @@
 //! The reader of a body.
-ghost use Rattle.std.specs.Prelude.{None, ◌≡◌, ◌<◌, ◌≤◌, ◌↔◌, length, Err, IfOk, IsTrue, MatchResult, Ok};
+ghost use Rattle.std.specs.Prelude.{None, ◌≡◌, ℕ, ◌<◌, ◌≤◌, ◌↔◌, ◌⊎◌, List, [], length, take, Err, IfOk, IsTrue, MatchResult, Ok};
 ghost use Rattle.std.specs.Io.{ReadsAtMost};
 ghost use Rattle.std.specs.Io.KnownBytes.{ReadConsumes};
+ghost use Rattle.chunked.specs.declared.error.Malformed.{Malformed};
 ghost use Rattle.buffer_redux.specs.StreamLog.{StreamLog, after_read};
-ghost use Rattle.chunked.specs.Between.{HandsOn, HandsOnBuffered, Skips};
-ghost use Rattle.chunked.specs.ChunkedReader.{Drains, HandsBuffered, IsChunkedReader, IsWhole, LeavesBody, LooksBehind, ReadsAsIo, ReadsPayload, begun, taken_count};
+ghost use Rattle.chunked.specs.Between.{HandsOn, NoneLeft, Skips, Takes};
+ghost use Rattle.chunked.specs.ChunkedReader.{BodyWent, Breaks, ChunkedState, Drains, IsChunkedReader, IsWhole, LooksBehind, ReadsAsIo, ReadsPayload, begun, taken_count};
 ghost use Rattle.chunked.specs.Place.{IsPlace, IsSettled};
 
 use crate::error::ChunkedError;
@@ -48,7 +49,6 @@ pub struct ChunkedReader<R: Tell, P = StdPolicy> {
 }
 
 impl<R: Tell, P> Model for ChunkedReader<R, P> {
-    ghost use Rattle.chunked.specs.Between.{taken_of};
     ghost use Rattle.chunked.specs.ChunkedReader.{ChunkedState, IsChunkedReader};
 
     ghost Value = { ChunkedState R P };
@@ -57,7 +57,7 @@ impl<R: Tell, P> Model for ChunkedReader<R, P> {
       reader = c.reader;
       limits = c.progress.limits;
       place = c.progress.place;
-      taken = taken_of c.progress;
+      taken = c.progress.taken.log.fills.consumed;
       calls = c.calls.log;
     } };
 
@@ -65,7 +65,7 @@ impl<R: Tell, P> Model for ChunkedReader<R, P> {
       reader = c.reader;
       limits = c.progress.limits;
       place = c.progress.place;
-      taken = taken_of c.progress;
+      taken = c.progress.taken.log.fills.consumed;
       calls = c.calls.log;
     }) };
 }
@@ -155,8 +155,8 @@ impl<R: TellRead, P: ReaderPolicy> ChunkedReader<R, P> {
     /// assert!(rt; rest.buffer() == b"GET".as_slice());
     /// ```
     pub fn finish(mut self) -> Result<BufReader<R, P>, (Self, ChunkedError)>
-        ensures { MatchResult result (LeavesBody R.remaining P.rules self)
-            (λ e. Drains R.remaining P.rules self (Err e.1) e.0) }
+        ensures { MatchResult result (λ rest. (body : ChunkedState R P) × Drains R.remaining P.rules self (Ok 0) body
+            × IsWhole body × (rest ≡ body.reader)) (λ e. Drains R.remaining P.rules self (Err e.1) e.0) }
     {
         match self.drain() {
             Ok(()) => Ok(self.into_inner_torn()),
@@ -166,7 +166,8 @@ impl<R: TellRead, P: ReaderPolicy> ChunkedReader<R, P> {
 
     // Takes the rest of the body, and drops its payload.
     fn drain(&mut self) -> Result<(), ChunkedError>
-        ensures { Drains R.remaining P.rules self.old result self.new }
+        ensures { MatchResult result (λ _. Drains R.remaining P.rules self.old (Ok 0) self.new)
+            (λ e. Drains R.remaining P.rules self.old (Err e) self.new) }
     {
         if self.is_done() {
             return Ok(());
@@ -195,7 +196,14 @@ impl<R: TellRead, P: ReaderPolicy> ChunkedReader<R, P> {
     /// more payload is buffered: the body ended, all that is buffered was taken, or what comes next is wrong, which the next
     /// [`read_payload`](ChunkedReader::read_payload) tells.
     pub fn read_buffered(&mut self, out: &mut [u8]) -> usize
-        ensures { HandsBuffered R.remaining P.rules self.old out.new result self.new }
+        ensures went { BodyWent R.remaining P.rules self.old (take result out.new) self.new }
+        ensures told { self.new.reader.log ≡ self.old.reader.log }
+        ensures bound { result ≤ length out.new }
+        ensures all { (result ≡ length out.new) ⊎ (IsWhole self.new
+            ⊎ ((self.new.reader.block.bytes ≡ []) ⊎ ((why : Malformed) × Breaks why self.new))) }
+        ensures noted { (0 < result → self.new.calls ≡ after_read self.old.calls out.new (Ok result))
+            × (result ≡ 0 → self.new.calls ≡ self.old.calls) }
+        ensures whole { IsChunkedReader self.new }
     {
         let count = hand_buffered(&mut self.reader, &mut self.progress, out);
         if count > 0 {
@@ -256,7 +264,9 @@ fn skip<R: TellRead, P: ReaderPolicy>(
     progress: &mut Progress,
 ) -> Result<(), ChunkedError>
     requires { IsPlace progress.old.place }
-    ensures skips { Skips R.remaining P.rules reader.old progress.old result reader.new progress.new }
+    ensures skips { MatchResult result
+        (λ _. Skips R.remaining P.rules reader.old progress.old (Ok 0) reader.new progress.new)
+        (λ e. Skips R.remaining P.rules reader.old progress.old (Err e) reader.new progress.new) }
     ensures still { IsSettled progress.old.place → (reader.new ≡ reader.old) × (progress.new ≡ progress.old) }
 {
     while !is_settled(progress.place) {
@@ -281,7 +291,12 @@ fn hand_buffered<R: TellRead, P: ReaderPolicy>(
     out: &mut [u8],
 ) -> usize
     requires { IsPlace progress.old.place }
-    ensures { HandsOnBuffered R.remaining P.rules reader.old progress.old out.new result reader.new progress.new }
+    ensures takes { (wire : List ℕ)
+        × Takes R.remaining P.rules reader.old progress.old wire (take result out.new) reader.new progress.new }
+    ensures told { reader.new.log ≡ reader.old.log }
+    ensures bound { result ≤ length out.new }
+    ensures all { (result ≡ length out.new)
+        ⊎ NoneLeft progress.new.limits progress.new.place reader.new.block.bytes }
 {
     let shown = reader.buffer();
     let reached = unchunk(&progress.limits, progress.place, shown, out);

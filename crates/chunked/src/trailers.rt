@@ -1,9 +1,10 @@
 //! The end of a body: the last chunk and the trailers, and how it goes into a buffered writer.
 ghost use Rattle.std.specs.Prelude.{◌≡◌, ◌↔◌, ◌^◌, ◌<◌, ◌≤◌, ◌++◌, length, IsTrue, IfOk, IfErr};
+ghost use Rattle.std.specs.List.{AllByRecursion};
+ghost use Rattle.buffer_redux.specs.WriteParts.{PutsIn, room};
 ghost use Rattle.chunked.specs.Body.{IsField};
 ghost use Rattle.chunked.specs.Chunk.{body_end};
-ghost use Rattle.chunked.specs.ChunkedWriter.{PutsIn, room};
-ghost use Rattle.chunked.specs.Trailers.{CanEnd, CannotEnd, lines_of};
+ghost use Rattle.chunked.specs.Trailers.{CannotEnd, lines_of};
 
 use crate::chunk::put;
 use crate::error::TrailersError;
@@ -28,7 +29,8 @@ fn is_field(line: &[u8]) -> bool
 /// How many bytes the end of a body with these trailers has, if it goes into a buffer of so many.
 pub fn end_len(fields: &[&[u8]], capacity: usize) -> Result<usize, TrailersError>
     requires { capacity < 2 ^ 63 }
-    ensures can { IfOk result (λ n. CanEnd (lines_of fields.now) capacity) }
+    ensures lines { IfOk result (λ n. AllByRecursion IsField (lines_of fields.now)) }
+    ensures fits { IfOk result (λ n. length (body_end (lines_of fields.now)) ≤ capacity) }
     ensures len { IfOk result (λ n. n ≡ length (body_end (lines_of fields.now))) }
     ensures cannot { IfErr result (CannotEnd (lines_of fields.now) capacity) }
 {
@@ -48,7 +50,7 @@ pub fn end_len(fields: &[&[u8]], capacity: usize) -> Result<usize, TrailersError
 /// Copies the end of a body with these trailers in, for which there is room, and notes it.
 pub fn put_end<W: TellWrite>(writer: &mut BufWriter<W>, wire: &mut CallLog, fields: &[&[u8]])
     requires room { length (body_end (lines_of fields.now)) ≤ room writer.old }
-    ensures put { PutsIn W.trace writer.old (body_end (lines_of fields.now)) writer.new }
+    ensures put { PutsIn writer.old (body_end (lines_of fields.now)) writer.new }
     ensures wire { wire.new.log.writes.received ≡ wire.old.log.writes.received ++ body_end (lines_of fields.now) }
 {
     writer.make_room();

@@ -1,15 +1,18 @@
 //! The writer of a body.
-ghost use Rattle.std.specs.Prelude.{◌≡◌, ◌<◌, [], length, MatchResult, Some};
+ghost use Rattle.std.specs.Prelude.{◌≡◌, ◌<◌, ◌≤◌, ◌⊎◌, [], length, MatchResult, Some};
+ghost use Rattle.std.specs.declared.io.Error.{Error};
 ghost use Rattle.std.specs.Io.{WritesAtMost};
+ghost use Rattle.std.specs.List.{AllByRecursion};
 ghost use Rattle.std.specs.Io.KnownBytes.{Keeps, WriteAppends};
 ghost use Rattle.buffer_redux.specs.Buffered.{over_buffer};
 ghost use Rattle.buffer_redux.specs.BufWriter.{WasFlushed};
 ghost use Rattle.buffer_redux.specs.StreamLog.{StreamLog, after_flush, after_write};
+ghost use Rattle.chunked.specs.Body.{IsField};
 ghost use Rattle.chunked.specs.Chunk.{body_end};
 ghost use Rattle.chunked.specs.ChunkedWriter.{ChunkingWent, ChunksWent, Finishes, IsChunkedWriter, NotFinished, WritesChunk};
 ghost use Rattle.chunked.specs.ChunkedWriter.{accepted_of, around, unbegun};
 ghost use Rattle.chunked.specs.ChunkedWriterLaws.{ChunkingWent-none, ChunkingWent-joins, ChunkingWent-grows};
-ghost use Rattle.chunked.specs.Trailers.{CanEnd, NotEnded, lines_of};
+ghost use Rattle.chunked.specs.Trailers.{CannotEnd, lines_of};
 
 use crate::chunk::{AROUND, make_space, put_chunk};
 use crate::error::{FinishError, TrailersError};
@@ -148,7 +151,9 @@ impl<W: TellWrite> ChunkedWriter<W> {
     /// ```
     pub fn finish_with_trailers(self, fields: &[&[u8]]) -> Result<BufWriter<W>, FinishError<Self>>
         ensures { MatchResult result (Finishes W.log W.trace self (lines_of fields.now))
-            (λ e. NotEnded W.log W.trace self (lines_of fields.now) e.1 e.0) }
+            (λ e. (CannotEnd (lines_of fields.now) self.writer.block.capacity e.1 × (e.0 ≡ self) × IsChunkedWriter e.0)
+            ⊎ ((fault : Error) × (e.1 ≡ TrailersError.Io fault)
+            × NotFinished W.log W.trace self (lines_of fields.now) fault e.0)) }
     {
         match end_len(fields, self.writer.capacity()) {
             Ok(len) => match self.end(len, fields) {
@@ -161,7 +166,8 @@ impl<W: TellWrite> ChunkedWriter<W> {
 
     // Ends the body with these trailers, with which its end has so many bytes.
     fn end(mut self, len: usize, fields: &[&[u8]]) -> Result<BufWriter<W>, IntoInnerError<Self>>
-        requires can { CanEnd (lines_of fields.now) self.writer.block.capacity }
+        requires lines { AllByRecursion IsField (lines_of fields.now) }
+        requires fits { length (body_end (lines_of fields.now)) ≤ self.writer.block.capacity }
         requires len { len ≡ length (body_end (lines_of fields.now)) }
         ensures { MatchResult result (Finishes W.log W.trace self (lines_of fields.now))
             (λ e. NotFinished W.log W.trace self (lines_of fields.now) e.1 e.0) }

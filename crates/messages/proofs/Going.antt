@@ -11,10 +11,9 @@ use Rattle.buffer_redux.specs.declared.policy.StdPolicy.{StdPolicy}
 use Rattle.buffer_redux.specs.BufReader.{FillBuf, ReaderConsumes, Reads, ReadsAlong}
 use Rattle.buffer_redux.specs.Buffered.{Buffered}
 use Rattle.buffer_redux.specs.EmptyReads.{ReadsWhenEmpty-std, none_where_shown, once_at_most}
-use Rattle.chunked.specs.ChunkedReader.{BodyWent, ChunkedState, IsChunkedReader, IsWhole, PayloadAnswers, handed_of, DrainReads, ReadsOn, ReadsPayload}
+use Rattle.chunked.specs.ChunkedReader.{BodyWent, ChunkedState, IsChunkedReader, IsWhole, PayloadAnswers, handed_of, Drains, ReadsOn, ReadsPayload}
 use Rattle.chunked.specs.ChunkedReaderLaws.{body_done, BodyWent-joins, BodyWent-none, Completes-nothing, IsWhole-done}
 use Rattle.chunked.specs.EmptyReads.{EndsOnce}
-use Rattle.chunked.specs.Kinds.{KeepsKind}
 use Rattle.chunked.specs.Place.{Completes}
 use Rattle.chunked.specs.declared.error.ChunkedError.{ChunkedError}
 use Rattle.chunked.specs.declared.error.ChunkedError.TheVariants.{NotChunked, Truncated, Io}
@@ -41,7 +40,7 @@ chunks_done {S} {P} {t} is whole =
 
 -- its room stays
 pub chunks_room : {S P : Type 0} {remaining : S → Option (List ℕ)} {rules : ReadRules P} {s t : ChunkedState S P}
-    {handed : List ℕ} → BodyWent remaining rules s handed t → KeepsKind s.reader t.reader
+    {handed : List ℕ} → BodyWent remaining rules s handed t → t.reader.block.kind ≡ s.reader.block.kind
     → IsRoomy s.reader.block × (0 < s.limits.line) → IsRoomy t.reader.block × (0 < t.limits.line)
 chunks_room went kind (roomy, line) = ((kind ∙ roomy.0, omega (arith, roomy.1, went.along.capacity)), rw went.limits line)
 
@@ -105,7 +104,7 @@ chunks_fail s t is roomy asked (Io e) answers never =
     elim answers [ inl fault ↦ (fault, never) | inr failed ↦ absurd failed.3.gave.allowed ]
 
 -- or it is of more pieces than are counted
-pub body_fault : (e : ChunkedError) (why : Error) → ◌≡◌ {A = Result (Unit {0}) ChunkedError} (Err e) (Err (Io why))
+pub body_fault : (e : ChunkedError) (why : Error) → ◌≡◌ {A = Result ℕ ChunkedError} (Err e) (Err (Io why))
     → body_error e ≡ Fault why
 body_fault e why is = let same : e ≡ Io why = cc in ap body_error same
 
@@ -266,7 +265,7 @@ module _ {R : Type 0} (remaining : R → Option (List ℕ)) {s : ChunkedState R 
   }
 
   pub drain_asked : {answer : Result ℕ ChunkedError} {t : ChunkedState R StdPolicy}
-      → DrainReads remaining std_read_rules s answer t
+      → Drains remaining std_read_rules s answer t
       → AskedWhere (Unended (Chunks s.limits s.place)) (unbuffered s.reader) (unbuffered t.reader)
   drain_asked {answer} {t} reads =
       let d = drained reads.count reads.last reads.before in

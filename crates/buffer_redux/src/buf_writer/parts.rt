@@ -1,5 +1,5 @@
 //! Parts that are taken in together.
-ghost use Rattle.std.specs.Prelude.{◌≡◌, ◌≤◌, length, map, min};
+ghost use Rattle.std.specs.Prelude.{◌≡◌, ◌-◌, ◌≤◌, ◌++◌, length, map, min};
 ghost use Rattle.std.specs.List.{concat};
 ghost use Rattle.redux_buffer.specs.Block.{IsBlock, usable};
 ghost use Rattle.buffer_redux.specs.WriteParts.{MakesPlace, PutsIn, WritesParts};
@@ -39,6 +39,17 @@ impl<W: TellWrite> BufWriter<W, StdPolicy> {
         }
     }
 
+    /// Copies bytes in behind those that are buffered, where they fit in the usable space; all that is free is usable after
+    /// [`make_room`](BufWriter::make_room). The inner writer isn't called.
+    #[inline(always)]
+    pub fn put(&mut self, bytes: &[u8])
+        requires room { length bytes.now ≤ usable self.old.block }
+        ensures put { PutsIn self.old bytes.now self.new }
+        ensures usable { usable self.new.block ≡ usable self.old.block - length bytes.now }
+    {
+        self.buf.append(bytes);
+    }
+
     // Sends all that is buffered, and then makes room for so many bytes.
     #[cold]
     #[inline(never)]
@@ -60,7 +71,11 @@ impl<W: TellWrite> BufWriter<W, StdPolicy> {
 fn append_parts(buf: &mut Buffer, parts: &[&[u8]])
     requires room { length (concat (map (λ part. part.now) parts.now)) ≤ usable buf.old }
     requires whole { IsBlock buf.old }
-    ensures { PutsIn (concat (map (λ part. part.now) parts.now)) buf.old buf.new }
+    ensures bytes { buf.new.bytes ≡ buf.old.bytes ++ concat (map (λ part. part.now) parts.now) }
+    ensures capacity { buf.new.capacity ≡ buf.old.capacity }
+    ensures limit { buf.new.limit ≡ buf.old.limit }
+    ensures kind { buf.new.kind ≡ buf.old.kind }
+    ensures whole { IsBlock buf.new }
 {
     for part in parts {
         buf.append(part);

@@ -1,6 +1,7 @@
 use Rattle.std.proofs.Common.{[], arith, rules}
 use Rattle.chunked.specs.Within.{Extends}
 use Rattle.chunked.proofs.Extending.{extension_on, extension_return, fits_in, runs_over}
+use Rattle.chunked.proofs.Least.{IsLeast}
 use Rattle.chunked.proofs.step.in_extension.Goals as goal
 
 pub returns-in-13 : goal.returns-in-13
@@ -10,17 +11,14 @@ returns-in-13 c =
 
 pub returns-in-Some : goal.returns-in-Some
 returns-in-Some c =
-    λ l. runs_over c.args.within c.in-Some.next c.args.byte c.least.result c.in-Some.ensures c.least.ensures c.args.room
-    (omega arith)
+    λ l. runs_over c.args.within c.in-Some.next c.args.byte c.least.result c.in-Some.ensures
+    (c.least.ensures.so_many, c.least.ensures.none_less) c.args.room (omega arith)
 
 pub returns-in-Some-2 : goal.returns-in-Some-2
 returns-in-Some-2 c =
-    let follows = c.in-Some.ensures in
+    let least : IsLeast c.in-Some.next c.least.result = (c.least.ensures.so_many, c.least.ensures.none_less) in
     λ l. (
-      extension_on c.args.within c.in-Some.next c.args.byte c.least.result follows c.least.ensures l c.args.size c.args.room
+      extension_on c.args.within c.in-Some.next c.args.byte c.least.result c.in-Some.ensures least l c.args.size c.args.room
           (omega arith),
-      (
-        c.requires,
-        fits_in c.args.within c.in-Some.next c.args.byte c.least.result follows c.least.ensures c.args.room (omega arith),
-      ),
+      (c.requires, fits_in c.args.within c.in-Some.next c.args.byte c.least.result c.in-Some.ensures least c.args.room (omega arith)),
     )

@@ -39,21 +39,22 @@ returns-then-len-capacity-clause-cannot c =
       ),
     )
 
-pub returns-clause-can : goal.returns-clause-can
-returns-clause-can c =
+pub returns-clause-lines : goal.returns-clause-lines
+returns-clause-lines c =
+    subst (AllByRecursion IsField) (all_lines c.args.fields.now c.loop-i.i c.loop-i-test.false) c.loop-i.invariant.lines
+
+pub returns-clause-fits : goal.returns-clause-fits
+returns-clause-fits c =
     let fields = c.args.fields.now in
     let all = all_lines fields c.loop-i.i c.loop-i-test.false in
-    record {
-      lines = subst (AllByRecursion IsField) all c.loop-i.invariant.lines;
-      fits = omega (
-        arith,
-        c.requires,
-        c.if-len-capacity.false,
-        c.loop-i.invariant.counted,
-        front_len (lines_of fields),
-        ap (λ l. length (front l)) all,
-      );
-    }
+    omega (
+      arith,
+      c.requires,
+      c.if-len-capacity.false,
+      c.loop-i.invariant.counted,
+      front_len (lines_of fields),
+      ap (λ l. length (front l)) all,
+    )
 
 pub returns-clause-len : goal.returns-clause-len
 returns-clause-len c =

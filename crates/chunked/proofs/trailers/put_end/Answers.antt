@@ -4,12 +4,8 @@ use Rattle.chunked.specs.Trailers.{lines_of}
 use Rattle.chunked.proofs.Fields.{all_lines, end_in, front, front_ended, front_fits, front_len, front_more_len, inside, line_at, line_in, line_noted, noted}
 use Rattle.chunked.proofs.trailers.put_end.Goals as goal
 
-pub put-requires-clause-inside : goal.put-requires-clause-inside
-put-requires-clause-inside g c =
-    omega (arith, c.requires.room, front_len (lines_of c.args.fields.now), c.make_room.ensures.room.capacity)
-
-pub put-requires-in-loop-field-clause-room : goal.put-requires-in-loop-field-clause-room
-put-requires-in-loop-field-clause-room g c =
+pub put-requires-in-loop-field : goal.put-requires-in-loop-field
+put-requires-in-loop-field g c =
     let fields = c.args.fields.now in
     let i = c.loop-field.field-index in
     let within = c.loop-field-test.true in
@@ -21,21 +17,8 @@ put-requires-in-loop-field-clause-room g c =
       ap length (line_at fields i within),
     )
 
-pub put-requires-in-loop-field-clause-inside : goal.put-requires-in-loop-field-clause-inside
-put-requires-in-loop-field-clause-inside g c =
-    let fields = c.args.fields.now in
-    let i = c.loop-field.field-index in
-    let within = c.loop-field-test.true in
-    omega (
-      arith,
-      c.requires.room,
-      c.loop-field.invariant.put.capacity,
-      front_fits (lines_of fields) i (inside fields i within),
-      ap length (line_at fields i within),
-    )
-
-pub put-requires-in-loop-field-2-clause-room : goal.put-requires-in-loop-field-2-clause-room
-put-requires-in-loop-field-2-clause-room g c =
+pub put-requires-in-loop-field-2 : goal.put-requires-in-loop-field-2
+put-requires-in-loop-field-2 g c =
     let fields = c.args.fields.now in
     let i = c.loop-field.field-index in
     let within = c.loop-field-test.true in
@@ -59,14 +42,14 @@ loop-field-preserved g c =
     let line = c.put-in-loop-field.ensures in
     let ends = c.put-in-loop-field-2.ensures in
     record {
-      put = line_in g.W.TellWrite.trace g.met.W.TellWrite.trace_none g.met.W.TellWrite.trace_joins _ _ _ _
+      put = line_in _ _ _ _
           (lines_of fields) i _ there is before.put line.put ends.put;
       space = omega (arith, before.space, line.usable, ends.usable, front_more_len (lines_of fields) i there, ap length is);
       wire = line_noted _ _ _ _ (lines_of fields) i _ there is before.wire line.wire ends.wire;
     }
 
-pub put-requires-2-clause-room : goal.put-requires-2-clause-room
-put-requires-2-clause-room g c =
+pub put-requires-2 : goal.put-requires-2
+put-requires-2 g c =
     let fields = c.args.fields.now in
     let all = all_lines fields c.loop-field.field-index c.loop-field-test.false in
     omega (
@@ -80,7 +63,7 @@ put-requires-2-clause-room g c =
 pub returns-clause-put : goal.returns-clause-put
 returns-clause-put g c =
     let fields = c.args.fields.now in
-    end_in g.W.TellWrite.trace g.met.W.TellWrite.trace_none g.met.W.TellWrite.trace_joins _ _ _ (lines_of fields) _
+    end_in _ _ _ (lines_of fields) _
     (all_lines fields c.loop-field.field-index c.loop-field-test.false) c.loop-field.invariant.put c.put-2.ensures.put
 
 pub returns-clause-wire : goal.returns-clause-wire

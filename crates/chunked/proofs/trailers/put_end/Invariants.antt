@@ -1,6 +1,6 @@
 use Rattle.std.proofs.Common.{◌≡◌, ◌+◌, ◌≤◌, ◌++◌, length, take}
 use Rattle.buffer_redux.specs.Block.{usable}
-use Rattle.chunked.specs.ChunkedWriter.{PutsIn, room}
+use Rattle.buffer_redux.specs.WriteParts.{PutsIn, room}
 use Rattle.chunked.specs.Trailers.{lines_of}
 use Rattle.chunked.proofs.Fields.{front}
 use Rattle.chunked.proofs.trailers.put_end.Given as goal
@@ -8,7 +8,7 @@ use Rattle.chunked.proofs.trailers.put_end.Given as goal
 -- the last chunk and the lines so far are there
 abbrev pub invariant-loop-field : goal.invariant-loop-field
 invariant-loop-field g l = record {
-  put : PutsIn g.W.TellWrite.trace l.fn.writer (front (take l.field-index (lines_of l.fields))) l.writer;
+  put : PutsIn l.fn.writer (front (take l.field-index (lines_of l.fields))) l.writer;
   space : room l.fn.writer ≤ usable l.writer.block + length (front (take l.field-index (lines_of l.fields)));
   wire : l.wire.log.writes.received ≡ l.fn.wire.log.writes.received ++ front (take l.field-index (lines_of l.fields));
 }

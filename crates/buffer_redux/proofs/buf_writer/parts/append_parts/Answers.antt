@@ -18,6 +18,7 @@ loop-part-preserved c =
           added.bytes;
       room = omega (arith, before.room, simp length-append at (ap length rest), added.usable);
       capacity = added.capacity ∙ before.capacity;
+      limit = added.limit ∙ before.limit;
       kind = added.kind ∙ before.kind;
       whole = c.append.ensures.whole;
     }
@@ -30,6 +31,7 @@ returns c =
           ∙ ap (λ l. c.loop-part.buf.bytes ++ l) (sym (none_from c.args.parts.now c.loop-part.part-index c.loop-part-test.false))
           ∙ last.bytes;
       capacity = last.capacity;
+      limit = last.limit;
       kind = last.kind;
       whole = last.whole;
     }

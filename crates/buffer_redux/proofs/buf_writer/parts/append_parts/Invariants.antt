@@ -9,6 +9,7 @@ invariant-loop-part l = record {
   bytes : l.buf.bytes ++ all_of (drop l.part-index l.parts) ≡ l.initial.buf.bytes ++ all_of l.parts;
   room : length (all_of (drop l.part-index l.parts)) ≤ usable l.buf;
   capacity : l.buf.capacity ≡ l.initial.buf.capacity;
+  limit : l.buf.limit ≡ l.initial.buf.limit;
   kind : l.buf.kind ≡ l.initial.buf.kind;
   whole : IsBlock l.buf;
 }

@@ -4,14 +4,14 @@ use Rattle.chunked.proofs.extension.Within.least.Goals as goal
 
 pub returns-in-BeforeName : goal.returns-in-BeforeName
 returns-in-BeforeName c = elim c.in-BeforeName.is [
-  | inl is ↦ rw is before_name
-  | inr (inl is) ↦ rw is before_value
-  | inr (inr is) ↦ rw is quoted
+  | inl is ↦ rw is (record { so_many = before_name.0; none_less = before_name.1 })
+  | inr (inl is) ↦ rw is (record { so_many = before_value.0; none_less = before_value.1 })
+  | inr (inr is) ↦ rw is (record { so_many = quoted.0; none_less = quoted.1 })
 ]
 
 pub returns-in-Blank : goal.returns-in-Blank
 returns-in-Blank c = elim c.in-Blank.is [
-  | inl is ↦ rw is blank
-  | inr (inl is) ↦ rw is behind_name
-  | inr (inr is) ↦ rw is escaped
+  | inl is ↦ rw is (record { so_many = blank.0; none_less = blank.1 })
+  | inr (inl is) ↦ rw is (record { so_many = behind_name.0; none_less = behind_name.1 })
+  | inr (inr is) ↦ rw is (record { so_many = escaped.0; none_less = escaped.1 })
 ]

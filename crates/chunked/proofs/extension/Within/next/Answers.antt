@@ -1,7 +1,7 @@
 use Rattle.std.proofs.Common.{inl, inr, refl, arith, rules}
 use Rattle.chunked.specs.Token.{IsBlank, IsTokenByte}
 use Rattle.chunked.specs.WithinLaws.{leads, none}
-use Rattle.chunked.specs.declared.extension.Within.TheVariants.{Blank, BeforeName, InName, BehindName, InValue, Behind}
+use Rattle.chunked.specs.declared.extension.Within.TheVariants.{Blank, BeforeName, InName, BehindName, BeforeValue, InValue, Behind}
 use Rattle.chunked.proofs.extension.Within.next.Goals as goal
 
 pub returns-in-32 : goal.returns-in-32
@@ -52,3 +52,12 @@ pub returns-in_default-byte-5 : goal.returns-in_default-byte-5
 returns-in_default-byte-5 c =
     let token : IsTokenByte c.args.byte = search rules in
     rw c.in-InValue.is (leads InValue c.args.byte InValue (inr (inl (token, refl))))
+
+pub returns-in-61 : goal.returns-in-61
+returns-in-61 c = rw c.in-InName.is (leads InName c.args.byte BeforeValue (inr (inr (inl (c.in-61.is, refl)))))
+
+pub returns-in_default-2-byte : goal.returns-in_default-2-byte
+returns-in_default-2-byte c = rw c.in-InName.is (none InName c.args.byte (λ v s. grind arith))
+
+pub returns-in_default-2-byte-3 : goal.returns-in_default-2-byte-3
+returns-in_default-2-byte-3 c = rw c.in-InValue.is (none InValue c.args.byte (λ v s. grind arith))

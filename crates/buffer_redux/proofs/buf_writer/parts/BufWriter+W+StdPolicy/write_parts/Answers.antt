@@ -15,7 +15,14 @@ append_parts-requires-in-Ok-clause-room g c =
 
 pub returns-then-usable_space-len : goal.returns-then-usable_space-len
 returns-then-usable_space-len g c = parts_fit _ _ g.met.W.TellWrite.trace_none c.args.self.now _ _
-    (rw (← c.self.view_is) c.append_parts.ensures) (rw (← c.self.view_is) refl)
+    (rw (← c.self.view_is) (record {
+      others = refl;
+      added = c.append_parts.ensures.bytes;
+      capacity = c.append_parts.ensures.capacity;
+      limit = c.append_parts.ensures.limit;
+      kind = c.append_parts.ensures.kind;
+      whole = c.append_parts.ensures.whole;
+    }))
 
 pub returns-in-Ok : goal.returns-in-Ok
 returns-in-Ok g c =
@@ -28,7 +35,14 @@ returns-in-Ok g c =
     ) in
     parts_moved _ _ g.met.W.TellWrite.trace_none g.met.W.TellWrite.trace_joins g.met.W.TellWrite.trace_grows c.args.self.now
     c.make_place.new.self _ c.total-len.result _ few c.in-Ok.ensures
-    (rw (← c.self-2.view_is) c.append_parts-in-Ok.ensures) (rw (← c.self-2.view_is) refl)
+    (rw (← c.self-2.view_is) (record {
+      others = refl;
+      added = c.append_parts-in-Ok.ensures.bytes;
+      capacity = c.append_parts-in-Ok.ensures.capacity;
+      limit = c.append_parts-in-Ok.ensures.limit;
+      kind = c.append_parts-in-Ok.ensures.kind;
+      whole = c.append_parts-in-Ok.ensures.whole;
+    }))
 
 pub returns-in-Err : goal.returns-in-Err
 returns-in-Err g c =
