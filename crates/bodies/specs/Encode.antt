@@ -1,6 +1,6 @@
 -- What a run of `encode` moves from a reader to a writer.
 use Rattle.std.specs.Prelude.{◌≡◌, ℕ, ◌+◌, ◌<◌, ◌≤◌, ◌⊎◌, List, [], ◌++◌, length, Result, Ok, Err}
-use Rattle.programs.specs.Flushes.{FlushesPerAsk, FlushesSend}
+use Rattle.programs.specs.Flushes.{FlushesSend}
 use Rattle.bodies.specs.Words.{Buffered, WritesInOrder, MetInterrupts, SendErrorCaused, StreamLog, StdPolicy, IsBody, IsChunks, body_end, Limits, HoldsNothingBack, WritesOn, AllFlushed, AllSent, EndsOnce, MetNoFault, ReadFailed, SendFailed, OverCount, BufferRefused, RunError}
 use Rattle.bodies.specs.declared.error.RunError.TheVariants.{Read, Write, Io}
 
@@ -78,10 +78,10 @@ EncodeRan read read' written written' (Err (Io e)) =
     × (OverCount e (length m.payload) read read' written written' ⊎ BufferRefused e read read' written written')
 EncodeRan read read' written written' (Err other) = ⊥
 
--- all that a run of `encode` promises
+-- all that a run of `encode` promises: the writer was flushed once for each ask of the reader at most, and once more
 pub record Encodes (read read' written written' : StreamLog) (answer : Result (Unit {0}) RunError) : Type 0 where
   pub ran : EncodeRan read read' written written' answer
   pub prompt : HoldsNothingBack IsDue read read' written written'
   pub once : EndsOnce read.reads read'.reads
   pub flushes : FlushesSend 1 written.writes written'.writes
-  pub per_ask : FlushesPerAsk 1 read read' written written'
+  pub per_ask : written'.writes.flushes + read.reads.asks ≤ written.writes.flushes + read'.reads.asks + 1

@@ -1,7 +1,7 @@
 -- What the words after the program's name can be.
-use Rattle.std.proofs.Common.{◌≡◌, ◌↔◌, ℕ, ◌<◌, ◌≤◌, Bool, false, List, [], ◌∷◌, ◌++◌, map, length, get_or, Option, Some, None, unwrap_or, refl, sym, ap, ◌∙◌, arith, inl, inr}
+use Rattle.std.proofs.Common.{◌≡◌, ◌↔◌, ℕ, ◌<◌, ◌≤◌, Bool, false, List, [], ◌∷◌, map, length, get_or, Option, Some, None, unwrap_or, refl, sym, ap, ◌∙◌, arith, inl, inr}
 use Rattle.std.specs.Str.Parse.{digits_value}
-use Rattle.copier.specs.Settings.{IsCapacity, NamesBuffer, AskForBuffer, AskForCapacity, AskFor}
+use Rattle.copier.specs.Settings.{IsCapacity, NamesBuffer, AskFor}
 
 -- the four forms that words which ask for something have
 data Form (words : List (List ℕ)) (ring : Bool) (capacity : ℕ) : Type 0 where
@@ -13,16 +13,18 @@ data Form (words : List (List ℕ)) (ring : Bool) (capacity : ℕ) : Type 0 wher
   both : (first last : List ℕ) → words ≡ first ∷ last ∷ [] → NamesBuffer first ring → IsCapacity last
       → capacity ≡ digits_value 10 last → Form words ring capacity
 
-form_at : (words first last : List (List ℕ)) (ring : Bool) (capacity : ℕ) → words ≡ first ++ last
-    → AskForBuffer first ring → AskForCapacity last capacity → Form words ring capacity
-form_at words first last ring capacity all (inl f) (inl l) = bare (all ∙ cc) f.1 l.1
-form_at words first last ring capacity all (inl f) (inr l) = sized l.0 (all ∙ cc) f.1 l.2 l.3
-form_at words first last ring capacity all (inr f) (inl l) = named f.0 (all ∙ cc) f.2 l.1
-form_at words first last ring capacity all (inr f) (inr l) = both f.0 l.0 (all ∙ cc) f.2 l.2 l.3
-
 form_of : (words : List (List ℕ)) (ring : Bool) (capacity : ℕ)
     → AskFor words ring capacity → Form words ring capacity
-form_of words ring capacity ask = form_at words ask.first ask.last ring capacity ask.all ask.buffer ask.room
+form_of words ring capacity ask = elim ask.buffer [
+  | inl f ↦ elim ask.room [
+    | inl l ↦ bare (ask.all ∙ cc) f.1 l.1
+    | inr l ↦ sized l.0 (ask.all ∙ cc) f.1 l.2 l.3
+  ]
+  | inr f ↦ elim ask.room [
+    | inl l ↦ named f.0 (ask.all ∙ cc) f.2 l.1
+    | inr l ↦ both f.0 l.0 (ask.all ∙ cc) f.2 l.2 l.3
+  ]
+]
 
 no_digit_first : (word : List ℕ) (c : ℕ) (cs : List ℕ) → word ≡ c ∷ cs → 57 < c → ¬ IsCapacity word
 no_digit_first word c cs e high is =
@@ -162,10 +164,7 @@ module _ {X : Type 0} (f : X → List ℕ) where
 -- a capacity that is asked for is in range
 pub asked_in_range : (words : List (List ℕ)) (ring : Bool) (capacity : ℕ)
     → AskFor words ring capacity → (1 ≤ capacity) × (capacity ≤ 1048576)
-asked_in_range words ring capacity ask = in_range ask.last capacity ask.room
-  where
-    in_range : (last : List (List ℕ)) (capacity : ℕ)
-        → AskForCapacity last capacity → (1 ≤ capacity) × (capacity ≤ 1048576)
-    in_range last capacity (inl none) = (omega (arith, none.1), omega (arith, none.1))
-    in_range last capacity (inr one) =
-        (omega (arith, one.2.not_zero, one.3), omega (arith, one.2.not_large, one.3))
+asked_in_range words ring capacity ask = elim ask.room [
+  | inl none ↦ (omega (arith, none.1), omega (arith, none.1))
+  | inr one ↦ (omega (arith, one.2.not_zero, one.3), omega (arith, one.2.not_large, one.3))
+]

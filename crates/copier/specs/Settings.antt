@@ -14,26 +14,12 @@ pub record IsCapacity (word : List ℕ) : Type 0 where
 abbrev pub NamesBuffer : List ℕ → Bool → Type 0
 NamesBuffer word ring = ((word ≡ codes "ring") × (ring ≡ true)) ⊎ ((word ≡ codes "std") × (ring ≡ false))
 
--- no word, and no ring is wanted, or one word that names the buffer
-abbrev pub AskForBuffer : List (List ℕ) → Bool → Type 0
-AskForBuffer words ring = ((words ≡ []) × (ring ≡ false))
-    ⊎ ((word : List ℕ) × (words ≡ word ∷ []) × NamesBuffer word ring)
-
--- no word, and the capacity is 8192, or one word that is the capacity
-abbrev pub AskForCapacity : List (List ℕ) → ℕ → Type 0
-AskForCapacity words capacity = ((words ≡ []) × (capacity ≡ 8192))
-    ⊎ ((word : List ℕ) × (words ≡ word ∷ []) × IsCapacity word × (capacity ≡ digits_value 10 word))
-
--- first the words for the buffer, then those for the capacity, and nothing else
+-- first no word, where no ring is wanted, or one that names the buffer; then no word, where the capacity is 8192, or one that is
+-- the capacity; and nothing else
 pub record AskFor (words : List (List ℕ)) (ring : Bool) (capacity : ℕ) : Type 0 where
   pub first : List (List ℕ)
   pub last : List (List ℕ)
   pub all : words ≡ first ++ last
-  pub buffer : AskForBuffer first ring
-  pub room : AskForCapacity last capacity
-
--- the words ask for something that the program knows
-pub record Asks (words : List (List ℕ)) : Type 0 where
-  pub ring : Bool
-  pub capacity : ℕ
-  pub ask : AskFor words ring capacity
+  pub buffer : ((first ≡ []) × (ring ≡ false)) ⊎ ((word : List ℕ) × (first ≡ word ∷ []) × NamesBuffer word ring)
+  pub room : ((last ≡ []) × (capacity ≡ 8192))
+      ⊎ ((word : List ℕ) × (last ≡ word ∷ []) × IsCapacity word × (capacity ≡ digits_value 10 word))

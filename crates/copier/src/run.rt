@@ -1,7 +1,7 @@
 //! The copy itself, over any two streams that tell.
-ghost use Rattle.std.specs.Prelude.{◌≡◌, ◌≤◌, ◌⊎◌, ◌↔◌, codes, map, string_bytes, IfOk, IfErr, OnErr};
+ghost use Rattle.std.specs.Prelude.{◌≡◌, ◌≤◌, ◌⊎◌, ◌↔◌, ℕ, Bool, codes, map, string_bytes, IfOk, IfErr, OnErr};
 ghost use Rattle.programs.specs.Streams.{EndsOnce, IsFresh};
-ghost use Rattle.copier.specs.Settings.{Asks};
+ghost use Rattle.copier.specs.Settings.{AskFor};
 ghost use Rattle.copier.specs.Copy.{EitherFailed, OverTotal, Copied, InterruptedOften, IsBeginning, RunEnded, RunFailed, RunFlushes};
 
 use crate::settings::settings;
@@ -80,7 +80,8 @@ pub fn run_asked<R: TellRead, W: TellWrite>(
     reader: R,
     writer: W,
 ) -> (Ending, R, W)
-    ensures usage { (result.0 ≡ Ending.Usage) ↔ ¬ Asks (map string_bytes words.now) }
+    ensures usage { (result.0 ≡ Ending.Usage)
+        ↔ ¬ ((ring : Bool) × (capacity : ℕ) × AskFor (map string_bytes words.now) ring capacity) }
     ensures ended { RunEnded result.0 (R.log reader) (R.log result.1) (W.log writer) (W.log result.2) }
     ensures a_beginning { IsBeginning (R.log reader) (R.log result.1) (W.log writer) (W.log result.2) }
     ensures once { EndsOnce (R.log reader).reads (R.log result.1).reads }

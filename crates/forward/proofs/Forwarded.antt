@@ -1,10 +1,12 @@
 -- What `forward` does for all payloads.
 use Rattle.std.proofs.Common.{inl, inr, ◌≡◌, ◌⊎◌, ℕ, ◌+◌, ◌^◌, ◌≤◌, length, Bool, true, false, Result, Ok, Err, refl, ◌∙◌, arith}
+use Rattle.std.specs.Option.{option_map_or}
+use Rattle.std.specs.Result.{result_err}
 use Rattle.forward.specs.Filter.{AsksOnce, FilterRules, IsLawful}
 use Rattle.forward.specs.Flushes.{FlushesSend}
-use Rattle.forward.specs.Forward.{Forwards}
+use Rattle.forward.specs.Forward.{Forwards, flushed_last}
 use Rattle.forward.specs.Link.{Ask, Goes, IsPrompt, Linked}
-use Rattle.forward.specs.Steps.{AskedFrom, ForwardsNext, NextAnswers, flushed_next}
+use Rattle.forward.specs.Steps.{AskedFrom, ForwardsNext, NextAnswers}
 use Rattle.forward.specs.StreamsLaws.{MetNoFault-none}
 use Rattle.forward.specs.declared.error.Cause.{Cause}
 use Rattle.forward.specs.declared.error.Cause.TheVariants.{Count}
@@ -84,7 +86,7 @@ module _ {T W : Type 0} (rules : FilterRules T W) (lawful : IsLawful rules) wher
           asked.asks
 
       module _ (answer : Result Bool (Cause W)) (next : ForwardsNext rules s answer t) where
-        all_goes : Goes rules Prompt (flushed_next answer) first t
+        all_goes : Goes rules Prompt (option_map_or flushed_last (result_err answer) 0) first t
         all_goes = goes_on rules lawful Prompt count first s t before prompt_of answer next
 
         all_once : AsksOnce rules first.filter t.filter

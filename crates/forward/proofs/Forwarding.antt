@@ -1,12 +1,14 @@
 -- What is done for one payload, behind those that went over before.
 use Rattle.std.proofs.Common.{inl, inr, length, ◌≡◌, ◌⊎◌, ℕ, ◌+◌, ◌≤◌, List, [], ◌∷◌, ◌++◌, Bool, true, false, Result, Ok, Err, refl, sym, ap, subst, ◌∙◌, arith, append_assoc, length-append}
+use Rattle.std.specs.Option.{option_map_or}
+use Rattle.std.specs.Result.{result_err}
 use Rattle.std.specs.declared.io.Error.{Error}
 use Rattle.redux_buffer.specs.Faults.{MetInterrupts, OnlyInterrupts, OnlyInterrupts-joins, OnlyInterrupts-same}
 use Rattle.forward.specs.Filter.{AsksOnce, FilterRules, FlushesOnce, IsLawful, Moves, StaysOpen, Wrote}
-use Rattle.forward.specs.Forward.{Forwarded, ForwardedFirst, NoneFailed}
+use Rattle.forward.specs.Forward.{Forwarded, ForwardedFirst, NoneFailed, flushed_last}
 use Rattle.forward.specs.Link.{Ask, Goes, LinkFlushes, LinkPasses, Linked, NotAsked}
 use Rattle.forward.specs.Prompt.{WritesOn}
-use Rattle.forward.specs.Steps.{AskedFrom, ForwardsNext, GivesUp, GoesAhead, IsQuiet, NextAnswers, OnTrue, OnlyInterrupted, TakesTurn, flushed_next}
+use Rattle.forward.specs.Steps.{AskedFrom, ForwardsNext, GivesUp, GoesAhead, IsQuiet, NextAnswers, OnTrue, OnlyInterrupted, TakesTurn}
 use Rattle.forward.specs.Streams.{ReadGaveUp}
 use Rattle.forward.specs.StreamsLaws.{MetNoFault-joins, ReadFailed-after, SendFailed-after}
 use Rattle.forward.specs.declared.error.AskError.{AskError}
@@ -119,9 +121,9 @@ module _ {T W : Type 0} (rules : FilterRules T W) where
       behind (Err Count) once next = absurd (omega (arith, next.1))
 
       module _ (answer : Result Bool (Cause W)) (next : ForwardsNext rules s answer t) where
-        pub goes_on : Goes rules Such (flushed_next answer) first t
-        goes_on = Goes-joins rules Such (flushed_next answer) first s t before.goes
-            (Goes-weaker rules (AskedFrom rules s.filter) Such so (flushed_next answer) s t next.goes)
+        pub goes_on : Goes rules Such (option_map_or flushed_last (result_err answer) 0) first t
+        goes_on = Goes-joins rules Such (option_map_or flushed_last (result_err answer) 0) first s t before.goes
+            (Goes-weaker rules (AskedFrom rules s.filter) Such so (option_map_or flushed_last (result_err answer) 0) s t next.goes)
 
         pub once_on : AsksOnce rules first.filter t.filter
         once_on = AsksOnce-joins rules first.filter s.filter t.filter before.once before.still next.once
@@ -303,7 +305,7 @@ module _ {T W : Type 0} (rules : FilterRules T W) where
       ended : (next : Result Bool (Cause W)) → OnTrue rules next (GoesAhead rules s.filter t.filter)
           → NextAnswers rules 0 s.filter next t.filter → ForwardsNext rules s next t
       ended next more answers = record {
-        goes = goes (flushed_next next);
+        goes = goes (option_map_or flushed_last (result_err next) 0);
         once = once;
         flushes = flushes;
         quiet = quiet;

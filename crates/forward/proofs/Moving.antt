@@ -3,7 +3,7 @@ use Rattle.std.proofs.Common.{◌≡◌, ℕ, ◌+◌, ◌≤◌, inl, inr, List
 use Rattle.std.proofs.lemmas.Grind.{flat_map-append}
 use Rattle.std.proofs.lemmas.List.Elements.{All-append, All-cons, All-nil, All-weaker}
 use Rattle.forward.specs.Filter.{AsksOnce, FilterRules, IsLawful, Moves, StaysOpen}
-use Rattle.forward.specs.Link.{Ask, AreTurns, AsksAlong, Goes, IsAsk, IsTurn, Linked, NotAsked, ask_states, states_of}
+use Rattle.forward.specs.Link.{Ask, AreTurns, AsksAlong, Goes, IsAsk, IsTurn, Linked, NotAsked, states_of}
 use Rattle.forward.specs.Prompt.{AsksGive}
 use Rattle.forward.specs.PromptLaws.{AsksGive-joins, AsksGive-none, WritesOn-none, WritesOn-joins}
 
@@ -85,7 +85,7 @@ module _ {T W : Type 0} (rules : FilterRules T W) where
       → u ≡ s ++ states_of (asks ++ more)
   noted_on s t u asks more first second =
       second ∙ ap (λ l. l ++ states_of more) first ∙ append_assoc s (states_of asks) (states_of more)
-      ∙ ap (λ l. s ++ l) (sym (flat_map-append ask_states asks more))
+      ∙ ap (λ l. s ++ l) (sym (flat_map-append (λ ask. ask.before ∷ ask.after ∷ []) asks more))
 
   abbrev turns_none : AreTurns rules []
   turns_none = record { turns = []; each = All-nil (IsTurn rules); equal = refl }

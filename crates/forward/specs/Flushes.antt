@@ -1,12 +1,7 @@
 -- How often a writer is flushed: only where that sends something, or something is asked for.
 use Rattle.std.specs.Prelude.{ℕ, ◌+◌, ◌≤◌, length}
-use Rattle.redux_buffer.specs.StreamLog.{StreamLog, WriteLog}
+use Rattle.redux_buffer.specs.StreamLog.{WriteLog}
 
 -- each flush but so many came behind a byte that the writer had received since the one before
 abbrev pub FlushesSend : ℕ → WriteLog → WriteLog → Type 0
 FlushesSend idle old new = new.flushes + length old.received ≤ old.flushes + length new.received + idle
-
--- the writer was flushed once for each ask of the reader at most, and so many times more
-abbrev pub FlushesPerAsk : ℕ → StreamLog → StreamLog → StreamLog → StreamLog → Type 0
-FlushesPerAsk more read read' written written' =
-    written'.writes.flushes + read.reads.asks ≤ written.writes.flushes + read'.reads.asks + more

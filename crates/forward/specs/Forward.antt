@@ -1,5 +1,7 @@
 -- What `forward` promises.
 use Rattle.std.specs.Prelude.{◌≡◌, ℕ, ◌+◌, ◌^◌, ◌≤◌, ◌⊎◌, List, ◌++◌, length, Result, Ok, Err}
+use Rattle.std.specs.Option.{option_map_or}
+use Rattle.std.specs.Result.{result_err}
 use Rattle.std.specs.declared.io.Error.{Error}
 use Rattle.redux_buffer.specs.Faults.{OnlyInterrupts}
 use Rattle.forward.specs.Filter.{FilterRules, Moves}
@@ -16,10 +18,6 @@ flushed_last (Wrong why) = 0
 flushed_last (Read e) = 0
 flushed_last (Write e) = 1
 flushed_last Count = 0
-
-abbrev pub last_flush : {W : Type 0} → Result ℕ (Stopped W) → ℕ
-last_flush (Ok count) = 0
-last_flush (Err stopped) = flushed_last stopped.cause
 
 module _ {T W : Type 0} (rules : FilterRules T W) where
   -- neither stream failed
@@ -62,7 +60,8 @@ module _ {T W : Type 0} (rules : FilterRules T W) where
   -- what `forward` does: in front of each ask all that was due was sent, an interrupted one is made again, and the end is asked
   -- for once. The writer is flushed once for each turn of asks at most, and each flush but one at most sent something
   pub record Forwards (s : Linked T) (answer : Result ℕ (Stopped W)) (t : Linked T) : Type 0 where
-    pub goes : Goes rules (IsPrompt rules s.filter) (last_flush answer) s t
+    pub goes : Goes rules (IsPrompt rules s.filter) (option_map_or (λ stopped. flushed_last stopped.cause) (result_err answer) 0)
+        s t
     pub once : EndsOnce (rules.read s.filter).reads (rules.read t.filter).reads
     pub flushes : FlushesSend 1 (rules.written s.filter).writes (rules.written t.filter).writes
     pub ready : rules.ready t.filter

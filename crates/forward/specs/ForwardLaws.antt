@@ -2,7 +2,6 @@
 use Rattle.std.proofs.Common.{inl, inr, ℕ, ◌+◌, ◌<◌, ◌≤◌, List, [], ◌∷◌, length, refl, sym, ap, subst, arith, length-append, All, flat_map}
 use Rattle.std.proofs.lemmas.List.Elements.{All-head, All-tail}
 use Rattle.forward.specs.Filter.{FilterRules}
-use Rattle.forward.specs.Flushes.{FlushesPerAsk}
 use Rattle.forward.specs.Forward.{flushed_last}
 use Rattle.forward.specs.Link.{Ask, AsksAlong, Goes, IsPrompt, IsTurn, Linked}
 use Rattle.forward.specs.Prompt.{HoldsNothingBack}
@@ -68,7 +67,8 @@ module _ {T W : Type 0} (rules : FilterRules T W) where
 
   -- a flush for each turn is one for each ask of the stream, where that is asked in each
   pub Goes-per_ask : {Such : Ask T → Type 0} {more : ℕ} (s t : Linked T) → Goes rules Such more s t → AlwaysAsks
-      → FlushesPerAsk more (rules.read s.filter) (rules.read t.filter) (rules.written s.filter) (rules.written t.filter)
+      → (rules.written t.filter).writes.flushes + (rules.read s.filter).reads.asks
+      ≤ (rules.written s.filter).writes.flushes + (rules.read t.filter).reads.asks + more
   Goes-per_ask s t goes always = omega (
     arith,
     goes.flushes,

@@ -12,20 +12,14 @@ pub record Linked (T : Type 0) : Type 0 where
   pub filter : T
   pub states : List T
 
-abbrev pub linked : {T : Type 0} → T → Linked T
-linked filter = record { filter = filter; states = [] }
-
 -- one call that asks: from this state to that
 pub record Ask (T : Type 0) : Type 0 where
   pub before : T
   pub after : T
 
-abbrev pub ask_states : {T : Type 0} → Ask T → List T
-ask_states ask = ask.before ∷ ask.after ∷ []
-
 -- the states of asks, one after another
 abbrev pub states_of : {T : Type 0} → List (Ask T) → List T
-states_of asks = flat_map ask_states asks
+states_of asks = flat_map (λ ask. ask.before ∷ ask.after ∷ []) asks
 
 module _ {T W : Type 0} (rules : FilterRules T W) where
   -- the stream that is read from wasn't asked

@@ -1,5 +1,7 @@
 -- The steps of `forward`: one turn of asks, and one payload.
 use Rattle.std.specs.Prelude.{◌≡◌, ℕ, ◌+◌, ◌<◌, ◌≤◌, ◌⊎◌, List, [], ◌++◌, length, Bool, true, false, Option, None, Some, Result, Ok, Err}
+use Rattle.std.specs.Option.{option_map_or}
+use Rattle.std.specs.Result.{result_err}
 use Rattle.std.specs.List.{All}
 use Rattle.std.specs.declared.io.Error.{Error}
 use Rattle.redux_buffer.specs.Faults.{IsInterrupt, OnlyInterrupts}
@@ -19,11 +21,6 @@ RowGoes (Err (Io e)) row None = IsInterrupt e → 64 ≤ row
 RowGoes (Err (Io e)) row (Some next) = IsInterrupt e × (row < 64) × (next ≡ row + 1)
 RowGoes (Err (IoBehind e)) row None = ¬ IsInterrupt e
 RowGoes (Err (IoBehind e)) row (Some next) = IsInterrupt e × (next ≡ 1)
-
--- how many flushes may come that no ask follows, where the next payload's answer is this
-abbrev pub flushed_next : {W : Type 0} → Result Bool (Cause W) → ℕ
-flushed_next (Ok more) = 0
-flushed_next (Err cause) = flushed_last cause
 
 module _ {T W : Type 0} (rules : FilterRules T W) where
   -- since this state nothing more went over before the ask, nothing was there to hand out, and all was sent
@@ -86,7 +83,7 @@ module _ {T W : Type 0} (rules : FilterRules T W) where
 
   -- what is done for one payload
   pub record ForwardsNext (s : Linked T) (answer : Result Bool (Cause W)) (t : Linked T) : Type 0 where
-    pub goes : Goes rules (AskedFrom s.filter) (flushed_next answer) s t
+    pub goes : Goes rules (AskedFrom s.filter) (option_map_or flushed_last (result_err answer) 0) s t
     pub once : AsksOnce rules s.filter t.filter
     pub flushes : FlushesOnce rules s.filter t.filter
     pub quiet : rules.drops → rules.sent s.filter

@@ -1,6 +1,6 @@
 //! A filter whose asks are noted.
-ghost use Rattle.std.specs.Prelude.{◌≡◌};
-ghost use Rattle.forward.specs.Link.{LinkAsks, LinkFlushes, LinkPasses, linked};
+ghost use Rattle.std.specs.Prelude.{◌≡◌, []};
+ghost use Rattle.forward.specs.Link.{LinkAsks, LinkFlushes, LinkPasses};
 
 use crate::error::AskError;
 use crate::filter::Filter;
@@ -26,7 +26,7 @@ impl<F> Model for Link<F> {
 impl<F> Link<F> {
     /// A link that was not asked yet.
     pub fn new(filter: F) -> Link<F>
-        ensures { result ≡ linked filter }
+        ensures { result ≡ record { filter = filter; states = [] } }
     {
         Link {
             filter,

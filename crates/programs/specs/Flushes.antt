@@ -1,7 +1,7 @@
 -- How often a run flushes its writer: only where that sends something.
 use Rattle.std.specs.Prelude.{◌≡◌, ◌+◌, ◌≤◌, ◌⊎◌, length}
 use Rattle.buffer_redux.specs.Buffered.{Buffered}
-pub use Rattle.forward.specs.Flushes.{FlushesSend, FlushesPerAsk}
+pub use Rattle.forward.specs.Flushes.{FlushesSend}
 
 -- the writer was flushed once at most, and all that was buffered had been received then
 abbrev pub FlushesOnce : {W P : Type 0} → Buffered W P → Buffered W P → Type 0

@@ -1,7 +1,6 @@
 use Rattle.std.proofs.Common.{subst, sym}
 use Rattle.forward.specs.Forward.{ForwardAnswers}
 use Rattle.forward.specs.ForwardLaws.{Goes-holds}
-use Rattle.forward.specs.Link.{linked}
 use Rattle.bodies.specs.Decode.{DecodeRan}
 use Rattle.bodies.specs.Decoding.{decoding_rules}
 use Rattle.bodies.proofs.DecodeRuns.{ended, start, stopped}
@@ -25,7 +24,7 @@ returns g c =
             (stopped remaining a.limits a.source a.target a.piece c.requires.source c.requires.empty t over.ready _ _ _
             (subst (λ x. ForwardAnswers rules first x t) w.in-Err.is over.answers) w.error_of.ensures)
       ];
-      prompt = Goes-holds rules (linked first) c.forward-answer.new.link over.goes;
+      prompt = Goes-holds rules _ c.forward-answer.new.link over.goes;
       once = over.once;
       flushes = over.flushes;
     })

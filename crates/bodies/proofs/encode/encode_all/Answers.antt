@@ -1,6 +1,5 @@
 use Rattle.std.proofs.Common.{refl, arith}
 use Rattle.forward.specs.ForwardLaws.{Goes-holds, Goes-per_ask, one_flush}
-use Rattle.forward.specs.Link.{linked}
 use Rattle.programs.specs.PromptLaws.{HoldsNothingBack-on}
 use Rattle.bodies.specs.Encode.{IsDue}
 use Rattle.bodies.specs.Encoding.{encoding_rules}
@@ -15,12 +14,12 @@ returns-in-Ok g c =
     let over = rw (c.new-link.ensures, c.new.ensures.begun) at c.in-Ok.ensures in
     let answers = over.answers in
     let end = rw c.into_inner-source.ensures at c.end-answer.ensures in
-    let before = Goes-per_ask rules (linked first) t over.goes (λ s t asked. asked.1) in
+    let before = Goes-per_ask rules _ t over.goes (λ s t asked. asked.1) in
     rw c.into_inner-source.ensures (record {
       ran = ended g.R.TellRead.remaining g.W.TellWrite.trace c.args.source c.args.target c.requires.source.bytes
           c.requires.target.bytes t.filter _ answers.0 answers.1.0 answers.3 c.end-answer.result.1 answers.1.1
           c.end-answer.result.0 end;
-      prompt = HoldsNothingBack-on IsDue c.args.source.log _ _ c.args.target.log _ _ (Goes-holds rules (linked first) t over.goes)
+      prompt = HoldsNothingBack-on IsDue c.args.source.log _ _ c.args.target.log _ _ (Goes-holds rules _ t over.goes)
           refl end.writes;
       once = over.once;
       flushes = omega (arith, over.flushes, end.flushes);
@@ -32,11 +31,11 @@ returns-in-Err g c =
     let rules = encoding_rules g.R.TellRead.remaining g.W.TellWrite.trace in
     let first = start c.args.source c.args.target in
     let over = rw (c.new-link.ensures, c.new.ensures.begun) at c.in-Err.ensures in
-    let before = Goes-per_ask rules (linked first) c.forward-answer.new.link over.goes (λ s t asked. asked.1) in
+    let before = Goes-per_ask rules _ c.forward-answer.new.link over.goes (λ s t asked. asked.1) in
     rw (c.into_inner.ensures, c.into_inner-source.ensures) (record {
       ran = stopped g.R.TellRead.remaining g.W.TellWrite.trace c.args.source c.args.target c.requires.source.bytes
           c.requires.target.bytes c.forward-answer.new.link.filter _ _ _ over.answers c.error_of.ensures;
-      prompt = Goes-holds rules (linked first) c.forward-answer.new.link over.goes;
+      prompt = Goes-holds rules _ c.forward-answer.new.link over.goes;
       once = over.once;
       flushes = over.flushes;
       per_ask = omega (arith, before, one_flush c.in-Err.stopped.cause);

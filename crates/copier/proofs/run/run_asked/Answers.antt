@@ -15,7 +15,7 @@ returns-in_default-clause-a_beginning g c = IsBeginning-none _ _
 pub returns-in_default-clause-usage : goal.returns-in_default-clause-usage
 returns-in_default-clause-usage g c = (
   λ is asks.
-      let told = (c.settings.ensures asks.ring asks.capacity).1 asks.ask in
+      let told = (c.settings.ensures asks.0 asks.1).1 asks.2 in
       cc,
   λ none. refl,
 )

@@ -1,7 +1,6 @@
 use Rattle.std.proofs.Common.{None, refl, subst}
 use Rattle.forward.specs.Forward.{Forwards}
 use Rattle.forward.specs.ForwardLaws.{Goes-holds}
-use Rattle.forward.specs.Link.{linked}
 use Rattle.frames.specs.Packing.{packing_rules}
 use Rattle.frames.specs.declared.packing.Packing.{Packing}
 use Rattle.frames.proofs.Packs.{packed}
@@ -17,7 +16,7 @@ returns g c =
     rw c.into_inner-source.ensures (record {
       ran = packed g.R.TellRead.remaining first t.filter (c.requires.nothing, c.requires.empty, refl) c.requires.going
           over.ready c.forward-answer.result c.outcome.result c.outcome.ensures over.answers;
-      prompt = Goes-holds rules (linked first) t over.goes;
+      prompt = Goes-holds rules _ t over.goes;
       once = over.once;
       flushes = over.flushes;
     })

@@ -1,7 +1,6 @@
 use Rattle.std.proofs.Common.{None, refl, subst}
 use Rattle.forward.specs.Forward.{Forwards}
 use Rattle.forward.specs.ForwardLaws.{Goes-holds}
-use Rattle.forward.specs.Link.{linked}
 use Rattle.frames.specs.Unpacking.{unpacking_rules}
 use Rattle.frames.specs.declared.unpacking.Unpacking.{Unpacking}
 use Rattle.frames.proofs.Unpacks.{unpacked_all}
@@ -17,7 +16,7 @@ returns g c =
     rw c.into_inner-source.ensures (record {
       ran = unpacked_all g.R.TellRead.remaining first t.filter (c.requires.nothing, c.requires.empty, refl) c.requires.reads.told
           over.ready c.forward-answer.result c.outcome.result c.outcome.ensures over.answers;
-      prompt = Goes-holds rules (linked first) t over.goes;
+      prompt = Goes-holds rules _ t over.goes;
       once = over.once;
       flushes = over.flushes;
     })
