@@ -9,8 +9,8 @@ use Rattle.buffer_redux.specs.BufReader.{ReadsAlong}
 use Rattle.buffer_redux.specs.Sparing.{Spared}
 
 -- reads past the policy, one after another, until n bytes are buffered: fewer are, where the last of them, and no other, gave
--- nothing, or failed. They hand out nothing; the reader is asked at most
--- once for each byte that lacks, and nothing is done where none does; and each number that is at least n is spared
+-- nothing, or failed. They hand out nothing; the reader is asked at most once for each byte that lacks, and nothing is done
+-- where none does; and each number that is at least n is spared
 pub record ReadsAhead {S P A : Type 0} (remaining : S → Option (List ℕ)) (rules : ReadRules P) (n : ℕ)
     (s : Buffered S P) (answer : Result A Error) (t : Buffered S P) : Type 0 where
   pub along : ReadsAlong remaining rules s [] t

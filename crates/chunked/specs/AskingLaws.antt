@@ -112,7 +112,8 @@ module _ {R : Type 0} where
   turns_asked : (k : ℕ) (s t : Buffered R StdPolicy) → Turns std_read_rules k s t
       → t.log.reads.asks ≡ s.log.reads.asks + k
   turns_asked zero s t same = omega (arith, ap (λ x. x.log.reads.asks) same)
-  turns_asked (suc k) s t (m, run, count, some, turn) = omega (arith, turns_asked k s m run, ap (λ l. l.reads.asks) turn.read.told)
+  turns_asked (suc k) s t (m, run, count, some, turn) =
+      omega (arith, turns_asked k s m run, ap (λ l. l.reads.asks) turn.read.told)
 
   no_turn : (k : ℕ) (s t : Buffered R StdPolicy) → Turns std_read_rules k s t → k ≡ 0 → t.log ≡ s.log
   no_turn zero s t same none = ap (λ x. x.log) (sym same)

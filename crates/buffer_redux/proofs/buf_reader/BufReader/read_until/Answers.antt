@@ -45,7 +45,8 @@ returns-in_ok-append_first-in-Some g c =
       handed = take (c.in-Some.at + 1) s.block.bytes;
       appended = a.0;
       front = a.1;
-      ends = inl (reaches {step = FillsOn (λ left. left ≡ []) remaining rules} remaining rules c.args.byte s s [] (passes_none remaining rules c.args.byte s whole) c.in-Some.at
+      ends = inl (reaches {step = FillsOn (λ left. left ≡ []) remaining rules} remaining rules c.args.byte s s []
+          (passes_none remaining rules c.args.byte s whole) c.in-Some.at
           c.append_first.new.self first a.2);
       count = sym (through_length c.args.byte c.in-Some.at s.block.bytes first);
       buffered = λ some. (c.in-Some.at, first, a);

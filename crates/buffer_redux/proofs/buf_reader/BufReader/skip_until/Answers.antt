@@ -18,7 +18,8 @@ returns-in-Some g c =
     let until : SkipsUntil remaining rules c.args.byte s _ _ = record {
       handed = take (c.in-Some.at + 1) s.block.bytes;
       front = record { in_order = gone.in_order; keeps = gone.keeps };
-      ends = inl (reaches {step = FillsOn (λ left. left ≡ []) remaining rules} remaining rules c.args.byte s s [] (passes_none remaining rules c.args.byte s whole) c.in-Some.at
+      ends = inl (reaches {step = FillsOn (λ left. left ≡ []) remaining rules} remaining rules c.args.byte s s []
+          (passes_none remaining rules c.args.byte s whole) c.in-Some.at
           c.consume_exact.new.self first
           (drops_some rules s c.consume_exact.new.self (c.in-Some.at + 1) (omega arith) gone.consumed));
       count = sym (through_length c.args.byte c.in-Some.at s.block.bytes first);
