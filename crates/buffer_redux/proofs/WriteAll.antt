@@ -1,5 +1,5 @@
 -- A write of all bytes, write after write.
-use Rattle.std.proofs.Common.{◌≡◌, ◌≢◌, ℕ, suc, ◌+◌, ◌-◌, ◌<◌, ◌≤◌, List, [], ◌++◌, length, take, drop, Result, Ok, Err, IfErr, OnOk, refl, sym, ap, subst, ◌∙◌, arith, le_refl, le_trans, inl, inr, append-nil, take_all, take-add, length-drop}
+use Rattle.std.proofs.Common.{◌≡◌, ◌≢◌, ℕ, suc, ◌+◌, ◌-◌, ◌<◌, ◌≤◌, List, [], ◌++◌, length, take, drop, Result, Ok, Err, IfErr, OnOk, refl, sym, ap, subst, ◌∙◌, arith, le_refl, le_trans, inl, inr, append-nil, take_all, take-add, length-drop, true}
 use Rattle.std.specs.Prelude.{MatchResult, ◌⊎◌}
 use Rattle.std.proofs.lemmas.Bool.{cases_lt}
 use Rattle.std.proofs.lemmas.Slice.{between_to_end}
@@ -15,10 +15,10 @@ use Rattle.redux_buffer.specs.StreamLog.{StreamLog, portion}
 use Rattle.buffer_redux.specs.Policy.{WriteRules}
 use Rattle.buffer_redux.specs.AllBytes.{GoesBy, EndsBy, GaveUp}
 use Rattle.buffer_redux.specs.Buffered.{Buffered, InnerWent}
-use Rattle.buffer_redux.specs.BufWriter.{writer_contents, WritesInOrder, FlushesAmount, TakesIn, Prepared, Finished, Writes, WriterKeeps, WriteErrorCaused}
+use Rattle.buffer_redux.specs.BufWriter.{writer_contents, WritesInOrder, FlushesAmount, TakesIn, Prepared, Finished, Writes, WriterKeeps, WriteErrorCaused, WriterStopped}
 use Rattle.buffer_redux.specs.WriterLaws.{WritesInOrder-none, WritesInOrder-joins, WritesInOrder-contents, flush_ways, ways_in}
-use Rattle.buffer_redux.specs.WriteAll.{LastWriteFailed, WriteTurns, TookFront, TookBeginning, WritesAll}
-use Rattle.buffer_redux.proofs.WriteAllCauses.{all_caused, all_steadily}
+use Rattle.buffer_redux.specs.WriteAll.{WriteTurns, TookFront, TookBeginning, WritesAll}
+use Rattle.buffer_redux.proofs.WriteAllCauses.{LastWriteFailed, all_caused, all_steadily}
 use Rattle.buffer_redux.proofs.WriteTurns.{claims_stay}
 use Rattle.buffer_redux.proofs.WriterFacts.{writes_keep, writes_caused, writes_steadily, writes_nothing}
 
@@ -292,6 +292,7 @@ module _ {S P : Type 0} (tells : S → StreamLog) (trace : S → S → Type 0) (
     bytes : OnOk answer (Appends (writer_contents s) (writer_contents t) bs);
     in_order : OnOk answer (WritesInOrder s bs t);
     beginning : TookBeginning bs s t;
+    steadily : (rules.claims s.policy).steady ≡ true → IfErr answer (WriterStopped s.log.writes t.log.writes);
     retried : IfErr answer (λ e. error_kind e ≢ Interrupted);
     whole : IsBlock t.block;
     steps : WritesAll tells trace rules s bs answer t;
@@ -304,6 +305,7 @@ module _ {S P : Type 0} (tells : S → StreamLog) (trace : S → S → Type 0) (
         bytes = WritesInOrder-contents s t bs in_order;
         in_order = in_order;
         beginning = beginning w;
+        steadily = w.steadily;
         retried = tt;
         whole = w.front.keeps.whole;
         steps = w;
@@ -313,6 +315,7 @@ module _ {S P : Type 0} (tells : S → StreamLog) (trace : S → S → Type 0) (
     bytes = tt;
     in_order = tt;
     beginning = beginning w;
+    steadily = w.steadily;
     retried = elim w.ended [
       | inl failed ↦ not_interrupted WriteZero (λ odd. cc) failed.answer e failed.ends
       | inr late ↦ λ odd. (let two = sym late.0.timed_out ∙ odd in cc)

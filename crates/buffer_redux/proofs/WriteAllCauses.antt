@@ -9,10 +9,22 @@ use Rattle.redux_buffer.specs.LogGrows.{WriteLogGrows}
 use Rattle.buffer_redux.specs.Policy.{WriteRules}
 use Rattle.buffer_redux.specs.AllBytes.{EndsBy, GaveUp}
 use Rattle.buffer_redux.specs.Buffered.{Buffered, GoesPast}
-use Rattle.buffer_redux.specs.BufWriter.{EmptyWriteCaused, NoSpace, WasInterrupted, WriteErrorCaused, WriteRefused, WriterStopped, Wrote}
-use Rattle.buffer_redux.specs.WriteAll.{LastWriteFailed, WriteTurns}
+use Rattle.buffer_redux.specs.BufWriter.{EmptyWriteCaused, NoSpace, WasInterrupted, WriteErrorCaused, WriteRefused, WriterStopped, Writes, WritesSteadily, Wrote}
+use Rattle.buffer_redux.specs.WriteAll.{WriteTurns}
 use Rattle.buffer_redux.specs.WritesAlongLaws.{WriterStopped-after, WriterStopped-send}
 use Rattle.buffer_redux.proofs.WriteTurns.{turned}
+
+-- a write of the bytes that were left, which were some, ended it
+abbrev pub LastWriteFailed : {S P : Type 0} → WriteRules P → List ℕ → Error → Buffered S P → Buffered S P → Type 0
+LastWriteFailed rules rest e m t = record {
+  some : 0 < length rest;
+  answer : Result ℕ Error;
+  ends : EndsBy WriteZero answer e;
+  caused : WriteErrorCaused rules m rest answer t;
+  empty : answer ≡ Ok 0 → EmptyWriteCaused rules m rest t;
+  steadily : WritesSteadily rules m (length rest) answer t;
+  steps : Writes rules m rest answer t;
+}
 
 -- a write of these bytes found no space, and the policy's answer made none
 abbrev FoundNoSpace : {S P : Type 0} → WriteRules P → Buffered S P → List ℕ → Error → Buffered S P → Type 0
@@ -68,14 +80,14 @@ module _ {S P : Type 0} (rules : WriteRules P) (s : Buffered S P) (bs : List ℕ
   pub all_caused : (answer : Result (Unit {0}) Error) → MatchResult answer (λ _. (count ≡ length bs) × (t ≡ m))
       (λ e. LastWriteFailed rules (drop count bs) e m t ⊎ (GaveUp turns count (length bs) e × (t ≡ m)))
       → IfErr answer (λ e. WriterStopped s.log.writes t.log.writes e ⊎ (WriteRefused rules m (drop count bs) e t
-      ⊎ (FoundNoSpace rules m (drop count bs) e t ⊎ GaveUp turns count (length bs) e)))
+      ⊎ (FoundNoSpace rules m (drop count bs) e t ⊎ (GaveUp turns count (length bs) e × (t ≡ m)))))
   all_caused (Ok x) ended = tt
   all_caused (Err e) (inl failed) = elim (last_caused rules (drop count bs) e m t failed) [
     | inl stopped ↦ inl (WriterStopped-after s.log.writes m.log.writes t.log.writes e grows stopped)
     | inr (inl refused) ↦ inr (inl refused)
     | inr (inr space) ↦ inr (inr (inl space))
   ]
-  all_caused (Err e) (inr gave) = inr (inr (inr gave.0))
+  all_caused (Err e) (inr gave) = inr (inr (inr gave))
 
   pub all_steadily : (answer : Result (Unit {0}) Error) → MatchResult answer (λ _. (count ≡ length bs) × (t ≡ m))
       (λ e. LastWriteFailed rules (drop count bs) e m t ⊎ (GaveUp turns count (length bs) e × (t ≡ m)))

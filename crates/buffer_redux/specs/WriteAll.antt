@@ -36,17 +36,6 @@ pub record TookBeginning {S P : Type 0} (bs : List ℕ) (s t : Buffered S P) : T
   pub within : count ≤ length bs
   pub in_order : WritesInOrder s (take count bs) t
 
--- a write of the bytes that were left, which were some, ended it
-pub record LastWriteFailed {S P : Type 0} (rules : WriteRules P) (rest : List ℕ) (e : Error) (m t : Buffered S P)
-    : Type 0 where
-  pub some : 0 < length rest
-  pub answer : Result ℕ Error
-  pub ends : EndsBy WriteZero answer e
-  pub caused : WriteErrorCaused rules m rest answer t
-  pub empty : answer ≡ Ok 0 → EmptyWriteCaused rules m rest t
-  pub steadily : WritesSteadily rules m (length rest) answer t
-  pub steps : Writes rules m rest answer t
-
 -- what `write_all(bs)` does: turns took the first `count` bytes in. At `Ok` these are all; at `Err` one more write ended it,
 -- which took nothing in, or there were too many turns
 pub record WritesAll {S P : Type 0} (tells : S → StreamLog) (trace : S → S → Type 0) (rules : WriteRules P)
@@ -58,13 +47,20 @@ pub record WritesAll {S P : Type 0} (tells : S → StreamLog) (trace : S → S �
   pub run : WriteTurns rules bs turns count s last
   pub first : TookFront tells trace rules s (take count bs) last
   pub front : TookFront tells trace rules s (take count bs) t
-  pub ended : MatchResult answer (λ _. (count ≡ length bs) × (t ≡ last))
-      (λ e. LastWriteFailed rules (drop count bs) e last t ⊎ (GaveUp turns count (length bs) e × (t ≡ last)))
+  pub ended : MatchResult answer (λ _. (count ≡ length bs) × (t ≡ last)) (λ e. record {
+    some : 0 < length (drop count bs);
+    answer : Result ℕ Error;
+    ends : EndsBy WriteZero answer e;
+    caused : WriteErrorCaused rules last (drop count bs) answer t;
+    empty : answer ≡ Ok 0 → EmptyWriteCaused rules last (drop count bs) t;
+    steadily : WritesSteadily rules last (length (drop count bs)) answer t;
+    steps : Writes rules last (drop count bs) answer t;
+  } ⊎ (GaveUp turns count (length bs) e × (t ≡ last)))
   -- an error is the inner writer's; or the policy's answer to the last write; or `WriteZero`, where there was no space and the
   -- policy's answer made none; or there were too many turns
   pub caused : IfErr answer (λ e. WriterStopped s.log.writes t.log.writes e ⊎ (WriteRefused rules last (drop count bs) e t
       ⊎ (((error_kind e ≡ WriteZero) × (wrote : Wrote rules last (drop count bs) 0 t)
-      × NoSpace last (length (drop count bs)) wrote.before) ⊎ GaveUp turns count (length bs) e)))
+      × NoSpace last (length (drop count bs)) wrote.before) ⊎ (GaveUp turns count (length bs) e × (t ≡ last)))))
   -- under a steady policy it is the inner writer's
   pub steadily : (rules.claims s.policy).steady ≡ true → IfErr answer (WriterStopped s.log.writes t.log.writes)
 

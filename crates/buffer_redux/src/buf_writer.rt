@@ -1,5 +1,5 @@
 //! The buffered writer.
-ghost use Rattle.std.specs.Prelude.{None, ◌≡◌, ◌≢◌, ◌<◌, ◌≤◌, ◌^◌, [], length, Ok, IfErr, OnOk, OnErr, IsOk};
+ghost use Rattle.std.specs.Prelude.{None, ◌≡◌, ◌≢◌, ◌<◌, ◌≤◌, ◌^◌, [], length, Ok, IfErr, true, OnOk, OnErr, IsOk};
 ghost use Rattle.std.specs.Borrow.{sem, Lends};
 ghost use Rattle.std.specs.Io.{WritesAtMost};
 ghost use Rattle.std.specs.Io.KnownBytes.{Appends, Keeps, WriteAppends};
@@ -12,7 +12,7 @@ ghost use Rattle.redux_buffer.specs.StreamLog.{portion};
 ghost use Rattle.buffer_redux.specs.contracts.buf_writer.BufWriter.{the_row};
 ghost use Rattle.buffer_redux.specs.Buffered.{over_buffer, with_block, with_inner, with_policy, InnerWent, Makes};
 ghost use Rattle.buffer_redux.specs.BufWriter.{writer_contents, FlushesAmount, TakesIn, Finished, Writes};
-ghost use Rattle.buffer_redux.specs.BufWriter.{WritesSteadily, WritesInOrder, WriterKeeps, WriteErrorCaused, EmptyWriteCaused, WasSent, WasFlushed, WasSought};
+ghost use Rattle.buffer_redux.specs.BufWriter.{WritesSteadily, WritesInOrder, WriterKeeps, WriteErrorCaused, EmptyWriteCaused, WasSent, WasFlushed, WriterStopped, WasSought};
 ghost use Rattle.buffer_redux.specs.WriteAll.{TookBeginning, WritesAll};
 
 use crate::errors::MakeError;
@@ -318,6 +318,8 @@ impl<W: TellWrite, P: WriterPolicy> Write for BufWriter<W, P> {
         ensures bytes { OnOk result (Appends (writer_contents self.old) (writer_contents self.new) bytes.now) }
         ensures in_order { OnOk result (WritesInOrder self.old bytes.now self.new) }
         ensures beginning { TookBeginning bytes.now self.old self.new }
+        ensures steadily { (P.rules.claims self.old.policy).steady ≡ true
+            → IfErr result (WriterStopped self.old.log.writes self.new.log.writes) }
         ensures retried { IfErr result (λ e. error_kind e ≢ ErrorKind.Interrupted) }
         ensures whole { IsBlock self.new.block }
         ensures steps { WritesAll W.log W.trace P.rules self.old bytes.now result self.new }

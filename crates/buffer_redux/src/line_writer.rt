@@ -1,5 +1,5 @@
 //! A buffered writer that flushes lines.
-ghost use Rattle.std.specs.Prelude.{◌≡◌, ◌≢◌, ◌<◌, ◌≤◌, ◌^◌, [], length, Ok, Err, IfErr, OnOk, OnErr, IsOk, IfSome, MatchResult, MatchOption};
+ghost use Rattle.std.specs.Prelude.{◌≡◌, ◌≢◌, ◌<◌, ◌≤◌, ◌^◌, [], length, Ok, Err, IfErr, true, OnOk, OnErr, IsOk, IfSome, MatchResult, MatchOption};
 ghost use Rattle.std.specs.Borrow.{sem, Lends};
 ghost use Rattle.std.specs.Io.{WritesAtMost};
 ghost use Rattle.std.specs.Io.KnownBytes.{Appends, Keeps, WriteAppends};
@@ -9,7 +9,7 @@ ghost use Rattle.redux_buffer.specs.GrowError.{FitsWithin};
 ghost use Rattle.redux_buffer.specs.StreamLog.{portion};
 ghost use Rattle.buffer_redux.specs.contracts.line_writer.LineWriter.{the_row};
 ghost use Rattle.buffer_redux.specs.Buffered.{over_buffer, with_block, with_inner, InnerWent, Makes};
-ghost use Rattle.buffer_redux.specs.BufWriter.{writer_contents, Writes, WritesSteadily, WritesInOrder, WriterKeeps, WriteErrorCaused, EmptyWriteCaused, WasSent, WasFlushed};
+ghost use Rattle.buffer_redux.specs.BufWriter.{writer_contents, Writes, WritesSteadily, WritesInOrder, WriterKeeps, WriteErrorCaused, EmptyWriteCaused, WasSent, WasFlushed, WriterStopped};
 ghost use Rattle.buffer_redux.specs.LineWriter.{line_rules};
 ghost use Rattle.buffer_redux.specs.Unwrapping.{InnerOfFlushed, SendsOrHandles};
 ghost use Rattle.buffer_redux.specs.WriteAll.{TookBeginning, WritesAll};
@@ -255,6 +255,8 @@ impl<W: TellWrite> Write for LineWriter<W> {
         ensures bytes { OnOk result (Appends (writer_contents self.old) (writer_contents self.new) bytes.now) }
         ensures in_order { OnOk result (WritesInOrder self.old bytes.now self.new) }
         ensures beginning { TookBeginning bytes.now self.old self.new }
+        ensures steadily { (line_rules.claims self.old.policy).steady ≡ true
+            → IfErr result (WriterStopped self.old.log.writes self.new.log.writes) }
         ensures retried { IfErr result (λ e. error_kind e ≢ ErrorKind.Interrupted) }
         ensures whole { IsBlock self.new.block }
         ensures steps { WritesAll W.log W.trace line_rules self.old bytes.now result self.new }

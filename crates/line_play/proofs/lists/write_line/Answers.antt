@@ -20,7 +20,7 @@ returns-in_err-write_all-2-clause-caused g c =
     let p =
     err_from_is_err_and c.from_residual-in_err-write_all-2.result c.from_residual-in_err-write_all-2.ensures.1 in
     let first = c.in_ok-write_all.ensures.steps.front.keeps in
-    rw (p.1, p.2) (WriterStopped-after _ _ _ _ first.grows (c.in_err-write_all-2.ensures.steps.steadily refl))
+    rw (p.1, p.2) (WriterStopped-after _ _ _ _ first.grows (c.in_err-write_all-2.ensures.steadily refl))
 
 pub returns-in_err-write_all-2-clause-trace : goal.returns-in_err-write_all-2-clause-trace
 returns-in_err-write_all-2-clause-trace g c =

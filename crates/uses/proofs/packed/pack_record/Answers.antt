@@ -31,4 +31,4 @@ pub returns-clause-caused : goal.returns-clause-caused
 returns-clause-caused g c steady =
     let first = c.in_ok-write_all.ensures.steps.front.keeps in
     later _ _ _ c.write_all-2.result first.grows
-    (c.write_all-2.ensures.steps.steadily (ap (λ x. x.steady) first.claims ∙ steady))
+    (c.write_all-2.ensures.steadily (ap (λ x. x.steady) first.claims ∙ steady))
