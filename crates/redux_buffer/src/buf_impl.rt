@@ -312,6 +312,7 @@ impl BufImpl {
     pub fn make_room(&mut self)
         ensures bytes { MakesRoom (as_placed self.old).block (as_placed self.new).block }
         ensures ring { (as_placed self.old).block.kind ≡ Ring → as_placed self.new ≡ as_placed self.old }
+        ensures shift { CountsShift 0 (as_placed self.old) (as_placed self.new) }
         ensures whole { IsPlaced (as_placed self.new) }
     {
         match self {

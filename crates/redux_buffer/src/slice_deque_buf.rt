@@ -296,6 +296,7 @@ impl SliceDequeBuf {
     pub fn make_room(&mut self)
         ensures unchanged { self.new ≡ self.old }
         ensures bytes { MakesRoom self.old.block self.new.block }
+        ensures shift { CountsShift 0 self.old self.new }
         ensures whole { IsPlaced self.new }
     {
         // Names a field, so that what is true of every ring is known here.

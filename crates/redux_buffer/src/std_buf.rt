@@ -257,6 +257,7 @@ impl StdBuf {
     /// Moves the bytes to the front, so that all free space can be written.
     pub fn make_room(&mut self)
         ensures bytes { MakesRoom self.old.block self.new.block }
+        ensures shift { CountsShift 0 self.old self.new }
         ensures whole { IsPlaced self.new }
         ensures kind { self.new.block.kind ≡ Plain }
     {

@@ -5,6 +5,9 @@ use Rattle.redux_buffer.proofs.std_buf.StdBuf.make_room.Goals as goal
 pub returns-clause-bytes : goal.returns-clause-bytes
 returns-clause-bytes c = grind (arith, common_steps)
 
+pub returns-clause-shift : goal.returns-clause-shift
+returns-clause-shift c = grind (arith, common_steps)
+
 pub returns-clause-whole : goal.returns-clause-whole
 returns-clause-whole c = grind (arith, common_steps)
 
@@ -13,6 +16,9 @@ returns-clause-kind c = grind (arith, common_steps)
 
 pub returns-then-self-eq0-clause-bytes : goal.returns-then-self-eq0-clause-bytes
 returns-then-self-eq0-clause-bytes c = grind (arith, common_steps)
+
+pub returns-then-self-eq0-clause-shift : goal.returns-then-self-eq0-clause-shift
+returns-then-self-eq0-clause-shift c = grind (arith, common_steps)
 
 pub returns-then-self-eq0-clause-whole : goal.returns-then-self-eq0-clause-whole
 returns-then-self-eq0-clause-whole c = grind (arith, common_steps)
