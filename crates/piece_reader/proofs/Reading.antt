@@ -124,7 +124,7 @@ module _ {S : Type 0} (s : Buffered S MinBuffered) where
       ) in
       elim f.ends [
         | inl declined ↦ quiet declined.told
-        | inr (inl full) ↦ quiet full.told
+        | inr (inl full) ↦ quiet full.1.told
         | inr (inr dry) ↦ absurd (enough_never_dry s t a fills dry many)
       ]
 
