@@ -1,5 +1,5 @@
 -- What contracts see of a writer of pieces.
-use Rattle.std.specs.Prelude.{◌≡◌, ℕ, ◌-◌, ◌*◌, ◌≤◌, List, [], length}
+use Rattle.std.specs.Prelude.{◌≡◌, ℕ, ◌*◌, ◌≤◌, List, []}
 use Rattle.buffer_redux.specs.Block.{Block, IsBlock, Plain}
 use Rattle.buffer_redux.specs.Buffered.{Buffered, with_inner}
 use Rattle.buffer_redux.specs.StreamLog.{StreamLog}
@@ -15,10 +15,6 @@ pub record WriterState (S E : Type 0) : Type 0 where
 -- the bytes that were taken in and not sent yet
 abbrev pub unsent : {S E : Type 0} → WriterState S E → List ℕ
 unsent f = f.writer.block.bytes
-
--- how many more bytes fit behind them
-abbrev pub room : {S E : Type 0} → WriterState S E → ℕ
-room f = f.writer.block.capacity - length (unsent f)
 
 -- what is true of every writer of pieces of at most so many bytes
 pub record IsPieceWriter {S E : Type 0} (most : ℕ) (f : WriterState S E) : Type 0 where

@@ -6,10 +6,11 @@ use Rattle.buffer_redux.specs.Block.{Block}
 use Rattle.buffer_redux.specs.BufWriter.{WritesInOrder}
 use Rattle.buffer_redux.specs.Faults.{MetInterrupts, SendErrorCaused}
 use Rattle.buffer_redux.specs.Transfer.{Sends}
+use Rattle.buffer_redux.specs.WriteParts.{room}
 use Rattle.codec.specs.declared.error.WritePieceError.{WritePieceError}
 use Rattle.codec.specs.declared.error.WritePieceError.TheVariants.{Refused, Io}
 use Rattle.codec.specs.Encoding.{Encoding, coded, all_coded}
-use Rattle.codec.specs.PieceWriter.{WriterState, IsPieceWriter, room, unsent}
+use Rattle.codec.specs.PieceWriter.{WriterState, IsPieceWriter, unsent}
 
 -- what any calls do, one after another, that took in the pieces of these payloads, each of which is taken: what was received
 -- since, then what is buffered, is what was buffered, then these pieces, whole and in order; and no memory is taken
@@ -21,17 +22,6 @@ pub record PiecesTaken {S E W : Type 0} (trace : S → S → Type 0) (e : Encodi
   pub capacity : t.writer.block.capacity ≡ s.writer.block.capacity
   pub limit : t.writer.block.limit ≡ s.writer.block.limit
   pub encoder : t.encoder ≡ s.encoder
-
--- these bytes were copied behind those that are buffered, and the inner writer wasn't called
-pub record PutsIn {S E : Type 0} (trace : S → S → Type 0) (most : ℕ) (s : WriterState S E) (bytes : List ℕ)
-    (t : WriterState S E) : Type 0 where
-  pub added : unsent t ≡ unsent s ++ bytes
-  pub told : t.writer.log ≡ s.writer.log
-  pub calls : trace s.writer.inner t.writer.inner
-  pub capacity : t.writer.block.capacity ≡ s.writer.block.capacity
-  pub limit : t.writer.block.limit ≡ s.writer.block.limit
-  pub encoder : t.encoder ≡ s.encoder
-  pub whole : IsPieceWriter most t
 
 -- what a call of `write_piece` answers: `Refused` is why the payload isn't taken
 abbrev pub WriteAnswer : Type 0 → Type 0
@@ -68,9 +58,9 @@ pub record WritesPiece {S E W : Type 0} (trace : S → S → Type 0) (e : Encodi
     (answer : WriteAnswer W) (t : WriterState S E) : Type 0 where
   pub went : PiecesTaken trace e s (accepted payload answer) t
   pub answers : WriteAnswers e s payload answer t
-  pub fits : e.takes payload → length (coded e payload) ≤ room s
+  pub fits : e.takes payload → length (coded e payload) ≤ room s.writer
       → (answer ≡ Ok tt) × (t.writer.log ≡ s.writer.log) × (unsent t ≡ unsent s ++ coded e payload)
-  pub full : e.takes payload → room s < length (coded e payload) → SendsFirst e s payload answer t
+  pub full : e.takes payload → room s.writer < length (coded e payload) → SendsFirst e s payload answer t
   pub not_flushed : t.writer.log.writes.flushed ≡ s.writer.log.writes.flushed
   pub whole : IsPieceWriter e.most t
 
@@ -79,7 +69,7 @@ pub record WritesPiece {S E W : Type 0} (trace : S → S → Type 0) (e : Encodi
 abbrev pub WritesBuffered : {S E W : Type 0} → (S → S → Type 0) → Encoding W → WriterState S E → List ℕ → Result Bool W
     → WriterState S E → Type 0
 WritesBuffered trace e s payload (Ok true) t =
-    WritesPiece trace e s payload (Ok tt) t × (length (coded e payload) ≤ room s)
+    WritesPiece trace e s payload (Ok tt) t × (length (coded e payload) ≤ room s.writer)
 WritesBuffered trace e s payload (Ok false) t =
-    e.takes payload × (room s < length (coded e payload)) × (t ≡ s)
+    e.takes payload × (room s.writer < length (coded e payload)) × (t ≡ s)
 WritesBuffered trace e s payload (Err w) t = WritesPiece trace e s payload (Err (Refused w)) t

@@ -1,16 +1,17 @@
 //! The writer of pieces.
-ghost use Rattle.std.specs.Prelude.{◌≡◌, ◌↔◌, IsTrue, ◌+◌, ◌*◌, ◌<◌, ◌≤◌, ◌^◌, ◌++◌, [], length, take, Ok, Err, IfOk, IfErr, IsOk, MatchResult};
+ghost use Rattle.std.specs.Prelude.{◌≡◌, ◌↔◌, IsTrue, ◌-◌, ◌*◌, ◌<◌, ◌≤◌, ◌^◌, ◌++◌, [], length, take, Ok, Err, IfOk, IfErr, IsOk, MatchResult};
 ghost use Rattle.std.specs.Borrow.{Lends, sem};
 ghost use Rattle.buffer_redux.specs.Block.{Plain, usable};
 ghost use Rattle.buffer_redux.specs.BufWriter.{WasFlushed, WasSent};
+ghost use Rattle.buffer_redux.specs.WriteParts.{PutsIn, room};
 ghost use Rattle.buffer_redux.specs.Unwrapping.{InnerOfFlushed};
 ghost use Rattle.buffer_redux.specs.GrowError.{FitsWithin};
 ghost use Rattle.buffer_redux.specs.MakeError.{growth};
 ghost use Rattle.codec.specs.contracts.writer.PieceWriter.{the_row};
 ghost use Rattle.codec.specs.Encoding.{IsHeaderBytes, coded};
-ghost use Rattle.codec.specs.PieceWriter.{IsPieceWriter, IsOver, IsUnused, room, with_stream};
+ghost use Rattle.codec.specs.PieceWriter.{IsPieceWriter, IsOver, IsUnused, with_stream};
 ghost use Rattle.piece_reader.specs.PieceReader.{room_for};
-ghost use Rattle.codec.specs.WritePiece.{PiecesTaken, PutsIn, WritesBuffered, WritesPiece};
+ghost use Rattle.codec.specs.WritePiece.{PiecesTaken, WritesBuffered, WritesPiece};
 
 use crate::encoder::Encoder;
 use crate::error::WritePieceError;
@@ -182,7 +183,7 @@ impl<W: TellWrite, E: Encoder> PieceWriter<W, E> {
         payload: &[u8],
     ) -> Result<(), WritePieceError<E::Refusal>>
         requires header { IsHeaderBytes (E.encoding self.old.encoder) payload.now header }
-        requires full { room self.old < length (coded (E.encoding self.old.encoder) payload.now) }
+        requires full { room self.old.writer < length (coded (E.encoding self.old.encoder) payload.now) }
         ensures { WritesPiece W.trace (E.encoding self.old.encoder) self.old payload.now result self.new }
     {
         self.write_slowly(&header, payload)
@@ -198,7 +199,7 @@ impl<W: TellWrite, E: Encoder> PieceWriter<W, E> {
         payload: &[u8],
     ) -> Result<(), WritePieceError<E::Refusal>>
         requires header { IsHeaderBytes (E.encoding self.old.encoder) payload.now header.now }
-        requires full { room self.old < length (coded (E.encoding self.old.encoder) payload.now) }
+        requires full { room self.old.writer < length (coded (E.encoding self.old.encoder) payload.now) }
         ensures { WritesPiece W.trace (E.encoding self.old.encoder) self.old payload.now result self.new }
     {
         self.send()?;
@@ -210,7 +211,7 @@ impl<W: TellWrite, E: Encoder> PieceWriter<W, E> {
     #[inline(always)]
     fn has_room(&self, header: &HeaderBytes, payload: &[u8]) -> bool
         requires header { IsHeaderBytes (E.encoding self.now.encoder) payload.now header.now }
-        ensures room { IsTrue result ↔ (length (coded (E.encoding self.now.encoder) payload.now) ≤ room self.now) }
+        ensures room { IsTrue result ↔ (length (coded (E.encoding self.now.encoder) payload.now) ≤ room self.now.writer) }
         ensures whole { IsPieceWriter (E.encoding self.now.encoder).most self.now }
     {
         let piece = header.len + payload.len() + self.encoder.tail().len();
@@ -267,18 +268,19 @@ impl<W: TellWrite, E: Encoder> PieceWriter<W, E> {
     #[inline(always)]
     fn append(&mut self, header: &HeaderBytes, payload: &[u8])
         requires header { IsHeaderBytes (E.encoding self.old.encoder) payload.now header.now }
-        requires room { length (coded (E.encoding self.old.encoder) payload.now) ≤ room self.old }
-        ensures { PutsIn W.trace (E.encoding self.old.encoder).most self.old
-            (coded (E.encoding self.old.encoder) payload.now) self.new }
+        requires room { length (coded (E.encoding self.old.encoder) payload.now) ≤ room self.old.writer }
+        ensures put { PutsIn self.old.writer (coded (E.encoding self.old.encoder) payload.now) self.new.writer }
+        ensures encoder { self.new.encoder ≡ self.old.encoder }
+        ensures whole { IsPieceWriter (E.encoding self.old.encoder).most self.new }
     {
         let len = header.len;
         let mut word = [0; 8];
         word.copy_from_slice(&header.bytes[..8]);
         self.writer.make_room();
         self.put_header(header, len, &word);
-        self.put(payload);
+        self.writer.put(payload);
         if !self.encoder.tail().is_empty() {
-            let _ = self.writer.write(self.encoder.tail());
+            self.writer.put(self.encoder.tail());
         }
     }
 
@@ -288,24 +290,13 @@ impl<W: TellWrite, E: Encoder> PieceWriter<W, E> {
         requires len { len ≡ header.now.len }
         requires word { word.now ≡ take 8 header.now.bytes }
         requires room { header.now.len ≤ usable self.old.writer.block }
-        requires inside { header.now.len < self.old.writer.block.capacity }
-        ensures put { PutsIn W.trace (E.encoding self.old.encoder).most self.old (take header.now.len header.now.bytes) self.new }
-        ensures usable { usable self.old.writer.block ≤ usable self.new.writer.block + header.now.len }
+        ensures put { PutsIn self.old.writer (take header.now.len header.now.bytes) self.new.writer }
+        ensures usable { usable self.new.writer.block ≡ usable self.old.writer.block - header.now.len }
+        ensures encoder { self.new.encoder ≡ self.old.encoder }
     {
         if len > 8 {
-            return self.put(&header.bytes[..len]);
+            return self.writer.put(&header.bytes[..len]);
         }
-        self.put(&word[..len]);
-    }
-
-    // Copies bytes in, for which there is room.
-    #[inline(always)]
-    fn put(&mut self, bytes: &[u8])
-        requires room { length bytes.now ≤ usable self.old.writer.block }
-        requires inside { length bytes.now < self.old.writer.block.capacity }
-        ensures put { PutsIn W.trace (E.encoding self.old.encoder).most self.old bytes.now self.new }
-        ensures usable { usable self.old.writer.block ≤ usable self.new.writer.block + length bytes.now }
-    {
-        let _ = self.writer.write(bytes);
+        self.writer.put(&word[..len]);
     }
 }
