@@ -1,12 +1,13 @@
 -- One step of a loop over payloads that are known.
-use Rattle.std.proofs.Common.{◌≡◌, ℕ, ◌+◌, ◌<◌, ◌≤◌, List, [], ◌∷◌, ◌++◌, length, map, drop, sym, ap, subst, ◌∙◌, append_assoc, append-nil, get_or, inl, inr, refl}
+use Rattle.std.proofs.Common.{◌≡◌, ℕ, ◌+◌, ◌<◌, ◌≤◌, List, [], ◌∷◌, ◌++◌, length, map, drop, sym, ap, subst, ◌∙◌, append_assoc, append-nil, get_or, inl, inr, refl, ◌⊎◌}
 use Rattle.std.specs.Prelude.{Option, None, Some, Result, Ok, Err}
 use Rattle.std.specs.Global.{Vec}
 use Rattle.std.specs.IoError.{error_kind}
 use Rattle.std.specs.declared.io.Error.{Error}
 use Rattle.std.specs.declared.io.ErrorKind.TheVariants.{OutOfMemory}
 use Rattle.std.proofs.lemmas.List.{drop_all, map-append}
-use Rattle.piece_reader.specs.KnownPayloads.{AllRead, AnswersKnown, NextFails, ReadStopped, found_each}
+use Rattle.piece_reader.specs.KnownPayloads.{AllRead, AnswersKnown, ReadStopped}
+use Rattle.piece_reader.specs.Runs.{NextLost}
 use Rattle.codec.specs.PayloadsLaws.{behind, kept_more, some_more}
 
 -- some of all the payloads were read and kept, and these are left to read
@@ -16,7 +17,7 @@ pub record ReadsAll {T E : Type 0} (HasLeft : T → List (List ℕ) → Type 0) 
   pub all_are : kept ++ left ≡ all
   pub has : HasLeft t left
   pub no_fault : faults t ≡ faults s
-  pub plays : Plays s (found_each kept) t
+  pub plays : Plays s (map (λ payload. Ok (Some payload)) kept) t
 
 module _ {T E : Type 0} {Call : T → Result (Option (List ℕ)) E → T → Type 0} {HasLeft : T → List (List ℕ) → Type 0}
     {faults : T → List Error} {io : Error → E} {Plays : T → List (Result (Option (List ℕ)) E) → T → Type 0}
@@ -45,7 +46,7 @@ module _ {T E : Type 0} {Call : T → Result (Option (List ℕ)) E → T → Typ
         all = sym so_far.all_are;
         left = fails.1;
         failed = inr (
-          more s (found_each held) m (Err (io e)) t so_far.plays next,
+          more s (map (λ payload. Ok (Some payload)) held) m (Err (io e)) t so_far.plays next,
           fails.2 e refl ∙ ap (λ l. l ++ e ∷ []) so_far.no_fault,
         );
       }
@@ -69,7 +70,7 @@ module _ {T E : Type 0} {Call : T → Result (Option (List ℕ)) E → T → Typ
           has = first.1;
           no_fault = first.2 ∙ so_far.no_fault;
           plays = subst (λ answers. Plays s answers t) (sym (map-append (λ payload. Ok (Some payload)) held (found ∷ [])))
-              (more s (found_each held) m (Ok (Some found)) t so_far.plays next);
+              (more s (map (λ payload. Ok (Some payload)) held) m (Ok (Some found)) t so_far.plays next);
         }
 
     -- one more was kept
@@ -91,7 +92,7 @@ module _ {T E : Type 0} {Call : T → Result (Option (List ℕ)) E → T → Typ
           failed = inl (memory, some_more held found, one.plays, one.no_fault);
         }
 
-    pub read_fails : (e : Error) → NextFails Call io m e t
+    pub read_fails : (e : Error) → ((error_kind e ≡ OutOfMemory) × NextLost Call m t) ⊎ Call m (Err (io e)) t
         → ReadStopped HasLeft faults io Plays s (map (λ v. v.items) vs) e t
     read_fails e (inl lost) = read_lost lost.1.payload e lost.0 lost.1.next
     read_fails e (inr faulted) = read_faulted e t faulted
@@ -106,7 +107,7 @@ module _ {T E : Type 0} {Call : T → Result (Option (List ℕ)) E → T → Typ
     pub read_more : (found : List ℕ) → Call m (Ok (Some found)) t → ⊥
     read_more found next = known m (Ok (Some found)) [] t (subst (HasLeft m) none_left so_far.has) next
 
-    pub end_fails : (e : Error) → NextFails Call io m e t
+    pub end_fails : (e : Error) → ((error_kind e ≡ OutOfMemory) × NextLost Call m t) ⊎ Call m (Err (io e)) t
         → ReadStopped HasLeft faults io Plays s (map (λ v. v.items) vs) e t
     end_fails e (inl lost) = absurd (read_more lost.1.payload lost.1.next)
     end_fails e (inr faulted) = read_faulted e t faulted
@@ -116,4 +117,4 @@ module _ {T E : Type 0} {Call : T → Result (Option (List ℕ)) E → T → Typ
 
     pub read_all : Call m (Ok None) t → AllRead Plays s (map (λ v. v.items) vs) t
     read_all next = subst (λ l. AllRead Plays s l t) all_kept
-        (more s (found_each held) m (Ok None) t so_far.plays next)
+        (more s (map (λ payload. Ok (Some payload)) held) m (Ok None) t so_far.plays next)

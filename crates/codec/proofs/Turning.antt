@@ -11,10 +11,11 @@ use Rattle.codec.specs.Fetching.{FlushedFirst}
 use Rattle.piece_reader.specs.Grammar.{Grammar}
 use Rattle.piece_reader.specs.Items.{NextItem}
 use Rattle.piece_reader.specs.PieceReader.{ReaderState}
-use Rattle.codec.specs.Serving.{AnswerFailed, Answering, Exchange, Fetched, FlushFailed, Server, TookPiece, server}
+use Rattle.codec.specs.Serving.{AnswerFailed, Exchange, Fetched, FlushFailed, Server, TookPiece, server}
 
 module _ {S D W I A T P : Type 0} (remaining : S → Option (List ℕ)) (tells : T → StreamLog) (trace : T → T → Type 0)
-    (g : Grammar W) (item_of : List ℕ → I) (Answers : Answering A I) (s : Server S D A T P) (t : ReaderState S D)
+    (g : Grammar W) (item_of : List ℕ → I) (Answers : A → I → List ℕ → List ℕ → Bool → A → Type 0)
+    (s : Server S D A T P) (t : ReaderState S D)
     (ready : Buffered T P) (r : Result (Result (Option (I × Span)) (NextError W)) Error) (said : I × Span)
     (is : r ≡ Ok (Ok (Some said))) (next : IfOk r (λ answer. NextItem remaining g item_of s.pieces answer t))
     (first : FlushedFirst tells trace g s.pieces s.answers r t ready) (shown : List ℕ)

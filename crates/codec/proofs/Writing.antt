@@ -7,12 +7,12 @@ use Rattle.std.proofs.lemmas.List.{drop-map, length-map, length-take-le, map-app
 use Rattle.std.proofs.lemmas.List.Elements.{All-drop, All-head}
 use Rattle.codec.specs.declared.laws.runs.WriteEachError.{WriteEachError}
 use Rattle.codec.specs.PayloadsLaws.{before, behind, parted}
-use Rattle.codec.specs.WriteRuns.{CallsStopped, all_ok}
+use Rattle.codec.specs.WriteRuns.{CallsStopped}
 
 -- the first so many payloads were written so far, and what was taken still is
 pub record WroteSo {T X : Type 0} (Plays : T → List (List ℕ) → List (Result (Unit {0}) X) → T → Type 0)
     (Takes : T → List ℕ → Type 0) (s : T) (payloads : List (Vec ℕ)) (i : ℕ) (m : T) : Type 0 where
-  pub plays : Plays s (map (λ v. v.items) (take i payloads)) (all_ok (map (λ v. v.items) (take i payloads))) m
+  pub plays : Plays s (map (λ v. v.items) (take i payloads)) (map (λ payload. Ok tt) (map (λ v. v.items) (take i payloads))) m
   pub takes : (payload : List ℕ) → Takes s payload → Takes m payload
 
 module _ {T X : Type 0} {Call : T → List ℕ → Result (Unit {0}) X → T → Type 0}
@@ -29,9 +29,9 @@ module _ {T X : Type 0} {Call : T → List ℕ → Result (Unit {0}) X → T →
     pub wrote_more : ((other : List ℕ) → Takes m other → Takes t other) → Call m v.items (Ok tt) t
         → WroteSo Plays Takes s vs (i + 1) t
     wrote_more keeps wrote = record {
-      plays = subst (λ l. Plays s l (all_ok l) t) (sym (before (λ x. x.items) vs i v inside is))
+      plays = subst (λ l. Plays s l (map (λ payload. Ok tt) l) t) (sym (before (λ x. x.items) vs i v inside is))
           (subst (λ answers. Plays s (done ++ v.items ∷ []) answers t) (sym (map-append (λ p. Ok tt) done (v.items ∷ [])))
-          (more s done (all_ok done) m v.items (Ok tt) t so.plays wrote));
+          (more s done (map (λ payload. Ok tt) done) m v.items (Ok tt) t so.plays wrote));
       takes = λ other taken. keeps other (so.takes other taken);
     }
 
@@ -53,7 +53,7 @@ module _ {T X : Type 0} {Call : T → List ℕ → Result (Unit {0}) X → T →
       before = m;
       wrote = so.plays;
       failed = failed;
-      plays = more s done (all_ok done) m v.items (Err why.error) t so.plays failed;
+      plays = more s done (map (λ payload. Ok tt) done) m v.items (Err why.error) t so.plays failed;
     }
 
     -- where each payload is taken, this one is
@@ -64,5 +64,5 @@ module _ {T X : Type 0} {Call : T → List ℕ → Result (Unit {0}) X → T →
         (subst (All (Takes s)) (drop-map (λ x. x.items) i vs) (All-drop (Takes s) i (map (λ x. x.items) vs) all))))
 
   -- at the end all were
-  pub wrote_all : length vs ≤ i → Plays s (map (λ v. v.items) vs) (all_ok (map (λ v. v.items) vs)) m
-  wrote_all end = subst (λ l. Plays s (map (λ v. v.items) l) (all_ok (map (λ v. v.items) l)) m) (take_all i vs end) so.plays
+  pub wrote_all : length vs ≤ i → Plays s (map (λ v. v.items) vs) (map (λ payload. Ok tt) (map (λ v. v.items) vs)) m
+  wrote_all end = subst (λ l. Plays s (map (λ v. v.items) l) (map (λ payload. Ok tt) (map (λ v. v.items) l)) m) (take_all i vs end) so.plays

@@ -1,5 +1,5 @@
 -- Protocols in one stream that the first byte of a piece tells apart.
-use Rattle.std.specs.Prelude.{◌≡◌, ℕ, ◌==◌, List, [], ◌∷◌, max, Bool, true, false}
+use Rattle.std.specs.Prelude.{◌≡◌, ℕ, ◌==◌, List, [], ◌∷◌, max, true, false}
 use Rattle.codec.specs.declared.by_first.EitherWrong.{EitherWrong}
 use Rattle.codec.specs.declared.by_first.EitherWrong.TheVariants.{One, Other}
 use Rattle.piece_reader.specs.declared.decoder.End.{End}
@@ -44,9 +44,8 @@ by_first most of_byte = record {
 }
 
 -- two: the pieces of the one begin with this byte
-abbrev pub side : {V W : Type 0} → Grammar V → Grammar W → Bool → Grammar (EitherWrong V W)
-side g h true = renamed (λ e. One e) g
-side g h false = renamed (λ e. Other e) h
-
 abbrev pub either : {V W : Type 0} → ℕ → Grammar V → Grammar W → Grammar (EitherWrong V W)
-either byte g h = by_first (max g.most h.most) (λ first. side g h (first == byte))
+either {V} {W} byte g h = by_first (max g.most h.most) (λ first. elim (first == byte) as (λ _. Grammar (EitherWrong V W)) [
+  | true ↦ renamed (λ e. One e) g
+  | false ↦ renamed (λ e. Other e) h
+])

@@ -9,7 +9,7 @@ use Rattle.piece_reader.specs.declared.decoder.End.TheVariants as end
 use Rattle.piece_reader.specs.declared.decoder.Found.{Found}
 use Rattle.piece_reader.specs.declared.decoder.Found.TheVariants as found
 use Rattle.piece_reader.specs.Decoding.{Decodes, Ends, bytes_at}
-use Rattle.codec.specs.FirstByte.{OnFirst, by_first, either, end_as, found_as, renamed, side}
+use Rattle.codec.specs.FirstByte.{OnFirst, by_first, either, end_as, found_as, renamed}
 use Rattle.piece_reader.specs.Grammar.{Grammar, IsLawful, IsOpen}
 use Rattle.piece_reader.specs.GrammarLaws.{open_none}
 use Rattle.piece_reader.specs.Items.{IsWhole}
@@ -162,6 +162,12 @@ module _ {W : Type 0} (most : ℕ) (of_byte : ℕ → Grammar W) (room : 0 < mos
         → Ends (by_first most of_byte) (byte ∷ bytes) is
     first_ends bytes (end.Last span) is = is
     first_ends bytes (end.Wrong e) is = is
+
+abbrev side : {V W : Type 0} → Grammar V → Grammar W → Bool → Grammar (EitherWrong V W)
+side {V} {W} g h is = elim is as (λ _. Grammar (EitherWrong V W)) [
+  | true ↦ renamed (λ e. One e) g
+  | false ↦ renamed (λ e. Other e) h
+]
 
 abbrev one_or : {V W : Type 0} → ℕ → Grammar V → Grammar W → ℕ → Grammar (EitherWrong V W)
 one_or byte g h first = side g h (first == byte)

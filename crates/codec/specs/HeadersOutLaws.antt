@@ -4,7 +4,7 @@ use Rattle.std.proofs.Common.{arith, inl, inr, length-append}
 use Rattle.std.proofs.Math.Seq.{drop-append_seam}
 use Rattle.std.proofs.lemmas.Bool.{cases_lt}
 use Rattle.codec.specs.Encoding.{IsWritable, coded}
-use Rattle.piece_reader.specs.HeaderFormat.{HeaderFormat, IsLengthPrefixed, IsHeaderFormat}
+use Rattle.piece_reader.specs.HeaderFormat.{HeaderFormat, IsHeaderFormat, length_prefixed}
 use Rattle.codec.specs.HeadersOut.{HeadersOut, IsReadBack, length_prefixed_out}
 
 module _ (h : HeaderFormat) (o : HeadersOut) (law : IsHeaderFormat h) (back : IsReadBack h o) where
@@ -26,12 +26,12 @@ module _ (h : HeaderFormat) (o : HeadersOut) (law : IsHeaderFormat h) (back : Is
     apart = λ payload e takes refused. omega (arith, takes, refused.0);
   }
 
-  pub length_prefixed_back : (payload : List ℕ) → length payload ≤ o.max → IsLengthPrefixed h
+  pub length_prefixed_back : (payload : List ℕ) → length payload ≤ o.max → (length_prefixed h).piece
       (coded (length_prefixed_out h o) payload) payload
-  length_prefixed_back payload fits = record {
-    used = length (o.header (length payload));
-    is = law.sized (o.header (length payload)) (payload ++ h.tail) (length payload) (length (o.header (length payload)))
-        (back.again (length payload) fits);
-    fits = omega (arith, fits, back.within);
-    equal = drop-append_seam (o.header (length payload)) (payload ++ h.tail);
-  }
+  length_prefixed_back payload fits = (
+    length (o.header (length payload)),
+    law.sized (o.header (length payload)) (payload ++ h.tail) (length payload) (length (o.header (length payload)))
+        (back.again (length payload) fits),
+    omega (arith, fits, back.within),
+    drop-append_seam (o.header (length payload)) (payload ++ h.tail),
+  )

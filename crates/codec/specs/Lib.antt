@@ -34,7 +34,6 @@ pub mod FirstByte
 pub mod FirstByteLaws
 pub mod HeadersOut
 pub mod HeadersOutLaws
-pub mod IoErrors
 pub mod KnownPayloadsLaws
 pub mod Number
 pub mod PieceWriter

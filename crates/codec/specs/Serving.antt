@@ -38,19 +38,17 @@ abbrev pub joined : (Exchange → List ℕ) → List Exchange → List ℕ
 joined part [] = []
 joined part (x ∷ earlier) = joined part earlier ++ part x
 
--- what services answer: the item and the payload of a piece, what is written for it, and whether a further one is taken
-abbrev pub Answering : Type 0 → Type 0 → Type 1
-Answering A I = A → I → List ℕ → List ℕ → Bool → A → Type 0
-
--- each piece was answered, one after another; behind the last a further one is taken, or none
-abbrev pub Converses : {A I : Type 0} → (List ℕ → I) → Answering A I → A → List Exchange → Bool → A → Type 0
+-- each piece was answered, one after another: by its item, its payload, what is written for it, and whether a further one is
+-- taken behind it
+abbrev pub Converses : {A I : Type 0} → (List ℕ → I) → (A → I → List ℕ → List ℕ → Bool → A → Type 0) → A → List Exchange → Bool
+    → A → Type 0
 Converses item_of Answers a [] more b = (a ≡ b) × (more ≡ true)
 Converses {A} item_of Answers a (x ∷ earlier) more b =
     (between : A) × Converses item_of Answers a earlier true between
     × Answers between (item_of x.bytes) x.payload x.reply more b
 
 module _ {S D W I A T P : Type 0} (remaining : S → Option (List ℕ)) (tells : T → StreamLog) (trace : T → T → Type 0)
-    (g : Grammar W) (item_of : List ℕ → I) (Answers : Answering A I) where
+    (g : Grammar W) (item_of : List ℕ → I) (Answers : A → I → List ℕ → List ℕ → Bool → A → Type 0) where
   -- answers were flushed if the stream had to be asked, and then this came of a step
   pub record Fetched (s : Server S D A T P) (answer : NextAnswer W) (ready : Buffered T P) (t : ReaderState S D) : Type 0 where
     pub next : NextPiece remaining g s.pieces answer t

@@ -12,14 +12,15 @@ use Rattle.piece_reader.specs.Grammar.{Grammar}
 use Rattle.piece_reader.specs.NextPiece.{PiecesWent}
 use Rattle.piece_reader.specs.PiecesWentLaws.{PiecesWent-joins, PiecesWent-none}
 use Rattle.piece_reader.specs.PieceReader.{ReaderState}
-use Rattle.codec.specs.Serving.{Answering, Converses, EndedBy, Ends, Exchange, FailedBy, Server, Serves, Stops, Talked, joined, server}
+use Rattle.codec.specs.Serving.{Converses, EndedBy, Ends, Exchange, FailedBy, Server, Serves, Stops, Talked, joined, server}
 use Rattle.codec.specs.declared.serving.ServeError.{ServeError}
 use Rattle.codec.specs.declared.serving.ServeError.TheVariants.{Write}
 use Rattle.codec.specs.declared.serving.Served.{Served}
 use Rattle.codec.specs.declared.serving.Served.TheVariants as served
 
 module _ {S D W I A T P : Type 0} (remaining : S → Option (List ℕ)) (tells : T → StreamLog) (trace : T → T → Type 0)
-    (g : Grammar W) (item_of : List ℕ → I) (Answers : Answering A I) (s : Server S D A T P) where
+    (g : Grammar W) (item_of : List ℕ → I) (Answers : A → I → List ℕ → List ℕ → Bool → A → Type 0)
+    (s : Server S D A T P) where
   -- what was talked took whole pieces
   pub Talked-taken : (exchanges : List Exchange) (more : Bool) (t : Server S D A T P)
       → Talked remaining tells trace g item_of Answers s exchanges more t

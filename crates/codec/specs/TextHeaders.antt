@@ -33,15 +33,11 @@ enters w at = if at == length w.before then Length Empty else Before at
 abbrev pub ends : Words → ℕ → ℕ → ScanStep TextHeaderState
 ends w at len = if at == length w.after then Sized len else More (After at len)
 
--- behind a number that no further digit makes longer
-abbrev pub closes : Words → Number → ℕ → ScanStep TextHeaderState
-closes w (Is len) byte = if stands w.after 0 byte then ends w 1 len else Bad
-closes w Empty byte = Bad
-
--- behind a number and this byte, which makes it that number or none
+-- behind a number and this byte, which makes it that number; or none, and then it is the length
 abbrev pub counts : Words → Option Number → Number → ℕ → ScanStep TextHeaderState
 counts w (Some more) number byte = More (Length more)
-counts w None number byte = closes w number byte
+counts w None (Is len) byte = if stands w.after 0 byte then ends w 1 len else Bad
+counts w None Empty byte = Bad
 
 -- the bytes before the length, one by one; the length; and the bytes behind it
 abbrev pub text_turn : Words → TextHeaderState → ℕ → ScanStep TextHeaderState

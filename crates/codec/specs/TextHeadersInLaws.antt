@@ -5,7 +5,7 @@ use Rattle.std.proofs.Common.{sym, ap, subst, ◌∙◌, arith, refl, get_or, ap
 use Rattle.std.proofs.lemmas.Bool.{eqb-true, ltb-true, ltb-false}
 use Rattle.std.proofs.lemmas.Fmt.{decimal_digit, decimal_step}
 use Rattle.std.proofs.lemmas.List.{take-append-drop, take_all}
-use Rattle.piece_reader.specs.HeaderFormat.{IsLengthPrefixed}
+use Rattle.piece_reader.specs.HeaderFormat.{length_prefixed}
 use Rattle.codec.specs.Number.{with_byte, with_digit}
 use Rattle.codec.specs.Scanning.{says, scan_on, scanned}
 use Rattle.codec.specs.TextHeaders.{Words, counts, ends, enters, stands, text_scanning, text_turn}
@@ -201,8 +201,8 @@ module _ (w : Words) where
       ap (λ n. take n bytes) same ∙ r.2
 
   -- a piece is that text of its payload's length, the payload, and the tail
-  pub text_piece_is : (bytes payload : List ℕ) → IsLengthPrefixed (scanned (text_scanning w)) bytes payload
+  pub text_piece_is : (bytes payload : List ℕ) → (length_prefixed (scanned (text_scanning w))).piece bytes payload
       → bytes ≡ (w.before ++ (decimal (length payload) ++ w.after)) ++ (payload ++ w.tail)
   text_piece_is bytes payload p =
-      sym (take-append-drop p.used bytes) ∙ ap (λ l. l ++ drop p.used bytes) (text_header_is bytes (length payload) p.used p.is)
-      ∙ ap (λ l. (w.before ++ (decimal (length payload) ++ w.after)) ++ l) p.equal
+      sym (take-append-drop p.0 bytes) ∙ ap (λ l. l ++ drop p.0 bytes) (text_header_is bytes (length payload) p.0 p.1)
+      ∙ ap (λ l. (w.before ++ (decimal (length payload) ++ w.after)) ++ l) p.3

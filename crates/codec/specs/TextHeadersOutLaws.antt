@@ -1,5 +1,5 @@
 -- A header that is text is read as it was written.
-use Rattle.std.specs.Prelude.{◌≡◌, ℕ, zero, suc, ◌+◌, ◌-◌, ◌*◌, ◌/◌, ◌%◌, ◌<◌, ◌≤◌, ◌⊎◌, List, [], ◌∷◌, ◌++◌, length, true, ◌&&◌, ◌||◌, ◌==◌, nat_lt, if◌then◌else◌, slice_index, None, Some}
+use Rattle.std.specs.Prelude.{◌≡◌, ℕ, zero, suc, ◌+◌, ◌-◌, ◌*◌, ◌/◌, ◌%◌, ◌<◌, ◌≤◌, ◌⊎◌, List, [], ◌∷◌, ◌++◌, length, true, ◌&&◌, ◌||◌, ◌==◌, nat_lt, if◌then◌else◌, slice_index, min, None, Some}
 use Rattle.std.specs.Fmt.{decimal}
 use Rattle.std.proofs.Common.{sym, ap, subst, ◌∙◌, arith, inl, inr, refl, get_or, length-append, append_assoc}
 use Rattle.std.proofs.Math.Nat.{div-add-mod}
@@ -10,7 +10,7 @@ use Rattle.codec.specs.HeadersOut.{IsReadBack}
 use Rattle.codec.specs.Number.{with_byte, with_digit}
 use Rattle.codec.specs.Scanning.{says, scan_on, scanned}
 use Rattle.codec.specs.TextHeaders.{Words, IsSound, counts, ends, enters, stands, text_scanning, text_turn}
-use Rattle.codec.specs.TextHeadersOut.{IsWritten, text_out}
+use Rattle.codec.specs.TextHeadersOut.{IsWritten}
 use Rattle.piece_reader.specs.declared.header.Header.{Header}
 use Rattle.piece_reader.specs.declared.header.Header.TheVariants as header
 use Rattle.codec.specs.declared.number.Number.{Number}
@@ -153,7 +153,8 @@ module _ (w : Words) where
       ∙ last left n (used + 1) (a ∷ []) after is (omega (arith, few))
       ∙ ap (header.Sized n) size
 
-  pub text_read_back : IsSound w → IsWritten w → IsReadBack (scanned (text_scanning w)) (text_out w)
+  pub text_read_back : IsSound w → IsWritten w → IsReadBack (scanned (text_scanning w))
+      (record { header = λ len. w.before ++ (decimal len ++ w.after); max = min w.max 999999999999999999 })
   text_read_back sound written = record {
     within = omega arith;
     again = λ len fits.

@@ -13,10 +13,6 @@ abbrev pub all_accepted : {X : Type 0} → List (List ℕ) → List (Result (Uni
 all_accepted (payload ∷ payloads) (answer ∷ answers) = accepted payload answer ++ all_accepted payloads answers
 all_accepted payloads answers = []
 
--- each of these payloads by a call that answered `Ok`
-abbrev pub all_ok : {X : Type 0} → List (List ℕ) → List (Result (Unit {0}) X)
-all_ok payloads = map (λ payload. Ok tt) payloads
-
 -- a call with a payload does this to a writer, and answers that
 module _ {T X : Type 0} (Call : T → List ℕ → Result (Unit {0}) X → T → Type 0) where
   -- calls with these payloads, one after another, with as many answers
@@ -56,13 +52,13 @@ module _ {T X : Type 0} (Call : T → List ℕ → Result (Unit {0}) X → T →
     pub later : List (List ℕ)
     pub all : payloads ≡ done ++ payload ∷ later
     pub before : T
-    pub wrote : Plays s done (all_ok done) before
+    pub wrote : Plays s done (map (λ payload. Ok tt) done) before
     pub failed : Call before payload (Err stopped.error) t
-    pub plays : Plays s (done ++ payload ∷ []) (all_ok done ++ Err stopped.error ∷ []) t
+    pub plays : Plays s (done ++ payload ∷ []) (map (λ payload. Ok tt) done ++ Err stopped.error ∷ []) t
 
   -- each of these payloads was written, up to the first error
   abbrev pub CallsEach : T → List (List ℕ) → Result (Unit {0}) (WriteEachError X) → T → Type 0
-  CallsEach s payloads (Ok _) t = Plays s payloads (all_ok payloads) t
+  CallsEach s payloads (Ok _) t = Plays s payloads (map (λ payload. Ok tt) payloads) t
   CallsEach s payloads (Err stopped) t = CallsStopped s payloads stopped t
 
 -- calls of `write_piece`, and what they took in

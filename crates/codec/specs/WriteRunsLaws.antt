@@ -1,5 +1,5 @@
 -- Laws of runs of calls that write payloads: they go on by one call, and what their calls take in joins.
-use Rattle.std.specs.Prelude.{◌≡◌, ℕ, List, [], ◌∷◌, ◌++◌, length, take, Result, Err}
+use Rattle.std.specs.Prelude.{◌≡◌, ℕ, List, [], ◌∷◌, ◌++◌, length, map, take, Result, Ok, Err}
 use Rattle.std.proofs.Common.{sym, ap, subst, refl, ◌∙◌}
 use Rattle.std.proofs.Math.Seq.{take-append_seam}
 use Rattle.codec.specs.declared.error.WritePieceError.{WritePieceError}
@@ -9,16 +9,16 @@ use Rattle.codec.specs.Encoding.{Encoding, IsWritable}
 use Rattle.codec.specs.PieceWriter.{WriterState}
 use Rattle.codec.specs.WritePiece.{PiecesTaken, WriteAnswer, WritesPiece, accepted}
 use Rattle.codec.specs.WritePieceLaws.{PiecesTaken-joins, PiecesTaken-none}
-use Rattle.codec.specs.WriteRuns.{CallPlays, CallRuns, CallsStopped, IsFault, WritePlays, all_accepted, all_ok}
+use Rattle.codec.specs.WriteRuns.{CallPlays, CallRuns, CallsStopped, IsFault, WritePlays, all_accepted}
 
 -- what is taken in where each answer is `Ok`, and that only payloads with an answer count
-pub all_accepted-ok : (X : Type 0) (payloads : List (List ℕ)) → all_accepted {X = X} payloads (all_ok payloads) ≡ payloads
+pub all_accepted-ok : (X : Type 0) (payloads : List (List ℕ)) → all_accepted {X = X} payloads (map (λ payload. Ok tt) payloads) ≡ payloads
 all_accepted-ok X [] = refl
 all_accepted-ok X (payload ∷ payloads) = ap (λ l. payload ∷ l) (all_accepted-ok X payloads)
 
 -- what is taken in where the last answer is an error
 all_accepted-stopped : {X : Type 0} (done : List (List ℕ)) (payload : List ℕ) (why : X)
-    → all_accepted (done ++ payload ∷ []) (all_ok done ++ Err why ∷ []) ≡ done
+    → all_accepted (done ++ payload ∷ []) (map (λ payload. Ok tt) done ++ Err why ∷ []) ≡ done
 all_accepted-stopped [] payload why = refl
 all_accepted-stopped (p ∷ done) payload why = ap (λ l. p ∷ l) (all_accepted-stopped done payload why)
 
@@ -34,7 +34,7 @@ module _ {T X : Type 0} (Call : T → List ℕ → Result (Unit {0}) X → T →
 
   -- what calls took in that all answered `Ok`, and where the last was an error
   pub CallPlays-ok : (Taken : T → List (List ℕ) → T → Type 0) (s : T) (payloads : List (List ℕ)) (t : T)
-      → CallPlays Call Taken s payloads (all_ok payloads) t → Taken s payloads t
+      → CallPlays Call Taken s payloads (map (λ payload. Ok tt) payloads) t → Taken s payloads t
   CallPlays-ok Taken s payloads t plays = subst (λ l. Taken s l t) (all_accepted-ok X payloads) plays.taken
 
   pub CallsStopped-taken : (Taken : T → List (List ℕ) → T → Type 0) (s : T) (payloads : List (List ℕ))

@@ -42,9 +42,12 @@ impl<W> From<io::Error> for WritePieceError<W> {
 
 /// A payload that is refused is `InvalidInput`.
 impl<W: Drop> From<WritePieceError<W>> for io::Error {
-    ghost use Rattle.codec.specs.IoErrors.{IsWriteError};
+    ghost use Rattle.std.specs.Prelude.{◌≡◌};
+    ghost use Rattle.std.specs.IoError.{error_kind};
+    ghost use Rattle.std.specs.declared.io.ErrorKind.TheVariants.{InvalidInput};
+    ghost use Rattle.codec.specs.declared.error.WritePieceError.TheVariants.{Refused, Io};
 
-    ghost from_gives = { IsWriteError };
+    ghost from_gives = { λ e r. elim e as (λ _. Type 0) [ Refused why ↦ error_kind r ≡ InvalidInput | Io x ↦ r ≡ x ] };
 
     fn from(e: WritePieceError<W>) -> io::Error {
         match e {

@@ -1,5 +1,6 @@
 //! Headers that are text, as they are written.
-ghost use Rattle.std.specs.Prelude.{◌≡◌};
+ghost use Rattle.std.specs.Prelude.{◌≡◌, ◌++◌, min};
+ghost use Rattle.std.specs.Fmt.{decimal};
 ghost use Rattle.codec.specs.TextHeadersOut.{IsWritten};
 
 use crate::header_bytes::HeaderBytes;
@@ -16,10 +17,13 @@ pub trait TextHeaderOut: TextHeader {
 }
 
 impl<T: TextHeaderOut> LengthPrefixedOut for ByTextHeader<T> {
-    ghost use Rattle.codec.specs.TextHeadersOut.{text_out};
     ghost use Rattle.codec.specs.TextHeadersOutLaws.{text_read_back};
 
-    ghost headers_out = { λ t. text_out (T.words t.0) };
+    // The length in decimal, which has at most 18 digits.
+    ghost headers_out = { λ t. record {
+      header = λ len. (T.words t.0).before ++ (decimal len ++ (T.words t.0).after);
+      max = min (T.words t.0).max 999999999999999999;
+    } };
 
     fn header_of(&self, len: usize) -> HeaderBytes {
         let mut header = HeaderBytes::new(self.0.before());

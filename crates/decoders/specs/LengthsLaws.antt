@@ -6,7 +6,7 @@ use Rattle.std.proofs.lemmas.List.{take-append-le, take_all}
 use Rattle.codec.specs.HeaderFormat.{IsHeaderFormat}
 use Rattle.codec.specs.declared.Header.{Header}
 use Rattle.codec.specs.declared.Header.TheVariants.{Short, Sized, Bad}
-use Rattle.decoders.specs.Lengths.{lengths, number_of_all, size_of}
+use Rattle.decoders.specs.Lengths.{lengths, number_of, size_of}
 use Rattle.decoders.specs.declared.lengths.Order.{Order}
 use Rattle.decoders.specs.declared.lengths.Width.{Width}
 use Rattle.decoders.specs.declared.lengths.Width.TheVariants.{One, Two, Four, Eight}
@@ -79,7 +79,7 @@ has_some Eight = (omega arith, omega arith)
 pub lengths_headers : (width : Width) (order : Order) (max : ℕ) → max < 2 ^ 62 → IsHeaderFormat (lengths width order max)
 lengths_headers width order max fits =
     let size = size_of width in
-    let number = number_of_all width order in
+    let number = number_of width order in
     let some = has_some width in
     record {
       sized = sized size number;

@@ -1,7 +1,6 @@
 -- Lengths in bytes, as they are written.
-use Rattle.std.specs.Prelude.{ℕ, List, min}
+use Rattle.std.specs.Prelude.{ℕ, List}
 use Rattle.std.specs.Int.{w8, w16, w32, w64, to_be_bytes, to_le_bytes}
-use Rattle.codec.specs.HeadersOut.{HeadersOut}
 use Rattle.decoders.specs.declared.lengths.Order.{Order}
 use Rattle.decoders.specs.declared.lengths.Order.TheVariants.{BigEndian, LittleEndian}
 use Rattle.decoders.specs.declared.lengths.Width.{Width}
@@ -24,6 +23,3 @@ most_of One = 255
 most_of Two = 65535
 most_of Four = 4294967295
 most_of Eight = 18446744073709551615
-
-abbrev pub lengths_out : Width → Order → ℕ → HeadersOut
-lengths_out width order max = record { header = bytes_of width order; max = min max (most_of width) }

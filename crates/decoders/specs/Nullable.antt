@@ -23,15 +23,13 @@ in_text (Sized len) = Sized len
 in_text Bad = Bad
 
 -- where a length may begin, a minus and a one are the null string
-abbrev pub nullable_turn : ℕ → StringState → ℕ → ScanStep StringState
-nullable_turn max (Text place) byte =
-    if (byte == 45) && begins_length place then More Minus else in_text (text_turn (bulk_strings max) place byte)
-nullable_turn max Minus byte = if byte == 49 then Sized 0 else Bad
-
 abbrev pub nullable : ℕ → Scanning StringState
 nullable max = record {
   start = Text (Before 0);
-  turn = nullable_turn max;
+  turn = λ state byte. elim state as (λ _. ScanStep StringState) [
+    | Text place ↦ if (byte == 45) && begins_length place then More Minus else in_text (text_turn (bulk_strings max) place byte)
+    | Minus ↦ if byte == 49 then Sized 0 else Bad
+  ];
   most_header = 21;
   max = max;
   tail = 13 ∷ 10 ∷ [];

@@ -1,5 +1,6 @@
 -- The pieces of RESP.
 use Rattle.std.specs.Prelude.{ℕ, List, [], ◌∷◌, Bool, ◌&&◌, ◌||◌, ◌==◌, slice_index, if◌then◌else◌, Option, None, Some}
+use Rattle.std.specs.Option.{option_map_or}
 use Rattle.codec.specs.Delimited.{delimited}
 use Rattle.codec.specs.Ended.{ended}
 use Rattle.codec.specs.FirstByte.{either}
@@ -19,13 +20,10 @@ use Rattle.decoders.specs.Nullable.{nullable}
 use Rattle.decoders.specs.declared.resp.RespItem.{RespItem}
 use Rattle.decoders.specs.declared.resp.RespItem.TheVariants.{Bulk, Null, Array, NullArray, Simple, Error, Number as Numeral, Inline}
 
--- an asterisk, a plus, a minus and a colon say what a line is
-abbrev pub is_kind : ℕ → Bool
-is_kind byte = (byte == 42) || (byte == 43) || (byte == 45) || (byte == 58)
-
+-- a line without the asterisk, plus, minus or colon that says what it is
 abbrev pub behind_kind : List ℕ → List ℕ
 behind_kind [] = []
-behind_kind (byte ∷ line) = if is_kind byte then line else byte ∷ line
+behind_kind (byte ∷ line) = if (byte == 42) || (byte == 43) || (byte == 45) || (byte == 58) then line else byte ∷ line
 
 -- lines without that byte, and without the CR that they may end with
 abbrev pub lines : ℕ → Grammar TooLong
@@ -35,23 +33,17 @@ lines max = showing behind_kind (trimming (delimited 10 max))
 abbrev pub resp : ℕ → Grammar (EitherWrong HeaderError (Unended TooLong))
 resp max = either 36 (length_prefixed (scanned (nullable max))) (ended (lines max))
 
--- a line ends here: with LF, or with CR and LF
-abbrev pub ends_line : ℕ → List ℕ → Bool
-ends_line byte line = (byte == 10) || ((byte == 13) && (slice_index line 0 == 10))
-
--- the number in decimal that a line is, with its end, behind these digits of it
+-- the number in decimal that a line is which ends here, with LF, or with CR and LF, behind these digits of it
 abbrev pub counted : Number → ℕ → List ℕ → Option ℕ
 counted number.Empty byte line = None
-counted (number.Is value) byte line = if ends_line byte line then Some value else None
+counted (number.Is value) byte line =
+    if (byte == 10) || ((byte == 13) && (slice_index line 0 == 10)) then Some value else None
 
-abbrev pub count_on : Option Number → (Number → Option ℕ) → Option ℕ → Option ℕ
-count_on (Some more) goes_on stops = goes_on more
-count_on None goes_on stops = stops
-
+-- the number in decimal that a line is, with its end, behind these digits of it
 abbrev pub count_in : Number → List ℕ → Option ℕ
 count_in number [] = None
 count_in number (byte ∷ line) =
-    count_on (with_byte number byte) (λ more. count_in more line) (counted number byte line)
+    option_map_or (λ more. count_in more line) (with_byte number byte) (counted number byte line)
 
 -- what a piece is, by the byte that it begins with
 abbrev pub resp_item : List ℕ → RespItem

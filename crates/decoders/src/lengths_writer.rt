@@ -1,5 +1,5 @@
 //! Lengths in bytes, as they are written.
-ghost use Rattle.std.specs.Prelude.{◌≡◌, ◌≤◌, take};
+ghost use Rattle.std.specs.Prelude.{◌≡◌, ◌≤◌, min, take};
 ghost use Rattle.decoders.specs.LengthsOut.{bytes_of, most_of};
 ghost use Rattle.decoders.specs.declared.lengths.Order.TheVariants as Order;
 
@@ -8,10 +8,9 @@ use codec::{HeaderBytes, LengthPrefixedOut};
 
 /// A payload is written where it has at most `max` bytes, and no more than its length can say.
 impl LengthPrefixedOut for Lengths {
-    ghost use Rattle.decoders.specs.LengthsOut.{lengths_out};
     ghost use Rattle.decoders.specs.LengthsOutLaws.{lengths_read_back};
 
-    ghost headers_out = { λ d. lengths_out d.width d.order d.max };
+    ghost headers_out = { λ d. record { header = bytes_of d.width d.order; max = min d.max (most_of d.width) } };
 
     #[inline(always)]
     fn header_of(&self, len: usize) -> HeaderBytes {

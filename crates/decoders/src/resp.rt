@@ -1,8 +1,8 @@
 //! RESP, the protocol of Redis.
-ghost use Rattle.std.specs.Prelude.{◌≡◌, ◌∷◌, ◌+◌, ◌^◌, ◌<◌, ◌≤◌, length};
+ghost use Rattle.std.specs.Prelude.{◌≡◌, ◌∷◌, ◌+◌, ◌^◌, ◌<◌, ◌≤◌, ◌==◌, ◌&&◌, ◌||◌, length, slice_index};
 ghost use Rattle.codec.specs.Decoding.{bytes_at};
 ghost use Rattle.codec.specs.declared.number.Number.TheVariants as Number;
-ghost use Rattle.decoders.specs.Resp.{behind_kind, count_in, counted, ends_line, resp_item};
+ghost use Rattle.decoders.specs.Resp.{behind_kind, count_in, counted, resp_item};
 
 use crate::nullable::NullableStrings;
 use codec::{
@@ -172,7 +172,7 @@ fn counted(number: Number, byte: u8, line: &[u8]) -> Option<usize>
 // Whether a line ends here.
 #[inline(always)]
 fn ends_line(byte: u8, line: &[u8]) -> bool
-    ensures { result ≡ ends_line byte line.now }
+    ensures { result ≡ ((byte == 10) || ((byte == 13) && (slice_index line.now 0 == 10))) }
 {
     match line {
         [b'\n', ..] => byte == b'\n' || byte == b'\r',

@@ -3,13 +3,14 @@ ghost use Rattle.std.specs.Prelude.{◌≡◌, ℕ, ◌+◌, ◌*◌, ◌<◌, �
 ghost use Rattle.std.specs.Borrow.{Lends, sem};
 ghost use Rattle.std.specs.Io.BufRead.{Rests};
 ghost use Rattle.buffer_redux.specs.Block.{Plain};
+ghost use Rattle.buffer_redux.specs.Buffered.{with_inner};
 ghost use Rattle.buffer_redux.specs.GrowError.{FitsWithin};
 ghost use Rattle.buffer_redux.specs.MakeError.{growth};
 ghost use Rattle.line_reader.specs.contracts.reader.LineReader.{the_row};
 ghost use Rattle.line_reader.specs.Lines.{BeginsTooLong, IsLine, newline};
 ghost use Rattle.piece_reader.specs.Decoding.{IsLent, bytes_at};
 ghost use Rattle.piece_reader.specs.NextPiece.{answer_of, load_answer};
-ghost use Rattle.piece_reader.specs.PieceReader.{IsFresh, IsOver, TakenApart, rest, room_for, with_stream};
+ghost use Rattle.piece_reader.specs.PieceReader.{IsFresh, IsOver, TakenApart, rest, room_for};
 ghost use Rattle.line_reader.specs.LineReader.{HasLine, IsLineReader, lined};
 ghost use Rattle.line_reader.specs.NextLine.{NextBuffered, NextLine, NextTrimmed};
 ghost use Rattle.line_reader.specs.SkipLine.{SkipsLine};
@@ -138,7 +139,10 @@ impl<R: Tell> LineReader<R> {
     /// answered `None`.
     pub fn get_mut(&mut self) -> &mut R
         ensures* writes_back { sem 𝓛 (Lends (the_row R.row R.Tell) R.row
-            self.entry result (λ stream. record self.old { pieces = with_stream R.log self.old.pieces stream })) }
+            self.entry result (λ stream. record self.old {
+              pieces =
+                  record self.old.pieces { reader = with_inner R.log self.old.pieces.reader stream };
+            })) }
         ensures inner { result.now ≡ self.old.pieces.reader.inner }
         ensures log { R.log result.now ≡ self.old.pieces.reader.log }
     {

@@ -3,7 +3,7 @@ use Rattle.std.proofs.Common.{◌≡◌, ℕ, ◌+◌, ◌<◌, ◌≤◌, List,
 use Rattle.std.proofs.Math.Seq.{take-append-add}
 use Rattle.std.proofs.lemmas.List.{take_all}
 use Rattle.piece_reader.specs.Decoding.{IsPiece}
-use Rattle.piece_reader.specs.Delimited.{IsTooLong, delimited}
+use Rattle.piece_reader.specs.Delimited.{delimited}
 use Rattle.piece_reader.specs.DelimitedLaws.{open_plain, plain_open}
 use Rattle.piece_reader.specs.Grammar.{IsOpen, Lacks}
 use Rattle.piece_reader.specs.GrammarLaws.{lacks_one}
@@ -24,23 +24,19 @@ module _ (end max : ℕ) (bytes : List ℕ) where
       record {
         inside = omega (arith, inside);
         within = omega arith;
-        is = record {
-          plain = e.plain;
-          fits = omega (arith, size, fits);
-          equal = ap (λ n. take n bytes) count ∙ ap (take (length p + 1)) (sym e.equal)
-              ∙ take-append-add p (end ∷ drop (1 + at) bytes) 1;
-        };
+        is = (
+          e.plain,
+          omega (arith, size, fits),
+          ap (λ n. take n bytes) count ∙ ap (take (length p + 1)) (sym e.equal)
+              ∙ take-append-add p (end ∷ drop (1 + at) bytes) 1,
+        );
       }
 
   module _ (to : ℕ) (is : to ≡ min (length bytes) (1 + max)) (plain : IsPlain end (take to bytes)) where
-    pub too_long : max < length bytes → IsTooLong end max bytes (record { 0 = max })
+    pub too_long : max < length bytes → (delimited end max).wrong bytes (record { 0 = max })
     too_long above =
         let count : to ≡ 1 + max = omega (arith, is, above) in
-        record {
-          above = above;
-          plain = subst (λ n. IsPlain end (take n bytes)) count plain;
-          told = refl;
-        }
+        (above, subst (λ n. IsPlain end (take n bytes)) count plain, refl)
 
     pub wants_one : length bytes ≤ max → (length bytes < 1 + length bytes) × (1 + length bytes ≤ 1 + max)
         × Lacks (delimited end max) (1 + length bytes) bytes

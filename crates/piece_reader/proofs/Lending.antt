@@ -1,13 +1,14 @@
 -- Where the payload is that a step went on to.
 use Rattle.std.proofs.Common.{◌≡◌, ℕ, ◌+◌, length, take, drop, sym, ap, subst, ◌∙◌, arith, inl, inr, Option, Result, Ok, Err, Some, None, IfOk, IfSome}
 use Rattle.std.proofs.lemmas.List.{drop-drop, drop-take, take_all}
+use Rattle.piece_reader.specs.declared.decoder.Found.TheVariants as found
 use Rattle.piece_reader.specs.declared.decoder.Span.{Span}
 use Rattle.piece_reader.specs.declared.error.NextError.{NextError}
 use Rattle.piece_reader.specs.declared.error.NextError.TheVariants.{Wrong, Io}
 use Rattle.piece_reader.specs.Decoding.{IsLent, bytes_at}
 use Rattle.piece_reader.specs.Grammar.{Grammar}
 use Rattle.piece_reader.specs.PieceReader.{ReaderState, IsPieceReader, rest}
-use Rattle.piece_reader.specs.Steps.{TakesEnd, TakesPiece}
+use Rattle.piece_reader.specs.Steps.{Takes, TakesEnd}
 use Rattle.piece_reader.proofs.Reading.{rest_whole}
 
 -- the span is lent out of this reader
@@ -17,26 +18,26 @@ Lends grammar t span = IsLent (grammar t.decoder) t.handed t.reader.block.bytes 
 module _ {S D W : Type 0} (grammar : D → Grammar W) (s t : ReaderState S D) where
   -- of a piece that was buffered whole, as the place was told of what was left
   pub lends_piece : (at : ℕ) → at ≡ s.handed → IsPieceReader (grammar s.decoder) t → (span : Span) (used : ℕ)
-      → TakesPiece (grammar s.decoder) s t span used → Lends grammar t (record { from = at + span.from; len = span.len })
+      → Takes (grammar s.decoder) s (found.Piece span used) t → Lends grammar t (record { from = at + span.from; len = span.len })
   lends_piece at is whole span used takes =
       let bytes = s.reader.block.bytes in
       let there : Span = record { from = at + span.from; len = span.len } in
-      let same = takes.same in
+      let same = takes.1 in
       let shown : bytes_at span (rest s) ≡ bytes_at there bytes =
       ap (take span.len) (drop-drop span.from s.handed bytes) ∙ ap (λ n. take span.len (drop (n + span.from) bytes)) (sym is) in
       let piece : take used (rest s) ≡ drop s.handed (take (s.handed + used) bytes) = sym (drop-take s.handed used bytes) in
       subst (λ x. Lends grammar x there) (sym same) (record {
         start = s.handed;
         after = omega (arith, is);
-        within = omega (arith, is, takes.piece.within);
+        within = omega (arith, is, takes.0.within);
         inside = omega (arith, (subst (IsPieceReader (grammar s.decoder)) same whole).handed);
         is = inl (subst (λ p. (grammar s.decoder).piece p (bytes_at there bytes)) piece
-            (subst ((grammar s.decoder).piece (take used (rest s))) shown takes.piece.is));
+            (subst ((grammar s.decoder).piece (take used (rest s))) shown takes.0.is));
       })
 
   -- of one that stands at the front
   pub lends_first : s.handed ≡ 0 → IsPieceReader (grammar s.decoder) t → (span : Span) (used : ℕ)
-      → TakesPiece (grammar s.decoder) s t span used → Lends grammar t span
+      → Takes (grammar s.decoder) s (found.Piece span used) t → Lends grammar t span
   lends_first none whole span used takes =
       let here : 0 + span.from ≡ span.from = omega arith in
       subst (λ n. Lends grammar t (record { from = n; len = span.len })) here (lends_piece 0 (sym none) whole span used takes)

@@ -14,7 +14,7 @@ use Rattle.piece_reader.specs.NextPieceLaws.{AskedWhere-told, MetEnd-joins, MetE
 use Rattle.piece_reader.specs.PiecesWentLaws.{PiecesWent-joins, PiecesWent-inside}
 use Rattle.piece_reader.specs.PieceReader.{ReaderState, IsPieceReader, rest}
 use Rattle.piece_reader.specs.StaysLeftLaws.{NextPiece-looked}
-use Rattle.piece_reader.specs.Steps.{AsksFor, Takes, TakesEnd, TakesPiece}
+use Rattle.piece_reader.specs.Steps.{AsksFor, Takes, TakesEnd}
 use Rattle.piece_reader.proofs.Reading.{rest_whole}
 use Rattle.piece_reader.proofs.Headers.{HeaderBytes, HeaderBytes-none, HeaderBytes-told, HeaderBytes-more, asked_on, still_open, went_on}
 
@@ -49,13 +49,13 @@ module _ {S D W : Type 0} (remaining : S → Option (List ℕ)) (g : Grammar W) 
   -- the next piece is buffered whole, and is handed out
   module _ (m t : ReaderState S D) (h : HeaderBytes remaining g s m) (whole : IsPieceReader g m) (whole' : IsPieceReader g t)
       (span : Span)
-      (used : ℕ) (takes : TakesPiece g m t span used) where
+      (used : ℕ) (takes : Takes g m (found.Piece span used) t) where
     some : 0 < length (rest m)
     some = omega (
       arith,
-      law.some (take used (rest m)) (bytes_at span (rest m)) takes.piece.is,
-      length-take-le used (rest m) takes.piece.inside,
-      takes.piece.inside,
+      law.some (take used (rest m)) (bytes_at span (rest m)) takes.0.is,
+      length-take-le used (rest m) takes.0.inside,
+      takes.0.inside,
     )
 
     open_m : m.ended ≡ false
@@ -68,14 +68,14 @@ module _ {S D W : Type 0} (remaining : S → Option (List ℕ)) (g : Grammar W) 
         let bytes = take used (rest m) in
         let split : bytes ++ rest w ≡ rest m = ap (λ l. bytes ++ l) behind ∙ take-append-drop used (rest m) in
         let inside = PiecesWent-inside remaining g.most m w bytes refl refl split in
-        subst (NextPiece remaining g s (Ok (Some (bytes_at span (rest m))))) (sym takes.same) (record {
+        subst (NextPiece remaining g s (Ok (Some (bytes_at span (rest m))))) (sym takes.1) (record {
           bytes = bytes;
           went = PiecesWent-joins remaining g.most s m w [] bytes h.went inside;
-          answers = (h.faults, inl (takes.piece.is, open_m, h.no_end));
+          answers = (h.faults, inl (takes.0.is, open_m, h.no_end));
           asked = AskedWhere-told (IsOpen g) s m w refl h.asked;
           gave = λ _ _. h.asks;
           told = λ ended. (let odd : true ≡ false = sym ended ∙ sym h.ended ∙ open_m in cc);
-          whole = subst (IsPieceReader g) takes.same whole';
+          whole = subst (IsPieceReader g) takes.1 whole';
         })
 
   -- the same, once it stands at the front
@@ -83,7 +83,7 @@ module _ {S D W : Type 0} (remaining : S → Option (List ℕ)) (g : Grammar W) 
       → NextPiece remaining g s (Ok (Some (bytes_at span t.reader.block.bytes))) t
   takes_loaded m t span used turn =
       let same : rest m ≡ t.reader.block.bytes =
-      rest_whole m turn.handed ∙ ap (λ x. x.reader.block.bytes) (sym turn.takes.same) in
+      rest_whole m turn.handed ∙ ap (λ x. x.reader.block.bytes) (sym turn.takes.1) in
       subst (λ l. NextPiece remaining g s (Ok (Some (bytes_at span l))) t) same
       (takes_next m t turn.header turn.before turn.whole span used turn.takes)
 
@@ -231,14 +231,14 @@ next_looked remaining grammar s m t need answer wants next =
 
 -- a piece that is buffered whole is handed out, and shown where it stands in the buffer
 pub takes_shown : {S D W : Type 0} (remaining : S → Option (List ℕ)) (g : Grammar W) → IsLawful g → (s t : ReaderState S D)
-    (at : ℕ) → at ≡ s.handed → IsPieceReader g s → IsPieceReader g t → (span : Span) (used : ℕ) → TakesPiece g s t span used
+    (at : ℕ) → at ≡ s.handed → IsPieceReader g s → IsPieceReader g t → (span : Span) (used : ℕ) → Takes g s (found.Piece span used) t
     → NextPiece remaining g s
     (Ok (Some (bytes_at (record { from = at + span.from; len = span.len }) t.reader.block.bytes))) t
 takes_shown remaining g law s t at is whole whole' span used takes =
     let bytes = s.reader.block.bytes in
     let shown : bytes_at span (rest s) ≡ bytes_at (record { from = at + span.from; len = span.len }) t.reader.block.bytes =
     ap (take span.len) (drop-drop span.from s.handed bytes) ∙ ap (λ n. take span.len (drop (n + span.from) bytes)) (sym is)
-    ∙ ap (λ x. take span.len (drop (at + span.from) x.reader.block.bytes)) (sym takes.same) in
+    ∙ ap (λ x. take span.len (drop (at + span.from) x.reader.block.bytes)) (sym takes.1) in
     subst (λ l. NextPiece remaining g s (Ok (Some l)) t) shown
     (takes_next remaining g law s s t (HeaderBytes-none remaining g s) whole whole' span used takes)
 

@@ -1,18 +1,19 @@
 -- What pieces say that a step went on to.
 use Rattle.std.proofs.Common.{◌≡◌, ℕ, ◌+◌, ◌-◌, List, [], ◌++◌, take, drop, sym, ap, subst, ◌∙◌, arith, inl, inr, append-nil, Option, Result, Ok, Err, Some, None, IfOk, IfSome}
 use Rattle.std.proofs.lemmas.List.{drop-drop, take-append-drop}
+use Rattle.piece_reader.specs.declared.decoder.Found.TheVariants as found
 use Rattle.piece_reader.specs.declared.decoder.Span.{Span}
 use Rattle.piece_reader.specs.declared.error.NextError.{NextError}
 use Rattle.piece_reader.specs.declared.error.NextError.TheVariants.{Wrong, Io}
 use Rattle.piece_reader.specs.Decoding.{bytes_at}
 use Rattle.piece_reader.specs.Grammar.{Grammar, IsLawful}
-use Rattle.piece_reader.specs.Items.{IsWhole, NextItem, part}
+use Rattle.piece_reader.specs.Items.{IsWhole, NextItem}
 use Rattle.piece_reader.specs.NextPiece.{HandsBytes, NextPiece, PiecesWent, load_answer}
 use Rattle.piece_reader.specs.GrammarLaws.{wrong_some}
 use Rattle.piece_reader.specs.NextPieceLaws.{NextPiece-refused}
 use Rattle.piece_reader.specs.PiecesWentLaws.{HandsBytes-same}
 use Rattle.piece_reader.specs.PieceReader.{ReaderState, IsPieceReader, rest}
-use Rattle.piece_reader.specs.Steps.{TakesEnd, TakesPiece}
+use Rattle.piece_reader.specs.Steps.{Takes, TakesEnd}
 use Rattle.piece_reader.proofs.Loading.{takes_shown}
 use Rattle.piece_reader.proofs.Reading.{rest_whole}
 
@@ -27,7 +28,7 @@ module _ {S D : Type 0} where
         ∙ went.hands.equal;
   }
 
-  pub part_front : (t : ReaderState S D) → part 0 t.handed t.reader.block.bytes ≡ take t.handed t.reader.block.bytes
+  pub part_front : (t : ReaderState S D) → take (t.handed - 0) (drop 0 t.reader.block.bytes) ≡ take t.handed t.reader.block.bytes
   part_front t =
       let count : t.handed - 0 ≡ t.handed = omega arith in
       ap (λ n. take n t.reader.block.bytes) count
@@ -45,17 +46,17 @@ module _ {S D W : Type 0} where
 
   -- a piece that was buffered whole is what was handed out
   pub part_piece : (g : Grammar W) (s t : ReaderState S D) (at : ℕ) (span : Span) (used : ℕ) → at ≡ s.handed
-      → TakesPiece g s t span used → part at t.handed t.reader.block.bytes ≡ take used (rest s)
+      → Takes g s (found.Piece span used) t → take (t.handed - at) (drop at t.reader.block.bytes) ≡ take used (rest s)
   part_piece g s t at span used is takes =
-      let same = takes.same in
+      let same = takes.1 in
       let count : t.handed - at ≡ used = omega (arith, is, ap (λ x. x.handed) same) in
       ap (λ n. take n (drop at t.reader.block.bytes)) count ∙ ap (λ x. take used (drop at x.reader.block.bytes)) same
       ∙ ap (λ n. take used (drop n s.reader.block.bytes)) is
 
-  pub hands_piece : (g : Grammar W) (s t : ReaderState S D) (span : Span) (used : ℕ) → TakesPiece g s t span used
+  pub hands_piece : (g : Grammar W) (s t : ReaderState S D) (span : Span) (used : ℕ) → Takes g s (found.Piece span used) t
       → HandsBytes s (take used (rest s)) t
   hands_piece g s t span used takes =
-      let same = takes.same in
+      let same = takes.1 in
       record {
         got = [];
         given = ap (λ x. x.reader.log.reads.given) same ∙ sym (append-nil s.reader.log.reads.given);
@@ -74,19 +75,19 @@ module _ {S D W : Type 0} where
 
 module _ {S D W : Type 0} (grammar : D → Grammar W) (s t : ReaderState S D) where
   -- what is looked at for an item is a piece
-  pub whole_piece : (at : ℕ) (span : Span) (used : ℕ) → at ≡ s.handed → TakesPiece (grammar s.decoder) s t span used
-      → IsWhole (grammar t.decoder) (part at t.handed t.reader.block.bytes)
+  pub whole_piece : (at : ℕ) (span : Span) (used : ℕ) → at ≡ s.handed → Takes (grammar s.decoder) s (found.Piece span used) t
+      → IsWhole (grammar t.decoder) (take (t.handed - at) (drop at t.reader.block.bytes))
   whole_piece at span used is takes =
-      let told : t.decoder ≡ s.decoder = ap (λ x. x.decoder) takes.same in
+      let told : t.decoder ≡ s.decoder = ap (λ x. x.decoder) takes.1 in
       subst (IsWhole (grammar t.decoder)) (sym (part_piece (grammar s.decoder) s t at span used is takes))
-      (subst (λ d. IsWhole (grammar d) (take used (rest s))) (sym told) (bytes_at span (rest s), inl takes.piece.is))
+      (subst (λ d. IsWhole (grammar d) (take used (rest s))) (sym told) (bytes_at span (rest s), inl takes.0.is))
 
   module _ (remaining : S → Option (List ℕ)) (payload : List ℕ)
       (next : NextPiece remaining (grammar s.decoder) s (Ok (Some payload)) t)
       (front : HandsBytes s (take t.handed t.reader.block.bytes) t) where
-    pub whole_front : IsWhole (grammar t.decoder) (part 0 t.handed t.reader.block.bytes)
+    pub whole_front : IsWhole (grammar t.decoder) (take (t.handed - 0) (drop 0 t.reader.block.bytes))
     whole_front =
-        let same : next.bytes ≡ part 0 t.handed t.reader.block.bytes =
+        let same : next.bytes ≡ take (t.handed - 0) (drop 0 t.reader.block.bytes) =
         HandsBytes-same s t next.bytes (take t.handed t.reader.block.bytes) next.went.hands front ∙ sym (part_front t) in
         subst (IsWhole (grammar t.decoder)) same
         (subst (λ d. IsWhole (grammar d) next.bytes) (sym next.went.decoder)
@@ -117,8 +118,8 @@ wrong_now remaining g law s t e wrong same whole = subst (NextPiece remaining g 
 pub says_piece : {S D W I : Type 0} (remaining : S → Option (List ℕ)) (grammar : D → Grammar W) (item_of : D → List ℕ → I)
     (s t : ReaderState S D) → IsLawful (grammar s.decoder) → IsPieceReader (grammar s.decoder) s → IsPieceReader
     (grammar s.decoder) t
-    → (at : ℕ) → at ≡ s.handed → (span : Span) (used : ℕ) → TakesPiece (grammar s.decoder) s t span used → (item : I)
-    → item ≡ item_of t.decoder (part at t.handed t.reader.block.bytes)
+    → (at : ℕ) → at ≡ s.handed → (span : Span) (used : ℕ) → Takes (grammar s.decoder) s (found.Piece span used) t → (item : I)
+    → item ≡ item_of t.decoder (take (t.handed - at) (drop at t.reader.block.bytes))
     → NextItem remaining (grammar s.decoder) (item_of s.decoder) s
     (Ok (Some (item, record { from = at + span.from; len = span.len }))) t
 says_piece remaining grammar item_of s t law before whole at here span used takes item is =
@@ -128,5 +129,5 @@ says_piece remaining grammar item_of s t law before whole at here span used take
     ∙ HandsBytes-same s t (take used (rest s)) next.bytes (hands_piece g s t span used takes) next.went.hands in
     record {
       next = next;
-      says = is ∙ ap (λ x. item_of x.decoder (part at t.handed t.reader.block.bytes)) takes.same ∙ ap (item_of s.decoder) bytes;
+      says = is ∙ ap (λ x. item_of x.decoder (take (t.handed - at) (drop at t.reader.block.bytes))) takes.1 ∙ ap (item_of s.decoder) bytes;
     }

@@ -4,7 +4,7 @@ use Rattle.std.proofs.Common.{zero, suc, sym, ap, subst, ◌∙◌, arith, refl,
 use Rattle.std.proofs.lemmas.Bool.{cases_lt}
 use Rattle.std.proofs.lemmas.List.{take-append-le}
 use Rattle.std.proofs.lemmas.List.Elements.{All-nil, All-cons, All-head, All-tail, All-take}
-use Rattle.piece_reader.specs.Delimited.{IsDelimited, delimited}
+use Rattle.piece_reader.specs.Delimited.{delimited}
 use Rattle.piece_reader.specs.Grammar.{IsLawful, IsOpen}
 use Rattle.piece_reader.specs.Plain.{IsPlain}
 
@@ -71,7 +71,7 @@ module _ (end : ℕ) where
     pub open_plain : (bytes : List ℕ) → IsOpen (delimited end max) bytes → IsPlain end bytes × (length bytes ≤ max)
     open_plain bytes is =
         let long : max < length bytes → ¬ (IsPlain end (take (1 + max) bytes)) =
-        λ above plain. is.not_wrong (record { 0 = max }) (record { above = above; plain = plain; told = refl }) in
+        λ above plain. is.not_wrong (record { 0 = max }) (above, plain, refl) in
         elim (first_end bytes) [
           | inl plain ↦ (
             plain,
@@ -91,7 +91,7 @@ module _ (end : ℕ) where
               piece = at.0 ++ end ∷ [];
               payload = at.0;
               more = at.1;
-              is = record { plain = at.2; fits = fits; equal = refl };
+              is = (at.2, fits, refl);
               equal = at.3 ∙ sym (append_assoc at.0 (end ∷ []) at.1);
             })
           ])
@@ -102,29 +102,29 @@ module _ (end : ℕ) where
     plain_open bytes plain few = record {
       no_piece = λ b.
           end_in b.payload b.more (subst (IsPlain end)
-          (b.equal ∙ ap (λ l. l ++ b.more) b.is.equal ∙ append_assoc b.payload (end ∷ []) b.more) plain);
-      not_wrong = λ e wrong. absurd (omega (arith, wrong.above, few));
+          (b.equal ∙ ap (λ l. l ++ b.more) b.is.2 ∙ append_assoc b.payload (end ∷ []) b.more) plain);
+      not_wrong = λ e wrong. absurd (omega (arith, wrong.0, few));
     }
 
-    cut : (p a xs : List ℕ) → IsDelimited end max p a → p ++ xs ≡ a ++ end ∷ xs
-    cut p a xs is = ap (λ l. l ++ xs) is.equal ∙ append_assoc a (end ∷ []) xs
+    cut : (p a xs : List ℕ) → (delimited end max).piece p a → p ++ xs ≡ a ++ end ∷ xs
+    cut p a xs is = ap (λ l. l ++ xs) is.2 ∙ append_assoc a (end ∷ []) xs
 
     pub delimited_lawful : IsLawful (delimited end max)
     delimited_lawful = record {
       one = λ p q xs ys a b is is' same.
-          let parts = plain-same a b xs ys is.plain is'.plain (sym (cut p a xs is) ∙ same ∙ cut q b ys is') in
-          (is.equal ∙ ap (λ l. l ++ end ∷ []) parts.0 ∙ sym is'.equal, parts.0);
-      some = λ p a is. omega (arith, ap length is.equal, length-append a (end ∷ []));
+          let parts = plain-same a b xs ys is.0 is'.0 (sym (cut p a xs is) ∙ same ∙ cut q b ys is') in
+          (is.2 ∙ ap (λ l. l ++ end ∷ []) parts.0 ∙ sym is'.2, parts.0);
+      some = λ p a is. omega (arith, ap length is.2, length-append a (end ∷ []));
       room = omega arith;
       apart = λ p a more e is wrong.
-          end-within a more max is.fits (subst (λ l. IsPlain end (take (1 + max) l)) (cut p a more is) wrong.plain);
-      reason = λ bytes e e' wrong wrong'. wrong.told ∙ sym wrong'.told;
-      stays = λ bytes more e wrong. record {
-        above = omega (arith, wrong.above, length-append bytes more);
-        plain = subst (IsPlain end) (sym (take-append-le (1 + max) bytes more (omega (arith, wrong.above)))) wrong.plain;
-        told = wrong.told;
-      };
-      nothing = λ e wrong. absurd (omega (arith, wrong.above));
+          end-within a more max is.1 (subst (λ l. IsPlain end (take (1 + max) l)) (cut p a more is) wrong.1);
+      reason = λ bytes e e' wrong wrong'. wrong.2 ∙ sym wrong'.2;
+      stays = λ bytes more e wrong. (
+        omega (arith, wrong.0, length-append bytes more),
+        subst (IsPlain end) (sym (take-append-le (1 + max) bytes more (omega (arith, wrong.0)))) wrong.1,
+        wrong.2,
+      );
+      nothing = λ e wrong. absurd (omega (arith, wrong.0));
       one_last = λ bytes a b is is'. is ∙ sym is';
       end_apart = λ bytes a e is cut. cut;
     }

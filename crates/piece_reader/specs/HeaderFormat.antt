@@ -1,5 +1,5 @@
 -- Pieces that have a header.
-use Rattle.std.specs.Prelude.{◌≡◌, ℕ, ◌+◌, ◌<◌, ◌≤◌, ◌^◌, ◌⊎◌, List, [], ◌++◌, length, take, drop}
+use Rattle.std.specs.Prelude.{◌≡◌, ℕ, ◌+◌, ◌<◌, ◌≤◌, ◌^◌, List, [], ◌++◌, length, take, drop}
 use Rattle.piece_reader.specs.declared.header.Header.{Header}
 use Rattle.piece_reader.specs.declared.header.Header.TheVariants.{Short, Sized, Bad}
 use Rattle.piece_reader.specs.declared.header_error.HeaderError.{HeaderError}
@@ -28,36 +28,22 @@ pub record IsHeaderFormat (h : HeaderFormat) : Type 0 where
   pub nothing : h.header [] ≡ Short
   pub small : h.most_header + h.max + length h.tail < 2 ^ 63
 
--- a header, the payload that it says, and the tail
-pub record IsLengthPrefixed (h : HeaderFormat) (bytes payload : List ℕ) : Type 0 where
-  pub used : ℕ
-  pub is : h.header bytes ≡ Sized (length payload) used
-  pub fits : length payload ≤ h.max
-  pub equal : drop used bytes ≡ payload ++ h.tail
+-- what is wrong: the header is none; it says too much; or something else stands where the tail should
+abbrev pub BeginsNone : HeaderFormat → List ℕ → HeaderError → Type 0
+BeginsNone h bytes NoHeader = h.header bytes ≡ Bad
+BeginsNone h bytes (TooLong len) = (used : ℕ) × (h.header bytes ≡ Sized len used) × (h.max < len)
+BeginsNone h bytes NoTail =
+    (len : ℕ) × (used : ℕ) × (h.header bytes ≡ Sized len used) × (len ≤ h.max)
+    × (used + len + length h.tail ≤ length bytes) × ¬ (take (length h.tail) (drop (used + len) bytes) ≡ h.tail)
+BeginsNone h bytes (Truncated have) = ⊥
 
--- the header says too much; or something else stands where the tail should
-pub record SaysTooMuch (h : HeaderFormat) (bytes : List ℕ) (e : HeaderError) : Type 0 where
-  pub len : ℕ
-  pub used : ℕ
-  pub is : h.header bytes ≡ Sized len used
-  pub above : h.max < len
-  pub told : e ≡ TooLong len
-
-pub record LacksTail (h : HeaderFormat) (bytes : List ℕ) (e : HeaderError) : Type 0 where
-  pub len : ℕ
-  pub used : ℕ
-  pub is : h.header bytes ≡ Sized len used
-  pub fits : len ≤ h.max
-  pub inside : used + len + length h.tail ≤ length bytes
-  pub other : ¬ (take (length h.tail) (drop (used + len) bytes) ≡ h.tail)
-  pub told : e ≡ NoTail
-
--- what is wrong is that, or that the header is none
+-- a piece is a header, the payload that it says, and the tail
 abbrev pub length_prefixed : HeaderFormat → Grammar HeaderError
 length_prefixed h = record {
   most = h.most_header + h.max + length h.tail;
-  piece = IsLengthPrefixed h;
-  wrong = λ bytes e. ((h.header bytes ≡ Bad) × (e ≡ NoHeader)) ⊎ (SaysTooMuch h bytes e ⊎ LacksTail h bytes e);
+  piece = λ bytes payload. (used : ℕ) × (h.header bytes ≡ Sized (length payload) used) × (length payload ≤ h.max)
+      × (drop used bytes ≡ payload ++ h.tail);
+  wrong = BeginsNone h;
   last = λ bytes payload. ⊥;
   cut = λ bytes e. e ≡ Truncated (length bytes);
 }

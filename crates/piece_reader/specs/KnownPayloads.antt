@@ -3,19 +3,10 @@ use Rattle.std.specs.Prelude.{◌≡◌, ℕ, ◌<◌, ◌⊎◌, List, [], ◌�
 use Rattle.std.specs.IoError.{error_kind}
 use Rattle.std.specs.declared.io.Error.{Error}
 use Rattle.std.specs.declared.io.ErrorKind.TheVariants.{OutOfMemory}
-use Rattle.piece_reader.specs.Runs.{NextLost}
-
--- the answers by which these payloads are handed out, each by one call
-abbrev pub found_each : {E : Type 0} → List (List ℕ) → List (Result (Option (List ℕ)) E)
-found_each payloads = map (λ payload. Ok (Some payload)) payloads
 
 -- each of these payloads was handed out by a call, and one more call told the end
 abbrev pub AllRead : {T E : Type 0} → (T → List (Result (Option (List ℕ)) E) → T → Type 0) → T → List (List ℕ) → T → Type 0
-AllRead Plays s payloads t = Plays s (found_each payloads ++ Ok None ∷ []) t
-
--- one call failed with this error: want of memory for what it handed out, or the stream's own
-abbrev pub NextFails : {T E : Type 0} → (T → Result (Option (List ℕ)) E → T → Type 0) → (Error → E) → T → Error → T → Type 0
-NextFails Call io s e t = ((error_kind e ≡ OutOfMemory) × NextLost Call s t) ⊎ Call s (Err (io e)) t
+AllRead Plays s payloads t = Plays s (map (λ payload. Ok (Some payload)) payloads ++ Ok None ∷ []) t
 
 -- of a reader that says which payloads are left and which faults it met, and as what it answers an error of the stream inside
 module _ {T E : Type 0} (HasLeft : T → List (List ℕ) → Type 0) (faults : T → List Error) (io : Error → E) where
@@ -35,8 +26,8 @@ module _ {T E : Type 0} (HasLeft : T → List (List ℕ) → Type 0) (faults : T
     -- them was refused, and no fault was met, or one more call met it, and no other
     abbrev pub ReadFails : T → List (List ℕ) → Error → T → Type 0
     ReadFails s done e t =
-        ((error_kind e ≡ OutOfMemory) × (0 < length done) × Plays s (found_each done) t × (faults t ≡ faults s))
-        ⊎ (Plays s (found_each done ++ Err (io e) ∷ []) t × (faults t ≡ faults s ++ e ∷ []))
+        ((error_kind e ≡ OutOfMemory) × (0 < length done) × Plays s (map (λ payload. Ok (Some payload)) done) t × (faults t ≡ faults s))
+        ⊎ (Plays s (map (λ payload. Ok (Some payload)) done ++ Err (io e) ∷ []) t × (faults t ≡ faults s ++ e ∷ []))
 
     -- the first of these payloads were handed out, and then reading failed with this error: the others are left
     pub record ReadStopped (s : T) (payloads : List (List ℕ)) (e : Error) (t : T) : Type 0 where

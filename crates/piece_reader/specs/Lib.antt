@@ -5,7 +5,6 @@ pub mod Grammar
 pub mod GrammarLaws
 pub mod HeaderFormat
 pub mod HeaderFormatLaws
-pub mod IoErrors
 pub mod Items
 pub mod KnownPayloads
 pub mod KnownPieces

@@ -88,16 +88,13 @@ IsHanded g s payload bytes t =
     (g.piece bytes payload × (t.ended ≡ false) × NoEnd s t)
     ⊎ (g.last bytes payload × IsOpen g bytes × (0 < length bytes) × (rest t ≡ []) × (t.ended ≡ true) × MetEnd s t)
 
--- what is left begins with no piece; or the stream ended behind it, and it is none
-abbrev pub IsRefused : {S D W : Type 0} → Grammar W → ReaderState S D → W → ReaderState S D → Type 0
-IsRefused g s e t =
-    (g.wrong (rest t) e × NoEnd s t) ⊎ (g.cut (rest t) e × IsOpen g (rest t) × (0 < length (rest t)) × MetEnd s t)
-
--- what each answer means, by the bytes that it hands out and what is left
+-- what each answer means, by the bytes that it hands out and what is left. That is wrong where it begins with no piece, or is
+-- none and the stream ended behind it
 abbrev pub NextAnswers : {S D W : Type 0} → Grammar W → ReaderState S D → NextAnswer W → List ℕ → ReaderState S D → Type 0
 NextAnswers g s (Ok (Some payload)) bytes t = NoFault s t × IsHanded g s payload bytes t
 NextAnswers g s (Ok None) bytes t = (bytes ≡ []) × (rest t ≡ []) × NoFault s t × (t.ended ≡ false) × MetEnd s t
-NextAnswers g s (Err (Wrong e)) bytes t = (bytes ≡ []) × NoFault s t × (t.ended ≡ false) × IsRefused g s e t
+NextAnswers g s (Err (Wrong e)) bytes t = (bytes ≡ []) × NoFault s t × (t.ended ≡ false)
+    × ((g.wrong (rest t) e × NoEnd s t) ⊎ (g.cut (rest t) e × IsOpen g (rest t) × (0 < length (rest t)) × MetEnd s t))
 NextAnswers g s (Err (Io e)) bytes t =
     (bytes ≡ []) × IsOpen g (rest t) × Faulted s e t × (t.ended ≡ false) × NoEnd s t
 

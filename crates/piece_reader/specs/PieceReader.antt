@@ -1,7 +1,7 @@
 -- What contracts see of a reader of pieces.
 use Rattle.std.specs.Prelude.{◌≡◌, ℕ, ◌+◌, ◌*◌, ◌≤◌, ◌⊎◌, List, [], drop, take, length, max, Bool, true, false}
-use Rattle.buffer_redux.specs.Block.{Block, IsBlock, Plain, usable, with_limit}
-use Rattle.buffer_redux.specs.Buffered.{Buffered, with_inner, with_policy}
+use Rattle.buffer_redux.specs.Block.{Block, IsBlock, Plain, with_limit}
+use Rattle.buffer_redux.specs.Buffered.{Buffered}
 use Rattle.buffer_redux.specs.Potential.{potential}
 use Rattle.buffer_redux.specs.StreamLog.{StreamLog}
 use Rattle.buffer_redux.specs.Unbuffer.{Unbuffered}
@@ -41,15 +41,6 @@ pub record IsPieceReader {S D W : Type 0} (g : Grammar W) (f : ReaderState S D) 
   pub searched : IsOpen g (take f.seen (rest f))
   pub ended : f.ended ≡ true → rest f ≡ []
 
--- a plain block that was just made, and can't grow
-pub record IsFixed (size : ℕ) (b : Block) : Type 0 where
-  pub bytes : b.bytes ≡ []
-  pub usable : usable b ≡ size
-  pub kind : b.kind ≡ Plain
-  pub capacity : b.capacity ≡ size
-  pub limit : b.limit ≡ size
-  pub moved : b.moved ≡ 0
-
 -- just made over this stream, for pieces of at most so many bytes: nothing is buffered, and no byte was moved
 pub record IsFresh {S D : Type 0} (tells : S → StreamLog) (least most : ℕ) (stream : S) (finder : D) (f : ReaderState S D)
     : Type 0 where
@@ -62,15 +53,6 @@ pub record IsFresh {S D : Type 0} (tells : S → StreamLog) (least most : ℕ) (
   pub capacity : f.reader.block.capacity ≡ room_for least most
   pub limit : f.reader.block.limit ≡ room_for least most
 
--- a plain block with the bytes of the other, in which three pieces of at most so many bytes fit, and which can't grow: the
--- other itself, where they fit there
-pub record IsFitted (most : ℕ) (old b : Block) : Type 0 where
-  pub bytes : b.bytes ≡ old.bytes
-  pub kind : b.kind ≡ Plain
-  pub capacity : b.capacity ≡ room_for old.capacity most
-  pub limit : b.limit ≡ room_for old.capacity most
-  pub kept : old.kind ≡ Plain → 3 * most ≤ old.capacity → b ≡ with_limit old old.capacity
-
 -- made over this buffer and stream: just what they have is left. A plain buffer in which three pieces fit is the reader's, with
 -- no byte moved
 pub record IsOver {S D : Type 0} (tells : S → StreamLog) (most : ℕ) (buffer : Block) (stream : S) (finder : D)
@@ -80,20 +62,6 @@ pub record IsOver {S D : Type 0} (tells : S → StreamLog) (most : ℕ) (buffer 
   pub ended : f.ended ≡ false
   pub capacity : f.reader.block.capacity ≡ room_for buffer.capacity most
   pub kept : buffer.kind ≡ Plain → 3 * most ≤ buffer.capacity → f.reader.block ≡ with_limit buffer buffer.capacity
-
--- the same reader with another decoder: nothing was looked at by that, and what is left stays, an untold end too
-abbrev pub redecoded : {S D E : Type 0} → E → ReaderState S D → ReaderState S E
-redecoded decoder f = record {
-  reader = with_policy f.reader (record { 0 = 0 });
-  decoder = decoder;
-  handed = f.handed;
-  seen = 0;
-  ended = f.ended;
-}
-
--- with this stream inside
-abbrev pub with_stream : {S D : Type 0} → (S → StreamLog) → ReaderState S D → S → ReaderState S D
-with_stream tells f stream = record f { reader = with_inner tells f.reader stream }
 
 -- the next call answers without the stream: a whole piece stands there, or what no piece begins with, or the stream has ended,
 -- which no call has told yet

@@ -25,21 +25,15 @@ NoneTold (Ok (Some payload) ∷ answers) = NoneTold answers
 NoneTold (Ok None ∷ answers) = ⊥
 NoneTold (Err e ∷ answers) = NoneTold answers
 
+-- these bytes are what the answers hand out, one after another: pieces with these payloads, of which one may be a last one where
 -- the next answer, if there is one, tells that the stream ended
-abbrev pub EndFollows : {E : Type 0} → List (Result (Option (List ℕ)) E) → Type 0
-EndFollows [] = Unit {0}
-EndFollows (Ok (Some payload) ∷ answers) = ⊥
-EndFollows (Ok None ∷ answers) = Unit {0}
-EndFollows (Err e ∷ answers) = ⊥
-
--- these bytes are what the answers hand out, one after another: pieces with these payloads, of which one before an end of the
--- stream may be a last one
 abbrev pub Cuts : {W : Type 0} → Grammar W → List (NextAnswer W) → List ℕ → Type 0
 Cuts g [] bytes = bytes ≡ []
-Cuts g (Ok (Some payload) ∷ answers) bytes =
+Cuts {W} g (Ok (Some payload) ∷ answers) bytes =
     (more : List ℕ)
     × (StartsWith g bytes payload more
-    ⊎ ((piece : List ℕ) × IsLast g piece payload × (bytes ≡ piece ++ more) × EndFollows answers))
+    ⊎ ((piece : List ℕ) × IsLast g piece payload × (bytes ≡ piece ++ more)
+    × ((next : NextAnswer W) (later : List (NextAnswer W)) → answers ≡ next ∷ later → next ≡ Ok None)))
     × Cuts g answers more
 Cuts g (Ok None ∷ answers) bytes = Cuts g answers bytes
 Cuts g (Err e ∷ answers) bytes = Cuts g answers bytes
@@ -96,9 +90,3 @@ pub record RunWent {S D W : Type 0} (remaining : S → Option (List ℕ)) (g : G
   pub bytes : List ℕ
   pub cut : Cuts g answers bytes
   pub went : PiecesWent remaining g.most s bytes t
-
--- calls, and what they come to
-abbrev pub NextPlays : {S D W : Type 0} → (S → Option (List ℕ)) → Grammar W → ReaderState S D → List (NextAnswer W)
-    → ReaderState S D
-    → Type 0
-NextPlays remaining g = AnswerPlays (NextPiece remaining g) (RunWent remaining g)

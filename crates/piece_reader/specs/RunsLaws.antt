@@ -8,7 +8,7 @@ use Rattle.piece_reader.specs.Grammar.{Grammar}
 use Rattle.piece_reader.specs.NextPiece.{NextAnswer, NextAnswers, NextPiece, PiecesWent}
 use Rattle.piece_reader.specs.PiecesWentLaws.{PiecesWent-none, PiecesWent-joins}
 use Rattle.piece_reader.specs.PieceReader.{ReaderState}
-use Rattle.piece_reader.specs.Runs.{AnswerPlays, AnswerRuns, Cuts, EndFollows, NextPlays, NextRuns, NoneTold, RunWent, all_handed}
+use Rattle.piece_reader.specs.Runs.{AnswerPlays, AnswerRuns, Cuts, NextRuns, NoneTold, RunWent, all_handed}
 use Rattle.piece_reader.specs.Texts.{HasPieces, IsLast}
 
 -- what a `?` hands on is an `Err`
@@ -45,13 +45,16 @@ module _ {T A : Type 0} (Call : T → A → T → Type 0) (Went : T → List A �
 module _ {W : Type 0} (g : Grammar W) where
   -- a last piece is the last
   cuts_last : (answers : List (NextAnswer W)) (payload piece bytes more : List ℕ) → NoneTold answers
-      → IsLast g piece payload → bytes ≡ piece ++ more → EndFollows (answers ++ Ok None ∷ [])
+      → IsLast g piece payload → bytes ≡ piece ++ more
+      → ((next : NextAnswer W) (later : List (NextAnswer W)) → answers ++ Ok None ∷ [] ≡ next ∷ later → next ≡ Ok None)
       → Cuts g (answers ++ Ok None ∷ []) more → HasPieces g bytes (payload ∷ all_handed answers)
   cuts_last [] payload piece bytes more none last is follows cut =
       inr (subst (λ l. IsLast g l payload) (sym (is ∙ ap (λ l. piece ++ l) cut ∙ append-nil piece)) last, refl)
-  cuts_last (Ok (Some other) ∷ answers) payload piece bytes more none last is follows cut = absurd follows
+  cuts_last (Ok (Some other) ∷ answers) payload piece bytes more none last is follows cut =
+      (let odd : Ok (Some other) ≡ Ok None = follows (Ok (Some other)) (answers ++ Ok None ∷ []) refl in cc)
   cuts_last (Ok None ∷ answers) payload piece bytes more none last is follows cut = absurd none
-  cuts_last (Err e ∷ answers) payload piece bytes more none last is follows cut = absurd follows
+  cuts_last (Err e ∷ answers) payload piece bytes more none last is follows cut =
+      (let odd : Err e ≡ Ok None = follows (Err e) (answers ++ Ok None ∷ []) refl in cc)
 
   -- what was handed out up to the first end of the stream is a text of just these pieces
   pub Cuts-text : (answers : List (NextAnswer W)) (bytes : List ℕ) → NoneTold answers → Cuts g (answers ++ Ok None ∷ []) bytes
@@ -67,12 +70,10 @@ module _ {W : Type 0} (g : Grammar W) where
 module _ {S D W : Type 0} (remaining : S → Option (List ℕ)) (g : Grammar W) where
   -- after a last piece comes the end of the stream
   end_follows : (m : ReaderState S D) (answers : List (NextAnswer W)) (t : ReaderState S D) → m.ended ≡ true
-      → NextRuns remaining g m answers t → EndFollows answers
-  end_follows m [] t ended run = tt
-  end_follows m (Ok None ∷ answers) t ended run = tt
-  end_follows m (Ok (Some payload) ∷ answers) t ended run =
-      let odd : Ok (Some payload) ≡ Ok None = run.1.told ended in cc
-  end_follows m (Err e ∷ answers) t ended run = (let odd : Err e ≡ Ok None = run.1.told ended in cc)
+      → NextRuns remaining g m answers t
+      → (next : NextAnswer W) (later : List (NextAnswer W)) → answers ≡ next ∷ later → next ≡ Ok None
+  end_follows m [] t ended run next later is = cc
+  end_follows m (answer ∷ answers) t ended run next later is = (let same : answer ≡ next = cc in sym same ∙ run.1.told ended)
 
   no_bytes : (s m : ReaderState S D) (e : NextError W) (bytes : List ℕ) → NextAnswers g s (Err e) bytes m → bytes ≡ []
   no_bytes s m (Wrong e) bytes (is, fault, ended, refused) = is
@@ -116,13 +117,14 @@ NextPiece-moved remaining grammar s m t {answer} same next = subst (λ d. NextPi
 
 -- calls under the decoder of the first: none, and one more
 pub NextPlays-none : {S D W : Type 0} (remaining : S → Option (List ℕ)) (g : Grammar W) (s : ReaderState S D)
-    → NextPlays remaining g s [] s
+    → AnswerPlays (NextPiece remaining g) (RunWent remaining g) s [] s
 NextPlays-none remaining g = AnswerPlays-none (NextPiece remaining g) (RunWent remaining g) (NextRuns-went remaining g)
 
 pub NextPlays-more : {S D W : Type 0} (remaining : S → Option (List ℕ)) (grammar : D → Grammar W) (s : ReaderState S D)
     (answers : List (NextAnswer W)) (m : ReaderState S D) (answer : NextAnswer W) (t : ReaderState S D)
-    → NextPlays remaining (grammar s.decoder) s answers m → NextPiece remaining (grammar m.decoder) m answer t
-    → NextPlays remaining (grammar s.decoder) s (answers ++ answer ∷ []) t
+    → AnswerPlays (NextPiece remaining (grammar s.decoder)) (RunWent remaining (grammar s.decoder)) s answers m
+    → NextPiece remaining (grammar m.decoder) m answer t
+    → AnswerPlays (NextPiece remaining (grammar s.decoder)) (RunWent remaining (grammar s.decoder)) s (answers ++ answer ∷ []) t
 NextPlays-more remaining grammar s answers m answer t plays next =
     let g = grammar s.decoder in
     AnswerPlays-more (NextPiece remaining g) (RunWent remaining g) (NextRuns-went remaining g) s answers m answer t plays

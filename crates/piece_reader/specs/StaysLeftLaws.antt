@@ -1,11 +1,11 @@
 -- What follows where a reader only looked at more bytes.
-use Rattle.std.specs.Prelude.{ℕ, List, [], Option, None, Some, Result, Ok, Err}
+use Rattle.std.specs.Prelude.{◌≡◌, ℕ, List, [], Option, None, Some, Result, Ok, Err, IfOk, IfSome}
 use Rattle.std.proofs.Common.{sym, ap, subst, inl, inr}
 use Rattle.piece_reader.specs.declared.decoder.Span.{Span}
 use Rattle.piece_reader.specs.declared.error.NextError.{NextError}
 use Rattle.piece_reader.specs.declared.error.NextError.TheVariants.{Wrong, Io}
 use Rattle.piece_reader.specs.Grammar.{Grammar}
-use Rattle.piece_reader.specs.Items.{NextItem, Says, item_answer}
+use Rattle.piece_reader.specs.Items.{NextItem}
 use Rattle.piece_reader.specs.NextPiece.{NextAnswer, NextAnswers, NextPiece, PiecesWent, StaysLeft}
 use Rattle.piece_reader.specs.PiecesWentLaws.{HandsBytes-looked, HandsBytes-same, PiecesWent-inside}
 use Rattle.piece_reader.specs.PieceReader.{IsSettled, ReaderState, rest}
@@ -73,7 +73,7 @@ module _ {S D W : Type 0} (remaining : S → Option (List ℕ)) (g : Grammar W) 
       (answer : Result (Option (I × Span)) (NextError W))
       → NextItem remaining g item_of m answer t → NextItem remaining g item_of s answer t
   StaysLeft-item item_of t answer item =
-      let next = StaysLeft-next t (item_answer answer t) item.next in
+      let next = StaysLeft-next t _ item.next in
       let bytes = HandsBytes-same s t item.next.bytes next.bytes
       (HandsBytes-looked s m t item.next.bytes m.seen stays.same item.next.went.hands) next.went.hands in
-      record { next = next; says = subst (Says item_of answer) bytes item.says }
+      record { next = next; says = subst (λ l. IfOk answer (λ found. IfSome found (λ said. said.0 ≡ item_of l))) bytes item.says }

@@ -11,14 +11,9 @@ use Rattle.piece_reader.specs.Grammar.{Grammar, Lacks}
 use Rattle.piece_reader.specs.NextPiece.{AsksGive, PiecesWent, AskedWhere, NoFault, Faulted, NoEnd, MetEnd}
 use Rattle.piece_reader.specs.PieceReader.{ReaderState, IsPieceReader, rest}
 
--- the next piece was buffered whole, and was handed out
-pub record TakesPiece {S D W : Type 0} (g : Grammar W) (s t : ReaderState S D) (span : Span) (used : ℕ) : Type 0 where
-  pub piece : IsPiece g (rest s) span used
-  pub same : t ≡ record s { handed = s.handed + used; seen = 0 }
-
 -- what stands at the front of what is left was looked at, and handed out where it is a piece; or that isn't there yet
 abbrev pub Takes : {S D W : Type 0} → Grammar W → ReaderState S D → Found W → ReaderState S D → Type 0
-Takes g s (found.Piece span used) t = TakesPiece g s t span used
+Takes g s (found.Piece span used) t = IsPiece g (rest s) span used × (t ≡ record s { handed = s.handed + used; seen = 0 })
 Takes g s (found.More need) t =
     (length (rest s) < need) × (need ≤ g.most) × Lacks g need (rest s) × (t ≡ record s { seen = length (rest s) })
 Takes g s (found.Wrong e) t = g.wrong (rest s) e × (t ≡ s)

@@ -42,9 +42,12 @@ impl<W> From<io::Error> for NextError<W> {
 
 /// Bytes that are no piece are `InvalidData`.
 impl<W: Drop> From<NextError<W>> for io::Error {
-    ghost use Rattle.piece_reader.specs.IoErrors.{IsReadError};
+    ghost use Rattle.std.specs.Prelude.{◌≡◌};
+    ghost use Rattle.std.specs.IoError.{error_kind};
+    ghost use Rattle.std.specs.declared.io.ErrorKind.TheVariants.{InvalidData};
+    ghost use Rattle.piece_reader.specs.declared.error.NextError.TheVariants.{Wrong, Io};
 
-    ghost from_gives = { IsReadError };
+    ghost from_gives = { λ e r. elim e as (λ _. Type 0) [ Wrong why ↦ error_kind r ≡ InvalidData | Io x ↦ r ≡ x ] };
 
     fn from(e: NextError<W>) -> io::Error {
         match e {

@@ -6,7 +6,7 @@ ghost use Rattle.piece_reader.specs.KnownPayloads.{AnswersKnown};
 ghost use Rattle.piece_reader.specs.KnownPieces.{HasLeft};
 ghost use Rattle.piece_reader.specs.KnownPiecesLaws.{NextPiece-answers};
 ghost use Rattle.piece_reader.specs.NextPiece.{NextPiece};
-ghost use Rattle.piece_reader.specs.Runs.{NextLost, NextPlays, kept_answer};
+ghost use Rattle.piece_reader.specs.Runs.{AnswerPlays, NextLost, RunWent, kept_answer};
 ghost use Rattle.piece_reader.specs.RunsLaws.{NextPlays-more, NextPlays-none};
 
 use crate::decoder::Decoder;
@@ -72,7 +72,8 @@ impl<R: TellRead, D: Decoder> PayloadReader for PieceReader<R, D> {
 
     ghost goes = { λ s. NextPiece R.remaining (D.grammar s.decoder) s };
 
-    ghost plays = { λ s. NextPlays R.remaining (D.grammar s.decoder) s };
+    ghost plays = { λ s. AnswerPlays (NextPiece R.remaining (D.grammar s.decoder))
+        (RunWent R.remaining (D.grammar s.decoder)) s };
 
     fn next_copied(
         &mut self,

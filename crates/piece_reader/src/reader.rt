@@ -3,13 +3,14 @@ ghost use Rattle.std.specs.Prelude.{◌≡◌, ℕ, ◌+◌, ◌*◌, ◌<◌, �
 ghost use Rattle.std.specs.Bool.{OnTrue};
 ghost use Rattle.std.specs.Borrow.{Lends, sem};
 ghost use Rattle.buffer_redux.specs.Block.{Plain};
+ghost use Rattle.buffer_redux.specs.Buffered.{with_inner, with_policy};
 ghost use Rattle.buffer_redux.specs.GrowError.{FitsWithin};
 ghost use Rattle.buffer_redux.specs.MakeError.{growth};
 ghost use Rattle.piece_reader.specs.contracts.reader.PieceReader.{the_row};
 ghost use Rattle.piece_reader.specs.declared.error.NextError.TheVariants.{Wrong};
 ghost use Rattle.piece_reader.specs.Decoding.{IsLent, bytes_at};
 ghost use Rattle.piece_reader.specs.Grammar.{Begins, Lacks};
-ghost use Rattle.piece_reader.specs.PieceReader.{IsOver, IsPieceReader, IsFresh, IsSettled, Skips, TakenApart, redecoded, rest, room_for, with_stream};
+ghost use Rattle.piece_reader.specs.PieceReader.{IsOver, IsPieceReader, IsFresh, IsSettled, Skips, TakenApart, rest, room_for};
 ghost use Rattle.piece_reader.specs.NextPiece.{AsksNone, HandsBytes, NextBuffered, NextPiece, Refills, buffered_answer, load_answer};
 
 mod saying;
@@ -142,7 +143,13 @@ impl<R: Tell, D: Decoder> PieceReader<R, D> {
     ///
     /// Where three pieces of `decoder` don't fit into the buffer, both are handed back as they were.
     pub fn set_decoder<E: Decoder>(self, decoder: E) -> Result<PieceReader<R, E>, (Self, E)>
-        ensures set { IfOk result (λ f. f ≡ redecoded decoder self) }
+        ensures set { IfOk result (λ f. f ≡ record {
+          reader = with_policy self.reader (record { 0 = 0 });
+          decoder = decoder;
+          handed = self.handed;
+          seen = 0;
+          ended = self.ended;
+        }) }
         ensures whole { IfOk result (IsPieceReader (E.grammar decoder)) }
         ensures handed_back { IfErr result (λ e. (e.0 ≡ self) × (e.1 ≡ decoder)) }
         ensures fits { IsOk result ↔ (3 * (E.grammar decoder).most ≤ self.reader.block.capacity) }
@@ -178,7 +185,7 @@ impl<R: Tell, D: Decoder> PieceReader<R, D> {
     /// come behind what is buffered of the old one, and behind an end of that which no call has told.
     pub fn get_mut(&mut self) -> &mut R
         ensures* writes_back { sem 𝓛 (Lends (the_row R.row D.row D.Wrong.row R.Tell D.Decoder) R.row
-            self.entry result (with_stream R.log self.old)) }
+            self.entry result (λ stream. record self.old { reader = with_inner R.log self.old.reader stream })) }
         ensures inner { result.now ≡ self.old.reader.inner }
         ensures log { R.log result.now ≡ self.old.reader.log }
     {

@@ -1,7 +1,9 @@
 //! Payloads that are known are read.
-ghost use Rattle.std.specs.Prelude.{◌≡◌, ℕ, List, Ok, map, IfOk, IfErr, OnOk};
-ghost use Rattle.piece_reader.specs.KnownPayloads.{AllRead, NextFails, ReadStopped};
-ghost use Rattle.piece_reader.specs.Runs.{kept_answer};
+ghost use Rattle.std.specs.Prelude.{◌≡◌, ℕ, ◌⊎◌, List, Ok, Err, map, IfOk, IfErr, OnOk};
+ghost use Rattle.std.specs.IoError.{error_kind};
+ghost use Rattle.std.specs.declared.io.ErrorKind.TheVariants.{OutOfMemory};
+ghost use Rattle.piece_reader.specs.KnownPayloads.{AllRead, ReadStopped};
+ghost use Rattle.piece_reader.specs.Runs.{NextLost, kept_answer};
 
 use piece_reader::KnownReader;
 use std::alloc::Global;
@@ -37,7 +39,8 @@ pub fn read_each<P: KnownReader>(
 fn next_of_known<P: KnownReader>(alloc: Global, reader: &mut P) -> io::Result<Option<Vec<u8>>>
     requires left { (payloads : List (List ℕ)) × P.has_left reader.old payloads }
     ensures next { IfOk result (λ found. P.goes reader.old (kept_answer (Ok found)) reader.new) }
-    ensures failed { IfErr result (λ e. NextFails P.goes P.stream_error reader.old e reader.new) }
+    ensures failed { IfErr result (λ e. ((error_kind e ≡ OutOfMemory) × NextLost P.goes reader.old reader.new)
+        ⊎ P.goes reader.old (Err (P.stream_error e)) reader.new) }
 {
     match reader.next_copied(alloc)? {
         Ok(found) => Ok(found),

@@ -1,7 +1,10 @@
 //! The next piece, and what it says.
-ghost use Rattle.std.specs.Prelude.{◌≡◌, ◌≤◌, IfOk, IfSome};
+ghost use Rattle.std.specs.Prelude.{◌≡◌, ◌-◌, ◌≤◌, drop, take, Some, Ok, IfNone, IfOk, IfSome};
 ghost use Rattle.piece_reader.specs.Decoding.{IsLent};
-ghost use Rattle.piece_reader.specs.Items.{IsWhole, ItemBuffered, NextItem, part};
+ghost use Rattle.piece_reader.specs.Grammar.{Begins};
+ghost use Rattle.piece_reader.specs.Items.{IsWhole, NextItem};
+ghost use Rattle.piece_reader.specs.NextPiece.{StaysLeft};
+ghost use Rattle.piece_reader.specs.PieceReader.{rest};
 
 use crate::decoder::{Found, Span};
 use crate::error::NextError;
@@ -46,8 +49,11 @@ impl<R: TellRead, D: Items> PieceReader<R, D> {
     /// stream for nothing. `None` where it doesn't, as [`step_buffered`](PieceReader::step_buffered) says.
     #[inline(always)]
     pub fn step_item_buffered(&mut self) -> Option<(D::Item, Span)>
-        ensures next { ItemBuffered R.remaining (D.grammar self.old.decoder) (D.item_of self.old.decoder) self.old
-            result self.new }
+        ensures next { IfSome result (λ said. NextItem R.remaining (D.grammar self.old.decoder)
+            (D.item_of self.old.decoder) self.old (Ok (Some said)) self.new) }
+        ensures inside { self.new.reader ≡ self.old.reader }
+        ensures stays { IfNone result (StaysLeft (D.grammar self.old.decoder) self.old self.new) }
+        ensures none { IfNone result (¬ (Begins (D.grammar self.old.decoder) (rest self.old))) }
         ensures lends { IfSome result (λ said.
             IsLent (D.grammar self.new.decoder) self.new.handed self.new.reader.block.bytes said.1) }
     {
@@ -72,8 +78,9 @@ impl<R: TellRead, D: Items> PieceReader<R, D> {
     #[inline(always)]
     fn said(&self, from: usize) -> D::Item
         requires within { from ≤ self.now.handed }
-        requires whole { IsWhole (D.grammar self.now.decoder) (part from self.now.handed self.now.reader.block.bytes) }
-        ensures { result ≡ D.item_of self.now.decoder (part from self.now.handed self.now.reader.block.bytes) }
+        requires whole { IsWhole (D.grammar self.now.decoder)
+            (take (self.now.handed - from) (drop from self.now.reader.block.bytes)) }
+        ensures { result ≡ D.item_of self.now.decoder (take (self.now.handed - from) (drop from self.now.reader.block.bytes)) }
     {
         self.decoder.item(&self.reader.buffer()[from..self.handed])
     }

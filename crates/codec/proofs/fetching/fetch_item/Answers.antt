@@ -1,5 +1,5 @@
 use Rattle.std.proofs.Common.{ap, subst}
-use Rattle.piece_reader.specs.Items.{NextItem, item_answer}
+use Rattle.piece_reader.specs.Items.{NextItem}
 use Rattle.piece_reader.specs.NextPiece.{StaysLeft}
 use Rattle.piece_reader.specs.StaysLeftLaws.{StaysLeft-item}
 use Rattle.codec.proofs.Fetched.{first_err, first_ok}
@@ -10,7 +10,7 @@ returns-in-Ok-clause-next g c =
     let s = c.args.reader.now in
     let m = c.step_item_buffered.new.self in
     let gram = g.D.Decoder.grammar s.decoder in
-    let stays : StaysLeft gram s m = c.in_default.ensures.next.0 in
+    let stays : StaysLeft gram s m = c.in_default.ensures.stays in
     StaysLeft-item g.R.TellRead.remaining gram s m stays (g.D.Items.item_of s.decoder) c.step_item.new.self c.step_item.result
     (subst (λ d. NextItem g.R.TellRead.remaining (g.D.Decoder.grammar d) (g.D.Items.item_of d) m c.step_item.result
     c.step_item.new.self) (ap (λ x. x.decoder) stays.same) c.step_item.ensures.next)
@@ -18,12 +18,12 @@ returns-in-Ok-clause-next g c =
 pub returns-in-Ok-clause-first : goal.returns-in-Ok-clause-first
 returns-in-Ok-clause-first g c =
     first_ok g.R.TellRead.remaining g.D.Decoder.grammar c.args.reader.now c.step_item_buffered.new.self
-    c.in_default.ensures.next.0 g.W.Tell.log g.W.TellWrite.trace c.args.writer.now c.flush_to_ask.new.writer _
-    (g.met.D.Decoder.lawful c.args.reader.now.decoder) c.in-Ok.ensures (item_answer c.step_item.result c.step_item.new.self)
+    c.in_default.ensures.stays g.W.Tell.log g.W.TellWrite.trace c.args.writer.now c.flush_to_ask.new.writer _
+    (g.met.D.Decoder.lawful c.args.reader.now.decoder) c.in-Ok.ensures _
     c.step_item.new.self c.step_item.ensures.next.next
 
 pub returns-in-Err-clause-first : goal.returns-in-Err-clause-first
 returns-in-Err-clause-first g c =
     first_err g.R.TellRead.remaining g.D.Decoder.grammar c.args.reader.now c.step_item_buffered.new.self
-    c.in_default.ensures.next.0 g.W.Tell.log g.W.TellWrite.trace c.args.writer.now c.flush_to_ask.new.writer c.in-Err.e
+    c.in_default.ensures.stays g.W.Tell.log g.W.TellWrite.trace c.args.writer.now c.flush_to_ask.new.writer c.in-Err.e
     c.in-Err.ensures

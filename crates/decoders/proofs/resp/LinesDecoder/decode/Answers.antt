@@ -8,3 +8,21 @@ use Rattle.decoders.proofs.resp.LinesDecoder.decode.Goals as goal
 pub decode-requires-clause-open : goal.decode-requires-clause-open
 decode-requires-clause-open c =
     open_showing behind_kind (trimming (delimited 10 c.args.self.now.max)) (take c.args.seen c.args.bytes.now) c.requires.open
+
+pub returns-in-More : goal.returns-in-More
+returns-in-More c =
+    let wants = c.in-More.ensures in (
+      wants.0,
+      wants.1,
+      λ more short.
+          let open' = wants.2 more short in record {
+            no_piece = λ b. open'.no_piece (record {
+              piece = b.piece;
+              payload = b.is.0;
+              more = b.more;
+              is = b.is.1;
+              equal = b.equal;
+            });
+            not_wrong = open'.not_wrong;
+          },
+    )

@@ -13,7 +13,7 @@ returns-in-Piece-clause-next g c =
       takes_shown remaining gram (g.met.D.Decoder.lawful s.decoder) s t c.self.inside.handed
           (ap (λ x. x.handed) c.self.view_is) c.take.ensures.before c.take.ensures.whole c.in-Piece.span c.in-Piece.field-1
           c.in-Piece.ensures.takes,
-      ap (λ x. x.reader) c.in-Piece.ensures.takes.same,
+      ap (λ x. x.reader) c.in-Piece.ensures.takes.1,
     )
 
 pub returns-in-More-clause-next : goal.returns-in-More-clause-next

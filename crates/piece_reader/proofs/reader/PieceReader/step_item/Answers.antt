@@ -1,5 +1,4 @@
-use Rattle.std.proofs.Common.{Err, None, Ok, Some, ap, subst, take, ◌∙◌}
-use Rattle.piece_reader.specs.Items.{part}
+use Rattle.std.proofs.Common.{◌-◌, Err, None, Ok, Some, ap, drop, subst, take, ◌∙◌}
 use Rattle.piece_reader.specs.NextPiece.{NextPiece, load_answer}
 use Rattle.piece_reader.specs.PiecesWentLaws.{HandsBytes-looked, HandsBytes-same}
 use Rattle.piece_reader.proofs.Lending.{lends_piece}
@@ -51,7 +50,7 @@ returns-in-Ok-Some-clause-next g c =
     record {
       next = next;
       says = c.said-item-in-Ok-Some.ensures
-          ∙ ap (λ d. g.D.Items.item_of d (part 0 t.handed t.reader.block.bytes)) next.went.decoder
+          ∙ ap (λ d. g.D.Items.item_of d (take (t.handed - 0) (drop 0 t.reader.block.bytes))) next.went.decoder
           ∙ ap (g.D.Items.item_of s.decoder) bytes;
     }
 

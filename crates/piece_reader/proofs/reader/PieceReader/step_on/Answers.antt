@@ -99,4 +99,4 @@ returns-in-Piece-clause-front g c =
     let turn = turned remaining g.D.Decoder.grammar g.met.D.Decoder.lawful s c.turns.self t v c.turns.need c.turns.invariant
     c.in-Ok-true.field-0-test c.in-Ok-true.ensures c.in-Piece.is c.take.ensures.takes c.take.ensures.whole in
     hands_front s t v remaining (g.D.Decoder.grammar s.decoder).most turn.header.went turn.handed
-    (ap (λ x. x.reader) turn.takes.same)
+    (ap (λ x. x.reader) turn.takes.1)
