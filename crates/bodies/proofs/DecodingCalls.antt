@@ -22,7 +22,7 @@ use Rattle.programs.specs.FlushesLaws.{FlushesOnce-flush}
 use Rattle.programs.specs.PromptLaws.{WritesOn-grows, WritesOn-unflushed}
 use Rattle.bodies.specs.Words.{Error, WasFlushed, WritesInOrder, Buffered, std_read_rules, StreamLog, StdPolicy, BodyWent, ChunkedState, IsChunkedReader, IsWhole, LooksBehind, ReadsPayload, handed_of, taken_count, AskAnswers, Asks, FlushAnswers, Flushes, FilterRules, Gives, Passes, taken_more, RunError}
 use Rattle.bodies.specs.Decode.{IsDue}
-use Rattle.bodies.specs.Decoding.{HandsHeld, HandsPieces, Holds, IsPieceTarget, IsReady, LooksOn, WritesPiece, ask_error, decoding_rules, end_answer, held_of}
+use Rattle.bodies.specs.Decoding.{HandsPieces, Holds, IsPieceTarget, IsReady, WritesPiece, ask_error, decoding_rules, end_answer, held_of}
 use Rattle.bodies.specs.Decoding as Source
 use Rattle.bodies.specs.DecodingLaws.{hands_held, hands_none, none_held}
 use Rattle.bodies.specs.FiltersLaws.{ended, fault_gives, some_of, std_fault}
@@ -80,13 +80,14 @@ module _ {R W : Type 0} (remaining : R → Option (List ℕ)) (s : Decoding R W)
         held = most;
       }
 
-    pub held_on : (n : ℕ) → HandsHeld remaining s.source out n m → Holds remaining s (read m n)
-    held_on n found = record {
-      hands = read_hands m n found.went;
-      told = found.told;
+    pub held_on : (n : ℕ) → BodyWent remaining std_read_rules s.source (take n out) m → m.reader.log ≡ s.source.reader.log
+        → n ≤ length out → IsChunkedReader m → Holds remaining s (read m n)
+    held_on n went told bound whole = record {
+      hands = read_hands m n went;
+      told = told;
       still = refl;
       kept = λ some. absurd (omega (arith, some, none));
-      ready = read_ready m n found.went (omega (arith, found.bound, len, ready.room)) found.whole;
+      ready = read_ready m n went (omega (arith, bound, len, ready.room)) whole;
     }
 
   -- a piece is held

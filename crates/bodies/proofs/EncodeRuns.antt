@@ -11,8 +11,8 @@ use Rattle.forward.specs.Forward.{Forwarded, NoneFailed, StopsBy}
 use Rattle.forward.specs.declared.error.Cause.{Cause}
 use Rattle.forward.specs.declared.error.Cause.TheVariants as cause
 use Rattle.programs.specs.StreamsLaws.{MetNoFault-joins, SendFailed-after}
-use Rattle.bodies.specs.Words.{Error, WritesInOrder, Buffered, OnlyInterrupts-none, StreamLog, StdPolicy, IsBody, IsCarried, IsChunks, body_end, unbegun, Limits, FilterRules, Moves, AllSent, BufferRefused, RunError, chunk}
-use Rattle.bodies.specs.Encode.{EncodeRan, Encodes, EndsBody, IsCut, IsUnended, IsUnflushed, IsWritten, Moved, MovedAll}
+use Rattle.bodies.specs.Words.{Error, WritesInOrder, Buffered, OnlyInterrupts-none, StreamLog, StdPolicy, IsBody, IsCarried, IsChunks, body_end, unbegun, Limits, FilterRules, Moves, AllSent, BufferRefused, RunError, chunk, chunks}
+use Rattle.bodies.specs.Encode.{EncodeRan, Encodes, EndsBody, IsCut, IsUnended, IsWritten, Moved, MovedAll, IsBeginning}
 use Rattle.bodies.specs.Encoding.{encoding_rules}
 use Rattle.bodies.specs.Filters.{IsErrorOf, joined}
 use Rattle.bodies.specs.FiltersLaws.{each_some}
@@ -50,9 +50,9 @@ module _ {read read' written' written'' : StreamLog} (m : Moved read read' writt
         (omega (arith, length-append m.unsent (body_end [])));
   }
 
-  unflushed : IsWritten (m.sent ++ m.unsent) m.payload → m.rest ≡ [] → IsUnflushed m
+  unflushed : IsWritten (m.sent ++ m.unsent) m.payload → m.rest ≡ [] → IsBeginning m
   unflushed is left =
-      record { is_body = is; cut = cut_short m.sent m.unsent m.payload (is least (omega arith)); all = left }
+      inr (record { is_body = is; cut = cut_short m.sent m.unsent m.payload (is least (omega arith)); all = left })
 
 -- a filter before a body
 abbrev pub start : {R W : Type 0} → Buffered R StdPolicy → Buffered W StdPolicy → Encoding R W
@@ -128,17 +128,18 @@ module _ {R W : Type 0} (remaining : R → Option (List ℕ)) (trace : W → W �
         MetNoFault-joins first.log t.source.log t.source.log u.log t.target.writer.log v.log met
             (record { reader = OnlyInterrupts-none t.source.log.reads.faults; writer = end.answers.2 }),
       )
-      ended once (Err (Write e)) end = (
-        moved_over end.end v end.taken,
-        elim end.answers.0 [
-          | inl all ↦ inr (unflushed (moved_over end.end v end.taken)
-              (is_written over.payloads [] none_lost end.end v end.taken all) left)
-          | inr nothing ↦ inl (not_ended over.payloads [] none_lost end.end v end.taken nothing)
-        ],
-        SendFailed-after e first.log t.source.log t.source.log u.log t.target.writer.log v.log met
-            (record { reader = OnlyInterrupts-none t.source.log.reads.faults; writer = end.answers.1 }),
-      )
-      ended once (Err other) end = absurd end.answers
+      ended once (Err why) end =
+          let e = end.answers.1.0 in
+          subst (λ x. EncodeRan first.log t.source.log u.log v.log (Err x)) (sym end.answers.1.1) (
+            moved_over end.end v end.taken,
+            elim end.answers.0 [
+              | inl all ↦ unflushed (moved_over end.end v end.taken)
+                  (is_written over.payloads [] none_lost end.end v end.taken all) left
+              | inr nothing ↦ inl (not_ended over.payloads [] none_lost end.end v end.taken nothing)
+            ],
+            SendFailed-after e first.log t.source.log t.source.log u.log t.target.writer.log v.log met
+                (record { reader = OnlyInterrupts-none t.source.log.reads.faults; writer = end.answers.1.2 }),
+          )
 
   -- it was stopped, and no end was taken in
   abbrev still : WritesInOrder t.target.writer [] t.target.writer

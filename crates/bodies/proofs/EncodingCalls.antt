@@ -1,5 +1,5 @@
 -- What a chunk, and the end of a body, do to the writer; and what the calls of a filter of chunks do.
-use Rattle.std.proofs.Common.{◌≡◌, ℕ, ◌+◌, ◌<◌, ◌≤◌, inl, inr, List, [], length, take, Result, Ok, Err, refl, subst, sym, ap, ◌∙◌, arith, length-append, zero, suc, ◌==◌, not, Bool, ◌∷◌, ◌++◌, true, false, Option, append-nil}
+use Rattle.std.proofs.Common.{MatchResult, ◌⊎◌, ◌≡◌, ℕ, ◌+◌, ◌<◌, ◌≤◌, inl, inr, List, [], length, take, Result, Ok, Err, refl, subst, sym, ap, ◌∙◌, arith, length-append, zero, suc, ◌==◌, not, Bool, ◌∷◌, ◌++◌, true, false, Option, append-nil}
 use Rattle.std.proofs.lemmas.Bool.{cases_lt}
 use Rattle.buffer_redux.specs.BufWriter.{WasSent}
 use Rattle.buffer_redux.specs.EmptyReads.{none_before_fault, none_where_shown, ReadsWhenEmpty-std}
@@ -13,8 +13,8 @@ use Rattle.forward.specs.declared.error.AskError.{AskError}
 use Rattle.programs.specs.FlushesLaws.{flushed_once, FlushesOnce-flush}
 use Rattle.programs.specs.PromptLaws.{WritesOn-grows, WritesOn-joins, WritesOn-unflushed}
 use Rattle.programs.specs.StreamsLaws.{MetInterrupts-none}
-use Rattle.bodies.specs.Words.{around, AskAnswers, Asks, body_end, Buffered, chunk, ChunkedWriterState, ChunksWent, Error, Fills, FilterRules, FlushAnswers, Flushes, IsChunkedWriter, line_end, MetInterrupts, MetInterrupts-joins, Passes, PutsIn, ReadsAlong, room, RunError, SendErrorCaused-after, SendsFirst, size_digits, std_read_rules, StdPolicy, StreamLog, taken_more, WasFlushed, WritesChunk, WritesInOrder}
-use Rattle.bodies.specs.Encode.{EndAnswers, EndsBody}
+use Rattle.bodies.specs.Words.{around, AskAnswers, Asks, body_end, Buffered, chunk, ChunkedWriterState, ChunksWent, Error, Fills, FilterRules, FlushAnswers, Flushes, IsChunkedWriter, line_end, MetInterrupts, MetInterrupts-joins, Passes, PutsIn, ReadsAlong, room, RunError, SendErrorCaused-after, SendsFirst, size_digits, std_read_rules, StdPolicy, StreamLog, taken_more, WasFlushed, WritesChunk, WritesInOrder, AllSent, SendErrorCaused}
+use Rattle.bodies.specs.Encode.{EndsBody}
 use Rattle.bodies.specs.Encoding.{encoding_rules, IsReady}
 use Rattle.bodies.specs.Filters.{Asked}
 use Rattle.bodies.specs.FiltersLaws.{ended, fault_gives, fill_asked, some_of, std_fault}
@@ -76,7 +76,10 @@ module _ {W : Type 0} (tells : W → StreamLog) (trace : W → W → Type 0) whe
   -- the end of a body, and a flush
   module _ (u m v : Buffered W StdPolicy) (taken : WritesInOrder u (body_end []) m) (quiet : Quiet u m) where
     ends : (answer : Result (Unit {0}) Error) → WasFlushed tells trace m answer v → (said : Result (Unit {0}) RunError)
-        → EndAnswers u (body_end []) said v → EndsBody u said v
+        → MatchResult said (λ _. (body_end [] ≡ body_end []) × AllSent v × MetInterrupts u.log.writes v.log.writes)
+        (λ why. ((body_end [] ≡ body_end []) ⊎ (body_end [] ≡ []))
+        × ((e : Error) × (why ≡ Write e) × SendErrorCaused u.log.writes v.log.writes e))
+        → EndsBody u said v
     ends answer f said answers =
         let writes = WritesOn-joins u.log.writes m.log.writes v.log.writes
         (WritesOn-unflushed u m (body_end []) taken quiet.not_flushed) (WritesOn-grows m.log.writes v.log.writes f.grows) in
@@ -107,7 +110,7 @@ module _ {W : Type 0} (tells : W → StreamLog) (trace : W → W → Type 0) whe
 
     pub ends_badly : (e : Error) → WasFlushed tells trace m (Err e) v → EndsBody u (Err (Write e)) v
     ends_badly e f = ends (Err e) f (Err (Write e))
-        (inl refl, SendErrorCaused-after u.log.writes m.log.writes v.log.writes e quiet.met f.caused)
+        (inl refl, (e, refl, SendErrorCaused-after u.log.writes m.log.writes v.log.writes e quiet.met f.caused))
 
 module _ {R W : Type 0} (remaining : R → Option (List ℕ)) (tells : W → StreamLog) (trace : W → W → Type 0)
     (none : (x : W) → trace x x) (joins : (a b c : W) → trace a b → trace b c → trace a c) (s : Encoding R W)

@@ -1,5 +1,5 @@
 -- A filter that hands out the payload of a body.
-use Rattle.std.specs.Prelude.{◌≡◌, ℕ, ◌<◌, ◌≤◌, List, [], ◌++◌, length, take, Bool, true, false, Result, Ok, Err, Option}
+use Rattle.std.specs.Prelude.{◌≡◌, ℕ, ◌<◌, ◌≤◌, List, [], ◌++◌, length, take, Bool, true, false, Result, Ok, Err, MatchResult, Option}
 use Rattle.std.specs.List.{All}
 use Rattle.buffer_redux.specs.Block.{Plain}
 use Rattle.chunked.specs.declared.error.ChunkedError.{ChunkedError}
@@ -34,14 +34,6 @@ pub record IsReady {R W : Type 0} (s : Decoding R W) : Type 0 where
   pub room : length s.piece.items ≡ 16384
   pub held : s.held ≤ 16384
 
--- no byte was read or taken yet
-pub record IsUnread {R W : Type 0} (s : Decoding R W) : Type 0 where
-  pub taken : s.source.taken ≡ []
-  pub handed : handed_of s.source ≡ []
-  pub buffered : s.source.reader.block.bytes ≡ []
-  pub target : s.target.block.bytes ≡ []
-  pub held : s.held ≡ 0
-
 -- these pieces are what was held, then what was handed out, but for what is held still; and none is empty
 pub record HandsPieces {R W : Type 0} (remaining : R → Option (List ℕ)) (s : Decoding R W) (pieces : List (List ℕ))
     (t : Decoding R W) : Type 0 where
@@ -49,14 +41,6 @@ pub record HandsPieces {R W : Type 0} (remaining : R → Option (List ℕ)) (s :
   pub went : BodyWent remaining std_read_rules s.source payload t.source
   pub order : held_of s ++ payload ≡ joined pieces ++ held_of t
   pub some : All (λ piece. 0 < length piece) pieces
-
--- payload that was buffered was handed out, as so many first bytes of the piece
-pub record HandsHeld {R : Type 0} (remaining : R → Option (List ℕ)) (s : ChunkedState R StdPolicy) (piece : List ℕ) (n : ℕ)
-    (t : ChunkedState R StdPolicy) : Type 0 where
-  pub went : BodyWent remaining std_read_rules s (take n piece) t
-  pub told : t.reader.log ≡ s.reader.log
-  pub bound : n ≤ length piece
-  pub whole : IsChunkedReader t
 
 -- where none was held, a piece of what is buffered is, or there is none; and the reader inside wasn't asked
 pub record Holds {R W : Type 0} (remaining : R → Option (List ℕ)) (s t : Decoding R W) : Type 0 where
@@ -67,13 +51,10 @@ pub record Holds {R W : Type 0} (remaining : R → Option (List ℕ)) (s t : Dec
   pub ready : IsReady t
 
 -- the piece was taken in, or nothing of it, and nothing was flushed
-abbrev pub PieceAnswers : {W : Type 0} → Buffered W StdPolicy → List ℕ → Result (Unit {0}) Error → Buffered W StdPolicy → Type 0
-PieceAnswers u piece (Ok _) v = WritesInOrder u piece v × MetInterrupts u.log.writes v.log.writes
-PieceAnswers u piece (Err e) v = WritesInOrder u [] v × SendErrorCaused u.log.writes v.log.writes e
-
 pub record WritesPiece {W : Type 0} (u : Buffered W StdPolicy) (piece : List ℕ) (answer : Result (Unit {0}) Error)
     (v : Buffered W StdPolicy) : Type 0 where
-  pub answers : PieceAnswers u piece answer v
+  pub answers : MatchResult answer (λ _. WritesInOrder u piece v × MetInterrupts u.log.writes v.log.writes)
+      (λ e. WritesInOrder u [] v × SendErrorCaused u.log.writes v.log.writes e)
   pub not_flushed : v.log.writes.flushed ≡ u.log.writes.flushed
   pub flushes : v.log.writes.flushes ≡ u.log.writes.flushes
   pub target : IsPieceTarget v
@@ -121,7 +102,13 @@ decoding_rules remaining = record {
   wants = λ s. 0;
   ends = λ s how t. (t.held ≡ 0) × PiecesEnd s.source how t.source;
   closed = λ s. ⊥;
-  fresh = λ s. IsUnread s;
+  fresh = λ s. record {
+    taken : s.source.taken ≡ [];
+    handed : handed_of s.source ≡ [];
+    buffered : s.source.reader.block.bytes ≡ [];
+    target : s.target.block.bytes ≡ [];
+    held : s.held ≡ 0;
+  };
   due = λ s. IsDue s.source.limits;
   drops = ⊥;
   refused = λ e t. ⊥;

@@ -7,7 +7,7 @@ use Rattle.chunked.specs.ChunkedReaderLaws.{BodyWent-joins, BodyWent-none}
 use Rattle.programs.specs.Prompt.{WasSent}
 use Rattle.bodies.specs.Words.{WritesInOrder, std_read_rules, BodyWent, handed_of, AsksSent, FilterRules, Gives, IsLawful, Moves, StaysOpen, AllSent, sent_all, taken_more, RunError}
 use Rattle.bodies.specs.Decode.{IsDue}
-use Rattle.bodies.specs.Decoding.{Asks, HandsPieces, IsUnread, PiecesEnd, decoding_rules, held_of}
+use Rattle.bodies.specs.Decoding.{Asks, HandsPieces, PiecesEnd, decoding_rules, held_of}
 use Rattle.bodies.specs.Filters.{joined}
 use Rattle.bodies.specs.FiltersLaws.{asked_after}
 use Rattle.bodies.specs.declared.decoding.Decoding.{Decoding}
@@ -69,7 +69,7 @@ module _ {R W : Type 0} (remaining : R → Option (List ℕ)) where
       sym (ap (λ l. l ++ hands.payload) (none_held s none)) ∙ hands.order ∙ ap (λ l. joined p ++ l) (none_held t none')
       ∙ append-nil (joined p)
 
-  asks_sent : (first s t : Decoding R W) (p : List (List ℕ)) → IsUnread first → Moves rules first p p s → Gives rules first s
+  asks_sent : (first s t : Decoding R W) (p : List (List ℕ)) → rules.fresh first → Moves rules first p p s → Gives rules first s
       → s.held ≡ 0 → AllSent s.target → Asks s.source t.source → AsksSent rules first s t
   asks_sent first s t p fresh moves gives lacks sent asks =
       let went = moves.hands.went in

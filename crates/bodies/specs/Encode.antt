@@ -1,5 +1,6 @@
 -- What a run of `encode` moves from a reader to a writer.
-use Rattle.std.specs.Prelude.{◌≡◌, ℕ, ◌+◌, ◌<◌, ◌≤◌, ◌⊎◌, List, [], ◌++◌, length, Result, Ok, Err}
+use Rattle.std.specs.Prelude.{◌≡◌, ℕ, ◌+◌, ◌<◌, ◌≤◌, ◌⊎◌, List, [], ◌++◌, length, Result, Ok, Err, MatchResult}
+use Rattle.std.specs.declared.io.Error.{Error}
 use Rattle.programs.specs.Flushes.{FlushesSend}
 use Rattle.bodies.specs.Words.{Buffered, WritesInOrder, MetInterrupts, SendErrorCaused, StreamLog, StdPolicy, IsBody, IsChunks, body_end, Limits, HoldsNothingBack, WritesOn, AllFlushed, AllSent, EndsOnce, MetNoFault, ReadFailed, SendFailed, OverCount, BufferRefused, RunError}
 use Rattle.bodies.specs.declared.error.RunError.TheVariants.{Read, Write, Io}
@@ -8,18 +9,14 @@ use Rattle.bodies.specs.declared.error.RunError.TheVariants.{Read, Write, Io}
 abbrev pub IsDue : List ℕ → List ℕ → Type 0
 IsDue bytes due = IsChunks due bytes
 
--- what an answer says where the writer of a body took in these bytes behind its chunks: at Ok its end, which was sent and flushed
-abbrev pub EndAnswers : {W : Type 0} → Buffered W StdPolicy → List ℕ → Result (Unit {0}) RunError → Buffered W StdPolicy → Type 0
-EndAnswers u end (Ok _) v = (end ≡ body_end []) × AllSent v × MetInterrupts u.log.writes v.log.writes
-EndAnswers u end (Err (Write e)) v = ((end ≡ body_end []) ⊎ (end ≡ [])) × SendErrorCaused u.log.writes v.log.writes e
-EndAnswers u end (Err other) v = ⊥
-
--- what ending a body does
+-- what ending a body does, by the bytes that were taken in behind its chunks: at Ok its end, which was sent and flushed
 pub record EndsBody {W : Type 0} (u : Buffered W StdPolicy) (answer : Result (Unit {0}) RunError) (v : Buffered W StdPolicy)
     : Type 0 where
   pub end : List ℕ
   pub taken : WritesInOrder u end v
-  pub answers : EndAnswers u end answer v
+  pub answers : MatchResult answer (λ _. (end ≡ body_end []) × AllSent v × MetInterrupts u.log.writes v.log.writes)
+      (λ why. ((end ≡ body_end []) ⊎ (end ≡ []))
+      × ((e : Error) × (why ≡ Write e) × SendErrorCaused u.log.writes v.log.writes e))
   pub writes : WritesOn u.log.writes v.log.writes
   pub flushes : FlushesSend 0 u.log.writes v.log.writes
   pub once : v.log.writes.flushes ≤ u.log.writes.flushes + 1
@@ -53,15 +50,11 @@ pub record IsUnended {read read' written written' : StreamLog} (m : Moved read r
   pub chunks : IsChunks (m.sent ++ m.unsent) m.payload
   pub cut : IsCut m.sent
 
--- or a body with it, all of which was received, or the beginning, and nothing else was given
-pub record IsUnflushed {read read' written written' : StreamLog} (m : Moved read read' written written') : Type 0 where
-  pub is_body : IsWritten (m.sent ++ m.unsent) m.payload
-  pub cut : 0 < length m.unsent → IsCut m.sent
-  pub all : m.rest ≡ []
-
--- what became of a beginning of what was given
+-- what became of a beginning of what was given: that; or a body with it, all of which was received, or the beginning, and
+-- nothing else was given
 abbrev pub IsBeginning : {read read' written written' : StreamLog} → Moved read read' written written' → Type 0
-IsBeginning m = IsUnended m ⊎ IsUnflushed m
+IsBeginning m = IsUnended m
+    ⊎ record { is_body : IsWritten (m.sent ++ m.unsent) m.payload; cut : 0 < length m.unsent → IsCut m.sent; all : m.rest ≡ [] }
 
 -- what a run of `encode` did: at Ok a body was received, and the reader gave nothing, once. Where a read failed no byte that came
 -- is lost. Any other fault is a writer's, or a buffer was refused before the run began, or it ended at its count

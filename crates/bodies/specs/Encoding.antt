@@ -1,5 +1,5 @@
 -- A filter that makes what is given chunks.
-use Rattle.std.specs.Prelude.{◌≡◌, ℕ, ◌+◌, ◌<◌, List, [], length, Result, Ok, Err, Option}
+use Rattle.std.specs.Prelude.{◌≡◌, ℕ, ◌+◌, ◌<◌, List, [], length, MatchResult, Option}
 use Rattle.bodies.specs.Words.{ReadsAlong, std_read_rules, ChunksWent, IsChunkedWriter, FilterRules, AllSent, taken_in, RunError}
 use Rattle.bodies.specs.Encode.{IsDue}
 use Rattle.bodies.specs.Filters.{Asked, joined}
@@ -10,12 +10,7 @@ pub record IsReady {R W : Type 0} (s : Encoding R W) : Type 0 where
   pub capacity : 0 < s.source.block.capacity
   pub whole : IsChunkedWriter s.target
 
--- nothing is left, and the reader gave nothing, once. No byte is wrong
-abbrev pub ReaderEnds : {R W : Type 0} → Encoding R W → Result (Unit {0}) RunError → Encoding R W → Type 0
-ReaderEnds s (Ok _) t =
-    (t.source.block.bytes ≡ []) × (t.source.log.reads.zero_reads ≡ s.source.log.reads.zero_reads + 1)
-ReaderEnds s (Err why) t = ⊥
-
+-- at the end nothing is left, and the reader gave nothing, once. No byte is wrong
 abbrev pub encoding_rules : {R W : Type 0} → (R → Option (List ℕ)) → (W → W → Type 0) → FilterRules (Encoding R W) RunError
 encoding_rules remaining trace = record {
   read = λ s. s.source.log;
@@ -30,7 +25,8 @@ encoding_rules remaining trace = record {
   taken = λ s. taken_in s.target.writer;
   asks = λ s t. Asked (λ bytes. bytes ≡ []) s.source t.source × (s.source.log.reads.asks < t.source.log.reads.asks);
   wants = λ s. 0;
-  ends = λ s how t. ReaderEnds s how t;
+  ends = λ s how t. MatchResult how
+      (λ _. (t.source.block.bytes ≡ []) × (t.source.log.reads.zero_reads ≡ s.source.log.reads.zero_reads + 1)) (λ why. ⊥);
   closed = λ s. ⊥;
   fresh = λ s. (s.source.block.bytes ≡ []) × (s.target.writer.block.bytes ≡ []);
   due = λ s. IsDue;

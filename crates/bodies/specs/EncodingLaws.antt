@@ -5,7 +5,7 @@ use Rattle.std.specs.List.{flat_map}
 use Rattle.buffer_redux.specs.ReaderLaws.{ReadsAlong-joins, ReadsAlong-none}
 use Rattle.chunked.specs.ChunkedWriterLaws.{ChunksWent-joins, ChunksWent-none}
 use Rattle.bodies.specs.Words.{ReadsAlong, std_read_rules, AsksSent, IsLawful, Moves, StaysOpen, AskedLast, AllSent, sent_all, taken_more, RunError, chunk}
-use Rattle.bodies.specs.Encoding.{ReaderEnds, encoding_rules}
+use Rattle.bodies.specs.Encoding.{encoding_rules}
 use Rattle.bodies.specs.Filters.{Asked, joined}
 use Rattle.bodies.specs.FiltersLaws.{asked_after}
 use Rattle.bodies.specs.declared.encoding.Encoding.{Encoding}
@@ -19,7 +19,7 @@ module _ {R W : Type 0} (remaining : R → Option (List ℕ)) (trace : W → W �
       (ReadsAlong-joins remaining std_read_rules a.source b.source c.source (joined p) (joined q) f g)
 
   ends_after : (a b c : Encoding R W) (how : Result (Unit {0}) RunError) → StaysOpen (encoding_rules remaining trace) a b
-      → ReaderEnds b how c → ReaderEnds a how c
+      → (encoding_rules remaining trace).ends b how c → (encoding_rules remaining trace).ends a how c
   ends_after a b c (Ok _) (inl gives) end = (end.0, omega (arith, end.1, gives.zero_reads))
   ends_after a b c (Ok _) (inr closed) end = absurd closed
   ends_after a b c (Err why) still end = absurd end

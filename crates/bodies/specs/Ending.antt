@@ -2,10 +2,10 @@
 use Rattle.std.specs.Prelude.{◌≡◌, ℕ, List, ◌++◌, codes, Result, Ok, Err}
 use Rattle.std.specs.Fmt.{decimal}
 use Rattle.chunked.specs.Error.{malformed_text}
-use Rattle.programs.specs.Ending.{FailsAs, FailsSo}
+use Rattle.programs.specs.Ending.{FailsSo}
 use Rattle.programs.specs.Ending as usual
 use Rattle.programs.specs.declared.ending.Ending.{Ending as Usually}
-use Rattle.programs.specs.declared.ending.Ending.TheVariants.{Done, ReadFailed, WriteFailed}
+use Rattle.programs.specs.declared.ending.Ending.TheVariants.{Done, Failed, ReadFailed, WriteFailed}
 use Rattle.bodies.specs.declared.ending.Ending.{Ending}
 use Rattle.bodies.specs.declared.ending.Ending.TheVariants.{Usual, NotChunked, Truncated, Behind}
 use Rattle.bodies.specs.declared.error.RunError.{RunError}
@@ -19,7 +19,7 @@ EndsAs (Err (Why.Truncated right)) ending = ending ≡ Truncated right
 EndsAs (Err (Why.Behind right)) ending = ending ≡ Behind right
 EndsAs (Err (Why.Read e)) ending = (why : Usually) × FailsSo ReadFailed e why × (ending ≡ Usual why)
 EndsAs (Err (Why.Write e)) ending = (why : Usually) × FailsSo WriteFailed e why × (ending ≡ Usual why)
-EndsAs (Err (Why.Io e)) ending = (why : Usually) × FailsAs e why × (ending ≡ Usual why)
+EndsAs (Err (Why.Io e)) ending = (why : Usually) × FailsSo Failed e why × (ending ≡ Usual why)
 
 -- the status that the process ends with
 abbrev pub status_of : Ending → ℕ

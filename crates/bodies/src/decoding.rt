@@ -1,6 +1,8 @@
 //! The payload of a body as it goes over, piece by piece.
-ghost use Rattle.std.specs.Prelude.{◌≡◌, ◌≤◌, length};
-ghost use Rattle.bodies.specs.Decoding.{HandsHeld, Holds, IsPieceTarget, IsReady, LooksOn, WritesPiece, ask_error, decoding_rules};
+ghost use Rattle.std.specs.Prelude.{◌≡◌, ◌≤◌, length, take};
+ghost use Rattle.buffer_redux.specs.Policy.{std_read_rules};
+ghost use Rattle.chunked.specs.ChunkedReader.{BodyWent, IsChunkedReader};
+ghost use Rattle.bodies.specs.Decoding.{Holds, IsPieceTarget, IsReady, LooksOn, WritesPiece, ask_error, decoding_rules};
 ghost use Rattle.bodies.specs.DecodingLaws.{decoding_lawful};
 
 use crate::error::RunError;
@@ -78,7 +80,10 @@ fn hold<R: TellRead, W: TellWrite>(filter: &mut Decoding<R, W>)
 #[inline(always)]
 fn read_held<R: TellRead>(source: &mut ChunkedReader<R>, piece: &mut [u8]) -> usize
     requires { length piece.old ≡ PIECE }
-    ensures { HandsHeld R.remaining source.old piece.new result source.new }
+    ensures went { BodyWent R.remaining std_read_rules source.old (take result piece.new) source.new }
+    ensures told { source.new.reader.log ≡ source.old.reader.log }
+    ensures bound { result ≤ length piece.new }
+    ensures whole { IsChunkedReader source.new }
 {
     source.read_buffered(&mut piece[..HELD])
 }

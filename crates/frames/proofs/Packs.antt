@@ -16,7 +16,7 @@ use Rattle.piece_filter.specs.PieceRuns.{Over, all_received}
 use Rattle.piece_filter.specs.Pieces.{HasEnded, IsReady, Keeps, PiecesEnd}
 use Rattle.piece_filter.specs.PiecesCalls as pieces
 use Rattle.piece_filter.specs.PiecesLaws.{coded_all, whole_text}
-use Rattle.frames.specs.Words.{All, AllSent, Asks, bytes_at, Error, error_kind, Fits, ForwardAnswers, frame, frames, GaveNothing, Grammar, HasLines, HasPieces, IsLent, IsLine, IsOpen, IsPieces, IsUnended, lined, LineState, MetNoFault, OverCount, RanDry, rest, room_for, RunError, Span, Stopped, StreamLog, with_ends}
+use Rattle.frames.specs.Words.{All, AllSent, Asks, bytes_at, Error, error_kind, Fits, FitsLine, ForwardAnswers, frame, frames, GaveNothing, Grammar, HasLines, HasPieces, IsLent, IsLine, IsOpen, IsPieces, lined, LineState, MetNoFault, OverCount, RanDry, rest, room_for, RunError, Span, Stopped, StreamLog, with_ends}
 use Rattle.frames.specs.Ending.{IsOutcome}
 use Rattle.frames.specs.Pack.{PackedFirst, PackedLines, PackRan, Packs}
 use Rattle.frames.specs.Packing.{HeldFits, NoLine, packing, packing_rules, TakesLines}
@@ -244,7 +244,7 @@ module _ {R W : Type 0} (remaining : R → Option (List ℕ)) (s t : Packing R W
       → ForwardAnswers (packing_rules remaining) s answer t → Ran outcome
   packed = outcome_ran remaining packing s t fresh packing_sound (λ e refused. refused) Ran ended_ran wrong_ran
       (λ p over open' still sent e failed. (
-        some_lines (IsUnended max) p over still sent
+        some_lines (FitsLine max) p over still sent
             (open_unended max (rest t.source.pieces)
             (subst (λ d. IsOpen (lined d.max) (rest t.source.pieces)) over.decoder open')),
         failed,

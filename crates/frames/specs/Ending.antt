@@ -3,10 +3,10 @@ use Rattle.std.specs.Prelude.{◌≡◌, ℕ, List, codes, Result, Ok, Err}
 use Rattle.std.specs.declared.io.ErrorKind.TheVariants.{Other}
 use Rattle.forward.specs.declared.error.Cause.{Cause}
 use Rattle.forward.specs.declared.error.Cause.TheVariants as cause
-use Rattle.programs.specs.Ending.{FailsAs, FailsSo}
+use Rattle.programs.specs.Ending.{FailsSo}
 use Rattle.programs.specs.Ending as usual
 use Rattle.programs.specs.declared.ending.Ending.{Ending as Usually}
-use Rattle.programs.specs.declared.ending.Ending.TheVariants.{Done, ReadFailed, WriteFailed}
+use Rattle.programs.specs.declared.ending.Ending.TheVariants.{Done, Failed, ReadFailed, WriteFailed}
 use Rattle.frames.specs.Words.{error_kind, Error, Stopped, RunError}
 use Rattle.frames.specs.declared.ending.Ending.{Ending}
 use Rattle.frames.specs.declared.ending.Ending.TheVariants.{Usual, TooLong, Truncated}
@@ -33,7 +33,7 @@ EndsAs (Err Why.TooLong) ending = ending ≡ TooLong
 EndsAs (Err Why.Truncated) ending = ending ≡ Truncated
 EndsAs (Err (Why.Read e)) ending = (why : Usually) × FailsSo ReadFailed e why × (ending ≡ Usual why)
 EndsAs (Err (Why.Write e)) ending = (why : Usually) × FailsSo WriteFailed e why × (ending ≡ Usual why)
-EndsAs (Err (Why.Io e)) ending = (why : Usually) × FailsAs e why × (ending ≡ Usual why)
+EndsAs (Err (Why.Io e)) ending = (why : Usually) × FailsSo Failed e why × (ending ≡ Usual why)
 
 -- the status that the process ends with
 abbrev pub status_of : Ending → ℕ

@@ -1,7 +1,7 @@
 -- What a run of `pack` moves from a reader to a writer.
 use Rattle.std.specs.Prelude.{◌≡◌, ℕ, ◌⊎◌, List, [], ◌++◌, length, Result, Ok, Err}
 use Rattle.line_reader.specs.Lines.{BeginsTooLong}
-use Rattle.frames.specs.Words.{All, StreamLog, Fits, frames, IsLine, IsUnended, HasLines, with_ends, RunError, HoldsNothingBack, EndsOnce, MetNoFault, ReadFailed as AReadFailed, SendFailed, OverCount, BufferRefused, GaveNothing, AllFlushed}
+use Rattle.frames.specs.Words.{All, StreamLog, Fits, frames, FitsLine, IsLine, HasLines, with_ends, RunError, HoldsNothingBack, EndsOnce, MetNoFault, ReadFailed as AReadFailed, SendFailed, OverCount, BufferRefused, GaveNothing, AllFlushed}
 use Rattle.frames.specs.declared.error.RunError.TheVariants.{TooLong, Truncated, Read, Write, Io}
 use Rattle.programs.specs.Flushes.{FlushesSend}
 
@@ -12,7 +12,7 @@ pub record IsDue (most : ℕ) (bytes due : List ℕ) : Type 0 where
   pub equal : bytes ≡ with_ends lines ++ left
   pub plain : All IsLine lines
   pub fit : All (Fits most) lines
-  pub no_more : IsUnended most left
+  pub no_more : FitsLine most left
   pub frames_are : due ≡ frames lines
 
 -- all that was given is a text of lines that fit, what was received is their frames, and the writer has flushed them
@@ -60,7 +60,7 @@ PackRan most read read' written written' (Err TooLong) =
     PackedLines (BeginsTooLong most) most read read' written written' × MetNoFault read read' written written'
 PackRan most read read' written written' (Err Truncated) = ⊥
 PackRan most read read' written written' (Err (Read e)) =
-    PackedLines (IsUnended most) most read read' written written' × AReadFailed e read read' written written'
+    PackedLines (FitsLine most) most read read' written written' × AReadFailed e read read' written written'
 PackRan most read read' written written' (Err (Write e)) =
     PackedFirst most read read' written written' × SendFailed e read read' written written'
 PackRan most read read' written written' (Err (Io e)) =

@@ -5,7 +5,7 @@ use Rattle.line_reader.specs.Lines.{BeginsTooLong}
 use Rattle.line_reader.specs.declared.line.Lines.{Lines}
 use Rattle.frames.specs.Words.{Span, bytes_at, ReaderState, rest, FilterRules, AllSent, frame, lined, RunError}
 use Rattle.frames.specs.Pack.{IsDue}
-use Rattle.piece_filter.specs.Pieces.{Coded, Piecewise, piece_rules}
+use Rattle.piece_filter.specs.Pieces.{Piecewise, piece_rules}
 use Rattle.frames.specs.declared.error.RunError.TheVariants.{TooLong}
 use Rattle.frames.specs.declared.packing.Packing.{Packing}
 
@@ -33,7 +33,7 @@ packing = record {
   service = λ s. tt;
   also = λ s. TakesLines s;
   grammar = λ d. lined d.max;
-  answers = Coded frame;
+  answers = λ _ payload reply _. reply ≡ frame payload;
   due = λ d a. IsDue d.max;
   wrong = λ s why t. NoLine why t.source.pieces;
   drops = ⊥;

@@ -7,7 +7,7 @@ use Rattle.frame_reader.specs.Frames.{BeginsTooLong}
 use Rattle.frame_reader.specs.declared.frame.FrameFault.{FrameFault}
 use Rattle.frame_reader.specs.declared.frame.Frames.{Frames}
 use Rattle.frames.specs.Words.{RanDry, ReaderState, rest, FilterRules, AllSent, framed, IsCutShort, with_end, RunError}
-use Rattle.piece_filter.specs.Pieces.{Coded, Piecewise, piece_rules}
+use Rattle.piece_filter.specs.Pieces.{Piecewise, piece_rules}
 use Rattle.frames.specs.Unpack.{IsDue}
 use Rattle.frames.specs.declared.error.RunError.TheVariants.{TooLong, Truncated}
 use Rattle.frames.specs.declared.unpacking.Unpacking.{Unpacking}
@@ -36,7 +36,7 @@ unpacking = record {
   service = λ s. tt;
   also = λ s. TakesFrames s;
   grammar = λ d. framed d.max;
-  answers = Coded with_end;
+  answers = λ _ payload reply _. reply ≡ with_end payload;
   due = λ d a. IsDue d.max;
   wrong = λ s why t. NoFrame s.source why t.source;
   drops = ⊥;

@@ -15,7 +15,7 @@ pub use Rattle.frame_reader.specs.Framed.{Splits, framed}
 pub use Rattle.frame_reader.specs.Frames.{Fits, IsCutShort, frame, frames, header}
 pub use Rattle.frames.specs.declared.error.RunError.{RunError}
 pub use Rattle.line_reader.specs.LineReader.{LineState, lined}
-pub use Rattle.line_reader.specs.Lines.{FitsLine, HasLines, IsLine, IsUnended, newline, with_end, with_ends}
+pub use Rattle.line_reader.specs.Lines.{FitsLine, HasLines, IsLine, newline, with_end, with_ends}
 pub use Rattle.programs.specs.Prompt.{HoldsNothingBack}
 pub use Rattle.programs.specs.Streams.{AllFlushed, AllSent, BufferRefused, EndsOnce, GaveNothing, MetNoFault, OverCount, ReadFailed, SendFailed}
 pub use Rattle.std.specs.IoError.{error_kind}

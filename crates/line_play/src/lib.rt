@@ -3,7 +3,7 @@
 #![tactic(auto)]
 
 ghost use Rattle.std.specs.Prelude.{◌≡◌, ◌↔◌, ℕ, List, [], ◌∷◌, ◌++◌, ◌⊎◌, false, map, true, None, Some, Ok, Result};
-ghost use Rattle.std.specs.List.{All, flat_map};
+ghost use Rattle.std.specs.List.{All, flat_map, sum_by};
 ghost use Rattle.std.specs.declared.io.Error.{Error};
 ghost use Rattle.buffer_redux.specs.Sparing.{MovedAtMostGiven};
 ghost use Rattle.piece_reader.specs.KnownPieces.{HasLeft, NextKnown};
@@ -11,7 +11,7 @@ ghost use Rattle.piece_reader.specs.NextPiece.{PiecesWent};
 ghost use Rattle.piece_reader.specs.PieceReader.{IsFresh, rest};
 ghost use Rattle.piece_reader.specs.Runs.{AnswerRuns, Cuts, NoneTold, all_handed};
 ghost use Rattle.piece_reader.specs.Texts.{HasPieces};
-ghost use Rattle.line_reader.specs.Calls.{Call, CallGoes, CallsWent, call_lines, skip_calls};
+ghost use Rattle.line_reader.specs.Calls.{Call, CallGoes, CallsWent, call_asks, call_lines};
 ghost use Rattle.line_reader.specs.KnownCalls.{LeavesBehind, TookFront};
 ghost use Rattle.line_reader.specs.Lines.{FitsLine, HasLines, IsLine};
 ghost use Rattle.line_reader.specs.LineReader.{HasLine, LineState, IsLineReader, lined};
@@ -53,7 +53,7 @@ pub fn whole_lines<R: TellRead>(reader: &LineReader<R>)
     ensures went { (least most : ℕ) (stream : R) (first : LineState R) (calls : List Call)
         → IsFresh R.log least most stream first.pieces.decoder first.pieces → IsLineReader first
         → AnswerRuns (CallGoes R.remaining) first calls reader.now
-        → CallsWent R.remaining [] first (flat_map call_lines calls) (skip_calls calls) reader.now }
+        → CallsWent R.remaining [] first (flat_map call_lines calls) (sum_by call_asks calls) reader.now }
 {}
 
 /// Any calls of the three over a stream of which the lines are known, whatever they answered: what they handed out and skipped

@@ -159,7 +159,7 @@ module _ {S : Type 0} (remaining : S → Option (List ℕ)) where
     by_open : (P : Type 0) → (NextOpen remaining s answer t → P) → s.skipping ≡ false → P
     by_open P then open' = then (NextLine-open remaining s t answer open' next)
 
-    pub NextLine-ready : (line more : List ℕ) → IsLine line → length line ≤ max → rest s.pieces ≡ line ++ newline ∷ more
+    NextLine-ready : (line more : List ℕ) → IsLine line → length line ≤ max → rest s.pieces ≡ line ++ newline ∷ more
         → answer ≡ Ok (Some line)
     NextLine-ready line more plain fits front =
         by_open (answer ≡ Ok (Some line))
@@ -169,7 +169,7 @@ module _ {S : Type 0} (remaining : S → Option (List ℕ)) where
         (front ∙ sym (append_assoc line (newline ∷ []) more))).0)
         (open_left s whole (omega (arith, ap length front, length-append line (newline ∷ more))))
 
-    pub NextLine-too_long : BeginsTooLong max (rest s.pieces) → answer ≡ Err (TooLong max)
+    NextLine-too_long : BeginsTooLong max (rest s.pieces) → answer ≡ Err (TooLong max)
     NextLine-too_long long =
         by_open (answer ≡ Err (TooLong max))
         (λ step. same_long answer (record { 0 = max })
@@ -177,9 +177,26 @@ module _ {S : Type 0} (remaining : S → Option (List ℕ)) where
         (record { 0 = max }) (record { above = long.above; plain = long.plain; told = refl })).0)
         (open_left s whole (omega (arith, long.above)))
 
-    pub NextLine-told : s.pieces.ended ≡ true → answer ≡ Ok None
+    NextLine-told : s.pieces.ended ≡ true → answer ≡ Ok None
     NextLine-told ended =
         by_open (answer ≡ Ok None) (λ step. same_none answer (step.0.told ended)) (settled_open s whole (inl ended))
+
+    -- all of that, and that it fits
+    pub NextLine-says : (Fits : Type 0) → Fits → record {
+      after_borrow : Unit {0};
+      fits : Fits;
+      ready : (line more : List ℕ) → IsLine line → length line ≤ max → rest s.pieces ≡ line ++ newline ∷ more
+          → answer ≡ Ok (Some line);
+      too_long : BeginsTooLong max (rest s.pieces) → answer ≡ Err (TooLong max);
+      ended : s.pieces.ended ≡ true → answer ≡ Ok None;
+    }
+    NextLine-says Fits fits = record {
+      after_borrow = tt;
+      fits = fits;
+      ready = NextLine-ready;
+      too_long = NextLine-too_long;
+      ended = NextLine-told;
+    }
 
   -- a line that is lent fits
   pub NextLine-fits : (s t : LineState S) (line : List ℕ) → NextLine remaining s (Ok (Some line)) t

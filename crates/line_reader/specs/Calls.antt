@@ -88,7 +88,7 @@ event_lines (Trimmed shown) = shown ∷ []
 event_lines (Skipped line) = []
 event_lines Ended = []
 
--- how many lines were skipped, and in how many calls this was asked for
+-- how many lines were skipped, and whether a call asked for this
 abbrev pub skipped_count : List Event → ℕ
 skipped_count [] = 0
 skipped_count (Handed line ∷ events) = skipped_count events
@@ -100,10 +100,6 @@ abbrev pub call_asks : Call → ℕ
 call_asks (Nexts answer) = 0
 call_asks (NextsTrimmed answer) = 0
 call_asks (Skips answer) = 1
-
-abbrev pub skip_calls : List Call → ℕ
-skip_calls [] = 0
-skip_calls (call ∷ calls) = call_asks call + skip_calls calls
 
 -- a line that is being skipped counts for one
 abbrev pub pending : Bool → ℕ

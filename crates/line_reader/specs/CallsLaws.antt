@@ -15,7 +15,7 @@ use Rattle.line_reader.specs.Lines.{IsLine, newline, with_end}
 use Rattle.line_reader.specs.LineReader.{LineState}
 use Rattle.line_reader.specs.NextLine.{NextAnswer, Trims}
 use Rattle.line_reader.specs.NextLineLaws.{IsHanded-fits, NextOpen, same_none}
-use Rattle.line_reader.specs.SkipLine.{IsWithEnd, SkipsLine}
+use Rattle.line_reader.specs.SkipLine.{SkipsLine}
 
 pub no_line : IsLine []
 no_line = All-nil (isnt_end newline)
@@ -200,22 +200,22 @@ module _ {S : Type 0} (remaining : S → Option (List ℕ)) (s t : LineState S) 
   )
 
   -- through the end of the line
-  pub skip_whole : (count : ℕ) (k : SkipsLine remaining s (Ok count) t) (w : IsWithEnd k.drops.bytes)
-      → LinesAlong remaining before s (Skipped (before ++ w.line) ∷ []) [] t
-  skip_whole count k w =
-      let all : before ++ k.drops.bytes ≡ with_end (before ++ w.line) ++ [] =
-      ap (λ l. before ++ l) w.equal ∙ sym (append_assoc before w.line (newline ∷ []))
-      ∙ sym (append-nil (with_end (before ++ w.line))) in
+  pub skip_whole : (count : ℕ) (k : SkipsLine remaining s (Ok count) t) (line : List ℕ) → IsLine line
+      → k.drops.bytes ≡ with_end line → LinesAlong remaining before s (Skipped (before ++ line) ∷ []) [] t
+  skip_whole count k line is_line equal =
+      let all : before ++ k.drops.bytes ≡ with_end (before ++ line) ++ [] =
+      ap (λ l. before ++ l) equal ∙ sym (append_assoc before line (newline ∷ []))
+      ∙ sym (append-nil (with_end (before ++ line))) in
       record {
         bytes = k.drops.bytes;
         went = k.drops.went;
-        cut = ([], All-append (isnt_end newline) before w.line plain w.plain, inl all, (no_line, refl));
+        cut = ([], All-append (isnt_end newline) before line plain is_line, inl all, (no_line, refl));
         closed = λ open'. refl;
         told = λ ended. told_skip (Ok count) k ended (omega (
           arith,
           length-append before k.drops.bytes,
-          ap length w.equal,
-          length-append w.line (newline ∷ []),
+          ap length equal,
+          length-append line (newline ∷ []),
         ));
       }
 

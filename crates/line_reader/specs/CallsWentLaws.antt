@@ -2,13 +2,14 @@
 use Rattle.std.specs.Prelude.{◌≡◌, ℕ, ◌+◌, ◌≤◌, List, [], ◌∷◌, ◌++◌, length, true, false, Option, None, Some, Ok, Err}
 use Rattle.std.proofs.Common.{sym, ap, subst, ◌∙◌, arith, refl, inl, inr, append-nil}
 use Rattle.std.proofs.lemmas.List.Concat.{flat_map-append}
-use Rattle.std.specs.List.{flat_map}
+use Rattle.std.proofs.lemmas.List.Sums.{sum_by-cons}
+use Rattle.std.specs.List.{flat_map, sum_by}
 use Rattle.std.specs.declared.io.Error.{Error}
 use Rattle.piece_reader.specs.PiecesWentLaws.{PiecesWent-none}
 use Rattle.piece_reader.specs.PieceReader.{rest}
 use Rattle.piece_reader.specs.Runs.{AnswerRuns, handed_payload}
 use Rattle.line_reader.specs.declared.error.LineError.TheVariants.{Io}
-use Rattle.line_reader.specs.Calls.{Handed, Trimmed, Skipped, Ended, Nexts, NextsTrimmed, Skips, Call, CallGoes, CallsWent, Event, call_asks, call_lines, event_lines, events_of, pending, skip_calls, skipped_count}
+use Rattle.line_reader.specs.Calls.{Handed, Trimmed, Skipped, Ended, Nexts, NextsTrimmed, Skips, Call, CallGoes, CallsWent, Event, call_asks, call_lines, event_lines, events_of, pending, skipped_count}
 use Rattle.line_reader.specs.CallsLaws.{CutsInto-after, LinesAlong-joins, NextLine-along, Trims-along, skip_fails, skip_last, skip_none, skip_whole}
 use Rattle.line_reader.specs.Lines.{IsLine}
 use Rattle.line_reader.specs.LineReader.{LineState, IsLineReader}
@@ -108,7 +109,7 @@ module _ {S : Type 0} (remaining : S → Option (List ℕ)) where
       | inl (w, going, met) ↦ record {
         events = Skipped (before ++ w.line) ∷ [];
         after = [];
-        along = skip_whole remaining s t before plain closed (ended_empty s whole) count k w;
+        along = skip_whole remaining s t before plain closed (ended_empty s whole) count k w.line w.plain w.equal;
         handed = refl;
         few = omega (arith, enough, ap pending k.skipping);
       }
@@ -183,12 +184,14 @@ module _ {S : Type 0} (remaining : S → Option (List ℕ)) where
   -- what any come to
   pub Calls-went : (s : LineState S) (calls : List Call) (t : LineState S) → AnswerRuns (CallGoes remaining) s calls t
       → (before : List ℕ) → IsLine before → (s.skipping ≡ false → before ≡ []) → IsLineReader s
-      → CallsWent remaining before s (flat_map call_lines calls) (skip_calls calls) t
+      → CallsWent remaining before s (flat_map call_lines calls) (sum_by call_asks calls) t
   Calls-went s [] t same before plain closed whole =
       subst (CallsWent remaining before s [] 0) same (CallsWent-none s before plain closed)
   Calls-went s (call ∷ calls) t (m, goes, run) before plain closed whole =
       let first = CallGoes-went s call m goes before plain closed whole in
-      CallsWent-joins s m t before (call_lines call) (flat_map call_lines calls) (call_asks call) (skip_calls calls) first
+      subst (λ n. CallsWent remaining before s (call_lines call ++ flat_map call_lines calls) n t)
+      (sym (sum_by-cons call_asks call calls))
+      (CallsWent-joins s m t before (call_lines call) (flat_map call_lines calls) (call_asks call) (sum_by call_asks calls) first
       (Calls-went m calls t run first.after
       (CutsInto-after m.pieces.ended first.events first.after (before ++ first.along.bytes) first.along.cut) first.along.closed
-      (call_whole s call m goes))
+      (call_whole s call m goes)))

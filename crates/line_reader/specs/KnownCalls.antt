@@ -1,16 +1,11 @@
 -- What a reader of lines takes out of a stream that is known.
 use Rattle.std.specs.Prelude.{◌≡◌, ℕ, ◌⊎◌, List, [], ◌∷◌, ◌++◌, true, false, Option, Some}
 use Rattle.std.specs.List.{flat_map}
-use Rattle.piece_reader.specs.KnownPieces.{HasLeft, ahead_of}
+use Rattle.piece_reader.specs.KnownPieces.{ahead_of}
 use Rattle.piece_reader.specs.Trimming.{IsTrimmed}
 use Rattle.line_reader.specs.Calls.{Handed, Trimmed, Skipped, Ended, Event, event_lines}
 use Rattle.line_reader.specs.Lines.{HasLines, IsLine}
-use Rattle.line_reader.specs.LineReader.{LineState, lined}
-
--- just these lines are left, and each of them fits; no line is being skipped
-pub record LeavesLines {S : Type 0} (remaining : S → Option (List ℕ)) (f : LineState S) (lines : List (List ℕ)) : Type 0 where
-  pub has : HasLeft remaining (lined f.pieces.decoder.max) f.pieces lines
-  pub open' : f.skipping ≡ false
+use Rattle.line_reader.specs.LineReader.{LineState}
 
 -- the bytes that weren't handed out are known, and behind so many bytes of a line that is being skipped a text of these lines,
 -- of which that line is the first; where the stream has ended there are none

@@ -9,7 +9,7 @@ use Rattle.std.specs.Io.KnownBytes.{prepend_known}
 use Rattle.std.specs.declared.io.Error.{Error}
 use Rattle.buffer_redux.specs.StreamLog.{StreamLog}
 use Rattle.piece_reader.specs.DelimitedLaws.{isnt_end}
-use Rattle.piece_reader.specs.KnownPieces.{ahead_of}
+use Rattle.piece_reader.specs.KnownPieces.{HasLeft, ahead_of}
 use Rattle.piece_reader.specs.KnownPiecesLaws.{PiecesWent-dry, PiecesWent-front}
 use Rattle.piece_reader.specs.NextPiece.{MetEnd, PiecesWent}
 use Rattle.piece_reader.specs.PiecesWentLaws.{drop_none}
@@ -19,9 +19,9 @@ use Rattle.piece_reader.specs.Trimming.{IsTrimmed}
 use Rattle.line_reader.specs.declared.error.LineError.TheVariants.{TooLong, Io}
 use Rattle.line_reader.specs.Calls.{Handed, Trimmed, Skipped, Ended, Nexts, NextsTrimmed, Skips, Call, CallGoes, Event, call_lines, event_lines}
 use Rattle.line_reader.specs.CallsLaws.{no_line}
-use Rattle.line_reader.specs.KnownCalls.{LeavesBehind, LeavesLines, TakesLines, TookFront}
+use Rattle.line_reader.specs.KnownCalls.{LeavesBehind, TakesLines, TookFront}
 use Rattle.line_reader.specs.Lines.{HasLines, IsLine, newline, with_end}
-use Rattle.line_reader.specs.LineReader.{LineState}
+use Rattle.line_reader.specs.LineReader.{LineState, lined}
 use Rattle.line_reader.specs.NextLine.{NextAnswer, NextLine, Trims}
 use Rattle.line_reader.specs.NextLineLaws.{IsHanded-fits, NextOpen, by_skipping}
 use Rattle.line_reader.specs.SkipLine.{SkipsLine}
@@ -58,15 +58,15 @@ module _ {S : Type 0} (remaining : S → Option (List ℕ)) where
   }
 
   -- a reader that has just these lines left, which fit, leaves them
-  pub LeavesBehind-of : (f : LineState S) (lines : List (List ℕ)) → LeavesLines remaining f lines
+  pub LeavesBehind-of : (f : LineState S) (lines : List (List ℕ)) → HasLeft remaining (lined f.pieces.decoder.max) f.pieces lines
       → LeavesBehind remaining [] f lines
   LeavesBehind-of f lines left = record {
-    text = left.has.text;
-    known = left.has.known;
+    text = left.text;
+    known = left.known;
     plain = no_line;
     closed = λ _. refl;
-    has = lines_of f.pieces.decoder.max left.has.text lines left.has.has;
-    none = left.has.none;
+    has = lines_of f.pieces.decoder.max left.text lines left.has;
+    none = left.none;
   }
 
   -- nothing went of a line, where none is being skipped

@@ -31,7 +31,7 @@ pub record HasLines (text : List ℕ) (lines : List (List ℕ)) : Type 0 where
   pub all : lines ≡ whole ++ last_line last
   pub plain : All IsLine lines
 
--- a line of at most so many bytes
+-- a line of at most so many bytes, or what came of one
 pub record FitsLine (max : ℕ) (line : List ℕ) : Type 0 where
   pub plain : IsLine line
   pub fits : length line ≤ max
@@ -40,8 +40,3 @@ pub record FitsLine (max : ℕ) (line : List ℕ) : Type 0 where
 pub record BeginsTooLong (max : ℕ) (bytes : List ℕ) : Type 0 where
   pub above : max < length bytes
   pub plain : IsLine (take (1 + max) bytes)
-
--- the bytes are at most max, and none of them ends a line
-pub record IsUnended (max : ℕ) (bytes : List ℕ) : Type 0 where
-  pub fits : length bytes ≤ max
-  pub plain : IsLine bytes

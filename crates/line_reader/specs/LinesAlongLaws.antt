@@ -17,12 +17,12 @@ use Rattle.line_reader.specs.declared.error.LineError.TheVariants.{TooLong, Io}
 use Rattle.line_reader.specs.Calls.{Event, LinesAlong, Skipped, Trimmed, events_of}
 use Rattle.line_reader.specs.CallsLaws.{LinesAlong-joins, NextLine-along, Trims-along, no_line, skip_last, skip_none, skip_whole}
 use Rattle.line_reader.specs.CallsWentLaws.{ended_empty}
-use Rattle.line_reader.specs.Lines.{BeginsTooLong, IsLine, newline}
+use Rattle.line_reader.specs.Lines.{BeginsTooLong, IsLine, newline, with_end}
 use Rattle.line_reader.specs.LinesLaws.{front_plain, line_or_end, line_or_long, no-end-within, too_long-append}
 use Rattle.line_reader.specs.LineReader.{HasLine, IsLineReader, LineState, lined}
 use Rattle.line_reader.specs.NextLine.{NextAnswer, NextBuffered, NextLine, NextTrimmed, Trims, piece_answer}
 use Rattle.line_reader.specs.NextLineLaws.{NextLine-open, NextOpen, NextPiece-long, by_skipping}
-use Rattle.line_reader.specs.SkipLine.{IsWithEnd, SkipsLine}
+use Rattle.line_reader.specs.SkipLine.{SkipsLine}
 
 -- why a call failed: this error is the one fault that the stream met; or more than 2^63 bytes of a line were dropped
 abbrev LineFails : {S : Type 0} → LineState S → Error → LineState S → Type 0
@@ -174,7 +174,7 @@ module _ {S : Type 0} (remaining : S → Option (List ℕ)) (s t : LineState S) 
     | inl (w, going, end) ↦ (
       Skipped w.line ∷ [],
       inl (w.line, refl),
-      skip_whole remaining s t [] no_line (λ _. refl) (ended_empty s whole) count k w,
+      skip_whole remaining s t [] no_line (λ _. refl) (ended_empty s whole) count k w.line w.plain w.equal,
     )
     | inr (plain, none, ended, end) ↦ skips_rest k.drops.bytes refl plain ended
   ]
@@ -198,11 +198,11 @@ module _ {S : Type 0} (remaining : S → Option (List ℕ)) (s m t : LineState S
         let long = (NextPiece-long remaining most s.pieces m.pieces (record { 0 = max }) refused.0).0 in
         subst (BeginsTooLong most) (sym hands.equal) (too_long-append most (rest m.pieces) hands.got long)
 
-    whole_long : (w : IsWithEnd k.drops.bytes) → most < length w.line
-    whole_long w = elim (cases_lt most (length w.line)) [
+    whole_long : (line : List ℕ) → k.drops.bytes ≡ with_end line → most < length line
+    whole_long line equal = elim (cases_lt most (length line)) [
       | inl long ↦ long
-      | inr fits ↦ absurd (no-end-within w.line (rest t.pieces) most fits (subst (λ l. IsLine (take (1 + most) l))
-          (ap (λ l. l ++ rest t.pieces) w.equal ∙ append_assoc w.line (newline ∷ []) (rest t.pieces)) still_long.plain))
+      | inr fits ↦ absurd (no-end-within line (rest t.pieces) most fits (subst (λ l. IsLine (take (1 + most) l))
+          (ap (λ l. l ++ rest t.pieces) equal ∙ append_assoc line (newline ∷ []) (rest t.pieces)) still_long.plain))
     ]
 
     last_long : rest t.pieces ≡ [] → most < length k.drops.bytes
@@ -216,9 +216,9 @@ module _ {S : Type 0} (remaining : S → Option (List ℕ)) (s m t : LineState S
         elim k.drops.answers.2 [
           | inl (w, going, end) ↦ (
             w.line,
-            whole_long w,
+            whole_long w.line w.equal,
             LinesAlong-joins remaining s m t [] [] [] [] (Skipped w.line ∷ []) first
-                (skip_whole remaining m t [] no_line (λ _. refl) not_ended count k w),
+                (skip_whole remaining m t [] no_line (λ _. refl) not_ended count k w.line w.plain w.equal),
           )
           | inr (plain, none, ended, end) ↦ (
             k.drops.bytes,

@@ -11,7 +11,7 @@ use Rattle.piece_reader.specs.NextPiece.{IsHanded, NextPiece, NoEnd}
 use Rattle.piece_reader.specs.PieceReader.{IsPieceReader, ReaderState, rest}
 use Rattle.line_reader.specs.declared.error.LineError.TheVariants.{TooLong, Io}
 use Rattle.line_reader.specs.declared.line.Lines.{Lines}
-use Rattle.line_reader.specs.Lines.{BeginsTooLong, FitsLine, IsLine, IsUnended, newline, with_end}
+use Rattle.line_reader.specs.Lines.{BeginsTooLong, FitsLine, IsLine, newline, with_end}
 use Rattle.line_reader.specs.LineReader.{IsLineReader, LineState, lined}
 use Rattle.line_reader.specs.NextLine.{NextAnswer, NextLine, piece_answer}
 use Rattle.line_reader.specs.SkipLine.{SkipsLine}
@@ -64,8 +64,8 @@ NextPiece-long remaining max s t e next = elim next.answers.3 [
 ]
 
 -- what settles nothing has no end, and isn't too long
-pub open_unended : (max : ℕ) (bytes : List ℕ) → IsOpen (lined max) bytes → IsUnended max bytes
-open_unended max bytes is = (let p = open_plain newline max bytes is in record { fits = p.1; plain = p.0 })
+pub open_unended : (max : ℕ) (bytes : List ℕ) → IsOpen (lined max) bytes → FitsLine max bytes
+open_unended max bytes is = (let p = open_plain newline max bytes is in record { plain = p.0; fits = p.1 })
 
 -- a reader over the same lines, and one behind a call
 module _ {S : Type 0} where

@@ -2,7 +2,7 @@
 use Rattle.std.specs.Prelude.{◌≡◌, ℕ, List, map, false, Option}
 use Rattle.piece_reader.specs.KnownPayloads as known
 use Rattle.piece_reader.specs.Runs as pieces
-use Rattle.piece_reader.specs.Runs.{AnswerPlays, AnswerRuns}
+use Rattle.piece_reader.specs.Runs.{AnswerRuns}
 use Rattle.line_reader.specs.LineReader.{LineState, lined}
 use Rattle.line_reader.specs.NextLine.{NextAnswer, NextLine, piece_answer}
 
@@ -18,7 +18,3 @@ AllRead remaining = known.AllRead (NextRuns remaining)
 abbrev pub RunWent : {S : Type 0} → (S → Option (List ℕ)) → LineState S → List NextAnswer → LineState S → Type 0
 RunWent remaining s answers t = s.skipping ≡ false
     → pieces.RunWent remaining (lined s.pieces.decoder.max) s.pieces (map piece_answer answers) t.pieces
-
--- calls, and what they come to
-abbrev pub NextPlays : {S : Type 0} → (S → Option (List ℕ)) → LineState S → List NextAnswer → LineState S → Type 0
-NextPlays remaining = AnswerPlays (NextLine remaining) (RunWent remaining)

@@ -5,7 +5,7 @@ use Rattle.std.proofs.lemmas.List.{map-append}
 use Rattle.piece_reader.specs.Runs as pieces
 use Rattle.piece_reader.specs.Runs.{Cuts, NoneTold, all_handed}
 use Rattle.piece_reader.specs.RunsLaws as pieces_laws
-use Rattle.piece_reader.specs.RunsLaws.{AnswerPlays-more, AnswerPlays-none, AnswerRuns-more}
+use Rattle.piece_reader.specs.RunsLaws.{AnswerRuns-more}
 use Rattle.piece_reader.specs.Texts.{HasPieces}
 use Rattle.line_reader.specs.declared.error.LineError.TheVariants.{TooLong, Io}
 use Rattle.line_reader.specs.Lines.{HasLines}
@@ -13,7 +13,7 @@ use Rattle.line_reader.specs.LineReader.{LineState, lined}
 use Rattle.line_reader.specs.NextLine.{NextAnswer, NextLine, piece_answer}
 use Rattle.line_reader.specs.NextLineLaws.{NextLine-open}
 use Rattle.line_reader.specs.TextLaws.{lines_of}
-use Rattle.line_reader.specs.Runs.{NextPlays, NextRuns, RunWent}
+use Rattle.line_reader.specs.Runs.{NextRuns, RunWent}
 
 -- the answers of a reader of pieces hand out the same, and tell an end where these do
 handed_same : (answers : List NextAnswer) → all_handed (map piece_answer answers) ≡ all_handed answers
@@ -61,11 +61,3 @@ module _ {S : Type 0} (remaining : S → Option (List ℕ)) where
       → RunWent remaining s answers t
   NextRuns-went s answers t run open' = pieces_laws.NextRuns-went remaining (lined s.pieces.decoder.max) s.pieces
       (map piece_answer answers) t.pieces (runs_of s answers t open' run)
-
-  -- calls, and what they come to: no call, and one more
-  pub NextPlays-none : (s : LineState S) → NextPlays remaining s [] s
-  NextPlays-none = AnswerPlays-none (NextLine remaining) (RunWent remaining) NextRuns-went
-
-  pub NextPlays-more : (s : LineState S) (answers : List NextAnswer) (m : LineState S) (answer : NextAnswer) (t : LineState S)
-      → NextPlays remaining s answers m → NextLine remaining m answer t → NextPlays remaining s (answers ++ answer ∷ []) t
-  NextPlays-more = AnswerPlays-more (NextLine remaining) (RunWent remaining) NextRuns-went

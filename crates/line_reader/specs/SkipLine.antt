@@ -1,5 +1,5 @@
 -- What `skip_line` promises, and the steps of it.
-use Rattle.std.specs.Prelude.{◌≡◌, ℕ, ◌+◌, ◌^◌, ◌<◌, ◌≤◌, ◌⊎◌, List, [], length, Bool, true, false, Option, Result, Ok, Err, is_err}
+use Rattle.std.specs.Prelude.{◌≡◌, ℕ, ◌+◌, ◌^◌, ◌<◌, ◌≤◌, ◌⊎◌, List, [], length, Bool, true, false, Option, Result, MatchResult, is_err}
 use Rattle.std.specs.IoError.{error_kind}
 use Rattle.std.specs.declared.io.Error.{Error}
 use Rattle.std.specs.declared.io.ErrorKind.TheVariants.{Other}
@@ -10,21 +10,6 @@ use Rattle.line_reader.specs.declared.line.Lines.{Lines}
 use Rattle.line_reader.specs.Lines.{IsLine, newline, with_end}
 use Rattle.line_reader.specs.LineReader.{LineState, lined}
 
--- these bytes are a line and its end
-pub record IsWithEnd (bytes : List ℕ) : Type 0 where
-  pub line : List ℕ
-  pub plain : IsLine line
-  pub equal : bytes ≡ with_end line
-
--- what each answer means. The bytes that were dropped are a line and its end, or all that came before the stream's, which the
--- next call of `next` tells; or no end came: the stream failed, or more bytes were dropped than this
-abbrev pub SkipAnswers : {S D : Type 0} → ReaderState S D → Result ℕ Error → List ℕ → ReaderState S D → Type 0
-SkipAnswers s (Ok n) bytes t = (n ≡ length bytes) × NoFault s t
-    × ((IsWithEnd bytes × (t.ended ≡ false) × NoEnd s t)
-    ⊎ (IsLine bytes × (rest t ≡ []) × (t.ended ≡ true) × MetEnd s t))
-SkipAnswers s (Err e) bytes t = IsLine bytes × (rest t ≡ []) × (t.ended ≡ false) × NoEnd s t
-    × (Faulted s e t ⊎ (NoFault s t × (error_kind e ≡ Other) × (2 ^ 63 < length bytes)))
-
 -- the first bytes that are left were dropped: through the first end of a line, or all
 pub record DropsLine {S : Type 0} (s : ReaderState S Lines) (count : ℕ) (found : Bool) (t : ReaderState S Lines) : Type 0 where
   pub before : IsPieceReader (lined s.decoder.max) s
@@ -33,12 +18,19 @@ pub record DropsLine {S : Type 0} (s : ReaderState S Lines) (count : ℕ) (found
   pub ends : found ≡ true → (len : ℕ) × (count ≡ 1 + len) × EndsAt newline len (rest s)
   pub none : found ≡ false → (count ≡ length (rest s)) × IsLine (rest s)
 
--- what is dropped through the end of a line. The stream is asked only where no end of a line is buffered
+-- what is dropped through the end of a line. At Ok the bytes are a line and its end, or all that came before the stream's,
+-- which the next call of `next` tells. At an `Err` no end came: the stream failed, or more bytes were dropped than this. The
+-- stream is asked only where no end of a line is buffered
 pub record DropsThrough {S : Type 0} (remaining : S → Option (List ℕ)) (s : ReaderState S Lines) (answer : Result ℕ Error)
     (t : ReaderState S Lines) : Type 0 where
   pub bytes : List ℕ
   pub went : PiecesWent remaining (1 + s.decoder.max) s bytes t
-  pub answers : SkipAnswers s answer bytes t
+  pub answers : MatchResult answer
+      (λ n. (n ≡ length bytes) × NoFault s t
+      × ((record { line : List ℕ; plain : IsLine line; equal : bytes ≡ with_end line } × (t.ended ≡ false) × NoEnd s t)
+      ⊎ (IsLine bytes × (rest t ≡ []) × (t.ended ≡ true) × MetEnd s t)))
+      (λ e. IsLine bytes × (rest t ≡ []) × (t.ended ≡ false) × NoEnd s t
+      × (Faulted s e t ⊎ (NoFault s t × (error_kind e ≡ Other) × (2 ^ 63 < length bytes))))
   pub asked : AskedWhere IsLine s t
   pub whole : IsPieceReader (lined t.decoder.max) t
 

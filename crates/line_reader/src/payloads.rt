@@ -1,9 +1,13 @@
 //! Lines are payloads that are read in runs.
+ghost use Rattle.std.specs.Prelude.{◌≡◌, false};
+ghost use Rattle.piece_reader.specs.KnownPieces.{HasLeft};
+ghost use Rattle.piece_reader.specs.Runs.{AnswerPlays};
+ghost use Rattle.piece_reader.specs.RunsLaws.{AnswerPlays-more, AnswerPlays-none};
 ghost use Rattle.line_reader.specs.declared.error.LineError.TheVariants.{Io};
-ghost use Rattle.line_reader.specs.KnownCalls.{LeavesLines};
 ghost use Rattle.line_reader.specs.KnownLinesLaws.{NextLine-answers};
-ghost use Rattle.line_reader.specs.Runs.{NextPlays};
-ghost use Rattle.line_reader.specs.RunsLaws.{NextPlays-more, NextPlays-none};
+ghost use Rattle.line_reader.specs.LineReader.{lined};
+ghost use Rattle.line_reader.specs.Runs.{RunWent};
+ghost use Rattle.line_reader.specs.RunsLaws.{NextRuns-went};
 ghost use Rattle.line_reader.specs.NextLine.{NextLine};
 
 use crate::error::LineError;
@@ -19,7 +23,7 @@ impl<R: TellRead> PayloadReader for LineReader<R> {
 
     ghost goes = { NextLine R.remaining };
 
-    ghost plays = { NextPlays R.remaining };
+    ghost plays = { AnswerPlays (NextLine R.remaining) (RunWent R.remaining) };
 
     fn next_copied(
         &mut self,
@@ -32,13 +36,14 @@ impl<R: TellRead> PayloadReader for LineReader<R> {
         }
     }
 
-    ghost plays_none = { NextPlays-none R.remaining };
+    ghost plays_none = { AnswerPlays-none (NextLine R.remaining) (RunWent R.remaining) (NextRuns-went R.remaining) };
 
-    ghost plays_more = { NextPlays-more R.remaining };
+    ghost plays_more = { AnswerPlays-more (NextLine R.remaining) (RunWent R.remaining) (NextRuns-went R.remaining) };
 }
 
 impl<R: TellRead> KnownReader for LineReader<R> {
-    ghost has_left = { LeavesLines R.remaining };
+    ghost has_left = { λ f lines.
+        HasLeft R.remaining (lined f.pieces.decoder.max) f.pieces lines × (f.skipping ≡ false) };
 
     ghost faults = { λ s. s.pieces.reader.log.reads.faults };
 

@@ -19,9 +19,9 @@ use Rattle.forward.specs.Filter.{Asks, FilterRules, Flushes, Moves, PassAnswers,
 use Rattle.forward.specs.PromptLaws.{WritesOn-none}
 use Rattle.forward.specs.declared.error.AskError.TheVariants.{Wrong, Io, IoBehind}
 use Rattle.programs.specs.Streams.{AllSent}
-use Rattle.piece_filter.specs.Answering.{Answered, IsWrong, answering, answering_rules}
+use Rattle.piece_filter.specs.Answering.{Answered, IsWrong, answering}
 use Rattle.piece_filter.specs.AnsweringLaws.{answering_lawful}
-use Rattle.piece_filter.specs.Pieces.{IsReady, Keeps, Piecewise}
+use Rattle.piece_filter.specs.Pieces.{IsReady, Keeps, Piecewise, piece_rules}
 use Rattle.piece_filter.specs.PiecesCalls as pieces
 use Rattle.piece_filter.specs.PiecesLaws.{takes_nothing}
 use Rattle.piece_filter.specs.declared.answering.Answering.{Answering}
@@ -30,7 +30,7 @@ module _ {R D X A W : Type 0} (remaining : R → Option (List ℕ)) (grammar : D
     (Answers : A → List ℕ → List ℕ → A → Type 0) {s : Answering R D W A X}
     (ready : IsReady (answering grammar Answers) s) where
   abbrev rules : FilterRules (Answering R D W A X) X
-  rules = answering_rules remaining grammar Answers
+  rules = piece_rules remaining (answering grammar Answers)
 
   abbrev f : Piecewise (Answering R D W A X) R D X A W X
   f = answering grammar Answers

@@ -1,5 +1,5 @@
 -- A filter that answers payloads.
-use Rattle.std.specs.Prelude.{◌≡◌, ℕ, ◌<◌, ◌⊎◌, List, [], ◌++◌, length, Bool, true, false, Option, Result, Ok, Err}
+use Rattle.std.specs.Prelude.{◌≡◌, ℕ, ◌<◌, ◌⊎◌, List, [], ◌++◌, length, Bool, true, false, Result, Ok, Err}
 use Rattle.std.specs.declared.io.Error.{Error}
 use Rattle.buffer_redux.specs.BufReader.{RanDry}
 use Rattle.buffer_redux.specs.Buffered.{Buffered}
@@ -7,9 +7,8 @@ use Rattle.buffer_redux.specs.declared.policy.StdPolicy.{StdPolicy}
 use Rattle.piece_reader.specs.Grammar.{Grammar, IsOpen}
 use Rattle.piece_reader.specs.PieceReader.{ReaderState, rest}
 use Rattle.piece_reader.specs.Texts.{IsPieces}
-use Rattle.forward.specs.Filter.{FilterRules}
 use Rattle.programs.specs.Streams.{AllSent}
-use Rattle.piece_filter.specs.Pieces.{AnswersAll, Piecewise, piece_rules}
+use Rattle.piece_filter.specs.Pieces.{AnswersAll, Piecewise}
 use Rattle.piece_filter.specs.Puts.{IsRefused, Puts}
 use Rattle.piece_filter.specs.declared.answering.Answering.{Answering}
 
@@ -55,7 +54,3 @@ answering grammar Answers = record {
   sent = λ s. (s.sent ≡ true) × AllSent s.target;
   refused = λ e t. IsRefused e t.target;
 }
-
-abbrev pub answering_rules : {R D X A W : Type 0} → (R → Option (List ℕ)) → (D → Grammar X)
-    → (A → List ℕ → List ℕ → A → Type 0) → FilterRules (Answering R D W A X) X
-answering_rules remaining grammar Answers = piece_rules remaining (answering grammar Answers)

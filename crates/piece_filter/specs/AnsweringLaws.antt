@@ -4,8 +4,8 @@ use Rattle.piece_reader.specs.Grammar.{Grammar}
 use Rattle.piece_reader.specs.NextPiece.{empties}
 use Rattle.piece_reader.specs.PieceReader.{ReaderState}
 use Rattle.forward.specs.Filter.{IsLawful}
-use Rattle.piece_filter.specs.Answering.{IsWrong, answering, answering_rules}
-use Rattle.piece_filter.specs.Pieces.{IsSound}
+use Rattle.piece_filter.specs.Answering.{IsWrong, answering}
+use Rattle.piece_filter.specs.Pieces.{IsSound, piece_rules}
 use Rattle.piece_filter.specs.PiecesLaws.{piece_lawful}
 
 wrong_after : {R D X : Type 0} (g : Grammar X) (a b c : ReaderState R D) (why : X) → empties a.reader ≤ empties b.reader
@@ -30,5 +30,5 @@ module _ {R D X A W : Type 0} (grammar : D → Grammar X) (Answers : A → List 
     all_sent = λ s sent. sent.1;
   }
 
-  pub answering_lawful : (remaining : R → Option (List ℕ)) → IsLawful (answering_rules {W = W} remaining grammar Answers)
+  pub answering_lawful : (remaining : R → Option (List ℕ)) → IsLawful (piece_rules remaining (answering {W = W} grammar Answers))
   answering_lawful remaining = piece_lawful remaining (answering grammar Answers) answering_sound

@@ -43,10 +43,6 @@ AnswersAll {A} Answers a (payload ∷ payloads) reply b =
     (between : A) × (first : List ℕ) × (more : List ℕ) × Answers a payload first between
     × AnswersAll Answers between payloads more b × (reply ≡ first ++ more)
 
--- each payload is answered so, whatever came before
-abbrev pub Coded : (List ℕ → List ℕ) → Unit {0} → List ℕ → List ℕ → Unit {0} → Type 0
-Coded coded a payload reply b = reply ≡ coded payload
-
 -- the payload that is held, where one is
 abbrev pub held_at : {R D : Type 0} → ReaderState R D → Option Span → List (List ℕ)
 held_at m (Some span) = bytes_at span m.reader.block.bytes ∷ []

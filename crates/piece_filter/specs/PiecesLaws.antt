@@ -14,7 +14,7 @@ use Rattle.forward.specs.Filter.{AsksSent, FilterRules, IsLawful, Moves, StaysOp
 use Rattle.forward.specs.Prompt.{AskedLast}
 use Rattle.forward.specs.PromptLaws.{AskedLast-after}
 use Rattle.programs.specs.TakenIn.{sent_all, taken_more}
-use Rattle.piece_filter.specs.Pieces.{AnswersAll, Coded, HandsPieces, IsSound, IsText, PiecesEnd, Piecewise, TakesPieces, grammar_of, held_at, held_of, piece_rules}
+use Rattle.piece_filter.specs.Pieces.{AnswersAll, HandsPieces, IsSound, IsText, PiecesEnd, Piecewise, TakesPieces, grammar_of, held_at, held_of, piece_rules}
 
 -- from an empty buffer on, what was given is what was handed out, and what is left
 pub given_since : {S D : Type 0} (s t : ReaderState S D) (bytes : List ℕ) → s.reader.block.bytes ≡ [] → HandsBytes s bytes t
@@ -41,7 +41,7 @@ module _ {A : Type 0} (Answers : A → List ℕ → List ℕ → A → Type 0) w
 
 -- what is written for payloads whatever came before
 pub coded_all : (coded : List ℕ → List ℕ) (a b : Unit {0}) (p : List (List ℕ)) (reply : List ℕ)
-    → AnswersAll (Coded coded) a p reply b → reply ≡ flat_map coded p
+    → AnswersAll (λ _ payload reply _. reply ≡ coded payload) a p reply b → reply ≡ flat_map coded p
 coded_all coded a b [] reply is = is.0
 coded_all coded a b (payload ∷ p) reply (m, first, more, is, all, equal) =
     equal ∙ ap (λ l. l ++ more) is ∙ ap (λ l. coded payload ++ l) (coded_all coded m b p more all)

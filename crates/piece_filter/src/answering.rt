@@ -3,9 +3,9 @@ ghost use Rattle.std.specs.Prelude.{◌≡◌, ◌<◌, [], ℕ, List, length, S
 ghost use Rattle.forward.specs.Filter.{Passes};
 ghost use Rattle.piece_reader.specs.Grammar.{IsOpen};
 ghost use Rattle.piece_reader.specs.PieceReader.{IsPieceReader, rest};
-ghost use Rattle.piece_filter.specs.Answering.{Answered, answering, answering_rules};
+ghost use Rattle.piece_filter.specs.Answering.{Answered, answering};
 ghost use Rattle.piece_filter.specs.AnsweringLaws.{answering_lawful};
-ghost use Rattle.piece_filter.specs.Pieces.{IsReady};
+ghost use Rattle.piece_filter.specs.Pieces.{IsReady, piece_rules};
 
 use buffer_redux::BufWriter;
 use buffer_redux::tell::{TellRead, TellWrite};
@@ -49,7 +49,7 @@ impl<R: TellRead, D: Decoder, W: TellWrite, S: Answer> Answering<R, D, W, S> {
         requires unread { source.reader.block.bytes ≡ [] }
         requires unwritten { target.block.bytes ≡ [] }
         ensures ready { IsReady (answering D.grammar S.answers) result }
-        ensures fresh { (answering_rules R.remaining D.grammar S.answers).fresh result }
+        ensures fresh { (piece_rules R.remaining (answering D.grammar S.answers)).fresh result }
         ensures source { result.source ≡ source }
         ensures target { result.target ≡ target }
         ensures service { result.service ≡ service }
@@ -67,7 +67,7 @@ impl<R: TellRead, D: Decoder, W: TellWrite, S: Answer> Answering<R, D, W, S> {
 impl<R: TellRead, D: Decoder, W: TellWrite, S: Answer> Filter for Answering<R, D, W, S> {
     type Wrong = D::Wrong;
 
-    ghost rules = { answering_rules R.remaining D.grammar S.answers };
+    ghost rules = { piece_rules R.remaining (answering D.grammar S.answers) };
 
     #[inline(always)]
     fn pass(&mut self) -> io::Result<bool> {
@@ -130,7 +130,7 @@ fn pass_held<R: TellRead, D: Decoder, W: TellWrite, S: Answer>(
 ) -> io::Result<bool>
     requires ready { IsReady (answering D.grammar S.answers) filter.old }
     requires held { filter.old.held ≡ Some span }
-    ensures { Passes (answering_rules R.remaining D.grammar S.answers) filter.old result filter.new }
+    ensures { Passes (piece_rules R.remaining (answering D.grammar S.answers)) filter.old result filter.new }
 {
     let payload = filter.source.lent(span);
     match filter.service.answer(payload, &mut filter.target) {

@@ -11,13 +11,10 @@ pub record FailsSo (failed : Ending) (e : Error) (ending : Ending) : Type 0 wher
   pub memory : error_kind e ≡ OutOfMemory → ending ≡ Memory
   pub other : error_kind e ≢ OutOfMemory → ending ≡ failed
 
-abbrev pub FailsAs : Error → Ending → Type 0
-FailsAs e ending = FailsSo Failed e ending
-
 -- how a run ends that returned this
 abbrev pub EndsAs : {T : Type 0} → Result T Error → Ending → Type 0
 EndsAs (Ok _) ending = ending ≡ Done
-EndsAs (Err e) ending = FailsAs e ending
+EndsAs (Err e) ending = FailsSo Failed e ending
 
 -- the status that the process ends with
 abbrev pub status_of : Ending → ℕ

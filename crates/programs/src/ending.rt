@@ -24,7 +24,7 @@ pub enum Ending {
 }
 
 impl Ending {
-    ghost use Rattle.programs.specs.Ending.{EndsAs, FailsAs, FailsSo, status_of};
+    ghost use Rattle.programs.specs.Ending.{EndsAs, FailsSo, status_of};
 
     /// How a run ends that returned this.
     pub fn of<T>(answer: &io::Result<T>) -> Ending
@@ -38,7 +38,7 @@ impl Ending {
 
     /// How a run ends that failed with this error.
     pub fn of_fault(e: &io::Error) -> Ending
-        ensures { FailsAs e.now result }
+        ensures { FailsSo Ending.Failed e.now result }
     {
         Ending::of_fault_or(e, Ending::Failed)
     }

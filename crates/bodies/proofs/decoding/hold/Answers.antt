@@ -6,7 +6,8 @@ pub returns-then-filter-eq0 : goal.returns-then-filter-eq0
 returns-then-filter-eq0 g c =
     let read = c.read_held-filter in
     held_on g.R.TellRead.remaining c.args.filter.now c.requires c.if-filter-eq0.true read.new.source read.new.piece
-    (read.auto.piece ∙ ap length c.as_mut_slice.ensures.value) read.result read.ensures
+    (read.auto.piece ∙ ap length c.as_mut_slice.ensures.value) read.result read.ensures.went
+    read.ensures.told read.ensures.bound read.ensures.whole
 
 pub returns-else-filter-eq0 : goal.returns-else-filter-eq0
 returns-else-filter-eq0 g c = held_still g.R.TellRead.remaining c.args.filter.now c.requires

@@ -19,12 +19,12 @@ read_each-read-requires c =
     let has : HasLines text lines =
     subst (λ l. HasLines l lines) (sym c.requires.text) (Lines-with_ends lines (all_plain max lines c.requires.fit)) in
     record {
-      left = record {
-        has = IsFresh-left _ (lined f.decoder.max) _ 8192 (1 + max) c.new.result f.decoder f text lines made.made
+      left = (
+        IsFresh-left _ (lined f.decoder.max) _ 8192 (1 + max) c.new.result f.decoder f text lines made.made
             (ap (λ l. Some l) c.new.ensures.bytes)
-            (pieces_of f.decoder.max text lines has (subst (λ n. All (FitsLine n) lines) (sym made.max) c.requires.fit));
-        open' = made.going;
-      };
+            (pieces_of f.decoder.max text lines has (subst (λ n. All (FitsLine n) lines) (sym made.max) c.requires.fit)),
+        made.going,
+      );
     }
 
 pub returns-clause-refused : goal.returns-clause-refused

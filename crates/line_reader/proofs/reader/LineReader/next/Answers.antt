@@ -2,7 +2,7 @@ use Rattle.std.proofs.Common.{Ok, Err, Some, None, refl, subst, sym}
 use Rattle.std.proofs.lemmas.Result.{err_from_is_err_and}
 use Rattle.piece_reader.specs.NextPiece.{load_answer}
 use Rattle.line_reader.specs.NextLine.{NextBuffered, NextLine}
-use Rattle.line_reader.proofs.Going.{NextLine-fits, NextLine-found, NextLine-looked, NextLine-ready, NextLine-told, NextLine-too_long}
+use Rattle.line_reader.proofs.Going.{NextLine-fits, NextLine-found, NextLine-looked, NextLine-says}
 use Rattle.line_reader.proofs.reader.LineReader.next.Goals as goal
 
 pub returns-in-Some : goal.returns-in-Some
@@ -16,13 +16,7 @@ returns-in-Some g c =
     NextLine-found remaining s t found
     (subst (λ l. NextBuffered remaining s (Some l) t) (sym c.lent.ensures) c.in-Some.ensures.next) in (
       (refl, (λ _. tt), next),
-      record {
-        after_borrow = tt;
-        fits = NextLine-fits remaining s t found next;
-        ready = NextLine-ready remaining s t (Ok (Some found)) whole next;
-        too_long = NextLine-too_long remaining s t (Ok (Some found)) whole next;
-        ended = NextLine-told remaining s t (Ok (Some found)) whole next;
-      },
+      NextLine-says remaining s t (Ok (Some found)) whole next _ (NextLine-fits remaining s t found next),
     )
 
 pub returns-in_err-span : goal.returns-in_err-span
@@ -37,13 +31,7 @@ returns-in_err-span g c =
     let p = err_from_is_err_and c.from_residual.result c.from_residual.ensures.1 in
     rw (p.1, p.2) (
       (refl, (λ _. tt), next),
-      record {
-        after_borrow = tt;
-        fits = tt;
-        ready = NextLine-ready remaining s t (Err e) whole next;
-        too_long = NextLine-too_long remaining s t (Err e) whole next;
-        ended = NextLine-told remaining s t (Err e) whole next;
-      },
+      NextLine-says remaining s t (Err e) whole next _ tt,
     )
 
 pub returns-in-Some-2 : goal.returns-in-Some-2
@@ -59,13 +47,7 @@ returns-in-Some-2 g c =
     subst (λ l. NextLine remaining s (Ok (Some l)) t) (sym c.lent-in-Some-2.ensures)
     (subst (λ o. NextLine remaining s (load_answer (Ok o) t.pieces) t) c.in-Some-2.is loads) in (
       (refl, (λ _. tt), next),
-      record {
-        after_borrow = tt;
-        fits = NextLine-fits remaining s t found next;
-        ready = NextLine-ready remaining s t (Ok (Some found)) whole next;
-        too_long = NextLine-too_long remaining s t (Ok (Some found)) whole next;
-        ended = NextLine-told remaining s t (Ok (Some found)) whole next;
-      },
+      NextLine-says remaining s t (Ok (Some found)) whole next _ (NextLine-fits remaining s t found next),
     )
 
 pub returns-in-None : goal.returns-in-None
@@ -79,11 +61,5 @@ returns-in-None g c =
     let next : NextLine remaining s (Ok None) t =
     subst (λ o. NextLine remaining s (load_answer (Ok o) t.pieces) t) c.in-None.is loads in (
       (refl, (λ _. tt), next),
-      record {
-        after_borrow = tt;
-        fits = tt;
-        ready = NextLine-ready remaining s t (Ok None) whole next;
-        too_long = NextLine-too_long remaining s t (Ok None) whole next;
-        ended = NextLine-told remaining s t (Ok None) whole next;
-      },
+      NextLine-says remaining s t (Ok None) whole next _ tt,
     )
