@@ -95,11 +95,12 @@ module _ {S P : Type 0} (tells : S → StreamLog) (trace : S → S → Type 0) (
   put_along s t bytes p = block_along s t bytes p.others p.added (omega (arith, p.capacity)) p.kind
 
   -- where they fit nothing else is done
-  pub parts_fit : (s t : Buffered S P) (bytes : List ℕ) → PutsIn s bytes t → WritesParts tells trace s bytes (Ok tt) t
-  parts_fit s t bytes p = record {
+  pub parts_fit : (s t : Buffered S P) (bytes : List ℕ) → length bytes ≤ usable s.block → PutsIn s bytes t
+      → WritesParts tells trace s bytes (Ok tt) t
+  parts_fit s t bytes fit p = record {
     along = put_along s t bytes p;
     fits = λ _. (refl, ap (λ x. x.log) p.others);
-    calls = inl (ap (λ x. x.log) p.others);
+    full = λ few. absurd (omega (arith, few, fit));
     caused = tt;
     whole = p.whole;
   }
@@ -149,7 +150,7 @@ module _ {S P : Type 0} (tells : S → StreamLog) (trace : S → S → Type 0) (
     capacity = le_refl _;
     kind = refl;
     room = tt;
-    unsent = λ why is. (let same : ◌≡◌ {A = Result (Unit {0}) Error} (Err e) (Err why) = is in let back : why ≡ e = cc in back);
+    unsent = λ why is. is;
     refused = λ x is. (let odd : ◌≡◌ {A = Result (Unit {0}) Error} (Err e) (Ok x) = is in cc);
     whole = sent.whole;
   }
@@ -170,7 +171,7 @@ module _ {S P : Type 0} (tells : S → StreamLog) (trace : S → S → Type 0) (
       along = WritesAlong-joins tells trace std_write_rules joins s m t [] bytes (place_along s m count (Ok tt) p)
           (put_along m t bytes put);
       fits = λ fit. absurd (omega (arith, fit, few));
-      calls = inr (p.sending, p.left, p.sent, ap (λ x. x.log) put.others ∙ ap (λ x. x.log) p.others);
+      full = λ _. (p.sending, p.left, p.sent, ap (λ x. x.log) put.others ∙ ap (λ x. x.log) p.others, p.unsent);
       caused = tt;
       whole = put.whole;
     }
@@ -181,7 +182,7 @@ module _ {S P : Type 0} (tells : S → StreamLog) (trace : S → S → Type 0) (
     parts_failed s t count bytes e few within p = record {
       along = place_along s t count (Err e) p;
       fits = λ fit. absurd (omega (arith, fit, few));
-      calls = inr (p.sending, p.left, p.sent, ap (λ x. x.log) p.others);
+      full = λ _. (p.sending, p.left, p.sent, ap (λ x. x.log) p.others, p.unsent);
       caused = failed p.sending refl;
       whole = p.whole;
     }
@@ -190,7 +191,7 @@ module _ {S P : Type 0} (tells : S → StreamLog) (trace : S → S → Type 0) (
             → SendErrorCaused s.log.writes t.log.writes e ⊎ ((n : ℕ) × (n ≤ length bytes) × GrowthFailed n t.block e)
         failed (Ok x) is = inr (count, within, p.refused x is)
         failed (Err why) is =
-            let same = p.unsent why is in
+            let same : why ≡ e = (let back : ◌≡◌ {A = Result (Unit {0}) Error} (Err e) (Err why) = p.unsent why is in cc) in
             let cause : SendErrorCaused s.log.writes p.left.log.writes why =
             subst (λ a. IfErr a (λ e. SendErrorCaused s.log.writes p.left.log.writes e)) is p.sent.caused in
             inl (subst (λ x. SendErrorCaused s.log.writes x.log.writes e) (sym p.others)

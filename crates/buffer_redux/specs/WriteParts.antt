@@ -1,5 +1,5 @@
 -- What is copied into a writer where it fits, and what a write of parts does.
-use Rattle.std.specs.Prelude.{◌≡◌, ℕ, ◌-◌, ◌≤◌, ◌⊎◌, List, [], ◌++◌, length, Result, Ok, Err, MatchResult, IfErr, IsOk, OnOk}
+use Rattle.std.specs.Prelude.{◌≡◌, ℕ, ◌-◌, ◌<◌, ◌≤◌, ◌⊎◌, List, [], ◌++◌, length, Result, Ok, Err, MatchResult, IfErr, IsOk, OnOk}
 use Rattle.std.specs.declared.io.Error.{Error}
 use Rattle.redux_buffer.specs.Block.{IsBlock, usable}
 use Rattle.redux_buffer.specs.Faults.{SendErrorCaused}
@@ -45,9 +45,15 @@ module _ {S P : Type 0} (tells : S → StreamLog) (trace : S → S → Type 0) w
     pub capacity : left.block.capacity ≤ t.block.capacity
     pub kind : t.block.kind ≡ left.block.kind
     pub room : OnOk answer (count ≤ usable t.block)
-    pub unsent : (e : Error) → sending ≡ Err e → IfErr answer (λ why. e ≡ why)
+    pub unsent : (e : Error) → sending ≡ Err e → answer ≡ Err e
     pub refused : (x : Unit {0}) → sending ≡ Ok x → IfErr answer (λ e. GrowthFailed count t.block e)
     pub whole : IsBlock t.block
+
+  -- what was buffered was sent, once, and nothing else; where that failed, so did this answer
+  abbrev pub SentBefore : Buffered S P → Result (Unit {0}) Error → Buffered S P → Type 0
+  SentBefore s answer t =
+      (sending : Result (Unit {0}) Error) × (left : Buffered S P) × WasSent tells trace s sending left × (t.log ≡ left.log)
+      × ((e : Error) → sending ≡ Err e → answer ≡ Err e)
 
   -- all of these bytes were taken in, or nothing was; where they fit the inner writer isn't called, and else what was buffered
   -- is sent, once
@@ -55,8 +61,6 @@ module _ {S P : Type 0} (tells : S → StreamLog) (trace : S → S → Type 0) w
     pub along : MatchResult answer (λ _. WritesAlong tells trace std_write_rules s bytes t)
         (λ e. WritesAlong tells trace std_write_rules s [] t)
     pub fits : length bytes ≤ usable s.block → IsOk answer × (t.log ≡ s.log)
-    pub calls : (t.log ≡ s.log)
-        ⊎ ((sending : Result (Unit {0}) Error) × (left : Buffered S P)
-        × WasSent tells trace s sending left × (t.log ≡ left.log))
+    pub full : usable s.block < length bytes → SentBefore s answer t
     pub caused : IfErr answer (λ e. PartsRefused (length bytes) s e t)
     pub whole : IsBlock t.block

@@ -1,5 +1,7 @@
 -- How all of some bytes is taken in, or nothing.
-use Rattle.std.proofs.Common.{◌≡◌, ℕ, ◌+◌, ◌≤◌, ◌⊎◌, inl, inr, List, [], ◌++◌, length, min, Result, Ok, Err, refl, sym, ap, subst, ◌∙◌, arith}
+use Rattle.std.proofs.Common.{◌≡◌, ℕ, ◌+◌, ◌<◌, ◌≤◌, ◌⊎◌, inl, inr, List, [], ◌++◌, length, min, Result, Ok, Err, IsOk, OnOk, refl, sym, ap, subst, ◌∙◌, arith, append-nil}
+use Rattle.std.proofs.lemmas.Bool.{cases_lt}
+use Rattle.std.proofs.lemmas.List.{append_cancel_left}
 use Rattle.std.specs.declared.io.Error.{Error}
 use Rattle.buffer_redux.specs.Block.{MakesRoom, usable}
 use Rattle.buffer_redux.specs.BufWriter.{WasSent, WritesInOrder}
@@ -23,17 +25,24 @@ module _ {W : Type 0} (tells : W → StreamLog) (trace : W → W → Type 0) (s 
     refused e (inl caused) = inl (SendErrorCaused-after s.log.writes m.log.writes t.log.writes e met caused)
     refused e (inr (more, few, failed)) = inr (more, failed)
 
-    pub puts : (answer : Result (Unit {0}) Error) → WritesParts tells trace m bytes answer t → Puts s bytes answer t
-    puts (Ok _) p = record {
+    pub puts : (answer : Result (Unit {0}) Error)
+        → (length s.block.bytes + length bytes ≤ s.block.capacity → IsOk answer × (t.log ≡ s.log))
+        → (s.block.capacity < length s.block.bytes + length bytes → OnOk answer (t.block.bytes ≡ bytes))
+        → WritesParts tells trace m bytes answer t → Puts s bytes answer t
+    puts (Ok _) fits full p = record {
       taken = WritesInOrder-joins s m t [] bytes order p.along.in_order;
       met = met_still;
+      fits = fits;
+      full = full;
       caused = tt;
       not_flushed = ap (λ l. l.writes.flushed) told ∙ not_flushed;
       flushes = ap (λ l. l.writes.flushes) told ∙ flushes;
     }
-    puts (Err e) p = record {
+    puts (Err e) fits full p = record {
       taken = WritesInOrder-joins s m t [] [] order p.along.in_order;
       met = tt;
+      fits = fits;
+      full = full;
       caused = refused e p.caused;
       not_flushed = ap (λ l. l.writes.flushed) told ∙ not_flushed;
       flushes = ap (λ l. l.writes.flushes) told ∙ flushes;
@@ -45,23 +54,40 @@ module _ {W : Type 0} (tells : W → StreamLog) (trace : W → W → Type 0) (s 
       → WritesParts tells trace m bytes answer t → Puts s bytes answer t
   puts_fitting m order others room fits answer p =
       let same = ap (λ x. x.log) others in
+      let there = p.fits (omega (arith, fits, room.usable)) in
       puts m order (subst (λ l. MetInterrupts s.log.writes l.writes) (sym same) (MetInterrupts-none s.log.writes))
-      (ap (λ l. l.writes.flushed) same) (ap (λ l. l.writes.flushes) same) (p.fits (omega (arith, fits, room.usable))).1 answer p
+      (ap (λ l. l.writes.flushed) same) (ap (λ l. l.writes.flushes) same) there.1 answer (λ _. (there.0, there.1 ∙ same))
+      (λ few. absurd (omega (arith, fits, few))) p
 
   -- all was sent, and room was made
   pub puts_sent : (u m : Buffered W StdPolicy) → WasSent tells trace s (Ok tt) u → WritesInOrder u [] m → m ≡ with_block u m.block
-      → MakesRoom u.block m.block → (answer : Result (Unit {0}) Error) → WritesParts tells trace m bytes answer t
-      → Puts s bytes answer t
-  puts_sent u m sent order others room answer p =
+      → MakesRoom u.block m.block → s.block.capacity < length s.block.bytes + length bytes
+      → (answer : Result (Unit {0}) Error) → WritesParts tells trace m bytes answer t → Puts s bytes answer t
+  puts_sent u m sent order others room few answer p =
       let same = ap (λ x. x.log) others in
-      let none = ap length room.bytes ∙ ap length sent.ok.empty in
       puts m (WritesInOrder-joins s u m [] [] sent.in_order order)
       (subst (λ l. MetInterrupts s.log.writes l.writes) (sym same) sent.ok.met)
       (ap (λ l. l.writes.flushed) same ∙ sent.not_flushed) (ap (λ l. l.writes.flushes) same ∙ sent.sends.sent.flushes)
-      (elim p.calls [
-        | inl told ↦ told
-        | inr (sending, left, again, told) ↦ told ∙ again.sends.idle (idle (length m.block.bytes) none)
-      ]) answer p
+      told answer (λ fit. absurd (omega (arith, fit, few))) (λ _. kept answer p) p
     where
+      empty : m.block.bytes ≡ []
+      empty = room.bytes ∙ sent.ok.empty
+
       idle : (n : ℕ) → n ≡ 0 → min n n ≡ 0
       idle n none = rw none refl
+
+      told : t.log ≡ m.log
+      told = elim (cases_lt (usable m.block) (length bytes)) [
+        | inl few ↦
+            let (sending, left, again, told, failed) = p.full few in
+            told ∙ again.sends.idle (idle (length m.block.bytes) (ap length empty))
+        | inr fit ↦ (p.fits fit).1
+      ]
+
+      kept : (answer : Result (Unit {0}) Error) → WritesParts tells trace m bytes answer t → OnOk answer (t.block.bytes ≡ bytes)
+      kept (Ok _) p =
+          let order = p.along.in_order in
+          let none : order.sent ≡ [] = append_cancel_left m.log.writes.received order.sent []
+          (sym order.received ∙ ap (λ l. l.writes.received) told ∙ sym (append-nil m.log.writes.received)) in
+          ap (λ l. l ++ t.block.bytes) (sym none) ∙ order.equal ∙ ap (λ l. l ++ bytes) empty
+      kept (Err e) p = tt

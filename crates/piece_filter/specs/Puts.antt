@@ -1,5 +1,5 @@
 -- Bytes that a buffered writer takes in, all of them or none.
-use Rattle.std.specs.Prelude.{◌≡◌, ℕ, ◌⊎◌, List, [], Result, MatchResult, IfErr, OnOk}
+use Rattle.std.specs.Prelude.{◌≡◌, ℕ, ◌+◌, ◌<◌, ◌≤◌, ◌⊎◌, List, [], length, Result, MatchResult, IfErr, IsOk, OnOk}
 use Rattle.std.specs.declared.io.Error.{Error}
 use Rattle.buffer_redux.specs.BufWriter.{WritesInOrder}
 use Rattle.buffer_redux.specs.Buffered.{Buffered}
@@ -11,11 +11,14 @@ use Rattle.buffer_redux.specs.declared.policy.StdPolicy.{StdPolicy}
 abbrev pub IsRefused : {W P : Type 0} → Error → Buffered W P → Type 0
 IsRefused e t = (more : ℕ) × GrowthFailed more t.block e
 
--- all of these bytes were taken in, or nothing, and nothing was flushed
+-- all of these bytes were taken in, or nothing, and nothing was flushed. Where they fit the inner writer isn't called, and else
+-- what was buffered is sent first
 pub record Puts {W : Type 0} (s : Buffered W StdPolicy) (bytes : List ℕ) (answer : Result (Unit {0}) Error)
     (t : Buffered W StdPolicy) : Type 0 where
   pub taken : MatchResult answer (λ _. WritesInOrder s bytes t) (λ e. WritesInOrder s [] t)
   pub met : OnOk answer (MetInterrupts s.log.writes t.log.writes)
+  pub fits : length s.block.bytes + length bytes ≤ s.block.capacity → IsOk answer × (t.log ≡ s.log)
+  pub full : s.block.capacity < length s.block.bytes + length bytes → OnOk answer (t.block.bytes ≡ bytes)
   pub caused : IfErr answer (λ e. SendErrorCaused s.log.writes t.log.writes e ⊎ IsRefused e t)
   pub not_flushed : t.log.writes.flushed ≡ s.log.writes.flushed
   pub flushes : t.log.writes.flushes ≡ s.log.writes.flushes

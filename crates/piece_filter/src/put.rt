@@ -1,6 +1,6 @@
 //! Bytes that are taken in, all of them or none.
-ghost use Rattle.std.specs.Prelude.{◌+◌, ◌≤◌, ◌++◌, length};
-ghost use Rattle.std.specs.Bool.{OnFalse};
+ghost use Rattle.std.specs.Prelude.{◌+◌, ◌<◌, ◌≤◌, ◌++◌, length};
+ghost use Rattle.std.specs.Bool.{OnFalse, OnTrue};
 ghost use Rattle.piece_filter.specs.Puts.{Puts};
 
 use buffer_redux::BufWriter;
@@ -30,7 +30,8 @@ pub fn put_both<W: TellWrite>(
 // Whether so many bytes, and then so many, don't fit behind what is buffered, once that stands at the front.
 #[inline(always)]
 fn lacks_room<W: TellWrite>(writer: &BufWriter<W>, first: usize, second: usize) -> bool
-    ensures { OnFalse result (length writer.now.block.bytes + (first + second) ≤ writer.now.block.capacity) }
+    ensures fits { OnFalse result (length writer.now.block.bytes + (first + second) ≤ writer.now.block.capacity) }
+    ensures full { OnTrue result (writer.now.block.capacity < length writer.now.block.bytes + (first + second)) }
 {
     let room = writer.capacity() - writer.buf_len();
     room < first || room - first < second

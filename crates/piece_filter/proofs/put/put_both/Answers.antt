@@ -22,12 +22,14 @@ returns g c =
       | then-lacks_room+in_default w ↦
           puts_sent g.W.Tell.log g.W.TellWrite.trace s t bytes u m
           (subst (WasSent g.W.Tell.log g.W.TellWrite.trace s (Ok tt)) (sym w.writer-is) w.in_default.ensures.sent)
-          made.in_order made.others made.room c.write_parts.result parts
+          made.in_order made.others made.room
+          (omega (arith, rw w.if-lacks_room.true at c.lacks_room.ensures.full, length-append c.args.first.now c.args.second.now))
+          c.write_parts.result parts
       | else-lacks_room w ↦
           puts_fitting g.W.Tell.log g.W.TellWrite.trace s t bytes m
           (subst (λ u. WritesInOrder u [] m) w.writer-is made.in_order)
           (subst (λ u. m ≡ with_block u m.block) w.writer-is made.others)
           (subst (λ u. MakesRoom u.block m.block) w.writer-is made.room)
-          (omega (arith, rw w.if-lacks_room.false at c.lacks_room.ensures, length-append c.args.first.now c.args.second.now))
+          (omega (arith, rw w.if-lacks_room.false at c.lacks_room.ensures.fits, length-append c.args.first.now c.args.second.now))
           c.write_parts.result parts
     ]

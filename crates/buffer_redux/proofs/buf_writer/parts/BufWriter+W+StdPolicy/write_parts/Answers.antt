@@ -14,7 +14,9 @@ append_parts-requires-in-Ok-clause-room g c =
     (omega (arith, c.in-Ok.ensures.room, ap (λ x. usable x.block) c.self-2.view_is))
 
 pub returns-then-usable_space-len : goal.returns-then-usable_space-len
-returns-then-usable_space-len g c = parts_fit _ _ g.met.W.TellWrite.trace_none c.args.self.now _ _
+returns-then-usable_space-len g c = parts_fit _ _ g.met.W.TellWrite.trace_none c.args.self.now _ (all_of c.args.parts.now)
+    (rw (← c.self.view_is) (fits_of c.self.inside.buf c.usable_space.ensures.whole (length (all_of c.args.parts.now))
+    c.total-len.result c.total-len.ensures (omega (arith, c.if-usable_space-len.true, c.usable_space.ensures.value))))
     (rw (← c.self.view_is) (record {
       others = refl;
       added = c.append_parts.ensures.bytes;
