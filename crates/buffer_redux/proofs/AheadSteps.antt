@@ -77,11 +77,10 @@ room_made more s t few fits room order others = record {
 -- room is made where it lacks
 pub makes_room : {S P : Type 0} (more : ℕ) (s t : Buffered S P) → length s.block.bytes + more ≤ s.block.capacity
     → (more ≤ usable s.block → t ≡ s)
-    → (usable s.block < more → MakesRoom s.block t.block × MovesToFront s.block t.block × ReadsInOrder s [] t
-    × (t ≡ with_block s t.block))
+    → (usable s.block < more → MakesRoom s.block t.block × ReadsInOrder s [] t × (t ≡ with_block s t.block))
     → MakesRoomFor more s t
 makes_room more s t fits enough lacking = elim (cases_lt (usable s.block) more) [
-  | inl few ↦ (let made = lacking few in room_made more s t few fits made.0 made.1 made.2 made.3)
+  | inl few ↦ (let made = lacking few in room_made more s t few fits made.0 made.1 made.2)
   | inr many ↦ subst (MakesRoomFor more s) (sym (enough many)) (room_there more s many)
 ]
 

@@ -2,7 +2,7 @@
 ghost use Rattle.std.specs.Prelude.{◌≡◌, ◌+◌, ◌<◌, ◌≤◌, [], length, min, take, IfOk};
 ghost use Rattle.std.specs.Borrow.{sem};
 ghost use Rattle.std.specs.Io.BufRead.{Rests};
-ghost use Rattle.redux_buffer.specs.Block.{MakesRoom, MovesToFront, usable};
+ghost use Rattle.redux_buffer.specs.Block.{MakesRoom, usable};
 ghost use Rattle.buffer_redux.specs.BufReader.{ReadsInOrder};
 ghost use Rattle.buffer_redux.specs.Buffered.{with_block};
 ghost use Rattle.buffer_redux.specs.contracts.buf_reader.BufReader.{the_row};
@@ -132,8 +132,7 @@ impl<R: TellRead, P: ReaderPolicy> BufReader<R, P> {
         requires fits { length self.old.block.bytes + more ≤ self.old.block.capacity }
         ensures enough { more ≤ usable self.old.block → self.new ≡ self.old }
         ensures lacking { usable self.old.block < more → MakesRoom self.old.block self.new.block
-            × MovesToFront self.old.block self.new.block × ReadsInOrder self.old [] self.new
-            × (self.new ≡ with_block self.old self.new.block) }
+            × ReadsInOrder self.old [] self.new × (self.new ≡ with_block self.old self.new.block) }
     {
         if self.buf.usable_space() < more {
             self.make_room();
