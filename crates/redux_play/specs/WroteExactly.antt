@@ -3,7 +3,7 @@ use Rattle.std.specs.Prelude.{◌≡◌, ℕ, ◌-◌, ◌<◌, ◌≤◌, List,
 use Rattle.std.proofs.Common.{refl, sym, ap, subst, ◌∙◌, arith, rules, inl, inr, length-append}
 use Rattle.std.proofs.lemmas.Bool.{cases_lt, lt-ltb, le-ltb}
 use Rattle.std.specs.declared.io.Error.{Error}
-use Rattle.redux_buffer.specs.Block.{Block, usable}
+use Rattle.redux_buffer.specs.Block.{usable}
 use Rattle.redux_buffer.specs.Faults.{SendErrorCaused}
 use Rattle.redux_buffer.specs.StreamLog.{WriteLog, after_write, with_zero}
 use Rattle.buffer_redux.specs.Policy.{WriteRules}
