@@ -2,7 +2,7 @@
 use Rattle.std.proofs.Common.{◌≡◌, ℕ, zero, suc, ◌+◌, ◌<◌, ◌≤◌, ◌==◌, true, List, [], ◌∷◌, ◌++◌, length, take, drop, slice_index, sym, ap, subst, ◌∙◌, arith, refl, append_assoc, length-append}
 use Rattle.std.proofs.lemmas.List.{take_at, drop_at, drop_more, take-append-drop}
 use Rattle.std.specs.List.{AllByRecursion}
-use Rattle.chunked.specs.Token.{IsToken, IsTokenByte, IsValueByte}
+use Rattle.chunked.specs.Token.{IsTokenByte, IsValueByte}
 use Rattle.chunked.specs.Body.{IsField}
 use Rattle.chunked.specs.FieldLaws.{token_plain}
 
@@ -28,15 +28,16 @@ name_ends (x ∷ name) value (suc end) all is before =
 
 -- what stands in front of it and behind it
 pub record Splits (line : List ℕ) (end : ℕ) : Type 0 where
-  pub token : IsToken (take end line)
+  pub token : AllByRecursion IsTokenByte (take end line) × (0 < length (take end line))
   pub all : AllByRecursion IsValueByte (drop (end + 1) line)
 
-split : (line name value : List ℕ) (end : ℕ) → line ≡ name ++ 58 ∷ value → IsToken name → AllByRecursion IsValueByte value
-    → length name ≡ end → Splits line end
+split : (line name value : List ℕ) (end : ℕ) → line ≡ name ++ 58 ∷ value → AllByRecursion IsTokenByte name × (0 < length name)
+    → AllByRecursion IsValueByte value → length name ≡ end → Splits line end
 split line name value end same token all ends =
     let long : length (name ++ 58 ∷ []) ≡ end + 1 = omega (arith, ends, length-append name (58 ∷ [])) in
     record {
-      token = subst IsToken (sym (ap (take end) same ∙ take_at name (58 ∷ value) end ends)) token;
+      token = subst (λ l. AllByRecursion IsTokenByte l × (0 < length l))
+          (sym (ap (take end) same ∙ take_at name (58 ∷ value) end ends)) token;
       all = subst (AllByRecursion IsValueByte)
           (sym (ap (drop (end + 1)) (same ∙ sym (append_assoc name (58 ∷ []) value))
           ∙ drop_at (name ++ 58 ∷ []) value (end + 1) long)) all;

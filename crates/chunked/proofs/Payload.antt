@@ -39,7 +39,8 @@ module _ {S P : Type 0} (remaining : S → Option (List ℕ)) (rules : ReadRules
     (given : later.reads.given ≡ calls.reads.given ++ handed) where
   pub still_is : IsChunkedReader (seen r' q later)
   still_is =
-      let joined = Leads-joins p.limits Line p.place q.place p.taken.log.fills.consumed wire calls.reads.given handed is.leads takes.leads in
+      let joined = Leads-joins p.limits Line p.place q.place p.taken.log.fills.consumed wire calls.reads.given handed is.leads
+      takes.leads in
       record {
         leads = subst (λ l. Leads l Line q.taken.log.fills.consumed later.reads.given q.place) (sym takes.limits)
             (subst (λ l. Leads p.limits Line l later.reads.given q.place) (sym takes.taken)

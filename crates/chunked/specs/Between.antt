@@ -76,14 +76,9 @@ TakesTurns rules limits zero s p t q = (s ≡ t) × (p ≡ q)
 TakesTurns {S} {P} rules limits (suc count) s p t q =
     (m : Buffered S P) × (r : Place) × TakesTurns rules limits count s p m r × TakesTurn rules limits m r t q
 
--- one fill, or one read into some room, with this answer
-abbrev pub AsksOnce : {S P : Type 0} → ReadRules P → Buffered S P → Result ℕ Error → Buffered S P → Type 0
-AsksOnce rules s answer t = Fills rules s answer t
-    ⊎ ((before : List ℕ) × (after : List ℕ) × (0 < length before) × Reads rules s before answer after t)
-
 -- the last call of the buffered reader, by the answer. Where none is handed out, and nothing is wrong, there is none. One that
 -- handed bytes out is a read that had for them all of so much room, or as much of it as the chunk still had bytes; an error has a
--- fill that shows the wrong byte, or the one ask that brought none or failed
+-- fill that shows the wrong byte, or the one ask that brought none or failed, by a fill or a read into some room
 abbrev pub LastCall : {S P : Type 0} → ReadRules P → Buffered S P → Place → ℕ → Result ℕ ChunkedError → Buffered S P → Place
     → Type 0
 LastCall rules s p room (Ok zero) t q = (s ≡ t) × (p ≡ q)
@@ -91,8 +86,10 @@ LastCall rules s p room (Ok (suc n)) t q =
     (before : List ℕ) × (after : List ℕ) × Reads rules s before (Ok (suc n)) after t
     × ((left : ℕ) × (q ≡ Data left) × (length before ≡ min room (left + suc n)))
 LastCall rules s p room (Err (NotChunked why count)) t q = (n : ℕ) × FillsAndTakes rules n s t
-LastCall rules s p room (Err (Truncated count)) t q = AsksOnce rules s (Ok 0) t
-LastCall rules s p room (Err (Io e)) t q = AsksOnce rules s (Err e) t
+LastCall rules s p room (Err (Truncated count)) t q = Fills {A = ℕ} rules s (Ok 0) t
+    ⊎ ((before : List ℕ) × (after : List ℕ) × (0 < length before) × Reads rules s before (Ok 0) after t)
+LastCall rules s p room (Err (Io e)) t q = Fills {A = ℕ} rules s (Err e) t
+    ⊎ ((before : List ℕ) × (after : List ℕ) × (0 < length before) × Reads rules s before (Err e) after t)
 
 -- how the buffered reader was called: by turns that took what is no payload, and then, unless the body ended there, by the last
 -- call
@@ -111,8 +108,8 @@ FailsSo rules s (NotChunked why count) t q = NoFault s t × (count ≡ q.count) 
 FailsSo rules s (Truncated count) t q = NoFault s t × (count ≡ q.count) × (q.place ≢ Done) × NothingCame rules s t
 FailsSo rules s (Io e) t q = Faulted rules s e t
 
--- what taking all of that does, and handing nothing out; how the buffered reader is called so doesn't depend on the room that there
--- is for payload
+-- what taking all of that does, and handing nothing out; how the buffered reader is called so doesn't depend on the room that
+-- there is for payload
 pub record Skips {S P : Type 0} (remaining : S → Option (List ℕ)) (rules : ReadRules P) (s : Buffered S P) (p : Progress)
     (answer : Result ℕ ChunkedError) (t : Buffered S P) (q : Progress) : Type 0 where
   pub wire : List ℕ

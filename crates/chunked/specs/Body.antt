@@ -3,7 +3,7 @@ use Rattle.std.specs.Prelude.{◌≡◌, ◌≢◌, ℕ, ◌^◌, ◌<◌, ◌�
 use Rattle.std.specs.List.{AllByRecursion}
 use Rattle.std.specs.Str.Parse.{IsNumeral, digits_value}
 use Rattle.chunked.specs.declared.limits.Limits.{Limits}
-use Rattle.chunked.specs.Token.{IsToken, IsValueByte}
+use Rattle.chunked.specs.Token.{IsTokenByte, IsValueByte}
 use Rattle.chunked.specs.Extension.{IsExtension}
 
 -- the end of a line, CR LF, and what stands behind it
@@ -30,7 +30,7 @@ pub record IsField (text : List ℕ) : Type 0 where
   pub name : List ℕ
   pub value : List ℕ
   pub equal : text ≡ name ++ 58 ∷ value
-  pub token : IsToken name
+  pub token : AllByRecursion IsTokenByte name × (0 < length name)
   pub all : AllByRecursion IsValueByte value
 
 -- the lines of the trailers, and then an empty one
@@ -50,8 +50,8 @@ pub record BeginsSize (limits : Limits) (size : ℕ) (bytes behind : List ℕ) :
   pub size_line : IsSizeLine limits.line size text
   pub equal : bytes ≡ text ++ line_end behind
 
--- chunks of these payloads, one behind the other: each is the line of its size, which isn't 0, as many bytes, and the end of a line.
--- And then the end: the last chunk, which is the line of the size 0, and the trailers
+-- chunks of these payloads, one behind the other: each is the line of its size, which isn't 0, as many bytes, and the end of a
+-- line. And then the end: the last chunk, which is the line of the size 0, and the trailers
 abbrev pub HasChunks : Limits → List (List ℕ) → List ℕ → Type 0
 HasChunks limits [] bytes = (behind : List ℕ) × BeginsSize limits 0 bytes behind × IsTrailers limits.trailers behind
 HasChunks limits (payload ∷ later) bytes =

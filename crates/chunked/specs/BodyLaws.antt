@@ -26,16 +26,19 @@ extension_no_digit b text h small = elim (IsExtension-first b text h) [
 ]
 
 -- the whole line is a text
-pub digits_text : (digits text : List ℕ) → AllDigits 16 digits → AllByRecursion IsTextByte text → AllByRecursion IsTextByte (digits ++ text)
+pub digits_text : (digits text : List ℕ) → AllDigits 16 digits → AllByRecursion IsTextByte text
+    → AllByRecursion IsTextByte (digits ++ text)
 digits_text [] text all h = h
 digits_text (d ∷ digits) text all h = (digit_is_text d all.0, digits_text digits text all.1 h)
 
 pub IsSizeLine-text : (limit size : ℕ) (text : List ℕ) → IsSizeLine limit size text → AllByRecursion IsTextByte text
 IsSizeLine-text limit size text h =
-    subst (AllByRecursion IsTextByte) (sym h.equal) (digits_text h.digits h.extension h.numeral.1 (Extends-text Behind h.extension h.follows))
+    subst (AllByRecursion IsTextByte) (sym h.equal)
+    (digits_text h.digits h.extension h.numeral.1 (Extends-text Behind h.extension h.follows))
 
 -- two texts that end at a CR are one
-pub text_same : (a b xs ys : List ℕ) → AllByRecursion IsTextByte a → AllByRecursion IsTextByte b → a ++ 13 ∷ xs ≡ b ++ 13 ∷ ys → (a ≡ b) × (xs ≡ ys)
+pub text_same : (a b xs ys : List ℕ) → AllByRecursion IsTextByte a → AllByRecursion IsTextByte b
+    → a ++ 13 ∷ xs ≡ b ++ 13 ∷ ys → (a ≡ b) × (xs ≡ ys)
 text_same [] [] xs ys p q same = (refl, cc)
 text_same [] (b ∷ bs) xs ys p q same = absurd (q.0.0 cc)
 text_same (a ∷ as') [] xs ys p q same = absurd (p.0.0 cc)
@@ -45,7 +48,8 @@ text_same (a ∷ as') (b ∷ bs) xs ys p q same =
     let found = text_same as' bs xs ys p.1 q.1 rest in
     (ap (λ l. a ∷ l) found.0 ∙ ap (λ x. x ∷ bs) head, found.1)
 
-pub line_same : (a b xs ys : List ℕ) → AllByRecursion IsTextByte a → AllByRecursion IsTextByte b → a ++ line_end xs ≡ b ++ line_end ys → (a ≡ b) × (xs ≡ ys)
+pub line_same : (a b xs ys : List ℕ) → AllByRecursion IsTextByte a → AllByRecursion IsTextByte b
+    → a ++ line_end xs ≡ b ++ line_end ys → (a ≡ b) × (xs ≡ ys)
 line_same a b xs ys p q same =
     let found = text_same a b (10 ∷ xs) (10 ∷ ys) p q same in
     (found.0, (let tails = found.1 in cc))

@@ -107,7 +107,8 @@ ReadsOn {S} {P} remaining rules (suc count) s t =
 
 -- the rest of the body was taken, and its payload dropped, or why not: as one read answers that hands out nothing, or by `Other`
 -- where more pieces were dropped than are counted. Once the body ended the buffered reader isn't called. The rest is read so, and
--- then by one read with this answer, unless none was to be made: so nobody is asked behind the end of the body, as no such read does
+-- then by one read with this answer, unless none was to be made: so nobody is asked behind the end of the body, as no such read
+-- does
 pub record Drains {S P : Type 0} (remaining : S → Option (List ℕ)) (rules : ReadRules P) (s : ChunkedState S P)
     (answer : Result ℕ ChunkedError) (t : ChunkedState S P) : Type 0 where
   pub payload : List ℕ

@@ -58,8 +58,8 @@ taken_payloads payload (Ok (suc n)) = take (suc n) payload ∷ []
 taken_payloads payload (Err e) = []
 
 -- what one write does. No answer leaves a part of a chunk, and an empty payload makes none. Where the payload fits behind what is
--- buffered its chunk stands there, and the inner writer isn't called. Where it doesn't, all that was buffered is sent first, and the
--- chunk has as much of it as fits then; where sending fails, no byte is taken in. An Ok write is noted, and no other
+-- buffered its chunk stands there, and the inner writer isn't called. Else all that was buffered is sent first, and the chunk has
+-- as much of it as fits then; where sending fails, no byte is taken in. An Ok write is noted, and no other
 pub record WritesChunk {S : Type 0} (tells : S → StreamLog) (trace : S → S → Type 0) (s : ChunkedWriterState S) (payload : List ℕ)
     (answer : Result ℕ Error) (t : ChunkedWriterState S) : Type 0 where
   pub went : ChunksWent trace s (taken_payloads payload answer) t

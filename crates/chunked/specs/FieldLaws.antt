@@ -25,11 +25,13 @@ pub value_is_text : (b : ℕ) → IsValueByte b → IsTextByte b
 value_is_text b h = (λ is. grind (arith, nat_tests), λ is. grind (arith, nat_tests))
 
 -- bytes of such a kind are a text
-pub all_text : (P : ℕ → Type 0) → ((b : ℕ) → P b → IsTextByte b) → (xs : List ℕ) → AllByRecursion P xs → AllByRecursion IsTextByte xs
+pub all_text : (P : ℕ → Type 0) → ((b : ℕ) → P b → IsTextByte b) → (xs : List ℕ) → AllByRecursion P xs
+    → AllByRecursion IsTextByte xs
 all_text P is [] all = tt
 all_text P is (x ∷ xs) all = (is x all.0, all_text P is xs all.1)
 
-pub text_both : (xs more : List ℕ) → AllByRecursion IsTextByte xs → AllByRecursion IsTextByte more → AllByRecursion IsTextByte (xs ++ more)
+pub text_both : (xs more : List ℕ) → AllByRecursion IsTextByte xs → AllByRecursion IsTextByte more
+    → AllByRecursion IsTextByte (xs ++ more)
 text_both [] more h k = k
 text_both (x ∷ xs) more h k = (h.0, text_both xs more h.1 k)
 

@@ -1,10 +1,10 @@
 -- The buffer keeps its kind in a read of payload, and in all of a drain.
-use Rattle.std.proofs.Common.{◌≡◌, ℕ, zero, suc, List, Option, Result, Ok, Err, length, inl, inr, sym, ap, ◌∙◌}
+use Rattle.std.proofs.Common.{◌≡◌, ◌<◌, ◌⊎◌, ℕ, zero, suc, List, Option, Result, Ok, Err, length, inl, inr, sym, ap, ◌∙◌}
 use Rattle.std.specs.declared.io.Error.{Error}
 use Rattle.buffer_redux.specs.Buffered.{Buffered}
-use Rattle.buffer_redux.specs.BufReader.{ReaderConsumes, Reads, ReadsBuffered}
+use Rattle.buffer_redux.specs.BufReader.{Fills, ReaderConsumes, Reads, ReadsBuffered}
 use Rattle.buffer_redux.specs.Policy.{ReadRules}
-use Rattle.chunked.specs.Between.{AsksOnce, FillsAndTakes, LastCall, TakesTurns}
+use Rattle.chunked.specs.Between.{FillsAndTakes, LastCall, TakesTurns}
 use Rattle.chunked.specs.BetweenLaws.{Reads-ways}
 use Rattle.chunked.specs.ChunkedReader.{ChunkedState, Drains, ReadsOn, ReadsPayload}
 use Rattle.chunked.specs.declared.error.ChunkedError.{ChunkedError}
@@ -37,7 +37,9 @@ module _ {S P : Type 0} (rules : ReadRules P) where
     | inr past ↦ ap (λ b. b.kind) past.1.block
   ]
 
-  asks_kind : (s t : Buffered S P) (answer : Result ℕ Error) → AsksOnce rules s answer t → t.block.kind ≡ s.block.kind
+  asks_kind : (s t : Buffered S P) (answer : Result ℕ Error) → Fills rules s answer t
+      ⊎ ((before : List ℕ) × (after : List ℕ) × (0 < length before) × Reads rules s before answer after t)
+      → t.block.kind ≡ s.block.kind
   asks_kind s t answer (inl fills) = fills.kind
   asks_kind s t answer (inr some) = reads_kind s t some.0 some.1 answer some.3
 
@@ -57,7 +59,8 @@ module _ {S P : Type 0} (rules : ReadRules P) where
         call_kind calls.last t.reader calls.place t.place (length out) answer calls.call
         ∙ turns_kind s.limits calls.count s.reader s.place calls.last calls.place calls.turns
 
-    ReadsOn-kind : (count : ℕ) (s t : ChunkedState S P) → ReadsOn remaining rules count s t → t.reader.block.kind ≡ s.reader.block.kind
+    ReadsOn-kind : (count : ℕ) (s t : ChunkedState S P) → ReadsOn remaining rules count s t
+        → t.reader.block.kind ≡ s.reader.block.kind
     ReadsOn-kind zero s t same = ap (λ x. x.reader.block.kind) (sym same)
     ReadsOn-kind (suc count) s t (m, out, n, before, reads) =
         ReadsPayload-kind m t out (Ok (suc n)) reads ∙ ReadsOn-kind count s m before

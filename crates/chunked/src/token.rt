@@ -1,7 +1,7 @@
 //! The bytes that tokens and values are made of.
-ghost use Rattle.std.specs.Prelude.{◌↔◌, IsTrue};
+ghost use Rattle.std.specs.Prelude.{◌↔◌, ◌<◌, length, IsTrue};
 ghost use Rattle.std.specs.List.{AllByRecursion};
-ghost use Rattle.chunked.specs.Token.{IsToken, IsTokenByte, IsValueByte};
+ghost use Rattle.chunked.specs.Token.{IsTokenByte, IsValueByte};
 
 /// Whether a token may have this byte.
 pub fn is_token_byte(byte: u8) -> bool
@@ -22,7 +22,7 @@ pub fn is_value_byte(byte: u8) -> bool
 
 /// Whether this is a token.
 pub fn is_token(bytes: &[u8]) -> bool
-    ensures { IsTrue result ↔ IsToken bytes.now }
+    ensures { IsTrue result ↔ (AllByRecursion IsTokenByte bytes.now × (0 < length bytes.now)) }
 {
     !bytes.is_empty() && bytes.iter().all(|&byte| is_token_byte(byte))
 }

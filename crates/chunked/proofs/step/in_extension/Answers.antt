@@ -20,5 +20,8 @@ returns-in-Some-2 c =
     λ l. (
       extension_on c.args.within c.in-Some.next c.args.byte c.least.result c.in-Some.ensures least l c.args.size c.args.room
           (omega arith),
-      (c.requires, fits_in c.args.within c.in-Some.next c.args.byte c.least.result c.in-Some.ensures least c.args.room (omega arith)),
+      (
+        c.requires,
+        fits_in c.args.within c.in-Some.next c.args.byte c.least.result c.in-Some.ensures least c.args.room (omega arith),
+      ),
     )

@@ -1,9 +1,17 @@
-use Rattle.std.proofs.Common.{length, ap, subst, arith, rules}
+use Rattle.std.proofs.Common.{◌≡◌, ℕ, ◌+◌, ◌-◌, ◌^◌, ◌<◌, ◌≤◌, List, Bor, length, min, take, ap, subst, arith, rules}
 use Rattle.std.specs.List.{AllByRecursion}
 use Rattle.chunked.specs.Body.{IsField}
+use Rattle.chunked.specs.Chunk.{body_end}
 use Rattle.chunked.specs.Trailers.{lines_of}
 use Rattle.chunked.proofs.Fields.{all_lines, front, front_len, front_more_len, inside, line_at, lines_more}
 use Rattle.chunked.proofs.trailers.end_len.Goals as goal
+
+-- behind the last line all is counted
+all_counted : (fields : List (Bor (List ℕ))) (i len capacity : ℕ) → length fields ≤ i
+    → len ≡ min (length (front (take i (lines_of fields))) + 2) (2 ^ 64 - 1) → capacity < 2 ^ 63 → len ≤ capacity
+    → len ≡ length (body_end (lines_of fields))
+all_counted fields i len capacity past counted small few =
+    omega (arith, counted, small, few, front_len (lines_of fields), ap (λ l. length (front l)) (all_lines fields i past))
 
 pub loop-i-preserved : goal.loop-i-preserved
 loop-i-preserved c =
@@ -45,26 +53,14 @@ returns-clause-lines c =
 
 pub returns-clause-fits : goal.returns-clause-fits
 returns-clause-fits c =
-    let fields = c.args.fields.now in
-    let all = all_lines fields c.loop-i.i c.loop-i-test.false in
     omega (
       arith,
-      c.requires,
       c.if-len-capacity.false,
-      c.loop-i.invariant.counted,
-      front_len (lines_of fields),
-      ap (λ l. length (front l)) all,
+      all_counted c.args.fields.now c.loop-i.i c.loop-i.len c.args.capacity c.loop-i-test.false c.loop-i.invariant.counted
+          c.requires (omega (arith, c.if-len-capacity.false)),
     )
 
 pub returns-clause-len : goal.returns-clause-len
 returns-clause-len c =
-    let fields = c.args.fields.now in
-    let all = all_lines fields c.loop-i.i c.loop-i-test.false in
-    omega (
-      arith,
-      c.requires,
-      c.if-len-capacity.false,
-      c.loop-i.invariant.counted,
-      front_len (lines_of fields),
-      ap (λ l. length (front l)) all,
-    )
+    all_counted c.args.fields.now c.loop-i.i c.loop-i.len c.args.capacity c.loop-i-test.false c.loop-i.invariant.counted
+    c.requires (omega (arith, c.if-len-capacity.false))
