@@ -118,6 +118,7 @@ module _ {R W : Type 0} (remaining : R → Option (List ℕ)) (s : Decoding R W)
               takes = wrote.answers.0;
             },
             inl wrote.answers.1,
+            omega arith,
           );
         }
 

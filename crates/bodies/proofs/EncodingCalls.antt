@@ -130,7 +130,12 @@ module _ {R W : Type 0} (remaining : R → Option (List ℕ)) (tells : W → Str
           closed = λ closed. closed;
           writes = WritesOn-unflushed s.target.writer c.writer [] failed.in_order failed.not_flushed;
           flushes = failed.sends.sent.flushes;
-          answers = ([], record { hands = ReadsAlong-none remaining std_read_rules s.source; takes = p.went }, inl failed.caused);
+          answers = (
+            [],
+            record { hands = ReadsAlong-none remaining std_read_rules s.source; takes = p.went },
+            inl failed.caused,
+            omega arith,
+          );
         }
 
     pub passed : (n : ℕ) → n ≤ length s.source.block.bytes → WritesChunk tells trace s.target s.source.block.bytes (Ok n) c

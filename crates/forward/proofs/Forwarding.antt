@@ -44,8 +44,8 @@ module _ {T W : Type 0} (rules : FilterRules T W) where
     pub none_forwarded : (s t : T) → Moves rules s [] [] t → Forwarded rules 0 s t
     none_forwarded s t moves = record { payloads = []; moves = moves; all = refl }
 
-    none_first : (s t : T) (lost : List (List ℕ)) → Moves rules s lost [] t → ForwardedFirst rules 0 s t
-    none_first s t lost moves = record { payloads = []; lost = lost; moves = moves; all = refl }
+    none_first : (s t : T) (lost : List (List ℕ)) → Moves rules s lost [] t → length lost ≤ 1 → ForwardedFirst rules 0 s t
+    none_first s t lost moves few = record { payloads = []; lost = lost; moves = moves; all = refl; few = few }
 
     forwarded_joins : (a b c : T) (n k : ℕ) → Forwarded rules n a b → Forwarded rules k b c → Forwarded rules (n + k) a c
     forwarded_joins a b c n k first second = record {
@@ -69,6 +69,7 @@ module _ {T W : Type 0} (rules : FilterRules T W) where
           (Moves-joins rules lawful a b c first.payloads (second.payloads ++ second.lost) first.payloads second.payloads
           first.moves second.moves);
       all = omega (arith, first.all, second.all, length-append first.payloads second.payloads);
+      few = second.few;
     }
 
     -- behind those that went over before comes the next
@@ -197,7 +198,7 @@ module _ {T W : Type 0} (rules : FilterRules T W) where
         received = longer s.filter m.filter p.passes.writes;
         ready = p.passes.ready;
         answers = (
-          none_first s.filter m.filter p.passes.answers.0 p.passes.answers.1,
+          none_first s.filter m.filter p.passes.answers.0 p.passes.answers.1 p.passes.answers.3,
           elim p.passes.answers.2 [
             | inl failed ↦ inl (record { reader = unread p.passes.told; writer = failed })
             | inr refused ↦ inr (unread p.passes.told, refused)
@@ -255,7 +256,7 @@ module _ {T W : Type 0} (rules : FilterRules T W) where
         received = longer s.filter m.filter p.flushes.writes;
         ready = p.flushes.ready;
         answers = (
-          none_first s.filter m.filter [] p.flushes.moves,
+          none_first s.filter m.filter [] p.flushes.moves (omega arith),
           inl (record { reader = unread p.flushes.told; writer = p.flushes.answers }),
         );
       }

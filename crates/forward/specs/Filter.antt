@@ -65,14 +65,15 @@ module _ {T W : Type 0} (rules : FilterRules T W) where
       × (rules.taken s ≤ length (rules.written t).writes.received))
 
   -- what an answer of `pass` says. Something was taken in, but for a payload that was dropped. Where the writer failed, or one
-  -- was refused, what was handed out may be lost
+  -- was refused, the one payload that was handed out may be lost
   abbrev pub PassAnswers : T → Result Bool Error → T → Type 0
   PassAnswers s (Ok true) t =
       (payload : List ℕ) × Moves s (payload ∷ []) (payload ∷ []) t × Wrote s t
       × ((rules.taken s < rules.taken t) ⊎ (rules.drops × StaysSent s t))
   PassAnswers s (Ok false) t =
       Moves s [] [] t × Wrote s t × rules.lacks t × (¬ rules.has s) × (rules.drops → StaysSent s t)
-  PassAnswers s (Err e) t = (lost : List (List ℕ)) × Moves s lost [] t × (FailedToWrite e s t ⊎ rules.refused e t)
+  PassAnswers s (Err e) t =
+      (lost : List (List ℕ)) × Moves s lost [] t × (FailedToWrite e s t ⊎ rules.refused e t) × (length lost ≤ 1)
 
   -- what `pass` does: the stream that is read from isn't asked
   pub record Passes (s : T) (answer : Result Bool Error) (t : T) : Type 0 where

@@ -63,7 +63,7 @@ module _ {R D X A W : Type 0} (remaining : R → Option (List ℕ)) (grammar : D
         → Passes rules s (Err e) (record s { target = v; service = b; sent = false })
     refused e (reply, same, puts) =
         let t : Answering R D W A X = record s { target = v; service = b; sent = false } in
-        pieces.lost remaining f ready t puts.not_flushed puts.flushes []
+        pieces.lost remaining f ready t puts.not_flushed puts.flushes [] (omega arith)
         (pieces.took_none remaining f ready t refl (λ sent. absurd (true≢false (sym sent))) refl) same puts.taken e puts.caused
 
   -- the next was buffered, and is held; or none was
@@ -92,7 +92,7 @@ module _ {R D X A W : Type 0} (remaining : R → Option (List ℕ)) (grammar : D
       answers_behind t (Ok true) (p, moves, met, some) = (p, joins t (p ∷ []) (p ∷ []) moves, met, some)
       answers_behind t (Ok false) (moves, met, none, isnt, still) =
           (joins t [] [] moves, met, none, λ has. has lacks, still)
-      answers_behind t (Err e) (lost, moves, caused) = (lost, joins t lost [] moves, caused)
+      answers_behind t (Err e) (lost, moves, caused, few) = (lost, joins t lost [] moves, caused, few)
 
       pub passes_behind : (t : Answering R D W A X) (answer : Result Bool Error) → Passes rules (holding span) answer t
           → Passes rules s answer t

@@ -177,15 +177,16 @@ module _ {T R D X A W E : Type 0} (remaining : R → Option (List ℕ)) (f : Pie
       );
     }
 
-    pub lost : (p : List (List ℕ)) → Took p → f.service t ≡ f.service s → WritesInOrder (f.target s) [] (f.target t) → (e : Error)
+    pub lost : (p : List (List ℕ)) → length p ≤ 1 → Took p → f.service t ≡ f.service s
+        → WritesInOrder (f.target s) [] (f.target t) → (e : Error)
         → SendErrorCaused (f.target s).log.writes (f.target t).log.writes e ⊎ f.refused e t → Passes rules s (Err e) t
-    lost p took same taken e caused = record {
+    lost p few took same taken e caused = record {
       told = took.told;
       ready = took.leaves;
       closed = took.closed;
       writes = WritesOn-unflushed (f.target s) (f.target t) [] taken unflushed;
       flushes = steady;
-      answers = (p, record { hands = took.hands; takes = takes_nothing remaining f s t same taken }, caused);
+      answers = (p, record { hands = took.hands; takes = takes_nothing remaining f s t same taken }, caused, few);
     }
 
   -- all was flushed, or not

@@ -1,4 +1,4 @@
-use Rattle.std.proofs.Common.{[], None, ap, append-nil, inl, refl, ◌∙◌}
+use Rattle.std.proofs.Common.{[], None, ap, append-nil, arith, inl, refl, ◌∙◌}
 use Rattle.std.proofs.lemmas.Result.{err_from_is_err_and}
 use Rattle.frame_reader.specs.WriteFrameLaws.{PiecesTaken-frames}
 use Rattle.piece_filter.specs.PiecesCalls.{lost, passed, took_held, took_none}
@@ -14,7 +14,7 @@ returns-in_err-write_line g c =
     let t = record c.args.filter.now { target = c.write_line.new.target } in
     let p = err_from_is_err_and c.from_residual.result c.from_residual.ensures.1 in
     let wrote = c.in_err-write_line.ensures in
-    rw (p.1, p.2) (lost g.R.TellRead.remaining packing ready t wrote.not_flushed wrote.flushes []
+    rw (p.1, p.2) (lost g.R.TellRead.remaining packing ready t wrote.not_flushed wrote.flushes [] (omega arith)
     (took_none g.R.TellRead.remaining packing ready t refl
     (lines_on t ready.also refl wrote.none.encoder ready.also.open' ready.also.fits) refl) refl wrote.none.in_order _
     (inl wrote.caused))

@@ -1,4 +1,4 @@
-use Rattle.std.proofs.Common.{◌∷◌, [], ap, append-nil, inl, refl, subst, sym, ◌∙◌}
+use Rattle.std.proofs.Common.{◌∷◌, [], ap, append-nil, arith, inl, refl, subst, sym, ◌∙◌}
 use Rattle.std.proofs.lemmas.Result.{err_from_is_err_and}
 use Rattle.frame_reader.specs.WriteFrameLaws.{PiecesTaken-frames}
 use Rattle.line_reader.specs.LinesAlongLaws.{NextBuffered-none, NextBuffered-some}
@@ -19,7 +19,7 @@ returns-in_err-write_line-in-Some-next_buffered g c =
     let p = err_from_is_err_and c.from_residual.result c.from_residual.ensures.1 in
     let wrote = c.in_err-write_line-in-Some-next_buffered.ensures in
     let none = not_held c.args.self.now.held c.in_default.not-Some in
-    rw (p.1, p.2) (lost g.R.TellRead.remaining packing c.requires t wrote.not_flushed wrote.flushes (line ∷ [])
+    rw (p.1, p.2) (lost g.R.TellRead.remaining packing c.requires t wrote.not_flushed wrote.flushes (line ∷ []) (omega arith)
     (took_next g.R.TellRead.remaining packing c.requires t none none (lines_on t c.requires.also next.0.0.went.decoder
     wrote.none.encoder next.0.1 (subst (HeldFits m.pieces) (sym none) tt)) line next.0.0 next.1) refl wrote.none.in_order _
     (inl wrote.caused))

@@ -1,4 +1,4 @@
-use Rattle.std.proofs.Common.{◌∷◌, [], None, ap, inl, refl, subst, ◌∙◌}
+use Rattle.std.proofs.Common.{◌∷◌, [], None, ap, arith, inl, refl, subst, ◌∙◌}
 use Rattle.std.specs.Prelude.{option_copied}
 use Rattle.std.proofs.lemmas.Result.{err_from_is_err_and}
 use Rattle.frame_reader.specs.NextLaws.{NextPiece-reads}
@@ -15,7 +15,7 @@ returns-in_err-print_line g c =
     let p = err_from_is_err_and c.from_residual.result c.from_residual.ensures.1 in
     let wrote = c.in_err-print_line.ensures in
     let frames = c.requires.also in
-    rw (p.1, p.2) (lost g.R.TellRead.remaining unpacking c.requires t wrote.not_flushed wrote.flushes []
+    rw (p.1, p.2) (lost g.R.TellRead.remaining unpacking c.requires t wrote.not_flushed wrote.flushes [] (omega arith)
     (took_none g.R.TellRead.remaining unpacking c.requires t refl
     (frames_on t frames refl frames.told wrote.kind wrote.capacity) refl) refl wrote.none _ (inl wrote.caused))
 
@@ -43,7 +43,7 @@ returns-in_err-print_line-in-Some-next_buffered g c =
     let wrote = c.in_err-print_line-in-Some-next_buffered.ensures in
     let none = not_held s.held c.in_default.not-Some in
     rw (p.1, p.2) (lost g.R.TellRead.remaining unpacking c.requires t wrote.not_flushed wrote.flushes
-    (some.payload.now ∷ []) (took_next g.R.TellRead.remaining unpacking c.requires t none none
+    (some.payload.now ∷ []) (omega arith) (took_next g.R.TellRead.remaining unpacking c.requires t none none
     (frames_on t c.requires.also next.0.went.decoder (NextPiece-reads g.R.TellRead.remaining s.source m _ next.0).told wrote.kind
     wrote.capacity) some.payload.now next.0 next.1) refl wrote.none _ (inl wrote.caused))
 
