@@ -98,7 +98,7 @@ chunks_fail s t is roomy asked (Truncated right) answers once = (
   omega (arith, once, answers.2.dry.dry (WantsBytes-std s.reader.policy) (omega (arith, roomy.1))),
   answers.2.dry.none,
   λ payload c. answers.2.none (handed_of t ++ payload) (rw append-nil at (is.leads.onward [] payload c)),
-  refl,
+  (t.limits, t.place, refl),
 )
 chunks_fail s t is roomy asked (Io e) answers never =
     elim answers [ inl fault ↦ (fault, never) | inr failed ↦ absurd failed.3.gave.allowed ]

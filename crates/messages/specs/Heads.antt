@@ -1,5 +1,5 @@
 -- Heads of requests, and what they say of the body.
-use Rattle.std.specs.Prelude.{◌≡◌, ℕ, ◌≤◌, ◌==◌, ◌&&◌, ◌||◌, not, nat_lt, if◌then◌else◌, Bool, true, false, List, [], length, IsTrue, Option, None, Some, Result, Ok}
+use Rattle.std.specs.Prelude.{◌≡◌, ◌≢◌, ℕ, ◌≤◌, ◌==◌, ◌↔◌, ◌&&◌, ◌||◌, not, nat_lt, if◌then◌else◌, Bool, List, [], length, IsTrue, Option, None, Some, Result, Ok}
 use Rattle.codec.specs.declared.HeaderError.{HeaderError}
 use Rattle.codec.specs.declared.HeaderError.TheVariants.{Truncated}
 use Rattle.codec.specs.declared.scan.ScanStep.{ScanStep}
@@ -10,7 +10,6 @@ use Rattle.codec.specs.Scanning.{Scanning, scanned}
 use Rattle.http1.specs.declared.framing.Framing.{Framing}
 use Rattle.http1.specs.declared.framing.Framing.TheVariants as framing
 use Rattle.http1.specs.declared.framing.FramingError.{FramingError}
-use Rattle.http1.specs.declared.framing.MethodKind.{MethodKind}
 use Rattle.http1.specs.declared.framing.MethodKind.TheVariants as kind
 use Rattle.http1.specs.declared.fields.KnownFields.{KnownFields}
 use Rattle.http1.specs.Framing.{method_kind, request_framing}
@@ -45,15 +44,6 @@ extent_of (Ok (framing.Length len)) = Some (extent.Sized len)
 extent_of (Ok framing.Chunked) = Some extent.Chunked
 extent_of _ = None
 
--- whether it is the method of a tunnel, or of a request whose answer has no body
-abbrev pub is_connect : MethodKind → Bool
-is_connect kind.Connect = true
-is_connect _ = false
-
-abbrev pub is_bare : MethodKind → Bool
-is_bare kind.Head = true
-is_bare _ = false
-
 -- whether another request may follow (RFC 9112, section 9.3)
 abbrev pub keeps : ℕ → KnownFields → Bool
 keeps minor known = not known.close && (nat_lt 0 minor || known.keep_alive)
@@ -63,16 +53,16 @@ abbrev pub expects : ℕ → KnownFields → Bool
 expects minor known = nat_lt 0 minor && known.expect_continue
 
 -- these bytes are just the head of a request, which says so (RFC 9112, section 6): at most one field says where the body ends, no
--- tunnel begins behind it, and it has one `Host`, which HTTP/1.0 may leave out
+-- tunnel begins behind it, and it has one `Host`, which HTTP/1.0 may leave out. An answer to `HEAD` has no body
 pub record IsHead (bytes : List ℕ) (said : ParsedHead) : Type 0 where
   pub head : RequestHead
   pub reads : ReadsRequest bytes head []
   pub few : length head.fields ≤ 64
   pub host : IsTrue (has_one_host head.minor (known_of head.fields))
   pub single : (known_of head.fields).framing_fields ≤ 1
-  pub open' : is_connect (method_kind head.method) ≡ false
+  pub open' : method_kind head.method ≢ kind.Connect
   pub framed : extent_of (request_framing (method_kind head.method) head.minor (known_of head.fields)) ≡ Some said.extent
-  pub bare : said.bare ≡ is_bare (method_kind head.method)
+  pub bare : IsTrue said.bare ↔ (method_kind head.method ≡ kind.Head)
   pub keeps : said.keeps ≡ keeps head.minor (known_of head.fields)
   pub expects : said.expects ≡ expects head.minor (known_of head.fields)
 

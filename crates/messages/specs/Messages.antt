@@ -1,5 +1,5 @@
 -- Messages, and what contracts see of a reader that stands in one.
-use Rattle.std.specs.Prelude.{◌≡◌, ◌⊎◌, ◌≤◌, ◌<◌, ◌+◌, ◌-◌, ◌*◌, ◌^◌, ℕ, List, [], ◌∷◌, ◌++◌, length, take, Option, None, Some, Result, Ok, Err}
+use Rattle.std.specs.Prelude.{◌≡◌, ◌⊎◌, ◌≤◌, ◌<◌, ◌+◌, ◌-◌, ◌*◌, ◌^◌, ℕ, List, [], ◌∷◌, ◌++◌, length, MatchOption, Option, None, Some, Ok, Err}
 use Rattle.std.specs.IoError.{error_kind}
 use Rattle.std.specs.declared.io.Error.{Error}
 use Rattle.std.specs.declared.io.ErrorKind.TheVariants.{Other}
@@ -93,11 +93,6 @@ pub record Takes {S : Type 0} (remaining : S → Option (List ℕ)) (s : Unbuffe
   pub went : StreamWent remaining s wire t
   pub onward : Onward r wire handed r'
 
--- the payload that an answer handed out, of the slice as it left that
-abbrev pub handed_out : List ℕ → Result ℕ BodyError → List ℕ
-handed_out out (Ok n) = take n out
-handed_out out (Err e) = []
-
 -- the next byte of payload is left of a buffer, or none is to come
 abbrev pub IsReady : {S : Type 0} → Unbuffered S → Rest → Type 0
 IsReady s (Bytes n) = (n ≡ 0) ⊎ (0 < length s.left)
@@ -107,18 +102,14 @@ IsReady s (Chunks limits place) = (place ≡ Done) ⊎ (IsSettled place × (0 < 
 abbrev pub EachGave : {S : Type 0} → Unbuffered S → Unbuffered S → Type 0
 EachGave s t = (t.log.reads.faults ≡ s.log.reads.faults) × (t.log.reads.zero_reads ≡ s.log.reads.zero_reads)
 
--- how many bytes of payload are due, where that is known
-abbrev pub due_of : Rest → Option ℕ
-due_of (Bytes n) = Some n
-due_of (Chunks limits place) = None
-
 -- why no payload comes: however it goes on, what comes next doesn't complete the body; or the stream gave nothing, once, where
--- nothing was left, and the body isn't complete, of which so much is due; or the stream failed, once
+-- nothing was left, and the body isn't complete, of which so much is due if it has a length; or the stream failed, once
 abbrev pub Fails : {S : Type 0} → Unbuffered S → BodyError → Unbuffered S → Rest → Type 0
 Fails s (Wrong name) t r = EachGave s t × ((later payload : List ℕ) → ¬ (IsRest r (t.left ++ later) payload))
 Fails s (Truncated due) t r =
     (t.log.reads.faults ≡ s.log.reads.faults) × (t.log.reads.zero_reads ≡ s.log.reads.zero_reads + 1) × (t.left ≡ [])
-    × ((payload : List ℕ) → ¬ (IsRest r [] payload)) × (due ≡ due_of r)
+    × ((payload : List ℕ) → ¬ (IsRest r [] payload))
+    × MatchOption due ((limits : Limits) × (place : Place) × (r ≡ Chunks limits place)) (λ n. r ≡ Bytes n)
 Fails s (Fault e) t r =
     (t.log.reads.faults ≡ s.log.reads.faults ++ e ∷ []) × (t.log.reads.zero_reads ≡ s.log.reads.zero_reads)
 
@@ -149,13 +140,6 @@ pub record InsideGoes {S : Type 0} (remaining : S → Option (List ℕ)) (s : In
   pub head : t.head ≡ s.head
   pub said : t.said ≡ s.said
 
--- a message went: all of its bytes, and no other, were taken of what was left
-pub record MessageWent {S : Type 0} (remaining : S → Option (List ℕ)) (s : Unbuffered S) (head payload : List ℕ)
-    (t : Unbuffered S) : Type 0 where
-  pub bytes : List ℕ
-  pub went : StreamWent remaining s bytes t
-  pub is : IsMessage bytes head payload
-
 -- a head, and a payload
 abbrev pub Message : Type 0
 Message = List ℕ × List ℕ
@@ -169,7 +153,8 @@ InTurn Is (m ∷ later) bytes =
 abbrev pub AreMessages : List Message → List ℕ → Type 0
 AreMessages messages bytes = InTurn (λ m first. IsMessage first m.0 m.1) messages bytes
 
--- these messages went, one after another: each begins where the one before it ended
+-- these messages went, one after another: all of their bytes, and no other, were taken of what was left, so each begins where the
+-- one before it ended
 pub record MessagesWent {S : Type 0} (remaining : S → Option (List ℕ)) (s : Unbuffered S) (messages : List Message)
     (t : Unbuffered S) : Type 0 where
   pub bytes : List ℕ

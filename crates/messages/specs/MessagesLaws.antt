@@ -16,7 +16,7 @@ use Rattle.messages.specs.declared.head.Extent.TheVariants.{Sized, Chunked}
 use Rattle.messages.specs.declared.head.Heads as head
 use Rattle.messages.specs.Heads.{IsHead, IsHeadPiece, extent_of, heads}
 use Rattle.messages.specs.HeadsLaws.{heads_lawful}
-use Rattle.messages.specs.Messages.{AreMessages, Begun, InBody, InTurn, InsideGoes, IsMessage, IsRest, Message, MessageWent, MessagesWent, Onward, Rest, Takes, body_of}
+use Rattle.messages.specs.Messages.{AreMessages, Begun, InBody, InTurn, InsideGoes, IsMessage, IsRest, Message, MessagesWent, Onward, Rest, Takes, body_of}
 
 -- a body ends in one place
 one_body : (e : Extent) (a b p q xs ys : List ℕ) → IsRest (body_of e) a p → IsRest (body_of e) b q → a ++ xs ≡ b ++ ys
@@ -112,27 +112,26 @@ module _ {S : Type 0} (remaining : S → Option (List ℕ)) where
   }
 
   -- whatever was read of it, a message that is begun and ended went whole
-  pub MessageWent-of : (s : ReaderState S head.Heads) (b m : InBody S) (handed wire payload : List ℕ) (t : Unbuffered S)
+  pub MessagesWent-one : (s : ReaderState S head.Heads) (b m : InBody S) (handed wire payload : List ℕ) (t : Unbuffered S)
       → Begun remaining s b → Takes remaining b.stream b.rest handed m.stream m.rest → StreamWent remaining m.stream wire t
-      → IsRest m.rest wire payload → MessageWent remaining (left_of s) b.head (handed ++ payload) t
-  MessageWent-of s b m handed wire payload t begun takes went is = record {
+      → IsRest m.rest wire payload → MessagesWent remaining (left_of s) ((b.head, handed ++ payload) ∷ []) t
+  MessagesWent-one s b m handed wire payload t begun takes went is = record {
     bytes = b.head ++ (takes.wire ++ wire);
     went = StreamWent-joins remaining (left_of s) b.stream t b.head (takes.wire ++ wire)
         (Begun-went s b begun)
         (StreamWent-joins remaining b.stream m.stream t takes.wire wire takes.went went);
-    is = record {
+    are = InTurn-one (λ m first. IsMessage first m.0 m.1) (b.head, handed ++ payload) (b.head ++ (takes.wire ++ wire)) (record {
       wire = takes.wire ++ wire;
       equal = refl;
       text = record (lent s begun.behind b.head begun.next).1 { said = b.said; is = begun.is };
       body = subst (λ r. IsRest r (takes.wire ++ wire) (handed ++ payload)) begun.rest (takes.onward wire payload is);
-    };
+    });
   }
 
-  pub MessagesWent-more : (s m t : Unbuffered S) (ms : List Message) (h p : List ℕ) → MessagesWent remaining s ms m
-      → MessageWent remaining m h p t → MessagesWent remaining s (ms ++ (h, p) ∷ []) t
-  MessagesWent-more s m t ms h p before one = record {
+  pub MessagesWent-joins : (s m t : Unbuffered S) (ms ns : List Message) → MessagesWent remaining s ms m
+      → MessagesWent remaining m ns t → MessagesWent remaining s (ms ++ ns) t
+  MessagesWent-joins s m t ms ns before one = record {
     bytes = before.bytes ++ one.bytes;
-    are = InTurn-joins (λ m first. IsMessage first m.0 m.1) ms ((h, p) ∷ []) before.bytes one.bytes before.are
-        (InTurn-one (λ m first. IsMessage first m.0 m.1) (h, p) one.bytes one.is);
+    are = InTurn-joins (λ m first. IsMessage first m.0 m.1) ms ns before.bytes one.bytes before.are one.are;
     went = StreamWent-joins remaining s m t before.bytes one.bytes before.went one.went;
   }

@@ -1,11 +1,12 @@
 //! The reader of requests, in a body.
 ghost use Rattle.std.specs.Prelude.{◌≡◌, ℕ, ◌+◌, ◌<◌, ◌≤◌, List, [], length, IfErr, IfOk, MatchResult, Ok, OnOk};
 ghost use Rattle.chunked.specs.Asking.{AskedWhere};
+ghost use Rattle.chunked.specs.Between.{handed_out};
 ghost use Rattle.buffer_redux.specs.BufReader.{ReadsAlong};
 ghost use Rattle.buffer_redux.specs.Policy.{std_read_rules};
 ghost use Rattle.buffer_redux.specs.Unbuffer.{unbuffered};
 ghost use Rattle.codec.specs.PieceReader.{left_of};
-ghost use Rattle.messages.specs.Messages.{Bytes, Chunks, EachGave, Ends, Fails, FinishFails, GoesOn, HasRoom, InsideGoes, IsReady, IsRest, IsRoomy, Takes, Unended, begun, handed_out, rest_of, stream_of};
+ghost use Rattle.messages.specs.Messages.{Bytes, Chunks, EachGave, Ends, Fails, FinishFails, GoesOn, HasRoom, InsideGoes, IsReady, IsRest, IsRoomy, Takes, Unended, begun, rest_of, stream_of};
 
 use crate::error::{BodyError, unread};
 use crate::head::{Extent, Heads, ParsedHead};

@@ -1,8 +1,8 @@
 //! Heads of requests as pieces, and what they say of the body.
-ghost use Rattle.std.specs.Prelude.{◌≡◌, IfNone, IfSome};
+ghost use Rattle.std.specs.Prelude.{◌≡◌, ◌↔◌, IfNone, IfSome, IsTrue};
 ghost use Rattle.http1.specs.Message.{has_one_host};
 ghost use Rattle.messages.specs.declared.head.ParsedHead.{ParsedHead};
-ghost use Rattle.messages.specs.Heads.{IsHead, expects, extent_of, is_bare, is_connect, keeps};
+ghost use Rattle.messages.specs.Heads.{IsHead, expects, extent_of, keeps};
 
 use crate::lines::Lines;
 use codec::{ByHeader, ByScan, Decoder, End, Found, HeaderError, Span};
@@ -146,13 +146,13 @@ fn has_one_host(minor: u8, known: &KnownFields) -> bool
 }
 
 fn is_connect(method: MethodKind) -> bool
-    ensures { result ≡ is_connect method }
+    ensures { IsTrue result ↔ (method ≡ MethodKind.Connect) }
 {
     matches!(method, MethodKind::Connect)
 }
 
 fn is_bare(method: MethodKind) -> bool
-    ensures { result ≡ is_bare method }
+    ensures { IsTrue result ↔ (method ≡ MethodKind.Head) }
 {
     matches!(method, MethodKind::Head)
 }

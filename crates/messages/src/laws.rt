@@ -3,7 +3,7 @@ ghost use Rattle.std.specs.Prelude.{◌≡◌, ℕ, ◌<◌, List, ◌∷◌, []
 ghost use Rattle.buffer_redux.specs.Unbuffer.{Unbuffered, unbuffer_remaining};
 ghost use Rattle.codec.specs.PieceReader.{ReaderState, left_of};
 ghost use Rattle.messages.specs.declared.head.Heads as head;
-ghost use Rattle.messages.specs.Messages.{AreMessages, Begun, Ends, InBody, Message, MessageWent, MessagesWent, Takes};
+ghost use Rattle.messages.specs.Messages.{AreMessages, Begun, Ends, InBody, Message, MessagesWent, Takes};
 ghost use Rattle.messages.specs.Passing.{StopsIn};
 
 use crate::body::Body;
@@ -26,10 +26,10 @@ pub fn no_byte_between<R: TellRead>(requests: &Requests<R>)
     ensures one { (s : ReaderState R head.Heads) (b m : InBody R) (handed : List ℕ) → Begun R.remaining s b
         → Takes R.remaining b.stream b.rest handed m.stream m.rest
         → (ends : Ends R.remaining m.stream m.rest (left_of requests.now))
-        → MessageWent R.remaining (left_of s) b.head (handed ++ ends.payload) (left_of requests.now) }
-    ensures many { (s m : Unbuffered R) (messages : List Message) (head payload : List ℕ)
-        → MessagesWent R.remaining s messages m → MessageWent R.remaining m head payload (left_of requests.now)
-        → MessagesWent R.remaining s (messages ++ (head, payload) ∷ []) (left_of requests.now) }
+        → MessagesWent R.remaining (left_of s) ((b.head, handed ++ ends.payload) ∷ []) (left_of requests.now) }
+    ensures many { (s m : Unbuffered R) (messages more : List Message) → MessagesWent R.remaining s messages m
+        → MessagesWent R.remaining m more (left_of requests.now)
+        → MessagesWent R.remaining s (messages ++ more) (left_of requests.now) }
     ensures known { (s : Unbuffered R) (messages others : List Message) (text behind : List ℕ)
         → MessagesWent R.remaining s messages (left_of requests.now)
         → unbuffer_remaining R.remaining s ≡ Some (text ++ behind) → AreMessages others text
@@ -68,7 +68,7 @@ pub fn pass<R: TellRead>(requests: Requests<R>, count: usize) -> Result<Requests
 // Passes one.
 fn pass_one<R: TellRead>(requests: Requests<R>) -> Result<Requests<R>, Stopped<R>>
     ensures passed { IfOk result (λ next. (head : List ℕ) × (payload : List ℕ)
-        × MessageWent R.remaining (left_of requests) head payload (left_of next)) }
+        × MessagesWent R.remaining (left_of requests) ((head, payload) ∷ []) (left_of next)) }
     ensures stopped { IfErr result (StopsIn R.remaining requests) }
 {
     match requests.next() {

@@ -17,7 +17,7 @@ use Rattle.messages.specs.declared.error.BodyError.TheVariants.{Wrong, Truncated
 use Rattle.messages.specs.declared.head.Heads.{Heads}
 use Rattle.messages.specs.declared.head.ParsedHead.{ParsedHead}
 use Rattle.messages.specs.Messages.{Begun, InBody, InsideGoes, IsMessage, Message}
-use Rattle.messages.specs.MessagesLaws.{Begun-went, InTurn-joins, InTurn-one, MessageWent-of, Takes-none}
+use Rattle.messages.specs.MessagesLaws.{Begun-went, InTurn-joins, InTurn-one, MessagesWent-one, Takes-none}
 use Rattle.programs.specs.Streams.{AllSent, EndsOnce}
 use Rattle.requests.specs.declared.Place.{Place}
 use Rattle.requests.specs.declared.Place.TheVariants.{Before, Inside}
@@ -230,7 +230,7 @@ module _ {W : Type 0} {tells : W → StreamLog} {trace : W → W → Type 0} whe
           → Answers remaining tells trace ((b.head, whole.1) ∷ []) (left_of s) w [] [] (IsLastAnswer ((b.head, whole.1) ∷ [])) t
           sending w'
       one_answered {s} {b} {t} {len} {said} {w} {v} {w'} {sending} begun (wire, payload, went, is, many) same call sends =
-          let one = MessageWent-of remaining s b b [] wire payload t begun (Takes-none remaining b.stream b.rest) went is in
+          let one = MessagesWent-one remaining s b b [] wire payload t begun (Takes-none remaining b.stream b.rest) went is in
           let text = called (waits b.said) ++ accepted b.said (length payload) in
           let answer : accepted said len ≡ accepted b.said (length payload) =
           ap (λ x. accepted x len) same ∙ ap (accepted b.said) many in
@@ -240,7 +240,7 @@ module _ {W : Type 0} {tells : W → StreamLog} {trace : W → W → Type 0} whe
           (subst (λ x. Sends tells trace v (accepted x len) sending w') same sends)) in
           record {
             bytes = one.bytes;
-            are = InTurn-one (λ m first. IsMessage first m.0 m.1) (b.head, payload) one.bytes one.is;
+            are = one.are;
             went = subst (λ l. StreamWent remaining (left_of s) l t) (sym (append-nil one.bytes)) one.went;
             text = text;
             answers = InTurn-one IsAnswer (b.head, payload) text (b.said, begun.is, refl);

@@ -1,7 +1,7 @@
 use Rattle.std.proofs.Common.{◌≡◌, ℕ, ◌<◌, ◌≤◌, List, [], ◌∷◌, ◌++◌, length, Result, Ok, Err, IfOk, ap, inr, refl, arith, rules, ◌∙◌, length-append}
 use Rattle.std.proofs.lemmas.List.{length-take-le}
 use Rattle.messages.specs.declared.error.BodyError.{BodyError}
-use Rattle.messages.specs.Messages.{handed_out}
+use Rattle.chunked.specs.Between.{handed_out}
 use Rattle.messages.specs.MessagesLaws.{InsideGoes-joins, InsideGoes-none}
 use Rattle.requests.specs.Answers.{faults_of}
 use Rattle.requests.proofs.Reading.{TakeFails-of, interrupted_once, joined, none_met, steadily, steady_none}

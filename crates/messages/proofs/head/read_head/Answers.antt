@@ -5,7 +5,7 @@ use Rattle.http1.specs.Framing.{method_kind}
 use Rattle.http1.specs.Message.{has_one_host, known_of}
 use Rattle.httparse.specs.Grammar.{ReadsRequest}
 use Rattle.httparse.specs.Spans.{header_bytes, name_and_value}
-use Rattle.messages.specs.Heads.{expects, extent_of, is_bare, is_connect, keeps}
+use Rattle.messages.specs.Heads.{expects, extent_of, keeps}
 use Rattle.messages.proofs.head.read_head.Goals as goal
 
 pub returns-in-Some-clause-some : goal.returns-in-Some-clause-some
@@ -39,10 +39,10 @@ returns-in-Some-clause-some c =
       );
       host = subst (λ k. IsTrue (has_one_host h.minor k)) fields (subst (λ n. IsTrue (has_one_host n known)) minor host);
       single = omega (arith, c.if-known-gt1.false, ap (λ k. k.framing_fields) fields);
-      open' = sym (ap is_connect kind) ∙ sym c.is_connect.ensures ∙ c.if-is_connect.false;
+      open' = λ is. (let odd = c.is_connect.ensures.1 (kind ∙ is) in cc);
       framed = rw (← fields, ← minor, ← kind)
           (sym (c.extent_of.ensures ∙ ap extent_of c.request_framing.ensures) ∙ c.in-Some.is);
-      bare = c.is_bare.ensures ∙ ap is_bare kind;
+      bare = (λ yes. sym kind ∙ c.is_bare.ensures.0 yes, λ is. c.is_bare.ensures.1 (kind ∙ is));
       keeps = c.keeps.ensures ∙ ap (λ n. keeps n known) minor ∙ ap (keeps h.minor) fields;
       expects = c.expects.ensures ∙ ap (λ n. expects n known) minor ∙ ap (expects h.minor) fields;
     }

@@ -1,7 +1,7 @@
 use Rattle.std.proofs.Common.{[], ◌∷◌, ◌++◌, arith, length-append, refl}
 use Rattle.buffer_redux.specs.UnbufferLaws.{StreamWent-none}
 use Rattle.codec.specs.PieceReader.{left_of}
-use Rattle.messages.specs.MessagesLaws.{MessagesWent-more}
+use Rattle.messages.specs.MessagesLaws.{MessagesWent-joins}
 use Rattle.messages.proofs.laws.pass.Goals as goal
 
 pub loop-init : goal.loop-init
@@ -18,8 +18,8 @@ loop-preserved g c =
     record {
       messages = before.messages ++ (one.0, one.1) ∷ [];
       many = omega (arith, before.many, length-append before.messages ((one.0, one.1) ∷ []));
-      went = MessagesWent-more g.R.TellRead.remaining (left_of c.args.requests) (left_of c.loop.next) (left_of c.in-Ok.behind)
-          before.messages one.0 one.1 before.went one.2;
+      went = MessagesWent-joins g.R.TellRead.remaining (left_of c.args.requests) (left_of c.loop.next) (left_of c.in-Ok.behind)
+          before.messages ((one.0, one.1) ∷ []) before.went one.2;
     }
 
 pub returns-in-Err-clause-stopped : goal.returns-in-Err-clause-stopped

@@ -1,6 +1,6 @@
 use Rattle.std.proofs.Common.{[], ◌++◌}
 use Rattle.codec.specs.PieceReader.{left_of}
-use Rattle.messages.specs.MessagesLaws.{MessageWent-of, Takes-none}
+use Rattle.messages.specs.MessagesLaws.{MessagesWent-one, Takes-none}
 use Rattle.messages.proofs.laws.pass_one.Goals as goal
 
 pub returns-in-Ok-finish-clause-passed : goal.returns-in-Ok-finish-clause-passed
@@ -9,7 +9,7 @@ returns-in-Ok-finish-clause-passed g c =
     let body = c.in-Ok.body in (
       body.head,
       [] ++ ends.payload,
-      MessageWent-of g.R.TellRead.remaining c.args.requests body body [] ends.wire ends.payload (left_of c.in-Ok-finish.next)
+      MessagesWent-one g.R.TellRead.remaining c.args.requests body body [] ends.wire ends.payload (left_of c.in-Ok-finish.next)
           c.in-Ok.ensures.next (Takes-none g.R.TellRead.remaining body.stream body.rest) ends.went ends.is,
     )
 
