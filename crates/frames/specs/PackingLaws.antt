@@ -22,7 +22,7 @@ all_ended max bytes lines is =
     whole : (bytes : List ℕ) (lines : List (List ℕ)) → IsPieces (lined max) bytes lines [] → bytes ≡ with_ends lines
     whole bytes [] is = is
     whole bytes (line ∷ lines) (more, starts, is) =
-        starts.equal ∙ ap (λ l. l ++ more) starts.is.equal ∙ ap (λ l. with_end line ++ l) (whole more lines is)
+        starts.equal ∙ ap (λ l. l ++ more) starts.is.2 ∙ ap (λ l. with_end line ++ l) (whole more lines is)
 
 -- a frame has a byte
 pub some_frame : (line : List ℕ) → 0 < length (frames (line ∷ []))

@@ -48,7 +48,7 @@ module _ {S : Type 0} (f : LineState S) (whole : IsLineReader f) where
     length-append b.piece b.more,
     (delimited_lawful newline f.pieces.decoder.max).some b.piece b.payload b.is,
   ))
-  settled_open (inr (inr (e, wrong))) = open_left (omega (arith, wrong.above))
+  settled_open (inr (inr (e, wrong))) = open_left (omega (arith, wrong.0))
 
 module _ {S : Type 0} (remaining : S → Option (List ℕ)) where
   -- a line that is too long is refused as it stands
@@ -59,7 +59,7 @@ module _ {S : Type 0} (remaining : S → Option (List ℕ)) where
       let max = s.pieces.decoder.max in
       NextLine-of remaining s s (Err (TooLong max)) open' (
         NextPiece-refused remaining (lined max) s.pieces whole.whole (omega (arith, above)) (record { 0 = max })
-            (record { above = above; plain = long_plain max (rest s.pieces) none above; told = refl }),
+            (above, long_plain max (rest s.pieces) none above, refl),
         open',
       )
 
@@ -71,7 +71,7 @@ module _ {S : Type 0} (remaining : S → Option (List ℕ)) where
       open_found =
           let all = PiecesWent-unasked remaining _ s.pieces t next.bytes next.went (ap (λ r. r.log) same) in
           let some : 0 < length next.bytes = elim next.answers.1 [
-            | inl (is, going, none) ↦ omega (arith, ap length is.equal, length-append line (newline ∷ []))
+            | inl (is, going, none) ↦ omega (arith, ap length is.2, length-append line (newline ∷ []))
             | inr (last, part, some, none, ended, met) ↦ some
           ] in
           open_left s whole (omega (arith, some, ap length all, length-append next.bytes (rest t)))
@@ -165,7 +165,7 @@ module _ {S : Type 0} (remaining : S → Option (List ℕ)) where
         by_open (answer ≡ Ok (Some line))
         (λ step. same_some answer line
         (NextPiece-ready remaining (lined max) (delimited_lawful newline max) s.pieces (piece_answer answer) t.pieces step.0
-        (with_end line) line more (record { plain = plain; fits = fits; equal = refl })
+        (with_end line) line more (plain, fits, refl)
         (front ∙ sym (append_assoc line (newline ∷ []) more))).0)
         (open_left s whole (omega (arith, ap length front, length-append line (newline ∷ more))))
 
@@ -174,7 +174,7 @@ module _ {S : Type 0} (remaining : S → Option (List ℕ)) where
         by_open (answer ≡ Err (TooLong max))
         (λ step. same_long answer (record { 0 = max })
         (NextPiece-wrong remaining (lined max) (delimited_lawful newline max) s.pieces (piece_answer answer) t.pieces step.0
-        (record { 0 = max }) (record { above = long.above; plain = long.plain; told = refl })).0)
+        (record { 0 = max }) (long.above, long.plain, refl)).0)
         (open_left s whole (omega (arith, long.above)))
 
     NextLine-told : s.pieces.ended ≡ true → answer ≡ Ok None

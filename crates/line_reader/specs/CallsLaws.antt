@@ -123,7 +123,7 @@ module _ {S : Type 0} (remaining : S → Option (List ℕ)) (s t : LineState S) 
       [],
       (IsHanded-fits s.pieces.decoder.max s.pieces t.pieces line n.0.bytes n.0.answers.1).plain,
       elim n.0.answers.1 [
-        | inl (is, going, none) ↦ inl (is.equal ∙ sym (append-nil (with_end line)))
+        | inl (is, going, none) ↦ inl (is.2 ∙ sym (append-nil (with_end line)))
         | inr (is, part, some, none, ended, met) ↦
             inr (sym is ∙ sym (append-nil line), omega (arith, some, ap length is), ended)
       ],
@@ -157,7 +157,7 @@ module _ {S : Type 0} (remaining : S → Option (List ℕ)) (s t : LineState S) 
           [],
           (IsHanded-fits s.pieces.decoder.max s.pieces t.pieces line n.0.bytes n.0.answers.1).plain,
           elim n.0.answers.1 [
-            | inl (is, going, none) ↦ inl (is.equal ∙ sym (append-nil (with_end line)), subst Shows going trims)
+            | inl (is, going, none) ↦ inl (is.2 ∙ sym (append-nil (with_end line)), subst Shows going trims)
             | inr (is, part, some, none, ended, met) ↦
                 inr ((sym is ∙ sym (append-nil line), omega (arith, some, ap length is), ended), subst Shows ended trims)
           ],

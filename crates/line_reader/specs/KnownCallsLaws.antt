@@ -188,7 +188,7 @@ module _ {S : Type 0} (remaining : S → Option (List ℕ)) (s t : LineState S) 
       let fits = IsHanded-fits s.pieces.decoder.max s.pieces t.pieces line next.bytes next.answers.1 in
       took_line remaining s t [] lines b next.bytes next.went [] no_line (λ _. refl) (next_quiet (Ok (Some line)) n) line
       fits.plain (elim next.answers.1 [
-        | inl (is, going, none) ↦ inl (is.equal ∙ sym (append-nil (with_end line)))
+        | inl (is, going, none) ↦ inl (is.2 ∙ sym (append-nil (with_end line)))
         | inr (is, part, some, none, ended, met) ↦
             inr (sym is ∙ sym (append-nil line), omega (arith, some, ap length is), ended)
       ])

@@ -123,7 +123,7 @@ HasLine-end s open' isnt =
         open' = open';
         settled = inr (elim (line_or_long max (rest s.pieces) line more plain equal) [
           | inl begins ↦ inl begins
-          | inr long ↦ inr (record { 0 = max }, record { above = long.above; plain = long.plain; told = refl })
+          | inr long ↦ inr (record { 0 = max }, (long.above, long.plain, refl))
         ]);
       }
     ]

@@ -37,7 +37,7 @@ line_or_long max bytes line more plain equal = elim (cases_lt max (length line))
     piece = with_end line;
     payload = line;
     more = more;
-    is = record { plain = plain; fits = fits; equal = refl };
+    is = (plain, fits, refl);
     equal = equal ∙ sym (append_assoc line (newline ∷ []) more);
   })
 ]

@@ -35,7 +35,7 @@ same_long (Err (Io x)) e is = cc
 -- a piece that is handed out is a line that fits
 pub IsHanded-fits : {S D : Type 0} (max : ℕ) (s t : ReaderState S D) (line bytes : List ℕ)
     → IsHanded (lined max) s line bytes t → FitsLine max line
-IsHanded-fits max s t line bytes (inl (is, going, none)) = record { plain = is.plain; fits = is.fits }
+IsHanded-fits max s t line bytes (inl (is, going, none)) = record { plain = is.0; fits = is.1 }
 IsHanded-fits max s t line bytes (inr (is, open', some, none, ended, met)) =
     let p = open_plain newline max bytes open' in
     record { plain = subst IsLine (sym is) p.0; fits = omega (arith, p.1, ap length is) }
@@ -45,7 +45,7 @@ module _ {S D : Type 0} (max : ℕ) (s t : ReaderState S D) (line bytes : List �
     (handed : IsHanded (lined max) s line bytes t) where
   pub IsHanded-end : t.ended ≡ false → bytes ≡ with_end line
   IsHanded-end going = elim handed [
-    | inl whole ↦ whole.0.equal
+    | inl whole ↦ whole.0.2
     | inr last ↦ (let odd : true ≡ false = sym last.4 ∙ going in cc)
   ]
 
@@ -59,7 +59,7 @@ module _ {S D : Type 0} (max : ℕ) (s t : ReaderState S D) (line bytes : List �
 pub NextPiece-long : {S D : Type 0} (remaining : S → Option (List ℕ)) (max : ℕ) (s t : ReaderState S D) (e : piece.TooLong)
     → NextPiece remaining (lined max) s (Err (Wrong e)) t → BeginsTooLong max (rest t) × NoEnd s t
 NextPiece-long remaining max s t e next = elim next.answers.3 [
-  | inl (wrong, none) ↦ (record { above = wrong.above; plain = wrong.plain }, none)
+  | inl (wrong, none) ↦ (record { above = wrong.0; plain = wrong.1 }, none)
   | inr (cut, open', some, met) ↦ absurd cut
 ]
 

@@ -39,8 +39,8 @@ lines-ended line text lines plain has = record {
 pub lines_of : (max : ℕ) (text : List ℕ) (lines : List (List ℕ)) → HasPieces (lined max) text lines → HasLines text lines
 lines_of max text [] none = subst (λ l. HasLines l []) (sym none) lines-none
 lines_of max text (line ∷ lines) (inl (more, s, has)) =
-    subst (λ l. HasLines l (line ∷ lines)) (sym (s.equal ∙ ap (λ l. l ++ more) s.is.equal))
-    (lines-ended line more lines s.is.plain (lines_of max more lines has))
+    subst (λ l. HasLines l (line ∷ lines)) (sym (s.equal ∙ ap (λ l. l ++ more) s.is.2))
+    (lines-ended line more lines s.is.0 (lines_of max more lines has))
 lines_of max text (line ∷ lines) (inr (last, none)) =
     subst (λ l. HasLines text (l ∷ lines)) (sym last.is)
     (subst (λ l. HasLines text (text ∷ l)) (sym none)
@@ -51,7 +51,7 @@ pub fits_of : (max : ℕ) (text : List ℕ) (lines : List (List ℕ)) → HasPie
     → All (FitsLine max) lines
 fits_of max text [] none = All-nil (FitsLine max)
 fits_of max text (line ∷ lines) (inl (more, s, has)) =
-    All-cons (FitsLine max) line lines (record { plain = s.is.plain; fits = s.is.fits }) (fits_of max more lines has)
+    All-cons (FitsLine max) line lines (record { plain = s.is.0; fits = s.is.1 }) (fits_of max more lines has)
 fits_of max text (line ∷ lines) (inr (last, none)) =
     let p = open_plain newline max text last.open' in
     let line_fits : FitsLine max line =
@@ -81,7 +81,7 @@ pieces_of max text lines has fit =
           with_ends whole ++ last,
           record {
             piece = with_end line;
-            is = record { plain = first.plain; fits = first.fits; equal = refl };
+            is = (first.plain, first.fits, refl);
             equal = append_assoc (with_end line) (with_ends whole) last;
           },
           pieces whole last (All-tail (FitsLine max) line (whole ++ last_line last) fit),
@@ -125,7 +125,7 @@ Lines-first line more text lines plain front has =
     let fits : length line ≤ max = omega (arith, ap length front, length-append line (newline ∷ more)) in
     let first = Pieces-first (lined max) (law text) text line more lines (record {
       piece = with_end line;
-      is = record { plain = plain; fits = fits; equal = refl };
+      is = (plain, fits, refl);
       equal = front ∙ sym (append_assoc line (newline ∷ []) more);
     }) (text_pieces text lines has) in
     (first.0, first.1, lines_of max more first.0 first.2)
