@@ -124,7 +124,8 @@ module _ {T W : Type 0} (rules : FilterRules T W) where
       module _ (answer : Result Bool (Cause W)) (next : ForwardsNext rules s answer t) where
         pub goes_on : Goes rules Such (option_map_or flushed_last (result_err answer) 0) first t
         goes_on = Goes-joins rules Such (option_map_or flushed_last (result_err answer) 0) first s t before.goes
-            (Goes-weaker rules (AskedFrom rules s.filter) Such so (option_map_or flushed_last (result_err answer) 0) s t next.goes)
+            (Goes-weaker rules (AskedFrom rules s.filter) Such so (option_map_or flushed_last (result_err answer) 0) s t
+            next.goes)
 
         pub once_on : AsksOnce rules first.filter t.filter
         once_on = AsksOnce-joins rules first.filter s.filter t.filter before.once before.still next.once

@@ -7,16 +7,11 @@ use Rattle.frame_reader.specs.Frames.{BeginsTooLong, Fits, frame, frames, header
 use Rattle.frame_reader.specs.declared.frame.FrameFault.{FrameFault}
 use Rattle.frame_reader.specs.declared.frame.FrameFault.TheVariants.{Truncated, TooLong}
 
--- the bytes are the frame of this payload, which fits
-pub record IsFrame (max : ℕ) (bytes payload : List ℕ) : Type 0 where
-  pub fits : Fits max payload
-  pub equal : bytes ≡ frame payload
-
--- no frame is one only since the stream ends, so what is left there is cut short
+-- a piece is the frame of a payload that fits. None is one only since the stream ends, so what is left there is cut short
 abbrev pub framed : ℕ → Grammar FrameFault
 framed max = record {
   most = 2 + max;
-  piece = IsFrame max;
+  piece = λ bytes payload. record { fits : Fits max payload; equal : bytes ≡ frame payload };
   wrong = λ bytes e. (long : BeginsTooLong max bytes) × (e ≡ TooLong long.len);
   last = λ bytes payload. ⊥;
   cut = λ bytes e. e ≡ Truncated (length bytes);

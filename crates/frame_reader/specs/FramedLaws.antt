@@ -9,7 +9,7 @@ use Rattle.codec.specs.Grammar.{IsLawful}
 use Rattle.codec.specs.TextLaws as pieces
 use Rattle.codec.specs.Texts.{HasPieces, IsPieces}
 use Rattle.frame_reader.specs.declared.frame.FrameFault.TheVariants.{TooLong}
-use Rattle.frame_reader.specs.Framed.{IsFrame, Splits, framed, framed_out}
+use Rattle.frame_reader.specs.Framed.{Splits, framed, framed_out}
 use Rattle.frame_reader.specs.Frames.{BeginsWith, Fits, frame, frames, header}
 use Rattle.frame_reader.specs.FramesLaws.{frame-same, header-same}
 
@@ -23,7 +23,7 @@ begins-more len bytes more s = record {
   equal = ap (λ l. l ++ more) s.equal ∙ append_assoc (header len) s.more more;
 }
 
-size : (max : ℕ) (p a : List ℕ) → IsFrame max p a → length p ≡ 2 + length a
+size : (max : ℕ) (p a : List ℕ) → (framed max).piece p a → length p ≡ 2 + length a
 size max p a is = ap length is.equal ∙ length-append (header (length a)) a
 
 -- a whole frame is there
@@ -49,7 +49,7 @@ frame_there max len bytes begins fits inside =
         ∙ ap (λ l. header n ++ take n (drop 2 l)) (sym is)
 
 module _ (max : ℕ) (word : max < 2 ^ 16) where
-  begins-frame : (p a more : List ℕ) → IsFrame max p a → BeginsWith (length a) (p ++ more)
+  begins-frame : (p a more : List ℕ) → (framed max).piece p a → BeginsWith (length a) (p ++ more)
   begins-frame p a more is = record {
     word = omega (arith, word, is.fits);
     more = a ++ more;
@@ -140,5 +140,5 @@ framed_writable max = record {
   apart = λ payload len fits refused. omega (arith, fits, refused.0, refused.1);
 }
 
-pub framed_back : (max : ℕ) (payload : List ℕ) → Fits max payload → IsFrame max (coded (framed_out max) payload) payload
+pub framed_back : (max : ℕ) (payload : List ℕ) → Fits max payload → (framed max).piece (coded (framed_out max) payload) payload
 framed_back max payload fits = record { fits = fits; equal = coded_frame max payload }

@@ -35,13 +35,7 @@ pub record BeginsTooLong (max : ℕ) (bytes : List ℕ) : Type 0 where
   pub above : max < len
   pub begins : BeginsWith len bytes
 
--- the bytes are less than a frame whose length is at most max, and more than its length
-pub record StopsInPayload (max : ℕ) (bytes : List ℕ) : Type 0 where
-  pub len : ℕ
-  pub fits : len ≤ max
-  pub begins : BeginsWith len bytes
-  pub short : length bytes < 2 + len
-
--- the bytes are less than a frame, and not nothing
+-- the bytes are less than a frame whose length is at most max, and not nothing: a part of its length, or of its payload
 abbrev pub IsCutShort : ℕ → List ℕ → Type 0
-IsCutShort max bytes = (length bytes ≡ 1) ⊎ StopsInPayload max bytes
+IsCutShort max bytes = (length bytes ≡ 1)
+    ⊎ record { len : ℕ; fits : len ≤ max; begins : BeginsWith len bytes; short : length bytes < 2 + len }

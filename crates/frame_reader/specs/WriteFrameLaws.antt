@@ -1,5 +1,5 @@
 -- Laws of a writer of frames, for the proofs of those who call one.
-use Rattle.std.specs.Prelude.{ℕ, List, [], ◌∷◌, ◌++◌, map}
+use Rattle.std.specs.Prelude.{ℕ, List, [], ◌∷◌, ◌++◌, Result, map}
 use Rattle.std.proofs.Common.{sym, subst}
 use Rattle.std.proofs.lemmas.List.{map-append}
 use Rattle.buffer_redux.specs.BufWriter.{WritesInOrder}
@@ -7,16 +7,18 @@ use Rattle.codec.specs.PieceWriter.{WriterState}
 use Rattle.codec.specs.WritePiece.{PiecesTaken}
 use Rattle.codec.specs.WriteRuns.{WritePlays}
 use Rattle.codec.specs.WriteRunsLaws.{WritePlays-more}
+use Rattle.frame_reader.specs.declared.error.WriteFrameError.{WriteFrameError}
 use Rattle.frame_reader.specs.declared.frame.Frames.{Frames}
 use Rattle.frame_reader.specs.Framed.{framed_out}
 use Rattle.frame_reader.specs.FramedLaws.{coded_frames}
 use Rattle.frame_reader.specs.Frames.{frames}
-use Rattle.frame_reader.specs.WriteFrame.{WriteAnswer, WritesFrame, piece_written}
+use Rattle.frame_reader.specs.WriteFrame.{WritesFrame, piece_written}
 
 -- calls of `write_frame` are calls of a writer of pieces: one more
 pub WritesFrame-more : {S : Type 0} (trace : S → S → Type 0) → ((x : S) → trace x x)
     → ((a b c : S) → trace a b → trace b c → trace a c) → (s : WriterState S Frames) (payloads : List (List ℕ))
-    (answers : List WriteAnswer) (m : WriterState S Frames) (payload : List ℕ) (answer : WriteAnswer) (t : WriterState S Frames)
+    (answers : List (Result (Unit {0}) WriteFrameError)) (m : WriterState S Frames) (payload : List ℕ)
+    (answer : Result (Unit {0}) WriteFrameError) (t : WriterState S Frames)
     → WritePlays trace (framed_out s.encoder.max) s payloads (map piece_written answers) m
     → WritesFrame trace m payload answer t
     → WritePlays trace (framed_out s.encoder.max) s (payloads ++ payload ∷ []) (map piece_written (answers ++ answer ∷ [])) t
