@@ -23,15 +23,30 @@ use Rattle.chunked.specs.declared.limits.Limits.{Limits}
 use Rattle.chunked.specs.declared.place.Place.{Place}
 use Rattle.chunked.specs.declared.place.Place.TheVariants.{Done}
 use Rattle.chunked.proofs.Alive.{Completes-some}
-use Rattle.messages.specs.Messages.{Bytes, Chunks, EachGave, Ends, Fails, IsRest, IsRoomy, Onward, Takes, body_error, GoesOn, IsReady, Rest, Unended}
+use Rattle.messages.specs.Messages.{Backward, Bytes, Chunks, EachGave, Ends, Fails, IsRest, IsRoomy, Onward, Takes, body_error, GoesOn, IsReady, Rest, Unended}
 use Rattle.messages.specs.declared.error.BodyError.TheVariants.{Truncated, Io as Fault}
 use Rattle.messages.specs.MessagesLaws.{Onward-joins}
 
 -- some of so many bytes
-pub bytes_onward : (left : ℕ) (wire : List ℕ) (left' : ℕ) → length wire + left' ≡ left
+bytes_onward : (left : ℕ) (wire : List ℕ) (left' : ℕ) → length wire + left' ≡ left
     → Onward (Bytes left) wire wire (Bytes left')
 bytes_onward left wire left' few later payload is =
     (omega (arith, few, is.0, length-append wire later), ap (λ l. wire ++ l) is.1)
+
+bytes_backward : (left : ℕ) (wire : List ℕ) (left' : ℕ) → length wire + left' ≡ left
+    → Backward (Bytes left) wire wire (Bytes left')
+bytes_backward left wire left' few later whole is =
+    (later, is.1, (omega (arith, few, is.0, length-append wire later), refl))
+
+pub bytes_take : {R : Type 0} {remaining : R → Option (List ℕ)} {s t : Buffered R StdPolicy} (left : ℕ) (wire : List ℕ)
+    (left' : ℕ) → ReadsAlong remaining std_read_rules s wire t → length wire + left' ≡ left
+    → Takes remaining (unbuffered s) (Bytes left) wire (unbuffered t) (Bytes left')
+bytes_take {R} {remaining} {s} {t} left wire left' along few = record {
+  wire = wire;
+  went = ReadsAlong-stream remaining std_read_rules s wire t along;
+  onward = bytes_onward left wire left' few;
+  backward = bytes_backward left wire left' few;
+}
 
 -- where a body in chunks ended none is left
 pub chunks_done : {S P : Type 0} {t : ChunkedState S P} → IsChunkedReader t → IsWhole t → IsRest (Chunks t.limits t.place) [] []
@@ -74,12 +89,24 @@ module _ {S P : Type 0} {remaining : S → Option (List ℕ)} {rules : ReadRules
         subst (Completes s.limits s.place (went.wire ++ later))
         (sym (append_cancel_left (handed_of s) (handed ++ payload) back.0 back.1)) back.2
 
+    chunks_backward : Backward (Chunks s.limits s.place) went.wire handed (Chunks t.limits t.place)
+    chunks_backward later whole completes =
+        let back = is'.leads.back later (handed_of s ++ whole)
+        (rw (went.limits, went.taken, append_assoc s.taken went.wire later)
+        (is.leads.onward (went.wire ++ later) whole completes)) in (
+          back.0,
+          append_cancel_left (handed_of s) whole (handed ++ back.0)
+              (back.1 ∙ ap (λ l. l ++ back.0) went.handed ∙ append_assoc (handed_of s) handed back.0),
+          back.2,
+        )
+
     pub chunks_take : Takes remaining (unbuffered s.reader) (Chunks s.limits s.place) handed (unbuffered t.reader)
         (Chunks t.limits t.place)
     chunks_take = record {
       wire = went.wire;
       went = ReadsAlong-stream remaining rules s.reader went.wire t.reader went.along;
       onward = chunks_onward;
+      backward = chunks_backward;
     }
 
 -- an error of a reader of chunks says why no payload comes

@@ -41,6 +41,11 @@ IsRest (Chunks limits place) wire payload = Completes limits place wire payload
 abbrev pub Onward : Rest → List ℕ → List ℕ → Rest → Type 0
 Onward r wire handed r' = (later payload : List ℕ) → IsRest r' later payload → IsRest r (wire ++ later) (handed ++ payload)
 
+-- what is the one rest with these bytes in front has this payload in front, and the other rest behind it
+abbrev pub Backward : Rest → List ℕ → List ℕ → Rest → Type 0
+Backward r wire handed r' = (later whole : List ℕ) → IsRest r (wire ++ later) whole
+    → (payload : List ℕ) × (whole ≡ handed ++ payload) × IsRest r' later payload
+
 -- these bytes begin that, with this payload in them, and it goes on behind them
 pub record GoesOn (r : Rest) (handed bytes : List ℕ) : Type 0 where
   pub rest : Rest
@@ -86,12 +91,14 @@ answer_of Ended = Ok None
 answer_of (Bad e) = Err (why.Wrong e)
 answer_of (Io e) = Err (why.Io e)
 
--- in a stream of which that is left of a body, these bytes of the body were taken, in which there is this payload
+-- in a stream of which that is left of a body, these bytes of the body were taken, in which there is this payload: just what
+-- completes the body behind them completes it before
 pub record Takes {S : Type 0} (remaining : S → Option (List ℕ)) (s : Unbuffered S) (r : Rest) (handed : List ℕ)
     (t : Unbuffered S) (r' : Rest) : Type 0 where
   pub wire : List ℕ
   pub went : StreamWent remaining s wire t
   pub onward : Onward r wire handed r'
+  pub backward : Backward r wire handed r'
 
 -- the next byte of payload is left of a buffer, or none is to come
 abbrev pub IsReady : {S : Type 0} → Unbuffered S → Rest → Type 0

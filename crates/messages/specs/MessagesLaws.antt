@@ -16,7 +16,7 @@ use Rattle.messages.specs.declared.head.Extent.TheVariants.{Sized, Chunked}
 use Rattle.messages.specs.declared.head.Heads as head
 use Rattle.messages.specs.Heads.{IsHead, IsHeadPiece, extent_of, heads}
 use Rattle.messages.specs.HeadsLaws.{heads_lawful}
-use Rattle.messages.specs.Messages.{AreMessages, Begun, InBody, InTurn, InsideGoes, IsMessage, IsRest, Message, MessagesWent, Onward, Rest, Takes, body_of}
+use Rattle.messages.specs.Messages.{AreMessages, Backward, Begun, InBody, InTurn, InsideGoes, IsMessage, IsRest, Message, MessagesWent, Onward, Rest, Takes, body_of}
 
 -- a body ends in one place
 one_body : (e : Extent) (a b p q xs ys : List ℕ) → IsRest (body_of e) a p → IsRest (body_of e) b q → a ++ xs ≡ b ++ ys
@@ -74,6 +74,12 @@ pub Onward-joins : (r q u : Rest) (a b h k : List ℕ) → Onward r a h q → On
 Onward-joins r q u a b h k first second later payload is =
     simp append_assoc (first (b ++ later) (k ++ payload) (second later payload is))
 
+Backward-joins : (r q u : Rest) (a b h k : List ℕ) → Backward r a h q → Backward q b k u → Backward r (a ++ b) (h ++ k) u
+Backward-joins r q u a b h k first second later whole is =
+    let one = first (b ++ later) whole (simp append_assoc at is) in
+    let two = second later one.0 one.2 in
+    (two.0, one.1 ∙ ap (λ l. h ++ l) two.1 ∙ sym (append_assoc h k two.0), two.2)
+
 module _ {S : Type 0} (remaining : S → Option (List ℕ)) where
   -- a head that was handed out
   pub lent : (s t : ReaderState S head.Heads) (bytes : List ℕ) (next : NextPiece remaining heads s (Ok (Some bytes)) t)
@@ -90,7 +96,12 @@ module _ {S : Type 0} (remaining : S → Option (List ℕ)) where
 
   -- calls in a body go on
   pub Takes-none : (s : Unbuffered S) (r : Rest) → Takes remaining s r [] s r
-  Takes-none s r = record { wire = []; went = StreamWent-none remaining s; onward = λ later payload is. is }
+  Takes-none s r = record {
+    wire = [];
+    went = StreamWent-none remaining s;
+    onward = λ later payload is. is;
+    backward = λ later whole is. (whole, refl, is);
+  }
 
   pub Takes-joins : (s m t : Unbuffered S) (r q u : Rest) (h k : List ℕ) → Takes remaining s r h m q
       → Takes remaining m q k t u → Takes remaining s r (h ++ k) t u
@@ -98,6 +109,7 @@ module _ {S : Type 0} (remaining : S → Option (List ℕ)) where
     wire = a.wire ++ b.wire;
     went = StreamWent-joins remaining s m t a.wire b.wire a.went b.went;
     onward = Onward-joins r q u a.wire b.wire h k a.onward b.onward;
+    backward = Backward-joins r q u a.wire b.wire h k a.backward b.backward;
   }
 
   pub InsideGoes-none : (b : InBody S) → InsideGoes remaining b [] b
