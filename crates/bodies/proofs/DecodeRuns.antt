@@ -71,7 +71,7 @@ module _ {R W : Type 0} (remaining : R → Option (List ℕ)) (limits : Limits) 
     abbrev moved_over : Moved limits first.log t.source.reader.log u.log t.target.log
     moved_over = moved over.payloads [] over.payloads (sym (append-nil over.payloads)) over.moves
 
-    -- so many pieces have so many bytes
+    -- there are no more payloads than bytes of them
     counted : count ≤ length moved_over.payload
     counted = omega (
       arith,
@@ -81,7 +81,7 @@ module _ {R W : Type 0} (remaining : R → Option (List ℕ)) (limits : Limits) 
       length-append (joined over.payloads) (held_of t),
     )
 
-    -- and was sent
+    -- what went over was sent
     module _ (held : t.held ≡ 0) (sent : AllSent t.target) where
       abbrev moved_all : MovedAll limits first.log t.source.reader.log u.log t.target.log
       moved_all = record {
@@ -119,7 +119,7 @@ module _ {R W : Type 0} (remaining : R → Option (List ℕ)) (limits : Limits) 
   ended count (over, (held, (whole, left, dry)), sent, met) =
       (moved_all count over held sent, is_body count over held sent whole, left, dry, met)
 
-  -- or it was stopped
+  -- the run was stopped
   pub stopped : (count : ℕ) (why : Cause RunError) (e : RunError) → StopsBy rules count begin why t → IsErrorOf why e
       → Ran (Err e)
   stopped count (cause.Wrong why) e (over, (held, end), sent, met) is =

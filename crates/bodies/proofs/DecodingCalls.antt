@@ -101,7 +101,7 @@ module _ {R W : Type 0} (remaining : R → Option (List ℕ)) (s : Decoding R W)
       held = most;
     }
 
-    -- it could not be written, or was
+    -- a piece that is held could not be written, or was
     pub not_written : (e : Error) → WritesPiece u.target (held_of u) (Err e) v
         → Passes rules s (Err e) (record u { target = v })
     not_written e wrote =
@@ -242,7 +242,7 @@ module _ {R W : Type 0} (remaining : R → Option (List ℕ)) (s : Decoding R W)
     asked_more n p some = asks_so m n (omega (arith, p.answers.0, len, ready.room)) p.went p.whole (over (Ok n) p)
         (omega (arith, ends (Ok n) p)) (Ok true) (some, p.answers.1, inl (read_gives n p))
 
-    -- or that failed
+    -- the ask for a piece failed
     pub asked_failed : (e : ChunkedError) → ReadsPayload remaining std_read_rules s.source out (Err e) m
         → Asks rules s (Err (ask_error e)) (asked m s.held)
     asked_failed (NotChunked why right) p =

@@ -115,7 +115,7 @@ module _ {R W : Type 0} (remaining : R → Option (List ℕ)) (trace : W → W �
     moved_all end v taken left sent =
         record { moved = moved_over end v taken; all = left; none_left = sent.empty; flushed = sent.flushed }
 
-    -- and so did the end of the body, or not
+    -- the end of the body went over, or not
     module _ (left : t.source.block.bytes ≡ []) (met : NoneFailed rules begin t) (v : Buffered W StdPolicy) where
       pub ended : t.source.log.reads.zero_reads ≡ first.log.reads.zero_reads + 1 → (answer : Result (Unit {0}) RunError)
           → EndsBody t.target.writer answer v → EncodeRan first.log t.source.log u.log v.log answer
@@ -141,7 +141,7 @@ module _ {R W : Type 0} (remaining : R → Option (List ℕ)) (trace : W → W �
                 (record { reader = OnlyInterrupts-none t.source.log.reads.faults; writer = end.answers.1.2 }),
           )
 
-  -- it was stopped, and no end was taken in
+  -- the run was stopped, and no end was taken in
   abbrev still : WritesInOrder t.target.writer [] t.target.writer
   still = WritesInOrder-none t.target.writer
 

@@ -28,7 +28,7 @@ pub record Quiet {W : Type 0} (u v : Buffered W StdPolicy) : Type 0 where
   pub flushes : v.log.writes.flushes ≡ u.log.writes.flushes
 
 module _ {W : Type 0} (tells : W → StreamLog) (trace : W → W → Type 0) where
-  -- so it is where bytes go in, whether or not what was buffered had to be sent first
+  -- a call that takes bytes in was quiet, whether or not what was buffered had to be sent first
   pub put_quietly : (u v : Buffered W StdPolicy) (bytes more : List ℕ) (n : ℕ) → (n ≤ room u → PutsIn u bytes v)
       → (room u < n → SendsFirst tells trace u more v) → Quiet u v
   put_quietly u v bytes more n fits full = elim (cases_lt (room u) n) [
@@ -54,7 +54,7 @@ module _ {W : Type 0} (tells : W → StreamLog) (trace : W → W → Type 0) whe
     chunk_quietly n p = put_quietly b.writer c.writer (chunk payload) (chunk (take n payload)) (around + length payload)
         (λ there. (p.fits some there).1) (λ none. (p.full some none).1)
 
-    -- it has a byte at least
+    -- a chunk that was written has a byte at least
     pub chunk_some : (n : ℕ) → WritesChunk tells trace b payload (Ok n) c → IsChunkedWriter b → 0 < n
     chunk_some n p is = elim (cases_lt (room b.writer) (around + length payload)) [
       | inl none ↦ omega (arith, (p.full some none).0, some, is.capacity)
@@ -118,7 +118,7 @@ module _ {R W : Type 0} (remaining : R → Option (List ℕ)) (tells : W → Str
   abbrev rules : FilterRules (Encoding R W) RunError
   rules = encoding_rules remaining trace
 
-  -- it is made a chunk
+  -- what is buffered is made a chunk
   module _ (some : 0 < length s.source.block.bytes) (c : ChunkedWriterState W) where
     pub not_passed : (e : Error) → WritesChunk tells trace s.target s.source.block.bytes (Err e) c
         → Passes rules s (Err e) (record s { target = c })
@@ -190,7 +190,7 @@ module _ {R W : Type 0} (remaining : R → Option (List ℕ)) (tells : W → Str
       answers = flush_answers answer f;
     }
 
-  -- it is asked for
+  -- more is asked for
   module _ (lacks : s.source.block.bytes ≡ []) (t : Buffered R StdPolicy)
       (along : ReadsAlong remaining std_read_rules s.source [] t) where
     abbrev after : Encoding R W
@@ -243,7 +243,7 @@ module _ {R W : Type 0} (remaining : R → Option (List ℕ)) (tells : W → Str
           }),
         )
 
-    -- or a read failed
+    -- a read failed
     pub not_asked : {A : Type 0} (e : Error) → Fills {A = A} std_read_rules s.source (Err e) t
         → Asks rules s (Err (Io e)) after
     not_asked e fills =

@@ -103,7 +103,7 @@ module _ {S P K : Type 0} (remaining : S → Option (List ℕ)) (rules : ReadRul
       took = before.took;
     }
 
-    -- it failed, or showed nothing behind what the sink left
+    -- a fill failed, or showed nothing behind what the sink left
     pub ends_failed : (e : Error) (t : Buffered S P) → sink.leaves m.block.bytes → Lacks byte m.block.bytes
         → FillsMore {A = Unit {0}} remaining rules m (Err e) t
         → HandsUntil remaining rules sink byte s k (Err e) t l
@@ -130,7 +130,7 @@ module _ {S P K : Type 0} (remaining : S → Option (List ℕ)) (rules : ReadRul
       }));
     }
 
-    -- it showed nothing, and nothing is left
+    -- a fill showed nothing, and nothing is left
     pub ends_empty : (t : Buffered S P) → sink.leaves m.block.bytes → FillsMore {A = Unit {0}} remaining rules m (Ok tt) t
         → length t.block.bytes ≡ 0 → HandsUntil remaining rules sink byte s k (Ok tt) t l
     ends_empty t leaves f none = record {

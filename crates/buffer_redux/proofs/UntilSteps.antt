@@ -115,7 +115,7 @@ module _ {S P : Type 0} {step : Step (Buffered S P) (Unit {0})} (remaining : S �
       steps_consumed t (at + 1) (omega (arith, first.inside)) gone,
     )
 
--- or the call stops before them, and does nothing
+-- the call stops before the byte, and does nothing
 pub stopped : {S P : Type 0} {leaves : List ℕ → Type 0} (remaining : S → Option (List ℕ)) (rules : ReadRules P) (byte : ℕ)
     (s m : Buffered S P) (handed : List ℕ) → Passes remaining rules (FillsOn leaves remaining rules) byte s handed m
     → (stops : Stops) (at : ℕ) (e : Error) (t : Buffered S P) → FirstAt byte at m.block.bytes → t ≡ m

@@ -11,6 +11,6 @@ pub record AskedOver {R : Type 0} (Such : List ℕ → Type 0) (s t : Unbuffered
   pub some : s.log.reads.asks < t.log.reads.asks
   pub asks : t.log.reads.asks ≤ s.log.reads.asks + length came + 1
 
--- so it was, or it wasn't asked
+-- the stream wasn't asked, or only where what was there was such
 abbrev pub AskedWhere : {R : Type 0} → (List ℕ → Type 0) → Unbuffered R → Unbuffered R → Type 0
 AskedWhere Such s t = (t.log ≡ s.log) ⊎ AskedOver Such s t

@@ -57,7 +57,7 @@ module _ {R : Type 0} where
   abbrev pub AsksGive : Buffered R StdPolicy → Buffered R StdPolicy → Type 0
   AsksGive s t = t.log.reads.asks + length s.log.reads.given ≤ s.log.reads.asks + length t.log.reads.given
 
-  -- and calls took these bytes
+  -- calls took these bytes, and each ask gave a byte
   pub record Took (s : Buffered R StdPolicy) (wire : List ℕ) (t : Buffered R StdPolicy) : Type 0 where
     pub order : ReadsInOrder s wire t
     pub gives : AsksGive s t
@@ -345,7 +345,7 @@ module _ {R : Type 0} (remaining : R → Option (List ℕ)) (s t : ChunkedState 
   last = last_asks s.limits s.reader s.place reads.calls.last t.reader reads.calls.place t.place (length out) answer
       reads.calls.call
 
-  -- it asks only where all that was buffered, then what had come, holds no payload, and the body goes on behind it
+  -- a read asks only where all that was buffered, then what had come, holds no payload, and the body goes on behind it
   pub payload_asks : AskedWhere (LeadsOn s.limits s.place) (unbuffered s.reader) (unbuffered t.reader)
   payload_asks = elim reads.calls.before_end [
     | inl same ↦ subst (λ x. AskedWhere (LeadsOn s.limits s.place) (unbuffered s.reader) (unbuffered x)) same done.asked
@@ -376,7 +376,7 @@ module _ {R : Type 0} (remaining : R → Option (List ℕ)) (s t : ChunkedState 
         | inr some ↦ read_leaves reads.calls.last t.reader some.0 some.1 e some.3
       ]
 
-  -- and nobody where the next byte of payload is buffered
+  -- a read asks nobody where the next byte of payload is buffered
   pub payload_idle : IsSettled s.place → 0 < length s.reader.block.bytes → t.reader.log ≡ s.reader.log
   payload_idle settled some =
       let still = still s.limits s.reader s.place reads.calls.count reads.calls.last reads.calls.place settled

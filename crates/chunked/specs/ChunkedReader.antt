@@ -66,7 +66,7 @@ pub record BreaksAt (limits : Limits) (p : Place) (taken bytes : List ℕ) (why 
   pub name : IsWrong limits p byte why
   pub none : (rest payload : List ℕ) → ¬ IsBody limits (taken ++ byte ∷ rest) payload
 
--- it is still buffered
+-- the next byte that is buffered is wrong
 abbrev pub Breaks : {S P : Type 0} → Malformed → ChunkedState S P → Type 0
 Breaks why t = BreaksAt t.limits t.place t.taken t.reader.block.bytes why
 
@@ -121,7 +121,7 @@ pub record Drains {S P : Type 0} (remaining : S → Option (List ℕ)) (rules : 
   pub before : ReadsOn remaining rules count s last
   pub end : (last ≡ t) ⊎ ((out : List ℕ) × (0 < length out) × ReadsPayload remaining rules last out answer t)
 
--- it was asked whether nothing follows what was taken: the buffer was filled, and nothing else is done
+-- whether nothing follows what was taken was asked: the buffer was filled, and nothing else is done
 pub record LooksBehind {S P : Type 0} (remaining : S → Option (List ℕ)) (rules : ReadRules P) (s : ChunkedState S P)
     (answer : Result Bool Error) (t : ChunkedState S P) : Type 0 where
   pub fills : Fills rules s.reader answer t.reader

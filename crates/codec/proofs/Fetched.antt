@@ -29,7 +29,7 @@ module _ {S D V : Type 0} (remaining : S → Option (List ℕ)) (grammar : D →
   next_ok answer t next = StaysLeft-next remaining (grammar s.decoder) s m stays t answer (stepped answer t next)
 
   module _ {T P : Type 0} (tells : T → StreamLog) (trace : T → T → Type 0) (w v : Buffered T P) where
-    -- and so behind the flush that it needs
+    -- a step behind the flush that it needs is the step that it would have been
     pub first_ok : (x : Unit {0}) → IsLawful (grammar s.decoder) → FlushesToAsk tells trace (grammar m.decoder) m w (Ok x) v
         → (answer : NextAnswer V) (t : ReaderState S D) → NextPiece remaining (grammar m.decoder) m answer t
         → FlushedFirst tells trace (grammar s.decoder) s w {A = Unit {0}} (Ok tt) t v

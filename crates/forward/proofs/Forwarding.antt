@@ -19,7 +19,7 @@ use Rattle.forward.proofs.Between.{SoFar}
 use Rattle.forward.proofs.Moving.{AsksOnce-joins, AsksOnce-none, Goes-joins, Goes-turn, Goes-unasked, Goes-weaker, Moves-joins, Moves-on, StaysOpen-joins, StaysOpen-none}
 
 module _ {T W : Type 0} (rules : FilterRules T W) where
-  -- it was flushed once at most, or not
+  -- the writer was flushed once at most
   once_more : (s t : T) → FlushesOnce rules s t
       → (rules.written t).writes.flushes ≤ (rules.written s).writes.flushes + 1
   once_more s t (inl same) = omega (arith, same)
@@ -262,7 +262,7 @@ module _ {T W : Type 0} (rules : FilterRules T W) where
         );
       }
 
-    -- it was flushed, and asked for in one turn
+    -- the writer was flushed, and a payload asked for in one turn
     module _ (s m t : Linked T) (p : LinkFlushes rules s (Ok tt) m) (answer : Result Bool (AskError W))
         (turn : TakesTurn rules m answer t) where
       moves : Moves rules s.filter [] [] t.filter
@@ -354,7 +354,7 @@ module _ {T W : Type 0} (rules : FilterRules T W) where
       pub some_read : (e : Error) → TakesTurn rules m (Err (asked.IoBehind e)) t → ForwardsNext rules s (Err (Read e)) t
       some_read e turn = not_read (Err (asked.IoBehind e)) e turn turn.answers
 
-      -- it came, and is moved
+      -- a payload came, and is moved
       module _ (turn : TakesTurn rules m (Ok true) t) where
         came : SoFar rules (AskedFrom rules s.filter) 0 s t
         came = record {

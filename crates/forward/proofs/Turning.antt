@@ -13,7 +13,7 @@ use Rattle.forward.specs.declared.error.AskError.TheVariants.{Wrong, Io, IoBehin
 use Rattle.forward.proofs.Moving.{AsksAlong-joins, AsksOnce-joins, AsksOnce-none, Moves-none, Moves-on, NotAsked-none, StaysOpen-joins, StaysOpen-none, along_one, noted_on}
 
 module _ {T W : Type 0} (rules : FilterRules T W) where
-  -- so many asks were interrupted
+  -- as many asks as this count were interrupted
   pub record Retrying (count : ℕ) (s t : Linked T) : Type 0 where
     pub asks : List (Ask T)
     pub noted : t.states ≡ s.states ++ states_of asks
@@ -97,7 +97,7 @@ module _ {T W : Type 0} (rules : FilterRules T W) where
     no_row : (row : ℕ) → Some row ≡ None → ⊥
     no_row row goes = cc
 
-    -- it was interrupted once more, and so many were in a row then
+    -- one more ask was interrupted, behind a row of this count
     module _ (count : ℕ) (t u : Linked T) (before : Retrying count s t) where
       retry : (e : Error) (answer : Result Bool (AskError W)) (next : LinkAsks rules t answer u) → IsInterrupt e
           → rules.waits u.filter × FailedToRead rules e t.filter u.filter × StaysOpen rules t.filter u.filter → (with : ℕ)

@@ -114,12 +114,12 @@ module _ {T W : Type 0} (rules : FilterRules T W) where
     pub quiet : rules.closed s → (rules.read t).reads.zero_reads ≡ (rules.read s).reads.zero_reads
     pub closed : rules.closed s → rules.closed t
 
-  -- it never did: each ask gave a byte, or failed
+  -- the stream never gave nothing: each ask gave a byte, or failed
   pub record Gives (s t : T) : Type 0 where
     pub zero_reads : (rules.read t).reads.zero_reads ≡ (rules.read s).reads.zero_reads
     pub give : AsksGive (rules.read s) (rules.read t)
 
-  -- so it was, or its end is known
+  -- the stream never gave nothing, or its end is known
   abbrev pub StaysOpen : T → T → Type 0
   StaysOpen s t = Gives s t ⊎ rules.closed t
 

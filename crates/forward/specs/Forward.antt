@@ -24,13 +24,13 @@ module _ {T W : Type 0} (rules : FilterRules T W) where
   abbrev pub NoneFailed : T → T → Type 0
   NoneFailed s t = MetNoFault (rules.read s) (rules.read t) (rules.written s) (rules.written t)
 
-  -- so many payloads were handed out, and just they were taken in
+  -- this many payloads were handed out, and just they were taken in
   pub record Forwarded (count : ℕ) (s t : T) : Type 0 where
     pub payloads : List (List ℕ)
     pub moves : Moves rules s payloads payloads t
     pub all : length payloads ≡ count
 
-  -- so many were taken in, and one behind them may be lost
+  -- this many payloads were taken in, and one behind them may be lost
   pub record ForwardedFirst (count : ℕ) (s t : T) : Type 0 where
     pub payloads : List (List ℕ)
     pub lost : List (List ℕ)

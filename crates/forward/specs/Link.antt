@@ -27,7 +27,7 @@ module _ {T W : Type 0} (rules : FilterRules T W) where
     pub told : rules.read t ≡ rules.read s
     pub writes : WritesOn (rules.written s).writes (rules.written t).writes
 
-  -- it was, and nothing was written
+  -- the stream was asked, and nothing was written
   pub record IsAsk (ask : Ask T) : Type 0 where
     pub asks : rules.asks ask.before ask.after
     pub told : rules.written ask.after ≡ rules.written ask.before

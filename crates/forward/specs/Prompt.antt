@@ -22,7 +22,7 @@ pub record SentBeforeAsking (IsDue : List ℕ → List ℕ → Type 0) (read rea
   pub is_due : IsDue before due
   pub sent : WasSent (written.writes.received ++ due) written'.writes
 
--- so it was, or the reader was not asked
+-- the reader was not asked, or what is due of what came before the last ask was sent and flushed
 abbrev pub HoldsNothingBack : (List ℕ → List ℕ → Type 0) → StreamLog → StreamLog → StreamLog → StreamLog → Type 0
 HoldsNothingBack IsDue read read' written written' =
     (read' ≡ read) ⊎ SentBeforeAsking IsDue read read' written written'

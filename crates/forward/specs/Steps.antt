@@ -67,7 +67,7 @@ module _ {T W : Type 0} (rules : FilterRules T W) where
   NextAnswers count s (Ok false) t = Forwarded rules count s t × rules.ends s (Ok tt) t × rules.sent t × NoneFailed rules s t
   NextAnswers count s (Err cause) t = StopsBy rules count s cause t
 
-  -- so it is where a payload went over
+  -- the fact holds where a payload went over
   abbrev pub OnTrue : Result Bool (Cause W) → Type 0 → Type 0
   OnTrue (Ok true) fact = fact
   OnTrue (Ok false) fact = Unit {0}

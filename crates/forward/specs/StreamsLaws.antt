@@ -27,7 +27,7 @@ only_more a b c e p fault is = record {
 pub one_more : (b c : List Error) (e : Error) → c ≡ b ++ e ∷ [] → length c ≡ length b + 1
 one_more b c e fault = ap length fault ∙ length-append b (e ∷ [])
 
--- or failed, and was not tried again
+-- after interrupted reads one failed, and was not tried again
 pub gave_up : (a b c : List Error) (e : Error) → OnlyInterrupts a b → c ≡ b ++ e ∷ []
     → (IsInterrupt e → length a + 65 ≤ length c) → ReadGaveUp e a c
 gave_up a b c e p fault often = record {

@@ -2,6 +2,7 @@
 use Rattle.std.proofs.Common.{◌≡◌, ℕ, ◌≤◌, ◌<◌, List, length, true, false, Option, None, Some, Ok, Err, refl, sym, ap, subst, ◌∙◌, arith, ◌^◌, ◌⊎◌, inl, inr, [], ◌∷◌, ◌++◌, Result, append-nil, append_assoc, length-append}
 use Rattle.std.proofs.lemmas.Bool.{true≢false}
 use Rattle.std.proofs.lemmas.List.Elements.{All-nil}
+use Rattle.std.specs.Prelude.{IfSome, IsErrAnd, IsOk, MatchResult}
 use Rattle.std.specs.declared.io.ErrorKind.TheVariants.{OutOfMemory}
 use Rattle.redux_buffer.specs.declared.grow_error.GrowError.TheVariants.{Memory, TooLarge}
 use Rattle.redux_buffer.specs.declared.grow_error.GrowError.{GrowError}
@@ -13,23 +14,30 @@ use Rattle.line_reader.specs.NextLineLaws.{IsHanded-fits, NextLine-open, NextOpe
 use Rattle.line_reader.specs.TextLaws.{lines_of}
 use Rattle.line_reader.specs.declared.error.LineError.TheVariants as error
 use Rattle.piece_filter.specs.PieceRuns.{Over, all_received}
-use Rattle.piece_filter.specs.Pieces.{HasEnded, IsReady, Keeps, PiecesEnd}
+use Rattle.piece_filter.specs.Pieces.{HasEnded, IsReady, Keeps, PiecesEnd, piece_rules}
 use Rattle.piece_filter.specs.PiecesCalls as pieces
 use Rattle.piece_filter.specs.PiecesLaws.{coded_all, whole_text}
 use Rattle.frames.specs.Words.{All, AllSent, Asks, bytes_at, Error, error_kind, Fits, FitsLine, ForwardAnswers, frame, frames, GaveNothing, Grammar, HasLines, HasPieces, IsLent, IsLine, IsOpen, IsPieces, lined, LineState, MetNoFault, OverCount, RanDry, rest, room_for, RunError, Span, Stopped, StreamLog, with_ends}
-use Rattle.frames.specs.Ending.{IsOutcome}
+use Rattle.frames.specs.Ending.{IsErrorOf}
 use Rattle.frames.specs.Pack.{PackedFirst, PackedLines, PackRan, Packs}
-use Rattle.frames.specs.Packing.{HeldFits, NoLine, packing, packing_rules, TakesLines}
+use Rattle.frames.specs.Packing.{packing}
 use Rattle.frames.specs.PackingLaws.{all_ended, all_fit, packing_sound}
 use Rattle.frames.specs.declared.error.RunError.TheVariants.{Io, TooLong}
 use Rattle.frames.specs.declared.packing.Packing.{Packing}
 use Rattle.frames.proofs.PieceRuns.{outcome_ran}
 
+-- a line that is held has a frame
+abbrev Fit : {R : Type 0} → LineState R → Option Span → Type 0
+Fit m held = IfSome held (λ span. length (bytes_at span m.pieces.reader.block.bytes) ≤ m.pieces.decoder.max)
+
+pub none_fits : {R : Type 0} (m : LineState R) (held : Option Span) → held ≡ None → Fit m held
+none_fits m held none = subst (Fit m) (sym none) tt
+
 -- lines are taken still where neither limit changed
-pub lines_on : {R W : Type 0} {s : Packing R W} (t : Packing R W) → TakesLines s
+pub lines_on : {R W : Type 0} (s t : Packing R W) → (packing {R = R} {W = W}).also s
     → t.source.pieces.decoder ≡ s.source.pieces.decoder → t.target.encoder ≡ s.target.encoder → t.source.skipping ≡ false
-    → HeldFits t.source.pieces t.held → TakesLines t
-lines_on t lines decoder encoder open' fits = record {
+    → Fit t.source t.held → (packing {R = R} {W = W}).also t
+lines_on s t lines decoder encoder open' fits = record {
   most = ap (λ d. d.max) decoder ∙ lines.most ∙ sym (ap (λ d. d.max) encoder);
   open' = open';
   fits = fits;
@@ -47,14 +55,14 @@ module _ {R W : Type 0} (remaining : R → Option (List ℕ)) {s : Packing R W} 
   opened : (answer : NextAnswer) → NextLine remaining s.source answer m → NextOpen remaining s.source answer m
   opened answer = NextLine-open remaining s.source m answer ready.also.open'
 
-  lines : (answer : NextAnswer) → NextLine remaining s.source answer m → (h : Option Span) → HeldFits m.pieces h
-      → TakesLines (after h)
+  lines : (answer : NextAnswer) → NextLine remaining s.source answer m → (h : Option Span) → Fit m h
+      → (packing {R = R} {W = W}).also (after h)
   lines answer line h fits =
-      let next = opened answer line in lines_on (after h) ready.also next.0.went.decoder refl next.1 fits
+      let next = opened answer line in lines_on s (after h) ready.also next.0.went.decoder refl next.1 fits
 
   pub asked_more : (span : Span) → IsLent (lined m.pieces.decoder.max) m.pieces.handed m.pieces.reader.block.bytes span
       → NextLine remaining s.source (Ok (Some (bytes_at span m.pieces.reader.block.bytes))) m
-      → Asks (packing_rules remaining) s (Ok true) (after (Some span))
+      → Asks (piece_rules remaining packing) s (Ok true) (after (Some span))
   asked_more span lent line =
       let payload = bytes_at span m.pieces.reader.block.bytes in
       let next = (opened (Ok (Some payload)) line).0 in
@@ -64,32 +72,32 @@ module _ {R W : Type 0} (remaining : R → Option (List ℕ)) {s : Packing R W} 
       going span refl lent next
 
   -- none came
-  lines_none : (answer : NextAnswer) → NextLine remaining s.source answer m → TakesLines (after s.held)
-  lines_none answer line = lines answer line s.held (subst (HeldFits m.pieces) (sym lacks) tt)
+  lines_none : (answer : NextAnswer) → NextLine remaining s.source answer m → (packing {R = R} {W = W}).also (after s.held)
+  lines_none answer line = lines answer line s.held (none_fits m s.held lacks)
 
   pub asked_none : NextLine remaining s.source (Ok None) m
-      → Asks (packing_rules remaining) s (Ok false) (after s.held)
+      → Asks (piece_rules remaining packing) s (Ok false) (after s.held)
   asked_none line = pieces.asked_none remaining packing ready (after s.held) lacks (kept s.held)
       (lines_none (Ok None) line) going lacks (opened (Ok None) line).0
 
   pub asked_long : (n : ℕ) → NextLine remaining s.source (Err (error.TooLong n)) m
-      → Asks (packing_rules remaining) s (Err (ask.Wrong TooLong)) (after s.held)
+      → Asks (piece_rules remaining packing) s (Err (ask.Wrong TooLong)) (after s.held)
   asked_long n line =
       let next = (opened (Err (error.TooLong n)) line).0 in
       let long = NextPiece-long remaining s.source.pieces.decoder.max s.source.pieces m.pieces (record { 0 = n }) next in
       pieces.asked_wrong remaining packing ready (after s.held) lacks (kept s.held)
       (lines_none (Err (error.TooLong n)) line) going lacks (record { 0 = n }) next TooLong
-      (subst (λ d. BeginsTooLong d.max (rest m.pieces)) (sym next.went.decoder) long.0, next.answers.2)
+      (refl, subst (λ d. BeginsTooLong d.max (rest m.pieces)) (sym next.went.decoder) long.0, next.answers.2)
 
   -- a read failed
   module _ (e : Error) (line : NextLine remaining s.source (Err (error.Io e)) m) where
     pub asked_idle : length (rest m.pieces) ≤ length (rest s.source.pieces)
-        → Asks (packing_rules remaining) s (Err (ask.Io e)) (after s.held)
+        → Asks (piece_rules remaining packing) s (Err (ask.Io e)) (after s.held)
     asked_idle = pieces.asked_idle remaining packing ready (after s.held) lacks (kept s.held)
         (lines_none (Err (error.Io e)) line) going lacks e (opened (Err (error.Io e)) line).0
 
     pub asked_behind : length (rest s.source.pieces) < length (rest m.pieces)
-        → Asks (packing_rules remaining) s (Err (ask.IoBehind e)) (after s.held)
+        → Asks (piece_rules remaining packing) s (Err (ask.IoBehind e)) (after s.held)
     asked_behind came =
         let next = (opened (Err (error.Io e)) line).0 in
         let fits = (open_unended s.source.pieces.decoder.max (rest m.pieces) next.answers.1).fits in
@@ -123,7 +131,8 @@ fronts g (payload ∷ p) next more bytes (inr (last, none)) =
 
 -- from empty buffers on
 module _ {R W : Type 0} (remaining : R → Option (List ℕ)) (s t : Packing R W)
-    (fresh : (packing_rules {W = W} remaining).fresh s) (going : s.source.pieces.ended ≡ false) (ready : IsReady packing t) where
+    (fresh : (piece_rules remaining (packing {W = W})).fresh s) (going : s.source.pieces.ended ≡ false)
+    (ready : IsReady packing t) where
   abbrev max : ℕ
   max = s.source.pieces.decoder.max
 
@@ -152,14 +161,18 @@ module _ {R W : Type 0} (remaining : R → Option (List ℕ)) (s t : Packing R W
     record {
       text = over.bytes;
       lines = p;
+      more = [];
+      unsent = [];
       has = lines_of max over.bytes p (texts p p over);
       fit = all_fit max over.bytes p (texts p p over);
-      given = over.given ∙ ap (λ l. s.source.pieces.reader.log.reads.given ++ (over.bytes ++ l)) end.0
-          ∙ ap (λ l. s.source.pieces.reader.log.reads.given ++ l) (append-nil over.bytes);
-      ended = dry end.1;
-      received = all_received remaining packing s t fresh p p over sent ∙ replied p p over;
-      flushed = sent.flushed;
+      whole = inr (refl, dry end.1);
+      given = over.given ∙ ap (λ l. s.source.pieces.reader.log.reads.given ++ (over.bytes ++ l)) end.0;
+      received = append-nil _ ∙ all_received remaining packing s t fresh p p over sent ∙ replied p p over;
     },
+    refl,
+    refl,
+    dry end.1,
+    sent.flushed,
     met,
   )
 
@@ -182,15 +195,15 @@ module _ {R W : Type 0} (remaining : R → Option (List ℕ)) (s t : Packing R W
         flushed = sent.flushed;
       }
 
-  wrong_ran : (p : List (List ℕ)) → Went p p → (why : RunError) → NoLine why t.source.pieces → AllSent t.target.writer
+  wrong_ran : (p : List (List ℕ)) → Went p p → (why : RunError) → (packing {R = R} {W = W}).wrong s why t
+      → AllSent t.target.writer
       → MetNoFault s.source.pieces.reader.log t.source.pieces.reader.log s.target.writer.log t.target.writer.log
       → Ran (Err why)
-  wrong_ran p over TooLong wrong sent met = (
-    some_lines (BeginsTooLong max) p over wrong.1 sent
-        (subst (λ d. BeginsTooLong d.max (rest t.source.pieces)) over.decoder wrong.0),
+  wrong_ran p over why (is, long, open') sent met = subst (λ e. Ran (Err e)) (sym is) (
+    some_lines (BeginsTooLong max) p over open' sent
+        (subst (λ d. BeginsTooLong d.max (rest t.source.pieces)) over.decoder long),
     met,
   )
-  wrong_ran p over other wrong sent met = absurd wrong
 
   -- the first lines went over
   abbrev First : Type 0
@@ -240,8 +253,9 @@ module _ {R W : Type 0} (remaining : R → Option (List ℕ)) (s t : Packing R W
       let (front, behind, equal, whole) = fronts (lined max) p next more over.bytes (texts (p ++ next ∷ more) p over) in
       whole_lines p (next ∷ more) over front behind equal whole
 
-  pub packed : (answer : Result ℕ (Stopped RunError)) (outcome : Result (Unit {0}) RunError) → IsOutcome answer outcome
-      → ForwardAnswers (packing_rules remaining) s answer t → Ran outcome
+  pub packed : (answer : Result ℕ (Stopped RunError)) (outcome : Result (Unit {0}) RunError)
+      → MatchResult answer (λ _. IsOk outcome) (λ stopped. IsErrAnd outcome (IsErrorOf stopped.cause))
+      → ForwardAnswers (piece_rules remaining packing) s answer t → Ran outcome
   packed = outcome_ran remaining packing s t fresh packing_sound (λ e refused. refused) Ran ended_ran wrong_ran
       (λ p over open' still sent e failed. (
         some_lines (FitsLine max) p over still sent

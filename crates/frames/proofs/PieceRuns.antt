@@ -1,11 +1,13 @@
 -- What the outcome of a whole run over pieces comes to.
 use Rattle.std.proofs.Common.{ℕ, inl, inr, List, ◌++◌, length, false, Option, Result, Ok, Err, ◌≡◌, sym, subst, arith}
+use Rattle.std.proofs.lemmas.Bool.{false≢true}
+use Rattle.std.specs.Prelude.{IsErrAnd, IsOk, MatchResult}
 use Rattle.forward.specs.declared.error.Cause.{Cause}
 use Rattle.forward.specs.declared.error.Cause.TheVariants as cause
 use Rattle.piece_filter.specs.PieceRuns.{Over, all_over, over_held, over_lost}
 use Rattle.piece_filter.specs.Pieces.{IsSound, PiecesEnd, Piecewise, grammar_of, held_of, piece_rules}
 use Rattle.frames.specs.Words.{Error, IsOpen, rest, FilterRules, ForwardAnswers, NoneFailed, StopsBy, Stopped, AllSent, OverCount, ReadFailed, SendFailed, RunError}
-use Rattle.frames.specs.Ending.{IsErrorOf, IsOutcome}
+use Rattle.frames.specs.Ending.{IsErrorOf}
 use Rattle.frames.specs.declared.error.RunError.TheVariants.{Read, Write, Io}
 
 -- a run from empty buffers on that says so of each way to end says so of its outcome
@@ -41,10 +43,11 @@ module _ {T R D X A W : Type 0} (remaining : R → Option (List ℕ)) (f : Piece
         (full over.payloads (held_of f t) (over_held remaining f s t fresh count over) is.0
         (record { other = is.1; large = omega (arith, large, over.all); met = met }))
 
-    pub outcome_ran : (answer : Result ℕ (Stopped RunError)) (outcome : Result (Unit {0}) RunError) → IsOutcome answer outcome
+    pub outcome_ran : (answer : Result ℕ (Stopped RunError)) (outcome : Result (Unit {0}) RunError)
+        → MatchResult answer (λ _. IsOk outcome) (λ stopped. IsErrAnd outcome (IsErrorOf stopped.cause))
         → ForwardAnswers rules s answer t → Ran outcome
     outcome_ran (Ok count) (Ok _) is (over, (none, end), sent, met) =
         ended over.payloads (all_over remaining f s t fresh count over none) end (sound.all_sent t sent) met
-    outcome_ran (Ok count) (Err e) is p = absurd is
+    outcome_ran (Ok count) (Err e) is p = absurd (false≢true is)
     outcome_ran (Err stopped) (Ok _) is p = absurd is
     outcome_ran (Err halt) (Err e) is p = stopped halt.count halt.cause e p is

@@ -2,6 +2,7 @@
 use Rattle.std.proofs.Common.{◌≡◌, ℕ, ◌+◌, ◌≤◌, ◌<◌, ◌⊎◌, inl, inr, true, false, List, [], length, Option, None, Some, Ok, Err, refl, sym, ap, subst, ◌∙◌, arith, ◌++◌, Result, append-nil}
 use Rattle.std.proofs.lemmas.Bool.{true≢false}
 use Rattle.std.proofs.lemmas.List.Elements.{All-nil}
+use Rattle.std.specs.Prelude.{IsErrAnd, IsOk, MatchResult}
 use Rattle.std.specs.declared.io.ErrorKind.TheVariants.{OutOfMemory}
 use Rattle.codec.specs.NextPieceLaws.{MetEnd-once}
 use Rattle.forward.specs.declared.error.AskError.TheVariants as ask
@@ -12,23 +13,23 @@ use Rattle.frame_reader.specs.declared.error.FrameError.TheVariants as error
 use Rattle.frame_reader.specs.declared.frame.FrameFault.TheVariants as Fault
 use Rattle.frame_reader.specs.declared.frame.Frames.{Frames}
 use Rattle.piece_filter.specs.PieceRuns.{Over, all_received}
-use Rattle.piece_filter.specs.Pieces.{HasEnded, IsReady, Keeps}
+use Rattle.piece_filter.specs.Pieces.{HasEnded, IsReady, Keeps, piece_rules}
 use Rattle.piece_filter.specs.PiecesCalls as pieces
 use Rattle.piece_filter.specs.PiecesLaws.{coded_all}
 use Rattle.frames.specs.Words.{All, AllSent, Asks, bytes_at, Error, error_kind, Fits, ForwardAnswers, framed, frames, GaveNothing, IsCutShort, IsLent, IsOpen, MetNoFault, RanDry, ReaderState, rest, RunError, Span, Stopped, StreamLog, with_end, with_ends}
-use Rattle.frames.specs.Ending.{IsOutcome}
+use Rattle.frames.specs.Ending.{IsErrorOf}
 use Rattle.frames.specs.Unpack.{Unpacked, UnpackedFirst, UnpackRan, Unpacks}
-use Rattle.frames.specs.Unpacking.{NoFrame, TakesFrames, unpacking, unpacking_rules}
+use Rattle.frames.specs.Unpacking.{unpacking}
 use Rattle.frames.specs.UnpackingLaws.{all_frames, unpacking_sound}
 use Rattle.frames.specs.declared.error.RunError.TheVariants.{Io, TooLong, Truncated}
 use Rattle.frames.specs.declared.unpacking.Unpacking.{Unpacking}
 use Rattle.frames.proofs.PieceRuns.{outcome_ran}
 
 -- frames are taken still where the limit, the kind of the buffer and its capacity didn't change
-pub frames_on : {R W : Type 0} {s : Unpacking R W} (t : Unpacking R W) → TakesFrames s
+pub frames_on : {R W : Type 0} (s t : Unpacking R W) → (unpacking {R = R} {W = W}).also s
     → t.source.decoder ≡ s.source.decoder → t.source.ended ≡ false → t.target.block.kind ≡ s.target.block.kind
-    → t.target.block.capacity ≡ s.target.block.capacity → TakesFrames t
-frames_on t takes decoder told kind capacity = record {
+    → t.target.block.capacity ≡ s.target.block.capacity → (unpacking {R = R} {W = W}).also t
+frames_on s t takes decoder told kind capacity = record {
   target = record {
     plain = kind ∙ takes.target.plain;
     capacity = omega (arith, takes.target.capacity, capacity, ap (λ d. d.max) decoder);
@@ -51,31 +52,35 @@ module _ {R W : Type 0} (remaining : R → Option (List ℕ)) {s : Unpacking R W
   abbrev kept : (h : Option Span) → Keeps unpacking s (after h)
   kept h = record { target = refl; service = refl; sent = λ sent. sent }
 
-  takes_then : (answer : NextAnswer) → Next remaining s.source answer m → (h : Option Span) → TakesFrames (after h)
-  takes_then answer next h = frames_on (after h) ready.also next.piece.went.decoder
+  takes_then : (answer : NextAnswer) → Next remaining s.source answer m → (h : Option Span)
+      → (unpacking {R = R} {W = W}).also (after h)
+  takes_then answer next h = frames_on s (after h) ready.also next.piece.went.decoder
       (NextPiece-reads remaining s.source m (piece_answer answer) next.piece).told refl refl
 
   pub asked_more : (span : Span) → IsLent (framed m.decoder.max) m.handed m.reader.block.bytes span
       → Next remaining s.source (Ok (Some (bytes_at span m.reader.block.bytes))) m
-      → Asks (unpacking_rules remaining) s (Ok true) (after (Some span))
+      → Asks (piece_rules remaining unpacking) s (Ok true) (after (Some span))
   asked_more span lent next =
       pieces.asked_more remaining unpacking ready (after (Some span)) lacks (kept (Some span))
       (takes_then (Ok (Some (bytes_at span m.reader.block.bytes))) next (Some span)) ready.also.told span refl lent next.piece
 
   -- none came
-  pub asked_none : Next remaining s.source (Ok None) m → Asks (unpacking_rules remaining) s (Ok false) (after s.held)
+  pub asked_none : Next remaining s.source (Ok None) m → Asks (piece_rules remaining unpacking) s (Ok false) (after s.held)
   asked_none next = pieces.asked_none remaining unpacking ready (after s.held) lacks (kept s.held)
       (takes_then (Ok None) next s.held) ready.also.told lacks next.piece
 
   pub asked_long : (len : ℕ) → Next remaining s.source (Err (error.TooLong len)) m
-      → Asks (unpacking_rules remaining) s (Err (ask.Wrong TooLong)) (after s.held)
+      → Asks (piece_rules remaining unpacking) s (Err (ask.Wrong TooLong)) (after s.held)
   asked_long len next = pieces.asked_wrong remaining unpacking ready (after s.held) lacks (kept s.held)
       (takes_then (Err (error.TooLong len)) next s.held) ready.also.told lacks (Fault.TooLong len) next.piece TooLong
-      (subst (λ d. BeginsTooLong d.max (rest m)) (sym next.piece.went.decoder)
-      (record { len = len; above = next.leaves.0; begins = next.leaves.1 }))
+      (inl (
+        refl,
+        subst (λ d. BeginsTooLong d.max (rest m)) (sym next.piece.went.decoder)
+            (record { len = len; above = next.leaves.0; begins = next.leaves.1 }),
+      ))
 
   pub asked_cut : (have : ℕ) → Next remaining s.source (Err (error.Truncated have)) m
-      → Asks (unpacking_rules remaining) s (Err (ask.Wrong Truncated)) (after s.held)
+      → Asks (piece_rules remaining unpacking) s (Err (ask.Wrong Truncated)) (after s.held)
   asked_cut have next =
       let once : m.reader.log.reads.zero_reads ≡ s.source.reader.log.reads.zero_reads + 1 = elim next.piece.answers.3 [
         | inl wrong ↦ (let odd : Fault.Truncated have ≡ Fault.TooLong wrong.0.0.len = wrong.0.1 in cc)
@@ -83,24 +88,29 @@ module _ {R W : Type 0} (remaining : R → Option (List ℕ)) {s : Unpacking R W
       ] in
       pieces.asked_wrong remaining unpacking ready (after s.held) lacks (kept s.held)
       (takes_then (Err (error.Truncated have)) next s.held) ready.also.told lacks (Fault.Truncated have) next.piece Truncated
-      (subst (λ d. IsCutShort d.max (rest m)) (sym next.piece.went.decoder) next.leaves.1, omega (arith, once))
+      (inr (
+        refl,
+        subst (λ d. IsCutShort d.max (rest m)) (sym next.piece.went.decoder) next.leaves.1,
+        omega (arith, once),
+      ))
 
   -- a read failed
   module _ (e : Error) (next : Next remaining s.source (Err (error.Io e)) m) where
     pub asked_idle : length (rest m) ≤ length (rest s.source)
-        → Asks (unpacking_rules remaining) s (Err (ask.Io e)) (after s.held)
+        → Asks (piece_rules remaining unpacking) s (Err (ask.Io e)) (after s.held)
     asked_idle = pieces.asked_idle remaining unpacking ready (after s.held) lacks (kept s.held)
         (takes_then (Err (error.Io e)) next s.held) ready.also.told lacks e next.piece
 
     pub asked_behind : length (rest s.source) < length (rest m)
-        → Asks (unpacking_rules remaining) s (Err (ask.IoBehind e)) (after s.held)
+        → Asks (piece_rules remaining unpacking) s (Err (ask.IoBehind e)) (after s.held)
     asked_behind came = pieces.asked_behind remaining unpacking ready (after s.held) lacks (kept s.held)
         (takes_then (Err (error.Io e)) next s.held) ready.also.told lacks e next.piece came
         (few s.source.decoder.max (rest m) next.leaves)
 
 -- from empty buffers on
 module _ {R W : Type 0} (remaining : R → Option (List ℕ)) (s t : Unpacking R W)
-    (fresh : (unpacking_rules {W = W} remaining).fresh s) (told : s.source.ended ≡ false) (ready : IsReady unpacking t) where
+    (fresh : (piece_rules remaining (unpacking {W = W})).fresh s) (told : s.source.ended ≡ false)
+    (ready : IsReady unpacking t) where
   abbrev max : ℕ
   max = s.source.decoder.max
 
@@ -132,18 +142,17 @@ module _ {R W : Type 0} (remaining : R → Option (List ℕ)) (s t : Unpacking R
     flushed = sent.flushed;
   }
 
-  wrong_ran : (p : List (List ℕ)) → Went p p → (why : RunError) → NoFrame s.source why t.source → AllSent t.target
+  wrong_ran : (p : List (List ℕ)) → Went p p → (why : RunError) → (unpacking {R = R} {W = W}).wrong s why t → AllSent t.target
       → MetNoFault s.source.reader.log t.source.reader.log s.target.log t.target.log → Ran (Err why)
-  wrong_ran p over TooLong wrong sent met =
-      (rest t.source, unpacked p over sent, subst (λ d. BeginsTooLong d.max (rest t.source)) over.decoder wrong, met)
-  wrong_ran p over Truncated wrong sent met = (
+  wrong_ran p over why (inl (is, long)) sent met = subst (λ e. Ran (Err e)) (sym is)
+      (rest t.source, unpacked p over sent, subst (λ d. BeginsTooLong d.max (rest t.source)) over.decoder long, met)
+  wrong_ran p over why (inr (is, cut, dry)) sent met = subst (λ e. Ran (Err e)) (sym is) (
     rest t.source,
     unpacked p over sent,
-    subst (λ d. IsCutShort d.max (rest t.source)) over.decoder wrong.0,
-    wrong.1,
+    subst (λ d. IsCutShort d.max (rest t.source)) over.decoder cut,
+    dry,
     met,
   )
-  wrong_ran p over other wrong sent met = absurd wrong
 
   dry : HasEnded unpacking s ⊎ RanDry s.source.reader t.source.reader → GaveNothing s.source.reader.log t.source.reader.log
   dry (inl before) = absurd (true≢false (sym before ∙ told))
@@ -162,8 +171,9 @@ module _ {R W : Type 0} (remaining : R → Option (List ℕ)) (s t : Unpacking R
     received = over.received ∙ replied (p ++ lost) p over;
   }
 
-  pub unpacked_all : (answer : Result ℕ (Stopped RunError)) (outcome : Result (Unit {0}) RunError) → IsOutcome answer outcome
-      → ForwardAnswers (unpacking_rules remaining) s answer t → Ran outcome
+  pub unpacked_all : (answer : Result ℕ (Stopped RunError)) (outcome : Result (Unit {0}) RunError)
+      → MatchResult answer (λ _. IsOk outcome) (λ stopped. IsErrAnd outcome (IsErrorOf stopped.cause))
+      → ForwardAnswers (piece_rules remaining unpacking) s answer t → Ran outcome
   unpacked_all = outcome_ran remaining unpacking s t fresh unpacking_sound (λ e refused. refused) Ran
       (λ p over end sent met. (
         subst (Unpacked max s.source.reader.log t.source.reader.log s.target.log t.target.log) end.0 (unpacked p over sent),

@@ -8,18 +8,12 @@ use Rattle.frames.specs.Ending.{EndsAs}
 use Rattle.frames.specs.Pack.{Packs}
 use Rattle.frames.specs.Unpack.{Unpacks}
 
--- there is one word, which is `pack`, or `unpack`
-abbrev pub AskToPack : List (List ℕ) → Type 0
-AskToPack words = words ≡ codes "pack" ∷ []
-
-abbrev pub AskToUnpack : List (List ℕ) → Type 0
-AskToUnpack words = words ≡ codes "unpack" ∷ []
-
 -- what a run did that these words asked for, for lines and payloads of at most 65535 bytes, and that ended so; other words call
 -- no stream
 pub record RunDid (words : List (List ℕ)) (ending : Ending) (read read' written written' : StreamLog) : Type 0 where
-  pub pack : AskToPack words → (answer : Result (Unit {0}) RunError)
+  pub pack : words ≡ codes "pack" ∷ [] → (answer : Result (Unit {0}) RunError)
       × Packs 65535 read read' written written' answer × EndsAs answer ending
-  pub unpack : AskToUnpack words → (answer : Result (Unit {0}) RunError)
+  pub unpack : words ≡ codes "unpack" ∷ [] → (answer : Result (Unit {0}) RunError)
       × Unpacks 65535 read read' written written' answer × EndsAs answer ending
-  pub usage : ¬ AskToPack words → ¬ AskToUnpack words → (ending ≡ Usual Usage) × (read' ≡ read) × (written' ≡ written)
+  pub usage : ¬ (words ≡ codes "pack" ∷ []) → ¬ (words ≡ codes "unpack" ∷ [])
+      → (ending ≡ Usual Usage) × (read' ≡ read) × (written' ≡ written)

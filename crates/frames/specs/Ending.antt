@@ -7,7 +7,7 @@ use Rattle.programs.specs.Ending.{FailsSo}
 use Rattle.programs.specs.Ending as usual
 use Rattle.programs.specs.declared.ending.Ending.{Ending as Usually}
 use Rattle.programs.specs.declared.ending.Ending.TheVariants.{Done, Failed, ReadFailed, WriteFailed}
-use Rattle.frames.specs.Words.{error_kind, Error, Stopped, RunError}
+use Rattle.frames.specs.Words.{error_kind, Error, RunError}
 use Rattle.frames.specs.declared.ending.Ending.{Ending}
 use Rattle.frames.specs.declared.ending.Ending.TheVariants.{Usual, TooLong, Truncated}
 use Rattle.frames.specs.declared.error.RunError.TheVariants as Why
@@ -18,13 +18,6 @@ IsErrorOf (cause.Wrong why) error = error ≡ why
 IsErrorOf (cause.Read e) error = error ≡ Why.Read e
 IsErrorOf (cause.Write e) error = error ≡ Why.Write e
 IsErrorOf cause.Count error = (e : Error) × (error_kind e ≡ Other) × (error ≡ Why.Io e)
-
--- what a run returns whose payloads went over so
-abbrev pub IsOutcome : Result ℕ (Stopped RunError) → Result (Unit {0}) RunError → Type 0
-IsOutcome (Ok count) (Ok _) = Unit {0}
-IsOutcome (Ok count) (Err e) = ⊥
-IsOutcome (Err stopped) (Ok _) = ⊥
-IsOutcome (Err stopped) (Err e) = IsErrorOf stopped.cause e
 
 -- how a run ends that returned this
 abbrev pub EndsAs : Result (Unit {0}) RunError → Ending → Type 0

@@ -15,17 +15,6 @@ pub record IsDue (most : ℕ) (bytes due : List ℕ) : Type 0 where
   pub no_more : FitsLine most left
   pub frames_are : due ≡ frames lines
 
--- all that was given is a text of lines that fit, what was received is their frames, and the writer has flushed them
-pub record Packed (most : ℕ) (read read' written written' : StreamLog) : Type 0 where
-  pub text : List ℕ
-  pub lines : List (List ℕ)
-  pub has : HasLines text lines
-  pub fit : All (Fits most) lines
-  pub given : read'.reads.given ≡ read.reads.given ++ text
-  pub ended : GaveNothing read read'
-  pub received : written'.writes.received ≡ written.writes.received ++ frames lines
-  pub flushed : AllFlushed written'
-
 -- what was given is some lines that fit and then such bytes; what was received is the frames of those lines, and the writer has
 -- flushed them
 pub record PackedLines (Such : List ℕ → Type 0) (most : ℕ) (read read' written written' : StreamLog) : Type 0 where
@@ -51,11 +40,13 @@ pub record PackedFirst (most : ℕ) (read read' written written' : StreamLog) : 
   pub given : read'.reads.given ≡ read.reads.given ++ (text ++ more)
   pub received : written'.writes.received ++ unsent ≡ written.writes.received ++ frames lines
 
--- what a run of `pack` did. Where a read failed no line that came is lost. Any other fault is a writer's, or a buffer was refused
+-- what a run of `pack` did: at Ok all that was given is a text of lines that fit, and all their frames were received and flushed.
+-- Where a read failed no line that came is lost. Any other fault is a writer's, or a buffer was refused
 -- before the run began, or it ended at its count
 abbrev pub PackRan : ℕ → StreamLog → StreamLog → StreamLog → StreamLog → Result (Unit {0}) RunError → Type 0
 PackRan most read read' written written' (Ok _) =
-    Packed most read read' written written' × MetNoFault read read' written written'
+    (all : PackedFirst most read read' written written') × (all.more ≡ []) × (all.unsent ≡ []) × GaveNothing read read'
+    × AllFlushed written' × MetNoFault read read' written written'
 PackRan most read read' written written' (Err TooLong) =
     PackedLines (BeginsTooLong most) most read read' written written' × MetNoFault read read' written written'
 PackRan most read read' written written' (Err Truncated) = ⊥

@@ -4,8 +4,8 @@ use Rattle.std.proofs.lemmas.List.Elements.{All-weaker}
 use Rattle.line_reader.specs.NextLineLaws.{open_unended}
 use Rattle.line_reader.specs.TextLaws.{all_plain, fits_of}
 use Rattle.frames.specs.Words.{All, HasPieces, IsPieces, IsLawful, Fits, frame, frames, header, FitsLine, IsLine, with_end, with_ends, lined}
-use Rattle.frames.specs.Packing.{packing, packing_rules}
-use Rattle.piece_filter.specs.Pieces.{IsSound}
+use Rattle.frames.specs.Packing.{packing}
+use Rattle.piece_filter.specs.Pieces.{IsSound, piece_rules}
 use Rattle.piece_filter.specs.PiecesLaws.{coded_all, piece_lawful, whole_text}
 
 -- lines that are pieces have frames
@@ -45,5 +45,6 @@ packing_sound = record {
   all_sent = λ s sent. sent;
 }
 
-pub packing_lawful : {R W : Type 0} (remaining : R → Option (List ℕ)) → IsLawful (packing_rules {R = R} {W = W} remaining)
+pub packing_lawful : {R W : Type 0} (remaining : R → Option (List ℕ))
+    → IsLawful (piece_rules remaining (packing {R = R} {W = W}))
 packing_lawful remaining = piece_lawful remaining packing packing_sound

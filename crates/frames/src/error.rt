@@ -19,11 +19,12 @@ pub enum RunError {
 }
 
 impl RunError {
-    ghost use Rattle.frames.specs.Ending.{IsErrorOf, IsOutcome};
+    ghost use Rattle.std.specs.Prelude.{IsErrAnd, IsOk, MatchResult};
+    ghost use Rattle.frames.specs.Ending.{IsErrorOf};
 
     /// What a run returns whose payloads went over so.
     pub fn outcome(answer: Result<u64, Stopped<RunError>>) -> Result<(), RunError>
-        ensures { IsOutcome answer result }
+        ensures { MatchResult answer (λ _. IsOk result) (λ stopped. IsErrAnd result (IsErrorOf stopped.cause)) }
     {
         match answer {
             Ok(_) => Ok(()),

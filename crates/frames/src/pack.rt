@@ -30,7 +30,7 @@ pub fn pack<R: TellRead, W: TellWrite>(
         Ok(source) => source,
         Err(MakeError(reader, e)) => return (Err(RunError::Io(e.into())), reader, writer),
     };
-    // It takes in the frames of all that one read gives, also where each line has one byte with its end.
+    // The buffer takes in the frames of all that one read gives, also where each line has one byte with its end.
     let room = 6 * (usize::from(most) + 2);
     let target = match FrameWriter::with_capacity(alloc, room, writer, most) {
         Ok(target) => target,

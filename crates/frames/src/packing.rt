@@ -4,9 +4,9 @@ ghost use Rattle.buffer_redux.specs.Faults.{MetInterrupts, SendErrorCaused};
 ghost use Rattle.codec.specs.WritePiece.{PiecesTaken};
 ghost use Rattle.forward.specs.Filter.{Passes};
 ghost use Rattle.frame_reader.specs.Framed.{framed_out};
-ghost use Rattle.frames.specs.Packing.{packing, packing_rules};
+ghost use Rattle.frames.specs.Packing.{packing};
 ghost use Rattle.frames.specs.PackingLaws.{packing_lawful};
-ghost use Rattle.piece_filter.specs.Pieces.{IsReady};
+ghost use Rattle.piece_filter.specs.Pieces.{IsReady, piece_rules};
 
 use crate::error::RunError;
 use buffer_redux::tell::{TellRead, TellWrite};
@@ -27,7 +27,7 @@ pub struct Packing<R: TellRead, W: TellWrite> {
 impl<R: TellRead, W: TellWrite> Filter for Packing<R, W> {
     type Wrong = RunError;
 
-    ghost rules = { packing_rules R.remaining };
+    ghost rules = { piece_rules R.remaining packing };
 
     #[inline(always)]
     fn pass(&mut self) -> io::Result<bool> {
@@ -78,7 +78,7 @@ impl<R: TellRead, W: TellWrite> Filter for Packing<R, W> {
 fn pass_held<R: TellRead, W: TellWrite>(filter: &mut Packing<R, W>, span: Span) -> io::Result<bool>
     requires ready { IsReady packing filter.old }
     requires held { filter.old.held ≡ Some span }
-    ensures { Passes (packing_rules R.remaining) filter.old result filter.new }
+    ensures { Passes (piece_rules R.remaining packing) filter.old result filter.new }
 {
     write_line(&mut filter.target, filter.source.lent(span))?;
     filter.held = None;

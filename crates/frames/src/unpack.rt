@@ -30,7 +30,7 @@ pub fn unpack<R: TellRead, W: TellWrite>(
         Ok(source) => source,
         Err(MakeError(reader, e)) => return (Err(RunError::Io(e.into())), reader, writer),
     };
-    // It takes in the lines of all that one read gives.
+    // The buffer takes in the lines of all that one read gives.
     let room = 3 * (usize::from(most) + 2);
     let target = match buffered_writer(alloc, false, room, writer) {
         Ok(target) => target,

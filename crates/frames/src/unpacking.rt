@@ -3,7 +3,8 @@ ghost use Rattle.std.specs.Prelude.{◌≡◌, [], ◌∷◌, ◌++◌, length, 
 ghost use Rattle.buffer_redux.specs.BufWriter.{WritesInOrder};
 ghost use Rattle.buffer_redux.specs.Faults.{MetInterrupts, SendErrorCaused};
 ghost use Rattle.line_reader.specs.Lines.{newline};
-ghost use Rattle.frames.specs.Unpacking.{IsLineTarget, unpacking_rules};
+ghost use Rattle.frames.specs.Unpacking.{IsLineTarget, unpacking};
+ghost use Rattle.piece_filter.specs.Pieces.{piece_rules};
 ghost use Rattle.frames.specs.UnpackingLaws.{unpacking_lawful};
 
 use crate::error::RunError;
@@ -27,7 +28,7 @@ pub struct Unpacking<R: TellRead, W: TellWrite> {
 impl<R: TellRead, W: TellWrite> Filter for Unpacking<R, W> {
     type Wrong = RunError;
 
-    ghost rules = { unpacking_rules R.remaining };
+    ghost rules = { piece_rules R.remaining unpacking };
 
     #[inline(always)]
     fn pass(&mut self) -> io::Result<bool> {

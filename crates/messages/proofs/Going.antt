@@ -130,7 +130,7 @@ chunks_fail s t is roomy asked (Truncated right) answers once = (
 chunks_fail s t is roomy asked (Io e) answers never =
     elim answers [ inl fault ↦ (fault, never) | inr failed ↦ absurd failed.3.gave.allowed ]
 
--- or it is of more pieces than are counted
+-- an error of a body of more pieces than are counted is a fault
 pub body_fault : (e : ChunkedError) (why : Error) → ◌≡◌ {A = Result ℕ ChunkedError} (Err e) (Err (Io why))
     → body_error e ≡ Fault why
 body_fault e why is = let same : e ≡ Io why = cc in ap body_error same

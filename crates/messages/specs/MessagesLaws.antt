@@ -44,7 +44,7 @@ one_message a b xs ys h k p q m n same =
     (subst (λ e. IsRest (body_of e) n.wire q) (sym extent) n.body) behind in
     (m.equal ∙ ap (λ l. l ++ m.wire) head ∙ ap (λ l. k ++ l) body.0 ∙ sym n.equal, head, body.1, body.2)
 
--- so a text is cut into so many messages in one way
+-- a text is cut into a number of messages in one way
 pub one_cut : (ms ns : List Message) (a b xs ys : List ℕ) → length ms ≡ length ns → AreMessages ms a → AreMessages ns b
     → a ++ xs ≡ b ++ ys → (ms ≡ ns) × (xs ≡ ys)
 one_cut [] [] a b xs ys many is is' same =

@@ -170,7 +170,7 @@ module _ {R D X A W : Type 0} (remaining : R → Option (List ℕ)) (grammar : D
     answers = ((sent, ready.also sent), MetInterrupts-none s.target.log.writes);
   }
 
-  -- it was flushed, or that failed
+  -- the writer was flushed, or that failed
   module _ (tells : W → StreamLog) (trace : W → W → Type 0) (unsent : s.sent ≡ false) (v : Buffered W StdPolicy) where
     not_sent : f.drops → ¬ (f.sent s)
     not_sent _ sent = true≢false (sym sent.0 ∙ unsent)

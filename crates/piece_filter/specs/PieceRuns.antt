@@ -56,7 +56,7 @@ module _ {T R D X A W E : Type 0} (remaining : R → Option (List ℕ)) (f : Pie
     all_over p none = over_of p.payloads p.payloads p.moves p.payloads
         (ap (λ l. p.payloads ++ l) (none_held remaining f t none) ∙ append-nil p.payloads)
 
-    -- and else what is held, too; where the writer failed, some may be lost in front of it
+    -- where one is held, it was handed out too; where the writer failed, some may be lost in front of it
     pub over_held : (p : Forwarded rules count s t) → Over (p.payloads ++ held_of f t) p.payloads
     over_held p = over_of p.payloads p.payloads p.moves (p.payloads ++ held_of f t) refl
 

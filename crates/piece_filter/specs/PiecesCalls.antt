@@ -132,7 +132,7 @@ module _ {T R D X A W E : Type 0} (remaining : R → Option (List ℕ)) (f : Pie
         leaves = ready_then (Ok (Some payload)) next (none_shown none) also;
       }
 
-  -- or is held
+  -- the next one that was buffered is held
   pub took_hold : f.held s ≡ None → (span : Span) → f.held t ≡ Some span → f.also t
       → IsLent (grammar_of f t) (f.source t).handed (f.source t).reader.block.bytes span
       → Next (Ok (Some (bytes_at span (f.source t).reader.block.bytes))) → (f.source t).reader ≡ (f.source s).reader → Took []

@@ -25,7 +25,7 @@ module _ {W P : Type 0} (u v : Buffered W P) (accepted : List ℕ) (taken : Writ
       flushed = subst (λ l. GoesOn l v.log.writes.flushed) sent.flushed (GoesOn-none v.log.writes.flushed);
     })
 
-  -- it is so many bytes more
+  -- what was taken in has as many bytes more as were accepted
   pub taken_more : taken_in u + length accepted ≡ taken_in v
   taken_more = omega (
     arith,

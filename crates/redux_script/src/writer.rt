@@ -84,7 +84,7 @@ impl Write for ScriptWriter {
         Ok(n)
     }
 
-    // It never fails.
+    // A flush never fails.
     fn flush(&mut self) -> io::Result<()>
         ensures bytes { Keeps (Some (taken_bytes self.old)) (Some (taken_bytes self.new)) }
         ensures ok { IsOk result }

@@ -27,7 +27,7 @@ PrintsWriterAnswer writer.Done text = text ≡ codes "D"
 PrintsWriterAnswer (writer.Fault kind) text = StartsWith text (codes "E:")
 PrintsWriterAnswer (writer.Refused e) text = text ≡ refusal_text e
 
--- so many bytes, which count up from the first one
+-- as many bytes as this count, which count up from the first one
 pub record CountsUp (first count : ℕ) (bytes : List ℕ) : Type 0 where
   pub many : length bytes ≡ count
   pub each : (i : ℕ) → i < count → get_or bytes i 0 ≡ (first + i) % 256

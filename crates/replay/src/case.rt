@@ -23,9 +23,9 @@ pub enum Mode {
     Once,
     /// Again and again, with each call of the stream inside going wrong in turn.
     Sweep,
-    /// So too, and the call behind that one loses a byte.
+    /// A sweep in which the call behind the one that goes wrong loses a byte.
     LossySweep,
-    /// So too, and an error of that one is kept from the caller.
+    /// A sweep in which the error of the call that goes wrong is kept from the caller.
     SilentSweep,
 }
 

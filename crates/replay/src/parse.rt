@@ -12,7 +12,7 @@ use std::fmt;
 /// Why a line has no answer.
 #[derive(Drop)]
 pub enum Unread<'a> {
-    /// It is not four parts with ` | ` between them.
+    /// The line is not four parts with ` | ` between them.
     Parts,
     /// This first part names no buffered stream.
     Stream(&'a str),

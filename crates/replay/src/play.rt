@@ -67,7 +67,7 @@ pub fn play_case(
     }
 }
 
-/// So many bytes, which count up from `first`, modulo 256.
+/// `count` bytes, which count up from `first`, modulo 256.
 pub fn counting(alloc: Global, first: u8, count: usize) -> Result<Vec<u8>, AllocError>
     ensures { IfOk result (λ bytes. CountsUp first count bytes.items) }
 {

@@ -17,7 +17,7 @@ pub enum Lie {
 /// Which call of a stream goes wrong, and how.
 #[derive(Clone, Copy)]
 pub struct Fault {
-    /// So many calls come before it.
+    /// How many calls come before it.
     pub before: usize,
     pub answer: Answer,
     pub lie: Lie,

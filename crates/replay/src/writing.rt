@@ -339,7 +339,7 @@ impl Record {
         }
     }
 
-    // So many bytes of this call were accepted.
+    // `count` bytes of this call were accepted.
     fn accept(&mut self, call: WriterCall<'_>, count: usize) -> Result<(), AllocError> {
         match call {
             WriterCall::Write(bytes) => self

@@ -12,7 +12,7 @@ pub enum Want<'a> {
     End,
     /// The bytes are none.
     Wrong(Why),
-    /// So many bytes were dropped.
+    /// How many bytes were dropped.
     Skipped(u64),
     /// What is buffered and was not handed out.
     Rest(&'a [u8]),

@@ -23,7 +23,7 @@ enum End<'a> {
     Whole(&'a [u8]),
     // The byte behind so many is wrong.
     Wrong(Malformed, u64),
-    // It ends behind so many bytes.
+    // The body ends behind so many bytes.
     Truncated(u64),
 }
 

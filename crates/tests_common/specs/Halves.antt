@@ -7,12 +7,12 @@ use Rattle.buffer_redux.specs.declared.policy.FlushAmt.{FlushAmt}
 use Rattle.buffer_redux.specs.Policy.{ReadRules, WriteRules, amount_when_full}
 use Rattle.tests_common.specs.declared.claims.Halves.{Halves}
 
--- it reads until more than half of the capacity is buffered
+-- `Halves` reads until more than half of the capacity is buffered
 abbrev pub halves_before_read : Halves → Block → Result DoRead Error → Halves → Block → Type 0
 halves_before_read p b (Ok d) p' b' = (p' ≡ p) × (b' ≡ b) × (d.0 ≡ nat_le (2 * length b.bytes) b.capacity)
 halves_before_read p b (Err e) p' b' = ⊥
 
--- it returns no error, reads into an empty buffer, and spares each number
+-- `Halves` returns no error, reads into an empty buffer, and spares each number
 abbrev pub halves_read_rules : ReadRules Halves
 halves_read_rules = record {
   before_read = halves_before_read;

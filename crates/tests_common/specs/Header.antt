@@ -13,14 +13,14 @@ pub record ReadiesHeader (old new : Block) : Type 0 where
   pub tight : 16 ≤ old.capacity → usable old < 16 → MakesRoom old new
   pub roomy : 16 ≤ old.capacity → 16 ≤ usable old → new ≡ old
 
--- it reads where fewer than sixteen bytes are there, and fails only where it can't hold them and its growth was refused
+-- `Header` reads where fewer than sixteen bytes are there, and fails only where it can't hold them and its growth was refused
 abbrev pub header_before_read : Header → Block → Result DoRead Error → Header → Block → Type 0
 header_before_read p b (Ok d) p' b' =
     (p' ≡ p) × MatchBool d.0 ((length b.bytes < 16) × ReadiesHeader b b') ((16 ≤ length b.bytes) × (b' ≡ b))
 header_before_read p b (Err e) p' b' =
     (p' ≡ p) × (b' ≡ b) × (length b.bytes < 16) × (b.capacity < 16) × GrowthFailed 48 b e
 
--- it keeps sixteen bytes in sight, and spares that number and each larger one
+-- `Header` keeps sixteen bytes in sight, and spares that number and each larger one
 abbrev pub header_rules : ReadRules Header
 header_rules = record {
   before_read = header_before_read;

@@ -15,7 +15,7 @@ pub fn holding_in(
     Ok(buf)
 }
 
-/// So many of the bytes, or all.
+/// The first `count` of the bytes, or all.
 pub fn first(bytes: &[u8], count: usize) -> &[u8] {
     bytes.get(..count).unwrap_or(bytes)
 }

@@ -24,7 +24,7 @@ pub const FAULT: Answer = Answer::Fail(ErrorKind::Other);
 // No run calls its stream so often.
 const CALLS: usize = 500;
 
-// So many bytes at most a call, and this fault behind the first calls.
+// A script of at most so many bytes a call, with this fault behind the first calls.
 fn script(
     alloc: Global,
     most: usize,

@@ -28,9 +28,9 @@ pub fn copy_with_progress<B: TellBufRead, W: TellWrite, F: FnMut(u64) + Drop>(
         ⊎ TooManyTurns e (B.log from.old).fills (B.log from.new).fills) }
     ensures at_once { MatchResult result
         (λ _. faults_met (B.log from.new).fills (W.log to.new).writes
-            ≡ faults_met (B.log from.old).fills (W.log to.old).writes)
+        ≡ faults_met (B.log from.old).fills (W.log to.old).writes)
         (λ _. faults_met (B.log from.new).fills (W.log to.new).writes
-            ≤ faults_met (B.log from.old).fills (W.log to.old).writes + 1) }
+        ≤ faults_met (B.log from.old).fills (W.log to.old).writes + 1) }
     ensures reader { B.trace from.old from.new }
     ensures writer { W.trace to.old to.new }
 {

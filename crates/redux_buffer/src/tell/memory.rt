@@ -107,7 +107,7 @@ impl TellWrite for MemoryWriter {
         answer
     }
 
-    // It never fails.
+    // A flush of memory never fails.
     fn flush_told(&mut self) -> io::Result<()>
         ensures told { writer_log self.new ≡ after_flush (writer_log self.old) result }
         ensures ok { IsOk result }

@@ -29,7 +29,7 @@ loop-count-preserved-in-Ok-true g c =
       paced = paced_more rules lawful first fresh c.loop-count.count s t before.so_far before.paced next;
     }
 
--- it couldn't be written
+-- a payload that was there couldn't be written
 pub returns-in-Err : goal.returns-in-Err
 returns-in-Err g c =
     let rules = g.F.Filter.rules in

@@ -1,14 +1,15 @@
 use Rattle.std.proofs.Common.{None, refl, subst}
 use Rattle.forward.specs.Forward.{Forwards}
 use Rattle.forward.specs.ForwardLaws.{Goes-holds}
-use Rattle.frames.specs.Packing.{packing_rules}
+use Rattle.piece_filter.specs.Pieces.{piece_rules}
+use Rattle.frames.specs.Packing.{packing}
 use Rattle.frames.specs.declared.packing.Packing.{Packing}
 use Rattle.frames.proofs.Packs.{packed}
 use Rattle.frames.proofs.pack.pack_all.Goals as goal
 
 pub returns : goal.returns
 returns g c =
-    let rules = packing_rules {W = g.row.W.Denot} g.R.TellRead.remaining in
+    let rules = piece_rules g.R.TellRead.remaining (packing {W = g.row.W.Denot}) in
     let first : Packing g.row.R.Denot g.row.W.Denot =
     record { source = c.args.source; target = c.args.target; held = None } in
     let t = c.forward-answer.new.link in

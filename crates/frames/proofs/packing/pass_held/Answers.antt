@@ -16,8 +16,8 @@ returns-in_err-write_line g c =
     let wrote = c.in_err-write_line.ensures in
     rw (p.1, p.2) (lost g.R.TellRead.remaining packing ready t wrote.not_flushed wrote.flushes [] (omega arith)
     (took_none g.R.TellRead.remaining packing ready t refl
-    (lines_on t ready.also refl wrote.none.encoder ready.also.open' ready.also.fits) refl) refl wrote.none.in_order _
-    (inl wrote.caused))
+    (lines_on c.args.filter.now t ready.also refl wrote.none.encoder ready.also.open' ready.also.fits) refl) refl
+    wrote.none.in_order _ (inl wrote.caused))
 
 pub returns : goal.returns
 returns g c =
@@ -27,6 +27,6 @@ returns g c =
     let wrote = c.in_ok-write_line.ensures in
     passed g.R.TellRead.remaining packing ready t wrote.not_flushed wrote.flushes _ _
     (took_held g.R.TellRead.remaining packing ready t refl
-    (lines_on t ready.also refl wrote.taken.encoder ready.also.open' tt) c.args.span c.requires.held refl)
+    (lines_on c.args.filter.now t ready.also refl wrote.taken.encoder ready.also.open' tt) c.args.span c.requires.held refl)
     (append-nil _ ∙ ap (λ l. frame l) c.lent.ensures) (PiecesTaken-frames g.W.TellWrite.trace s.target t.target _ wrote.taken)
     wrote.met (inl (some_frame c.lent.result.now))

@@ -1,14 +1,15 @@
 use Rattle.std.proofs.Common.{None, refl, subst}
 use Rattle.forward.specs.Forward.{Forwards}
 use Rattle.forward.specs.ForwardLaws.{Goes-holds}
-use Rattle.frames.specs.Unpacking.{unpacking_rules}
+use Rattle.piece_filter.specs.Pieces.{piece_rules}
+use Rattle.frames.specs.Unpacking.{unpacking}
 use Rattle.frames.specs.declared.unpacking.Unpacking.{Unpacking}
 use Rattle.frames.proofs.Unpacks.{unpacked_all}
 use Rattle.frames.proofs.unpack.unpack_all.Goals as goal
 
 pub returns : goal.returns
 returns g c =
-    let rules = unpacking_rules {W = g.row.W.Denot} g.R.TellRead.remaining in
+    let rules = piece_rules g.R.TellRead.remaining (unpacking {W = g.row.W.Denot}) in
     let first : Unpacking g.row.R.Denot g.row.W.Denot =
     record { source = c.args.source; target = c.args.target; held = None } in
     let t = c.forward-answer.new.link in

@@ -3,7 +3,7 @@ use Rattle.codec.specs.PieceReader.{left_of}
 use Rattle.messages.specs.Messages.{Message, MessagesWent}
 use Rattle.messages.proofs.laws.pass.Given as goal
 
--- so many messages went
+-- these messages went
 abbrev pub invariant-loop : goal.invariant-loop
 invariant-loop g l = record {
   messages : List Message;

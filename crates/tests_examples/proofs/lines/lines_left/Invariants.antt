@@ -2,7 +2,7 @@ use Rattle.std.proofs.Common.{◌≡◌, ℕ, List, map, length, Ok, Some}
 use Rattle.line_reader.specs.Runs.{NextRuns}
 use Rattle.tests_examples.proofs.lines.lines_left.Given as goal
 
--- so many calls of `next` were made, and each handed a line out
+-- this many calls of `next` were made, and each handed a line out
 abbrev pub invariant-loop-count : goal.invariant-loop-count
 invariant-loop-count g l = record {
   lines : List (List ℕ);

@@ -7,7 +7,8 @@ use Rattle.frames.proofs.packing.PackingFilter.flush.Goals as goal
 pub returns : goal.returns
 returns g c =
     let t = record c.args.self.now { target = c.flush.new.self } in
-    let lines = lines_on t c.requires.also refl c.flush.ensures.went.encoder c.requires.also.open' c.requires.also.fits in
+    let also = c.requires.also in
+    let lines = lines_on c.args.self.now t also refl c.flush.ensures.went.encoder also.open' also.fits in
     flushed g.R.TellRead.remaining packing c.requires t
     (took_none g.R.TellRead.remaining packing c.requires t refl lines refl) refl refl _ _
     (λ drops. absurd drops) c.flush.result c.flush.ensures.flushed (λ x is all. all)

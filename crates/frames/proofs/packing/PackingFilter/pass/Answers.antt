@@ -3,10 +3,10 @@ use Rattle.std.proofs.lemmas.Result.{err_from_is_err_and}
 use Rattle.frame_reader.specs.WriteFrameLaws.{PiecesTaken-frames}
 use Rattle.line_reader.specs.LinesAlongLaws.{NextBuffered-none, NextBuffered-some}
 use Rattle.piece_filter.specs.PiecesCalls.{lost, none_passed, not_held, passed, took_next}
-use Rattle.frames.specs.Packing.{HeldFits, packing}
+use Rattle.frames.specs.Packing.{packing}
 use Rattle.frames.specs.PackingLaws.{some_frame}
 use Rattle.frames.specs.Words.{frame}
-use Rattle.frames.proofs.Packs.{lines_on}
+use Rattle.frames.proofs.Packs.{lines_on, none_fits}
 use Rattle.frames.proofs.packing.PackingFilter.pass.Goals as goal
 
 pub returns-in_err-write_line-in-Some-next_buffered : goal.returns-in_err-write_line-in-Some-next_buffered
@@ -20,8 +20,9 @@ returns-in_err-write_line-in-Some-next_buffered g c =
     let wrote = c.in_err-write_line-in-Some-next_buffered.ensures in
     let none = not_held c.args.self.now.held c.in_default.not-Some in
     rw (p.1, p.2) (lost g.R.TellRead.remaining packing c.requires t wrote.not_flushed wrote.flushes (line ∷ []) (omega arith)
-    (took_next g.R.TellRead.remaining packing c.requires t none none (lines_on t c.requires.also next.0.0.went.decoder
-    wrote.none.encoder next.0.1 (subst (HeldFits m.pieces) (sym none) tt)) line next.0.0 next.1) refl wrote.none.in_order _
+    (took_next g.R.TellRead.remaining packing c.requires t none none
+    (lines_on c.args.self.now t c.requires.also next.0.0.went.decoder wrote.none.encoder next.0.1 (none_fits m _ none))
+    line next.0.0 next.1) refl wrote.none.in_order _
     (inl wrote.caused))
 
 pub returns-in_ok-write_line-in-Some-next_buffered : goal.returns-in_ok-write_line-in-Some-next_buffered
@@ -34,8 +35,8 @@ returns-in_ok-write_line-in-Some-next_buffered g c =
     let wrote = c.in_ok-write_line-in-Some-next_buffered.ensures in
     let none = not_held c.args.self.now.held c.in_default.not-Some in
     passed g.R.TellRead.remaining packing c.requires t wrote.not_flushed wrote.flushes line _
-    (took_next g.R.TellRead.remaining packing c.requires t none none (lines_on t c.requires.also next.0.0.went.decoder
-    wrote.taken.encoder next.0.1 (subst (HeldFits m.pieces) (sym none) tt)) line next.0.0 next.1)
+    (took_next g.R.TellRead.remaining packing c.requires t none none
+    (lines_on c.args.self.now t c.requires.also next.0.0.went.decoder wrote.taken.encoder next.0.1 (none_fits m _ none)) line next.0.0 next.1)
     (append-nil (frame line)) (PiecesTaken-frames g.W.TellWrite.trace c.args.self.now.target t.target _ wrote.taken) wrote.met
     (inl (some_frame line))
 
@@ -48,5 +49,5 @@ returns-in-None g c =
     let none = not_held s.held c.in_default.not-Some in
     none_passed g.R.TellRead.remaining packing c.requires t none
     (record { target = refl; service = refl; sent = λ sent. sent })
-    (lines_on t c.requires.also (ap (λ x. x.decoder) looked.0.same) refl (looked.2 ∙ c.requires.also.open')
-    (subst (HeldFits m.pieces) (sym none) tt)) none looked.0
+    (lines_on c.args.self.now t c.requires.also (ap (λ x. x.decoder) looked.0.same) refl (looked.2 ∙ c.requires.also.open')
+    (none_fits m _ none)) none looked.0

@@ -11,5 +11,5 @@ returns g c =
     let frames = c.requires.also in
     flushed g.R.TellRead.remaining unpacking c.requires t
     (took_none g.R.TellRead.remaining unpacking c.requires t refl
-    (frames_on t frames refl frames.told sent.kind sent.capacity) refl)
+    (frames_on c.args.self.now t frames refl frames.told sent.kind sent.capacity) refl)
     refl refl _ _ (λ drops. absurd drops) c.flush.result sent (λ x is all. all)
