@@ -95,6 +95,10 @@ compact p = by_kind p.block.kind p (
     then record { block = record p.block { moved = p.block.moved + length p.block.bytes; tail_behind = true }; place = 0 }
     else p)
 
+-- a tail that does not reach past the storage, as that of a plain block never does
+abbrev pub IsInFront : Placed → Type 0
+IsInFront p = OnKind p.block.kind ⊤ (p.place ≤ p.block.capacity)
+
 -- p with ws written over its tail
 abbrev pub with_tail : Placed → List ℕ → Placed
 with_tail p ws = let q = compact p in record q { block = record q.block { tail = overwrite p.block.tail ws } }

@@ -2,7 +2,7 @@
 ghost use Rattle.std.specs.Prelude.{◌≡◌, ⊤, true, false, ◌+◌, ◌-◌, ◌^◌, ◌≤◌, ◌<◌, ◌↔◌, ◌++◌, ◌&&◌, length, min, take, drop, nat_le, nat_lt, IsTrue, IfOk, IsOk, OnOk, OnErr};
 ghost use Rattle.std.specs.Borrow.{Lends, Array, sem, u8};
 ghost use Rattle.redux_buffer.specs.GrowError.{FitsWithin};
-ghost use Rattle.redux_buffer.specs.Block.{Plain, Ring, IsPlaced, IsNew, BytesWritten, OnKind, ConsumesFirst, Extends, Reserves, MakesRoom, CountsShift, usable, capacity_for, with_tail, with_bytes, compact, round};
+ghost use Rattle.redux_buffer.specs.Block.{IsInFront, Plain, Ring, IsPlaced, IsNew, BytesWritten, OnKind, ConsumesFirst, Extends, Reserves, MakesRoom, CountsShift, usable, capacity_for, with_tail, with_bytes, compact, round};
 ghost use Rattle.redux_buffer.specs.BufImpl.{as_placed, with_placed};
 ghost use Rattle.redux_buffer.specs.contracts.buf_impl.BufImpl.{the_row};
 
@@ -190,8 +190,7 @@ impl BufImpl {
     fn is_past(&self) -> bool
         ensures past { result ≡ true → (as_placed self.now).block.kind ≡ Ring }
         ensures far { result ≡ true → (as_placed self.now).block.capacity < (as_placed self.now).place }
-        ensures in_front { result ≡ false → OnKind (as_placed self.now).block.kind ⊤
-            ((as_placed self.now).place ≤ (as_placed self.now).block.capacity) }
+        ensures in_front { result ≡ false → IsInFront (as_placed self.now) }
         ensures whole { IsPlaced (as_placed self.now) }
     {
         match self {
@@ -225,8 +224,7 @@ impl BufImpl {
     // Lends the first `n` bytes of a tail that doesn't reach past the storage.
     fn write_front(&mut self, n: usize) -> &mut [u8]
         requires fits { n ≤ usable (as_placed self.old).block }
-        requires in_front { OnKind (as_placed self.old).block.kind ⊤
-            ((as_placed self.old).place ≤ (as_placed self.old).block.capacity) }
+        requires in_front { IsInFront (as_placed self.old) }
         ensures* writes_back { sem 𝓛 (Lends the_row (Array u8 0) self.entry result
             (λ w. with_placed self.old (with_tail (as_placed self.old) w))) }
         ensures value { result.now ≡ take n (as_placed self.old).block.tail }
@@ -243,8 +241,7 @@ impl BufImpl {
     // Takes the first `n` bytes of such a tail as the last bytes.
     fn commit(&mut self, n: usize)
         requires fits { n ≤ usable (as_placed self.old).block }
-        requires in_front { OnKind (as_placed self.old).block.kind ⊤
-            ((as_placed self.old).place ≤ (as_placed self.old).block.capacity) }
+        requires in_front { IsInFront (as_placed self.old) }
         ensures bytes { BytesWritten n (as_placed self.old).block (as_placed self.new).block }
         ensures place { (as_placed self.new).place ≡ (as_placed self.old).place }
         ensures moved { (as_placed self.new).block.moved ≡ (as_placed self.old).block.moved }
