@@ -60,7 +60,8 @@ ring_grows held room capacity a all few =
 
 -- the capacity that is needed where so many more bytes don't fit
 abbrev needed : Block → ℕ → ℕ
-needed b a = by_kind b.kind (if length b.bytes == 0 then b.capacity + a else b.capacity - usable b + a) (round (length b.bytes + a))
+needed b a = by_kind b.kind (if length b.bytes == 0 then b.capacity + a else b.capacity - usable b + a)
+    (round (length b.bytes + a))
 
 grows : (k : Kind) (b : Block) (a : ℕ) → b.kind ≡ k → IsBlock b → usable b < a → Roomy b a (needed b a)
 grows Plain b a is whole few = rw is (cond_both (length b.bytes == 0) (b.capacity + a) (b.capacity - usable b + a)

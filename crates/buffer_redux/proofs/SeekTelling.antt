@@ -78,7 +78,8 @@ module _ {S P : Type 0} (tells : S → StreamLog) (trace : S → S → Type 0) (
       }
 
   after_flush_of : (answer : Result ℕ Error) (left : Buffered S P) → IsFlushed s left
-      → m.block ≡ left.block → SeekTells readies left.log to answer m.log → flushes_received (writer_log s) answer (all_flushed (writer_log s))
+      → m.block ≡ left.block → SeekTells readies left.log to answer m.log
+      → flushes_received (writer_log s) answer (all_flushed (writer_log s))
       → SeekTells flushes_received (writer_log s) to answer (writer_log (with_calls m (after_seek s.own_calls to answer)))
   after_flush_of answer left flushed block sought ready =
       let received = ap (λ l. l.writes.received) sought.told ∙ flushed.received in

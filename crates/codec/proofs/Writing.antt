@@ -65,4 +65,5 @@ module _ {T X : Type 0} {Call : T → List ℕ → Result (Unit {0}) X → T →
 
   -- at the end all were
   pub wrote_all : length vs ≤ i → Plays s (map (λ v. v.items) vs) (map (λ payload. Ok tt) (map (λ v. v.items) vs)) m
-  wrote_all end = subst (λ l. Plays s (map (λ v. v.items) l) (map (λ payload. Ok tt) (map (λ v. v.items) l)) m) (take_all i vs end) so.plays
+  wrote_all end = subst (λ l. Plays s (map (λ v. v.items) l) (map (λ payload. Ok tt) (map (λ v. v.items) l)) m)
+      (take_all i vs end) so.plays

@@ -12,7 +12,8 @@ use Rattle.codec.specs.WritePieceLaws.{PiecesTaken-joins, PiecesTaken-none}
 use Rattle.codec.specs.WriteRuns.{CallPlays, CallRuns, CallsStopped, IsFault, WritePlays, all_accepted}
 
 -- what is taken in where each answer is `Ok`, and that only payloads with an answer count
-pub all_accepted-ok : (X : Type 0) (payloads : List (List ℕ)) → all_accepted {X = X} payloads (map (λ payload. Ok tt) payloads) ≡ payloads
+pub all_accepted-ok : (X : Type 0) (payloads : List (List ℕ))
+    → all_accepted {X = X} payloads (map (λ payload. Ok tt) payloads) ≡ payloads
 all_accepted-ok X [] = refl
 all_accepted-ok X (payload ∷ payloads) = ap (λ l. payload ∷ l) (all_accepted-ok X payloads)
 

@@ -32,7 +32,8 @@ module _ {T W : Type 0} (rules : FilterRules T W) (first : T) where
 
 -- nothing was held back, as the logs of the two streams have it
 pub Goes-holds : {T W : Type 0} (rules : FilterRules T W) {more : ℕ} (s t : Linked T)
-    → Goes rules (IsPrompt rules s.filter) more s t → HoldsNothingBack (rules.due s.filter) (rules.read s.filter) (rules.read t.filter) (rules.written s.filter)
+    → Goes rules (IsPrompt rules s.filter) more s t
+    → HoldsNothingBack (rules.due s.filter) (rules.read s.filter) (rules.read t.filter) (rules.written s.filter)
     (rules.written t.filter)
 Goes-holds rules s t goes = holds_along rules s.filter s.filter t.filter goes.asks (inl refl) goes.along goes.each
 

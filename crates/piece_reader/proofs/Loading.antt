@@ -231,7 +231,8 @@ next_looked remaining grammar s m t need answer wants next =
 
 -- a piece that is buffered whole is handed out, and shown where it stands in the buffer
 pub takes_shown : {S D W : Type 0} (remaining : S → Option (List ℕ)) (g : Grammar W) → IsLawful g → (s t : ReaderState S D)
-    (at : ℕ) → at ≡ s.handed → IsPieceReader g s → IsPieceReader g t → (span : Span) (used : ℕ) → Takes g s (found.Piece span used) t
+    (at : ℕ) → at ≡ s.handed → IsPieceReader g s → IsPieceReader g t → (span : Span) (used : ℕ)
+    → Takes g s (found.Piece span used) t
     → NextPiece remaining g s
     (Ok (Some (bytes_at (record { from = at + span.from; len = span.len }) t.reader.block.bytes))) t
 takes_shown remaining g law s t at is whole whole' span used takes =

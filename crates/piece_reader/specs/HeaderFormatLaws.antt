@@ -41,7 +41,8 @@ module _ (h : HeaderFormat) (law : IsHeaderFormat h) where
       ∙ drop_seam a (h.tail ++ more))
       ∙ take-append_seam h.tail more
 
-  one : (p q xs ys a b : List ℕ) → (length_prefixed h).piece p a → (length_prefixed h).piece q b → p ++ xs ≡ q ++ ys → (p ≡ q) × (a ≡ b)
+  one : (p q xs ys a b : List ℕ) → (length_prefixed h).piece p a → (length_prefixed h).piece q b → p ++ xs ≡ q ++ ys
+      → (p ≡ q) × (a ≡ b)
   one p q xs ys a b is is' same =
       let parts = sized_same (length a) is.0 (length b) is'.0 (h.header (p ++ xs)) (said p a xs is)
       (ap h.header same ∙ said q b ys is') in

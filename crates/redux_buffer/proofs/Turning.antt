@@ -37,7 +37,8 @@ module _ {W : Type 0} (tells : W → StreamLog) (trace call : W → W → Type 0
       → CopyTurn tells trace call (Err e) from.fills (after_fill {A = Unit {0}} from (Err e) shown).fills w w
   not_filled shown e =
       let none = MetInterrupts-none (tells w).writes in
-      let kept = still from.fills (after_fill {A = Unit {0}} from (Err e) shown).fills (tells w).writes (tells w).writes refl refl refl refl
+      let kept = still from.fills (after_fill {A = Unit {0}} from (Err e) shown).fills (tells w).writes (tells w).writes
+      refl refl refl refl
       refl in
       let fills : FillsMade 0 from.fills (after_fill {A = Unit {0}} from (Err e) shown).fills (tells w).writes (tells w).writes =
       omega (arith, length-append from.fills.faults (e ∷ [])) in

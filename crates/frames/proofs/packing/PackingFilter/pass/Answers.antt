@@ -36,7 +36,8 @@ returns-in_ok-write_line-in-Some-next_buffered g c =
     let none = not_held c.args.self.now.held c.in_default.not-Some in
     passed g.R.TellRead.remaining packing c.requires t wrote.not_flushed wrote.flushes line _
     (took_next g.R.TellRead.remaining packing c.requires t none none
-    (lines_on c.args.self.now t c.requires.also next.0.0.went.decoder wrote.taken.encoder next.0.1 (none_fits m _ none)) line next.0.0 next.1)
+    (lines_on c.args.self.now t c.requires.also next.0.0.went.decoder wrote.taken.encoder next.0.1 (none_fits m _ none))
+    line next.0.0 next.1)
     (append-nil (frame line)) (PiecesTaken-frames g.W.TellWrite.trace c.args.self.now.target t.target _ wrote.taken) wrote.met
     (inl (some_frame line))
 
