@@ -288,8 +288,7 @@ impl<R: TellRead, D: Decoder> PieceReader<R, D> {
     /// An `Err` says why there is no piece, and leaves what came of it: the next call looks at it again.
     #[inline(always)]
     pub fn step(&mut self) -> Result<Option<Span>, NextError<D::Wrong>>
-        ensures next { NextPiece R.remaining (D.grammar self.old.decoder) self.old
-            (load_answer result self.new) self.new }
+        ensures next { NextPiece R.remaining (D.grammar self.old.decoder) self.old (load_answer result self.new) self.new }
         ensures lends { IfOk result (λ found. IfSome found
             (IsLent (D.grammar self.new.decoder) self.new.handed self.new.reader.block.bytes)) }
         ensures ready { (piece payload more : List ℕ) → (D.grammar self.old.decoder).piece piece payload
@@ -315,8 +314,7 @@ impl<R: TellRead, D: Decoder> PieceReader<R, D> {
     pub fn step_buffered(&mut self) -> Option<Span>
         ensures next { NextBuffered R.remaining (D.grammar self.old.decoder) self.old
             (buffered_answer result self.new) self.new }
-        ensures lends { IfSome result
-            (IsLent (D.grammar self.new.decoder) self.new.handed self.new.reader.block.bytes) }
+        ensures lends { IfSome result (IsLent (D.grammar self.new.decoder) self.new.handed self.new.reader.block.bytes) }
     {
         let at = self.handed;
         match self.take() {
@@ -376,8 +374,7 @@ impl<R: TellRead, D: Decoder> PieceReader<R, D> {
         requires few { length (rest self.old) < need }
         requires most { need ≤ (D.grammar self.old.decoder).most }
         requires lacks { Lacks (D.grammar self.old.decoder) need (rest self.old) }
-        ensures next { NextPiece R.remaining (D.grammar self.old.decoder) self.old
-            (load_answer result self.new) self.new }
+        ensures next { NextPiece R.remaining (D.grammar self.old.decoder) self.old (load_answer result self.new) self.new }
         ensures lends { IfOk result (λ found. IfSome found
             (IsLent (D.grammar self.new.decoder) self.new.handed self.new.reader.block.bytes)) }
         ensures front { IfOk result (λ found. IfSome found (λ _.
