@@ -11,7 +11,7 @@ use Rattle.forward.specs.Forward.{Forwarded, NoneFailed, StopsBy}
 use Rattle.forward.specs.declared.error.Cause.{Cause}
 use Rattle.forward.specs.declared.error.Cause.TheVariants as cause
 use Rattle.programs.specs.StreamsLaws.{MetNoFault-joins, SendFailed-after}
-use Rattle.bodies.specs.Words.{Error, WritesInOrder, Buffered, OnlyInterrupts-none, StreamLog, StdPolicy, IsBody, IsCarried, IsChunks, body_end, unbegun, Limits, FilterRules, Moves, AllSent, BufferRefused, RunError, chunk, chunks}
+use Rattle.bodies.specs.Words.{Error, WritesInOrder, Buffered, OnlyInterrupts-none, StreamLog, StdPolicy, IsBody, IsCarried, IsChunks, body_end, unbegun, Limits, FilterRules, Moves, AllSent, BufferRefused, RunError, chunk}
 use Rattle.bodies.specs.Encode.{EncodeRan, Encodes, EndsBody, IsCut, IsUnended, IsWritten, Moved, MovedAll, IsBeginning}
 use Rattle.bodies.specs.Encoding.{encoding_rules}
 use Rattle.bodies.specs.Filters.{IsErrorOf, joined}

@@ -20,8 +20,8 @@ texts_lawful = length_prefixed_lawful (scanned lines) (scanned_headers lines lin
 -- no head has more bytes
 pub text_few : (bytes none : List ℕ) → texts.piece bytes none → length bytes ≤ 8192
 text_few bytes none is =
-    let some = (scanned_headers lines lines_small).some bytes (length none) is.used is.is in
-    omega (arith, some, is.fits, ap length is.equal, length-append none [], length-drop is.used bytes)
+    let some = (scanned_headers lines lines_small).some bytes (length none) is.0 is.1 in
+    omega (arith, some, is.2, ap length is.3, length-append none [], length-drop is.0 bytes)
 
 -- lines that stand in front aren't wrong
 clash : (bytes : List ℕ) (e : HeaderError) (b : Begins texts bytes) → ¬ (texts.wrong bytes e)

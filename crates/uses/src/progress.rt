@@ -1,5 +1,5 @@
 //! Copies a reader to a writer, and tells after each write how many bytes went over so far.
-ghost use Rattle.std.specs.Prelude.{◌≡◌, ◌-◌, ◌⊎◌, ℕ, OnOk, IfOk, IfErr, MatchResult};
+ghost use Rattle.std.specs.Prelude.{◌≡◌, ◌+◌, ◌-◌, ◌≤◌, ◌⊎◌, ℕ, OnOk, IfOk, IfErr, MatchResult};
 ghost use Rattle.std.specs.Io.Iter.{u64_saturate};
 ghost use Rattle.buffer_redux.specs.Copy.{MovedBy, CopyEnded, StreamFailed, faults_met};
 ghost use Rattle.uses.specs.Progress.{Tells, TooManyTurns};
