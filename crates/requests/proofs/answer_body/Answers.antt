@@ -21,6 +21,7 @@ returns-in-Err g c = λ s begun.
         wire = [];
         went = StreamWent-none g.R.TellRead.remaining c.args.body.stream;
         onward = λ later payload is. is;
+        backward = λ later whole is. (whole, refl, is);
       };
       head = refl;
       said = refl;
