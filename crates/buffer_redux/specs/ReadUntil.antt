@@ -71,7 +71,7 @@ pub record PassesToEnd {S P : Type 0} (remaining : S → Option (List ℕ)) (rul
 abbrev pub Stops : Type 1
 Stops = List ℕ → Error → List ℕ → Type 0
 
--- it had no memory for them
+-- the call had no memory for them
 abbrev pub no_memory : Stops
 no_memory handed e bytes = (error_kind e ≡ OutOfMemory) × (0 < length bytes)
 

@@ -42,7 +42,7 @@ impl<R: TellRead, P: ReaderPolicy> BufReader<R, P> {
         ensures line { ReadsLine R.remaining P.rules self.old (string_bytes out.old) result (string_bytes out.new) self.new }
         ensures bytes { OnOk result (IfSome (reader_remaining R.remaining P.rules self.old)
             (λ xs. string_bytes out.new ≡ string_bytes out.old ++ take_through 10 xs)) }
-        // It is of the last fill or read, so the stream's or the policy's; or the line is no UTF-8, where std knows it.
+        // Such is the last fill's or read's, so the stream's or the policy's; or the line is no UTF-8, where std knows it.
         ensures invalid { IfErr result (λ e. error_kind e ≡ InvalidData → ((handed : List ℕ) × PassesAndFills R.remaining
             P.rules (FillsOn IsPart R.remaining P.rules) 10 self.old handed (Err e) self.new)
             ⊎ IfSome (reader_remaining R.remaining P.rules self.old) (λ xs. ¬ (IsUtf8 (take_through 10 xs)))) }

@@ -16,7 +16,7 @@ handed_first g c = handed_on _ _ _ g.met.K.Sink.lawful _ _ c.fills.self _ c.fill
     (c.len-len.ensures.value ∙ ap (λ x. length x.block.bytes) c.self-in-fills.view_is) c.fills.invariant.behind
     c.in_ok-hand_first.ensures.hands
 
--- and then some bytes came
+-- some bytes came then
 filled_more : (g : _) (c : goal.After-first_of g)
     → length c.hand_first.new.self.block.bytes < length c.fill_more.new.self.block.bytes
 filled_more g c = fills_more _ _ c.is_empty.result c.in_ok-fill_more.ensures.fills.1
