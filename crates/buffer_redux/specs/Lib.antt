@@ -54,6 +54,7 @@ pub mod Unwrapping
 pub mod LineWriter
 pub mod WriterLaws
 pub mod WritesAlongLaws
+pub mod LineSenderLaws
 pub mod ReaderTells
 pub mod WriterTells
 pub mod EmptyWrites

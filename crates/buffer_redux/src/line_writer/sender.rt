@@ -1,10 +1,10 @@
 //! A writer of lines that tells where a line isn't sent.
-ghost use Rattle.std.specs.Prelude.{◌≡◌, IfSome, Ok, OnOk};
+ghost use Rattle.std.specs.Prelude.{◌≡◌, IfSome, OnOk};
 ghost use Rattle.std.specs.Io.{WritesAtMost};
 ghost use Rattle.std.specs.Io.KnownBytes.{Appends, Keeps, WriteAppends};
 ghost use Rattle.redux_buffer.specs.Block.{IsBlock};
-ghost use Rattle.buffer_redux.specs.BufWriter.{writer_contents, AllAlong, WasFlushed, WasSent, WriterKeeps, Writes};
-ghost use Rattle.buffer_redux.specs.LineWriter.{line_rules, ThenSendsLines};
+ghost use Rattle.buffer_redux.specs.BufWriter.{writer_contents, AllAlong, WasFlushed, WriterKeeps, Writes};
+ghost use Rattle.buffer_redux.specs.LineWriter.{line_rules, SendsLines, ThenSendsLines};
 ghost use Rattle.buffer_redux.specs.ReadUntil.{Lacks};
 ghost use Rattle.buffer_redux.specs.WriteAll.{WritesAll};
 ghost use Rattle.buffer_redux.specs.WriteFmt.{WritesText};
@@ -73,8 +73,7 @@ impl<W: TellWrite> LineSender<W> {
     // Sends what is buffered, where a line feed is among it: one stays there only where its send failed.
     #[inline(always)]
     fn send_lines(&mut self) -> io::Result<()>
-        ensures some { ¬ (Lacks 10 self.old.block.bytes) → WasSent W.log W.trace self.old result self.new }
-        ensures none { Lacks 10 self.old.block.bytes → (result ≡ Ok tt) × (self.new ≡ self.old) }
+        ensures sends { SendsLines W.log W.trace self.old result self.new }
         ensures sent { OnOk result (Lacks 10 self.new.block.bytes) }
         ensures whole { IsBlock self.new.block }
     {

@@ -13,11 +13,11 @@ returns-in_err-write_fmt-clause-steps g c =
 
 pub returns-clause-bytes : goal.returns-clause-bytes
 returns-clause-bytes g c = text_sent g.W.Tell.log g.W.TellWrite.trace c.args.self.now c.write_fmt.new.self
-    c.send_lines.result c.send_lines.new.self (record { some = c.send_lines.ensures.some; none = c.send_lines.ensures.none }) (g.D.Display.output c.args.text)
+    c.send_lines.result c.send_lines.new.self c.send_lines.ensures.sends (g.D.Display.output c.args.text)
     (rw (← c.self.view_is) c.in_ok-write_fmt.ensures.bytes)
 
 pub returns-clause-steps : goal.returns-clause-steps
 returns-clause-steps g c = steps_sent g.W.Tell.log g.W.TellWrite.trace
     (WritesText g.W.Tell.log g.W.TellWrite.trace line_rules c.args.self.now (g.D.Display.output c.args.text)) _
     c.write_fmt.new.self c.send_lines.result c.send_lines.new.self
-    (rw (← c.self.view_is) c.in_ok-write_fmt.ensures.text) (record { some = c.send_lines.ensures.some; none = c.send_lines.ensures.none })
+    (rw (← c.self.view_is) c.in_ok-write_fmt.ensures.text) c.send_lines.ensures.sends

@@ -1,6 +1,7 @@
 use Rattle.std.proofs.Common.{refl}
 use Rattle.std.proofs.lemmas.Result.{err_from_is_err_and}
-use Rattle.buffer_redux.proofs.LineSends.{all_sent, appends_sent, steps_failed, steps_sent}
+use Rattle.buffer_redux.proofs.LineSends.{appends_sent, steps_failed, steps_sent}
+use Rattle.buffer_redux.specs.LineSenderLaws.{ThenSendsLines-all}
 use Rattle.buffer_redux.specs.LineWriter.{line_rules}
 use Rattle.buffer_redux.specs.WriteAll.{WritesAll}
 use Rattle.buffer_redux.specs.WritesAlongLaws.{WritesAll-all, WritesAll-took}
@@ -22,18 +23,22 @@ returns-in_err-write_all-clause-steps g c =
 
 pub returns-clause-bytes : goal.returns-clause-bytes
 returns-clause-bytes g c = appends_sent g.W.Tell.log g.W.TellWrite.trace c.args.self.now c.write_all.new.self
-    c.send_lines.result c.send_lines.new.self (record { some = c.send_lines.ensures.some; none = c.send_lines.ensures.none }) c.args.bytes.now
+    c.send_lines.result c.send_lines.new.self c.send_lines.ensures.sends c.args.bytes.now
     (rw (← c.self.view_is) c.in_ok-write_all.ensures.bytes)
-
-pub returns-clause-all : goal.returns-clause-all
-returns-clause-all g c = all_sent g.W.Tell.log g.W.TellWrite.trace line_rules g.met.W.TellWrite.trace_none
-    g.met.W.TellWrite.trace_joins g.met.W.TellWrite.trace_grows c.args.self.now c.write_all.new.self c.args.bytes.now
-    c.send_lines.result c.send_lines.new.self (WritesAll-took g.W.Tell.log g.W.TellWrite.trace line_rules
-    c.args.self.now c.args.bytes.now _ c.write_all.new.self (rw (← c.self.view_is) c.in_ok-write_all.ensures.steps))
-    (record { some = c.send_lines.ensures.some; none = c.send_lines.ensures.none })
 
 pub returns-clause-steps : goal.returns-clause-steps
 returns-clause-steps g c = steps_sent g.W.Tell.log g.W.TellWrite.trace
     (WritesAll g.W.Tell.log g.W.TellWrite.trace line_rules c.args.self.now c.args.bytes.now) _
     c.write_all.new.self c.send_lines.result c.send_lines.new.self
-    (rw (← c.self.view_is) c.in_ok-write_all.ensures.steps) (record { some = c.send_lines.ensures.some; none = c.send_lines.ensures.none })
+    (rw (← c.self.view_is) c.in_ok-write_all.ensures.steps) c.send_lines.ensures.sends
+
+pub returns-clause-all : goal.returns-clause-all
+returns-clause-all g c =
+    let steps = steps_sent g.W.Tell.log g.W.TellWrite.trace
+    (WritesAll g.W.Tell.log g.W.TellWrite.trace line_rules c.args.self.now c.args.bytes.now) _
+    c.write_all.new.self c.send_lines.result c.send_lines.new.self
+    (rw (← c.self.view_is) c.in_ok-write_all.ensures.steps) c.send_lines.ensures.sends in
+    ThenSendsLines-all g.W.Tell.log g.W.TellWrite.trace line_rules g.met.W.TellWrite.trace_none
+    g.met.W.TellWrite.trace_joins g.met.W.TellWrite.trace_grows c.args.self.now c.send_lines.result c.send_lines.new.self
+    _ steps c.args.bytes.now (WritesAll-took g.W.Tell.log g.W.TellWrite.trace line_rules
+    c.args.self.now c.args.bytes.now _ c.write_all.new.self (rw (← c.self.view_is) c.in_ok-write_all.ensures.steps))
