@@ -1,5 +1,5 @@
 -- Parts that are taken in together.
-use Rattle.std.proofs.Common.{◌≡◌, ℕ, ◌+◌, ◌-◌, ◌%◌, ◌<◌, ◌≤◌, List, [], ◌++◌, length, map, min, drop, get_or, Bor, Result, Ok, Err, IfErr, refl, sym, ap, subst, ◌∙◌, arith, inl, inr, add-one, drop-cons, append_assoc, append-nil, length-drop, le_refl}
+use Rattle.std.proofs.Common.{◌≡◌, ℕ, ◌+◌, ◌-◌, ◌%◌, ◌<◌, ◌≤◌, List, [], ◌++◌, length, map, min, drop, get_or, Bor, Result, Ok, Err, MatchResult, refl, sym, ap, subst, ◌∙◌, arith, inl, inr, add-one, drop-cons, append_assoc, append-nil, length-drop, le_refl}
 use Rattle.std.specs.Prelude.{◌⊎◌, ◌==◌, if◌then◌else◌, nat_le}
 use Rattle.std.specs.List.{concat}
 use Rattle.std.specs.declared.io.Error.{Error}
@@ -14,8 +14,8 @@ use Rattle.redux_buffer.specs.StreamLog.{StreamLog}
 use Rattle.buffer_redux.specs.Buffered.{Buffered, with_block}
 use Rattle.buffer_redux.specs.BufWriter.{WasSent, WritesAlong}
 use Rattle.buffer_redux.specs.Policy.{std_write_rules}
-use Rattle.buffer_redux.specs.WriteParts.{MakesPlace, PutsIn, WritesParts}
-use Rattle.buffer_redux.specs.WritesAlongLaws.{WasSent-along, WritesAlong-joins, WritesAlong-then}
+use Rattle.buffer_redux.specs.WriteParts.{MakesPlace, PartsRefused, PutsIn, WritesParts}
+use Rattle.buffer_redux.specs.WritesAlongLaws.{WasSent-along, WritesAlong-joins, WritesAlong-none, WritesAlong-then}
 
 -- the bytes of all parts
 abbrev pub all_of : List (Bor (List ℕ)) → List ℕ
@@ -46,6 +46,10 @@ limit_small Ring = omega arith
 
 pub fits_of : (b : Block) → IsBlock b → (n count : ℕ) → count ≡ min n 18446744073709551615 → count ≤ usable b → n ≤ usable b
 fits_of b whole n count is fit = omega (arith, is, fit, whole.fits, whole.limit, whole.most, limit_small b.kind)
+
+-- how many bytes there are, as far as a `usize` counts
+abbrev counted : List ℕ → ℕ
+counted bytes = min (length bytes) 18446744073709551615
 
 -- a growth lowers no capacity, and makes room for so many bytes
 abbrev Roomy : Block → ℕ → ℕ → Type 0
@@ -100,7 +104,7 @@ module _ {S P : Type 0} (tells : S → StreamLog) (trace : S → S → Type 0) (
       → WritesParts tells trace s bytes (Ok tt) t
   parts_fit s t bytes fit p = record {
     along = put_along s t bytes p;
-    fits = λ _. (refl, ap (λ x. x.log) p.others);
+    fits = λ _. (refl, p);
     full = λ few. absurd (omega (arith, few, fit));
     caused = tt;
     whole = p.whole;
@@ -110,90 +114,85 @@ module _ {S P : Type 0} (tells : S → StreamLog) (trace : S → S → Type 0) (
   pub place_made : (s m t : Buffered S P) (count : ℕ) (x y : Unit {0}) → WasSent tells trace s (Ok x) m
       → Reserves count m.block t.block → t ≡ with_block m t.block → IsBlock t.block → MakesPlace tells trace count s (Ok y) t
   place_made s m t count x y sent grown others whole =
-      let up = roomy m.block count sent.whole in record {
-        sending = Ok x;
-        left = m;
-        sent = sent;
-        others = others;
-        bytes = grown.bytes;
-        capacity = omega (arith, up.0, grown.capacity);
-        kind = grown.kind;
-        room = omega (arith, up.1, grown.usable, grown.capacity);
-        unsent = λ e is. (let odd : ◌≡◌ {A = Result (Unit {0}) Error} (Ok x) (Err e) = is in cc);
-        refused = λ x is. tt;
-        whole = whole;
-      }
+      record { sending = Ok x; left = m; sent = sent; ended = (grown, others); whole = whole }
 
   pub place_refused : (s m : Buffered S P) (count : ℕ) (x : Unit {0}) (e : Error) → WasSent tells trace s (Ok x) m
       → GrowthFailed count m.block e → MakesPlace tells trace count s (Err e) m
-  place_refused s m count x e sent failed = record {
-    sending = Ok x;
-    left = m;
-    sent = sent;
-    others = refl;
-    bytes = refl;
-    capacity = le_refl _;
-    kind = refl;
-    room = tt;
-    unsent = λ e is. (let odd : ◌≡◌ {A = Result (Unit {0}) Error} (Ok x) (Err e) = is in cc);
-    refused = λ x is. failed;
-    whole = sent.whole;
-  }
+  place_refused s m count x e sent failed =
+      record { sending = Ok x; left = m; sent = sent; ended = (failed, refl); whole = sent.whole }
 
   pub place_unsent : (s t : Buffered S P) (count : ℕ) (e : Error) → WasSent tells trace s (Err e) t
       → MakesPlace tells trace count s (Err e) t
-  place_unsent s t count e sent = record {
-    sending = Err e;
-    left = t;
-    sent = sent;
-    others = refl;
-    bytes = refl;
-    capacity = le_refl _;
-    kind = refl;
-    room = tt;
-    unsent = λ why is. is;
-    refused = λ x is. (let odd : ◌≡◌ {A = Result (Unit {0}) Error} (Err e) (Ok x) = is in cc);
-    whole = sent.whole;
-  }
+  place_unsent s t count e sent =
+      record { sending = Err e; left = t; sent = sent; ended = (refl, refl); whole = sent.whole }
+
+  -- there is room, once it was made
+  pub place_room : (s t : Buffered S P) (count : ℕ) (y : Unit {0}) → MakesPlace tells trace count s (Ok y) t
+      → count ≤ usable t.block
+  place_room s t count y p = roomed p.sending p.left p.sent p.ended
+    where
+      roomed : (sending : Result (Unit {0}) Error) (m : Buffered S P) → WasSent tells trace s sending m
+          → MatchResult sending (λ _. Reserves count m.block t.block × (t ≡ with_block m t.block))
+          (λ e. (Ok y ≡ Err e) × (t ≡ m)) → count ≤ usable t.block
+      roomed (Ok x) m sent (grown, others) =
+          (let up = roomy m.block count sent.whole in omega (arith, up.1, grown.usable, grown.capacity))
+      roomed (Err e) m sent (odd, same) = cc
 
   module _ (joins : (u v w : S) → trace u v → trace v w → trace u w)
       (goes : (u v : S) → trace u v → WritesGoOn (tells u) (tells v)) where
     -- what was sent before
     place_along : (s t : Buffered S P) (count : ℕ) (answer : Result (Unit {0}) Error) → MakesPlace tells trace count s answer t
         → WritesAlong tells trace std_write_rules s [] t
-    place_along s t count answer p = WritesAlong-then tells trace std_write_rules joins s p.left t []
+    place_along s t count answer p =
+        WritesAlong-then tells trace std_write_rules joins s p.left t []
         (WasSent-along tells trace std_write_rules goes s p.sending p.left p.sent)
-        (block_along p.left t [] p.others (p.bytes ∙ sym (append-nil p.left.block.bytes)) p.capacity p.kind)
+        (behind p.sending answer p.left p.sent.whole p.ended)
+      where
+        still : (m : Buffered S P) → t ≡ m → WritesAlong tells trace std_write_rules m [] t
+        still m same = subst (WritesAlong tells trace std_write_rules m []) (sym same)
+            (WritesAlong-none tells trace std_write_rules none m)
+
+        behind : (sending answer : Result (Unit {0}) Error) (m : Buffered S P) → IsBlock m.block → MatchResult sending
+            (λ _. MatchResult answer (λ _. Reserves count m.block t.block × (t ≡ with_block m t.block))
+            (λ e. GrowthFailed count m.block e × (t ≡ m)))
+            (λ e. (answer ≡ Err e) × (t ≡ m)) → WritesAlong tells trace std_write_rules m [] t
+        behind (Ok x) (Ok y) m whole (grown, others) =
+            let up = roomy m.block count whole in
+            block_along m t [] others (grown.bytes ∙ sym (append-nil m.block.bytes)) (omega (arith, up.0, grown.capacity))
+            grown.kind
+        behind (Ok x) (Err e) m whole (failed, same) = still m same
+        behind (Err e) answer m whole (is, same) = still m same
 
     -- the parts moved in, once there was room
-    pub parts_moved : (s m t : Buffered S P) (count : ℕ) (bytes : List ℕ) → usable s.block < length bytes
-        → MakesPlace tells trace count s (Ok tt) m → PutsIn m bytes t → WritesParts tells trace s bytes (Ok tt) t
-    parts_moved s m t count bytes few p put = record {
-      along = WritesAlong-joins tells trace std_write_rules joins s m t [] bytes (place_along s m count (Ok tt) p)
-          (put_along m t bytes put);
+    pub parts_moved : (s m t : Buffered S P) (bytes : List ℕ) → usable s.block < length bytes
+        → MakesPlace tells trace (counted bytes) s (Ok tt) m → PutsIn m bytes t
+        → WritesParts tells trace s bytes (Ok tt) t
+    parts_moved s m t bytes few p put = record {
+      along = WritesAlong-joins tells trace std_write_rules joins s m t [] bytes
+          (place_along s m (counted bytes) (Ok tt) p) (put_along m t bytes put);
       fits = λ fit. absurd (omega (arith, fit, few));
-      full = λ _. (p.sending, p.left, p.sent, ap (λ x. x.log) put.others ∙ ap (λ x. x.log) p.others, p.unsent);
+      full = λ _. (m, p, put);
       caused = tt;
       whole = put.whole;
     }
 
     -- no room was made, and no part moved in
-    pub parts_failed : (s t : Buffered S P) (count : ℕ) (bytes : List ℕ) (e : Error) → usable s.block < length bytes
-        → count ≤ length bytes → MakesPlace tells trace count s (Err e) t → WritesParts tells trace s bytes (Err e) t
-    parts_failed s t count bytes e few within p = record {
-      along = place_along s t count (Err e) p;
+    pub parts_failed : (s t : Buffered S P) (bytes : List ℕ) (e : Error) → usable s.block < length bytes
+        → MakesPlace tells trace (counted bytes) s (Err e) t → WritesParts tells trace s bytes (Err e) t
+    parts_failed s t bytes e few p = record {
+      along = place_along s t (counted bytes) (Err e) p;
       fits = λ fit. absurd (omega (arith, fit, few));
-      full = λ _. (p.sending, p.left, p.sent, ap (λ x. x.log) p.others, p.unsent);
-      caused = failed p.sending refl;
+      full = λ _. p;
+      caused = failed p.sending p.left p.sent p.ended;
       whole = p.whole;
     }
       where
-        failed : (sending : Result (Unit {0}) Error) → p.sending ≡ sending
-            → SendErrorCaused s.log.writes t.log.writes e ⊎ ((n : ℕ) × (n ≤ length bytes) × GrowthFailed n t.block e)
-        failed (Ok x) is = inr (count, within, p.refused x is)
-        failed (Err why) is =
-            let same : why ≡ e = (let back : ◌≡◌ {A = Result (Unit {0}) Error} (Err e) (Err why) = p.unsent why is in cc) in
-            let cause : SendErrorCaused s.log.writes p.left.log.writes why =
-            subst (λ a. IfErr a (λ e. SendErrorCaused s.log.writes p.left.log.writes e)) is p.sent.caused in
-            inl (subst (λ x. SendErrorCaused s.log.writes x.log.writes e) (sym p.others)
-            (subst (SendErrorCaused s.log.writes p.left.log.writes) same cause))
+        failed : (sending : Result (Unit {0}) Error) (m : Buffered S P) → WasSent tells trace s sending m
+            → MatchResult sending (λ _. GrowthFailed (counted bytes) m.block e × (t ≡ m))
+            (λ why. (◌≡◌ {A = Result (Unit {0}) Error} (Err e) (Err why)) × (t ≡ m))
+            → PartsRefused (length bytes) s e t
+        failed (Ok x) m sent (refused, same) =
+            inr (counted bytes, omega arith, subst (λ u. GrowthFailed (counted bytes) u.block e) (sym same) refused)
+        failed (Err why) m sent (is, same) =
+            let cause : SendErrorCaused s.log.writes m.log.writes e = (let back : e ≡ why = cc in rw back sent.caused) in
+            inl (subst (λ u. SendErrorCaused s.log.writes u.log.writes e) (sym same) cause)

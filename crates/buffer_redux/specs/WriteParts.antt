@@ -1,7 +1,7 @@
 -- What is copied into a writer where it fits, and what a write of parts does.
-use Rattle.std.specs.Prelude.{◌≡◌, ℕ, ◌-◌, ◌<◌, ◌≤◌, ◌⊎◌, List, [], ◌++◌, length, Result, Ok, Err, MatchResult, IfErr, IsOk, OnOk}
+use Rattle.std.specs.Prelude.{◌≡◌, ℕ, ◌-◌, ◌^◌, ◌<◌, ◌≤◌, ◌⊎◌, List, [], ◌++◌, length, min, Result, Ok, Err, MatchResult, IfErr}
 use Rattle.std.specs.declared.io.Error.{Error}
-use Rattle.redux_buffer.specs.Block.{IsBlock, usable}
+use Rattle.redux_buffer.specs.Block.{IsBlock, Reserves, usable}
 use Rattle.redux_buffer.specs.Faults.{SendErrorCaused}
 use Rattle.redux_buffer.specs.GrowError.{GrowthFailed}
 use Rattle.redux_buffer.specs.StreamLog.{StreamLog}
@@ -35,32 +35,26 @@ PartsRefused count s e t = SendErrorCaused s.log.writes t.log.writes e
     ⊎ ((more : ℕ) × (more ≤ count) × GrowthFailed more t.block e)
 
 module _ {S P : Type 0} (tells : S → StreamLog) (trace : S → S → Type 0) where
-  -- all that was buffered was sent, and then there was room for so many bytes, or it was refused
+  -- all that was buffered was sent, once, and then room for so many bytes was made, or refused; where sending failed, nothing
+  -- else was done
   pub record MakesPlace (count : ℕ) (s : Buffered S P) (answer : Result (Unit {0}) Error) (t : Buffered S P) : Type 0 where
     pub sending : Result (Unit {0}) Error
     pub left : Buffered S P
     pub sent : WasSent tells trace s sending left
-    pub others : t ≡ with_block left t.block
-    pub bytes : t.block.bytes ≡ left.block.bytes
-    pub capacity : left.block.capacity ≤ t.block.capacity
-    pub kind : t.block.kind ≡ left.block.kind
-    pub room : OnOk answer (count ≤ usable t.block)
-    pub unsent : (e : Error) → sending ≡ Err e → answer ≡ Err e
-    pub refused : (x : Unit {0}) → sending ≡ Ok x → IfErr answer (λ e. GrowthFailed count t.block e)
+    pub ended : MatchResult sending
+        (λ _. MatchResult answer (λ _. Reserves count left.block t.block × (t ≡ with_block left t.block))
+        (λ e. GrowthFailed count left.block e × (t ≡ left)))
+        (λ e. (answer ≡ Err e) × (t ≡ left))
     pub whole : IsBlock t.block
 
-  -- what was buffered was sent, once, and nothing else; where that failed, so did this answer
-  abbrev pub SentBefore : Buffered S P → Result (Unit {0}) Error → Buffered S P → Type 0
-  SentBefore s answer t =
-      (sending : Result (Unit {0}) Error) × (left : Buffered S P) × WasSent tells trace s sending left × (t.log ≡ left.log)
-      × ((e : Error) → sending ≡ Err e → answer ≡ Err e)
-
-  -- all of these bytes were taken in, or nothing was; where they fit the inner writer isn't called, and else what was buffered
-  -- is sent, once
+  -- all of these bytes were taken in, or nothing was. Where they fit they are copied in, and nothing else is done; else place is
+  -- made for them first, of as many as a `usize` counts
   pub record WritesParts (s : Buffered S P) (bytes : List ℕ) (answer : Result (Unit {0}) Error) (t : Buffered S P) : Type 0 where
     pub along : MatchResult answer (λ _. WritesAlong tells trace std_write_rules s bytes t)
         (λ e. WritesAlong tells trace std_write_rules s [] t)
-    pub fits : length bytes ≤ usable s.block → IsOk answer × (t.log ≡ s.log)
-    pub full : usable s.block < length bytes → SentBefore s answer t
+    pub fits : length bytes ≤ usable s.block → (answer ≡ Ok tt) × PutsIn s bytes t
+    pub full : usable s.block < length bytes → MatchResult answer
+        (λ _. (m : Buffered S P) × MakesPlace (min (length bytes) (2 ^ 64 - 1)) s (Ok tt) m × PutsIn m bytes t)
+        (λ e. MakesPlace (min (length bytes) (2 ^ 64 - 1)) s (Err e) t)
     pub caused : IfErr answer (λ e. PartsRefused (length bytes) s e t)
     pub whole : IsBlock t.block

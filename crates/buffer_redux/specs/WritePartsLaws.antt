@@ -1,10 +1,15 @@
--- Laws of what is copied into a writer where it fits.
-use Rattle.std.specs.Prelude.{◌≡◌, List, ℕ, [], ◌++◌}
-use Rattle.std.proofs.Common.{sym, ap, ◌∙◌, append_assoc, append-nil}
-use Rattle.redux_buffer.specs.StreamLog.{StreamLog}
+-- Laws of what is copied into a writer where it fits, and of a write of parts.
+use Rattle.std.specs.Prelude.{◌≡◌, ◌⊎◌, List, ℕ, [], ◌++◌, length, Result, Ok, Err, MatchResult}
+use Rattle.std.proofs.Common.{refl, sym, ap, subst, inl, inr, ◌∙◌, append_assoc, append-nil}
+use Rattle.std.proofs.lemmas.Bool.{cases_lt}
+use Rattle.std.specs.declared.io.Error.{Error}
+use Rattle.redux_buffer.specs.Block.{Reserves, usable}
+use Rattle.redux_buffer.specs.Faults.{MetInterrupts, MetInterrupts-none}
+use Rattle.redux_buffer.specs.GrowError.{GrowthFailed}
+use Rattle.redux_buffer.specs.StreamLog.{StreamLog, WriteLog}
 use Rattle.buffer_redux.specs.Buffered.{Buffered, with_block}
-use Rattle.buffer_redux.specs.BufWriter.{WritesInOrder}
-use Rattle.buffer_redux.specs.WriteParts.{PutsIn, SendsFirst}
+use Rattle.buffer_redux.specs.BufWriter.{WasSent, WritesInOrder}
+use Rattle.buffer_redux.specs.WriteParts.{MakesPlace, PutsIn, SendsFirst, WritesParts}
 use Rattle.buffer_redux.specs.WriterLaws.{WritesInOrder-joins}
 
 -- bytes behind others are both
@@ -34,3 +39,67 @@ pub SendsFirst-order : {S P : Type 0} (tells : S → StreamLog) (trace : S → S
     → SendsFirst tells trace s bytes t → WritesInOrder s bytes t
 SendsFirst-order tells trace s t bytes p =
     WritesInOrder-joins s p.sent t [] bytes p.sends.in_order (PutsIn-order p.sent t bytes p.puts)
+
+module _ {S P : Type 0} (tells : S → StreamLog) (trace : S → S → Type 0) (s t : Buffered S P) (bytes : List ℕ) where
+  -- who made place told of the send alone, whose failure is the answer
+  place_told : (count : ℕ) (answer : Result (Unit {0}) Error) (m : Buffered S P) (p : MakesPlace tells trace count s answer m)
+      → (m.log ≡ p.left.log) × ((e : Error) → p.sending ≡ Err e → answer ≡ Err e)
+  place_told count answer m p = told p.sending answer p.ended
+    where
+      told : (sending answer : Result (Unit {0}) Error) → MatchResult sending
+          (λ _. MatchResult answer (λ _. Reserves count p.left.block m.block × (m ≡ with_block p.left m.block))
+          (λ e. GrowthFailed count p.left.block e × (m ≡ p.left)))
+          (λ e. (answer ≡ Err e) × (m ≡ p.left))
+          → (m.log ≡ p.left.log) × ((e : Error) → sending ≡ Err e → answer ≡ Err e)
+      told (Ok x) (Ok y) (grown, others) = (
+        ap (λ v. v.log) others,
+        λ e is. (let odd : ◌≡◌ {A = Result (Unit {0}) Error} (Ok x) (Err e) = is in cc),
+      )
+      told (Ok x) (Err why) (failed, same) = (
+        ap (λ v. v.log) same,
+        λ e is. (let odd : ◌≡◌ {A = Result (Unit {0}) Error} (Ok x) (Err e) = is in cc),
+      )
+      told (Err why) answer (is, same) = (ap (λ v. v.log) same, λ e fails. is ∙ fails)
+
+  -- a write of parts told nothing, or of one send, whose failure is the answer
+  pub WritesParts-sent : (answer : Result (Unit {0}) Error) → WritesParts tells trace s bytes answer t → (t.log ≡ s.log)
+      ⊎ ((sending : Result (Unit {0}) Error) × (left : Buffered S P) × WasSent tells trace s sending left × (t.log ≡ left.log)
+      × ((e : Error) → sending ≡ Err e → answer ≡ Err e))
+  WritesParts-sent answer w = elim (cases_lt (usable s.block) (length bytes)) [
+    | inl few ↦ inr (sent _ answer (w.full few))
+    | inr fit ↦ inl (PutsIn-told s t bytes (w.fits fit).1)
+  ]
+    where
+      sent : (count : ℕ) (answer : Result (Unit {0}) Error) → MatchResult answer
+          (λ _. (m : Buffered S P) × MakesPlace tells trace count s (Ok tt) m × PutsIn m bytes t)
+          (λ e. MakesPlace tells trace count s (Err e) t)
+          → (sending : Result (Unit {0}) Error) × (left : Buffered S P) × WasSent tells trace s sending left
+          × (t.log ≡ left.log) × ((e : Error) → sending ≡ Err e → answer ≡ Err e)
+      sent count (Ok x) (m, p, put) =
+          (let made = place_told count (Ok tt) m p in (p.sending, p.left, p.sent, PutsIn-told m t bytes put ∙ made.0, made.1))
+      sent count (Err e) p =
+          (let made = place_told count (Err e) t p in (p.sending, p.left, p.sent, made.0, made.1))
+
+  -- at Ok nothing went wrong but that writes were interrupted; and nothing is flushed
+  pub WritesParts-met : (x : Unit {0}) → WritesParts tells trace s bytes (Ok x) t
+      → MetInterrupts s.log.writes t.log.writes
+  WritesParts-met x w = elim (WritesParts-sent (Ok x) w) [
+    | inl same ↦ subst (λ l. MetInterrupts s.log.writes l.writes) (sym same) (MetInterrupts-none s.log.writes)
+    | inr (sending, left, sent, told, failed) ↦
+        subst (λ l. MetInterrupts s.log.writes l.writes) (sym told) (met sending left sent failed)
+  ]
+    where
+      met : (sending : Result (Unit {0}) Error) (left : Buffered S P) → WasSent tells trace s sending left
+          → ((e : Error) → sending ≡ Err e → ◌≡◌ {A = Result (Unit {0}) Error} (Ok x) (Err e))
+          → MetInterrupts s.log.writes left.log.writes
+      met (Ok y) left sent failed = sent.ok.met
+      met (Err e) left sent failed =
+          (let odd : ◌≡◌ {A = Result (Unit {0}) Error} (Ok x) (Err e) = failed e refl in cc)
+
+  pub WritesParts-unflushed : (answer : Result (Unit {0}) Error) → WritesParts tells trace s bytes answer t
+      → (t.log.writes.flushes ≡ s.log.writes.flushes) × (t.log.writes.flushed ≡ s.log.writes.flushed)
+  WritesParts-unflushed answer w = elim (WritesParts-sent answer w) [
+    | inl same ↦ (ap (λ l. l.writes.flushes) same, ap (λ l. l.writes.flushed) same)
+    | inr (sending, left, sent, told, failed) ↦
+        (ap (λ l. l.writes.flushes) told ∙ sent.sends.sent.flushes, ap (λ l. l.writes.flushed) told ∙ sent.sends.sent.flushed)
+  ]

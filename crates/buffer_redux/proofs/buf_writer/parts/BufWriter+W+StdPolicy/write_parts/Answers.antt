@@ -1,6 +1,7 @@
-use Rattle.std.proofs.Common.{◌<◌, ap, arith, length, refl}
+use Rattle.std.proofs.Common.{Err, Ok, ◌<◌, ap, arith, length, refl, subst}
 use Rattle.redux_buffer.specs.Block.{usable}
-use Rattle.buffer_redux.proofs.Parts.{all_of, fits_of, parts_failed, parts_fit, parts_moved}
+use Rattle.buffer_redux.specs.WriteParts.{MakesPlace}
+use Rattle.buffer_redux.proofs.Parts.{all_of, fits_of, parts_failed, parts_fit, parts_moved, place_room}
 use Rattle.buffer_redux.proofs.buf_writer.parts.BufWriter+W+StdPolicy.write_parts.Goals as goal
 
 pub append_parts-requires-clause-room : goal.append_parts-requires-clause-room
@@ -11,7 +12,11 @@ append_parts-requires-clause-room g c =
 pub append_parts-requires-in-Ok-clause-room : goal.append_parts-requires-in-Ok-clause-room
 append_parts-requires-in-Ok-clause-room g c =
     fits_of c.self-2.inside.buf c.self-2.invariant _ c.total-len.result c.total-len.ensures
-    (omega (arith, c.in-Ok.ensures.room, ap (λ x. usable x.block) c.self-2.view_is))
+    (omega (
+      arith,
+      place_room _ _ g.met.W.TellWrite.trace_none _ _ _ _ c.in-Ok.ensures,
+      ap (λ x. usable x.block) c.self-2.view_is,
+    ))
 
 pub returns-then-usable_space-len : goal.returns-then-usable_space-len
 returns-then-usable_space-len g c = parts_fit _ _ g.met.W.TellWrite.trace_none c.args.self.now _ (all_of c.args.parts.now)
@@ -36,7 +41,8 @@ returns-in-Ok g c =
       ap (λ x. usable x.block) c.self.view_is,
     ) in
     parts_moved _ _ g.met.W.TellWrite.trace_none g.met.W.TellWrite.trace_joins g.met.W.TellWrite.trace_grows c.args.self.now
-    c.make_place.new.self _ c.total-len.result _ few c.in-Ok.ensures
+    c.make_place.new.self _ _ few (subst (λ n. MakesPlace g.W.Tell.log g.W.TellWrite.trace n c.args.self.now (Ok tt)
+    c.make_place.new.self) c.total-len.ensures c.in-Ok.ensures)
     (rw (← c.self-2.view_is) (record {
       others = refl;
       added = c.append_parts-in-Ok.ensures.bytes;
@@ -56,5 +62,5 @@ returns-in-Err g c =
       ap (λ x. usable x.block) c.self.view_is,
     ) in
     parts_failed _ _ g.met.W.TellWrite.trace_none g.met.W.TellWrite.trace_joins g.met.W.TellWrite.trace_grows
-    c.args.self.now c.make_place.new.self c.total-len.result _ c.in-Err.e few (omega (arith, c.total-len.ensures))
-    c.in-Err.ensures
+    c.args.self.now c.make_place.new.self _ c.in-Err.e few (subst (λ n. MakesPlace g.W.Tell.log g.W.TellWrite.trace n
+    c.args.self.now (Err c.in-Err.e) c.make_place.new.self) c.total-len.ensures c.in-Err.ensures)
