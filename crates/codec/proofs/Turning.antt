@@ -40,7 +40,7 @@ module _ {S D W I A T P : Type 0} (remaining : S → Option (List ℕ)) (tells :
   -- the piece was answered
   pub took_piece : (b more : Bool) → b ≡ more → Answered tells trace (Answers s.service said.0 shown) ready (Ok b) after last
       → (x : Exchange) × TookPiece remaining tells trace g item_of Answers s x more (server t after last)
-  took_piece b more same (reply, a, along) = (
+  took_piece b more same (reply, a, along, unflushed, met) = (
     exchange reply,
     record {
       ready = ready;
@@ -48,6 +48,8 @@ module _ {S D W I A T P : Type 0} (remaining : S → Option (List ℕ)) (tells :
       all = refl;
       answers = answers reply more (subst (λ m. Answers s.service said.0 shown reply m after) same a);
       along = along;
+      unflushed = unflushed;
+      met = met;
     },
   )
 
@@ -55,7 +57,7 @@ module _ {S D W I A T P : Type 0} (remaining : S → Option (List ℕ)) (tells :
   pub answer_failed : (e : Error) → Answered tells trace (Answers s.service said.0 shown) ready (Err e) after last
       → FlushFailed remaining tells trace g item_of Answers s e (server t after last)
       ⊎ ((x : Exchange) × AnswerFailed remaining tells trace g item_of Answers s x e (server t after last))
-  answer_failed e (reply, more, a, nothing, refused) = inr (
+  answer_failed e (reply, more, a, nothing, refused, unflushed) = inr (
     exchange reply,
     record {
       ready = ready;
@@ -64,5 +66,6 @@ module _ {S D W I A T P : Type 0} (remaining : S → Option (List ℕ)) (tells :
       answers = (more, answers reply more a);
       nothing = nothing;
       refused = refused;
+      unflushed = unflushed;
     },
   )

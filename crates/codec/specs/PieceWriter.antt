@@ -1,6 +1,6 @@
 -- What contracts see of a writer of pieces.
 use Rattle.std.specs.Prelude.{◌≡◌, ℕ, ◌*◌, ◌≤◌, List, []}
-use Rattle.buffer_redux.specs.Block.{Block, IsBlock, Plain}
+use Rattle.buffer_redux.specs.Block.{Block, IsBlock, Plain, with_limit}
 use Rattle.buffer_redux.specs.Buffered.{Buffered, with_inner}
 use Rattle.buffer_redux.specs.StreamLog.{StreamLog}
 use Rattle.buffer_redux.specs.Unbuffer.{unbuffered}
@@ -33,12 +33,14 @@ pub record IsUnused {S E : Type 0} (tells : S → StreamLog) (least most : ℕ) 
   pub capacity : f.writer.block.capacity ≡ room_for least most
   pub limit : f.writer.block.limit ≡ room_for least most
 
--- made over this buffer and stream: just what the buffer has is not sent yet
+-- made over this buffer and stream: just what the buffer has is not sent yet. A plain buffer in which three pieces fit is the
+-- writer's
 pub record IsOver {S E : Type 0} (tells : S → StreamLog) (most : ℕ) (buffer : Block) (stream : S) (maker : E)
     (f : WriterState S E) : Type 0 where
   pub left : unbuffered f.writer ≡ record { left = buffer.bytes; inner = stream; log = tells stream }
   pub encoder : f.encoder ≡ maker
   pub capacity : f.writer.block.capacity ≡ room_for buffer.capacity most
+  pub kept : buffer.kind ≡ Plain → 3 * most ≤ buffer.capacity → f.writer.block ≡ with_limit buffer buffer.capacity
 
 -- with this stream inside
 abbrev pub with_stream : {S E : Type 0} → (S → StreamLog) → WriterState S E → S → WriterState S E

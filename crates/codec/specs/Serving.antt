@@ -3,6 +3,7 @@ use Rattle.std.specs.Prelude.{◌≡◌, ℕ, ◌+◌, ◌^◌, ◌≤◌, ◌�
 use Rattle.std.specs.declared.io.Error.{Error}
 use Rattle.buffer_redux.specs.Buffered.{Buffered}
 use Rattle.buffer_redux.specs.BufWriter.{FlushedAlong, WasFlushed, WritesAlong}
+use Rattle.buffer_redux.specs.Faults.{MetInterrupts}
 use Rattle.buffer_redux.specs.Policy.{std_write_rules}
 use Rattle.buffer_redux.specs.StreamLog.{StreamLog}
 use Rattle.buffer_redux.specs.WriteParts.{PartsRefused}
@@ -54,13 +55,15 @@ module _ {S D W I A T P : Type 0} (remaining : S → Option (List ℕ)) (tells :
     pub next : NextPiece remaining g s.pieces answer t
     pub first : FlushedFirst tells trace g s.pieces s.answers {A = Unit {0}} (Ok tt) t ready
 
-  -- just this piece was taken, and answered
+  -- just this piece was taken, and answered, without a flush
   pub record TookPiece (s : Server S D A T P) (x : Exchange) (more : Bool) (t : Server S D A T P) : Type 0 where
     pub ready : Buffered T P
     pub fetched : Fetched s (Ok (Some x.payload)) ready t.pieces
     pub all : fetched.next.bytes ≡ x.bytes
     pub answers : Answers s.service (item_of x.bytes) x.payload x.reply more t.service
     pub along : WritesAlong tells trace std_write_rules ready x.reply t.answers
+    pub unflushed : t.answers.log.writes.flushes ≡ ready.log.writes.flushes
+    pub met : MetInterrupts ready.log.writes t.answers.log.writes
 
   -- there was no piece, and nothing was answered
   pub record TookNone (s : Server S D A T P) (answer : NextAnswer W) (t : Server S D A T P) : Type 0 where
@@ -80,6 +83,7 @@ module _ {S D W I A T P : Type 0} (remaining : S → Option (List ℕ)) (tells :
     pub answers : (more : Bool) × Answers s.service (item_of x.bytes) x.payload x.reply more t.service
     pub nothing : WritesAlong tells trace std_write_rules ready [] t.answers
     pub refused : PartsRefused (length x.reply) ready e t.answers
+    pub unflushed : t.answers.log.writes.flushes ≡ ready.log.writes.flushes
 
   -- what one turn does
   abbrev pub Turns : Server S D A T P → Result Step (ServeError W) → Server S D A T P → Type 0
@@ -108,11 +112,12 @@ module _ {S D W I A T P : Type 0} (remaining : S → Option (List ℕ)) (tells :
     pub talked : Talked s exchanges more last
     pub ends : EndedBy ended exchanges more last t
 
-  -- what serving did: exchanges up to an end. What was taken is their pieces, and no byte of another; and all answers were
-  -- received and flushed
+  -- what serving did: exchanges up to an end, and then one flush. What was taken is their pieces, and no byte of another; and
+  -- all answers were received and flushed
   pub record Serves (s : Server S D A T P) (ended : Served) (t : Server S D A T P) : Type 0 where
     pub answers : Buffered T P
     pub ends : Ends s ended (server t.pieces t.service answers)
+    pub last : WasFlushed tells trace answers (Ok tt) t.answers
     pub taken : PiecesWent remaining g.most s.pieces (joined (λ x. x.bytes) ends.exchanges) t.pieces
     pub service : Converses item_of Answers s.service ends.exchanges ends.more t.service
     pub all : FlushedAlong tells trace std_write_rules s.answers (joined (λ x. x.reply) ends.exchanges) t.answers

@@ -1,5 +1,5 @@
 -- Laws of a server's turns.
-use Rattle.std.specs.Prelude.{◌≡◌, ℕ, List, [], ◌∷◌, Bool, true, Option, Ok, Err}
+use Rattle.std.specs.Prelude.{◌≡◌, ℕ, List, [], ◌∷◌, ◌++◌, Bool, true, Option, Ok, Err}
 use Rattle.std.specs.declared.io.Error.{Error}
 use Rattle.std.proofs.Common.{ap, append-nil, inl, inr, refl, subst, sym}
 use Rattle.buffer_redux.specs.Buffered.{Buffered}
@@ -12,9 +12,10 @@ use Rattle.piece_reader.specs.Grammar.{Grammar}
 use Rattle.piece_reader.specs.NextPiece.{PiecesWent}
 use Rattle.piece_reader.specs.PiecesWentLaws.{PiecesWent-joins, PiecesWent-none}
 use Rattle.piece_reader.specs.PieceReader.{ReaderState}
-use Rattle.codec.specs.Serving.{Converses, EndedBy, Ends, Exchange, FailedBy, Server, Serves, Stops, Talked, joined, server}
+use Rattle.piece_reader.specs.StaysLeftLaws.{StaysLeft-went}
+use Rattle.codec.specs.Serving.{Converses, EndedBy, Ends, Exchange, FailedBy, Server, Serves, Stops, Talked, Turns, joined, server}
 use Rattle.codec.specs.declared.serving.ServeError.{ServeError}
-use Rattle.codec.specs.declared.serving.ServeError.TheVariants.{Write}
+use Rattle.codec.specs.declared.serving.ServeError.TheVariants.{Read, Write, Wrong}
 use Rattle.codec.specs.declared.serving.Served.{Served}
 use Rattle.codec.specs.declared.serving.Served.TheVariants as served
 
@@ -101,6 +102,60 @@ module _ {S D W I A T P : Type 0} (remaining : S → Option (List ℕ)) (tells :
       )
       ends_so served.Many exchanges more m t (is, many, same) = still m t same
 
+      -- what a turn that failed took: a piece that wasn't answered, or nothing; and nothing was written
+      turn_failed : (m t : Server S D A T P) (e : ServeError W)
+          → Turns remaining tells trace g item_of Answers m (Err e) t
+          → (unanswered : List ℕ) × PiecesWent remaining g.most m.pieces unanswered t.pieces
+          × WritesAlong tells trace std_write_rules m.answers [] t.answers
+      turn_failed m t (Read e) took = (
+        took.fetched.next.bytes,
+        took.fetched.next.went,
+        first_along m.pieces m.answers t.pieces t.answers took.fetched.first,
+      )
+      turn_failed m t (Wrong e) took = (
+        took.fetched.next.bytes,
+        took.fetched.next.went,
+        first_along m.pieces m.answers t.pieces t.answers took.fetched.first,
+      )
+      turn_failed m t (Write e) (inl failed) = (
+        [],
+        StaysLeft-went remaining g m.pieces t.pieces failed.first.2,
+        WasFlushed-along tells trace std_write_rules m.answers (Err e) t.answers failed.first.1,
+      )
+      turn_failed m t (Write e) (inr (x, failed)) = (
+        failed.fetched.next.bytes,
+        failed.fetched.next.went,
+        WritesAlong-then tells trace std_write_rules joins m.answers failed.ready t.answers []
+            (first_along m.pieces m.answers t.pieces failed.ready failed.fetched.first) failed.nothing,
+      )
+
+      -- whatever failed, of all that was taken at most the last piece wasn't answered, and just the answers were written
+      pub Stops-went : (e : ServeError W) (t : Server S D A T P) (f : Stops remaining tells trace g item_of Answers s e t)
+          → (unanswered : List ℕ)
+          × PiecesWent remaining g.most s.pieces (joined (λ x. x.bytes) f.exchanges ++ unanswered) t.pieces
+          × WritesAlong tells trace std_write_rules s.answers (joined (λ x. x.reply) f.exchanges) t.answers
+      Stops-went e t f =
+          let last = behind e f.exchanges f.more f.last t f.fails in (
+            last.0,
+            PiecesWent-joins remaining g.most s.pieces f.last.pieces t.pieces (joined (λ x. x.bytes) f.exchanges) last.0
+                f.taken last.1,
+            WritesAlong-then tells trace std_write_rules joins s.answers f.last.answers t.answers
+                (joined (λ x. x.reply) f.exchanges) f.along last.2,
+          )
+        where
+          behind : (e : ServeError W) (exchanges : List Exchange) (more : Bool) (m t : Server S D A T P)
+              → FailedBy remaining tells trace g item_of Answers e exchanges more m t
+              → (unanswered : List ℕ) × PiecesWent remaining g.most m.pieces unanswered t.pieces
+              × WritesAlong tells trace std_write_rules m.answers [] t.answers
+          behind e exchanges more m t (inl (is, turn)) = turn_failed m t e turn
+          behind e exchanges more m t (inr (ended, n, by, pieces, service, (why, is, flushed))) =
+              let so = ends_so ended exchanges more m n by in (
+                [],
+                subst (λ p. PiecesWent remaining g.most m.pieces [] p) (sym pieces) so.0,
+                WritesAlong-then tells trace std_write_rules joins m.answers n.answers t.answers [] so.2
+                    (WasFlushed-along tells trace std_write_rules n.answers (Err why) t.answers flushed),
+              )
+
       -- up to an end, and then a flush
       module _ (by : Served) (t : Server S D A T P) (ends : Ends remaining tells trace g item_of Answers s by t)
           (v : Buffered T P) where
@@ -113,6 +168,7 @@ module _ {S D W I A T P : Type 0} (remaining : S → Option (List ℕ)) (tells :
         Ends-served flushed = record {
           answers = t.answers;
           ends = ends;
+          last = flushed;
           taken = subst (λ l. PiecesWent remaining g.most s.pieces l t.pieces) (append-nil _)
               (PiecesWent-joins remaining g.most s.pieces ends.last.pieces t.pieces (joined (λ x. x.bytes) ends.exchanges) []
               (Talked-taken ends.exchanges ends.more ends.last ends.talked) so.0);

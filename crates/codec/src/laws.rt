@@ -1,13 +1,15 @@
 //! Laws, each as the contract of a function over the calls.
-ghost use Rattle.std.specs.Prelude.{◌≡◌, ℕ, List, [], ◌∷◌, ◌++◌, IfOk, None, Ok};
+ghost use Rattle.std.specs.Prelude.{◌≡◌, ◌*◌, ◌^◌, ◌≤◌, ℕ, List, [], ◌∷◌, ◌++◌, IfErr, IfOk, IsOk, None, Ok};
 ghost use Rattle.buffer_redux.specs.BufWriter.{WritesInOrder};
+ghost use Rattle.buffer_redux.specs.GrowError.{FitsWithin};
+ghost use Rattle.buffer_redux.specs.MakeError.{growth};
 ghost use Rattle.buffer_redux.specs.Sparing.{MovedAtMostGiven};
 ghost use Rattle.buffer_redux.specs.Unbuffer.{StreamWent, unbuffered};
 ghost use Rattle.codec.specs.Encoding.{all_coded};
 ghost use Rattle.piece_reader.specs.KnownPieces.{HasLeft, NextKnown};
 ghost use Rattle.piece_reader.specs.NextPiece.{NextAnswer, NextPiece, PiecesWent};
 ghost use Rattle.codec.specs.PieceWriter.{WriterState, IsUnused, unsent};
-ghost use Rattle.piece_reader.specs.PieceReader.{ReaderState, IsFresh, left_of, rest};
+ghost use Rattle.piece_reader.specs.PieceReader.{ReaderState, IsFresh, TakenApart, left_of, rest, room_for};
 ghost use Rattle.piece_reader.specs.Runs.{Cuts, NextRuns, NoneTold, RunWent, all_handed};
 ghost use Rattle.piece_reader.specs.Texts.{HasPieces, Splits};
 ghost use Rattle.codec.specs.WritePiece.{PiecesTaken};
@@ -79,13 +81,16 @@ pub fn next_known<R: TellRead, D: Decoder>(reader: &PieceReader<R, D>)
 
 /// A reader that is taken apart and made again with another decoder has left what the first had. So the pieces of both, one
 /// after another, are the front of what was left at first: the second decoder's begin just where the first one's ended. Whether
-/// there is an end to tell, `into_inner_with_buffer` says.
+/// there is an end to tell, `into_inner_with_buffer` says. A refusal hands back what the reader was taken apart into.
 pub fn handed_over<R: TellRead, D: Decoder, E: Decoder>(
     alloc: Global,
     reader: PieceReader<R, D>,
     decoder: E,
 ) -> Result<PieceReader<R, E>, MakeError<(Buffer, R, E)>>
     ensures left { IfOk result (λ next. left_of next ≡ left_of reader) }
+    ensures handed_back { IfErr result (λ e. TakenApart R.log reader e.0.1 e.0.0 × (e.0.2 ≡ decoder)) }
+    ensures within { FitsWithin (growth result) (room_for reader.reader.block.capacity (E.grammar decoder).most) (2 ^ 62) }
+    ensures kept { 3 * (E.grammar decoder).most ≤ reader.reader.block.capacity → IsOk result }
     ensures went { IfOk result (λ next. (most more : ℕ) (first : ReaderState R D) (last : ReaderState R E) (bytes later : List ℕ)
         → PiecesWent R.remaining most first bytes reader → PiecesWent R.remaining more next later last
         → StreamWent R.remaining (left_of first) (bytes ++ later) (left_of last)) }
@@ -95,13 +100,16 @@ pub fn handed_over<R: TellRead, D: Decoder, E: Decoder>(
 }
 
 /// A writer that is taken apart and made again with another encoder has not sent what the first hadn't. So the stream takes the
-/// pieces of both, one after another, behind what was not sent at first.
+/// pieces of both, one after another, behind what was not sent at first. A refusal hands back what the writer was taken apart into.
 pub fn written_over<W: TellWrite, E: Encoder, F: Encoder>(
     alloc: Global,
     writer: PieceWriter<W, E>,
     encoder: F,
 ) -> Result<PieceWriter<W, F>, MakeError<(Buffer, W, F)>>
     ensures left { IfOk result (λ next. unbuffered next.writer ≡ unbuffered writer.writer) }
+    ensures handed_back { IfErr result (λ e. (e.0.0 ≡ writer.writer.block) × (e.0.1 ≡ writer.writer.inner) × (e.0.2 ≡ encoder)) }
+    ensures within { FitsWithin (growth result) (room_for writer.writer.block.capacity (F.encoding encoder).most) (2 ^ 62) }
+    ensures kept { 3 * (F.encoding encoder).most ≤ writer.writer.block.capacity → IsOk result }
     ensures took { IfOk result (λ next. (first : WriterState W E) (last : WriterState W F) (payloads later : List (List ℕ))
         → PiecesTaken W.trace (E.encoding writer.encoder) first payloads writer
         → PiecesTaken W.trace (F.encoding encoder) next later last

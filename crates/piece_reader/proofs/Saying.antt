@@ -129,5 +129,6 @@ says_piece remaining grammar item_of s t law before whole at here span used take
     ∙ HandsBytes-same s t (take used (rest s)) next.bytes (hands_piece g s t span used takes) next.went.hands in
     record {
       next = next;
-      says = is ∙ ap (λ x. item_of x.decoder (take (t.handed - at) (drop at t.reader.block.bytes))) takes.1 ∙ ap (item_of s.decoder) bytes;
+      says = is ∙ ap (λ x. item_of x.decoder (take (t.handed - at) (drop at t.reader.block.bytes))) takes.1
+          ∙ ap (item_of s.decoder) bytes;
     }

@@ -26,7 +26,8 @@ module _ {T E : Type 0} (HasLeft : T → List (List ℕ) → Type 0) (faults : T
     -- them was refused, and no fault was met, or one more call met it, and no other
     abbrev pub ReadFails : T → List (List ℕ) → Error → T → Type 0
     ReadFails s done e t =
-        ((error_kind e ≡ OutOfMemory) × (0 < length done) × Plays s (map (λ payload. Ok (Some payload)) done) t × (faults t ≡ faults s))
+        ((error_kind e ≡ OutOfMemory) × (0 < length done) × Plays s (map (λ payload. Ok (Some payload)) done) t
+        × (faults t ≡ faults s))
         ⊎ (Plays s (map (λ payload. Ok (Some payload)) done ++ Err (io e) ∷ []) t × (faults t ≡ faults s ++ e ∷ []))
 
     -- the first of these payloads were handed out, and then reading failed with this error: the others are left

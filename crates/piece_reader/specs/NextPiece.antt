@@ -115,9 +115,10 @@ abbrev pub AsksNone : {S D W : Type 0} → (S → Option (List ℕ)) → Grammar
 AsksNone {S} {D} {W} remaining g s =
     (answer : NextAnswer W) (t : ReaderState S D) → NextPiece remaining g s answer t → t.reader.log ≡ s.reader.log
 
--- nothing was done, but that more bytes may have been looked at
+-- nothing was done, but that more bytes may have been looked at: all, where they settle nothing, so that none is looked at again
 pub record StaysLeft {S D W : Type 0} (g : Grammar W) (s t : ReaderState S D) : Type 0 where
   pub same : t ≡ record s { seen = t.seen }
+  pub looked : IsOpen g (rest s) → t.seen ≡ length (rest s)
   pub whole : IsPieceReader g t
 
 -- what `step_buffered` does: as `step` where the next piece stands whole in what is left, and else nothing. The reader inside

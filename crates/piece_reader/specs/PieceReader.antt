@@ -1,6 +1,6 @@
 -- What contracts see of a reader of pieces.
 use Rattle.std.specs.Prelude.{◌≡◌, ℕ, ◌+◌, ◌*◌, ◌≤◌, ◌⊎◌, List, [], drop, take, length, max, Bool, true, false}
-use Rattle.buffer_redux.specs.Block.{Block, IsBlock, Plain, with_limit}
+use Rattle.buffer_redux.specs.Block.{Block, IsBlock, OnlyRingMoves, Plain, with_limit}
 use Rattle.buffer_redux.specs.Buffered.{Buffered}
 use Rattle.buffer_redux.specs.Potential.{potential}
 use Rattle.buffer_redux.specs.StreamLog.{StreamLog}
@@ -75,7 +75,7 @@ pub record Skips {S D W : Type 0} (g : Grammar W) (s : ReaderState S D) (count :
   pub whole : IsPieceReader g t
 
 -- a reader of pieces was taken apart into the inner reader and a buffer with the bytes that weren't handed out, which may not
--- grow
+-- grow; none was moved
 pub record TakenApart {S D : Type 0} (tells : S → StreamLog) (f : ReaderState S D) (stream : S) (buffer : Block)
     : Type 0 where
   pub inner : stream ≡ f.reader.inner
@@ -84,3 +84,4 @@ pub record TakenApart {S D : Type 0} (tells : S → StreamLog) (f : ReaderState 
   pub limit : buffer.limit ≡ f.reader.block.limit
   pub capacity : buffer.capacity ≡ f.reader.block.capacity
   pub kind : buffer.kind ≡ f.reader.block.kind
+  pub moved : OnlyRingMoves f.reader.block buffer

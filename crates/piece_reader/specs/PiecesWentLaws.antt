@@ -1,7 +1,8 @@
 -- How calls of a reader of pieces join, and what follows since it was made.
-use Rattle.std.specs.Prelude.{◌≡◌, ℕ, List, [], ◌++◌, length, drop, Option}
+use Rattle.std.specs.Prelude.{◌≡◌, ℕ, List, [], ◌++◌, length, drop, take, Option}
 use Rattle.std.proofs.Common.{sym, ap, subst, ◌∙◌, arith, refl, length-drop, le_refl, append_assoc, append-nil}
-use Rattle.std.proofs.lemmas.List.{append_cancel_left, append_cancel_right, nil_from_length}
+use Rattle.std.proofs.lemmas.List.{append_cancel_left, append_cancel_right, nil_from_length, take-append-drop}
+use Rattle.buffer_redux.specs.Block.{Block}
 use Rattle.buffer_redux.specs.BufReader.{InnerGives}
 use Rattle.buffer_redux.specs.LogGrows.{ReadLogGrows, ReadLogGrows-none, ReadLogGrows-joins}
 use Rattle.buffer_redux.specs.ReaderLaws.{InnerGives-none, InnerGives-joins}
@@ -9,8 +10,9 @@ use Rattle.buffer_redux.specs.Sparing.{PotentialHeld, MovedAtMostGiven}
 use Rattle.buffer_redux.specs.StreamLog.{StreamLog}
 use Rattle.buffer_redux.specs.Unbuffer.{StreamWent}
 use Rattle.buffer_redux.specs.UnbufferLaws.{StreamWent-joins}
+use Rattle.piece_reader.specs.Grammar.{Grammar}
 use Rattle.piece_reader.specs.NextPiece.{HandsBytes, PiecesWent}
-use Rattle.piece_reader.specs.PieceReader.{ReaderState, IsFresh, left_of, rest}
+use Rattle.piece_reader.specs.PieceReader.{ReaderState, IsFresh, IsOver, Skips, TakenApart, left_of, rest}
 
 -- a trace hands out one list of bytes
 pub HandsBytes-same : {S D : Type 0} (s t : ReaderState S D) (a b : List ℕ) → HandsBytes s a t → HandsBytes s b t → a ≡ b
@@ -89,6 +91,12 @@ module _ {S D : Type 0} (remaining : S → Option (List ℕ)) (most : ℕ) where
         decoder = decoder;
       }
 
+  -- what was skipped was taken out of what was left
+  pub Skips-went : {W : Type 0} (g : Grammar W) (s : ReaderState S D) (count : ℕ) (t : ReaderState S D) → Skips g s count t
+      → PiecesWent remaining most s (take count (rest s)) t
+  Skips-went g s count t skips = PiecesWent-inside s t (take count (rest s)) (ap (λ x. x.reader) skips.same)
+      (ap (λ x. x.decoder) skips.same) (ap (λ l. take count (rest s) ++ l) skips.left ∙ take-append-drop count (rest s))
+
   -- calls that leave the log as it is hand out what is there
   pub PiecesWent-unasked : (s t : ReaderState S D) (bytes : List ℕ) → PiecesWent remaining most s bytes t
       → t.reader.log ≡ s.reader.log → bytes ++ rest t ≡ rest s
@@ -118,6 +126,15 @@ pub PiecesWent-moved : {S D : Type 0} (remaining : S → Option (List ℕ)) (tel
     → PiecesWent remaining most s bytes t → MovedAtMostGiven s.reader t.reader
 PiecesWent-moved remaining tells least most stream decoder s t bytes fresh went =
     omega (arith, went.held.held, went.held.moved, fresh.potential)
+
+-- a reader that is made over what another one left has left what that had
+pub IsOver-left : {S D E : Type 0} (tells : S → StreamLog) (most : ℕ) (s : ReaderState S D) (stream : S) (buffer : Block)
+    (decoder : E) (t : ReaderState S E) → TakenApart tells s stream buffer → IsOver tells most buffer stream decoder t
+    → left_of t ≡ left_of s
+IsOver-left tells most s stream buffer decoder t apart over =
+    over.left ∙ ap (λ l. record { left = l; inner = stream; log = tells stream }) apart.bytes
+    ∙ ap (λ l. record { left = rest s; inner = stream; log = l }) apart.log
+    ∙ ap (λ i. record { left = rest s; inner = i; log = s.reader.log }) apart.inner
 
 module _ {S : Type 0} (remaining : S → Option (List ℕ)) where
   -- pieces go of a stream, also those of two decoders, where the second reader has left what the first one had

@@ -6,7 +6,7 @@ use Rattle.piece_reader.specs.declared.error.NextError.{NextError}
 use Rattle.piece_reader.specs.declared.error.NextError.TheVariants.{Wrong, Io}
 use Rattle.piece_reader.specs.Grammar.{Grammar}
 use Rattle.piece_reader.specs.Items.{NextItem}
-use Rattle.piece_reader.specs.NextPiece.{NextAnswer, NextAnswers, NextPiece, PiecesWent, StaysLeft}
+use Rattle.piece_reader.specs.NextPiece.{NextAnswer, NextAnswers, NextBuffered, NextPiece, PiecesWent, StaysLeft}
 use Rattle.piece_reader.specs.PiecesWentLaws.{HandsBytes-looked, HandsBytes-same, PiecesWent-inside}
 use Rattle.piece_reader.specs.PieceReader.{IsSettled, ReaderState, rest}
 
@@ -77,3 +77,9 @@ module _ {S D W : Type 0} (remaining : S → Option (List ℕ)) (g : Grammar W) 
       let bytes = HandsBytes-same s t item.next.bytes next.bytes
       (HandsBytes-looked s m t item.next.bytes m.seen stays.same item.next.went.hands) next.went.hands in
       record { next = next; says = subst (λ l. IfOk answer (λ found. IfSome found (λ said. said.0 ≡ item_of l))) bytes item.says }
+
+-- what a call that asks nobody went through: a piece was handed out, or nothing
+pub NextBuffered-went : {S D W : Type 0} (remaining : S → Option (List ℕ)) (g : Grammar W) (s t : ReaderState S D)
+    (found : Option (List ℕ)) → NextBuffered remaining g s found t → (bytes : List ℕ) × PiecesWent remaining g.most s bytes t
+NextBuffered-went remaining g s t (Some payload) (next, same) = (next.bytes, next.went)
+NextBuffered-went remaining g s t None (stays, none) = ([], StaysLeft-went remaining g s t stays)
