@@ -77,6 +77,12 @@ IsChunks-joins bytes payload more h carried = record {
   joined = ap (λ l. l ++ flat_map (λ p. p) more) h.joined ∙ sym (flat_map-append (λ p. p) h.payloads more);
 }
 
+pub IsChunks-behind : (a x b y : List ℕ) → IsChunks a x → IsChunks b y → IsChunks (a ++ b) (x ++ y)
+IsChunks-behind a x b y h k =
+    subst (λ p. IsChunks (a ++ b) (x ++ p)) (sym k.joined)
+    (subst (λ l. IsChunks (a ++ l) (x ++ flat_map (λ p. p) k.payloads)) (sym k.equal)
+    (IsChunks-joins a x k.payloads h k.carried))
+
 module _ (limits : Limits) (line : 16 ≤ limits.line) (fields : List (List ℕ)) (lines : AllByRecursion IsField fields)
     (few : length (flat_map (λ f. f) fields) ≤ limits.trailers) where
   has_chunks : (payloads : List (List ℕ)) → All IsCarried payloads

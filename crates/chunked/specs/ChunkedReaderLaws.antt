@@ -1,5 +1,5 @@
 -- Laws of a reader of a body.
-use Rattle.std.specs.Prelude.{◌≡◌, ℕ, List, [], ◌∷◌, ◌++◌, Bool, Option, None, Some, Result}
+use Rattle.std.specs.Prelude.{◌≡◌, ℕ, List, [], ◌∷◌, ◌++◌, Bool, Option, None, Some, Result, Ok, Err}
 use Rattle.std.proofs.Common.{sym, ap, subst, ◌∙◌, refl, append_assoc, append-nil}
 use Rattle.std.specs.Io.KnownBytes.{Consumes}
 use Rattle.std.specs.declared.io.Error.{Error}
@@ -7,12 +7,13 @@ use Rattle.buffer_redux.specs.Buffered.{Buffered}
 use Rattle.buffer_redux.specs.Policy.{ReadRules}
 use Rattle.buffer_redux.specs.ReaderLaws.{ReadsAlong-none, ReadsAlong-joins, ReadsInOrder-ahead}
 use Rattle.buffer_redux.specs.Remaining.{ahead}
+use Rattle.buffer_redux.specs.StreamLog.{StreamLog, after_read, portion}
 use Rattle.chunked.specs.declared.limits.Limits.{Limits}
 use Rattle.chunked.specs.declared.place.Place.{Place}
 use Rattle.chunked.specs.declared.place.Place.TheVariants.{Line, Size, Extension, SizeFeed, Data, DataFeed, Fields, FieldName, FieldValue, FieldFeed, LastFeed, Done}
 use Rattle.chunked.specs.Body.{line_end, IsBody, fields_bytes, HasChunks}
 use Rattle.chunked.specs.BodyLaws.{IsBody-same}
-use Rattle.chunked.specs.ChunkedReader.{BodyWent, ChunkedState, IsChunkedReader, IsWhole, LooksBehind, begun, handed_of}
+use Rattle.chunked.specs.ChunkedReader.{BodyWent, ChunkedState, IsChunkedReader, IsWhole, LooksBehind, ReadsAsIo, begun, handed_of}
 use Rattle.chunked.specs.Place.{Completes, Leads}
 use Rattle.chunked.specs.PlaceLaws.{Leads-none, Leads-whole}
 
@@ -82,6 +83,25 @@ module _ {S P : Type 0} (remaining : S → Option (List ℕ)) (rules : ReadRules
     handed = b.handed ∙ ap (λ l. l ++ k) a.handed ∙ append_assoc (handed_of s) h k;
     limits = b.limits ∙ a.limits;
   }
+
+  -- a read as one of std's, also where it is told
+  pub ReadsAsIo-went : (s t : ChunkedState S P) (out : List ℕ) (answer : Result ℕ Error)
+      → ReadsAsIo remaining rules s out answer t → BodyWent remaining rules s (portion out answer) t
+  ReadsAsIo-went s t out (Ok n) reads = reads.went
+  ReadsAsIo-went s t out (Err e) (why, reads, becomes) = reads.went
+
+  pub ReadsAsIo-told : (s t : ChunkedState S P) (out : List ℕ) (answer : Result ℕ Error) (untold : StreamLog)
+      → t.calls ≡ after_read s.calls out answer → ReadsAsIo remaining rules s out answer (record t { calls = untold })
+      → BodyWent remaining rules s (portion out answer) t
+  ReadsAsIo-told s t out answer untold told reads =
+      let went = ReadsAsIo-went s (record t { calls = untold }) out answer reads in
+      record {
+        wire = went.wire;
+        along = went.along;
+        taken = went.taken;
+        handed = ap (λ l. l.reads.given) told;
+        limits = went.limits;
+      }
 
   -- a fill takes nothing
   pub LooksBehind-went : (s t : ChunkedState S P) (answer : Result Bool Error) → LooksBehind remaining rules s answer t

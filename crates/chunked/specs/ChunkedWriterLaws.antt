@@ -3,11 +3,18 @@ use Rattle.std.specs.Prelude.{ℕ, List, [], ◌++◌, flat_map}
 use Rattle.std.proofs.Common.{sym, ap, subst, ◌∙◌, refl, append_assoc, append-nil}
 use Rattle.std.proofs.lemmas.List.Concat.{flat_map-append}
 use Rattle.std.proofs.lemmas.List.Elements.{All-nil, All-append}
+use Rattle.std.specs.declared.io.Error.{Error}
 use Rattle.buffer_redux.specs.BufWriter.{WritesInOrder}
 use Rattle.buffer_redux.specs.LogGrows.{WriteLogGrows-none, WriteLogGrows-joins, WritesGoOn, WritesGoOn-of}
+use Rattle.buffer_redux.specs.StreamLog.{StreamLog}
 use Rattle.buffer_redux.specs.WriterLaws.{WritesInOrder-none, WritesInOrder-joins}
-use Rattle.chunked.specs.Chunk.{IsCarried, chunk}
-use Rattle.chunked.specs.ChunkedWriter.{ChunkedWriterState, ChunkingWent, ChunksWent, accepted_of}
+use Rattle.buffer_redux.specs.Buffered.{Buffered}
+use Rattle.buffer_redux.specs.declared.policy.StdPolicy.{StdPolicy}
+use Rattle.chunked.specs.declared.limits.Limits.{Limits}
+use Rattle.chunked.specs.Body.{IsBody}
+use Rattle.chunked.specs.Chunk.{IsCarried, body_end, chunk}
+use Rattle.chunked.specs.ChunkLaws.{IsChunks-behind, IsChunks-body}
+use Rattle.chunked.specs.ChunkedWriter.{ChunkedWriterState, ChunkingWent, ChunksWent, Finishes, IsChunkedWriter, LetsThrough, NotFinished, accepted_of}
 
 module _ {S : Type 0} (trace : S → S → Type 0) (none : (x : S) → trace x x)
     (joins : (a b c : S) → trace a b → trace b c → trace a c) where
@@ -52,6 +59,29 @@ module _ {S : Type 0} (trace : S → S → Type 0) (none : (x : S) → trace x x
     went = ChunksWent-joins s m t p.payloads q.payloads p.went q.went;
     grows = WriteLogGrows-joins s.calls.writes m.calls.writes t.calls.writes p.grows q.grows;
   }
+
+-- what couldn't be finished took in nothing
+pub NotFinished-went : {S : Type 0} (tells : S → StreamLog) (trace : S → S → Type 0) (s : ChunkedWriterState S)
+    (fields : List (List ℕ)) (e : Error) (t : ChunkedWriterState S) → NotFinished tells trace s fields e t
+    → ChunksWent trace s [] t
+NotFinished-went tells trace s fields e t n = record {
+  carried = All-nil IsCarried;
+  in_order = n.sends.in_order;
+  wire = n.wire ∙ sym (append-nil s.wire);
+  accepted = ap (λ l. l.writes.received) n.calls ∙ sym (append-nil (accepted_of s));
+  calls = n.sends.went.calls;
+  capacity = n.sends.capacity;
+  limit = n.sends.sends.sent.dropped.limit;
+}
+
+-- a writer that was taken apart, and one that goes on behind its chunks and ends the body, wrote one body
+pub Finishes-behind : {S : Type 0} (tells : S → StreamLog) (trace : S → S → Type 0) (first s : ChunkedWriterState S)
+    (fields : List (List ℕ)) (t : Buffered S StdPolicy) → IsChunkedWriter first → IsChunkedWriter s
+    → Finishes tells trace s fields t → (limits : Limits) → LetsThrough fields limits
+    → IsBody limits ((first.wire ++ s.wire) ++ body_end fields) (accepted_of first ++ accepted_of s)
+Finishes-behind tells trace first s fields t before whole ends limits through =
+    IsChunks-body limits through.0 fields ends.lines through.1 (first.wire ++ s.wire) (accepted_of first ++ accepted_of s)
+    (IsChunks-behind first.wire (accepted_of first) s.wire (accepted_of s) before.whole whole.whole)
 
 -- in such calls the log only goes on
 pub ChunkingWent-grows : {S : Type 0} (trace : S → S → Type 0) (s t : ChunkedWriterState S) → ChunkingWent trace s t

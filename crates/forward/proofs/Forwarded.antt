@@ -33,7 +33,8 @@ module _ {T W : Type 0} (rules : FilterRules T W) (lawful : IsLawful rules) wher
     paced_none =
         record { take = inl (omega (arith, lawful.received_taken first.filter)); send = omega arith }
 
-    module _ (count : ℕ) (s t : Linked T) (before : SoFar rules Prompt count first s) (paced : Paced rules first.filter s.filter) where
+    module _ (count : ℕ) (s t : Linked T) (before : SoFar rules Prompt count first s)
+        (paced : Paced rules first.filter s.filter) where
       flushes_on : (answer : Result Bool (Cause W)) → ForwardsNext rules s answer t
           → FlushesSend 1 (rules.written first.filter).writes (rules.written t.filter).writes
       flushes_on answer next = elim paced.take [

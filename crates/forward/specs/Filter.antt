@@ -158,5 +158,5 @@ module _ {T W : Type 0} (rules : FilterRules T W) where
     pub waits_lacks : (s : T) → rules.waits s → rules.lacks s
     pub received_taken : (s : T) → length (rules.written s).writes.received ≤ rules.taken s
     pub taken_on : (s t : T) (p : List (List ℕ)) → rules.takes s p t → rules.taken s ≤ rules.taken t
-    pub asks_sent : (first s t : T) (p : List (List ℕ)) → rules.fresh first → Moves first p p s → StaysOpen first s → rules.lacks s
-        → rules.sent s → rules.asks s t → AsksSent first s t
+    pub asks_sent : (first s t : T) (p : List (List ℕ)) → rules.fresh first → Moves first p p s → StaysOpen first s
+        → rules.lacks s → rules.sent s → rules.asks s t → AsksSent first s t

@@ -50,8 +50,8 @@ module _ {T W : Type 0} (rules : FilterRules T W) where
   abbrev pub Gave : Ask T → Type 0
   Gave ask = rules.wants ask.after < rules.wants ask.before
 
-  -- an ask, made again where it was interrupted, behind so many in a row that were. It ends by an interruption only behind 64 in a
-  -- row; and where bytes came in one that was interrupted, it is the first of a new row
+  -- an ask, made again where it was interrupted, behind so many in a row that were. It ends by an interruption only behind 64 in
+  -- a row; and where bytes came in one that was interrupted, it is the first of a new row
   abbrev pub IsTurnBehind : ℕ → List (Ask T) → Type 0
   IsTurnBehind row [] = ⊥
   IsTurnBehind row (ask ∷ []) = IsInterrupted ask → IsIdle ask × (row ≡ 64)

@@ -10,10 +10,11 @@ use Rattle.codec.specs.KnownPayloads.{AnswersKnown}
 use Rattle.codec.specs.KnownPieces.{HasLeft}
 use Rattle.codec.specs.KnownPiecesLaws.{NextPiece-answers}
 use Rattle.codec.specs.NextPiece as pieces
-use Rattle.codec.specs.NextPiece.{NextPiece, PiecesWent}
+use Rattle.codec.specs.NextPiece.{NextBuffered, NextPiece, PiecesWent}
 use Rattle.codec.specs.NextPieceLaws.{NextPiece-ready, NextPiece-wrong}
 use Rattle.codec.specs.PiecesWentLaws.{PiecesWent-joins, PiecesWent-none}
 use Rattle.codec.specs.PieceReader.{IsPieceReader, ReaderState, rest}
+use Rattle.codec.specs.StaysLeftLaws.{StaysLeft-went}
 use Rattle.codec.specs.Runs.{AnswerRuns, all_handed, handed_payload}
 use Rattle.frame_reader.specs.declared.error.FrameError.TheVariants.{Truncated, TooLong, Io}
 use Rattle.frame_reader.specs.declared.frame.FrameFault.{FrameFault}
@@ -77,6 +78,15 @@ module _ {S : Type 0} (remaining : S → Option (List ℕ)) where
     NextPiece-frames answer next =
         let is = frames_of answer next.bytes next.answers in
         record { fit = is.0; went = subst (λ l. PiecesWent remaining (2 + s.decoder.max) s l t) is.1 next.went }
+
+    -- of a call that asks nobody
+    pub NextBuffered-frames : (found : Option (List ℕ)) → NextBuffered remaining (framed s.decoder.max) s found t
+        → FramesWent remaining s (handed_payload {E = FrameFault} (Ok found)) t
+    NextBuffered-frames (Some payload) buffered = NextPiece-frames (Ok (Some payload)) buffered.0
+    NextBuffered-frames None buffered = record {
+      fit = All-nil (Fits s.decoder.max);
+      went = StaysLeft-went remaining (framed s.decoder.max) s t buffered.0;
+    }
 
     pub NextPiece-reads : (answer : pieces.NextAnswer FrameFault) → NextPiece remaining (framed s.decoder.max) s answer t
         → ReadsFrames t

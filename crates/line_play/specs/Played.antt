@@ -1,6 +1,6 @@
 -- Calls of a reader of lines as they were asked for, and what was recorded of them.
-use Rattle.std.specs.Prelude.{◌≡◌, ℕ, ◌<◌, ◌≤◌, ◌⊎◌, List, [], ◌∷◌, ◌++◌, length, map, Option}
-use Rattle.line_reader.specs.Calls.{Call, CallGoes, Nexts, NextsTrimmed, Skips, call_lines}
+use Rattle.std.specs.Prelude.{◌≡◌, ℕ, ◌<◌, ◌≤◌, ◌⊎◌, List, [], ◌∷◌, ◌++◌, length, map, Option, option_map}
+use Rattle.line_reader.specs.Calls.{Call, CallGoes, Nexts, NextsBuffered, NextsTrimmed, Skips, call_lines}
 use Rattle.line_reader.specs.LineReader.{LineState}
 use Rattle.piece_reader.specs.Runs.{AnswerRuns, kept_answer}
 use Rattle.line_play.specs.declared.calls.Ask.{Ask}
@@ -12,12 +12,14 @@ use Rattle.line_play.specs.declared.calls.Played.TheVariants as played
 abbrev pub kept_call : Played → Call
 kept_call (played.Next answer) = Nexts (kept_answer answer)
 kept_call (played.NextTrimmed answer) = NextsTrimmed (kept_answer answer)
+kept_call (played.NextBuffered found) = NextsBuffered (option_map (λ line. line.items) found)
 kept_call (played.SkipLine answer) = Skips answer
 
 -- what was asked for
 abbrev pub asked : Call → Ask
 asked (Nexts answer) = ask.Next
 asked (NextsTrimmed answer) = ask.NextTrimmed
+asked (NextsBuffered found) = ask.NextBuffered
 asked (Skips answer) = ask.SkipLine
 
 -- this call was made as it was asked for

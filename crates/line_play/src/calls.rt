@@ -1,9 +1,9 @@
-//! Calls of all three kinds, one after another, each with its answer.
-ghost use Rattle.std.specs.Prelude.{◌<◌, length, map, IfOk, OnOk, OnErr, vec_capacity};
+//! Calls of all kinds, one after another, each with its answer.
+ghost use Rattle.std.specs.Prelude.{◌<◌, List, length, map, IfOk, OnOk, OnErr, Some, option_map, vec_capacity, ℕ};
 ghost use Rattle.line_reader.specs.Calls.{Call, call_lines};
 ghost use Rattle.line_play.specs.Played.{CallMade, CallsPlayed, CallsStopped, kept_call};
 ghost use Rattle.piece_reader.specs.Runs.{NextLost, kept_answer};
-ghost use Rattle.line_reader.specs.NextLine.{NextTrimmed};
+ghost use Rattle.line_reader.specs.NextLine.{NextBuffered, NextTrimmed};
 
 use buffer_redux::tell::TellRead;
 use line_reader::{LineError, LineReader};
@@ -16,6 +16,7 @@ use std::io;
 pub enum Ask {
     Next,
     NextTrimmed,
+    NextBuffered,
     SkipLine,
 }
 
@@ -24,6 +25,7 @@ pub enum Ask {
 pub enum Played {
     Next(Result<Option<Vec<u8>>, LineError>),
     NextTrimmed(Result<Option<Vec<u8>>, LineError>),
+    NextBuffered(Option<Vec<u8>>),
     SkipLine(io::Result<u64>),
 }
 
@@ -63,7 +65,23 @@ fn play_one<R: TellRead>(
     match ask {
         Ask::Next => Ok(Played::Next(reader.next_copied(alloc)?)),
         Ask::NextTrimmed => Ok(Played::NextTrimmed(trimmed_copied(alloc, reader)?)),
+        Ask::NextBuffered => Ok(Played::NextBuffered(buffered_copied(alloc, reader)?)),
         Ask::SkipLine => Ok(Played::SkipLine(reader.skip_line())),
+    }
+}
+
+// One call of `next_buffered`, of which the line is copied.
+fn buffered_copied<R: TellRead>(
+    alloc: Global,
+    reader: &mut LineReader<R>,
+) -> Result<Option<Vec<u8>>, AllocError>
+    ensures next { IfOk result (λ found. NextBuffered R.remaining reader.old (option_map (λ line. line.items) found)
+        reader.new) }
+    ensures lost { OnErr result ((line : List ℕ) × NextBuffered R.remaining reader.old (Some line) reader.new) }
+{
+    match reader.next_buffered() {
+        Some(line) => Ok(Some(Vec::from_slice(alloc, line)?)),
+        None => Ok(None),
     }
 }
 

@@ -46,9 +46,9 @@ pub fn since_new<R: TellRead>(reader: &LineReader<R>)
         → MovedAtMostGiven first.pieces.reader reader.now.pieces.reader }
 {}
 
-/// Any calls of `next`, `next_trimmed` and `skip_line` since the reader was made, whatever they answered: what was given, cut
-/// at the ends of its lines, is the lines that were handed out and those that were skipped, in order, then what went of a
-/// line that is being skipped, and what is left. No more lines are skipped than it was asked for.
+/// Any calls of `next`, `next_trimmed`, `next_buffered` and `skip_line` since the reader was made, whatever they answered: what
+/// was given, cut at the ends of its lines, is the lines that were handed out and those that were skipped, in order, then what
+/// went of a line that is being skipped, and what is left. No more lines are skipped than it was asked for.
 pub fn whole_lines<R: TellRead>(reader: &LineReader<R>)
     ensures went { (least most : ℕ) (stream : R) (first : LineState R) (calls : List Call)
         → IsFresh R.log least most stream first.pieces.decoder first.pieces → IsLineReader first
@@ -56,7 +56,7 @@ pub fn whole_lines<R: TellRead>(reader: &LineReader<R>)
         → CallsWent R.remaining [] first (flat_map call_lines calls) (sum_by call_asks calls) reader.now }
 {}
 
-/// Any calls of the three over a stream of which the lines are known, whatever they answered: what they handed out and skipped
+/// Any of these calls over a stream of which the lines are known, whatever they answered: what they handed out and skipped
 /// are the first of these lines, whole and in order, and the others are left; an end is told behind the last alone.
 pub fn known_lines<R: TellRead>(reader: &LineReader<R>)
     ensures took { (s : LineState R) (before : List ℕ) (lines : List (List ℕ)) (calls : List Call)

@@ -1,16 +1,18 @@
--- Calls of `next`, `next_trimmed` and `skip_line` in any order, with any answers, and the lines that they hand out and skip.
+-- Calls of `next`, `next_trimmed`, `next_buffered` and `skip_line` in any order, with any answers, and the lines that they hand
+-- out and skip.
 use Rattle.std.specs.Prelude.{◌≡◌, ℕ, ◌+◌, ◌<◌, ◌≤◌, ◌⊎◌, List, [], ◌∷◌, ◌++◌, length, Bool, true, false, Option, None, Some, Result, Ok, Err}
 use Rattle.std.specs.List.{flat_map}
 use Rattle.std.specs.declared.io.Error.{Error}
 use Rattle.piece_reader.specs.NextPiece.{PiecesWent}
 use Rattle.piece_reader.specs.Runs.{handed_payload}
 use Rattle.piece_reader.specs.Trimming.{IsTrimmed}
+use Rattle.line_reader.specs.declared.error.LineError.{LineError}
 use Rattle.line_reader.specs.Lines.{IsLine, with_end}
 use Rattle.line_reader.specs.LineReader.{LineState}
-use Rattle.line_reader.specs.NextLine.{NextAnswer, NextLine, NextTrimmed}
+use Rattle.line_reader.specs.NextLine.{NextAnswer, NextBuffered, NextLine, NextTrimmed}
 use Rattle.line_reader.specs.SkipLine.{SkipsLine}
 
--- what calls come to: `next` handed a line out; `next_trimmed` did, and showed this of it; a line was skipped; or the end of
+-- what calls come to: `next` or `next_buffered` handed a line out; `next_trimmed` did, and showed this of it; a line was skipped; or the end of
 -- the stream was told
 pub data Event : Type 0 where
   Handed : List ℕ → Event
@@ -68,18 +70,21 @@ events_of handed (Err e) = []
 pub data Call : Type 0 where
   Nexts : NextAnswer → Call
   NextsTrimmed : NextAnswer → Call
+  NextsBuffered : Option (List ℕ) → Call
   Skips : Result ℕ Error → Call
 
 -- what it does
 abbrev pub CallGoes : {S : Type 0} → (S → Option (List ℕ)) → LineState S → Call → LineState S → Type 0
 CallGoes remaining s (Nexts answer) t = NextLine remaining s answer t
 CallGoes remaining s (NextsTrimmed answer) t = NextTrimmed remaining s answer t
+CallGoes remaining s (NextsBuffered found) t = NextBuffered remaining s found t
 CallGoes remaining s (Skips answer) t = SkipsLine remaining s answer t
 
 -- the lines that they hand out
 abbrev pub call_lines : Call → List (List ℕ)
 call_lines (Nexts answer) = handed_payload answer
 call_lines (NextsTrimmed answer) = handed_payload answer
+call_lines (NextsBuffered found) = handed_payload {E = LineError} (Ok found)
 call_lines (Skips answer) = []
 
 abbrev pub event_lines : Event → List (List ℕ)
@@ -99,6 +104,7 @@ skipped_count (Ended ∷ events) = skipped_count events
 abbrev pub call_asks : Call → ℕ
 call_asks (Nexts answer) = 0
 call_asks (NextsTrimmed answer) = 0
+call_asks (NextsBuffered found) = 0
 call_asks (Skips answer) = 1
 
 -- a line that is being skipped counts for one

@@ -7,13 +7,14 @@ use Rattle.piece_reader.specs.DelimitedLaws.{isnt_end}
 use Rattle.piece_reader.specs.NextPiece.{PiecesWent}
 use Rattle.piece_reader.specs.PiecesWentLaws.{PiecesWent-joins, PiecesWent-none, PiecesWent-unasked}
 use Rattle.piece_reader.specs.PieceReader.{ReaderState, rest}
+use Rattle.piece_reader.specs.StaysLeftLaws.{StaysLeft-went}
 use Rattle.piece_reader.specs.Trimming.{IsTrimmed}
 use Rattle.line_reader.specs.declared.error.LineError.TheVariants.{TooLong, Io}
 use Rattle.line_reader.specs.Calls.{Handed, Trimmed, Skipped, Ended, Event, LinesAlong, CutsInto, EndNext, events_of}
 use Rattle.line_reader.specs.declared.line.Lines.{Lines}
 use Rattle.line_reader.specs.Lines.{IsLine, newline, with_end}
-use Rattle.line_reader.specs.LineReader.{LineState}
-use Rattle.line_reader.specs.NextLine.{NextAnswer, Trims}
+use Rattle.line_reader.specs.LineReader.{LineState, lined}
+use Rattle.line_reader.specs.NextLine.{NextAnswer, NextBuffered, Trims}
 use Rattle.line_reader.specs.NextLineLaws.{IsHanded-fits, NextOpen, same_none}
 use Rattle.line_reader.specs.SkipLine.{SkipsLine}
 
@@ -143,6 +144,21 @@ module _ {S : Type 0} (remaining : S → Option (List ℕ)) (s t : LineState S) 
       nothing (Err (TooLong most)) n n.0.answers.0 (λ is. (let odd : Err (TooLong most) ≡ Ok None = is in cc))
   NextLine-along (Err (Io e)) n =
       nothing (Err (Io e)) n n.0.answers.0 (λ is. (let odd : Err (Io e) ≡ Ok None = is in cc))
+
+  -- a call of `next_buffered`; where it finds none nothing is done, also of a line that is being skipped
+  pub NextBuffered-along : (line : List ℕ) → NextBuffered remaining s (Some line) t
+      → LinesAlong remaining [] s (Handed line ∷ []) [] t
+  NextBuffered-along line n = NextLine-along (Ok (Some line)) (n.piece.0, n.skipping ∙ n.open')
+
+  pub NextBuffered-stays : (before : List ℕ) → IsLine before → (s.skipping ≡ false → before ≡ [])
+      → NextBuffered remaining s None t → LinesAlong remaining before s [] before t
+  NextBuffered-stays before plain closed n = record {
+    bytes = [];
+    went = StaysLeft-went remaining (lined s.pieces.decoder.max) s.pieces t.pieces n.piece.0;
+    cut = (subst IsLine (sym (append-nil before)) plain, append-nil before);
+    closed = λ open'. closed (sym n.skipping ∙ open');
+    told = λ ended. ap (λ x. x.ended) n.piece.0.same ∙ ended;
+  }
 
   -- a call of `next_trimmed` where no line is being skipped
   pub Trims-along : (whole answer : NextAnswer) → NextOpen remaining s whole t → Trims whole answer t.pieces.ended

@@ -9,12 +9,12 @@ use Rattle.piece_reader.specs.PiecesWentLaws.{PiecesWent-none}
 use Rattle.piece_reader.specs.PieceReader.{rest}
 use Rattle.piece_reader.specs.Runs.{AnswerRuns, handed_payload}
 use Rattle.line_reader.specs.declared.error.LineError.TheVariants.{Io}
-use Rattle.line_reader.specs.Calls.{Handed, Trimmed, Skipped, Ended, Nexts, NextsTrimmed, Skips, Call, CallGoes, CallsWent, Event, call_asks, call_lines, event_lines, events_of, pending, skipped_count}
-use Rattle.line_reader.specs.CallsLaws.{CutsInto-after, LinesAlong-joins, NextLine-along, Trims-along, skip_fails, skip_last, skip_none, skip_whole}
+use Rattle.line_reader.specs.Calls.{Handed, Trimmed, Skipped, Ended, Nexts, NextsBuffered, NextsTrimmed, Skips, Call, CallGoes, CallsWent, Event, call_asks, call_lines, event_lines, events_of, pending, skipped_count}
+use Rattle.line_reader.specs.CallsLaws.{CutsInto-after, LinesAlong-joins, NextBuffered-stays, NextLine-along, Trims-along, skip_fails, skip_last, skip_none, skip_whole}
 use Rattle.line_reader.specs.Lines.{IsLine}
 use Rattle.line_reader.specs.LineReader.{LineState, IsLineReader}
 use Rattle.line_reader.specs.NextLine.{NextAnswer, NextLine, Trims}
-use Rattle.line_reader.specs.NextLineLaws.{NextLine-whole, NextOpen, SkipsLine-whole, by_skipping}
+use Rattle.line_reader.specs.NextLineLaws.{NextBuffered-whole, NextLine-whole, NextOpen, SkipsLine-whole, by_skipping}
 use Rattle.line_reader.specs.SkipLine.{SkipsLine}
 
 -- lines that were skipped are counted in any part
@@ -171,15 +171,27 @@ module _ {S : Type 0} (remaining : S → Option (List ℕ)) where
       skips_first s t before plain closed whole n.whole (handed_payload answer)
       (λ m line. trimmed_plain m t n.whole answer line n.trims)
       (λ e is. ap handed_payload (subst (λ w. Trims w answer t.pieces.ended) is n.trims)) n.next
+  CallGoes-went s (NextsBuffered (Some line)) t n before plain closed whole =
+      subst (λ l. CallsWent remaining l s (line ∷ []) 0 t) (sym (closed n.open'))
+      (next_plain s t (Ok (Some line)) (n.piece.0, n.skipping ∙ n.open'))
+  CallGoes-went s (NextsBuffered None) t n before plain closed whole = record {
+    events = [];
+    after = before;
+    along = NextBuffered-stays remaining s t before plain closed n;
+    handed = refl;
+    few = omega (arith, ap pending n.skipping);
+  }
   CallGoes-went s (Skips (Ok count)) t k before plain closed whole =
       skip_ends s t before plain closed whole count k 1 (omega arith)
   CallGoes-went s (Skips (Err e)) t k before plain closed whole =
       skip_failed s t before plain closed whole e k 1 (omega arith)
 
-  call_whole : (s : LineState S) (call : Call) (t : LineState S) → CallGoes remaining s call t → IsLineReader t
-  call_whole s (Nexts answer) t goes = NextLine-whole remaining s t answer goes
-  call_whole s (NextsTrimmed answer) t n = NextLine-whole remaining s t n.whole n.next
-  call_whole s (Skips answer) t k = SkipsLine-whole remaining s t answer k
+  call_whole : (s : LineState S) (call : Call) (t : LineState S) → CallGoes remaining s call t → IsLineReader s
+      → IsLineReader t
+  call_whole s (Nexts answer) t goes whole = NextLine-whole remaining s t answer goes
+  call_whole s (NextsTrimmed answer) t n whole = NextLine-whole remaining s t n.whole n.next
+  call_whole s (NextsBuffered found) t n whole = NextBuffered-whole remaining s t found whole n
+  call_whole s (Skips answer) t k whole = SkipsLine-whole remaining s t answer k
 
   -- what any come to
   pub Calls-went : (s : LineState S) (calls : List Call) (t : LineState S) → AnswerRuns (CallGoes remaining) s calls t
@@ -194,4 +206,4 @@ module _ {S : Type 0} (remaining : S → Option (List ℕ)) where
       (CallsWent-joins s m t before (call_lines call) (flat_map call_lines calls) (call_asks call) (sum_by call_asks calls) first
       (Calls-went m calls t run first.after
       (CutsInto-after m.pieces.ended first.events first.after (before ++ first.along.bytes) first.along.cut) first.along.closed
-      (call_whole s call m goes)))
+      (call_whole s call m goes whole)))

@@ -17,7 +17,7 @@ use Rattle.piece_reader.specs.PieceReader.{IsFresh, rest}
 use Rattle.piece_reader.specs.Runs.{AnswerRuns, handed_payload}
 use Rattle.piece_reader.specs.Trimming.{IsTrimmed}
 use Rattle.line_reader.specs.declared.error.LineError.TheVariants.{TooLong, Io}
-use Rattle.line_reader.specs.Calls.{Handed, Trimmed, Skipped, Ended, Nexts, NextsTrimmed, Skips, Call, CallGoes, Event, call_lines, event_lines}
+use Rattle.line_reader.specs.Calls.{Handed, Trimmed, Skipped, Ended, Nexts, NextsBuffered, NextsTrimmed, Skips, Call, CallGoes, Event, call_lines, event_lines}
 use Rattle.line_reader.specs.CallsLaws.{no_line}
 use Rattle.line_reader.specs.KnownCalls.{LeavesBehind, TakesLines, TookFront}
 use Rattle.line_reader.specs.Lines.{HasLines, IsLine, newline, with_end}
@@ -295,6 +295,19 @@ module _ {S : Type 0} (remaining : S → Option (List ℕ)) where
       goes_takes s t before lines (handed_payload answer) b n.whole
       (λ m some has line. trimmed_takes remaining m t some has n.whole answer line n.trims)
       (λ e is. ap handed_payload (subst (λ w. Trims w answer t.pieces.ended) is n.trims)) n.next
+  call_takes s (NextsBuffered (Some line)) t n before lines b =
+      next_takes remaining s t lines (none_before remaining s before lines n.open' b) (Ok (Some line))
+      (n.piece.0, n.skipping ∙ n.open')
+  call_takes s (NextsBuffered None) t n before lines b =
+      let stays = n.piece.0 in
+      front remaining lines t [] lines before refl (record {
+        text = b.text;
+        known = ap (λ x. ahead_of remaining x) stays.same ∙ b.known;
+        plain = b.plain;
+        closed = λ open'. b.closed (sym n.skipping ∙ open');
+        has = b.has;
+        none = λ ended. b.none (sym (ap (λ x. x.ended) stays.same) ∙ ended);
+      })
   call_takes s (Skips (Ok count)) t k before lines b = skip_takes remaining s t before lines b count k
   call_takes s (Skips (Err e)) t k before lines b = skip_failed_takes remaining s t before lines b e k
 

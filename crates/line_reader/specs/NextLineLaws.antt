@@ -13,7 +13,7 @@ use Rattle.line_reader.specs.declared.error.LineError.TheVariants.{TooLong, Io}
 use Rattle.line_reader.specs.declared.line.Lines.{Lines}
 use Rattle.line_reader.specs.Lines.{BeginsTooLong, FitsLine, IsLine, newline, with_end}
 use Rattle.line_reader.specs.LineReader.{IsLineReader, LineState, lined}
-use Rattle.line_reader.specs.NextLine.{NextAnswer, NextLine, piece_answer}
+use Rattle.line_reader.specs.NextLine.{NextAnswer, NextBuffered, NextLine, piece_answer}
 use Rattle.line_reader.specs.SkipLine.{SkipsLine}
 
 -- what one answer of a reader of pieces is of a reader of lines
@@ -127,3 +127,14 @@ module _ {S : Type 0} (remaining : S → Option (List ℕ)) where
   pub NextLine-whole : (s t : LineState S) (answer : NextAnswer) → NextLine remaining s answer t → IsLineReader t
   NextLine-whole s t answer = by_skipping s t answer (IsLineReader t) (λ _. NextOpen-whole s t answer)
       (λ m count is skips. NextOpen-whole m t answer) (λ e is skips fails. SkipsLine-whole remaining s t (Err e) skips)
+
+  pub NextBuffered-whole : (s t : LineState S) (found : Option (List ℕ)) → IsLineReader s → NextBuffered remaining s found t
+      → IsLineReader t
+  NextBuffered-whole s t (Some line) whole n = NextOpen-whole s t (Ok (Some line)) (n.piece.0, n.skipping ∙ n.open')
+  NextBuffered-whole s t None whole n =
+      let stays = n.piece.0 in
+      record {
+        whole = IsPieceReader-same s.pieces t.pieces (ap (λ x. x.decoder) stays.same) stays.whole;
+        skipped = λ is. ap (λ x. rest x) stays.same ∙ whole.skipped (sym n.skipping ∙ is);
+        goes_on = λ is. ap (λ x. x.ended) stays.same ∙ whole.goes_on (sym n.skipping ∙ is);
+      }
