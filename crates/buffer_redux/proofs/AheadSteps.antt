@@ -27,6 +27,7 @@ pub record AheadTurns {S P : Type 0} (remaining : S → Option (List ℕ)) (rule
   pub begun : (m ≡ s) ⊎ (length s.block.bytes < n)
   pub policy : m.policy ≡ s.policy
   pub capacity : m.block.capacity ≡ s.block.capacity
+  pub limit : m.block.limit ≡ s.block.limit
   pub kind : m.block.kind ≡ s.block.kind
   pub noted : m.own_calls ≡ s.own_calls
   pub sparing : (keep : ℕ) → n ≤ keep → Spared keep s m
@@ -38,6 +39,7 @@ pub record MakesRoomFor {S P : Type 0} (more : ℕ) (s t : Buffered S P) : Type 
   pub bytes : t.block.bytes ≡ s.block.bytes
   pub room : more ≤ usable t.block
   pub capacity : t.block.capacity ≡ s.block.capacity
+  pub limit : t.block.limit ≡ s.block.limit
   pub kind : t.block.kind ≡ s.block.kind
   pub spared : (keep : ℕ) → length s.block.bytes + more ≤ keep → Spared keep s t
 
@@ -48,6 +50,7 @@ room_there more s enough = record {
   bytes = refl;
   room = enough;
   capacity = refl;
+  limit = refl;
   kind = refl;
   spared = λ keep _. Spared-none keep s;
 }
@@ -61,6 +64,7 @@ room_made more s t few fits room order others = record {
   bytes = room.bytes;
   room = omega (arith, room.usable, fits);
   capacity = room.capacity;
+  limit = room.limit;
   kind = room.kind;
   spared = λ keep holds. record {
     kind = room.kind;
@@ -95,6 +99,7 @@ ahead_as remaining rules s a b t r = record {
   buffered = r.buffered;
   policy = r.policy;
   capacity = r.capacity;
+  limit = r.limit;
   kind = r.kind;
   noted = r.noted;
   sparing = r.sparing;
@@ -122,6 +127,7 @@ module _ {S P : Type 0} (remaining : S → Option (List ℕ)) (rules : ReadRules
     begun = inl refl;
     policy = refl;
     capacity = refl;
+    limit = refl;
     kind = refl;
     noted = refl;
     sparing = λ keep _. Spared-none keep s;
@@ -138,6 +144,7 @@ module _ {S P : Type 0} (remaining : S → Option (List ℕ)) (rules : ReadRules
     buffered = λ many. elim turns.begun [ inl same ↦ same | inr less ↦ absurd (omega (arith, many, less)) ];
     policy = turns.policy;
     capacity = turns.capacity;
+    limit = turns.limit;
     kind = turns.kind;
     noted = turns.noted;
     sparing = turns.sparing;
@@ -212,6 +219,7 @@ module _ {S P : Type 0} (remaining : S → Option (List ℕ)) (rules : ReadRules
       ];
       policy = a.reads.policy ∙ ap (λ x. x.policy) a.room.others ∙ a.turns.policy;
       capacity = once.added.capacity ∙ a.room.capacity ∙ a.turns.capacity;
+      limit = once.added.limit ∙ a.room.limit ∙ a.turns.limit;
       kind = once.added.kind ∙ a.room.kind ∙ a.turns.kind;
       noted = a.reads.noted ∙ ap (λ x. x.own_calls) a.room.others ∙ a.turns.noted;
       sparing = spared_now;
@@ -256,6 +264,7 @@ module _ {S P : Type 0} (remaining : S → Option (List ℕ)) (rules : ReadRules
         ];
         policy = a.reads.policy ∙ ap (λ x. x.policy) a.room.others ∙ a.turns.policy;
         capacity = read.added.capacity ∙ a.room.capacity ∙ a.turns.capacity;
+        limit = read.added.limit ∙ a.room.limit ∙ a.turns.limit;
         kind = read.added.kind ∙ a.room.kind ∙ a.turns.kind;
         noted = a.reads.noted ∙ ap (λ x. x.own_calls) a.room.others ∙ a.turns.noted;
         sparing = spared_now s m r (Ok k) t a;

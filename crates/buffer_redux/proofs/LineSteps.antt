@@ -30,6 +30,7 @@ pub record SpaceMade {S P : Type 0} (remaining : S → Option (List ℕ)) (rules
   pub room : 0 < usable t.block
   pub bytes : t.block.bytes ≡ s.block.bytes
   pub others : t ≡ with_block s t.block
+  pub limit : t.block.limit ≡ s.block.limit
   pub capacity : 2 * length s.block.bytes ≤ s.block.capacity → t.block.capacity ≡ s.block.capacity
 
 -- a call went on, by more bytes behind those that are buffered; or that failed; or the stream ended behind them
@@ -72,6 +73,7 @@ module _ {S P : Type 0} (remaining : S → Option (List ℕ)) (rules : ReadRules
       ended = ended;
       asks = omega (arith, ap (λ l. l.reads.asks) once.told, ap (λ x. x.log.reads.asks) space.others);
       policy = reads.policy ∙ ap (λ x. x.policy) space.others;
+      limit = once.added.limit ∙ space.limit;
       capacity = λ few. once.added.capacity ∙ space.capacity few;
     }
 

@@ -23,6 +23,7 @@ pub record ReadsAhead {S P A : Type 0} (remaining : S → Option (List ℕ)) (ru
   pub buffered : n ≤ length s.block.bytes → t ≡ s
   pub policy : t.policy ≡ s.policy
   pub capacity : t.block.capacity ≡ s.block.capacity
+  pub limit : t.block.limit ≡ s.block.limit
   pub kind : t.block.kind ≡ s.block.kind
   pub noted : t.own_calls ≡ s.own_calls
   pub sparing : (keep : ℕ) → n ≤ keep → Spared keep s t

@@ -21,6 +21,7 @@ pub record ReadsBehind {S P A : Type 0} (remaining : S → Option (List ℕ)) (r
       × ((t.log.reads.faults ≡ s.log.reads.faults ++ e ∷ []) ⊎ (GrowthFailed 1 s.block e × (t ≡ s))))
   pub asks : t.log.reads.asks ≤ s.log.reads.asks + 1
   pub policy : t.policy ≡ s.policy
+  pub limit : t.block.limit ≡ s.block.limit
   pub capacity : 2 * length s.block.bytes ≤ s.block.capacity → t.block.capacity ≡ s.block.capacity
 
 -- how a call goes on: by a fill where nothing is buffered, and else by such a read

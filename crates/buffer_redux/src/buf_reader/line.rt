@@ -134,6 +134,7 @@ impl<R: TellRead, P: ReaderPolicy> BufReader<R, P> {
         ensures room { OnOk result (0 < usable self.new.block) }
         ensures others { self.new ≡ with_block self.old self.new.block }
         ensures bytes { self.new.block.bytes ≡ self.old.block.bytes }
+        ensures limit { self.new.block.limit ≡ self.old.block.limit }
         ensures capacity { 2 * length self.old.block.bytes ≤ self.old.block.capacity
             → self.new.block.capacity ≡ self.old.block.capacity }
         ensures refused { IfErr result (λ refusal. (self.new ≡ self.old) × GrowthRefused 1 self.old.block refusal) }

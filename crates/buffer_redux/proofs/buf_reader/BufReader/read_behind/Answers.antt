@@ -14,6 +14,7 @@ returns-in_err-read_into_buf g c =
         room = m.room;
         bytes = m.bytes;
         others = m.others;
+        limit = m.limit;
         capacity = m.capacity;
       }) f.reads f.in_order f.spared;
     })
@@ -27,6 +28,7 @@ returns g c =
         room = m.room;
         bytes = m.bytes;
         others = m.others;
+        limit = m.limit;
         capacity = m.capacity;
       }) f.reads f.in_order f.spared;
     }
