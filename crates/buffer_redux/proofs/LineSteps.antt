@@ -54,7 +54,8 @@ module _ {S P : Type 0} (remaining : S → Option (List ℕ)) (rules : ReadRules
         → MatchResult end (λ _. (t.log.reads.faults ≡ s.log.reads.faults)
         × ((length s.block.bytes < length t.block.bytes) ⊎ ((t.block.bytes ≡ s.block.bytes) × RanDry s t)))
         (λ e. (t.block.bytes ≡ s.block.bytes)
-        × ((t.log.reads.faults ≡ s.log.reads.faults ++ e ∷ []) ⊎ (GrowthFailed 1 s.block e × (t ≡ s))))
+        × ((t.log.reads.faults ≡ s.log.reads.faults ++ e ∷ [])
+        ⊎ (GrowthFailed 1 s.block e × (s.block.capacity < 2 * length s.block.bytes) × (t ≡ s))))
         → ReadsBehind remaining rules s end t
     read_so end ended = record {
       front = front_joins remaining rules s r t [] [] space.front (record {
@@ -122,7 +123,7 @@ module _ {S P : Type 0} (remaining : S → Option (List ℕ)) (rules : ReadRules
     only = λ s t b. OnlyInterrupts-same s.log.reads.faults t.log.reads.faults b.ended.0;
     interrupt = λ s e t is b. elim b.ended.1 [
       | inl came ↦ one_interrupt s.log.reads.faults t.log.reads.faults e is came
-      | inr grew ↦ OnlyInterrupts-same s.log.reads.faults t.log.reads.faults (ap (λ x. x.log.reads.faults) grew.1)
+      | inr grew ↦ OnlyInterrupts-same s.log.reads.faults t.log.reads.faults (ap (λ x. x.log.reads.faults) grew.2)
     ];
   }
 

@@ -10,7 +10,7 @@ use Rattle.buffer_redux.specs.FillRetried.{FillRetried}
 use Rattle.buffer_redux.specs.ReadAll.{HandedFront}
 
 -- one read past the policy, behind what is buffered: bytes came, or none since the reader ran dry; or it failed, or growth was
--- refused. Only a buffer grows for it that isn't twice as large as that
+-- refused. The buffer grows for it, or growth is refused, only where bytes take more than half of that
 pub record ReadsBehind {S P A : Type 0} (remaining : S → Option (List ℕ)) (rules : ReadRules P)
     (s : Buffered S P) (answer : Result A Error) (t : Buffered S P) : Type 0 where
   pub front : HandedFront remaining rules s [] t
@@ -18,7 +18,8 @@ pub record ReadsBehind {S P A : Type 0} (remaining : S → Option (List ℕ)) (r
       (λ _. (t.log.reads.faults ≡ s.log.reads.faults)
       × ((length s.block.bytes < length t.block.bytes) ⊎ ((t.block.bytes ≡ s.block.bytes) × RanDry s t)))
       (λ e. (t.block.bytes ≡ s.block.bytes)
-      × ((t.log.reads.faults ≡ s.log.reads.faults ++ e ∷ []) ⊎ (GrowthFailed 1 s.block e × (t ≡ s))))
+      × ((t.log.reads.faults ≡ s.log.reads.faults ++ e ∷ [])
+      ⊎ (GrowthFailed 1 s.block e × (s.block.capacity < 2 * length s.block.bytes) × (t ≡ s))))
   pub asks : t.log.reads.asks ≤ s.log.reads.asks + 1
   pub policy : t.policy ≡ s.policy
   pub limit : t.block.limit ≡ s.block.limit

@@ -137,7 +137,8 @@ impl<R: TellRead, P: ReaderPolicy> BufReader<R, P> {
         ensures limit { self.new.block.limit ≡ self.old.block.limit }
         ensures capacity { 2 * length self.old.block.bytes ≤ self.old.block.capacity
             → self.new.block.capacity ≡ self.old.block.capacity }
-        ensures refused { IfErr result (λ refusal. (self.new ≡ self.old) × GrowthRefused 1 self.old.block refusal) }
+        ensures refused { IfErr result (λ refusal. (self.new ≡ self.old) × GrowthRefused 1 self.old.block refusal
+            × (self.old.block.capacity < 2 * length self.old.block.bytes)) }
         ensures whole { IsBlock self.new.block }
     {
         if self.buf.usable_space() > 0 {
