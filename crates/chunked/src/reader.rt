@@ -3,6 +3,7 @@ ghost use Rattle.std.specs.Prelude.{None, ◌≡◌, ℕ, ◌<◌, ◌≤◌, �
 ghost use Rattle.std.specs.Io.{ReadsAtMost};
 ghost use Rattle.std.specs.Io.KnownBytes.{ReadConsumes};
 ghost use Rattle.chunked.specs.declared.error.Malformed.{Malformed};
+ghost use Rattle.buffer_redux.specs.BufReader.{ReaderConsumes};
 ghost use Rattle.buffer_redux.specs.StreamLog.{StreamLog, after_read};
 ghost use Rattle.chunked.specs.Between.{HandsOn, NoneLeft, Skips, Takes};
 ghost use Rattle.chunked.specs.ChunkedReader.{BodyWent, Breaks, ChunkedState, Drains, IsChunkedReader, IsWhole, LooksBehind, ReadsAsIo, ReadsPayload, begun, taken_count};
@@ -192,11 +193,12 @@ impl<R: TellRead, P: ReaderPolicy> ChunkedReader<R, P> {
         Ok(self.reader.fill_buf()?.is_empty())
     }
 
-    /// Hands out payload that is buffered, as much as the slice takes, and asks the stream for nothing. Less comes only where no
+    /// Hands out payload that is buffered, as much as the slice takes, by one `consume`, and asks the stream for nothing. Less comes only where no
     /// more payload is buffered: the body ended, all that is buffered was taken, or what comes next is wrong, which the next
     /// [`read_payload`](ChunkedReader::read_payload) tells.
     pub fn read_buffered(&mut self, out: &mut [u8]) -> usize
         ensures went { BodyWent R.remaining P.rules self.old (take result out.new) self.new }
+        ensures took { (count : ℕ) × ReaderConsumes P.rules count self.old.reader self.new.reader }
         ensures told { self.new.reader.log ≡ self.old.reader.log }
         ensures bound { result ≤ length out.new }
         ensures all { (result ≡ length out.new) ⊎ (IsWhole self.new
@@ -293,6 +295,7 @@ fn hand_buffered<R: TellRead, P: ReaderPolicy>(
     requires { IsPlace progress.old.place }
     ensures takes { (wire : List ℕ)
         × Takes R.remaining P.rules reader.old progress.old wire (take result out.new) reader.new progress.new }
+    ensures took { (count : ℕ) × ReaderConsumes P.rules count reader.old reader.new }
     ensures told { reader.new.log ≡ reader.old.log }
     ensures bound { result ≤ length out.new }
     ensures all { (result ≡ length out.new)

@@ -16,6 +16,7 @@ returns g c =
             c.unchunk-reached.ensures.hands c.unchunk-reached.ensures.all _ notes _ c.consume.ensures.inner
             c.consume.ensures.consumed,
       );
+      took = (reached.taken, c.consume.ensures.consumed);
       told = c.consume.ensures.consumed.told;
       bound = c.unchunk-reached.ensures.hands.bound;
       all = all_buffered g.R.TellRead.remaining g.P.ReaderPolicy.rules _ _ shown _ c.buffer-shown.ensures.value reached

@@ -27,6 +27,7 @@ returns-then-count-gt0 g c =
     (λ _. c.note.ensures, λ none. absurd (omega (arith, none, some))) in
     rw (← c.self.view_is) (record {
       went = went_buffered _ _ _ _ _ c.self.invariant _ _ _ _ one.ensures.takes _ noted;
+      took = one.ensures.took;
       told = one.ensures.told;
       bound = one.ensures.bound;
       all = handed_all _ _ _ _ _ c.self.invariant _ _ _ _ one.ensures.takes _ noted one.ensures.all;
@@ -42,6 +43,7 @@ returns-else-count-gt0 g c =
     (λ some. absurd (omega (arith, none, some)), λ _. refl) in
     rw (← c.self.view_is) (record {
       went = went_buffered _ _ _ _ _ c.self.invariant _ _ _ _ one.ensures.takes _ noted;
+      took = one.ensures.took;
       told = one.ensures.told;
       bound = one.ensures.bound;
       all = handed_all _ _ _ _ _ c.self.invariant _ _ _ _ one.ensures.takes _ noted one.ensures.all;
