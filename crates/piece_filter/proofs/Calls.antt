@@ -21,7 +21,7 @@ use Rattle.forward.specs.declared.error.AskError.TheVariants.{Wrong, Io, IoBehin
 use Rattle.programs.specs.Streams.{AllSent}
 use Rattle.piece_filter.specs.Answering.{Answered, IsWrong, answering}
 use Rattle.piece_filter.specs.AnsweringLaws.{answering_lawful}
-use Rattle.piece_filter.specs.Pieces.{IsReady, Keeps, Piecewise, piece_rules}
+use Rattle.piece_filter.specs.Pieces.{IsReady, Keeps, Piecewise, held_at, piece_rules}
 use Rattle.piece_filter.specs.PiecesCalls as pieces
 use Rattle.piece_filter.specs.PiecesLaws.{takes_nothing}
 use Rattle.piece_filter.specs.declared.answering.Answering.{Answering}
@@ -61,10 +61,15 @@ module _ {R D X A W : Type 0} (remaining : R → Option (List ℕ)) (grammar : D
 
     pub refused : (e : Error) → Answered Answers s.service payload s.target (Err e) b v
         → Passes rules s (Err e) (record s { target = v; service = b; sent = false })
-    refused e (reply, same, puts) =
+    refused e (reply, after, is, same, puts) =
         let t : Answering R D W A X = record s { target = v; service = b; sent = false } in
+        let holds = ap (λ h. held_at s.source h) held in
         pieces.lost remaining f ready t puts.not_flushed puts.flushes [] (omega arith)
-        (pieces.took_none remaining f ready t refl (λ sent. absurd (true≢false (sym sent))) refl) same puts.taken e puts.caused
+        (pieces.took_none remaining f ready t refl (λ sent. absurd (true≢false (sym sent))) refl) same puts.taken e
+        (elim puts.caused [
+          | inl failed ↦ inl failed
+          | inr room ↦ inr (payload, reply, after, holds, subst (λ a. Answers a payload reply after) (sym same) is, room)
+        ])
 
   -- the next was buffered, and is held; or none was
   module _ (lacks : s.held ≡ None) (m : ReaderState R D) where

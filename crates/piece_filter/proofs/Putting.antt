@@ -1,7 +1,8 @@
 -- How all of some bytes is taken in, or nothing.
 use Rattle.std.proofs.Common.{◌≡◌, ℕ, ◌+◌, ◌<◌, ◌≤◌, ◌⊎◌, inl, inr, List, [], ◌++◌, length, min, Result, Ok, Err, IsOk, OnOk, refl, sym, ap, subst, ◌∙◌, arith, append-nil}
-use Rattle.std.proofs.lemmas.Bool.{cases_lt}
+use Rattle.std.proofs.lemmas.Bool.{true≢false}
 use Rattle.std.proofs.lemmas.List.{append_cancel_left}
+use Rattle.std.specs.Prelude.{OnErr}
 use Rattle.std.specs.declared.io.Error.{Error}
 use Rattle.buffer_redux.specs.Block.{MakesRoom, usable}
 use Rattle.buffer_redux.specs.BufWriter.{WasSent, WritesInOrder}
@@ -9,9 +10,25 @@ use Rattle.buffer_redux.specs.Buffered.{Buffered, with_block}
 use Rattle.buffer_redux.specs.Faults.{MetInterrupts, MetInterrupts-none, SendErrorCaused, SendErrorCaused-after}
 use Rattle.buffer_redux.specs.StreamLog.{StreamLog}
 use Rattle.buffer_redux.specs.WriteParts.{PartsRefused, WritesParts}
+use Rattle.buffer_redux.specs.WritePartsLaws.{PutsIn-told, WritesParts-sent}
 use Rattle.buffer_redux.specs.WriterLaws.{WritesInOrder-joins}
 use Rattle.buffer_redux.specs.declared.policy.StdPolicy.{StdPolicy}
 use Rattle.piece_filter.specs.Puts.{IsRefused, Puts}
+
+-- the inner writer isn't called where parts fit, which goes well, nor where nothing is buffered
+module _ {W : Type 0} (tells : W → StreamLog) (trace : W → W → Type 0) (m : Buffered W StdPolicy) (bytes : List ℕ)
+    (answer : Result (Unit {0}) Error) (t : Buffered W StdPolicy) (p : WritesParts tells trace m bytes answer t) where
+  fit_in : length bytes ≤ usable m.block → IsOk answer × (t.log ≡ m.log)
+  fit_in fit = (subst IsOk (sym (p.fits fit).0) refl, PutsIn-told m t bytes (p.fits fit).1)
+
+  sends_none : m.block.bytes ≡ [] → t.log ≡ m.log
+  sends_none empty = elim (WritesParts-sent tells trace m t bytes answer p) [
+    | inl same ↦ same
+    | inr (sending, left, sent, told, failed) ↦ told ∙ sent.sends.idle (idle (length m.block.bytes) (ap length empty))
+  ]
+    where
+      idle : (n : ℕ) → n ≡ 0 → min n n ≡ 0
+      idle n none = rw none refl
 
 module _ {W : Type 0} (tells : W → StreamLog) (trace : W → W → Type 0) (s t : Buffered W StdPolicy) (bytes : List ℕ) where
   -- behind what took nothing in, and met interruptions at most, the parts were written, and the stream wasn't called
@@ -21,15 +38,16 @@ module _ {W : Type 0} (tells : W → StreamLog) (trace : W → W → Type 0) (s 
     met_still : MetInterrupts s.log.writes t.log.writes
     met_still = subst (λ l. MetInterrupts s.log.writes l.writes) (sym told) met
 
-    refused : (e : Error) → PartsRefused (length bytes) m e t → SendErrorCaused s.log.writes t.log.writes e ⊎ IsRefused e t
-    refused e (inl caused) = inl (SendErrorCaused-after s.log.writes m.log.writes t.log.writes e met caused)
-    refused e (inr (more, few, failed)) = inr (more, failed)
+    refused : (e : Error) → t.block.bytes ≡ [] → PartsRefused (length bytes) m e t
+        → SendErrorCaused s.log.writes t.log.writes e ⊎ IsRefused (length bytes) e t
+    refused e empty (inl caused) = inl (SendErrorCaused-after s.log.writes m.log.writes t.log.writes e met caused)
+    refused e empty (inr (more, few, failed)) = inr (more, few, empty, failed)
 
     pub puts : (answer : Result (Unit {0}) Error)
         → (length s.block.bytes + length bytes ≤ s.block.capacity → IsOk answer × (t.log ≡ s.log))
         → (s.block.capacity < length s.block.bytes + length bytes → OnOk answer (t.block.bytes ≡ bytes))
-        → WritesParts tells trace m bytes answer t → Puts s bytes answer t
-    puts (Ok _) fits full p = record {
+        → OnErr answer (t.block.bytes ≡ []) → WritesParts tells trace m bytes answer t → Puts s bytes answer t
+    puts (Ok _) fits full empty p = record {
       taken = WritesInOrder-joins s m t [] bytes order p.along.in_order;
       met = met_still;
       fits = fits;
@@ -38,12 +56,12 @@ module _ {W : Type 0} (tells : W → StreamLog) (trace : W → W → Type 0) (s 
       not_flushed = ap (λ l. l.writes.flushed) told ∙ not_flushed;
       flushes = ap (λ l. l.writes.flushes) told ∙ flushes;
     }
-    puts (Err e) fits full p = record {
+    puts (Err e) fits full empty p = record {
       taken = WritesInOrder-joins s m t [] [] order p.along.in_order;
       met = tt;
       fits = fits;
       full = full;
-      caused = refused e p.caused;
+      caused = refused e empty p.caused;
       not_flushed = ap (λ l. l.writes.flushed) told ∙ not_flushed;
       flushes = ap (λ l. l.writes.flushes) told ∙ flushes;
     }
@@ -54,10 +72,14 @@ module _ {W : Type 0} (tells : W → StreamLog) (trace : W → W → Type 0) (s 
       → WritesParts tells trace m bytes answer t → Puts s bytes answer t
   puts_fitting m order others room fits answer p =
       let same = ap (λ x. x.log) others in
-      let there = p.fits (omega (arith, fits, room.usable)) in
+      let there = fit_in tells trace m bytes answer t p (omega (arith, fits, room.usable)) in
       puts m order (subst (λ l. MetInterrupts s.log.writes l.writes) (sym same) (MetInterrupts-none s.log.writes))
       (ap (λ l. l.writes.flushed) same) (ap (λ l. l.writes.flushes) same) there.1 answer (λ _. (there.0, there.1 ∙ same))
-      (λ few. absurd (omega (arith, fits, few))) p
+      (λ few. absurd (omega (arith, fits, few))) (never answer there.0) p
+    where
+      never : (answer : Result (Unit {0}) Error) → IsOk answer → OnErr answer (t.block.bytes ≡ [])
+      never (Ok _) ok = tt
+      never (Err e) ok = absurd (true≢false (sym ok))
 
   -- all was sent, and room was made
   pub puts_sent : (u m : Buffered W StdPolicy) → WasSent tells trace s (Ok tt) u → WritesInOrder u [] m → m ≡ with_block u m.block
@@ -68,26 +90,24 @@ module _ {W : Type 0} (tells : W → StreamLog) (trace : W → W → Type 0) (s 
       puts m (WritesInOrder-joins s u m [] [] sent.in_order order)
       (subst (λ l. MetInterrupts s.log.writes l.writes) (sym same) sent.ok.met)
       (ap (λ l. l.writes.flushed) same ∙ sent.not_flushed) (ap (λ l. l.writes.flushes) same ∙ sent.sends.sent.flushes)
-      told answer (λ fit. absurd (omega (arith, fit, few))) (λ _. kept answer p) p
+      told answer (λ fit. absurd (omega (arith, fit, few))) (λ _. kept answer p) (nothing answer p) p
     where
       empty : m.block.bytes ≡ []
       empty = room.bytes ∙ sent.ok.empty
 
-      idle : (n : ℕ) → n ≡ 0 → min n n ≡ 0
-      idle n none = rw none refl
-
       told : t.log ≡ m.log
-      told = elim (cases_lt (usable m.block) (length bytes)) [
-        | inl few ↦
-            let (sending, left, again, told, failed) = p.full few in
-            told ∙ again.sends.idle (idle (length m.block.bytes) (ap length empty))
-        | inr fit ↦ (p.fits fit).1
-      ]
+      told = sends_none tells trace m bytes answer t p empty
 
-      kept : (answer : Result (Unit {0}) Error) → WritesParts tells trace m bytes answer t → OnOk answer (t.block.bytes ≡ bytes)
-      kept (Ok _) p =
-          let order = p.along.in_order in
+      left : (taken : List ℕ) → WritesInOrder m taken t → t.block.bytes ≡ taken
+      left taken order =
           let none : order.sent ≡ [] = append_cancel_left m.log.writes.received order.sent []
           (sym order.received ∙ ap (λ l. l.writes.received) told ∙ sym (append-nil m.log.writes.received)) in
-          ap (λ l. l ++ t.block.bytes) (sym none) ∙ order.equal ∙ ap (λ l. l ++ bytes) empty
+          ap (λ l. l ++ t.block.bytes) (sym none) ∙ order.equal ∙ ap (λ l. l ++ taken) empty
+
+      kept : (answer : Result (Unit {0}) Error) → WritesParts tells trace m bytes answer t → OnOk answer (t.block.bytes ≡ bytes)
+      kept (Ok _) p = left bytes p.along.in_order
       kept (Err e) p = tt
+
+      nothing : (answer : Result (Unit {0}) Error) → WritesParts tells trace m bytes answer t → OnErr answer (t.block.bytes ≡ [])
+      nothing (Ok _) p = tt
+      nothing (Err e) p = left [] p.along.in_order

@@ -20,7 +20,8 @@ pub trait Answer: Drop {
     ghost answers: { Self → List ℕ → List ℕ → Self → Type 0 };
 
     /// Answers a payload by one [`put_both`](crate::put_both) of a byte or more, and returns `true`; or drops it, and leaves the
-    /// writer as it was. An `Err` is the writer's: nothing of the answer was taken in then, and what answers is as it was.
+    /// writer as it was. An `Err` is the writer's, which refused the answer of this payload: nothing of that was taken in then,
+    /// and what answers is as it was.
     fn answer<W: TellWrite>(
         &mut self,
         payload: &[u8],
