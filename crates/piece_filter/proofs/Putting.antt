@@ -1,15 +1,16 @@
 -- How all of some bytes is taken in, or nothing.
 use Rattle.std.proofs.Common.{◌≡◌, ℕ, ◌+◌, ◌<◌, ◌≤◌, ◌⊎◌, inl, inr, List, [], ◌++◌, length, min, Result, Ok, Err, IsOk, OnOk, refl, sym, ap, subst, ◌∙◌, arith, append-nil}
-use Rattle.std.proofs.lemmas.Bool.{true≢false}
+use Rattle.std.proofs.lemmas.Bool.{cases_lt, true≢false}
 use Rattle.std.proofs.lemmas.List.{append_cancel_left}
-use Rattle.std.specs.Prelude.{OnErr}
+use Rattle.std.specs.Prelude.{MatchResult, OnErr}
 use Rattle.std.specs.declared.io.Error.{Error}
-use Rattle.buffer_redux.specs.Block.{MakesRoom, usable}
+use Rattle.buffer_redux.specs.Block.{MakesRoom, Reserves, usable}
 use Rattle.buffer_redux.specs.BufWriter.{WasSent, WritesInOrder}
 use Rattle.buffer_redux.specs.Buffered.{Buffered, with_block}
 use Rattle.buffer_redux.specs.Faults.{MetInterrupts, MetInterrupts-none, SendErrorCaused, SendErrorCaused-after}
+use Rattle.buffer_redux.specs.GrowError.{GrowthFailed}
 use Rattle.buffer_redux.specs.StreamLog.{StreamLog}
-use Rattle.buffer_redux.specs.WriteParts.{PartsRefused, WritesParts}
+use Rattle.buffer_redux.specs.WriteParts.{MakesPlace, PartsRefused, PutsIn, WritesParts}
 use Rattle.buffer_redux.specs.WritePartsLaws.{PutsIn-told, WritesParts-sent}
 use Rattle.buffer_redux.specs.WriterLaws.{WritesInOrder-joins}
 use Rattle.buffer_redux.specs.declared.policy.StdPolicy.{StdPolicy}
@@ -30,11 +31,37 @@ module _ {W : Type 0} (tells : W → StreamLog) (trace : W → W → Type 0) (m 
       idle : (n : ℕ) → n ≡ 0 → min n n ≡ 0
       idle n none = rw none refl
 
+  -- the limit stays
+  place_limit : (count : ℕ) (answer : Result (Unit {0}) Error) (v : Buffered W StdPolicy)
+      → MakesPlace tells trace count m answer v → v.block.limit ≡ m.block.limit
+  place_limit count answer v q = ended q.sending answer q.ended ∙ q.sent.sends.sent.dropped.limit
+    where
+      ended : (sending answer : Result (Unit {0}) Error) → MatchResult sending
+          (λ _. MatchResult answer (λ _. Reserves count q.left.block v.block × (v ≡ with_block q.left v.block))
+          (λ e. GrowthFailed count q.left.block e × (v ≡ q.left)))
+          (λ e. (answer ≡ Err e) × (v ≡ q.left)) → v.block.limit ≡ q.left.block.limit
+      ended (Ok _) (Ok _) (grown, others) = grown.limit
+      ended (Ok _) (Err e) (failed, same) = ap (λ w. w.block.limit) same
+      ended (Err e) answer (is, same) = ap (λ w. w.block.limit) same
+
+  keeps_limit : t.block.limit ≡ m.block.limit
+  keeps_limit = elim (cases_lt (usable m.block) (length bytes)) [
+    | inl few ↦ behind _ answer (p.full few)
+    | inr fit ↦ (p.fits fit).1.limit
+  ]
+    where
+      behind : (count : ℕ) (answer : Result (Unit {0}) Error) → MatchResult answer
+          (λ _. (v : Buffered W StdPolicy) × MakesPlace tells trace count m (Ok tt) v × PutsIn v bytes t)
+          (λ e. MakesPlace tells trace count m (Err e) t) → t.block.limit ≡ m.block.limit
+      behind count (Ok _) (v, made, put) = put.limit ∙ place_limit count (Ok tt) v made
+      behind count (Err e) made = place_limit count (Err e) t made
+
 module _ {W : Type 0} (tells : W → StreamLog) (trace : W → W → Type 0) (s t : Buffered W StdPolicy) (bytes : List ℕ) where
   -- behind what took nothing in, and met interruptions at most, the parts were written, and the stream wasn't called
   module _ (m : Buffered W StdPolicy) (order : WritesInOrder s [] m) (met : MetInterrupts s.log.writes m.log.writes)
       (not_flushed : m.log.writes.flushed ≡ s.log.writes.flushed) (flushes : m.log.writes.flushes ≡ s.log.writes.flushes)
-      (told : t.log ≡ m.log) where
+      (told : t.log ≡ m.log) (kept : length bytes ≤ s.block.capacity → t.block.capacity ≡ s.block.capacity)
+      (limit : t.block.limit ≡ s.block.limit) where
     met_still : MetInterrupts s.log.writes t.log.writes
     met_still = subst (λ l. MetInterrupts s.log.writes l.writes) (sym told) met
 
@@ -53,6 +80,8 @@ module _ {W : Type 0} (tells : W → StreamLog) (trace : W → W → Type 0) (s 
       fits = fits;
       full = full;
       caused = tt;
+      kept = kept;
+      limit = limit;
       not_flushed = ap (λ l. l.writes.flushed) told ∙ not_flushed;
       flushes = ap (λ l. l.writes.flushes) told ∙ flushes;
     }
@@ -62,6 +91,8 @@ module _ {W : Type 0} (tells : W → StreamLog) (trace : W → W → Type 0) (s 
       fits = fits;
       full = full;
       caused = refused e empty p.caused;
+      kept = kept;
+      limit = limit;
       not_flushed = ap (λ l. l.writes.flushed) told ∙ not_flushed;
       flushes = ap (λ l. l.writes.flushes) told ∙ flushes;
     }
@@ -72,10 +103,12 @@ module _ {W : Type 0} (tells : W → StreamLog) (trace : W → W → Type 0) (s 
       → WritesParts tells trace m bytes answer t → Puts s bytes answer t
   puts_fitting m order others room fits answer p =
       let same = ap (λ x. x.log) others in
-      let there = fit_in tells trace m bytes answer t p (omega (arith, fits, room.usable)) in
+      let fit : length bytes ≤ usable m.block = omega (arith, fits, room.usable) in
+      let there = fit_in tells trace m bytes answer t p fit in
       puts m order (subst (λ l. MetInterrupts s.log.writes l.writes) (sym same) (MetInterrupts-none s.log.writes))
-      (ap (λ l. l.writes.flushed) same) (ap (λ l. l.writes.flushes) same) there.1 answer (λ _. (there.0, there.1 ∙ same))
-      (λ few. absurd (omega (arith, fits, few))) (never answer there.0) p
+      (ap (λ l. l.writes.flushed) same) (ap (λ l. l.writes.flushes) same) there.1
+      (λ _. (p.fits fit).1.capacity ∙ room.capacity) (keeps_limit tells trace m bytes answer t p ∙ room.limit)
+      answer (λ _. (there.0, there.1 ∙ same)) (λ few. absurd (omega (arith, fits, few))) (never answer there.0) p
     where
       never : (answer : Result (Unit {0}) Error) → IsOk answer → OnErr answer (t.block.bytes ≡ [])
       never (Ok _) ok = tt
@@ -90,10 +123,15 @@ module _ {W : Type 0} (tells : W → StreamLog) (trace : W → W → Type 0) (s 
       puts m (WritesInOrder-joins s u m [] [] sent.in_order order)
       (subst (λ l. MetInterrupts s.log.writes l.writes) (sym same) sent.ok.met)
       (ap (λ l. l.writes.flushed) same ∙ sent.not_flushed) (ap (λ l. l.writes.flushes) same ∙ sent.sends.sent.flushes)
-      told answer (λ fit. absurd (omega (arith, fit, few))) (λ _. kept answer p) (nothing answer p) p
+      told (λ small. (p.fits (space small)).1.capacity ∙ room.capacity ∙ sent.capacity)
+      (keeps_limit tells trace m bytes answer t p ∙ room.limit ∙ sent.sends.sent.dropped.limit)
+      answer (λ fit. absurd (omega (arith, fit, few))) (λ _. kept answer p) (nothing answer p) p
     where
       empty : m.block.bytes ≡ []
       empty = room.bytes ∙ sent.ok.empty
+
+      space : length bytes ≤ s.block.capacity → length bytes ≤ usable m.block
+      space small = omega (arith, small, room.usable, sent.capacity, ap length sent.ok.empty)
 
       told : t.log ≡ m.log
       told = sends_none tells trace m bytes answer t p empty
