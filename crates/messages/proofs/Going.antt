@@ -11,10 +11,13 @@ use Rattle.buffer_redux.specs.declared.policy.StdPolicy.{StdPolicy}
 use Rattle.buffer_redux.specs.BufReader.{FillBuf, ReaderConsumes, Reads, ReadsAlong}
 use Rattle.buffer_redux.specs.Buffered.{Buffered}
 use Rattle.buffer_redux.specs.EmptyReads.{ReadsWhenEmpty-std, none_where_shown, once_at_most}
-use Rattle.chunked.specs.ChunkedReader.{BodyWent, ChunkedState, IsChunkedReader, IsWhole, PayloadAnswers, handed_of, Drains, ReadsOn, ReadsPayload}
+use Rattle.chunked.specs.ChunkedReader.{Breaks, BodyWent, ChunkedState, IsChunkedReader, IsWhole, PayloadAnswers, handed_of, Drains, ReadsOn, ReadsPayload}
 use Rattle.chunked.specs.ChunkedReaderLaws.{body_done, BodyWent-joins, BodyWent-none, Completes-nothing, IsWhole-done}
 use Rattle.chunked.specs.EmptyReads.{EndsOnce}
-use Rattle.chunked.specs.Place.{Completes}
+use Rattle.chunked.specs.Body.{IsBody}
+use Rattle.chunked.specs.Place.{Completes, IsWrong}
+use Rattle.chunked.specs.declared.error.Malformed.{Malformed}
+use Rattle.chunked.specs.declared.error.Malformed.TheVariants.{NoSize, BadSize, BadField, SizeTooLarge, LineTooLong, TrailersTooLong, BareReturn, BareFeed, ChunkTooLong}
 use Rattle.chunked.specs.declared.error.ChunkedError.{ChunkedError}
 use Rattle.chunked.specs.declared.error.ChunkedError.TheVariants.{NotChunked, Truncated, Io}
 use Rattle.chunked.specs.Asking.{AskedWhere}
@@ -23,7 +26,7 @@ use Rattle.chunked.specs.declared.limits.Limits.{Limits}
 use Rattle.chunked.specs.declared.place.Place.{Place}
 use Rattle.chunked.specs.declared.place.Place.TheVariants.{Done}
 use Rattle.chunked.proofs.Alive.{Completes-some}
-use Rattle.messages.specs.Messages.{Backward, Bytes, Chunks, EachGave, Ends, Fails, IsRest, IsRoomy, Onward, Takes, body_error, GoesOn, IsReady, Rest, Unended}
+use Rattle.messages.specs.Messages.{Backward, BeginsNone, Bytes, Chunks, EachGave, Ends, Fails, IsRest, IsRoomy, Onward, Takes, body_error, GoesOn, IsReady, Rest, Unended}
 use Rattle.messages.specs.declared.error.BodyError.TheVariants.{Truncated, Io as Fault}
 use Rattle.messages.specs.MessagesLaws.{Onward-joins}
 
@@ -109,6 +112,29 @@ module _ {S P : Type 0} {remaining : S → Option (List ℕ)} {rules : ReadRules
       backward = chunks_backward;
     }
 
+-- behind a body nothing is wrong
+done_right : (limits : Limits) (b : ℕ) (why : Malformed) → IsWrong limits Done b why → ⊥
+done_right limits b NoSize h = h
+done_right limits b BadSize h = h
+done_right limits b BadField h = h
+done_right limits b SizeTooLarge h = h
+done_right limits b LineTooLong h = h
+done_right limits b TrailersTooLong h = h
+done_right limits b BareReturn h = h
+done_right limits b BareFeed h = h
+done_right limits b ChunkTooLong h = h
+
+-- no beginning of what is wrong in a body in chunks is the rest of it
+chunks_begin_none : {S : Type 0} (t : ChunkedState S StdPolicy) → IsChunkedReader t → (why : Malformed) → Breaks why t
+    → BeginsNone (Chunks t.limits t.place) t.reader.block.bytes
+chunks_begin_none t is why breaks later [] behind payload same c =
+    done_right t.limits breaks.byte why
+    (subst (λ p. IsWrong t.limits p breaks.byte why) (Completes-nothing t.limits t.place payload c) breaks.name)
+chunks_begin_none t is why breaks later (b ∷ wire) behind payload same c =
+    let first : breaks.byte ≡ b = (let row = rw breaks.next at same in cc) in
+    breaks.none wire (handed_of t ++ payload) (subst (λ x. IsBody t.limits (t.taken ++ (x ∷ wire)) (handed_of t ++ payload))
+    (sym first) (is.leads.onward (b ∷ wire) payload c))
+
 -- an error of a reader of chunks says why no payload comes
 pub chunks_fail : {S : Type 0} (s t : ChunkedState S StdPolicy) → IsChunkedReader t → IsRoomy s.reader.block → (asked : ℕ)
     (e : ChunkedError) → PayloadAnswers std_read_rules s asked (Err e) t
@@ -116,9 +142,10 @@ pub chunks_fail : {S : Type 0} (s t : ChunkedState S StdPolicy) → IsChunkedRea
     → Fails (unbuffered s.reader) (body_error e) (unbuffered t.reader) (Chunks t.limits t.place)
 chunks_fail s t is roomy asked (NotChunked why right) answers never = (
   (answers.1, never),
-  λ later payload c.
-      answers.2.none (answers.2.later ++ later) (handed_of t ++ payload)
-      (rw answers.2.next at (is.leads.onward (t.reader.block.bytes ++ later) payload c)),
+  (
+    record { byte = answers.2.byte; later = answers.2.later; next = answers.2.next; name = answers.2.name },
+    chunks_begin_none t is why answers.2,
+  ),
 )
 chunks_fail s t is roomy asked (Truncated right) answers once = (
   answers.1,

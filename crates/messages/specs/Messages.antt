@@ -6,10 +6,12 @@ use Rattle.std.specs.declared.io.ErrorKind.TheVariants.{Other}
 use Rattle.buffer_redux.specs.Block.{Block, Plain}
 use Rattle.buffer_redux.specs.Unbuffer.{StreamWent, Unbuffered, unbuffered}
 use Rattle.chunked.specs.declared.error.ChunkedError.{ChunkedError}
+use Rattle.chunked.specs.declared.error.Malformed.{Malformed}
 use Rattle.chunked.specs.declared.error.ChunkedError.TheVariants as chunks
 use Rattle.chunked.specs.declared.limits.Limits.{Limits}
 use Rattle.chunked.specs.declared.place.Place.{Place}
 use Rattle.chunked.specs.declared.place.Place.TheVariants.{Line, Done}
+use Rattle.chunked.specs.Between.{MeetsWrong}
 use Rattle.chunked.specs.Place.{Completes, IsSettled}
 use Rattle.codec.specs.declared.NextError.TheVariants as why
 use Rattle.codec.specs.NextPiece.{NextAnswer, NextPiece}
@@ -109,10 +111,19 @@ IsReady s (Chunks limits place) = (place ≡ Done) ⊎ (IsSettled place × (0 < 
 abbrev pub EachGave : {S : Type 0} → Unbuffered S → Unbuffered S → Type 0
 EachGave s t = (t.log.reads.faults ≡ s.log.reads.faults) × (t.log.reads.zero_reads ≡ s.log.reads.zero_reads)
 
--- why no payload comes: however it goes on, what comes next doesn't complete the body; or the stream gave nothing, once, where
--- nothing was left, and the body isn't complete, of which so much is due if it has a length; or the stream failed, once
+-- no beginning of these bytes is that, however they go on
+abbrev pub BeginsNone : Rest → List ℕ → Type 0
+BeginsNone r bytes = (later wire behind payload : List ℕ) → bytes ++ later ≡ wire ++ behind → ¬ (IsRest r wire payload)
+
+-- the next of these bytes is wrong so, and no beginning of them is that; in a body of a length no byte is wrong
+abbrev pub IsWrongNext : Rest → List ℕ → Malformed → Type 0
+IsWrongNext (Bytes n) bytes name = ⊥
+IsWrongNext (Chunks limits place) bytes name = MeetsWrong limits place bytes name × BeginsNone (Chunks limits place) bytes
+
+-- why no payload comes: the next byte is wrong; or the stream gave nothing, once, where nothing was left, and the body isn't
+-- complete, of which so much is due if it has a length; or the stream failed, once
 abbrev pub Fails : {S : Type 0} → Unbuffered S → BodyError → Unbuffered S → Rest → Type 0
-Fails s (Wrong name) t r = EachGave s t × ((later payload : List ℕ) → ¬ (IsRest r (t.left ++ later) payload))
+Fails s (Wrong name) t r = EachGave s t × IsWrongNext r t.left name
 Fails s (Truncated due) t r =
     (t.log.reads.faults ≡ s.log.reads.faults) × (t.log.reads.zero_reads ≡ s.log.reads.zero_reads + 1) × (t.left ≡ [])
     × ((payload : List ℕ) → ¬ (IsRest r [] payload))

@@ -96,7 +96,7 @@ module _ {S : Type 0} {s m : Unbuffered S} (steady : ReadsSteadily s m) where
   pub TakeFails-of : (handed : List ℕ) (b : InBody S) (e : BodyError) → ((why : Error) → e ≡ Io why → ¬ (IsInterrupt why))
       → Fails m e b.stream b.rest → TakeFails s handed e b
   TakeFails-of handed b (Wrong why) hard (gave, torn) =
-      (omega (arith, steady.ends, gave.1), joined b.stream (none_met gave.0), inl torn)
+      (omega (arith, steady.ends, gave.1), joined b.stream (none_met gave.0), inl (why, torn))
   TakeFails-of handed b (Truncated due) hard (none, end, left, cut, so_many) = (
     omega (arith, steady.ends, end),
     joined b.stream (none_met none),

@@ -12,6 +12,7 @@ use Rattle.buffer_redux.specs.Policy.{std_write_rules}
 use Rattle.buffer_redux.specs.StreamLog.{StreamLog}
 use Rattle.buffer_redux.specs.Unbuffer.{StreamWent, Unbuffered}
 use Rattle.buffer_redux.specs.declared.policy.StdPolicy.{StdPolicy}
+use Rattle.chunked.specs.declared.error.Malformed.{Malformed}
 use Rattle.codec.specs.Grammar.{IsOpen}
 use Rattle.codec.specs.PieceReader.{ReaderState, left_of, rest}
 use Rattle.messages.specs.declared.error.BodyError.{BodyError}
@@ -22,7 +23,7 @@ use Rattle.messages.specs.declared.head.Extent.TheVariants.{Sized, Chunked}
 use Rattle.messages.specs.declared.head.ParsedHead.{ParsedHead}
 use Rattle.messages.specs.Heads.{IsHead, heads}
 use Rattle.messages.specs.declared.head.Heads.{Heads}
-use Rattle.messages.specs.Messages.{AreMessages, InBody, InTurn, IsRest, Message, Onward, body_of}
+use Rattle.messages.specs.Messages.{AreMessages, InBody, InTurn, IsRest, IsWrongNext, Message, Onward, body_of}
 use Rattle.programs.specs.Streams.{AllSent, EndsOnce}
 use Rattle.requests.specs.declared.Place.{Place}
 use Rattle.requests.specs.declared.Place.TheVariants.{Before, Inside}
@@ -88,12 +89,12 @@ abbrev pub call_at : {S : Type 0} → Place S → List ℕ
 call_at (Before requests) = []
 call_at (Inside body) = called (waits body.said)
 
--- what comes is to be refused: no head begins what is left, or the stream ended in one; or what is left doesn't complete the
--- body, however it goes on, or the stream ended before that was complete
+-- what comes is to be refused: no head begins what is left, or the stream ended in one; or the next byte of the body is wrong,
+-- or the stream ended before that was complete
 abbrev pub IsWrong : {S : Type 0} → Unbuffered S → Place S → Type 0
 IsWrong s (Before requests) = ((e : BadHead) × heads.wrong (rest requests) e)
     ⊎ ((ends_of s < ends_of (left_of requests)) × (0 < length (rest requests)) × IsOpen heads (rest requests))
-IsWrong s (Inside body) = ((later payload : List ℕ) → ¬ (IsRest body.rest (body.stream.left ++ later) payload))
+IsWrong s (Inside body) = ((name : Malformed) × IsWrongNext body.rest body.stream.left name)
     ⊎ ((ends_of s < ends_of body.stream) × (body.stream.left ≡ [])
     × ((payload : List ℕ) → ¬ (IsRest body.rest [] payload)))
 
