@@ -93,8 +93,9 @@ impl<R: Tell> Body<R> {
 }
 
 impl<R: TellRead> Body<R> {
-    /// Hands out payload, at least a byte unless the body ended or the slice is empty. What is wrong is so at each further call.
-    /// After an `Io` or a `Truncated` the call can be made again: it asks the stream, and goes on where more comes.
+    /// Hands out payload, at least a byte unless the body ended or the slice is empty. For an empty slice nothing is done. What
+    /// is wrong is so at each further call. After an `Io` or a `Truncated` the call can be made again: it asks the stream, and
+    /// goes on where more comes.
     ///
     /// The stream is asked only where no payload is buffered and the body goes on behind all that is: for no byte behind it, and
     /// once only where it fails or gives nothing.
@@ -106,6 +107,7 @@ impl<R: TellRead> Body<R> {
         ensures fails { IfErr result (λ e. Fails self.old.stream e self.new.stream self.new.rest) }
         ensures asked { AskedWhere (GoesOn self.old.rest []) self.old.stream self.new.stream }
         ensures idle { IsReady self.old.stream self.old.rest → self.new.stream.log ≡ self.old.stream.log }
+        ensures none { length out.new ≡ 0 → (result ≡ Ok 0) × (self.new.stream ≡ self.old.stream) }
     {
         match &mut self.source {
             Source::Sized(reader, left) => read_sized(reader, left, out),
@@ -165,6 +167,7 @@ fn read_sized<R: TellRead>(
     ensures fails { IfErr result (λ e. Fails (unbuffered reader.old) e (unbuffered reader.new) (Bytes left.new)) }
     ensures asked { AskedWhere (GoesOn (Bytes left.old) []) (unbuffered reader.old) (unbuffered reader.new) }
     ensures idle { IsReady (unbuffered reader.old) (Bytes left.old) → reader.new.log ≡ reader.old.log }
+    ensures none { length out.new ≡ 0 → (result ≡ Ok 0) × (reader.new ≡ reader.old) }
 {
     let most = (*left).min(out.len() as u64) as usize;
     if most == 0 {
@@ -196,6 +199,7 @@ fn read_chunked<R: TellRead>(
         (unbuffered body.new.reader) }
     ensures idle { IsReady (unbuffered body.old.reader) (Chunks body.old.limits body.old.place)
         → body.new.reader.log ≡ body.old.reader.log }
+    ensures none { length out.new ≡ 0 → (result ≡ Ok 0) × (body.new.reader ≡ body.old.reader) }
 {
     let _ = body.get_ref();
     match body.read_payload(out) {
