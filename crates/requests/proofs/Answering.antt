@@ -131,7 +131,7 @@ module _ {W : Type 0} {tells : W → StreamLog} {trace : W → W → Type 0} whe
         → Answers remaining tells trace messages s w taken (call_at place ++ refused refuses)
         (IsLast messages taken refuses place) (stream_at place) sending w'
         → EndsOnce s.log.reads (stream_at place).log.reads → (refuses ≡ true → IsWrong s place)
-        → OnOk sending (OnlyInterrupts (faults_of s) (faults_of (stream_at place)) × IsOver messages refuses s place)
+        → OnOk sending (OnlyInterrupts (faults_of s) (faults_of (stream_at place)) × IsOver messages taken refuses s place)
         → Serves remaining tells trace s w place sending w'
     Serves-sent {messages} {s} {w} {w'} {taken} handed place refuses (Ok tt) part answers once wrong over = record {
       messages = messages;
@@ -301,12 +301,13 @@ module _ {W : Type 0} {tells : W → StreamLog} {trace : W → W → Type 0} whe
         }
           where
             over : (answer : Result (Unit {0}) Error)
-                → OnOk answer (OnlyInterrupts (faults_of m) (faults_of (stream_at place)) × IsOver b.messages b.refuses m place)
+                → OnOk answer (OnlyInterrupts (faults_of m) (faults_of (stream_at place))
+                × IsOver b.messages b.taken b.refuses m place)
                 → OnOk answer (OnlyInterrupts (faults_of s) (faults_of (stream_at place))
-                × IsOver (a.messages ++ b.messages) b.refuses s place)
+                × IsOver (a.messages ++ b.messages) b.taken b.refuses s place)
             over (Ok x) (met, is) = (
               joined a.reads (stream_at place) met,
-              IsOver-still a.reads a.messages b.messages b.refuses place a.keep is,
+              IsOver-still a.reads a.messages b.messages b.taken b.refuses place a.keep is,
             )
             over (Err e) is = tt
 

@@ -66,9 +66,9 @@ module _ {S : Type 0} {s m : Unbuffered S} (steady : ReadsSteadily s m) where
   HasEnded-still (Before requests) (more, none) = (omega (arith, steady.ends, more), none)
   HasEnded-still (Inside body) odd = odd
 
-  pub IsOver-still : (ms ns : List Message) (refuses : Bool) (place : Place S) → All (Keeps true) ms → IsOver ns refuses m place
-      → IsOver (ms ++ ns) refuses s place
-  IsOver-still ms ns refuses place keep (inl (closes, not, ends)) = inl (
+  pub IsOver-still : (ms ns : List Message) (taken : List ℕ) (refuses : Bool) (place : Place S) → All (Keeps true) ms
+      → IsOver ns taken refuses m place → IsOver (ms ++ ns) taken refuses s place
+  IsOver-still ms ns taken refuses place keep (inl (closes, none, not, ends)) = inl (
     record {
       before = ms ++ closes.before;
       last = closes.last;
@@ -76,11 +76,12 @@ module _ {S : Type 0} {s m : Unbuffered S} (steady : ReadsSteadily s m) where
       keep = All-append (Keeps true) ms closes.before keep closes.keep;
       close = closes.close;
     },
+    none,
     not,
     ends ∙ steady.ends,
   )
-  IsOver-still ms ns refuses place keep (inr (more, inl is)) = inr (All-append (Keeps true) ms ns keep more, inl is)
-  IsOver-still ms ns refuses place keep (inr (more, inr ended)) =
+  IsOver-still ms ns taken refuses place keep (inr (more, inl is)) = inr (All-append (Keeps true) ms ns keep more, inl is)
+  IsOver-still ms ns taken refuses place keep (inr (more, inr ended)) =
       inr (All-append (Keeps true) ms ns keep more, inr (HasEnded-still place ended))
 
   pub ReadStops-still : (more count : ℕ) (e : Error) (t : Unbuffered S) → ReadStops count m e t

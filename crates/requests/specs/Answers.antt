@@ -115,11 +115,11 @@ pub record Closes (messages : List Message) : Type 0 where
   pub keep : All (Keeps true) before
   pub close : Keeps false last
 
--- why no more is answered: behind the last message none may follow, and no end was met, as who asks behind it may meet one; or
--- what comes was refused, or the stream ended
-abbrev pub IsOver : {S : Type 0} → List Message → Bool → Unbuffered S → Place S → Type 0
-IsOver messages refuses s place =
-    (Closes messages × (refuses ≡ false) × (ends_of (stream_at place) ≡ ends_of s))
+-- why no more is answered: behind the last message none may follow, nothing was taken behind it, and no end was met, as who asks
+-- there may meet one; or what comes was refused, or the stream ended
+abbrev pub IsOver : {S : Type 0} → List Message → List ℕ → Bool → Unbuffered S → Place S → Type 0
+IsOver messages taken refuses s place =
+    (Closes messages × (taken ≡ []) × (refuses ≡ false) × (ends_of (stream_at place) ≡ ends_of s))
     ⊎ (All (Keeps true) messages × ((refuses ≡ true) ⊎ HasEnded s place))
 
 -- these bytes behind whole messages are none, or a head, and of the body that it says some with this payload
@@ -220,7 +220,7 @@ module _ {R W : Type 0} (remaining : R → Option (List ℕ)) (tells : W → Str
     pub once : EndsOnce s.log.reads (stream_at place).log.reads
     pub wrong : refuses ≡ true → IsWrong s place
     pub unsent : IfErr sending (λ e. answer ≡ Err e)
-    pub over : OnOk answer (OnlyInterrupts (faults_of s) (faults_of (stream_at place)) × IsOver messages refuses s place)
+    pub over : OnOk answer (OnlyInterrupts (faults_of s) (faults_of (stream_at place)) × IsOver messages taken refuses s place)
     pub unread : OnOk sending (IfErr answer (λ e. ReadStops (length messages + length handed) s e (stream_at place)))
 
   -- one turn: a message went, or a read was interrupted; or the run ended

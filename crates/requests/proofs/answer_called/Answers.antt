@@ -39,6 +39,7 @@ returns-else-said g c = λ s w begun call.
           close = (b.said, begun.is, sym (ap (λ x. x.keeps) c.said-said.ensures) ∙ c.if-said.false);
         },
         refl,
+        refl,
         reads.ends,
       ),
     )
