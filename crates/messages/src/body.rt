@@ -116,7 +116,7 @@ impl<R: TellRead> Body<R> {
     }
 
     /// Goes on to the next head: takes what is left of the body, and drops its payload. The stream is asked for no byte behind
-    /// it, and no memory is taken. An `Err` hands the reader back, in the body still.
+    /// it. An `Err` hands the reader back, in the body still.
     pub fn finish(self) -> Result<Requests<R>, (Self, BodyError)>
         ensures ends { MatchResult result (λ next. Ends R.remaining self.stream self.rest (left_of next))
             (λ e. (handed : List ℕ) × InsideGoes R.remaining self handed e.0
