@@ -16,7 +16,7 @@ use Rattle.messages.specs.declared.head.Extent.TheVariants.{Sized, Chunked}
 use Rattle.messages.specs.declared.head.Heads as head
 use Rattle.messages.specs.Heads.{IsHead, IsHeadPiece, extent_of, heads}
 use Rattle.messages.specs.HeadsLaws.{heads_lawful}
-use Rattle.messages.specs.Messages.{AreMessages, Backward, Begun, InBody, InTurn, InsideGoes, IsMessage, IsRest, Message, MessagesWent, Onward, Rest, Takes, body_of}
+use Rattle.messages.specs.Messages.{AreMessages, Backward, Begun, EachGave, InBody, InTurn, InsideGoes, IsMessage, IsRest, Message, MessagesWent, Onward, Rest, Takes, body_of}
 
 -- a body ends in one place
 one_body : (e : Extent) (a b p q xs ys : List ℕ) → IsRest (body_of e) a p → IsRest (body_of e) b q → a ++ xs ≡ b ++ ys
@@ -69,6 +69,10 @@ InTurn-joins Is [] ns a b is are = subst (λ l. InTurn Is ns (l ++ b)) (sym is) 
 InTurn-joins Is (m ∷ ms) ns a b (f, more, one, is, equal) are =
     (f, more ++ b, one, InTurn-joins Is ms ns more b is are, ap (λ l. l ++ b) equal ∙ append_assoc f more b)
 
+-- reads that each gave some, and then more such
+pub EachGave-joins : {S : Type 0} (s m t : Unbuffered S) → EachGave s m → EachGave m t → EachGave s t
+EachGave-joins s m t before more = (more.0 ∙ before.0, more.1 ∙ before.1)
+
 -- what goes on behind what was taken
 pub Onward-joins : (r q u : Rest) (a b h k : List ℕ) → Onward r a h q → Onward q b k u → Onward r (a ++ b) (h ++ k) u
 Onward-joins r q u a b h k first second later payload is =
@@ -93,6 +97,14 @@ module _ {S : Type 0} (remaining : S → Option (List ℕ)) where
   Begun-went s b begun =
       rw (begun.stream, ← (lent s begun.behind b.head begun.next).0)
       (PiecesWent-stream remaining heads.most s begun.behind begun.next.bytes begun.next.went)
+
+  -- and no read for it failed, or gave nothing
+  pub Begun-gave : (s : ReaderState S head.Heads) (b : InBody S) → Begun remaining s b → EachGave (left_of s) b.stream
+  Begun-gave s b begun = (
+    ap (λ u. u.log.reads.faults) begun.stream ∙ begun.next.answers.0,
+    ap (λ u. u.log.reads.zero_reads) begun.stream
+        ∙ elim begun.next.answers.1 [ inl is ↦ is.2 | inr last ↦ absurd last.0 ],
+  )
 
   -- calls in a body go on
   pub Takes-none : (s : Unbuffered S) (r : Rest) → Takes remaining s r [] s r

@@ -1,9 +1,9 @@
 //! Laws, each as the contract of a function.
-ghost use Rattle.std.specs.Prelude.{◌≡◌, ℕ, ◌<◌, List, ◌∷◌, [], ◌++◌, length, IfErr, IfOk, Some};
+ghost use Rattle.std.specs.Prelude.{◌≡◌, ℕ, ◌<◌, List, ◌∷◌, [], ◌++◌, length, false, IfErr, IfOk, Some};
 ghost use Rattle.buffer_redux.specs.Unbuffer.{Unbuffered, unbuffer_remaining};
 ghost use Rattle.codec.specs.PieceReader.{ReaderState, left_of};
 ghost use Rattle.messages.specs.declared.head.Heads as head;
-ghost use Rattle.messages.specs.Messages.{AreMessages, Begun, Ends, InBody, Message, MessagesWent, Takes};
+ghost use Rattle.messages.specs.Messages.{AreMessages, Begun, EachGave, Ends, InBody, Message, MessagesWent, Takes};
 ghost use Rattle.messages.specs.Passing.{StopsIn};
 
 use crate::body::Body;
@@ -45,13 +45,15 @@ pub enum Stopped<R: Tell> {
 }
 
 /// Passes so many messages, however the stream is cut: each begins where the one before it ended, and what is left begins where
-/// the last did. An `Err` stands behind fewer, before a head, of which nothing is gone, or in a body.
+/// the last did. An `Err` stands behind fewer, before a head, of which nothing is gone, or in a body, and says why. Until then
+/// no read failed, or gave nothing.
 pub fn pass<R: TellRead>(requests: Requests<R>, count: usize) -> Result<Requests<R>, Stopped<R>>
     ensures passed { IfOk result (λ next. (messages : List Message) × (length messages ≡ count)
-        × MessagesWent R.remaining (left_of requests) messages (left_of next)) }
+        × MessagesWent R.remaining (left_of requests) messages (left_of next)
+        × EachGave (left_of requests) (left_of next)) }
     ensures stopped { IfErr result (λ stopped. (messages : List Message) × (between : ReaderState R head.Heads)
         × (length messages < count) × MessagesWent R.remaining (left_of requests) messages (left_of between)
-        × StopsIn R.remaining between stopped) }
+        × EachGave (left_of requests) (left_of between) × (between.ended ≡ false) × StopsIn R.remaining between stopped) }
 {
     let mut next = requests;
     for _ in 0..count {
@@ -68,8 +70,10 @@ pub fn pass<R: TellRead>(requests: Requests<R>, count: usize) -> Result<Requests
 // Passes one.
 fn pass_one<R: TellRead>(requests: Requests<R>) -> Result<Requests<R>, Stopped<R>>
     ensures passed { IfOk result (λ next. (head : List ℕ) × (payload : List ℕ)
-        × MessagesWent R.remaining (left_of requests) ((head, payload) ∷ []) (left_of next)) }
+        × MessagesWent R.remaining (left_of requests) ((head, payload) ∷ []) (left_of next)
+        × EachGave (left_of requests) (left_of next)) }
     ensures stopped { IfErr result (StopsIn R.remaining requests) }
+    ensures told { requests.ended ≡ false }
 {
     match requests.next() {
         Ok(body) => match body.finish() {

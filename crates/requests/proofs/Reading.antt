@@ -19,6 +19,7 @@ use Rattle.messages.specs.declared.head.BadHead.{BadHead}
 use Rattle.messages.specs.declared.head.Heads.{Heads}
 use Rattle.messages.specs.Heads.{IsHead, heads}
 use Rattle.messages.specs.Messages.{Begun, Bytes, Chunks, EachGave, Ends, Fails, FinishFails, InBody, InsideGoes, IsRest, Message, Onward, Rest, Unended, body_of}
+use Rattle.messages.specs.MessagesLaws.{Begun-gave}
 use Rattle.programs.specs.Streams.{EndsOnce}
 use Rattle.requests.specs.declared.Place.{Place}
 use Rattle.requests.specs.declared.Place.TheVariants.{Before, Inside}
@@ -138,10 +139,7 @@ nothing_went {R} {remaining} {s} {t} next none =
 module _ {R : Type 0} {remaining : R → Option (List ℕ)} {s : ReaderState R Heads} {b : InBody R}
     (begun : Begun remaining s b) where
   pub begun_steady : ReadsSteadily (left_of s) b.stream
-  begun_steady = steady_none (
-    ap faults_of begun.stream ∙ begun.next.answers.0,
-    ap ends_of begun.stream ∙ elim begun.next.answers.1 [ inl is ↦ is.2 | inr last ↦ absurd last.0 ],
-  )
+  begun_steady = steady_none (Begun-gave remaining s b begun)
 
   pub begun_once : (t : Unbuffered R) → EndsOnce b.stream.log.reads t.log.reads → EndsOnce (left_of s).log.reads t.log.reads
   begun_once t once = omega (arith, once, begun_steady.ends)

@@ -1,7 +1,7 @@
 use Rattle.std.proofs.Common.{[], ◌∷◌, ◌++◌, arith, length-append, refl}
 use Rattle.buffer_redux.specs.UnbufferLaws.{StreamWent-none}
 use Rattle.codec.specs.PieceReader.{left_of}
-use Rattle.messages.specs.MessagesLaws.{MessagesWent-joins}
+use Rattle.messages.specs.MessagesLaws.{EachGave-joins, MessagesWent-joins}
 use Rattle.messages.proofs.laws.pass.Goals as goal
 
 pub loop-init : goal.loop-init
@@ -9,6 +9,7 @@ loop-init g c = record {
   messages = [];
   many = refl;
   went = record { bytes = []; are = refl; went = StreamWent-none g.R.TellRead.remaining (left_of c.args.requests) };
+  gave = (refl, refl);
 }
 
 pub loop-preserved : goal.loop-preserved
@@ -20,9 +21,17 @@ loop-preserved g c =
       many = omega (arith, before.many, length-append before.messages ((one.0, one.1) ∷ []));
       went = MessagesWent-joins g.R.TellRead.remaining (left_of c.args.requests) (left_of c.loop.next) (left_of c.in-Ok.behind)
           before.messages ((one.0, one.1) ∷ []) before.went one.2;
+      gave = EachGave-joins (left_of c.args.requests) (left_of c.loop.next) (left_of c.in-Ok.behind) before.gave one.3;
     }
 
 pub returns-in-Err-clause-stopped : goal.returns-in-Err-clause-stopped
 returns-in-Err-clause-stopped g c =
-    let before = c.loop.invariant in
-    (before.messages, c.loop.next, omega (arith, before.many, c.loop-test.true), before.went, c.in-Err.ensures.stopped)
+    let before = c.loop.invariant in (
+      before.messages,
+      c.loop.next,
+      omega (arith, before.many, c.loop-test.true),
+      before.went,
+      before.gave,
+      c.in-Err.ensures.told,
+      c.in-Err.ensures.stopped,
+    )

@@ -1,6 +1,6 @@
 use Rattle.std.proofs.Common.{[], ◌++◌}
 use Rattle.codec.specs.PieceReader.{left_of}
-use Rattle.messages.specs.MessagesLaws.{MessagesWent-one, Takes-none}
+use Rattle.messages.specs.MessagesLaws.{Begun-gave, EachGave-joins, MessagesWent-one, Takes-none}
 use Rattle.messages.proofs.laws.pass_one.Goals as goal
 
 pub returns-in-Ok-finish-clause-passed : goal.returns-in-Ok-finish-clause-passed
@@ -11,8 +11,11 @@ returns-in-Ok-finish-clause-passed g c =
       [] ++ ends.payload,
       MessagesWent-one g.R.TellRead.remaining c.args.requests body body [] ends.wire ends.payload (left_of c.in-Ok-finish.next)
           c.in-Ok.ensures.next (Takes-none g.R.TellRead.remaining body.stream body.rest) ends.went ends.is,
+      EachGave-joins (left_of c.args.requests) body.stream (left_of c.in-Ok-finish.next)
+          (Begun-gave g.R.TellRead.remaining c.args.requests body c.in-Ok.ensures.next) ends.gave,
     )
 
 pub returns-in-Err-finish-clause-stopped : goal.returns-in-Err-finish-clause-stopped
 returns-in-Err-finish-clause-stopped g c =
-    (c.in-Ok.body, c.in-Err-finish.ensures.ends.0, c.in-Ok.ensures.next, c.in-Err-finish.ensures.ends.1)
+    let ends = c.in-Err-finish.ensures.ends in
+    (c.in-Ok.body, ends.0, c.in-Ok.ensures.next, ends.1, ends.2)
