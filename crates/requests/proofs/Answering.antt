@@ -2,14 +2,14 @@
 use Rattle.std.proofs.Common.{◌≡◌, ℕ, ◌+◌, Bool, true, false, List, [], ◌∷◌, ◌++◌, length, Option, Result, Ok, Err, OnOk, IfErr, sym, ap, subst, inl, inr, ◌∙◌, refl, arith, append_assoc, append-nil, length-append}
 use Rattle.std.proofs.lemmas.List.Elements.{All-nil}
 use Rattle.std.specs.declared.io.Error.{Error}
-use Rattle.redux_buffer.specs.Faults.{OnlyInterrupts}
+use Rattle.redux_buffer.specs.Faults.{MetInterrupts, MetInterrupts-joins, MetInterrupts-none, OnlyInterrupts, SendErrorCaused-after}
 use Rattle.buffer_redux.specs.BufWriter.{BegunAlong, WasFlushed, WritesAlong}
 use Rattle.buffer_redux.specs.Buffered.{Buffered}
 use Rattle.buffer_redux.specs.Policy.{std_write_rules}
 use Rattle.buffer_redux.specs.StreamLog.{StreamLog}
 use Rattle.buffer_redux.specs.Unbuffer.{StreamWent, Unbuffered}
 use Rattle.buffer_redux.specs.UnbufferLaws.{StreamWent-joins}
-use Rattle.buffer_redux.specs.WritesAlongLaws.{BegunAlong-more, BegunAlong-of, FrontAlong-after, WasFlushed-along, WriterStopped-after, WriterStopped-send, WritesAlong-none, WritesAlong-then}
+use Rattle.buffer_redux.specs.WritesAlongLaws.{BegunAlong-more, BegunAlong-of, FrontAlong-after, WasFlushed-along, WritesAlong-none, WritesAlong-then}
 use Rattle.buffer_redux.specs.declared.policy.StdPolicy.{StdPolicy}
 use Rattle.codec.specs.PieceReader.{ReaderState, left_of}
 use Rattle.messages.specs.declared.error.BodyError.{BodyError}
@@ -52,7 +52,12 @@ module _ {W : Type 0} {tells : W → StreamLog} {trace : W → W → Type 0} whe
 
   -- nothing was written
   pub Sends-none : ((u : W) → trace u u) → (w : Buffered W StdPolicy) → AllSent w → Sends tells trace w [] (Ok tt) w
-  Sends-none none w all = record { front = WritesAlong-none tells trace std_write_rules none w; sent = all; why = tt }
+  Sends-none none w all = record {
+    front = WritesAlong-none tells trace std_write_rules none w;
+    sent = all;
+    met = MetInterrupts-none w.log.writes;
+    why = tt;
+  }
 
   -- a beginning of some text is one of more
   pub Sends-more : {w w' : Buffered W StdPolicy} {text : List ℕ} {e : Error} (more : List ℕ)
@@ -60,6 +65,7 @@ module _ {W : Type 0} {tells : W → StreamLog} {trace : W → W → Type 0} whe
   Sends-more {w} {w'} {text} {e} more p = record {
     front = BegunAlong-more tells trace std_write_rules w w' text more p.front;
     sent = tt;
+    met = tt;
     why = longer p.why;
   }
     where
@@ -74,34 +80,41 @@ module _ {W : Type 0} {tells : W → StreamLog} {trace : W → W → Type 0} whe
     Sends-after w v w' a b sending p q = record {
       front = FrontAlong-after tells trace std_write_rules joins w v w' a b sending p.front q.front;
       sent = q.sent;
+      met = both sending q.met;
       why = later sending q.why;
     }
       where
+        both : (sending : Result (Unit {0}) Error) → OnOk sending (MetInterrupts v.log.writes w'.log.writes)
+            → OnOk sending (MetInterrupts w.log.writes w'.log.writes)
+        both (Ok x) met = MetInterrupts-joins w.log.writes v.log.writes w'.log.writes p.met met
+        both (Err e) met = tt
+
         later : (sending : Result (Unit {0}) Error) → IfErr sending (λ e. SendStops b v e w')
             → IfErr sending (λ e. SendStops (a ++ b) w e w')
         later (Ok x) why = tt
         later (Err e) (inl stopped) =
-            inl (WriterStopped-after w.log.writes v.log.writes w'.log.writes e p.front.grows stopped)
+            inl (SendErrorCaused-after w.log.writes v.log.writes w'.log.writes e p.met stopped)
         later (Err e) (inr (room, few, refused)) = inr (room, omega (arith, few, length-append a b), refused)
 
     -- a flush ended it
     pub Sends-flushed : (w v w' : Buffered W StdPolicy) (a : List ℕ) (sending : Result (Unit {0}) Error)
-        → WritesAlong tells trace std_write_rules w a v → WasFlushed tells trace v sending w'
-        → Sends tells trace w a sending w'
-    Sends-flushed w v w' a (Ok x) p f = record {
+        → WritesAlong tells trace std_write_rules w a v → MetInterrupts w.log.writes v.log.writes
+        → WasFlushed tells trace v sending w' → Sends tells trace w a sending w'
+    Sends-flushed w v w' a (Ok x) p met f = record {
       front = WritesAlong-then tells trace std_write_rules joins w v w' a p
           (WasFlushed-along tells trace std_write_rules v (Ok x) w' f);
       sent = record { empty = f.ok.empty; flushed = f.ok.flushed };
+      met = MetInterrupts-joins w.log.writes v.log.writes w'.log.writes met f.ok.met;
       why = tt;
     }
-    Sends-flushed w v w' a (Err e) p f = record {
+    Sends-flushed w v w' a (Err e) p met f = record {
       front = subst (λ l. BegunAlong tells trace std_write_rules w l w') (append-nil a)
           (BegunAlong-of tells trace std_write_rules w w' a []
           (WritesAlong-then tells trace std_write_rules joins w v w' a p
           (WasFlushed-along tells trace std_write_rules v (Err e) w' f)));
       sent = tt;
-      why = inl (WriterStopped-after w.log.writes v.log.writes w'.log.writes e p.grows
-          (WriterStopped-send v.log.writes w'.log.writes e f.caused));
+      met = tt;
+      why = inl (SendErrorCaused-after w.log.writes v.log.writes w'.log.writes e met f.caused);
     }
 
   module _ {R : Type 0} {remaining : R → Option (List ℕ)} where

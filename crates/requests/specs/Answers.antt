@@ -4,9 +4,9 @@ use Rattle.std.specs.Fmt.{decimal}
 use Rattle.std.specs.IoError.{error_kind}
 use Rattle.std.specs.declared.io.Error.{Error}
 use Rattle.std.specs.declared.io.ErrorKind.TheVariants.{Interrupted, Other}
-use Rattle.redux_buffer.specs.Faults.{FaultAfterInterrupts, OnlyInterrupts}
+use Rattle.redux_buffer.specs.Faults.{FaultAfterInterrupts, MetInterrupts, OnlyInterrupts, SendErrorCaused}
 use Rattle.redux_buffer.specs.GrowError.{GrowthFailed}
-use Rattle.buffer_redux.specs.BufWriter.{FrontAlong, WriterStopped}
+use Rattle.buffer_redux.specs.BufWriter.{FrontAlong}
 use Rattle.buffer_redux.specs.Buffered.{Buffered}
 use Rattle.buffer_redux.specs.Policy.{std_write_rules}
 use Rattle.buffer_redux.specs.StreamLog.{StreamLog}
@@ -144,16 +144,17 @@ TakeFails s handed (Io e) b = EndsOnce s.log.reads b.stream.log.reads × ReadSto
 TakeFails s handed wrong b =
     EndsOnce s.log.reads b.stream.log.reads × OnlyInterrupts (faults_of s) (faults_of b.stream) × IsWrong s (Inside b)
 
--- why text wasn't sent: the writer failed, or room for it was refused
+-- why text wasn't sent: the writer failed, and before that met nothing but interruptions; or room for it was refused
 abbrev pub SendStops : {W : Type 0} → List ℕ → Buffered W StdPolicy → Error → Buffered W StdPolicy → Type 0
-SendStops text w e w' = WriterStopped w.log.writes w'.log.writes e
+SendStops text w e w' = SendErrorCaused w.log.writes w'.log.writes e
     ⊎ ((more : ℕ) × (more ≤ length text) × GrowthFailed more w'.block e)
 
--- at Ok this text was sent and flushed, at an Err a beginning of it was accepted
+-- at Ok this text was sent and flushed, and the writer met nothing but interruptions; at an Err a beginning of it was accepted
 pub record Sends {W : Type 0} (tells : W → StreamLog) (trace : W → W → Type 0) (w : Buffered W StdPolicy) (text : List ℕ)
     (sending : Result (Unit {0}) Error) (w' : Buffered W StdPolicy) : Type 0 where
   pub front : FrontAlong tells trace std_write_rules w text sending w'
   pub sent : OnOk sending (AllSent w')
+  pub met : OnOk sending (MetInterrupts w.log.writes w'.log.writes)
   pub why : IfErr sending (λ e. SendStops text w e w')
 
 -- this is the 200 of the last of these messages
