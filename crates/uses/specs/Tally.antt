@@ -1,19 +1,45 @@
 -- Lines that are counted, and a count beside a line.
-use Rattle.std.specs.Prelude.{◌≡◌, ℕ, ◌⊎◌, List, [], ◌∷◌, ◌++◌, length, Option}
+use Rattle.std.specs.Prelude.{◌≡◌, ℕ, ◌+◌, ◌^◌, ◌<◌, ◌≤◌, ◌⊎◌, List, [], ◌∷◌, ◌++◌, length, Err, Option}
 use Rattle.std.specs.Fmt.{decimal}
+use Rattle.std.specs.IoError.{error_kind}
 use Rattle.std.specs.List.{All, concat}
+use Rattle.std.specs.declared.io.Error.{Error}
+use Rattle.std.specs.declared.io.ErrorKind.TheVariants.{Other}
 use Rattle.buffer_redux.specs.Buffered.{Buffered}
-use Rattle.buffer_redux.specs.BufReader.{ReadsToEnd}
+use Rattle.buffer_redux.specs.BufReader.{ReadsAlong, ReadsToEnd}
 use Rattle.buffer_redux.specs.Policy.{ReadRules}
-use Rattle.buffer_redux.specs.ReadUntil.{EndsIn, Lacks}
+use Rattle.buffer_redux.specs.ReadUntil.{EndsIn, Lacks, ReadsUntil}
+use Rattle.uses.specs.LineCount.{line_feeds}
 
--- all that was left is so many pieces, each of which ends in a line feed or has none
+-- a piece ends in its one line feed, or has none, and then has some other byte
+abbrev pub IsPiece : List ℕ → Type 0
+IsPiece piece = EndsIn 10 piece ⊎ ((0 < length piece) × Lacks 10 piece)
+
+-- just these pieces were handed out, and no more of them lack a line feed than the reader ran dry
+pub record HandsPieces {S P : Type 0} (remaining : S → Option (List ℕ)) (rules : ReadRules P) (pieces : List (List ℕ))
+    (s t : Buffered S P) : Type 0 where
+  pub are : All IsPiece pieces
+  pub few : length pieces + s.log.reads.zero_reads ≤ line_feeds (concat pieces) + t.log.reads.zero_reads
+  pub along : ReadsAlong remaining rules s (concat pieces) t
+
+-- so many pieces were handed out, and then the end was met
 pub record ReadsPieces {S P : Type 0} (remaining : S → Option (List ℕ)) (rules : ReadRules P) (n : ℕ)
     (s t : Buffered S P) : Type 0 where
   pub pieces : List (List ℕ)
-  pub are : All (λ piece. EndsIn 10 piece ⊎ Lacks 10 piece) pieces
+  pub last : Buffered S P
+  pub hands : HandsPieces remaining rules pieces s last
   pub count : n ≡ length pieces
-  pub end : ReadsToEnd remaining rules s (concat pieces) t
+  pub end : ReadsToEnd remaining rules last [] t
+
+-- pieces were handed out, and then a `read_until` of the next, which got so far, failed with this error; or they are more
+-- than a `u64` counts
+pub record StopsInPieces {S P : Type 0} (remaining : S → Option (List ℕ)) (rules : ReadRules P) (e : Error)
+    (s t : Buffered S P) : Type 0 where
+  pub pieces : List (List ℕ)
+  pub last : Buffered S P
+  pub hands : HandsPieces remaining rules pieces s last
+  pub why : ((got : List ℕ) × ReadsUntil remaining rules 10 last [] (Err e) got t)
+      ⊎ ((error_kind e ≡ Other) × (2 ^ 64 ≤ length pieces + 1) × (t ≡ last))
 
 -- a count, a space, and a line with its end
 abbrev pub tally_text : ℕ → List ℕ → List ℕ

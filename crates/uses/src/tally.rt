@@ -1,8 +1,8 @@
 //! Counts lines by `read_until`, and writes a count beside a line.
-ghost use Rattle.std.specs.Prelude.{◌<◌, IfOk};
+ghost use Rattle.std.specs.Prelude.{◌<◌, IfOk, IfErr};
 ghost use Rattle.buffer_redux.specs.BufWriter.{FrontAlong};
 ghost use Rattle.buffer_redux.specs.ReaderLaws.{WantsBytes};
-ghost use Rattle.uses.specs.Tally.{ReadsPieces, tally_text};
+ghost use Rattle.uses.specs.Tally.{ReadsPieces, StopsInPieces, tally_text};
 
 use buffer_redux::policy::{ReaderPolicy, WriterPolicy};
 use buffer_redux::tell::{TellRead, TellWrite};
@@ -12,13 +12,16 @@ use std::io;
 use std::io::{ErrorKind, Write};
 
 /// How many lines `reader` still has, of which the last may lack its line feed. It reads to the end.
+///
+/// After an `Err` whole lines are gone, and what the `read_until` that failed had of the next.
 pub fn count_pieces<R: TellRead, P: ReaderPolicy>(
     alloc: Global,
     reader: &mut BufReader<R, P>,
 ) -> io::Result<u64>
     requires capacity { 0 < reader.old.block.capacity }
     requires wants { WantsBytes (P.rules.claims reader.old.policy) }
-    ensures { IfOk result (λ n. ReadsPieces R.remaining P.rules n reader.old reader.new) }
+    ensures pieces { IfOk result (λ n. ReadsPieces R.remaining P.rules n reader.old reader.new) }
+    ensures stopped { IfErr result (λ e. StopsInPieces R.remaining P.rules e reader.old reader.new) }
 {
     let mut line = Vec::new(alloc);
     for count in 0..u64::MAX {
