@@ -1,11 +1,12 @@
 -- What requests ask for, and what is done and replied.
-use Rattle.std.specs.Prelude.{◌≡◌, ℕ, ℤ, pos, ◌+ℤ◌, ◌+◌, ◌≤◌, ◌⊎◌, List, [], ◌∷◌, length, map, codes, decimal, Bool, true, false, None, Some, MatchOption}
+use Rattle.std.specs.Prelude.{◌≡◌, ℕ, ℤ, pos, ◌+ℤ◌, ◌+◌, ◌-◌, ◌^◌, ◌≤◌, ◌⊎◌, List, [], ◌∷◌, length, map, codes, decimal, Bool, true, false, None, Some, IsSomeAnd, MatchOption}
 use Rattle.std.specs.Fmt.{signed_decimal}
 use Rattle.std.specs.Char.{to_ascii_lowercase}
 use Rattle.resp.specs.declared.command.Command.{Command}
 use Rattle.resp.specs.declared.command.Command.TheVariants as command
 use Rattle.resp.specs.declared.command.Name.{Name}
 use Rattle.resp.specs.declared.command.Name.TheVariants as name
+use Rattle.resp.specs.Numbers.{IsInteger}
 use Rattle.resp.specs.Replies.{bulk_reply, number_reply}
 use Rattle.resp.specs.Stored.{HasRoom, IsFull, Puts, Same, Values, counted}
 use Rattle.resp.specs.Waiting.{bytes_of}
@@ -67,12 +68,14 @@ abbrev pub Raises : Values → List ℕ → ℤ → Values → Type 0
 Raises old key n new = (m : ℤ) × MatchOption (old.value key) (m ≡ pos 0) (λ text. text ≡ signed_decimal m)
     × (n ≡ m +ℤ pos 1) × HasRoom key old × Puts key (Some (signed_decimal n)) old new
 
--- the number at a key is not raised, and why: no number can be raised there, or there is no room for one. That memory is refused,
--- and which text is no number, is said of no state
+-- the number at a key is not raised, and why: there is no number, or the greatest that there is, or no room for one. That memory
+-- is refused is said of no state
 abbrev pub RaisesNone : Values → List ℕ → List ℕ → Values → Type 0
 RaisesNone old key why new = Same old new
-    × ((why ≡ codes "-ERR value is not an integer or out of range\r\n")
-    ⊎ ((why ≡ codes "-ERR increment or decrement would overflow\r\n")
+    × (((why ≡ codes "-ERR value is not an integer or out of range\r\n")
+    × IsSomeAnd (old.value key) (λ text. ¬ (IsInteger text)))
+    ⊎ (((why ≡ codes "-ERR increment or decrement would overflow\r\n")
+    × (old.value key ≡ Some (signed_decimal (pos (2 ^ 63 - 1)))))
     ⊎ (((why ≡ codes "-ERR too many keys\r\n") × IsFull key old) ⊎ (why ≡ codes "-ERR out of memory\r\n"))))
 
 -- keys are taken out one after another, and so many of them were there

@@ -1,4 +1,5 @@
 pub mod Commands
+pub mod Numbers
 pub mod Replies
 pub mod Sessions
 pub mod Stored
