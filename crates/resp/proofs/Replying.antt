@@ -4,6 +4,8 @@ use Rattle.std.specs.Prelude.{codes}
 use Rattle.std.specs.declared.io.Error.{Error}
 use Rattle.buffer_redux.specs.Buffered.{Buffered}
 use Rattle.buffer_redux.specs.StreamLog.{StreamLog}
+use Rattle.buffer_redux.specs.WriteParts.{WritesParts}
+use Rattle.buffer_redux.specs.WritePartsLaws.{WritesParts-met, WritesParts-unflushed}
 use Rattle.codec.specs.Answering.{Answered}
 use Rattle.resp.specs.Commands.{Acts, Means, goes_on}
 use Rattle.resp.specs.Replies.{Replied}
@@ -17,9 +19,18 @@ use Rattle.resp.proofs.Keys.{same_of}
 pub answered : {A T P : Type 0} (tells : T → StreamLog) (trace : T → T → Type 0) (Says : List ℕ → Bool → A → Type 0)
     (reply : List ℕ) (more : Bool) (t : A) → Says reply more t → (w v : Buffered T P) (r : Result Bool Error)
     → Replied tells trace w reply r v → IfOk r (λ b. b ≡ more) → Answered tells trace Says w r t v
-answered tells trace Says reply more t says w v (Ok b) along is =
-    (reply, subst (λ b. Says reply b t) (sym is) says, along)
-answered tells trace Says reply more t says w v (Err e) (nothing, refused) is = (reply, more, says, nothing, refused)
+answered tells trace Says reply more t says w v (Ok b) (along, sends) is =
+    (reply, subst (λ b. Says reply b t) (sym is) says, along, sends.0, sends.1)
+answered tells trace Says reply more t says w v (Err e) ((nothing, refused), sends) is =
+    (reply, more, says, nothing, refused, sends.0)
+
+-- a reply that goes in by one write of parts
+pub replied : {T P : Type 0} (tells : T → StreamLog) (trace : T → T → Type 0) (w v : Buffered T P) (reply : List ℕ)
+    (answer : Result (Unit {0}) Error) → WritesParts tells trace w reply answer v → Replied tells trace w reply answer v
+replied tells trace w v reply (Ok x) p =
+    (p.along, ((WritesParts-unflushed tells trace w v reply (Ok x) p).0, WritesParts-met tells trace w v reply x p))
+replied tells trace w v reply (Err e) p =
+    ((p.along, p.caused), ((WritesParts-unflushed tells trace w v reply (Err e) p).0, tt))
 
 -- to a request that was lost
 pub lost_whole : (m : Waiting) (old : Values) (t : Waiting) → m.lost ≡ true → t ≡ nothing

@@ -1,4 +1,5 @@
 use Rattle.std.proofs.Common.{[], false, refl}
+use Rattle.buffer_redux.specs.Faults.{MetInterrupts-none}
 use Rattle.buffer_redux.specs.WritesAlongLaws.{WritesAlong-none}
 use Rattle.resp.specs.Sessions.{Replies, state_of}
 use Rattle.resp.specs.Stored.{held}
@@ -13,6 +14,8 @@ returns-in-More g c =
       [],
       (More, c.take.new.self, c.in-More.ensures, (refl, refl, refl, same_of values values refl)),
       WritesAlong-none _ _ _ g.met.W.TellWrite.trace_none _,
+      refl,
+      MetInterrupts-none _,
     )
 
 pub returns-in-Bad : goal.returns-in-Bad
