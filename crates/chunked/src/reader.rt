@@ -193,9 +193,9 @@ impl<R: TellRead, P: ReaderPolicy> ChunkedReader<R, P> {
         Ok(self.reader.fill_buf()?.is_empty())
     }
 
-    /// Hands out payload that is buffered, as much as the slice takes, by one `consume`, and asks the stream for nothing. Less comes only where no
-    /// more payload is buffered: the body ended, all that is buffered was taken, or what comes next is wrong, which the next
-    /// [`read_payload`](ChunkedReader::read_payload) tells.
+    /// Hands out payload that is buffered, as much as the slice takes, by one `consume`, and asks the stream for nothing. Less
+    /// comes only where no more payload is buffered: the body ended, all that is buffered was taken, or what comes next is wrong,
+    /// which the next [`read_payload`](ChunkedReader::read_payload) tells.
     pub fn read_buffered(&mut self, out: &mut [u8]) -> usize
         ensures went { BodyWent R.remaining P.rules self.old (take result out.new) self.new }
         ensures took { (count : ℕ) × ReaderConsumes P.rules count self.old.reader self.new.reader }

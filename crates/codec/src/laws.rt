@@ -100,7 +100,8 @@ pub fn handed_over<R: TellRead, D: Decoder, E: Decoder>(
 }
 
 /// A writer that is taken apart and made again with another encoder has not sent what the first hadn't. So the stream takes the
-/// pieces of both, one after another, behind what was not sent at first. A refusal hands back what the writer was taken apart into.
+/// pieces of both, one after another, behind what was not sent at first. A refusal hands back what the writer was taken apart
+/// into.
 pub fn written_over<W: TellWrite, E: Encoder, F: Encoder>(
     alloc: Global,
     writer: PieceWriter<W, E>,

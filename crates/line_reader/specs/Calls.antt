@@ -12,8 +12,8 @@ use Rattle.line_reader.specs.LineReader.{LineState}
 use Rattle.line_reader.specs.NextLine.{NextAnswer, NextBuffered, NextLine, NextTrimmed}
 use Rattle.line_reader.specs.SkipLine.{SkipsLine}
 
--- what calls come to: `next` or `next_buffered` handed a line out; `next_trimmed` did, and showed this of it; a line was skipped; or the end of
--- the stream was told
+-- what calls come to: `next` or `next_buffered` handed a line out; `next_trimmed` did, and showed this of it; a line was
+-- skipped; or the end of the stream was told
 pub data Event : Type 0 where
   Handed : List ℕ → Event
   Trimmed : List ℕ → Event
