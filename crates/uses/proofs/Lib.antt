@@ -3,3 +3,5 @@ pub mod Gaining
 pub mod Enduring
 pub mod Failing
 pub mod Reporting
+pub mod Pieces
+pub mod Filtering

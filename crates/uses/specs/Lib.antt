@@ -1,3 +1,4 @@
+pub mod Filter
 pub mod IntLines
 pub mod LineCount
 pub mod Progress

@@ -1,17 +1,24 @@
 //! Copies lines to a writer that tells where one can't be sent.
+ghost use Rattle.std.specs.Prelude.{◌<◌, IfOk};
+ghost use Rattle.uses.specs.Filter.{FiltersAll};
+
 use buffer_redux::tell::{TellRead, TellWrite, Told};
 use buffer_redux::{BufReader, LineSender, LineWriter};
 use std::alloc::Global;
 use std::io;
 use std::io::{Read, Write};
 
-/// Copies the lines that have `word` in them, and ends at the first that can't be sent.
+/// Copies the lines that have `word` in them, and ends at the first that can't be sent. After an `Ok` just these were received
+/// and flushed.
 pub fn matching<R: TellRead + Drop, W: TellWrite>(
     alloc: Global,
     reader: BufReader<R>,
     writer: &mut LineSender<W>,
     word: &str,
-) -> io::Result<()> {
+) -> io::Result<()>
+    ensures all { 0 < reader.block.capacity
+        → IfOk result (λ _. FiltersAll R.remaining word.now reader writer.old writer.new) }
+{
     for line in reader.lines(alloc) {
         let line = line?;
         if line.contains(word) {
