@@ -1,7 +1,7 @@
 //! Copies a reader to a writer, and tells after each write how many bytes went over so far.
 ghost use Rattle.std.specs.Prelude.{◌≡◌, ◌+◌, ◌-◌, ◌≤◌, ◌⊎◌, ℕ, OnOk, IfOk, IfErr, MatchResult};
 ghost use Rattle.std.specs.Io.Iter.{u64_saturate};
-ghost use Rattle.buffer_redux.specs.Copy.{MovedBy, CopyEnded, StreamFailed, faults_met};
+ghost use Rattle.buffer_redux.specs.Copy.{FillsMade, MovedBy, CopyEnded, StreamFailed, faults_met};
 ghost use Rattle.uses.specs.Progress.{Tells, TooManyTurns};
 
 use buffer_redux::copy_turn;
@@ -31,6 +31,9 @@ pub fn copy_with_progress<B: TellBufRead, W: TellWrite, F: FnMut(u64) + Drop>(
         ≡ faults_met (B.log from.old).fills (W.log to.old).writes)
         (λ _. faults_met (B.log from.new).fills (W.log to.new).writes
         ≤ faults_met (B.log from.old).fills (W.log to.old).writes + 1) }
+    ensures once { MatchResult result
+        (λ _. FillsMade 1 (B.log from.old).fills (B.log from.new).fills (W.log to.old).writes (W.log to.new).writes)
+        (λ _. FillsMade 0 (B.log from.old).fills (B.log from.new).fills (W.log to.old).writes (W.log to.new).writes) }
     ensures reader { B.trace from.old from.new }
     ensures writer { W.trace to.old to.new }
 {

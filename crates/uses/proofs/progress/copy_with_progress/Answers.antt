@@ -95,3 +95,15 @@ returns-clause-caused g c =
         length-append (g.B.Tell.log c.args.from.now).fills.consumed moved.bytes,
       );
     })
+
+pub returns-in_err-taken-clause-once : goal.returns-in_err-taken-clause-once
+returns-in_err-taken-clause-once g c =
+    let p = err_from_is_err_and c.from_residual.result c.from_residual.ensures.1 in
+    rw p.1 (omega (arith, c.loop.invariant.copies.fills, c.in_err-taken.ensures.turn.answers.fills))
+
+pub returns-then-taken-eq0-clause-once : goal.returns-then-taken-eq0-clause-once
+returns-then-taken-eq0-clause-once g c =
+    omega (arith, c.loop.invariant.copies.fills, c.in_ok-taken.ensures.turn.answers.fills c.if-taken-eq0.true)
+
+pub returns-clause-once : goal.returns-clause-once
+returns-clause-once g c = c.loop.invariant.copies.fills
