@@ -20,8 +20,8 @@ loop-count-preserved g c =
     record {
       pieces = invariant.pieces ++ reads.handed ∷ [];
       counted = omega (arith, invariant.counted, length-append invariant.pieces (reads.handed ∷ []));
-      hands = HandsPieces-more g.R.TellRead.remaining g.P.ReaderPolicy.rules invariant.pieces _ _ _ c.args.reader.now c.loop-count.reader
-          c.read_until.new.self invariant.hands (subst WantsBytes (sym claims) c.requires.wants)
+      hands = HandsPieces-more g.R.TellRead.remaining g.P.ReaderPolicy.rules invariant.pieces _ _ _ c.args.reader.now
+          c.loop-count.reader c.read_until.new.self invariant.hands (subst WantsBytes (sym claims) c.requires.wants)
           (omega (arith, c.requires.capacity, invariant.hands.along.capacity)) reads
           (omega (arith, c.if-branch-eq0.false));
     }
