@@ -15,9 +15,10 @@ failed=0
 runs=0
 program=$PWD/crates/requests/out/requests
 server=
+relay=
 
 cleans() {
-    if [ -n "$server" ]; then kill "$server" 2> "$scratch/none"; fi
+    for it in $server $relay; do kill "$it" 2> "$scratch/none"; done
     rm -rf "$scratch"
 }
 trap cleans EXIT
