@@ -42,7 +42,8 @@ module _ {W : Type 0} (tells : W → StreamLog) (trace call : W → W → Type 0
       refl in
       let fills : FillsMade 0 from.fills (after_fill {A = Unit {0}} from (Err e) shown).fills (tells w).writes (tells w).writes =
       omega (arith, length-append from.fills.faults (e ∷ [])) in
-      let writes : WritesEachFill from.fills (after_fill {A = Unit {0}} from (Err e) shown).fills (tells w).writes (tells w).writes =
+      let writes : WritesEachFill from.fills (after_fill {A = Unit {0}} from (Err e) shown).fills (tells w).writes
+      (tells w).writes =
       omega (arith, length-append from.fills.faults (e ∷ [])) in
       record {
         answers = record {
