@@ -41,25 +41,28 @@ SendsFirst-order tells trace s t bytes p =
     WritesInOrder-joins s p.sent t [] bytes p.sends.in_order (PutsIn-order p.sent t bytes p.puts)
 
 module _ {S P : Type 0} (tells : S → StreamLog) (trace : S → S → Type 0) (s t : Buffered S P) (bytes : List ℕ) where
-  -- who made place told of the send alone, whose failure is the answer
+  -- who made place told of the send alone, whose failure is the answer, and left the limit
   place_told : (count : ℕ) (answer : Result (Unit {0}) Error) (m : Buffered S P) (p : MakesPlace tells trace count s answer m)
-      → (m.log ≡ p.left.log) × ((e : Error) → p.sending ≡ Err e → answer ≡ Err e)
+      → (m.log ≡ p.left.log) × (m.block.limit ≡ p.left.block.limit) × ((e : Error) → p.sending ≡ Err e → answer ≡ Err e)
   place_told count answer m p = told p.sending answer p.ended
     where
       told : (sending answer : Result (Unit {0}) Error) → MatchResult sending
           (λ _. MatchResult answer (λ _. Reserves count p.left.block m.block × (m ≡ with_block p.left m.block))
           (λ e. GrowthFailed count p.left.block e × (m ≡ p.left)))
           (λ e. (answer ≡ Err e) × (m ≡ p.left))
-          → (m.log ≡ p.left.log) × ((e : Error) → sending ≡ Err e → answer ≡ Err e)
+          → (m.log ≡ p.left.log) × (m.block.limit ≡ p.left.block.limit) × ((e : Error) → sending ≡ Err e → answer ≡ Err e)
       told (Ok x) (Ok y) (grown, others) = (
         ap (λ v. v.log) others,
+        grown.limit,
         λ e is. (let odd : ◌≡◌ {A = Result (Unit {0}) Error} (Ok x) (Err e) = is in cc),
       )
       told (Ok x) (Err why) (failed, same) = (
         ap (λ v. v.log) same,
+        ap (λ v. v.block.limit) same,
         λ e is. (let odd : ◌≡◌ {A = Result (Unit {0}) Error} (Ok x) (Err e) = is in cc),
       )
-      told (Err why) answer (is, same) = (ap (λ v. v.log) same, λ e fails. is ∙ fails)
+      told (Err why) answer (is, same) =
+          (ap (λ v. v.log) same, ap (λ v. v.block.limit) same, λ e fails. is ∙ fails)
 
   -- a write of parts told nothing, or of one send, whose failure is the answer
   pub WritesParts-sent : (answer : Result (Unit {0}) Error) → WritesParts tells trace s bytes answer t → (t.log ≡ s.log)
@@ -76,9 +79,9 @@ module _ {S P : Type 0} (tells : S → StreamLog) (trace : S → S → Type 0) (
           → (sending : Result (Unit {0}) Error) × (left : Buffered S P) × WasSent tells trace s sending left
           × (t.log ≡ left.log) × ((e : Error) → sending ≡ Err e → answer ≡ Err e)
       sent count (Ok x) (m, p, put) =
-          (let made = place_told count (Ok tt) m p in (p.sending, p.left, p.sent, PutsIn-told m t bytes put ∙ made.0, made.1))
+          (let made = place_told count (Ok tt) m p in (p.sending, p.left, p.sent, PutsIn-told m t bytes put ∙ made.0, made.2))
       sent count (Err e) p =
-          (let made = place_told count (Err e) t p in (p.sending, p.left, p.sent, made.0, made.1))
+          (let made = place_told count (Err e) t p in (p.sending, p.left, p.sent, made.0, made.2))
 
   -- at Ok nothing went wrong but that writes were interrupted; and nothing is flushed
   pub WritesParts-met : (x : Unit {0}) → WritesParts tells trace s bytes (Ok x) t
@@ -103,3 +106,18 @@ module _ {S P : Type 0} (tells : S → StreamLog) (trace : S → S → Type 0) (
     | inr (sending, left, sent, told, failed) ↦
         (ap (λ l. l.writes.flushes) told ∙ sent.sends.sent.flushes, ap (λ l. l.writes.flushed) told ∙ sent.sends.sent.flushed)
   ]
+
+  -- the limit stays
+  pub WritesParts-limit : (answer : Result (Unit {0}) Error) → WritesParts tells trace s bytes answer t
+      → t.block.limit ≡ s.block.limit
+  WritesParts-limit answer w = elim (cases_lt (usable s.block) (length bytes)) [
+    | inl few ↦ behind _ answer (w.full few)
+    | inr fit ↦ (w.fits fit).1.limit
+  ]
+    where
+      behind : (count : ℕ) (answer : Result (Unit {0}) Error) → MatchResult answer
+          (λ _. (m : Buffered S P) × MakesPlace tells trace count s (Ok tt) m × PutsIn m bytes t)
+          (λ e. MakesPlace tells trace count s (Err e) t) → t.block.limit ≡ s.block.limit
+      behind count (Ok x) (m, p, put) =
+          put.limit ∙ (place_told count (Ok tt) m p).1 ∙ p.sent.sends.sent.dropped.limit
+      behind count (Err e) p = (place_told count (Err e) t p).1 ∙ p.sent.sends.sent.dropped.limit

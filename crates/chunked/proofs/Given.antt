@@ -4,15 +4,14 @@ use Rattle.std.proofs.lemmas.List.{append_cancel_left}
 use Rattle.buffer_redux.specs.Buffered.{Buffered}
 use Rattle.buffer_redux.specs.Policy.{ReadRules}
 use Rattle.chunked.specs.declared.error.Malformed.{Malformed}
-use Rattle.chunked.specs.declared.error.Malformed.TheVariants.{NoSize, BadSize, BadField, SizeTooLarge, LineTooLong, TrailersTooLong, BareReturn, BareFeed, ChunkTooLong}
 use Rattle.chunked.specs.declared.limits.Limits.{Limits}
-use Rattle.chunked.specs.declared.place.Place.TheVariants.{Done}
 use Rattle.chunked.specs.Body.{IsBody, IsSizeLine, HasChunks}
 use Rattle.chunked.specs.BodyLaws.{IsBody-same}
 use Rattle.chunked.specs.ChunkedReader.{Breaks, ChunkedState, EndsEarly, IsChunkedReader, IsWhole, handed_of}
 use Rattle.chunked.specs.ChunkedReaderLaws.{body_done}
 use Rattle.chunked.specs.Given.{HandsGiven, WasGiven}
 use Rattle.chunked.specs.Place.{IsWrong}
+use Rattle.chunked.specs.PlaceLaws.{IsWrong-done}
 use Rattle.chunked.proofs.Alive.{Completes-some}
 
 -- of two texts that begin the same bytes one begins the other
@@ -35,18 +34,6 @@ line_some limit size text h = omega (arith, h.fits, h.numeral.0, ap length h.equ
 chunks_some : (limits : Limits) (payloads : List (List ℕ)) (bytes : List ℕ) → HasChunks limits payloads bytes → 0 < limits.line
 chunks_some limits [] bytes h = line_some limits.line 0 h.1.text h.1.size_line
 chunks_some limits (p ∷ payloads) bytes h = line_some limits.line (length p) h.1.text h.1.size_line
-
--- behind a body nothing is wrong
-done_right : (limits : Limits) (b : ℕ) (why : Malformed) → IsWrong limits Done b why → ⊥
-done_right limits b NoSize h = h
-done_right limits b BadSize h = h
-done_right limits b BadField h = h
-done_right limits b SizeTooLarge h = h
-done_right limits b LineTooLong h = h
-done_right limits b TrailersTooLong h = h
-done_right limits b BareReturn h = h
-done_right limits b BareFeed h = h
-done_right limits b ChunkTooLong h = h
 
 nothing_in : (m rest : List ℕ) → m ++ rest ≡ [] → m ≡ []
 nothing_in [] rest same = refl
@@ -91,7 +78,7 @@ module _ {S P : Type 0} (t : ChunkedState S P) (is : IsChunkedReader t) (body pa
 
   wrong_next : (why : Malformed) (b : Breaks why t) (m : List ℕ) → m ≡ left_of.0 → ⊥
   wrong_next why b [] none =
-      done_right t.limits b.byte why
+      IsWrong-done t.limits b.byte why
       (subst (λ p. IsWrong t.limits p b.byte why) (body_done t payload is (taken_whole (sym none))) b.name)
   wrong_next why b (x ∷ m) some =
       let bytes : b.byte ∷ b.later ≡ (x ∷ m) ++ behind = sym b.next ∙ left_of.2 ∙ ap (λ l. l ++ behind) (sym some) in

@@ -1,11 +1,13 @@
 -- Laws of places: traces of bytes join, and what is wrong completes no body.
 use Rattle.std.specs.Prelude.{ℕ, List, [], ◌++◌}
 use Rattle.std.proofs.Common.{sym, ap, subst, ◌∙◌, arith, refl, append_assoc, append-nil, length-append}
+use Rattle.chunked.specs.declared.error.Malformed.{Malformed}
+use Rattle.chunked.specs.declared.error.Malformed.TheVariants.{NoSize, BadSize, BadField, SizeTooLarge, LineTooLong, TrailersTooLong, BareReturn, BareFeed, ChunkTooLong}
 use Rattle.chunked.specs.declared.limits.Limits.{Limits}
 use Rattle.chunked.specs.declared.place.Place.{Place}
 use Rattle.chunked.specs.declared.place.Place.TheVariants.{Line, Done}
 use Rattle.chunked.specs.Body.{IsBody}
-use Rattle.chunked.specs.Place.{Completes, Leads, Passes}
+use Rattle.chunked.specs.Place.{Completes, IsWrong, Leads, Passes}
 
 module _ (limits : Limits) where
   -- no byte leads nowhere, and two traces of bytes join
@@ -39,3 +41,15 @@ module _ (limits : Limits) where
   Leads-whole bytes payload leads =
       subst (λ l. IsBody limits bytes l) (append-nil payload)
       (subst (λ l. IsBody limits l (payload ++ [])) (append-nil bytes) (leads.onward [] [] (refl, refl)))
+
+-- behind a body nothing is wrong
+pub IsWrong-done : (limits : Limits) (b : ℕ) (why : Malformed) → IsWrong limits Done b why → ⊥
+IsWrong-done limits b NoSize h = h
+IsWrong-done limits b BadSize h = h
+IsWrong-done limits b BadField h = h
+IsWrong-done limits b SizeTooLarge h = h
+IsWrong-done limits b LineTooLong h = h
+IsWrong-done limits b TrailersTooLong h = h
+IsWrong-done limits b BareReturn h = h
+IsWrong-done limits b BareFeed h = h
+IsWrong-done limits b ChunkTooLong h = h

@@ -16,8 +16,8 @@ use Rattle.chunked.specs.ChunkedReaderLaws.{body_done, BodyWent-joins, BodyWent-
 use Rattle.chunked.specs.EmptyReads.{EndsOnce}
 use Rattle.chunked.specs.Body.{IsBody}
 use Rattle.chunked.specs.Place.{Completes, IsWrong}
+use Rattle.chunked.specs.PlaceLaws.{IsWrong-done}
 use Rattle.chunked.specs.declared.error.Malformed.{Malformed}
-use Rattle.chunked.specs.declared.error.Malformed.TheVariants.{NoSize, BadSize, BadField, SizeTooLarge, LineTooLong, TrailersTooLong, BareReturn, BareFeed, ChunkTooLong}
 use Rattle.chunked.specs.declared.error.ChunkedError.{ChunkedError}
 use Rattle.chunked.specs.declared.error.ChunkedError.TheVariants.{NotChunked, Truncated, Io}
 use Rattle.chunked.specs.Asking.{AskedWhere}
@@ -112,23 +112,11 @@ module _ {S P : Type 0} {remaining : S → Option (List ℕ)} {rules : ReadRules
       backward = chunks_backward;
     }
 
--- behind a body nothing is wrong
-done_right : (limits : Limits) (b : ℕ) (why : Malformed) → IsWrong limits Done b why → ⊥
-done_right limits b NoSize h = h
-done_right limits b BadSize h = h
-done_right limits b BadField h = h
-done_right limits b SizeTooLarge h = h
-done_right limits b LineTooLong h = h
-done_right limits b TrailersTooLong h = h
-done_right limits b BareReturn h = h
-done_right limits b BareFeed h = h
-done_right limits b ChunkTooLong h = h
-
 -- no beginning of what is wrong in a body in chunks is the rest of it
 chunks_begin_none : {S : Type 0} (t : ChunkedState S StdPolicy) → IsChunkedReader t → (why : Malformed) → Breaks why t
     → BeginsNone (Chunks t.limits t.place) t.reader.block.bytes
 chunks_begin_none t is why breaks later [] behind payload same c =
-    done_right t.limits breaks.byte why
+    IsWrong-done t.limits breaks.byte why
     (subst (λ p. IsWrong t.limits p breaks.byte why) (Completes-nothing t.limits t.place payload c) breaks.name)
 chunks_begin_none t is why breaks later (b ∷ wire) behind payload same c =
     let first : breaks.byte ≡ b = (let row = rw breaks.next at same in cc) in

@@ -1,17 +1,16 @@
 -- How all of some bytes is taken in, or nothing.
 use Rattle.std.proofs.Common.{◌≡◌, ℕ, ◌+◌, ◌<◌, ◌≤◌, ◌⊎◌, inl, inr, List, [], ◌++◌, length, min, Result, Ok, Err, IsOk, OnOk, refl, sym, ap, subst, ◌∙◌, arith, append-nil}
-use Rattle.std.proofs.lemmas.Bool.{cases_lt, true≢false}
+use Rattle.std.proofs.lemmas.Bool.{true≢false}
 use Rattle.std.proofs.lemmas.List.{append_cancel_left}
-use Rattle.std.specs.Prelude.{MatchResult, OnErr}
+use Rattle.std.specs.Prelude.{OnErr}
 use Rattle.std.specs.declared.io.Error.{Error}
-use Rattle.buffer_redux.specs.Block.{MakesRoom, Reserves, usable}
+use Rattle.buffer_redux.specs.Block.{MakesRoom, usable}
 use Rattle.buffer_redux.specs.BufWriter.{WasSent, WritesInOrder}
 use Rattle.buffer_redux.specs.Buffered.{Buffered, with_block}
 use Rattle.buffer_redux.specs.Faults.{MetInterrupts, MetInterrupts-none, SendErrorCaused, SendErrorCaused-after}
-use Rattle.buffer_redux.specs.GrowError.{GrowthFailed}
 use Rattle.buffer_redux.specs.StreamLog.{StreamLog}
-use Rattle.buffer_redux.specs.WriteParts.{MakesPlace, PartsRefused, PutsIn, WritesParts}
-use Rattle.buffer_redux.specs.WritePartsLaws.{PutsIn-told, WritesParts-sent}
+use Rattle.buffer_redux.specs.WriteParts.{PartsRefused, WritesParts}
+use Rattle.buffer_redux.specs.WritePartsLaws.{PutsIn-told, WritesParts-limit, WritesParts-sent}
 use Rattle.buffer_redux.specs.WriterLaws.{WritesInOrder-joins}
 use Rattle.buffer_redux.specs.declared.policy.StdPolicy.{StdPolicy}
 use Rattle.piece_filter.specs.Puts.{IsRefused, Puts}
@@ -30,31 +29,6 @@ module _ {W : Type 0} (tells : W → StreamLog) (trace : W → W → Type 0) (m 
     where
       idle : (n : ℕ) → n ≡ 0 → min n n ≡ 0
       idle n none = rw none refl
-
-  -- the limit stays
-  place_limit : (count : ℕ) (answer : Result (Unit {0}) Error) (v : Buffered W StdPolicy)
-      → MakesPlace tells trace count m answer v → v.block.limit ≡ m.block.limit
-  place_limit count answer v q = ended q.sending answer q.ended ∙ q.sent.sends.sent.dropped.limit
-    where
-      ended : (sending answer : Result (Unit {0}) Error) → MatchResult sending
-          (λ _. MatchResult answer (λ _. Reserves count q.left.block v.block × (v ≡ with_block q.left v.block))
-          (λ e. GrowthFailed count q.left.block e × (v ≡ q.left)))
-          (λ e. (answer ≡ Err e) × (v ≡ q.left)) → v.block.limit ≡ q.left.block.limit
-      ended (Ok _) (Ok _) (grown, others) = grown.limit
-      ended (Ok _) (Err e) (failed, same) = ap (λ w. w.block.limit) same
-      ended (Err e) answer (is, same) = ap (λ w. w.block.limit) same
-
-  keeps_limit : t.block.limit ≡ m.block.limit
-  keeps_limit = elim (cases_lt (usable m.block) (length bytes)) [
-    | inl few ↦ behind _ answer (p.full few)
-    | inr fit ↦ (p.fits fit).1.limit
-  ]
-    where
-      behind : (count : ℕ) (answer : Result (Unit {0}) Error) → MatchResult answer
-          (λ _. (v : Buffered W StdPolicy) × MakesPlace tells trace count m (Ok tt) v × PutsIn v bytes t)
-          (λ e. MakesPlace tells trace count m (Err e) t) → t.block.limit ≡ m.block.limit
-      behind count (Ok _) (v, made, put) = put.limit ∙ place_limit count (Ok tt) v made
-      behind count (Err e) made = place_limit count (Err e) t made
 
 module _ {W : Type 0} (tells : W → StreamLog) (trace : W → W → Type 0) (s t : Buffered W StdPolicy) (bytes : List ℕ) where
   -- behind what took nothing in, and met interruptions at most, the parts were written, and the stream wasn't called
@@ -107,7 +81,7 @@ module _ {W : Type 0} (tells : W → StreamLog) (trace : W → W → Type 0) (s 
       let there = fit_in tells trace m bytes answer t p fit in
       puts m order (subst (λ l. MetInterrupts s.log.writes l.writes) (sym same) (MetInterrupts-none s.log.writes))
       (ap (λ l. l.writes.flushed) same) (ap (λ l. l.writes.flushes) same) there.1
-      (λ _. (p.fits fit).1.capacity ∙ room.capacity) (keeps_limit tells trace m bytes answer t p ∙ room.limit)
+      (λ _. (p.fits fit).1.capacity ∙ room.capacity) (WritesParts-limit tells trace m t bytes answer p ∙ room.limit)
       answer (λ _. (there.0, there.1 ∙ same)) (λ few. absurd (omega (arith, fits, few))) (never answer there.0) p
     where
       never : (answer : Result (Unit {0}) Error) → IsOk answer → OnErr answer (t.block.bytes ≡ [])
@@ -124,7 +98,7 @@ module _ {W : Type 0} (tells : W → StreamLog) (trace : W → W → Type 0) (s 
       (subst (λ l. MetInterrupts s.log.writes l.writes) (sym same) sent.ok.met)
       (ap (λ l. l.writes.flushed) same ∙ sent.not_flushed) (ap (λ l. l.writes.flushes) same ∙ sent.sends.sent.flushes)
       told (λ small. (p.fits (space small)).1.capacity ∙ room.capacity ∙ sent.capacity)
-      (keeps_limit tells trace m bytes answer t p ∙ room.limit ∙ sent.sends.sent.dropped.limit)
+      (WritesParts-limit tells trace m t bytes answer p ∙ room.limit ∙ sent.sends.sent.dropped.limit)
       answer (λ fit. absurd (omega (arith, fit, few))) (λ _. kept answer p) (nothing answer p) p
     where
       empty : m.block.bytes ≡ []
