@@ -1,9 +1,11 @@
 -- The turns and the ends of reads ahead.
-use Rattle.std.proofs.Common.{◌≡◌, ℕ, ◌+◌, ◌-◌, ◌<◌, ◌≤◌, List, [], length, Result, Ok, Err, Option, inl, inr, refl, sym, ap, subst, ◌∙◌, arith, length-append, length-take-le}
+use Rattle.std.proofs.Common.{◌≡◌, ℕ, ◌+◌, ◌-◌, ◌<◌, ◌≤◌, List, [], ◌++◌, append_assoc, length, Result, Ok, Err, Option, inl, inr, refl, sym, ap, subst, ◌∙◌, arith, length-append, length-take-le}
 use Rattle.std.specs.Prelude.{◌⊎◌, MatchResult}
 use Rattle.std.proofs.lemmas.Bool.{cases_lt}
+use Rattle.std.specs.Io.{ReadsAtMost}
 use Rattle.std.specs.declared.io.Error.{Error}
-use Rattle.redux_buffer.specs.Block.{IsBlock, MakesRoom, usable}
+use Rattle.redux_buffer.specs.Block.{Block, IsBlock, MakesRoom, OnlyRingMoves, usable}
+use Rattle.redux_buffer.specs.BlockLaws.{OnlyRingMoves-joins, OnlyRingMoves-none}
 use Rattle.redux_buffer.specs.Potential.{potential-make_room}
 use Rattle.redux_buffer.specs.Transfer.{ReadsOnce}
 use Rattle.redux_buffer.specs.LogGrows.{ReadLogGrows, ReadLogGrows-none}
@@ -11,10 +13,15 @@ use Rattle.redux_buffer.specs.StreamLog.{portion, with_fault, with_zero, zero_of
 use Rattle.buffer_redux.specs.Policy.{ReadRules}
 use Rattle.buffer_redux.specs.Buffered.{Buffered, with_block}
 use Rattle.buffer_redux.specs.BufReader.{ReadsAlong, ReadsInOrder, ReadsIntoBuf}
-use Rattle.buffer_redux.specs.Peek.{ReadsAhead}
+use Rattle.buffer_redux.specs.Peek.{AskedAhead, ReadsAhead}
 use Rattle.buffer_redux.specs.Sparing.{Spared, Spared-joins, Spared-none}
 use Rattle.buffer_redux.specs.ReaderLaws.{InnerGives-same, ReadsAlong-none, ReadsAlong-then, ReadsInOrder-none}
 use Rattle.buffer_redux.proofs.FillFacts.{ReadsInOrder-read_from}
+
+-- no byte was moved, and as many fit behind those that are buffered as before
+pub record Stays (s m : Block) : Type 0 where
+  pub moves : OnlyRingMoves s m
+  pub behind : length m.bytes + usable m ≡ length s.bytes + usable s
 
 -- each turn gave bytes, and no fault
 pub record AheadTurns {S P : Type 0} (remaining : S → Option (List ℕ)) (rules : ReadRules P) (n : ℕ)
@@ -23,8 +30,10 @@ pub record AheadTurns {S P : Type 0} (remaining : S → Option (List ℕ)) (rule
   pub zeros : m.log.reads.zero_reads ≡ s.log.reads.zero_reads
   pub faults : m.log.reads.faults ≡ s.log.reads.faults
   pub asks : m.log.reads.asks + length s.block.bytes ≤ s.log.reads.asks + length m.block.bytes
-  pub most : m.log.reads.asks ≤ s.log.reads.asks + (n - length s.block.bytes)
   pub begun : (m ≡ s) ⊎ (length s.block.bytes < n)
+  pub asked : (m.log ≡ s.log) ⊎ AskedAhead n s m
+  pub consumed : m.block.consumed ≡ s.block.consumed
+  pub still : n ≤ length s.block.bytes + usable s.block → Stays s.block m.block
   pub policy : m.policy ≡ s.policy
   pub capacity : m.block.capacity ≡ s.block.capacity
   pub limit : m.block.limit ≡ s.block.limit
@@ -38,6 +47,8 @@ pub record MakesRoomFor {S P : Type 0} (more : ℕ) (s t : Buffered S P) : Type 
   pub others : t ≡ with_block s t.block
   pub bytes : t.block.bytes ≡ s.block.bytes
   pub room : more ≤ usable t.block
+  pub enough : more ≤ usable s.block → t ≡ s
+  pub consumed : t.block.consumed ≡ s.block.consumed
   pub capacity : t.block.capacity ≡ s.block.capacity
   pub limit : t.block.limit ≡ s.block.limit
   pub kind : t.block.kind ≡ s.block.kind
@@ -49,6 +60,8 @@ room_there more s enough = record {
   others = refl;
   bytes = refl;
   room = enough;
+  enough = λ _. refl;
+  consumed = refl;
   capacity = refl;
   limit = refl;
   kind = refl;
@@ -63,6 +76,8 @@ room_made more s t few fits room order others = record {
   others = others;
   bytes = room.bytes;
   room = omega (arith, room.usable, fits);
+  enough = λ many. absurd (omega (arith, many, few));
+  consumed = room.consumed;
   capacity = room.capacity;
   limit = room.limit;
   kind = room.kind;
@@ -95,8 +110,10 @@ ahead_as remaining rules s a b t r = record {
   along = r.along;
   ended = r.ended;
   caused = r.caused;
-  asks = r.asks;
   buffered = r.buffered;
+  asked = r.asked;
+  consumed = r.consumed;
+  still = r.still;
   policy = r.policy;
   capacity = r.capacity;
   limit = r.limit;
@@ -116,6 +133,11 @@ pub record AsksOnce {S P : Type 0} (remaining : S → Option (List ℕ)) (rules 
   pub reads : ReadsIntoBuf remaining r answer t
   pub spared : (keep : ℕ) → Spared keep r t
 
+-- an answer speaks of no more than the slice
+portion_within : (answer : Result ℕ Error) (out : List ℕ) → ReadsAtMost answer out → length (portion out answer) ≤ length out
+portion_within (Ok k) out bound = omega (arith, length-take-le k out bound.0, bound.0)
+portion_within (Err e) out bound = omega arith
+
 module _ {S P : Type 0} (remaining : S → Option (List ℕ)) (rules : ReadRules P) (n : ℕ) where
   pub turns_none : (s : Buffered S P) → AheadTurns remaining rules n s s
   turns_none s = record {
@@ -123,8 +145,10 @@ module _ {S P : Type 0} (remaining : S → Option (List ℕ)) (rules : ReadRules
     zeros = refl;
     faults = refl;
     asks = omega arith;
-    most = omega arith;
     begun = inl refl;
+    asked = inl refl;
+    consumed = refl;
+    still = λ _. record { moves = OnlyRingMoves-none s.block; behind = refl };
     policy = refl;
     capacity = refl;
     limit = refl;
@@ -140,8 +164,10 @@ module _ {S P : Type 0} (remaining : S → Option (List ℕ)) (rules : ReadRules
     along = turns.along;
     ended = inl (enough, turns.zeros);
     caused = turns.faults;
-    asks = turns.most;
     buffered = λ many. elim turns.begun [ inl same ↦ same | inr less ↦ absurd (omega (arith, many, less)) ];
+    asked = turns.asked;
+    consumed = turns.consumed;
+    still = λ fit. (turns.still fit).moves;
     policy = turns.policy;
     capacity = turns.capacity;
     limit = turns.limit;
@@ -184,8 +210,53 @@ module _ {S P : Type 0} (remaining : S → Option (List ℕ)) (rules : ReadRules
       ap length a.room.bytes,
     )
 
-    asked : t.log.reads.asks ≡ m.log.reads.asks + 1
-    asked = omega (arith, ap (λ l. l.reads.asks) once.told, ap (λ x. x.log.reads.asks) a.room.others)
+    consumed_now : t.block.consumed ≡ s.block.consumed
+    consumed_now = once.added.consumed ∙ a.room.consumed ∙ a.turns.consumed
+
+    still_now : n ≤ length s.block.bytes + usable s.block → Stays s.block t.block
+    still_now fit =
+        let before = a.turns.still fit in
+        let same : r ≡ m = a.room.enough (omega (arith, fit, before.behind)) in
+        record {
+          moves = OnlyRingMoves-joins s.block m.block t.block a.turns.kind before.moves
+              (subst (λ x. OnlyRingMoves x.block t.block) same once.added.moved);
+          behind = omega (
+            arith,
+            before.behind,
+            grown,
+            once.added.usable,
+            once.offered,
+            ap (λ x. usable x.block) same,
+            portion_within answer once.out once.bound,
+          );
+        }
+
+    asks_now : t.log.reads.asks ≡ m.log.reads.asks + 1
+    asks_now = omega (arith, ap (λ l. l.reads.asks) once.told, ap (λ x. x.log.reads.asks) a.room.others)
+
+    asked_now : AskedAhead n s t
+    asked_now =
+        let before = a.turns.along.in_order in
+        let gave : t.log.reads.latest ≡ portion once.out answer = ap (λ l. l.reads.latest) once.told in record {
+          came = before.got;
+          few = omega (arith, a.few, ap length before.equal);
+          given = ap (λ l. l.reads.given) once.told ∙ ap (λ x. x.log.reads.given ++ portion once.out answer) a.room.others
+              ∙ ap (λ l. l ++ portion once.out answer) before.given
+              ∙ append_assoc s.log.reads.given before.got (portion once.out answer)
+              ∙ ap (λ l. s.log.reads.given ++ (before.got ++ l)) (sym gave);
+          bytes = once.added.bytes ∙ ap (λ l. l ++ portion once.out answer) (a.room.bytes ∙ before.equal)
+              ∙ append_assoc s.block.bytes before.got (portion once.out answer)
+              ∙ ap (λ l. s.block.bytes ++ (before.got ++ l)) (sym gave);
+          asks = omega (arith, asks_now, a.turns.asks, simp length-append at (ap length before.equal));
+          offer = omega (
+            arith,
+            ap (λ l. l.reads.offer) once.told,
+            ap length gave,
+            once.offered,
+            once.added.usable,
+            portion_within answer once.out once.bound,
+          );
+        }
 
     zeros_now : t.log.reads.zero_reads ≡ with_zero s.log.reads.zero_reads once.out answer
     zeros_now = ap (λ l. l.reads.zero_reads) once.told ∙ ap (λ z. with_zero z once.out answer)
@@ -194,9 +265,6 @@ module _ {S P : Type 0} (remaining : S → Option (List ℕ)) (rules : ReadRules
     faults_now : t.log.reads.faults ≡ with_fault s.log.reads.faults answer
     faults_now = ap (λ l. l.reads.faults) once.told ∙ ap (λ l. with_fault l answer)
         (ap (λ x. x.log.reads.faults) a.room.others ∙ a.turns.faults)
-
-    most_now : t.log.reads.asks ≤ s.log.reads.asks + (n - length s.block.bytes)
-    most_now = omega (arith, asked, a.turns.asks, a.few, a.turns.along.grows.asks)
 
     spared_now : (keep : ℕ) → n ≤ keep → Spared keep s t
     spared_now keep holds = Spared-joins keep s m t (a.turns.sparing keep holds)
@@ -212,11 +280,13 @@ module _ {S P : Type 0} (remaining : S → Option (List ℕ)) (rules : ReadRules
       along = asked_along;
       ended = ended;
       caused = caused;
-      asks = most_now;
       buffered = λ many. elim a.turns.begun [
         | inl same ↦ absurd (omega (arith, many, a.few, ap (λ x. length x.block.bytes) same))
         | inr less ↦ absurd (omega (arith, many, less))
       ];
+      asked = inr asked_now;
+      consumed = consumed_now;
+      still = λ fit. (still_now fit).moves;
       policy = a.reads.policy ∙ ap (λ x. x.policy) a.room.others ∙ a.turns.policy;
       capacity = once.added.capacity ∙ a.room.capacity ∙ a.turns.capacity;
       limit = once.added.limit ∙ a.room.limit ∙ a.turns.limit;
@@ -252,16 +322,18 @@ module _ {S P : Type 0} (remaining : S → Option (List ℕ)) (rules : ReadRules
         asks = omega (
           arith,
           grown s m r (Ok k) t a,
-          asked s m r (Ok k) t a,
+          asks_now s m r (Ok k) t a,
           a.turns.asks,
           length-take-le k read.out read.bound.0,
           some,
         );
-        most = most_now s m r (Ok k) t a;
         begun = elim a.turns.begun [
           | inl same ↦ inr (omega (arith, a.few, ap (λ x. length x.block.bytes) same))
           | inr less ↦ inr less
         ];
+        asked = inr (asked_now s m r (Ok k) t a);
+        consumed = consumed_now s m r (Ok k) t a;
+        still = still_now s m r (Ok k) t a;
         policy = a.reads.policy ∙ ap (λ x. x.policy) a.room.others ∙ a.turns.policy;
         capacity = read.added.capacity ∙ a.room.capacity ∙ a.turns.capacity;
         limit = read.added.limit ∙ a.room.limit ∙ a.turns.limit;

@@ -13,7 +13,7 @@ use Rattle.redux_buffer.specs.Retried.{InterruptedSteps, Retried}
 use Rattle.redux_buffer.specs.Transfer.{ReadsOnce}
 use Rattle.redux_buffer.specs.StreamLog.{zero_of_none}
 use Rattle.buffer_redux.specs.Policy.{ReadRules}
-use Rattle.redux_buffer.specs.Block.{usable}
+use Rattle.redux_buffer.specs.Block.{capacity_for, usable}
 use Rattle.buffer_redux.specs.Buffered.{Buffered, with_block}
 use Rattle.buffer_redux.specs.BufReader.{RanDry, ReadsInOrder, ReadsIntoBuf}
 use Rattle.buffer_redux.specs.FillRetried.{FillRetried}
@@ -32,6 +32,8 @@ pub record SpaceMade {S P : Type 0} (remaining : S → Option (List ℕ)) (rules
   pub others : t ≡ with_block s t.block
   pub limit : t.block.limit ≡ s.block.limit
   pub capacity : 2 * length s.block.bytes ≤ s.block.capacity → t.block.capacity ≡ s.block.capacity
+  pub grown : (t.block.capacity ≡ s.block.capacity) ⊎ (t.block.capacity ≡ capacity_for s.block 1)
+  pub consumed : t.block.consumed ≡ s.block.consumed
 
 -- a call went on, by more bytes behind those that are buffered; or that failed; or the stream ended behind them
 abbrev pub FillsMore : {S P A : Type 0} → (S → Option (List ℕ)) → ReadRules P → Buffered S P → Result A Error
@@ -76,6 +78,11 @@ module _ {S P : Type 0} (remaining : S → Option (List ℕ)) (rules : ReadRules
       policy = reads.policy ∙ ap (λ x. x.policy) space.others;
       limit = once.added.limit ∙ space.limit;
       capacity = λ few. once.added.capacity ∙ space.capacity few;
+      grown = elim space.grown [
+        | inl same ↦ inl (once.added.capacity ∙ same)
+        | inr more ↦ inr (once.added.capacity ∙ more)
+      ];
+      consumed = once.added.consumed ∙ space.consumed;
     }
 
   pub behind_failed : (s r : Buffered S P) (e : Error) (t : Buffered S P)

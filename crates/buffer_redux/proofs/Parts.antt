@@ -6,7 +6,7 @@ use Rattle.std.specs.declared.io.Error.{Error}
 use Rattle.std.proofs.lemmas.Bool.{cond_both, leb-false, leb-true}
 use Rattle.std.proofs.lemmas.List.{nil_from_length}
 use Rattle.std.proofs.lemmas.Nat.{div-add-mod'}
-use Rattle.redux_buffer.specs.Block.{Block, IsBlock, Kind, OnKind, Plain, Ring, Reserves, capacity_for, limit_of, by_kind, round, usable}
+use Rattle.redux_buffer.specs.Block.{Block, Extends, IsBlock, Kind, OnKind, Plain, Ring, Reserves, capacity_for, limit_of, by_kind, round, usable}
 use Rattle.redux_buffer.specs.Faults.{SendErrorCaused}
 use Rattle.redux_buffer.specs.GrowError.{GrowthFailed}
 use Rattle.redux_buffer.specs.LogGrows.{WriteLogGrows-none, WritesGoOn}
@@ -101,10 +101,11 @@ module _ {S P : Type 0} (tells : S → StreamLog) (trace : S → S → Type 0) (
 
   -- where they fit nothing else is done
   pub parts_fit : (s t : Buffered S P) (bytes : List ℕ) → length bytes ≤ usable s.block → PutsIn s bytes t
-      → WritesParts tells trace s bytes (Ok tt) t
-  parts_fit s t bytes fit p = record {
+      → Extends bytes s.block t.block → WritesParts tells trace s bytes (Ok tt) t
+  parts_fit s t bytes fit p extends = record {
     along = put_along s t bytes p;
     fits = λ _. (refl, p);
+    still = λ _. extends;
     full = λ few. absurd (omega (arith, few, fit));
     caused = tt;
     whole = p.whole;
@@ -171,6 +172,7 @@ module _ {S P : Type 0} (tells : S → StreamLog) (trace : S → S → Type 0) (
       along = WritesAlong-joins tells trace std_write_rules joins s m t [] bytes
           (place_along s m (counted bytes) (Ok tt) p) (put_along m t bytes put);
       fits = λ fit. absurd (omega (arith, fit, few));
+      still = λ fit. absurd (omega (arith, fit, few));
       full = λ _. (m, p, put);
       caused = tt;
       whole = put.whole;
@@ -182,6 +184,7 @@ module _ {S P : Type 0} (tells : S → StreamLog) (trace : S → S → Type 0) (
     parts_failed s t bytes e few p = record {
       along = place_along s t (counted bytes) (Err e) p;
       fits = λ fit. absurd (omega (arith, fit, few));
+      still = λ fit. absurd (omega (arith, fit, few));
       full = λ _. p;
       caused = failed p.sending p.left p.sent p.ended;
       whole = p.whole;

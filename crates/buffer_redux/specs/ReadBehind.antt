@@ -1,6 +1,7 @@
 -- What a read past the policy promises, behind what is buffered, and how a call goes on that leaves bytes buffered.
 use Rattle.std.specs.Prelude.{◌≡◌, ℕ, ◌+◌, ◌*◌, ◌<◌, ◌≤◌, ◌⊎◌, List, [], ◌∷◌, ◌++◌, length, Result, Option, MatchResult}
 use Rattle.std.specs.declared.io.Error.{Error}
+use Rattle.redux_buffer.specs.Block.{capacity_for}
 use Rattle.redux_buffer.specs.GrowError.{GrowthFailed}
 use Rattle.redux_buffer.specs.Retried.{Retried, Step}
 use Rattle.buffer_redux.specs.Policy.{ReadRules}
@@ -24,6 +25,8 @@ pub record ReadsBehind {S P A : Type 0} (remaining : S → Option (List ℕ)) (r
   pub policy : t.policy ≡ s.policy
   pub limit : t.block.limit ≡ s.block.limit
   pub capacity : 2 * length s.block.bytes ≤ s.block.capacity → t.block.capacity ≡ s.block.capacity
+  pub grown : (t.block.capacity ≡ s.block.capacity) ⊎ (t.block.capacity ≡ capacity_for s.block 1)
+  pub consumed : t.block.consumed ≡ s.block.consumed
 
 -- how a call goes on: by a fill where nothing is buffered, and else by such a read
 abbrev pub FillsOrReads : {S P : Type 0} → (S → Option (List ℕ)) → ReadRules P → Step (Buffered S P) (Unit {0})

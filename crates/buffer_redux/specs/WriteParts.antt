@@ -1,7 +1,7 @@
 -- What is copied into a writer where it fits, and what a write of parts does.
 use Rattle.std.specs.Prelude.{◌≡◌, ℕ, ◌-◌, ◌^◌, ◌<◌, ◌≤◌, ◌⊎◌, List, [], ◌++◌, length, min, Result, Ok, Err, MatchResult, IfErr}
 use Rattle.std.specs.declared.io.Error.{Error}
-use Rattle.redux_buffer.specs.Block.{IsBlock, Reserves, usable}
+use Rattle.redux_buffer.specs.Block.{Extends, IsBlock, Reserves, usable}
 use Rattle.redux_buffer.specs.Faults.{SendErrorCaused}
 use Rattle.redux_buffer.specs.GrowError.{GrowthFailed}
 use Rattle.redux_buffer.specs.StreamLog.{StreamLog}
@@ -53,6 +53,7 @@ module _ {S P : Type 0} (tells : S → StreamLog) (trace : S → S → Type 0) w
     pub along : MatchResult answer (λ _. WritesAlong tells trace std_write_rules s bytes t)
         (λ e. WritesAlong tells trace std_write_rules s [] t)
     pub fits : length bytes ≤ usable s.block → (answer ≡ Ok tt) × PutsIn s bytes t
+    pub still : length bytes ≤ usable s.block → Extends bytes s.block t.block
     pub full : usable s.block < length bytes → MatchResult answer
         (λ _. (m : Buffered S P) × MakesPlace (min (length bytes) (2 ^ 64 - 1)) s (Ok tt) m × PutsIn m bytes t)
         (λ e. MakesPlace (min (length bytes) (2 ^ 64 - 1)) s (Err e) t)

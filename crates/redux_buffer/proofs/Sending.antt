@@ -7,11 +7,12 @@ use Rattle.std.specs.IoError.{error_kind}
 use Rattle.std.specs.declared.io.Error.{Error}
 use Rattle.std.specs.declared.io.ErrorKind.TheVariants.{WriteZero}
 use Rattle.redux_buffer.specs.Block.{Block, ConsumesFirst, OnlyRingMoves}
+use Rattle.redux_buffer.specs.BlockLaws.{OnlyRingMoves-joins}
 use Rattle.redux_buffer.specs.StreamLog.{StreamLog, WriteLog, portion, with_fault, with_short, with_zero, after_write, zero_of_some, zero_of_none, short_of_less, short_of_all}
 use Rattle.redux_buffer.specs.Faults.{IsInterrupt, OnlyInterrupted, OnlyInterrupted-none, OnlyInterrupted-joins, TookNothing-after, FaultedAfter-after}
 use Rattle.redux_buffer.specs.Retried.{InterruptedSteps, Retried}
 use Rattle.redux_buffer.specs.Transfer.{Offers, WritesRetried, Sent, Sends}
-use Rattle.redux_buffer.proofs.Steps.{OnlyRingMoves-joins, ConsumesFirst-joins}
+use Rattle.redux_buffer.proofs.Steps.{ConsumesFirst-joins}
 
 -- this many writes were interrupted, one after another
 record Interrupts (count : ℕ) (old new : StreamLog) : Type 0 where

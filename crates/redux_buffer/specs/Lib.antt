@@ -12,6 +12,7 @@ pub mod CopyLaws
 pub mod GrowError
 pub mod RawLends
 pub mod Block
+pub mod BlockLaws
 pub mod Potential
 pub mod BufImpl
 pub mod Transfer

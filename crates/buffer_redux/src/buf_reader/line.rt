@@ -4,7 +4,7 @@ ghost use Rattle.std.proofs.Common.{subst, sym};
 ghost use Rattle.std.specs.Io.BufRead.{take_through};
 ghost use Rattle.std.specs.IoError.{error_kind};
 ghost use Rattle.std.specs.declared.io.ErrorKind.TheVariants.{InvalidData};
-ghost use Rattle.redux_buffer.specs.Block.{IsBlock, usable};
+ghost use Rattle.redux_buffer.specs.Block.{IsBlock, capacity_for, usable};
 ghost use Rattle.redux_buffer.specs.GrowError.{GrowthRefused};
 ghost use Rattle.buffer_redux.specs.BufReader.{RanDry};
 ghost use Rattle.buffer_redux.specs.Buffered.{with_block};
@@ -137,6 +137,9 @@ impl<R: TellRead, P: ReaderPolicy> BufReader<R, P> {
         ensures limit { self.new.block.limit ≡ self.old.block.limit }
         ensures capacity { 2 * length self.old.block.bytes ≤ self.old.block.capacity
             → self.new.block.capacity ≡ self.old.block.capacity }
+        ensures grown { (self.new.block.capacity ≡ self.old.block.capacity)
+            ⊎ (self.new.block.capacity ≡ capacity_for self.old.block 1) }
+        ensures consumed { self.new.block.consumed ≡ self.old.block.consumed }
         ensures refused { IfErr result (λ refusal. (self.new ≡ self.old) × GrowthRefused 1 self.old.block refusal
             × (self.old.block.capacity < 2 * length self.old.block.bytes)) }
         ensures whole { IsBlock self.new.block }

@@ -73,6 +73,7 @@ impl<R: TellSeek, P> BufReader<R, P> {
             (reader_position R.stream_position self.new) offset result }
         ensures bytes { Keeps (R.stream_bytes self.old.inner) (R.stream_bytes self.new.inner) }
         ensures far { SeeksBy R.readies offset self.old result self.new }
+        ensures spared { (keep : ℕ) → Spared keep self.old self.new }
         ensures whole { IsBlock self.new.block }
     {
         self.seek(SeekFrom::Current(offset))?;
@@ -85,6 +86,7 @@ impl<R: TellSeek, P> BufReader<R, P> {
             (reader_position R.stream_position self.new) offset result }
         ensures bytes { Keeps (R.stream_bytes self.old.inner) (R.stream_bytes self.new.inner) }
         ensures far { SeeksBy R.readies offset self.old result self.new }
+        ensures spared { (keep : ℕ) → Spared keep self.old self.new }
         ensures whole { IsBlock self.new.block }
     {
         self.seek_far(offset)
@@ -130,6 +132,7 @@ impl<R: TellSeek, P> Seek for BufReader<R, P> {
             × ConsumesFirst n self.old.block self.new.block × (self.new ≡ with_block self.old self.new.block) }
         ensures far { ¬ ((n : ℕ) × (offset ≡ pos n) × (n ≤ length self.old.block.bytes))
             → SeeksBy R.readies offset self.old result self.new }
+        ensures spared { (keep : ℕ) → Spared keep self.old self.new }
         ensures caused { self.new.log.seeks.faults ≡ with_fault self.old.log.seeks.faults result }
         ensures whole { IsBlock self.new.block }
     {

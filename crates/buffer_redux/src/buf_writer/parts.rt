@@ -1,7 +1,7 @@
 //! Parts that are taken in together.
 ghost use Rattle.std.specs.Prelude.{◌≡◌, ◌-◌, ◌≤◌, ◌++◌, length, map, min};
 ghost use Rattle.std.specs.List.{concat};
-ghost use Rattle.redux_buffer.specs.Block.{IsBlock, usable};
+ghost use Rattle.redux_buffer.specs.Block.{Extends, IsBlock, usable};
 ghost use Rattle.buffer_redux.specs.WriteParts.{MakesPlace, PutsIn, WritesParts};
 
 use crate::buf_writer::BufWriter;
@@ -75,6 +75,7 @@ fn append_parts(buf: &mut Buffer, parts: &[&[u8]])
     ensures capacity { buf.new.capacity ≡ buf.old.capacity }
     ensures limit { buf.new.limit ≡ buf.old.limit }
     ensures kind { buf.new.kind ≡ buf.old.kind }
+    ensures extends { Extends (concat (map (λ part. part.now) parts.now)) buf.old buf.new }
     ensures whole { IsBlock buf.new }
 {
     for part in parts {

@@ -16,6 +16,8 @@ returns-in_err-read_into_buf g c =
         others = m.others;
         limit = m.limit;
         capacity = m.capacity;
+        grown = m.grown;
+        consumed = m.consumed;
       }) f.reads f.in_order f.spared;
     })
 
@@ -30,5 +32,7 @@ returns g c =
         others = m.others;
         limit = m.limit;
         capacity = m.capacity;
+        grown = m.grown;
+        consumed = m.consumed;
       }) f.reads f.in_order f.spared;
     }

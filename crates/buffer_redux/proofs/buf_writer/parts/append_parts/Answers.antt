@@ -1,5 +1,6 @@
-use Rattle.std.proofs.Common.{◌++◌, ◌∙◌, ap, append-nil, arith, length, length-append, sym}
-use Rattle.buffer_redux.proofs.Parts.{from_part, none_from, one_more}
+use Rattle.std.proofs.Common.{◌≡◌, ◌++◌, ◌∙◌, ap, append-nil, arith, length, length-append, sym}
+use Rattle.redux_buffer.specs.BlockLaws.{OnlyRingMoves-joins}
+use Rattle.buffer_redux.proofs.Parts.{all_of, from_part, none_from, one_more}
 use Rattle.buffer_redux.proofs.buf_writer.parts.append_parts.Goals as goal
 
 pub append-requires : goal.append-requires
@@ -20,18 +21,38 @@ loop-part-preserved c =
       capacity = added.capacity ∙ before.capacity;
       limit = added.limit ∙ before.limit;
       kind = added.kind ∙ before.kind;
+      behind = omega (
+        arith,
+        before.behind,
+        before.room,
+        added.usable,
+        simp length-append at (ap length added.bytes),
+        simp length-append at (ap length rest),
+      );
+      consumed = added.consumed ∙ before.consumed;
+      moved = OnlyRingMoves-joins c.args.buf.now c.loop-part.buf c.append.new.self before.kind before.moved added.moved;
       whole = c.append.ensures.whole;
     }
 
 pub returns : goal.returns
 returns c =
     let last = c.loop-part.invariant in
+    let all : c.loop-part.buf.bytes ≡ c.args.buf.now.bytes ++ all_of c.args.parts.now = sym (append-nil c.loop-part.buf.bytes)
+    ∙ ap (λ l. c.loop-part.buf.bytes ++ l) (sym (none_from c.args.parts.now c.loop-part.part-index c.loop-part-test.false))
+    ∙ last.bytes in
     record {
-      bytes = sym (append-nil c.loop-part.buf.bytes)
-          ∙ ap (λ l. c.loop-part.buf.bytes ++ l) (sym (none_from c.args.parts.now c.loop-part.part-index c.loop-part-test.false))
-          ∙ last.bytes;
+      bytes = all;
       capacity = last.capacity;
       limit = last.limit;
       kind = last.kind;
+      extends = record {
+        bytes = all;
+        usable = omega (arith, last.behind, simp length-append at (ap length all));
+        capacity = last.capacity;
+        limit = last.limit;
+        kind = last.kind;
+        consumed = last.consumed;
+        moved = last.moved;
+      };
       whole = last.whole;
     }

@@ -1,5 +1,5 @@
-use Rattle.std.proofs.Common.{◌≡◌, ◌≤◌, ◌++◌, drop, length}
-use Rattle.redux_buffer.specs.Block.{IsBlock, usable}
+use Rattle.std.proofs.Common.{◌≡◌, ◌+◌, ◌≤◌, ◌++◌, drop, length}
+use Rattle.redux_buffer.specs.Block.{IsBlock, OnlyRingMoves, usable}
 use Rattle.buffer_redux.proofs.Parts.{all_of}
 use Rattle.buffer_redux.proofs.buf_writer.parts.append_parts.Given as goal
 
@@ -11,5 +11,8 @@ invariant-loop-part l = record {
   capacity : l.buf.capacity ≡ l.initial.buf.capacity;
   limit : l.buf.limit ≡ l.initial.buf.limit;
   kind : l.buf.kind ≡ l.initial.buf.kind;
+  behind : usable l.buf + length l.buf.bytes ≡ usable l.initial.buf + length l.initial.buf.bytes;
+  consumed : l.buf.consumed ≡ l.initial.buf.consumed;
+  moved : OnlyRingMoves l.initial.buf l.buf;
   whole : IsBlock l.buf;
 }

@@ -29,7 +29,7 @@ returns-then-usable_space-len g c = parts_fit _ _ g.met.W.TellWrite.trace_none c
       limit = c.append_parts.ensures.limit;
       kind = c.append_parts.ensures.kind;
       whole = c.append_parts.ensures.whole;
-    }))
+    })) (rw (← c.self.view_is) c.append_parts.ensures.extends)
 
 pub returns-in-Ok : goal.returns-in-Ok
 returns-in-Ok g c =
