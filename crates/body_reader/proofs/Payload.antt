@@ -1,0 +1,258 @@
+-- What a call of a reader of a body comes to, seen by contracts.
+use Rattle.std.proofs.Common.{◌≡◌, ℕ, zero, suc, ◌<◌, ◌≤◌, ◌⊎◌, List, [], ◌++◌, length, Option, Result, MatchResult, Ok, Err, sym, ap, subst, ◌∙◌, inl, inr, refl, arith, append-nil, length-append}
+use Rattle.buffer_redux.specs.Buffered.{Buffered}
+use Rattle.buffer_redux.specs.Policy.{ReadRules}
+use Rattle.buffer_redux.specs.StreamLog.{StreamLog, after_read}
+use Rattle.body_reader.specs.declared.error.BodyError.{BodyError}
+use Rattle.body_reader.specs.declared.error.BodyError.TheVariants.{Wrong, Truncated, Io}
+use Rattle.body_reader.specs.declared.progress.Progress.{Progress}
+use Rattle.body_reader.specs.Between.{EachGave, FailsSo, FillsOn, HandsOn, Takes, handed_out}
+use Rattle.body_reader.specs.BodyReader.{BodyState, BodyWent, EndsEarly, FillsPayload, IsBodyReader, IsWhole, ReadsPayload, Stops}
+use Rattle.body_reader.specs.BodyReaderLaws.{BodyWent-none}
+use Rattle.body_reader.specs.BetweenLaws.{EachGave-none}
+use Rattle.body_reader.specs.Coding.{Grammar, IsDone, IsKnown, IsLawful, IsOpen, Leads}
+use Rattle.body_reader.specs.CodingLaws.{Leads-done, Leads-left, Leads-then, Leads-whole}
+
+-- a reader of a body, by its parts
+abbrev pub seen : {S Q C P : Type 0} → Buffered S Q → C → Progress P → StreamLog → ℕ → BodyState S Q C P
+seen r c p calls known = record {
+  reader = r;
+  coding = c;
+  place = p.place;
+  taken = p.taken.log.fills.consumed;
+  calls = calls;
+  known = known;
+}
+
+-- an Ok read is noted
+abbrev pub after_payload : {W : Type 0} → StreamLog → List ℕ → Result ℕ (BodyError W) → StreamLog
+after_payload calls out (Ok n) = after_read calls out (Ok n)
+after_payload calls out (Err e) = calls
+
+noted_after : {W : Type 0} (calls : StreamLog) (out : List ℕ) (answer : Result ℕ (BodyError W))
+    → MatchResult answer (λ n. after_payload calls out answer ≡ after_read calls out (Ok n))
+    (λ _. after_payload calls out answer ≡ calls)
+noted_after calls out (Ok n) = refl
+noted_after calls out (Err e) = refl
+
+-- the payload that a call handed out is noted
+given_after : {W : Type 0} (calls : StreamLog) (out : List ℕ) (answer : Result ℕ (BodyError W))
+    → (after_payload calls out answer).reads.given ≡ calls.reads.given ++ handed_out out answer
+given_after calls out (Ok n) = refl
+given_after calls out (Err e) = sym (append-nil calls.reads.given)
+
+-- an Ok answer is noted, and no other
+pub noted_none : {W : Type 0} (calls : StreamLog) (out : List ℕ) (answer : Result ℕ (BodyError W)) (e : BodyError W)
+    → answer ≡ Err e → calls ≡ after_payload calls out answer
+noted_none calls out answer e is = ap (after_payload calls out) (sym is)
+
+pub noted_some : {W : Type 0} (calls later : StreamLog) (out : List ℕ) (answer : Result ℕ (BodyError W)) (n : ℕ)
+    → answer ≡ Ok n → later ≡ after_payload {W = W} calls out (Ok n) → later ≡ after_payload calls out answer
+noted_some calls later out answer n is noted = noted ∙ ap (after_payload calls out) (sym is)
+
+module _ {S Q C P W : Type 0} (remaining : S → Option (List ℕ)) (rules : ReadRules Q) (g : Grammar P W)
+    (r : Buffered S Q) (c : C) (p : Progress P) (calls : StreamLog) (k : ℕ) (r' : Buffered S Q) (q : Progress P)
+    (calls' : StreamLog) (k' : ℕ) where
+  module _ (wire handed : List ℕ) (takes : Takes remaining rules g r p wire handed r' q)
+      (given : calls'.reads.given ≡ calls.reads.given ++ handed) where
+    pub state_is : IsBodyReader g (seen r c p calls k) → IsKnown g q.place k' r'.block.bytes
+        → IsBodyReader g (seen r' c q calls' k')
+    state_is is known =
+        let order = takes.along.in_order in
+        let joined = Leads-then g g.first p.place q.place p.taken.log.fills.consumed wire calls.reads.given handed
+        r.block.bytes order.got r'.block.bytes order.equal is.leads takes.leads in
+        record {
+          leads = subst (λ l. Leads g g.first l calls'.reads.given q.place r'.block.bytes) (sym takes.taken)
+              (subst (λ l. Leads g g.first (p.taken.log.fills.consumed ++ wire) l q.place r'.block.bytes) (sym given) joined);
+          place = takes.place;
+          room = omega (arith, is.room, takes.along.capacity);
+          known = known;
+        }
+
+    pub state_went : BodyWent remaining rules g (seen r c p calls k) handed (seen r' c q calls' k')
+    state_went = record {
+      wire = wire;
+      along = takes.along;
+      taken = takes.taken;
+      handed = given;
+      coding = refl;
+      keeps = takes.keeps;
+    }
+
+  -- what is buffered settles nothing
+  early : IsBodyReader g (seen r' c q calls' k') → IsOpen g q.place r'.block.bytes → EndsEarly g (seen r' c q calls' k')
+  early now is = record {
+    settles_nothing = is;
+    none = λ body payload xs body_is same.
+        let left = Leads-left g q.taken.log.fills.consumed calls'.reads.given q.place r'.block.bytes now.leads body payload
+        body_is xs [] (same ∙ ap (λ l. q.taken.log.fills.consumed ++ l) (sym (append-nil r'.block.bytes))) in
+        omega (
+          arith,
+          is.further left.rest left.later left.completes ([], xs, left.behind),
+          ap length left.behind,
+          length-append left.rest xs,
+          length-append r'.block.bytes [],
+        );
+  }
+
+  pub stops : IsLawful g → IsBodyReader g (seen r' c q calls' k') → (e : BodyError W) → FailsSo remaining rules g r e r' q
+      → Stops g (seen r c p calls k) e (seen r' c q calls' k')
+  stops lawful now (Wrong why count) (well, right, wrong) = (
+    right ∙ q.counted,
+    well,
+    record {
+      name = wrong;
+      none = λ body payload xs rest body_is same.
+          let left = Leads-left g q.taken.log.fills.consumed calls'.reads.given q.place r'.block.bytes now.leads body payload
+          body_is xs rest same in
+          lawful.never q.place r'.block.bytes why left.rest left.later now.place wrong left.completes (rest, xs, left.behind);
+    },
+  )
+  stops lawful now (Truncated count) (met, right, is) = (right ∙ q.counted, met, early now is)
+  stops lawful now (Io e) (fault, is) = (fault, early now is)
+
+-- a read of payload
+module _ {S Q C P W : Type 0} (remaining : S → Option (List ℕ)) (rules : ReadRules Q) (g : Grammar P W) (lawful : IsLawful g)
+    (r : Buffered S Q) (c : C) (p : Progress P) (calls : StreamLog) (k : ℕ) (is : IsBodyReader g (seen r c p calls k)) (out : List ℕ)
+    (answer : Result ℕ (BodyError W)) (r' : Buffered S Q) (q : Progress P)
+    (hands : HandsOn remaining rules g r p out answer r' q) (k' : ℕ) (known : IsKnown g q.place k' r'.block.bytes) where
+  abbrev after : BodyState S Q C P
+  after = seen r' c q (after_payload calls out answer) k'
+
+  still : IsBodyReader g after
+  still = state_is remaining rules g r c p calls k r' q (after_payload calls out answer) k' hands.0.wire (handed_out out answer)
+      hands.0.takes (given_after calls out answer) is known
+
+  answered : (a : Result ℕ (BodyError W))
+      → MatchResult a (λ n. EachGave r r' × ((n ≤ length out) × (n ≡ 0 → 0 < length out → IsDone g q.place)))
+      (λ e. FailsSo remaining rules g r e r' q)
+      → MatchResult a (λ n. (n ≤ length out) × EachGave r r' × (n ≡ 0 → 0 < length out → IsWhole g after))
+      (λ e. Stops g (seen r c p calls k) e after)
+  answered (Ok n) ends = (
+    ends.1.0,
+    ends.0,
+    (λ none some. Leads-whole g after.taken after.calls.reads.given q.place r'.block.bytes still.leads (ends.1.1 none some)),
+  )
+  answered (Err e) ends =
+      stops remaining rules g r c p calls k r' q (after_payload calls out answer) k' lawful still e ends
+
+  idle : (IsWhole g (seen r c p calls k) ⊎ (length out ≡ 0)) → r' ≡ r
+  idle (inl whole) = (hands.0.idle (Leads-done g lawful p.taken.log.fills.consumed calls.reads.given p.place r.block.bytes
+      is.leads is.place whole)).0
+  idle (inr none) = hands.1 none
+
+  pub payload_read : ReadsPayload remaining rules g (seen r c p calls k) out answer after
+  payload_read = record {
+    went = state_went remaining rules g r c p calls k r' q (after_payload calls out answer) k' hands.0.wire
+        (handed_out out answer) hands.0.takes (given_after calls out answer);
+    answers = answered answer hands.0.ends;
+    asked = hands.0.asked;
+    idle = idle;
+    noted = noted_after calls out answer;
+    whole = still;
+  }
+
+-- the same with the calls as they were noted
+module _ {S Q C P W : Type 0} (remaining : S → Option (List ℕ)) (rules : ReadRules Q) (grammar : C → Grammar P W)
+    (lawful : (c : C) → IsLawful (grammar c)) (d : BodyState S Q C P) (r : Buffered S Q) (c : C) (p : Progress P)
+    (calls : StreamLog) (k : ℕ) (view : seen r c p calls k ≡ d) (is : IsBodyReader (grammar c) (seen r c p calls k)) (out : List ℕ)
+    (answer : Result ℕ (BodyError W)) (r' : Buffered S Q) (q : Progress P)
+    (hands : HandsOn remaining rules (grammar c) r p out answer r' q) (k' : ℕ)
+    (known : IsKnown (grammar c) q.place k' r'.block.bytes) (calls' : StreamLog)
+    (noted : calls' ≡ after_payload calls out answer) where
+  pub reads_payload : ReadsPayload remaining rules (grammar d.coding) d out answer (seen r' c q calls' k')
+  reads_payload = subst (λ x. ReadsPayload remaining rules (grammar x.coding) x out answer (seen r' c q calls' k')) view
+      (subst (λ l. ReadsPayload remaining rules (grammar c) (seen r c p calls k) out answer (seen r' c q l k')) (sym noted)
+      (payload_read remaining rules (grammar c) (lawful c) r c p calls k is out answer r' q hands k' known))
+
+  pub still_reader : IsBodyReader (grammar c) (seen r' c q calls' k')
+  still_reader = subst (λ l. IsBodyReader (grammar c) (seen r' c q l k')) (sym noted)
+      (payload_read remaining rules (grammar c) (lawful c) r c p calls k is out answer r' q hands k' known).whole
+
+-- a fill
+module _ {S Q C P W : Type 0} (remaining : S → Option (List ℕ)) (rules : ReadRules Q) (g : Grammar P W) (lawful : IsLawful g)
+    (r : Buffered S Q) (c : C) (p : Progress P) (calls : StreamLog) (k : ℕ) (is : IsBodyReader g (seen r c p calls k))
+    (r' : Buffered S Q) (q : Progress P) (none : k ≡ 0) where
+  filled_state : (answer : Result ℕ (BodyError W)) → FillsOn remaining rules g r p answer r' q → (n : ℕ)
+      → IsKnown g q.place n r'.block.bytes → IsBodyReader g (seen r' c q calls n)
+  filled_state answer fills n known = state_is remaining rules g r c p calls k r' q calls n fills.wire [] fills.takes
+      (sym (append-nil calls.reads.given)) is known
+
+  filled_went : (answer : Result ℕ (BodyError W)) → FillsOn remaining rules g r p answer r' q → (n : ℕ)
+      → BodyWent remaining rules g (seen r c p calls k) [] (seen r' c q calls n)
+  filled_went answer fills n = state_went remaining rules g r c p calls k r' q calls n fills.wire [] fills.takes
+      (sym (append-nil calls.reads.given))
+
+  done : IsWhole g (seen r c p calls k) → IsDone g p.place
+  done whole = Leads-done g lawful p.taken.log.fills.consumed calls.reads.given p.place r.block.bytes is.leads is.place whole
+
+  -- where the body ended nothing is done
+  none_known : (n : ℕ) → FillsOn remaining rules g r p (Ok n) r' q → IsDone g p.place → n ≡ k
+  none_known zero fills at = sym none
+  none_known (suc n) fills at = absurd ((fills.ends.1.0.1 (omega arith)).goes_on
+      (subst (λ x. IsDone g x.place) (sym (fills.idle at).1) at))
+
+  same : (n : ℕ) → (r' ≡ r) × (q ≡ p) → n ≡ k → seen r' c q calls n ≡ seen r c p calls k
+  same n both known = cc
+
+  pub filled_is : (n : ℕ) → FillsOn remaining rules g r p (Ok n) r' q → IsBodyReader g (seen r' c q calls n)
+  filled_is n fills = filled_state (Ok n) fills n fills.ends.1.0
+
+  pub filled : (n : ℕ) → FillsOn remaining rules g r p (Ok n) r' q
+      → FillsPayload remaining rules g (seen r c p calls k) (Ok n) (seen r' c q calls n)
+  filled n fills = record {
+    went = filled_went (Ok n) fills n;
+    answers = (
+      refl,
+      fills.ends.0,
+      (λ zero. Leads-whole g q.taken.log.fills.consumed calls.reads.given q.place r'.block.bytes (filled_is n fills).leads
+          (fills.ends.1.1 zero)),
+    );
+    asked = fills.asked;
+    still = λ either. elim either [
+      | inl some ↦ absurd (omega (arith, some, none))
+      | inr whole ↦ same n (fills.idle (done whole)) (none_known n fills (done whole))
+    ];
+    whole = filled_is n fills;
+  }
+
+  pub not_filled_is : (e : BodyError W) → FillsOn remaining rules g r p (Err e) r' q → IsBodyReader g (seen r' c q calls k)
+  not_filled_is e fills =
+      filled_state (Err e) fills k (omega (arith, none), λ some. absurd (omega (arith, some, none)))
+
+  pub not_filled : (e : BodyError W) → FillsOn remaining rules g r p (Err e) r' q
+      → FillsPayload remaining rules g (seen r c p calls k) (Err e) (seen r' c q calls k)
+  not_filled e fills = record {
+    went = filled_went (Err e) fills k;
+    answers = stops remaining rules g r c p calls k r' q calls k lawful (not_filled_is e fills) e fills.ends;
+    asked = fills.asked;
+    still = λ either. elim either [
+      | inl some ↦ absurd (omega (arith, some, none))
+      | inr whole ↦ same k (fills.idle (done whole)) refl
+    ];
+    whole = not_filled_is e fills;
+  }
+
+-- payload was known
+pub fill_known : {S Q C P W : Type 0} (remaining : S → Option (List ℕ)) (rules : ReadRules Q) (g : Grammar P W)
+    (d : BodyState S Q C P) → IsBodyReader g d → 0 < d.known → FillsPayload remaining rules g d (Ok d.known) d
+fill_known remaining rules g d is some = record {
+  went = BodyWent-none remaining rules g d;
+  answers = (refl, EachGave-none d.reader, λ none. absurd (omega (arith, some, none)));
+  asked = inl refl;
+  still = λ _. refl;
+  whole = is;
+}
+
+-- as the reader is seen
+pub fills_seen : {S Q C P W : Type 0} (remaining : S → Option (List ℕ)) (rules : ReadRules Q) (grammar : C → Grammar P W)
+    (s d : BodyState S Q C P) (answer : Result ℕ (BodyError W)) (t : BodyState S Q C P) → s ≡ d
+    → FillsPayload remaining rules (grammar s.coding) s answer t → FillsPayload remaining rules (grammar d.coding) d answer t
+fills_seen remaining rules grammar s d answer t same fills =
+    subst (λ x. FillsPayload remaining rules (grammar x.coding) x answer t) same fills
+
+pub known_seen : {S Q C P W : Type 0} (remaining : S → Option (List ℕ)) (rules : ReadRules Q) (grammar : C → Grammar P W)
+    (s d : BodyState S Q C P) (answer : Result ℕ (BodyError W)) → s ≡ d
+    → FillsPayload remaining rules (grammar s.coding) s answer s → FillsPayload remaining rules (grammar d.coding) d answer d
+known_seen remaining rules grammar s d answer same fills =
+    subst (λ x. FillsPayload remaining rules (grammar x.coding) x answer x) same fills

@@ -1,0 +1,272 @@
+-- What is no payload is taken, and how that ends.
+use Rattle.std.proofs.Common.{◌≡◌, ◌≢◌, ℕ, ◌<◌, ◌≤◌, List, [], ◌++◌, length, min, take, drop, Option, Result, Ok, Err, sym, ap, subst, ◌∙◌, arith, inl, inr, refl}
+use Rattle.std.proofs.lemmas.List.{length-drop, length-take-le}
+use Rattle.std.specs.declared.io.Error.{Error}
+use Rattle.buffer_redux.specs.Buffered.{Buffered}
+use Rattle.buffer_redux.specs.BufReader.{ReaderConsumes, ReaderKeeps}
+use Rattle.buffer_redux.specs.Peek.{ReadsAhead}
+use Rattle.buffer_redux.specs.Policy.{ReadRules}
+use Rattle.buffer_redux.specs.ReaderLaws.{ReaderConsumes-along}
+use Rattle.buffer_redux.specs.Unbuffer.{unbuffered}
+use Rattle.body_reader.specs.declared.coding.Look.{Look}
+use Rattle.body_reader.specs.declared.coding.Look.TheVariants as look
+use Rattle.body_reader.specs.declared.error.BodyError.TheVariants.{Wrong, Truncated, Io}
+use Rattle.body_reader.specs.declared.progress.Progress.{Progress}
+use Rattle.body_reader.specs.AskingLaws.{AskedWhere-same}
+use Rattle.body_reader.specs.Between.{AsksOpen, EachGave, KeepsBuffer, PassesOn, Skips, Takes, spend}
+use Rattle.body_reader.specs.BetweenLaws.{AsksOpen-then, EachGave-joins, EachGave-none, EachGave-same, Faulted-after, MetEnd-after, ReadsAhead-asks, ReadsAhead-ended, ReadsAhead-failed, ReadsAhead-gave, ReadsAhead-keeps, ReadsAhead-open, Takes-joins, Takes-none, Takes-still}
+use Rattle.body_reader.specs.Coding.{Grammar, IsDone, Lacks, Leads, LeadsOpen, Looks}
+use Rattle.body_reader.specs.CodingLaws.{Lacks-open}
+
+-- these bytes were noted, which lead there
+pub record Notes {P : Type 0} (p : Progress P) (there : P) (bytes : List ℕ) (q : Progress P) : Type 0 where
+  pub place : q.place ≡ there
+  pub taken : q.taken.log.fills.consumed ≡ p.taken.log.fills.consumed ++ bytes
+
+-- the first bytes were consumed, and what is buffered of them is what stood behind
+pub consumes_left : {S Q : Type 0} (rules : ReadRules Q) (n : ℕ) (s t : Buffered S Q) → n ≤ length s.block.bytes
+    → ReaderConsumes rules n s t → t.block.bytes ≡ drop n s.block.bytes
+consumes_left rules n s t held gone =
+    let all : min n (length s.block.bytes) ≡ n = omega (arith, held) in
+    gone.told_policy.law.bytes ∙ gone.dropped.bytes ∙ ap (λ j. drop j s.block.bytes) all
+
+pub consumes_keeps : {S Q : Type 0} (remaining : S → Option (List ℕ)) (rules : ReadRules Q) (least n : ℕ) (s t : Buffered S Q)
+    → ReaderConsumes rules n s t → ReaderKeeps remaining rules s t → KeepsBuffer rules least s t
+consumes_keeps remaining rules least n s t gone keeps = record {
+  kind = keeps.kind;
+  room = λ leaves.
+      let same = leaves s.policy gone.left (min n (length s.block.bytes)) t.policy t.block gone.told_policy.allowed in
+      (same.0 ∙ gone.dropped.capacity, same.1 ∙ gone.dropped.limit);
+  spared = λ keep high claims. keeps.sparing keep claims;
+}
+
+-- bytes that lead on are taken
+module _ {S Q P W : Type 0} (remaining : S → Option (List ℕ)) (rules : ReadRules Q) (g : Grammar P W) (n : ℕ)
+    (s : Buffered S Q) (p : Progress P) (t : Buffered S Q) (q : Progress P) (handed : List ℕ) where
+  pub takes_front : n ≤ length s.block.bytes → t.inner ≡ s.inner → ReaderConsumes rules n s t
+      → ReaderKeeps remaining rules s t → (there : P) → Notes p there (take n s.block.bytes) q
+      → Leads g p.place (take n s.block.bytes) handed there (drop n s.block.bytes) → g.is_place there
+      → Takes remaining rules g s p (take n s.block.bytes) handed t q
+  takes_front held inner gone keeps there notes leads place = record {
+    along = ReaderConsumes-along remaining rules s n t inner gone;
+    leads = subst (Leads g p.place (take n s.block.bytes) handed q.place) (sym (consumes_left rules n s t held gone))
+        (subst (λ x. Leads g p.place (take n s.block.bytes) handed x (drop n s.block.bytes)) (sym notes.place) leads);
+    taken = notes.taken;
+    place = subst g.is_place (sym notes.place) place;
+    keeps = consumes_keeps remaining rules g.ahead n s t gone keeps;
+  }
+
+-- so far these bytes were taken, which are no payload, and nobody was asked
+pub record Passed {S Q P W : Type 0} (remaining : S → Option (List ℕ)) (rules : ReadRules Q) (g : Grammar P W)
+    (s : Buffered S Q) (p : Progress P) (m : Buffered S Q) (q : Progress P) : Type 0 where
+  pub wire : List ℕ
+  pub takes : Takes remaining rules g s p wire [] m q
+  pub told : m.log ≡ s.log
+  pub spends : spend g q.place m.block.bytes ≤ spend g p.place s.block.bytes
+  pub idle : IsDone g p.place → (m ≡ s) × (q ≡ p)
+
+-- the same, and each read gave some
+pub record Skipped {S Q P W : Type 0} (remaining : S → Option (List ℕ)) (rules : ReadRules Q) (g : Grammar P W)
+    (s : Buffered S Q) (p : Progress P) (m : Buffered S Q) (q : Progress P) : Type 0 where
+  pub wire : List ℕ
+  pub takes : Takes remaining rules g s p wire [] m q
+  pub gave : EachGave s m
+  pub asked : AsksOpen remaining rules g s p.place m
+  pub room : g.ahead ≤ m.block.capacity
+  pub still : IsDone g p.place → (m ≡ s) × (q ≡ p)
+
+module _ {S Q P W : Type 0} (remaining : S → Option (List ℕ)) (rules : ReadRules Q) (g : Grammar P W) where
+  pub passed_none : (s : Buffered S Q) (p : Progress P) → g.is_place p.place → Passed remaining rules g s p s p
+  passed_none s p place = record {
+    wire = [];
+    takes = Takes-none remaining rules g s p place;
+    told = refl;
+    spends = omega arith;
+    idle = λ _. (refl, refl);
+  }
+
+  module _ (s : Buffered S Q) (p : Progress P) (m : Buffered S Q) (q : Progress P) (so : Passed remaining rules g s p m q) where
+    pub passed_looks : (l : Look P W) → Looks g q.place m.block.bytes l → ((n : ℕ) (r : P) → l ≢ look.Passed n r)
+        → PassesOn remaining rules g s p l m q
+    passed_looks l looks no_more = record {
+      wire = so.wire;
+      takes = so.takes;
+      told = so.told;
+      looks = looks;
+      no_more = no_more;
+      spends = so.spends;
+      idle = so.idle;
+    }
+
+    -- bytes that are no payload come next
+    module _ (n : ℕ) (next : P) (looks : Looks g q.place m.block.bytes (look.Passed n next)) (q' : Progress P)
+        (notes : Notes q next (take n m.block.bytes) q') (t : Buffered S Q) (inner : t.inner ≡ m.inner)
+        (gone : ReaderConsumes rules n m t) (kept : ReaderKeeps remaining rules m t) where
+      pub passed_on : Passed remaining rules g s p t q'
+      passed_on =
+          let front = takes_front remaining rules g n m q t q' [] looks.1 inner gone kept next notes looks.2.leads looks.3 in
+          record {
+            wire = so.wire ++ take n m.block.bytes;
+            takes = Takes-joins remaining rules g s p m q t q' so.wire [] (take n m.block.bytes) [] so.takes front;
+            told = gone.told ∙ so.told;
+            spends = omega (
+              arith,
+              so.spends,
+              looks.2.few,
+              length-take-le n m.block.bytes looks.1,
+              ap g.between notes.place,
+              ap length (consumes_left rules n m t looks.1 gone),
+              length-drop n m.block.bytes,
+              looks.1,
+            );
+            idle = λ done. absurd (looks.4 (subst (λ x. IsDone g x.place) (sym (so.idle done).1) done));
+          }
+
+      pub passed_less : g.between q'.place < g.between q.place
+      passed_less = omega (
+        arith,
+        looks.0,
+        looks.2.few,
+        length-take-le n m.block.bytes looks.1,
+        ap g.between notes.place,
+      )
+
+  pub skipped_none : (s : Buffered S Q) (p : Progress P) → g.is_place p.place → g.ahead ≤ s.block.capacity
+      → Skipped remaining rules g s p s p
+  skipped_none s p place room = record {
+    wire = [];
+    takes = Takes-none remaining rules g s p place;
+    gave = EachGave-none s;
+    asked = inl refl;
+    room = room;
+    still = λ _. (refl, refl);
+  }
+
+  module _ (s : Buffered S Q) (p : Progress P) (m : Buffered S Q) (q : Progress P) (so : Skipped remaining rules g s p m q)
+      (l : Look P W) (t : Buffered S Q) (r : Progress P) (passes : PassesOn remaining rules g m q l t r) where
+    -- all that is buffered was passed
+    skipped_there : Skipped remaining rules g s p t r
+    skipped_there = record {
+      wire = so.wire ++ passes.wire;
+      takes = Takes-joins remaining rules g s p m q t r so.wire [] passes.wire [] so.takes passes.takes;
+      gave = EachGave-joins s m t so.gave (EachGave-same m t passes.told);
+      asked = AskedWhere-same (LeadsOpen g p.place []) (unbuffered s) (unbuffered m) (unbuffered t) passes.told so.asked;
+      room = omega (arith, so.room, passes.takes.along.capacity);
+      still = λ done. (
+          let first = so.still done in
+          let then = passes.idle (subst (λ x. IsDone g x.place) (sym first.1) done) in
+          (then.0 ∙ first.0, then.1 ∙ first.1)
+          );
+    }
+
+    -- payload comes next
+    pub skips_payload : (sure : ℕ) → l ≡ look.Payload sure → Skips remaining rules g s p (Ok sure) t r
+    skips_payload sure is = record {
+      wire = skipped_there.wire;
+      takes = skipped_there.takes;
+      asked = skipped_there.asked;
+      ends = (skipped_there.gave, inr (subst (Looks g r.place t.block.bytes) is passes.looks));
+      idle = skipped_there.still;
+    }
+
+    -- the body ended
+    pub skips_done : l ≡ look.Ended → Skips remaining rules g s p (Ok 0) t r
+    skips_done is = record {
+      wire = skipped_there.wire;
+      takes = skipped_there.takes;
+      asked = skipped_there.asked;
+      ends = (skipped_there.gave, inl (refl, subst (Looks g r.place t.block.bytes) is passes.looks));
+      idle = skipped_there.still;
+    }
+
+    -- what comes next is wrong
+    pub skips_wrong : (why : W) → l ≡ look.Wrong why → Skips remaining rules g s p (Err (Wrong why r.count)) t r
+    skips_wrong why is =
+        let looks : Looks g r.place t.block.bytes (look.Wrong why) = subst (Looks g r.place t.block.bytes) is passes.looks in
+        record {
+          wire = skipped_there.wire;
+          takes = skipped_there.takes;
+          asked = skipped_there.asked;
+          ends = (skipped_there.gave, refl, looks.0);
+          idle = skipped_there.still;
+        }
+
+    -- there are too few bytes
+    module _ (n : ℕ) (is : l ≡ look.More n) {A : Type 0} (answer : Result A Error) (u : Buffered S Q)
+        (ahead' : ReadsAhead remaining rules (min n t.block.capacity) t answer u) where
+      lacks : Lacks g r.place n t.block.bytes
+      lacks = subst (Looks g r.place t.block.bytes) is passes.looks
+
+      pub fits : min n t.block.capacity ≡ n
+      fits = omega (arith, skipped_there.room, lacks.most)
+
+      ahead : ReadsAhead remaining rules n t answer u
+      ahead = subst (λ k. ReadsAhead remaining rules k t answer u) fits ahead'
+
+      takes_still : Takes remaining rules g s p skipped_there.wire [] u r
+      takes_still = Takes-still remaining rules g s p t r u skipped_there.wire [] skipped_there.takes ahead.along
+          (ReadsAhead-keeps remaining rules n t answer u ahead g.ahead lacks.most)
+
+      asks_then : AsksOpen remaining rules g s p.place u
+      asks_then = AsksOpen-then remaining rules g s p t r u skipped_there.wire skipped_there.takes skipped_there.gave
+          skipped_there.asked (ReadsAhead-asks remaining rules g r.place n t answer u lacks ahead)
+
+      never_done : IsDone g p.place → (u ≡ s) × (r ≡ p)
+      never_done done = absurd ((Lacks-open g r.place n t.block.bytes lacks).goes_on
+          (subst (λ x. IsDone g x.place) (sym (skipped_there.still done).1) done))
+
+    module _ (n : ℕ) (is : l ≡ look.More n) {A : Type 0} (u : Buffered S Q) where
+      pub skips_fails : (e : Error) → ReadsAhead {A = A} remaining rules (min n t.block.capacity) t (Err e) u
+          → Skips remaining rules g s p (Err (Io e)) u r
+      skips_fails e ahead' =
+          let a = ahead n is (Err e) u ahead' in
+          record {
+            wire = skipped_there.wire;
+            takes = takes_still n is (Err e) u ahead';
+            asked = asks_then n is (Err e) u ahead';
+            ends = (
+              Faulted-after s t u skipped_there.gave e (ReadsAhead-failed {A = A} remaining rules n t u e a),
+              ReadsAhead-open remaining rules g r.place n t (Err e) u (lacks n is (Err e) u ahead') a a.ended.0,
+            );
+            idle = never_done n is (Err e) u ahead';
+          }
+
+      pub skips_cut : (a : A) → ReadsAhead remaining rules (min n t.block.capacity) t (Ok a) u → length u.block.bytes < n
+          → Skips remaining rules g s p (Err (Truncated r.count)) u r
+      skips_cut a ahead' few =
+          let so' = ahead n is (Ok a) u ahead' in
+          record {
+            wire = skipped_there.wire;
+            takes = takes_still n is (Ok a) u ahead';
+            asked = asks_then n is (Ok a) u ahead';
+            ends = (
+              MetEnd-after s t u skipped_there.gave (ReadsAhead-ended remaining rules n t u a so' few),
+              refl,
+              ReadsAhead-open remaining rules g r.place n t (Ok a) u (lacks n is (Ok a) u ahead') so' few,
+            );
+            idle = never_done n is (Ok a) u ahead';
+          }
+
+      pub skipped_more : (a : A) → ReadsAhead remaining rules (min n t.block.capacity) t (Ok a) u → n ≤ length u.block.bytes
+          → Skipped remaining rules g s p u r
+      skipped_more a ahead' enough = record {
+        wire = skipped_there.wire;
+        takes = takes_still n is (Ok a) u ahead';
+        gave = EachGave-joins s t u skipped_there.gave
+            (ReadsAhead-gave remaining rules n t u a (ahead n is (Ok a) u ahead') enough);
+        asked = asks_then n is (Ok a) u ahead';
+        room = omega (arith, skipped_there.room, ahead'.capacity);
+        still = never_done n is (Ok a) u ahead';
+      }
+
+    pub skipped_less : (n : ℕ) (u : Buffered S Q) → n ≤ length u.block.bytes → length t.block.bytes < n → n ≤ g.ahead
+        → spend g r.place u.block.bytes < spend g q.place m.block.bytes
+    skipped_less n u enough few most = omega (arith, enough, few, most, passes.spends)
+
+    pub lacks_here : (n : ℕ) → l ≡ look.More n → (length t.block.bytes < n) × (n ≤ g.ahead)
+    lacks_here n is =
+        let short : Lacks g r.place n t.block.bytes = subst (Looks g r.place t.block.bytes) is passes.looks in
+        (short.few, short.most)
+
+    pub fits_here : (n : ℕ) → l ≡ look.More n → min n t.block.capacity ≡ n
+    fits_here n is = omega (arith, skipped_there.room, (lacks_here n is).1)

@@ -1,0 +1,69 @@
+use Rattle.std.proofs.Common.{◌<◌, ◌≤◌, ap, arith, length, min}
+use Rattle.std.proofs.lemmas.List.{length-take}
+use Rattle.std.proofs.lemmas.Result.{err_from_is_err_and}
+use Rattle.body_reader.proofs.Skipping.{fits_here, lacks_here, skipped_less, skipped_more, skipped_none, skips_cut, skips_done, skips_fails, skips_payload, skips_wrong}
+use Rattle.body_reader.proofs.steps.skip.Goals as goal
+
+pub loop-sure-init : goal.loop-sure-init
+loop-sure-init g c = skipped_none _ _ _ _ _ c.requires.place c.requires.room
+
+pub returns-in-Payload : goal.returns-in-Payload
+returns-in-Payload g c = skips_payload _ _ _ _ _ _ _ c.loop-sure.invariant _ _ _ c.pass.ensures _ c.in-Payload.is
+
+pub returns-in-Wrong : goal.returns-in-Wrong
+returns-in-Wrong g c = skips_wrong _ _ _ _ _ _ _ c.loop-sure.invariant _ _ _ c.pass.ensures _ c.in-Wrong.is
+
+pub returns-in-Ended : goal.returns-in-Ended
+returns-in-Ended g c = skips_done _ _ _ _ _ _ _ c.loop-sure.invariant _ _ _ c.pass.ensures c.in-Ended.is
+
+pub returns-in_err-shown-in-More : goal.returns-in_err-shown-in-More
+returns-in_err-shown-in-More g c =
+    let found = rw c.in_err-shown-in-More.was at c.peek.follows.holds-at-none in
+    let p = err_from_is_err_and c.from_residual.result c.from_residual.ensures.1 in
+    rw (p.1, p.2) (skips_fails _ _ _ _ _ _ _ c.loop-sure.invariant _ _ _ c.pass.ensures _ c.in-More.is _ _ found.0)
+
+pub returns-then-shown-need : goal.returns-then-shown-need
+returns-then-shown-need g c =
+    let t = c.peek.follows.lender-at-none in
+    let n = c.in-More.need in
+    let found = rw c.in_ok-shown-in-More.was at c.peek.follows.holds-at-none in
+    let all = fits_here _ _ _ _ _ _ _ c.loop-sure.invariant _ _ _ c.pass.ensures n c.in-More.is in
+    let few : length t.block.bytes < n = omega (
+      arith,
+      c.if-shown-need.true,
+      ap length found.1,
+      length-take (min n c.pass.new.reader.block.capacity) t.block.bytes,
+      all,
+    ) in
+    skips_cut _ _ _ _ _ _ _ c.loop-sure.invariant _ _ _ c.pass.ensures _ c.in-More.is _ _ found.0 few
+
+pub loop-sure-preserved : goal.loop-sure-preserved
+loop-sure-preserved g c =
+    let t = c.peek.follows.lender-at-none in
+    let n = c.in-More.need in
+    let found = rw c.in_ok-shown-in-More.was at c.peek.follows.holds-at-none in
+    let all = fits_here _ _ _ _ _ _ _ c.loop-sure.invariant _ _ _ c.pass.ensures n c.in-More.is in
+    let enough : n ≤ length t.block.bytes = omega (
+      arith,
+      c.if-shown-need.false,
+      ap length found.1,
+      length-take (min n c.pass.new.reader.block.capacity) t.block.bytes,
+      all,
+    ) in
+    skipped_more _ _ _ _ _ _ _ c.loop-sure.invariant _ _ _ c.pass.ensures _ c.in-More.is _ _ found.0 enough
+
+pub loop-sure-smaller : goal.loop-sure-smaller
+loop-sure-smaller g c =
+    let t = c.peek.follows.lender-at-none in
+    let n = c.in-More.need in
+    let found = rw c.in_ok-shown-in-More.was at c.peek.follows.holds-at-none in
+    let all = fits_here _ _ _ _ _ _ _ c.loop-sure.invariant _ _ _ c.pass.ensures n c.in-More.is in
+    let enough : n ≤ length t.block.bytes = omega (
+      arith,
+      c.if-shown-need.false,
+      ap length found.1,
+      length-take (min n c.pass.new.reader.block.capacity) t.block.bytes,
+      all,
+    ) in
+    let short = lacks_here _ _ _ _ _ _ _ c.loop-sure.invariant _ _ _ c.pass.ensures n c.in-More.is in
+    skipped_less _ _ _ _ _ _ _ c.loop-sure.invariant _ _ _ c.pass.ensures n t enough short.0 short.1

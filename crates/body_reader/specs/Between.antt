@@ -1,0 +1,126 @@
+-- What a reader of a body does with its buffered reader.
+use Rattle.std.specs.Prelude.{◌≡◌, ◌≢◌, ℕ, ◌+◌, ◌-◌, ◌*◌, ◌<◌, ◌≤◌, ◌⊎◌, List, [], ◌∷◌, ◌++◌, length, take, Option, Result, Ok, Err, MatchResult}
+use Rattle.std.specs.IoError.{error_kind}
+use Rattle.std.specs.declared.io.Error.{Error}
+use Rattle.std.specs.declared.io.ErrorKind.TheVariants.{InvalidData, UnexpectedEof}
+use Rattle.buffer_redux.specs.Block.{Block}
+use Rattle.buffer_redux.specs.Buffered.{Buffered}
+use Rattle.buffer_redux.specs.BufReader.{ReadsAlong}
+use Rattle.buffer_redux.specs.Policy.{ClaimsToSpare, ReadRules}
+use Rattle.buffer_redux.specs.Sparing.{Spared}
+use Rattle.buffer_redux.specs.Unbuffer.{unbuffered}
+use Rattle.body_reader.specs.declared.coding.Look.{Look}
+use Rattle.body_reader.specs.declared.coding.Look.TheVariants.{Passed}
+use Rattle.body_reader.specs.declared.error.BodyError.{BodyError}
+use Rattle.body_reader.specs.declared.error.BodyError.TheVariants.{Wrong, Truncated, Io}
+use Rattle.body_reader.specs.declared.progress.Progress.{Progress}
+use Rattle.body_reader.specs.Asking.{AskedWhere}
+use Rattle.body_reader.specs.Coding.{Carries, Grammar, IsDone, IsKnown, IsOpen, Leads, LeadsOpen, Looks}
+
+-- each read that was made gave bytes
+pub record EachGave {S Q : Type 0} (s t : Buffered S Q) : Type 0 where
+  pub faults : t.log.reads.faults ≡ s.log.reads.faults
+  pub zero_reads : t.log.reads.zero_reads ≡ s.log.reads.zero_reads
+  pub asks : t.log.reads.asks + length s.log.reads.given ≤ s.log.reads.asks + length t.log.reads.given
+
+-- no read failed, and one gave nothing though it was asked for something
+abbrev pub MetEnd : {S Q : Type 0} → Buffered S Q → Buffered S Q → Type 0
+MetEnd s t = (t.log.reads.faults ≡ s.log.reads.faults) × (t.log.reads.zero_reads ≡ s.log.reads.zero_reads + 1)
+
+-- this error is the one fault that the stream met, and no read gave nothing
+abbrev pub Faulted : {S Q : Type 0} → Buffered S Q → Error → Buffered S Q → Type 0
+Faulted s e t =
+    (t.log.reads.faults ≡ s.log.reads.faults ++ e ∷ []) × (t.log.reads.zero_reads ≡ s.log.reads.zero_reads)
+
+-- such a policy leaves capacity and limit as they are, where it is told of a drop
+abbrev pub LeavesRoom : {Q : Type 0} → ReadRules Q → Type 0
+LeavesRoom {Q} rules = (p : Q) (b : Block) (n : ℕ) (p' : Q) (b' : Block) → rules.after_consume p b n p' b'
+    → (b'.capacity ≡ b.capacity) × (b'.limit ≡ b.limit)
+
+-- the buffer keeps its kind; its capacity and limit, unless the policy changes them; and each number is spared that the policy
+-- claims to spare, and is at least this one
+pub record KeepsBuffer {S Q : Type 0} (rules : ReadRules Q) (least : ℕ) (s t : Buffered S Q) : Type 0 where
+  pub kind : t.block.kind ≡ s.block.kind
+  pub room : LeavesRoom rules → (t.block.capacity ≡ s.block.capacity) × (t.block.limit ≡ s.block.limit)
+  pub spared : (keep : ℕ) → least ≤ keep → ClaimsToSpare (rules.claims s.policy).spares keep → Spared keep s t
+
+-- the payload that an answer hands out of a slice: its first bytes, or none
+abbrev pub handed_out : {E : Type 0} → List ℕ → Result ℕ E → List ℕ
+handed_out out (Ok n) = take n out
+handed_out out (Err e) = []
+
+-- each byte that is passed spends two of these, and each that is read ahead one
+abbrev pub spend : {P W : Type 0} → Grammar P W → P → List ℕ → ℕ
+spend g p bytes = 2 * g.between p + (g.ahead - length bytes)
+
+module _ {S Q P W : Type 0} (remaining : S → Option (List ℕ)) (rules : ReadRules Q) (g : Grammar P W) where
+  -- what any calls do that take these bytes of a body, in which there is this payload
+  pub record Takes (s : Buffered S Q) (p : Progress P) (wire handed : List ℕ) (t : Buffered S Q) (q : Progress P)
+      : Type 0 where
+    pub along : ReadsAlong remaining rules s wire t
+    pub leads : Leads g p.place wire handed q.place t.block.bytes
+    pub taken : q.taken.log.fills.consumed ≡ p.taken.log.fills.consumed ++ wire
+    pub place : g.is_place q.place
+    pub keeps : KeepsBuffer rules g.ahead s t
+
+  -- the stream is asked only where nothing was settled, and no payload was left
+  abbrev pub AsksOpen : Buffered S Q → P → Buffered S Q → Type 0
+  AsksOpen s p t = AskedWhere (LeadsOpen g p []) (unbuffered s) (unbuffered t)
+
+  -- all that is buffered and is no payload was taken, and then a look says so; nobody is asked. What is spent by that can't be
+  -- spent again
+  pub record PassesOn (s : Buffered S Q) (p : Progress P) (look : Look P W) (t : Buffered S Q) (q : Progress P) : Type 0 where
+    pub wire : List ℕ
+    pub takes : Takes s p wire [] t q
+    pub told : t.log ≡ s.log
+    pub looks : Looks g q.place t.block.bytes look
+    pub no_more : (n : ℕ) (r : P) → look ≢ Passed n r
+    pub spends : spend g q.place t.block.bytes ≤ spend g p.place s.block.bytes
+    pub idle : IsDone g p.place → (t ≡ s) × (q ≡ p)
+
+  -- why there is no further payload
+  abbrev pub FailsSo : Buffered S Q → BodyError W → Buffered S Q → Progress P → Type 0
+  FailsSo s (Wrong why count) t q = EachGave s t × (count ≡ q.count) × g.wrong q.place t.block.bytes why
+  FailsSo s (Truncated count) t q = MetEnd s t × (count ≡ q.count) × IsOpen g q.place t.block.bytes
+  FailsSo s (Io e) t q = Faulted s e t × IsOpen g q.place t.block.bytes
+
+  -- payload comes next, surely so many bytes, or none since the body ended
+  abbrev pub Settles : P → List ℕ → ℕ → Type 0
+  Settles p shown sure = ((sure ≡ 0) × IsDone g p) ⊎ Carries g p sure shown
+
+  -- what a call does that hands out this payload, and what its answer means
+  pub record Goes {A : Type 0} (s : Buffered S Q) (p : Progress P) (handed : List ℕ) (answer : Result A (BodyError W))
+      (Means : A → Type 0) (t : Buffered S Q) (q : Progress P) : Type 0 where
+    pub wire : List ℕ
+    pub takes : Takes s p wire handed t q
+    pub asked : AsksOpen s p.place t
+    pub ends : MatchResult answer (λ a. EachGave s t × Means a) (λ e. FailsSo s e t q)
+    pub idle : IsDone g p.place → (t ≡ s) × (q ≡ p)
+
+  -- taking all that is no payload: how many bytes of payload surely come next
+  abbrev pub Skips : Buffered S Q → Progress P → Result ℕ (BodyError W) → Buffered S Q → Progress P → Type 0
+  Skips s p answer t q = Goes s p [] answer (Settles q.place t.block.bytes) t q
+
+  -- and having some buffered: how many bytes of it are
+  abbrev pub FillsOn : Buffered S Q → Progress P → Result ℕ (BodyError W) → Buffered S Q → Progress P → Type 0
+  FillsOn s p answer t q =
+      Goes s p [] answer (λ n. IsKnown g q.place n t.block.bytes × (n ≡ 0 → IsDone g q.place)) t q
+
+  -- taking the first bytes, of those that are known to be payload
+  pub record TakesFront (n : ℕ) (s : Buffered S Q) (p : Progress P) (before : ℕ) (t : Buffered S Q) (q : Progress P) (after : ℕ)
+      : Type 0 where
+    pub takes : Takes s p (take n s.block.bytes) (take n s.block.bytes) t q
+    pub told : t.log ≡ s.log
+    pub left : after ≡ before - n
+    pub known : IsKnown g q.place after t.block.bytes
+
+  -- handing payload out into a slice, which is left so. None comes into one that isn't empty only where the body ended
+  abbrev pub HandsOn : Buffered S Q → Progress P → List ℕ → Result ℕ (BodyError W) → Buffered S Q → Progress P → Type 0
+  HandsOn s p out answer t q = Goes s p (handed_out out answer) answer
+      (λ n. (n ≤ length out) × (n ≡ 0 → 0 < length out → IsDone g q.place)) t q × (length out ≡ 0 → t ≡ s)
+
+-- an error as one of std's streams
+abbrev pub BecomesIo : {W : Type 0} → BodyError W → Error → Type 0
+BecomesIo (Wrong why count) e = error_kind e ≡ InvalidData
+BecomesIo (Truncated count) e = error_kind e ≡ UnexpectedEof
+BecomesIo (Io same) e = e ≡ same

@@ -1,0 +1,194 @@
+-- Laws of what a reader of a body does with its buffered reader.
+use Rattle.std.proofs.Common.{◌≡◌, ℕ, ◌+◌, ◌<◌, ◌≤◌, List, [], ◌∷◌, ◌++◌, length, Option, Result, MatchResult, Ok, Err, ◌⊎◌, inl, inr, sym, ap, subst, ◌∙◌, refl, arith, append_assoc, append-nil, length-append}
+use Rattle.std.specs.declared.io.Error.{Error}
+use Rattle.buffer_redux.specs.Buffered.{Buffered}
+use Rattle.buffer_redux.specs.BufReader.{ReadsAlong}
+use Rattle.buffer_redux.specs.Peek.{AskedAhead, ReadsAhead}
+use Rattle.buffer_redux.specs.Policy.{ClaimsToSpare, ReadRules}
+use Rattle.buffer_redux.specs.ReaderLaws.{ReadsAlong-none, ReadsAlong-joins, ReadsAlong-then}
+use Rattle.buffer_redux.specs.Sparing.{Spared-none, Spared-joins}
+use Rattle.buffer_redux.specs.Unbuffer.{unbuffered}
+use Rattle.body_reader.specs.declared.error.BodyError.{BodyError}
+use Rattle.body_reader.specs.declared.error.BodyError.TheVariants.{Wrong, Truncated, Io}
+use Rattle.body_reader.specs.declared.progress.Progress.{Progress}
+use Rattle.body_reader.specs.Asking.{AskedWhere}
+use Rattle.body_reader.specs.AskingLaws.{AskedWhere-of, AskedWhere-on}
+use Rattle.body_reader.specs.Between.{AsksOpen, EachGave, FailsSo, Faulted, Goes, KeepsBuffer, MetEnd, Takes}
+use Rattle.body_reader.specs.Coding.{Grammar, IsDone, IsOpen, Lacks, Leads, LeadsOpen}
+use Rattle.body_reader.specs.CodingLaws.{Leads-more, Leads-none, Leads-then, LeadsOpen-behind, LeadsOpen-here}
+
+pub EachGave-none : {S Q : Type 0} (s : Buffered S Q) → EachGave s s
+EachGave-none s = record { faults = refl; zero_reads = refl; asks = omega arith }
+
+pub EachGave-joins : {S Q : Type 0} (s m t : Buffered S Q) → EachGave s m → EachGave m t → EachGave s t
+EachGave-joins s m t x y = record {
+  faults = y.faults ∙ x.faults;
+  zero_reads = y.zero_reads ∙ x.zero_reads;
+  asks = omega (arith, x.asks, y.asks);
+}
+
+-- where the log is the same nothing was read
+pub EachGave-same : {S Q : Type 0} (s t : Buffered S Q) → t.log ≡ s.log → EachGave s t
+EachGave-same s t same = record {
+  faults = ap (λ l. l.reads.faults) same;
+  zero_reads = ap (λ l. l.reads.zero_reads) same;
+  asks = omega (arith, ap (λ l. l.reads.asks) same, ap (λ l. length l.reads.given) same);
+}
+
+pub MetEnd-after : {S Q : Type 0} (s m t : Buffered S Q) → EachGave s m → MetEnd m t → MetEnd s t
+MetEnd-after s m t gave met = (met.0 ∙ gave.faults, omega (arith, met.1, gave.zero_reads))
+
+pub Faulted-after : {S Q : Type 0} (s m t : Buffered S Q) → EachGave s m → (e : Error) → Faulted m e t → Faulted s e t
+Faulted-after s m t gave e fault = (fault.0 ∙ ap (λ l. l ++ e ∷ []) gave.faults, fault.1 ∙ gave.zero_reads)
+
+module _ {S Q : Type 0} (rules : ReadRules Q) (least : ℕ) where
+  pub KeepsBuffer-none : (s : Buffered S Q) → KeepsBuffer rules least s s
+  KeepsBuffer-none s = record {
+    kind = refl;
+    room = λ _. (refl, refl);
+    spared = λ keep high claims. Spared-none keep s;
+  }
+
+  pub KeepsBuffer-joins : (s m t : Buffered S Q) → rules.claims m.policy ≡ rules.claims s.policy
+      → KeepsBuffer rules least s m → KeepsBuffer rules least m t → KeepsBuffer rules least s t
+  KeepsBuffer-joins s m t claims x y = record {
+    kind = y.kind ∙ x.kind;
+    room = λ leaves. let a = x.room leaves in let b = y.room leaves in (b.0 ∙ a.0, b.1 ∙ a.1);
+    spared = λ keep high claimed. Spared-joins keep s m t (x.spared keep high claimed)
+        (y.spared keep high (subst (λ c. ClaimsToSpare c.spares keep) (sym claims) claimed));
+  }
+
+-- reading ahead
+module _ {S Q A : Type 0} (remaining : S → Option (List ℕ)) (rules : ReadRules Q) (n : ℕ) (s : Buffered S Q)
+    (answer : Result A Error) (t : Buffered S Q) (ahead : ReadsAhead remaining rules n s answer t) where
+  pub ReadsAhead-keeps : (least : ℕ) → n ≤ least → KeepsBuffer rules least s t
+  ReadsAhead-keeps least few = record {
+    kind = ahead.kind;
+    room = λ _. (ahead.capacity, ahead.limit);
+    spared = λ keep high claims. ahead.sparing keep (omega (arith, few, high));
+  }
+
+  pub ReadsAhead-asked : AskedWhere (λ bytes. length bytes < n) (unbuffered s) (unbuffered t)
+  ReadsAhead-asked = elim ahead.asked [
+    | inl same ↦ inl same
+    | inr over ↦ inr (record { came = over.came; given = over.given; such = over.few; asks = over.asks })
+  ]
+
+-- where that gave enough, or met the end of the stream, or failed
+module _ {S Q A : Type 0} (remaining : S → Option (List ℕ)) (rules : ReadRules Q) (n : ℕ) (s t : Buffered S Q) where
+  pub ReadsAhead-gave : (a : A) → ReadsAhead remaining rules n s (Ok a) t → n ≤ length t.block.bytes → EachGave s t
+  ReadsAhead-gave a ahead enough = elim ahead.ended [
+    | inl some ↦ record { faults = ahead.caused; zero_reads = some.1; asks = each ahead.asked }
+    | inr few ↦ absurd (omega (arith, few.0, enough))
+  ]
+    where
+      each : (t.log ≡ s.log) ⊎ AskedAhead n s t
+          → t.log.reads.asks + length s.log.reads.given ≤ s.log.reads.asks + length t.log.reads.given
+      each (inl same) = (EachGave-same s t same).asks
+      each (inr over) = omega (
+        arith,
+        over.asks,
+        over.few,
+        enough,
+        ap length over.bytes,
+        ap length over.given,
+        length-append s.block.bytes over.came,
+        length-append s.block.bytes (over.came ++ t.log.reads.latest),
+        length-append s.log.reads.given (over.came ++ t.log.reads.latest),
+        length-append over.came t.log.reads.latest,
+      )
+
+  pub ReadsAhead-ended : (a : A) → ReadsAhead remaining rules n s (Ok a) t → length t.block.bytes < n → MetEnd s t
+  ReadsAhead-ended a ahead few = elim ahead.ended [
+    | inl some ↦ absurd (omega (arith, some.0, few))
+    | inr less ↦ (ahead.caused, less.1)
+  ]
+
+  pub ReadsAhead-failed : (e : Error) → ReadsAhead {A = A} remaining rules n s (Err e) t → Faulted s e t
+  ReadsAhead-failed e ahead = (ahead.caused, ahead.ended.1)
+
+-- where fewer settle nothing
+module _ {S Q A P W : Type 0} (remaining : S → Option (List ℕ)) (rules : ReadRules Q) (g : Grammar P W) (p : P) (n : ℕ)
+    (s : Buffered S Q) (answer : Result A Error) (t : Buffered S Q) (lacks : Lacks g p n s.block.bytes)
+    (ahead : ReadsAhead remaining rules n s answer t) where
+  pub ReadsAhead-asks : AskedWhere (IsOpen g p) (unbuffered s) (unbuffered t)
+  ReadsAhead-asks = AskedWhere-of (λ bytes. length bytes < n) (IsOpen g p) (unbuffered s) (unbuffered t) lacks.is_open
+      (ReadsAhead-asked remaining rules n s answer t ahead)
+
+  pub ReadsAhead-open : length t.block.bytes < n → IsOpen g p t.block.bytes
+  ReadsAhead-open few =
+      let equal : s.block.bytes ++ ahead.along.in_order.got ≡ t.block.bytes = sym ahead.along.in_order.equal in
+      subst (IsOpen g p) equal (lacks.is_open ahead.along.in_order.got (omega (arith, few, ap length equal)))
+
+module _ {S Q P W : Type 0} (remaining : S → Option (List ℕ)) (rules : ReadRules Q) (g : Grammar P W) where
+  -- no call takes nothing, and two traces of calls join
+  pub Takes-none : (s : Buffered S Q) (p : Progress P) → g.is_place p.place → Takes remaining rules g s p [] [] s p
+  Takes-none s p place = record {
+    along = ReadsAlong-none remaining rules s;
+    leads = Leads-none g p.place s.block.bytes;
+    taken = sym (append-nil p.taken.log.fills.consumed);
+    place = place;
+    keeps = KeepsBuffer-none rules g.ahead s;
+  }
+
+  pub Takes-joins : (s : Buffered S Q) (p : Progress P) (m : Buffered S Q) (q : Progress P) (t : Buffered S Q) (r : Progress P)
+      (a h b k : List ℕ) → Takes remaining rules g s p a h m q → Takes remaining rules g m q b k t r
+      → Takes remaining rules g s p (a ++ b) (h ++ k) t r
+  Takes-joins s p m q t r a h b k x y = record {
+    along = ReadsAlong-joins remaining rules s m t a b x.along y.along;
+    leads = Leads-then g p.place q.place r.place a b h k m.block.bytes y.along.in_order.got t.block.bytes
+        y.along.in_order.equal x.leads y.leads;
+    taken = y.taken ∙ ap (λ l. l ++ b) x.taken ∙ append_assoc p.taken.log.fills.consumed a b;
+    place = y.place;
+    keeps = KeepsBuffer-joins rules g.ahead s m t x.along.claims x.keeps y.keeps;
+  }
+
+  -- calls of the buffered reader that hand out nothing take nothing
+  pub Takes-still : (s : Buffered S Q) (p : Progress P) (m : Buffered S Q) (q : Progress P) (t : Buffered S Q) (a h : List ℕ)
+      → Takes remaining rules g s p a h m q → ReadsAlong remaining rules m [] t → KeepsBuffer rules g.ahead m t
+      → Takes remaining rules g s p a h t q
+  Takes-still s p m q t a h x still keeps = record {
+    along = ReadsAlong-then remaining rules s m t a x.along still;
+    leads = subst (Leads g p.place a h q.place) (sym still.in_order.equal)
+        (Leads-more g p.place q.place a h m.block.bytes still.in_order.got x.leads);
+    taken = x.taken;
+    place = x.place;
+    keeps = KeepsBuffer-joins rules g.ahead s m t x.along.claims x.keeps keeps;
+  }
+
+  -- a failure behind reads that gave
+  pub FailsSo-after : (s m t : Buffered S Q) (q : Progress P) → EachGave s m → (e : BodyError W)
+      → FailsSo remaining rules g m e t q → FailsSo remaining rules g s e t q
+  FailsSo-after s m t q gave (Wrong why count) (well, right, wrong) = (EachGave-joins s m t gave well, right, wrong)
+  FailsSo-after s m t q gave (Truncated count) (met, right, is) = (MetEnd-after s m t gave met, right, is)
+  FailsSo-after s m t q gave (Io e) (fault, is) = (Faulted-after s m t gave e fault, is)
+
+  -- calls behind some that took bytes without payload, of which each gave some, ask where nothing was settled
+  module _ (s : Buffered S Q) (p : Progress P) (m : Buffered S Q) (q : Progress P) (t : Buffered S Q) (wire : List ℕ)
+      (takes : Takes remaining rules g s p wire [] m q) (gave : EachGave s m) (before : AsksOpen remaining rules g s p.place m) where
+    pub AsksOpen-joins : AsksOpen remaining rules g m q.place t → AsksOpen remaining rules g s p.place t
+    AsksOpen-joins asks =
+        AskedWhere-on (LeadsOpen g p.place []) (LeadsOpen g q.place []) s m t wire takes.along.in_order gave
+        (λ more is. LeadsOpen-behind g p.place q.place wire [] [] m.block.bytes more takes.leads is) before asks
+
+    pub AsksOpen-then : AskedWhere (IsOpen g q.place) (unbuffered m) (unbuffered t) → AsksOpen remaining rules g s p.place t
+    AsksOpen-then asks = AsksOpen-joins (AskedWhere-of (IsOpen g q.place) (LeadsOpen g q.place []) (unbuffered m) (unbuffered t)
+        (λ more is. LeadsOpen-here g q.place (m.block.bytes ++ more) takes.place is) asks)
+
+    -- and go on so
+    module _ {A : Type 0} (handed : List ℕ) (answer : Result A (BodyError W)) (Means : A → Type 0) (r : Progress P)
+        (goes : Goes remaining rules g m q handed answer Means t r) (idle : IsDone g p.place → (t ≡ s) × (r ≡ p)) where
+      ends_after : (a : Result A (BodyError W))
+          → MatchResult a (λ x. EachGave m t × Means x) (λ e. FailsSo remaining rules g m e t r)
+          → MatchResult a (λ x. EachGave s t × Means x) (λ e. FailsSo remaining rules g s e t r)
+      ends_after (Ok x) ends = (EachGave-joins s m t gave ends.0, ends.1)
+      ends_after (Err e) ends = FailsSo-after s m t r gave e ends
+
+      pub Goes-after : Goes remaining rules g s p handed answer Means t r
+      Goes-after = record {
+        wire = wire ++ goes.wire;
+        takes = Takes-joins s p m q t r wire [] goes.wire handed takes goes.takes;
+        asked = AsksOpen-joins goes.asked;
+        ends = ends_after answer goes.ends;
+        idle = idle;
+      }

@@ -1,0 +1,138 @@
+-- What contracts see of a reader of a body, and what its calls promise.
+use Rattle.std.specs.Prelude.{◌≡◌, ℕ, ◌-◌, ◌^◌, ◌<◌, ◌≤◌, ◌⊎◌, List, [], ◌++◌, length, min, take, Bool, MatchBool, Option, Result, Ok, Err, MatchResult}
+use Rattle.std.specs.Borrow.{Bor}
+use Rattle.std.specs.IoError.{error_kind}
+use Rattle.std.specs.declared.io.Error.{Error}
+use Rattle.std.specs.declared.io.ErrorKind.TheVariants.{Other}
+use Rattle.buffer_redux.specs.Buffered.{Buffered}
+use Rattle.buffer_redux.specs.BufReader.{ReadsAlong}
+use Rattle.buffer_redux.specs.Policy.{ReadRules}
+use Rattle.buffer_redux.specs.StreamLog.{StreamLog, after_read, no_calls}
+use Rattle.buffer_redux.specs.Unbuffer.{unbuffered}
+use Rattle.body_reader.specs.declared.error.BodyError.{BodyError}
+use Rattle.body_reader.specs.declared.error.BodyError.TheVariants.{Wrong, Truncated, Io}
+use Rattle.body_reader.specs.Asking.{AskedWhere}
+use Rattle.body_reader.specs.Between.{AsksOpen, BecomesIo, EachGave, Faulted, KeepsBuffer, MetEnd, handed_out}
+use Rattle.body_reader.specs.Coding.{Grammar, IsBody, IsKnown, IsOpen, Leads, LeadsOpen}
+
+-- the buffered reader; the coding; where in the body the reader stands; the bytes of it that were taken so far; what it handed
+-- out, as a stream tells it; and how many of the bytes that are buffered are payload, as the last fill said
+pub record BodyState (S Q C P : Type 0) : Type 0 where
+  pub reader : Buffered S Q
+  pub coding : C
+  pub place : P
+  pub taken : List ℕ
+  pub calls : StreamLog
+  pub known : ℕ
+
+-- the payload that was handed out so far
+abbrev pub handed_of : {S Q C P : Type 0} → BodyState S Q C P → List ℕ
+handed_of d = d.calls.reads.given
+
+-- how many bytes were taken, as far as a `u64` counts
+abbrev pub taken_count : {S Q C P : Type 0} → BodyState S Q C P → ℕ
+taken_count d = min (length d.taken) (2 ^ 64 - 1)
+
+module _ {S Q C P W : Type 0} (g : Grammar P W) where
+  -- what is true of every reader of a body: the bytes that were taken lead to where it stands, and what was handed out is the
+  -- payload in them; and the buffer holds what a look needs
+  pub record IsBodyReader (d : BodyState S Q C P) : Type 0 where
+    pub leads : Leads g g.first d.taken (handed_of d) d.place d.reader.block.bytes
+    pub place : g.is_place d.place
+    pub room : g.ahead ≤ d.reader.block.capacity
+    pub known : IsKnown g d.place d.known d.reader.block.bytes
+
+  -- no byte was taken yet
+  abbrev pub begun : Buffered S Q → C → BodyState S Q C P
+  begun reader coding = record { reader = reader; coding = coding; place = g.first; taken = []; calls = no_calls; known = 0 }
+
+  -- what was taken is a body, and what was handed out its payload
+  abbrev pub IsWhole : BodyState S Q C P → Type 0
+  IsWhole d = IsBody g d.taken (handed_of d)
+
+  -- what is buffered is wrong, and bytes that begin with what was taken and then that begin with no body
+  pub record Breaks (why : W) (t : BodyState S Q C P) : Type 0 where
+    pub name : g.wrong t.place t.reader.block.bytes why
+    pub none : (body payload xs rest : List ℕ) → IsBody g body payload
+        → ¬ (body ++ xs ≡ t.taken ++ (t.reader.block.bytes ++ rest))
+
+  -- what is buffered settles nothing, and what was taken, and then that, begins with no body
+  pub record EndsEarly (t : BodyState S Q C P) : Type 0 where
+    pub settles_nothing : IsOpen g t.place t.reader.block.bytes
+    pub none : (body payload xs : List ℕ) → IsBody g body payload → ¬ (body ++ xs ≡ t.taken ++ t.reader.block.bytes)
+
+  -- why there is no further payload: the next bytes are wrong; or the stream gave nothing, or failed, where it was asked
+  abbrev pub Stops : BodyState S Q C P → BodyError W → BodyState S Q C P → Type 0
+  Stops s (Wrong why right) t = (right ≡ taken_count t) × EachGave s.reader t.reader × Breaks why t
+  Stops s (Truncated right) t = (right ≡ taken_count t) × MetEnd s.reader t.reader × EndsEarly t
+  Stops s (Io e) t = Faulted s.reader e t.reader × EndsEarly t
+
+module _ {S Q C P W : Type 0} (remaining : S → Option (List ℕ)) (rules : ReadRules Q) (g : Grammar P W) where
+  -- what any calls do, one after another, that handed out this payload: some bytes were taken out of the buffered reader, in
+  -- order, and none is lost
+  pub record BodyWent (s : BodyState S Q C P) (payload : List ℕ) (t : BodyState S Q C P) : Type 0 where
+    pub wire : List ℕ
+    pub along : ReadsAlong remaining rules s.reader wire t.reader
+    pub taken : t.taken ≡ s.taken ++ wire
+    pub handed : handed_of t ≡ handed_of s ++ payload
+    pub coding : t.coding ≡ s.coding
+    pub keeps : KeepsBuffer rules g.ahead s.reader t.reader
+
+  -- what one call of `read_payload` does, which left the slice as out. The stream is asked only where nothing was settled, and
+  -- no payload left. Once the body ended, or where the slice is empty, the buffered reader isn't called. An Ok read is noted,
+  -- and no other
+  pub record ReadsPayload (s : BodyState S Q C P) (out : List ℕ) (answer : Result ℕ (BodyError W)) (t : BodyState S Q C P)
+      : Type 0 where
+    pub went : BodyWent s (handed_out out answer) t
+    pub answers : MatchResult answer
+        (λ n. (n ≤ length out) × EachGave s.reader t.reader × (n ≡ 0 → 0 < length out → IsWhole g t)) (λ e. Stops g s e t)
+    pub asked : AsksOpen remaining rules g s.reader s.place t.reader
+    pub idle : (IsWhole g s ⊎ (length out ≡ 0)) → t.reader ≡ s.reader
+    pub noted : MatchResult answer (λ n. t.calls ≡ after_read s.calls out (Ok n)) (λ _. t.calls ≡ s.calls)
+    pub whole : IsBodyReader g t
+
+  -- the rest of the body was taken, and its payload dropped, or why not: as a read of payload answers, or by `Other` where more
+  -- pieces were dropped than are counted. The stream is asked only where nothing was settled. Once the body ended the buffered
+  -- reader isn't called
+  pub record Drains (s : BodyState S Q C P) (answer : Result (Unit {0}) (BodyError W)) (t : BodyState S Q C P) : Type 0 where
+    pub payload : List ℕ
+    pub went : BodyWent s payload t
+    pub answers : MatchResult answer (λ _. EachGave s.reader t.reader × IsWhole g t)
+        (λ why. Stops g s why t
+        ⊎ ((e : Error) × (why ≡ Io e) × (error_kind e ≡ Other) × (2 ^ 64 - 1 ≤ length payload)
+        × EachGave s.reader t.reader))
+    pub asked : AskedWhere (λ bytes. (dropped : List ℕ) × LeadsOpen g s.place dropped bytes) (unbuffered s.reader)
+        (unbuffered t.reader)
+    pub ended : IsWhole g s → t.reader ≡ s.reader
+    pub whole : IsBodyReader g t
+
+  -- payload is buffered, how much the answer says: none only where the body ended. The stream is asked only where nothing was
+  -- settled, and no payload left; where some was known, or the body ended, nothing is done
+  pub record FillsPayload (s : BodyState S Q C P) (answer : Result ℕ (BodyError W)) (t : BodyState S Q C P) : Type 0 where
+    pub went : BodyWent s [] t
+    pub answers : MatchResult answer (λ n. (n ≡ t.known) × EachGave s.reader t.reader × (n ≡ 0 → IsWhole g t))
+        (λ e. Stops g s e t)
+    pub asked : AsksOpen remaining rules g s.reader s.place t.reader
+    pub still : (0 < s.known ⊎ IsWhole g s) → t ≡ s
+    pub whole : IsBodyReader g t
+
+  -- whether nothing follows what was taken: the stream was asked where nothing was buffered, and nothing else is done
+  pub record LooksBehind (s : BodyState S Q C P) (answer : Result Bool Error) (t : BodyState S Q C P) : Type 0 where
+    pub went : BodyWent s [] t
+    pub answers : MatchResult answer
+        (λ none. MatchBool none ((t.reader.block.bytes ≡ []) × MetEnd s.reader t.reader)
+        ((0 < length t.reader.block.bytes) × EachGave s.reader t.reader))
+        (λ e. (t.reader.block.bytes ≡ []) × Faulted s.reader e t.reader)
+    pub asked : AskedWhere (λ bytes. bytes ≡ []) (unbuffered s.reader) (unbuffered t.reader)
+    pub still : t ≡ record s { reader = t.reader }
+    pub whole : IsBodyReader g t
+
+  -- what a read as one of std's does: it hands payload out, and an error is the stream's own, or its kind tells which it was
+  abbrev pub ReadsAsIo : BodyState S Q C P → List ℕ → Result ℕ Error → BodyState S Q C P → Type 0
+  ReadsAsIo s out (Ok n) t = ReadsPayload s out (Ok n) t
+  ReadsAsIo s out (Err e) t = (why : BodyError W) × ReadsPayload s out (Err why) t × BecomesIo why e
+
+  -- what a fill as one of std's does: it lends payload that is buffered, none only where the body ended
+  abbrev pub FillsAsIo : BodyState S Q C P → Result (Bor (List ℕ)) Error → BodyState S Q C P → Type 0
+  FillsAsIo s (Ok shown) t = FillsPayload s (Ok t.known) t × (shown.now ≡ take t.known t.reader.block.bytes)
+  FillsAsIo s (Err e) t = (why : BodyError W) × FillsPayload s (Err why) t × BecomesIo why e

@@ -1,0 +1,211 @@
+-- Laws of places: traces of bytes join, and what is wrong completes no body.
+use Rattle.std.proofs.Common.{◌≡◌, ◌⊎◌, ℕ, ◌<◌, List, [], ◌∷◌, ◌++◌, length, arith, inl, inr, sym, ap, subst, ◌∙◌, refl, append_assoc, append-nil}
+use Rattle.body_reader.specs.declared.coding.Look.{Look}
+use Rattle.body_reader.specs.declared.coding.Look.TheVariants.{Payload, Passed, More, Wrong, Ended}
+use Rattle.body_reader.specs.Coding.{Agree, Grammar, IsBody, IsDone, IsLawful, IsOpen, Lacks, Leads, LeadsOpen, Looks}
+
+-- of two texts that begin the same bytes one begins the other
+pub overlaps : (a x b y : List ℕ) → a ++ x ≡ b ++ y
+    → ((m : List ℕ) × (b ≡ a ++ m) × (x ≡ m ++ y)) ⊎ ((m : List ℕ) × (a ≡ b ++ m) × (m ++ x ≡ y))
+overlaps [] x b y same = inl (b, refl, same)
+overlaps (h ∷ a) x [] y same = inr (h ∷ a, refl, same)
+overlaps (h ∷ a) x (k ∷ b) y same =
+    let head : h ≡ k = cc in
+    let rest : a ++ x ≡ b ++ y = cc in
+    elim (overlaps a x b y rest) [
+      | inl found ↦ inl (found.0, ap (λ l. k ∷ l) found.1 ∙ ap (λ c. c ∷ (a ++ found.0)) (sym head), found.2)
+      | inr found ↦ inr (found.0, ap (λ l. h ∷ l) found.1 ∙ ap (λ c. c ∷ (b ++ found.0)) head, found.2)
+    ]
+
+pub nothing_in : (m rest : List ℕ) → m ++ rest ≡ [] → m ≡ []
+nothing_in [] rest same = refl
+nothing_in (x ∷ m) rest same = cc
+
+pub Agree-less : (a more b : List ℕ) → Agree (a ++ more) b → Agree a b
+Agree-less a more b agree = (more ++ agree.0, agree.1, sym (append_assoc a more agree.0) ∙ agree.2)
+
+pub Agree-front : (a b c : List ℕ) → Agree b c → Agree (a ++ b) (a ++ c)
+Agree-front a b c agree = (
+  agree.0,
+  agree.1,
+  append_assoc a b agree.0 ∙ ap (λ l. a ++ l) agree.2 ∙ sym (append_assoc a c agree.1),
+)
+
+pub Agree-nothing : (a : List ℕ) → Agree a []
+Agree-nothing a = ([], a, append-nil a)
+
+nothing_behind : (rest past : List ℕ) → rest ++ past ≡ [] → past ≡ []
+nothing_behind [] past same = same
+nothing_behind (x ∷ rest) past same = cc
+
+module _ {P W : Type 0} (g : Grammar P W) where
+  -- no byte leads nowhere, whatever follows
+  pub Leads-none : (p : P) (follow : List ℕ) → Leads g p [] [] p follow
+  Leads-none p follow = record {
+    onward = λ rest payload agree c. c;
+    back = λ rest whole agree c. (whole, refl, c);
+    within = λ rest payload past c same. nothing_behind rest past (sym same);
+  }
+
+  -- and where more follows
+  pub Leads-more : (p q : P) (wire handed follow more : List ℕ) → Leads g p wire handed q follow
+      → Leads g p wire handed q (follow ++ more)
+  Leads-more p q wire handed follow more x = record {
+    onward = λ rest payload agree c. x.onward rest payload (Agree-less follow more rest agree) c;
+    back = λ rest whole agree c. x.back rest whole (Agree-less follow more rest agree) c;
+    within = x.within;
+  }
+
+  -- two traces of bytes join
+  module _ (p q r : P) (a b h k follow : List ℕ) (x : Leads g p a h q (b ++ follow)) (y : Leads g q b k r follow) where
+    joined_within : (rest payload past : List ℕ) → g.completes p rest payload → a ++ b ≡ rest ++ past → past ≡ []
+    joined_within rest payload past c same = elim (overlaps a b rest past same) [
+      | inl found ↦
+          let goes = x.back found.0 payload (follow_of found.0 past found.2) (subst (λ l. g.completes p l payload) found.1 c) in
+          y.within found.0 goes.0 past goes.2 found.2
+      | inr found ↦
+          let none = x.within rest payload found.0 c found.1 in
+          let all : a ≡ rest = found.1 ∙ ap (λ l. rest ++ l) none ∙ append-nil rest in
+          let goes = x.back [] payload (Agree-nothing (b ++ follow))
+          (subst (λ l. g.completes p l payload) (sym all ∙ sym (append-nil a)) c) in
+          let nothing = y.within [] goes.0 b goes.2 refl in
+          sym found.2 ∙ ap (λ l. l ++ b) none ∙ nothing
+    ]
+      where
+        follow_of : (w m : List ℕ) → b ≡ w ++ m → Agree (b ++ follow) w
+        follow_of w m is = ([], m ++ follow, append-nil (b ++ follow) ∙ ap (λ l. l ++ follow) is ∙ append_assoc w m follow)
+
+    pub Leads-joins : Leads g p (a ++ b) (h ++ k) r follow
+    Leads-joins = record {
+      onward = λ rest payload agree c.
+          subst (λ l. g.completes p l ((h ++ k) ++ payload)) (sym (append_assoc a b rest))
+          (subst (λ l. g.completes p (a ++ (b ++ rest)) l) (sym (append_assoc h k payload))
+          (x.onward (b ++ rest) (k ++ payload) (Agree-front b follow rest agree) (y.onward rest payload agree c)));
+      back = λ rest whole agree c.
+          let first = x.back (b ++ rest) whole (Agree-front b follow rest agree)
+          (subst (λ l. g.completes p l whole) (append_assoc a b rest) c) in
+          let second = y.back rest first.0 agree first.2 in
+          (second.0, first.1 ∙ ap (λ l. h ++ l) second.1 ∙ sym (append_assoc h k second.0), second.2);
+      within = joined_within;
+    }
+
+  -- the same where the bytes that followed, and some more, are those that were taken then, and those that follow now
+  pub Leads-then : (p q r : P) (a b h k before got after : List ℕ) → b ++ after ≡ before ++ got → Leads g p a h q before
+      → Leads g q b k r after → Leads g p (a ++ b) (h ++ k) r after
+  Leads-then p q r a b h k before got after same x y =
+      Leads-joins p q r a b h k after
+      (subst (Leads g p a h q) (sym same) (Leads-more p q a h before got x)) y
+
+  -- what leads from the beginning of a body to its end is a body
+  pub Leads-whole : (bytes payload : List ℕ) (q : P) (follow : List ℕ) → Leads g g.first bytes payload q follow → IsDone g q
+      → IsBody g bytes payload
+  Leads-whole bytes payload q follow leads done =
+      subst (λ l. IsBody g bytes l) (append-nil payload)
+      (subst (λ l. IsBody g l (payload ++ [])) (append-nil bytes) (leads.onward [] [] (Agree-nothing follow) done))
+
+  -- and what leads to a place is one only where that is its end
+  pub Leads-done : IsLawful g → (bytes payload : List ℕ) (q : P) (follow : List ℕ)
+      → Leads g g.first bytes payload q follow → g.is_place q → IsBody g bytes payload → IsDone g q
+  Leads-done lawful bytes payload q follow leads place body =
+      let goes = leads.back [] payload (Agree-nothing follow) (subst (λ l. IsBody g l payload) (sym (append-nil bytes)) body) in
+      subst (λ l. g.completes q [] l) (lawful.nothing q goes.0 place goes.2) goes.2
+
+  -- what is left of a body, of which these bytes were taken: what completes it from there
+  pub record Left (taken handed : List ℕ) (q : P) (body payload xs more : List ℕ) : Type 0 where
+    pub rest : List ℕ
+    pub later : List ℕ
+    pub equal : body ≡ taken ++ rest
+    pub behind : more ≡ rest ++ xs
+    pub front : payload ≡ handed ++ later
+    pub completes : g.completes q rest later
+
+  module _ (taken handed : List ℕ) (q : P) (follow : List ℕ) (leads : Leads g g.first taken handed q follow)
+      (body payload : List ℕ) (is : IsBody g body payload) where
+    rest_of : (xs more : List ℕ) → body ++ xs ≡ taken ++ more
+        → (rest : List ℕ) × (body ≡ taken ++ rest) × (more ≡ rest ++ xs)
+    rest_of xs more same = elim (overlaps taken more body xs (sym same)) [
+      | inl found ↦ found
+      | inr found ↦
+          let none = leads.within body payload found.0 is found.1 in (
+            [],
+            (sym (append-nil body) ∙ ap (λ l. body ++ l) (sym none) ∙ sym found.1) ∙ sym (append-nil taken),
+            ap (λ l. l ++ more) (sym none) ∙ found.2,
+          )
+    ]
+
+    -- of bytes that begin with a body, and with those that were taken of it, the rest of the body is left
+    pub Leads-left : (xs more : List ℕ) → body ++ xs ≡ taken ++ (follow ++ more)
+        → Left taken handed q body payload xs (follow ++ more)
+    Leads-left xs more same =
+        let found = rest_of xs (follow ++ more) same in
+        let goes = leads.back found.0 payload (more, xs, found.2) (subst (λ l. IsBody g l payload) found.1 is) in
+        record {
+          rest = found.0;
+          later = goes.0;
+          equal = found.1;
+          behind = found.2;
+          front = goes.1;
+          completes = goes.2;
+        }
+
+  -- bytes that settle nothing lead nowhere, or on from where others led
+  pub LeadsOpen-here : (p : P) (bytes : List ℕ) → g.is_place p → IsOpen g p bytes → LeadsOpen g p [] bytes
+  LeadsOpen-here p bytes place is = record {
+    wire = [];
+    shown = bytes;
+    place = p;
+    equal = refl;
+    leads = Leads-none p bytes;
+    is_place = place;
+    settles_nothing = is;
+  }
+
+  pub LeadsOpen-behind : (p q : P) (wire h k follow more : List ℕ) → Leads g p wire h q follow
+      → LeadsOpen g q k (follow ++ more) → LeadsOpen g p (h ++ k) (wire ++ (follow ++ more))
+  LeadsOpen-behind p q wire h k follow more leads o = record {
+    wire = wire ++ o.wire;
+    shown = o.shown;
+    place = o.place;
+    equal = ap (λ l. wire ++ l) o.equal ∙ sym (append_assoc wire o.wire o.shown);
+    leads = Leads-joins p q o.place wire o.wire h k o.shown
+        (subst (Leads g p wire h q) o.equal (Leads-more p q wire h follow more leads)) o.leads;
+    is_place = o.is_place;
+    settles_nothing = o.settles_nothing;
+  }
+
+  -- bytes of which fewer than n settle nothing settle nothing
+  pub Lacks-open : (p : P) (n : ℕ) (bytes : List ℕ) → Lacks g p n bytes → IsOpen g p bytes
+  Lacks-open p n bytes lacks =
+      subst (IsOpen g p) (append-nil bytes) (lacks.is_open [] (omega (arith, lacks.few, ap length (append-nil bytes))))
+
+  -- where the body goes on, no byte settles nothing
+  pub open_at : IsLawful g → (p : P) → g.is_place p → ¬ IsDone g p → (bytes : List ℕ) → length bytes < 1 → IsOpen g p bytes
+  open_at lawful p place goes_on [] few = record {
+    few = lawful.some;
+    goes_on = goes_on;
+    no_payload = λ byte follow same. (λ _. let odd : [] ≡ byte ∷ follow = same in cc);
+    not_wrong = λ why. lawful.none_wrong p why place;
+    further = λ rest payload c agree. some rest payload c;
+  }
+    where
+      some : (rest payload : List ℕ) → g.completes p rest payload → 0 < length rest
+      some [] payload c =
+          absurd (goes_on (subst (λ l. g.completes p [] l) (lawful.nothing p payload place c) c))
+      some (x ∷ rest) payload c = omega arith
+  open_at lawful p place goes_on (x ∷ bytes) few = absurd (omega (arith, few))
+
+  pub Lacks-one : IsLawful g → (p : P) → g.is_place p → ¬ IsDone g p → (bytes : List ℕ) → length bytes < 1
+      → Lacks g p 1 bytes
+  Lacks-one lawful p place goes_on bytes few = record {
+    few = few;
+    most = lawful.some;
+    is_open = λ more short. open_at lawful p place goes_on (bytes ++ more) short;
+  }
+
+  -- behind a body a look says so
+  pub looks_done : (p : P) (shown : List ℕ) (l : Look P W) → IsDone g p → Looks g p shown l → l ≡ Ended
+  looks_done p shown (Payload n) done looks = absurd (looks.goes_on done)
+  looks_done p shown (Passed n q) done looks = absurd (looks.4 done)
+  looks_done p shown (More n) done looks = absurd ((Lacks-open p n shown looks).goes_on done)
+  looks_done p shown (Wrong why) done looks = absurd (looks.1 done)
+  looks_done p shown Ended done looks = refl

@@ -1,0 +1,15 @@
+pub mod Coding
+pub mod CodingLaws
+pub mod Sized
+pub mod SizedLaws
+pub mod Until
+pub mod UntilLaws
+pub mod Asking
+pub mod Between
+pub mod AskingLaws
+pub mod BetweenLaws
+pub mod BodyReader
+pub mod BodyReaderLaws
+pub mod Given
+pub mod Either
+pub mod EitherLaws

@@ -1,0 +1,313 @@
+-- Laws of bodies that end at a delimiter.
+use Rattle.std.proofs.Common.{◌≡◌, ℕ, zero, suc, ◌+◌, ◌-◌, ◌<◌, ◌≤◌, List, [], ◌∷◌, ◌++◌, length, take, drop, inl, inr, sym, ap, refl, subst, ◌∙◌, arith, get_or, append_assoc, append-nil, length-append}
+use Rattle.std.proofs.Math.Seq.{take-append-add}
+use Rattle.std.proofs.lemmas.Bool.{cases_lt}
+use Rattle.std.proofs.lemmas.List.{get_or_append_left, get_or-append_right, nil_from_length, take_at}
+use Rattle.memchr.specs.Find.{Nowhere, OccursAt}
+use Rattle.body_reader.specs.declared.coding.Look.TheVariants as look
+use Rattle.body_reader.specs.declared.until.Part.{Part}
+use Rattle.body_reader.specs.declared.until.Part.TheVariants.{Inside, Behind}
+use Rattle.body_reader.specs.Coding.{Agree, Carries, IsDone, IsLawful, IsOpen, Lacks, Leads, Looks, Passes}
+use Rattle.body_reader.specs.CodingLaws.{Agree-nothing, overlaps}
+use Rattle.body_reader.specs.Until.{Ends, IsClear, MayBegin, until}
+
+-- what stands in bytes stands in more, at the same place
+occurs_more : (a b needle : List ℕ) (k : ℕ) → OccursAt a needle k → OccursAt (a ++ b) needle k
+occurs_more a b needle k o = record {
+  fits = omega (arith, o.fits, length-append a b);
+  reads = λ j h. get_or_append_left a b 0 (k + j) (omega (arith, o.fits, h)) ∙ o.reads j h;
+}
+
+-- and in fewer, where it fits
+occurs_less : (a b needle : List ℕ) (k : ℕ) → k + length needle ≤ length a → OccursAt (a ++ b) needle k
+    → OccursAt a needle k
+occurs_less a b needle k fits o = record {
+  fits = fits;
+  reads = λ j h. sym (get_or_append_left a b 0 (k + j) (omega (arith, fits, h))) ∙ o.reads j h;
+}
+
+moved : (a k j : ℕ) → a ≤ k → (k - a) + j ≡ (k + j) - a
+moved a k j behind = omega arith
+
+-- what stands behind the first bytes stands in the others
+occurs_behind : (a b needle : List ℕ) (k : ℕ) → length a ≤ k → OccursAt (a ++ b) needle k
+    → OccursAt b needle (k - length a)
+occurs_behind a b needle k behind o = record {
+  fits = omega (arith, o.fits, behind, length-append a b);
+  reads = λ j h.
+      ap (λ i. get_or b i 0) (moved (length a) k j behind)
+      ∙ sym (get_or-append_right a b (length a) (k + j) 0 refl (omega (arith, behind)))
+      ∙ o.reads j h;
+}
+
+moved_back : (a k j : ℕ) → ((a + k) + j) - a ≡ k + j
+moved_back a k j = omega arith
+
+-- and the other way
+occurs_later : (a b needle : List ℕ) (k : ℕ) → OccursAt b needle k → OccursAt (a ++ b) needle (length a + k)
+occurs_later a b needle k o = record {
+  fits = omega (arith, o.fits, length-append a b);
+  reads = λ j h.
+      get_or-append_right a b (length a) ((length a + k) + j) 0 refl (omega arith)
+      ∙ ap (λ i. get_or b i 0) (moved_back (length a) k j) ∙ o.reads j h;
+}
+
+occurs_self : (needle : List ℕ) → OccursAt needle needle 0
+occurs_self needle = record {
+  fits = omega arith;
+  reads = λ j h. let same : 0 + j ≡ j = omega arith in
+      ap (λ i. get_or needle i 0) same;
+}
+
+plus_nothing : (n : ℕ) → n + 0 ≡ n
+plus_nothing n = omega arith
+
+occurs_last : (text needle : List ℕ) → OccursAt (text ++ needle) needle (length text)
+occurs_last text needle =
+    subst (OccursAt (text ++ needle) needle) (plus_nothing (length text)) (occurs_later text needle needle 0 (occurs_self needle))
+
+module _ (needle : List ℕ) (some : 0 < length needle) where
+  not_there : (bytes follow rest : List ℕ) → IsClear needle Inside bytes follow → Agree follow rest → (k : ℕ)
+      → k < length bytes → ¬ OccursAt (bytes ++ rest) needle k
+  not_there bytes follow rest clear agree k within occurs = clear rest agree k (omega arith) within occurs
+
+  clear_onward : (bytes follow rest payload : List ℕ) → IsClear needle Inside bytes follow → Agree follow rest
+      → Ends needle Inside rest payload → Ends needle Inside (bytes ++ rest) (bytes ++ payload)
+  clear_onward bytes follow rest payload clear agree c = (
+    ap (λ l. bytes ++ l) c.0 ∙ sym (append_assoc bytes payload needle),
+    λ k low high occurs. elim (cases_lt k (length bytes)) [
+      | inl front ↦ not_there bytes follow rest clear agree k front occurs
+      | inr behind ↦ c.1 (k - length bytes) (omega arith) (omega (arith, high, behind, length-append bytes payload))
+          (occurs_behind bytes rest needle k behind occurs)
+    ],
+  )
+
+  later_none : (bytes rest whole payload : List ℕ) → Nowhere (OccursAt (bytes ++ rest) needle) 0 (length whole)
+      → whole ≡ bytes ++ payload → Nowhere (OccursAt rest needle) 0 (length payload)
+  later_none bytes rest whole payload none is k low high occurs =
+      none (length bytes + k) (omega arith) (omega (arith, high, ap length is, length-append bytes payload))
+      (occurs_later bytes rest needle k occurs)
+
+  clear_back : (bytes follow rest whole : List ℕ) → IsClear needle Inside bytes follow → Agree follow rest
+      → Ends needle Inside (bytes ++ rest) whole
+      → (payload : List ℕ) × (whole ≡ bytes ++ payload) × Ends needle Inside rest payload
+  clear_back bytes follow rest whole clear agree c = elim (overlaps bytes rest whole needle c.0) [
+    | inl found ↦ (found.0, found.1, (found.2, later_none bytes rest whole found.0 c.1 found.1))
+    | inr found ↦
+        let occurs : OccursAt (bytes ++ rest) needle (length whole) =
+        subst (λ l. OccursAt l needle (length whole)) (sym c.0) (occurs_last whole needle) in
+        elim (cases_lt (length whole) (length bytes)) [
+          | inl short ↦ absurd (not_there bytes follow rest clear agree (length whole) short occurs)
+          | inr long ↦
+              let none : found.0 ≡ [] =
+              nil_from_length found.0 (omega (arith, long, ap length found.1, length-append whole found.0)) in
+              let same : whole ≡ bytes ++ [] =
+              sym (append-nil whole) ∙ ap (λ l. whole ++ l) (sym none) ∙ sym found.1 ∙ sym (append-nil bytes) in
+              let left : rest ≡ [] ++ needle = ap (λ l. l ++ rest) (sym none) ∙ found.2 in
+              ([], same, (left, later_none bytes rest whole [] c.1 same))
+        ]
+  ]
+
+  -- payload leads on
+  pub clear_leads : (place : Part) (bytes follow : List ℕ) → IsClear needle place bytes follow
+      → Leads (until needle) place bytes bytes Inside follow
+  clear_leads Inside bytes follow clear = record {
+    onward = λ rest payload agree c. clear_onward bytes follow rest payload clear agree c;
+    back = λ rest whole agree c. clear_back bytes follow rest whole clear agree c;
+    within = λ rest payload past c same.
+        let last : OccursAt rest needle (length payload) =
+        subst (λ l. OccursAt l needle (length payload)) (sym c.0) (occurs_last payload needle) in
+        let here : OccursAt bytes needle (length payload) =
+        subst (λ l. OccursAt l needle (length payload)) (sym same) (occurs_more rest past needle (length payload) last) in
+        absurd (clear [] (Agree-nothing follow) (length payload) (omega arith)
+        (omega (arith, some, here.fits))
+        (occurs_more bytes [] needle (length payload) here));
+  }
+  clear_leads Behind bytes follow clear = absurd clear
+
+  inside_open : ¬ (Ends needle Inside [] [])
+  inside_open c = omega (arith, some, ap length c.0)
+
+  -- and what stands behind it is payload still
+  pub clear_still : (place : Part) (bytes more follow : List ℕ) → IsClear needle place (bytes ++ more) follow
+      → IsClear needle Inside more follow × (0 < length more → ¬ IsDone (until needle) Inside)
+  clear_still Inside bytes more follow clear = (
+    λ rest agree k low high occurs.
+        clear rest agree (length bytes + k) (omega arith) (omega (arith, high, length-append bytes more))
+        (subst (λ l. OccursAt l needle (length bytes + k)) (sym (append_assoc bytes more rest))
+        (occurs_later bytes (more ++ rest) needle k occurs)),
+    λ _. inside_open,
+  )
+  clear_still Behind bytes more follow clear = absurd clear
+
+  -- the bytes of the delimiter stand in front
+  front_is : (bytes needle' : List ℕ) → OccursAt bytes needle' 0 → take (length needle') bytes ≡ needle'
+  front_is [] [] o = refl
+  front_is [] (x ∷ needle') o = absurd (omega (arith, o.fits))
+  front_is (y ∷ bytes) [] o = refl
+  front_is (y ∷ bytes) (x ∷ needle') o =
+      let first : y ≡ x = o.reads 0 (omega arith) in
+      let rest : OccursAt bytes needle' 0 = record {
+        fits = omega (arith, o.fits);
+        reads = λ j h.
+            let here : 0 + j ≡ j = omega arith in
+            let later : 0 + suc j ≡ suc j = omega arith in
+            ap (λ i. get_or bytes i 0) here ∙ sym (ap (λ i. get_or (y ∷ bytes) i 0) later)
+            ∙ o.reads (suc j) (omega (arith, h));
+      } in
+      ap (λ z. z ∷ take (length needle') bytes) first ∙ ap (λ l. x ∷ l) (front_is bytes needle' rest)
+
+  end_back : (rest whole : List ℕ) → Ends needle Inside (needle ++ rest) whole
+      → (payload : List ℕ) × (whole ≡ [] ++ payload) × Ends needle Behind rest payload
+  end_back rest [] c = (
+    [],
+    refl,
+    (nil_from_length rest (omega (arith, ap length c.0, length-append needle rest)), refl),
+  )
+  end_back rest (x ∷ whole) c =
+      absurd (c.1 0 (omega arith) (omega arith) (occurs_more needle rest needle 0 (occurs_self needle)))
+
+  end_passes : (follow : List ℕ) → Passes (until needle) Inside needle Behind follow
+  end_passes follow = record {
+    leads = record {
+      onward = λ rest payload agree c. (
+        ap (λ l. needle ++ l) c.0 ∙ append-nil needle ∙ ap (λ l. l ++ needle) (sym c.1),
+        λ k low high occurs. absurd (omega (arith, high, ap length c.1)),
+      );
+      back = λ rest whole agree c. end_back rest whole c;
+      within = λ rest payload past c same.
+          nil_from_length past (omega (arith, ap length same, ap length c.0, length-append rest past, length-append payload needle));
+    };
+    few = omega arith;
+  }
+
+  -- what a look answers
+  pub looks_end : (shown : List ℕ) → OccursAt shown needle 0
+      → Looks (until needle) Inside shown (look.Passed (length needle) Behind)
+  looks_end shown here = (
+    some,
+    omega (arith, here.fits),
+    subst (λ l. Passes (until needle) Inside l Behind (drop (length needle) shown)) (sym (front_is shown needle here))
+        (end_passes (drop (length needle) shown)),
+    tt,
+    inside_open,
+  )
+
+  looks_payload : (shown : List ℕ) (n : ℕ) → 0 < n
+      → ((more : List ℕ) → Nowhere (OccursAt (shown ++ more) needle) 0 n) → Carries (until needle) Inside n shown
+  looks_payload shown n more none = record {
+    some = more;
+    goes_on = inside_open;
+    carries = λ bytes follow later few same rest agree k low high occurs.
+        let further : OccursAt ((bytes ++ rest) ++ agree.1) needle k = occurs_more (bytes ++ rest) agree.1 needle k occurs in
+        let equal : (bytes ++ rest) ++ agree.1 ≡ shown ++ (later ++ agree.0) =
+        append_assoc bytes rest agree.1 ∙ ap (λ l. bytes ++ l) (sym agree.2) ∙ sym (append_assoc bytes follow agree.0)
+        ∙ ap (λ l. l ++ agree.0) same ∙ append_assoc shown later agree.0 in
+        none (later ++ agree.0) k low (omega (arith, high, few)) (subst (λ l. OccursAt l needle k) equal further);
+  }
+
+  -- up to where the delimiter stands
+  pub looks_before : (shown : List ℕ) (n : ℕ) → 0 < n → Nowhere (OccursAt shown needle) 0 n → OccursAt shown needle n
+      → Carries (until needle) Inside n shown
+  looks_before shown n more none here = looks_payload shown n more (λ later k low high occurs.
+      none k low high (occurs_less shown later needle k (omega (arith, high, here.fits)) occurs))
+
+  -- where it stands in more than is shown, what is shown from there on is its front
+  front_of : (shown more : List ℕ) (k : ℕ) → OccursAt (shown ++ more) needle k → k ≤ length shown
+      → length shown < k + length needle → (rest : List ℕ) × (needle ≡ drop k shown ++ rest)
+  front_of [] more zero occurs within short = (needle, refl)
+  front_of [] more (suc k) occurs within short = absurd (omega (arith, within))
+  front_of (x ∷ shown) more zero occurs within short =
+      let whole = x ∷ shown in
+      let more_than : length needle ≡ length whole + (length needle - length whole) = omega (arith, short) in (
+        take (length needle - length whole) more,
+        sym (front_is (whole ++ more) needle occurs) ∙ ap (λ n. take n (whole ++ more)) more_than
+            ∙ take-append-add whole more (length needle - length whole),
+      )
+  front_of (x ∷ shown) more (suc k) occurs within short =
+      front_of shown more k
+      (subst (OccursAt (shown ++ more) needle) (less k)
+      (occurs_behind (x ∷ []) (shown ++ more) needle (suc k) (omega arith) occurs))
+      (omega (arith, within)) (omega (arith, short))
+    where
+      less : (j : ℕ) → suc j - 1 ≡ j
+      less j = omega arith
+
+  -- up to where it may begin
+  pub looks_until : (shown : List ℕ) (at : ℕ) → 0 < at → ((k : ℕ) → ¬ OccursAt shown needle k) → MayBegin needle shown at
+      → Carries (until needle) Inside at shown
+  looks_until shown at more none begins = looks_payload shown at more (λ later k low high occurs.
+      elim (cases_lt (length shown) (k + length needle)) [
+        | inl beyond ↦
+            let front = front_of shown later k occurs (omega (arith, high, begins.within)) beyond in
+            begins.clear k high beyond front.0 front.1
+        | inr fits ↦ none k (occurs_less shown later needle k fits occurs)
+      ])
+
+  -- where it may begin at once, nothing is settled until a byte more is shown
+  front_open : (shown rest : List ℕ) → needle ≡ shown ++ rest → length shown < length needle → IsOpen (until needle) Inside shown
+  front_open shown rest is few = record {
+    few = few;
+    goes_on = inside_open;
+    no_payload = λ byte follow same clear.
+        let whole : (byte ∷ []) ++ (follow ++ rest) ≡ needle = ap (λ l. l ++ rest) (sym same) ∙ sym is in
+        clear (follow ++ rest) (rest, [], sym (append-nil (follow ++ rest))) 0 (omega arith) (omega arith)
+        (subst (λ l. OccursAt l needle 0) (sym whole) (occurs_self needle));
+    not_wrong = λ why wrong. wrong;
+    further = λ more payload c agree. omega (arith, few, ap length c.0, length-append payload needle);
+  }
+
+  no_more : (shown more : List ℕ) → length (shown ++ more) < length shown + 1 → shown ≡ shown ++ more
+  no_more shown more few =
+      sym (append-nil shown) ∙ ap (λ l. shown ++ l) (sym (nil_from_length more (omega (arith, few, length-append shown more))))
+
+  pub looks_short : (shown : List ℕ) → length shown < length needle → MayBegin needle shown 0
+      → Lacks (until needle) Inside (length shown + 1) shown
+  looks_short shown few begins = record {
+    few = omega arith;
+    most = omega (arith, few);
+    is_open = λ more short. subst (IsOpen (until needle) Inside) (no_more shown more short)
+        (front_open shown begins.front.0 begins.front.1 few);
+  }
+
+  -- of two bodies that begin the same bytes neither ends first
+  not_first : (a b x y xs ys : List ℕ) → Ends needle Inside a x → Ends needle Inside b y → a ++ xs ≡ b ++ ys
+      → length y ≤ length x
+  not_first a b x y xs ys p q same = elim (cases_lt (length x) (length y)) [
+    | inr long ↦ long
+    | inl short ↦
+        let here : OccursAt (b ++ ys) needle (length x) =
+        subst (λ l. OccursAt l needle (length x)) same
+        (occurs_more a xs needle (length x)
+        (subst (λ l. OccursAt l needle (length x)) (sym p.0) (occurs_last x needle))) in
+        absurd (q.1 (length x) (omega arith) short
+        (occurs_less b ys needle (length x) (omega (arith, short, ap length q.0, length-append y needle)) here))
+  ]
+
+  only_one : (a b x y xs ys : List ℕ) → Ends needle Inside a x → Ends needle Inside b y → a ++ xs ≡ b ++ ys
+      → (a ≡ b) × (x ≡ y)
+  only_one a b x y xs ys p q same =
+      let len : length y ≡ length x =
+      omega (arith, not_first a b x y xs ys p q same, not_first b a y x ys xs q p (sym same)) in
+      let long : length b ≡ length a =
+      omega (arith, len, ap length p.0, ap length q.0, length-append x needle, length-append y needle) in
+      let equal : a ≡ b =
+      sym (take_at a xs (length a) refl) ∙ ap (take (length a)) same ∙ take_at b ys (length a) long in (
+        equal,
+        sym (take_at x needle (length x) refl) ∙ ap (take (length x)) (sym p.0 ∙ equal ∙ q.0)
+            ∙ take_at y needle (length x) len,
+      )
+
+  until_nothing : (place : Part) (payload : List ℕ) → Ends needle place [] payload → payload ≡ []
+  until_nothing Inside payload c = absurd (omega (arith, some, ap length c.0, length-append payload needle))
+  until_nothing Behind payload c = c.1
+
+  pub until_lawful : IsLawful (until needle)
+  until_lawful = record {
+    some = some;
+    begins = tt;
+    nothing = λ place payload is c. until_nothing place payload c;
+    none_wrong = λ place why is wrong. wrong;
+    never = λ place shown why rest payload is wrong c agree. wrong;
+    one = λ a b x y xs ys p q same. only_one a b x y xs ys p q same;
+  }

@@ -1,0 +1,21 @@
+//! Bodies of a stream: parts that needn't fit in memory, and whose end shows only as they are read. What a body is a coding says.
+//!
+//! A [`BodyReader`] hands out the payload of one body, and leaves what follows the body in the buffered reader.
+#![tactic(auto)]
+
+mod coding;
+mod either;
+mod error;
+pub mod laws;
+mod progress;
+mod reader;
+mod sized;
+mod steps;
+mod until;
+
+pub use coding::{Coding, Look};
+pub use either::{Either, Side};
+pub use error::BodyError;
+pub use reader::BodyReader;
+pub use sized::Sized;
+pub use until::{Part, Until};

@@ -1,0 +1,323 @@
+//! The reader of a body.
+ghost use Rattle.std.specs.Prelude.{None, Some, [], ◌≡◌, ℕ, List, ◌-◌, ◌<◌, ◌≤◌, ◌↔◌, length, min, take, Err, IfErr, IfOk, IfSome, IsOkAnd, IsTrue, MatchResult, Ok};
+ghost use Rattle.std.specs.Borrow.{sem};
+ghost use Rattle.std.specs.Io.{ReadsAtMost, StartsWith};
+ghost use Rattle.std.specs.Io.BufRead.{Rests};
+ghost use Rattle.body_reader.specs.contracts.reader.BodyReader.{the_row};
+ghost use Rattle.std.specs.Io.KnownBytes.{ReadConsumes};
+ghost use Rattle.buffer_redux.specs.Buffered.{over_buffer};
+ghost use Rattle.buffer_redux.specs.StreamLog.{StreamLog, after_read};
+ghost use Rattle.body_reader.specs.Coding.{IsBody};
+ghost use Rattle.body_reader.specs.BodyReader.{BodyState, BodyWent, Drains, FillsAsIo, FillsPayload, IsBodyReader, IsWhole, LooksBehind, ReadsAsIo, ReadsPayload, begun, taken_count};
+
+use crate::coding::{Coding, Look};
+use crate::error::BodyError;
+use crate::progress::Progress;
+use crate::steps::{fill_on, read_on, take_front};
+use buffer_redux::policy::{ReaderPolicy, StdPolicy};
+use buffer_redux::tell::{Call, CallLog, Tell, TellRead};
+use buffer_redux::{BufReader, Buffer, MakeError};
+use std::io;
+use std::io::{BufRead, ErrorKind, Read};
+use std::marker::Model;
+
+/// A reader of one body, out of a buffered reader of yours. What follows the body stays in that:
+/// [`finish`](BodyReader::finish) hands it back.
+///
+/// It takes no memory, and asks the buffered reader for nothing behind the payload that a call hands out but what its coding has
+/// to see, nor once the body ended.
+#[derive(Drop)]
+pub struct BodyReader<R: Tell, C: Coding, P = StdPolicy> {
+    reader: BufReader<R, P>,
+    coding: C,
+    progress: Progress<C::Place>,
+    // What was handed out, as a stream tells it.
+    calls: CallLog,
+    // How many of the bytes that are buffered are payload, as far as that was looked for.
+    known: usize,
+}
+
+impl<R: Tell, C: Coding, P> Model for BodyReader<R, C, P> {
+    ghost use Rattle.body_reader.specs.BodyReader.{BodyState, IsBodyReader};
+
+    ghost Value = { BodyState R P C C.Place };
+
+    ghost view = { λ b. record {
+      reader = b.reader;
+      coding = b.coding;
+      place = b.progress.place;
+      taken = b.progress.taken.log.fills.consumed;
+      calls = b.calls.log;
+      known = b.known;
+    } };
+
+    ghost invariant = { λ b. IsBodyReader (C.grammar b.coding) (record {
+      reader = b.reader;
+      coding = b.coding;
+      place = b.progress.place;
+      taken = b.progress.taken.log.fills.consumed;
+      calls = b.calls.log;
+      known = b.known;
+    }) };
+}
+
+impl<R: Tell, C: Coding> BodyReader<R, C> {
+    /// The same over a buffer of yours: its bytes are read first, as those that another reader left, and then `inner` is asked.
+    ///
+    /// The buffer is kept. Where it holds fewer bytes than a look needs it grows; a refusal hands all three back.
+    pub fn with_buffer(
+        mut buffer: Buffer,
+        inner: R,
+        coding: C,
+    ) -> Result<Self, MakeError<(Buffer, R, C)>>
+        ensures made { IfOk result (λ b. b ≡ begun (C.grammar coding)
+            (over_buffer R.log (record {}) b.reader.block inner) coding) }
+        ensures bytes { IfOk result (λ b. b.reader.block.bytes ≡ buffer.bytes) }
+        ensures whole { IfOk result (IsBodyReader (C.grammar coding)) }
+        ensures handed_back { IfErr result (λ e. e.0 ≡ (buffer, inner, coding)) }
+        ensures kept { (C.grammar coding).ahead ≤ buffer.capacity
+            → IsOkAnd result (λ b. b.reader.block ≡ buffer) }
+    {
+        let ahead = coding.ahead();
+        if buffer.capacity() < ahead {
+            let lacks = ahead - buffer.len();
+            if let Err(e) = buffer.reserve(lacks) {
+                return Err(MakeError((buffer, inner, coding), e));
+            }
+        }
+        Ok(BodyReader::new(BufReader::with_buffer(buffer, inner), coding))
+    }
+}
+
+impl<R: Tell, C: Coding, P> BodyReader<R, C, P> {
+    /// A reader of the body that comes next of `reader`, whose buffer holds as many bytes as a look at them needs.
+    pub fn new(reader: BufReader<R, P>, coding: C) -> Self
+        requires room { (C.grammar coding).ahead ≤ reader.block.capacity }
+        ensures begun { result ≡ begun (C.grammar coding) reader coding }
+        ensures whole { IsBodyReader (C.grammar coding) result }
+    {
+        let place = coding.first();
+        BodyReader {
+            reader,
+            coding,
+            progress: Progress::new(place),
+            calls: CallLog::new(),
+            known: 0,
+        }
+    }
+
+    /// The buffered reader.
+    pub fn get_ref(&self) -> &BufReader<R, P>
+        ensures reader { result.now ≡ self.now.reader }
+        ensures whole { IsBodyReader (C.grammar self.now.coding) self.now }
+    {
+        &self.reader
+    }
+
+    /// The buffered reader where it stands, which may be within the body: that is torn then.
+    /// [`finish`](BodyReader::finish) is the way to what follows the body.
+    pub fn into_inner_torn(self) -> BufReader<R, P>
+        ensures { result ≡ self.reader }
+    {
+        let BodyReader {
+            reader,
+            coding: _,
+            progress: _,
+            calls: _,
+            known: _,
+        } = self;
+        reader
+    }
+
+    /// The payload that is buffered, as far as the last fill said, and wasn't consumed.
+    pub fn piece(&self) -> &[u8]
+        ensures { result.now ≡ take self.now.known self.now.reader.block.bytes }
+    {
+        &self.reader.buffer()[..self.known]
+    }
+
+    /// How many bytes of the body were taken so far, as far as a `u64` counts.
+    pub fn taken(&self) -> u64
+        ensures { result ≡ taken_count self.now }
+    {
+        self.progress.count
+    }
+
+    /// Whether the body ended.
+    pub fn is_done(&self) -> bool
+        ensures { IsTrue result ↔ IsWhole (C.grammar self.now.coding) self.now }
+    {
+        matches!(self.coding.look(self.progress.place, &[]), Look::Ended)
+    }
+}
+
+impl<R: TellRead, C: Coding, P: ReaderPolicy> BodyReader<R, C, P> {
+    /// Hands out payload, at least a byte unless the body ended or the slice is empty.
+    ///
+    /// What is wrong stays buffered, and each further call says so. After a `Truncated` a further call asks the stream again, and
+    /// goes on where more came, as it does after an `Io`.
+    pub fn read_payload(&mut self, out: &mut [u8]) -> Result<usize, BodyError<C::Wrong>>
+        ensures bound { IfOk result (λ n. n ≤ length out.new) }
+        ensures reads { ReadsPayload R.remaining P.rules (C.grammar self.old.coding) self.old out.new result self.new }
+    {
+        let answer = read_on(
+            &mut self.reader,
+            &self.coding,
+            &mut self.progress,
+            &mut self.known,
+            out,
+        );
+        if let Ok(count) = &answer {
+            self.calls.note(&Call::Read(out, &Ok(*count)));
+        }
+        answer
+    }
+
+    /// How many bytes of payload are buffered, which [`piece`](BodyReader::piece) lends; none only where the body ended. Where some
+    /// are known nobody is asked.
+    pub fn fill_payload(&mut self) -> Result<usize, BodyError<C::Wrong>>
+        ensures { FillsPayload R.remaining P.rules (C.grammar self.old.coding) self.old result self.new }
+    {
+        if self.known > 0 {
+            return Ok(self.known);
+        }
+        match fill_on(&mut self.reader, &self.coding, &mut self.progress) {
+            Ok(known) => {
+                self.known = known;
+                Ok(known)
+            }
+            Err(e) => Err(e),
+        }
+    }
+
+    /// Goes on behind the first `count` bytes that [`piece`](BodyReader::piece) lends, or behind all.
+    pub fn consume_payload(&mut self, count: usize)
+        ensures went { BodyWent R.remaining P.rules (C.grammar self.old.coding) self.old
+            (take (min count self.old.known) self.old.reader.block.bytes) self.new }
+        ensures left { self.new.known ≡ self.old.known - count }
+        ensures told { self.new.reader.log ≡ self.old.reader.log }
+        ensures whole { IsBodyReader (C.grammar self.new.coding) self.new }
+    {
+        let count = count.min(self.known);
+        if count == 0 {
+            return;
+        }
+        self.calls
+            .note(&Call::Read(&self.reader.buffer()[..count], &Ok(count)));
+        take_front(
+            &mut self.reader,
+            &self.coding,
+            &mut self.progress,
+            &mut self.known,
+            count,
+        );
+    }
+
+    /// The buffered reader, with just what follows the body: what is left of that is taken first, and its payload dropped. The
+    /// stream is asked for nothing behind the end of the body, and for nothing at all where that was taken.
+    ///
+    /// An `Err` says why the body didn't end, as one of [`read_payload`](BodyReader::read_payload), and hands the reader back,
+    /// which has taken what was right. A body whose rest is read in 2^64 pieces ends the call too, by `Other`.
+    pub fn finish(mut self) -> Result<BufReader<R, P>, (Self, BodyError<C::Wrong>)>
+        ensures { MatchResult result
+            (λ rest. (body : BodyState R P C C.Place) × Drains R.remaining P.rules (C.grammar self.coding) self (Ok tt) body
+            × (rest ≡ body.reader))
+            (λ e. Drains R.remaining P.rules (C.grammar self.coding) self (Err e.1) e.0) }
+    {
+        match self.drain() {
+            Ok(()) => Ok(self.into_inner_torn()),
+            Err(e) => Err((self, e)),
+        }
+    }
+
+    // Takes the rest of the body, and drops its payload.
+    fn drain(&mut self) -> Result<(), BodyError<C::Wrong>>
+        ensures { Drains R.remaining P.rules (C.grammar self.old.coding) self.old result self.new }
+    {
+        let _ = self.get_ref();
+        for _piece in 0..u64::MAX {
+            let count = self.fill_payload()?;
+            if count == 0 {
+                return Ok(());
+            }
+            self.consume_payload(count);
+        }
+        Err(BodyError::Io(io::Error::from(ErrorKind::Other)))
+    }
+
+    /// Whether nothing follows what was taken: reads a byte ahead, unless one is buffered, and leaves what comes. Behind the end
+    /// of the body this tells whether the stream ended too.
+    pub fn is_at_end(&mut self) -> io::Result<bool>
+        ensures { LooksBehind R.remaining P.rules (C.grammar self.old.coding) self.old result self.new }
+    {
+        Ok(self.reader.peek(1)?.is_empty())
+    }
+}
+
+impl<R: Tell, C: Coding, P> Tell for BodyReader<R, C, P> {
+    ghost log = { λ b. b.calls };
+}
+
+/// Payload, as [`read_payload`](BodyReader::read_payload) hands it out. An error is the stream's own, or of the kind `InvalidData`
+/// or `UnexpectedEof`.
+impl<R: TellRead, C: Coding, P: ReaderPolicy> Read for BodyReader<R, C, P>
+where
+    C::Wrong: Drop,
+{
+    fn read(&mut self, out: &mut [u8]) -> io::Result<usize>
+        ensures bound { ReadsAtMost result out.new }
+        ensures bytes { ReadConsumes None None result out.new }
+        ensures read { ReadsAsIo R.remaining P.rules (C.grammar self.old.coding) self.old out.new result self.new }
+    {
+        Ok(self.read_payload(out)?)
+    }
+}
+
+/// The same, told.
+impl<R: TellRead, C: Coding, P: ReaderPolicy> TellRead for BodyReader<R, C, P>
+where
+    C::Wrong: Drop,
+{
+    fn read_told(&mut self, out: &mut [u8]) -> io::Result<usize>
+        ensures bound { ReadsAtMost result out.new }
+        ensures told { self.new.calls ≡ after_read self.old.calls out.new result }
+        ensures bytes { ReadConsumes None None result out.new }
+        ensures read { (untold : StreamLog) × ReadsAsIo R.remaining P.rules (C.grammar self.old.coding) self.old out.new result
+            (record self.new { calls = untold }) }
+        ensures whole { IsBodyReader (C.grammar self.new.coding) self.new }
+    {
+        let answer = self.read(out);
+        if answer.is_err() {
+            self.calls.note(&Call::Read(out, &answer));
+        }
+        answer
+    }
+}
+
+/// Payload, lent out of the buffer.
+impl<R: TellRead, C: Coding, P: ReaderPolicy> BufRead for BodyReader<R, C, P>
+where
+    C::Wrong: Drop,
+{
+    ghost consumable_len = { λ b. Some b.known };
+
+    fn fill_buf(&mut self) -> io::Result<&[u8]>
+        ensures front { IfSome {T = List ℕ} None (λ xs. IfOk result (λ bytes. StartsWith xs bytes.now)) }
+        ensures end { IfSome {T = List ℕ} None (λ xs. IfOk result (λ bytes. length bytes.now ≡ 0 → xs ≡ [])) }
+        ensures* after_borrow { sem 𝓛 (Rests (the_row R.row C.row P.row C.Place.row C.Wrong.row R.Tell C.Coding) self.entry
+            (FillsAsIo R.remaining P.rules (C.grammar self.entry.now.coding) self.entry.now result)) }
+    {
+        self.fill_payload()?;
+        Ok(self.piece())
+    }
+
+    fn consume(&mut self, amount: usize)
+        ensures went { BodyWent R.remaining P.rules (C.grammar self.old.coding) self.old
+            (take (min amount self.old.known) self.old.reader.block.bytes) self.new }
+        ensures left { self.new.known ≡ self.old.known - amount }
+        ensures told { self.new.reader.log ≡ self.old.reader.log }
+        ensures whole { IsBodyReader (C.grammar self.new.coding) self.new }
+    {
+        self.consume_payload(amount)
+    }
+}

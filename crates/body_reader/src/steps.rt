@@ -1,0 +1,216 @@
+//! The steps of a reader of a body, over the buffered reader.
+ghost use Rattle.std.specs.Prelude.{[], ◌≡◌, ◌-◌, ◌<◌, ◌≤◌, length, min, take, drop};
+ghost use Rattle.buffer_redux.specs.Buffered.{GoesPast};
+ghost use Rattle.body_reader.specs.Coding.{Carries, IsKnown};
+ghost use Rattle.body_reader.specs.Between.{FillsOn, HandsOn, PassesOn, Skips, TakesFront};
+
+use crate::coding::{Coding, Look};
+use crate::error::BodyError;
+use crate::progress::Progress;
+use buffer_redux::BufReader;
+use buffer_redux::policy::ReaderPolicy;
+use buffer_redux::tell::TellRead;
+use std::io::{BufRead, Read};
+
+/// Takes what is buffered and no payload, and says what comes next. Nobody is asked.
+pub fn pass<R: TellRead, P: ReaderPolicy, C: Coding>(
+    reader: &mut BufReader<R, P>,
+    coding: &C,
+    progress: &mut Progress<C::Place>,
+) -> Look<C::Place, C::Wrong>
+    requires place { (C.grammar coding.now).is_place progress.old.place }
+    ensures { PassesOn R.remaining P.rules (C.grammar coding.now) reader.old progress.old result reader.new progress.new }
+{
+    loop {
+        let look = coding.look(progress.place, reader.buffer());
+        match look {
+            Look::Passed(count, next) => {
+                progress.take(next, &reader.buffer()[..count]);
+                reader.consume(count);
+            }
+            _ => return look,
+        }
+    }
+}
+
+/// Takes what is no payload, and returns how many bytes of payload come next: 0 where the body ended.
+pub fn skip<R: TellRead, P: ReaderPolicy, C: Coding>(
+    reader: &mut BufReader<R, P>,
+    coding: &C,
+    progress: &mut Progress<C::Place>,
+) -> Result<u64, BodyError<C::Wrong>>
+    requires place { (C.grammar coding.now).is_place progress.old.place }
+    requires room { (C.grammar coding.now).ahead ≤ reader.old.block.capacity }
+    ensures { Skips R.remaining P.rules (C.grammar coding.now) reader.old progress.old result reader.new progress.new }
+{
+    loop {
+        match pass(reader, coding, progress) {
+            Look::Payload(sure) => return Ok(sure),
+            Look::More(need) => {
+                let shown = reader.peek(need)?.len();
+                if shown < need {
+                    return Err(BodyError::Truncated(progress.count));
+                }
+            }
+            Look::Wrong(why) => return Err(BodyError::Wrong(why, progress.count)),
+            Look::Ended => return Ok(0),
+            Look::Passed(_, _) => unreachable!(),
+        }
+    }
+}
+
+/// Has some byte of payload buffered, of which the next `sure` bytes are, and returns how many are buffered.
+pub fn show<R: TellRead, P: ReaderPolicy, C: Coding>(
+    reader: &mut BufReader<R, P>,
+    coding: &C,
+    progress: &Progress<C::Place>,
+    sure: u64,
+) -> Result<usize, BodyError<C::Wrong>>
+    requires place { (C.grammar coding.now).is_place progress.now.place }
+    requires room { (C.grammar coding.now).ahead ≤ reader.old.block.capacity }
+    requires sure { Carries (C.grammar coding.now) progress.now.place sure reader.old.block.bytes }
+    ensures { FillsOn R.remaining P.rules (C.grammar coding.now) reader.old progress.now result reader.new progress.now }
+{
+    if reader.peek(1)?.is_empty() {
+        return Err(BodyError::Truncated(progress.count));
+    }
+    Ok(sure.min(reader.buf_len() as u64) as usize)
+}
+
+/// Has payload buffered, and returns how much: none only where the body ended.
+pub fn fill_on<R: TellRead, P: ReaderPolicy, C: Coding>(
+    reader: &mut BufReader<R, P>,
+    coding: &C,
+    progress: &mut Progress<C::Place>,
+) -> Result<usize, BodyError<C::Wrong>>
+    requires place { (C.grammar coding.now).is_place progress.old.place }
+    requires room { (C.grammar coding.now).ahead ≤ reader.old.block.capacity }
+    ensures { FillsOn R.remaining P.rules (C.grammar coding.now) reader.old progress.old result reader.new progress.new }
+{
+    let sure = skip(reader, coding, progress)?;
+    if sure == 0 {
+        return Ok(0);
+    }
+    show(reader, coding, progress, sure)
+}
+
+/// Goes on behind the first `count` bytes, of which the first `known` are payload.
+pub fn take_front<R: TellRead, P: ReaderPolicy, C: Coding>(
+    reader: &mut BufReader<R, P>,
+    coding: &C,
+    progress: &mut Progress<C::Place>,
+    known: &mut usize,
+    count: usize,
+)
+    requires place { (C.grammar coding.now).is_place progress.old.place }
+    requires known { IsKnown (C.grammar coding.now) progress.old.place known.old reader.old.block.bytes }
+    requires some { 0 < count }
+    requires few { count ≤ known.old }
+    ensures { TakesFront R.remaining P.rules (C.grammar coding.now) count reader.old progress.old known.old reader.new
+        progress.new known.new }
+{
+    let shown = &reader.buffer()[..count];
+    let behind = coding.behind(progress.place, shown);
+    progress.take(behind, shown);
+    reader.consume(count);
+    *known -= count;
+}
+
+/// Hands out of the first `known` bytes, which are payload.
+pub fn hand_out<R: TellRead, P: ReaderPolicy, C: Coding>(
+    reader: &mut BufReader<R, P>,
+    coding: &C,
+    progress: &mut Progress<C::Place>,
+    known: &mut usize,
+    out: &mut [u8],
+) -> usize
+    requires place { (C.grammar coding.now).is_place progress.old.place }
+    requires known { IsKnown (C.grammar coding.now) progress.old.place known.old reader.old.block.bytes }
+    requires some { 0 < known.old }
+    requires room { 0 < length out.old }
+    ensures count { result ≡ min known.old (length out.new) }
+    ensures bytes { take result out.new ≡ take result reader.old.block.bytes }
+    ensures took { TakesFront R.remaining P.rules (C.grammar coding.now) result reader.old progress.old known.old reader.new
+        progress.new known.new }
+{
+    let count = (*known).min(out.len());
+    out[..count].copy_from_slice(&reader.buffer()[..count]);
+    take_front(reader, coding, progress, known, count);
+    count
+}
+
+/// Reads past the buffer of payload, of which the next `most` bytes are.
+pub fn read_past<R: TellRead, P: ReaderPolicy, C: Coding>(
+    reader: &mut BufReader<R, P>,
+    coding: &C,
+    progress: &mut Progress<C::Place>,
+    most: usize,
+    out: &mut [u8],
+) -> Result<usize, BodyError<C::Wrong>>
+    requires place { (C.grammar coding.now).is_place progress.old.place }
+    requires sure { Carries (C.grammar coding.now) progress.old.place most reader.old.block.bytes }
+    requires past { GoesPast reader.old.block most }
+    requires room { most ≤ length out.old }
+    ensures { HandsOn R.remaining P.rules (C.grammar coding.now) reader.old progress.old out.new result reader.new
+        progress.new }
+{
+    let count = reader.read(&mut out[..most])?;
+    if count == 0 {
+        return Err(BodyError::Truncated(progress.count));
+    }
+    let behind = coding.behind(progress.place, &out[..count]);
+    progress.take(behind, &out[..count]);
+    Ok(count)
+}
+
+/// Hands out payload behind what is none.
+pub fn read_new<R: TellRead, P: ReaderPolicy, C: Coding>(
+    reader: &mut BufReader<R, P>,
+    coding: &C,
+    progress: &mut Progress<C::Place>,
+    known: &mut usize,
+    out: &mut [u8],
+) -> Result<usize, BodyError<C::Wrong>>
+    requires place { (C.grammar coding.now).is_place progress.old.place }
+    requires room { (C.grammar coding.now).ahead ≤ reader.old.block.capacity }
+    requires none { known.old ≡ 0 }
+    requires some { 0 < length out.old }
+    ensures hands { HandsOn R.remaining P.rules (C.grammar coding.now) reader.old progress.old out.new result reader.new
+        progress.new }
+    ensures known { IsKnown (C.grammar coding.now) progress.new.place known.new reader.new.block.bytes }
+{
+    let sure = skip(reader, coding, progress)?;
+    if sure == 0 {
+        return Ok(0);
+    }
+    let most = sure.min(out.len() as u64) as usize;
+    if reader.buf_len() == 0 && most >= reader.capacity() {
+        return read_past(reader, coding, progress, most, out);
+    }
+    *known = show(reader, coding, progress, sure)?;
+    Ok(hand_out(reader, coding, progress, known, out))
+}
+
+/// Hands out payload, at least a byte unless the body ended or the slice is empty.
+pub fn read_on<R: TellRead, P: ReaderPolicy, C: Coding>(
+    reader: &mut BufReader<R, P>,
+    coding: &C,
+    progress: &mut Progress<C::Place>,
+    known: &mut usize,
+    out: &mut [u8],
+) -> Result<usize, BodyError<C::Wrong>>
+    requires place { (C.grammar coding.now).is_place progress.old.place }
+    requires room { (C.grammar coding.now).ahead ≤ reader.old.block.capacity }
+    requires held { IsKnown (C.grammar coding.now) progress.old.place known.old reader.old.block.bytes }
+    ensures hands { HandsOn R.remaining P.rules (C.grammar coding.now) reader.old progress.old out.new result reader.new
+        progress.new }
+    ensures known { IsKnown (C.grammar coding.now) progress.new.place known.new reader.new.block.bytes }
+{
+    if out.is_empty() {
+        return Ok(0);
+    }
+    if *known > 0 {
+        return Ok(hand_out(reader, coding, progress, known, out));
+    }
+    read_new(reader, coding, progress, known, out)
+}

@@ -1,0 +1,81 @@
+//! The coding of a body that ends at a delimiter.
+ghost use Rattle.std.specs.Prelude.{◌≡◌, ◌<◌, length};
+ghost use Rattle.body_reader.specs.Until.{MayBegin};
+
+use crate::coding::{Coding, Look};
+use memchr::memmem;
+
+/// A body that ends with the first place where a delimiter stands, as a part of multipart does. All that stands before it is
+/// payload.
+#[derive(Drop)]
+pub struct Until {
+    pub delimiter: Vec<u8>,
+    pub ghost some: { 0 < length delimiter.items },
+}
+
+/// Where in it one stands.
+#[derive(Clone, Copy, Debug)]
+pub enum Part {
+    /// Before the delimiter.
+    Inside,
+    /// Behind it.
+    Behind,
+}
+
+impl Coding for Until {
+    ghost use Rattle.body_reader.specs.Until.{until};
+    ghost use Rattle.body_reader.specs.UntilLaws.{until_lawful};
+
+    type Place = Part;
+
+    type Wrong = ();
+
+    ghost grammar = { λ c. until c.delimiter.items };
+
+    fn first(&self) -> Part {
+        Part::Inside
+    }
+
+    fn ahead(&self) -> usize {
+        self.delimiter.len()
+    }
+
+    fn look(&self, place: Part, shown: &[u8]) -> Look<Part, ()> {
+        match place {
+            Part::Behind => Look::Ended,
+            Part::Inside => {
+                let needle = self.delimiter.as_slice();
+                match memmem::find(shown, needle) {
+                    Some(0) => Look::Passed(needle.len(), Part::Behind),
+                    Some(at) => Look::Payload(at as u64),
+                    None => {
+                        let at = may_begin(shown, needle);
+                        if at == 0 {
+                            return Look::More(shown.len() + 1);
+                        }
+                        Look::Payload(at as u64)
+                    }
+                }
+            }
+        }
+    }
+
+    fn behind(&self, _place: Part, _payload: &[u8]) -> Part {
+        Part::Inside
+    }
+
+    ghost lawful = { λ c. until_lawful c.delimiter.items c.some };
+}
+
+// Where in bytes in which the delimiter doesn't stand it may begin.
+fn may_begin(shown: &[u8], needle: &[u8]) -> usize
+    requires { 0 < length needle.now }
+    ensures begins { MayBegin needle.now shown.now result }
+    ensures short { result ≡ 0 → length shown.now < length needle.now }
+{
+    let mut at = shown.len().saturating_sub(needle.len() - 1);
+    while at < shown.len() && !needle.starts_with(&shown[at..]) {
+        at += 1;
+    }
+    at
+}
