@@ -2,38 +2,33 @@
 use Rattle.std.proofs.Common.{◌≡◌, ℕ, ◌+◌, ◌-◌, ◌<◌, ◌≤◌, List, [], ◌++◌, append_assoc, length, Result, Ok, Err, Option, inl, inr, refl, sym, ap, subst, ◌∙◌, arith, length-append, length-take-le}
 use Rattle.std.specs.Prelude.{◌⊎◌, MatchResult}
 use Rattle.std.proofs.lemmas.Bool.{cases_lt}
-use Rattle.std.specs.Io.{ReadsAtMost}
 use Rattle.std.specs.declared.io.Error.{Error}
-use Rattle.redux_buffer.specs.Block.{Block, IsBlock, MakesRoom, OnlyRingMoves, usable}
-use Rattle.redux_buffer.specs.BlockLaws.{OnlyRingMoves-joins, OnlyRingMoves-none}
+use Rattle.redux_buffer.specs.Block.{IsBlock, MakesRoom, usable}
+use Rattle.redux_buffer.specs.BlockLaws.{OnlyRingMoves-none}
 use Rattle.redux_buffer.specs.Potential.{potential-make_room}
 use Rattle.redux_buffer.specs.Transfer.{ReadsOnce}
 use Rattle.redux_buffer.specs.LogGrows.{ReadLogGrows, ReadLogGrows-none}
 use Rattle.redux_buffer.specs.StreamLog.{portion, with_fault, with_zero, zero_of_none, zero_of_some}
 use Rattle.buffer_redux.specs.Policy.{ReadRules}
 use Rattle.buffer_redux.specs.Buffered.{Buffered, with_block}
-use Rattle.buffer_redux.specs.BufReader.{ReadsAlong, ReadsInOrder, ReadsIntoBuf}
+use Rattle.buffer_redux.specs.BufReader.{MovesFor, ReadsAlong, ReadsInOrder, ReadsIntoBuf}
 use Rattle.buffer_redux.specs.Peek.{AskedAhead, ReadsAhead}
 use Rattle.buffer_redux.specs.Sparing.{Spared, Spared-joins, Spared-none}
 use Rattle.buffer_redux.specs.ReaderLaws.{InnerGives-same, ReadsAlong-none, ReadsAlong-then, ReadsInOrder-none}
 use Rattle.buffer_redux.proofs.FillFacts.{ReadsInOrder-read_from}
+use Rattle.buffer_redux.proofs.Moving.{MovesFor-on, MovesFor-still, offered, portion_within, room_once}
 
--- no byte was moved, and as many fit behind those that are buffered as before
-pub record Stays (s m : Block) : Type 0 where
-  pub moves : OnlyRingMoves s m
-  pub behind : length m.bytes + usable m ≡ length s.bytes + usable s
-
--- each turn gave bytes, and no fault
+-- each turn gave bytes, and no fault; the first made room for all
 pub record AheadTurns {S P : Type 0} (remaining : S → Option (List ℕ)) (rules : ReadRules P) (n : ℕ)
     (s m : Buffered S P) : Type 0 where
   pub along : ReadsAlong remaining rules s [] m
   pub zeros : m.log.reads.zero_reads ≡ s.log.reads.zero_reads
   pub faults : m.log.reads.faults ≡ s.log.reads.faults
   pub asks : m.log.reads.asks + length s.block.bytes ≤ s.log.reads.asks + length m.block.bytes
-  pub begun : (m ≡ s) ⊎ (length s.block.bytes < n)
+  pub begun : (m ≡ s) ⊎ ((length s.block.bytes < n) × (n ≤ length m.block.bytes + usable m.block))
   pub asked : (m.log ≡ s.log) ⊎ AskedAhead n s m
   pub consumed : m.block.consumed ≡ s.block.consumed
-  pub still : n ≤ length s.block.bytes + usable s.block → Stays s.block m.block
+  pub moves : MovesFor (n - length s.block.bytes) s.block m.block
   pub policy : m.policy ≡ s.policy
   pub capacity : m.block.capacity ≡ s.block.capacity
   pub limit : m.block.limit ≡ s.block.limit
@@ -48,6 +43,7 @@ pub record MakesRoomFor {S P : Type 0} (more : ℕ) (s t : Buffered S P) : Type 
   pub bytes : t.block.bytes ≡ s.block.bytes
   pub room : more ≤ usable t.block
   pub enough : more ≤ usable s.block → t ≡ s
+  pub moves : MovesFor more s.block t.block
   pub consumed : t.block.consumed ≡ s.block.consumed
   pub capacity : t.block.capacity ≡ s.block.capacity
   pub limit : t.block.limit ≡ s.block.limit
@@ -61,6 +57,7 @@ room_there more s enough = record {
   bytes = refl;
   room = enough;
   enough = λ _. refl;
+  moves = MovesFor-still more s.block s.block (OnlyRingMoves-none s.block);
   consumed = refl;
   capacity = refl;
   limit = refl;
@@ -77,6 +74,7 @@ room_made more s t few fits room order others = record {
   bytes = room.bytes;
   room = omega (arith, room.usable, fits);
   enough = λ many. absurd (omega (arith, many, few));
+  moves = record { still = λ many. absurd (omega (arith, many, few)); once = room_once s.block t.block room };
   consumed = room.consumed;
   capacity = room.capacity;
   limit = room.limit;
@@ -113,7 +111,7 @@ ahead_as remaining rules s a b t r = record {
   buffered = r.buffered;
   asked = r.asked;
   consumed = r.consumed;
-  still = r.still;
+  moves = r.moves;
   policy = r.policy;
   capacity = r.capacity;
   limit = r.limit;
@@ -133,11 +131,6 @@ pub record AsksOnce {S P : Type 0} (remaining : S → Option (List ℕ)) (rules 
   pub reads : ReadsIntoBuf remaining r answer t
   pub spared : (keep : ℕ) → Spared keep r t
 
--- an answer speaks of no more than the slice
-portion_within : (answer : Result ℕ Error) (out : List ℕ) → ReadsAtMost answer out → length (portion out answer) ≤ length out
-portion_within (Ok k) out bound = omega (arith, length-take-le k out bound.0, bound.0)
-portion_within (Err e) out bound = omega arith
-
 module _ {S P : Type 0} (remaining : S → Option (List ℕ)) (rules : ReadRules P) (n : ℕ) where
   pub turns_none : (s : Buffered S P) → AheadTurns remaining rules n s s
   turns_none s = record {
@@ -148,7 +141,7 @@ module _ {S P : Type 0} (remaining : S → Option (List ℕ)) (rules : ReadRules
     begun = inl refl;
     asked = inl refl;
     consumed = refl;
-    still = λ _. record { moves = OnlyRingMoves-none s.block; behind = refl };
+    moves = MovesFor-still (n - length s.block.bytes) s.block s.block (OnlyRingMoves-none s.block);
     policy = refl;
     capacity = refl;
     limit = refl;
@@ -164,10 +157,10 @@ module _ {S P : Type 0} (remaining : S → Option (List ℕ)) (rules : ReadRules
     along = turns.along;
     ended = inl (enough, turns.zeros);
     caused = turns.faults;
-    buffered = λ many. elim turns.begun [ inl same ↦ same | inr less ↦ absurd (omega (arith, many, less)) ];
+    buffered = λ many. elim turns.begun [ inl same ↦ same | inr less ↦ absurd (omega (arith, many, less.0)) ];
     asked = turns.asked;
     consumed = turns.consumed;
-    still = λ fit. (turns.still fit).moves;
+    moves = turns.moves;
     policy = turns.policy;
     capacity = turns.capacity;
     limit = turns.limit;
@@ -213,23 +206,30 @@ module _ {S P : Type 0} (remaining : S → Option (List ℕ)) (rules : ReadRules
     consumed_now : t.block.consumed ≡ s.block.consumed
     consumed_now = once.added.consumed ∙ a.room.consumed ∙ a.turns.consumed
 
-    still_now : n ≤ length s.block.bytes + usable s.block → Stays s.block t.block
-    still_now fit =
-        let before = a.turns.still fit in
-        let same : r ≡ m = a.room.enough (omega (arith, fit, before.behind)) in
-        record {
-          moves = OnlyRingMoves-joins s.block m.block t.block a.turns.kind before.moves
-              (subst (λ x. OnlyRingMoves x.block t.block) same once.added.moved);
-          behind = omega (
-            arith,
-            before.behind,
-            grown,
-            once.added.usable,
-            once.offered,
-            ap (λ x. usable x.block) same,
-            portion_within answer once.out once.bound,
-          );
-        }
+    moves_now : MovesFor (n - length s.block.bytes) s.block t.block
+    moves_now = MovesFor-on (n - length s.block.bytes) s.block r.block t.block (a.room.kind ∙ a.turns.kind)
+        (elim a.turns.begun [
+          | inl same ↦ subst (λ x. MovesFor (n - length x.block.bytes) x.block r.block) same a.room.moves
+          | inr less ↦ subst (λ x. MovesFor (n - length s.block.bytes) s.block x.block)
+              (sym (a.room.enough (omega (arith, less.1)))) a.turns.moves
+        ]) once.added.moved
+
+    begun_now : (length s.block.bytes < n) × (n ≤ length t.block.bytes + usable t.block)
+    begun_now = (
+      elim a.turns.begun [
+        | inl same ↦ omega (arith, a.few, ap (λ x. length x.block.bytes) same)
+        | inr less ↦ less.0
+      ],
+      omega (
+        arith,
+        a.few,
+        a.room.room,
+        grown,
+        once.added.usable,
+        once.offered,
+        portion_within answer once.out once.bound,
+      ),
+    )
 
     asks_now : t.log.reads.asks ≡ m.log.reads.asks + 1
     asks_now = omega (arith, ap (λ l. l.reads.asks) once.told, ap (λ x. x.log.reads.asks) a.room.others)
@@ -238,6 +238,7 @@ module _ {S P : Type 0} (remaining : S → Option (List ℕ)) (rules : ReadRules
     asked_now =
         let before = a.turns.along.in_order in
         let gave : t.log.reads.latest ≡ portion once.out answer = ap (λ l. l.reads.latest) once.told in record {
+          some = omega (arith, asks_now, a.turns.along.grows.asks);
           came = before.got;
           few = omega (arith, a.few, ap length before.equal);
           given = ap (λ l. l.reads.given) once.told ∙ ap (λ x. x.log.reads.given ++ portion once.out answer) a.room.others
@@ -248,14 +249,7 @@ module _ {S P : Type 0} (remaining : S → Option (List ℕ)) (rules : ReadRules
               ∙ append_assoc s.block.bytes before.got (portion once.out answer)
               ∙ ap (λ l. s.block.bytes ++ (before.got ++ l)) (sym gave);
           asks = omega (arith, asks_now, a.turns.asks, simp length-append at (ap length before.equal));
-          offer = omega (
-            arith,
-            ap (λ l. l.reads.offer) once.told,
-            ap length gave,
-            once.offered,
-            once.added.usable,
-            portion_within answer once.out once.bound,
-          );
+          offer = offered r answer t once;
         }
 
     zeros_now : t.log.reads.zero_reads ≡ with_zero s.log.reads.zero_reads once.out answer
@@ -280,13 +274,10 @@ module _ {S P : Type 0} (remaining : S → Option (List ℕ)) (rules : ReadRules
       along = asked_along;
       ended = ended;
       caused = caused;
-      buffered = λ many. elim a.turns.begun [
-        | inl same ↦ absurd (omega (arith, many, a.few, ap (λ x. length x.block.bytes) same))
-        | inr less ↦ absurd (omega (arith, many, less))
-      ];
+      buffered = λ many. absurd (omega (arith, many, begun_now.0));
       asked = inr asked_now;
       consumed = consumed_now;
-      still = λ fit. (still_now fit).moves;
+      moves = moves_now;
       policy = a.reads.policy ∙ ap (λ x. x.policy) a.room.others ∙ a.turns.policy;
       capacity = once.added.capacity ∙ a.room.capacity ∙ a.turns.capacity;
       limit = once.added.limit ∙ a.room.limit ∙ a.turns.limit;
@@ -327,13 +318,10 @@ module _ {S P : Type 0} (remaining : S → Option (List ℕ)) (rules : ReadRules
           length-take-le k read.out read.bound.0,
           some,
         );
-        begun = elim a.turns.begun [
-          | inl same ↦ inr (omega (arith, a.few, ap (λ x. length x.block.bytes) same))
-          | inr less ↦ inr less
-        ];
+        begun = inr (begun_now s m r (Ok k) t a);
         asked = inr (asked_now s m r (Ok k) t a);
         consumed = consumed_now s m r (Ok k) t a;
-        still = still_now s m r (Ok k) t a;
+        moves = moves_now s m r (Ok k) t a;
         policy = a.reads.policy ∙ ap (λ x. x.policy) a.room.others ∙ a.turns.policy;
         capacity = read.added.capacity ∙ a.room.capacity ∙ a.turns.capacity;
         limit = read.added.limit ∙ a.room.limit ∙ a.turns.limit;

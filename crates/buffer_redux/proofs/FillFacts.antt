@@ -59,6 +59,7 @@ ReadsInOrder-read_from s t answer read = elim (cases_lt 0 (usable s.block)) [
         got = portion once.out answer;
         given = ap (λ l. l.reads.given) once.told;
         equal = once.added.bytes;
+        consumed = omega (arith, once.added.consumed);
       })
   | inr full ↦ (
       let nothing = read.no_room (omega (arith, full)) in
@@ -66,6 +67,7 @@ ReadsInOrder-read_from s t answer read = elim (cases_lt 0 (usable s.block)) [
         got = [];
         given = ap (λ l. l.reads.given) nothing.told ∙ sym (append-nil s.log.reads.given);
         equal = ap (λ b. b.bytes) nothing.buffer ∙ sym (append-nil s.block.bytes);
+        consumed = omega (arith, ap (λ b. b.consumed) nothing.buffer);
       }
       )
 ]
@@ -90,6 +92,7 @@ ReadsInOrder-direct s t out answer direct none =
           ap (λ b. portion out answer ++ b.bytes) direct.block ∙ ap (λ l. portion out answer ++ l) empty
           ∙ append-nil (portion out answer)
           ∙ ap (λ l. l ++ portion out answer) (sym empty);
+      consumed = omega (arith, ap (λ b. b.consumed) direct.block);
     }
 
 -- a read through the buffer that hands out nothing though there is room has found some capacity
@@ -140,6 +143,7 @@ module _ {S P : Type 0} (rules : ReadRules P) where
       got = [];
       given = ap (λ l. l.reads.given) told ∙ sym (append-nil s.log.reads.given);
       equal = asked.law.bytes ∙ sym (append-nil s.block.bytes);
+      consumed = omega (arith, asked.law.consumed);
     };
     grows = subst (λ l. ReadLogGrows s.log.reads l.reads) (sym told) (ReadLogGrows-none s.log.reads);
     kind = asked.law.kind;
@@ -156,6 +160,7 @@ module _ {S P : Type 0} (rules : ReadRules P) where
       got = portion read.out answer;
       given = ap (λ l. l.reads.given) read.told;
       equal = read.added.bytes ∙ ap (λ l. l ++ portion read.out answer) asked.law.bytes;
+      consumed = omega (arith, read.added.consumed, asked.law.consumed);
     };
     grows = read_grows seen t.block s.log t.log answer read;
     kind = read.added.kind ∙ asked.law.kind;

@@ -2,6 +2,7 @@
 use Rattle.std.proofs.Common.{◌≡◌, ◌∙◌, ℕ, ◌+◌, ◌<◌, ◌≤◌, List, [], ◌∷◌, length, Option, Result, Ok, Err, true, inl, inr, refl, sym, ap, subst, append-nil, le_refl, arith}
 use Rattle.std.proofs.lemmas.Bool.{cases_lt, MatchBool-at_true}
 use Rattle.std.specs.declared.io.Error.{Error}
+use Rattle.redux_buffer.specs.Block.{IsBlock}
 use Rattle.redux_buffer.specs.GoesOn.{GoesOn-none}
 use Rattle.redux_buffer.specs.StreamLog.{StreamLog, after_fill, end_of_some, with_end}
 use Rattle.redux_buffer.specs.LogGrows.{ReadLogGrows, FillLogGrows}
@@ -14,6 +15,7 @@ use Rattle.buffer_redux.specs.EmptyReads.{ReadsWhenEmpty, none_before_fault, non
 use Rattle.buffer_redux.specs.ReaderLaws.{Fills-empty, WantsBytes}
 use Rattle.buffer_redux.specs.Sparing.{Spared, Spared-noted}
 use Rattle.buffer_redux.specs.ReaderTells.{FaultsAlike, ReaderWent}
+use Rattle.buffer_redux.proofs.Offering.{fill_offered}
 
 end_rises : (n : ℕ) (shown : List ℕ) → n ≤ with_end n shown
 end_rises n shown = grind arith
@@ -139,6 +141,7 @@ module _ {S P : Type 0} (remaining : S → Option (List ℕ)) (rules : ReadRules
       got = f.in_order.got;
       given = ap (λ l. l.reads.given) log ∙ f.in_order.given;
       equal = ap (λ b. b.bytes) block ∙ f.in_order.equal;
+      consumed = omega (arith, ap (λ b. b.consumed) block, f.consumed);
     };
     known = subst (λ l. GivesRemaining (remaining s.inner) s.log.reads (remaining t.inner) l.reads) (sym log)
         (subst (λ i. GivesRemaining (remaining s.inner) s.log.reads (remaining i) m.log.reads)
@@ -169,4 +172,13 @@ module _ {S P : Type 0} (remaining : S → Option (List ℕ)) (rules : ReadRules
       ap (λ l. l.fills.zero_fills) noted,
       ap (λ l. l.reads.zero_reads) log,
     );
+    offers = λ leaves whole.
+        let offered = fill_offered rules leaves s answer m whole f.filled in record {
+          whole = subst IsBlock (sym block) f.whole;
+          capacity = ap (λ b. b.capacity) block ∙ offered.capacity;
+          offer = elim offered.offer [
+            | inl none ↦ inl (ap (λ l. l.reads) (log ∙ none))
+            | inr all ↦ inr (ap (λ l. l.reads.offer) log ∙ all ∙ sym (ap (λ b. b.capacity) block ∙ offered.capacity))
+          ];
+        };
   }

@@ -20,20 +20,22 @@ use Rattle.buffer_redux.proofs.LineSteps.{FillsMore, going_on}
 use Rattle.buffer_redux.proofs.ReadAll.{front_joins}
 use Rattle.buffer_redux.proofs.Retrying.{retried_dry}
 use Rattle.buffer_redux.proofs.Searching.{first_through, through}
-use Rattle.buffer_redux.proofs.UntilSteps.{front_filled, passes_and_fills, passes_filled, passes_first, passes_none, passes_to_end, reaches}
+use Rattle.buffer_redux.proofs.UntilSteps.{Shows, front_filled, passes_and_fills, passes_filled, passes_first, passes_shown, passes_to_end, reaches, shows_none}
 
--- these bytes lack the byte, and the sink took them in
+-- these bytes lack the byte, and the sink took them in. None was dropped behind the last fill
 pub record Handed {S P K : Type 0} (remaining : S → Option (List ℕ)) (rules : ReadRules P) (sink : SinkRules K) (byte : ℕ)
     (s : Buffered S P) (k : K) (m : Buffered S P) (l : K) : Type 0 where
   pub handed : List ℕ
-  pub passes : Passes remaining rules (FillsOn sink.leaves remaining rules) byte s handed m
+  pub shows : Shows remaining rules (FillsOn sink.leaves remaining rules) byte s handed m
   pub took : sink.takes k handed l
 
 -- the sink took bytes in from what is buffered, and may leave some behind them. What it holds and what is buffered come to
 -- more, where a fill shows more than was left
 pub record HandedOn {S P K : Type 0} (remaining : S → Option (List ℕ)) (rules : ReadRules P) (sink : SinkRules K) (byte : ℕ)
     (s : Buffered S P) (k : K) (m : Buffered S P) (l : K) (t : Buffered S P) (u : K) : Type 0 where
-  pub handed : Handed remaining rules sink byte s k t u
+  pub handed : List ℕ
+  pub passes : Passes remaining rules (FillsOn sink.leaves remaining rules) byte s handed t
+  pub took : sink.takes k handed u
   pub leaves : sink.leaves t.block.bytes
   pub plain : Lacks byte t.block.bytes
   pub smaller : (len : ℕ) → length t.block.bytes < len
@@ -64,7 +66,7 @@ module _ {S P K : Type 0} (remaining : S → Option (List ℕ)) (rules : ReadRul
     (byte : ℕ) where
   pub handed_none : (s : Buffered S P) (k : K) → IsBlock s.block → Handed remaining rules sink byte s k s k
   handed_none s k whole =
-      record { handed = []; passes = passes_none remaining rules byte s whole; took = law.none k }
+      record { handed = []; shows = shows_none remaining rules byte s whole; took = law.none k }
 
   module _ (s m : Buffered S P) (k l : K) (before : Handed remaining rules sink byte s k m l) where
     -- all that is buffered is handed to the sink, which may leave some
@@ -72,12 +74,10 @@ module _ {S P K : Type 0} (remaining : S → Option (List ℕ)) (rules : ReadRul
         → HandsFirst remaining rules sink n m l t u → HandedOn remaining rules sink byte s k m l t u
     handed_on n t u all plain h =
         let within : h.count ≤ length m.block.bytes = omega (arith, h.most, all) in record {
-          handed = record {
-            handed = before.handed ++ take h.count m.block.bytes;
-            passes = passes_first remaining rules byte s m before.handed before.passes t h.count within
-                (All-take (λ b. ¬ (b ≡ byte)) h.count m.block.bytes plain) h.front h.dropped;
-            took = law.joins k l u before.handed (take h.count m.block.bytes) before.took h.took;
-          };
+          handed = before.handed ++ take h.count m.block.bytes;
+          passes = passes_first remaining rules byte s m before.handed before.shows t h.count within
+              (All-take (λ b. ¬ (b ≡ byte)) h.count m.block.bytes plain) h.front h.dropped;
+          took = law.joins k l u before.handed (take h.count m.block.bytes) before.took h.took;
           leaves = subst sink.leaves (ap (drop h.count) (take_all n m.block.bytes (omega (arith, all))) ∙ sym h.left) h.leaves;
           plain = subst (Lacks byte) (sym h.left) (All-drop (λ b. ¬ (b ≡ byte)) h.count m.block.bytes plain);
           smaller = λ len more. omega (
@@ -93,66 +93,14 @@ module _ {S P K : Type 0} (remaining : S → Option (List ℕ)) (rules : ReadRul
           );
         }
 
-    -- a fill showed more
-    pub handed_filled : (t : Buffered S P) → sink.leaves m.block.bytes → FillsMore {A = Unit {0}} remaining rules m (Ok tt) t
-        → length m.block.bytes < length t.block.bytes → Handed remaining rules sink byte s k t l
-    handed_filled t leaves f more = record {
-      handed = before.handed;
-      passes = passes_filled remaining rules byte s m before.handed before.passes (going_on remaining rules sink.leaves) t
-          (leaves, f.0) more;
-      took = before.took;
-    }
-
-    -- a fill failed, or showed nothing behind what the sink left
-    pub ends_failed : (e : Error) (t : Buffered S P) → sink.leaves m.block.bytes → Lacks byte m.block.bytes
-        → FillsMore {A = Unit {0}} remaining rules m (Err e) t
-        → HandsUntil remaining rules sink byte s k (Err e) t l
-    ends_failed e t leaves plain (inl f) = record {
-      handed = before.handed;
-      took = before.took;
-      front = front_filled remaining rules byte s m before.handed before.passes (going_on remaining rules sink.leaves) (Err e) t
-          (leaves, f);
-      ends = inl (passes_and_fills remaining rules byte s m before.handed before.passes (Err e) t (leaves, f));
-    }
-    ends_failed e t leaves plain (inr ended) = record {
-      handed = before.handed;
-      took = before.took;
-      front = front_filled remaining rules byte s m before.handed before.passes (going_on remaining rules sink.leaves) (Ok tt) t
-          (leaves, ended.1);
-      ends = inr (inr (record {
-        fills = record { last = m; passes = before.passes; fill = (leaves, ended.1) };
-        behind = sym ended.3;
-        dry = ended.4;
-        some = omega (arith, ended.2, ap length ended.3);
-        part = subst sink.leaves (sym ended.3) leaves;
-        plain = subst (Lacks byte) (sym ended.3) plain;
-        kind = ended.0;
-      }));
-    }
-
-    -- a fill showed nothing, and nothing is left
-    pub ends_empty : (t : Buffered S P) → sink.leaves m.block.bytes → FillsMore {A = Unit {0}} remaining rules m (Ok tt) t
-        → length t.block.bytes ≡ 0 → HandsUntil remaining rules sink byte s k (Ok tt) t l
-    ends_empty t leaves f none = record {
-      handed = before.handed;
-      took = before.took;
-      front = front_filled remaining rules byte s m before.handed before.passes (going_on remaining rules sink.leaves) (Ok tt) t
-          (leaves, f.0);
-      ends = inr (passes_to_end remaining rules byte s m before.handed before.passes (going_on remaining rules sink.leaves) t
-          (leaves, f.0) (λ wants some. elim f.0 [
-            | inl fill ↦ retried_dry remaining rules m t fill.1 wants some none
-            | inr read ↦ absurd (omega (arith, f.1 read.0, none))
-          ]) none);
-    }
-
     -- the sink refused what is buffered, up to the byte
     pub ends_refused : (e : Error) (t : Buffered S P) (u : K) (bytes : List ℕ) → bytes ≡ take_through byte m.block.bytes
         → (t ≡ m) × sink.takes l [] u × sink.refuses u bytes e → HandsUntil remaining rules sink byte s k (Err e) t u
     ends_refused e t u bytes all h = subst (λ x. HandsUntil remaining rules sink byte s k (Err e) x u) (sym h.0) (record {
       handed = before.handed;
       took = subst (λ x. sink.takes k x u) (append-nil before.handed) (law.joins k l u before.handed [] before.took h.1);
-      front = before.passes.front;
-      ends = inr (inl (before.passes, subst (λ x. sink.refuses u x e) all h.2));
+      front = before.shows.front;
+      ends = inr (inl (passes_shown remaining rules byte s m before.handed before.shows, subst (λ x. sink.refuses u x e) all h.2));
     })
 
     -- the bytes up to the byte, with it, are handed to the sink
@@ -169,9 +117,9 @@ module _ {S P K : Type 0} (remaining : S → Option (List ℕ)) (rules : ReadRul
         let line = take (at + 1) m.block.bytes in record {
           handed = before.handed ++ line;
           took = law.joins k l u before.handed line before.took (subst (λ x. sink.takes l x u) bytes h.took);
-          front = front_joins remaining rules s m t before.handed line before.passes.front
+          front = front_joins remaining rules s m t before.handed line before.shows.front
               (subst (λ x. HandedFront remaining rules m x t) bytes h.front);
-          ends = inl (reaches remaining rules byte s m before.handed before.passes at t first
+          ends = inl (reaches remaining rules byte s m before.handed before.shows at t first
               (subst (λ n. DropsFirst rules n m t) all h.dropped));
         }
 
@@ -180,6 +128,59 @@ module _ {S P K : Type 0} (remaining : S → Option (List ℕ)) (rules : ReadRul
         → HandsUntil remaining rules sink byte s k (Err e) t u
     ends_at_all n e t u all plain h = ends_refused e t u (take n m.block.bytes)
         (take_all n m.block.bytes (omega (arith, all)) ∙ lacking_through byte m.block.bytes plain) h
+
+  -- behind a drop, of what is left
+  module _ (s v m : Buffered S P) (k w l : K) (on : HandedOn remaining rules sink byte s k v w m l) where
+    -- a fill showed more
+    pub handed_filled : (t : Buffered S P) → FillsMore {A = Unit {0}} remaining rules m (Ok tt) t
+        → length m.block.bytes < length t.block.bytes → Handed remaining rules sink byte s k t l
+    handed_filled t f more = record {
+      handed = on.handed;
+      shows = passes_filled remaining rules byte s m on.handed on.passes (going_on remaining rules sink.leaves) t
+          (on.leaves, f.0) more;
+      took = on.took;
+    }
+
+    -- a fill failed, or showed nothing behind what the sink left
+    pub ends_failed : (e : Error) (t : Buffered S P) → FillsMore {A = Unit {0}} remaining rules m (Err e) t
+        → HandsUntil remaining rules sink byte s k (Err e) t l
+    ends_failed e t (inl f) = record {
+      handed = on.handed;
+      took = on.took;
+      front = front_filled remaining rules byte s m on.handed on.passes (going_on remaining rules sink.leaves) (Err e) t
+          (on.leaves, f);
+      ends = inl (passes_and_fills remaining rules byte s m on.handed on.passes (Err e) t (on.leaves, f));
+    }
+    ends_failed e t (inr ended) = record {
+      handed = on.handed;
+      took = on.took;
+      front = front_filled remaining rules byte s m on.handed on.passes (going_on remaining rules sink.leaves) (Ok tt) t
+          (on.leaves, ended.1);
+      ends = inr (inr (record {
+        fills = record { last = m; passes = on.passes; fill = (on.leaves, ended.1) };
+        behind = sym ended.3;
+        dry = ended.4;
+        some = omega (arith, ended.2, ap length ended.3);
+        part = subst sink.leaves (sym ended.3) on.leaves;
+        plain = subst (Lacks byte) (sym ended.3) on.plain;
+        kind = ended.0;
+      }));
+    }
+
+    -- a fill showed nothing, and nothing is left
+    pub ends_empty : (t : Buffered S P) → FillsMore {A = Unit {0}} remaining rules m (Ok tt) t
+        → length t.block.bytes ≡ 0 → HandsUntil remaining rules sink byte s k (Ok tt) t l
+    ends_empty t f none = record {
+      handed = on.handed;
+      took = on.took;
+      front = front_filled remaining rules byte s m on.handed on.passes (going_on remaining rules sink.leaves) (Ok tt) t
+          (on.leaves, f.0);
+      ends = inr (passes_to_end remaining rules byte s m on.handed on.passes (going_on remaining rules sink.leaves) t
+          (on.leaves, f.0) (λ wants some. elim f.0 [
+            | inl fill ↦ retried_dry remaining rules m t fill.1 wants some none
+            | inr read ↦ absurd (omega (arith, f.1 read.0, none))
+          ]) none);
+    }
 
 -- bytes that end in some are some
 pub some_last : (front : List ℕ) (byte : ℕ) → ¬ (front ++ byte ∷ [] ≡ [])

@@ -24,6 +24,8 @@ pub mod UntilSteps
 pub mod Utf8Parts
 pub mod Utf8Fronts
 pub mod LineSteps
+pub mod Moving
+pub mod Offering
 pub mod HandSteps
 pub mod ReadSteps
 pub mod LineSends

@@ -15,11 +15,12 @@ use Rattle.redux_buffer.specs.StreamLog.{zero_of_none}
 use Rattle.buffer_redux.specs.Policy.{ReadRules}
 use Rattle.redux_buffer.specs.Block.{capacity_for, usable}
 use Rattle.buffer_redux.specs.Buffered.{Buffered, with_block}
-use Rattle.buffer_redux.specs.BufReader.{RanDry, ReadsInOrder, ReadsIntoBuf}
+use Rattle.buffer_redux.specs.BufReader.{MovesFor, RanDry, ReadsInOrder, ReadsIntoBuf}
 use Rattle.buffer_redux.specs.FillRetried.{FillRetried}
 use Rattle.buffer_redux.specs.ReadBehind.{FillsOn, FillsOrReads, ReadsBehind}
 use Rattle.buffer_redux.specs.Sparing.{Spared}
 use Rattle.buffer_redux.specs.ReadAll.{HandedFront}
+use Rattle.buffer_redux.proofs.Moving.{MovesFor-on, offered}
 use Rattle.buffer_redux.proofs.ReadAll.{front_joins}
 use Rattle.buffer_redux.proofs.Retrying.{HandsNothing, one_interrupt, refilling, retrying}
 
@@ -34,6 +35,7 @@ pub record SpaceMade {S P : Type 0} (remaining : S → Option (List ℕ)) (rules
   pub capacity : 2 * length s.block.bytes ≤ s.block.capacity → t.block.capacity ≡ s.block.capacity
   pub grown : (t.block.capacity ≡ s.block.capacity) ⊎ (t.block.capacity ≡ capacity_for s.block 1)
   pub consumed : t.block.consumed ≡ s.block.consumed
+  pub moves : MovesFor 1 s.block t.block
 
 -- a call went on, by more bytes behind those that are buffered; or that failed; or the stream ended behind them
 abbrev pub FillsMore : {S P A : Type 0} → (S → Option (List ℕ)) → ReadRules P → Buffered S P → Result A Error
@@ -75,6 +77,8 @@ module _ {S P : Type 0} (remaining : S → Option (List ℕ)) (rules : ReadRules
       });
       ended = ended;
       asks = omega (arith, ap (λ l. l.reads.asks) once.told, ap (λ x. x.log.reads.asks) space.others);
+      offer = λ _. offered r answer t once;
+      moves = MovesFor-on 1 s.block r.block t.block space.front.keeps.kind space.moves once.added.moved;
       policy = reads.policy ∙ ap (λ x. x.policy) space.others;
       limit = once.added.limit ∙ space.limit;
       capacity = λ few. once.added.capacity ∙ space.capacity few;

@@ -14,7 +14,7 @@ use Rattle.redux_buffer.specs.StreamLog.{StreamLog}
 use Rattle.buffer_redux.specs.Buffered.{Buffered, with_block}
 use Rattle.buffer_redux.specs.BufWriter.{WasSent, WritesAlong}
 use Rattle.buffer_redux.specs.Policy.{std_write_rules}
-use Rattle.buffer_redux.specs.WriteParts.{MakesPlace, PartsRefused, PutsIn, WritesParts}
+use Rattle.buffer_redux.specs.WriteParts.{Appends, MakesPlace, PartsRefused, WritesParts}
 use Rattle.buffer_redux.specs.WritesAlongLaws.{WasSent-along, WritesAlong-joins, WritesAlong-none, WritesAlong-then}
 
 -- the bytes of all parts
@@ -83,10 +83,10 @@ roomy b a whole = cond_both (nat_le a (usable b)) b.capacity (needed b a) (Roomy
 module _ {S P : Type 0} (tells : S → StreamLog) (trace : S → S → Type 0) (none : (u : S) → trace u u) where
   -- what touches the buffer alone, and has these bytes behind it
   block_along : (s t : Buffered S P) (bytes : List ℕ) → t ≡ with_block s t.block → t.block.bytes ≡ s.block.bytes ++ bytes
-      → s.block.capacity ≤ t.block.capacity → t.block.kind ≡ s.block.kind
+      → t.block.consumed ≡ s.block.consumed → s.block.capacity ≤ t.block.capacity → t.block.kind ≡ s.block.kind
       → WritesAlong tells trace std_write_rules s bytes t
-  block_along s t bytes same is up kind = subst (WritesAlong tells trace std_write_rules s bytes) (sym same) (record {
-    in_order = record { sent = []; received = sym (append-nil s.log.writes.received); equal = is };
+  block_along s t bytes same is kept up kind = subst (WritesAlong tells trace std_write_rules s bytes) (sym same) (record {
+    in_order = record { sent = []; received = sym (append-nil s.log.writes.received); equal = is; consumed = omega (arith, kept) };
     calls = none s.inner;
     told = λ told. told;
     noted = refl;
@@ -96,16 +96,16 @@ module _ {S P : Type 0} (tells : S → StreamLog) (trace : S → S → Type 0) (
     claims = refl;
   })
 
-  put_along : (s t : Buffered S P) (bytes : List ℕ) → PutsIn s bytes t → WritesAlong tells trace std_write_rules s bytes t
-  put_along s t bytes p = block_along s t bytes p.others p.added (omega (arith, p.capacity)) p.kind
+  put_along : (s t : Buffered S P) (bytes : List ℕ) → Appends s bytes t → WritesAlong tells trace std_write_rules s bytes t
+  put_along s t bytes p =
+      block_along s t bytes p.others p.added.bytes p.added.consumed (omega (arith, p.added.capacity)) p.added.kind
 
   -- where they fit nothing else is done
-  pub parts_fit : (s t : Buffered S P) (bytes : List ℕ) → length bytes ≤ usable s.block → PutsIn s bytes t
-      → Extends bytes s.block t.block → WritesParts tells trace s bytes (Ok tt) t
-  parts_fit s t bytes fit p extends = record {
+  pub parts_fit : (s t : Buffered S P) (bytes : List ℕ) → length bytes ≤ usable s.block → Appends s bytes t
+      → WritesParts tells trace s bytes (Ok tt) t
+  parts_fit s t bytes fit p = record {
     along = put_along s t bytes p;
     fits = λ _. (refl, p);
-    still = λ _. extends;
     full = λ few. absurd (omega (arith, few, fit));
     caused = tt;
     whole = p.whole;
@@ -159,20 +159,19 @@ module _ {S P : Type 0} (tells : S → StreamLog) (trace : S → S → Type 0) (
             (λ e. (answer ≡ Err e) × (t ≡ m)) → WritesAlong tells trace std_write_rules m [] t
         behind (Ok x) (Ok y) m whole (grown, others) =
             let up = roomy m.block count whole in
-            block_along m t [] others (grown.bytes ∙ sym (append-nil m.block.bytes)) (omega (arith, up.0, grown.capacity))
-            grown.kind
+            block_along m t [] others (grown.bytes ∙ sym (append-nil m.block.bytes)) grown.consumed
+            (omega (arith, up.0, grown.capacity)) grown.kind
         behind (Ok x) (Err e) m whole (failed, same) = still m same
         behind (Err e) answer m whole (is, same) = still m same
 
     -- the parts moved in, once there was room
     pub parts_moved : (s m t : Buffered S P) (bytes : List ℕ) → usable s.block < length bytes
-        → MakesPlace tells trace (counted bytes) s (Ok tt) m → PutsIn m bytes t
+        → MakesPlace tells trace (counted bytes) s (Ok tt) m → Appends m bytes t
         → WritesParts tells trace s bytes (Ok tt) t
     parts_moved s m t bytes few p put = record {
       along = WritesAlong-joins tells trace std_write_rules joins s m t [] bytes
           (place_along s m (counted bytes) (Ok tt) p) (put_along m t bytes put);
       fits = λ fit. absurd (omega (arith, fit, few));
-      still = λ fit. absurd (omega (arith, fit, few));
       full = λ _. (m, p, put);
       caused = tt;
       whole = put.whole;
@@ -184,7 +183,6 @@ module _ {S P : Type 0} (tells : S → StreamLog) (trace : S → S → Type 0) (
     parts_failed s t bytes e few p = record {
       along = place_along s t (counted bytes) (Err e) p;
       fits = λ fit. absurd (omega (arith, fit, few));
-      still = λ fit. absurd (omega (arith, fit, few));
       full = λ _. p;
       caused = failed p.sending p.left p.sent p.ended;
       whole = p.whole;

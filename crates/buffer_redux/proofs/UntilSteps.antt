@@ -1,5 +1,5 @@
 -- The turns and the ends of a call that goes on up to a byte.
-use Rattle.std.proofs.Common.{◌≡◌, ℕ, suc, ◌+◌, ◌-◌, ◌<◌, ◌≤◌, List, [], ◌++◌, length, take, Result, Ok}
+use Rattle.std.proofs.Common.{◌≡◌, ℕ, zero, suc, ◌+◌, ◌-◌, ◌<◌, ◌≤◌, List, [], ◌++◌, length, take, Result, Ok}
 use Rattle.std.proofs.Common.{Err, Option}
 use Rattle.std.proofs.Common.{refl, sym, ap, subst, inl, inr, arith, append-nil, length-append}
 use Rattle.std.proofs.Common.{length-take-le}
@@ -16,7 +16,7 @@ use Rattle.buffer_redux.specs.BufReader.{RanDry, ReaderConsumes}
 use Rattle.buffer_redux.specs.ReadAll.{HandedFront}
 use Rattle.buffer_redux.specs.ReadBehind.{FillsOn}
 use Rattle.buffer_redux.specs.ReaderLaws.{ReaderKeeps-along, WantsBytes}
-use Rattle.buffer_redux.specs.ReadUntil.{DropsFirst, EndsIn, EndsUntil, FirstAt, Lacks, Passes, PassesAndFills, PassesToEnd, Steps, Stops}
+use Rattle.buffer_redux.specs.ReadUntil.{DropsFirst, DropsSome, EndsIn, EndsUntil, FirstAt, Lacks, Passes, PassesAndFills, PassesToEnd, Steps, Stops}
 use Rattle.buffer_redux.proofs.ReadAll.{front_none, front_joins}
 use Rattle.buffer_redux.proofs.Retrying.{HandsNothing}
 use Rattle.buffer_redux.proofs.Searching.{ends_in, first_through, lacks_none, lacks_both}
@@ -38,23 +38,53 @@ pub drops_some : {S P : Type 0} (rules : ReadRules P) (s t : Buffered S P) (n : 
     → DropsFirst rules n s t
 drops_some rules s t n some gone = record { none = λ none. absurd (omega (arith, some, none)); some = λ _. gone }
 
+-- to drop none is to do nothing
+drops_none : {S P : Type 0} (rules : ReadRules P) (s : Buffered S P) → DropsSome rules s s
+drops_none rules s = (0, omega arith, record { none = λ _. refl; some = λ some. absurd (omega (arith, some)) })
+
+-- so many fills, the last of which showed more, and nothing was dropped behind it; or none, and nothing was dropped
+abbrev pub FillsLast : {S P : Type 0} → ReadRules P → Step (Buffered S P) (Unit {0}) → ℕ → Buffered S P → Buffered S P → Type 0
+FillsLast rules step zero s t = s ≡ t
+FillsLast {S} {P} rules step (suc count) s t = (m : Buffered S P) × Steps rules step count s m
+    × step m (Ok tt) t × (length m.block.bytes < length t.block.bytes)
+
+-- and then there was a drop
+then_drops : {S P : Type 0} (rules : ReadRules P) (step : Step (Buffered S P) (Unit {0})) (count : ℕ) (s m t : Buffered S P)
+    → FillsLast rules step count s m → DropsSome rules m t → Steps rules step count s t
+then_drops rules step zero s m t same drops = subst (λ x. DropsSome rules x t) (sym same) drops
+then_drops rules step (suc count) s m t (before, steps, filled, more) drops = (before, m, steps, filled, more, drops)
+
+-- these bytes were handed out, which lack the byte, and no fault came but interrupted reads. None was dropped behind the last
+-- fill
+pub record Shows {S P : Type 0} (remaining : S → Option (List ℕ)) (rules : ReadRules P) (step : Step (Buffered S P) (Unit {0}))
+    (byte : ℕ) (s : Buffered S P) (handed : List ℕ) (t : Buffered S P) : Type 0 where
+  pub front : HandedFront remaining rules s handed t
+  pub plain : Lacks byte handed
+  pub faults : OnlyInterrupts s.log.reads.faults t.log.reads.faults
+  pub steps : (count : ℕ) × FillsLast rules step count s t
+
 module _ {S P : Type 0} {step : Step (Buffered S P) (Unit {0})} (remaining : S → Option (List ℕ)) (rules : ReadRules P)
     (byte : ℕ) where
-  pub passes_none : (s : Buffered S P) → IsBlock s.block → Passes remaining rules step byte s [] s
-  passes_none s whole = record {
+  pub shows_none : (s : Buffered S P) → IsBlock s.block → Shows remaining rules step byte s [] s
+  shows_none s whole = record {
     front = front_none remaining rules s whole;
     plain = lacks_none byte;
     faults = OnlyInterrupts-none s.log.reads.faults;
     steps = (0, refl);
   }
 
-  module _ (s m : Buffered S P) (handed : List ℕ) (before : Passes remaining rules step byte s handed m) where
-    steps_consumed : (t : Buffered S P) (n : ℕ) → n ≤ length m.block.bytes → DropsFirst rules n m t
-        → (count : ℕ) × Steps rules step count s t
-    steps_consumed t n within gone = elim (cases_lt 0 n) [
-      | inl some ↦ (suc before.steps.0, (m, before.steps.1, inl (n, some, within, gone.some some)))
-      | inr none ↦ subst (λ x. (count : ℕ) × Steps rules step count s x) (sym (gone.none (omega (arith, none)))) before.steps
-    ]
+  module _ (s m : Buffered S P) (handed : List ℕ) (before : Shows remaining rules step byte s handed m) where
+    steps_dropped : (t : Buffered S P) → DropsSome rules m t → (count : ℕ) × Steps rules step count s t
+    steps_dropped t drops = (before.steps.0, then_drops rules step before.steps.0 s m t before.steps.1 drops)
+
+    -- nothing is dropped
+    pub passes_shown : Passes remaining rules step byte s handed m
+    passes_shown = record {
+      front = before.front;
+      plain = before.plain;
+      faults = before.faults;
+      steps = steps_dropped m (drops_none rules m);
+    }
 
     -- the next bytes handed out lack the byte: the first n that are buffered, or all
     pub passes_first : (t : Buffered S P) (n : ℕ) → n ≤ length m.block.bytes → Lacks byte (take n m.block.bytes)
@@ -64,9 +94,20 @@ module _ {S P : Type 0} {step : Step (Buffered S P) (Unit {0})} (remaining : S �
       front = front_joins remaining rules s m t handed (take n m.block.bytes) before.front went;
       plain = lacks_both byte handed (take n m.block.bytes) before.plain plain;
       faults = told_only s.log m.log t.log (drops_told rules m t n gone) before.faults;
-      steps = steps_consumed t n within gone;
+      steps = steps_dropped t (n, within, gone);
     }
 
+    -- the bytes up to the byte, with it, are handed out next
+    pub reaches : (at : ℕ) (t : Buffered S P) → FirstAt byte at m.block.bytes → DropsFirst rules (at + 1) m t
+        → EndsIn byte (handed ++ take (at + 1) m.block.bytes) × OnlyInterrupts s.log.reads.faults t.log.reads.faults
+        × ((count : ℕ) × Steps rules step count s t)
+    reaches at t first gone = (
+      ends_in byte at handed m.block.bytes first before.plain,
+      told_only s.log m.log t.log (drops_told rules m t (at + 1) gone) before.faults,
+      steps_dropped t (at + 1, omega (arith, first.inside), gone),
+    )
+
+  module _ (s m : Buffered S P) (handed : List ℕ) (before : Passes remaining rules step byte s handed m) where
     -- a step that hands out nothing is made as a fill
     module _ (hands : HandsNothing remaining rules step) where
       pub front_filled : (answer : Result (Unit {0}) Error) (t : Buffered S P) → step m answer t
@@ -75,13 +116,13 @@ module _ {S P : Type 0} {step : Step (Buffered S P) (Unit {0})} (remaining : S �
           (front_joins remaining rules s m t handed [] before.front (hands.front m answer t f))
 
       pub passes_filled : (t : Buffered S P) → step m (Ok tt) t → length m.block.bytes < length t.block.bytes
-          → Passes remaining rules step byte s handed t
+          → Shows remaining rules step byte s handed t
       passes_filled t f more = record {
         front = front_filled (Ok tt) t f;
         plain = before.plain;
         faults = OnlyInterrupts-joins s.log.reads.faults m.log.reads.faults t.log.reads.faults before.faults
             (hands.only m t f);
-        steps = (suc before.steps.0, (m, before.steps.1, inr (f, more)));
+        steps = (suc before.steps.0, (m, before.steps.1, f, more));
       }
 
     pub passes_and_fills : (answer : Result (Unit {0}) Error) (t : Buffered S P) → step m answer t
@@ -105,26 +146,16 @@ module _ {S P : Type 0} {step : Step (Buffered S P) (Unit {0})} (remaining : S �
               };
         }
 
-    -- the bytes up to the byte, with it, are handed out next
-    pub reaches : (at : ℕ) (t : Buffered S P) → FirstAt byte at m.block.bytes → DropsFirst rules (at + 1) m t
-        → EndsIn byte (handed ++ take (at + 1) m.block.bytes) × OnlyInterrupts s.log.reads.faults t.log.reads.faults
-        × ((count : ℕ) × Steps rules step count s t)
-    reaches at t first gone = (
-      ends_in byte at handed m.block.bytes first before.plain,
-      told_only s.log m.log t.log (drops_told rules m t (at + 1) gone) before.faults,
-      steps_consumed t (at + 1) (omega (arith, first.inside)) gone,
-    )
-
 -- the call stops before the byte, and does nothing
 pub stopped : {S P : Type 0} {leaves : List ℕ → Type 0} (remaining : S → Option (List ℕ)) (rules : ReadRules P) (byte : ℕ)
-    (s m : Buffered S P) (handed : List ℕ) → Passes remaining rules (FillsOn leaves remaining rules) byte s handed m
+    (s m : Buffered S P) (handed : List ℕ) → Shows remaining rules (FillsOn leaves remaining rules) byte s handed m
     → (stops : Stops) (at : ℕ) (e : Error) (t : Buffered S P) → FirstAt byte at m.block.bytes → t ≡ m
     → stops handed e (take (at + 1) m.block.bytes)
     → HandedFront remaining rules s handed t × EndsUntil {A = ℕ} leaves stops remaining rules byte s (Err e) handed t
 stopped {leaves = leaves} remaining rules byte s m handed before stops at e t first same why = subst
     (λ x. HandedFront remaining rules s handed x × EndsUntil {A = ℕ} leaves stops remaining rules byte s (Err e) handed x)
     (sym same)
-    (before.front, inr (inl (before, subst (stops handed e) (first_through byte at m.block.bytes first) why)))
+    (before.front, inr (inl (passes_shown remaining rules byte s m handed before, subst (stops handed e) (first_through byte at m.block.bytes first) why)))
 
 -- how many bytes these are
 pub through_length : (byte at : ℕ) (bytes : List ℕ) → FirstAt byte at bytes → length (take (at + 1) bytes) ≡ at + 1

@@ -63,16 +63,20 @@ log_same log log' same =
     subst (λ l. WriteLogGrows log.writes l.writes) (sym same) (WriteLogGrows-none log.writes)
 
 module _ {S P : Type 0} where
-  -- nothing was received, and xs came behind the bytes
+  -- nothing was received, nor consumed, and xs came behind the bytes
   WritesInOrder-added : (s t : Buffered S P) (xs : List ℕ) → t.log.writes.received ≡ s.log.writes.received
-      → t.block.bytes ≡ s.block.bytes ++ xs → WritesInOrder s xs t
-  WritesInOrder-added s t xs r b =
-      record { sent = []; received = r ∙ sym (append-nil s.log.writes.received); equal = b }
+      → t.block.bytes ≡ s.block.bytes ++ xs → t.block.consumed ≡ s.block.consumed → WritesInOrder s xs t
+  WritesInOrder-added s t xs r b none = record {
+    sent = [];
+    received = r ∙ sym (append-nil s.log.writes.received);
+    equal = b;
+    consumed = omega (arith, none);
+  }
 
   pub WritesInOrder-same : (s t : Buffered S P) → t.log ≡ s.log → t.block.bytes ≡ s.block.bytes
-      → WritesInOrder s [] t
-  WritesInOrder-same s t told b =
-      WritesInOrder-added s t [] (ap (λ l. l.writes.received) told) (b ∙ sym (append-nil s.block.bytes))
+      → t.block.consumed ≡ s.block.consumed → WritesInOrder s [] t
+  WritesInOrder-same s t told b none =
+      WritesInOrder-added s t [] (ap (λ l. l.writes.received) told) (b ∙ sym (append-nil s.block.bytes)) none
 
   -- what a send and a failed flush promise, of their sending
   pub was_sent : (tells : S → StreamLog) (trace : S → S → Type 0) (s t : Buffered S P)
@@ -176,7 +180,7 @@ module _ {S P : Type 0} where
       | inl none ↦ (
           let idle = f.idle none in
           record {
-            in_order = WritesInOrder-same s t idle.told (ap (λ b. b.bytes) idle.buffer);
+            in_order = WritesInOrder-same s t idle.told (ap (λ b. b.bytes) idle.buffer) (ap (λ b. b.consumed) idle.buffer);
             grows = log_same s.log t.log idle.told;
             flushed = ap (λ l. l.writes.flushed) idle.told;
             flushes = ap (λ l. l.writes.flushes) idle.told;
@@ -199,9 +203,12 @@ module _ {S P : Type 0} where
   settled_bytes : (bs : List ℕ) (s : Buffered S P) (answer : Result ℕ Error) (t : Buffered S P)
       (copied : CopiesIn bs s answer t)
       → (copied.settled.bytes ≡ s.block.bytes) × (copied.settled.capacity ≡ s.block.capacity)
+      × (copied.settled.consumed ≡ s.block.consumed)
   settled_bytes bs s answer t copied = elim (cases_lt 0 (usable s.block)) [
-    | inl some ↦ (let same = copied.roomy some in (ap (λ b. b.bytes) same, ap (λ b. b.capacity) same))
-    | inr none ↦ (let made = copied.tight (omega (arith, none)) in (made.bytes, made.capacity))
+    | inl some ↦ (
+        let same = copied.roomy some in (ap (λ b. b.bytes) same, ap (λ b. b.capacity) same, ap (λ b. b.consumed) same)
+        )
+    | inr none ↦ (let made = copied.tight (omega (arith, none)) in (made.bytes, made.capacity, made.consumed))
   ]
 
   -- bytes taken in past the buffer, or into it
@@ -218,6 +225,7 @@ module _ {S P : Type 0} where
             equal =
                 ap (λ l. portion bs answer ++ l) empty ∙ append-nil (portion bs answer)
                 ∙ ap (λ l. l ++ portion bs answer) (sym none);
+            consumed = omega (arith, ap (λ b. b.consumed) direct.block);
           };
           grows = subst (λ l. WriteLogGrows s.log.writes l.writes) (sym direct.told)
               (WriteLogGrows-write s.log bs answer);
@@ -230,7 +238,7 @@ module _ {S P : Type 0} where
         let copied = f.inside inside in
         let settled = settled_bytes bs s answer t copied in record {
           in_order = WritesInOrder-added s t (portion bs answer) (ap (λ l. l.writes.received) copied.told)
-              (copied.added.bytes ∙ ap (λ l. l ++ portion bs answer) settled.0);
+              (copied.added.bytes ∙ ap (λ l. l ++ portion bs answer) settled.0) (copied.added.consumed ∙ settled.2);
           grows = log_same s.log t.log copied.told;
           flushed = ap (λ l. l.writes.flushed) copied.told;
           flushes = ap (λ l. l.writes.flushes) copied.told;
@@ -243,7 +251,7 @@ module _ {S P : Type 0} where
       (flushed : Result (Unit {0}) Error) → Prepared rules incoming s flushed m → StepKeeps s [] m
   StepKeeps-prepared rules incoming s m flushed p = StepKeeps-joins s p.seen m [] []
       (record {
-        in_order = WritesInOrder-same s p.seen p.told p.asked.law.bytes;
+        in_order = WritesInOrder-same s p.seen p.told p.asked.law.bytes p.asked.law.consumed;
         grows = log_same s.log p.seen.log p.told;
         flushed = ap (λ l. l.writes.flushed) p.told;
         flushes = ap (λ l. l.writes.flushes) p.told;
@@ -259,6 +267,7 @@ module _ {S P : Type 0} where
           sent = kept.in_order.sent;
           received = kept.in_order.received;
           equal = kept.in_order.equal;
+          consumed = kept.in_order.consumed;
         };
         grows = kept.grows;
         flushed = kept.flushed;

@@ -11,7 +11,7 @@ use Rattle.redux_buffer.specs.LogGrows.{WriteLogGrows}
 use Rattle.redux_buffer.specs.Faults.{IsInterrupt, MetInterrupts, MetInterrupts-err, TookNothing, SendErrorCaused}
 use Rattle.buffer_redux.specs.Policy.{WriteRules}
 use Rattle.buffer_redux.specs.Buffered.{Buffered, with_calls, with_policy}
-use Rattle.buffer_redux.specs.BufWriter.{Writes, WriteErrorCaused, IsFlushed, Flushes, FlushesAmount, TakesIn}
+use Rattle.buffer_redux.specs.BufWriter.{Writes, WriteErrorCaused, IsFlushed, Flushes, FlushesAmount, TakesIn, WritesInOrder}
 use Rattle.buffer_redux.specs.WriterLaws.{Wrote-met}
 use Rattle.buffer_redux.proofs.WriterFacts.{steady_caused, steady_met_nothing}
 use Rattle.buffer_redux.specs.WriterTells.{writer_log, failures, TellsFailures, WriterWent}
@@ -171,18 +171,26 @@ pub call_went : {S P : Type 0} (trace : S → S → Type 0) (rules : WriteRules 
     (calls noted : StreamLog) → t ≡ m → calls ≡ noted → trace s.inner m.inner
     → WriteLogGrows s.log.writes m.log.writes
     → WriteLogGrows (writer_log s).writes (writer_log (with_calls t calls)).writes
-    → s.block.capacity ≤ m.block.capacity → m.block.kind ≡ s.block.kind → rules.claims m.policy ≡ rules.claims s.policy
+    → (accepted : List ℕ) → WritesInOrder s accepted m → s.block.capacity ≤ m.block.capacity → m.block.kind ≡ s.block.kind → rules.claims m.policy ≡ rules.claims s.policy
     → m.log.writes.flushes + s.own_calls.writes.flushes ≤ s.log.writes.flushes + noted.writes.flushes
     → ((rules.claims s.policy).steady ≡ true
     → failures noted.writes + failures s.log.writes ≤ failures s.own_calls.writes + failures m.log.writes)
     → (TellsFailures rules s.policy → MetInterrupts s.own_calls.writes noted.writes
     → MetInterrupts s.log.writes m.log.writes)
     → WriterWent trace rules s (with_calls t calls)
-call_went trace rules s m t calls noted is told went grows own capacity kind claims flushes fails met =
+call_went trace rules s m t calls noted is told went grows own accepted order capacity kind claims flushes fails met =
     let log : t.log ≡ m.log = ap (λ x. x.log) is in record {
       inner = subst (trace s.inner) (sym (ap (λ x. x.inner) is)) went;
       grows = subst (λ l. WriteLogGrows s.log.writes l.writes) (sym log) grows;
       own_grows = own;
+      consumed = omega (
+        arith,
+        order.consumed,
+        ap length order.received,
+        length-append s.log.writes.received order.sent,
+        ap (λ x. x.block.consumed) is,
+        ap (λ l. length l.writes.received) log,
+      );
       capacity = omega (arith, ap (λ x. x.block.capacity) is, capacity);
       kind = ap (λ x. x.block.kind) is ∙ kind;
       claims = ap (λ x. rules.claims x.policy) is ∙ claims;

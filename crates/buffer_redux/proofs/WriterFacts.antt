@@ -104,7 +104,7 @@ pub writes_keep : {S P : Type 0} (rules : WriteRules P) (s : Buffered S P) (bs :
 writes_keep rules s bs (Ok n) t wrote = wrote_keeps rules s bs n t wrote
 writes_keep rules s bs (Err e) t (inl refused) =
     record {
-      in_order = WritesInOrder-same s t refused.told refused.asked.law.bytes;
+      in_order = WritesInOrder-same s t refused.told refused.asked.law.bytes refused.asked.law.consumed;
       grows = log_same s.log t.log refused.told;
       flushed = ap (λ l. l.writes.flushed) refused.told;
       flushes = ap (λ l. l.writes.flushes) refused.told;

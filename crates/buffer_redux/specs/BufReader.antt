@@ -1,8 +1,8 @@
 -- What the calls of a buffered reader promise.
-use Rattle.std.specs.Prelude.{◌≡◌, ℕ, ◌+◌, ◌-◌, ◌<◌, ◌≤◌, ◌⊎◌, List, [], ◌∷◌, ◌++◌, length, drop, min, Result, Ok, Err, Bool, true, false, Option, is_ok, IfOk, IfSome, OnOk, MatchResult}
+use Rattle.std.specs.Prelude.{◌≡◌, ℕ, ◌+◌, ◌-◌, ◌<◌, ◌≤◌, ◌⊎◌, List, [], ◌∷◌, ◌++◌, length, drop, min, Result, Ok, Err, Bool, true, false, Option, is_ok, IfOk, IfSome, OnOk, MatchResult, ⊤}
 use Rattle.std.specs.Borrow.{Bor}
 use Rattle.std.specs.declared.io.Error.{Error}
-use Rattle.redux_buffer.specs.Block.{Block, IsBlock, ConsumesFirst, OnlyRingMoves, usable}
+use Rattle.redux_buffer.specs.Block.{Block, IsBlock, ConsumesFirst, OnKind, OnlyRingMoves, usable}
 use Rattle.redux_buffer.specs.LogGrows.{ReadLogGrows}
 use Rattle.redux_buffer.specs.StreamLog.{after_read}
 use Rattle.redux_buffer.specs.GivesRemaining.{GivesRemaining}
@@ -13,11 +13,13 @@ use Rattle.buffer_redux.specs.Buffered.{Buffered, GoesPast, StaysInside, GoesDir
 use Rattle.buffer_redux.specs.Fill.{Answered, Ordered, Turns, Filled}
 use Rattle.buffer_redux.specs.Sparing.{SparesClaimed}
 
--- the bytes handed out, then those buffered, are those that were buffered, then those given since
+-- the bytes handed out, then those buffered, are those that were buffered, then those given since; and no more were consumed
+-- than were handed out
 pub record ReadsInOrder {S P : Type 0} (s : Buffered S P) (handed : List ℕ) (t : Buffered S P) : Type 0 where
   pub got : List ℕ
   pub given : t.log.reads.given ≡ s.log.reads.given ++ got
   pub equal : handed ++ t.block.bytes ≡ s.block.bytes ++ got
+  pub consumed : t.block.consumed ≤ s.block.consumed + length handed
 
 -- the first n bytes were dropped, or all, and the policy was told so
 pub record ReaderConsumes {S P : Type 0} (rules : ReadRules P) (n : ℕ) (s t : Buffered S P) : Type 0 where
@@ -45,6 +47,15 @@ ReadErrorCaused rules s (Err e) t =
 -- the reader gave nothing though it was asked for something
 abbrev pub RanDry : {S P : Type 0} → Buffered S P → Buffered S P → Type 0
 RanDry s t = s.log.reads.zero_reads < t.log.reads.zero_reads
+
+-- the last ask offered all that could be written: what still can be, and what it gave
+abbrev pub OfferedAll : {S P : Type 0} → Buffered S P → Type 0
+OfferedAll t = t.log.reads.offer ≡ usable t.block + length t.log.reads.latest
+
+-- a plain buffer moved none of its bytes where so many more fitted behind them, and else each once at most
+pub record MovesFor (more : ℕ) (old new : Block) : Type 0 where
+  pub still : more ≤ usable old → OnlyRingMoves old new
+  pub once : OnKind old.kind (new.moved ≤ old.moved + length old.bytes) ⊤
 
 -- a fill shows nothing only where the policy said no over an empty buffer, there is no capacity, or the reader ran dry
 abbrev pub EmptyFillCaused : {S P : Type 0} → ReadRules P → Buffered S P → Buffered S P → Type 0

@@ -13,11 +13,13 @@ use Rattle.buffer_redux.specs.declared.policy.FlushAmt.{FlushAmt}
 use Rattle.buffer_redux.specs.Policy.{WriteRules, BeforeWrite, AfterWrite}
 use Rattle.buffer_redux.specs.Buffered.{Buffered, GoesPast, StaysInside, GoesDirect, InnerWent, with_policy}
 
--- the bytes received since, then those buffered, are those that were buffered, then those accepted
+-- the bytes received since, then those buffered, are those that were buffered, then those accepted; and no more were consumed
+-- than were received
 pub record WritesInOrder {S P : Type 0} (s : Buffered S P) (accepted : List ℕ) (t : Buffered S P) : Type 0 where
   pub sent : List ℕ
   pub received : t.log.writes.received ≡ s.log.writes.received ++ sent
   pub equal : sent ++ t.block.bytes ≡ s.block.bytes ++ accepted
+  pub consumed : t.block.consumed ≤ s.block.consumed + length sent
 
 -- what a buffered writer holds: what the inner writer received, then what is buffered
 abbrev pub writer_contents : {S P : Type 0} → Buffered S P → Option (List ℕ)

@@ -1,8 +1,9 @@
 -- How often the reader inside gives nothing in one fill, where a read is ordered over an empty buffer alone: at its end.
-use Rattle.std.proofs.Common.{◌≡◌, ℕ, ◌+◌, ◌<◌, ◌≤◌, ◌==◌, true, length, Ok, Err, inl, inr, refl, ap, ◌∙◌, arith, append-nil}
+use Rattle.std.proofs.Common.{◌≡◌, ℕ, ◌+◌, ◌<◌, ◌≤◌, ◌==◌, true, length, Result, Ok, Err, inl, inr, refl, ap, ◌∙◌, arith, append-nil}
 use Rattle.std.proofs.lemmas.Bool.Decides.{nat_tests}
 use Rattle.std.specs.declared.io.Error.{Error}
 use Rattle.redux_buffer.specs.Block.{Block}
+use Rattle.buffer_redux.specs.declared.policy.DoRead.{DoRead}
 use Rattle.buffer_redux.specs.Policy.{ReadRules, read_now, std_read_rules}
 use Rattle.redux_buffer.specs.StreamLog.{zero_of_none}
 use Rattle.buffer_redux.specs.Buffered.{Buffered}
@@ -13,11 +14,30 @@ use Rattle.buffer_redux.specs.FillLaws.{Turns-gave}
 abbrev pub ReadsWhenEmpty : {P : Type 0} → ReadRules P → Type 0
 ReadsWhenEmpty {P} rules = (p : P) (b : Block) (p' : P) (b' : Block) → rules.before_read p b read_now p' b' → length b.bytes ≡ 0
 
+-- and leave the buffer as it is
+pub record ReadsWhole {P : Type 0} (rules : ReadRules P) : Type 0 where
+  pub orders : ReadsWhenEmpty rules
+  pub before : (p : P) (b : Block) (answer : Result DoRead Error) (p' : P) (b' : Block)
+      → rules.before_read p b answer p' b' → b' ≡ b
+  pub after : (p : P) (b : Block) (n : ℕ) (p' : P) (b' : Block) → rules.after_consume p b n p' b' → b' ≡ b
+
 none_of : (n : ℕ) → true ≡ (n == 0) → n ≡ 0
 none_of n is = grind (arith, nat_tests)
 
 pub ReadsWhenEmpty-std : {P : Type 0} → ReadsWhenEmpty (std_read_rules {P = P})
 ReadsWhenEmpty-std p b p' b' allowed = none_of (length b.bytes) allowed.2
+
+std_before : {P : Type 0} (p : P) (b : Block) (answer : Result DoRead Error) (p' : P) (b' : Block)
+    → (std_read_rules {P = P}).before_read p b answer p' b' → b' ≡ b
+std_before p b (Ok d) p' b' allowed = allowed.1
+std_before p b (Err e) p' b' allowed = absurd allowed
+
+pub ReadsWhole-std : {P : Type 0} → ReadsWhole (std_read_rules {P = P})
+ReadsWhole-std = record {
+  orders = ReadsWhenEmpty-std;
+  before = std_before;
+  after = λ p b n p' b' allowed. allowed.1;
+}
 
 module _ {S P A : Type 0} (rules : ReadRules P) (orders : ReadsWhenEmpty rules) (s t : Buffered S P) where
   -- a fill that failed

@@ -6,12 +6,12 @@ use Rattle.redux_buffer.specs.GrowError.{GrowthFailed}
 use Rattle.redux_buffer.specs.Retried.{Retried, Step}
 use Rattle.buffer_redux.specs.Policy.{ReadRules}
 use Rattle.buffer_redux.specs.Buffered.{Buffered}
-use Rattle.buffer_redux.specs.BufReader.{RanDry}
+use Rattle.buffer_redux.specs.BufReader.{MovesFor, OfferedAll, RanDry}
 use Rattle.buffer_redux.specs.FillRetried.{FillRetried}
 use Rattle.buffer_redux.specs.ReadAll.{HandedFront}
 
 -- one read past the policy, behind what is buffered: bytes came, or none since the reader ran dry; or it failed, or growth was
--- refused. The buffer grows for it, or growth is refused, only where bytes take more than half of that
+-- refused. The buffer grows for it by as little as it can, or growth is refused, only where bytes take more than half of that
 pub record ReadsBehind {S P A : Type 0} (remaining : S → Option (List ℕ)) (rules : ReadRules P)
     (s : Buffered S P) (answer : Result A Error) (t : Buffered S P) : Type 0 where
   pub front : HandedFront remaining rules s [] t
@@ -22,6 +22,8 @@ pub record ReadsBehind {S P A : Type 0} (remaining : S → Option (List ℕ)) (r
       × ((t.log.reads.faults ≡ s.log.reads.faults ++ e ∷ [])
       ⊎ (GrowthFailed 1 s.block e × (s.block.capacity < 2 * length s.block.bytes) × (t ≡ s))))
   pub asks : t.log.reads.asks ≤ s.log.reads.asks + 1
+  pub offer : s.log.reads.asks < t.log.reads.asks → OfferedAll t
+  pub moves : MovesFor 1 s.block t.block
   pub policy : t.policy ≡ s.policy
   pub limit : t.block.limit ≡ s.block.limit
   pub capacity : 2 * length s.block.bytes ≤ s.block.capacity → t.block.capacity ≡ s.block.capacity

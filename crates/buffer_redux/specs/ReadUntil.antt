@@ -35,14 +35,17 @@ pub record DropsFirst {S P : Type 0} (rules : ReadRules P) (n : ℕ) (s t : Buff
   pub none : n ≡ 0 → t ≡ s
   pub some : 0 < n → ReaderConsumes rules n s t
 
--- this many steps led from s to t, each of them a consume of some bytes that are buffered, of which the policy is told, or a
--- fill that showed more bytes, or what the call makes in place of one. So nobody is asked behind a fill that showed no
--- more, which ends the call, and the policy is told of no consume of nothing
+-- some bytes that are buffered were dropped, or none
+abbrev pub DropsSome : {S P : Type 0} → ReadRules P → Buffered S P → Buffered S P → Type 0
+DropsSome rules s t = (n : ℕ) × (n ≤ length s.block.bytes) × DropsFirst rules n s t
+
+-- bytes were dropped, and then so many times there was a fill that showed more, or what the call makes in place of one, and a
+-- drop behind it. So nobody is asked behind a fill that showed no more, which ends the call; and of what is dropped between two
+-- fills the policy is told at once
 abbrev pub Steps : {S P : Type 0} → ReadRules P → Step (Buffered S P) (Unit {0}) → ℕ → Buffered S P → Buffered S P → Type 0
-Steps rules step zero s t = s ≡ t
-Steps {S} {P} rules step (suc count) s t = (m : Buffered S P) × Steps rules step count s m
-    × (((n : ℕ) × (0 < n) × (n ≤ length m.block.bytes) × ReaderConsumes rules n m t)
-    ⊎ (step m (Ok tt) t × (length m.block.bytes < length t.block.bytes)))
+Steps rules step zero s t = DropsSome rules s t
+Steps {S} {P} rules step (suc count) s t = (m : Buffered S P) × (filled : Buffered S P) × Steps rules step count s m
+    × step m (Ok tt) filled × (length m.block.bytes < length filled.block.bytes) × DropsSome rules filled t
 
 -- these bytes were handed out, which lack the byte, and no fault came but interrupted reads
 pub record Passes {S P : Type 0} (remaining : S → Option (List ℕ)) (rules : ReadRules P) (step : Step (Buffered S P) (Unit {0}))

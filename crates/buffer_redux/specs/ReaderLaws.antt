@@ -3,7 +3,7 @@ use Rattle.std.specs.Prelude.{◌≡◌, ℕ, ◌<◌, ◌≤◌, ◌==◌, ◌|
 use Rattle.std.proofs.Common.{zero, suc, cond, sym, ap, subst, refl, ◌∙◌, arith, inl, inr, le_refl, le_trans, append_assoc, append-nil}
 use Rattle.std.proofs.Math.Seq.{take-length}
 use Rattle.std.proofs.KnownBytes.{Consumes-whole}
-use Rattle.std.proofs.lemmas.List.{nil_from_length, take_min, take-append-le, take-append-drop}
+use Rattle.std.proofs.lemmas.List.{length-append, length-take, nil_from_length, take_min, take-append-le, take-append-drop}
 use Rattle.std.specs.Borrow.{Bor}
 use Rattle.std.specs.Io.KnownBytes.{Consumes, Keeps, IsAtEnd, prepend_known}
 use Rattle.std.specs.declared.io.Error.{Error}
@@ -21,8 +21,12 @@ use Rattle.std.specs.Option.{IsSomeAnd, unwrap_or}
 
 -- no call hands out nothing, and two traces of calls join
 pub ReadsInOrder-none : {S P : Type 0} (s : Buffered S P) → ReadsInOrder s [] s
-ReadsInOrder-none s =
-    record { got = []; given = sym (append-nil s.log.reads.given); equal = sym (append-nil s.block.bytes) }
+ReadsInOrder-none s = record {
+  got = [];
+  given = sym (append-nil s.log.reads.given);
+  equal = sym (append-nil s.block.bytes);
+  consumed = omega arith;
+}
 
 pub ReadsInOrder-joins : {S P : Type 0} (s m t : Buffered S P) (h k : List ℕ)
     → ReadsInOrder s h m → ReadsInOrder m k t → ReadsInOrder s (h ++ k) t
@@ -32,6 +36,7 @@ ReadsInOrder-joins s m t h k a b = record {
   equal =
       append_assoc h k t.block.bytes ∙ ap (λ l. h ++ l) b.equal ∙ sym (append_assoc h m.block.bytes b.got)
       ∙ ap (λ l. l ++ b.got) a.equal ∙ append_assoc s.block.bytes a.got b.got;
+  consumed = omega (arith, a.consumed, b.consumed, length-append h k);
 }
 
 -- from an empty buffer on, what was given is what was handed out, then what is buffered
@@ -104,6 +109,7 @@ ReadsInOrder-seek s n t leaves = record {
   got = [];
   given = ap (λ l. l.given) leaves.reads ∙ sym (append-nil s.log.reads.given);
   equal = ap (λ l. s.block.bytes ++ l) leaves.ok.bytes;
+  consumed = omega (arith, leaves.ok.consumed);
 }
 
 -- a failed seek drops all of it, or nothing
@@ -113,10 +119,18 @@ ReadsInOrder-failed_seek s e t leaves =
     let given : t.log.reads.given ≡ s.log.reads.given ++ [] =
     ap (λ l. l.given) leaves.reads ∙ sym (append-nil s.log.reads.given) in
     elim leaves.err [
-      | inl left ↦ inl (record
-          { got = []; given = given; equal = ap (λ b. b.bytes) left ∙ sym (append-nil s.block.bytes) })
-      | inr cleared ↦ inr (record
-          { got = []; given = given; equal = ap (λ l. s.block.bytes ++ l) cleared.bytes })
+      | inl left ↦ inl (record {
+        got = [];
+        given = given;
+        equal = ap (λ b. b.bytes) left ∙ sym (append-nil s.block.bytes);
+        consumed = omega (arith, ap (λ b. b.consumed) left);
+      })
+      | inr cleared ↦ inr (record {
+        got = [];
+        given = given;
+        equal = ap (λ l. s.block.bytes ++ l) cleared.bytes;
+        consumed = omega (arith, cleared.consumed);
+      })
     ]
 
 -- the joined lists go on where the reader gives its buffer up
@@ -291,6 +305,7 @@ module _ {S P : Type 0} (remaining : S → Option (List ℕ)) (rules : ReadRules
       got = [];
       given = ap (λ l. l.reads.given) gone.told ∙ sym (append-nil s.log.reads.given);
       equal = consumed_bytes n s.block.bytes gone.left.bytes t.block.bytes gone.dropped.bytes gone.told_policy.law.bytes;
+      consumed = omega (arith, gone.told_policy.law.consumed, gone.dropped.consumed, length-take n s.block.bytes);
     };
     known = subst (λ i. GivesRemaining (remaining s.inner) s.log.reads (remaining i) t.log.reads) (sym inner)
         (subst (λ l. GivesRemaining (remaining s.inner) s.log.reads (remaining s.inner) l.reads) (sym gone.told)

@@ -1,9 +1,10 @@
 -- What a buffered reader tells of its own calls, and what any of them, one after another, may do to it.
 use Rattle.std.specs.Prelude.{◌≡◌, ℕ, ◌+◌, ◌<◌, ◌≤◌, ◌⊎◌, List, [], ◌∷◌, ◌++◌, Option, Result, Ok, Err, true}
-use Rattle.std.proofs.Common.{refl, sym, ap, subst, ◌∙◌, arith, le_refl, le_trans, append-nil, append_assoc}
+use Rattle.std.proofs.Common.{inl, inr, refl, sym, ap, subst, ◌∙◌, arith, le_refl, le_trans, append-nil, append_assoc}
 use Rattle.std.specs.Borrow.{Bor}
 use Rattle.std.specs.declared.io.Error.{Error}
 use Rattle.std.proofs.lemmas.List.{append_cancel_left}
+use Rattle.redux_buffer.specs.Block.{IsBlock}
 use Rattle.redux_buffer.specs.Faults.{OnlyInterrupts, FaultAfterInterrupts}
 use Rattle.redux_buffer.specs.StreamLog.{StreamLog, FillTells, Readies, with_shown}
 use Rattle.redux_buffer.specs.LogGrows.{ReadLogGrows, ReadLogGrows-none, ReadLogGrows-joins, FillLogGrows, FillLogGrows-none, FillLogGrows-joins, FillsGoOn, FillsGoOn-of}
@@ -11,7 +12,7 @@ use Rattle.buffer_redux.specs.Policy.{ReadRules, ClaimsToSpare}
 use Rattle.buffer_redux.specs.Buffered.{Buffered}
 use Rattle.buffer_redux.specs.BufReader.{Fills, ReadsInOrder, InnerGives}
 use Rattle.buffer_redux.specs.Sparing.{SparesClaimed, Spared-none, Spared-joins}
-use Rattle.buffer_redux.specs.EmptyReads.{ReadsWhenEmpty}
+use Rattle.buffer_redux.specs.EmptyReads.{ReadsWhenEmpty, ReadsWhole}
 use Rattle.buffer_redux.specs.ReaderLaws.{ReadsInOrder-none, ReadsInOrder-joins, InnerGives-none, InnerGives-joins, WantsBytes}
 
 -- what it shows is what is buffered; the rest was noted call by call
@@ -29,11 +30,17 @@ pub record FaultsAlike (old new old' new' : List Error) : Type 0 where
   pub first : new ≡ old ++ more
   pub second : new' ≡ old' ++ more
 
+-- the capacity stayed, and where the inner reader was asked, the last ask offered as much
+pub record OffersWhole {S P : Type 0} (s t : Buffered S P) : Type 0 where
+  pub whole : IsBlock t.block
+  pub capacity : t.block.capacity ≡ s.block.capacity
+  pub offer : (t.log.reads ≡ s.log.reads) ⊎ (t.log.reads.offer ≡ t.block.capacity)
+
 -- no byte is lost between the inner reader and what was consumed, and of what that is known to have left just what it
 -- gave is gone; the kind and the claims stay, and what the policy claims to spare is spared. Under a steady policy its
 -- faults are the inner reader's. Where the policy is steady or claims a minimum of at least 1, and there is capacity, it
 -- ended only where the inner reader gave nothing; and where a read is ordered over an empty buffer alone, that gave nothing
--- only where it ended
+-- only where it ended, and was offered all of a buffer that the policy leaves as it is
 pub record ReaderWent {S P : Type 0} (remaining : S → Option (List ℕ))
     (rules : ReadRules P) (s t : Buffered S P)
     : Type 0 where
@@ -53,6 +60,20 @@ pub record ReaderWent {S P : Type 0} (remaining : S → Option (List ℕ))
       → t.own_calls.fills.zero_fills + s.log.reads.zero_reads ≤ s.own_calls.fills.zero_fills + t.log.reads.zero_reads
   pub once : ReadsWhenEmpty rules
       → s.own_calls.fills.zero_fills + t.log.reads.zero_reads ≤ t.own_calls.fills.zero_fills + s.log.reads.zero_reads
+  pub offers : ReadsWhole rules → IsBlock s.block → OffersWhole s t
+
+OffersWhole-joins : {S P : Type 0} (a b c : Buffered S P) → OffersWhole a b → OffersWhole b c → OffersWhole a c
+OffersWhole-joins a b c p q = record {
+  whole = q.whole;
+  capacity = q.capacity ∙ p.capacity;
+  offer = elim q.offer [
+    | inl same ↦ elim p.offer [
+      | inl before ↦ inl (same ∙ before)
+      | inr asked ↦ inr (ap (λ l. l.offer) same ∙ asked ∙ sym q.capacity)
+    ]
+    | inr asked ↦ inr asked
+  ];
+}
 
 FaultsAlike-none : (xs ys : List Error) → FaultsAlike xs xs ys ys
 FaultsAlike-none xs ys = record { more = []; first = sym (append-nil xs); second = sym (append-nil ys) }
@@ -102,6 +123,7 @@ module _ {S P : Type 0} (remaining : S → Option (List ℕ)) (rules : ReadRules
     faults = λ steady. FaultsAlike-none s.own_calls.fills.faults s.log.reads.faults;
     ends = λ wants room. le_refl _;
     once = λ orders. le_refl _;
+    offers = λ leaves whole. record { whole = whole; capacity = refl; offer = inl refl };
   }
 
   pub ReaderWent-joins : (a b c : Buffered S P)
@@ -131,6 +153,8 @@ module _ {S P : Type 0} (remaining : S → Option (List ℕ)) (rules : ReadRules
           q.ends (subst WantsBytes (sym p.claims) wants) (omega (arith, room, p.capacity)),
         );
         once = λ orders. omega (arith, p.once orders, q.once orders);
+        offers = λ leaves whole.
+            let first = p.offers leaves whole in OffersWhole-joins a b c first (q.offers leaves first.whole);
       }
 
   pub ReaderWent-grows : (s t : Buffered S P)

@@ -1,6 +1,6 @@
 -- What readers, or writers, of one stream do, one after another.
-use Rattle.std.specs.Prelude.{◌≡◌, ℕ, List, [], ◌++◌, Option, None, Some}
-use Rattle.std.proofs.Common.{sym, ap, ◌∙◌, refl, append_assoc, append-nil}
+use Rattle.std.specs.Prelude.{◌≡◌, ◌≤◌, ℕ, List, [], ◌++◌, Option, None, Some}
+use Rattle.std.proofs.Common.{sym, ap, ◌∙◌, refl, arith, append_assoc, append-nil}
 use Rattle.std.specs.Io.KnownBytes.{Consumes}
 use Rattle.redux_buffer.specs.GivesRemaining.{GivesRemaining-none, GivesRemaining-joins, GivesRemaining-ahead}
 use Rattle.redux_buffer.specs.LogGrows.{ReadLogGrows-none, ReadLogGrows-joins}
@@ -61,9 +61,10 @@ module _ {R : Type 0} (remaining : R → Option (List ℕ)) where
 
 -- what two writers of one stream took, one after another, where the second was made of what the first left
 pub WritesInOrder-over : {W P : Type 0} (s m n t : Buffered W P) (h k : List ℕ) → unbuffered n ≡ unbuffered m
-    → WritesInOrder s h m → WritesInOrder n k t → WritesInOrder s (h ++ k) t
-WritesInOrder-over s m n t h k same p q = WritesInOrder-joins s m t h k p (record {
+    → n.block.consumed ≤ m.block.consumed → WritesInOrder s h m → WritesInOrder n k t → WritesInOrder s (h ++ k) t
+WritesInOrder-over s m n t h k same fewer p q = WritesInOrder-joins s m t h k p (record {
   sent = q.sent;
   received = q.received ∙ ap (λ u. u.log.writes.received ++ q.sent) same;
   equal = q.equal ∙ ap (λ u. u.left ++ k) same;
+  consumed = omega (arith, q.consumed, fewer);
 })

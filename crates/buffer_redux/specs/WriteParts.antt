@@ -13,13 +13,20 @@ use Rattle.buffer_redux.specs.Policy.{std_write_rules}
 abbrev pub room : {S P : Type 0} → Buffered S P → ℕ
 room w = w.block.capacity - length w.block.bytes
 
--- these bytes were copied in behind those that are buffered, and nothing else was done
+-- these bytes were copied in behind those that are buffered, and nothing else was done but that bytes may have been moved
 pub record PutsIn {S P : Type 0} (s : Buffered S P) (bytes : List ℕ) (t : Buffered S P) : Type 0 where
   pub others : t ≡ with_block s t.block
   pub added : t.block.bytes ≡ s.block.bytes ++ bytes
   pub capacity : t.block.capacity ≡ s.block.capacity
   pub limit : t.block.limit ≡ s.block.limit
   pub kind : t.block.kind ≡ s.block.kind
+  pub consumed : t.block.consumed ≡ s.block.consumed
+  pub whole : IsBlock t.block
+
+-- the buffer appended these bytes, and nothing else was done: none of a plain buffer was moved
+pub record Appends {S P : Type 0} (s : Buffered S P) (bytes : List ℕ) (t : Buffered S P) : Type 0 where
+  pub others : t ≡ with_block s t.block
+  pub added : Extends bytes s.block t.block
   pub whole : IsBlock t.block
 
 -- all that was buffered was sent first, without a flush of the inner writer, and then these bytes were copied in
@@ -47,15 +54,14 @@ module _ {S P : Type 0} (tells : S → StreamLog) (trace : S → S → Type 0) w
         (λ e. (answer ≡ Err e) × (t ≡ left))
     pub whole : IsBlock t.block
 
-  -- all of these bytes were taken in, or nothing was. Where they fit they are copied in, and nothing else is done; else place is
+  -- all of these bytes were taken in, or nothing was. Where they fit they are appended, and nothing else is done; else place is
   -- made for them first, of as many as a `usize` counts
   pub record WritesParts (s : Buffered S P) (bytes : List ℕ) (answer : Result (Unit {0}) Error) (t : Buffered S P) : Type 0 where
     pub along : MatchResult answer (λ _. WritesAlong tells trace std_write_rules s bytes t)
         (λ e. WritesAlong tells trace std_write_rules s [] t)
-    pub fits : length bytes ≤ usable s.block → (answer ≡ Ok tt) × PutsIn s bytes t
-    pub still : length bytes ≤ usable s.block → Extends bytes s.block t.block
+    pub fits : length bytes ≤ usable s.block → (answer ≡ Ok tt) × Appends s bytes t
     pub full : usable s.block < length bytes → MatchResult answer
-        (λ _. (m : Buffered S P) × MakesPlace (min (length bytes) (2 ^ 64 - 1)) s (Ok tt) m × PutsIn m bytes t)
+        (λ _. (m : Buffered S P) × MakesPlace (min (length bytes) (2 ^ 64 - 1)) s (Ok tt) m × Appends m bytes t)
         (λ e. MakesPlace (min (length bytes) (2 ^ 64 - 1)) s (Err e) t)
     pub caused : IfErr answer (λ e. PartsRefused (length bytes) s e t)
     pub whole : IsBlock t.block

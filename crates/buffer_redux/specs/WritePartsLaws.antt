@@ -1,6 +1,6 @@
 -- Laws of what is copied into a writer where it fits, and of a write of parts.
 use Rattle.std.specs.Prelude.{◌≡◌, ◌⊎◌, List, ℕ, [], ◌++◌, length, Result, Ok, Err, MatchResult}
-use Rattle.std.proofs.Common.{refl, sym, ap, subst, inl, inr, ◌∙◌, append_assoc, append-nil}
+use Rattle.std.proofs.Common.{refl, sym, ap, subst, inl, inr, ◌∙◌, arith, append_assoc, append-nil}
 use Rattle.std.proofs.lemmas.Bool.{cases_lt}
 use Rattle.std.specs.declared.io.Error.{Error}
 use Rattle.redux_buffer.specs.Block.{Reserves, usable}
@@ -9,7 +9,7 @@ use Rattle.redux_buffer.specs.GrowError.{GrowthFailed}
 use Rattle.redux_buffer.specs.StreamLog.{StreamLog, WriteLog}
 use Rattle.buffer_redux.specs.Buffered.{Buffered, with_block}
 use Rattle.buffer_redux.specs.BufWriter.{WasSent, WritesInOrder}
-use Rattle.buffer_redux.specs.WriteParts.{MakesPlace, PutsIn, SendsFirst, WritesParts}
+use Rattle.buffer_redux.specs.WriteParts.{Appends, MakesPlace, PutsIn, SendsFirst, WritesParts}
 use Rattle.buffer_redux.specs.WriterLaws.{WritesInOrder-joins}
 
 -- bytes behind others are both
@@ -20,7 +20,20 @@ PutsIn-joins s m t a b p q = record {
   capacity = q.capacity ∙ p.capacity;
   limit = q.limit ∙ p.limit;
   kind = q.kind ∙ p.kind;
+  consumed = q.consumed ∙ p.consumed;
   whole = q.whole;
+}
+
+-- what was appended was put in
+pub PutsIn-appends : {S P : Type 0} (s t : Buffered S P) (bytes : List ℕ) → Appends s bytes t → PutsIn s bytes t
+PutsIn-appends s t bytes p = record {
+  others = p.others;
+  added = p.added.bytes;
+  capacity = p.added.capacity;
+  limit = p.added.limit;
+  kind = p.added.kind;
+  consumed = p.added.consumed;
+  whole = p.whole;
 }
 
 -- nothing was told
@@ -33,6 +46,7 @@ PutsIn-order s t bytes p = record {
   sent = [];
   received = ap (λ x. x.log.writes.received) p.others ∙ sym (append-nil s.log.writes.received);
   equal = p.added;
+  consumed = omega (arith, p.consumed);
 }
 
 pub SendsFirst-order : {S P : Type 0} (tells : S → StreamLog) (trace : S → S → Type 0) (s t : Buffered S P) (bytes : List ℕ)
@@ -70,16 +84,16 @@ module _ {S P : Type 0} (tells : S → StreamLog) (trace : S → S → Type 0) (
       × ((e : Error) → sending ≡ Err e → answer ≡ Err e))
   WritesParts-sent answer w = elim (cases_lt (usable s.block) (length bytes)) [
     | inl few ↦ inr (sent _ answer (w.full few))
-    | inr fit ↦ inl (PutsIn-told s t bytes (w.fits fit).1)
+    | inr fit ↦ inl (ap (λ x. x.log) (w.fits fit).1.others)
   ]
     where
       sent : (count : ℕ) (answer : Result (Unit {0}) Error) → MatchResult answer
-          (λ _. (m : Buffered S P) × MakesPlace tells trace count s (Ok tt) m × PutsIn m bytes t)
+          (λ _. (m : Buffered S P) × MakesPlace tells trace count s (Ok tt) m × Appends m bytes t)
           (λ e. MakesPlace tells trace count s (Err e) t)
           → (sending : Result (Unit {0}) Error) × (left : Buffered S P) × WasSent tells trace s sending left
           × (t.log ≡ left.log) × ((e : Error) → sending ≡ Err e → answer ≡ Err e)
       sent count (Ok x) (m, p, put) =
-          (let made = place_told count (Ok tt) m p in (p.sending, p.left, p.sent, PutsIn-told m t bytes put ∙ made.0, made.2))
+          (let made = place_told count (Ok tt) m p in (p.sending, p.left, p.sent, ap (λ x. x.log) put.others ∙ made.0, made.2))
       sent count (Err e) p =
           (let made = place_told count (Err e) t p in (p.sending, p.left, p.sent, made.0, made.2))
 
@@ -112,12 +126,12 @@ module _ {S P : Type 0} (tells : S → StreamLog) (trace : S → S → Type 0) (
       → t.block.limit ≡ s.block.limit
   WritesParts-limit answer w = elim (cases_lt (usable s.block) (length bytes)) [
     | inl few ↦ behind _ answer (w.full few)
-    | inr fit ↦ (w.fits fit).1.limit
+    | inr fit ↦ (w.fits fit).1.added.limit
   ]
     where
       behind : (count : ℕ) (answer : Result (Unit {0}) Error) → MatchResult answer
-          (λ _. (m : Buffered S P) × MakesPlace tells trace count s (Ok tt) m × PutsIn m bytes t)
+          (λ _. (m : Buffered S P) × MakesPlace tells trace count s (Ok tt) m × Appends m bytes t)
           (λ e. MakesPlace tells trace count s (Err e) t) → t.block.limit ≡ s.block.limit
       behind count (Ok x) (m, p, put) =
-          put.limit ∙ (place_told count (Ok tt) m p).1 ∙ p.sent.sends.sent.dropped.limit
+          put.added.limit ∙ (place_told count (Ok tt) m p).1 ∙ p.sent.sends.sent.dropped.limit
       behind count (Err e) p = (place_told count (Err e) t p).1 ∙ p.sent.sends.sent.dropped.limit

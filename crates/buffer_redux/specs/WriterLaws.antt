@@ -4,7 +4,7 @@ use Rattle.std.proofs.Common.{sym, ap, subst, refl, ◌∙◌, arith, inl, inr, 
 use Rattle.std.proofs.Math.Seq.{take-add}
 use Rattle.std.proofs.lemmas.Slice.{between_to_end}
 use Rattle.std.proofs.lemmas.Bool.{cases_lt}
-use Rattle.std.proofs.lemmas.List.{take-append-drop}
+use Rattle.std.proofs.lemmas.List.{length-append, length-take, take-append-drop}
 use Rattle.std.specs.declared.io.Error.{Error}
 use Rattle.std.specs.declared.io.ErrorKind.TheVariants.{WriteZero}
 use Rattle.redux_buffer.specs.Block.{Block}
@@ -18,8 +18,12 @@ use Rattle.buffer_redux.specs.BufWriter.{WritesInOrder, FlushesAmount, Wrote}
 
 -- no call accepts nothing, and two traces of calls join
 pub WritesInOrder-none : {S P : Type 0} (s : Buffered S P) → WritesInOrder s [] s
-WritesInOrder-none s =
-    record { sent = []; received = sym (append-nil s.log.writes.received); equal = sym (append-nil s.block.bytes) }
+WritesInOrder-none s = record {
+  sent = [];
+  received = sym (append-nil s.log.writes.received);
+  equal = sym (append-nil s.block.bytes);
+  consumed = omega arith;
+}
 
 pub WritesInOrder-joins : {S P : Type 0} (s m t : Buffered S P) (a b : List ℕ)
     → WritesInOrder s a m → WritesInOrder m b t → WritesInOrder s (a ++ b) t
@@ -30,6 +34,7 @@ WritesInOrder-joins s m t a b p q = record {
       append_assoc p.sent q.sent t.block.bytes ∙ ap (λ l. p.sent ++ l) q.equal
       ∙ sym (append_assoc p.sent m.block.bytes b)
       ∙ ap (λ l. l ++ b) p.equal ∙ append_assoc s.block.bytes a b;
+  consumed = omega (arith, p.consumed, q.consumed, length-append p.sent q.sent);
 }
 
 -- a call that accepts nothing more
@@ -46,6 +51,7 @@ WritesInOrder-sends s t amount answer f = record {
   equal =
       ap (λ l. take f.count s.block.bytes ++ l) f.sent.dropped.bytes
       ∙ take-append-drop f.count s.block.bytes ∙ sym (append-nil s.block.bytes);
+  consumed = omega (arith, f.sent.dropped.consumed, length-take f.count s.block.bytes);
 }
 
 -- the same as one equation: what the writer holds gained the accepted bytes

@@ -36,14 +36,15 @@ failures log = length log.faults + log.zero_writes
 abbrev pub TellsFailures : {P : Type 0} → WriteRules P → P → Type 0
 TellsFailures rules p = ((rules.claims p).steady ≡ true) × FlushesNothingAfter rules
 
--- the lists and counts only go on, its own and the inner writer's, which was flushed no more often than it was itself. Under
--- a steady policy it failed no more often than the inner writer; and where no failure is kept back, the inner writer was at
+-- the lists and counts only go on, its own and the inner writer's, which was flushed no more often than it was itself; no more
+-- bytes were consumed than that received. Under a steady policy it failed no more often than the inner writer; and where no failure is kept back, the inner writer was at
 -- most interrupted where it was so itself
 pub record WriterWent {S P : Type 0} (trace : S → S → Type 0) (rules : WriteRules P) (s t : Buffered S P)
     : Type 0 where
   pub inner : trace s.inner t.inner
   pub grows : WriteLogGrows s.log.writes t.log.writes
   pub own_grows : WriteLogGrows (writer_log s).writes (writer_log t).writes
+  pub consumed : t.block.consumed + length s.log.writes.received ≤ s.block.consumed + length t.log.writes.received
   pub capacity : s.block.capacity ≤ t.block.capacity
   pub kind : t.block.kind ≡ s.block.kind
   pub claims : rules.claims t.policy ≡ rules.claims s.policy
@@ -105,6 +106,7 @@ module _ {S P : Type 0} (trace : S → S → Type 0) (rules : WriteRules P) wher
     inner = none s.inner;
     grows = WriteLogGrows-none s.log.writes;
     own_grows = WriteLogGrows-none (writer_log s).writes;
+    consumed = le_refl _;
     capacity = le_refl _;
     kind = refl;
     claims = refl;
@@ -126,6 +128,7 @@ module _ {S P : Type 0} (trace : S → S → Type 0) (rules : WriteRules P) wher
         grows = WriteLogGrows-joins a.log.writes b.log.writes c.log.writes p.grows q.grows;
         own_grows =
             WriteLogGrows-joins (writer_log a).writes (writer_log b).writes (writer_log c).writes p.own_grows q.own_grows;
+        consumed = omega (arith, p.consumed, q.consumed);
         capacity = le_trans p.capacity q.capacity;
         kind = q.kind ∙ p.kind;
         claims = q.claims ∙ p.claims;

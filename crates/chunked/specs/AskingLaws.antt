@@ -286,6 +286,12 @@ module _ {R : Type 0} (limits : Limits) (s : Buffered R StdPolicy) (p : Place) w
         got = [];
         given = ap (λ l. l.reads.given) gone.told ∙ sym (append-nil f.log.reads.given);
         equal = ap (λ l. take n f.block.bytes ++ l) left ∙ take-append-drop n f.block.bytes ∙ sym (append-nil f.block.bytes);
+        consumed = omega (
+          arith,
+          gone.told_policy.law.consumed,
+          gone.dropped.consumed,
+          length-take-le n f.block.bytes held,
+        );
       }
 
   take_asks : (n : ℕ) (m f : Buffered R StdPolicy) → FillsAndTakes std_read_rules n m f → AsksEmpty m f

@@ -40,6 +40,7 @@ pub record IsOver {S E : Type 0} (tells : S → StreamLog) (most : ℕ) (buffer 
   pub left : unbuffered f.writer ≡ record { left = buffer.bytes; inner = stream; log = tells stream }
   pub encoder : f.encoder ≡ maker
   pub capacity : f.writer.block.capacity ≡ room_for buffer.capacity most
+  pub consumed : f.writer.block.consumed ≤ buffer.consumed
   pub kept : buffer.kind ≡ Plain → 3 * most ≤ buffer.capacity → f.writer.block ≡ with_limit buffer buffer.capacity
 
 -- with this stream inside

@@ -141,6 +141,12 @@ module _ {R P W Q : Type 0} {remaining : R → Option (List ℕ)} {trace : W →
               (sym (append_assoc u.log.writes.received more v.block.bytes)
               ∙ sym (ap (λ l. l ++ v.block.bytes) went'.grows.received.equal)
               ∙ moved.received ∙ append_assoc u.log.writes.received u.block.bytes moved.bytes);
+          consumed = omega (
+            arith,
+            went'.consumed,
+            ap length went'.grows.received.equal,
+            length-append u.log.writes.received more,
+          );
         }
 
     pub copy_begins : IsBeginning s.log t.log u.log v.log

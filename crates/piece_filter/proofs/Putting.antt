@@ -10,7 +10,7 @@ use Rattle.buffer_redux.specs.Buffered.{Buffered, with_block}
 use Rattle.buffer_redux.specs.Faults.{MetInterrupts, MetInterrupts-none, SendErrorCaused, SendErrorCaused-after}
 use Rattle.buffer_redux.specs.StreamLog.{StreamLog}
 use Rattle.buffer_redux.specs.WriteParts.{PartsRefused, WritesParts}
-use Rattle.buffer_redux.specs.WritePartsLaws.{PutsIn-told, WritesParts-limit, WritesParts-sent}
+use Rattle.buffer_redux.specs.WritePartsLaws.{WritesParts-limit, WritesParts-sent}
 use Rattle.buffer_redux.specs.WriterLaws.{WritesInOrder-joins}
 use Rattle.buffer_redux.specs.declared.policy.StdPolicy.{StdPolicy}
 use Rattle.piece_filter.specs.Puts.{IsRefused, Puts}
@@ -19,7 +19,7 @@ use Rattle.piece_filter.specs.Puts.{IsRefused, Puts}
 module _ {W : Type 0} (tells : W → StreamLog) (trace : W → W → Type 0) (m : Buffered W StdPolicy) (bytes : List ℕ)
     (answer : Result (Unit {0}) Error) (t : Buffered W StdPolicy) (p : WritesParts tells trace m bytes answer t) where
   fit_in : length bytes ≤ usable m.block → IsOk answer × (t.log ≡ m.log)
-  fit_in fit = (subst IsOk (sym (p.fits fit).0) refl, PutsIn-told m t bytes (p.fits fit).1)
+  fit_in fit = (subst IsOk (sym (p.fits fit).0) refl, ap (λ x. x.log) (p.fits fit).1.others)
 
   sends_none : m.block.bytes ≡ [] → t.log ≡ m.log
   sends_none empty = elim (WritesParts-sent tells trace m t bytes answer p) [
@@ -81,7 +81,7 @@ module _ {W : Type 0} (tells : W → StreamLog) (trace : W → W → Type 0) (s 
       let there = fit_in tells trace m bytes answer t p fit in
       puts m order (subst (λ l. MetInterrupts s.log.writes l.writes) (sym same) (MetInterrupts-none s.log.writes))
       (ap (λ l. l.writes.flushed) same) (ap (λ l. l.writes.flushes) same) there.1
-      (λ _. (p.fits fit).1.capacity ∙ room.capacity) (WritesParts-limit tells trace m t bytes answer p ∙ room.limit)
+      (λ _. (p.fits fit).1.added.capacity ∙ room.capacity) (WritesParts-limit tells trace m t bytes answer p ∙ room.limit)
       answer (λ _. (there.0, there.1 ∙ same)) (λ few. absurd (omega (arith, fits, few))) (never answer there.0) p
     where
       never : (answer : Result (Unit {0}) Error) → IsOk answer → OnErr answer (t.block.bytes ≡ [])
@@ -97,7 +97,7 @@ module _ {W : Type 0} (tells : W → StreamLog) (trace : W → W → Type 0) (s 
       puts m (WritesInOrder-joins s u m [] [] sent.in_order order)
       (subst (λ l. MetInterrupts s.log.writes l.writes) (sym same) sent.ok.met)
       (ap (λ l. l.writes.flushed) same ∙ sent.not_flushed) (ap (λ l. l.writes.flushes) same ∙ sent.sends.sent.flushes)
-      told (λ small. (p.fits (space small)).1.capacity ∙ room.capacity ∙ sent.capacity)
+      told (λ small. (p.fits (space small)).1.added.capacity ∙ room.capacity ∙ sent.capacity)
       (WritesParts-limit tells trace m t bytes answer p ∙ room.limit ∙ sent.sends.sent.dropped.limit)
       answer (λ fit. absurd (omega (arith, fit, few))) (λ _. kept answer p) (nothing answer p) p
     where

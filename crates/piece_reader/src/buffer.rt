@@ -16,6 +16,7 @@ pub fn piece_buffer(alloc: Global, capacity: usize, most: usize) -> Result<Buffe
     ensures plain { IfOk result (λ b. b.kind ≡ Plain) }
     ensures capacity { IfOk result (λ b. b.capacity ≡ room_for capacity most) }
     ensures limit { IfOk result (λ b. b.limit ≡ room_for capacity most) }
+    ensures consumed { IfOk result (λ b. b.consumed ≡ 0) }
     ensures moved { IfOk result (λ b. b.moved ≡ 0) }
     ensures whole { IfOk result IsBlock }
     ensures within { FitsWithin result (room_for capacity most) (2 ^ 62) }
@@ -38,6 +39,7 @@ pub fn fit_buffer(
     ensures capacity { IfOk result (λ b. b.capacity ≡ room_for buffer.capacity most) }
     ensures limit { IfOk result (λ b. b.limit ≡ room_for buffer.capacity most) }
     ensures same { IfOk result (λ b. buffer.kind ≡ Plain → 3 * most ≤ buffer.capacity → b ≡ with_limit buffer buffer.capacity) }
+    ensures consumed { IfOk result (λ b. b.consumed ≤ buffer.consumed) }
     ensures whole { IfOk result IsBlock }
     ensures handed_back { IfErr result (λ e. e.0 ≡ buffer) }
     ensures within { FitsWithin (growth result) (room_for buffer.capacity most) (2 ^ 62) }

@@ -1,7 +1,6 @@
 pub mod Runs
 pub mod PlayReading
 pub mod PlayWriting
-pub mod WriterCounts
 pub mod CopyKnown
 pub mod FlushKnown
 pub mod Unwrapped

@@ -17,7 +17,6 @@ HandsOut-none s = record {
   handed = sym (append-nil s.handed);
   in_order = ReadsInOrder-none s.reader;
   grows = ReadLogGrows-none s.reader.log.reads;
-  consumed = omega arith;
   capacity = omega arith;
   kind = refl;
   noted = refl;
@@ -30,7 +29,6 @@ HandsOut-joins s m t a b p q = record {
   in_order = ReadsInOrder-joins s.reader m.reader t.reader a b p.in_order q.in_order;
   grows =
       ReadLogGrows-joins s.reader.log.reads m.reader.log.reads t.reader.log.reads p.grows q.grows;
-  consumed = omega (arith, length-append a b, p.consumed, q.consumed);
   capacity = omega (arith, p.capacity, q.capacity);
   kind = q.kind ∙ p.kind;
   noted = q.noted ∙ p.noted;

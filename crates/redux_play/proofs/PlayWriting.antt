@@ -1,11 +1,14 @@
--- Runs of a writer accept what their steps do; and no call consumes more than it sends.
-use Rattle.std.proofs.Common.{◌≡◌, ℕ, ◌<◌, Bool, List, [], ◌∷◌, ◌++◌, length, take, refl, sym, subst, ◌∙◌, arith}
+-- Runs of a writer accept what their steps do.
+use Rattle.std.proofs.Common.{◌≡◌, ℕ, ◌<◌, Bool, List, [], ◌∷◌, ◌++◌, length, take, Result, refl, sym, subst, ◌∙◌, arith}
 use Rattle.std.specs.Prelude.{MatchBool}
 use Rattle.redux_buffer.specs.LogGrows.{WriteLogGrows-none, WriteLogGrows-joins}
+use Rattle.redux_buffer.specs.StreamLog.{StreamLog}
+use Rattle.std.specs.declared.io.Error.{Error}
 use Rattle.redux_play.specs.declared.play.WriterCall.{WriterCall}
 use Rattle.redux_play.specs.declared.play.WriterAnswer.{WriterAnswer}
 use Rattle.buffer_redux.specs.Policy.{WriteRules}
 use Rattle.buffer_redux.specs.Buffered.{Buffered}
+use Rattle.buffer_redux.specs.BufWriter.{WasFlushed, WriterKeeps, WritesInOrder}
 use Rattle.buffer_redux.specs.WriterLaws.{WritesInOrder-none, WritesInOrder-joins}
 use Rattle.redux_play.specs.PlayWriter.{Accepts, WriterStep, WriterPlays, accepted_bytes, bytes_accepted_by}
 use Rattle.redux_play.specs.PlayRoom.{Runs}
@@ -14,7 +17,6 @@ Accepts-none : {S P : Type 0} (s : Buffered S P) → Accepts s [] s
 Accepts-none s = record {
   in_order = WritesInOrder-none s;
   grows = WriteLogGrows-none s.log.writes;
-  consumed = omega arith;
   capacity = omega arith;
   kind = refl;
   noted = refl;
@@ -25,10 +27,25 @@ Accepts-joins : {S P : Type 0} (s m t : Buffered S P) (a b : List ℕ) → Accep
 Accepts-joins s m t a b p q = record {
   in_order = WritesInOrder-joins s m t a b p.in_order q.in_order;
   grows = WriteLogGrows-joins s.log.writes m.log.writes t.log.writes p.grows q.grows;
-  consumed = omega (arith, p.consumed, q.consumed);
   capacity = omega (arith, p.capacity, q.capacity);
   kind = q.kind ∙ p.kind;
   noted = q.noted ∙ p.noted;
+}
+
+-- what a write takes in, and a flush, which takes in nothing
+pub Writes-accepts : {S P : Type 0} (tells : S → StreamLog) (trace : S → S → Type 0) (rules : WriteRules P) (s : Buffered S P)
+    (taken : List ℕ) (t : Buffered S P) → WritesInOrder s taken t → WriterKeeps tells trace rules s t → Accepts s taken t
+Writes-accepts tells trace rules s taken t order keeps =
+    record { in_order = order; grows = keeps.grows; capacity = keeps.capacity; kind = keeps.kind; noted = keeps.went.noted }
+
+pub Flushes-accepts : {S P : Type 0} (tells : S → StreamLog) (trace : S → S → Type 0) (s : Buffered S P)
+    (answer : Result (Unit {0}) Error) (t : Buffered S P) → WasFlushed tells trace s answer t → Accepts s [] t
+Flushes-accepts tells trace s answer t w = record {
+  in_order = w.in_order;
+  grows = w.grows;
+  capacity = omega (arith, w.capacity);
+  kind = w.kind;
+  noted = w.went.noted;
 }
 
 module _ {S P : Type 0} (rules : WriteRules P) where

@@ -66,13 +66,12 @@ ReaderAnswers rules s (Reserve a) Done out t = (out ≡ []) × Reserves a s.bloc
 ReaderAnswers rules s (Reserve a) (Refused e) out t = (out ≡ []) × GrowthRefused a s.block e × (t ≡ s)
 ReaderAnswers rules s call answer out t = ⊥
 
--- bytes were handed out, and none was lost or changed place; no more were consumed than handed out. The capacity didn't
--- fall, the kind stayed, and the reader noted no call of its own
+-- bytes were handed out, and none was lost or changed place. The capacity didn't fall, the kind stayed, and the reader noted no
+-- call of its own
 pub record HandsOut {S P : Type 0} (s : Handing S P) (out : List ℕ) (t : Handing S P) : Type 0 where
   pub handed : t.handed ≡ s.handed ++ out
   pub in_order : ReadsInOrder s.reader out t.reader
   pub grows : ReadLogGrows s.reader.log.reads t.reader.log.reads
-  pub consumed : t.reader.block.consumed ≤ s.reader.block.consumed + length out
   pub capacity : s.reader.block.capacity ≤ t.reader.block.capacity
   pub kind : t.reader.block.kind ≡ s.reader.block.kind
   pub noted : t.reader.own_calls ≡ s.reader.own_calls

@@ -6,7 +6,7 @@ ghost use Rattle.std.specs.IoError.{error_kind};
 ghost use Rattle.std.specs.declared.io.ErrorKind.TheVariants.{InvalidData};
 ghost use Rattle.redux_buffer.specs.Block.{IsBlock, capacity_for, usable};
 ghost use Rattle.redux_buffer.specs.GrowError.{GrowthRefused};
-ghost use Rattle.buffer_redux.specs.BufReader.{RanDry};
+ghost use Rattle.buffer_redux.specs.BufReader.{MovesFor, RanDry};
 ghost use Rattle.buffer_redux.specs.Buffered.{with_block};
 ghost use Rattle.buffer_redux.specs.ReadAll.{HandedFront};
 ghost use Rattle.buffer_redux.specs.ReadBehind.{FillsOn, FillsOrReads, ReadsBehind};
@@ -140,6 +140,7 @@ impl<R: TellRead, P: ReaderPolicy> BufReader<R, P> {
         ensures grown { (self.new.block.capacity ≡ self.old.block.capacity)
             ⊎ (self.new.block.capacity ≡ capacity_for self.old.block 1) }
         ensures consumed { self.new.block.consumed ≡ self.old.block.consumed }
+        ensures moves { OnOk result (MovesFor 1 self.old.block self.new.block) }
         ensures refused { IfErr result (λ refusal. (self.new ≡ self.old) × GrowthRefused 1 self.old.block refusal
             × (self.old.block.capacity < 2 * length self.old.block.bytes)) }
         ensures whole { IsBlock self.new.block }

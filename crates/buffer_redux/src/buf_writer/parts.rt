@@ -1,5 +1,5 @@
 //! Parts that are taken in together.
-ghost use Rattle.std.specs.Prelude.{◌≡◌, ◌-◌, ◌≤◌, ◌++◌, length, map, min};
+ghost use Rattle.std.specs.Prelude.{◌≡◌, ◌≤◌, length, map, min};
 ghost use Rattle.std.specs.List.{concat};
 ghost use Rattle.redux_buffer.specs.Block.{Extends, IsBlock, usable};
 ghost use Rattle.buffer_redux.specs.WriteParts.{MakesPlace, PutsIn, WritesParts};
@@ -45,7 +45,7 @@ impl<W: TellWrite> BufWriter<W, StdPolicy> {
     pub fn put(&mut self, bytes: &[u8])
         requires room { length bytes.now ≤ usable self.old.block }
         ensures put { PutsIn self.old bytes.now self.new }
-        ensures usable { usable self.new.block ≡ usable self.old.block - length bytes.now }
+        ensures added { Extends bytes.now self.old.block self.new.block }
     {
         self.buf.append(bytes);
     }
@@ -71,11 +71,7 @@ impl<W: TellWrite> BufWriter<W, StdPolicy> {
 fn append_parts(buf: &mut Buffer, parts: &[&[u8]])
     requires room { length (concat (map (λ part. part.now) parts.now)) ≤ usable buf.old }
     requires whole { IsBlock buf.old }
-    ensures bytes { buf.new.bytes ≡ buf.old.bytes ++ concat (map (λ part. part.now) parts.now) }
-    ensures capacity { buf.new.capacity ≡ buf.old.capacity }
-    ensures limit { buf.new.limit ≡ buf.old.limit }
-    ensures kind { buf.new.kind ≡ buf.old.kind }
-    ensures extends { Extends (concat (map (λ part. part.now) parts.now)) buf.old buf.new }
+    ensures added { Extends (concat (map (λ part. part.now) parts.now)) buf.old buf.new }
     ensures whole { IsBlock buf.new }
 {
     for part in parts {

@@ -1,5 +1,5 @@
 //! Streams in memory, which hand on what std says of a slice and of a vector alone: why a call of them fails.
-ghost use Rattle.std.specs.Prelude.{◌≡◌, Some, [], vec_items, IfErr, IsOk};
+ghost use Rattle.std.specs.Prelude.{◌≡◌, Ok, Some, [], length, min, vec_items, IfErr, IfOk, IsOk};
 ghost use Rattle.std.specs.Io.{ReadsAtMost, WritesAtMost};
 ghost use Rattle.std.specs.Io.KnownBytes.{ReadConsumes};
 ghost use Rattle.std.specs.List.{All};
@@ -48,7 +48,7 @@ impl TellRead for MemoryReader<'_> {
         ensures bound { ReadsAtMost result buf.new }
         ensures told { reader_log self.new ≡ after_read (reader_log self.old) buf.new result }
         ensures bytes { ReadConsumes (Some (bytes_left self.old)) (Some (bytes_left self.new)) result buf.new }
-        ensures ok { IsOk result }
+        ensures count { result ≡ Ok (min (length (bytes_left self.old)) (length buf.new)) }
     {
         let answer = self.bytes.read(buf);
         self.calls.note(&Call::Read(buf, &answer));
@@ -100,6 +100,7 @@ impl TellWrite for MemoryWriter {
     fn write_told(&mut self, buf: &[u8]) -> io::Result<usize>
         ensures bound { WritesAtMost result buf.now }
         ensures told { writer_log self.new ≡ after_write (writer_log self.old) buf.now result }
+        ensures count { IfOk result (λ n. n ≡ length buf.now) }
         ensures memory { IfErr result IsMemory }
     {
         let answer = self.bytes.write(buf);

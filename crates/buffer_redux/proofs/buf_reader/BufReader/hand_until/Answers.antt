@@ -46,7 +46,7 @@ returns-in_err-fill_more g c =
     let u = c.hand_first.new.sink in
     let on = handed_first g (goal.at.returns-in_err-fill_more g c).After-fill_more in
     rw (p.1, p.2) (record {
-      until = ends_failed _ _ _ law _ _ t _ u on.handed c.in_err-fill_more.field-0.0 c.fill_more.new.self on.leaves on.plain
+      until = ends_failed _ _ _ law _ _ _ t _ _ u on c.in_err-fill_more.field-0.0 c.fill_more.new.self
           c.in_err-fill_more.ensures.fills;
     })
 
@@ -58,7 +58,7 @@ returns-then-is_empty g c =
     let on = handed_first g (goal.at.returns-then-is_empty g c).After-fill_more in
     let none = sym (ap (λ x. length x.block.bytes) c.self-in-fills-2.view_is)
     ∙ c.is_empty.ensures.value.0 c.if-is_empty.true in record {
-      until = ends_empty _ _ _ law _ _ t _ u on.handed c.fill_more.new.self on.leaves c.in_ok-fill_more.ensures.fills none;
+      until = ends_empty _ _ _ law _ _ _ t _ _ u on c.fill_more.new.self c.in_ok-fill_more.ensures.fills none;
     }
 
 pub returns-in-Some : goal.returns-in-Some
@@ -72,7 +72,7 @@ returns-in-Some g c =
     c.buf.ensures ∙ ap (λ x. x.block.bytes) c.self-in-fills-2.view_is in
     record {
       until = ends_reached _ _ _ law _ _ c.fill_more.new.self _ u
-          (handed_filled _ _ _ law _ _ t _ u on.handed c.fill_more.new.self on.leaves c.in_ok-fill_more.ensures.fills more)
+          (handed_filled _ _ _ law _ _ _ t _ _ u on c.fill_more.new.self c.in_ok-fill_more.ensures.fills more)
           c.in-Some.at c.hand_first-in-Some.result c.hand_first-in-Some.new.self c.hand_first-in-Some.new.sink
           c.requires.whole (subst (FirstAt c.args.byte c.in-Some.at) shown c.in-Some.ensures.found)
           c.hand_first-in-Some.ensures.hands;
@@ -88,7 +88,7 @@ fills-preserved g c =
     let shown : c.buf.result.now ≡ c.fill_more.new.self.block.bytes =
     c.buf.ensures ∙ ap (λ x. x.block.bytes) c.self-in-fills-2.view_is in
     record {
-      handed = handed_filled _ _ _ law _ _ t _ u on.handed c.fill_more.new.self on.leaves c.in_ok-fill_more.ensures.fills more;
+      handed = handed_filled _ _ _ law _ _ _ t _ _ u on c.fill_more.new.self c.in_ok-fill_more.ensures.fills more;
       behind = subst (Lacks c.args.byte) shown c.in_default.ensures.none;
     }
 

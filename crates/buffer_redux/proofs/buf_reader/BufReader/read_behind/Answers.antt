@@ -18,6 +18,7 @@ returns-in_err-read_into_buf g c =
         capacity = m.capacity;
         grown = m.grown;
         consumed = m.consumed;
+        moves = m.moves;
       }) f.reads f.in_order f.spared;
     })
 
@@ -34,5 +35,6 @@ returns g c =
         capacity = m.capacity;
         grown = m.grown;
         consumed = m.consumed;
+        moves = m.moves;
       }) f.reads f.in_order f.spared;
     }

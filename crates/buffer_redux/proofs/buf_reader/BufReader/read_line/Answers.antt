@@ -4,9 +4,9 @@ use Rattle.std.proofs.lemmas.Str.{IsUtf8-nil}
 use Rattle.redux_buffer.specs.Block.{IsBlock}
 use Rattle.buffer_redux.specs.ReadBehind.{FillsOn}
 use Rattle.buffer_redux.specs.ReadLine.{IsPart, no_text}
-use Rattle.buffer_redux.specs.ReadUntil.{FirstAt, Passes}
+use Rattle.buffer_redux.specs.ReadUntil.{FirstAt}
 use Rattle.buffer_redux.specs.LineLaws.{ReadsLine-invalid, ReadsLine-known}
-use Rattle.buffer_redux.proofs.UntilSteps.{passes_none, reaches, stopped, through_length}
+use Rattle.buffer_redux.proofs.UntilSteps.{Shows, reaches, shows_none, stopped, through_length}
 use Rattle.buffer_redux.proofs.Utf8Fronts.{never_line}
 use Rattle.buffer_redux.proofs.buf_reader.BufReader.read_line.Goals as goal
 
@@ -20,8 +20,8 @@ returns-in_err-n-in-Some-clause-line g c =
     let p = err_from_is_err_and c.from_residual.result c.from_residual.ensures.1 in
     let shown : c.buf.result.now ≡ s.block.bytes = c.buf.ensures ∙ ap (λ x. x.block.bytes) c.self.view_is in
     let first = subst (FirstAt 10 c.in-Some.at) shown c.in-Some.ensures.found in
-    let none : Passes remaining rules (FillsOn IsPart remaining rules) 10 s [] s =
-    passes_none remaining rules 10 s (subst (λ x. IsBlock x.block) c.self.view_is c.self.invariant) in
+    let none : Shows remaining rules (FillsOn IsPart remaining rules) 10 s [] s =
+    shows_none remaining rules 10 s (subst (λ x. IsBlock x.block) c.self.view_is c.self.invariant) in
     let why : no_text [] e (take (c.in-Some.at + 1) s.block.bytes) = elim a.2 [
       | inl refused ↦ inl (refused.0, omega (arith, through_length 10 c.in-Some.at s.block.bytes first))
       | inr bad ↦ inr (bad.0, never_line c.in-Some.at s.block.bytes first bad.1)
@@ -45,8 +45,8 @@ returns-in_ok-n-in-Some-clause-line g c =
     let a = c.in_ok-n-in-Some.ensures.appends in
     let shown : c.buf.result.now ≡ s.block.bytes = c.buf.ensures ∙ ap (λ x. x.block.bytes) c.self.view_is in
     let first = subst (FirstAt 10 c.in-Some.at) shown c.in-Some.ensures.found in
-    let none : Passes remaining rules (FillsOn IsPart remaining rules) 10 s [] s =
-    passes_none remaining rules 10 s (subst (λ x. IsBlock x.block) c.self.view_is c.self.invariant) in record {
+    let none : Shows remaining rules (FillsOn IsPart remaining rules) 10 s [] s =
+    shows_none remaining rules 10 s (subst (λ x. IsBlock x.block) c.self.view_is c.self.invariant) in record {
       handed = take (c.in-Some.at + 1) s.block.bytes;
       appended = a.0.0;
       text = a.1;

@@ -4,7 +4,7 @@ use Rattle.redux_buffer.specs.Block.{IsBlock}
 use Rattle.buffer_redux.specs.ReadBehind.{FillsOn}
 use Rattle.buffer_redux.specs.ReadUntil.{FirstAt, ReadsUntil, no_memory}
 use Rattle.buffer_redux.specs.UntilLaws.{ReadsUntil-known}
-use Rattle.buffer_redux.proofs.UntilSteps.{passes_none, reaches, stopped, through_length}
+use Rattle.buffer_redux.proofs.UntilSteps.{reaches, shows_none, stopped, through_length}
 use Rattle.buffer_redux.proofs.buf_reader.BufReader.read_until.Goals as goal
 
 pub returns-in_err-append_first-in-Some : goal.returns-in_err-append_first-in-Some
@@ -17,7 +17,7 @@ returns-in_err-append_first-in-Some g c =
     let shown : c.buf.result.now ≡ s.block.bytes = c.buf.ensures ∙ ap (λ x. x.block.bytes) c.self.view_is in
     let first = subst (FirstAt c.args.byte c.in-Some.at) shown c.in-Some.ensures.found in
     let whole = subst (λ x. IsBlock x.block) c.self.view_is c.self.invariant in
-    let ends = stopped remaining rules c.args.byte s s [] (passes_none remaining rules c.args.byte s whole) no_memory
+    let ends = stopped remaining rules c.args.byte s s [] (shows_none remaining rules c.args.byte s whole) no_memory
     c.in-Some.at _ c.append_first.new.self first a.1
     (a.3, omega (arith, through_length c.args.byte c.in-Some.at s.block.bytes first)) in
     rw (p.1, p.2) (record {
@@ -46,7 +46,7 @@ returns-in_ok-append_first-in-Some g c =
       appended = a.0;
       front = a.1;
       ends = inl (reaches {step = FillsOn (λ left. left ≡ []) remaining rules} remaining rules c.args.byte s s []
-          (passes_none remaining rules c.args.byte s whole) c.in-Some.at
+          (shows_none remaining rules c.args.byte s whole) c.in-Some.at
           c.append_first.new.self first a.2);
       count = sym (through_length c.args.byte c.in-Some.at s.block.bytes first);
       buffered = λ some. (c.in-Some.at, first, a);

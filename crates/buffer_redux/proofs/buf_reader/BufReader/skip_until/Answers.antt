@@ -3,7 +3,7 @@ use Rattle.redux_buffer.specs.Block.{IsBlock}
 use Rattle.buffer_redux.specs.ReadBehind.{FillsOn}
 use Rattle.buffer_redux.specs.ReadUntil.{FirstAt, SkipsUntil}
 use Rattle.buffer_redux.specs.UntilLaws.{SkipsUntil-known}
-use Rattle.buffer_redux.proofs.UntilSteps.{drops_some, passes_none, reaches, through_length}
+use Rattle.buffer_redux.proofs.UntilSteps.{drops_some, reaches, shows_none, through_length}
 use Rattle.buffer_redux.proofs.buf_reader.BufReader.skip_until.Goals as goal
 
 pub returns-in-Some : goal.returns-in-Some
@@ -19,7 +19,7 @@ returns-in-Some g c =
       handed = take (c.in-Some.at + 1) s.block.bytes;
       front = record { in_order = gone.in_order; keeps = gone.keeps };
       ends = inl (reaches {step = FillsOn (λ left. left ≡ []) remaining rules} remaining rules c.args.byte s s []
-          (passes_none remaining rules c.args.byte s whole) c.in-Some.at
+          (shows_none remaining rules c.args.byte s whole) c.in-Some.at
           c.consume_exact.new.self first
           (drops_some rules s c.consume_exact.new.self (c.in-Some.at + 1) (omega arith) gone.consumed));
       count = sym (through_length c.args.byte c.in-Some.at s.block.bytes first);

@@ -41,11 +41,7 @@ returns c =
     ∙ ap (λ l. c.loop-part.buf.bytes ++ l) (sym (none_from c.args.parts.now c.loop-part.part-index c.loop-part-test.false))
     ∙ last.bytes in
     record {
-      bytes = all;
-      capacity = last.capacity;
-      limit = last.limit;
-      kind = last.kind;
-      extends = record {
+      added = record {
         bytes = all;
         usable = omega (arith, last.behind, simp length-append at (ap length all));
         capacity = last.capacity;

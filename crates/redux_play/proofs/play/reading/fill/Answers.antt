@@ -15,7 +15,6 @@ hands_none rules s answer t handed f noted = record {
   handed = sym (append-nil handed);
   in_order = f.in_order;
   grows = f.grows;
-  consumed = omega (arith, f.consumed);
   capacity = f.capacity;
   kind = f.kind;
   noted = noted;

@@ -1,5 +1,5 @@
 use Rattle.std.proofs.Common.{Ok, Err, rules}
-use Rattle.redux_play.proofs.WriterCounts.{Flushes-accepts}
+use Rattle.redux_play.proofs.PlayWriting.{Flushes-accepts}
 use Rattle.redux_play.proofs.play.writing.flush.Goals as goal
 
 pub returns-in-Ok-clause-step : goal.returns-in-Ok-clause-step

@@ -1,13 +1,12 @@
 use Rattle.std.proofs.Common.{Ok, Err, rules, ap}
-use Rattle.redux_play.proofs.WriterCounts.{Writes-accepts}
+use Rattle.redux_play.proofs.PlayWriting.{Writes-accepts}
 use Rattle.redux_play.proofs.play.writing.write.Goals as goal
 
 pub returns-in-Ok-clause-step : goal.returns-in-Ok-clause-step
 returns-in-Ok-clause-step g c =
     let w = c.in-Ok.ensures in
     record {
-      accepts = Writes-accepts _ _ g.P.WriterPolicy.rules c.args.writer.now c.args.bytes.now _ (Ok c.in-Ok.count)
-          c.write.new.self w.in_order w.keeps w.steps;
+      accepts = Writes-accepts _ _ g.P.WriterPolicy.rules c.args.writer.now _ c.write.new.self w.in_order w.keeps;
       answers = (w.bound, λ none some. w.empty (ap (λ n. Ok n) none) some, w.steps);
     }
 
@@ -15,7 +14,6 @@ pub returns-in-Err-clause-step : goal.returns-in-Err-clause-step
 returns-in-Err-clause-step g c =
     let w = c.in-Err.ensures in
     record {
-      accepts = Writes-accepts _ _ g.P.WriterPolicy.rules c.args.writer.now c.args.bytes.now _ (Err c.in-Err.e)
-          c.write.new.self w.in_order w.keeps w.steps;
+      accepts = Writes-accepts _ _ g.P.WriterPolicy.rules c.args.writer.now _ c.write.new.self w.in_order w.keeps;
       answers = (c.in-Err.e, search rules, (w.caused, w.steps));
     }

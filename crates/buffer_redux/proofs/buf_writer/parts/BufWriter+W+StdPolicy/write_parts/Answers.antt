@@ -24,12 +24,9 @@ returns-then-usable_space-len g c = parts_fit _ _ g.met.W.TellWrite.trace_none c
     c.total-len.result c.total-len.ensures (omega (arith, c.if-usable_space-len.true, c.usable_space.ensures.value))))
     (rw (← c.self.view_is) (record {
       others = refl;
-      added = c.append_parts.ensures.bytes;
-      capacity = c.append_parts.ensures.capacity;
-      limit = c.append_parts.ensures.limit;
-      kind = c.append_parts.ensures.kind;
+      added = c.append_parts.ensures.added;
       whole = c.append_parts.ensures.whole;
-    })) (rw (← c.self.view_is) c.append_parts.ensures.extends)
+    }))
 
 pub returns-in-Ok : goal.returns-in-Ok
 returns-in-Ok g c =
@@ -45,10 +42,7 @@ returns-in-Ok g c =
     c.make_place.new.self) c.total-len.ensures c.in-Ok.ensures)
     (rw (← c.self-2.view_is) (record {
       others = refl;
-      added = c.append_parts-in-Ok.ensures.bytes;
-      capacity = c.append_parts-in-Ok.ensures.capacity;
-      limit = c.append_parts-in-Ok.ensures.limit;
-      kind = c.append_parts-in-Ok.ensures.kind;
+      added = c.append_parts-in-Ok.ensures.added;
       whole = c.append_parts-in-Ok.ensures.whole;
     }))
 

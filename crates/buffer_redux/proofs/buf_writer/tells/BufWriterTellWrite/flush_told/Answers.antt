@@ -1,4 +1,4 @@
-use Rattle.std.proofs.Common.{rules, ◌≡◌, ◌∙◌, inr, ap, subst, sym, arith}
+use Rattle.std.proofs.Common.{[], rules, ◌≡◌, ◌∙◌, inr, ap, subst, sym, arith}
 use Rattle.redux_buffer.specs.Faults.{SendErrorCaused}
 use Rattle.redux_buffer.specs.StreamLog.{after_flush}
 use Rattle.redux_buffer.specs.LogGrows.{WriteLogGrows, WriteLogGrows-flush}
@@ -21,7 +21,7 @@ returns-clause-trace g c =
     call_went g.W.TellWrite.trace table s m _ _ (after_flush s.own_calls answer) c.self.view_is noted
     flush.went.calls flush.grows
     (subst (λ l. WriteLogGrows (writer_log s).writes l.writes) (sym (returns-clause-told g c))
-    (WriteLogGrows-flush (writer_log s) answer))
+    (WriteLogGrows-flush (writer_log s) answer)) [] flush.in_order
     (omega (arith, flush.capacity))
     flush.kind
     (ap table.claims flush.steps.policy)

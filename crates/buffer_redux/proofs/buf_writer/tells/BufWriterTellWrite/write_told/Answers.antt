@@ -23,7 +23,7 @@ returns-clause-trace g c =
     call_went g.W.TellWrite.trace g.P.WriterPolicy.rules s m _ _ (after_write s.own_calls bs answer)
     c.self.view_is noted wrote.keeps.went.calls wrote.keeps.grows
     (subst (λ l. WriteLogGrows (writer_log s).writes l.writes) (sym (returns-clause-told g c))
-    (WriteLogGrows-write (writer_log s) bs answer)) wrote.keeps.capacity wrote.keeps.kind wrote.keeps.claims
+    (WriteLogGrows-write (writer_log s) bs answer)) _ wrote.in_order wrote.keeps.capacity wrote.keeps.kind wrote.keeps.claims
     (omega (arith, wrote.keeps.flushes))
     (λ steady. write_fails s m bs answer wrote.keeps.grows (wrote.steadily steady))
     (λ tells. write_met g.P.WriterPolicy.rules s m bs tells answer wrote.steps wrote.caused)
