@@ -30,6 +30,7 @@ mod steps;
 mod tells;
 mod text;
 mod unwrapping;
+mod whole;
 
 /// A writer with a buffer, which flushes as its policy says.
 ///
@@ -304,7 +305,7 @@ impl<W: TellWrite, P: WriterPolicy> Write for BufWriter<W, P> {
             return self.write_outlined(0, bytes);
         }
         // Nothing is sent first, and the bytes fit with room to spare.
-        self.buf.append(bytes);
+        self.buf.append_short(bytes);
         self.flush_after();
         Ok(bytes.len())
     }
@@ -325,29 +326,7 @@ impl<W: TellWrite, P: WriterPolicy> Write for BufWriter<W, P> {
         ensures steps { WritesAll W.log W.trace P.rules self.old bytes.now result self.new }
         ensures trace { InnerWent W.log W.trace self.old self.new }
     {
-        if bytes.is_empty() {
-            let _ = &self.buf;
-            return Ok(());
-        }
-        // Asked before the policy is, so that a policy that asks the same isn't compiled into the caller.
-        if !self.buf.has_space_behind(bytes.len()) {
-            return self.write_large_outlined(bytes);
-        }
-        match self.policy.before_write(&mut self.buf, bytes.len()) {
-            Ok(FlushAmt(first)) => {
-                if first > 0 {
-                    return self.write_rest_outlined(first, bytes);
-                }
-                if self.buf.usable_space() <= bytes.len() {
-                    return self.write_rest_outlined(0, bytes);
-                }
-                // Nothing is sent first, and the bytes fit with room to spare.
-                self.buf.append(bytes);
-                self.flush_after();
-                Ok(())
-            }
-            Err(e) => self.write_on_outlined(e, bytes),
-        }
+        self.write_whole(bytes, false)
     }
 
     /// Sends what is buffered, and flushes the inner writer. Where sending fails, just what the inner writer took is no longer

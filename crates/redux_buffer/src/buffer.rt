@@ -296,6 +296,16 @@ impl Buffer {
         self.imp.append_all(src);
     }
 
+    /// The same, faster where the length isn't known to the compiler and is often 128 or less.
+    #[inline(always)]
+    pub fn append_short(&mut self, src: &[u8])
+        requires fits { length src.now ≤ usable self.old }
+        ensures bytes { Extends src.now self.old self.new }
+        ensures whole { IsBlock self.new }
+    {
+        self.imp.append_short(src);
+    }
+
     /// Copies the first bytes to the front of `out`, as many as fit, drops them, and returns how many those are.
     pub fn copy_to_slice(&mut self, out: &mut [u8]) -> usize
         ensures count { result ≡ min (length self.old.bytes) (length out.old) }

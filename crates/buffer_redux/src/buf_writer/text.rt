@@ -41,7 +41,7 @@ impl<W: TellWrite, P: WriterPolicy, B: Began<W, P>> fmt::Write for Pieces<'_, W,
 
     fn write_str(&mut self, piece: &str) -> fmt::Result {
         if self.ended.is_none() {
-            if let Err(e) = self.writer.write_all(piece.as_bytes()) {
+            if let Err(e) = self.writer.write_whole(piece.as_bytes(), true) {
                 self.ended = kept(e);
             }
         }

@@ -62,7 +62,7 @@ returns g c =
       log = g.W.Tell.log c.self.inside.inner;
       own_calls = c.self.inside.calls.log;
     } in
-    let after : Buffered g.row.W.Denot g.row.P.Denot = record before { block = c.append.new.self } in
+    let after : Buffered g.row.W.Denot g.row.P.Denot = record before { block = c.append_short.new.self } in
     let went : InnerWent g.W.Tell.log g.W.TellWrite.trace c.args.self.now c.flush_after.new.self = search rules in
     write_says _ _ g.P.WriterPolicy.rules _ _ (Ok (length bytes)) _ (omega arith)
     c.flush_after.ensures.whole went (rw (← c.self.view_is) (writes_on g.P.WriterPolicy.rules _ before
@@ -72,6 +72,6 @@ returns g c =
       flushes_none _ _ (omega (arith, c.if-first-gt0.false, c.in_ok-first.first-is)),
       takes_in_all _ _ bytes whole
           (omega (arith, c.if-bytes-usable_space.false, c.usable_space.ensures.value))
-          c.append.ensures.bytes refl refl,
+          c.append_short.ensures.bytes refl refl,
       c.flush_after.ensures.finished,
     )))

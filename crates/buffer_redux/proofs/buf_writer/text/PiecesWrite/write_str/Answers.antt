@@ -9,7 +9,7 @@ invariant_of-self-clause-went g c =
     let none = g.met.W.TellWrite.trace_none in
     let joins = g.met.W.TellWrite.trace_joins in
     let s = c.args.self.now.writer.now in
-    let t = c.write_all.new.self in
+    let t = c.write_whole.new.self in
     rw c.kept-self.ensures (went_wrong g.W.Tell.log g.W.TellWrite.trace g.P.WriterPolicy.rules none joins g.B.Began.writer
     c.args.self.now.ended s t c.as_bytes.result.now c.in-Err.e (c.is_none.ensures ∙ ap not c.if-is_none.true)
     c.args.self.now.went
@@ -21,7 +21,7 @@ invariant_of-self-in_default-clause-went g c =
     let none = g.met.W.TellWrite.trace_none in
     let joins = g.met.W.TellWrite.trace_joins in
     let s = c.args.self.now.writer.now in
-    let t = c.write_all.new.self in
+    let t = c.write_whole.new.self in
     went_on g.W.Tell.log g.W.TellWrite.trace g.P.WriterPolicy.rules none joins g.B.Began.writer c.args.self.now.ended s t
     c.as_bytes.result.now (c.is_none.ensures ∙ ap not c.if-is_none.true) c.args.self.now.went
     (one_piece g.W.Tell.log g.W.TellWrite.trace g.P.WriterPolicy.rules none joins s c.as_bytes.result.now t
@@ -32,7 +32,7 @@ returns-in-Err g c =
     let none = g.met.W.TellWrite.trace_none in
     let joins = g.met.W.TellWrite.trace_joins in
     let s = c.args.self.now.writer.now in
-    let t = c.write_all.new.self in
+    let t = c.write_whole.new.self in
     record {
       ok = λ _. subst
           (λ l. TakesPieces g.W.Tell.log g.W.TellWrite.trace g.P.WriterPolicy.rules s c.args.self.now.ended l t
@@ -49,7 +49,7 @@ returns-in_default g c =
     let none = g.met.W.TellWrite.trace_none in
     let joins = g.met.W.TellWrite.trace_joins in
     let s = c.args.self.now.writer.now in
-    let t = c.write_all.new.self in
+    let t = c.write_whole.new.self in
     record {
       ok = λ _. subst
           (λ l. TakesPieces g.W.Tell.log g.W.TellWrite.trace g.P.WriterPolicy.rules s c.args.self.now.ended l t

@@ -1,0 +1,112 @@
+use Rattle.std.proofs.Common.{◌≡◌, ◌<◌, ℕ, [], Ok, length, refl, arith, inl, sym, ◌∙◌}
+use Rattle.std.proofs.lemmas.List.{nil_from_length}
+use Rattle.redux_buffer.specs.Block.{usable}
+use Rattle.buffer_redux.specs.Buffered.{Buffered}
+use Rattle.buffer_redux.specs.WriteAll.{AskedFirst}
+use Rattle.buffer_redux.proofs.Testing.{some_of, zero_of}
+use Rattle.buffer_redux.proofs.WriteOn.{writes_on, flushes_none, takes_in_all}
+use Rattle.buffer_redux.proofs.WriteAll.{all_none, all_at_once}
+use Rattle.buffer_redux.proofs.buf_writer.BufWriter.write_whole.Goals as goal
+use Rattle.buffer_redux.proofs.buf_writer.BufWriter.write_whole.Goals.{In-Ok}
+
+-- what the policy answered where it returned no error
+asked_first : (g : _) (c : goal.In-Ok g) (amount : ℕ) → c.in-Ok.field-0.0 ≡ amount → AskedFirst g.W.Tell.log
+    g.P.WriterPolicy.rules (length c.args.bytes.now) amount c.args.self.now (record {
+      policy = c.before_write.new.self;
+      block = c.before_write.new.buf;
+      inner = c.self.inside.inner;
+      log = g.W.Tell.log c.self.inside.inner;
+      own_calls = c.self.inside.calls.log;
+    })
+asked_first g c amount is = rw (← c.self.view_is) (record {
+  answer = c.in-Ok.field-0;
+  is = is;
+  asked = c.in-Ok.ensures;
+  whole = c.self.invariant;
+  inner = refl;
+  told_before = refl;
+  told = refl;
+  noted = refl;
+})
+
+-- nothing is to be written
+pub returns-then-is_empty : goal.returns-then-is_empty
+returns-then-is_empty g c =
+    let empty : c.args.bytes.now ≡ [] = nil_from_length c.args.bytes.now
+    (zero_of (length c.args.bytes.now) (sym c.is_empty.ensures ∙ c.if-is_empty.true)) in
+    record {
+      steps = (rw empty (rw (← c.self.view_is) (all_none _ _ g.met.W.TellWrite.trace_none
+          g.met.W.TellWrite.trace_joins _ _ c.self.invariant refl)));
+    }
+
+-- something is sent first
+pub returns-then-first-gt0 : goal.returns-then-first-gt0
+returns-then-first-gt0 g c =
+    record {
+      steps = (c.write_rest_outlined.ensures.all c.args.self.now
+          (asked_first g (goal.at.returns-then-first-gt0 g c).In-Ok _ refl));
+    }
+
+-- the bytes may not fit, before the policy was asked
+pub returns-then-not-has_space_behind : goal.returns-then-not-has_space_behind
+returns-then-not-has_space_behind g c = record { steps = c.write_large_outlined.ensures.all }
+
+-- the bytes may not fit, once the policy was asked
+pub returns-then-usable_space-bytes : goal.returns-then-usable_space-bytes
+returns-then-usable_space-bytes g c =
+    record {
+      steps = (c.write_rest_outlined-then-usable_space-bytes.ensures.all c.args.self.now
+          (asked_first g (goal.at.returns-then-usable_space-bytes g c).In-Ok 0
+          (omega (arith, c.if-first-gt0.false, c.in-Ok.first-is))));
+    }
+
+-- neither is so
+pub returns-else-usable_space-bytes : goal.returns-else-usable_space-bytes
+returns-else-usable_space-bytes g c =
+    let rules = g.P.WriterPolicy.rules in
+    let bytes = c.args.bytes.now in
+    let whole = c.in-Ok.ensures.law.whole c.self.invariant in
+    let roomy : length bytes < usable c.before_write.new.buf =
+    omega (arith, c.if-usable_space-bytes.false, c.usable_space.ensures.value) in
+    let some : 0 < length bytes =
+    omega (arith, some_of (length bytes) (sym c.is_empty.ensures ∙ c.if-is_empty.false)) in
+    let before : Buffered g.row.W.Denot g.row.P.Denot = record {
+      policy = c.before_write.new.self;
+      block = c.before_write.new.buf;
+      inner = c.self.inside.inner;
+      log = g.W.Tell.log c.self.inside.inner;
+      own_calls = c.self.inside.calls.log;
+    } in
+    let after : Buffered g.row.W.Denot g.row.P.Denot = record before { block = c.append_by.new.buf } in
+    record {
+      steps = (all_at_once _ _ g.met.W.TellWrite.trace_none g.met.W.TellWrite.trace_joins rules
+          c.args.self.now bytes (length bytes) c.flush_after.new.self some refl
+          (rw (← c.self.view_is) (record {
+            steps = writes_on rules _ before bytes c.in-Ok.field-0 c.in-Ok.ensures whole refl (Ok (length bytes))
+                c.flush_after.new.self (
+                  before,
+                  after,
+                  flushes_none _ _ (omega (arith, c.if-first-gt0.false, c.in-Ok.first-is)),
+                  takes_in_all _ _ bytes whole roomy c.append_by.ensures.bytes refl refl,
+                  c.flush_after.ensures.finished,
+                );
+            whole = (c.self.invariant, c.flush_after.ensures.whole);
+            went = record {
+              calls = c.flush_after.ensures.trace.calls;
+              told_before = refl;
+              told_after = c.flush_after.ensures.trace.told_after;
+              noted = c.flush_after.ensures.trace.noted;
+            };
+          })));
+    }
+
+-- the policy returned an error
+pub returns-in-Err : goal.returns-in-Err
+returns-in-Err g c =
+    record {
+      steps = (c.write_on_outlined.ensures.all c.args.self.now
+          (rw (← c.self.view_is) (inl (record { asked = c.in-Err.ensures; told = refl })))
+          (rw (← c.self.view_is) (c.self.invariant, c.in-Err.ensures.law.whole c.self.invariant))
+          (rw (← c.self.view_is) (record
+          { calls = g.met.W.TellWrite.trace_none c.self.inside.inner; told_before = refl; told_after = refl; noted = refl })));
+    }
