@@ -1,6 +1,7 @@
 pub mod Fetched
 pub mod Playing
 pub mod Refusing
+pub mod Resuming
 pub mod Stepping
 pub mod Writing
 pub mod Handover

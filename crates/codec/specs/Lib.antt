@@ -41,6 +41,8 @@ pub mod PayloadsLaws
 pub mod Scanning
 pub mod ScanningLaws
 pub mod Serving
+pub mod ServingAll
+pub mod ServingAllLaws
 pub mod ServingLaws
 pub mod Showing
 pub mod ShowingLaws

@@ -9,7 +9,7 @@ use Rattle.buffer_redux.specs.StreamLog.{StreamLog}
 use Rattle.buffer_redux.specs.WriteParts.{PartsRefused}
 use Rattle.piece_reader.specs.declared.error.NextError.TheVariants as next
 use Rattle.codec.specs.declared.serving.ServeError.{ServeError}
-use Rattle.codec.specs.declared.serving.ServeError.TheVariants.{Read, Write, Wrong}
+use Rattle.codec.specs.declared.serving.ServeError.TheVariants.{Flush, Read, Write, Wrong}
 use Rattle.codec.specs.declared.serving.Served.{Served}
 use Rattle.codec.specs.declared.serving.Served.TheVariants as served
 use Rattle.codec.specs.declared.serving.Step.{Step}
@@ -93,6 +93,7 @@ module _ {S D W I A T P : Type 0} (remaining : S → Option (List ℕ)) (tells :
   Turns s (Err (Read e)) t = TookNone s (Err (next.Io e)) t
   Turns s (Err (Wrong e)) t = TookNone s (Err (next.Wrong e)) t
   Turns s (Err (Write e)) t = FlushFailed s e t ⊎ ((x : Exchange) × AnswerFailed s x e t)
+  Turns s (Err (Flush ended e)) t = ⊥
 
   -- these exchanges, the latest first, one behind another; behind the last a further piece is taken, or none
   abbrev pub Talked : Server S D A T P → List Exchange → Bool → Server S D A T P → Type 0
@@ -122,12 +123,11 @@ module _ {S D W I A T P : Type 0} (remaining : S → Option (List ℕ)) (tells :
     pub service : Converses item_of Answers s.service ends.exchanges ends.more t.service
     pub all : FlushedAlong tells trace std_write_rules s.answers (joined (λ x. x.reply) ends.exchanges) t.answers
 
-  -- a turn failed; or the last flush did
+  -- how they failed: the flush behind an end did, or a turn
   abbrev pub FailedBy : ServeError W → List Exchange → Bool → Server S D A T P → Server S D A T P → Type 0
-  FailedBy e exchanges more s t =
-      ((more ≡ true) × Turns s (Err e) t)
-      ⊎ ((ended : Served) × (m : Server S D A T P) × EndedBy ended exchanges more s m × (t.pieces ≡ m.pieces)
-      × (t.service ≡ m.service) × ((why : Error) × (e ≡ Write why) × WasFlushed tells trace m.answers (Err why) t.answers))
+  FailedBy (Flush ended e) exchanges more s t = (m : Server S D A T P) × EndedBy ended exchanges more s m
+      × (t.pieces ≡ m.pieces) × (t.service ≡ m.service) × WasFlushed tells trace m.answers (Err e) t.answers
+  FailedBy e exchanges more s t = (more ≡ true) × Turns s (Err e) t
 
   -- serving failed: exchanges, and then that
   pub record Stops (s : Server S D A T P) (e : ServeError W) (t : Server S D A T P) : Type 0 where

@@ -15,9 +15,20 @@ use Rattle.piece_reader.specs.PieceReader.{ReaderState}
 use Rattle.piece_reader.specs.StaysLeftLaws.{StaysLeft-went}
 use Rattle.codec.specs.Serving.{Converses, EndedBy, Ends, Exchange, FailedBy, Server, Serves, Stops, Talked, Turns, joined, server}
 use Rattle.codec.specs.declared.serving.ServeError.{ServeError}
-use Rattle.codec.specs.declared.serving.ServeError.TheVariants.{Read, Write, Wrong}
+use Rattle.codec.specs.declared.serving.ServeError.TheVariants.{Flush, Read, Write, Wrong}
 use Rattle.codec.specs.declared.serving.Served.{Served}
 use Rattle.codec.specs.declared.serving.Served.TheVariants as served
+
+module _ {S D W I A T P : Type 0} (remaining : S → Option (List ℕ)) (tells : T → StreamLog) (trace : T → T → Type 0)
+    (g : Grammar W) (item_of : List ℕ → I) (Answers : A → I → List ℕ → List ℕ → Bool → A → Type 0) where
+  -- a turn that failed is a failure behind those before
+  pub turn_failed_so : (exchanges : List Exchange) (s t : Server S D A T P) (e : ServeError W)
+      → Turns remaining tells trace g item_of Answers s (Err e) t
+      → FailedBy remaining tells trace g item_of Answers e exchanges true s t
+  turn_failed_so exchanges s t (Read e) turn = (refl, turn)
+  turn_failed_so exchanges s t (Wrong e) turn = (refl, turn)
+  turn_failed_so exchanges s t (Write e) turn = (refl, turn)
+  turn_failed_so exchanges s t (Flush ended e) turn = absurd turn
 
 module _ {S D W I A T P : Type 0} (remaining : S → Option (List ℕ)) (tells : T → StreamLog) (trace : T → T → Type 0)
     (g : Grammar W) (item_of : List ℕ → I) (Answers : A → I → List ℕ → List ℕ → Bool → A → Type 0)
@@ -128,6 +139,7 @@ module _ {S D W I A T P : Type 0} (remaining : S → Option (List ℕ)) (tells :
         WritesAlong-then tells trace std_write_rules joins m.answers failed.ready t.answers []
             (first_along m.pieces m.answers t.pieces failed.ready failed.fetched.first) failed.nothing,
       )
+      turn_failed m t (Flush ended e) turn = absurd turn
 
       -- whatever failed, of all that was taken at most the last piece wasn't answered, and just the answers were written
       pub Stops-went : (e : ServeError W) (t : Server S D A T P) (f : Stops remaining tells trace g item_of Answers s e t)
@@ -147,13 +159,15 @@ module _ {S D W I A T P : Type 0} (remaining : S → Option (List ℕ)) (tells :
               → FailedBy remaining tells trace g item_of Answers e exchanges more m t
               → (unanswered : List ℕ) × PiecesWent remaining g.most m.pieces unanswered t.pieces
               × WritesAlong tells trace std_write_rules m.answers [] t.answers
-          behind e exchanges more m t (inl (is, turn)) = turn_failed m t e turn
-          behind e exchanges more m t (inr (ended, n, by, pieces, service, (why, is, flushed))) =
+          behind (Read e) exchanges more m t (is, turn) = turn_failed m t (Read e) turn
+          behind (Wrong e) exchanges more m t (is, turn) = turn_failed m t (Wrong e) turn
+          behind (Write e) exchanges more m t (is, turn) = turn_failed m t (Write e) turn
+          behind (Flush ended e) exchanges more m t (n, by, pieces, service, flushed) =
               let so = ends_so ended exchanges more m n by in (
                 [],
                 subst (λ p. PiecesWent remaining g.most m.pieces [] p) (sym pieces) so.0,
                 WritesAlong-then tells trace std_write_rules joins m.answers n.answers t.answers [] so.2
-                    (WasFlushed-along tells trace std_write_rules n.answers (Err why) t.answers flushed),
+                    (WasFlushed-along tells trace std_write_rules n.answers (Err e) t.answers flushed),
               )
 
       -- up to an end, and then a flush
@@ -181,7 +195,7 @@ module _ {S D W I A T P : Type 0} (remaining : S → Option (List ℕ)) (tells :
         }
 
         pub Ends-failed : (why : Error) → WasFlushed tells trace t.answers (Err why) v
-            → Stops remaining tells trace g item_of Answers s (Write why) (server t.pieces t.service v)
+            → Stops remaining tells trace g item_of Answers s (Flush by why) (server t.pieces t.service v)
         Ends-failed why flushed =
-            stops ends.exchanges ends.more ends.last ends.talked (Write why) (server t.pieces t.service v)
-            (inr (by, t, ends.ends, refl, refl, (why, refl, flushed)))
+            stops ends.exchanges ends.more ends.last ends.talked (Flush by why) (server t.pieces t.service v)
+            (t, ends.ends, refl, refl, flushed)

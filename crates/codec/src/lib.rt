@@ -37,7 +37,7 @@ pub use piece_reader::{
 };
 pub use scan::{ByScan, Scan, ScanStep};
 pub use scan_writer::ScanOut;
-pub use serving::{ServeError, Served, Service, serve};
+pub use serving::{ServeError, Served, Service, serve, serve_all};
 pub use text_header::{ByTextHeader, TextHeader, TextHeaderState};
 pub use text_header_writer::TextHeaderOut;
 pub use writer::PieceWriter;

@@ -1,6 +1,7 @@
 //! Pieces are answered, one after another.
 ghost use Rattle.std.specs.Prelude.{ℕ, List, Bool, IfOk, IfErr};
 ghost use Rattle.codec.specs.Answering.{Answered};
+ghost use Rattle.codec.specs.ServingAll.{ServesAll, StopsAll};
 ghost use Rattle.codec.specs.Serving.{Ends, Serves, Stops, Turns, server};
 
 use crate::fetching::fetch_item;
@@ -8,7 +9,7 @@ use buffer_redux::BufWriter;
 use buffer_redux::tell::{TellRead, TellWrite};
 use piece_reader::{Items, NextError, PieceReader};
 use std::io;
-use std::io::Write;
+use std::io::{ErrorKind, Write};
 
 /// What answers the pieces of a protocol: a server, but for its streams.
 pub trait Service<D: Items> {
@@ -42,8 +43,10 @@ pub enum Served {
 pub enum ServeError<W> {
     /// The stream of pieces failed. All answers were received and flushed, and [`serve`] may be called again.
     Read(io::Error),
-    /// The stream of answers failed.
+    /// The stream of answers failed, behind a piece that was answered, or whose answer is missing.
     Write(io::Error),
+    /// The last flush failed, behind this end: no further piece is to be taken where it is [`Served::Closed`].
+    Flush(Served, io::Error),
     /// What is left is no piece. It stays, and answers to what stood before it may be buffered still.
     Wrong(W),
 }
@@ -76,8 +79,37 @@ pub fn serve<R: TellRead, D: Items, W: TellWrite, S: Service<D>>(
     let ended = answer_pieces(service, reader, writer)?;
     match writer.flush() {
         Ok(()) => Ok(ended),
-        Err(e) => Err(ServeError::Write(e)),
+        Err(e) => Err(ServeError::Flush(ended, e)),
     }
+}
+
+/// Does as [`serve`], and goes on where a read was interrupted; behind 2^64 - 1 interruptions it answers `TimedOut`.
+pub fn serve_all<R: TellRead, D: Items, W: TellWrite, S: Service<D>>(
+    service: &mut S,
+    reader: &mut PieceReader<R, D>,
+    writer: &mut BufWriter<W>,
+) -> Result<Served, ServeError<D::Wrong>>
+    ensures served { IfOk result (λ ended. ServesAll R.remaining W.log W.trace (D.grammar reader.old.decoder)
+        (D.item_of reader.old.decoder) S.answers (server reader.old service.old writer.old) ended
+        (server reader.new service.new writer.new)) }
+    ensures failed { IfErr result (λ e. StopsAll R.remaining W.log W.trace (D.grammar reader.old.decoder)
+        (D.item_of reader.old.decoder) S.answers (server reader.old service.old writer.old) e
+        (server reader.new service.new writer.new)) }
+{
+    for _call in 0..u64::MAX {
+        match serve(service, reader, writer) {
+            Ok(ended) => return Ok(ended),
+            Err(ServeError::Read(e)) => {
+                if e.kind() != ErrorKind::Interrupted {
+                    return Err(ServeError::Read(e));
+                }
+            }
+            Err(ServeError::Write(e)) => return Err(ServeError::Write(e)),
+            Err(ServeError::Flush(ended, e)) => return Err(ServeError::Flush(ended, e)),
+            Err(ServeError::Wrong(e)) => return Err(ServeError::Wrong(e)),
+        }
+    }
+    Err(ServeError::Read(io::Error::from(ErrorKind::TimedOut)))
 }
 
 // Serves, but for the last flush.

@@ -4,33 +4,25 @@
 
 use buffer_redux::BufWriter;
 use buffer_redux::tell::Told;
-use codec::{PieceReader, ServeError, serve};
+use codec::{PieceReader, ServeError, serve_all};
 use decoders::Resp;
 use resp::{MAX_PART, PROTOCOL_ERROR, Session, Store};
 use std::io;
-use std::io::{ErrorKind, Write};
+use std::io::Write;
 
 fn main(rt: HostRuntime) -> io::Result<()> {
     let alloc = rt.alloc();
     let mut session = Session::new(alloc, Store::new(alloc, 1_000_000));
     let mut reader = PieceReader::new(alloc, Told::new(rt.stdin()), Resp { max: MAX_PART })?;
     let mut writer = BufWriter::new(alloc, Told::new(rt.stdout()))?;
-    // Where a read was interrupted the next call goes on, also in the middle of a piece, however often: no call says how many
-    // pieces were answered since.
-    for _call in 0..u64::MAX {
-        match serve(&mut session, &mut reader, &mut writer) {
-            Ok(_ended) => return Ok(()),
-            Err(ServeError::Read(e)) => {
-                if e.kind() != ErrorKind::Interrupted {
-                    return Err(e);
-                }
-            }
-            Err(ServeError::Write(e)) => return Err(e),
-            Err(ServeError::Wrong(_)) => {
-                writer.write_all(PROTOCOL_ERROR)?;
-                return writer.flush();
-            }
+    match serve_all(&mut session, &mut reader, &mut writer) {
+        Ok(_ended) => Ok(()),
+        Err(ServeError::Read(e)) => Err(e),
+        Err(ServeError::Write(e)) => Err(e),
+        Err(ServeError::Flush(_ended, e)) => Err(e),
+        Err(ServeError::Wrong(_)) => {
+            writer.write_all(PROTOCOL_ERROR)?;
+            writer.flush()
         }
     }
-    Err(io::Error::from(ErrorKind::Interrupted))
 }

@@ -1,7 +1,7 @@
-use Rattle.std.proofs.Common.{◌∷◌, Err, Ok, arith, false, inl, refl, subst, true, ◌∙◌}
+use Rattle.std.proofs.Common.{◌∷◌, Err, Ok, arith, false, refl, subst, true, ◌∙◌}
 use Rattle.std.proofs.lemmas.Result.{err_from_is_err_and}
 use Rattle.codec.specs.Serving.{Turns, server}
-use Rattle.codec.specs.ServingLaws.{stops}
+use Rattle.codec.specs.ServingLaws.{stops, turn_failed_so}
 use Rattle.codec.specs.declared.serving.Step.TheVariants.{Closed, End, Went}
 use Rattle.codec.proofs.serving.answer_pieces.Goals as goal
 
@@ -63,4 +63,4 @@ returns-in_err-turn-clause-failed g c =
     let failed = subst (λ d. Turns g.R.TellRead.remaining g.W.Tell.log g.W.TellWrite.trace (g.D.Decoder.grammar d)
     (g.D.Items.item_of d) g.S.Service.answers m (Err c.in_err-turn.field-0.0) t) before.decoder c.in_err-turn.ensures in
     rw (p.1, p.2) (stops _ _ _ _ _ _ _ g.met.W.TellWrite.trace_none g.met.W.TellWrite.trace_joins before.exchanges true m
-    before.talked c.in_err-turn.field-0.0 t (inl (refl, failed)))
+    before.talked c.in_err-turn.field-0.0 t (turn_failed_so _ _ _ _ _ _ before.exchanges m t c.in_err-turn.field-0.0 failed))
