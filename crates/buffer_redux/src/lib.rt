@@ -1,6 +1,7 @@
 //! Buffered readers and writers with policies, proved to lose no byte.
 //!
-//! [`BufReader`] and [`BufWriter`] have the names and the behaviour of their namesakes in std. A policy of the module
+//! [`BufReader`] and [`BufWriter`] have the names of their namesakes in std, and under [`StdPolicy`](policy::StdPolicy) their
+//! behaviour; `docs/STD.md` says where it differs. A policy of the module
 //! [`policy`] says when bytes move. The streams inside tell what they are asked (module [`tell`]), and any stream of std
 //! goes in as a [`Told`](tell::Told).
 #![tactic(auto)]

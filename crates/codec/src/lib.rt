@@ -1,5 +1,5 @@
 //! Pieces of a stream, read and written: a protocol is a decoder, an encoder, or both. The reader of pieces, and what it asks of
-//! a decoder, come from the crate `pieces`, of which this one hands on every name.
+//! a decoder, come from the crate `piece_reader`, of which this one hands on every name.
 #![tactic(auto)]
 
 mod both;

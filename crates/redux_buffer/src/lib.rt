@@ -1,7 +1,7 @@
 //! Buffers of bytes, plain and ring; the streams that fill and drain them, which tell, in their contracts alone, what they
 //! were asked and what they answered; and copying from one stream to another.
 //!
-//! The crate `buffer_redux` hands on every name of this one.
+//! The crate `buffer_redux` hands on every name of this one but [`laws`].
 #![tactic(auto)]
 
 pub use buf_impl::BufImpl;

@@ -85,7 +85,7 @@ impl<R: TellRead, P: ReaderPolicy> BufReader<R, P> {
     }
 
     // The kit's compiler clears the answer of a call where the function that makes the call begins; of a call made in here,
-    // which is inlined, that is behind the tests of the caller. So it is of each `aside`.
+    // which is inlined, that is behind the tests of the caller. So it is of each `_outlined`.
     #[inline(always)]
     pub(super) fn read_outlined(&mut self, out: &mut [u8]) -> io::Result<usize>
         requires room { 0 < usable self.old.block }
