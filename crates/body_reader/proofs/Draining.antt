@@ -12,9 +12,9 @@ use Rattle.body_reader.specs.Asking.{AskedWhere}
 use Rattle.body_reader.specs.AskingLaws.{AskedWhere-on, AskedWhere-same}
 use Rattle.body_reader.specs.Between.{AsksOpen, EachGave}
 use Rattle.body_reader.specs.BetweenLaws.{EachGave-joins, EachGave-none, EachGave-same, Faulted-after, MetEnd-after}
-use Rattle.body_reader.specs.BodyReader.{BodyState, BodyWent, Drains, FillsPayload, IsBodyReader, IsWhole, Stops, handed_of}
+use Rattle.body_reader.specs.BodyReader.{BodyState, BodyWent, Drains, FillsPayload, IsBodyReader, IsWhole, NoPayload, handed_of}
 use Rattle.body_reader.specs.BodyReaderLaws.{BodyWent-joins, BodyWent-leads, BodyWent-none}
-use Rattle.body_reader.specs.Coding.{Grammar, IsLawful, LeadsOpen}
+use Rattle.body_reader.specs.Coding.{Grammar, IsLawful, LeadsOpen, heeded}
 use Rattle.body_reader.specs.CodingLaws.{Leads-done, LeadsOpen-behind}
 
 module _ {S Q C P W : Type 0} (remaining : S → Option (List ℕ)) (rules : ReadRules Q) (g : Grammar P W) where
@@ -22,7 +22,7 @@ module _ {S Q C P W : Type 0} (remaining : S → Option (List ℕ)) (rules : Rea
   pub not_whole : IsLawful g → (d : BodyState S Q C P) → IsBodyReader g d → 0 < d.known → ¬ IsWhole g d
   not_whole lawful d is some whole =
       (is.known.1 some).goes_on
-      (Leads-done g lawful d.taken (handed_of d) d.place d.reader.block.bytes is.leads is.place whole)
+      (Leads-done g lawful d.taken (handed_of d) d.place (heeded g d.reader.block.bytes) is.leads is.place whole)
 
   -- this much was dropped so far, in so many pieces
   pub record Dropped (s : BodyState S Q C P) (count : ℕ) (m : BodyState S Q C P) : Type 0 where
@@ -74,7 +74,7 @@ module _ {S Q C P W : Type 0} (remaining : S → Option (List ℕ)) (rules : Rea
         whole = fills.whole;
       }
 
-      stops_after : (e : BodyError W) → Stops g m e f → Stops g s e f
+      stops_after : (e : BodyError W) → NoPayload g m e f → NoPayload g s e f
       stops_after (Wrong why right) stops =
           (stops.0, EachGave-joins s.reader m.reader f.reader so.gave stops.1, stops.2)
       stops_after (Truncated right) stops =

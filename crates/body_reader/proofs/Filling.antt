@@ -10,8 +10,8 @@ use Rattle.body_reader.specs.declared.error.BodyError.{BodyError}
 use Rattle.body_reader.specs.declared.error.BodyError.TheVariants.{Truncated, Io}
 use Rattle.body_reader.specs.declared.progress.Progress.{Progress}
 use Rattle.body_reader.specs.Asking.{AskedWhere}
-use Rattle.body_reader.specs.Between.{AsksOpen, FillsOn, Goes, Settles, Skips, Takes}
-use Rattle.body_reader.specs.BetweenLaws.{AsksOpen-then, EachGave-none, Goes-after, ReadsAhead-asks, ReadsAhead-ended, ReadsAhead-failed, ReadsAhead-gave, ReadsAhead-keeps, Takes-none, Takes-still}
+use Rattle.body_reader.specs.Between.{AsksOpen, FillsOn, Proceeds, Settles, SkipsOn, Takes}
+use Rattle.body_reader.specs.BetweenLaws.{AsksOpen-then, EachGave-none, Proceeds-after, ReadsAhead-asks, ReadsAhead-ended, ReadsAhead-failed, ReadsAhead-gave, ReadsAhead-keeps, Takes-none, Takes-still}
 use Rattle.body_reader.specs.Coding.{Carries, Grammar, IsDone, IsLawful, IsOpen}
 use Rattle.body_reader.specs.CodingLaws.{Lacks-one, open_at}
 
@@ -40,10 +40,10 @@ one_ahead remaining rules m answer t room ahead =
 
 module _ {S Q P W : Type 0} (remaining : S → Option (List ℕ)) (rules : ReadRules Q) (g : Grammar P W) where
   -- a failure means the same, whatever an Ok would
-  pub Goes-err : {A B : Type 0} (s : Buffered S Q) (p : Progress P) (handed : List ℕ) (e : BodyError W) (M : A → Type 0)
-      (N : B → Type 0) (t : Buffered S Q) (q : Progress P) → Goes remaining rules g s p handed (Err e) M t q
-      → Goes remaining rules g s p handed (Err e) N t q
-  Goes-err s p handed e M N t q goes = record {
+  pub Proceeds-err : {A B : Type 0} (s : Buffered S Q) (p : Progress P) (handed : List ℕ) (e : BodyError W) (M : A → Type 0)
+      (N : B → Type 0) (t : Buffered S Q) (q : Progress P) → Proceeds remaining rules g s p handed (Err e) M t q
+      → Proceeds remaining rules g s p handed (Err e) N t q
+  Proceeds-err s p handed e M N t q goes = record {
     wire = goes.wire;
     takes = goes.takes;
     asked = goes.asked;
@@ -137,7 +137,7 @@ module _ {S Q P W : Type 0} (remaining : S → Option (List ℕ)) (rules : ReadR
 
   module _ (s : Buffered S Q) (p : Progress P) (m : Buffered S Q) (q : Progress P) where
     -- the body ended
-    pub fill_ended : Skips remaining rules g s p (Ok 0) m q → FillsOn remaining rules g s p (Ok 0) m q
+    pub fill_ended : SkipsOn remaining rules g s p (Ok 0) m q → FillsOn remaining rules g s p (Ok 0) m q
     fill_ended skips = record {
       wire = skips.wire;
       takes = skips.takes;
@@ -150,10 +150,10 @@ module _ {S Q P W : Type 0} (remaining : S → Option (List ℕ)) (rules : ReadR
     }
 
     -- behind what is no payload
-    pub behind_skipped : {A : Type 0} (sure : ℕ) → 0 < sure → Skips remaining rules g s p (Ok sure) m q → (handed : List ℕ)
+    pub behind_skipped : {A : Type 0} (sure : ℕ) → 0 < sure → SkipsOn remaining rules g s p (Ok sure) m q → (handed : List ℕ)
         → (answer : Result A (BodyError W)) → (M : A → Type 0) (t : Buffered S Q) (r : Progress P)
-        → Goes remaining rules g m q handed answer M t r → Goes remaining rules g s p handed answer M t r
+        → Proceeds remaining rules g m q handed answer M t r → Proceeds remaining rules g s p handed answer M t r
     behind_skipped sure some skips handed answer M t r goes =
-        Goes-after remaining rules g s p m q t skips.wire skips.takes skips.ends.0 skips.asked handed answer M r goes
+        Proceeds-after remaining rules g s p m q t skips.wire skips.takes skips.ends.0 skips.asked handed answer M r goes
         (λ done. absurd ((carries_here q.place m.block.bytes sure some skips.ends.1).goes_on
         (subst (λ x. IsDone g x.place) (sym (skips.idle done).1) done)))

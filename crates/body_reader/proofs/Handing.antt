@@ -10,11 +10,11 @@ use Rattle.buffer_redux.specs.StreamLog.{after_read, zero_of_none, zero_of_some}
 use Rattle.body_reader.specs.declared.error.BodyError.{BodyError}
 use Rattle.body_reader.specs.declared.error.BodyError.TheVariants.{Truncated, Io}
 use Rattle.body_reader.specs.declared.progress.Progress.{Progress}
-use Rattle.body_reader.specs.Between.{AsksOpen, FillsOn, Goes, HandsOn, KeepsBuffer, Skips, Takes, TakesFront, handed_out}
-use Rattle.body_reader.specs.BetweenLaws.{AsksOpen-then, EachGave-none, EachGave-same, Goes-after, Takes-none}
-use Rattle.body_reader.specs.Coding.{Carries, Grammar, IsDone, IsKnown, IsLawful, IsOpen, Leads}
+use Rattle.body_reader.specs.Between.{AsksOpen, FillsOn, Proceeds, HandsOn, KeepsBuffer, SkipsOn, Takes, TakesFront, handed_out}
+use Rattle.body_reader.specs.BetweenLaws.{AsksOpen-then, EachGave-none, EachGave-same, Proceeds-after, Takes-none}
+use Rattle.body_reader.specs.Coding.{Carries, Grammar, IsDone, IsKnown, IsLawful, IsOpen, Leads, heeded}
 use Rattle.body_reader.specs.CodingLaws.{open_at}
-use Rattle.body_reader.proofs.Filling.{Goes-err, behind_skipped, ended_here}
+use Rattle.body_reader.proofs.Filling.{Proceeds-err, behind_skipped, ended_here}
 use Rattle.body_reader.proofs.Skipping.{Notes, consumes_left, takes_front}
 
 pub some_of : (n : ℕ) → false ≡ (n == 0) → 0 < n
@@ -34,7 +34,7 @@ module _ {S Q P W : Type 0} (remaining : S → Option (List ℕ)) (rules : ReadR
     (t : Buffered S Q) (inner : t.inner ≡ s.inner) (gone : ReaderConsumes rules n s t) (keeps : ReaderKeeps remaining rules s t)
     (there : P)
     (leads : (follow : List ℕ) → g.carries p.place (take n s.block.bytes) follow
-    → Leads g p.place (take n s.block.bytes) (take n s.block.bytes) there follow)
+    → Leads g p.place (take n s.block.bytes) (take n s.block.bytes) there (heeded g follow))
     (still : (more follow : List ℕ) → g.carries p.place (take n s.block.bytes ++ more) follow
     → g.carries there more follow × (0 < length more → ¬ IsDone g there))
     (place : g.is_place there) (q : Progress P) (notes : Notes p there (take n s.block.bytes) q) where
@@ -100,7 +100,7 @@ module _ {S Q P W : Type 0} (remaining : S → Option (List ℕ)) (rules : ReadR
       ends = (EachGave-none s, (omega arith, (λ _ room. absurd (omega (arith, room, none)))));
       idle = λ _. (refl, refl);
     },
-    λ _. refl,
+    λ _. (refl, refl),
   )
 
   -- what is known is handed out
@@ -147,6 +147,7 @@ module _ {S Q P W : Type 0} (remaining : S → Option (List ℕ)) (rules : ReadR
           came = [];
           given = ap (λ l. l.reads.given) direct.told ∙ ap (λ l. s.log.reads.given ++ l.reads.latest) (sym direct.told);
           such = is_open (s.block.bytes ++ []) (append-nil s.block.bytes ∙ empty);
+          some = omega (arith, ap (λ l. l.reads.asks) direct.told);
           asks = omega (arith, ap (λ l. l.reads.asks) direct.told);
         }))
 
@@ -154,7 +155,7 @@ module _ {S Q P W : Type 0} (remaining : S → Option (List ℕ)) (rules : ReadR
         → Takes remaining rules g s p [] [] t p
     still answer direct order = record {
       along = ReaderKeeps-along remaining rules s [] t order keeps;
-      leads = subst (Leads g p.place [] [] p.place) (ap (λ b. b.bytes) (sym direct.block))
+      leads = subst (Leads g p.place [] [] p.place) (ap (λ b. heeded g b.bytes) (sym direct.block))
           (Takes-none remaining rules g s p place).leads;
       taken = sym (append-nil p.taken.log.fills.consumed);
       place = place;
@@ -213,7 +214,7 @@ module _ {S Q P W : Type 0} (remaining : S → Option (List ℕ)) (rules : ReadR
 
     pub past_given : (n : ℕ) → 0 < n → n ≤ length lent → GoesDirect after_read s lent (Ok n) t
         → ReadsInOrder s (take n lent) t → (there : P) (q : Progress P) → Notes p there (take n out) q
-        → Leads g p.place (take n out) (take n out) there t.block.bytes → g.is_place there
+        → Leads g p.place (take n out) (take n out) there (heeded g t.block.bytes) → g.is_place there
         → HandsOn remaining rules g s p out (Ok n) t q
     past_given n given within direct order there q notes leads is_place =
         let same : take n out ≡ take n lent = ap (take n) whole ∙ take-append-le n lent more within in (
@@ -222,7 +223,7 @@ module _ {S Q P W : Type 0} (remaining : S → Option (List ℕ)) (rules : ReadR
             takes = record {
               along = subst (λ l. ReadsAlong remaining rules s l t) (sym same)
                   (ReaderKeeps-along remaining rules s (take n lent) t order keeps);
-              leads = subst (λ x. Leads g p.place (take n out) (take n out) x t.block.bytes) (sym notes.place) leads;
+              leads = subst (λ x. Leads g p.place (take n out) (take n out) x (heeded g t.block.bytes)) (sym notes.place) leads;
               taken = notes.taken;
               place = subst g.is_place (sym notes.place) is_place;
               keeps = buffer_kept (Ok n) direct;
@@ -254,18 +255,18 @@ module _ {S Q P W : Type 0} (remaining : S → Option (List ℕ)) (rules : ReadR
 
   -- behind what is no payload, which failed, or came to the end
   module _ (s : Buffered S Q) (p : Progress P) (out : List ℕ) (m : Buffered S Q) (q : Progress P) (room : 0 < length out) where
-    never : {t : Buffered S Q} → length out ≡ 0 → t ≡ s
+    never : {t : Buffered S Q} {answer : Result ℕ (BodyError W)} → length out ≡ 0 → (answer ≡ Ok 0) × (t ≡ s)
     never none = absurd (omega (arith, none, room))
 
     pub hands_failed : {A : Type 0} (e : BodyError W) (M : A → Type 0)
-        → Goes remaining rules g s p [] (Err e) M m q → HandsOn remaining rules g s p out (Err e) m q
+        → Proceeds remaining rules g s p [] (Err e) M m q → HandsOn remaining rules g s p out (Err e) m q
     hands_failed e M goes = (
-      Goes-err remaining rules g s p [] e M
+      Proceeds-err remaining rules g s p [] e M
           (λ n. (n ≤ length out) × (n ≡ 0 → 0 < length out → IsDone g q.place)) m q goes,
       never,
     )
 
-    pub hands_ended : Skips remaining rules g s p (Ok 0) m q → HandsOn remaining rules g s p out (Ok 0) m q
+    pub hands_ended : SkipsOn remaining rules g s p (Ok 0) m q → HandsOn remaining rules g s p out (Ok 0) m q
     hands_ended skips = (
       record {
         wire = skips.wire;
@@ -277,7 +278,7 @@ module _ {S Q P W : Type 0} (remaining : S → Option (List ℕ)) (rules : ReadR
       never,
     )
 
-    pub hands_behind : (sure : ℕ) → 0 < sure → Skips remaining rules g s p (Ok sure) m q → (answer : Result ℕ (BodyError W))
+    pub hands_behind : (sure : ℕ) → 0 < sure → SkipsOn remaining rules g s p (Ok sure) m q → (answer : Result ℕ (BodyError W))
         → (t : Buffered S Q) (r : Progress P) → HandsOn remaining rules g m q out answer t r
         → HandsOn remaining rules g s p out answer t r
     hands_behind sure some skips answer t r hands = (
@@ -291,7 +292,7 @@ module _ {S Q P W : Type 0} (remaining : S → Option (List ℕ)) (rules : ReadR
         → (t : Buffered S Q) (r : Progress P) → HandsOn remaining rules g m q out answer t r
         → HandsOn remaining rules g s p out answer t r
     hands_filled k some fills answer t r hands = (
-      Goes-after remaining rules g s p m q t fills.wire fills.takes fills.ends.0 fills.asked (handed_out out answer) answer
+      Proceeds-after remaining rules g s p m q t fills.wire fills.takes fills.ends.0 fills.asked (handed_out out answer) answer
           (λ n. (n ≤ length out) × (n ≡ 0 → 0 < length out → IsDone g r.place)) r hands.0
           (λ done. absurd ((fills.ends.1.0.1 some).goes_on (subst (λ x. IsDone g x.place) (sym (fills.idle done).1) done))),
       never,

@@ -6,3 +6,4 @@ pub mod Filling
 pub mod Consuming
 pub mod Resting
 pub mod Behind
+pub mod Showing

@@ -7,10 +7,10 @@ use Rattle.body_reader.specs.declared.error.BodyError.{BodyError}
 use Rattle.body_reader.specs.declared.error.BodyError.TheVariants.{Wrong, Truncated, Io}
 use Rattle.body_reader.specs.declared.progress.Progress.{Progress}
 use Rattle.body_reader.specs.Between.{EachGave, FailsSo, FillsOn, HandsOn, Takes, handed_out}
-use Rattle.body_reader.specs.BodyReader.{BodyState, BodyWent, EndsEarly, FillsPayload, IsBodyReader, IsWhole, ReadsPayload, Stops}
+use Rattle.body_reader.specs.BodyReader.{BodyState, BodyWent, Breaks, EndsEarly, FillsPayload, IsBodyReader, IsWhole, ReadsPayload, NoPayload}
 use Rattle.body_reader.specs.BodyReaderLaws.{BodyWent-none}
 use Rattle.body_reader.specs.BetweenLaws.{EachGave-none}
-use Rattle.body_reader.specs.Coding.{Grammar, IsDone, IsKnown, IsLawful, IsOpen, Leads}
+use Rattle.body_reader.specs.Coding.{Grammar, IsDone, IsKnown, IsLawful, IsOpen, Leads, heeded}
 use Rattle.body_reader.specs.CodingLaws.{Leads-done, Leads-left, Leads-then, Leads-whole}
 
 -- a reader of a body, by its parts
@@ -62,8 +62,8 @@ module _ {S Q C P W : Type 0} (remaining : S → Option (List ℕ)) (rules : Rea
         let joined = Leads-then g g.first p.place q.place p.taken.log.fills.consumed wire calls.reads.given handed
         r.block.bytes order.got r'.block.bytes order.equal is.leads takes.leads in
         record {
-          leads = subst (λ l. Leads g g.first l calls'.reads.given q.place r'.block.bytes) (sym takes.taken)
-              (subst (λ l. Leads g g.first (p.taken.log.fills.consumed ++ wire) l q.place r'.block.bytes) (sym given) joined);
+          leads = subst (λ l. Leads g g.first l calls'.reads.given q.place (heeded g r'.block.bytes)) (sym takes.taken)
+              (subst (λ l. Leads g g.first (p.taken.log.fills.consumed ++ wire) l q.place (heeded g r'.block.bytes)) (sym given) joined);
           place = takes.place;
           room = omega (arith, is.room, takes.along.capacity);
           known = known;
@@ -80,7 +80,7 @@ module _ {S Q C P W : Type 0} (remaining : S → Option (List ℕ)) (rules : Rea
     }
 
   -- what is buffered settles nothing
-  early : IsBodyReader g (seen r' c q calls' k') → IsOpen g q.place r'.block.bytes → EndsEarly g (seen r' c q calls' k')
+  pub early : IsBodyReader g (seen r' c q calls' k') → IsOpen g q.place r'.block.bytes → EndsEarly g (seen r' c q calls' k')
   early now is = record {
     settles_nothing = is;
     none = λ body payload xs body_is same.
@@ -95,19 +95,20 @@ module _ {S Q C P W : Type 0} (remaining : S → Option (List ℕ)) (rules : Rea
         );
   }
 
+  -- or is wrong
+  pub breaks_so : IsLawful g → IsBodyReader g (seen r' c q calls' k') → (why : W) → g.wrong q.place r'.block.bytes why
+      → Breaks g why (seen r' c q calls' k')
+  breaks_so lawful now why wrong = record {
+    name = wrong;
+    none = λ body payload xs rest body_is same.
+        let left = Leads-left g q.taken.log.fills.consumed calls'.reads.given q.place r'.block.bytes now.leads body payload
+        body_is xs rest same in
+        lawful.never q.place r'.block.bytes why left.rest left.later now.place wrong left.completes (rest, xs, left.behind);
+  }
+
   pub stops : IsLawful g → IsBodyReader g (seen r' c q calls' k') → (e : BodyError W) → FailsSo remaining rules g r e r' q
-      → Stops g (seen r c p calls k) e (seen r' c q calls' k')
-  stops lawful now (Wrong why count) (well, right, wrong) = (
-    right ∙ q.counted,
-    well,
-    record {
-      name = wrong;
-      none = λ body payload xs rest body_is same.
-          let left = Leads-left g q.taken.log.fills.consumed calls'.reads.given q.place r'.block.bytes now.leads body payload
-          body_is xs rest same in
-          lawful.never q.place r'.block.bytes why left.rest left.later now.place wrong left.completes (rest, xs, left.behind);
-    },
-  )
+      → NoPayload g (seen r c p calls k) e (seen r' c q calls' k')
+  stops lawful now (Wrong why count) (well, right, wrong) = (right ∙ q.counted, well, breaks_so lawful now why wrong)
   stops lawful now (Truncated count) (met, right, is) = (right ∙ q.counted, met, early now is)
   stops lawful now (Io e) (fault, is) = (fault, early now is)
 
@@ -127,19 +128,19 @@ module _ {S Q C P W : Type 0} (remaining : S → Option (List ℕ)) (rules : Rea
       → MatchResult a (λ n. EachGave r r' × ((n ≤ length out) × (n ≡ 0 → 0 < length out → IsDone g q.place)))
       (λ e. FailsSo remaining rules g r e r' q)
       → MatchResult a (λ n. (n ≤ length out) × EachGave r r' × (n ≡ 0 → 0 < length out → IsWhole g after))
-      (λ e. Stops g (seen r c p calls k) e after)
+      (λ e. NoPayload g (seen r c p calls k) e after)
   answered (Ok n) ends = (
     ends.1.0,
     ends.0,
-    (λ none some. Leads-whole g after.taken after.calls.reads.given q.place r'.block.bytes still.leads (ends.1.1 none some)),
+    (λ none some. Leads-whole g after.taken after.calls.reads.given q.place (heeded g r'.block.bytes) still.leads (ends.1.1 none some)),
   )
   answered (Err e) ends =
       stops remaining rules g r c p calls k r' q (after_payload calls out answer) k' lawful still e ends
 
   idle : (IsWhole g (seen r c p calls k) ⊎ (length out ≡ 0)) → r' ≡ r
-  idle (inl whole) = (hands.0.idle (Leads-done g lawful p.taken.log.fills.consumed calls.reads.given p.place r.block.bytes
+  idle (inl whole) = (hands.0.idle (Leads-done g lawful p.taken.log.fills.consumed calls.reads.given p.place (heeded g r.block.bytes)
       is.leads is.place whole)).0
-  idle (inr none) = hands.1 none
+  idle (inr none) = (hands.1 none).1
 
   pub payload_read : ReadsPayload remaining rules g (seen r c p calls k) out answer after
   payload_read = record {
@@ -148,6 +149,7 @@ module _ {S Q C P W : Type 0} (remaining : S → Option (List ℕ)) (rules : Rea
     answers = answered answer hands.0.ends;
     asked = hands.0.asked;
     idle = idle;
+    empty = λ none. (hands.1 none).0;
     noted = noted_after calls out answer;
     whole = still;
   }
@@ -184,7 +186,7 @@ module _ {S Q C P W : Type 0} (remaining : S → Option (List ℕ)) (rules : Rea
       (sym (append-nil calls.reads.given))
 
   done : IsWhole g (seen r c p calls k) → IsDone g p.place
-  done whole = Leads-done g lawful p.taken.log.fills.consumed calls.reads.given p.place r.block.bytes is.leads is.place whole
+  done whole = Leads-done g lawful p.taken.log.fills.consumed calls.reads.given p.place (heeded g r.block.bytes) is.leads is.place whole
 
   -- where the body ended nothing is done
   none_known : (n : ℕ) → FillsOn remaining rules g r p (Ok n) r' q → IsDone g p.place → n ≡ k
@@ -205,7 +207,7 @@ module _ {S Q C P W : Type 0} (remaining : S → Option (List ℕ)) (rules : Rea
     answers = (
       refl,
       fills.ends.0,
-      (λ zero. Leads-whole g q.taken.log.fills.consumed calls.reads.given q.place r'.block.bytes (filled_is n fills).leads
+      (λ zero. Leads-whole g q.taken.log.fills.consumed calls.reads.given q.place (heeded g r'.block.bytes) (filled_is n fills).leads
           (fills.ends.1.1 zero)),
     );
     asked = fills.asked;

@@ -13,9 +13,9 @@ use Rattle.body_reader.specs.declared.coding.Look.TheVariants as look
 use Rattle.body_reader.specs.declared.error.BodyError.TheVariants.{Wrong, Truncated, Io}
 use Rattle.body_reader.specs.declared.progress.Progress.{Progress}
 use Rattle.body_reader.specs.AskingLaws.{AskedWhere-same}
-use Rattle.body_reader.specs.Between.{AsksOpen, EachGave, KeepsBuffer, PassesOn, Skips, Takes, spend}
+use Rattle.body_reader.specs.Between.{AsksOpen, EachGave, KeepsBuffer, PassesOn, SkipsOn, Takes, spend}
 use Rattle.body_reader.specs.BetweenLaws.{AsksOpen-then, EachGave-joins, EachGave-none, EachGave-same, Faulted-after, MetEnd-after, ReadsAhead-asks, ReadsAhead-ended, ReadsAhead-failed, ReadsAhead-gave, ReadsAhead-keeps, ReadsAhead-open, Takes-joins, Takes-none, Takes-still}
-use Rattle.body_reader.specs.Coding.{Grammar, IsDone, Lacks, Leads, LeadsOpen, Looks}
+use Rattle.body_reader.specs.Coding.{Grammar, IsDone, Lacks, Leads, LeadsOpen, Looks, heeded}
 use Rattle.body_reader.specs.CodingLaws.{Lacks-open}
 
 -- these bytes were noted, which lead there
@@ -45,12 +45,13 @@ module _ {S Q P W : Type 0} (remaining : S → Option (List ℕ)) (rules : ReadR
     (s : Buffered S Q) (p : Progress P) (t : Buffered S Q) (q : Progress P) (handed : List ℕ) where
   pub takes_front : n ≤ length s.block.bytes → t.inner ≡ s.inner → ReaderConsumes rules n s t
       → ReaderKeeps remaining rules s t → (there : P) → Notes p there (take n s.block.bytes) q
-      → Leads g p.place (take n s.block.bytes) handed there (drop n s.block.bytes) → g.is_place there
+      → Leads g p.place (take n s.block.bytes) handed there (heeded g (drop n s.block.bytes)) → g.is_place there
       → Takes remaining rules g s p (take n s.block.bytes) handed t q
   takes_front held inner gone keeps there notes leads place = record {
     along = ReaderConsumes-along remaining rules s n t inner gone;
-    leads = subst (Leads g p.place (take n s.block.bytes) handed q.place) (sym (consumes_left rules n s t held gone))
-        (subst (λ x. Leads g p.place (take n s.block.bytes) handed x (drop n s.block.bytes)) (sym notes.place) leads);
+    leads = subst (λ l. Leads g p.place (take n s.block.bytes) handed q.place (heeded g l))
+        (sym (consumes_left rules n s t held gone))
+        (subst (λ x. Leads g p.place (take n s.block.bytes) handed x (heeded g (drop n s.block.bytes))) (sym notes.place) leads);
     taken = notes.taken;
     place = subst g.is_place (sym notes.place) place;
     keeps = consumes_keeps remaining rules g.ahead n s t gone keeps;
@@ -160,7 +161,7 @@ module _ {S Q P W : Type 0} (remaining : S → Option (List ℕ)) (rules : ReadR
     }
 
     -- payload comes next
-    pub skips_payload : (sure : ℕ) → l ≡ look.Payload sure → Skips remaining rules g s p (Ok sure) t r
+    pub skips_payload : (sure : ℕ) → l ≡ look.Payload sure → SkipsOn remaining rules g s p (Ok sure) t r
     skips_payload sure is = record {
       wire = skipped_there.wire;
       takes = skipped_there.takes;
@@ -170,7 +171,7 @@ module _ {S Q P W : Type 0} (remaining : S → Option (List ℕ)) (rules : ReadR
     }
 
     -- the body ended
-    pub skips_done : l ≡ look.Ended → Skips remaining rules g s p (Ok 0) t r
+    pub skips_done : l ≡ look.Ended → SkipsOn remaining rules g s p (Ok 0) t r
     skips_done is = record {
       wire = skipped_there.wire;
       takes = skipped_there.takes;
@@ -180,7 +181,7 @@ module _ {S Q P W : Type 0} (remaining : S → Option (List ℕ)) (rules : ReadR
     }
 
     -- what comes next is wrong
-    pub skips_wrong : (why : W) → l ≡ look.Wrong why → Skips remaining rules g s p (Err (Wrong why r.count)) t r
+    pub skips_wrong : (why : W) → l ≡ look.Wrong why → SkipsOn remaining rules g s p (Err (Wrong why r.count)) t r
     skips_wrong why is =
         let looks : Looks g r.place t.block.bytes (look.Wrong why) = subst (Looks g r.place t.block.bytes) is passes.looks in
         record {
@@ -217,7 +218,7 @@ module _ {S Q P W : Type 0} (remaining : S → Option (List ℕ)) (rules : ReadR
 
     module _ (n : ℕ) (is : l ≡ look.More n) {A : Type 0} (u : Buffered S Q) where
       pub skips_fails : (e : Error) → ReadsAhead {A = A} remaining rules (min n t.block.capacity) t (Err e) u
-          → Skips remaining rules g s p (Err (Io e)) u r
+          → SkipsOn remaining rules g s p (Err (Io e)) u r
       skips_fails e ahead' =
           let a = ahead n is (Err e) u ahead' in
           record {
@@ -232,7 +233,7 @@ module _ {S Q P W : Type 0} (remaining : S → Option (List ℕ)) (rules : ReadR
           }
 
       pub skips_cut : (a : A) → ReadsAhead remaining rules (min n t.block.capacity) t (Ok a) u → length u.block.bytes < n
-          → Skips remaining rules g s p (Err (Truncated r.count)) u r
+          → SkipsOn remaining rules g s p (Err (Truncated r.count)) u r
       skips_cut a ahead' few =
           let so' = ahead n is (Ok a) u ahead' in
           record {

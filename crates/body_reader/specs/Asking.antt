@@ -1,5 +1,5 @@
 -- Where a stream is asked.
-use Rattle.std.specs.Prelude.{◌≡◌, ℕ, ◌+◌, ◌≤◌, ◌⊎◌, List, ◌++◌, length}
+use Rattle.std.specs.Prelude.{◌≡◌, ℕ, ◌+◌, ◌<◌, ◌≤◌, ◌⊎◌, List, ◌++◌, length}
 use Rattle.buffer_redux.specs.Unbuffer.{Unbuffered}
 
 -- the stream was asked, also for the last time, only where what was left, then what had come, was such; and each ask but the last
@@ -8,6 +8,7 @@ pub record AskedOver {R : Type 0} (Such : List ℕ → Type 0) (s t : Unbuffered
   pub came : List ℕ
   pub given : t.log.reads.given ≡ s.log.reads.given ++ (came ++ t.log.reads.latest)
   pub such : Such (s.left ++ came)
+  pub some : s.log.reads.asks < t.log.reads.asks
   pub asks : t.log.reads.asks ≤ s.log.reads.asks + length came + 1
 
 -- the stream wasn't asked, or only where what was there was such

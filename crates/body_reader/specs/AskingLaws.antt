@@ -14,6 +14,7 @@ AskedWhere-of P Q s t so (inr over) =
       came = over.came;
       given = over.given;
       such = so over.came over.such;
+      some = over.some;
       asks = over.asks;
     })
 
@@ -26,6 +27,7 @@ AskedWhere-same P s m t same (inr over) = inr (record {
   given = ap (λ l. l.reads.given) same ∙ over.given
       ∙ ap (λ l. s.log.reads.given ++ (over.came ++ l.reads.latest)) (sym same);
   such = over.such;
+  some = omega (arith, over.some, ap (λ l. l.reads.asks) same);
   asks = omega (arith, over.asks, ap (λ l. l.reads.asks) same);
 })
 
@@ -47,6 +49,10 @@ AskedWhere-on P R s m t wire order gave so before (inr over) =
           ∙ append_assoc s.log.reads.given got (over.came ++ t.log.reads.latest)
           ∙ ap (λ l. s.log.reads.given ++ l) (sym (append_assoc got over.came t.log.reads.latest));
       such = subst P bytes (so over.came over.such);
+      some = elim before [
+        | inl same ↦ omega (arith, over.some, ap (λ l. l.reads.asks) same)
+        | inr first ↦ omega (arith, over.some, first.some)
+      ];
       asks = omega (
         arith,
         over.asks,

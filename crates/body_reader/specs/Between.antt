@@ -15,7 +15,7 @@ use Rattle.body_reader.specs.declared.error.BodyError.{BodyError}
 use Rattle.body_reader.specs.declared.error.BodyError.TheVariants.{Wrong, Truncated, Io}
 use Rattle.body_reader.specs.declared.progress.Progress.{Progress}
 use Rattle.body_reader.specs.Asking.{AskedWhere}
-use Rattle.body_reader.specs.Coding.{Carries, Grammar, IsDone, IsKnown, IsOpen, Leads, LeadsOpen, Looks}
+use Rattle.body_reader.specs.Coding.{Carries, Grammar, IsDone, IsKnown, IsOpen, Leads, LeadsOpen, Looks, heeded}
 
 -- each read that was made gave bytes
 pub record EachGave {S Q : Type 0} (s t : Buffered S Q) : Type 0 where
@@ -58,7 +58,7 @@ module _ {S Q P W : Type 0} (remaining : S → Option (List ℕ)) (rules : ReadR
   pub record Takes (s : Buffered S Q) (p : Progress P) (wire handed : List ℕ) (t : Buffered S Q) (q : Progress P)
       : Type 0 where
     pub along : ReadsAlong remaining rules s wire t
-    pub leads : Leads g p.place wire handed q.place t.block.bytes
+    pub leads : Leads g p.place wire handed q.place (heeded g t.block.bytes)
     pub taken : q.taken.log.fills.consumed ≡ p.taken.log.fills.consumed ++ wire
     pub place : g.is_place q.place
     pub keeps : KeepsBuffer rules g.ahead s t
@@ -89,7 +89,7 @@ module _ {S Q P W : Type 0} (remaining : S → Option (List ℕ)) (rules : ReadR
   Settles p shown sure = ((sure ≡ 0) × IsDone g p) ⊎ Carries g p sure shown
 
   -- what a call does that hands out this payload, and what its answer means
-  pub record Goes {A : Type 0} (s : Buffered S Q) (p : Progress P) (handed : List ℕ) (answer : Result A (BodyError W))
+  pub record Proceeds {A : Type 0} (s : Buffered S Q) (p : Progress P) (handed : List ℕ) (answer : Result A (BodyError W))
       (Means : A → Type 0) (t : Buffered S Q) (q : Progress P) : Type 0 where
     pub wire : List ℕ
     pub takes : Takes s p wire handed t q
@@ -98,13 +98,13 @@ module _ {S Q P W : Type 0} (remaining : S → Option (List ℕ)) (rules : ReadR
     pub idle : IsDone g p.place → (t ≡ s) × (q ≡ p)
 
   -- taking all that is no payload: how many bytes of payload surely come next
-  abbrev pub Skips : Buffered S Q → Progress P → Result ℕ (BodyError W) → Buffered S Q → Progress P → Type 0
-  Skips s p answer t q = Goes s p [] answer (Settles q.place t.block.bytes) t q
+  abbrev pub SkipsOn : Buffered S Q → Progress P → Result ℕ (BodyError W) → Buffered S Q → Progress P → Type 0
+  SkipsOn s p answer t q = Proceeds s p [] answer (Settles q.place t.block.bytes) t q
 
   -- and having some buffered: how many bytes of it are
   abbrev pub FillsOn : Buffered S Q → Progress P → Result ℕ (BodyError W) → Buffered S Q → Progress P → Type 0
   FillsOn s p answer t q =
-      Goes s p [] answer (λ n. IsKnown g q.place n t.block.bytes × (n ≡ 0 → IsDone g q.place)) t q
+      Proceeds s p [] answer (λ n. IsKnown g q.place n t.block.bytes × (n ≡ 0 → IsDone g q.place)) t q
 
   -- taking the first bytes, of those that are known to be payload
   pub record TakesFront (n : ℕ) (s : Buffered S Q) (p : Progress P) (before : ℕ) (t : Buffered S Q) (q : Progress P) (after : ℕ)
@@ -114,10 +114,32 @@ module _ {S Q P W : Type 0} (remaining : S → Option (List ℕ)) (rules : ReadR
     pub left : after ≡ before - n
     pub known : IsKnown g q.place after t.block.bytes
 
+  -- no payload can be handed out of these bytes: the body ended, or they settle nothing, or they are wrong
+  abbrev pub NoneShown : P → List ℕ → Type 0
+  NoneShown p bytes = IsDone g p ⊎ (IsOpen g p bytes ⊎ ((why : W) × g.wrong p bytes why))
+
+  -- taking what is buffered and no payload, up to payload that is known, or none is shown; nobody is asked
+  pub record FindsKnown (s : Buffered S Q) (p : Progress P) (t : Buffered S Q) (q : Progress P) (after : ℕ) : Type 0 where
+    pub wire : List ℕ
+    pub takes : Takes s p wire [] t q
+    pub told : t.log ≡ s.log
+    pub known : IsKnown g q.place after t.block.bytes
+    pub none : after ≡ 0 → NoneShown q.place t.block.bytes
+
+  -- handing out of what is buffered into a slice, which is left so, as much as it takes; nobody is asked
+  pub record HandsShown (s : Buffered S Q) (p : Progress P) (out : List ℕ) (handed : ℕ) (t : Buffered S Q) (q : Progress P)
+      (after : ℕ) : Type 0 where
+    pub wire : List ℕ
+    pub takes : Takes s p wire (take handed out) t q
+    pub told : t.log ≡ s.log
+    pub within : handed ≤ length out
+    pub known : IsKnown g q.place after t.block.bytes
+    pub all : (handed ≡ length out) ⊎ NoneShown q.place t.block.bytes
+
   -- handing payload out into a slice, which is left so. None comes into one that isn't empty only where the body ended
   abbrev pub HandsOn : Buffered S Q → Progress P → List ℕ → Result ℕ (BodyError W) → Buffered S Q → Progress P → Type 0
-  HandsOn s p out answer t q = Goes s p (handed_out out answer) answer
-      (λ n. (n ≤ length out) × (n ≡ 0 → 0 < length out → IsDone g q.place)) t q × (length out ≡ 0 → t ≡ s)
+  HandsOn s p out answer t q = Proceeds s p (handed_out out answer) answer
+      (λ n. (n ≤ length out) × (n ≡ 0 → 0 < length out → IsDone g q.place)) t q × (length out ≡ 0 → (answer ≡ Ok 0) × (t ≡ s))
 
 -- an error as one of std's streams
 abbrev pub BecomesIo : {W : Type 0} → BodyError W → Error → Type 0

@@ -13,9 +13,9 @@ use Rattle.body_reader.specs.declared.error.BodyError.TheVariants.{Wrong, Trunca
 use Rattle.body_reader.specs.declared.progress.Progress.{Progress}
 use Rattle.body_reader.specs.Asking.{AskedWhere}
 use Rattle.body_reader.specs.AskingLaws.{AskedWhere-of, AskedWhere-on}
-use Rattle.body_reader.specs.Between.{AsksOpen, EachGave, FailsSo, Faulted, Goes, KeepsBuffer, MetEnd, Takes}
-use Rattle.body_reader.specs.Coding.{Grammar, IsDone, IsOpen, Lacks, Leads, LeadsOpen}
-use Rattle.body_reader.specs.CodingLaws.{Leads-more, Leads-none, Leads-then, LeadsOpen-behind, LeadsOpen-here}
+use Rattle.body_reader.specs.Between.{AsksOpen, EachGave, FailsSo, Faulted, Proceeds, KeepsBuffer, MetEnd, Takes}
+use Rattle.body_reader.specs.Coding.{Grammar, IsDone, IsOpen, Lacks, LeadsOpen, heeded}
+use Rattle.body_reader.specs.CodingLaws.{Leads-none, Leads-still, Leads-then, LeadsOpen-behind, LeadsOpen-here}
 
 pub EachGave-none : {S Q : Type 0} (s : Buffered S Q) → EachGave s s
 EachGave-none s = record { faults = refl; zero_reads = refl; asks = omega arith }
@@ -71,7 +71,7 @@ module _ {S Q A : Type 0} (remaining : S → Option (List ℕ)) (rules : ReadRul
   pub ReadsAhead-asked : AskedWhere (λ bytes. length bytes < n) (unbuffered s) (unbuffered t)
   ReadsAhead-asked = elim ahead.asked [
     | inl same ↦ inl same
-    | inr over ↦ inr (record { came = over.came; given = over.given; such = over.few; asks = over.asks })
+    | inr over ↦ inr (record { came = over.came; given = over.given; such = over.few; some = over.some; asks = over.asks })
   ]
 
 -- where that gave enough, or met the end of the stream, or failed
@@ -125,7 +125,7 @@ module _ {S Q P W : Type 0} (remaining : S → Option (List ℕ)) (rules : ReadR
   pub Takes-none : (s : Buffered S Q) (p : Progress P) → g.is_place p.place → Takes remaining rules g s p [] [] s p
   Takes-none s p place = record {
     along = ReadsAlong-none remaining rules s;
-    leads = Leads-none g p.place s.block.bytes;
+    leads = Leads-none g p.place (heeded g s.block.bytes);
     taken = sym (append-nil p.taken.log.fills.consumed);
     place = place;
     keeps = KeepsBuffer-none rules g.ahead s;
@@ -149,8 +149,7 @@ module _ {S Q P W : Type 0} (remaining : S → Option (List ℕ)) (rules : ReadR
       → Takes remaining rules g s p a h t q
   Takes-still s p m q t a h x still keeps = record {
     along = ReadsAlong-then remaining rules s m t a x.along still;
-    leads = subst (Leads g p.place a h q.place) (sym still.in_order.equal)
-        (Leads-more g p.place q.place a h m.block.bytes still.in_order.got x.leads);
+    leads = Leads-still g p.place q.place a h m.block.bytes still.in_order.got t.block.bytes still.in_order.equal x.leads;
     taken = x.taken;
     place = x.place;
     keeps = KeepsBuffer-joins rules g.ahead s m t x.along.claims x.keeps keeps;
@@ -177,15 +176,15 @@ module _ {S Q P W : Type 0} (remaining : S → Option (List ℕ)) (rules : ReadR
 
     -- and go on so
     module _ {A : Type 0} (handed : List ℕ) (answer : Result A (BodyError W)) (Means : A → Type 0) (r : Progress P)
-        (goes : Goes remaining rules g m q handed answer Means t r) (idle : IsDone g p.place → (t ≡ s) × (r ≡ p)) where
+        (goes : Proceeds remaining rules g m q handed answer Means t r) (idle : IsDone g p.place → (t ≡ s) × (r ≡ p)) where
       ends_after : (a : Result A (BodyError W))
           → MatchResult a (λ x. EachGave m t × Means x) (λ e. FailsSo remaining rules g m e t r)
           → MatchResult a (λ x. EachGave s t × Means x) (λ e. FailsSo remaining rules g s e t r)
       ends_after (Ok x) ends = (EachGave-joins s m t gave ends.0, ends.1)
       ends_after (Err e) ends = FailsSo-after s m t r gave e ends
 
-      pub Goes-after : Goes remaining rules g s p handed answer Means t r
-      Goes-after = record {
+      pub Proceeds-after : Proceeds remaining rules g s p handed answer Means t r
+      Proceeds-after = record {
         wire = wire ++ goes.wire;
         takes = Takes-joins s p m q t r wire [] goes.wire handed takes goes.takes;
         asked = AsksOpen-joins goes.asked;

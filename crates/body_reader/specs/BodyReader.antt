@@ -13,7 +13,7 @@ use Rattle.body_reader.specs.declared.error.BodyError.{BodyError}
 use Rattle.body_reader.specs.declared.error.BodyError.TheVariants.{Wrong, Truncated, Io}
 use Rattle.body_reader.specs.Asking.{AskedWhere}
 use Rattle.body_reader.specs.Between.{AsksOpen, BecomesIo, EachGave, Faulted, KeepsBuffer, MetEnd, handed_out}
-use Rattle.body_reader.specs.Coding.{Grammar, IsBody, IsKnown, IsOpen, Leads, LeadsOpen}
+use Rattle.body_reader.specs.Coding.{Grammar, IsBody, IsKnown, IsOpen, Leads, LeadsOpen, heeded}
 
 -- the buffered reader; the coding; where in the body the reader stands; the bytes of it that were taken so far; what it handed
 -- out, as a stream tells it; and how many of the bytes that are buffered are payload, as the last fill said
@@ -37,7 +37,7 @@ module _ {S Q C P W : Type 0} (g : Grammar P W) where
   -- what is true of every reader of a body: the bytes that were taken lead to where it stands, and what was handed out is the
   -- payload in them; and the buffer holds what a look needs
   pub record IsBodyReader (d : BodyState S Q C P) : Type 0 where
-    pub leads : Leads g g.first d.taken (handed_of d) d.place d.reader.block.bytes
+    pub leads : Leads g g.first d.taken (handed_of d) d.place (heeded g d.reader.block.bytes)
     pub place : g.is_place d.place
     pub room : g.ahead ≤ d.reader.block.capacity
     pub known : IsKnown g d.place d.known d.reader.block.bytes
@@ -62,10 +62,10 @@ module _ {S Q C P W : Type 0} (g : Grammar P W) where
     pub none : (body payload xs : List ℕ) → IsBody g body payload → ¬ (body ++ xs ≡ t.taken ++ t.reader.block.bytes)
 
   -- why there is no further payload: the next bytes are wrong; or the stream gave nothing, or failed, where it was asked
-  abbrev pub Stops : BodyState S Q C P → BodyError W → BodyState S Q C P → Type 0
-  Stops s (Wrong why right) t = (right ≡ taken_count t) × EachGave s.reader t.reader × Breaks why t
-  Stops s (Truncated right) t = (right ≡ taken_count t) × MetEnd s.reader t.reader × EndsEarly t
-  Stops s (Io e) t = Faulted s.reader e t.reader × EndsEarly t
+  abbrev pub NoPayload : BodyState S Q C P → BodyError W → BodyState S Q C P → Type 0
+  NoPayload s (Wrong why right) t = (right ≡ taken_count t) × EachGave s.reader t.reader × Breaks why t
+  NoPayload s (Truncated right) t = (right ≡ taken_count t) × MetEnd s.reader t.reader × EndsEarly t
+  NoPayload s (Io e) t = Faulted s.reader e t.reader × EndsEarly t
 
 module _ {S Q C P W : Type 0} (remaining : S → Option (List ℕ)) (rules : ReadRules Q) (g : Grammar P W) where
   -- what any calls do, one after another, that handed out this payload: some bytes were taken out of the buffered reader, in
@@ -85,9 +85,10 @@ module _ {S Q C P W : Type 0} (remaining : S → Option (List ℕ)) (rules : Rea
       : Type 0 where
     pub went : BodyWent s (handed_out out answer) t
     pub answers : MatchResult answer
-        (λ n. (n ≤ length out) × EachGave s.reader t.reader × (n ≡ 0 → 0 < length out → IsWhole g t)) (λ e. Stops g s e t)
+        (λ n. (n ≤ length out) × EachGave s.reader t.reader × (n ≡ 0 → 0 < length out → IsWhole g t)) (λ e. NoPayload g s e t)
     pub asked : AsksOpen remaining rules g s.reader s.place t.reader
     pub idle : (IsWhole g s ⊎ (length out ≡ 0)) → t.reader ≡ s.reader
+    pub empty : length out ≡ 0 → answer ≡ Ok 0
     pub noted : MatchResult answer (λ n. t.calls ≡ after_read s.calls out (Ok n)) (λ _. t.calls ≡ s.calls)
     pub whole : IsBodyReader g t
 
@@ -98,7 +99,7 @@ module _ {S Q C P W : Type 0} (remaining : S → Option (List ℕ)) (rules : Rea
     pub payload : List ℕ
     pub went : BodyWent s payload t
     pub answers : MatchResult answer (λ _. EachGave s.reader t.reader × IsWhole g t)
-        (λ why. Stops g s why t
+        (λ why. NoPayload g s why t
         ⊎ ((e : Error) × (why ≡ Io e) × (error_kind e ≡ Other) × (2 ^ 64 - 1 ≤ length payload)
         × EachGave s.reader t.reader))
     pub asked : AskedWhere (λ bytes. (dropped : List ℕ) × LeadsOpen g s.place dropped bytes) (unbuffered s.reader)
@@ -111,9 +112,19 @@ module _ {S Q C P W : Type 0} (remaining : S → Option (List ℕ)) (rules : Rea
   pub record FillsPayload (s : BodyState S Q C P) (answer : Result ℕ (BodyError W)) (t : BodyState S Q C P) : Type 0 where
     pub went : BodyWent s [] t
     pub answers : MatchResult answer (λ n. (n ≡ t.known) × EachGave s.reader t.reader × (n ≡ 0 → IsWhole g t))
-        (λ e. Stops g s e t)
+        (λ e. NoPayload g s e t)
     pub asked : AsksOpen remaining rules g s.reader s.place t.reader
     pub still : (0 < s.known ⊎ IsWhole g s) → t ≡ s
+    pub whole : IsBodyReader g t
+
+  -- what `read_buffered` does, which left the slice as out: payload that is buffered is handed out, as much as the slice takes.
+  -- Less comes only where the body ended, or what is buffered settles nothing, or is wrong. The stream isn't asked
+  pub record ReadsBuffered (s : BodyState S Q C P) (out : List ℕ) (handed : ℕ) (t : BodyState S Q C P) : Type 0 where
+    pub went : BodyWent s (take handed out) t
+    pub told : t.reader.log ≡ s.reader.log
+    pub bound : handed ≤ length out
+    pub all : (handed ≡ length out) ⊎ (IsWhole g t ⊎ (EndsEarly g t ⊎ ((why : W) × Breaks g why t)))
+    pub noted : t.calls ≡ after_read s.calls out (Ok handed)
     pub whole : IsBodyReader g t
 
   -- whether nothing follows what was taken: the stream was asked where nothing was buffered, and nothing else is done

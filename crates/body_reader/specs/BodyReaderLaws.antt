@@ -8,14 +8,14 @@ use Rattle.buffer_redux.specs.ReaderLaws.{ReadsAlong-none, ReadsAlong-joins, Rea
 use Rattle.buffer_redux.specs.Remaining.{ahead}
 use Rattle.body_reader.specs.BetweenLaws.{KeepsBuffer-joins, KeepsBuffer-none}
 use Rattle.body_reader.specs.BodyReader.{BodyState, BodyWent, Breaks, EndsEarly, IsBodyReader, IsWhole, begun, handed_of}
-use Rattle.body_reader.specs.Coding.{Agree, Grammar, IsBody, IsLawful, Leads}
-use Rattle.body_reader.specs.CodingLaws.{Leads-left, Leads-none}
+use Rattle.body_reader.specs.Coding.{Agree, Grammar, IsBody, IsLawful, Leads, heeded}
+use Rattle.body_reader.specs.CodingLaws.{Agree-front, Agree-less, Leads-left, Leads-none, heeded_on}
 
 -- a reader that was just made stands before a body
 pub begun-is : {S Q C P W : Type 0} (g : Grammar P W) → IsLawful g → (reader : Buffered S Q) (coding : C)
     → (g.ahead) ≤ reader.block.capacity → IsBodyReader g (begun g reader coding)
 begun-is g lawful reader coding room = record {
-  leads = Leads-none g g.first reader.block.bytes;
+  leads = Leads-none g g.first (heeded g reader.block.bytes);
   place = lawful.begins;
   room = room;
   known = (omega arith, λ some. absurd (omega (arith, some)));
@@ -93,15 +93,14 @@ module _ {S Q C P W : Type 0} (g : Grammar P W) (lawful : IsLawful g) (t : BodyS
 module _ {S Q C P W : Type 0} (remaining : S → Option (List ℕ)) (rules : ReadRules Q) (g : Grammar P W)
     (s t : BodyState S Q C P) (h : List ℕ) (is : IsBodyReader g s) (now : IsBodyReader g t)
     (went : BodyWent remaining rules g s h t) where
-  follows : (rest : List ℕ) → Agree t.reader.block.bytes rest → Agree s.reader.block.bytes (went.wire ++ rest)
-  follows rest agree =
-      let order = went.along.in_order in (
-        order.got ++ agree.0,
-        agree.1,
-        sym (append_assoc s.reader.block.bytes order.got agree.0) ∙ ap (λ l. l ++ agree.0) (sym order.equal)
-            ∙ append_assoc went.wire t.reader.block.bytes agree.0 ∙ ap (λ l. went.wire ++ l) agree.2
-            ∙ sym (append_assoc went.wire rest agree.1),
-      )
+  on : (more : List ℕ)
+      × (went.wire ++ heeded g t.reader.block.bytes ≡ heeded g s.reader.block.bytes ++ more)
+  on = heeded_on g went.wire s.reader.block.bytes went.along.in_order.got t.reader.block.bytes went.along.in_order.equal
+
+  follows : (rest : List ℕ) → Agree (heeded g t.reader.block.bytes) rest
+      → Agree (heeded g s.reader.block.bytes) (went.wire ++ rest)
+  follows rest agree = Agree-less (heeded g s.reader.block.bytes) on.0 (went.wire ++ rest)
+      (subst (λ l. Agree l (went.wire ++ rest)) on.1 (Agree-front went.wire (heeded g t.reader.block.bytes) rest agree))
 
   taken_on : (rest : List ℕ) → t.taken ++ rest ≡ s.taken ++ (went.wire ++ rest)
   taken_on rest = ap (λ l. l ++ rest) went.taken ∙ append_assoc s.taken went.wire rest
@@ -109,7 +108,7 @@ module _ {S Q C P W : Type 0} (remaining : S → Option (List ℕ)) (rules : Rea
   handed_on : (rest : List ℕ) → handed_of t ++ rest ≡ handed_of s ++ (h ++ rest)
   handed_on rest = ap (λ l. l ++ rest) went.handed ∙ append_assoc (handed_of s) h rest
 
-  pub BodyWent-leads : Leads g s.place went.wire h t.place t.reader.block.bytes
+  pub BodyWent-leads : Leads g s.place went.wire h t.place (heeded g t.reader.block.bytes)
   BodyWent-leads = record {
     onward = λ rest payload agree c.
         let far = subst (λ l. IsBody g l (handed_of s ++ (h ++ payload))) (taken_on rest)
@@ -123,11 +122,11 @@ module _ {S Q C P W : Type 0} (remaining : S → Option (List ℕ)) (rules : Rea
         let goes = now.leads.back rest (handed_of s ++ whole) agree far in
         (goes.0, append_cancel_left (handed_of s) whole (h ++ goes.0) (goes.1 ∙ handed_on goes.0), goes.2);
     within = λ rest payload past c same.
-        let order = went.along.in_order in
-        let agree : Agree s.reader.block.bytes rest = (
-          order.got,
-          past ++ t.reader.block.bytes,
-          sym order.equal ∙ ap (λ l. l ++ t.reader.block.bytes) same ∙ append_assoc rest past t.reader.block.bytes,
+        let agree : Agree (heeded g s.reader.block.bytes) rest = (
+          on.0,
+          past ++ heeded g t.reader.block.bytes,
+          sym on.1 ∙ ap (λ l. l ++ heeded g t.reader.block.bytes) same
+              ∙ append_assoc rest past (heeded g t.reader.block.bytes),
         ) in
         now.leads.within (s.taken ++ rest) (handed_of s ++ payload) past (is.leads.onward rest payload agree c)
         (went.taken ∙ ap (λ l. s.taken ++ l) same ∙ sym (append_assoc s.taken rest past));

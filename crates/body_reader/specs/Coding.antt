@@ -1,5 +1,5 @@
 -- What a coding says of bytes.
-use Rattle.std.specs.Prelude.{◌≡◌, ℕ, ◌+◌, ◌<◌, ◌≤◌, List, [], ◌∷◌, ◌++◌, length, take, drop}
+use Rattle.std.specs.Prelude.{◌≡◌, ℕ, ◌+◌, ◌<◌, ◌≤◌, List, [], ◌∷◌, ◌++◌, length, take, drop, Bool, if◌then◌else◌}
 use Rattle.body_reader.specs.declared.coding.Look.{Look}
 use Rattle.body_reader.specs.declared.coding.Look.TheVariants.{Payload, Passed, More, Wrong, Ended}
 
@@ -9,7 +9,8 @@ Agree a b = (x : List ℕ) × (y : List ℕ) × (a ++ x ≡ b ++ y)
 
 -- the place before a body; how many bytes a look needs to be shown at most; which places there are; which bytes complete a body
 -- from a place, and the payload in them; which bytes are payload in a place, where others follow that are shown; what is wrong
--- with the next bytes in it; and how many bytes there may be at most, from it to the next of payload or to the end of the body
+-- with the next bytes in it; how many bytes there may be at most, from it to the next of payload or to the end of the body; and
+-- whether it hangs on what follows where bytes of payload lead
 pub record Grammar (P W : Type 0) : Type 1 where
   pub first : P
   pub ahead : ℕ
@@ -18,6 +19,11 @@ pub record Grammar (P W : Type 0) : Type 1 where
   pub carries : P → List ℕ → List ℕ → Type 0
   pub wrong : P → List ℕ → W → Type 0
   pub between : P → ℕ
+  pub heeds : Bool
+
+-- what is heeded of the bytes that follow
+abbrev pub heeded : {P W : Type 0} → Grammar P W → List ℕ → List ℕ
+heeded g follow = if g.heeds then follow else []
 
 module _ {P W : Type 0} (g : Grammar P W) where
   -- behind a body
@@ -63,7 +69,7 @@ module _ {P W : Type 0} (g : Grammar P W) where
     pub shown : List ℕ
     pub place : P
     pub equal : bytes ≡ wire ++ shown
-    pub leads : Leads p wire handed place shown
+    pub leads : Leads p wire handed place (heeded g shown)
     pub is_place : g.is_place place
     pub settles_nothing : IsOpen place shown
 
@@ -82,7 +88,7 @@ module _ {P W : Type 0} (g : Grammar P W) where
   abbrev pub Looks : P → List ℕ → Look P W → Type 0
   Looks p shown (Payload n) = Carries p n shown
   Looks p shown (Passed n q) =
-      (0 < n) × (n ≤ length shown) × Passes p (take n shown) q (drop n shown) × g.is_place q × ¬ IsDone p
+      (0 < n) × (n ≤ length shown) × Passes p (take n shown) q (heeded g (drop n shown)) × g.is_place q × ¬ IsDone p
   Looks p shown (More n) = Lacks p n shown
   Looks p shown (Wrong why) = g.wrong p shown why × ¬ IsDone p
   Looks p shown Ended = IsDone p

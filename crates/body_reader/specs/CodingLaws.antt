@@ -1,8 +1,8 @@
 -- Laws of places: traces of bytes join, and what is wrong completes no body.
-use Rattle.std.proofs.Common.{◌≡◌, ◌⊎◌, ℕ, ◌<◌, List, [], ◌∷◌, ◌++◌, length, arith, inl, inr, sym, ap, subst, ◌∙◌, refl, append_assoc, append-nil}
+use Rattle.std.proofs.Common.{◌≡◌, ◌⊎◌, ℕ, ◌<◌, Bool, true, false, if◌then◌else◌, List, [], ◌∷◌, ◌++◌, length, arith, inl, inr, sym, ap, subst, ◌∙◌, refl, append_assoc, append-nil}
 use Rattle.body_reader.specs.declared.coding.Look.{Look}
 use Rattle.body_reader.specs.declared.coding.Look.TheVariants.{Payload, Passed, More, Wrong, Ended}
-use Rattle.body_reader.specs.Coding.{Agree, Grammar, IsBody, IsDone, IsLawful, IsOpen, Lacks, Leads, LeadsOpen, Looks}
+use Rattle.body_reader.specs.Coding.{Agree, Grammar, IsBody, IsDone, IsLawful, IsOpen, Lacks, Leads, LeadsOpen, Looks, heeded}
 
 -- of two texts that begin the same bytes one begins the other
 pub overlaps : (a x b y : List ℕ) → a ++ x ≡ b ++ y
@@ -89,12 +89,38 @@ module _ {P W : Type 0} (g : Grammar P W) where
       within = joined_within;
     }
 
+  -- what is heeded stands in front
+  pub heeded_front : (follow : List ℕ) → (more : List ℕ) × (follow ≡ heeded g follow ++ more)
+  heeded_front follow = front g.heeds
+    where
+      front : (h : Bool) → (more : List ℕ) × (follow ≡ (if h then follow else []) ++ more)
+      front true = ([], sym (append-nil follow))
+      front false = (follow, refl)
+
+  -- what was heeded, and some more, is what was taken since, and then what is heeded
+  pub heeded_on : (b before got after : List ℕ) → b ++ after ≡ before ++ got
+      → (more : List ℕ) × (b ++ heeded g after ≡ heeded g before ++ more)
+  heeded_on b before got after same = on g.heeds
+    where
+      on : (h : Bool) → (more : List ℕ) × (b ++ (if h then after else []) ≡ (if h then before else []) ++ more)
+      on true = (got, same)
+      on false = (b ++ [], refl)
+
   -- the same where the bytes that followed, and some more, are those that were taken then, and those that follow now
-  pub Leads-then : (p q r : P) (a b h k before got after : List ℕ) → b ++ after ≡ before ++ got → Leads g p a h q before
-      → Leads g q b k r after → Leads g p (a ++ b) (h ++ k) r after
+  pub Leads-then : (p q r : P) (a b h k before got after : List ℕ) → b ++ after ≡ before ++ got
+      → Leads g p a h q (heeded g before) → Leads g q b k r (heeded g after)
+      → Leads g p (a ++ b) (h ++ k) r (heeded g after)
   Leads-then p q r a b h k before got after same x y =
-      Leads-joins p q r a b h k after
-      (subst (Leads g p a h q) (sym same) (Leads-more p q a h before got x)) y
+      let on = heeded_on b before got after same in
+      Leads-joins p q r a b h k (heeded g after)
+      (subst (Leads g p a h q) (sym on.1) (Leads-more p q a h (heeded g before) on.0 x)) y
+
+  -- and where nothing was taken since
+  pub Leads-still : (p q : P) (a h before got after : List ℕ) → after ≡ before ++ got → Leads g p a h q (heeded g before)
+      → Leads g p a h q (heeded g after)
+  Leads-still p q a h before got after same x =
+      let on = heeded_on [] before got after same in
+      subst (Leads g p a h q) (sym on.1) (Leads-more p q a h (heeded g before) on.0 x)
 
   -- what leads from the beginning of a body to its end is a body
   pub Leads-whole : (bytes payload : List ℕ) (q : P) (follow : List ℕ) → Leads g g.first bytes payload q follow → IsDone g q
@@ -111,7 +137,7 @@ module _ {P W : Type 0} (g : Grammar P W) where
       subst (λ l. g.completes q [] l) (lawful.nothing q goes.0 place goes.2) goes.2
 
   -- what is left of a body, of which these bytes were taken: what completes it from there
-  pub record Left (taken handed : List ℕ) (q : P) (body payload xs more : List ℕ) : Type 0 where
+  pub record LeftOver (taken handed : List ℕ) (q : P) (body payload xs more : List ℕ) : Type 0 where
     pub rest : List ℕ
     pub later : List ℕ
     pub equal : body ≡ taken ++ rest
@@ -119,7 +145,7 @@ module _ {P W : Type 0} (g : Grammar P W) where
     pub front : payload ≡ handed ++ later
     pub completes : g.completes q rest later
 
-  module _ (taken handed : List ℕ) (q : P) (follow : List ℕ) (leads : Leads g g.first taken handed q follow)
+  module _ (taken handed : List ℕ) (q : P) (follow : List ℕ) (leads : Leads g g.first taken handed q (heeded g follow))
       (body payload : List ℕ) (is : IsBody g body payload) where
     rest_of : (xs more : List ℕ) → body ++ xs ≡ taken ++ more
         → (rest : List ℕ) × (body ≡ taken ++ rest) × (more ≡ rest ++ xs)
@@ -135,10 +161,13 @@ module _ {P W : Type 0} (g : Grammar P W) where
 
     -- of bytes that begin with a body, and with those that were taken of it, the rest of the body is left
     pub Leads-left : (xs more : List ℕ) → body ++ xs ≡ taken ++ (follow ++ more)
-        → Left taken handed q body payload xs (follow ++ more)
+        → LeftOver taken handed q body payload xs (follow ++ more)
     Leads-left xs more same =
         let found = rest_of xs (follow ++ more) same in
-        let goes = leads.back found.0 payload (more, xs, found.2) (subst (λ l. IsBody g l payload) found.1 is) in
+        let front = heeded_front follow in
+        let agree : Agree (heeded g follow) found.0 = Agree-less (heeded g follow) front.0 found.0
+        (subst (λ l. Agree l found.0) front.1 (more, xs, found.2)) in
+        let goes = leads.back found.0 payload agree (subst (λ l. IsBody g l payload) found.1 is) in
         record {
           rest = found.0;
           later = goes.0;
@@ -155,20 +184,19 @@ module _ {P W : Type 0} (g : Grammar P W) where
     shown = bytes;
     place = p;
     equal = refl;
-    leads = Leads-none p bytes;
+    leads = Leads-none p (heeded g bytes);
     is_place = place;
     settles_nothing = is;
   }
 
-  pub LeadsOpen-behind : (p q : P) (wire h k follow more : List ℕ) → Leads g p wire h q follow
+  pub LeadsOpen-behind : (p q : P) (wire h k follow more : List ℕ) → Leads g p wire h q (heeded g follow)
       → LeadsOpen g q k (follow ++ more) → LeadsOpen g p (h ++ k) (wire ++ (follow ++ more))
   LeadsOpen-behind p q wire h k follow more leads o = record {
     wire = wire ++ o.wire;
     shown = o.shown;
     place = o.place;
     equal = ap (λ l. wire ++ l) o.equal ∙ sym (append_assoc wire o.wire o.shown);
-    leads = Leads-joins p q o.place wire o.wire h k o.shown
-        (subst (Leads g p wire h q) o.equal (Leads-more p q wire h follow more leads)) o.leads;
+    leads = Leads-then p q o.place wire o.wire h k follow more o.shown (sym o.equal) leads o.leads;
     is_place = o.is_place;
     settles_nothing = o.settles_nothing;
   }

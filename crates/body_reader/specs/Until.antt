@@ -1,14 +1,14 @@
 -- Bodies that end at a delimiter.
-use Rattle.std.specs.Prelude.{◌≡◌, ◌≢◌, ℕ, ◌+◌, ◌<◌, ◌≤◌, List, [], ◌++◌, length, drop, ⊤}
+use Rattle.std.specs.Prelude.{◌≡◌, ◌≢◌, ℕ, ◌+◌, ◌<◌, ◌≤◌, List, [], ◌++◌, length, drop, true, ⊤}
 use Rattle.memchr.specs.Find.{Nowhere, OccursAt}
 use Rattle.body_reader.specs.declared.until.Part.{Part}
 use Rattle.body_reader.specs.declared.until.Part.TheVariants.{Inside, Behind}
 use Rattle.body_reader.specs.Coding.{Agree, Grammar}
 
 -- a payload and then the delimiter, which stands nowhere before
-abbrev pub Ends : List ℕ → Part → List ℕ → List ℕ → Type 0
-Ends needle Inside rest payload = (rest ≡ payload ++ needle) × Nowhere (OccursAt rest needle) 0 (length payload)
-Ends needle Behind rest payload = (rest ≡ []) × (payload ≡ [])
+abbrev pub EndsPart : List ℕ → Part → List ℕ → List ℕ → Type 0
+EndsPart needle Inside rest payload = (rest ≡ payload ++ needle) × Nowhere (OccursAt rest needle) 0 (length payload)
+EndsPart needle Behind rest payload = (rest ≡ []) × (payload ≡ [])
 
 -- the delimiter begins in none of these bytes, whatever goes on as what follows
 abbrev pub IsClear : List ℕ → Part → List ℕ → List ℕ → Type 0
@@ -31,8 +31,9 @@ until needle = record {
   first = Inside;
   ahead = length needle;
   is_place = λ place. ⊤;
-  completes = Ends needle;
+  completes = EndsPart needle;
   carries = IsClear needle;
   wrong = λ place shown why. ⊥;
   between = most_left needle;
+  heeds = true;
 }

@@ -9,7 +9,7 @@ use Rattle.body_reader.specs.declared.until.Part.{Part}
 use Rattle.body_reader.specs.declared.until.Part.TheVariants.{Inside, Behind}
 use Rattle.body_reader.specs.Coding.{Agree, Carries, IsDone, IsLawful, IsOpen, Lacks, Leads, Looks, Passes}
 use Rattle.body_reader.specs.CodingLaws.{Agree-nothing, overlaps}
-use Rattle.body_reader.specs.Until.{Ends, IsClear, MayBegin, until}
+use Rattle.body_reader.specs.Until.{EndsPart, IsClear, MayBegin, until}
 
 -- what stands in bytes stands in more, at the same place
 occurs_more : (a b needle : List ℕ) (k : ℕ) → OccursAt a needle k → OccursAt (a ++ b) needle k
@@ -72,7 +72,7 @@ module _ (needle : List ℕ) (some : 0 < length needle) where
   not_there bytes follow rest clear agree k within occurs = clear rest agree k (omega arith) within occurs
 
   clear_onward : (bytes follow rest payload : List ℕ) → IsClear needle Inside bytes follow → Agree follow rest
-      → Ends needle Inside rest payload → Ends needle Inside (bytes ++ rest) (bytes ++ payload)
+      → EndsPart needle Inside rest payload → EndsPart needle Inside (bytes ++ rest) (bytes ++ payload)
   clear_onward bytes follow rest payload clear agree c = (
     ap (λ l. bytes ++ l) c.0 ∙ sym (append_assoc bytes payload needle),
     λ k low high occurs. elim (cases_lt k (length bytes)) [
@@ -89,8 +89,8 @@ module _ (needle : List ℕ) (some : 0 < length needle) where
       (occurs_later bytes rest needle k occurs)
 
   clear_back : (bytes follow rest whole : List ℕ) → IsClear needle Inside bytes follow → Agree follow rest
-      → Ends needle Inside (bytes ++ rest) whole
-      → (payload : List ℕ) × (whole ≡ bytes ++ payload) × Ends needle Inside rest payload
+      → EndsPart needle Inside (bytes ++ rest) whole
+      → (payload : List ℕ) × (whole ≡ bytes ++ payload) × EndsPart needle Inside rest payload
   clear_back bytes follow rest whole clear agree c = elim (overlaps bytes rest whole needle c.0) [
     | inl found ↦ (found.0, found.1, (found.2, later_none bytes rest whole found.0 c.1 found.1))
     | inr found ↦
@@ -125,7 +125,7 @@ module _ (needle : List ℕ) (some : 0 < length needle) where
   }
   clear_leads Behind bytes follow clear = absurd clear
 
-  inside_open : ¬ (Ends needle Inside [] [])
+  inside_open : ¬ (EndsPart needle Inside [] [])
   inside_open c = omega (arith, some, ap length c.0)
 
   -- and what stands behind it is payload still
@@ -157,8 +157,8 @@ module _ (needle : List ℕ) (some : 0 < length needle) where
       } in
       ap (λ z. z ∷ take (length needle') bytes) first ∙ ap (λ l. x ∷ l) (front_is bytes needle' rest)
 
-  end_back : (rest whole : List ℕ) → Ends needle Inside (needle ++ rest) whole
-      → (payload : List ℕ) × (whole ≡ [] ++ payload) × Ends needle Behind rest payload
+  end_back : (rest whole : List ℕ) → EndsPart needle Inside (needle ++ rest) whole
+      → (payload : List ℕ) × (whole ≡ [] ++ payload) × EndsPart needle Behind rest payload
   end_back rest [] c = (
     [],
     refl,
@@ -271,7 +271,7 @@ module _ (needle : List ℕ) (some : 0 < length needle) where
   }
 
   -- of two bodies that begin the same bytes neither ends first
-  not_first : (a b x y xs ys : List ℕ) → Ends needle Inside a x → Ends needle Inside b y → a ++ xs ≡ b ++ ys
+  not_first : (a b x y xs ys : List ℕ) → EndsPart needle Inside a x → EndsPart needle Inside b y → a ++ xs ≡ b ++ ys
       → length y ≤ length x
   not_first a b x y xs ys p q same = elim (cases_lt (length x) (length y)) [
     | inr long ↦ long
@@ -284,7 +284,7 @@ module _ (needle : List ℕ) (some : 0 < length needle) where
         (occurs_less b ys needle (length x) (omega (arith, short, ap length q.0, length-append y needle)) here))
   ]
 
-  only_one : (a b x y xs ys : List ℕ) → Ends needle Inside a x → Ends needle Inside b y → a ++ xs ≡ b ++ ys
+  only_one : (a b x y xs ys : List ℕ) → EndsPart needle Inside a x → EndsPart needle Inside b y → a ++ xs ≡ b ++ ys
       → (a ≡ b) × (x ≡ y)
   only_one a b x y xs ys p q same =
       let len : length y ≡ length x =
@@ -298,7 +298,7 @@ module _ (needle : List ℕ) (some : 0 < length needle) where
             ∙ take_at y needle (length x) len,
       )
 
-  until_nothing : (place : Part) (payload : List ℕ) → Ends needle place [] payload → payload ≡ []
+  until_nothing : (place : Part) (payload : List ℕ) → EndsPart needle place [] payload → payload ≡ []
   until_nothing Inside payload c = absurd (omega (arith, some, ap length c.0, length-append payload needle))
   until_nothing Behind payload c = c.1
 

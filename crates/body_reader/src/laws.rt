@@ -4,7 +4,7 @@ ghost use Rattle.buffer_redux.specs.Buffered.{Buffered};
 ghost use Rattle.buffer_redux.specs.BufReader.{ReadsAlong};
 ghost use Rattle.buffer_redux.specs.Remaining.{ahead};
 ghost use Rattle.body_reader.specs.BodyReader.{BodyState, BodyWent, IsBodyReader, IsWhole, begun, handed_of};
-ghost use Rattle.body_reader.specs.Coding.{IsBody, Leads};
+ghost use Rattle.body_reader.specs.Coding.{IsBody, Leads, heeded};
 ghost use Rattle.body_reader.specs.Given.{HandsGiven};
 
 use crate::coding::Coding;
@@ -57,7 +57,8 @@ pub fn leads_on<R: TellRead, C: Coding, P: ReaderPolicy>(reader: &BodyReader<R, 
         → IsBodyReader (C.grammar reader.now.coding) before
         → BodyWent R.remaining P.rules (C.grammar reader.now.coding) before payload reader.now
         → (wire : List ℕ) × ReadsAlong R.remaining P.rules before.reader wire reader.now.reader
-        × Leads (C.grammar reader.now.coding) before.place wire payload reader.now.place reader.now.reader.block.bytes }
+        × Leads (C.grammar reader.now.coding) before.place wire payload reader.now.place
+        (heeded (C.grammar reader.now.coding) reader.now.reader.block.bytes) }
 {
     let _ = reader.get_ref();
 }

@@ -8,12 +8,12 @@ ghost use Rattle.std.specs.Io.KnownBytes.{ReadConsumes};
 ghost use Rattle.buffer_redux.specs.Buffered.{over_buffer};
 ghost use Rattle.buffer_redux.specs.StreamLog.{StreamLog, after_read};
 ghost use Rattle.body_reader.specs.Coding.{IsBody};
-ghost use Rattle.body_reader.specs.BodyReader.{BodyState, BodyWent, Drains, FillsAsIo, FillsPayload, IsBodyReader, IsWhole, LooksBehind, ReadsAsIo, ReadsPayload, begun, taken_count};
+ghost use Rattle.body_reader.specs.BodyReader.{BodyState, BodyWent, Drains, FillsAsIo, FillsPayload, IsBodyReader, IsWhole, LooksBehind, ReadsAsIo, ReadsBuffered, ReadsPayload, begun, taken_count};
 
 use crate::coding::{Coding, Look};
 use crate::error::BodyError;
 use crate::progress::Progress;
-use crate::steps::{fill_on, read_on, take_front};
+use crate::steps::{fill_on, hand_buffered, read_on, take_front};
 use buffer_redux::policy::{ReaderPolicy, StdPolicy};
 use buffer_redux::tell::{Call, CallLog, Tell, TellRead};
 use buffer_redux::{BufReader, Buffer, MakeError};
@@ -136,6 +136,13 @@ impl<R: Tell, C: Coding, P> BodyReader<R, C, P> {
         &self.reader.buffer()[..self.known]
     }
 
+    /// Where in the body it stands.
+    pub fn place(&self) -> C::Place
+        ensures { result ≡ self.now.place }
+    {
+        self.progress.place
+    }
+
     /// How many bytes of the body were taken so far, as far as a `u64` counts.
     pub fn taken(&self) -> u64
         ensures { result ≡ taken_count self.now }
@@ -190,7 +197,7 @@ impl<R: TellRead, C: Coding, P: ReaderPolicy> BodyReader<R, C, P> {
         }
     }
 
-    /// Goes on behind the first `count` bytes that [`piece`](BodyReader::piece) lends, or behind all.
+    /// Proceeds on behind the first `count` bytes that [`piece`](BodyReader::piece) lends, or behind all.
     pub fn consume_payload(&mut self, count: usize)
         ensures went { BodyWent R.remaining P.rules (C.grammar self.old.coding) self.old
             (take (min count self.old.known) self.old.reader.block.bytes) self.new }
@@ -211,6 +218,23 @@ impl<R: TellRead, C: Coding, P: ReaderPolicy> BodyReader<R, C, P> {
             &mut self.known,
             count,
         );
+    }
+
+    /// Hands out payload that is buffered, as much as the slice takes, and asks the stream for nothing. Less comes only where no
+    /// more is buffered: the body ended, what is buffered settles nothing, or is wrong, which the next
+    /// [`read_payload`](BodyReader::read_payload) tells.
+    pub fn read_buffered(&mut self, out: &mut [u8]) -> usize
+        ensures { ReadsBuffered R.remaining P.rules (C.grammar self.old.coding) self.old out.new result self.new }
+    {
+        let count = hand_buffered(
+            &mut self.reader,
+            &self.coding,
+            &mut self.progress,
+            &mut self.known,
+            out,
+        );
+        self.calls.note(&Call::Read(out, &Ok(count)));
+        count
     }
 
     /// The buffered reader, with just what follows the body: what is left of that is taken first, and its payload dropped. The

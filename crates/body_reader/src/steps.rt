@@ -2,7 +2,7 @@
 ghost use Rattle.std.specs.Prelude.{[], ◌≡◌, ◌-◌, ◌<◌, ◌≤◌, length, min, take, drop};
 ghost use Rattle.buffer_redux.specs.Buffered.{GoesPast};
 ghost use Rattle.body_reader.specs.Coding.{Carries, IsKnown};
-ghost use Rattle.body_reader.specs.Between.{FillsOn, HandsOn, PassesOn, Skips, TakesFront};
+ghost use Rattle.body_reader.specs.Between.{FillsOn, FindsKnown, HandsOn, HandsShown, PassesOn, SkipsOn, TakesFront};
 
 use crate::coding::{Coding, Look};
 use crate::error::BodyError;
@@ -41,7 +41,7 @@ pub fn skip<R: TellRead, P: ReaderPolicy, C: Coding>(
 ) -> Result<u64, BodyError<C::Wrong>>
     requires place { (C.grammar coding.now).is_place progress.old.place }
     requires room { (C.grammar coding.now).ahead ≤ reader.old.block.capacity }
-    ensures { Skips R.remaining P.rules (C.grammar coding.now) reader.old progress.old result reader.new progress.new }
+    ensures { SkipsOn R.remaining P.rules (C.grammar coding.now) reader.old progress.old result reader.new progress.new }
 {
     loop {
         match pass(reader, coding, progress) {
@@ -94,7 +94,7 @@ pub fn fill_on<R: TellRead, P: ReaderPolicy, C: Coding>(
     show(reader, coding, progress, sure)
 }
 
-/// Goes on behind the first `count` bytes, of which the first `known` are payload.
+/// Proceeds on behind the first `count` bytes, of which the first `known` are payload.
 pub fn take_front<R: TellRead, P: ReaderPolicy, C: Coding>(
     reader: &mut BufReader<R, P>,
     coding: &C,
@@ -213,4 +213,48 @@ pub fn read_on<R: TellRead, P: ReaderPolicy, C: Coding>(
         return Ok(hand_out(reader, coding, progress, known, out));
     }
     read_new(reader, coding, progress, known, out)
+}
+
+/// Knows what payload is buffered behind what is none, unless some is known. Nobody is asked.
+pub fn find_known<R: TellRead, P: ReaderPolicy, C: Coding>(
+    reader: &mut BufReader<R, P>,
+    coding: &C,
+    progress: &mut Progress<C::Place>,
+    known: &mut usize,
+)
+    requires place { (C.grammar coding.now).is_place progress.old.place }
+    requires known { IsKnown (C.grammar coding.now) progress.old.place known.old reader.old.block.bytes }
+    ensures { FindsKnown R.remaining P.rules (C.grammar coding.now) reader.old progress.old reader.new progress.new
+        known.new }
+{
+    if *known > 0 {
+        return;
+    }
+    if let Look::Payload(sure) = pass(reader, coding, progress) {
+        *known = sure.min(reader.buf_len() as u64) as usize;
+    }
+}
+
+/// Hands out payload that is buffered. Nobody is asked.
+pub fn hand_buffered<R: TellRead, P: ReaderPolicy, C: Coding>(
+    reader: &mut BufReader<R, P>,
+    coding: &C,
+    progress: &mut Progress<C::Place>,
+    known: &mut usize,
+    out: &mut [u8],
+) -> usize
+    requires place { (C.grammar coding.now).is_place progress.old.place }
+    requires known { IsKnown (C.grammar coding.now) progress.old.place known.old reader.old.block.bytes }
+    ensures { HandsShown R.remaining P.rules (C.grammar coding.now) reader.old progress.old out.new result reader.new
+        progress.new known.new }
+{
+    let mut handed = 0;
+    while handed < out.len() {
+        find_known(reader, coding, progress, known);
+        if *known == 0 {
+            return handed;
+        }
+        handed += hand_out(reader, coding, progress, known, &mut out[handed..]);
+    }
+    handed
 }

@@ -1,12 +1,12 @@
 use Rattle.std.proofs.Common.{arith}
 use Rattle.std.proofs.lemmas.Result.{err_from_is_err_and}
-use Rattle.body_reader.proofs.Filling.{Goes-err, behind_skipped, carries_here, fill_ended}
+use Rattle.body_reader.proofs.Filling.{Proceeds-err, behind_skipped, carries_here, fill_ended}
 use Rattle.body_reader.proofs.steps.fill_on.Goals as goal
 
 pub returns-in_err-sure : goal.returns-in_err-sure
 returns-in_err-sure g c =
     let p = err_from_is_err_and c.from_residual.result c.from_residual.ensures.1 in
-    rw (p.1, p.2) (Goes-err _ _ _ _ _ _ _ _ _ _ _ c.in_err-sure.ensures)
+    rw (p.1, p.2) (Proceeds-err _ _ _ _ _ _ _ _ _ _ _ c.in_err-sure.ensures)
 
 pub returns-then-sure-eq0 : goal.returns-then-sure-eq0
 returns-then-sure-eq0 g c = fill_ended _ _ _ _ _ _ _ (rw c.if-sure-eq0.true at c.in_ok-sure.ensures)

@@ -1,0 +1,176 @@
+-- Payload that is buffered is handed out, and nobody is asked.
+use Rattle.std.proofs.Common.{◌≡◌, ◌≢◌, ℕ, ◌+◌, ◌-◌, ◌<◌, ◌≤◌, ◌⊎◌, List, [], ◌++◌, length, min, take, drop, Option, Ok, sym, ap, subst, ◌∙◌, arith, inl, inr, refl, append-nil, length-append}
+use Rattle.std.proofs.Math.Seq.{take-append-add}
+use Rattle.std.proofs.lemmas.List.{drop_all, length-drop, length-take-le}
+use Rattle.buffer_redux.specs.Buffered.{Buffered}
+use Rattle.buffer_redux.specs.Policy.{ReadRules}
+use Rattle.buffer_redux.specs.StreamLog.{StreamLog, after_read}
+use Rattle.body_reader.specs.declared.coding.Look.{Look}
+use Rattle.body_reader.specs.declared.coding.Look.TheVariants as look
+use Rattle.body_reader.specs.declared.progress.Progress.{Progress}
+use Rattle.body_reader.specs.Between.{FindsKnown, HandsShown, NoneShown, PassesOn, Takes, TakesFront}
+use Rattle.body_reader.specs.BetweenLaws.{Takes-joins, Takes-none}
+use Rattle.body_reader.specs.BodyReader.{BodyState, Breaks, EndsEarly, IsBodyReader, IsWhole, ReadsBuffered}
+use Rattle.body_reader.specs.Coding.{Carries, Grammar, IsKnown, IsLawful, Looks, heeded}
+use Rattle.body_reader.specs.CodingLaws.{Lacks-open, Leads-whole, open_at}
+use Rattle.body_reader.proofs.Filling.{Carries-fewer}
+use Rattle.body_reader.proofs.Payload.{breaks_so, early, seen, state_is, state_went}
+use borrow.Rule.Slice.PartMut.{put_mid}
+
+-- a slice of which the rest was written
+put_rest : (out tail : List ℕ) (n : ℕ) → put_mid n (length out - n) out tail ≡ take n out ++ tail
+put_rest out tail n =
+    ap (λ l. take n out ++ (tail ++ l)) (drop_all (length out - n) (drop n out) (omega (arith, length-drop n out)))
+    ∙ ap (λ l. take n out ++ l) (append-nil tail)
+
+module _ {S Q P W : Type 0} (remaining : S → Option (List ℕ)) (rules : ReadRules Q) (g : Grammar P W) where
+  -- some is known
+  pub known_found : (s : Buffered S Q) (p : Progress P) (k : ℕ) → g.is_place p.place → IsKnown g p.place k s.block.bytes → 0 < k
+      → FindsKnown remaining rules g s p s p k
+  known_found s p k place known some = record {
+    wire = [];
+    takes = Takes-none remaining rules g s p place;
+    told = refl;
+    known = known;
+    none = λ none. absurd (omega (arith, none, some));
+  }
+
+  module _ (lawful : IsLawful g) (s : Buffered S Q) (p : Progress P) (l : Look P W) (t : Buffered S Q) (q : Progress P)
+      (passes : PassesOn remaining rules g s p l t q) where
+    found : (k : ℕ) → IsKnown g q.place k t.block.bytes → (k ≡ 0 → NoneShown remaining rules g q.place t.block.bytes)
+        → FindsKnown remaining rules g s p t q k
+    found k known none =
+        record { wire = passes.wire; takes = passes.takes; told = passes.told; known = known; none = none }
+
+    -- payload comes next
+    pub payload_found : (sure : ℕ) → l ≡ look.Payload sure → (k : ℕ) → k ≡ min sure (length t.block.bytes)
+        → FindsKnown remaining rules g s p t q k
+    payload_found sure is k count =
+        let carries : Carries g q.place sure t.block.bytes = subst (Looks g q.place t.block.bytes) is passes.looks in
+        found k (
+          omega (arith, count),
+          (λ some. Carries-fewer g q.place sure k t.block.bytes carries some (omega (arith, count))),
+        ) (λ none. inr (inl (open_at g lawful q.place passes.takes.place carries.goes_on t.block.bytes
+        (omega (arith, none, count, carries.some)))))
+
+    -- or none does
+    none_so : (m : Look P W) → Looks g q.place t.block.bytes m → ((n : ℕ) (r : P) → m ≢ look.Passed n r)
+        → ((n : ℕ) → m ≢ look.Payload n) → NoneShown remaining rules g q.place t.block.bytes
+    none_so (look.Payload n) looks no_more never = absurd (never n refl)
+    none_so (look.Passed n r) looks no_more never = absurd (no_more n r refl)
+    none_so (look.More n) looks no_more never = inr (inl (Lacks-open g q.place n t.block.bytes looks))
+    none_so (look.Wrong why) looks no_more never = inr (inr (why, looks.0))
+    none_so look.Ended looks no_more never = inl looks
+
+    pub none_found : ((n : ℕ) → l ≢ look.Payload n) → (k : ℕ) → k ≡ 0 → FindsKnown remaining rules g s p t q k
+    none_found never k none = found k (omega (arith, none), λ some. absurd (omega (arith, some, none)))
+        (λ _. none_so l passes.looks passes.no_more never)
+
+  -- so much was handed out so far
+  pub record Shown (s : Buffered S Q) (p : Progress P) (out : List ℕ) (handed : ℕ) (m : Buffered S Q) (q : Progress P) (k : ℕ)
+      : Type 0 where
+    pub wire : List ℕ
+    pub takes : Takes remaining rules g s p wire (take handed out) m q
+    pub told : m.log ≡ s.log
+    pub within : handed ≤ length out
+    pub known : IsKnown g q.place k m.block.bytes
+
+  pub shown_none : (s : Buffered S Q) (p : Progress P) (out : List ℕ) (k : ℕ) → g.is_place p.place
+      → IsKnown g p.place k s.block.bytes → Shown s p out 0 s p k
+  shown_none s p out k place known = record {
+    wire = [];
+    takes = Takes-none remaining rules g s p place;
+    told = refl;
+    within = omega arith;
+    known = known;
+  }
+
+  module _ (s : Buffered S Q) (p : Progress P) (out : List ℕ) (handed : ℕ) (m : Buffered S Q) (q : Progress P) (k : ℕ)
+      (so : Shown s p out handed m q k) where
+    pub all_shown : length out ≤ handed → HandsShown remaining rules g s p out handed m q k
+    all_shown full = record {
+      wire = so.wire;
+      takes = so.takes;
+      told = so.told;
+      within = so.within;
+      known = so.known;
+      all = inl (omega (arith, full, so.within));
+    }
+
+    module _ (f : Buffered S Q) (r : Progress P) (k' : ℕ) (finds : FindsKnown remaining rules g m q f r k') where
+      found_on : Takes remaining rules g s p (so.wire ++ finds.wire) (take handed out) f r
+      found_on = subst (λ l. Takes remaining rules g s p (so.wire ++ finds.wire) l f r) (append-nil (take handed out))
+          (Takes-joins remaining rules g s p m q f r so.wire (take handed out) finds.wire [] so.takes finds.takes)
+
+      pub none_shown : k' ≡ 0 → HandsShown remaining rules g s p out handed f r k'
+      none_shown none = record {
+        wire = so.wire ++ finds.wire;
+        takes = found_on;
+        told = finds.told ∙ so.told;
+        within = so.within;
+        known = finds.known;
+        all = inr (finds.none none);
+      }
+
+      more : (n : ℕ) (rest : List ℕ) (t : Buffered S Q) (u : Progress P) (k'' : ℕ) → n ≤ length rest
+          → take n rest ≡ take n f.block.bytes → TakesFront remaining rules g n f r k' t u k''
+          → Shown s p (take handed out ++ rest) (handed + n) t u k''
+      more n rest t u k'' within same front =
+          let long : length (take handed out) ≡ handed = length-take-le handed out so.within in
+          let joined : take (handed + n) (take handed out ++ rest) ≡ take handed out ++ take n f.block.bytes =
+          ap (λ j. take (j + n) (take handed out ++ rest)) (sym long) ∙ take-append-add (take handed out) rest n
+          ∙ ap (λ l. take handed out ++ l) same in
+          record {
+            wire = (so.wire ++ finds.wire) ++ take n f.block.bytes;
+            takes = subst (λ l. Takes remaining rules g s p ((so.wire ++ finds.wire) ++ take n f.block.bytes) l t u) (sym joined)
+                (Takes-joins remaining rules g s p f r t u (so.wire ++ finds.wire) (take handed out) (take n f.block.bytes)
+                (take n f.block.bytes) found_on front.takes);
+            told = front.told ∙ finds.told ∙ so.told;
+            within = omega (arith, within, long, length-append (take handed out) rest);
+            known = front.known;
+          }
+
+      pub shown_more : (n : ℕ) (rest : List ℕ) (t : Buffered S Q) (u : Progress P) (k'' : ℕ) → n ≤ length rest
+          → take n rest ≡ take n f.block.bytes → TakesFront remaining rules g n f r k' t u k''
+          → Shown s p (put_mid handed (length out - handed) out rest) (handed + n) t u k''
+      shown_more n rest t u k'' within same front =
+          subst (λ l. Shown s p l (handed + n) t u k'') (sym (put_rest out rest handed)) (more n rest t u k'' within same front)
+
+-- the same, seen by contracts
+module _ {S Q C P W : Type 0} (remaining : S → Option (List ℕ)) (rules : ReadRules Q) (g : Grammar P W) (lawful : IsLawful g)
+    (r : Buffered S Q) (c : C) (p : Progress P) (calls : StreamLog) (k : ℕ) (is : IsBodyReader g (seen r c p calls k))
+    (out : List ℕ) (handed : ℕ) (r' : Buffered S Q) (q : Progress P) (k' : ℕ)
+    (hands : HandsShown remaining rules g r p out handed r' q k') (calls' : StreamLog)
+    (noted : calls' ≡ after_read calls out (Ok handed)) where
+  given : calls'.reads.given ≡ calls.reads.given ++ take handed out
+  given = ap (λ l. l.reads.given) noted
+
+  pub shown_is : IsBodyReader g (seen r' c q calls' k')
+  shown_is = state_is remaining rules g r c p calls k r' q calls' k' hands.wire (take handed out) hands.takes given is hands.known
+
+  none_left : NoneShown remaining rules g q.place r'.block.bytes
+      → IsWhole g (seen r' c q calls' k') ⊎ (EndsEarly g (seen r' c q calls' k')
+      ⊎ ((why : W) × Breaks g why (seen r' c q calls' k')))
+  none_left (inl done) = inl (Leads-whole g q.taken.log.fills.consumed calls'.reads.given q.place (heeded g r'.block.bytes)
+      shown_is.leads done)
+  none_left (inr (inl open')) = inr (inl (early remaining rules g r c p calls k r' q calls' k' shown_is open'))
+  none_left (inr (inr (why, wrong))) =
+      inr (inr (why, breaks_so remaining rules g r c p calls k r' q calls' k' lawful shown_is why wrong))
+
+  pub shown_reads : ReadsBuffered remaining rules g (seen r c p calls k) out handed (seen r' c q calls' k')
+  shown_reads = record {
+    went = state_went remaining rules g r c p calls k r' q calls' k' hands.wire (take handed out) hands.takes given;
+    told = hands.told;
+    bound = hands.within;
+    all = elim hands.all [ inl all ↦ inl all | inr none ↦ inr (none_left none) ];
+    noted = noted;
+    whole = shown_is;
+  }
+
+-- as the reader is seen
+pub buffered_seen : {S Q C P W : Type 0} (remaining : S → Option (List ℕ)) (rules : ReadRules Q) (grammar : C → Grammar P W)
+    (s d : BodyState S Q C P) (out : List ℕ) (handed : ℕ) (t : BodyState S Q C P) → s ≡ d
+    → ReadsBuffered remaining rules (grammar s.coding) s out handed t
+    → ReadsBuffered remaining rules (grammar d.coding) d out handed t
+buffered_seen remaining rules grammar s d out handed t same reads =
+    subst (λ x. ReadsBuffered remaining rules (grammar x.coding) x out handed t) same reads
