@@ -1,15 +1,13 @@
 mod Digits
 pub mod Writing
-pub mod Lines
 pub mod Least
 pub mod Extending
 pub mod Passing
 pub mod PassingOn
-pub mod Wrong
+pub mod Alive
 pub mod Skipping
 pub mod Handing
 pub mod Payload
-pub mod Alive
 pub mod Fronts
 pub mod Buffered
 mod Given

@@ -12,7 +12,7 @@ use Rattle.chunked.specs.declared.extension.Within.TheVariants.{Behind}
 use Rattle.chunked.specs.Body.{line_end}
 use Rattle.chunked.specs.BodyLaws.{extension_no_digit}
 use Rattle.chunked.specs.Place.{BehindSize, Completes, CompletesSize, EndsLine, Feeds, Leads, Passes, IsSettled, StepsOver}
-use Rattle.chunked.proofs.Lines.{first_digit, digit_first}
+use Rattle.chunked.specs.LineLaws.{first_digit, digit_first}
 
 -- in a line, of whatever kind its rest is and what stands behind it
 module _ (IsRest IsNext : List ℕ → Type 0) (GoesOn : ℕ → List ℕ → Type 0) (b room : ℕ) (rest : List ℕ) where

@@ -7,7 +7,7 @@ use Rattle.chunked.specs.Token.{IsTokenByte, IsValueByte}
 use Rattle.chunked.specs.Body.{line_end, IsTrailers, IsField, fields_bytes}
 use Rattle.chunked.specs.FieldLaws.{IsField-longer, IsField-none, IsField-shorter, IsField-text, IsField-value, IsField-valued, other_first, token_is_text, value_is_text}
 use Rattle.chunked.specs.Place.{Completes, CompletesData, EndsLine, Leads, Passes}
-use Rattle.chunked.proofs.Lines.{longer_front}
+use Rattle.chunked.specs.LineLaws.{longer_front}
 use Rattle.chunked.proofs.Passing.{line_back, line_on, quiet, return_back, return_on}
 
 module _ (limits : Limits) where

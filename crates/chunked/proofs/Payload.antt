@@ -13,7 +13,7 @@ use Rattle.chunked.specs.ChunkedReader.{BodyWent, Breaks, ChunkedState, IsChunke
 use Rattle.chunked.specs.ChunkedReaderLaws.{IsWhole-done, body_done}
 use Rattle.chunked.specs.Place.{Leads}
 use Rattle.chunked.specs.PlaceLaws.{Leads-joins}
-use Rattle.chunked.proofs.Wrong.{IsWrong-none}
+use Rattle.chunked.specs.WrongLaws.{IsWrong-none}
 
 -- a reader of a body, by its parts
 abbrev pub seen : {S P : Type 0} → Buffered S P → Progress → StreamLog → ChunkedState S P

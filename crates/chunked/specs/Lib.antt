@@ -8,10 +8,14 @@ pub mod WithinLaws
 pub mod BodyLaws
 pub mod Place
 pub mod PlaceLaws
+pub mod LineLaws
+pub mod WrongLaws
 pub mod Between
 pub mod BetweenLaws
 pub mod ChunkedReader
 pub mod ChunkedReaderLaws
+pub mod Coding
+pub mod CodingLaws
 pub mod EmptyReads
 pub mod Kinds
 pub mod Asking

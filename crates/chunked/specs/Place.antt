@@ -153,6 +153,10 @@ abbrev pub StepsOver : Limits → Place → ℕ → Result Place Malformed → T
 StepsOver limits p b (Ok q) = Passes limits p (b ∷ []) q × IsPlace q
 StepsOver limits p b (Err why) = IsWrong limits p b why
 
+-- these bytes don't go past what completes the body from here
+abbrev pub Within : Limits → Place → List ℕ → Type 0
+Within limits p wire = (rest payload past : List ℕ) → Completes limits p rest payload → wire ≡ rest ++ past → past ≡ []
+
 -- of these bytes the first are taken, which leads on; where it ends something is wrong, or payload or nothing comes next, or
 -- all were taken
 pub record Advances (limits : Limits) (p : Place) (shown : List ℕ) (r : Reached) : Type 0 where
@@ -162,3 +166,5 @@ pub record Advances (limits : Limits) (p : Place) (shown : List ℕ) (r : Reache
   pub wrong : IfSome r.wrong (λ why. (r.taken < length shown) × IsWrong limits r.place (slice_index shown r.taken) why)
   pub all : r.wrong ≡ None → IsSettled r.place ⊎ (r.taken ≡ length shown)
   pub some : ¬ IsSettled p → 0 < length shown → r.wrong ≡ None → 0 < r.taken
+  pub begun : (0 < r.taken) ⊎ (r.place ≡ p)
+  pub short : Within limits p (take r.taken shown)

@@ -6,6 +6,7 @@
 #![tactic(auto)]
 
 mod chunk;
+mod coding;
 mod error;
 mod extension;
 pub mod laws;
@@ -19,6 +20,7 @@ mod trailers;
 mod unchunk;
 mod writer;
 
+pub use coding::Chunked;
 pub use error::{ChunkedError, FinishError, Malformed, TrailersError};
 pub use extension::Within;
 pub use limits::Limits;

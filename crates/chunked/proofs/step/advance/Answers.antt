@@ -1,6 +1,7 @@
 use Rattle.std.proofs.Common.{[], ◌∷◌, take, slice_index, sym, subst, inl, inr, arith, refl, rules}
 use Rattle.std.proofs.lemmas.List.{take_more}
-use Rattle.chunked.specs.Place.{IsSettled, Passes}
+use Rattle.chunked.specs.Place.{IsSettled, Passes, Within}
+use Rattle.chunked.specs.CodingLaws.{within_none, within_on}
 use Rattle.chunked.specs.PlaceLaws.{Passes-none, Passes-joins}
 use Rattle.chunked.proofs.step.advance.Goals as goal
 
@@ -10,6 +11,7 @@ loop-taken-init c = record {
   passes = Passes-none c.args.limits.now c.args.start;
   place = c.requires;
   begun = inr refl;
+  short = within_none c.args.limits.now c.args.start;
 }
 
 pub loop-taken-preserved : goal.loop-taken-preserved
@@ -24,6 +26,10 @@ loop-taken-preserved c =
           (slice_index shown c.loop-taken.taken ∷ []) before.passes c.in-Ok.ensures.0);
       place = c.in-Ok.ensures.1;
       begun = inl (omega arith);
+      short = subst (Within c.args.limits.now c.args.start) (sym (take_more shown c.loop-taken.taken 0 c.loop-taken-test.true))
+          (within_on c.args.limits.now c.args.start c.loop-taken.place (take c.loop-taken.taken shown)
+          (slice_index shown c.loop-taken.taken) before.passes.leads
+          (λ settled. (let odd = c.is_settled.ensures.1 settled in cc)) before.short);
     }
 
 pub returns-in-Err : goal.returns-in-Err
@@ -36,6 +42,8 @@ returns-in-Err c =
       wrong = (c.loop-taken-test.true, c.in-Err.ensures);
       all = λ odd. cc;
       some = λ _ _ odd. cc;
+      begun = before.begun;
+      short = before.short;
     }
 
 pub returns-else-not-is_settled : goal.returns-else-not-is_settled
@@ -52,6 +60,8 @@ returns-else-not-is_settled c =
         | inl some ↦ some
         | inr same ↦ absurd (goes_on (subst IsSettled same settled))
       ];
+      begun = before.begun;
+      short = before.short;
     }
 
 pub returns-after-loop-taken : goal.returns-after-loop-taken
@@ -64,4 +74,6 @@ returns-after-loop-taken c =
       wrong = tt;
       all = λ _. inr (omega (arith, before.within));
       some = λ _ room _. omega (arith, room);
+      begun = before.begun;
+      short = before.short;
     }

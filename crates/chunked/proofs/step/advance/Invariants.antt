@@ -1,5 +1,5 @@
 use Rattle.std.proofs.Common.{◌≡◌, ◌<◌, ◌≤◌, ◌-◌, ◌⊎◌, length, take}
-use Rattle.chunked.specs.Place.{IsPlace, Passes}
+use Rattle.chunked.specs.Place.{IsPlace, Passes, Within}
 use Rattle.chunked.proofs.step.advance.Given as goal
 
 -- the bytes that were taken lead here
@@ -9,6 +9,7 @@ invariant-loop-taken l = record {
   passes : Passes l.limits l.fn.start (take l.taken l.shown) l.place;
   place : IsPlace l.place;
   begun : (0 < l.taken) ⊎ (l.place ≡ l.fn.start);
+  short : Within l.limits l.fn.start (take l.taken l.shown);
 }
 
 abbrev pub decreases-loop-taken : goal.decreases-loop-taken

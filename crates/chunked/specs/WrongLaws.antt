@@ -17,7 +17,7 @@ use Rattle.chunked.specs.Body.{line_end, IsSizeLine, IsTrailers, IsField, IsBody
 use Rattle.chunked.specs.BodyLaws.{digit_is_text, extension_no_digit}
 use Rattle.chunked.specs.FieldLaws.{IsField-first, IsField-next, IsField-none, IsField-value, token_is_text, token_plain, value_is_text}
 use Rattle.chunked.specs.Place.{Completes, CompletesData, CompletesSize, EndsLine, Feeds, IsWrong}
-use Rattle.chunked.proofs.Lines.{line_of}
+use Rattle.chunked.specs.LineLaws.{line_of}
 
 value_grows : (n : ℕ) (digits : List ℕ) → n ≤ digits_value_after 16 n digits
 value_grows n [] = omega arith

@@ -1,0 +1,157 @@
+-- Laws of the chunked coding.
+use Rattle.std.proofs.Common.{◌≡◌, ◌≢◌, ℕ, zero, suc, ◌+◌, ◌<◌, ◌≤◌, List, [], ◌∷◌, ◌++◌, length, take, drop, slice_index, Some, IfSome, sym, ap, subst, ◌∙◌, arith, inl, inr, refl, append-nil, length-append}
+use Rattle.std.proofs.lemmas.List.{drop_more, nil_from_length}
+use Rattle.body_reader.specs.declared.Look.TheVariants as look
+use Rattle.body_reader.specs.Coding as body
+use Rattle.body_reader.specs.CodingLaws.{Lacks-one, overlaps}
+use Rattle.chunked.specs.declared.error.Malformed.{Malformed}
+use Rattle.chunked.specs.declared.limits.Limits.{Limits}
+use Rattle.chunked.specs.declared.place.Place.{Place}
+use Rattle.chunked.specs.declared.place.Place.TheVariants.{Data, Done}
+use Rattle.chunked.specs.declared.step.Reached.{Reached}
+use Rattle.chunked.specs.Body.{line_end}
+use Rattle.chunked.specs.BodyLaws.{IsBody-same}
+use Rattle.chunked.specs.ChunkedReaderLaws.{Completes-nothing}
+use Rattle.chunked.specs.Coding.{chunked}
+use Rattle.chunked.specs.Place.{Advances, Completes, IsPlace, IsSettled, IsWrong, Leads, Within}
+use Rattle.chunked.specs.PlaceLaws.{IsWrong-done}
+use Rattle.chunked.specs.WrongLaws.{IsWrong-none}
+
+module _ (limits : Limits) where
+  -- bytes that lead on, and don't go past the end, do so whatever follows
+  pub leads_on : (p : Place) (wire handed : List ℕ) (q : Place) (follow : List ℕ) → Leads limits p wire handed q
+      → Within limits p wire → body.Leads (chunked limits) p wire handed q follow
+  leads_on p wire handed q follow leads within = record {
+    onward = λ rest payload agree c. leads.onward rest payload c;
+    back = λ rest whole agree c. leads.back rest whole c;
+    within = within;
+  }
+
+  nothing : (p : Place) (payload : List ℕ) → Completes limits p [] payload → payload ≡ []
+  nothing p payload c =
+      (subst (λ x. Completes limits x [] payload) (Completes-nothing limits p payload c) c).0
+
+  -- what is wrong completes no body
+  never : (p : Place) (byte : ℕ) (why : Malformed) (rest payload later x y : List ℕ) → IsWrong limits p byte why
+      → Completes limits p rest payload → ¬ ((byte ∷ later) ++ x ≡ rest ++ y)
+  never p byte why [] payload later x y wrong c same =
+      IsWrong-done limits byte why (subst (λ q. IsWrong limits q byte why) (Completes-nothing limits p payload c) wrong)
+  never p byte why (b ∷ rest) payload later x y wrong c same =
+      let head : b ≡ byte = cc in
+      IsWrong-none limits p byte why rest payload wrong (subst (λ z. Completes limits p (z ∷ rest) payload) head c)
+
+  pub chunked_lawful : body.IsLawful (chunked limits)
+  chunked_lawful = record {
+    some = omega arith;
+    begins = tt;
+    nothing = λ p payload is c. nothing p payload c;
+    none_wrong = λ p why is wrong. (let odd : [] ≡ wrong.0 ∷ wrong.1 = wrong.2 in cc);
+    never = λ p shown why rest payload is wrong c agree.
+        never p wrong.0 why rest payload wrong.1 agree.0 agree.1 wrong.3 c
+        (ap (λ l. l ++ agree.0) (sym wrong.2) ∙ agree.2);
+    one = λ a b x y xs ys p q same. let found = IsBody-same limits limits a b x y xs ys p q same in (found.0, found.1);
+  }
+
+  not_done : (p : Place) → p ≢ Done → ¬ (Completes limits p [] [])
+  not_done p open' c = open' (Completes-nothing limits p [] c)
+
+  pub data_open : (left : ℕ) → ¬ (Completes limits (Data left) [] [])
+  data_open left = not_done (Data left) (λ is. let odd : Data left ≡ Done = is in cc)
+
+  -- no byte goes past the end, nor a byte in a place where the body goes on
+  pub within_none : (p : Place) → Within limits p []
+  within_none p [] payload past c same = sym same
+  within_none p (x ∷ rest) payload past c same = cc
+
+  tail_none : (m past : List ℕ) → m ++ past ≡ [] → past ≡ []
+  tail_none [] past same = same
+  tail_none (x ∷ m) past same = cc
+
+  one_more : (q : Place) (b : ℕ) (m payload past : List ℕ) → ¬ IsSettled q → Completes limits q m payload
+      → b ∷ [] ≡ m ++ past → past ≡ []
+  one_more q b [] payload past goes_on c same =
+      absurd (goes_on (subst IsSettled (sym (Completes-nothing limits q payload c)) tt))
+  one_more q b (x ∷ m) payload past goes_on c same = tail_none m past (let rest : m ++ past ≡ [] = cc in rest)
+
+  pub within_on : (p q : Place) (a : List ℕ) (b : ℕ) → Leads limits p a [] q → ¬ IsSettled q → Within limits p a
+      → Within limits p (a ++ b ∷ [])
+  within_on p q a b leads goes_on within rest payload past c same = elim (overlaps a (b ∷ []) rest past same) [
+    | inl found ↦
+        let goes = leads.back found.0 payload (subst (λ l. Completes limits p l payload) found.1 c) in
+        one_more q b found.0 goes.0 past goes_on goes.2 found.2
+    | inr found ↦
+        let none = within rest payload found.0 c found.1 in
+        let all : a ≡ rest = found.1 ∙ ap (λ l. rest ++ l) none ∙ append-nil rest in
+        let goes = leads.back [] payload (subst (λ l. Completes limits p l payload) (sym all ∙ sym (append-nil a)) c) in
+        absurd (goes_on (subst IsSettled (sym (Completes-nothing limits q goes.0 goes.2)) tt))
+  ]
+
+  -- the bytes of a chunk stand before its end
+  pub data_within : (left : ℕ) (bytes : List ℕ) → length bytes ≤ left → Within limits (Data left) bytes
+  data_within left bytes few rest payload past c same =
+      nil_from_length past (omega (
+        arith,
+        few,
+        c.many,
+        ap length same,
+        length-append rest past,
+        ap length c.equal,
+        length-append c.front (line_end c.behind),
+      ))
+
+  -- where a payload or nothing comes next
+  pub settled_some : (left : ℕ) → IsSettled (Data left) → 0 < left
+  settled_some zero settled = absurd settled
+  settled_some (suc left) settled = omega arith
+
+  pub settled_done : (p : Place) → IsSettled p → ((left : ℕ) → p ≢ Data left) → p ≡ Done
+  settled_done (Data left) settled no_data = absurd (no_data left refl)
+  settled_done Done settled no_data = refl
+  settled_done p settled no_data = absurd settled
+
+  pub open_of : (p : Place) → ¬ IsSettled p → p ≢ Done
+  open_of p goes_on is = goes_on (subst IsSettled (sym is) tt)
+
+  -- what a look answers
+  pub looks_data : (left : ℕ) (shown : List ℕ) → 0 < left
+      → body.Looks (chunked limits) (Data left) shown (look.Payload left)
+  looks_data left shown some = record {
+    some = some;
+    goes_on = not_done (Data left) (λ is. let odd : Data left ≡ Done = is in cc);
+    carries = λ bytes follow more few same. few;
+  }
+
+  pub looks_none : (p : Place) (shown : List ℕ) → IsPlace p → p ≢ Done → shown ≡ []
+      → body.Looks (chunked limits) p shown (look.More 1)
+  looks_none p shown place open' none =
+      Lacks-one (chunked limits) chunked_lawful p place (not_done p open') shown (omega (arith, ap length none))
+
+  pub looks_passed : (p : Place) (shown : List ℕ) (r : Reached) → p ≢ Done → Advances limits p shown r → 0 < r.taken
+      → body.Looks (chunked limits) p shown (look.Passed r.taken r.place)
+  looks_passed p shown r open' reached some = (
+    some,
+    reached.within,
+    record {
+      leads = leads_on p (take r.taken shown) [] r.place [] reached.passes.leads reached.short;
+      few = reached.passes.few;
+    },
+    reached.place,
+    not_done p open',
+  )
+
+  -- where nothing was taken, and nothing is wrong, nothing was shown
+  pub looks_wrong : (p : Place) (shown : List ℕ) (r : Reached) (why : Malformed) → p ≢ Done → Advances limits p shown r
+      → r.taken ≡ 0 → r.wrong ≡ Some why → body.Looks (chunked limits) p shown (look.Wrong why)
+  looks_wrong p shown r why open' reached none is =
+      let here : r.place ≡ p = elim reached.begun [ inl some ↦ absurd (omega (arith, some, none)) | inr same ↦ same ] in
+      let found : (r.taken < length shown) × IsWrong limits r.place (slice_index shown r.taken) why =
+      subst (λ o. IfSome o (λ w. (r.taken < length shown) × IsWrong limits r.place (slice_index shown r.taken) w)) is
+      reached.wrong in (
+        (
+          slice_index shown r.taken,
+          drop (r.taken + 1) shown,
+          ap (λ n. drop n shown) (sym none) ∙ drop_more shown r.taken 0 found.0,
+          subst (λ x. IsWrong limits x (slice_index shown r.taken) why) here found.1,
+        ),
+        not_done p open',
+      )
