@@ -1,6 +1,7 @@
 //! What `bufcopy` does, by worked examples: what its words ask for, what a run returns and leaves, and how it says that.
-use buffer_redux::add_total;
+use crate::fixtures::of_four;
 use buffer_redux::tell::{TellRead, TellWrite, Told};
+use buffer_redux::{BufReader, add_total, copy_buf};
 use copier::run::{run, said};
 use copier::settings::settings;
 use programs::Ending;
@@ -9,7 +10,7 @@ use std::alloc::{AllocError, Global};
 use std::io;
 use std::io::ErrorKind;
 use std::test::Fail;
-use tests_common::{display, kind};
+use tests_common::{Source, Target, display, kind, target};
 
 /// The stream inside, and what goes wrong in it: which call, and how.
 pub type Fault = (usize, Answer);
@@ -132,6 +133,80 @@ fn copies(rt: HostRuntime) -> Result<(), Fail> {
         for row in rows {
             assert!(rt; is_so(rt.alloc(), row), "{:?} {:?}", row.5, row.7);
         }
+    }
+    Ok(())
+}
+
+// What a source gives by which script, how its target answers, what a copy between them returns, what is received then, and what
+// is left in the reader.
+type Copy = (
+    &'static [u8],
+    &'static [Answer],
+    &'static [Answer],
+    Result<u64, ErrorKind>,
+    &'static [u8],
+    &'static [u8],
+);
+
+// A writer that takes nothing ends a copy, and nothing is consumed. 64 interruptions in a row are passed over, and anew behind
+// each turn.
+static COPIES: [Copy; 4] = [
+    (&[1, 2, 3], &[], &[Answer::Serve(0)], Ok(0), &[], &[1, 2, 3]),
+    (
+        &[1, 2],
+        &[
+            Answer::Interrupt(64),
+            Answer::Serve(1),
+            Answer::Interrupt(64),
+            Answer::Serve(1),
+        ],
+        &[],
+        Ok(2),
+        &[1, 2],
+        &[],
+    ),
+    (
+        &[1],
+        &[Answer::Interrupt(65)],
+        &[],
+        Err(ErrorKind::Interrupted),
+        &[],
+        &[],
+    ),
+    (
+        &[1, 2],
+        &[],
+        &[Answer::Serve(1), Answer::Interrupt(65)],
+        Err(ErrorKind::Interrupted),
+        &[1],
+        &[2],
+    ),
+];
+
+fn copy<R: TellRead, W: TellWrite>(
+    reader: &mut BufReader<R>,
+    writer: &mut W,
+) -> Result<u64, ErrorKind> {
+    kind(copy_buf(reader, writer))
+}
+
+// Whether a copy comes to what its row says.
+fn is_copied(mut reader: BufReader<Source>, mut writer: Target, row: &Copy) -> bool {
+    let &(_, _, _, wanted, taken, left) = row;
+    copy(&mut reader, &mut writer) == wanted
+        && writer.get_ref().taken() == taken
+        && reader.buffer() == left
+}
+
+fn copies_row(alloc: Global, row: &Copy) -> Result<bool, Fail> {
+    let reader = of_four(alloc, &[], row.0, row.1)?;
+    Ok(is_copied(reader, target(alloc, row.2)?, row))
+}
+
+#[test]
+fn copies_bare(rt: HostRuntime) -> Result<(), Fail> {
+    for (at, row) in COPIES.iter().enumerate() {
+        assert!(rt; copies_row(rt.alloc(), row)?, "{at}");
     }
     Ok(())
 }

@@ -15,17 +15,27 @@ mod example;
 #[cfg(test)]
 mod fixtures;
 #[cfg(test)]
+mod inside;
+#[cfg(test)]
 mod known;
 #[cfg(test)]
 mod limits;
+#[cfg(test)]
+mod line_writers;
+#[cfg(test)]
+mod moves;
 #[cfg(test)]
 mod pieces;
 #[cfg(test)]
 mod play;
 #[cfg(test)]
+mod play_laws;
+#[cfg(test)]
 mod printed;
 #[cfg(test)]
 mod reader;
+#[cfg(test)]
+mod retries;
 #[cfg(test)]
 mod ring;
 #[cfg(test)]

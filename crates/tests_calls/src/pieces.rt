@@ -91,6 +91,37 @@ fn is_cut(alloc: Global, from: Text, row: &Row, fault: Fault) -> bool {
     is_all && begun.is_empty() && is_told(&reader, fault, failed)
 }
 
+fn is_piece(given: Option<io::Result<Vec<u8>>>, want: &[u8]) -> bool {
+    match given {
+        Some(Ok(given)) => given.as_slice() == want,
+        _ => false,
+    }
+}
+
+fn begins(mut pieces: Split<Faulty>, wants: &[&[u8]]) -> bool {
+    let mut failed = 0;
+    for want in wants {
+        if !is_piece(piece(&mut pieces, &mut failed), want) {
+            return false;
+        }
+    }
+    true
+}
+
+// Pieces that begin with what was taken off another reader.
+#[test]
+fn begun_before(rt: HostRuntime) -> Result<(), Fail> {
+    let from = text(rt.alloc(), SIZES[0], b"b,c", (20, Answer::Serve(0)))?;
+    let begun = Vec::from_slice(rt.alloc(), b"a")?;
+    assert!(rt;
+        begins(
+            Split::from_parts(rt.alloc(), from, b',', begun),
+            &[b"ab", b"c"]
+        )
+    );
+    Ok(())
+}
+
 fn is_read(alloc: Global, from: Text, row: &Row, fault: Fault) -> bool {
     let mut lines = from.lines(alloc);
     let mut failed = 0;

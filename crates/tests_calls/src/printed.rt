@@ -1,7 +1,7 @@
 //! What is printed of buffers, of readers and writers, and of a refusal.
 use buffer_redux::policy::MinBuffered;
 use buffer_redux::tell::Told;
-use buffer_redux::{BufReader, GrowError, Unbuffer};
+use buffer_redux::{BufReader, Count, GrowError, Unbuffer};
 use std::alloc::Global;
 use std::test::Fail;
 use tests_common::{display, empty, line_writer, reader, reader_under, shown};
@@ -25,6 +25,15 @@ fn buffers(rt: HostRuntime) -> Result<(), Fail> {
             == "Buffer { imp: Std(StdBuf { buf: RawBuf { buf: [0] }, pos: 0, end: 0, stop: 1, consumed: Count, moved: Count }), \
 limit: 4611686018427387904 }"
     );
+    Ok(())
+}
+
+// A count that contracts alone see has nothing to print.
+#[test]
+fn counts(rt: HostRuntime) -> Result<(), Fail> {
+    let mut count = Count::zero();
+    count.add(7);
+    assert!(rt; shown(rt.alloc(), count)?.as_str() == "Count");
     Ok(())
 }
 

@@ -4,13 +4,15 @@ ghost use Rattle.redux_buffer.specs.Told.{told_log, told_stream};
 ghost use Rattle.redux_buffer.specs.LogGrows.{FillLogGrows, FillLogGrows-none, FillLogGrows-joins, FillsGoOn-of};
 
 use buffer_redux::copy_buf;
-use buffer_redux::tell::{Call, CallLog, Tell, TellBufRead, TellRead, TellSeek, TellWrite, Told};
+use buffer_redux::tell::{
+    Call, CallLog, MemoryReader, Tell, TellBufRead, TellRead, TellSeek, TellWrite, Told,
+};
 use redux_script::{Answer, FaultAt, ScriptSeeker};
 use std::alloc::{AllocError, Global};
 use std::io;
 use std::io::{Cursor, ErrorKind, Read, Seek, SeekFrom, Write};
 use std::test::Fail;
-use tests_common::{debug, flush, kind, read, write};
+use tests_common::{debug, flush, kind, read, seek, write};
 
 // The calls that tell. They promise nothing, as those of `tests_common` don't.
 fn reads<R: TellRead>(reader: &mut R, out: &mut [u8]) -> io::Result<usize> {
@@ -245,6 +247,35 @@ fn faults(rt: HostRuntime) -> Result<(), Fail> {
         let came = six_calls(rt.alloc(), stream)?;
         assert!(rt; came.as_str() == text, "{came}");
     }
+    Ok(())
+}
+
+fn three_seeks<S: Seek>(stream: &mut S) -> [Result<u64, ErrorKind>; 3] {
+    [
+        kind(seek(stream, SeekFrom::Start(2))),
+        kind(seek(stream, SeekFrom::Start(1))),
+        kind(seek(stream, SeekFrom::Current(0))),
+    ]
+}
+
+// A seek that goes wrong isn't made.
+#[test]
+fn faulty_seeks(rt: HostRuntime) -> Result<(), Fail> {
+    let fault = Answer::Fail(ErrorKind::TimedOut);
+    let mut stream = FaultAt::new(Cursor::new([1, 2, 3].as_slice()), 1, fault);
+    assert!(rt; three_seeks(&mut stream) == [Ok(2), Err(ErrorKind::TimedOut), Ok(2)]);
+    assert!(rt; stream.calls() == 3);
+    Ok(())
+}
+
+// A slice that tells gives its bytes in order, and then none.
+#[test]
+fn memory(rt: HostRuntime) -> Result<(), Fail> {
+    let mut stream = MemoryReader::new(&[1, 2, 3]);
+    let mut out = [0; 2];
+    assert!(rt; reads(&mut stream, &mut out)? == 2 && out == [1, 2]);
+    assert!(rt; reads(&mut stream, &mut out)? == 1 && out == [3, 2]);
+    assert!(rt; reads(&mut stream, &mut out)? == 0);
     Ok(())
 }
 

@@ -1,0 +1,301 @@
+//! Each call that moves bytes into a bare buffer or out of it, by itself, and by the law that says what it does to the potential.
+use redux_buffer::laws::potential;
+use redux_buffer::tell::{TellRead, TellWrite};
+use redux_buffer::{Buffer, GrowError, laws};
+use redux_script::Answer;
+use std::alloc::Global;
+use std::io;
+use std::io::ErrorKind;
+use std::test::Fail;
+use tests_common::{Source, Target, empty, first, holding, kind, source, target};
+
+// A call, with how much it is asked for, or what it is given.
+#[derive(Clone, Copy)]
+enum Move {
+    ToSlice(usize),
+    FromSlice(&'static [u8]),
+    Short(&'static [u8]),
+    Push(&'static [u8]),
+    Max(usize),
+    All,
+    Write,
+    Read,
+    Consume(usize),
+    Clear,
+    MakeRoom,
+    Reserve(usize),
+    Limit(usize),
+}
+
+// A count, if the call returns one, or the kind of an error.
+type Answered = Result<usize, ErrorKind>;
+
+fn granted(answer: Result<(), GrowError>) -> Answered {
+    match answer {
+        Ok(()) => Ok(0),
+        Err(e) => Err(io::Error::from(e).kind()),
+    }
+}
+
+fn done(answer: io::Result<()>) -> Answered {
+    match kind(answer) {
+        Ok(()) => Ok(0),
+        Err(e) => Err(e),
+    }
+}
+
+// The first `room` bytes, or all.
+fn room_of(out: &mut [u8], room: usize) -> &mut [u8] {
+    let room = room.min(out.len());
+    &mut out[..room]
+}
+
+// Appends all where it fits.
+fn append_short(b: &mut Buffer, src: &[u8]) -> usize {
+    if src.len() > b.usable_space() {
+        return 0;
+    }
+    b.append_short(src);
+    src.len()
+}
+
+// A call over these streams and this slice, which promises nothing.
+fn by_itself<R: TellRead, W: TellWrite>(
+    b: &mut Buffer,
+    call: Move,
+    rdr: &mut R,
+    wrt: &mut W,
+    out: &mut [u8],
+) -> Answered {
+    match call {
+        Move::ToSlice(room) => return Ok(b.copy_to_slice(room_of(out, room))),
+        Move::FromSlice(src) => return Ok(b.copy_from_slice(src)),
+        Move::Short(src) => return Ok(append_short(b, src)),
+        Move::Push(src) => return granted(b.push_bytes(src)),
+        Move::Max(max) => return done(b.write_max(max, wrt)),
+        Move::All => return done(b.write_all(wrt)),
+        Move::Write => return kind(b.write_to(wrt)),
+        Move::Read => return kind(b.read_from(rdr)),
+        Move::Consume(n) => b.consume(n),
+        Move::Clear => b.clear(),
+        Move::MakeRoom => b.make_room(),
+        Move::Reserve(n) => return granted(b.reserve(n)),
+        Move::Limit(most) => return granted(b.set_limit(most)),
+    }
+    Ok(0)
+}
+
+// The same by the laws.
+fn by_law<R: TellRead, W: TellWrite>(
+    b: &mut Buffer,
+    call: Move,
+    rdr: &mut R,
+    wrt: &mut W,
+    out: &mut [u8],
+) -> Answered {
+    match call {
+        Move::ToSlice(room) => return Ok(potential::copy_to_slice(b, room_of(out, room))),
+        Move::FromSlice(src) => return Ok(potential::copy_from_slice(b, src)),
+        Move::Short(src) => return Ok(append_short(b, src)),
+        Move::Push(src) => return granted(potential::push_bytes(b, src)),
+        Move::Max(max) => return done(potential::write_max(b, max, wrt)),
+        Move::All => return done(potential::write_all(b, wrt)),
+        Move::Write => return kind(potential::write_to(b, wrt)),
+        Move::Read => return kind(potential::read_from(b, rdr)),
+        Move::Consume(n) => potential::consume(b, n),
+        Move::Clear => potential::clear(b),
+        Move::MakeRoom => potential::make_room(b),
+        Move::Reserve(n) => return granted(potential::reserve(b, n)),
+        Move::Limit(most) => return granted(potential::set_limit(b, most)),
+    }
+    Ok(0)
+}
+
+// A call, what it returns, and then the bytes that are held and how many can be written behind them.
+type Step = (Move, Answered, &'static [u8], usize);
+
+// What a buffer of capacity 8 holds at first, what its stream answers, the calls, and what is in the slice and was received then.
+type Walk = (
+    &'static [u8],
+    &'static [Answer],
+    &'static [Step],
+    &'static [u8],
+    &'static [u8],
+);
+
+const OTHER: Answer = Answer::Fail(ErrorKind::Other);
+
+const INTO_A_SLICE: &'static [Step] = &[
+    (Move::ToSlice(0), Ok(0), &[1, 2], 6),
+    (Move::ToSlice(5), Ok(2), &[], 8),
+    (Move::ToSlice(5), Ok(0), &[], 8),
+];
+
+const AT_MOST_THREE: &'static [Step] = &[
+    (Move::Max(3), Err(ErrorKind::Other), &[3, 4], 4),
+    (Move::Max(1), Ok(0), &[4], 4),
+];
+
+const OF_MORE_THAN_IS_HELD: &'static [Step] = &[(Move::Max(18446744073709551615), Ok(0), &[], 8)];
+
+const ALL: &'static [Step] = &[
+    (Move::All, Err(ErrorKind::WriteZero), &[3], 5),
+    (Move::All, Ok(0), &[], 8),
+];
+
+// A write of nothing isn't made.
+const ONCE: &'static [Step] = &[
+    (Move::Write, Err(ErrorKind::Other), &[1, 2, 3], 5),
+    (Move::Write, Ok(2), &[3], 5),
+    (Move::Write, Ok(1), &[], 8),
+    (Move::Write, Ok(0), &[], 8),
+];
+
+const IN_PLACE: &'static [Step] = &[
+    (Move::Consume(5), Ok(0), &[6, 7, 8], 0),
+    (Move::Read, Ok(0), &[6, 7, 8], 0),
+    (Move::MakeRoom, Ok(0), &[6, 7, 8], 5),
+    (Move::Reserve(2), Ok(0), &[6, 7, 8], 5),
+    (Move::Push(&[9]), Ok(0), &[6, 7, 8, 9], 4),
+    (Move::Read, Ok(1), &[6, 7, 8, 9, 40], 3),
+    (
+        Move::FromSlice(&[1, 2, 3, 4]),
+        Ok(3),
+        &[6, 7, 8, 9, 40, 1, 2, 3],
+        0,
+    ),
+    (
+        Move::Limit(7),
+        Err(ErrorKind::InvalidInput),
+        &[6, 7, 8, 9, 40, 1, 2, 3],
+        0,
+    ),
+    (Move::Limit(9), Ok(0), &[6, 7, 8, 9, 40, 1, 2, 3], 0),
+    (
+        Move::Reserve(2),
+        Err(ErrorKind::InvalidInput),
+        &[6, 7, 8, 9, 40, 1, 2, 3],
+        0,
+    ),
+    (
+        Move::Push(&[5]),
+        Err(ErrorKind::InvalidInput),
+        &[6, 7, 8, 9, 40, 1, 2, 3],
+        0,
+    ),
+    (Move::Consume(99), Ok(0), &[], 8),
+    (Move::FromSlice(&[1, 2]), Ok(2), &[1, 2], 6),
+    (Move::Short(&[3, 4, 5]), Ok(3), &[1, 2, 3, 4, 5], 3),
+    (Move::Short(&[6, 7, 8, 9]), Ok(0), &[1, 2, 3, 4, 5], 3),
+    (Move::Clear, Ok(0), &[], 8),
+];
+
+static WALKS: [Walk; 6] = [
+    (&[1, 2], &[], INTO_A_SLICE, &[1, 2, 0, 0, 0], &[]),
+    (
+        &[1, 2, 3, 4],
+        &[Answer::Serve(2), OTHER],
+        AT_MOST_THREE,
+        &[0; 5],
+        &[1, 2, 3],
+    ),
+    (&[1, 2], &[], OF_MORE_THAN_IS_HELD, &[0; 5], &[1, 2]),
+    (
+        &[1, 2, 3],
+        &[Answer::Serve(2), Answer::Serve(0)],
+        ALL,
+        &[0; 5],
+        &[1, 2, 3],
+    ),
+    (
+        &[1, 2, 3],
+        &[OTHER, Answer::Serve(2)],
+        ONCE,
+        &[0; 5],
+        &[1, 2, 3],
+    ),
+    (&[1, 2, 3, 4, 5, 6, 7, 8], &[], IN_PLACE, &[0; 5], &[]),
+];
+
+// Whether a buffer holds this, and has so much space behind it, and the rest in front.
+fn is_so(b: &Buffer, held: &[u8], space: usize) -> bool {
+    b.buf() == held
+        && b.usable_space() == space
+        && b.free_space() == 8usize.saturating_sub(held.len())
+}
+
+// Whether the calls come to what their steps say.
+fn walks<R: TellRead, W: TellWrite>(
+    b: &mut Buffer,
+    steps: &[Step],
+    (rdr, wrt): (&mut R, &mut W),
+    out: &mut [u8],
+    is_law: bool,
+) -> bool {
+    for &(call, answer, held, space) in steps {
+        let came = if is_law {
+            by_law(b, call, rdr, wrt, out)
+        } else {
+            by_itself(b, call, rdr, wrt, out)
+        };
+        if came != answer || !is_so(b, held, space) {
+            return false;
+        }
+    }
+    true
+}
+
+// Whether a walk is walked, and leaves the slice and the stream as it says.
+fn goes(alloc: Global, walk: &Walk, is_law: bool) -> Result<bool, Fail> {
+    let &(held, script, steps, copied, received) = walk;
+    let mut b = holding(alloc, 8, held)?;
+    let mut rdr: Source = source(alloc, &[40], &[])?;
+    let mut wrt: Target = target(alloc, script)?;
+    let mut out = [0; 5];
+    let is_walked = walks(&mut b, steps, (&mut rdr, &mut wrt), &mut out, is_law);
+    Ok(is_walked && out.as_slice() == copied && wrt.get_ref().taken() == received)
+}
+
+#[test]
+fn moves(rt: HostRuntime) -> Result<(), Fail> {
+    for (row, walk) in WALKS.iter().enumerate() {
+        assert!(rt; goes(rt.alloc(), walk, false)?, "{row}");
+        assert!(rt; goes(rt.alloc(), walk, true)?, "{row} by law");
+    }
+    Ok(())
+}
+
+// What goes through an empty buffer at once, and is then moved to the front twice.
+fn through(b: &mut Buffer, out: &mut [u8]) -> usize {
+    let count = if b.is_empty() {
+        laws::copy_through(b, &[1, 2, 3], out)
+    } else {
+        0
+    };
+    b.make_room();
+    if b.usable_space() == b.free_space() {
+        laws::make_room_again(b);
+    }
+    laws::block_law(b);
+    laws::ring_law(b);
+    count
+}
+
+fn goes_through(alloc: Global, ring: bool) -> Result<bool, GrowError> {
+    let mut b = empty(alloc, ring, 8)?;
+    let mut out = [0; 2];
+    let count = through(&mut b, &mut out);
+    b.buf_mut().fill(7);
+    Ok(
+        count == 2
+            && first(&out, 2) == [1, 2].as_slice()
+            && b.buf() == [7].as_slice()
+            && b.is_ringbuf() == ring,
+    )
+}
+
+#[test]
+fn laws_of_either_kind(rt: HostRuntime) -> Result<(), Fail> {
+    assert!(rt; goes_through(rt.alloc(), false)? && goes_through(rt.alloc(), true)?);
+    Ok(())
+}
