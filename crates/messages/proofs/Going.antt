@@ -26,7 +26,7 @@ use Rattle.chunked.specs.declared.limits.Limits.{Limits}
 use Rattle.chunked.specs.declared.place.Place.{Place}
 use Rattle.chunked.specs.declared.place.Place.TheVariants.{Done}
 use Rattle.chunked.proofs.Alive.{Completes-some}
-use Rattle.messages.specs.Messages.{Backward, BeginsNone, Bytes, Chunks, EachGave, Ends, Fails, IsRest, IsRoomy, Onward, Takes, body_error, GoesOn, IsReady, Rest, Unended}
+use Rattle.messages.specs.Messages.{Backward, BeginsNone, Bytes, Chunks, EachGave, Ends, Fails, IsRest, IsRoomy, Onward, Takes, body_error, GoesOn, IsReady, IsWrongNext, Rest, Unended}
 use Rattle.messages.specs.declared.error.BodyError.TheVariants.{Truncated, Io as Fault}
 use Rattle.messages.specs.MessagesLaws.{Onward-joins}
 
@@ -50,6 +50,13 @@ bytes_take {R} {remaining} {s} {t} left wire left' along few = record {
   onward = bytes_onward left wire left' few;
   backward = bytes_backward left wire left' few;
 }
+
+-- some that was buffered
+pub bytes_held : {R : Type 0} {remaining : R → Option (List ℕ)} {s t : Buffered R StdPolicy} (left count left' : ℕ)
+    → ReadsAlong remaining std_read_rules s (take count s.block.bytes) t → count ≤ length s.block.bytes → left' + count ≡ left
+    → Takes remaining (unbuffered s) (Bytes left) (take count s.block.bytes) (unbuffered t) (Bytes left')
+bytes_held {R} {remaining} {s} left count left' along held few =
+    bytes_take left (take count s.block.bytes) left' along (omega (arith, few, length-take-le count s.block.bytes held))
 
 -- where a body in chunks ended none is left
 pub chunks_done : {S P : Type 0} {t : ChunkedState S P} → IsChunkedReader t → IsWhole t → IsRest (Chunks t.limits t.place) [] []
@@ -123,18 +130,20 @@ chunks_begin_none t is why breaks later (b ∷ wire) behind payload same c =
     breaks.none wire (handed_of t ++ payload) (subst (λ x. IsBody t.limits (t.taken ++ (x ∷ wire)) (handed_of t ++ payload))
     (sym first) (is.leads.onward (b ∷ wire) payload c))
 
+pub chunks_wrong : {S : Type 0} (t : ChunkedState S StdPolicy) → IsChunkedReader t → (why : Malformed) → Breaks why t
+    → IsWrongNext (Chunks t.limits t.place) t.reader.block.bytes why
+chunks_wrong t is why breaks = (
+  record { byte = breaks.byte; later = breaks.later; next = breaks.next; name = breaks.name },
+  chunks_begin_none t is why breaks,
+)
+
 -- an error of a reader of chunks says why no payload comes
 pub chunks_fail : {S : Type 0} (s t : ChunkedState S StdPolicy) → IsChunkedReader t → IsRoomy s.reader.block → (asked : ℕ)
     (e : ChunkedError) → PayloadAnswers std_read_rules s asked (Err e) t
     → EndsOnce s.reader.log.reads (Err e) t.reader.log.reads
     → Fails (unbuffered s.reader) (body_error e) (unbuffered t.reader) (Chunks t.limits t.place)
-chunks_fail s t is roomy asked (NotChunked why right) answers never = (
-  (answers.1, never),
-  (
-    record { byte = answers.2.byte; later = answers.2.later; next = answers.2.next; name = answers.2.name },
-    chunks_begin_none t is why answers.2,
-  ),
-)
+chunks_fail s t is roomy asked (NotChunked why right) answers never =
+    ((answers.1, never), chunks_wrong t is why answers.2)
 chunks_fail s t is roomy asked (Truncated right) answers once = (
   answers.1,
   omega (arith, once, answers.2.dry.dry (WantsBytes-std s.reader.policy) (omega (arith, roomy.1))),

@@ -87,6 +87,13 @@ pub record Begun {S : Type 0} (remaining : S → Option (List ℕ)) (s : ReaderS
   pub is : IsHead b.head b.said
   pub rest : b.rest ≡ body_of b.said.extent
 
+-- the reader went on behind a head, into the body that it says
+pub record Enters {S : Type 0} (s : ReaderState S Heads) (bytes : List ℕ) (b : InBody S) : Type 0 where
+  pub head : b.head ≡ bytes
+  pub stream : b.stream ≡ left_of s
+  pub is : IsHead b.head b.said
+  pub rest : b.rest ≡ body_of b.said.extent
+
 -- why there is no message is the answer of a reader of pieces
 abbrev pub answer_of : Stop → NextAnswer BadHead
 answer_of Ended = Ok None
@@ -119,6 +126,12 @@ BeginsNone r bytes = (later wire behind payload : List ℕ) → bytes ++ later �
 abbrev pub IsWrongNext : Rest → List ℕ → Malformed → Type 0
 IsWrongNext (Bytes n) bytes name = ⊥
 IsWrongNext (Chunks limits place) bytes name = MeetsWrong limits place bytes name × BeginsNone (Chunks limits place) bytes
+
+-- so much payload is as much as was asked for, or there is none behind it in what is buffered: the body ended, nothing is left of
+-- the buffer, or what comes next is wrong
+abbrev pub RunsShort : ℕ → ℕ → Rest → List ℕ → Type 0
+RunsShort asked count r left =
+    (count ≡ asked) ⊎ IsRest r [] [] ⊎ (left ≡ []) ⊎ ((name : Malformed) × IsWrongNext r left name)
 
 -- why no payload comes: the next byte is wrong; or the stream gave nothing, once, where nothing was left, and the body isn't
 -- complete, of which so much is due if it has a length; or the stream failed, once

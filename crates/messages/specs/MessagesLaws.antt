@@ -16,7 +16,7 @@ use Rattle.messages.specs.declared.head.Extent.TheVariants.{Sized, Chunked}
 use Rattle.messages.specs.declared.head.Heads as head
 use Rattle.messages.specs.Heads.{IsHead, IsHeadPiece, extent_of, heads}
 use Rattle.messages.specs.HeadsLaws.{heads_lawful}
-use Rattle.messages.specs.Messages.{AreMessages, Backward, Begun, EachGave, InBody, InTurn, InsideGoes, IsMessage, IsRest, Message, MessagesWent, Onward, Rest, Takes, body_of}
+use Rattle.messages.specs.Messages.{AreMessages, Backward, Begun, EachGave, Enters, InBody, InTurn, InsideGoes, IsMessage, IsRest, Message, MessagesWent, Onward, Rest, Takes, body_of}
 
 -- a body ends in one place
 one_body : (e : Extent) (a b p q xs ys : List ℕ) → IsRest (body_of e) a p → IsRest (body_of e) b q → a ++ xs ≡ b ++ ys
@@ -91,6 +91,16 @@ module _ {S : Type 0} (remaining : S → Option (List ℕ)) where
   lent s t bytes next =
       let piece : IsHeadPiece next.bytes bytes = elim next.answers.1 [ inl is ↦ is.0 | inr last ↦ absurd last.0 ] in
       (sym piece.same, subst (λ l. IsHeadPiece l bytes) (sym piece.same) piece)
+
+  pub Enters-begun : (s t : ReaderState S head.Heads) (bytes : List ℕ) (b : InBody S)
+      → NextPiece remaining heads s (Ok (Some bytes)) t → Enters t bytes b → Begun remaining s b
+  Enters-begun s t bytes b next enters = record {
+    behind = t;
+    next = subst (λ l. NextPiece remaining heads s (Ok (Some l)) t) (sym enters.head) next;
+    stream = enters.stream;
+    is = enters.is;
+    rest = enters.rest;
+  }
 
   pub Begun-went : (s : ReaderState S head.Heads) (b : InBody S) → Begun remaining s b
       → StreamWent remaining (left_of s) b.head b.stream

@@ -1,12 +1,12 @@
 //! The reader of requests, in a body.
-ghost use Rattle.std.specs.Prelude.{◌≡◌, ℕ, ◌+◌, ◌<◌, ◌≤◌, List, [], length, IfErr, IfOk, MatchResult, Ok, OnOk};
+ghost use Rattle.std.specs.Prelude.{◌≡◌, ℕ, ◌+◌, ◌<◌, ◌≤◌, ◌↔◌, List, [], length, take, IfErr, IfOk, IsTrue, MatchResult, Ok, OnOk};
 ghost use Rattle.chunked.specs.Asking.{AskedWhere};
 ghost use Rattle.chunked.specs.Between.{handed_out};
 ghost use Rattle.buffer_redux.specs.BufReader.{ReadsAlong};
 ghost use Rattle.buffer_redux.specs.Policy.{std_read_rules};
 ghost use Rattle.buffer_redux.specs.Unbuffer.{unbuffered};
 ghost use Rattle.codec.specs.PieceReader.{left_of};
-ghost use Rattle.messages.specs.Messages.{Bytes, Chunks, EachGave, Ends, Fails, FinishFails, GoesOn, HasRoom, InsideGoes, IsReady, IsRest, IsRoomy, Takes, Unended, begun, rest_of, stream_of};
+ghost use Rattle.messages.specs.Messages.{Bytes, Chunks, EachGave, Ends, Fails, FinishFails, GoesOn, HasRoom, InsideGoes, IsReady, IsRest, IsRoomy, RunsShort, Takes, Unended, begun, rest_of, stream_of};
 
 use crate::error::{BodyError, unread};
 use crate::head::{Extent, Heads, ParsedHead};
@@ -90,6 +90,26 @@ impl<R: Tell> Body<R> {
     {
         self.said
     }
+
+    /// What is buffered of the stream: the rest of the body comes first.
+    pub fn buffered(&self) -> &[u8]
+        ensures { result.now ≡ self.now.stream.left }
+    {
+        match &self.source {
+            Source::Sized(reader, _) => reader.buffer(),
+            Source::Chunked(body) => body.get_ref().buffer(),
+        }
+    }
+
+    /// Whether the body ended.
+    pub fn is_done(&self) -> bool
+        ensures { IsTrue result ↔ IsRest self.now.rest [] [] }
+    {
+        match &self.source {
+            Source::Sized(_, left) => *left == 0,
+            Source::Chunked(body) => is_chunked_done(body),
+        }
+    }
 }
 
 impl<R: TellRead> Body<R> {
@@ -112,6 +132,20 @@ impl<R: TellRead> Body<R> {
         match &mut self.source {
             Source::Sized(reader, left) => read_sized(reader, left, out),
             Source::Chunked(body) => read_chunked(body, out),
+        }
+    }
+
+    /// Hands out payload that is buffered, and asks the stream for nothing. Less than the slice takes comes only where the body
+    /// ended, or nothing is buffered, or what comes next is wrong, which [`read`](Body::read) tells.
+    pub fn read_buffered(&mut self, out: &mut [u8]) -> usize
+        ensures bound { result ≤ length out.new }
+        ensures goes { InsideGoes R.remaining self.old (take result out.new) self.new }
+        ensures unasked { self.new.stream.log ≡ self.old.stream.log }
+        ensures all { RunsShort (length out.new) result self.new.rest self.new.stream.left }
+    {
+        match &mut self.source {
+            Source::Sized(reader, left) => take_sized(reader, left, out),
+            Source::Chunked(body) => take_chunked(body, out),
         }
     }
 
@@ -206,6 +240,45 @@ fn read_chunked<R: TellRead>(
         Ok(count) => Ok(count),
         Err(e) => Err(unread(e)),
     }
+}
+
+fn is_chunked_done<R: Tell>(body: &ChunkedReader<R>) -> bool
+    ensures { IsTrue result ↔ IsRest (Chunks body.now.limits body.now.place) [] [] }
+{
+    let _ = body.get_ref();
+    body.is_done()
+}
+
+// Takes what is buffered of a body that has so many bytes before what follows it.
+fn take_sized<R: TellRead>(reader: &mut BufReader<R>, left: &mut u64, out: &mut [u8]) -> usize
+    ensures bound { result ≤ length out.new }
+    ensures kind { reader.new.block.kind ≡ reader.old.block.kind }
+    ensures room { reader.old.block.capacity ≤ reader.new.block.capacity }
+    ensures takes { Takes R.remaining (unbuffered reader.old) (Bytes left.old) (take result out.new)
+        (unbuffered reader.new) (Bytes left.new) }
+    ensures unasked { reader.new.log ≡ reader.old.log }
+    ensures all { RunsShort (length out.new) result (Bytes left.new) reader.new.block.bytes }
+{
+    let shown = reader.buffer();
+    let count = (*left).min(shown.len().min(out.len()) as u64) as usize;
+    out[..count].copy_from_slice(&shown[..count]);
+    reader.consume(count);
+    *left -= count as u64;
+    count
+}
+
+// Takes what is buffered of a body in chunks.
+fn take_chunked<R: TellRead>(body: &mut ChunkedReader<R>, out: &mut [u8]) -> usize
+    requires { HasRoom (Source.Chunked body.old) }
+    ensures bound { result ≤ length out.new }
+    ensures room { HasRoom (Source.Chunked body.new) }
+    ensures takes { Takes R.remaining (unbuffered body.old.reader) (Chunks body.old.limits body.old.place)
+        (take result out.new) (unbuffered body.new.reader) (Chunks body.new.limits body.new.place) }
+    ensures unasked { body.new.reader.log ≡ body.old.reader.log }
+    ensures all { RunsShort (length out.new) result (Chunks body.new.limits body.new.place) body.new.reader.block.bytes }
+{
+    let _ = body.get_ref();
+    body.read_buffered(out)
 }
 
 // Takes what is left of a body.

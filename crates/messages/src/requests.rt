@@ -1,15 +1,17 @@
 //! The reader of requests, before a head.
-ghost use Rattle.std.specs.Prelude.{◌≡◌, ◌≤◌, IfErr, IfOk, MatchResult, false};
-ghost use Rattle.codec.specs.NextPiece.{NextPiece};
-ghost use Rattle.codec.specs.PieceReader.{IsFresh, IsOver, TakenApart};
-ghost use Rattle.messages.specs.Heads.{heads};
-ghost use Rattle.messages.specs.Messages.{Begun, answer_of};
+ghost use Rattle.std.specs.Prelude.{◌≡◌, ◌≤◌, ◌↔◌, IfErr, IfOk, IsTrue, MatchResult, false};
+ghost use Rattle.codec.specs.Decoding.{IsLent, bytes_at};
+ghost use Rattle.codec.specs.Grammar.{Begins};
+ghost use Rattle.codec.specs.NextPiece.{NextPiece, StaysLeft};
+ghost use Rattle.codec.specs.PieceReader.{IsFresh, IsOver, IsSettled, TakenApart, rest};
+ghost use Rattle.messages.specs.Heads.{IsHeadPiece, heads};
+ghost use Rattle.messages.specs.Messages.{Begun, Enters, answer_of};
 
 use crate::body::Body;
 use crate::head::{BadHead, Heads, read_head};
 use buffer_redux::tell::{Tell, TellRead};
 use buffer_redux::{BufReader, Buffer, GrowError, MakeError};
-use codec::{NextError, PieceReader};
+use codec::{NextError, PieceReader, Span};
 use std::alloc::Global;
 use std::io;
 use std::marker::Model;
@@ -105,6 +107,27 @@ impl<R: Tell> Requests<R> {
         }
     }
 
+    // Goes on behind the head that was handed out last, which is there.
+    fn enter(mut self, span: Span) -> Body<R>
+        requires lends { IsLent heads self.handed self.reader.block.bytes span }
+        requires head { IsHeadPiece (bytes_at span self.reader.block.bytes) (bytes_at span self.reader.block.bytes) }
+        ensures { Enters self (bytes_at span self.reader.block.bytes) result }
+    {
+        let lent = self.pieces.lent(span);
+        let Some(said) = read_head(lent) else {
+            unreachable!()
+        };
+        self.head.clear();
+        self.head.append(lent);
+        let Requests {
+            alloc,
+            pieces,
+            head,
+        } = self;
+        let (inner, buffer, _ended) = pieces.into_inner_with_buffer();
+        Body::new(alloc, BufReader::with_buffer(buffer, inner), head, said)
+    }
+
     /// The stream, and the buffer with what comes next of it.
     pub fn into_inner_with_buffer(self) -> (R, Buffer)
         ensures apart { TakenApart R.log self result.0 result.1 }
@@ -128,24 +151,33 @@ impl<R: TellRead> Requests<R> {
         ensures told { self.ended ≡ false }
     {
         match self.pieces.step() {
-            Ok(Some(span)) => {
-                let lent = self.pieces.lent(span);
-                let Some(said) = read_head(lent) else {
-                    unreachable!()
-                };
-                self.head.clear();
-                self.head.append(lent);
-                let Requests {
-                    alloc,
-                    pieces,
-                    head,
-                } = self;
-                let (inner, buffer, _ended) = pieces.into_inner_with_buffer();
-                Ok(Body::new(alloc, BufReader::with_buffer(buffer, inner), head, said))
-            }
+            Ok(Some(span)) => Ok(self.enter(span)),
             Ok(None) => Err((self, Stop::Ended)),
             Err(NextError::Wrong(why)) => Err((self, Stop::Bad(why))),
             Err(NextError::Io(e)) => Err((self, Stop::Io(e))),
         }
+    }
+
+    /// Goes on into the next message as [`next`](Requests::next) does where its head stands whole in the buffer, and asks the
+    /// stream for nothing. An `Err` hands the reader back where it doesn't: `next` says then why, or asks for more.
+    pub fn next_buffered(mut self) -> Result<Body<R>, Self>
+        ensures begun { IfOk result (Begun R.remaining self) }
+        ensures unasked { IfOk result (λ body. body.stream.log ≡ self.reader.log) }
+        ensures stays { IfErr result (StaysLeft heads self) }
+        ensures none { IfErr result (λ next. ¬ (Begins heads (rest next))) }
+    {
+        match self.pieces.step_buffered() {
+            Some(span) => Ok(self.enter(span)),
+            None => Err(self),
+        }
+    }
+
+    /// Whether [`next`](Requests::next) answers without the stream: a whole head is buffered, or the beginning of none.
+    ///
+    /// Who answers requests holds no answer back while the stream is waited for: where this is false, flush, and then call `next`.
+    pub fn is_settled(&self) -> bool
+        ensures { IsTrue result ↔ IsSettled heads self.now }
+    {
+        self.pieces.is_settled()
     }
 }

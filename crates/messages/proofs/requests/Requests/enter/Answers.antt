@@ -1,0 +1,46 @@
+use Rattle.std.proofs.Common.{◌≡◌, ◌++◌, arith, ap, sym, subst, ◌∙◌, length, refl}
+use Rattle.buffer_redux.specs.Unbuffer.{Unbuffered, unbuffered}
+use Rattle.codec.specs.Decoding.{bytes_at}
+use Rattle.codec.specs.PieceReader.{left_of}
+use Rattle.messages.specs.Heads.{IsHead, IsHeadPiece}
+use Rattle.messages.specs.HeadsLaws.{text_few}
+use Rattle.messages.specs.Messages.{Enters, begun}
+use Rattle.messages.proofs.requests.Requests.enter.Goals as goal
+
+pub unreachable-requires : goal.unreachable-requires
+unreachable-requires g c =
+    let head = subst (λ x. IsHeadPiece (bytes_at c.args.span x.reader.block.bytes) (bytes_at c.args.span x.reader.block.bytes))
+    (sym c.self.view_is) c.requires.head in
+    c.in_default.ensures.none head.said (subst (λ l. IsHead l head.said) (sym c.lent-lent.ensures) head.is)
+
+pub append-requires : goal.append-requires
+append-requires g c =
+    let head = subst (λ x. IsHeadPiece (bytes_at c.args.span x.reader.block.bytes) (bytes_at c.args.span x.reader.block.bytes))
+    (sym c.self.view_is) c.requires.head in
+    record {
+      fits = omega (
+        arith,
+        text_few _ head.none head.text,
+        ap length c.lent-lent.ensures,
+        c.clear.ensures.bytes.usable,
+        c.self.invariant,
+      );
+    }
+
+pub returns : goal.returns
+returns g c =
+    let t = c.self.inside.pieces in
+    let said = c.in-Some.said in
+    let head = c.append.new.self.bytes in
+    let apart = c.into_inner_with_buffer-inner.ensures.apart in
+    let u : Unbuffered g.row.R.Denot = unbuffered c.with_buffer.result in
+    let stands : u ≡ left_of t = rw (c.with_buffer.ensures, apart.bytes, apart.log, apart.inner) refl in
+    let lent : head ≡ c.lent-lent.result.now =
+    c.append.ensures.bytes.bytes ∙ ap (λ l. l ++ c.lent-lent.result.now) c.clear.ensures.bytes.bytes in
+    let enters : Enters t (bytes_at c.args.span t.reader.block.bytes) (begun u head said) = record {
+      head = lent ∙ c.lent-lent.ensures;
+      stream = stands;
+      is = subst (λ l. IsHead l said) (sym lent) c.in-Some.ensures.some;
+      rest = refl;
+    } in
+    rw c.new.ensures (subst (λ x. Enters x (bytes_at c.args.span x.reader.block.bytes) (begun u head said)) c.self.view_is enters)

@@ -1,0 +1,16 @@
+use Rattle.std.proofs.Common.{◌≡◌, Ok, Some, ap, sym, subst, ◌∙◌}
+use Rattle.messages.specs.Messages.{Begun}
+use Rattle.messages.specs.MessagesLaws.{Enters-begun, lent}
+use Rattle.messages.proofs.requests.Requests.next_buffered.Goals as goal
+
+pub enter-requires : goal.enter-requires
+enter-requires g c = record {
+  lends = c.in-Some.ensures.lends;
+  head = (lent g.R.TellRead.remaining c.self.inside.pieces c.step_buffered.new.self _ c.in-Some.ensures.next.0).1;
+}
+
+pub returns-in-Some-clause-begun : goal.returns-in-Some-clause-begun
+returns-in-Some-clause-begun g c =
+    subst (λ x. Begun g.R.TellRead.remaining x c.enter.result) c.self.view_is
+    (Enters-begun g.R.TellRead.remaining c.self.inside.pieces c.step_buffered.new.self _ c.enter.result
+    c.in-Some.ensures.next.0 c.enter.ensures)
