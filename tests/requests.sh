@@ -224,6 +224,56 @@ while more := to.recv(65536):
 assert got.count(b'HTTP/1.1 200 OK') == 1000 and b' 400 ' not in got
 PEER
 
+# A thousand that are there at once are answered by full buffers and one more, and each that is waited for by one write.
+runs=$((runs + 1))
+python3 - "$program" << 'PEER' || wrong 'writes'
+import socket, subprocess, sys
+def writes(parts):
+    here, there = socket.socketpair(socket.AF_UNIX, socket.SOCK_SEQPACKET)
+    run = subprocess.Popen([sys.argv[1]], stdin=subprocess.PIPE, stdout=there)
+    there.close()
+    counts, got = [], b''
+    for part, answers in parts:
+        run.stdin.write(part)
+        run.stdin.flush()
+        count, answered = 0, 0
+        while answered < answers:
+            text = here.recv(1 << 20)
+            assert text, got
+            count += 1
+            got += text
+            answered = got.count(b'HTTP/1.1 2')
+        counts.append(count)
+        got = b''
+    run.stdin.close()
+    assert here.recv(1) == b'' and run.wait() == 0
+    return counts
+one = b'GET / HTTP/1.1\r\nHost: a\r\n\r\n'
+body = b'POST / HTTP/1.1\r\nHost: a\r\nContent-Length: 5\r\n\r\nhello'
+chunks = b'POST / HTTP/1.1\r\nHost: a\r\nTransfer-Encoding: chunked\r\n\r\n3\r\nabc\r\n0\r\n\r\n'
+size = len(b'HTTP/1.1 200 OK\r\nContent-Length: 21\r\nConnection: keep-alive\r\n\r\n') + 21
+for some in (one, body, chunks, one + body + chunks):
+    many = some * (900 // some.count(b'HTTP'))
+    [count] = writes([(many, 900)])
+    # A read of ours may end within a request, and then what is held is sent before the next.
+    assert count <= size * 900 // 4096 + len(many) // 4096 + 2, count
+assert writes([(one, 1), (one * 3, 3), (body, 1), (chunks, 1)]) == [1, 1, 1, 1]
+PEER
+
+# Four at once, fifty times, each when the last is answered: no answer waits for the one before it.
+runs=$((runs + 1))
+python3 - "$port" << 'PEER' || wrong 'four at once, fifty times'
+import socket, sys, time
+to = socket.create_connection(('127.0.0.1', int(sys.argv[1])))
+begun = time.monotonic()
+for _ in range(50):
+    to.sendall(b'GET / HTTP/1.1\r\nHost: a\r\n\r\n' * 4)
+    got = b''
+    while got.count(b'HTTP/1.1 200 OK') < 4 or not got.endswith(b'\n'):
+        got += to.recv(65536)
+assert time.monotonic() - begun < 1.5
+PEER
+
 if has curl 'its requests'; then
     head -c 200000 /dev/zero > "$scratch/body"
     curl -sS -m 20 "$url" "$url" "$url" > "$scratch/out" || wrong 'curl, several'

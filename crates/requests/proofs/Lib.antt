@@ -1,2 +1,4 @@
-pub mod Reading
 pub mod Answering
+pub mod Coming
+pub mod Reading
+pub mod Sending

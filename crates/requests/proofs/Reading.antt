@@ -1,14 +1,17 @@
 -- What reads of a run met.
-use Rattle.std.proofs.Common.{◌≡◌, ℕ, ◌+◌, ◌<◌, ◌≤◌, Bool, true, List, [], ◌∷◌, ◌++◌, All, length, Option, sym, ap, subst, inl, inr, ◌∙◌, refl, arith, append_assoc, append-nil, length-append}
+use Rattle.std.proofs.Common.{◌≡◌, ℕ, ◌+◌, ◌<◌, ◌≤◌, Bool, true, List, [], ◌∷◌, ◌++◌, All, length, Option, Ok, sym, ap, subst, inl, inr, ◌∙◌, refl, arith, append_assoc, append-nil, length-append}
 use Rattle.std.proofs.lemmas.List.{nil_from_length}
 use Rattle.std.proofs.lemmas.List.Elements.{All-append, All-cons, All-nil}
 use Rattle.std.specs.declared.io.Error.{Error}
 use Rattle.redux_buffer.specs.Faults.{FaultAfterInterrupts, FaultAfterInterrupts-after, IsInterrupt, OnlyInterrupts, OnlyInterrupts-joins, OnlyInterrupts-none}
+use Rattle.buffer_redux.specs.Buffered.{Buffered}
 use Rattle.buffer_redux.specs.Unbuffer.{StreamWent, Unbuffered}
 use Rattle.buffer_redux.specs.UnbufferLaws.{StreamWent-joins}
+use Rattle.buffer_redux.specs.declared.policy.StdPolicy.{StdPolicy}
 use Rattle.chunked.specs.Asking.{AskedWhere}
 use Rattle.chunked.specs.ChunkedReaderLaws.{Completes-nothing}
 use Rattle.chunked.specs.Place.{Completes}
+use Rattle.chunked.specs.declared.error.Malformed.{Malformed}
 use Rattle.chunked.specs.declared.place.Place.TheVariants.{Done}
 use Rattle.codec.specs.NextPiece.{NextAnswer, NextPiece}
 use Rattle.codec.specs.PiecesWentLaws.{PiecesWent-stream}
@@ -18,12 +21,14 @@ use Rattle.messages.specs.declared.error.BodyError.TheVariants.{Wrong, Truncated
 use Rattle.messages.specs.declared.head.BadHead.{BadHead}
 use Rattle.messages.specs.declared.head.Heads.{Heads}
 use Rattle.messages.specs.Heads.{IsHead, heads}
-use Rattle.messages.specs.Messages.{Begun, Bytes, Chunks, EachGave, Ends, Fails, FinishFails, InBody, InsideGoes, IsRest, Message, Onward, Rest, Unended, body_of}
+use Rattle.messages.specs.Messages.{Begun, Bytes, Chunks, EachGave, Ends, Fails, FinishFails, GoesOn, InBody, InsideGoes, IsRest, IsWrongNext, Message, Onward, Rest, Unended, body_of}
 use Rattle.messages.specs.MessagesLaws.{Begun-gave}
 use Rattle.programs.specs.Streams.{EndsOnce}
 use Rattle.requests.specs.declared.Place.{Place}
 use Rattle.requests.specs.declared.Place.TheVariants.{Before, Inside}
-use Rattle.requests.specs.Answers.{HasEnded, IsOver, IsPart, IsWrong, Keeps, ReadStops, ReadsSteadily, TakeFails, TakesWhole, ends_of, faults_of}
+use Rattle.requests.specs.declared.Untaken.{Untaken}
+use Rattle.requests.specs.declared.Untaken.TheVariants.{Body, Unsent, Many}
+use Rattle.requests.specs.Answers.{FailsOn, HasEnded, IsMany, IsOver, IsPart, IsWrong, Keeps, ReadFails, ReadsSteadily, TakeFails, TakesWhole, faults_of, sent_till, unfinished}
 
 -- no fault was met, or one
 pub none_met : {a b : List Error} → b ≡ a → OnlyInterrupts a b
@@ -85,48 +90,47 @@ module _ {S : Type 0} {s m : Unbuffered S} (steady : ReadsSteadily s m) where
   IsOver-still ms ns taken refuses place keep (inr (more, inr ended)) =
       inr (All-append (Keeps true) ms ns keep more, inr (HasEnded-still place ended))
 
-  pub ReadStops-still : (more count : ℕ) (e : Error) (t : Unbuffered S) → ReadStops count m e t
-      → ReadStops (more + count) s e t
-  ReadStops-still more count e t (inl (fault, hard)) =
-      inl (FaultAfterInterrupts-after (faults_of s) (faults_of m) (faults_of t) e steady.faults fault, hard)
-  ReadStops-still more count e t (inr (met, many)) = inr (
-    joined t met,
-    record { other = many.other; large = omega (arith, many.large, no_shorter steady.faults, no_shorter met) },
-  )
+  pub ReadFails-still : (e : Error) (t : Unbuffered S) → ReadFails m e t → ReadFails s e t
+  ReadFails-still e t (fault, hard) =
+      (FaultAfterInterrupts-after (faults_of s) (faults_of m) (faults_of t) e steady.faults fault, hard)
 
-  -- why a read in a body failed is why the whole isn't taken
-  pub TakeFails-of : (handed : List ℕ) (b : InBody S) (e : BodyError) → ((why : Error) → e ≡ Io why → ¬ (IsInterrupt why))
-      → Fails m e b.stream b.rest → TakeFails s handed e b
-  TakeFails-of handed b (Wrong why) hard (gave, torn) =
-      (omega (arith, steady.ends, gave.1), joined b.stream (none_met gave.0), inl (why, torn))
-  TakeFails-of handed b (Truncated due) hard (none, end, left, cut, so_many) = (
-    omega (arith, steady.ends, end),
-    joined b.stream (none_met none),
-    inr (omega (arith, steady.ends, end), left, cut),
-  )
-  TakeFails-of handed b (Io e) hard (fault, none) = (
-    omega (arith, steady.ends, none),
-    inl (failed_behind (faults_of s) (faults_of m) (faults_of b.stream) e steady.faults fault, hard e refl),
-  )
+  pub IsMany-still : (more count : ℕ) (t : Unbuffered S) → OnlyInterrupts (faults_of m) (faults_of t) → IsMany count m t
+      → IsMany (more + count) s t
+  IsMany-still more count t met many = omega (arith, many, no_shorter steady.faults, no_shorter met)
 
   -- where no fault was met, none is why
   no_fault : (b : InBody S) (e : Error) → Fails m (Io e) b.stream b.rest → faults_of b.stream ≡ faults_of m → ⊥
   no_fault b e fault same =
       omega (arith, ap length fault.0, ap length same, length-append (faults_of m) (e ∷ []))
 
-  pub TakeFails-behind : (handed more : List ℕ) (b : InBody S) (why : BodyError) → FinishFails m more why b.stream b.rest
-      → EachGave m b.stream → TakeFails s (handed ++ more) why b
-  TakeFails-behind handed more b why (inl fails) gave =
-      TakeFails-of (handed ++ more) b why
-      (λ e is. absurd (no_fault b e (subst (λ x. Fails m x b.stream b.rest) is fails) gave.0)) fails
-  TakeFails-behind handed more b why (inr (e, is, other, many)) gave =
-      subst (λ x. TakeFails s (handed ++ more) x b) (sym is) (
-        omega (arith, steady.ends, gave.1),
-        inr (
-          joined b.stream (none_met gave.0),
-          record { other = other; large = omega (arith, many, length-append handed more) },
-        ),
-      )
+  -- why a read in a body failed is why the whole isn't taken
+  pub TakeFails-of : {W : Type 0} (handed : List ℕ) (b : InBody S) (w : Buffered W StdPolicy) (e : Untaken)
+      → ((why : Error) → e ≡ Body (Io why) → ¬ (IsInterrupt why)) → FailsOn m e b w → TakeFails s handed e b w
+  TakeFails-of handed b w (Body (Wrong why)) hard ((gave, torn), sent) =
+      (omega (arith, steady.ends, gave.1), joined b.stream (none_met gave.0), inl (why, torn))
+  TakeFails-of handed b w (Body (Truncated due)) hard ((none, end, left, cut, so_many), sent) = (
+    omega (arith, steady.ends, end),
+    joined b.stream (none_met none),
+    inr (omega (arith, steady.ends, end), left, cut),
+  )
+  TakeFails-of handed b w (Body (Io e)) hard ((fault, none), sent) = (
+    omega (arith, steady.ends, none),
+    (failed_behind (faults_of s) (faults_of m) (faults_of b.stream) e steady.faults fault, hard e refl),
+    elim sent [ inl same ↦ absurd (no_fault b e (fault, none) (ap (λ l. l.reads.faults) same)) | inr all ↦ all ],
+  )
+  TakeFails-of handed b w (Unsent e) hard gave = steadily (steady_none gave)
+  TakeFails-of handed b w Many hard gave = elim gave [ ]
+
+  pub TakeFails-behind : {W : Type 0} (handed more : List ℕ) (b : InBody S) (w : Buffered W StdPolicy) (why : BodyError)
+      → FinishFails m more why b.stream b.rest → EachGave m b.stream → TakeFails s (handed ++ more) (unfinished why) b w
+  TakeFails-behind handed more b w (Wrong why) (inl (gave, torn)) same =
+      (omega (arith, steady.ends, gave.1), joined b.stream (none_met gave.0), inl (why, torn))
+  TakeFails-behind handed more b w (Truncated due) (inl (none, end, left, cut, many)) same = absurd (omega (arith, end, same.1))
+  TakeFails-behind handed more b w (Io e) (inl fails) same = absurd (no_fault b e fails same.0)
+  TakeFails-behind handed more b w (Wrong why) (inr (e, is, other, many)) same = absurd (cc)
+  TakeFails-behind handed more b w (Truncated due) (inr (e, is, other, many)) same = absurd (cc)
+  TakeFails-behind handed more b w (Io why) (inr (e, is, other, many)) same =
+      (steadily (steady_none same), omega (arith, many, length-append handed more))
 
 -- a call that goes into no message takes nothing
 pub nothing_went : {R : Type 0} {remaining : R → Option (List ℕ)} {s t : ReaderState R Heads} {answer : NextAnswer BadHead}
@@ -179,6 +183,44 @@ pub unasked : {S : Type 0} (s t : Unbuffered S) (r : Rest) → IsRest r [] [] �
     → EachGave s t
 unasked s t r none (inl same) = (ap (λ l. l.reads.faults) same, ap (λ l. l.reads.zero_reads) same)
 unasked s t r none (inr over) = absurd (none_asked r (s.left ++ over.came) none over.such)
+
+pub unasked_log : {S : Type 0} (s t : Unbuffered S) (r : Rest) → IsRest r [] [] → AskedWhere (Unended r) s t
+    → t.log ≡ s.log
+unasked_log s t r none (inl same) = same
+unasked_log s t r none (inr over) = absurd (none_asked r (s.left ++ over.came) none over.such)
+
+-- nor where what comes next is wrong
+pub wrong_unasked : {S : Type 0} (s t : Unbuffered S) (r : Rest) (name : Malformed) → IsWrongNext r s.left name
+    → AskedWhere (GoesOn r []) s t → t.log ≡ s.log
+wrong_unasked s t (Bytes n) name wrong asked = elim wrong [ ]
+wrong_unasked s t (Chunks limits place) name wrong (inl same) = same
+wrong_unasked s t (Chunks limits place) name wrong (inr over) =
+    let on = over.such in
+    let later = on.more.0 in
+    let all = (s.left ++ over.came) ++ later in
+    absurd (wrong.1 (over.came ++ later) all [] on.more.1
+    (sym (append_assoc s.left over.came later) ∙ sym (append-nil all)) (on.onward later on.more.1 on.more.3))
+
+-- why a read fails is said of what it asked
+pub Fails-asked : {S : Type 0} (s m : Unbuffered S) (e : BodyError) (t : Unbuffered S) (r : Rest) → m.log ≡ s.log
+    → Fails m e t r → Fails s e t r
+Fails-asked s m (Wrong why) t r same (gave, torn) =
+    ((gave.0 ∙ ap (λ l. l.reads.faults) same, gave.1 ∙ ap (λ l. l.reads.zero_reads) same), torn)
+Fails-asked s m (Truncated due) t r same (none, end, left, cut, many) = (
+  none ∙ ap (λ l. l.reads.faults) same,
+  end ∙ ap (λ l. l.reads.zero_reads + 1) same,
+  left,
+  cut,
+  many,
+)
+Fails-asked s m (Io e) t r same (fault, none) =
+    (fault ∙ ap (λ l. l.reads.faults ++ e ∷ []) same, none ∙ ap (λ l. l.reads.zero_reads) same)
+
+-- all was sent where the end of a body wasn't taken
+pub unfinished_sent : (e : BodyError) → sent_till (unfinished e) ≡ Ok tt
+unfinished_sent (Wrong why) = refl
+unfinished_sent (Truncated due) = refl
+unfinished_sent (Io e) = refl
 
 -- what was read, and what ended it, is the whole body
 pub whole_taken : {R : Type 0} (remaining : R → Option (List ℕ)) (b m : InBody R) (payload : List ℕ) (t : Unbuffered R) (len : ℕ)

@@ -1,14 +1,11 @@
 -- What is answered to requests.
-use Rattle.std.specs.Prelude.{◌≡◌, ◌≢◌, ℕ, ◌+◌, ◌-◌, ◌^◌, ◌<◌, ◌≤◌, ◌⊎◌, ◌&&◌, nat_lt, if◌then◌else◌, Bool, true, false, List, [], ◌∷◌, ◌++◌, All, length, drop, Option, Result, Ok, Err, MatchResult, OnOk, IfErr, codes}
+use Rattle.std.specs.Prelude.{◌≡◌, ◌≢◌, ℕ, ◌+◌, ◌-◌, ◌^◌, ◌<◌, ◌≤◌, ◌⊎◌, ◌&&◌, nat_lt, if◌then◌else◌, Bool, true, false, List, [], ◌∷◌, ◌++◌, All, length, drop, Option, Result, Ok, Err, MatchResult, IfErr, IsErr, ⊤, codes}
 use Rattle.std.specs.Fmt.{decimal}
 use Rattle.std.specs.IoError.{error_kind}
 use Rattle.std.specs.declared.io.Error.{Error}
 use Rattle.std.specs.declared.io.ErrorKind.TheVariants.{Interrupted, Other}
-use Rattle.redux_buffer.specs.Faults.{FaultAfterInterrupts, MetInterrupts, OnlyInterrupts, SendErrorCaused}
-use Rattle.redux_buffer.specs.GrowError.{GrowthFailed}
-use Rattle.buffer_redux.specs.BufWriter.{FrontAlong}
+use Rattle.redux_buffer.specs.Faults.{FaultAfterInterrupts, OnlyInterrupts}
 use Rattle.buffer_redux.specs.Buffered.{Buffered}
-use Rattle.buffer_redux.specs.Policy.{std_write_rules}
 use Rattle.buffer_redux.specs.StreamLog.{StreamLog}
 use Rattle.buffer_redux.specs.Unbuffer.{StreamWent, Unbuffered}
 use Rattle.buffer_redux.specs.declared.policy.StdPolicy.{StdPolicy}
@@ -23,10 +20,16 @@ use Rattle.messages.specs.declared.head.Extent.TheVariants.{Sized, Chunked}
 use Rattle.messages.specs.declared.head.ParsedHead.{ParsedHead}
 use Rattle.messages.specs.Heads.{IsHead, heads}
 use Rattle.messages.specs.declared.head.Heads.{Heads}
-use Rattle.messages.specs.Messages.{AreMessages, InBody, InTurn, IsRest, IsWrongNext, Message, Onward, body_of}
+use Rattle.messages.specs.Messages.{AreMessages, EachGave, Fails, InBody, InTurn, IsRest, IsWrongNext, Message, Onward, body_of}
 use Rattle.programs.specs.Streams.{AllSent, EndsOnce}
 use Rattle.requests.specs.declared.Place.{Place}
 use Rattle.requests.specs.declared.Place.TheVariants.{Before, Inside}
+use Rattle.requests.specs.declared.Ending.{Ending}
+use Rattle.requests.specs.declared.Ending.TheVariants as stop
+use Rattle.requests.specs.declared.Ending.TheVariants.{Over, Unread}
+use Rattle.requests.specs.declared.Untaken.{Untaken}
+use Rattle.requests.specs.declared.Untaken.TheVariants.{Body, Unsent, Many}
+use Rattle.requests.specs.Sending.{IsUnflushed, Puts, SendsHeld, Writes}
 
 -- a call for a body, and a refusal, each where there is one
 abbrev pub called : Bool → List ℕ
@@ -128,34 +131,44 @@ IsPart (Before requests) taken handed = (taken ≡ []) × (handed ≡ [])
 IsPart (Inside body) taken handed = (wire : List ℕ) × (taken ≡ body.head ++ wire) × IsHead body.head body.said
     × Onward (body_of body.said.extent) wire handed body.rest
 
--- an error says that this is more than is counted
-pub record IsCount (e : Error) (count : ℕ) : Type 0 where
-  pub other : error_kind e ≡ Other
-  pub large : 2 ^ 64 ≤ count + 1
+-- behind interruptions a read failed so
+abbrev pub ReadFails : {S : Type 0} → Unbuffered S → Error → Unbuffered S → Type 0
+ReadFails s e t = FaultAfterInterrupts (faults_of s) (faults_of t) e × (error_kind e ≢ Interrupted)
 
--- why no more is read: behind interruptions a read failed so; or there were too many of them, with what was counted before
-abbrev pub ReadStops : {S : Type 0} → ℕ → Unbuffered S → Error → Unbuffered S → Type 0
-ReadStops count s e t = (FaultAfterInterrupts (faults_of s) (faults_of t) e × (error_kind e ≢ Interrupted))
-    ⊎ (OnlyInterrupts (faults_of s) (faults_of t) × IsCount e (count + (length (faults_of t) - length (faults_of s))))
+-- with the interruptions that were met, these are more than are counted
+abbrev pub IsMany : {S : Type 0} → ℕ → Unbuffered S → Unbuffered S → Type 0
+IsMany count s t = 2 ^ 64 ≤ count + (length (faults_of t) - length (faults_of s)) + 1
 
--- why a body isn't taken whole, of which this payload was: so, or it is wrong
-abbrev pub TakeFails : {S : Type 0} → Unbuffered S → List ℕ → BodyError → InBody S → Type 0
-TakeFails s handed (Io e) b = EndsOnce s.log.reads b.stream.log.reads × ReadStops (length handed) s e b.stream
-TakeFails s handed wrong b =
+-- why a read of a body handed none out: none comes, and where that was asked for all had been sent; or that wasn't sent, and
+-- nothing asked for
+abbrev pub FailsOn : {S W : Type 0} → Unbuffered S → Untaken → InBody S → Buffered W StdPolicy → Type 0
+FailsOn s (Body e) b w' = Fails s e b.stream b.rest × ((b.stream.log ≡ s.log) ⊎ AllSent w')
+FailsOn s (Unsent e) b w' = EachGave s b.stream
+FailsOn s Many b w' = ⊥
+
+-- why a body isn't taken whole, of which this payload was: so, or it is wrong, or more than is counted
+abbrev pub TakeFails : {S W : Type 0} → Unbuffered S → List ℕ → Untaken → InBody S → Buffered W StdPolicy → Type 0
+TakeFails s handed (Body (Io e)) b w' =
+    EndsOnce s.log.reads b.stream.log.reads × ReadFails s e b.stream × AllSent w'
+TakeFails s handed (Body wrong) b w' =
     EndsOnce s.log.reads b.stream.log.reads × OnlyInterrupts (faults_of s) (faults_of b.stream) × IsWrong s (Inside b)
+TakeFails s handed (Unsent e) b w' = ReadsSteadily s b.stream
+TakeFails s handed Many b w' = ReadsSteadily s b.stream × IsMany (length handed) s b.stream
 
--- why text wasn't sent: the writer failed, and before that met nothing but interruptions; or room for it was refused
-abbrev pub SendStops : {W : Type 0} → List ℕ → Buffered W StdPolicy → Error → Buffered W StdPolicy → Type 0
-SendStops text w e w' = SendErrorCaused w.log.writes w'.log.writes e
-    ⊎ ((more : ℕ) × (more ≤ length text) × GrowthFailed more w'.block e)
+-- why the end of a body wasn't taken, for which nothing was asked
+abbrev pub unfinished : BodyError → Untaken
+unfinished (Io e) = Many
+unfinished e = Body e
 
--- at Ok this text was sent and flushed, and the writer met nothing but interruptions; at an Err a beginning of it was accepted
-pub record Sends {W : Type 0} (tells : W → StreamLog) (trace : W → W → Type 0) (w : Buffered W StdPolicy) (text : List ℕ)
-    (sending : Result (Unit {0}) Error) (w' : Buffered W StdPolicy) : Type 0 where
-  pub front : FrontAlong tells trace std_write_rules w text sending w'
-  pub sent : OnOk sending (AllSent w')
-  pub met : OnOk sending (MetInterrupts w.log.writes w'.log.writes)
-  pub why : IfErr sending (λ e. SendStops text w e w')
+-- how sending went, where reading ended so
+abbrev pub sent_till : Untaken → Result (Unit {0}) Error
+sent_till (Body e) = Ok tt
+sent_till (Unsent e) = Err e
+sent_till Many = Ok tt
+
+abbrev pub sent_with : {A : Type 0} → Result A Untaken → Result (Unit {0}) Error
+sent_with (Ok a) = Ok tt
+sent_with (Err e) = sent_till e
 
 -- this is the 200 of the last of these messages
 abbrev pub IsLastAnswer : List Message → List ℕ → Type 0
@@ -168,25 +181,47 @@ IsLast messages taken true place text = text ≡ refused true
 IsLast messages taken false (Before requests) text = IsLastAnswer messages text
 IsLast messages taken false (Inside body) text = (text ≡ call_at (Inside body)) × (taken ≡ body.head)
 
--- of this text all but such a last part was sent and flushed, and sending that failed
+-- of this text all but such a last part was taken in, and then taking that in failed; or a flush did, behind the whole text
 pub record FailsLast {W : Type 0} (tells : W → StreamLog) (trace : W → W → Type 0) (Last : List ℕ → Type 0)
     (w : Buffered W StdPolicy) (text : List ℕ) (e : Error) (w' : Buffered W StdPolicy) : Type 0 where
   pub front : List ℕ
   pub part : List ℕ
   pub equal : text ≡ front ++ part
-  pub last : Last part
+  pub last : (part ≡ []) ⊎ Last part
   pub before : Buffered W StdPolicy
-  pub sent : Sends tells trace w front (Ok tt) before
-  pub fails : Sends tells trace before part (Err e) w'
+  pub put : Puts tells trace w front (Ok tt) before
+  pub fails : Puts tells trace before part (Err e) w'
+
+-- what is sent behind a refusal, or a fault, ends so
+abbrev pub ending_of : Result (Unit {0}) Error → Ending
+ending_of (Ok x) = Over
+ending_of (Err e) = stop.Unsent e
+
+-- and how sending went, where a run ends so
+abbrev pub sending_of : Ending → Result (Unit {0}) Error
+sending_of (stop.Unsent e) = Err e
+sending_of ending = Ok tt
 
 -- how that ends a run: what is wrong is refused
-abbrev pub EndsBody : {W : Type 0} → (W → StreamLog) → (W → W → Type 0) → Buffered W StdPolicy → BodyError
+abbrev pub EndsBody : {W : Type 0} → (W → StreamLog) → (W → W → Type 0) → Buffered W StdPolicy → Untaken → Ending
+    → Buffered W StdPolicy → Type 0
+EndsBody tells trace w (Body (Io e)) ending w' = (ending ≡ Unread e) × (w' ≡ w)
+EndsBody tells trace w (Body wrong) ending w' = (answer : Result (Unit {0}) Error) × (ending ≡ ending_of answer)
+    × Puts tells trace w (refused true) answer w' × IsUnflushed w w'
+EndsBody tells trace w (Unsent e) ending w' = (ending ≡ stop.Unsent e) × (w' ≡ w)
+EndsBody tells trace w Many ending w' = (ending ≡ stop.Many) × (w' ≡ w)
+
+-- what is done at the end, and what is answered: what is held is sent, unless sending or reading failed
+abbrev pub EndsSent : {W : Type 0} → (W → StreamLog) → (W → W → Type 0) → Ending → Buffered W StdPolicy
     → Result (Unit {0}) Error → Buffered W StdPolicy → Type 0
-EndsBody tells trace w (Io e) answer w' = (answer ≡ Err e) × Sends tells trace w [] (Ok tt) w'
-EndsBody tells trace w wrong answer w' = Sends tells trace w (refused true) answer w'
+EndsSent tells trace Over w answer w' = SendsHeld tells trace w answer w'
+EndsSent tells trace stop.Many w answer w' = (sending : Result (Unit {0}) Error) × SendsHeld tells trace w sending w'
+    × MatchResult sending (λ x. IfErr answer (λ e. error_kind e ≡ Other) × IsErr answer) (λ e. answer ≡ Err e)
+EndsSent tells trace (Unread e) w answer w' = (answer ≡ Err e) × (w' ≡ w)
+EndsSent tells trace (stop.Unsent e) w answer w' = (answer ≡ Err e) × (w' ≡ w)
 
 module _ {R W : Type 0} (remaining : R → Option (List ℕ)) (tells : W → StreamLog) (trace : W → W → Type 0) where
-  -- of what was given, these messages went, and then these bytes; what was written is the answer to each, in their order, and
+  -- of what was given, these messages went, and then these bytes; what was taken in is the answer to each, in their order, and
   -- then this text; and where sending failed, it did in such a last part
   pub record Answers (messages : List Message) (s : Unbuffered R) (w : Buffered W StdPolicy) (taken last : List ℕ)
       (Last : List ℕ → Type 0) (t : Unbuffered R) (sending : Result (Unit {0}) Error) (w' : Buffered W StdPolicy) : Type 0 where
@@ -195,7 +230,7 @@ module _ {R W : Type 0} (remaining : R → Option (List ℕ)) (tells : W → Str
     pub went : StreamWent remaining s (bytes ++ taken) t
     pub text : List ℕ
     pub answers : InTurn IsAnswer messages text
-    pub sends : Sends tells trace w (text ++ last) sending w'
+    pub writes : Writes tells trace (s, w) (text ++ last) sending (t, w')
     pub fails : IfErr sending (λ e. FailsLast tells trace Last w (text ++ last) e w')
 
   -- messages went, each was answered, and another may follow
@@ -205,29 +240,42 @@ module _ {R W : Type 0} (remaining : R → Option (List ℕ)) (tells : W → Str
     pub keep : All (Keeps true) messages
     pub reads : ReadsSteadily s t
 
-  -- a run: behind the answers were written the call for a body that the client waits for, and a refusal of what is wrong; so
-  -- there is no 200 but for a whole message. It returns why sending failed, and then nothing was taken that comes behind what
-  -- failed; or all was sent, and it is over, or reading stopped. The end is asked for once
-  pub record Serves (s : Unbuffered R) (w : Buffered W StdPolicy) (place : Place R) (answer : Result (Unit {0}) Error)
+  -- why a run ends: it is over; or these are more than are counted; or a read failed, and all had been sent
+  abbrev pub EndsBy : Unbuffered R → List Message → List ℕ → List ℕ → Bool → Place R → Buffered W StdPolicy → Ending → Type 0
+  EndsBy s messages taken handed refuses place w' Over =
+      OnlyInterrupts (faults_of s) (faults_of (stream_at place)) × IsOver messages taken refuses s place
+  EndsBy s messages taken handed refuses place w' stop.Many = OnlyInterrupts (faults_of s) (faults_of (stream_at place))
+      × IsMany (length messages + length handed) s (stream_at place)
+  EndsBy s messages taken handed refuses place w' (Unread e) = ReadFails s e (stream_at place) × AllSent w'
+  EndsBy s messages taken handed refuses place w' (stop.Unsent e) = ⊤
+
+  -- a run, but for what is sent last: behind the answers were written the call for a body that the client waits for, and a refusal
+  -- of what is wrong; so there is no 200 but for a whole message. The end is asked for once
+  pub record Runs (s : Unbuffered R) (w : Buffered W StdPolicy) (place : Place R) (ending : Ending)
       (w' : Buffered W StdPolicy) : Type 0 where
     pub messages : List Message
     pub taken : List ℕ
     pub handed : List ℕ
     pub part : IsPart place taken handed
     pub refuses : Bool
-    pub sending : Result (Unit {0}) Error
     pub answers : Answers messages s w taken (call_at place ++ refused refuses) (IsLast messages taken refuses place)
-        (stream_at place) sending w'
+        (stream_at place) (sending_of ending) w'
     pub once : EndsOnce s.log.reads (stream_at place).log.reads
     pub wrong : refuses ≡ true → IsWrong s place
-    pub unsent : IfErr sending (λ e. answer ≡ Err e)
-    pub over : OnOk answer (OnlyInterrupts (faults_of s) (faults_of (stream_at place)) × IsOver messages taken refuses s place)
-    pub unread : OnOk sending (IfErr answer (λ e. ReadStops (length messages + length handed) s e (stream_at place)))
+    pub ends : EndsBy s messages taken handed refuses place w' ending
+
+  -- a run: where sending failed, it returns why, and nothing was taken that comes behind what failed; or all was sent
+  pub record Serves (s : Unbuffered R) (w : Buffered W StdPolicy) (place : Place R) (answer : Result (Unit {0}) Error)
+      (w' : Buffered W StdPolicy) : Type 0 where
+    pub ending : Ending
+    pub held : Buffered W StdPolicy
+    pub runs : Runs s w place ending held
+    pub last : EndsSent tells trace ending held answer w'
 
   -- one turn: a message went, or a read was interrupted; or the run ended
-  abbrev pub Turns : Unbuffered R → Buffered W StdPolicy → Result (ReaderState R Heads) (Place R × Result (Unit {0}) Error)
+  abbrev pub Turns : Unbuffered R → Buffered W StdPolicy → Result (ReaderState R Heads) (Place R × Ending)
       → Buffered W StdPolicy → Type 0
   Turns s w result w' = MatchResult result
       (λ next. (goes : Continues s w (left_of next) w')
       × (length (faults_of s) < length goes.messages + length (faults_of (left_of next))))
-      (λ e. Serves s w e.0 e.1 w')
+      (λ e. Runs s w e.0 e.1 w')

@@ -2,11 +2,11 @@
 //!
 //! 200 and that number, where all of the body came; 100 before it, where the client waits for that; 400 where what comes is no
 //! request, or its body is none, or ends early, and then no more. It ends behind a request after which none may follow, and
-//! where the stream does. It reads only where all that it answered was sent: each turn wants that (`sent`), and where sending
-//! fails, nothing was taken behind what failed (`IsLast`).
+//! where the stream does. It asks the stream only where all that it answered was sent, and sends only there and at the end
+//! (`Prompt`); where sending fails, nothing was taken behind what failed (`IsLast`).
 #![tactic(auto)]
 
-ghost use Rattle.std.specs.Prelude.{◌≡◌, ℕ, if◌then◌else◌, true, false, List, [], ◌++◌, codes, length, map, IfErr, IfOk, MatchResult, Ok, OnOk};
+ghost use Rattle.std.specs.Prelude.{◌≡◌, ℕ, ◌<◌, ◌≤◌, if◌then◌else◌, true, false, List, [], ◌++◌, codes, length, map, IfErr, IfOk, MatchResult, Ok, OnOk};
 ghost use Rattle.std.specs.IoError.{error_kind};
 ghost use Rattle.std.specs.List.{concat};
 ghost use Rattle.std.specs.declared.io.Error.{Error};
@@ -14,12 +14,13 @@ ghost use Rattle.redux_buffer.specs.Faults.{IsInterrupt};
 ghost use Rattle.buffer_redux.specs.Buffered.{Buffered};
 ghost use Rattle.buffer_redux.specs.declared.policy.StdPolicy.{StdPolicy};
 ghost use Rattle.codec.specs.NextPiece.{NextPiece};
-ghost use Rattle.codec.specs.PieceReader.{ReaderState, left_of};
+ghost use Rattle.chunked.specs.Between.{handed_out};
+ghost use Rattle.codec.specs.PieceReader.{IsSettled, ReaderState, left_of};
 ghost use Rattle.messages.specs.declared.head.Heads.{Heads};
 ghost use Rattle.messages.specs.Heads.{heads};
-ghost use Rattle.messages.specs.Messages.{Begun, InsideGoes, IsRest, answer_of};
-ghost use Rattle.programs.specs.Streams.{AllSent};
-ghost use Rattle.requests.specs.Answers.{EndsBody, ReadsSteadily, Sends, Serves, TakeFails, TakesWhole, Turns, accepted, called, has_body, length_line, refused, waits};
+ghost use Rattle.messages.specs.Messages.{Begun, EachGave, InsideGoes, IsRest, answer_of};
+ghost use Rattle.requests.specs.Sending.{Comes, IsHeld, IsUnflushed, Puts, SendsHeld, SendsUnless, Writes};
+ghost use Rattle.requests.specs.Answers.{EndsBody, EndsSent, FailsOn, ReadsSteadily, Serves, TakeFails, TakesWhole, Turns, accepted, called, ending_of, has_body, length_line, refused, sending_of, sent_till, sent_with, unfinished, waits};
 
 use buffer_redux::BufWriter;
 use buffer_redux::tell::{Tell, TellRead, TellWrite, Told};
@@ -48,7 +49,7 @@ fn serve<R: TellRead, W: TellWrite>(
     requests: Requests<R>,
     writer: &mut BufWriter<W>,
 ) -> (Place<R>, io::Result<()>)
-    requires sent { AllSent writer.old }
+    requires held { IsHeld writer.old }
     ensures { Serves R.remaining W.log W.trace (left_of requests) writer.old result.0 result.1 writer.new }
 {
     let mut next = requests;
@@ -57,24 +58,99 @@ fn serve<R: TellRead, W: TellWrite>(
             Ok(behind) => {
                 next = behind;
             }
-            Err(end) => return end,
+            Err((place, ending)) => {
+                let answer = send_last(ending, writer);
+                return (place, answer);
+            }
         }
     }
-    (Place::Before(next), Err(too_many()))
+    let answer = send_last(Ending::Many, writer);
+    (Place::Before(next), answer)
+}
+
+// Why no more is answered. Of these, only behind `Over` and `Many` something may be left to be sent.
+#[derive(Drop)]
+enum Ending {
+    // No message follows, or what follows was refused.
+    Over,
+    // So many turns aren't counted.
+    Many,
+    // A read failed.
+    Unread(io::Error),
+    // Sending failed.
+    Unsent(io::Error),
+}
+
+// Sends what is held at the end.
+fn send_last<W: TellWrite>(ending: Ending, writer: &mut BufWriter<W>) -> io::Result<()>
+    requires held { OnOk (sending_of ending) (IsHeld writer.old) }
+    ensures { EndsSent W.log W.trace ending writer.old result writer.new }
+{
+    match ending {
+        Ending::Over => send_held(writer),
+        Ending::Many => match send_held(writer) {
+            Ok(()) => Err(too_many()),
+            Err(e) => Err(e),
+        },
+        Ending::Unread(e) => Err(e),
+        Ending::Unsent(e) => Err(e),
+    }
 }
 
 // Answers one request, and goes on to the next. An `Err` is the end: there is none, or none may follow.
 fn answer<R: TellRead, W: TellWrite>(
     requests: Requests<R>,
     writer: &mut BufWriter<W>,
-) -> Result<Requests<R>, (Place<R>, io::Result<()>)>
-    requires sent { AllSent writer.old }
+) -> Result<Requests<R>, (Place<R>, Ending)>
+    requires held { IsHeld writer.old }
     ensures { Turns R.remaining W.log W.trace (left_of requests) writer.old result writer.new }
 {
-    match requests.next() {
+    match requests.next_buffered() {
         Ok(body) => answer_body(body, writer),
-        Err((requests, stop)) => stopped(requests, stop, writer),
+        Err(requests) => answer_next(requests, writer),
     }
+}
+
+// Answers a request whose head isn't buffered whole.
+fn answer_next<R: TellRead, W: TellWrite>(
+    requests: Requests<R>,
+    writer: &mut BufWriter<W>,
+) -> Result<Requests<R>, (Place<R>, Ending)>
+    requires held { IsHeld writer.old }
+    ensures { Turns R.remaining W.log W.trace (left_of requests) writer.old result writer.new }
+{
+    match send_to_ask(&requests, writer) {
+        Ok(()) => match requests.next() {
+            Ok(body) => answer_body(body, writer),
+            Err((requests, stop)) => stopped(requests, stop, writer),
+        },
+        Err(e) => Err((Place::Before(requests), Ending::Unsent(e))),
+    }
+}
+
+// Sends what is held where a further request has to be asked for.
+fn send_to_ask<R: TellRead, W: TellWrite>(
+    requests: &Requests<R>,
+    writer: &mut BufWriter<W>,
+) -> io::Result<()>
+    requires held { IsHeld writer.old }
+    ensures { SendsUnless W.log W.trace (IsSettled heads requests.now) writer.old result writer.new }
+{
+    if requests.is_settled() {
+        return Ok(());
+    }
+    send_held(writer)
+}
+
+// Sends what is held, if there is something.
+fn send_held<W: TellWrite>(writer: &mut BufWriter<W>) -> io::Result<()>
+    requires held { IsHeld writer.old }
+    ensures { SendsHeld W.log W.trace writer.old result writer.new }
+{
+    if writer.buffer().is_empty() {
+        return Ok(());
+    }
+    writer.flush()
 }
 
 // Refuses what is no request. A read that was interrupted is made again.
@@ -82,21 +158,31 @@ fn stopped<R: TellRead, W: TellWrite>(
     requests: Requests<R>,
     stop: Stop,
     writer: &mut BufWriter<W>,
-) -> Result<Requests<R>, (Place<R>, io::Result<()>)>
-    requires sent { AllSent writer.old }
-    ensures { (s : ReaderState R Heads) → s.ended ≡ false → NextPiece R.remaining heads s (answer_of stop) requests
-        → Turns R.remaining W.log W.trace (left_of s) writer.old result writer.new }
+) -> Result<Requests<R>, (Place<R>, Ending)>
+    ensures { (s : ReaderState R Heads) (w : Buffered W StdPolicy) → s.ended ≡ false
+        → NextPiece R.remaining heads s (answer_of stop) requests
+        → Comes W.log W.trace (left_of s, w) (left_of requests, writer.old)
+        → Turns R.remaining W.log W.trace (left_of s) w result writer.new }
 {
     if is_interrupt(&stop) {
         return Ok(requests);
     }
     match stop {
-        Stop::Ended => Err((Place::Before(requests), Ok(()))),
+        Stop::Ended => Err((Place::Before(requests), Ending::Over)),
         Stop::Bad(_) => {
-            let ending = refuse(writer);
+            let ending = ending_of(refuse(writer));
             Err((Place::Before(requests), ending))
         }
-        Stop::Io(e) => Err((Place::Before(requests), Err(e))),
+        Stop::Io(e) => Err((Place::Before(requests), Ending::Unread(e))),
+    }
+}
+
+fn ending_of(sending: io::Result<()>) -> Ending
+    ensures { result ≡ ending_of sending }
+{
+    match sending {
+        Ok(()) => Ending::Over,
+        Err(e) => Ending::Unsent(e),
     }
 }
 
@@ -113,14 +199,15 @@ fn is_interrupt(stop: &Stop) -> bool
 fn answer_body<R: TellRead, W: TellWrite>(
     body: Body<R>,
     writer: &mut BufWriter<W>,
-) -> Result<Requests<R>, (Place<R>, io::Result<()>)>
-    requires sent { AllSent writer.old }
-    ensures { (s : ReaderState R Heads) → Begun R.remaining s body
-        → Turns R.remaining W.log W.trace (left_of s) writer.old result writer.new }
+) -> Result<Requests<R>, (Place<R>, Ending)>
+    requires held { IsHeld writer.old }
+    ensures { (s : ReaderState R Heads) (w : Buffered W StdPolicy) → Begun R.remaining s body
+        → Writes W.log W.trace (left_of s, w) [] (Ok tt) (body.stream, writer.old)
+        → Turns R.remaining W.log W.trace (left_of s) w result writer.new }
 {
     match call_for_body(body.said(), writer) {
         Ok(()) => answer_called(body, writer),
-        Err(e) => Err((Place::Inside(body), Err(e))),
+        Err(e) => Err((Place::Inside(body), Ending::Unsent(e))),
     }
 }
 
@@ -128,23 +215,23 @@ fn answer_body<R: TellRead, W: TellWrite>(
 fn answer_called<R: TellRead, W: TellWrite>(
     body: Body<R>,
     writer: &mut BufWriter<W>,
-) -> Result<Requests<R>, (Place<R>, io::Result<()>)>
-    requires sent { AllSent writer.old }
+) -> Result<Requests<R>, (Place<R>, Ending)>
+    requires held { IsHeld writer.old }
     ensures { (s : ReaderState R Heads) (w : Buffered W StdPolicy) → Begun R.remaining s body
-        → Sends W.log W.trace w (called (waits body.said)) (Ok tt) writer.old
+        → Writes W.log W.trace (left_of s, w) (called (waits body.said)) (Ok tt) (body.stream, writer.old)
         → Turns R.remaining W.log W.trace (left_of s) w result writer.new }
 {
     let said = body.said();
-    match take_whole(body) {
+    match take_whole(body, writer) {
         Ok((len, requests)) => match accept(len, said, writer) {
             Ok(()) => {
                 if said.keeps {
                     Ok(requests)
                 } else {
-                    Err((Place::Before(requests), Ok(())))
+                    Err((Place::Before(requests), Ending::Over))
                 }
             }
-            Err(e) => Err((Place::Before(requests), Err(e))),
+            Err(e) => Err((Place::Before(requests), Ending::Unsent(e))),
         },
         Err((body, why)) => {
             let ending = unended(why, writer);
@@ -153,40 +240,74 @@ fn answer_called<R: TellRead, W: TellWrite>(
     }
 }
 
+// Why a body isn't taken whole.
+#[derive(Drop)]
+enum Untaken {
+    // It can't be read.
+    Body(BodyError),
+    // What was held couldn't be sent before the stream was asked.
+    Unsent(io::Error),
+    // It has more payload, or pieces, than are counted.
+    Many,
+}
+
 // Takes the whole body, and counts its payload.
-fn take_whole<R: TellRead>(body: Body<R>) -> Result<(u64, Requests<R>), (Body<R>, BodyError)>
+fn take_whole<R: TellRead, W: TellWrite>(
+    body: Body<R>,
+    writer: &mut BufWriter<W>,
+) -> Result<(u64, Requests<R>), (Body<R>, Untaken)>
+    requires held { IsHeld writer.old }
     ensures whole { IfOk result (λ r. TakesWhole R.remaining body (left_of r.1) r.0) }
     ensures steady { IfOk result (λ r. ReadsSteadily body.stream (left_of r.1)) }
     ensures part { IfErr result (λ e. (handed : List ℕ) × InsideGoes R.remaining body handed e.0
-        × TakeFails body.stream handed e.1 e.0) }
+        × TakeFails body.stream handed e.1 e.0 writer.new) }
+    ensures writes { MatchResult result
+        (λ r. Writes W.log W.trace (body.stream, writer.old) [] (Ok tt) (left_of r.1, writer.new))
+        (λ e. Writes W.log W.trace (body.stream, writer.old) [] (sent_till e.1) (e.0.stream, writer.new)) }
 {
     let mut body = body;
-    match payload_len(&mut body) {
+    match payload_len(&mut body, writer) {
         Ok(len) => match body.finish() {
             Ok(requests) => Ok((len, requests)),
-            Err((body, e)) => Err((body, e)),
+            Err((body, e)) => Err((body, unfinished(e))),
         },
         Err(e) => Err((body, e)),
     }
 }
 
+// Why the end of a body isn't taken, for which nothing is asked: a fault is our own.
+fn unfinished(e: BodyError) -> Untaken
+    ensures { result ≡ unfinished e }
+{
+    match e {
+        BodyError::Io(_) => Untaken::Many,
+        e => Untaken::Body(e),
+    }
+}
+
 // How many bytes of payload the body has, of which all is read. A read that was interrupted is made again; any other failure is
 // returned, so no answer counts a part of a body.
-fn payload_len<R: TellRead>(body: &mut Body<R>) -> Result<u64, BodyError>
+fn payload_len<R: TellRead, W: TellWrite>(
+    body: &mut Body<R>,
+    writer: &mut BufWriter<W>,
+) -> Result<u64, Untaken>
+    requires held { IsHeld writer.old }
     ensures goes { (payload : List ℕ) × InsideGoes R.remaining body.old payload body.new
         × MatchResult result (λ len. len ≡ length payload)
-        (λ e. TakeFails body.old.stream payload e body.new) }
+        (λ e. TakeFails body.old.stream payload e body.new writer.new) }
     ensures ended { OnOk result (IsRest body.new.rest [] []) }
     ensures steady { OnOk result (ReadsSteadily body.old.stream body.new.stream) }
+    ensures writes { Writes W.log W.trace (body.old.stream, writer.old) [] (sent_with result)
+        (body.new.stream, writer.new) }
 {
     let mut out = [0; 4096];
     let mut len = 0u64;
     for _read in 0..u64::MAX {
-        match body.read(&mut out) {
+        match read_on(body, &mut out, writer) {
             Ok(0) => return Ok(len),
             Ok(count) => {
                 let Some(sum) = len.checked_add(count as u64) else {
-                    return Err(BodyError::Io(too_many()));
+                    return Err(Untaken::Many);
                 };
                 len = sum;
             }
@@ -197,15 +318,61 @@ fn payload_len<R: TellRead>(body: &mut Body<R>) -> Result<u64, BodyError>
             }
         }
     }
-    Err(BodyError::Io(too_many()))
+    Err(Untaken::Many)
 }
 
-fn is_interrupted(e: &BodyError) -> bool
-    ensures yes { result ≡ true → (why : Error) × (e.now ≡ BodyError.Io why) × IsInterrupt why }
-    ensures no { (why : Error) → e.now ≡ BodyError.Io why → IsInterrupt why → result ≡ true }
+// Reads some payload. Where it isn't buffered, what is held is sent before the stream is asked.
+fn read_on<R: TellRead, W: TellWrite>(
+    body: &mut Body<R>,
+    out: &mut [u8],
+    writer: &mut BufWriter<W>,
+) -> Result<usize, Untaken>
+    requires some { 0 < length out.old }
+    requires held { IsHeld writer.old }
+    ensures bound { IfOk result (λ n. n ≤ length out.new) }
+    ensures goes { InsideGoes R.remaining body.old (handed_out out.new result) body.new }
+    ensures ended { result ≡ Ok 0 → IsRest body.new.rest [] [] }
+    ensures gave { OnOk result (EachGave body.old.stream body.new.stream) }
+    ensures fails { IfErr result (λ e. FailsOn body.old.stream e body.new writer.new) }
+    ensures writes { Writes W.log W.trace (body.old.stream, writer.old) [] (sent_with result)
+        (body.new.stream, writer.new) }
+{
+    let count = body.read_buffered(out);
+    if count > 0 {
+        return Ok(count);
+    }
+    if body.is_done() {
+        return Ok(0);
+    }
+    match send_unless_shown(body, writer) {
+        Ok(()) => match body.read(out) {
+            Ok(count) => Ok(count),
+            Err(e) => Err(Untaken::Body(e)),
+        },
+        Err(e) => Err(Untaken::Unsent(e)),
+    }
+}
+
+// Sends what is held where more of the body has to be asked for.
+fn send_unless_shown<R: TellRead, W: TellWrite>(
+    body: &Body<R>,
+    writer: &mut BufWriter<W>,
+) -> io::Result<()>
+    requires held { IsHeld writer.old }
+    ensures { SendsUnless W.log W.trace (0 < length body.now.stream.left) writer.old result writer.new }
+{
+    if !body.buffered().is_empty() {
+        return Ok(());
+    }
+    send_held(writer)
+}
+
+fn is_interrupted(e: &Untaken) -> bool
+    ensures yes { result ≡ true → (why : Error) × (e.now ≡ Untaken.Body (BodyError.Io why)) × IsInterrupt why }
+    ensures no { (why : Error) → e.now ≡ Untaken.Body (BodyError.Io why) → IsInterrupt why → result ≡ true }
 {
     match e {
-        BodyError::Io(e) => e.kind() == ErrorKind::Interrupted,
+        Untaken::Body(BodyError::Io(e)) => e.kind() == ErrorKind::Interrupted,
         _ => false,
     }
 }
@@ -217,20 +384,21 @@ fn too_many() -> io::Error
 }
 
 // Refuses a body that isn't whole, where that isn't the stream's fault.
-fn unended<W: TellWrite>(e: BodyError, writer: &mut BufWriter<W>) -> io::Result<()>
-    requires sent { AllSent writer.old }
+fn unended<W: TellWrite>(e: Untaken, writer: &mut BufWriter<W>) -> Ending
     ensures { EndsBody W.log W.trace writer.old e result writer.new }
 {
     match e {
-        BodyError::Wrong(_) => refuse(writer),
-        BodyError::Truncated(_) => refuse(writer),
-        BodyError::Io(e) => Err(e),
+        Untaken::Body(BodyError::Io(e)) => Ending::Unread(e),
+        Untaken::Body(_) => ending_of(refuse(writer)),
+        Untaken::Unsent(e) => Ending::Unsent(e),
+        Untaken::Many => Ending::Many,
     }
 }
 
 // Says how many bytes of payload there were, and whether another request may follow.
 fn accept<W: TellWrite>(len: u64, said: ParsedHead, writer: &mut BufWriter<W>) -> io::Result<()>
-    ensures { Sends W.log W.trace writer.old (accepted said len) result writer.new }
+    ensures puts { Puts W.log W.trace writer.old (accepted said len) result writer.new }
+    ensures unflushed { IsUnflushed writer.old writer.new }
 {
     if said.keeps {
         let head = b"HTTP/1.1 200 OK\r\nContent-Length: 21\r\nConnection: keep-alive\r\n\r\n";
@@ -247,34 +415,37 @@ fn accept_by<W: TellWrite>(
     bare: bool,
     writer: &mut BufWriter<W>,
 ) -> io::Result<()>
-    ensures { Sends W.log W.trace writer.old (head.now ++ (if bare then [] else length_line len)) result writer.new }
+    ensures puts { Puts W.log W.trace writer.old (head.now ++ (if bare then [] else length_line len)) result writer.new }
+    ensures unflushed { IsUnflushed writer.old writer.new }
 {
     if bare {
-        return send(writer, &[head]);
+        return put(writer, &[head]);
     }
     let mut digits = itoa::Buffer::new();
     let number = digits.format(len).as_bytes();
     let blanks: &[u8] = b"                    ";
-    send_line(head, &blanks[number.len()..], number, writer)
+    put_line(head, &blanks[number.len()..], number, writer)
 }
 
-fn send_line<'a, W: TellWrite>(
+fn put_line<'a, W: TellWrite>(
     head: &'a [u8],
     blanks: &'a [u8],
     number: &'a [u8],
     writer: &mut BufWriter<W>,
 ) -> io::Result<()>
-    ensures { Sends W.log W.trace writer.old (head.now ++ (blanks.now ++ (number.now ++ codes "\n"))) result writer.new }
+    ensures puts { Puts W.log W.trace writer.old (head.now ++ (blanks.now ++ (number.now ++ codes "\n"))) result
+        writer.new }
+    ensures unflushed { IsUnflushed writer.old writer.new }
 {
-    send(writer, &[head, blanks, number, b"\n"])
+    put(writer, &[head, blanks, number, b"\n"])
 }
 
 fn call_for_body<W: TellWrite>(said: ParsedHead, writer: &mut BufWriter<W>) -> io::Result<()>
-    requires sent { AllSent writer.old }
-    ensures { Sends W.log W.trace writer.old (called (waits said)) result writer.new }
+    ensures puts { Puts W.log W.trace writer.old (called (waits said)) result writer.new }
+    ensures unflushed { IsUnflushed writer.old writer.new }
 {
     if said.expects && has_body(said.extent) {
-        send(writer, &[b"HTTP/1.1 100 Continue\r\n\r\n"])
+        put(writer, &[b"HTTP/1.1 100 Continue\r\n\r\n"])
     } else {
         Ok(())
     }
@@ -290,19 +461,18 @@ fn has_body(extent: Extent) -> bool
 }
 
 fn refuse<W: TellWrite>(writer: &mut BufWriter<W>) -> io::Result<()>
-    ensures { Sends W.log W.trace writer.old (refused true) result writer.new }
+    ensures puts { Puts W.log W.trace writer.old (refused true) result writer.new }
+    ensures unflushed { IsUnflushed writer.old writer.new }
 {
-    send(
+    put(
         writer,
         &[b"HTTP/1.1 400 Bad Request\r\nContent-Length: 0\r\nConnection: close\r\n\r\n"],
     )
 }
 
-fn send<W: TellWrite>(writer: &mut BufWriter<W>, parts: &[&[u8]]) -> io::Result<()>
-    ensures { Sends W.log W.trace writer.old (concat (map (λ part. part.now) parts.now)) result writer.new }
+fn put<W: TellWrite>(writer: &mut BufWriter<W>, parts: &[&[u8]]) -> io::Result<()>
+    ensures puts { Puts W.log W.trace writer.old (concat (map (λ part. part.now) parts.now)) result writer.new }
+    ensures unflushed { IsUnflushed writer.old writer.new }
 {
-    match writer.write_parts(parts) {
-        Ok(()) => writer.flush(),
-        Err(e) => Err(e),
-    }
+    writer.write_parts(parts)
 }

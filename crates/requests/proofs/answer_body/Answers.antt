@@ -1,25 +1,32 @@
-use Rattle.std.proofs.Common.{[], ◌++◌, Err, false, arith, append-nil, refl}
+use Rattle.std.proofs.Common.{[], ◌++◌, Err, Ok, arith, append-nil, refl, inr, false}
 use Rattle.buffer_redux.specs.UnbufferLaws.{StreamWent-none}
 use Rattle.messages.specs.Messages.{InsideGoes}
+use Rattle.requests.specs.declared.Ending.TheVariants.{Unsent}
 use Rattle.requests.specs.declared.Place.TheVariants.{Inside}
-use Rattle.requests.specs.Answers.{IsLast}
-use Rattle.requests.proofs.Answering.{FailsLast-of, Sends-more, Sends-none, Serves-sent, part_answered}
+use Rattle.requests.specs.Answers.{IsLast, called, waits}
+use Rattle.requests.proofs.Answering.{FailsLast-of, Runs-stopped, part_answered}
 use Rattle.requests.proofs.Reading.{begun_steady, is_part}
+use Rattle.requests.proofs.Sending.{Puts-more, Writes-after, Writes-put}
 use Rattle.requests.proofs.answer_body.Goals as goal
 
 pub answer_called-requires : goal.answer_called-requires
-answer_called-requires g c = record { sent = c.in-Ok.ensures.sent }
+answer_called-requires g c = record { held = c.in-Ok.ensures.puts.held c.requires.held }
 
 pub returns-in-Ok : goal.returns-in-Ok
-returns-in-Ok g c = λ s begun.
-    c.answer_called.ensures s c.args.writer.now begun (rw c.said.ensures at c.in-Ok.ensures)
+returns-in-Ok g c = λ s w begun writes.
+    let b = c.args.body in
+    let call = rw c.said.ensures at c.in-Ok.ensures in
+    c.answer_called.ensures s w begun
+    (Writes-after g.met.W.TellWrite.trace_joins (_, w) (b.stream, c.args.writer.now) (b.stream, c.call_for_body.new.writer) []
+    (called (waits b.said)) (Ok tt) writes (Writes-put b.stream call.puts call.unflushed))
 
 pub returns-in-Err : goal.returns-in-Err
-returns-in-Err g c = λ s begun.
-    let none : InsideGoes g.R.TellRead.remaining c.args.body [] c.args.body = record {
+returns-in-Err g c = λ s w begun writes.
+    let b = c.args.body in
+    let none : InsideGoes g.R.TellRead.remaining b [] b = record {
       takes = record {
         wire = [];
-        went = StreamWent-none g.R.TellRead.remaining c.args.body.stream;
+        went = StreamWent-none g.R.TellRead.remaining b.stream;
         onward = λ later payload is. is;
         backward = λ later whole is. (whole, refl, is);
       };
@@ -27,8 +34,10 @@ returns-in-Err g c = λ s begun.
       said = refl;
     } in
     let call = rw c.said.ensures at c.in-Err.ensures in
-    Serves-sent [] (Inside c.args.body) false (Err c.in-Err.e) (is_part begun none)
-    (part_answered begun none (Sends-more [] call)
-    (FailsLast-of (IsLast [] (c.args.body.head ++ none.takes.wire) false (Inside c.args.body)) (Err c.in-Err.e) (append-nil _)
-    (refl, append-nil c.args.body.head) (Sends-none g.met.W.TellWrite.trace_none c.args.writer.now c.requires.sent) call))
-    (omega (arith, (begun_steady begun).ends)) (λ odd. absurd (cc)) tt
+    let more = Puts-more [] call.puts in
+    Runs-stopped [] (Inside b) (is_part begun none) (omega (arith, (begun_steady begun).ends)) (Unsent c.in-Err.e)
+    (part_answered begun none
+    (Writes-after g.met.W.TellWrite.trace_joins (_, w) (b.stream, c.args.writer.now) (b.stream, c.call_for_body.new.writer) []
+    (called (waits b.said) ++ []) (Err c.in-Err.e) writes (Writes-put b.stream more call.unflushed))
+    (FailsLast-of (IsLast [] (b.head ++ none.takes.wire) false (Inside b)) (Err c.in-Err.e) refl
+    (inr (append-nil _, append-nil b.head)) writes.puts more)) tt

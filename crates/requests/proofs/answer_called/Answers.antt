@@ -1,8 +1,9 @@
-use Rattle.std.proofs.Common.{[], ◌∷◌, Err, Ok, true, false, ap, sym, ◌∙◌, refl, inl, arith}
+use Rattle.std.proofs.Common.{[], ◌∷◌, true, ap, sym, ◌∙◌, refl, inl, arith}
 use Rattle.std.proofs.lemmas.List.Elements.{All-cons, All-nil}
+use Rattle.requests.specs.declared.Ending.TheVariants.{Over, Unsent}
 use Rattle.requests.specs.declared.Place.TheVariants.{Before}
 use Rattle.requests.specs.Answers.{Keeps}
-use Rattle.requests.proofs.Answering.{Serves-sent, one_answered, torn_answered}
+use Rattle.requests.proofs.Answering.{Runs-stopped, one_answered, torn_answered}
 use Rattle.requests.proofs.Reading.{begun_steady, no_shorter, steadily}
 use Rattle.requests.proofs.answer_called.Goals as goal
 
@@ -14,7 +15,8 @@ returns-then-said g c = λ s w begun call.
     let keeps = sym (ap (λ x. x.keeps) c.said-said.ensures) ∙ c.if-said.true in (
       record {
         messages = (b.head, whole.1) ∷ [];
-        answers = one_answered g.met.W.TellWrite.trace_joins begun whole c.said-said.ensures call c.in-Ok-accept.ensures;
+        answers = one_answered g.met.W.TellWrite.trace_joins begun whole c.said-said.ensures call c.in-Ok.ensures.writes
+            c.in-Ok-accept.ensures.puts c.in-Ok-accept.ensures.unflushed;
         keep = All-cons (Keeps true) (b.head, whole.1) [] (b.said, begun.is, keeps) (All-nil (Keeps true));
         reads = reads;
       },
@@ -26,9 +28,9 @@ returns-else-said g c = λ s w begun call.
     let b = c.args.body in
     let whole = c.in-Ok.ensures.whole in
     let reads = steadily (begun_steady begun) c.in-Ok.ensures.steady in
-    Serves-sent [] (Before c.in-Ok.requests) false (Ok tt) (refl, refl)
-    (one_answered g.met.W.TellWrite.trace_joins begun whole c.said-said.ensures call c.in-Ok-accept.ensures)
-    (omega (arith, reads.ends)) (λ odd. absurd (cc)) (
+    Runs-stopped [] (Before c.in-Ok.requests) (refl, refl) (omega (arith, reads.ends)) Over
+    (one_answered g.met.W.TellWrite.trace_joins begun whole c.said-said.ensures call c.in-Ok.ensures.writes
+    c.in-Ok-accept.ensures.puts c.in-Ok-accept.ensures.unflushed) (
       reads.faults,
       inl (
         record {
@@ -46,12 +48,13 @@ returns-else-said g c = λ s w begun call.
 
 pub returns-in-Err-accept : goal.returns-in-Err-accept
 returns-in-Err-accept g c = λ s w begun call.
-    Serves-sent [] (Before c.in-Ok.requests) false (Err c.in-Err-accept.e) (refl, refl)
-    (one_answered g.met.W.TellWrite.trace_joins begun c.in-Ok.ensures.whole c.said-said.ensures call c.in-Err-accept.ensures)
-    (omega (arith, (steadily (begun_steady begun) c.in-Ok.ensures.steady).ends)) (λ odd. absurd (cc)) tt
+    Runs-stopped [] (Before c.in-Ok.requests) (refl, refl)
+    (omega (arith, (steadily (begun_steady begun) c.in-Ok.ensures.steady).ends)) (Unsent c.in-Err-accept.e)
+    (one_answered g.met.W.TellWrite.trace_joins begun c.in-Ok.ensures.whole c.said-said.ensures call c.in-Ok.ensures.writes
+    c.in-Err-accept.ensures.puts c.in-Err-accept.ensures.unflushed) tt
 
 pub returns-in-Err : goal.returns-in-Err
 returns-in-Err g c = λ s w begun call.
     let part = c.in-Err.ensures.part in
     torn_answered g.met.W.TellWrite.trace_joins begun part.1 call c.in-Err.why c.unended-ending.result
-    part.2 c.unended-ending.ensures
+    part.2 c.in-Err.ensures.writes c.unended-ending.ensures

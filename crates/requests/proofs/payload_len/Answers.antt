@@ -1,19 +1,21 @@
-use Rattle.std.proofs.Common.{◌≡◌, ℕ, ◌<◌, ◌≤◌, List, [], ◌∷◌, ◌++◌, length, Result, Ok, Err, IfOk, ap, inr, refl, arith, rules, ◌∙◌, length-append}
+use Rattle.std.proofs.Common.{◌≡◌, ℕ, ◌≤◌, List, [], ◌∷◌, ◌++◌, length, Result, Ok, Err, IfOk, ap, refl, arith, rules, ◌∙◌, length-append, subst}
 use Rattle.std.proofs.lemmas.List.{length-take-le}
-use Rattle.messages.specs.declared.error.BodyError.{BodyError}
 use Rattle.chunked.specs.Between.{handed_out}
 use Rattle.messages.specs.MessagesLaws.{InsideGoes-joins, InsideGoes-none}
-use Rattle.requests.specs.Answers.{faults_of}
-use Rattle.requests.proofs.Reading.{TakeFails-of, interrupted_once, joined, none_met, steadily, steady_none}
+use Rattle.requests.specs.declared.Untaken.{Untaken}
+use Rattle.requests.specs.Answers.{faults_of, sent_till, sent_with}
+use Rattle.requests.specs.Sending.{Writes}
+use Rattle.requests.proofs.Reading.{TakeFails-of, interrupted_once, steadily, steady_none}
+use Rattle.requests.proofs.Sending.{Writes-after, Writes-none}
 use Rattle.requests.proofs.payload_len.Goals as goal
 use Rattle.requests.proofs.payload_len.Goals.{in-Ok+in-Some, in-Err+else-not-is_interrupted}
 
-some : (out : List ℕ) (answer : Result ℕ BodyError) (n : ℕ) → answer ≡ Ok n → IfOk answer (λ m. m ≤ length out)
+some : (out : List ℕ) (answer : Result ℕ Untaken) (n : ℕ) → answer ≡ Ok n → IfOk answer (λ m. m ≤ length out)
     → length (handed_out out answer) ≡ n
 some out (Ok m) n same fits = (let one : m ≡ n = cc in length-take-le m out fits ∙ one)
 some out (Err e) n same fits = cc
 
-none : (out : List ℕ) (answer : Result ℕ BodyError) (e : BodyError) → answer ≡ Err e → length (handed_out out answer) ≡ 0
+none : (out : List ℕ) (answer : Result ℕ Untaken) (e : Untaken) → answer ≡ Err e → length (handed_out out answer) ≡ 0
 none out (Ok m) e same = cc
 none out (Err x) e same = refl
 
@@ -24,128 +26,145 @@ loop-read-init g c = record {
   many = refl;
   steady = steady_none (refl, refl);
   turns = omega arith;
+  writes = Writes-none g.met.W.TellWrite.trace_none (c.args.body.now.stream, c.args.writer.now);
+  held = c.requires.held;
 }
+
+pub read_on-requires : goal.read_on-requires
+read_on-requires g c = record { some = search rules; held = c.loop-read.invariant.held }
 
 pub loop-read-preserved : goal.loop-read-preserved
 loop-read-preserved g c =
     let before = c.loop-read.invariant in
-    let handed = handed_out c.read.new.out c.read.result in
+    let handed = handed_out c.read_on.new.out c.read_on.result in
     let both = length-append before.payload handed in
+    let well : sent_with c.read_on.result ≡ Ok tt = elim c.match-read_on.branch [
+      | in-Ok+in-Some w ↦ (let is : c.read_on.result ≡ Ok w.in-Ok.count = cc in ap sent_with is)
+      | in-Err+else-not-is_interrupted w ↦
+          (let was = w.is_interrupted.ensures.yes w.if-not-is_interrupted.false in
+          let is : c.read_on.result ≡ Err w.in-Err.e = cc in ap sent_with (is ∙ ap Err was.1))
+    ] in
+    let more : Writes g.W.Tell.log g.W.TellWrite.trace (c.loop-read.body.stream, c.loop-read.writer) [] (Ok tt)
+    (c.read_on.new.body.stream, c.read_on.new.writer) = subst (λ r. Writes g.W.Tell.log g.W.TellWrite.trace
+    (c.loop-read.body.stream, c.loop-read.writer) [] r (c.read_on.new.body.stream, c.read_on.new.writer)) well
+    c.read_on.ensures.writes in
     record {
       payload = before.payload ++ handed;
-      goes = InsideGoes-joins g.R.TellRead.remaining c.args.body.now c.loop-read.body c.read.new.self before.payload handed
-          before.goes c.read.ensures.goes;
-      many = elim c.match-read.branch [
+      goes = InsideGoes-joins g.R.TellRead.remaining c.args.body.now c.loop-read.body c.read_on.new.body before.payload handed
+          before.goes c.read_on.ensures.goes;
+      many = elim c.match-read_on.branch [
         | in-Ok+in-Some w ↦
-            (let is : c.read.result ≡ Ok w.in-Ok.count = cc in
+            (let is : c.read_on.result ≡ Ok w.in-Ok.count = cc in
             omega (
               arith,
               both,
               before.many,
-              some c.read.new.out c.read.result w.in-Ok.count is c.read.ensures.bound,
+              some c.read_on.new.out c.read_on.result w.in-Ok.count is c.read_on.ensures.bound,
               w.in-Some.ensures,
             ))
         | in-Err+else-not-is_interrupted w ↦
-            (let is : c.read.result ≡ Err w.in-Err.e = cc in
-            omega (arith, both, before.many, none c.read.new.out c.read.result w.in-Err.e is))
+            (let is : c.read_on.result ≡ Err w.in-Err.e = cc in
+            omega (arith, both, before.many, none c.read_on.new.out c.read_on.result w.in-Err.e is))
       ];
-      steady = elim c.match-read.branch [
+      steady = elim c.match-read_on.branch [
         | in-Ok+in-Some w ↦ steadily before.steady (steady_none w.in-Ok.ensures.gave)
         | in-Err+else-not-is_interrupted w ↦
             (let was = w.is_interrupted.ensures.yes w.if-not-is_interrupted.false in
-            let fails = rw was.1 at w.in-Err.ensures.fails in
+            let fails = (rw was.1 at w.in-Err.ensures.fails).0 in
             steadily before.steady (record {
-              faults = interrupted_once (faults_of c.loop-read.body.stream) (faults_of c.read.new.self.stream) was.0 was.2
+              faults = interrupted_once (faults_of c.loop-read.body.stream) (faults_of c.read_on.new.body.stream) was.0 was.2
                   fails.0;
               ends = fails.1;
             }))
       ];
-      turns = elim c.match-read.branch [
+      turns = elim c.match-read_on.branch [
         | in-Ok+in-Some w ↦
-            (let is : c.read.result ≡ Ok w.in-Ok.count = cc in
+            (let is : c.read_on.result ≡ Ok w.in-Ok.count = cc in
             omega (
               arith,
               both,
               before.turns,
-              some c.read.new.out c.read.result w.in-Ok.count is c.read.ensures.bound,
+              some c.read_on.new.out c.read_on.result w.in-Ok.count is c.read_on.ensures.bound,
               w.in-Ok.count-test.1,
               ap length w.in-Ok.ensures.gave.0,
             ))
         | in-Err+else-not-is_interrupted w ↦
             (let was = w.is_interrupted.ensures.yes w.if-not-is_interrupted.false in
-            let one : faults_of c.read.new.self.stream ≡ faults_of c.loop-read.body.stream ++ was.0 ∷ [] =
-            (rw was.1 at w.in-Err.ensures.fails).0 in
+            let one : faults_of c.read_on.new.body.stream ≡ faults_of c.loop-read.body.stream ++ was.0 ∷ [] =
+            (rw was.1 at w.in-Err.ensures.fails).0.0 in
             omega (arith, both, before.turns, ap length one, length-append (faults_of c.loop-read.body.stream) (was.0 ∷ [])))
       ];
+      writes = Writes-after g.met.W.TellWrite.trace_joins (c.args.body.now.stream, c.args.writer.now)
+          (c.loop-read.body.stream, c.loop-read.writer) (c.read_on.new.body.stream, c.read_on.new.writer) [] [] (Ok tt)
+          before.writes more;
+      held = more.puts.held before.held;
     }
 
 pub returns-in-Ok-eq0 : goal.returns-in-Ok-eq0
 returns-in-Ok-eq0 g c =
     let before = c.loop-read.invariant in
-    let handed = handed_out c.read.new.out c.read.result in
-    let zero : c.read.result ≡ Ok 0 = cc in
-    let room : 0 < length c.read.new.out = search rules in
+    let handed = handed_out c.read_on.new.out c.read_on.result in
+    let zero : c.read_on.result ≡ Ok 0 = cc in
     record {
       goes = (
         before.payload ++ handed,
-        InsideGoes-joins g.R.TellRead.remaining c.args.body.now c.loop-read.body c.read.new.self before.payload handed
-            before.goes c.read.ensures.goes,
+        InsideGoes-joins g.R.TellRead.remaining c.args.body.now c.loop-read.body c.read_on.new.body before.payload handed
+            before.goes c.read_on.ensures.goes,
         omega (
           arith,
           length-append before.payload handed,
           before.many,
-          some c.read.new.out c.read.result 0 zero c.read.ensures.bound,
+          some c.read_on.new.out c.read_on.result 0 zero c.read_on.ensures.bound,
         ),
       );
-      ended = c.read.ensures.ended zero room;
-      steady = steadily before.steady (steady_none (rw zero at c.read.ensures.gave));
+      ended = c.read_on.ensures.ended zero;
+      steady = steadily before.steady (steady_none (rw zero at c.read_on.ensures.gave));
+      writes = Writes-after g.met.W.TellWrite.trace_joins (c.args.body.now.stream, c.args.writer.now)
+          (c.loop-read.body.stream, c.loop-read.writer) (c.read_on.new.body.stream, c.read_on.new.writer) [] [] (Ok tt)
+          before.writes (rw zero at c.read_on.ensures.writes);
     }
 
 pub returns-in_default-clause-goes : goal.returns-in_default-clause-goes
 returns-in_default-clause-goes g c =
     let before = c.loop-read.invariant in
-    let handed = handed_out c.read.new.out c.read.result in
-    let is : c.read.result ≡ Ok c.in-Ok.count = cc in (
+    let handed = handed_out c.read_on.new.out c.read_on.result in
+    let is : c.read_on.result ≡ Ok c.in-Ok.count = cc in (
       before.payload ++ handed,
-      InsideGoes-joins _ _ _ _ _ _ before.goes c.read.ensures.goes,
+      InsideGoes-joins _ _ _ _ _ _ before.goes c.read_on.ensures.goes,
       (
-        omega (arith, before.steady.ends, c.in-Ok.ensures.gave.1),
-        inr (
-          joined before.steady c.read.new.self.stream (none_met c.in-Ok.ensures.gave.0),
-          record {
-            other = c.too_many.ensures;
-            large = omega (
-              arith,
-              length-append before.payload handed,
-              before.many,
-              some c.read.new.out c.read.result c.in-Ok.count is c.read.ensures.bound,
-              c.in_default.ensures,
-            );
-          },
+        steadily before.steady (steady_none c.in-Ok.ensures.gave),
+        omega (
+          arith,
+          length-append before.payload handed,
+          before.many,
+          some c.read_on.new.out c.read_on.result c.in-Ok.count is c.read_on.ensures.bound,
+          c.in_default.ensures,
         ),
       ),
     )
+
+pub returns-in_default-clause-writes : goal.returns-in_default-clause-writes
+returns-in_default-clause-writes g c =
+    let before = c.loop-read.invariant in
+    let is : c.read_on.result ≡ Ok c.in-Ok.count = cc in
+    Writes-after g.met.W.TellWrite.trace_joins (c.args.body.now.stream, c.args.writer.now)
+    (c.loop-read.body.stream, c.loop-read.writer) (c.read_on.new.body.stream, c.read_on.new.writer) [] [] (Ok tt)
+    before.writes (rw is at c.read_on.ensures.writes)
 
 pub returns-then-not-is_interrupted-clause-goes : goal.returns-then-not-is_interrupted-clause-goes
 returns-then-not-is_interrupted-clause-goes g c =
     let before = c.loop-read.invariant in
-    let payload = before.payload ++ handed_out c.read.new.out c.read.result in (
+    let payload = before.payload ++ handed_out c.read_on.new.out c.read_on.result in (
       payload,
-      InsideGoes-joins _ _ _ _ _ _ before.goes c.read.ensures.goes,
-      TakeFails-of before.steady payload c.read.new.self c.in-Err.e
+      InsideGoes-joins _ _ _ _ _ _ before.goes c.read_on.ensures.goes,
+      TakeFails-of before.steady payload c.read_on.new.body c.read_on.new.writer c.in-Err.e
           (λ why same is. (let odd = c.is_interrupted.ensures.no why same is in absurd (cc))) c.in-Err.ensures.fails,
     )
 
-pub returns-clause-goes : goal.returns-clause-goes
-returns-clause-goes g c =
-    let before = c.loop-read.invariant in (
-      before.payload,
-      before.goes,
-      (
-        omega (arith, before.steady.ends),
-        inr (
-          before.steady.faults,
-          record { other = c.too_many-2.ensures; large = omega (arith, before.turns, c.loop-read-test.false) },
-        ),
-      ),
-    )
+pub returns-then-not-is_interrupted-clause-writes : goal.returns-then-not-is_interrupted-clause-writes
+returns-then-not-is_interrupted-clause-writes g c =
+    let before = c.loop-read.invariant in
+    let is : c.read_on.result ≡ Err c.in-Err.e = cc in
+    Writes-after g.met.W.TellWrite.trace_joins (c.args.body.now.stream, c.args.writer.now)
+    (c.loop-read.body.stream, c.loop-read.writer) (c.read_on.new.body.stream, c.read_on.new.writer) [] []
+    (sent_till c.in-Err.e) before.writes (rw is at c.read_on.ensures.writes)

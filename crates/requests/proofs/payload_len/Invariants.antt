@@ -1,6 +1,7 @@
-use Rattle.std.proofs.Common.{◌≡◌, ℕ, ◌+◌, ◌≤◌, List, length}
+use Rattle.std.proofs.Common.{◌≡◌, ℕ, ◌+◌, ◌≤◌, List, [], length, Ok}
 use Rattle.messages.specs.Messages.{InsideGoes}
 use Rattle.requests.specs.Answers.{ReadsSteadily, faults_of}
+use Rattle.requests.specs.Sending.{IsHeld, Writes}
 use Rattle.requests.proofs.payload_len.Given as goal
 
 -- this payload was read, and each turn read some of it, or was interrupted
@@ -11,4 +12,7 @@ invariant-loop-read g l = record {
   many : l.len ≡ length payload;
   steady : ReadsSteadily l.initial.body.stream l.body.stream;
   turns : l._read + length (faults_of l.initial.body.stream) ≤ length payload + length (faults_of l.body.stream);
+  writes : Writes g.W.Tell.log g.W.TellWrite.trace (l.initial.body.stream, l.initial.writer) [] (Ok tt)
+      (l.body.stream, l.writer);
+  held : IsHeld l.writer;
 }

@@ -1,11 +1,13 @@
-use Rattle.std.proofs.Common.{[], ◌++◌, true, inr, refl, arith, length-append}
+use Rattle.std.proofs.Common.{[], ◌++◌, true, refl, arith, length-append}
 use Rattle.std.proofs.lemmas.List.Elements.{All-append, All-nil}
 use Rattle.buffer_redux.specs.UnbufferLaws.{StreamWent-none}
 use Rattle.codec.specs.PieceReader.{left_of}
+use Rattle.requests.specs.declared.Ending.TheVariants.{Many}
 use Rattle.requests.specs.declared.Place.TheVariants.{Before}
 use Rattle.requests.specs.Answers.{Keeps}
-use Rattle.requests.proofs.Answering.{Answers-joins, IsLastAnswer-after, Sends-none, Serves-after, Serves-unread, none_answered}
+use Rattle.requests.proofs.Answering.{Answers-joins, IsLastAnswer-after, Runs-after, Runs-stopped, none_answered}
 use Rattle.requests.proofs.Reading.{steadily, steady_none}
+use Rattle.requests.proofs.Sending.{Writes-none}
 use Rattle.requests.proofs.serve.Goals as goal
 
 pub loop-message-init : goal.loop-message-init
@@ -13,15 +15,13 @@ loop-message-init g c = record {
   goes = record {
     messages = [];
     answers = none_answered (StreamWent-none g.R.TellRead.remaining (left_of c.args.requests))
-        (Sends-none g.met.W.TellWrite.trace_none c.args.writer.now c.requires.sent) tt;
+        (Writes-none g.met.W.TellWrite.trace_none (left_of c.args.requests, c.args.writer.now)) tt;
     keep = All-nil (Keeps true);
     reads = steady_none (refl, refl);
   };
   turns = omega arith;
+  held = c.requires.held;
 }
-
-pub answer-requires : goal.answer-requires
-answer-requires g c = record { sent = c.loop-message.invariant.goes.answers.sends.sent }
 
 pub loop-message-preserved : goal.loop-message-preserved
 loop-message-preserved g c =
@@ -36,17 +36,23 @@ loop-message-preserved g c =
         reads = steadily a.reads b.reads;
       };
       turns = omega (arith, before.turns, c.in-Ok.ensures.1, length-append a.messages b.messages);
+      held = b.answers.writes.puts.held before.held;
     }
 
 pub returns-in-Err : goal.returns-in-Err
-returns-in-Err g c =
-    Serves-after g.met.W.TellWrite.trace_joins c.loop-message.invariant.goes c.in-Err.end.1 c.in-Err.ensures
+returns-in-Err g c = record {
+  ending = c.in-Err.ending;
+  held = c.answer.new.writer;
+  runs = Runs-after g.met.W.TellWrite.trace_joins c.loop-message.invariant.goes c.in-Err.ending c.in-Err.ensures;
+  last = c.send_last-answer.ensures;
+}
 
 pub returns : goal.returns
 returns g c =
-    let before = c.loop-message.invariant in
-    Serves-unread [] (Before c.loop-message.next) c.too_many.result (refl, refl) before.goes.answers
-    (omega (arith, before.goes.reads.ends)) (inr (
-      before.goes.reads.faults,
-      record { other = c.too_many.ensures; large = omega (arith, before.turns, c.loop-message-test.false) },
-    ))
+    let before = c.loop-message.invariant in record {
+      ending = Many;
+      held = c.loop-message.writer;
+      runs = Runs-stopped [] (Before c.loop-message.next) (refl, refl) (omega (arith, before.goes.reads.ends)) Many
+          before.goes.answers (before.goes.reads.faults, omega (arith, before.turns, c.loop-message-test.false));
+      last = c.send_last-answer-2.ensures;
+    }

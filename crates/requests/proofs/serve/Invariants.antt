@@ -1,6 +1,7 @@
 use Rattle.std.proofs.Common.{◌+◌, ◌≤◌, length}
 use Rattle.codec.specs.PieceReader.{left_of}
 use Rattle.requests.specs.Answers.{Continues, faults_of}
+use Rattle.requests.specs.Sending.{IsHeld}
 use Rattle.requests.proofs.serve.Given as goal
 
 -- the messages that went are answered, and each turn was of one, or of a read that was interrupted
@@ -9,4 +10,5 @@ invariant-loop-message g l = record {
   goes : Continues g.R.TellRead.remaining g.W.Tell.log g.W.TellWrite.trace (left_of l.fn.requests) l.initial.writer
       (left_of l.next) l.writer;
   turns : l._message + length (faults_of (left_of l.fn.requests)) ≤ length goes.messages + length (faults_of (left_of l.next));
+  held : IsHeld l.writer;
 }

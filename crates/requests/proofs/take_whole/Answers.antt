@@ -1,7 +1,8 @@
-use Rattle.std.proofs.Common.{◌++◌}
+use Rattle.std.proofs.Common.{[], ◌++◌, Ok, inl}
 use Rattle.codec.specs.PieceReader.{left_of}
 use Rattle.messages.specs.MessagesLaws.{InsideGoes-joins}
-use Rattle.requests.proofs.Reading.{TakeFails-behind, steadily, steady_none, unasked, whole_taken}
+use Rattle.requests.proofs.Reading.{TakeFails-behind, steadily, steady_none, unasked, unasked_log, unfinished_sent, whole_taken}
+use Rattle.requests.proofs.Sending.{Writes-after, Writes-read}
 use Rattle.requests.proofs.take_whole.Goals as goal
 
 pub returns-in-Ok-finish-clause-whole : goal.returns-in-Ok-finish-clause-whole
@@ -14,16 +15,36 @@ pub returns-in-Ok-finish-clause-steady : goal.returns-in-Ok-finish-clause-steady
 returns-in-Ok-finish-clause-steady g c =
     steadily c.in-Ok.ensures.steady (steady_none c.in-Ok-finish.ensures.ends.gave)
 
+pub returns-in-Ok-finish-clause-writes : goal.returns-in-Ok-finish-clause-writes
+returns-in-Ok-finish-clause-writes g c =
+    let m = c.payload_len.new.body in
+    let t = left_of c.in-Ok-finish.requests in
+    let v = c.payload_len.new.writer in
+    Writes-after g.met.W.TellWrite.trace_joins (c.args.body.stream, c.args.writer.now) (m.stream, v) (t, v) [] [] (Ok tt)
+    c.in-Ok.ensures.writes (Writes-read g.met.W.TellWrite.trace_none v
+    (inl (unasked_log m.stream t m.rest c.in-Ok.ensures.ended c.in-Ok-finish.ensures.asked)))
+
 pub returns-in-Err-finish-clause-part : goal.returns-in-Err-finish-clause-part
 returns-in-Err-finish-clause-part g c =
     let read = c.in-Ok.ensures.goes in
     let rest = c.in-Err-finish.ensures.ends in (
       read.0 ++ rest.0,
       InsideGoes-joins g.R.TellRead.remaining c.args.body c.payload_len.new.body c.in-Err-finish.body read.0 rest.0 read.1 rest.1,
-      TakeFails-behind c.in-Ok.ensures.steady read.0 rest.0 c.in-Err-finish.body c.in-Err-finish.e rest.2
+      rw c.unfinished.ensures (TakeFails-behind c.in-Ok.ensures.steady read.0 rest.0 c.in-Err-finish.body
+          c.payload_len.new.writer c.in-Err-finish.e rest.2
           (unasked c.payload_len.new.body.stream c.in-Err-finish.body.stream c.payload_len.new.body.rest c.in-Ok.ensures.ended
-          c.in-Err-finish.ensures.asked),
+          c.in-Err-finish.ensures.asked)),
     )
+
+pub returns-in-Err-finish-clause-writes : goal.returns-in-Err-finish-clause-writes
+returns-in-Err-finish-clause-writes g c =
+    let m = c.payload_len.new.body in
+    let t = c.in-Err-finish.body in
+    let v = c.payload_len.new.writer in
+    rw (c.unfinished.ensures, unfinished_sent c.in-Err-finish.e)
+    (Writes-after g.met.W.TellWrite.trace_joins (c.args.body.stream, c.args.writer.now) (m.stream, v) (t.stream, v) [] [] (Ok tt)
+    c.in-Ok.ensures.writes (Writes-read g.met.W.TellWrite.trace_none v
+    (inl (unasked_log m.stream t.stream m.rest c.in-Ok.ensures.ended c.in-Err-finish.ensures.asked))))
 
 pub returns-in-Err-clause-part : goal.returns-in-Err-clause-part
 returns-in-Err-clause-part g c =

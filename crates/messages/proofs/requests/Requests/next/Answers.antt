@@ -1,6 +1,4 @@
-use Rattle.std.proofs.Common.{◌≡◌, Ok, Some, sym, subst}
-use Rattle.codec.specs.NextPiece.{NextPiece}
-use Rattle.messages.specs.Heads.{heads}
+use Rattle.std.proofs.Common.{subst}
 use Rattle.messages.specs.Messages.{Begun}
 use Rattle.messages.specs.MessagesLaws.{Enters-begun, lent}
 use Rattle.messages.proofs.requests.Requests.next.Goals as goal

@@ -1,0 +1,74 @@
+-- What was sent before a further head was asked for.
+use Rattle.std.proofs.Common.{◌≡◌, ◌⊎◌, ◌<◌, ℕ, List, [], length, Option, Result, Ok, inl, inr, ap, arith}
+use Rattle.std.proofs.lemmas.List.{nil_from_length}
+use Rattle.std.specs.declared.io.Error.{Error}
+use Rattle.buffer_redux.specs.Buffered.{Buffered}
+use Rattle.buffer_redux.specs.StreamLog.{StreamLog}
+use Rattle.buffer_redux.specs.Unbuffer.{Unbuffered}
+use Rattle.buffer_redux.specs.declared.policy.StdPolicy.{StdPolicy}
+use Rattle.chunked.specs.Asking.{AskedWhere}
+use Rattle.codec.specs.Grammar.{IsOpen}
+use Rattle.codec.specs.NextPiece.{NextAnswer, NextPiece}
+use Rattle.codec.specs.NextPieceLaws.{AsksNone-settled}
+use Rattle.codec.specs.PieceReader.{IsSettled, ReaderState, left_of, rest}
+use Rattle.messages.specs.declared.head.BadHead.{BadHead}
+use Rattle.messages.specs.declared.head.Heads.{Heads}
+use Rattle.messages.specs.Heads.{heads}
+use Rattle.messages.specs.HeadsLaws.{heads_lawful}
+use Rattle.messages.specs.Messages.{GoesOn, InBody, IsRest, RunsShort}
+use Rattle.programs.specs.Streams.{AllSent}
+use Rattle.requests.specs.Sending.{Comes, SendsUnless, Writes}
+use Rattle.requests.proofs.Sending.{Writes-after, Writes-read, Writes-sent, open_empty, sent_then}
+use Rattle.requests.proofs.Reading.{wrong_unasked}
+
+-- what isn't settled is open
+pub open_where : {R : Type 0} (s : ReaderState R Heads) → (¬ (IsSettled heads s)) → IsOpen heads (rest s)
+open_where s unsettled = record {
+  no_piece = λ b. unsettled (inr (inl b));
+  not_wrong = λ e bad. unsettled (inr (inr (e, bad)));
+}
+
+-- a body was asked for only where all had been sent: what is buffered of it is none, and it goes on
+pub body_asked : {R W : Type 0} {tells : W → StreamLog} {trace : W → W → Type 0} (count : ℕ) (out : List ℕ) (m t : InBody R)
+    (w v : Buffered W StdPolicy) → SendsUnless tells trace (0 < length m.stream.left) w (Ok tt) v → count ≡ 0 → 0 < length out
+    → (¬ (IsRest m.rest [] [])) → RunsShort (length out) count m.rest m.stream.left
+    → AskedWhere (GoesOn m.rest []) m.stream t.stream → (t.stream.log ≡ m.stream.log) ⊎ AllSent v
+body_asked count out m t w v sends zero some goes_on short asked = elim (sent_then w v sends) [
+  | inl shown ↦ elim short [
+    | inl same ↦ absurd (omega (arith, same, zero, some))
+    | inr none ↦ elim none [
+      | inl done ↦ absurd (goes_on done)
+      | inr left ↦ elim left [
+        | inl empty ↦ absurd (omega (arith, shown, ap length empty))
+        | inr wrong ↦ inl (wrong_unasked m.stream t.stream m.rest wrong.0 wrong.1 asked)
+      ]
+    ]
+  ]
+  | inr all ↦ inr all
+]
+
+module _ {R W : Type 0} {remaining : R → Option (List ℕ)} {tells : W → StreamLog} {trace : W → W → Type 0}
+    (none : (u : W) → trace u u) (joins : (u v x : W) → trace u v → trace v x → trace u x) where
+  -- what was held was sent, where the stream was asked then
+  pub comes : (s : ReaderState R Heads) (w v : Buffered W StdPolicy) → SendsUnless tells trace (IsSettled heads s) w (Ok tt) v
+      → (answer : NextAnswer BadHead) (t : ReaderState R Heads) → NextPiece remaining heads s answer t
+      → Comes tells trace (left_of s, w) (left_of t, v)
+  comes s w v sends answer t next =
+      let asked : (t.reader.log ≡ s.reader.log) ⊎ AllSent v = elim (sent_then w v sends) [
+        | inl settled ↦ inl (AsksNone-settled remaining heads heads_lawful s settled answer t next)
+        | inr all ↦ inr all
+      ] in
+      record {
+        writes = Writes-after joins (left_of s, w) (left_of s, v) (left_of t, v) [] [] (Ok tt)
+            (Writes-sent none (left_of s) w v (Ok tt) sends (open_where s)) (Writes-read none v asked);
+        asked = asked;
+      }
+
+module _ {R W : Type 0} {tells : W → StreamLog} {trace : W → W → Type 0} (none : (u : W) → trace u u)
+    (joins : (u v x : W) → trace u v → trace v x → trace u x) where
+  -- what was held was sent where no more of a body is buffered
+  pub sends_empty : {answer : Result (Unit {0}) Error} (s m : Unbuffered R) (w v : Buffered W StdPolicy) → m.log ≡ s.log
+      → SendsUnless tells trace (0 < length m.left) w answer v → Writes tells trace (s, w) [] answer (m, v)
+  sends_empty {answer} s m w v same sends =
+      Writes-after joins (s, w) (m, w) (m, v) [] [] answer (Writes-read none w (inl same))
+      (Writes-sent none m w v answer sends (λ no. open_empty m.left (nil_from_length m.left (omega (arith, no)))))

@@ -1,0 +1,204 @@
+-- What is written and sent, one after another.
+use Rattle.std.proofs.Common.{◌≡◌, ℕ, ◌⊎◌, List, [], ◌∷◌, ◌++◌, length, Result, Ok, Err, OnOk, IfErr, sym, ap, subst, inl, inr, refl, arith, length-append}
+use Rattle.std.proofs.lemmas.Bool.{cases_lt}
+use Rattle.std.proofs.lemmas.List.{nil_from_length}
+use Rattle.std.specs.declared.io.Error.{Error}
+use Rattle.redux_buffer.specs.Faults.{MetInterrupts, MetInterrupts-joins, MetInterrupts-none, SendErrorCaused-after}
+use Rattle.buffer_redux.specs.BufWriter.{WasFlushed}
+use Rattle.buffer_redux.specs.Buffered.{Buffered}
+use Rattle.buffer_redux.specs.Policy.{std_write_rules}
+use Rattle.buffer_redux.specs.StreamLog.{StreamLog}
+use Rattle.buffer_redux.specs.Unbuffer.{Unbuffered}
+use Rattle.buffer_redux.specs.Block.{usable}
+use Rattle.buffer_redux.specs.WriteParts.{WritesParts}
+use Rattle.buffer_redux.specs.WritePartsLaws.{WritesParts-met}
+use Rattle.buffer_redux.specs.WritesAlongLaws.{BegunAlong-more, BegunAlong-of, FrontAlong-after, WasFlushed-along, WritesAlong-none}
+use Rattle.buffer_redux.specs.declared.policy.StdPolicy.{StdPolicy}
+use Rattle.codec.specs.Grammar.{IsOpen}
+use Rattle.messages.specs.Heads.{heads}
+use Rattle.messages.specs.HeadsLaws.{heads_lawful}
+use Rattle.programs.specs.Streams.{AllSent}
+use Rattle.requests.specs.Sending.{Both, IsHeld, IsStep, IsUnflushed, Prompt, PutStops, Puts, SendsHeld, SendsUnless, Steps, Writes}
+
+-- nothing settles nothing
+pub open_empty : (bytes : List ℕ) → bytes ≡ [] → IsOpen heads bytes
+open_empty bytes none = subst (IsOpen heads) (sym none) (record {
+  no_piece = λ b. absurd (omega (
+    arith,
+    heads_lawful.some b.piece b.payload b.is,
+    ap length b.equal,
+    length-append b.piece b.more,
+  ));
+  not_wrong = heads_lawful.nothing;
+})
+
+pub on_ok : {P : Type 0} (answer : Result (Unit {0}) Error) → P → OnOk answer P
+on_ok (Ok x) p = p
+on_ok (Err e) p = tt
+
+-- steps behind others
+Steps-joins : {R W : Type 0} (tells : W → StreamLog) (trace : W → W → Type 0) (a m b : Both R W) (first then : List (Both R W))
+    → Steps tells trace a first m → Steps tells trace m then b → Steps tells trace a (then ++ first) b
+Steps-joins tells trace a m b first [] p q = subst (Steps tells trace a first) q p
+Steps-joins tells trace a m b first (x ∷ earlier) p (before, step) =
+    (Steps-joins tells trace a m x first earlier p before, step)
+
+module _ {W : Type 0} {tells : W → StreamLog} {trace : W → W → Type 0} where
+  -- a beginning of some text is one of more
+  pub Puts-more : {w w' : Buffered W StdPolicy} {text : List ℕ} {e : Error} (more : List ℕ)
+      → Puts tells trace w text (Err e) w' → Puts tells trace w (text ++ more) (Err e) w'
+  Puts-more {w} {w'} {text} {e} more p = record {
+    front = BegunAlong-more tells trace std_write_rules w w' text more p.front;
+    held = tt;
+    met = tt;
+    why = longer p.why;
+  }
+    where
+      longer : PutStops text w e w' → PutStops (text ++ more) w e w'
+      longer (inl stopped) = inl stopped
+      longer (inr (room, few, refused)) = inr (room, omega (arith, few, length-append text more), refused)
+
+  -- a flush
+  pub Puts-flushed : (w v : Buffered W StdPolicy) (answer : Result (Unit {0}) Error) → WasFlushed tells trace w answer v
+      → Puts tells trace w [] answer v
+  Puts-flushed w v (Ok x) f = record {
+    front = WasFlushed-along tells trace std_write_rules w (Ok x) v f;
+    held = λ held none. record { empty = f.ok.empty; flushed = f.ok.flushed };
+    met = f.ok.met;
+    why = tt;
+  }
+  Puts-flushed w v (Err e) f = record {
+    front = BegunAlong-of tells trace std_write_rules w v [] []
+        (WasFlushed-along tells trace std_write_rules w (Err e) v f);
+    held = tt;
+    met = tt;
+    why = inl f.caused;
+  }
+
+  -- parts
+  pub Puts-parts : (w v : Buffered W StdPolicy) (bytes : List ℕ) (answer : Result (Unit {0}) Error)
+      → WritesParts tells trace w bytes answer v → Puts tells trace w bytes answer v
+  Puts-parts w v bytes (Ok x) p = record {
+    front = p.along;
+    held = λ held none. elim (cases_lt (usable w.block) (length bytes)) [
+      | inl few ↦
+          absurd (omega (arith, few, ap length none, ap length (p.full few).2.added.bytes, length-append (p.full few).0.block.bytes bytes))
+      | inr fit ↦
+          (let put = (p.fits fit).1 in
+          let same : v.log ≡ w.log = ap (λ x. x.log) put.others in
+          let first = held (nil_from_length w.block.bytes
+          (omega (arith, ap length none, ap length put.added.bytes, length-append w.block.bytes bytes))) in
+          record { empty = none; flushed = subst (λ l. l.writes.flushed ≡ l.writes.received) (sym same) first.flushed })
+    ];
+    met = WritesParts-met tells trace w v bytes x p;
+    why = tt;
+  }
+  Puts-parts w v bytes (Err e) p = record {
+    front = BegunAlong-of tells trace std_write_rules w v [] bytes p.along;
+    held = tt;
+    met = tt;
+    why = p.caused;
+  }
+
+  module _ (none : (u : W) → trace u u) where
+    -- nothing was written
+    pub Puts-none : (w : Buffered W StdPolicy) → Puts tells trace w [] (Ok tt) w
+    Puts-none w = record {
+      front = WritesAlong-none tells trace std_write_rules none w;
+      held = λ held. held;
+      met = MetInterrupts-none w.log.writes;
+      why = tt;
+    }
+
+    pub Puts-sent : (w v : Buffered W StdPolicy) (answer : Result (Unit {0}) Error) → SendsHeld tells trace w answer v
+        → Puts tells trace w [] answer v
+    Puts-sent w v answer (inl (all, well, same)) =
+        subst (λ r. Puts tells trace w [] r v) (sym well) (subst (Puts tells trace w [] (Ok tt)) (sym same) (Puts-none w))
+    Puts-sent w v answer (inr (some, flushed)) = Puts-flushed w v answer flushed
+
+  module _ (joins : (u v x : W) → trace u v → trace v x → trace u x) where
+    -- more was taken in behind that
+    pub Puts-after : (w v w' : Buffered W StdPolicy) (a b : List ℕ) (putting : Result (Unit {0}) Error)
+        → Puts tells trace w a (Ok tt) v → Puts tells trace v b putting w' → Puts tells trace w (a ++ b) putting w'
+    Puts-after w v w' a b putting p q = record {
+      front = FrontAlong-after tells trace std_write_rules joins w v w' a b putting p.front q.front;
+      held = still putting q.held;
+      met = both putting q.met;
+      why = later putting q.why;
+    }
+      where
+        still : (putting : Result (Unit {0}) Error) → OnOk putting (IsHeld v → IsHeld w')
+            → OnOk putting (IsHeld w → IsHeld w')
+        still (Ok x) held = λ first. held (p.held first)
+        still (Err e) held = tt
+
+        both : (putting : Result (Unit {0}) Error) → OnOk putting (MetInterrupts v.log.writes w'.log.writes)
+            → OnOk putting (MetInterrupts w.log.writes w'.log.writes)
+        both (Ok x) met = MetInterrupts-joins w.log.writes v.log.writes w'.log.writes p.met met
+        both (Err e) met = tt
+
+        later : (putting : Result (Unit {0}) Error) → IfErr putting (λ e. PutStops b v e w')
+            → IfErr putting (λ e. PutStops (a ++ b) w e w')
+        later (Ok x) why = tt
+        later (Err e) (inl stopped) =
+            inl (SendErrorCaused-after w.log.writes v.log.writes w'.log.writes e p.met stopped)
+        later (Err e) (inr (room, few, refused)) = inr (room, omega (arith, few, length-append a b), refused)
+
+  module _ {R : Type 0} where
+    pub Prompt-one : (a b : Both R W) → IsStep tells trace a b → Prompt tells trace a b
+    Prompt-one a b step = record { between = a ∷ []; steps = (refl, step) }
+
+    pub Prompt-joins : (a m b : Both R W) → Prompt tells trace a m → Prompt tells trace m b → Prompt tells trace a b
+    Prompt-joins a m b p q = record {
+      between = q.between ++ p.between;
+      steps = Steps-joins tells trace a m b p.between q.between p.steps q.steps;
+    }
+
+    -- text that was taken in while nobody was asked
+    pub Writes-put : (s : Unbuffered R) {w w' : Buffered W StdPolicy} {text : List ℕ} {putting : Result (Unit {0}) Error}
+        → Puts tells trace w text putting w' → IsUnflushed w w' → Writes tells trace (s, w) text putting (s, w')
+    Writes-put s {w} {w'} puts unflushed =
+        record { puts = puts; prompt = Prompt-one (s, w) (s, w') (inl (refl, unflushed)) }
+
+    module _ (none : (u : W) → trace u u) where
+      pub Writes-none : (a : Both R W) → Writes tells trace a [] (Ok tt) a
+      Writes-none a = record { puts = Puts-none none a.1; prompt = record { between = []; steps = refl } }
+
+      -- the stream went on while nothing was written
+      pub Writes-read : {s t : Unbuffered R} (w : Buffered W StdPolicy) → (t.log ≡ s.log) ⊎ AllSent w
+          → Writes tells trace (s, w) [] (Ok tt) (t, w)
+      Writes-read {s} {t} w (inl same) =
+          record { puts = Puts-none none w; prompt = Prompt-one (s, w) (t, w) (inl (same, refl)) }
+      Writes-read {s} {t} w (inr sent) =
+          record { puts = Puts-none none w; prompt = Prompt-one (s, w) (t, w) (inr (inl (sent, refl))) }
+
+      -- what was held was sent, where the stream is to be asked
+      pub Writes-sent : {P : Type 0} (s : Unbuffered R) (w v : Buffered W StdPolicy) (answer : Result (Unit {0}) Error)
+          → SendsUnless tells trace P w answer v → ((¬ P) → IsOpen heads s.left)
+          → Writes tells trace (s, w) [] answer (s, v)
+      Writes-sent s w v answer (inl (settled, well, same)) asks =
+          subst (λ r. Writes tells trace (s, w) [] r (s, v)) (sym well)
+          (subst (λ x. Writes tells trace (s, w) [] (Ok tt) (s, x)) (sym same) (Writes-none (s, w)))
+      Writes-sent s w v answer (inr (unsettled, inl (all, well, same))) asks =
+          subst (λ r. Writes tells trace (s, w) [] r (s, v)) (sym well)
+          (subst (λ x. Writes tells trace (s, w) [] (Ok tt) (s, x)) (sym same) (Writes-none (s, w)))
+      Writes-sent s w v answer (inr (unsettled, inr (some, flushed))) asks = record {
+        puts = Puts-flushed w v answer flushed;
+        prompt = Prompt-one (s, w) (s, v) (inr (inr (refl, asks unsettled, some, (answer, flushed))));
+      }
+
+    module _ (joins : (u v x : W) → trace u v → trace v x → trace u x) where
+      pub Writes-after : (a m b : Both R W) (x y : List ℕ) (putting : Result (Unit {0}) Error)
+          → Writes tells trace a x (Ok tt) m → Writes tells trace m y putting b → Writes tells trace a (x ++ y) putting b
+      Writes-after a m b x y putting p q = record {
+        puts = Puts-after joins a.1 m.1 b.1 x y putting p.puts q.puts;
+        prompt = Prompt-joins a m b p.prompt q.prompt;
+      }
+
+-- what was to be sent was, where the stream was asked
+pub sent_then : {W : Type 0} {tells : W → StreamLog} {trace : W → W → Type 0} {P : Type 0} (w v : Buffered W StdPolicy)
+    → SendsUnless tells trace P w (Ok tt) v → P ⊎ AllSent v
+sent_then w v (inl (settled, well, same)) = inl settled
+sent_then w v (inr (unsettled, inl (all, well, same))) = inr (subst AllSent (sym same) all)
+sent_then w v (inr (unsettled, inr (some, flushed))) =
+    inr (record { empty = flushed.ok.empty; flushed = flushed.ok.flushed })

@@ -1,0 +1,43 @@
+use Rattle.std.proofs.Common.{[], Ok, Err, false, sym, subst, inl, refl, arith}
+use Rattle.buffer_redux.specs.UnbufferLaws.{StreamWent-none}
+use Rattle.codec.specs.PieceReader.{left_of}
+use Rattle.requests.specs.declared.Ending.TheVariants.{Unsent}
+use Rattle.requests.specs.declared.Place.TheVariants.{Before}
+use Rattle.requests.specs.Answers.{IsLast}
+use Rattle.requests.specs.Sending.{Writes}
+use Rattle.requests.proofs.Answering.{FailsLast-of, Runs-stopped, none_answered}
+use Rattle.requests.proofs.Coming.{comes, open_where}
+use Rattle.requests.proofs.Sending.{Puts-none, Writes-sent}
+use Rattle.requests.proofs.answer_next.Goals as goal
+
+pub answer_body-requires : goal.answer_body-requires
+answer_body-requires g c =
+    let came = comes g.met.W.TellWrite.trace_none g.met.W.TellWrite.trace_joins c.args.requests c.args.writer.now
+    c.send_to_ask.new.writer c.in-Ok.ensures _ c.in-Ok-next.ensures.next.behind c.in-Ok-next.ensures.next.next in
+    record { held = came.writes.puts.held c.requires.held }
+
+pub returns-in-Ok-next : goal.returns-in-Ok-next
+returns-in-Ok-next g c =
+    let begun = c.in-Ok-next.ensures.next in
+    let came = comes g.met.W.TellWrite.trace_none g.met.W.TellWrite.trace_joins c.args.requests c.args.writer.now
+    c.send_to_ask.new.writer c.in-Ok.ensures _ begun.behind begun.next in
+    c.answer_body.ensures c.args.requests c.args.writer.now begun
+    (subst (λ u. Writes g.W.Tell.log g.W.TellWrite.trace (left_of c.args.requests, c.args.writer.now) [] (Ok tt)
+    (u, c.send_to_ask.new.writer)) (sym begun.stream) came.writes)
+
+pub returns-in-Err-next : goal.returns-in-Err-next
+returns-in-Err-next g c =
+    let next = c.in-Err-next.ensures.next in
+    c.stopped.ensures c.args.requests c.args.writer.now c.in-Err-next.ensures.told next
+    (comes g.met.W.TellWrite.trace_none g.met.W.TellWrite.trace_joins c.args.requests c.args.writer.now
+    c.send_to_ask.new.writer c.in-Ok.ensures _ c.in-Err-next.requests next)
+
+pub returns-in-Err : goal.returns-in-Err
+returns-in-Err g c =
+    let s = left_of c.args.requests in
+    let sent = Writes-sent g.met.W.TellWrite.trace_none s c.args.writer.now c.send_to_ask.new.writer (Err c.in-Err.e)
+    c.in-Err.ensures (open_where c.args.requests) in
+    Runs-stopped [] (Before c.args.requests) (refl, refl) (omega arith) (Unsent c.in-Err.e)
+    (none_answered (StreamWent-none g.R.TellRead.remaining s) sent
+    (FailsLast-of (IsLast [] [] false (Before c.args.requests)) (Err c.in-Err.e) refl (inl refl)
+    (Puts-none g.met.W.TellWrite.trace_none c.args.writer.now) sent.puts)) tt

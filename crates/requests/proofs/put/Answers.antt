@@ -1,0 +1,12 @@
+use Rattle.requests.proofs.Sending.{Puts-parts}
+use Rattle.buffer_redux.specs.WritePartsLaws.{WritesParts-unflushed}
+use Rattle.requests.proofs.put.Goals as goal
+
+pub returns-clause-puts : goal.returns-clause-puts
+returns-clause-puts g c =
+    Puts-parts c.args.writer.now c.write_parts.new.self _ c.write_parts.result c.write_parts.ensures
+
+pub returns-clause-unflushed : goal.returns-clause-unflushed
+returns-clause-unflushed g c =
+    (WritesParts-unflushed g.W.Tell.log g.W.TellWrite.trace c.args.writer.now c.write_parts.new.self _ c.write_parts.result
+    c.write_parts.ensures).0

@@ -1,0 +1,80 @@
+-- What is written, and when it is sent.
+use Rattle.std.specs.Prelude.{◌≡◌, ℕ, ◌<◌, ◌≤◌, ◌⊎◌, List, [], ◌∷◌, length, Result, Ok, OnOk, IfErr}
+use Rattle.std.specs.declared.io.Error.{Error}
+use Rattle.redux_buffer.specs.Faults.{MetInterrupts, SendErrorCaused}
+use Rattle.redux_buffer.specs.GrowError.{GrowthFailed}
+use Rattle.buffer_redux.specs.BufWriter.{FrontAlong, WasFlushed}
+use Rattle.buffer_redux.specs.Buffered.{Buffered}
+use Rattle.buffer_redux.specs.Policy.{std_write_rules}
+use Rattle.buffer_redux.specs.StreamLog.{StreamLog}
+use Rattle.buffer_redux.specs.Unbuffer.{Unbuffered}
+use Rattle.buffer_redux.specs.declared.policy.StdPolicy.{StdPolicy}
+use Rattle.codec.specs.Grammar.{IsOpen}
+use Rattle.messages.specs.Heads.{heads}
+use Rattle.programs.specs.Streams.{AllSent}
+
+-- what the writer has buffered is all that wasn't sent
+abbrev pub IsHeld : {W : Type 0} → Buffered W StdPolicy → Type 0
+IsHeld w = w.block.bytes ≡ [] → AllSent w
+
+-- nothing was flushed
+abbrev pub IsUnflushed : {W : Type 0} → Buffered W StdPolicy → Buffered W StdPolicy → Type 0
+IsUnflushed w w' = w'.log.writes.flushes ≡ w.log.writes.flushes
+
+-- why text wasn't taken in, or sent: the writer failed, and before that met nothing but interruptions; or room for it was refused
+abbrev pub PutStops : {W : Type 0} → List ℕ → Buffered W StdPolicy → Error → Buffered W StdPolicy → Type 0
+PutStops text w e w' = SendErrorCaused w.log.writes w'.log.writes e
+    ⊎ ((more : ℕ) × (more ≤ length text) × GrowthFailed more w'.block e)
+
+-- at Ok this text was taken in, and the writer met nothing but interruptions; at an Err a beginning of it was
+pub record Puts {W : Type 0} (tells : W → StreamLog) (trace : W → W → Type 0) (w : Buffered W StdPolicy) (text : List ℕ)
+    (putting : Result (Unit {0}) Error) (w' : Buffered W StdPolicy) : Type 0 where
+  pub front : FrontAlong tells trace std_write_rules w text putting w'
+  pub held : OnOk putting (IsHeld w → IsHeld w')
+  pub met : OnOk putting (MetInterrupts w.log.writes w'.log.writes)
+  pub why : IfErr putting (λ e. PutStops text w e w')
+
+-- what is held was sent, and flushed; or nothing was held, and nothing was done
+abbrev pub SendsHeld : {W : Type 0} → (W → StreamLog) → (W → W → Type 0) → Buffered W StdPolicy → Result (Unit {0}) Error
+    → Buffered W StdPolicy → Type 0
+SendsHeld tells trace w answer w' = (AllSent w × (answer ≡ Ok tt) × (w' ≡ w))
+    ⊎ ((0 < length w.block.bytes) × WasFlushed tells trace w answer w')
+
+-- so, unless this is so
+abbrev pub SendsUnless : {W : Type 0} → (W → StreamLog) → (W → W → Type 0) → Type 0 → Buffered W StdPolicy
+    → Result (Unit {0}) Error → Buffered W StdPolicy → Type 0
+SendsUnless tells trace P w answer w' =
+    (P × (answer ≡ Ok tt) × (w' ≡ w)) ⊎ ((¬ P) × SendsHeld tells trace w answer w')
+
+-- a stream, and the writer of answers to it
+abbrev pub Both : Type 0 → Type 0 → Type 0
+Both R W = Unbuffered R × Buffered W StdPolicy
+
+module _ {R W : Type 0} (tells : W → StreamLog) (trace : W → W → Type 0) where
+  -- the stream isn't asked, and nothing flushed; or it is asked, where all that was written was received and flushed; or what is
+  -- held is sent, or that fails, where what is buffered of the stream settles nothing, so that it is to be asked
+  abbrev pub IsStep : Both R W → Both R W → Type 0
+  IsStep (s, w) (t, v) = ((t.log ≡ s.log) × IsUnflushed w v)
+      ⊎ (AllSent w × (v ≡ w))
+      ⊎ ((t ≡ s) × IsOpen heads s.left × (0 < length w.block.bytes)
+      × ((sending : Result (Unit {0}) Error) × WasFlushed tells trace w sending v))
+
+  -- such steps, by way of these, of which the last is first
+  abbrev pub Steps : Both R W → List (Both R W) → Both R W → Type 0
+  Steps a [] b = a ≡ b
+  Steps a (m ∷ earlier) b = Steps a earlier m × IsStep m b
+
+  -- the stream was asked only where nothing was held back, and each flush sends something, and stands before an ask
+  pub record Prompt (a b : Both R W) : Type 0 where
+    pub between : List (Both R W)
+    pub steps : Steps a between b
+
+  -- and meanwhile this text was taken in
+  pub record Writes (a : Both R W) (text : List ℕ) (putting : Result (Unit {0}) Error) (b : Both R W) : Type 0 where
+    pub puts : Puts tells trace a.1 text putting b.1
+    pub prompt : Prompt a b
+
+  -- nothing was written but what had been held, and where the stream was asked that had been sent
+  pub record Comes (a b : Both R W) : Type 0 where
+    pub writes : Writes a [] (Ok tt) b
+    pub asked : (b.0.log ≡ a.0.log) ⊎ AllSent b.1
