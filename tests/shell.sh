@@ -518,6 +518,49 @@ run_resp_server() {
     done
 }
 
+# Its errors are told by the system's own words; a stream that doesn't wait is refused by such a line too.
+run_requests() {
+    turns '' crates/requests/stdin crates/requests/stdout
+    request='GET / HTTP/1.1\r\nHost: a\r\n\r\n'
+    head='HTTP/1.1 200 OK\r\nContent-Length: 21\r\nConnection: keep-alive\r\n\r\n'
+    said="$head                   0\n"
+    gives '' "$request" "$said"
+    # What is there is answered by one write, before the stream is asked for more, and so is what comes then.
+    answers '' "$request$request$request" '28 i1 512*' '' "$said$said$said" 0 '4 2'
+    answers '' "$request$request" '512*' '' "$said$said" 0 '2 1'
+    # A read that fails ends it, with all that came answered; where a write fails nothing more is asked for.
+    printf '%b' "$request$request" > "$scratch/in"
+    printf '%b' "$said" > "$scratch/want"
+    READS='28 e' WRITES='' CALLS=$scratch/calls LD_PRELOAD=$system "$program" < "$scratch/in" > "$scratch/out" 2> "$scratch/err"
+    ended "$name as a read fails" $? 1 'Error: Os { code: 5, kind: Uncategorized, message: "Input/output error" }'
+    holds "$name as a read fails" "$scratch/want"
+    : > "$scratch/calls"
+    READS='28*' WRITES='e' CALLS=$scratch/calls LD_PRELOAD=$system "$program" < "$scratch/in" > "$scratch/out" 2> "$scratch/err"
+    ended "$name as a write fails" $? 1 'Error: Os { code: 5, kind: Uncategorized, message: "Input/output error" }'
+    if [ "$(grep -c r "$scratch/calls")" -ne 1 ]; then wrong "$name as a write fails: it asks again" "$scratch/calls"; fi
+    if [ -c /dev/full ] && (: > /dev/full) 2> "$scratch/none"; then
+        "$program" < "$scratch/in" > /dev/full 2> "$scratch/err"
+        ended "$name into a full device" $? 1 \
+            'Error: Os { code: 28, kind: StorageFull, message: "No space left on device" }'
+    fi
+    bad='Error: Os { code: 9, kind: Uncategorized, message: "Bad file descriptor" }'
+    "$program" < "$scratch/in" >&- 2> "$scratch/err"
+    ended "$name into a closed output" $? 1 "$bad"
+    "$program" > "$scratch/out" 2> "$scratch/err" <&-
+    ended "$name from a closed input" $? 1 "$bad"
+    holds "$name from a closed input" "$nothing"
+    if command -v python3 > "$scratch/none"; then
+        python3 -c 'import os, sys
+r, w = os.pipe()
+os.set_blocking(r, False)
+os.set_inheritable(w, True)
+os.dup2(r, 0)
+os.execv(sys.argv[1], [sys.argv[1]])' "$program" > "$scratch/out" 2> "$scratch/err"
+        ended "$name from an input that does not wait" $? 1 \
+            'Error: Os { code: 11, kind: WouldBlock, message: "Resource temporarily unavailable" }'
+    fi
+}
+
 # It says itself whether all is as it should be. It meets each of the first refusals; the two behind are of more than any machine
 # has, which is refused anyway.
 run_tests_refused() {
@@ -554,7 +597,7 @@ if ! "${CC:-cc}" -O2 -shared -fPIC -o "$system" tests/system.c -ldl 2> "$scratch
     wrong 'tests/system.c is not compiled' "$scratch/compiled"
     exit 1
 fi
-for it in bufcopy replay frames bodies resp_server tests_refused; do
+for it in bufcopy replay frames bodies resp_server requests tests_refused; do
     if begins "$it"; then
         "run_$it"
         ends
