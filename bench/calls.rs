@@ -36,39 +36,42 @@ impl Seek for Place<'_> {
 #[inline(never)]
 fn until_end(mut reader: impl BufRead) -> io::Result<u64> {
     let (mut total, mut line) = (0, Vec::new());
-    loop {
+    for _ in 0..u64::MAX {
         line.clear();
         let n = reader.read_until(b'\n', &mut line)?;
         if n == 0 {
-            return Ok(total);
+            break;
         }
         total += n as u64;
     }
+    Ok(total)
 }
 
 #[inline(never)]
 fn skip_to_end(mut reader: impl BufRead) -> io::Result<u64> {
     let mut total = 0;
-    loop {
+    for _ in 0..u64::MAX {
         let n = reader.skip_until(b'\n')?;
         if n == 0 {
-            return Ok(total);
+            break;
         }
         total += n as u64;
     }
+    Ok(total)
 }
 
 #[inline(never)]
 fn line_by_line(mut reader: impl BufRead) -> io::Result<u64> {
     let (mut total, mut line) = (0, String::new());
-    loop {
+    for _ in 0..u64::MAX {
         line.clear();
         let n = reader.read_line(&mut line)?;
         if n == 0 {
-            return Ok(total);
+            break;
         }
         total += n as u64;
     }
+    Ok(total)
 }
 
 #[inline(never)]
@@ -91,9 +94,12 @@ fn split_to_end(reader: impl BufRead) -> io::Result<u64> {
 
 #[inline(never)]
 fn bytes_to_end(reader: impl Read) -> io::Result<u64> {
-    let (mut total, mut sum) = (0, 0u8);
-    for byte in reader.bytes() {
-        sum = sum.wrapping_add(byte?);
+    let (mut total, mut sum, mut bytes) = (0, 0u8, reader.bytes());
+    for _ in 0..u64::MAX {
+        match bytes.next() {
+            Some(byte) => sum = sum.wrapping_add(byte?),
+            None => break,
+        }
         total += 1;
     }
     black_box(sum);
@@ -103,7 +109,10 @@ fn bytes_to_end(reader: impl Read) -> io::Result<u64> {
 #[inline(never)]
 fn onward(mut reader: BufReader<Place<'_>>, piece: usize) -> io::Result<u64> {
     let mut turns = 0;
-    while !reader.fill_buf()?.is_empty() {
+    for _ in 0..u64::MAX {
+        if reader.fill_buf()?.is_empty() {
+            break;
+        }
         reader.seek_relative(piece as i64)?;
         turns += 1;
     }
@@ -113,7 +122,10 @@ fn onward(mut reader: BufReader<Place<'_>>, piece: usize) -> io::Result<u64> {
 #[inline(never)]
 fn positions(mut reader: BufReader<Place<'_>>, piece: usize) -> io::Result<u64> {
     let (mut turns, mut sum) = (0, 0u64);
-    while !reader.fill_buf()?.is_empty() {
+    for _ in 0..u64::MAX {
+        if reader.fill_buf()?.is_empty() {
+            break;
+        }
         sum = sum.wrapping_add(reader.stream_position()?);
         reader.consume(piece);
         turns += 1;

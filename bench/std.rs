@@ -1,5 +1,6 @@
 //! The cases of `crates/bench` over the types of Rust's std: `std SHAPE CAPACITY PIECE TOTAL TURNS`, the first three numbers in
-//! bytes. It goes over the same bytes so many times, and prints how many went over in one.
+//! bytes. It goes over the same bytes so many times, and prints how many went over in one. Its loops are those of `crates/bench`:
+//! where one there has a bound, so that it ends, the one here counts too.
 mod calls;
 
 use std::hint::black_box;
@@ -58,26 +59,28 @@ impl Write for Sink {
 #[inline(never)]
 fn read_to_end(mut reader: impl Read, out: &mut [u8]) -> io::Result<u64> {
     let mut total = 0;
-    loop {
+    for _ in 0..u64::MAX {
         let n = reader.read(out)?;
         if n == 0 {
-            return Ok(total);
+            break;
         }
         total += n as u64;
     }
+    Ok(total)
 }
 
 #[inline(never)]
 fn fill_to_end(mut reader: impl BufRead, piece: usize) -> io::Result<u64> {
     let mut total = 0;
-    loop {
+    for _ in 0..u64::MAX {
         let n = reader.fill_buf()?.len().min(piece);
         if n == 0 {
-            return Ok(total);
+            break;
         }
         reader.consume(n);
         total += n as u64;
     }
+    Ok(total)
 }
 
 #[inline(never)]
@@ -94,13 +97,14 @@ fn write_often(mut writer: impl Write, piece: &[u8], least: u64) -> io::Result<u
 fn each_byte(mut reader: impl Read) -> io::Result<u64> {
     let mut byte = [0u8; 1];
     let mut total = 0;
-    loop {
+    for _ in 0..u64::MAX {
         let n = reader.read(&mut byte)?;
         if n == 0 {
-            return Ok(total);
+            break;
         }
         total += n as u64;
     }
+    Ok(total)
 }
 
 #[inline(never)]
@@ -143,7 +147,7 @@ fn format_often(mut writer: impl Write, least: u64) -> io::Result<u64> {
 #[inline(never)]
 fn copy_to_end(mut reader: impl BufRead, mut writer: impl Write) -> io::Result<u64> {
     let mut total = 0;
-    loop {
+    for _ in 0..u64::MAX {
         let n = writer.write(reader.fill_buf()?)?;
         if n == 0 {
             break;
@@ -164,14 +168,15 @@ fn copy_at_once(mut reader: impl BufRead, mut writer: impl Write) -> io::Result<
 #[inline(never)]
 fn until_end(mut reader: impl BufRead) -> io::Result<u64> {
     let (mut total, mut line) = (0, Vec::new());
-    loop {
+    for _ in 0..u64::MAX {
         line.clear();
         let n = reader.read_until(b'\n', &mut line)?;
         if n == 0 {
-            return Ok(total);
+            break;
         }
         total += n as u64;
     }
+    Ok(total)
 }
 
 #[inline(never)]
@@ -225,8 +230,11 @@ fn fitting(header: [u8; 2], greatest: usize) -> io::Result<usize> {
 #[inline(never)]
 fn frames_to_end(mut reader: Frames<impl BufRead>) -> io::Result<u64> {
     let mut total = 0;
-    while let Some(payload) = reader.next()? {
-        total += payload.len() as u64 + 2;
+    for _ in 0..u64::MAX {
+        match reader.next()? {
+            Some(payload) => total += payload.len() as u64 + 2,
+            None => break,
+        }
     }
     Ok(total)
 }
@@ -298,13 +306,14 @@ impl<R: BufRead> Chunks<R> {
 fn body_to_end(mut body: Chunks<impl BufRead>) -> io::Result<u64> {
     let mut out = [0; 4096];
     let mut total = 0;
-    loop {
+    for _ in 0..u64::MAX {
         let n = body.read(&mut out)?;
         if n == 0 {
-            return Ok(total);
+            break;
         }
         total += n as u64;
     }
+    Ok(total)
 }
 
 /// Writes a chunk by hand.

@@ -2,6 +2,7 @@
 
 use crate::cases::Case;
 use crate::makers::{told, told_sink};
+use crate::whole::turns;
 use buffer_redux::tell::{TellRead, TellWrite};
 use buffer_redux::{BufReader, BufWriter};
 use chunked::{ChunkedReader, ChunkedWriter, Limits};
@@ -63,15 +64,12 @@ fn write_chunks<W: TellWrite + Drop>(
     least: u64,
 ) -> io::Result<u64> {
     let mut body = body;
-    let mut total = 0u64;
-    for _ in 0..u64::MAX {
-        if total >= least {
-            break;
-        }
+    let length = payload.len() as u64;
+    let turns = turns(least, length);
+    for _ in 0..turns {
         body.write_all(payload)?;
-        total = total.wrapping_add(payload.len() as u64);
     }
     let mut writer = body.finish()?;
     writer.flush()?;
-    Ok(total)
+    Ok(turns.wrapping_mul(length))
 }

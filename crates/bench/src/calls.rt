@@ -4,7 +4,7 @@ use crate::cases::{Case, Kind};
 use crate::lines::{lines_to_end, until_end};
 use crate::makers::{line_writer, std_line_writer, std_writer, writer};
 use crate::streams::{Place, Sink};
-use crate::whole::format_often;
+use crate::whole::{format_often, turns};
 use buffer_redux::tell::Told;
 use buffer_redux::{BufReader, BufWriter, LineWriter};
 use std::alloc::Global;
@@ -354,18 +354,14 @@ fn write_bytes<W: Write + Drop>(writer: W, bytes: &[u8]) -> io::Result<u64> {
 macro_rules! write_lines {
     ($writer:ident, $least:ident) => {{
         let mut writer = $writer;
-        let mut total = 0u64;
         let name = "value";
-        for at in 0..u64::MAX {
-            if total >= $least {
-                break;
-            }
+        let turns = turns($least, 21);
+        for at in 0..turns {
             let number = 1000000u64.wrapping_add(at);
             write!(writer, "{name} {number}: {name}\n")?;
-            total = total.wrapping_add(21);
         }
         writer.flush()?;
-        Ok(total)
+        Ok(turns.wrapping_mul(21))
     }};
 }
 

@@ -8,7 +8,7 @@ use crate::makers::{
     std_writer, told, writer,
 };
 use crate::streams::Packets;
-use crate::whole::{each_byte, exact_to_end, format_often, write_all_often};
+use crate::whole::{each_byte, exact_to_end, format_often, turns, write_all_often};
 use buffer_redux::tell::{TellBufRead, TellRead, TellWrite, Told};
 use buffer_redux::{BufImpl, copy_buf};
 use std::alloc::Global;
@@ -331,10 +331,7 @@ fn fill_to_end<R: BufRead + Drop>(reader: R, piece: usize) -> io::Result<u64> {
 fn write_often<W: Write + Drop>(writer: W, piece: &[u8], least: u64) -> io::Result<u64> {
     let mut writer = writer;
     let mut total = 0u64;
-    for _ in 0..u64::MAX {
-        if total >= least {
-            break;
-        }
+    for _ in 0..turns(least, piece.len() as u64) {
         total = total.wrapping_add(writer.write(piece)? as u64);
     }
     writer.flush()?;

@@ -2,6 +2,7 @@
 
 use crate::cases::Case;
 use crate::makers::{told, told_sink};
+use crate::whole::turns;
 use buffer_redux::tell::{TellRead, TellWrite};
 use frame_reader::{FrameReader, FrameWriter};
 use std::alloc::{AllocError, Global};
@@ -63,16 +64,13 @@ fn write_often<W: TellWrite + Drop>(
     least: u64,
 ) -> io::Result<u64> {
     let mut writer = writer;
-    let mut total = 0u64;
-    for _ in 0..u64::MAX {
-        if total >= least {
-            break;
-        }
+    let length = (payload.len() as u64).wrapping_add(2);
+    let turns = turns(least, length);
+    for _ in 0..turns {
         if writer.write_frame(payload).is_err() {
             return Err(failed());
         }
-        total = total.wrapping_add(payload.len() as u64).wrapping_add(2);
     }
     writer.flush()?;
-    Ok(total)
+    Ok(turns.wrapping_mul(length))
 }
