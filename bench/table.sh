@@ -1,11 +1,11 @@
 # sh bench/table.sh
 #
-# Proves and builds crates/bench, builds bench/std.rs, and prints six tables in Markdown. The first says how many instructions
+# Proves and builds crates/bench, builds bench/std.rs, and prints seven tables in Markdown. The first says how many instructions
 # each case takes for a byte that goes over, as callgrind counts them, whatever else the machine does; the second the same
 # where a policy looks ahead, for when a ring pays; the third where lines are read, the fourth frames, the fifth chunked bodies,
-# the sixth calls of std's types. It needs valgrind; the columns of Rust's std need rustc. A case is one line of `cases` below;
+# the sixth calls of std's types, the seventh small writes, a call. It needs valgrind; the columns of Rust's std need rustc. A case is one line of `cases` below;
 # one of a new shape is a function in crates/bench/src/cases.rt and one in bench/std.rs too. `sh bench/table.sh pays` prints the
-# second table alone, `lines` in its place the third, `frames` the fourth, `bodies` the fifth, `std` the sixth.
+# second table alone, `lines` in its place the third, `frames` the fourth, `bodies` the fifth, `std` the sixth, `writes` the seventh.
 set -eu
 
 cases='read in pieces of 64|read 8192 64 8388608
@@ -14,10 +14,6 @@ read a byte a call|byte 8192 1 1048576
 read_exact of 8|exact 8192 8 8388608
 fill 16384, consume 100|fill 16384 100 8388608
 the same under MinBuffered(4096)|look 16384 100 8388608
-write pieces of 16|write 8192 16 8388608
-write pieces of 100|write 8192 100 8388608
-write_all of 16|write_all 8192 16 8388608
-write_all of 100|write_all 8192 100 8388608
 write! of 21|format 8192 21 2097152
 write! of 21 to a LineWriter|format_lines 8192 21 2097152
 write lines of 80|lines 8192 80 8388608
@@ -26,6 +22,15 @@ copy through 8192 and 16384|copy 8192 16384 8388608
 copy_buf through 8192 and 8192|copy_buf 8192 8192 8388608
 Unbuffer with 1 MiB left, pieces of 64|unbuffer 1048576 64 1048576
 grow from 4096 to 1 MiB by 4096|grow 4096 4096 1048576'
+
+# How many bytes a call writes, through 8192.
+writes='1
+8
+16
+32
+64
+100
+1000'
 
 # The capacity, and how many bytes a read gives at most. 4096 bytes are looked ahead by, and 100 consumed at a time.
 pays='4096 4096
@@ -191,12 +196,38 @@ print_calls() {
     done
 }
 
+# Writes of few bytes: instructions a call.
+print_writes() {
+    echo "| Bytes a call | write | write_all | Rust's write | Rust's write_all |"
+    echo '|---|---|---|---|---|'
+    echo "$writes" | while read -r length; do
+        row="| $length |"
+        for shape in write write_all; do
+            row="$row $(count "$bench" "$shape" plain 8192 "$length" 8388608 | a_call "$length") |"
+        done
+        for shape in write write_all; do
+            if [ -n "$rust" ]; then
+                row="$row $(count "$rust" "$shape" 8192 "$length" 8388608 | a_call "$length") |"
+            else
+                row="$row – |"
+            fi
+        done
+        echo "$row"
+    done
+}
+
+# A call's instructions, from those of a byte.
+a_call() {
+    awk -v length_="$1" '{ printf "%.1f\n", $1 * length_ }'
+}
+
 case "${1-}" in
     pays) print_pays && exit ;;
     lines) print_lines && exit ;;
     frames) print_frames && exit ;;
     bodies) print_bodies && exit ;;
     std) print_calls && exit ;;
+    writes) print_writes && exit ;;
 esac
 
 echo "| Instructions a byte | plain | ring | the kit's std | Rust's std |"
@@ -232,3 +263,6 @@ print_bodies
 
 echo
 print_calls
+
+echo
+print_writes

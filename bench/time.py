@@ -35,6 +35,9 @@ def cases():
         name, words = line.split("|")
         shape, capacity, piece, _ = words.split()
         yield name, int(piece), shape, [capacity, piece]
+    for length in lists["writes"]:
+        for shape in ("write", "write_all"):
+            yield f"{shape} of {length}", int(length), shape, ["8192", length]
     for line in lists["texts"]:
         length, most, _ = line.split()
         for shape in ("next", "next_trimmed"):
