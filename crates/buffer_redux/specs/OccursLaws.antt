@@ -57,7 +57,8 @@ plus_nothing n = omega arith
 
 pub OccursAt-last : (text needle : List ℕ) → OccursAt (text ++ needle) needle (length text)
 OccursAt-last text needle =
-    subst (OccursAt (text ++ needle) needle) (plus_nothing (length text)) (OccursAt-later text needle needle 0 (OccursAt-self needle))
+    subst (OccursAt (text ++ needle) needle) (plus_nothing (length text))
+    (OccursAt-later text needle needle 0 (OccursAt-self needle))
 
 -- where it stands in front it is the first bytes
 pub OccursAt-front : (bytes needle : List ℕ) → OccursAt bytes needle 0 → take (length needle) bytes ≡ needle
