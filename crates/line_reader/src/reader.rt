@@ -226,9 +226,8 @@ impl<R: Tell> LineReader<R> {
 
 impl<R: TellRead> LineReader<R> {
     /// Whether the next call of [`next`](LineReader::next) answers without asking the stream: a whole line is buffered, or
-    /// the beginning of one that is too long, or the stream ended, which no call has told yet.
-    ///
-    /// What an earlier call of that searched isn't searched again.
+    /// the beginning of one that is too long, or the stream ended, which no call has told yet. It changes nothing, so what it
+    /// searches that call searches again.
     pub fn has_line(&self) -> bool
         ensures { IsTrue result ↔ HasLine self.now }
     {

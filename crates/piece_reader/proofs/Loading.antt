@@ -1,6 +1,7 @@
 -- What the turns of `step_on` come to.
 use Rattle.std.proofs.Common.{◌≡◌, ℕ, ◌+◌, ◌<◌, ◌≤◌, List, [], ◌∷◌, ◌++◌, length, length-take-le, drop, take, true, false, refl, sym, ap, subst, ◌∙◌, arith, inl, inr, append-nil, Bool, Option, Result, Ok, Err, Some, None, length-append, length-drop}
 use Rattle.std.proofs.lemmas.List.{drop-drop, nil_from_length, take-append-drop}
+use Rattle.std.proofs.Math.Seq.{take-append_seam}
 use Rattle.std.specs.declared.io.Error.{Error}
 use Rattle.piece_reader.specs.declared.decoder.Found.{Found}
 use Rattle.piece_reader.specs.declared.decoder.Found.TheVariants as found
@@ -9,8 +10,8 @@ use Rattle.piece_reader.specs.declared.error.NextError.{NextError}
 use Rattle.piece_reader.specs.declared.error.NextError.TheVariants.{Wrong, Io}
 use Rattle.piece_reader.specs.Decoding.{bytes_at}
 use Rattle.piece_reader.specs.Grammar.{Grammar, IsLawful, IsOpen, Lacks}
-use Rattle.piece_reader.specs.NextPiece.{load_answer, AsksGive, AskedWhere, NextAnswer, NextPiece, MetEnd, NoEnd, PiecesWent}
-use Rattle.piece_reader.specs.NextPieceLaws.{AskedWhere-told, MetEnd-joins, MetEnd-once, still_going}
+use Rattle.piece_reader.specs.NextPiece.{load_answer, AsksGive, AskedWhere, NextAnswer, NextPiece, MetEnd, NoEnd, PiecesWent, StaysLooked}
+use Rattle.piece_reader.specs.NextPieceLaws.{AskedWhere-told, MetEnd-joins, MetEnd-once, seen_inside, still_going}
 use Rattle.piece_reader.specs.PiecesWentLaws.{PiecesWent-joins, PiecesWent-inside}
 use Rattle.piece_reader.specs.PieceReader.{ReaderState, IsPieceReader, rest}
 use Rattle.piece_reader.specs.StaysLeftLaws.{NextPiece-looked}
@@ -34,6 +35,8 @@ pub record LoadHead {S D W : Type 0} (remaining : S → Option (List ℕ)) (g : 
   pub few : length (rest m) < need
   pub most : need ≤ g.most
   pub lacks : Lacks g need (rest m)
+  pub start : s.seen ≡ length (rest s)
+  pub seen : m.seen ≡ length (rest m)
   pub whole : IsPieceReader g m
 
 -- as many bytes came as were asked for, and what stands at the front of them was looked at
@@ -43,6 +46,8 @@ pub record Turned {S D W : Type 0} (remaining : S → Option (List ℕ)) (g : Gr
   pub handed : m.handed ≡ 0
   pub before : IsPieceReader g m
   pub takes : Takes g m looked t
+  pub start : s.seen ≡ length (rest s)
+  pub seen : length (rest s) ≤ m.seen
   pub whole : IsPieceReader g t
 
 module _ {S D W : Type 0} (remaining : S → Option (List ℕ)) (g : Grammar W) (law : IsLawful g) (s : ReaderState S D) where
@@ -75,6 +80,7 @@ module _ {S D W : Type 0} (remaining : S → Option (List ℕ)) (g : Grammar W) 
           asked = AskedWhere-told (IsOpen g) s m w refl h.asked;
           gave = λ _ _. h.asks;
           told = λ ended. (let odd : true ≡ false = sym ended ∙ sym h.ended ∙ open_m in cc);
+          looked = tt;
           whole = subst (IsPieceReader g) takes.1 whole';
         })
 
@@ -105,6 +111,11 @@ module _ {S D W : Type 0} (remaining : S → Option (List ℕ)) (g : Grammar W) 
         asked = h.asked;
         gave = λ _ _. h.asks;
         told = λ ended. (let odd : true ≡ false = sym ended ∙ sym h.ended ∙ open_m in cc);
+        looked = record {
+          stays = omega (arith, turn.start, turn.seen);
+          all = λ _. turn.seen;
+          shows = λ open'. absurd (open'.not_wrong e wrong);
+        };
         whole = turn.before;
       })
 
@@ -120,10 +131,31 @@ module _ {S D W : Type 0} (remaining : S → Option (List ℕ)) (g : Grammar W) 
         few = wants.0;
         most = wants.1;
         lacks = wants.2;
+        start = turn.start;
+        seen = refl;
         whole = subst (IsPieceReader g) wants.3 turn.whole;
       })
 
   module _ (m : ReaderState S D) (need : ℕ) (h : LoadHead remaining g s m need) where
+    -- what was looked at shows that what came since settles nothing
+    still_looked : (answer : Result Bool Error) (t : ReaderState S D) → AsksFor remaining g need m answer t
+        → length (rest t) < need → StaysLooked g s t
+    still_looked answer t a few =
+        let more = ap length h.header.went.hands.equal in
+        let all : length (rest s) ≤ t.seen =
+        omega (arith, a.seen, h.seen, more, length-append (rest s) h.header.went.hands.got) in
+        record {
+          stays = omega (arith, h.start, all);
+          all = λ _. all;
+          shows = λ _. record {
+            need = need;
+            few = few;
+            lacks = subst (Lacks g need)
+                (sym (ap (λ n. take n (rest t)) (a.seen ∙ h.seen)
+                ∙ ap (take (length (rest m))) a.went.hands.equal ∙ take-append_seam (rest m) a.went.hands.got)) h.lacks;
+          };
+        }
+
     pub load_fails : (e : Error) (t : ReaderState S D) → AsksFor remaining g need m (Err e) t
         → NextPiece remaining g s (Err (Io e)) t
     load_fails e t a =
@@ -146,6 +178,7 @@ module _ {S D W : Type 0} (remaining : S → Option (List ℕ)) (g : Grammar W) 
             length-append m.reader.log.reads.faults (e ∷ []),
           ));
           told = λ ended. (let odd : true ≡ false = sym ended ∙ sym h.header.ended ∙ f.1 in cc);
+          looked = still_looked (Err e) t a f.0;
           whole = a.whole;
         }
 
@@ -181,6 +214,7 @@ module _ {S D W : Type 0} (remaining : S → Option (List ℕ)) (g : Grammar W) 
             asked = AskedWhere-told (IsOpen g) s t w refl asked;
             gave = λ none _. gave_end s t asked ends none;
             told = λ _. refl;
+            looked = tt;
             whole = subst (IsPieceReader g) is whole;
           })
       load_finished (Ok (Some span)) v (some, within, last, is) whole =
@@ -202,6 +236,7 @@ module _ {S D W : Type 0} (remaining : S → Option (List ℕ)) (g : Grammar W) 
             asked = AskedWhere-told (IsOpen g) s t w refl asked;
             gave = λ none _. gave_end s t asked ends none;
             told = λ ended. absurd (omega (arith, some, ap length (a.whole.ended (still_ended some ended))));
+            looked = tt;
             whole = subst (IsPieceReader g) is whole;
           }))
       load_finished (Err (Wrong e)) v (some, cut, is) whole = subst (NextPiece remaining g s (Err (Wrong e))) (sym is) (record {
@@ -216,16 +251,17 @@ module _ {S D W : Type 0} (remaining : S → Option (List ℕ)) (g : Grammar W) 
         asked = asked;
         gave = λ none _. gave_end s t asked ends none;
         told = λ ended. absurd (omega (arith, some, ap length (a.whole.ended (still_ended some ended))));
+        looked = still_looked (Ok false) t a (a.end refl).0;
         whole = a.whole;
       })
       load_finished (Err (Io e)) v ends' whole = absurd ends'
 
 -- a look alone settles nothing
 pub next_looked : {S D W : Type 0} (remaining : S → Option (List ℕ)) (grammar : D → Grammar W) (s m t : ReaderState S D)
-    (need : ℕ) (answer : NextAnswer W) → Takes (grammar s.decoder) s (found.More need) m
+    (need : ℕ) (answer : NextAnswer W) → IsPieceReader (grammar s.decoder) s → Takes (grammar s.decoder) s (found.More need) m
     → NextPiece remaining (grammar m.decoder) m answer t → NextPiece remaining (grammar s.decoder) s answer t
-next_looked remaining grammar s m t need answer wants next =
-    NextPiece-looked remaining (grammar s.decoder) s t (length (rest s)) answer
+next_looked remaining grammar s m t need answer whole wants next =
+    NextPiece-looked remaining (grammar s.decoder) s t (length (rest s)) (seen_inside (grammar s.decoder) s whole) answer
     (subst (λ x. NextPiece remaining (grammar s.decoder) x answer t) wants.3
     (subst (λ d. NextPiece remaining (grammar d) m answer t) (ap (λ x. x.decoder) wants.3) next))
 
@@ -266,5 +302,13 @@ turned remaining grammar law s m t v need {came} {r} {looked} h told a is takes 
       handed = asked.handed;
       before = asked.whole;
       takes = subst (λ x. Takes g t x v) is (subst (λ d. Takes (grammar d) t r v) same takes);
+      start = h.start;
+      seen = omega (
+        arith,
+        asked.seen,
+        h.seen,
+        ap length h.header.went.hands.equal,
+        length-append (rest s) h.header.went.hands.got,
+      );
       whole = subst (λ d. IsPieceReader (grammar d) v) same whole;
     }

@@ -1,5 +1,5 @@
 -- What the calls of a reader of pieces promise.
-use Rattle.std.specs.Prelude.{◌≡◌, ℕ, ◌+◌, ◌<◌, ◌≤◌, ◌⊎◌, List, [], ◌∷◌, ◌++◌, length, Bool, true, false, MatchBool, Option, None, Some, Result, Ok, Err, option_copied}
+use Rattle.std.specs.Prelude.{◌≡◌, ℕ, ◌+◌, ◌<◌, ◌≤◌, ◌⊎◌, List, [], ◌∷◌, ◌++◌, length, take, Bool, true, false, MatchBool, Option, None, Some, Result, Ok, Err, OnErr, option_copied}
 use Rattle.std.specs.Borrow.{Bor}
 use Rattle.std.specs.declared.io.Error.{Error}
 use Rattle.buffer_redux.specs.Buffered.{Buffered}
@@ -10,7 +10,7 @@ use Rattle.piece_reader.specs.declared.decoder.Span.{Span}
 use Rattle.piece_reader.specs.declared.error.NextError.{NextError}
 use Rattle.piece_reader.specs.declared.error.NextError.TheVariants.{Wrong, Io}
 use Rattle.piece_reader.specs.Decoding.{bytes_at}
-use Rattle.piece_reader.specs.Grammar.{Begins, Grammar, IsOpen}
+use Rattle.piece_reader.specs.Grammar.{Begins, Grammar, IsOpen, Lacks}
 use Rattle.piece_reader.specs.PieceReader.{ReaderState, IsPieceReader, rest}
 
 -- these bytes, then what is left, are what was left, then what was given since
@@ -98,8 +98,21 @@ NextAnswers g s (Err (Wrong e)) bytes t = (bytes ≡ []) × NoFault s t × (t.en
 NextAnswers g s (Err (Io e)) bytes t =
     (bytes ≡ []) × IsOpen g (rest t) × Faulted s e t × (t.ended ≡ false) × NoEnd s t
 
+-- what was looked at, the first so many, shows that the bytes settle nothing
+pub record ShowsOpen {W : Type 0} (g : Grammar W) (seen : ℕ) (bytes : List ℕ) : Type 0 where
+  pub need : ℕ
+  pub few : length bytes < need
+  pub lacks : Lacks g need (take seen bytes)
+
+-- what was looked at stays so; all that was left was looked at where it settled nothing; and where what is left settles nothing,
+-- what was looked at of it shows that. So none of it is looked at again before more comes
+pub record StaysLooked {S D W : Type 0} (g : Grammar W) (s t : ReaderState S D) : Type 0 where
+  pub stays : s.seen ≤ t.seen
+  pub all : IsOpen g (rest s) → length (rest s) ≤ t.seen
+  pub shows : IsOpen g (rest t) → ShowsOpen g t.seen (rest t)
+
 -- what one call of `next` does. The stream is asked only where what is buffered settles nothing, and each ask gave a byte,
--- unless an end or a fault was met; and an end that no call has told yet is told
+-- unless an end or a fault was met; an end that no call has told yet is told; and an `Err` leaves what was looked at
 pub record NextPiece {S D W : Type 0} (remaining : S → Option (List ℕ)) (g : Grammar W) (s : ReaderState S D)
     (answer : NextAnswer W) (t : ReaderState S D) : Type 0 where
   pub bytes : List ℕ
@@ -108,6 +121,7 @@ pub record NextPiece {S D W : Type 0} (remaining : S → Option (List ℕ)) (g :
   pub asked : AskedWhere (IsOpen g) s t
   pub gave : NoEnd s t → NoFault s t → AsksGive s t
   pub told : s.ended ≡ true → answer ≡ Ok None
+  pub looked : OnErr answer (StaysLooked g s t)
   pub whole : IsPieceReader g t
 
 -- one call of `next` here doesn't ask the stream
@@ -118,6 +132,7 @@ AsksNone {S} {D} {W} remaining g s =
 -- nothing was done, but that more bytes may have been looked at: all, where they settle nothing, so that none is looked at again
 pub record StaysLeft {S D W : Type 0} (g : Grammar W) (s t : ReaderState S D) : Type 0 where
   pub same : t ≡ record s { seen = t.seen }
+  pub stays : s.seen ≤ t.seen
   pub looked : IsOpen g (rest s) → t.seen ≡ length (rest s)
   pub whole : IsPieceReader g t
 

@@ -1,6 +1,6 @@
 -- Laws of one call of `next`, for the proofs of those who call it.
-use Rattle.std.specs.Prelude.{◌≡◌, ℕ, ◌+◌, ◌<◌, List, [], ◌++◌, length, Bool, true, false, MatchBool, Option, None, Some, Ok, Err}
-use Rattle.std.proofs.Common.{sym, ap, subst, ◌∙◌, refl, arith, inl, inr, length-append, append_assoc, append-nil}
+use Rattle.std.specs.Prelude.{◌≡◌, ℕ, ◌+◌, ◌<◌, ◌≤◌, List, [], ◌++◌, length, Bool, true, false, MatchBool, Option, None, Some, Ok, Err}
+use Rattle.std.proofs.Common.{sym, ap, subst, ◌∙◌, refl, arith, le_refl, inl, inr, length-append, length-drop, append_assoc, append-nil}
 use Rattle.std.proofs.lemmas.List.{append_cancel_left}
 use Rattle.piece_reader.specs.declared.error.NextError.TheVariants.{Wrong, Io}
 use Rattle.piece_reader.specs.Grammar.{Begins, Grammar, IsLawful, IsOpen}
@@ -140,6 +140,10 @@ MetEnd-joins s m t same none met = elim m.ended as (λ b. b ≡ m.ended → MetE
   | false ↦ λ is. MetEnd-now s t (sym same ∙ sym is) (MetEnd-once m t (sym is) met ∙ ap (λ n. n + 1) none)
 ] refl
 
+-- no more was looked at than is left
+pub seen_inside : {S D W : Type 0} (g : Grammar W) (s : ReaderState S D) → IsPieceReader g s → s.seen ≤ length (rest s)
+seen_inside g s whole = omega (arith, whole.handed, length-drop s.handed s.reader.block.bytes)
+
 -- where something is left the stream hasn't ended
 pub still_going : (ended : Bool) (left : List ℕ) → (ended ≡ true → left ≡ []) → 0 < length left → ended ≡ false
 still_going true left none some = absurd (omega (arith, some, ap length (none refl)))
@@ -156,5 +160,10 @@ NextPiece-refused remaining g s whole some e wrong =
       asked = inl refl;
       gave = λ _ _. omega arith;
       told = λ ended. (let odd : true ≡ false = sym ended ∙ going in cc);
+      looked = record {
+        stays = le_refl s.seen;
+        all = λ open'. absurd (open'.not_wrong e wrong);
+        shows = λ open'. absurd (open'.not_wrong e wrong);
+      };
       whole = whole;
     }

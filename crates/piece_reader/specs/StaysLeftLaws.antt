@@ -1,23 +1,29 @@
 -- What follows where a reader only looked at more bytes.
-use Rattle.std.specs.Prelude.{◌≡◌, ℕ, List, [], Option, None, Some, Result, Ok, Err, IfOk, IfSome}
-use Rattle.std.proofs.Common.{sym, ap, subst, inl, inr}
+use Rattle.std.specs.Prelude.{◌≡◌, ℕ, ◌≤◌, List, [], Option, None, Some, Result, Ok, Err, IfOk, IfSome, OnErr}
+use Rattle.std.proofs.Common.{sym, ap, subst, inl, inr, arith}
 use Rattle.piece_reader.specs.declared.decoder.Span.{Span}
 use Rattle.piece_reader.specs.declared.error.NextError.{NextError}
 use Rattle.piece_reader.specs.declared.error.NextError.TheVariants.{Wrong, Io}
 use Rattle.piece_reader.specs.Grammar.{Grammar}
 use Rattle.piece_reader.specs.Items.{NextItem}
-use Rattle.piece_reader.specs.NextPiece.{NextAnswer, NextAnswers, NextBuffered, NextPiece, PiecesWent, StaysLeft}
+use Rattle.piece_reader.specs.NextPiece.{NextAnswer, NextAnswers, NextBuffered, NextPiece, PiecesWent, StaysLeft, StaysLooked}
 use Rattle.piece_reader.specs.PiecesWentLaws.{HandsBytes-looked, HandsBytes-same, PiecesWent-inside}
 use Rattle.piece_reader.specs.PieceReader.{IsSettled, ReaderState, rest}
 
--- what a call does is what it would have done with fewer bytes looked at, or more
-module _ {S D W : Type 0} (remaining : S → Option (List ℕ)) (g : Grammar W) (s t : ReaderState S D) (seen : ℕ) where
+-- what a call does is what it would have done with fewer bytes looked at
+module _ {S D W : Type 0} (remaining : S → Option (List ℕ)) (g : Grammar W) (s t : ReaderState S D) (seen : ℕ)
+    (more : s.seen ≤ seen) where
   answers : (answer : NextAnswer W) (bytes : List ℕ) → NextAnswers g (record s { seen = seen }) answer bytes t
       → NextAnswers g s answer bytes t
   answers (Ok (Some payload)) bytes a = a
   answers (Ok None) bytes a = a
   answers (Err (Wrong e)) bytes a = a
   answers (Err (Io e)) bytes a = a
+
+  looked : (answer : NextAnswer W) → OnErr answer (StaysLooked g (record s { seen = seen }) t)
+      → OnErr answer (StaysLooked g s t)
+  looked (Ok found) l = tt
+  looked (Err e) l = record { stays = omega (arith, more, l.stays); all = l.all; shows = l.shows }
 
   pub NextPiece-looked : (answer : NextAnswer W) → NextPiece remaining g (record s { seen = seen }) answer t
       → NextPiece remaining g s answer t
@@ -49,6 +55,7 @@ module _ {S D W : Type 0} (remaining : S → Option (List ℕ)) (g : Grammar W) 
         ];
         gave = next.gave;
         told = next.told;
+        looked = looked answer next.looked;
         whole = next.whole;
       }
 
@@ -67,7 +74,7 @@ module _ {S D W : Type 0} (remaining : S → Option (List ℕ)) (g : Grammar W) 
   pub StaysLeft-next : (t : ReaderState S D) (answer : NextAnswer W) → NextPiece remaining g m answer t
       → NextPiece remaining g s answer t
   StaysLeft-next t answer next =
-      NextPiece-looked remaining g s t m.seen answer (subst (λ x. NextPiece remaining g x answer t) stays.same next)
+      NextPiece-looked remaining g s t m.seen stays.stays answer (subst (λ x. NextPiece remaining g x answer t) stays.same next)
 
   pub StaysLeft-item : {I : Type 0} (item_of : List ℕ → I) (t : ReaderState S D)
       (answer : Result (Option (I × Span)) (NextError W))

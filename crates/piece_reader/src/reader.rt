@@ -374,6 +374,7 @@ impl<R: TellRead, D: Decoder> PieceReader<R, D> {
         requires few { length (rest self.old) < need }
         requires most { need ≤ (D.grammar self.old.decoder).most }
         requires lacks { Lacks (D.grammar self.old.decoder) need (rest self.old) }
+        requires looked { self.old.seen ≡ length (rest self.old) }
         ensures next { NextPiece R.remaining (D.grammar self.old.decoder) self.old (load_answer result self.new) self.new }
         ensures lends { IfOk result (λ found. IfSome found
             (IsLent (D.grammar self.new.decoder) self.new.handed self.new.reader.block.bytes)) }

@@ -1,8 +1,8 @@
 //! The steps of a reader of lines: what is buffered is handed out or dropped, and the stream is asked.
-ghost use Rattle.std.specs.Prelude.{◌≡◌, IfOk, IfSome, true, false};
+ghost use Rattle.std.specs.Prelude.{◌≡◌, length, IfOk, IfSome, true, false};
 ghost use Rattle.std.specs.Bool.{OnFalse, OnTrue};
 ghost use Rattle.piece_reader.specs.Decoding.{IsLent, bytes_at};
-ghost use Rattle.piece_reader.specs.Grammar.{Begins};
+ghost use Rattle.piece_reader.specs.Grammar.{Begins, IsOpen};
 ghost use Rattle.piece_reader.specs.NextPiece.{buffered_answer, load_answer};
 ghost use Rattle.piece_reader.specs.PieceReader.{rest};
 ghost use Rattle.piece_reader.specs.Trimming.{IsTrimmed};
@@ -72,6 +72,8 @@ impl<R: TellRead> LineReader<R> {
     #[inline(always)]
     pub(super) fn load(&mut self) -> Result<Option<Span>, LineError>
         requires none { ¬ (Begins (lined self.old.pieces.decoder.max) (rest self.old.pieces)) }
+        requires looked { IsOpen (lined self.old.pieces.decoder.max) (rest self.old.pieces)
+            → self.old.pieces.seen ≡ length (rest self.old.pieces) }
         ensures next { NextLine R.remaining self.old (load_answer result self.new.pieces) self.new }
         ensures lends { IfOk result (λ found. IfSome found
             (IsLent (lined self.new.pieces.decoder.max) self.new.pieces.handed self.new.pieces.reader.block.bytes)) }
@@ -115,6 +117,8 @@ impl<R: TellRead> LineReader<R> {
     fn load_line(&mut self) -> Result<Option<Span>, LineError>
         requires open { self.old.skipping ≡ false }
         requires none { ¬ (Begins (lined self.old.pieces.decoder.max) (rest self.old.pieces)) }
+        requires looked { IsOpen (lined self.old.pieces.decoder.max) (rest self.old.pieces)
+            → self.old.pieces.seen ≡ length (rest self.old.pieces) }
         ensures next { NextLine R.remaining self.old (load_answer result self.new.pieces) self.new }
         ensures lends { IfOk result (λ found. IfSome found
             (IsLent (lined self.new.pieces.decoder.max) self.new.pieces.handed self.new.pieces.reader.block.bytes)) }

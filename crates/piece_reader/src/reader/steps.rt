@@ -69,6 +69,7 @@ impl<R: TellRead, D: Decoder> PieceReader<R, D> {
         requires few { length (rest self.old) < need }
         requires most { need ≤ (D.grammar self.old.decoder).most }
         requires lacks { Lacks (D.grammar self.old.decoder) need (rest self.old) }
+        requires looked { self.old.seen ≡ length (rest self.old) }
         ensures next { NextPiece R.remaining (D.grammar self.old.decoder) self.old
             (load_answer result self.new) self.new }
         ensures lends { IfOk result (λ found. IfSome found
@@ -85,6 +86,7 @@ impl<R: TellRead, D: Decoder> PieceReader<R, D> {
         requires few { length (rest self.old) < need }
         requires most { need ≤ (D.grammar self.old.decoder).most }
         requires lacks { Lacks (D.grammar self.old.decoder) need (rest self.old) }
+        requires looked { self.old.seen ≡ length (rest self.old) }
         ensures next { NextPiece R.remaining (D.grammar self.old.decoder) self.old
             (load_answer result self.new) self.new }
         ensures lends { IfOk result (λ found. IfSome found

@@ -30,7 +30,7 @@ pub returns-in-More-clause-next : goal.returns-in-More-clause-next
 returns-in-More-clause-next g c =
     let t = c.load_outlined.new.self in
     next_looked g.R.TellRead.remaining g.D.Decoder.grammar c.args.self.now c.take.new.self t c.in-More.need
-    (load_answer c.load_outlined.result t) c.in-More.ensures.takes c.load_outlined.ensures.next
+    (load_answer c.load_outlined.result t) c.take.ensures.before c.in-More.ensures.takes c.load_outlined.ensures.next
 
 pub returns-in-Piece-clause-lends : goal.returns-in-Piece-clause-lends
 returns-in-Piece-clause-lends g c =

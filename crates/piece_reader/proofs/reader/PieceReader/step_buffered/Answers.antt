@@ -19,8 +19,8 @@ returns-in-Piece-clause-next g c =
 pub returns-in-More-clause-next : goal.returns-in-More-clause-next
 returns-in-More-clause-next g c =
     let s = c.args.self.now in
-    none_yet (g.D.Decoder.grammar s.decoder) s c.take.new.self c.take.ensures.whole c.in-More.field-0
-    c.in-More.ensures.takes
+    none_yet (g.D.Decoder.grammar s.decoder) s c.take.new.self c.take.ensures.whole c.take.ensures.before
+    c.in-More.field-0 c.in-More.ensures.takes
 
 pub returns-in-Wrong-clause-next : goal.returns-in-Wrong-clause-next
 returns-in-Wrong-clause-next g c =

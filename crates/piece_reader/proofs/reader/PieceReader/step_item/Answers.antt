@@ -41,7 +41,7 @@ returns-in-Ok-Some-clause-next g c =
     let wants = c.in-More.ensures.takes in
     let found = c.in-Ok-Some.is ∙ ap (λ x. Ok x) c.in-Ok-Some.field-0-is in
     let next = next_looked remaining g.D.Decoder.grammar s m t c.in-More.need
-    (load_answer (Ok (Some c.in-Ok-Some.span)) t) wants
+    (load_answer (Ok (Some c.in-Ok-Some.span)) t) c.take.ensures.before wants
     (loaded_next g.D.Decoder.grammar m t remaining c.load_outlined.result c.in-Ok-Some.span found c.load_outlined.ensures.next)
     in
     let bytes = part_front t ∙ HandsBytes-same s t (take t.handed t.reader.block.bytes) next.bytes
@@ -60,7 +60,8 @@ returns-in-Ok-None-clause-next g c =
     let m = c.take.new.self in
     let t = c.load_outlined.new.self in
     record {
-      next = next_looked remaining g.D.Decoder.grammar c.args.self.now m t c.in-More.need (Ok None) c.in-More.ensures.takes
+      next = next_looked remaining g.D.Decoder.grammar c.args.self.now m t c.in-More.need (Ok None) c.take.ensures.before
+          c.in-More.ensures.takes
           (subst (λ r. NextPiece remaining (g.D.Decoder.grammar m.decoder) m (load_answer r t) t)
           (c.in-Ok-None.is ∙ ap (λ x. Ok x) c.in-Ok-None.field-0-is) c.load_outlined.ensures.next);
       says = tt;
@@ -73,7 +74,7 @@ returns-in-Err-clause-next g c =
     let t = c.load_outlined.new.self in
     record {
       next = next_looked remaining g.D.Decoder.grammar c.args.self.now m t c.in-More.need (Err c.in-Err.e)
-          c.in-More.ensures.takes
+          c.take.ensures.before c.in-More.ensures.takes
           (subst (λ r. NextPiece remaining (g.D.Decoder.grammar m.decoder) m (load_answer r t) t) c.in-Err.is
           c.load_outlined.ensures.next);
       says = tt;

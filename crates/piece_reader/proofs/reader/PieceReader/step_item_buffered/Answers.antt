@@ -29,8 +29,8 @@ yet : (g : _) (c : goal.In-More g)
     × ¬ (Begins (g.D.Decoder.grammar c.args.self.now.decoder) (rest c.args.self.now))
 yet g c =
     let s = c.args.self.now in
-    none_yet (g.D.Decoder.grammar s.decoder) s c.take.new.self c.take.ensures.whole c.in-More.field-0
-    c.in-More.ensures.takes
+    none_yet (g.D.Decoder.grammar s.decoder) s c.take.new.self c.take.ensures.whole c.take.ensures.before
+    c.in-More.field-0 c.in-More.ensures.takes
 
 pub returns-in-More-clause-stays : goal.returns-in-More-clause-stays
 returns-in-More-clause-stays g c = (yet g c).0
