@@ -1,5 +1,6 @@
 //! The examples of README, CALLING and PROOFS.
-ghost use Rattle.std.specs.Prelude.{◌≡◌, ◌++◌, ◌∷◌, IfOk, OnOk, [], take, true};
+ghost use Rattle.std.specs.Prelude.{◌≡◌, ◌++◌, ◌∷◌, IfOk, OnErr, OnOk, [], take, true};
+ghost use Rattle.buffer_redux.specs.BufReader.{ReadsInOrder};
 ghost use Rattle.buffer_redux.specs.BufWriter.{AllFlushed, WritesInOrder};
 
 use buffer_redux::policy::{MinBuffered, ReaderPolicy, WriterPolicy};
@@ -57,12 +58,14 @@ fn logs_line<W: TellWrite + Drop>(alloc: Global, to: W) -> io::Result<usize> {
     Ok(writer.buf_len())
 }
 
-/// Hands on what is buffered of `from`, as far as `to` takes it.
+/// Hands on what is buffered of `from`, as far as `to` takes it. An `Err` leaves that as it was.
 fn hand_on<R: TellRead, P: ReaderPolicy, W: TellWrite>(
     from: &mut BufReader<R, P>,
     to: &mut BufWriter<W>,
 ) -> io::Result<usize>
     ensures sent { IfOk result (λ n. WritesInOrder to.old (take n from.old.block.bytes) to.new) }
+    ensures handed { IfOk result (λ n. ReadsInOrder from.old (take n from.old.block.bytes) from.new) }
+    ensures kept { OnErr result (from.new ≡ from.old) }
 {
     let taken = to.write(from.buffer())?;
     from.consume(taken);
