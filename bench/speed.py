@@ -56,6 +56,10 @@ def of_packets(label, shape):
     return [shape, *label.split(", "), "8388608"]
 
 
+def of_heads(label, shape):
+    return [shape, *label.split(", "), "262144"]
+
+
 # By the beginning of a table's head: what a cell is of, and of each column the kind or `rust` or `time` with the shape. In the first
 # of these the shape comes from the row's name. A `call` counts instructions a call, and not a byte.
 TABLES = {
@@ -74,6 +78,7 @@ TABLES = {
         ["plain frames", "rust frames", "plain write_frames", "rust write_frames", "time frames", "time write_frames"],
     ),
     "| Chunks of | read_payload |": (of_length, ["plain bodies", "rust bodies", "time bodies"]),
+    "| Heads of, bytes a read |": (of_heads, ["plain heads"]),
     "| Chunks of | write_all |": (of_length, ["plain write_bodies", "rust write_bodies", "time write_bodies"]),
     "| Capacity, bytes a read |": (of_packets, ["plain packets", "ring packets"]),
 }

@@ -1,11 +1,12 @@
 # sh bench/table.sh
 #
-# Proves and builds crates/bench, builds bench/std.rs, and prints seven tables in Markdown. The first says how many instructions
+# Proves and builds crates/bench, builds bench/std.rs, and prints eight tables in Markdown. The first says how many instructions
 # each case takes for a byte that goes over, as callgrind counts them, whatever else the machine does; the second the same
 # where a policy looks ahead, for when a ring pays; the third where lines are read, the fourth frames, the fifth chunked bodies,
-# the sixth calls of std's types, the seventh small writes, a call. It needs valgrind; the columns of Rust's std need rustc. A case is one line of `cases` below;
-# one of a new shape is a function in crates/bench/src/cases.rt and one in bench/std.rs too. `sh bench/table.sh pays` prints the
-# second table alone, `lines` in its place the third, `frames` the fourth, `bodies` the fifth, `std` the sixth, `writes` the seventh.
+# the sixth heads of requests, the seventh calls of std's types, the eighth small writes, a call. It needs valgrind; the columns of
+# Rust's std need rustc. A case is one line of `cases` below; one of a new shape is a function in crates/bench/src/cases.rt and
+# one in bench/std.rs too. `sh bench/table.sh pays` prints the second table alone, `lines` in its place the third, `frames` the
+# fourth, `bodies` the fifth, `heads` the sixth, `std` the seventh, `writes` the eighth.
 set -eu
 
 cases='read in pieces of 64|read 8192 64 8388608
@@ -54,6 +55,13 @@ payloads='64
 chunks='64
 1000
 65536'
+
+# How long the heads of requests are, and how many bytes a read gives at most.
+heads='2000 1
+4000 1
+8000 1
+8000 100
+8000 8192'
 
 # Calls of std's types through 8192 bytes: lines, single bytes, and turns that begin with a fill and go on by 64.
 calls='read_until, lines of 80|read_until 80 8388608
@@ -177,6 +185,15 @@ print_bodies() {
     done
 }
 
+# Heads of requests, for a byte of them.
+print_heads() {
+    echo '| Heads of, bytes a read | step |'
+    echo '|---|---|'
+    echo "$heads" | while read -r length most; do
+        echo "| $length, $most | $(count "$bench" heads plain "$length" "$most" 262144) |"
+    done
+}
+
 # The calls of std's types.
 print_calls() {
     echo "| Instructions for a byte, or a turn | plain | the kit's std | Rust's std |"
@@ -226,6 +243,7 @@ case "${1-}" in
     lines) print_lines && exit ;;
     frames) print_frames && exit ;;
     bodies) print_bodies && exit ;;
+    heads) print_heads && exit ;;
     std) print_calls && exit ;;
     writes) print_writes && exit ;;
 esac
@@ -260,6 +278,9 @@ print_frames
 
 echo
 print_bodies
+
+echo
+print_heads
 
 echo
 print_calls

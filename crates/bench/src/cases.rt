@@ -2,6 +2,7 @@
 use crate::bodies::{bodies, write_bodies};
 use crate::calls::{Call, calls};
 use crate::frames::{frames, write_frames};
+use crate::heads::heads;
 use crate::lines::{lines_to_end, next_to_end, trimmed_to_end, until_end};
 use crate::makers::{
     block, line_reader, line_writer, looking, reader, std_line_writer, std_packets, std_reader,
@@ -60,12 +61,14 @@ pub enum Shape {
     Bodies,
     /// Writes chunks of the same payload again and again, ends the body, and flushes.
     WriteBodies,
+    /// Reads heads of requests.
+    Heads,
     /// One of the calls that std's types have.
     Call(Call),
 }
 
 /// Each shape by its name, with the capacity and the piece of a case of it on few bytes.
-pub static SHAPES: [(&str, Shape, usize, usize); 33] = [
+pub static SHAPES: [(&str, Shape, usize, usize); 34] = [
     ("read", Shape::Read, 8192, 64),
     ("fill", Shape::Fill, 8192, 100),
     ("look", Shape::Look, 16384, 100),
@@ -87,6 +90,7 @@ pub static SHAPES: [(&str, Shape, usize, usize); 33] = [
     ("write_frames", Shape::WriteFrames, 8192, 64),
     ("bodies", Shape::Bodies, 8192, 1000),
     ("write_bodies", Shape::WriteBodies, 8192, 1000),
+    ("heads", Shape::Heads, 2000, 100),
     ("read_until", Shape::Call(Call::ReadUntil), 8192, 80),
     ("skip_until", Shape::Call(Call::SkipUntil), 8192, 80),
     ("read_line", Shape::Call(Call::ReadLine), 8192, 80),
@@ -164,7 +168,7 @@ pub fn measured(alloc: Global, case: &Case, bytes: &[u8]) -> io::Result<u64> {
     }
 }
 
-// Lines, frames, bodies and calls of std's have no ring.
+// Lines, frames, bodies, heads and calls of std's have no ring.
 fn over_plain(alloc: Global, case: &Case, bytes: &[u8]) -> io::Result<u64> {
     match case.shape {
         Shape::Call(call) => calls(alloc, case, call, bytes),
@@ -174,6 +178,7 @@ fn over_plain(alloc: Global, case: &Case, bytes: &[u8]) -> io::Result<u64> {
         Shape::WriteFrames => write_frames(alloc, case, bytes),
         Shape::Bodies => bodies(alloc, case, bytes),
         Shape::WriteBodies => write_bodies(alloc, case, bytes),
+        Shape::Heads => heads(alloc, case, bytes),
         _ => over_either(alloc, case, bytes),
     }
 }

@@ -7,6 +7,7 @@ mod bodies;
 mod calls;
 mod cases;
 mod frames;
+mod heads;
 mod lines;
 mod makers;
 mod streams;
@@ -15,6 +16,7 @@ mod whole;
 use crate::bodies::chunked_body;
 use crate::cases::{Case, Kind, SHAPES, Shape, measured};
 use crate::frames::framed;
+use crate::heads::heads_text;
 use crate::lines::text;
 use std::alloc::{AllocError, Global};
 use std::io;
@@ -36,6 +38,7 @@ fn run(alloc: Global, case: &Case, total: usize, turns: usize) -> io::Result<u64
     let bytes = match case.shape {
         Shape::Next | Shape::NextTrimmed => text(alloc, case.capacity, total)?,
         Shape::Frames => framed(alloc, case.piece, total)?,
+        Shape::Heads => heads_text(alloc, case.capacity, total)?,
         Shape::Bodies => chunked_body(alloc, case.piece, total)?,
         Shape::Lines => text(alloc, case.piece, total)?,
         Shape::Call(call) if call.takes_lines() => text(alloc, case.piece, total)?,

@@ -1,5 +1,5 @@
 -- Protocols in one stream that the first byte of a piece tells apart.
-use Rattle.std.specs.Prelude.{◌≡◌, ℕ, ◌==◌, List, [], ◌∷◌, max, true, false}
+use Rattle.std.specs.Prelude.{◌≡◌, ℕ, ◌==◌, List, [], ◌∷◌, max, true, false, MatchBool}
 use Rattle.codec.specs.declared.by_first.EitherWrong.{EitherWrong}
 use Rattle.codec.specs.declared.by_first.EitherWrong.TheVariants.{One, Other}
 use Rattle.piece_reader.specs.declared.decoder.End.{End}
@@ -42,6 +42,12 @@ by_first most of_byte = record {
   last = OnFirst (λ byte. (of_byte byte).last);
   cut = OnFirst (λ byte. (of_byte byte).cut);
 }
+
+-- what a look leaves for either protocol: of no byte both, and else that of which the first byte says that the piece is
+abbrev pub either_notes : {N M : Type 0} → ℕ → (List ℕ → N → Type 0) → (List ℕ → M → Type 0) → List ℕ → N × M → Type 0
+either_notes byte Ones Others [] note = Ones [] note.0 × Others [] note.1
+either_notes byte Ones Others (first ∷ bytes) note =
+    MatchBool (first == byte) (Ones (first ∷ bytes) note.0) (Others (first ∷ bytes) note.1)
 
 -- two: the pieces of the one begin with this byte
 abbrev pub either : {V W : Type 0} → ℕ → Grammar V → Grammar W → Grammar (EitherWrong V W)

@@ -1,5 +1,5 @@
 -- Laws of protocols that the first byte tells apart.
-use Rattle.std.specs.Prelude.{◌≡◌, ℕ, zero, suc, ◌<◌, ◌≤◌, ◌==◌, List, [], ◌∷◌, ◌++◌, length, take, max, Bool, true, false, slice_index}
+use Rattle.std.specs.Prelude.{◌≡◌, ℕ, zero, suc, ◌<◌, ◌≤◌, ◌==◌, List, [], ◌∷◌, ◌++◌, length, take, max, Bool, true, false, slice_index, MatchBool}
 use Rattle.std.proofs.Common.{sym, ap, subst, ◌∙◌, arith, refl, inl, inr}
 use Rattle.std.proofs.Math.Nat.{le-max_left, le-max_right}
 use Rattle.codec.specs.declared.by_first.EitherWrong.{EitherWrong}
@@ -8,8 +8,8 @@ use Rattle.piece_reader.specs.declared.decoder.End.{End}
 use Rattle.piece_reader.specs.declared.decoder.End.TheVariants as end
 use Rattle.piece_reader.specs.declared.decoder.Found.{Found}
 use Rattle.piece_reader.specs.declared.decoder.Found.TheVariants as found
-use Rattle.piece_reader.specs.Decoding.{Decodes, Ends, bytes_at}
-use Rattle.codec.specs.FirstByte.{OnFirst, by_first, either, end_as, found_as, renamed}
+use Rattle.piece_reader.specs.Decoding.{Decodes, Ends, OnMore, bytes_at}
+use Rattle.codec.specs.FirstByte.{OnFirst, by_first, either, either_notes, end_as, found_as, renamed}
 use Rattle.piece_reader.specs.Grammar.{Grammar, IsLawful, IsOpen}
 use Rattle.piece_reader.specs.GrammarLaws.{open_none}
 use Rattle.piece_reader.specs.Items.{IsWhole}
@@ -171,6 +171,29 @@ side {V} {W} g h is = elim is as (λ _. Grammar (EitherWrong V W)) [
 
 abbrev one_or : {V W : Type 0} → ℕ → Grammar V → Grammar W → ℕ → Grammar (EitherWrong V W)
 one_or byte g h first = side g h (first == byte)
+
+-- the notes of two protocols, by the side of the first byte
+module _ {N M : Type 0} (byte : ℕ) (Ones : List ℕ → N → Type 0) (Others : List ℕ → M → Type 0) (note : N × M) where
+  pub side_noted : (b : Bool) (bytes : List ℕ) (seen : ℕ) → 0 < length bytes → (slice_index bytes 0 == byte) ≡ b
+      → either_notes byte Ones Others (take seen bytes) note
+      → MatchBool b (Ones (take seen bytes) note.0) (Others (take seen bytes) note.1)
+  side_noted b [] seen some is n = absurd (omega (arith, some))
+  side_noted true (first ∷ bytes) zero some is n = n.0
+  side_noted false (first ∷ bytes) zero some is n = n.1
+  side_noted b (first ∷ bytes) (suc seen) some is n =
+      subst (λ x. MatchBool x (Ones (first ∷ take seen bytes) note.0) (Others (first ∷ take seen bytes) note.1)) is n
+
+  pub side_leaves : (b : Bool) (bytes : List ℕ) → 0 < length bytes → (slice_index bytes 0 == byte) ≡ b
+      → MatchBool b (Ones bytes note.0) (Others bytes note.1) → either_notes byte Ones Others bytes note
+  side_leaves b [] some is n = absurd (omega (arith, some))
+  side_leaves b (first ∷ bytes) some is n =
+      subst (λ x. MatchBool x (Ones (first ∷ bytes) note.0) (Others (first ∷ bytes) note.1)) (sym is) n
+
+-- a fact where an answer settles nothing, under other words
+pub more_as : {V W : Type 0} (f : V → W) (found : Found V) (P Q : Type 0) → (P → Q) → OnMore found P → OnMore (found_as f found) Q
+more_as f (found.Piece span used) P Q then p = tt
+more_as f (found.More n) P Q then p = then p
+more_as f (found.Wrong e) P Q then p = tt
 
 module _ {V W : Type 0} (byte : ℕ) (g : Grammar V) (h : Grammar W) (one_law : IsLawful g) (other_law : IsLawful h) where
   laws : (first : ℕ) → IsLawful (one_or byte g h first)

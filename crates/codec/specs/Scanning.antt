@@ -1,7 +1,9 @@
 -- Headers that are read byte by byte.
-use Rattle.std.specs.Prelude.{ℕ, zero, suc, ◌+◌, ◌<◌, ◌^◌, List, [], ◌∷◌, length}
+use Rattle.std.specs.Prelude.{◌≡◌, ℕ, zero, suc, ◌+◌, ◌<◌, ◌^◌, List, [], ◌∷◌, length}
 use Rattle.piece_reader.specs.declared.header.Header.{Header}
 use Rattle.piece_reader.specs.declared.header.Header.TheVariants as header
+use Rattle.codec.specs.declared.scan.ScanNote.{ScanNote}
+use Rattle.codec.specs.declared.scan.ScanNote.TheVariants as note
 use Rattle.codec.specs.declared.scan.ScanStep.{ScanStep}
 use Rattle.codec.specs.declared.scan.ScanStep.TheVariants.{More, Sized, Bad}
 use Rattle.piece_reader.specs.HeaderFormat.{HeaderFormat}
@@ -33,6 +35,11 @@ scan_on turn (suc left) state used [] = header.Short
 scan_on turn (suc left) state used (byte ∷ bytes) =
     says (turn state byte) (used + 1) (λ next. scan_on turn left next (used + 1) bytes)
 
+-- read one by one, these bytes lead a header from the one place to the other
+abbrev pub LeadsTo : {S : Type 0} → (S → ℕ → ScanStep S) → S → List ℕ → S → Type 0
+LeadsTo turn state [] place = state ≡ place
+LeadsTo {S} turn state (byte ∷ bytes) place = (next : S) × (turn state byte ≡ More next) × LeadsTo turn next bytes place
+
 abbrev pub scanned : {S : Type 0} → Scanning S → HeaderFormat
 scanned s = record {
   header = scan_on s.turn s.most_header s.start 0;
@@ -40,3 +47,9 @@ scanned s = record {
   max = s.max;
   tail = s.tail;
 }
+
+-- what a look at these bytes leaves: the place that they lead to, where fewer than the longest header has; or what a whole one
+-- says
+abbrev pub scan_notes : {S : Type 0} → Scanning S → List ℕ → ScanNote S → Type 0
+scan_notes s bytes (note.Within place) = LeadsTo s.turn s.start bytes place × (length bytes < s.most_header)
+scan_notes s bytes (note.Whole len used) = (scanned s).header bytes ≡ header.Sized len used

@@ -71,6 +71,19 @@ abbrev pub IsFault : {W : Type 0} → WritePieceError W → Type 0
 IsFault (Io e) = ⊤
 IsFault (Refused w) = ⊥
 
+-- one of these payloads is refused, for this reason
+pub record RefusesOne {W : Type 0} (e : Encoding W) (payloads : List (List ℕ)) (why : W) : Type 0 where
+  pub before : List (List ℕ)
+  pub payload : List ℕ
+  pub later : List (List ℕ)
+  pub all : payloads ≡ before ++ payload ∷ later
+  pub refuses : e.refuses payload why
+
+-- what holds of one that is
+abbrev pub IfRefused : {W : Type 0} → (W → Type 0) → WritePieceError W → Type 0
+IfRefused P (Io e) = ⊤
+IfRefused P (Refused w) = P w
+
 -- what holds of one that isn't
 abbrev pub IfFault : {W : Type 0} → (Error → Type 0) → WritePieceError W → Type 0
 IfFault P (Io e) = P e

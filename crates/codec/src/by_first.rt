@@ -49,26 +49,39 @@ pub struct ByFirst<A: Decoder, B: Decoder> {
 }
 
 impl<A: Decoder, B: Decoder> Decoder for ByFirst<A, B> {
-    ghost use Rattle.codec.specs.FirstByte.{either};
+    ghost use Rattle.codec.specs.FirstByte.{either, either_notes};
     ghost use Rattle.codec.specs.FirstByteLaws.{either_lawful};
 
     type Wrong = EitherWrong<A::Wrong, B::Wrong>;
+    type Note = (A::Note, B::Note);
 
     ghost grammar = { λ d. either d.byte (A.grammar d.one) (B.grammar d.other) };
+
+    ghost notes = { λ d. either_notes d.byte (A.notes d.one) (B.notes d.other) };
 
     fn most(&self) -> usize {
         self.one.most().max(self.other.most())
     }
 
     #[inline(always)]
-    fn decode(&self, bytes: &[u8], seen: usize) -> Found<EitherWrong<A::Wrong, B::Wrong>> {
+    fn no_note(&self) -> (A::Note, B::Note) {
+        (self.one.no_note(), self.other.no_note())
+    }
+
+    #[inline(always)]
+    fn decode(
+        &self,
+        bytes: &[u8],
+        seen: usize,
+        note: &mut (A::Note, B::Note),
+    ) -> Found<EitherWrong<A::Wrong, B::Wrong>> {
         if bytes.is_empty() {
             return Found::More(1);
         }
         if begins_with(bytes, self.byte) {
-            as_one(self.one.decode(bytes, seen))
+            as_one(self.one.decode(bytes, seen, &mut note.0))
         } else {
-            as_other(self.other.decode(bytes, seen))
+            as_other(self.other.decode(bytes, seen, &mut note.1))
         }
     }
 

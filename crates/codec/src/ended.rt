@@ -37,16 +37,24 @@ impl<D: Decoder> Decoder for Ended<D> {
     ghost use Rattle.codec.specs.EndedLaws.{ended_lawful};
 
     type Wrong = Unended<D::Wrong>;
+    type Note = D::Note;
 
     ghost grammar = { λ d. ended (D.grammar d.0) };
+
+    ghost notes = { λ d. D.notes d.0 };
 
     fn most(&self) -> usize {
         self.0.most()
     }
 
     #[inline(always)]
-    fn decode(&self, bytes: &[u8], seen: usize) -> Found<Unended<D::Wrong>> {
-        as_ended(self.0.decode(bytes, seen))
+    fn no_note(&self) -> D::Note {
+        self.0.no_note()
+    }
+
+    #[inline(always)]
+    fn decode(&self, bytes: &[u8], seen: usize, note: &mut D::Note) -> Found<Unended<D::Wrong>> {
+        as_ended(self.0.decode(bytes, seen, note))
     }
 
     fn at_end(&self, bytes: &[u8]) -> End<Unended<D::Wrong>> {

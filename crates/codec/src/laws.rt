@@ -1,5 +1,5 @@
 //! Laws, each as the contract of a function over the calls.
-ghost use Rattle.std.specs.Prelude.{◌≡◌, ◌*◌, ◌^◌, ◌≤◌, ℕ, List, [], ◌∷◌, ◌++◌, IfErr, IfOk, IsOk, None, Ok};
+ghost use Rattle.std.specs.Prelude.{◌≡◌, ◌*◌, ◌^◌, ◌≤◌, ℕ, List, [], ◌∷◌, ◌++◌, IfErr, IfOk, IsOk, None, Ok, false};
 ghost use Rattle.buffer_redux.specs.BufWriter.{WritesInOrder};
 ghost use Rattle.buffer_redux.specs.GrowError.{FitsWithin};
 ghost use Rattle.buffer_redux.specs.MakeError.{growth};
@@ -80,14 +80,16 @@ pub fn next_known<R: TellRead, D: Decoder>(reader: &PieceReader<R, D>)
 {}
 
 /// A reader that is taken apart and made again with another decoder has left what the first had. So the pieces of both, one
-/// after another, are the front of what was left at first: the second decoder's begin just where the first one's ended. Whether
-/// there is an end to tell, `into_inner_with_buffer` says. A refusal hands back what the reader was taken apart into.
+/// after another, are the front of what was left at first: the second decoder's begin just where the first one's ended. An end
+/// that no call told is forgotten: `into_inner_with_buffer` says whether there is one. A refusal hands back what the reader was taken apart into.
 pub fn handed_over<R: TellRead, D: Decoder, E: Decoder>(
     alloc: Global,
     reader: PieceReader<R, D>,
     decoder: E,
 ) -> Result<PieceReader<R, E>, MakeError<(Buffer, R, E)>>
     ensures left { IfOk result (λ next. left_of next ≡ left_of reader) }
+    ensures decoder { IfOk result (λ next. next.decoder ≡ decoder) }
+    ensures told { IfOk result (λ next. next.ended ≡ false) }
     ensures handed_back { IfErr result (λ e. TakenApart R.log reader e.0.1 e.0.0 × (e.0.2 ≡ decoder)) }
     ensures within { FitsWithin (growth result) (room_for reader.reader.block.capacity (E.grammar decoder).most) (2 ^ 62) }
     ensures kept { 3 * (E.grammar decoder).most ≤ reader.reader.block.capacity → IsOk result }
@@ -108,6 +110,7 @@ pub fn written_over<W: TellWrite, E: Encoder, F: Encoder>(
     encoder: F,
 ) -> Result<PieceWriter<W, F>, MakeError<(Buffer, W, F)>>
     ensures left { IfOk result (λ next. unbuffered next.writer ≡ unbuffered writer.writer) }
+    ensures encoder { IfOk result (λ next. next.encoder ≡ encoder) }
     ensures handed_back { IfErr result (λ e. (e.0.0 ≡ writer.writer.block) × (e.0.1 ≡ writer.writer.inner) × (e.0.2 ≡ encoder)) }
     ensures within { FitsWithin (growth result) (room_for writer.writer.block.capacity (F.encoding encoder).most) (2 ^ 62) }
     ensures kept { 3 * (F.encoding encoder).most ≤ writer.writer.block.capacity → IsOk result }

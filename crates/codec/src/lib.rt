@@ -35,7 +35,7 @@ pub use piece_reader::{
     LengthPrefixed, NextError, PayloadReader, PieceReader, Span, TooLong, Trimmed, find_end,
     fit_buffer, piece_buffer,
 };
-pub use scan::{ByScan, Scan, ScanStep};
+pub use scan::{ByScan, Scan, ScanNote, ScanStep};
 pub use scan_writer::ScanOut;
 pub use serving::{ServeError, Served, Service, serve, serve_all};
 pub use text_header::{ByTextHeader, TextHeader, TextHeaderState};

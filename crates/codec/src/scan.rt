@@ -1,6 +1,7 @@
 //! Headers that are read byte by byte.
-ghost use Rattle.std.specs.Prelude.{◌≡◌, ℕ, ◌+◌, ◌<◌, ◌^◌, List, length};
-ghost use Rattle.codec.specs.Scanning.{Scanning, IsSmall, scanned};
+ghost use Rattle.std.specs.Prelude.{◌≡◌, ℕ, ◌+◌, ◌<◌, ◌≤◌, ◌^◌, List, [], length, take};
+ghost use Rattle.codec.specs.Scanning.{Scanning, IsSmall, scan_notes, scanned};
+ghost use Rattle.piece_reader.specs.HeaderFormat.{UnlessBad};
 
 use piece_reader::{Header, LengthPrefixed};
 
@@ -13,6 +14,15 @@ pub enum ScanStep<S> {
     Sized(usize),
     /// The beginning of none.
     Bad,
+}
+
+/// What a look at a header leaves for the next one, so that no byte of it is read twice.
+#[derive(Clone, Copy, Debug, Drop)]
+pub enum ScanNote<S> {
+    /// It isn't whole, and this is where it stands.
+    Within(S),
+    /// It is: so long is the payload, and so many bytes the header.
+    Whole(usize, usize),
 }
 
 /// A protocol whose header is read byte by byte, as text is: so what its header says stays so, and nothing of that is left to
@@ -48,19 +58,33 @@ pub trait Scan: Drop {
     ghost small: { (s : Self) → IsSmall (scanning s) };
 }
 
-/// The header that is read byte by byte.
+/// The header that is read byte by byte, each byte once, in however many reads it comes.
 #[derive(Clone, Copy, Debug, Drop)]
 pub struct ByScan<S: Scan>(pub S);
 
 impl<S: Scan> LengthPrefixed for ByScan<S> {
-    ghost use Rattle.codec.specs.Scanning.{scanned};
+    ghost use Rattle.codec.specs.Scanning.{scan_notes, scanned};
     ghost use Rattle.codec.specs.ScanningLaws.{scanned_headers};
+
+    type Note = ScanNote<S::State>;
 
     ghost header_format = { λ s. scanned (S.scanning s.0) };
 
+    ghost notes = { λ s. scan_notes (S.scanning s.0) };
+
     #[inline(always)]
-    fn header(&self, bytes: &[u8]) -> Header {
-        scan_header(&self.0, bytes)
+    fn no_note(&self) -> ScanNote<S::State> {
+        no_scan(&self.0)
+    }
+
+    #[inline(always)]
+    fn header(
+        &self,
+        bytes: &[u8],
+        seen: usize,
+        note: &mut ScanNote<S::State>,
+    ) -> Header {
+        scan_header(&self.0, bytes, seen, note)
     }
 
     fn most_header(&self) -> usize {
@@ -80,14 +104,33 @@ impl<S: Scan> LengthPrefixed for ByScan<S> {
     ghost headers = { λ s. scanned_headers (S.scanning s.0) (S.small s.0) };
 }
 
-// What the header says at the front of these bytes.
-pub(crate) fn scan_header<S: Scan>(protocol: &S, bytes: &[u8]) -> Header
-    ensures { result ≡ (scanned (S.scanning protocol.now)).header bytes.now }
+// The note before the first byte.
+#[inline(always)]
+pub(crate) fn no_scan<S: Scan>(protocol: &S) -> ScanNote<S::State>
+    ensures { scan_notes (S.scanning protocol.now) [] result }
 {
+    ScanNote::Within(protocol.start())
+}
+
+// What the header says at the front of these bytes, of which the first `seen` were read before, and led to this note.
+pub(crate) fn scan_header<S: Scan>(
+    protocol: &S,
+    bytes: &[u8],
+    seen: usize,
+    note: &mut ScanNote<S::State>,
+) -> Header
+    requires within { seen ≤ length bytes.now }
+    requires noted { scan_notes (S.scanning protocol.now) (take seen bytes.now) note.old }
+    ensures says { result ≡ (scanned (S.scanning protocol.now)).header bytes.now }
+    ensures leaves { UnlessBad result (scan_notes (S.scanning protocol.now) bytes.now note.new) }
+{
+    let mut state = match *note {
+        ScanNote::Within(state) => state,
+        ScanNote::Whole(len, used) => return Header::Sized(len, used),
+    };
     let most = protocol.most_header();
-    let mut state = protocol.start();
-    let mut used = 0usize;
-    for byte in bytes {
+    let mut used = seen;
+    for byte in &bytes[seen..] {
         if used == most {
             return Header::Bad;
         }
@@ -96,13 +139,16 @@ pub(crate) fn scan_header<S: Scan>(protocol: &S, bytes: &[u8]) -> Header
             ScanStep::More(next) => {
                 state = next;
             }
-            ScanStep::Sized(len) => return Header::Sized(len, used),
+            ScanStep::Sized(len) => {
+                *note = ScanNote::Whole(len, used);
+                return Header::Sized(len, used);
+            }
             ScanStep::Bad => return Header::Bad,
         }
     }
     if used == most {
-        Header::Bad
-    } else {
-        Header::Short
+        return Header::Bad;
     }
+    *note = ScanNote::Within(state);
+    Header::Short
 }

@@ -4,7 +4,7 @@ ghost use Rattle.codec.specs.Number.{with_byte};
 ghost use Rattle.codec.specs.TextHeaders.{Words, IsSound, counts, ends, enters, stands};
 
 use crate::number::Number;
-use crate::scan::{Scan, ScanStep, scan_header};
+use crate::scan::{Scan, ScanNote, ScanStep, no_scan, scan_header};
 use piece_reader::{Header, LengthPrefixed};
 
 /// A protocol whose pieces are some bytes, the payload's length in decimal, some bytes, the payload, and some bytes. Its
@@ -148,16 +148,30 @@ impl<T: TextHeader> Scan for ByTextHeader<T> {
 }
 
 impl<T: TextHeader> LengthPrefixed for ByTextHeader<T> {
-    ghost use Rattle.codec.specs.Scanning.{scanned};
+    ghost use Rattle.codec.specs.Scanning.{scan_notes, scanned};
     ghost use Rattle.codec.specs.ScanningLaws.{scanned_headers};
     ghost use Rattle.codec.specs.TextHeaders.{text_scanning};
     ghost use Rattle.codec.specs.TextHeadersLaws.{text_small};
 
+    type Note = ScanNote<TextHeaderState>;
+
     ghost header_format = { λ t. scanned (text_scanning (T.words t.0)) };
 
+    ghost notes = { λ t. scan_notes (text_scanning (T.words t.0)) };
+
     #[inline(always)]
-    fn header(&self, bytes: &[u8]) -> Header {
-        scan_header(self, bytes)
+    fn no_note(&self) -> ScanNote<TextHeaderState> {
+        no_scan(self)
+    }
+
+    #[inline(always)]
+    fn header(
+        &self,
+        bytes: &[u8],
+        seen: usize,
+        note: &mut ScanNote<TextHeaderState>,
+    ) -> Header {
+        scan_header(self, bytes, seen, note)
     }
 
     fn most_header(&self) -> usize {

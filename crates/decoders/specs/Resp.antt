@@ -1,13 +1,13 @@
 -- The pieces of RESP.
-use Rattle.std.specs.Prelude.{ℕ, List, [], ◌∷◌, Bool, ◌&&◌, ◌||◌, ◌==◌, slice_index, if◌then◌else◌, Option, None, Some}
+use Rattle.std.specs.Prelude.{ℕ, List, [], ◌∷◌, drop, Bool, ◌&&◌, ◌||◌, ◌==◌, slice_index, if◌then◌else◌, Option, None, Some}
 use Rattle.std.specs.Option.{option_map_or}
 use Rattle.codec.specs.Delimited.{delimited}
 use Rattle.codec.specs.Ended.{ended}
-use Rattle.codec.specs.FirstByte.{either}
+use Rattle.codec.specs.FirstByte.{either, either_notes}
 use Rattle.codec.specs.Grammar.{Grammar}
 use Rattle.codec.specs.HeaderFormat.{length_prefixed}
 use Rattle.codec.specs.Number.{with_byte}
-use Rattle.codec.specs.Scanning.{scanned}
+use Rattle.codec.specs.Scanning.{scan_notes, scanned}
 use Rattle.codec.specs.Showing.{showing}
 use Rattle.codec.specs.Trimming.{trimming}
 use Rattle.codec.specs.declared.by_first.EitherWrong.{EitherWrong}
@@ -15,6 +15,8 @@ use Rattle.codec.specs.declared.TooLong.{TooLong}
 use Rattle.codec.specs.declared.ended.Unended.{Unended}
 use Rattle.codec.specs.declared.HeaderError.{HeaderError}
 use Rattle.codec.specs.declared.number.Number.{Number}
+use Rattle.codec.specs.declared.scan.ScanNote.{ScanNote}
+use Rattle.decoders.specs.declared.nullable.StringState.{StringState}
 use Rattle.codec.specs.declared.number.Number.TheVariants as number
 use Rattle.decoders.specs.Nullable.{nullable}
 use Rattle.decoders.specs.declared.resp.RespItem.{RespItem}
@@ -33,11 +35,23 @@ lines max = showing behind_kind (trimming (delimited 10 max))
 abbrev pub resp : ℕ → Grammar (EitherWrong HeaderError (Unended TooLong))
 resp max = either 36 (length_prefixed (scanned (nullable max))) (ended (lines max))
 
--- the number in decimal that a line is which ends here, with LF, or with CR and LF, behind these digits of it
+-- what a look leaves for the next one: of a bulk string where its header stands, of a line nothing
+abbrev pub resp_notes : ℕ → List ℕ → ScanNote StringState × Unit {0} → Type 0
+resp_notes max = either_notes 36 (scan_notes (nullable max)) (λ bytes note. Unit {0})
+
+-- a line ends with this byte, which is LF, or CR with LF behind it
+abbrev pub ends_here : ℕ → List ℕ → Bool
+ends_here byte line = (byte == 10) || ((byte == 13) && (slice_index line 0 == 10))
+
+-- a line is -1, with its end
+abbrev pub is_minus_one : List ℕ → Bool
+is_minus_one line =
+    (slice_index line 0 == 45) && (slice_index line 1 == 49) && ends_here (slice_index line 2) (drop 3 line)
+
+-- the number in decimal that a line is which ends here, behind these digits of it
 abbrev pub counted : Number → ℕ → List ℕ → Option ℕ
 counted number.Empty byte line = None
-counted (number.Is value) byte line =
-    if (byte == 10) || ((byte == 13) && (slice_index line 0 == 10)) then Some value else None
+counted (number.Is value) byte line = if ends_here byte line then Some value else None
 
 -- the number in decimal that a line is, with its end, behind these digits of it
 abbrev pub count_in : Number → List ℕ → Option ℕ
@@ -50,6 +64,5 @@ abbrev pub resp_item : List ℕ → RespItem
 resp_item [] = Inline
 resp_item (kind ∷ line) =
     if kind == 36 then (if slice_index line 0 == 45 then Null else Bulk)
-    else if kind == 42 then (if (slice_index line 0 == 45) && (slice_index line 1 == 49) then NullArray
-    else Array (count_in number.Empty line))
+    else if kind == 42 then (if is_minus_one line then NullArray else Array (count_in number.Empty line))
     else if kind == 43 then Simple else if kind == 45 then Error else if kind == 58 then Numeral else Inline

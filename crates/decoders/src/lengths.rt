@@ -53,10 +53,14 @@ impl LengthPrefixed for Lengths {
     ghost use Rattle.decoders.specs.Lengths.{lengths};
     ghost use Rattle.decoders.specs.LengthsLaws.{lengths_headers};
 
+    type Note = ();
+
     ghost header_format = { λ d. lengths d.width d.order d.max };
 
+    fn no_note(&self) {}
+
     #[inline(always)]
-    fn header(&self, bytes: &[u8]) -> Header {
+    fn header(&self, bytes: &[u8], _seen: usize, _note: &mut ()) -> Header {
         let size = self.width.size();
         if bytes.len() < size {
             return Header::Short;

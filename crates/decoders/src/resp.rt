@@ -1,13 +1,13 @@
 //! RESP, the protocol of Redis.
-ghost use Rattle.std.specs.Prelude.{◌≡◌, ◌∷◌, ◌+◌, ◌^◌, ◌<◌, ◌≤◌, ◌==◌, ◌&&◌, ◌||◌, length, slice_index};
+ghost use Rattle.std.specs.Prelude.{◌≡◌, ◌∷◌, ◌+◌, ◌^◌, ◌<◌, ◌≤◌, length};
 ghost use Rattle.codec.specs.Decoding.{bytes_at};
 ghost use Rattle.codec.specs.declared.number.Number.TheVariants as Number;
-ghost use Rattle.decoders.specs.Resp.{behind_kind, count_in, counted, resp_item};
+ghost use Rattle.decoders.specs.Resp.{behind_kind, count_in, counted, ends_here, is_minus_one, resp_item};
 
-use crate::nullable::NullableStrings;
+use crate::nullable::{NullableStrings, StringState};
 use codec::{
     ByFirst, ByHeader, ByScan, Decoder, Delimited, EitherWrong, End, Ended, Found, HeaderError,
-    Items, Number, Span, TooLong, Trimmed, Unended,
+    Items, Number, ScanNote, Span, TooLong, Trimmed, Unended,
 };
 
 /// The pieces of RESP 2, of requests as of replies: bulk strings of at most `max` bytes, and lines of as many, which a line feed
@@ -41,7 +41,8 @@ pub enum RespItem {
     Bulk,
     /// The null string: `$-1`.
     Null,
-    /// The header of an array: `*`, and of how many pieces, where that is a number in decimal, of 18 digits at most.
+    /// The header of an array: `*`, and of how many pieces, where that is a number in decimal, of 18 digits at most and with
+    /// none behind a zero in front.
     Array(Option<usize>),
     /// The null array: `*-1`.
     NullArray,
@@ -56,12 +57,15 @@ pub enum RespItem {
 }
 
 impl Decoder for Resp {
-    ghost use Rattle.decoders.specs.Resp.{resp};
+    ghost use Rattle.decoders.specs.Resp.{resp, resp_notes};
     ghost use Rattle.decoders.specs.RespLaws.{resp_lawful};
 
     type Wrong = EitherWrong<HeaderError, Unended<TooLong>>;
+    type Note = (ScanNote<StringState>, ());
 
     ghost grammar = { λ d. resp d.max };
+
+    ghost notes = { λ d. resp_notes d.max };
 
     fn most(&self) -> usize {
         let max = self.max;
@@ -74,10 +78,17 @@ impl Decoder for Resp {
     }
 
     #[inline(always)]
+    fn no_note(&self) -> (ScanNote<StringState>, ()) {
+        let max = self.max;
+        (ByHeader(ByScan(NullableStrings { max })).no_note(), ())
+    }
+
+    #[inline(always)]
     fn decode(
         &self,
         bytes: &[u8],
         seen: usize,
+        note: &mut (ScanNote<StringState>, ()),
     ) -> Found<EitherWrong<HeaderError, Unended<TooLong>>> {
         let max = self.max;
         ByFirst {
@@ -85,7 +96,7 @@ impl Decoder for Resp {
             one: ByHeader(ByScan(NullableStrings { max })),
             other: Ended(Lines { max }),
         }
-        .decode(bytes, seen)
+        .decode(bytes, seen, note)
     }
 
     fn at_end(&self, bytes: &[u8]) -> End<EitherWrong<HeaderError, Unended<TooLong>>> {
@@ -125,14 +136,27 @@ fn kind_of(kind: u8, line: &[u8]) -> RespItem
             [b'-', ..] => RespItem::Null,
             _ => RespItem::Bulk,
         },
-        b'*' => match line {
-            [b'-', b'1', ..] => RespItem::NullArray,
-            _ => RespItem::Array(count(line)),
-        },
+        b'*' => {
+            if is_minus_one(line) {
+                RespItem::NullArray
+            } else {
+                RespItem::Array(count(line))
+            }
+        }
         b'+' => RespItem::Simple,
         b'-' => RespItem::Error,
         b':' => RespItem::Number,
         _ => RespItem::Inline,
+    }
+}
+
+// Whether a line is -1, with its end.
+fn is_minus_one(line: &[u8]) -> bool
+    ensures { result ≡ is_minus_one line.now }
+{
+    match line {
+        [b'-', b'1', end, rest @ ..] => ends_line(*end, rest),
+        _ => false,
     }
 }
 
@@ -172,7 +196,7 @@ fn counted(number: Number, byte: u8, line: &[u8]) -> Option<usize>
 // Whether a line ends here.
 #[inline(always)]
 fn ends_line(byte: u8, line: &[u8]) -> bool
-    ensures { result ≡ ((byte == 10) || ((byte == 13) && (slice_index line.now 0 == 10))) }
+    ensures { result ≡ ends_here byte line.now }
 {
     match line {
         [b'\n', ..] => byte == b'\n' || byte == b'\r',
@@ -192,6 +216,7 @@ impl Decoder for Lines {
     ghost use Rattle.decoders.specs.RespLaws.{lines_lawful};
 
     type Wrong = TooLong;
+    type Note = ();
 
     ghost grammar = { λ d. lines d.max };
 
@@ -199,10 +224,12 @@ impl Decoder for Lines {
         1 + self.max
     }
 
+    fn no_note(&self) {}
+
     #[inline(always)]
-    fn decode(&self, bytes: &[u8], seen: usize) -> Found<TooLong> {
+    fn decode(&self, bytes: &[u8], seen: usize, note: &mut ()) -> Found<TooLong> {
         let max = self.max;
-        match Trimmed(Delimited { end: b'\n', max }).decode(bytes, seen) {
+        match Trimmed(Delimited { end: b'\n', max }).decode(bytes, seen, note) {
             Found::Piece(span, used) => Found::Piece(shown(bytes, span), used),
             Found::More(need) => Found::More(need),
             Found::Wrong(e) => Found::Wrong(e),

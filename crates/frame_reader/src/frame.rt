@@ -28,6 +28,7 @@ impl Decoder for Frames {
     ghost use Rattle.frame_reader.specs.FramedLaws.{framed_lawful};
 
     type Wrong = FrameFault;
+    type Note = ();
 
     ghost grammar = { λ d. framed d.max };
 
@@ -35,8 +36,10 @@ impl Decoder for Frames {
         HEADER + usize::from(self.max)
     }
 
+    fn no_note(&self) {}
+
     #[inline(always)]
-    fn decode(&self, bytes: &[u8], _seen: usize) -> Found<FrameFault> {
+    fn decode(&self, bytes: &[u8], _seen: usize, _note: &mut ()) -> Found<FrameFault> {
         if bytes.len() < HEADER {
             return Found::More(HEADER);
         }

@@ -150,7 +150,7 @@ impl<R: Tell> FrameReader<R> {
         ensures settled { IsTrue result ↔ IsSettled (framed self.now.decoder.max) self.now }
         ensures whole { ReadsFrames self.now }
     {
-        match self.pieces.decoder().decode(self.pieces.rest(), 0) {
+        match self.pieces.decoder().decode(self.pieces.rest(), 0, &mut ()) {
             Found::Piece(_, _) => true,
             Found::More(_) => false,
             Found::Wrong(_) => true,

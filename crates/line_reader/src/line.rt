@@ -32,6 +32,7 @@ impl Decoder for Lines {
     ghost use Rattle.line_reader.specs.Lines.{newline};
 
     type Wrong = TooLong;
+    type Note = ();
 
     ghost grammar = { λ d. delimited newline d.max };
 
@@ -39,9 +40,11 @@ impl Decoder for Lines {
         self.pieces().most()
     }
 
+    fn no_note(&self) {}
+
     #[inline(always)]
-    fn decode(&self, bytes: &[u8], seen: usize) -> Found<TooLong> {
-        self.pieces().decode(bytes, seen)
+    fn decode(&self, bytes: &[u8], seen: usize, note: &mut ()) -> Found<TooLong> {
+        self.pieces().decode(bytes, seen, note)
     }
 
     fn at_end(&self, bytes: &[u8]) -> End<TooLong> {

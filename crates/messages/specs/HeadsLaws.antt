@@ -3,7 +3,7 @@ use Rattle.std.specs.Prelude.{◌≡◌, ℕ, ◌≤◌, List, [], ◌++◌, len
 use Rattle.std.proofs.Common.{sym, ap, subst, ◌∙◌, arith, refl, append_assoc, length-append}
 use Rattle.std.proofs.lemmas.List.{length-drop}
 use Rattle.codec.specs.declared.HeaderError.{HeaderError}
-use Rattle.codec.specs.Grammar.{Begins, IsLawful}
+use Rattle.codec.specs.Grammar.{Begins, IsLawful, IsOpen}
 use Rattle.codec.specs.HeaderFormatLaws.{length_prefixed_lawful}
 use Rattle.codec.specs.Scanning.{IsSmall, scanned}
 use Rattle.codec.specs.ScanningLaws.{scanned_headers}
@@ -43,6 +43,22 @@ nothing : (e : BadHead) → ¬ (IsNoHead [] e)
 nothing (Lines why) bad = texts_lawful.nothing why bad
 nothing Refused (b, not_head) =
     absurd (omega (arith, texts_lawful.some b.piece b.payload b.is, ap length b.equal, length-append b.piece b.more))
+
+-- what settles nothing of heads settles nothing of lines
+pub open_texts : (bytes : List ℕ) → IsOpen heads bytes → IsOpen texts bytes
+open_texts bytes o = record {
+  no_piece = λ b. o.not_wrong Refused (
+    b,
+    λ said is. o.no_piece (record {
+      piece = b.piece;
+      payload = b.piece;
+      more = b.more;
+      is = record { same = refl; none = b.payload; text = b.is; said = said; is = is };
+      equal = b.equal;
+    }),
+  );
+  not_wrong = λ e wrong. o.not_wrong (Lines e) wrong;
+}
 
 pub heads_lawful : IsLawful heads
 heads_lawful = record {

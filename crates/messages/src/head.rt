@@ -4,8 +4,8 @@ ghost use Rattle.http1.specs.Message.{has_one_host};
 ghost use Rattle.messages.specs.declared.head.ParsedHead.{ParsedHead};
 ghost use Rattle.messages.specs.Heads.{IsHead, expects, extent_of, keeps};
 
-use crate::lines::Lines;
-use codec::{ByHeader, ByScan, Decoder, End, Found, HeaderError, Span};
+use crate::lines::{Before, Lines};
+use codec::{ByHeader, ByScan, Decoder, End, Found, HeaderError, ScanNote, Span};
 use http1::fields::KnownFields;
 use http1::framing::{Framing, FramingError, MethodKind, request_framing};
 use httparse::Status;
@@ -66,19 +66,27 @@ impl Error for BadHead {}
 pub struct Heads;
 
 impl Decoder for Heads {
-    ghost use Rattle.messages.specs.Heads.{heads};
+    ghost use Rattle.codec.specs.Scanning.{scan_notes};
+    ghost use Rattle.messages.specs.Heads.{heads, lines};
     ghost use Rattle.messages.specs.HeadsLaws.{heads_lawful};
 
     type Wrong = BadHead;
+    type Note = ScanNote<Before>;
 
     ghost grammar = { λ _. heads };
+
+    ghost notes = { λ _. scan_notes lines };
 
     fn most(&self) -> usize {
         MAX_HEAD
     }
 
-    fn decode(&self, bytes: &[u8], _seen: usize) -> Found<BadHead> {
-        match ByHeader(ByScan(Lines)).decode(bytes, 0) {
+    fn no_note(&self) -> ScanNote<Before> {
+        ByHeader(ByScan(Lines)).no_note()
+    }
+
+    fn decode(&self, bytes: &[u8], seen: usize, note: &mut ScanNote<Before>) -> Found<BadHead> {
+        match ByHeader(ByScan(Lines)).decode(bytes, seen, note) {
             Found::Piece(_, used) => match read_head(&bytes[..used]) {
                 Some(_) => Found::Piece(Span { from: 0, len: used }, used),
                 None => Found::Wrong(BadHead::Refused),

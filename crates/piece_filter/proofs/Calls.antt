@@ -9,7 +9,7 @@ use Rattle.buffer_redux.specs.Buffered.{Buffered}
 use Rattle.buffer_redux.specs.WriterLaws.{WritesInOrder-none}
 use Rattle.buffer_redux.specs.declared.policy.StdPolicy.{StdPolicy}
 use Rattle.piece_reader.specs.Decoding.{IsLent, bytes_at}
-use Rattle.piece_reader.specs.Grammar.{Grammar, IsOpen}
+use Rattle.piece_reader.specs.Grammar.{Grammar}
 use Rattle.piece_reader.specs.NextPiece.{NextAnswer, NextPiece, StaysLeft}
 use Rattle.piece_reader.specs.NextPieceLaws.{MetEnd-once}
 use Rattle.piece_reader.specs.PieceReader.{ReaderState, rest}
@@ -26,13 +26,13 @@ use Rattle.piece_filter.specs.PiecesCalls as pieces
 use Rattle.piece_filter.specs.PiecesLaws.{takes_nothing}
 use Rattle.piece_filter.specs.declared.answering.Answering.{Answering}
 
-module _ {R D X A W : Type 0} (remaining : R → Option (List ℕ)) (grammar : D → Grammar X)
-    (Answers : A → List ℕ → List ℕ → A → Type 0) {s : Answering R D W A X}
+module _ {R D X A W N : Type 0} (remaining : R → Option (List ℕ)) (grammar : D → Grammar X)
+    (Answers : A → List ℕ → List ℕ → A → Type 0) {s : Answering R D W A X N}
     (ready : IsReady (answering grammar Answers) s) where
-  abbrev rules : FilterRules (Answering R D W A X) X
+  abbrev rules : FilterRules (Answering R D W A X N) X
   rules = piece_rules remaining (answering grammar Answers)
 
-  abbrev f : Piecewise (Answering R D W A X) R D X A W X
+  abbrev f : Piecewise (Answering R D W A X N) R D X A W X
   f = answering grammar Answers
 
   -- a payload that was held is answered
@@ -40,7 +40,7 @@ module _ {R D X A W : Type 0} (remaining : R → Option (List ℕ)) (grammar : D
     abbrev payload : List ℕ
     payload = bytes_at span s.source.reader.block.bytes
 
-    abbrev answered : Bool → Answering R D W A X
+    abbrev answered : Bool → Answering R D W A X N
     answered sent = record s { target = v; service = b; held = None; sent = sent }
 
     pub passes : Answered Answers s.service payload s.target (Ok true) b v → Passes rules s (Ok true) (answered false)
@@ -62,7 +62,7 @@ module _ {R D X A W : Type 0} (remaining : R → Option (List ℕ)) (grammar : D
     pub refused : (e : Error) → Answered Answers s.service payload s.target (Err e) b v
         → Passes rules s (Err e) (record s { target = v; service = b; sent = false })
     refused e (reply, after, is, same, puts) =
-        let t : Answering R D W A X = record s { target = v; service = b; sent = false } in
+        let t : Answering R D W A X N = record s { target = v; service = b; sent = false } in
         let holds = ap (λ h. held_at s.source h) held in
         pieces.lost remaining f ready t puts.not_flushed puts.flushes [] (omega arith)
         (pieces.took_none remaining f ready t refl (λ sent. absurd (true≢false (sym sent))) refl) same puts.taken e
@@ -73,7 +73,7 @@ module _ {R D X A W : Type 0} (remaining : R → Option (List ℕ)) (grammar : D
 
   -- the next was buffered, and is held; or none was
   module _ (lacks : s.held ≡ None) (m : ReaderState R D) where
-    abbrev holding : Span → Answering R D W A X
+    abbrev holding : Span → Answering R D W A X N
     holding span = record s { source = m; held = Some span }
 
     module _ (span : Span) (lent : IsLent (grammar m.decoder) m.handed m.reader.block.bytes span)
@@ -82,7 +82,7 @@ module _ {R D X A W : Type 0} (remaining : R → Option (List ℕ)) (grammar : D
       took : pieces.Took remaining f ready (holding span) []
       took = pieces.took_hold remaining f ready (holding span) lacks span refl ready.also lent next same
 
-      joins : (t : Answering R D W A X) (p q : List (List ℕ)) → Moves rules (holding span) p q t → Moves rules s p q t
+      joins : (t : Answering R D W A X N) (p q : List (List ℕ)) → Moves rules (holding span) p q t → Moves rules s p q t
       joins t p q moves = record {
         hands = (answering_lawful grammar Answers remaining).hands_joins s (holding span) t [] p took.hands moves.hands;
         takes = record {
@@ -92,14 +92,14 @@ module _ {R D X A W : Type 0} (remaining : R → Option (List ℕ)) (grammar : D
         };
       }
 
-      answers_behind : (t : Answering R D W A X) (answer : Result Bool Error) → PassAnswers rules (holding span) answer t
+      answers_behind : (t : Answering R D W A X N) (answer : Result Bool Error) → PassAnswers rules (holding span) answer t
           → PassAnswers rules s answer t
       answers_behind t (Ok true) (p, moves, met, some) = (p, joins t (p ∷ []) (p ∷ []) moves, met, some)
       answers_behind t (Ok false) (moves, met, none, isnt, still) =
           (joins t [] [] moves, met, none, λ has. has lacks, still)
       answers_behind t (Err e) (lost, moves, caused, few) = (lost, joins t lost [] moves, caused, few)
 
-      pub passes_behind : (t : Answering R D W A X) (answer : Result Bool Error) → Passes rules (holding span) answer t
+      pub passes_behind : (t : Answering R D W A X N) (answer : Result Bool Error) → Passes rules (holding span) answer t
           → Passes rules s answer t
       passes_behind t answer p = record {
         told = p.told ∙ took.told;
@@ -116,7 +116,7 @@ module _ {R D X A W : Type 0} (remaining : R → Option (List ℕ)) (grammar : D
 
     -- the reader was asked for the next
     module _ (going : s.source.ended ≡ false) where
-      abbrev asked : Option Span → Answering R D W A X
+      abbrev asked : Option Span → Answering R D W A X N
       asked h = record s { source = m; held = h }
 
       abbrev kept : (h : Option Span) → Keeps f s (asked h)
@@ -145,14 +145,11 @@ module _ {R D X A W : Type 0} (remaining : R → Option (List ℕ)) (grammar : D
         pub asked_idle : length (rest m) ≤ length (rest s.source) → Asks rules s (Err (Io e)) (asked s.held)
         asked_idle = pieces.asked_idle remaining f ready (asked s.held) lacks (kept s.held) ready.also going lacks e next
 
-        pub left_open : IsOpen (grammar m.decoder) (rest m)
-        left_open = subst (λ d. IsOpen (grammar d) (rest m)) (sym next.went.decoder) next.answers.1
-
-        pub asked_behind : length (rest s.source) < length (rest m) → length (rest m) < (grammar m.decoder).most
-            → Asks rules s (Err (IoBehind e)) (asked s.held)
-        asked_behind came few =
+        pub asked_behind : length (rest s.source) < length (rest m) → Asks rules s (Err (IoBehind e)) (asked s.held)
+        asked_behind came =
+            let shown = next.looked.shows next.answers.1 in
             pieces.asked_behind remaining f ready (asked s.held) lacks (kept s.held) ready.also going lacks e next came
-            (subst (λ d. length (rest m) < (grammar d).most) next.went.decoder few)
+            (omega (arith, shown.few, shown.most))
 
   -- the stream had ended
   pub asked_ended : s.held ≡ None → s.source.ended ≡ true → Asks rules s (Ok false) s
@@ -182,14 +179,14 @@ module _ {R D X A W : Type 0} (remaining : R → Option (List ℕ)) (grammar : D
 
     pub flushed : WasFlushed tells trace s.target (Ok tt) v → Flushes rules s (Ok tt) (record s { target = v; sent = true })
     flushed w =
-        let t : Answering R D W A X = record s { target = v; sent = true } in
+        let t : Answering R D W A X N = record s { target = v; sent = true } in
         pieces.flushed remaining f ready t
         (pieces.took_none remaining f ready t refl (λ sent. record { empty = w.ok.empty; flushed = w.ok.flushed }) refl) refl refl
         tells trace not_sent (Ok tt) w (λ x is all. (refl, all))
 
     pub not_flushed : (e : Error) → WasFlushed tells trace s.target (Err e) v → Flushes rules s (Err e) (record s { target = v })
     not_flushed e w =
-        let t : Answering R D W A X = record s { target = v } in
+        let t : Answering R D W A X N = record s { target = v } in
         pieces.flushed remaining f ready t
         (pieces.took_none remaining f ready t refl (λ sent. absurd (true≢false (sym sent ∙ unsent))) refl) refl refl tells trace
         not_sent (Err e) w (λ x is. absurd (let odd : ◌≡◌ {A = Result (Unit {0}) Error} (Err e) (Ok x) = is in cc))

@@ -40,13 +40,13 @@ IsWrong g s why t =
     g.wrong (rest t) why ⊎ (g.cut (rest t) why × IsOpen g (rest t) × (0 < length (rest t)) × RanDry s.reader t.reader)
 
 -- the payload that is held wasn't answered, since room for its reply was refused
-abbrev pub HoldsRefused : {A R D W X : Type 0} → (A → List ℕ → List ℕ → A → Type 0) → Error → Answering R D W A X → Type 0
+abbrev pub HoldsRefused : {A R D W X N : Type 0} → (A → List ℕ → List ℕ → A → Type 0) → Error → Answering R D W A X N → Type 0
 HoldsRefused {A} Answers e t =
     (payload : List ℕ) × (reply : List ℕ) × (after : A) × (held_at t.source t.held ≡ payload ∷ [])
     × Answers t.service payload reply after × IsRefused (length reply) e t.target
 
-abbrev pub answering : {R D X A W : Type 0} → (D → Grammar X) → (A → List ℕ → List ℕ → A → Type 0)
-    → Piecewise (Answering R D W A X) R D X A W X
+abbrev pub answering : {R D X A W N : Type 0} → (D → Grammar X) → (A → List ℕ → List ℕ → A → Type 0)
+    → Piecewise (Answering R D W A X N) R D X A W X
 answering grammar Answers = record {
   source = λ s. s.source;
   held = λ s. s.held;

@@ -13,8 +13,8 @@ wrong_after : {R D X : Type 0} (g : Grammar X) (a b c : ReaderState R D) (why : 
 wrong_after g a b c why less (inl wrong) = inl wrong
 wrong_after g a b c why less (inr (cut, is_open, some, dry)) = inr (cut, is_open, some, omega (arith, less, dry))
 
-module _ {R D X A W : Type 0} (grammar : D → Grammar X) (Answers : A → List ℕ → List ℕ → A → Type 0) where
-  pub answering_sound : IsSound (answering {R = R} {W = W} grammar Answers)
+module _ {R D X A W N : Type 0} (grammar : D → Grammar X) (Answers : A → List ℕ → List ℕ → A → Type 0) where
+  pub answering_sound : IsSound (answering {R = R} {W = W} {N = N} grammar Answers)
   answering_sound = record {
     wrong_after = λ a b c why less wrong. wrong_after (grammar c.source.decoder) a.source b.source c.source why less wrong;
     is_due = λ d a b bytes left reply payloads is is_open answers. record {
@@ -30,5 +30,5 @@ module _ {R D X A W : Type 0} (grammar : D → Grammar X) (Answers : A → List 
     all_sent = λ s sent. sent.1;
   }
 
-  pub answering_lawful : (remaining : R → Option (List ℕ)) → IsLawful (piece_rules remaining (answering {W = W} grammar Answers))
-  answering_lawful remaining = piece_lawful remaining (answering grammar Answers) answering_sound
+  pub answering_lawful : (remaining : R → Option (List ℕ)) → IsLawful (piece_rules remaining (answering {W = W} {N = N} grammar Answers))
+  answering_lawful remaining = piece_lawful remaining (answering {N = N} grammar Answers) answering_sound

@@ -1,7 +1,6 @@
 //! A filter that answers payloads.
-ghost use Rattle.std.specs.Prelude.{◌≡◌, ◌<◌, [], ℕ, List, length, Some};
+ghost use Rattle.std.specs.Prelude.{◌≡◌, [], ℕ, List, Some};
 ghost use Rattle.forward.specs.Filter.{Passes};
-ghost use Rattle.piece_reader.specs.Grammar.{IsOpen};
 ghost use Rattle.piece_reader.specs.PieceReader.{IsPieceReader, rest};
 ghost use Rattle.piece_filter.specs.Answering.{Answered, answering};
 ghost use Rattle.piece_filter.specs.AnsweringLaws.{answering_lawful};
@@ -10,7 +9,7 @@ ghost use Rattle.piece_filter.specs.Pieces.{IsReady, piece_rules};
 use buffer_redux::BufWriter;
 use buffer_redux::tell::{TellRead, TellWrite};
 use forward::{AskError, Filter};
-use piece_reader::{Decoder, Found, NextError, PieceReader, Span};
+use piece_reader::{Decoder, NextError, PieceReader, Span};
 use std::io;
 use std::io::Write;
 
@@ -111,7 +110,6 @@ impl<R: TellRead, D: Decoder, W: TellWrite, S: Answer> Filter for Answering<R, D
             Err(NextError::Wrong(why)) => Err(AskError::Wrong(why)),
             Err(NextError::Io(e)) => {
                 if self.source.rest().len() > have {
-                    open_is_few(&self.source);
                     Err(AskError::IoBehind(e))
                 } else {
                     Err(AskError::Io(e))
@@ -148,17 +146,5 @@ fn pass_held<R: TellRead, D: Decoder, W: TellWrite, S: Answer>(
             filter.sent = false;
             Err(e)
         }
-    }
-}
-
-// What is left and settles nothing is less than the largest piece.
-fn open_is_few<R: TellRead, D: Decoder>(source: &PieceReader<R, D>)
-    requires { IsOpen (D.grammar source.now.decoder) (rest source.now) }
-    ensures { length (rest source.now) < (D.grammar source.now.decoder).most }
-{
-    match source.decoder().decode(source.rest(), source.looked()) {
-        Found::More(_) => {}
-        Found::Piece(_, _) => unreachable!(),
-        Found::Wrong(_) => unreachable!(),
     }
 }

@@ -1,12 +1,12 @@
 -- Where the payload is that a step went on to.
-use Rattle.std.proofs.Common.{◌≡◌, ℕ, ◌+◌, length, take, drop, sym, ap, subst, ◌∙◌, arith, inl, inr, Option, Result, Ok, Err, Some, None, IfOk, IfSome}
-use Rattle.std.proofs.lemmas.List.{drop-drop, drop-take, take_all}
+use Rattle.std.proofs.Common.{◌≡◌, ℕ, ◌+◌, length, take, drop, sym, ap, subst, ◌∙◌, arith, inl, inr, refl, Option, Result, Ok, Err, Some, None, IfOk, IfSome}
+use Rattle.std.proofs.lemmas.List.{drop-drop, drop-take}
 use Rattle.piece_reader.specs.declared.decoder.Found.TheVariants as found
 use Rattle.piece_reader.specs.declared.decoder.Span.{Span}
 use Rattle.piece_reader.specs.declared.error.NextError.{NextError}
 use Rattle.piece_reader.specs.declared.error.NextError.TheVariants.{Wrong, Io}
 use Rattle.piece_reader.specs.Decoding.{IsLent, bytes_at}
-use Rattle.piece_reader.specs.Grammar.{Grammar}
+use Rattle.piece_reader.specs.Grammar.{Grammar, IsOpen}
 use Rattle.piece_reader.specs.PieceReader.{ReaderState, IsPieceReader, rest}
 use Rattle.piece_reader.specs.Steps.{Takes, TakesEnd}
 use Rattle.piece_reader.proofs.Reading.{rest_whole}
@@ -43,21 +43,25 @@ module _ {S D W : Type 0} (grammar : D → Grammar W) (s t : ReaderState S D) wh
       subst (λ n. Lends grammar t (record { from = n; len = span.len })) here (lends_piece 0 (sym none) whole span used takes)
 
   -- of the last one
-  pub lends_end : s.handed ≡ 0 → (r : Result (Option Span) (NextError W)) → TakesEnd (grammar s.decoder) s r t
+  pub lends_end : s.handed ≡ 0 → IsOpen (grammar s.decoder) (rest s) → (r : Result (Option Span) (NextError W)) → TakesEnd (grammar s.decoder) s r t
       → IfOk r (λ found. IfSome found (Lends grammar t))
-  lends_end none (Ok None) takes = tt
-  lends_end none (Err (Wrong e)) takes = tt
-  lends_end none (Err (Io e)) takes = tt
-  lends_end none (Ok (Some span)) (some, within, last, same) =
+  lends_end none open' (Ok None) takes = tt
+  lends_end none open' (Err (Wrong e)) takes = tt
+  lends_end none open' (Err (Io e)) takes = tt
+  lends_end none open' (Ok (Some span)) (some, within, last, same) =
       let g = grammar s.decoder in
       let bytes = s.reader.block.bytes in
       let len = length (rest s) in
       let left : rest s ≡ bytes = rest_whole s none in
-      let front : rest s ≡ drop 0 (take len bytes) = left ∙ sym (take_all len bytes (omega (arith, ap length left))) in
       subst (λ x. Lends grammar x span) (sym same) (record {
         start = 0;
         after = omega arith;
         within = within;
         inside = omega (arith, ap length left);
-        is = inr (subst (λ p. g.last p (bytes_at span bytes)) front (subst (λ l. g.last (rest s) (bytes_at span l)) left last));
+        is = inr (
+          refl,
+          ap length left,
+          subst (IsOpen g) left open',
+          subst (λ l. g.last l (bytes_at span l)) left last,
+        );
       })

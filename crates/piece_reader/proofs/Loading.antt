@@ -149,6 +149,7 @@ module _ {S D W : Type 0} (remaining : S → Option (List ℕ)) (g : Grammar W) 
           all = λ _. all;
           shows = λ _. record {
             need = need;
+            most = h.most;
             few = few;
             lacks = subst (Lacks g need)
                 (sym (ap (λ n. take n (rest t)) (a.seen ∙ h.seen)

@@ -6,6 +6,15 @@ use Rattle.piece_reader.specs.declared.decoder.Span.{Span}
 use Rattle.piece_reader.specs.Decoding.{IsPiece, bytes_at}
 use Rattle.piece_reader.specs.Grammar.{Grammar, Begins, IsLawful, IsOpen, Lacks}
 
+take_zero : (bytes : List ℕ) → take 0 bytes ≡ []
+take_zero [] = refl
+take_zero (b ∷ bytes) = refl
+
+-- where nothing was looked at the note is that before the first byte
+pub noted_none : {N : Type 0} (Notes : List ℕ → N → Type 0) (bytes : List ℕ) (note : N) → Notes [] note
+    → Notes (take 0 bytes) note
+noted_none Notes bytes note = subst (λ l. Notes l note) (sym (take_zero bytes))
+
 module _ {W : Type 0} (g : Grammar W) where
   -- nothing settles nothing
   pub open_none : IsLawful g → IsOpen g []
@@ -21,10 +30,6 @@ module _ {W : Type 0} (g : Grammar W) where
 
   pub open_take : IsLawful g → (bytes : List ℕ) → IsOpen g (take 0 bytes)
   open_take law bytes = subst (IsOpen g) (sym (take_zero bytes)) (open_none law)
-    where
-      take_zero : (bytes : List ℕ) → take 0 bytes ≡ []
-      take_zero [] = refl
-      take_zero (b ∷ bytes) = refl
 
   -- what lacks bytes is open
   pub open_of : (n : ℕ) (bytes : List ℕ) → length bytes < n → Lacks g n bytes → IsOpen g bytes

@@ -28,6 +28,12 @@ pub record IsHeaderFormat (h : HeaderFormat) : Type 0 where
   pub nothing : h.header [] ≡ Short
   pub small : h.most_header + h.max + length h.tail < 2 ^ 63
 
+-- a fact where a header may come still, or is there
+abbrev pub UnlessBad : Header → Type 0 → Type 0
+UnlessBad Short P = P
+UnlessBad (Sized len used) P = P
+UnlessBad Bad P = Unit {0}
+
 -- what is wrong: the header is none; it says too much; or something else stands where the tail should
 abbrev pub BeginsNone : HeaderFormat → List ℕ → HeaderError → Type 0
 BeginsNone h bytes NoHeader = h.header bytes ≡ Bad

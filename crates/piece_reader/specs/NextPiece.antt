@@ -101,6 +101,7 @@ NextAnswers g s (Err (Io e)) bytes t =
 -- what was looked at, the first so many, shows that the bytes settle nothing
 pub record ShowsOpen {W : Type 0} (g : Grammar W) (seen : ℕ) (bytes : List ℕ) : Type 0 where
   pub need : ℕ
+  pub most : need ≤ g.most
   pub few : length bytes < need
   pub lacks : Lacks g need (take seen bytes)
 

@@ -16,15 +16,24 @@ impl<H: LengthPrefixed> Decoder for ByHeader<H> {
 
     type Wrong = HeaderError;
 
+    type Note = H::Note;
+
     ghost grammar = { λ d. length_prefixed (H.header_format d.0) };
+
+    ghost notes = { λ d. H.notes d.0 };
 
     fn most(&self) -> usize {
         self.0.most_header() + self.0.max() + self.0.tail().len()
     }
 
     #[inline(always)]
-    fn decode(&self, bytes: &[u8], _seen: usize) -> Found<HeaderError> {
-        match self.0.header(bytes) {
+    fn no_note(&self) -> H::Note {
+        self.0.no_note()
+    }
+
+    #[inline(always)]
+    fn decode(&self, bytes: &[u8], seen: usize, note: &mut H::Note) -> Found<HeaderError> {
+        match self.0.header(bytes, seen, note) {
             Header::Short => Found::More(1 + bytes.len()),
             Header::Bad => Found::Wrong(HeaderError::NoHeader),
             Header::Sized(len, used) => {

@@ -1,7 +1,7 @@
 //! What a protocol says.
-ghost use Rattle.std.specs.Prelude.{◌≡◌, ◌<◌, ◌≤◌, length, take};
+ghost use Rattle.std.specs.Prelude.{◌≡◌, ℕ, ◌<◌, ◌≤◌, List, [], length, take};
 ghost use Rattle.piece_reader.specs.Grammar.{Grammar, IsLawful, IsOpen};
-ghost use Rattle.piece_reader.specs.Decoding.{Decodes, Ends};
+ghost use Rattle.piece_reader.specs.Decoding.{Decodes, Ends, OnMore};
 
 /// A place in bytes, and how many bytes stand from it on.
 #[derive(Clone, Copy, Debug, Drop)]
@@ -31,23 +31,37 @@ pub enum End<W> {
 }
 
 /// Says which bytes are a piece, and finds them.
+///
+/// A look that settles nothing may leave a note for the next one, so that no byte is looked at twice. Who needs none takes `()`.
 pub trait Decoder: Drop {
     /// Why bytes are no piece.
     type Wrong: Copy;
+
+    /// What a look that settles nothing leaves for the next one.
+    type Note: Copy;
 
     // Which bytes are a piece, and with which payload; which are the beginning of none; and what those behind the last piece
     // are at the end of the stream.
     ghost grammar: { Self → Grammar Self.Wrong };
 
+    // What a look over these bytes leaves.
+    ghost notes: { Self → List ℕ → Self.Note → Type 0 } = { λ _ _ _. Unit {0} };
+
     /// No piece takes more bytes.
     fn most(&self) -> usize
         ensures { result ≡ (grammar self.now).most };
 
-    /// Looks at the front of some bytes, of which the first `seen` were looked at before, and settled nothing.
-    fn decode(&self, bytes: &[u8], seen: usize) -> Found<Self::Wrong>
+    /// The note before the first byte.
+    fn no_note(&self) -> Self::Note
+        ensures { notes self.now [] result };
+
+    /// Looks at the front of some bytes, of which the first `seen` were looked at before, settled nothing and left this note.
+    fn decode(&self, bytes: &[u8], seen: usize, note: &mut Self::Note) -> Found<Self::Wrong>
         requires within { seen ≤ length bytes.now }
         requires open { IsOpen (grammar self.now) (take seen bytes.now) }
-        ensures { Decodes (grammar self.now) bytes.now result };
+        requires noted { notes self.now (take seen bytes.now) note.old }
+        ensures finds { Decodes (grammar self.now) bytes.now result }
+        ensures leaves { OnMore result (notes self.now bytes.now note.new) };
 
     /// Looks at what settles nothing and has nothing behind it.
     fn at_end(&self, bytes: &[u8]) -> End<Self::Wrong>

@@ -45,14 +45,18 @@ impl Decoder for Delimited {
 
     type Wrong = TooLong;
 
+    type Note = ();
+
     ghost grammar = { λ d. delimited d.end d.max };
 
     fn most(&self) -> usize {
         1 + self.max
     }
 
+    fn no_note(&self) {}
+
     #[inline(always)]
-    fn decode(&self, bytes: &[u8], seen: usize) -> Found<TooLong> {
+    fn decode(&self, bytes: &[u8], seen: usize, _note: &mut ()) -> Found<TooLong> {
         let to = bytes.len().min(1 + self.max);
         match find_end(self.end, bytes, seen, to) {
             Some(len) => Found::Piece(Span { from: 0, len }, 1 + len),

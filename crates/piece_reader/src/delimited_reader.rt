@@ -1,5 +1,5 @@
 //! The reader of pieces that a byte ends.
-ghost use Rattle.std.specs.Borrow.{sem};
+ghost use Rattle.std.specs.Borrow.{sem, unit};
 ghost use Rattle.std.specs.Io.BufRead.{Rests};
 ghost use Rattle.piece_reader.specs.contracts.delimited.Delimited.{the_row as delimited_row};
 ghost use Rattle.piece_reader.specs.contracts.delimited.TooLong.{the_row as too_long_row};
@@ -18,7 +18,7 @@ impl<R: TellRead> PieceReader<R, Delimited> {
     #[inline(always)]
     pub fn next(&mut self) -> Result<Option<&[u8]>, NextError<TooLong>>
         ensures* after_borrow { sem 𝓛 (Rests
-            (the_row R.row delimited_row too_long_row R.Tell ⟦<Delimited as Decoder>⟧) self.entry
+            (the_row R.row delimited_row too_long_row unit R.Tell ⟦<Delimited as Decoder>⟧) self.entry
             (NextPiece R.remaining (delimited self.entry.now.decoder.end self.entry.now.decoder.max) self.entry.now
             (answer_of result))) }
     {

@@ -20,7 +20,7 @@ impl<R: TellRead, H: LengthPrefixed> PieceReader<R, ByHeader<H>> {
     #[inline(always)]
     pub fn next(&mut self) -> Result<Option<&[u8]>, NextError<HeaderError>>
         ensures* after_borrow { sem 𝓛 (Rests
-            (the_row R.row (by_header_row H.row) error_row R.Tell ⟦<ByHeader<H> as Decoder>⟧) self.entry
+            (the_row R.row (by_header_row H.row H.Note.row) error_row H.Note.row R.Tell ⟦<ByHeader<H> as Decoder>⟧) self.entry
             (NextPiece R.remaining (length_prefixed (H.header_format self.entry.now.decoder.0)) self.entry.now
             (answer_of result))) }
     {

@@ -1,6 +1,5 @@
 //! The reader of pieces.
 ghost use Rattle.std.specs.Prelude.{◌≡◌, ℕ, ◌+◌, ◌*◌, ◌<◌, ◌≤◌, ◌^◌, List, [], ◌++◌, length, take, Ok, Err, Some, None, ◌↔◌, IfOk, IfErr, IfSome, IsOk, IsTrue, true};
-ghost use Rattle.std.specs.Bool.{OnTrue};
 ghost use Rattle.std.specs.Borrow.{Lends, sem};
 ghost use Rattle.buffer_redux.specs.Block.{Plain};
 ghost use Rattle.buffer_redux.specs.Buffered.{with_inner, with_policy};
@@ -11,7 +10,7 @@ ghost use Rattle.piece_reader.specs.declared.error.NextError.TheVariants.{Wrong}
 ghost use Rattle.piece_reader.specs.Decoding.{IsLent, bytes_at};
 ghost use Rattle.piece_reader.specs.Grammar.{Begins, Lacks};
 ghost use Rattle.piece_reader.specs.PieceReader.{IsOver, IsPieceReader, IsFresh, IsSettled, Skips, TakenApart, rest, room_for};
-ghost use Rattle.piece_reader.specs.NextPiece.{AsksNone, HandsBytes, NextBuffered, NextPiece, Refills, buffered_answer, load_answer};
+ghost use Rattle.piece_reader.specs.NextPiece.{HandsBytes, NextBuffered, NextPiece, Refills, buffered_answer, load_answer};
 
 mod saying;
 mod steps;
@@ -48,11 +47,14 @@ pub struct PieceReader<R: Tell, D: Decoder> {
     handed: usize,
     // How many behind them were looked at, and settle nothing.
     seen: usize,
+    // What that look left for the next one: no contract sees it.
+    note: D::Note,
     // Whether the stream ended, which no call of `next` has told yet.
     ended: bool,
 }
 
 impl<R: Tell, D: Decoder> Model for PieceReader<R, D> {
+    ghost use Rattle.std.specs.Prelude.{take, drop};
     ghost use Rattle.piece_reader.specs.PieceReader.{ReaderState, IsPieceReader};
 
     ghost Value = { ReaderState R D };
@@ -71,7 +73,7 @@ impl<R: Tell, D: Decoder> Model for PieceReader<R, D> {
       handed = f.handed;
       seen = f.seen;
       ended = f.ended;
-    }) };
+    }) × D.notes f.decoder (take f.seen (drop f.handed f.reader.block.bytes)) f.note };
 }
 
 impl<R: Tell, D: Decoder> PieceReader<R, D> {
@@ -102,6 +104,7 @@ impl<R: Tell, D: Decoder> PieceReader<R, D> {
         match piece_buffer(alloc, capacity, decoder.most()) {
             Ok(buffer) => Ok(PieceReader {
                 reader: BufReader::with_buffer(buffer, inner).set_policy(MinBuffered(0)),
+                note: decoder.no_note(),
                 decoder,
                 handed: 0,
                 seen: 0,
@@ -130,6 +133,7 @@ impl<R: Tell, D: Decoder> PieceReader<R, D> {
         match fit_buffer(alloc, buffer, decoder.most()) {
             Ok(buffer) => Ok(PieceReader {
                 reader: BufReader::with_buffer(buffer, inner).set_policy(MinBuffered(0)),
+                note: decoder.no_note(),
                 decoder,
                 handed: 0,
                 seen: 0,
@@ -162,10 +166,12 @@ impl<R: Tell, D: Decoder> PieceReader<R, D> {
             decoder: _,
             handed,
             seen: _,
+            note: _,
             ended,
         } = self;
         Ok(PieceReader {
             reader: reader.set_policy(MinBuffered(0)),
+            note: decoder.no_note(),
             decoder,
             handed,
             seen: 0,
@@ -184,7 +190,7 @@ impl<R: Tell, D: Decoder> PieceReader<R, D> {
     /// The inner reader, for changes. What is read through this is in no piece. Of a stream that is put in its place, the pieces
     /// come behind what is buffered of the old one, and behind an end of that which no call has told.
     pub fn get_mut(&mut self) -> &mut R
-        ensures* writes_back { sem 𝓛 (Lends (the_row R.row D.row D.Wrong.row R.Tell D.Decoder) R.row
+        ensures* writes_back { sem 𝓛 (Lends (the_row R.row D.row D.Wrong.row D.Note.row R.Tell D.Decoder) R.row
             self.entry result (λ stream. record self.old { reader = with_inner R.log self.old.reader stream })) }
         ensures inner { result.now ≡ self.old.reader.inner }
         ensures log { R.log result.now ≡ self.old.reader.log }
@@ -215,6 +221,7 @@ impl<R: Tell, D: Decoder> PieceReader<R, D> {
             decoder: _,
             handed,
             seen: _,
+            note: _,
             ended,
         } = self;
         let (inner, mut buffer) = reader.into_inner_with_buffer();
@@ -275,6 +282,7 @@ impl<R: Tell, D: Decoder> PieceReader<R, D> {
     {
         self.handed += count;
         self.seen = 0;
+        self.note = self.decoder.no_note();
     }
 }
 
@@ -330,10 +338,10 @@ impl<R: TellRead, D: Decoder> PieceReader<R, D> {
     /// Whether a whole piece is buffered: then the next [`step`](PieceReader::step) hands it out, and reads nothing.
     pub fn has_piece(&self) -> bool
         ensures buffered { IsTrue result ↔ Begins (D.grammar self.now.decoder) (rest self.now) }
-        ensures unasked { OnTrue result (AsksNone R.remaining (D.grammar self.now.decoder) self.now) }
     {
+        let mut note = self.note;
         matches!(
-            self.decoder.decode(self.rest(), self.seen),
+            self.decoder.decode(self.rest(), self.seen, &mut note),
             Found::Piece(_, _)
         )
     }
@@ -342,12 +350,12 @@ impl<R: TellRead, D: Decoder> PieceReader<R, D> {
     /// none, or the stream ended, which no call has told yet.
     pub fn is_settled(&self) -> bool
         ensures settled { IsTrue result ↔ IsSettled (D.grammar self.now.decoder) self.now }
-        ensures unasked { OnTrue result (AsksNone R.remaining (D.grammar self.now.decoder) self.now) }
     {
         if self.ended {
             return true;
         }
-        match self.decoder.decode(self.rest(), self.seen) {
+        let mut note = self.note;
+        match self.decoder.decode(self.rest(), self.seen, &mut note) {
             Found::Piece(_, _) => true,
             Found::More(_) => false,
             Found::Wrong(_) => true,

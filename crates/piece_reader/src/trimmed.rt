@@ -26,15 +26,24 @@ impl<D: Decoder> Decoder for Trimmed<D> {
 
     type Wrong = D::Wrong;
 
+    type Note = D::Note;
+
     ghost grammar = { λ d. trimming (D.grammar d.0) };
+
+    ghost notes = { λ d. D.notes d.0 };
 
     fn most(&self) -> usize {
         self.0.most()
     }
 
     #[inline(always)]
-    fn decode(&self, bytes: &[u8], seen: usize) -> Found<D::Wrong> {
-        match self.0.decode(bytes, seen) {
+    fn no_note(&self) -> D::Note {
+        self.0.no_note()
+    }
+
+    #[inline(always)]
+    fn decode(&self, bytes: &[u8], seen: usize, note: &mut D::Note) -> Found<D::Wrong> {
+        match self.0.decode(bytes, seen, note) {
             Found::Piece(span, used) => Found::Piece(without_cr(bytes, span), used),
             Found::More(need) => Found::More(need),
             Found::Wrong(e) => Found::Wrong(e),

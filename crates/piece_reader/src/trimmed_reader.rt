@@ -1,5 +1,5 @@
 //! The reader of pieces that are shown without a carriage return.
-ghost use Rattle.std.specs.Borrow.{sem};
+ghost use Rattle.std.specs.Borrow.{sem, unit};
 ghost use Rattle.std.specs.Io.BufRead.{Rests};
 ghost use Rattle.piece_reader.specs.contracts.delimited.Delimited.{the_row as delimited_row};
 ghost use Rattle.piece_reader.specs.contracts.delimited.TooLong.{the_row as too_long_row};
@@ -21,7 +21,7 @@ impl<R: TellRead> PieceReader<R, Trimmed<Delimited>> {
     #[inline(always)]
     pub fn next(&mut self) -> Result<Option<&[u8]>, NextError<TooLong>>
         ensures* after_borrow { sem 𝓛 (Rests
-            (the_row R.row (trimmed_row delimited_row too_long_row) too_long_row R.Tell ⟦<Trimmed<Delimited> as Decoder>⟧)
+            (the_row R.row (trimmed_row delimited_row too_long_row unit) too_long_row unit R.Tell ⟦<Trimmed<Delimited> as Decoder>⟧)
             self.entry
             (NextPiece R.remaining (trimming (delimited self.entry.now.decoder.0.end self.entry.now.decoder.0.max))
             self.entry.now (answer_of result))) }

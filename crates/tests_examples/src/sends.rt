@@ -152,11 +152,17 @@ pub fn wrappers_shared<T: Sync>(
     is_sync(d);
 }
 
-pub fn piece_reader_sent<R: Tell + Send, D: Decoder + Send>(x: &PieceReader<R, D>) {
+pub fn piece_reader_sent<R: Tell + Send, D: Decoder + Send>(x: &PieceReader<R, D>)
+where
+    D::Note: Send,
+{
     is_send(x);
 }
 
-pub fn piece_reader_shared<R: Tell + Sync, D: Decoder + Sync>(x: &PieceReader<R, D>) {
+pub fn piece_reader_shared<R: Tell + Sync, D: Decoder + Sync>(x: &PieceReader<R, D>)
+where
+    D::Note: Sync,
+{
     is_sync(x);
 }
 

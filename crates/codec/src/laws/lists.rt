@@ -4,7 +4,7 @@ ghost use Rattle.std.specs.List.{All};
 ghost use Rattle.codec.specs.Encoding.{all_coded};
 ghost use Rattle.piece_reader.specs.KnownPieces.{BufferRefused};
 ghost use Rattle.piece_reader.specs.Texts.{HasPieces};
-ghost use Rattle.codec.specs.WriteRuns.{IfFault, IsFault};
+ghost use Rattle.codec.specs.WriteRuns.{IfFault, IfRefused, IsFault, RefusesOne};
 
 use crate::both::{Codec, written_text};
 use crate::encoder::Encoder;
@@ -17,8 +17,8 @@ use piece_reader::{Decoder, PieceReader};
 use std::alloc::Global;
 use std::io;
 
-/// Payloads that are written and flushed are read again, each of them whole, in order, and no other. Where none is refused an
-/// `Err` is an `Io`: want of memory, or of a buffer for the pieces, which no memory holds.
+/// Payloads that are written and flushed are read again, each of them whole, in order, and no other. A `Refused` is why one of
+/// them isn't taken, and an `Io` is want of memory, or of a buffer for the pieces, which no memory holds.
 pub fn round_trip<C: Codec + Copy>(
     alloc: Global,
     codec: C,
@@ -27,6 +27,7 @@ pub fn round_trip<C: Codec + Copy>(
     ensures same { IfOk result (λ kept. map (λ v. v.items) kept.items ≡ map (λ v. v.items) payloads.now) }
     ensures fit { OnOk result (All (C.encoding codec).takes (map (λ v. v.items) payloads.now)) }
     ensures fault { IfErr result (λ e. All (C.encoding codec).takes (map (λ v. v.items) payloads.now) → IsFault e) }
+    ensures reason { IfErr result (IfRefused (RefusesOne (C.encoding codec) (map (λ v. v.items) payloads.now))) }
     ensures refused { IfErr result (IfFault (λ e.
         BufferRefused (C.encoding codec).most e ⊎ BufferRefused (C.grammar codec).most e)) }
 {
@@ -43,6 +44,7 @@ fn written<E: Encoder>(
 ) -> Result<Vec<u8>, WritePieceError<E::Refusal>>
     ensures fit { OnOk result (All (E.encoding encoder).takes (map (λ v. v.items) payloads.now)) }
     ensures fault { IfErr result (λ e. All (E.encoding encoder).takes (map (λ v. v.items) payloads.now) → IsFault e) }
+    ensures reason { IfErr result (IfRefused (RefusesOne (E.encoding encoder) (map (λ v. v.items) payloads.now))) }
     ensures refused { IfErr result (IfFault (BufferRefused (E.encoding encoder).most)) }
     ensures pieces { IfOk result (λ bytes.
         bytes.items ≡ all_coded (E.encoding encoder) (map (λ v. v.items) payloads.now)) }

@@ -21,16 +21,19 @@ impl<R: Tell, D: Decoder> PieceReader<R, D> {
         ensures before { IsPieceReader (D.grammar self.old.decoder) self.old }
         ensures whole { IsPieceReader (D.grammar self.old.decoder) self.new }
     {
+        let mut note = self.note;
         let left = self.rest();
         let have = left.len();
-        let found = self.decoder.decode(left, self.seen);
+        let found = self.decoder.decode(left, self.seen, &mut note);
         match &found {
             Found::Piece(_, used) => {
                 self.handed += *used;
                 self.seen = 0;
+                self.note = self.decoder.no_note();
             }
             Found::More(_) => {
                 self.seen = have;
+                self.note = note;
             }
             Found::Wrong(_) => {}
         }
@@ -53,6 +56,7 @@ impl<R: Tell, D: Decoder> PieceReader<R, D> {
             End::Last(span) => {
                 self.handed = len;
                 self.seen = 0;
+                self.note = self.decoder.no_note();
                 self.ended = true;
                 Ok(Some(span))
             }

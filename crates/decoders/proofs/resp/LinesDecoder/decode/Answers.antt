@@ -9,9 +9,9 @@ pub decode-requires-clause-open : goal.decode-requires-clause-open
 decode-requires-clause-open c =
     open_showing behind_kind (trimming (delimited 10 c.args.self.now.max)) (take c.args.seen c.args.bytes.now) c.requires.open
 
-pub returns-in-More : goal.returns-in-More
-returns-in-More c =
-    let wants = c.in-More.ensures in (
+pub returns-in-More-clause-finds : goal.returns-in-More-clause-finds
+returns-in-More-clause-finds c =
+    let wants = c.in-More.ensures.finds in (
       wants.0,
       wants.1,
       λ more short.

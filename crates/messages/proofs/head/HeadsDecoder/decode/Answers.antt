@@ -4,6 +4,7 @@ use Rattle.codec.specs.Decoding.{bytes_at}
 use Rattle.codec.specs.Grammar.{Lacks}
 use Rattle.messages.specs.declared.head.BadHead.TheVariants.{Lines, Refused}
 use Rattle.messages.specs.Heads.{IsNoHead, heads, texts}
+use Rattle.messages.specs.HeadsLaws.{open_texts}
 use Rattle.messages.proofs.head.HeadsDecoder.decode.Goals as goal
 
 -- what settles nothing of lines settles nothing of heads
@@ -17,19 +18,22 @@ lacks_head n bytes lacks more few = let still = lacks more few in record {
   ];
 }
 
-pub returns-in-None : goal.returns-in-None
-returns-in-None c = (
+pub returns-in-None-clause-finds : goal.returns-in-None-clause-finds
+returns-in-None-clause-finds c = (
   record {
     piece = take c.in-Piece.used c.args.bytes.now;
     payload = bytes_at c.in-Piece.field-0 c.args.bytes.now;
     more = drop c.in-Piece.used c.args.bytes.now;
-    is = c.in-Piece.ensures.is;
+    is = c.in-Piece.ensures.finds.is;
     equal = sym (take-append-drop c.in-Piece.used c.args.bytes.now);
   },
   c.in-None.ensures.none,
 )
 
-pub returns-in-More : goal.returns-in-More
-returns-in-More c =
-    let wants = c.in-More.ensures in
+pub returns-in-More-clause-finds : goal.returns-in-More-clause-finds
+returns-in-More-clause-finds c =
+    let wants = c.in-More.ensures.finds in
     (wants.0, wants.1, lacks_head c.in-More.need c.args.bytes.now wants.2)
+
+pub decode-requires-clause-open : goal.decode-requires-clause-open
+decode-requires-clause-open c = open_texts (take c.args.seen c.args.bytes.now) c.requires.open

@@ -1,7 +1,7 @@
 use Rattle.std.proofs.Common.{IfSome, Ok, ap, arith, length, subst, sym, ◌∙◌}
 use Rattle.piece_reader.specs.Decoding.{IsLent}
 use Rattle.piece_reader.specs.NextPiece.{NextPiece, load_answer}
-use Rattle.piece_filter.proofs.Calls.{asked_behind, asked_ended, asked_idle, asked_more, asked_none, asked_wrong, left_open}
+use Rattle.piece_filter.proofs.Calls.{asked_behind, asked_ended, asked_idle, asked_more, asked_none, asked_wrong}
 use Rattle.piece_filter.proofs.answering.AnsweringFilter.ask.Goals as goal
 
 pub returns-then-has_ended : goal.returns-then-has_ended
@@ -41,7 +41,6 @@ returns-then-rest-have g c =
     (sym c.has_ended.ensures.value ∙ c.if-has_ended.false) c.in-Err-Io.e
     (rw c.in-Err-Io.field-0-is at c.in-Err-Io.ensures.next)
     (omega (arith, c.if-rest-have.true, ap length c.rest.ensures.value, ap length c.rest-have.ensures.value))
-    c.open_is_few.ensures
 
 pub returns-else-rest-have : goal.returns-else-rest-have
 returns-else-rest-have g c =
@@ -49,9 +48,3 @@ returns-else-rest-have g c =
     (sym c.has_ended.ensures.value ∙ c.if-has_ended.false) c.in-Err-Io.e
     (rw c.in-Err-Io.field-0-is at c.in-Err-Io.ensures.next)
     (omega (arith, c.if-rest-have.false, ap length c.rest.ensures.value, ap length c.rest-have.ensures.value))
-
-pub open_is_few-requires : goal.open_is_few-requires
-open_is_few-requires g c =
-    left_open g.R.TellRead.remaining g.D.Decoder.grammar g.S.Answer.answers c.requires.ready c.requires.lacks c.step.new.self
-    (sym c.has_ended.ensures.value ∙ c.if-has_ended.false) c.in-Err-Io.e
-    (rw c.in-Err-Io.field-0-is at c.in-Err-Io.ensures.next)

@@ -5,14 +5,14 @@ use Rattle.piece_reader.specs.HeaderFormat.{length_prefixed}
 use Rattle.piece_reader.specs.HeaderFormatLaws.{length_prefixed_piece, sized_lacks}
 use Rattle.piece_reader.proofs.by_header.ByHeaderDecoder.decode.Goals as goal
 
-pub returns-then-bytes-whole : goal.returns-then-bytes-whole
-returns-then-bytes-whole g c =
+pub returns-then-bytes-whole-clause-finds : goal.returns-then-bytes-whole-clause-finds
+returns-then-bytes-whole-clause-finds g c =
     let h = g.H.LengthPrefixed.header_format c.args.self.now.0 in
     let law = g.met.H.LengthPrefixed.headers c.args.self.now.0 in
     let bytes = c.args.bytes.now in
     let len = c.in-Sized.len in
     let used = c.in-Sized.used in
-    let is = sym c.header.ensures ∙ c.in-Sized.is in
+    let is = sym c.header.ensures.says ∙ c.in-Sized.is in
     let fits : len ≤ h.max = omega (arith, c.if-len-max.false, c.max.ensures) in
     let tail = ap length c.tail-tail.ensures in (
       c.if-bytes-whole.true,
@@ -20,14 +20,14 @@ returns-then-bytes-whole g c =
       subst (λ n. Lacks (length_prefixed h) (used + len + n) bytes) (sym tail) (sized_lacks h law bytes len used is fits),
     )
 
-pub returns-else-not-is_tail : goal.returns-else-not-is_tail
-returns-else-not-is_tail g c =
+pub returns-else-not-is_tail-clause-finds : goal.returns-else-not-is_tail-clause-finds
+returns-else-not-is_tail-clause-finds g c =
     let h = g.H.LengthPrefixed.header_format c.args.self.now.0 in
     let law = g.met.H.LengthPrefixed.headers c.args.self.now.0 in
     let bytes = c.args.bytes.now in
     let len = c.in-Sized.len in
     let used = c.in-Sized.used in
-    let is = sym c.header.ensures ∙ c.in-Sized.is in
+    let is = sym c.header.ensures.says ∙ c.in-Sized.is in
     let fits : len ≤ h.max = omega (arith, c.if-len-max.false, c.max.ensures) in
     let tail = ap length c.tail-tail.ensures in
     let count : used + len + length c.tail-tail.result.now - (used + len) ≡ length h.tail = omega (arith, tail) in

@@ -18,19 +18,19 @@ find_end-requires-clause-plain c =
     let d = c.args.self.now in
     (open_plain d.end d.max (take c.args.seen c.args.bytes.now) c.requires.open).0
 
-pub returns-in-Some : goal.returns-in-Some
-returns-in-Some c =
+pub returns-in-Some-clause-finds : goal.returns-in-Some-clause-finds
+returns-in-Some-clause-finds c =
     let d = c.args.self.now in
     let found = c.in-Some.ensures.found in
     found_piece d.end d.max c.args.bytes.now c.in-Some.len (omega (arith, found.0, c.min-to.ensures))
     (omega (arith, found.0, c.min-to.ensures)) found.1
 
-pub returns-then-bytes-self : goal.returns-then-bytes-self
-returns-then-bytes-self c =
+pub returns-then-bytes-self-clause-finds : goal.returns-then-bytes-self-clause-finds
+returns-then-bytes-self-clause-finds c =
     let d = c.args.self.now in
     too_long d.end d.max c.args.bytes.now c.min-to.result c.min-to.ensures c.in-None.ensures.none c.if-bytes-self.true
 
-pub returns-else-bytes-self : goal.returns-else-bytes-self
-returns-else-bytes-self c =
+pub returns-else-bytes-self-clause-finds : goal.returns-else-bytes-self-clause-finds
+returns-else-bytes-self-clause-finds c =
     let d = c.args.self.now in
     wants_one d.end d.max c.args.bytes.now c.min-to.result c.min-to.ensures c.in-None.ensures.none c.if-bytes-self.false

@@ -22,7 +22,7 @@ returns-in_err-fill_buf g c =
     let p = err_from_is_err_and c.from_residual.result c.from_residual.ensures.1 in
     rw (p.1, p.2) (subst (λ x. AsksFor remaining (grammar x.decoder) c.args.need x (Err c.in_err-fill_buf.field-0.0) t)
     c.self.view_is
-    (AsksFor-err remaining (grammar i.decoder) c.args.need m c.self.invariant handed few most c.if-self.false _
+    (AsksFor-err remaining (grammar i.decoder) c.args.need m c.self.invariant.0 handed few most c.if-self.false _
     (ap (λ p. p.0) c.set_min.ensures.number) _ _ f))
 
 pub returns : goal.returns
@@ -40,7 +40,7 @@ returns g c =
     omega (arith, c.requires.most, ap (λ x. (grammar x.decoder).most) c.self.view_is) in
     subst (λ x. AsksFor remaining (grammar x.decoder) c.args.need x
     (Ok (lib.Dec.leb c.args.need (length c.in_ok-fill_buf.field-0.now))) t) c.self.view_is
-    (AsksFor-ok remaining (grammar i.decoder) c.args.need m c.self.invariant handed few most c.if-self.false _
+    (AsksFor-ok remaining (grammar i.decoder) c.args.need m c.self.invariant.0 handed few most c.if-self.false _
     (ap (λ p. p.0) c.set_min.ensures.number) _ _ f _
     (λ many. omega (
       arith,

@@ -1,5 +1,6 @@
-use Rattle.std.proofs.Common.{◌*◌, ◌≤◌, arith}
+use Rattle.std.proofs.Common.{◌*◌, ◌≤◌, arith, drop}
 use Rattle.piece_reader.proofs.Handover.{piecing_small, redecoded_piecing}
+use Rattle.piece_reader.specs.GrammarLaws.{noted_none}
 use Rattle.piece_reader.specs.PieceReader.{ReaderState}
 use Rattle.piece_reader.proofs.reader.PieceReader.set_decoder.Goals as goal
 
@@ -15,10 +16,13 @@ invariant_of-result g c =
       c.saturating_mul.ensures,
       c.capacity.ensures.value,
       c.most.ensures,
-      piecing_small old (g.met.D.Decoder.lawful i.decoder) f c.self.invariant,
-    ) in
-    rw c.set_policy.ensures (redecoded_piecing (g.E.Decoder.grammar c.args.decoder) (g.met.E.Decoder.lawful c.args.decoder)
-    old f c.args.decoder c.self.invariant room)
+      piecing_small old (g.met.D.Decoder.lawful i.decoder) f c.self.invariant.0,
+    ) in (
+      rw c.set_policy.ensures (redecoded_piecing (g.E.Decoder.grammar c.args.decoder) (g.met.E.Decoder.lawful c.args.decoder)
+          old f c.args.decoder c.self.invariant.0 room),
+      noted_none (g.E.Decoder.notes c.args.decoder) (drop i.handed i.reader.block.bytes) c.no_note.result
+          c.no_note.ensures,
+    )
 
 pub returns-clause-whole : goal.returns-clause-whole
 returns-clause-whole g c =
@@ -32,7 +36,7 @@ returns-clause-whole g c =
       c.saturating_mul.ensures,
       c.capacity.ensures.value,
       c.most.ensures,
-      piecing_small old (g.met.D.Decoder.lawful i.decoder) f c.self.invariant,
+      piecing_small old (g.met.D.Decoder.lawful i.decoder) f c.self.invariant.0,
     ) in
     rw c.set_policy.ensures (redecoded_piecing (g.E.Decoder.grammar c.args.decoder) (g.met.E.Decoder.lawful c.args.decoder)
-    old f c.args.decoder c.self.invariant room)
+    old f c.args.decoder c.self.invariant.0 room)

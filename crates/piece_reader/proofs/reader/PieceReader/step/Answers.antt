@@ -1,9 +1,9 @@
-use Rattle.std.proofs.Common.{ap, arith}
-use Rattle.std.proofs.lemmas.Grind.{common_steps}
+use Rattle.std.proofs.Common.{ap}
 use Rattle.piece_reader.specs.NextPiece.{load_answer}
 use Rattle.piece_reader.specs.NextPieceLaws.{NextPiece-ready, NextPiece-wrong}
 use Rattle.piece_reader.proofs.Lending.{lends_piece}
 use Rattle.piece_reader.proofs.Loading.{next_looked, takes_shown}
+use Rattle.piece_reader.proofs.Saying.{wrong_now}
 use Rattle.piece_reader.proofs.reader.PieceReader.step.Goals as goal
 
 pub returns-in-Piece-clause-next : goal.returns-in-Piece-clause-next
@@ -38,7 +38,10 @@ returns-in-Piece-clause-lends g c =
     c.take.ensures.whole c.in-Piece.span c.in-Piece.field-1 c.in-Piece.ensures.takes
 
 pub returns-in-Wrong-clause-next : goal.returns-in-Wrong-clause-next
-returns-in-Wrong-clause-next g c = grind (arith, common_steps)
+returns-in-Wrong-clause-next g c =
+    let s = c.args.self.now in
+    wrong_now g.R.TellRead.remaining (g.D.Decoder.grammar s.decoder) (g.met.D.Decoder.lawful s.decoder) s c.take.new.self
+    c.in-Wrong.e c.in-Wrong.ensures.takes.0 c.in-Wrong.ensures.takes.1 c.take.ensures.before
 
 pub returns-in-More-clause-ready : goal.returns-in-More-clause-ready
 returns-in-More-clause-ready g c piece payload more is front =

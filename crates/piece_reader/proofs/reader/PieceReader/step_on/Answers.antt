@@ -1,9 +1,10 @@
-use Rattle.std.proofs.Common.{Err, [], ap, false, subst, ◌∙◌}
-use Rattle.piece_reader.specs.PieceReader.{IsPieceReader}
+use Rattle.std.proofs.Common.{Err, [], ap, false, subst, sym, ◌∙◌}
+use Rattle.piece_reader.specs.Grammar.{IsOpen}
+use Rattle.piece_reader.specs.PieceReader.{IsPieceReader, rest}
 use Rattle.piece_reader.specs.PiecesWentLaws.{PiecesWent-joins}
 use Rattle.piece_reader.specs.Steps.{AsksFor, TakesEnd}
 use Rattle.piece_reader.proofs.Lending.{lends_end, lends_first}
-use Rattle.piece_reader.proofs.Loading.{asked_as, load_fails, load_finished, loads_on, takes_loaded, turned, wrong_next}
+use Rattle.piece_reader.proofs.Loading.{asked_as, end_open, load_fails, load_finished, loads_on, takes_loaded, turned, wrong_next}
 use Rattle.piece_reader.proofs.Saying.{hands_front, hands_last}
 use Rattle.piece_reader.proofs.reader.PieceReader.step_on.Goals as goal
 
@@ -68,7 +69,17 @@ turns-preserved g c =
 
 pub returns-in-Ok-false-clause-lends : goal.returns-in-Ok-false-clause-lends
 returns-in-Ok-false-clause-lends g c =
-    lends_end g.D.Decoder.grammar c.read_to.new.self c.take_end.new.self c.read_to.ensures.handed c.take_end.result
+    let remaining = g.R.TellRead.remaining in
+    let grammar = g.D.Decoder.grammar in
+    let s = c.args.self.now in
+    let m = c.turns.self in
+    let t = c.read_to.new.self in
+    let inv = c.turns.invariant in
+    let asked = asked_as remaining grammar s m t c.turns.need _ false c.in-Ok-false.field-0-test inv.header.went.decoder
+    c.in-Ok-false.ensures in
+    let still = end_open remaining (grammar s.decoder) (g.met.D.Decoder.lawful s.decoder) s m c.turns.need inv t asked in
+    lends_end grammar t c.take_end.new.self c.read_to.ensures.handed
+    (subst (λ d. IsOpen (grammar d) (rest t)) (sym (asked.went.decoder ∙ inv.header.went.decoder)) still) c.take_end.result
     c.take_end.ensures.takes
 
 pub returns-in-Piece-clause-lends : goal.returns-in-Piece-clause-lends

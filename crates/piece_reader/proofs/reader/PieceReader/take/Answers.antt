@@ -1,7 +1,8 @@
-use Rattle.std.proofs.Common.{◌+◌, ap, sym, subst, ◌∙◌, length}
-use Rattle.piece_reader.specs.Decoding.{Decodes}
+use Rattle.std.proofs.Common.{◌+◌, ap, arith, drop, sym, subst, ◌∙◌, length}
+use Rattle.std.proofs.lemmas.List.{take_all}
+use Rattle.piece_reader.specs.Decoding.{Decodes, OnMore}
 use Rattle.piece_reader.specs.Grammar.{IsOpen}
-use Rattle.piece_reader.specs.GrammarLaws.{open_of}
+use Rattle.piece_reader.specs.GrammarLaws.{noted_none, open_of}
 use Rattle.piece_reader.specs.PieceReader.{ReaderState, IsPieceReader, rest}
 use Rattle.piece_reader.specs.declared.decoder.Found.TheVariants as found
 use Rattle.piece_reader.proofs.Taking.{taken_whole, looked_whole}
@@ -14,9 +15,12 @@ invariant_of-self g c =
     record { reader = i.reader; decoder = i.decoder; handed = i.handed; seen = i.seen; ended = i.ended } in
     let gram = g.D.Decoder.grammar i.decoder in
     let left = c.rest-left.ensures.value ∙ ap rest (sym c.self.view_is) in
-    let is = subst (Decodes gram c.rest-left.result.now) c.in-Piece.is c.decode-found.ensures in
-    taken_whole gram (g.met.D.Decoder.lawful i.decoder) f c.self.invariant c.in-Piece.field-0 c.in-Piece.used
-    (subst (λ l. Decodes gram l (found.Piece c.in-Piece.field-0 c.in-Piece.used)) left is)
+    let is = subst (Decodes gram c.rest-left.result.now) c.in-Piece.is c.decode-found.ensures.finds in (
+      taken_whole gram (g.met.D.Decoder.lawful i.decoder) f c.self.invariant.0 c.in-Piece.field-0 c.in-Piece.used
+          (subst (λ l. Decodes gram l (found.Piece c.in-Piece.field-0 c.in-Piece.used)) left is),
+      noted_none (g.D.Decoder.notes i.decoder) (drop (i.handed + c.in-Piece.used) i.reader.block.bytes) c.no_note-self-inside.result
+          c.no_note-self-inside.ensures,
+    )
 
 pub invariant_of-self-in-More : goal.invariant_of-self-in-More
 invariant_of-self-in-More g c =
@@ -25,16 +29,21 @@ invariant_of-self-in-More g c =
     record { reader = i.reader; decoder = i.decoder; handed = i.handed; seen = i.seen; ended = i.ended } in
     let gram = g.D.Decoder.grammar i.decoder in
     let left = c.rest-left.ensures.value ∙ ap rest (sym c.self.view_is) in
-    let is = subst (Decodes gram c.rest-left.result.now) c.in-More.is c.decode-found.ensures in
-    looked_whole gram (g.met.D.Decoder.lawful i.decoder) f c.self.invariant (length c.rest-left.result.now) (ap length left)
-    (subst (IsOpen gram) left (open_of gram c.in-More.field-0 c.rest-left.result.now is.0 is.2))
+    let is = subst (Decodes gram c.rest-left.result.now) c.in-More.is c.decode-found.ensures.finds in (
+      looked_whole gram (g.met.D.Decoder.lawful i.decoder) f c.self.invariant.0 (length c.rest-left.result.now) (ap length left)
+          (subst (IsOpen gram) left (open_of gram c.in-More.field-0 c.rest-left.result.now is.0 is.2)),
+      subst (λ l. g.D.Decoder.notes i.decoder l c.decode-found.new.note)
+          (left ∙ sym (take_all (length c.rest-left.result.now) (rest f) (omega (arith, ap length left))))
+          (subst (λ r. OnMore r (g.D.Decoder.notes i.decoder c.rest-left.result.now c.decode-found.new.note)) c.in-More.is
+          c.decode-found.ensures.leaves),
+    )
 
 pub returns-in-Piece-clause-whole : goal.returns-in-Piece-clause-whole
 returns-in-Piece-clause-whole g c =
     let i = c.self.inside in
     let new : ReaderState g.row.R.Denot g.row.D.Denot =
     record { reader = i.reader; decoder = i.decoder; handed = i.handed + c.in-Piece.used; seen = 0; ended = i.ended } in
-    subst (λ x. IsPieceReader (g.D.Decoder.grammar x.decoder) new) c.self.view_is (invariant_of-self g c)
+    subst (λ x. IsPieceReader (g.D.Decoder.grammar x.decoder) new) c.self.view_is (invariant_of-self g c).0
 
 pub returns-in-More-clause-whole : goal.returns-in-More-clause-whole
 returns-in-More-clause-whole g c =
@@ -46,4 +55,4 @@ returns-in-More-clause-whole g c =
       seen = length c.rest-left.result.now;
       ended = i.ended;
     } in
-    subst (λ x. IsPieceReader (g.D.Decoder.grammar x.decoder) new) c.self.view_is (invariant_of-self-in-More g c)
+    subst (λ x. IsPieceReader (g.D.Decoder.grammar x.decoder) new) c.self.view_is (invariant_of-self-in-More g c).0
