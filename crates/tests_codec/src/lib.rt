@@ -9,6 +9,8 @@ mod bodies;
 #[cfg(test)]
 mod chunks;
 #[cfg(test)]
+mod codings;
+#[cfg(test)]
 mod drops;
 #[cfg(test)]
 mod examples;
