@@ -221,6 +221,7 @@ impl<R: Tell, P> Tell for ChunkedReader<R, P> {
 
 /// Payload, as [`read_payload`](ChunkedReader::read_payload) hands it out. An error is the stream's own, or of the kind
 /// `InvalidData` or `UnexpectedEof`.
+// The clause `bytes` is owed to std's trait, and says nothing here, as no bytes are known to be left; `read` says all.
 impl<R: TellRead, P: ReaderPolicy> Read for ChunkedReader<R, P> {
     fn read(&mut self, out: &mut [u8]) -> io::Result<usize>
         ensures bound { ReadsAtMost result out.new }

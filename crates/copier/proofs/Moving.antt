@@ -4,6 +4,8 @@ use Rattle.std.proofs.lemmas.List.{append_cancel_left, nil_from_length}
 use Rattle.std.specs.IoError.{error_kind}
 use Rattle.std.specs.declared.io.Error.{Error}
 use Rattle.std.specs.declared.io.ErrorKind.TheVariants.{Interrupted, WriteZero}
+use Rattle.std.specs.Prelude.{IfErr}
+use Rattle.buffer_redux.specs.Block.{IsBlock}
 use Rattle.buffer_redux.specs.Faults.{TookNothing, TookNothing-after, MetInterrupts, MetInterrupts-joins, OnlyInterrupts, SendErrorCaused, SendErrorCaused-after}
 use Rattle.buffer_redux.specs.StreamLog.{StreamLog, FillLog, after_flush, zero_of_some, zero_of_none}
 use Rattle.buffer_redux.specs.Transfer.{Sends}
@@ -11,14 +13,14 @@ use Rattle.buffer_redux.specs.Policy.{std_read_rules, std_write_rules}
 use Rattle.buffer_redux.specs.Buffered.{Buffered}
 use Rattle.buffer_redux.specs.BufReader.{ReadsInOrder}
 use Rattle.buffer_redux.specs.BufWriter.{WritesInOrder, IsFlushed, Flushes}
-use Rattle.buffer_redux.specs.EmptyReads.{ReadsWhenEmpty-std}
+use Rattle.buffer_redux.specs.EmptyReads.{ReadsWhenEmpty-std, ReadsWhole-std}
 use Rattle.buffer_redux.specs.EmptyWrites.{TakesNothing-std}
 use Rattle.buffer_redux.specs.WriterLaws.{WritesInOrder-then}
 use Rattle.buffer_redux.specs.ReaderTells.{reader_log, ReaderWent, FaultsAlike-only, FaultsAlike-fault}
 use Rattle.buffer_redux.specs.WriterTells.{writer_log, TellsFailures, WriterWent, WriterCalled}
 use Rattle.buffer_redux.specs.Copy.{MovedBy, MovedTooMuch, LastWrite, CopyEnded, StreamFailed, TakesNothing, faults_met}
 use Rattle.programs.specs.Streams.{EndsOnce}
-use Rattle.copier.specs.Copy.{Copied, EitherFailed, IsBeginning, OnlyFlushLeft, InterruptedOften, OverTotal, RunFlushes}
+use Rattle.copier.specs.Copy.{Copied, EitherFailed, IsBeginning, OnlyFlushLeft, InterruptedOften, OverTotal, RunFailed, RunFlushes}
 use Rattle.copier.specs.Copy as RunFaults
 
 -- nothing was given, and nothing received
@@ -33,6 +35,22 @@ IsBeginning-none read written = record {
 -- `StdPolicy` keeps no failure back
 tells_all : {Q : Type 0} (q : Q) → TellsFailures std_write_rules q
 tells_all q = (refl, λ p b a p' allowed. allowed.1)
+
+-- where all of a buffer is offered
+pub offers_all : {R P : Type 0} {remaining : R → Option (List ℕ)} {s t : Buffered R P}
+    → ReaderWent remaining std_read_rules s t → IsBlock s.block
+    → (t.log.reads ≡ s.log.reads) ⊎ (t.log.reads.offer ≡ s.block.capacity)
+offers_all went whole =
+    let offers = went.offers ReadsWhole-std whole in
+    elim offers.offer [ inl none ↦ inl none | inr all ↦ inr (all ∙ offers.capacity) ]
+
+-- why a run failed, once there were buffers
+pub run_caused : (answer : Result ℕ Error) (read read' written written' : StreamLog)
+    → IfErr answer (λ e. EitherFailed e read read' written written' ⊎ OverTotal e read read' written written')
+    → IfErr answer (λ e. RunFailed e read read' written written')
+run_caused (Ok n) read read' written written' caused = tt
+run_caused (Err e) read read' written written' (inl failed) = inl failed
+run_caused (Err e) read read' written written' (inr over) = inr (inr over)
 
 -- what was handed on between buffers that were empty at first
 module _ {R P W Q : Type 0} (s t : Buffered R P) (u v : Buffered W Q) (none : s.block.bytes ≡ [])

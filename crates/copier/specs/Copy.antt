@@ -1,11 +1,18 @@
 -- What a run moves from a reader to a writer.
-use Rattle.std.specs.Prelude.{◌≡◌, ◌≢◌, ℕ, ◌+◌, ◌-◌, ◌^◌, ◌≤◌, ◌⊎◌, List, ◌++◌, length, Result, Ok, Err}
+use Rattle.std.specs.Prelude.{◌≡◌, ◌≢◌, ℕ, ◌+◌, ◌-◌, ◌^◌, ◌<◌, ◌≤◌, ◌⊎◌, Bool, List, ◌++◌, length, Option, Result, Ok, Err, IsErrAnd, MatchResult}
 use Rattle.std.specs.IoError.{error_kind}
 use Rattle.std.specs.declared.io.Error.{Error}
-use Rattle.std.specs.declared.io.ErrorKind.TheVariants.{Interrupted, Other, OutOfMemory}
-use Rattle.buffer_redux.specs.Copy.{SourceFailed}
+use Rattle.std.specs.declared.io.ErrorKind.TheVariants.{Interrupted, Other, OutOfMemory, WriteZero}
+use Rattle.buffer_redux.specs.Block.{IsNew}
+use Rattle.buffer_redux.specs.Buffered.{Buffered}
+use Rattle.buffer_redux.specs.BufWriter.{Flushes}
+use Rattle.buffer_redux.specs.Copy.{CopyBuf, SourceFailed}
+use Rattle.buffer_redux.specs.Policy.{std_read_rules, std_write_rules}
+use Rattle.buffer_redux.specs.ReaderTells.{ReaderWent, reader_log}
 use Rattle.buffer_redux.specs.StreamLog.{StreamLog}
-use Rattle.programs.specs.Streams.{AllFlushed, BufferRefused, GaveNothing, MetNoFault, SendFailed}
+use Rattle.buffer_redux.specs.WriterTells.{WriterCalled, WriterWent, writer_log}
+use Rattle.buffer_redux.specs.declared.policy.StdPolicy.{StdPolicy}
+use Rattle.programs.specs.Streams.{AllFlushed, BufferRefused, GaveNothing, MetNoFault, SendFailed, capacity_asked, kind_asked}
 use Rattle.programs.specs.declared.ending.Ending.{Ending}
 use Rattle.programs.specs.declared.ending.Ending.TheVariants.{Done, Failed, Usage, Memory}
 
@@ -86,3 +93,38 @@ RunEnded Usage read read' written written' = (read' ≡ read) × (written' ≡ w
 RunEnded Memory read read' written written' =
     (e : Error) × (error_kind e ≡ OutOfMemory) × RunStopped e read read' written written'
 RunEnded other read read' written written' = ⊥
+
+-- one copy between two buffered streams, and where it ended with nothing left in the first, one flush of the second
+pub record CopiesAll {R W : Type 0} (remaining : R → Option (List ℕ)) (trace : W → W → Type 0) (answer : Result ℕ Error)
+    (s s' : Buffered R StdPolicy) (t t' : Buffered W StdPolicy) : Type 0 where
+  pub copying : Result ℕ Error
+  pub copied : Buffered W StdPolicy
+  pub copy : CopyBuf writer_log (WriterWent trace std_write_rules) (WriterCalled std_write_rules) copying
+      (reader_log s).fills (reader_log s').fills t copied
+  pub source : ReaderWent remaining std_read_rules s s'
+  pub target : WriterWent trace std_write_rules t copied
+  pub ended : MatchResult copying
+      (λ total. ((0 < length s'.block.bytes) × IsErrAnd answer (λ e. error_kind e ≡ WriteZero) × (t' ≡ copied))
+      ⊎ ((length s'.block.bytes ≡ 0) × MatchResult answer (λ n. (n ≡ total) × Flushes copied (Ok tt) t')
+      (λ e. Flushes copied (Err e) t')))
+      (λ e. (answer ≡ Err e) × (t' ≡ copied))
+
+-- a run through buffers that were made for it, over these streams, of this kind and capacity
+pub record RunsThrough {R W : Type 0} (log : R → StreamLog) (log' : W → StreamLog) (remaining : R → Option (List ℕ))
+    (trace : W → W → Type 0) (ring : Bool) (cap : ℕ) (answer : Result ℕ Error) (reader reader' : R) (writer writer' : W)
+    : Type 0 where
+  pub source : Buffered R StdPolicy
+  pub source' : Buffered R StdPolicy
+  pub target : Buffered W StdPolicy
+  pub target' : Buffered W StdPolicy
+  pub source_made : IsNew (kind_asked ring) (capacity_asked ring cap) source.block
+  pub target_made : IsNew (kind_asked ring) (capacity_asked ring cap) target.block
+  pub reads : (source.inner ≡ reader) × (source.log ≡ log reader)
+  pub writes : (target.inner ≡ writer) × (target.log ≡ log' writer)
+  pub copies : CopiesAll remaining trace answer source source' target target'
+  pub reader_left : reader' ≡ source'.inner
+  pub writer_left : writer' ≡ target'.inner
+
+-- the reader's last ask, where there was one, was for all of a buffer of this kind and capacity
+abbrev pub OffersBuffer : Bool → ℕ → StreamLog → StreamLog → Type 0
+OffersBuffer ring cap read read' = (read'.reads ≡ read.reads) ⊎ (read'.reads.offer ≡ capacity_asked ring cap)

@@ -1,8 +1,11 @@
 //! The copy itself, over any two streams that tell.
-ghost use Rattle.std.specs.Prelude.{◌≡◌, ◌≤◌, ◌⊎◌, ◌↔◌, ℕ, Bool, codes, map, string_bytes, IfOk, IfErr, OnErr};
-ghost use Rattle.programs.specs.Streams.{EndsOnce, IsFresh};
+ghost use Rattle.std.specs.Prelude.{◌≡◌, ◌≤◌, ◌⊎◌, ◌↔◌, ℕ, Bool, Result, codes, map, string_bytes, IfOk, IfErr, IsErrAnd, OnErr};
+ghost use Rattle.std.specs.declared.io.Error.{Error};
+ghost use Rattle.buffer_redux.specs.Block.{IsBlock};
+ghost use Rattle.programs.specs.Ending.{EndsAs};
+ghost use Rattle.programs.specs.Streams.{BufferRefused, EndsOnce, IsFresh};
 ghost use Rattle.copier.specs.Settings.{AskFor};
-ghost use Rattle.copier.specs.Copy.{EitherFailed, OverTotal, Copied, InterruptedOften, IsBeginning, RunEnded, RunFailed, RunFlushes};
+ghost use Rattle.copier.specs.Copy.{CopiesAll, EitherFailed, OffersBuffer, OverTotal, Copied, InterruptedOften, IsBeginning, RunEnded, RunFailed, RunFlushes, RunsThrough};
 
 use crate::settings::settings;
 use buffer_redux::tell::{TellRead, TellWrite};
@@ -32,6 +35,9 @@ pub fn run<R: TellRead, W: TellWrite>(
         InterruptedOften e (R.log reader) (R.log result.1) (W.log writer) (W.log result.2)) }
     ensures a_beginning { IsBeginning (R.log reader) (R.log result.1) (W.log writer) (W.log result.2) }
     ensures once { EndsOnce (R.log reader).reads (R.log result.1).reads }
+    ensures through { RunsThrough R.log W.log R.remaining W.trace ring cap result.0 reader result.1 writer result.2
+        ⊎ IsErrAnd result.0 (λ e. BufferRefused e (R.log reader) (R.log result.1) (W.log writer) (W.log result.2)) }
+    ensures offers { OffersBuffer ring cap (R.log reader) (R.log result.1) }
     ensures not_flushed { OnErr result.0 ((W.log result.2).writes.flushed ≡ (W.log writer).writes.flushed) }
     ensures flushes { RunFlushes result.0 (R.log reader) (R.log result.1) (W.log writer) (W.log result.2) }
 {
@@ -52,6 +58,7 @@ fn copy_all<R: TellRead, W: TellWrite>(
 ) -> io::Result<u64>
     requires source { IsFresh 1 source.old.block }
     requires target { IsFresh 1 target.old.block }
+    requires whole { IsBlock source.old.block }
     ensures copied { IfOk result (λ total.
         Copied total source.old.log source.new.log target.old.log target.new.log) }
     ensures caused { IfErr result (λ e.
@@ -61,6 +68,9 @@ fn copy_all<R: TellRead, W: TellWrite>(
         InterruptedOften e source.old.log source.new.log target.old.log target.new.log) }
     ensures a_beginning { IsBeginning source.old.log source.new.log target.old.log target.new.log }
     ensures once { EndsOnce source.old.log.reads source.new.log.reads }
+    ensures all { CopiesAll R.remaining W.trace result source.old source.new target.old target.new }
+    ensures offers { (source.new.log.reads ≡ source.old.log.reads)
+        ⊎ (source.new.log.reads.offer ≡ source.old.block.capacity) }
     ensures not_flushed { OnErr result (target.new.log.writes.flushed ≡ target.old.log.writes.flushed) }
     ensures flushes { RunFlushes result source.old.log source.new.log target.old.log target.new.log }
 {
@@ -85,6 +95,12 @@ pub fn run_asked<R: TellRead, W: TellWrite>(
     ensures ended { RunEnded result.0 (R.log reader) (R.log result.1) (W.log writer) (W.log result.2) }
     ensures a_beginning { IsBeginning (R.log reader) (R.log result.1) (W.log writer) (W.log result.2) }
     ensures once { EndsOnce (R.log reader).reads (R.log result.1).reads }
+    ensures through { (ring : Bool) (cap : ℕ) → AskFor (map string_bytes words.now) ring cap
+        → (answer : Result ℕ Error) × EndsAs answer result.0
+        × (RunsThrough R.log W.log R.remaining W.trace ring cap answer reader result.1 writer result.2
+        ⊎ IsErrAnd answer (λ e. BufferRefused e (R.log reader) (R.log result.1) (W.log writer) (W.log result.2))) }
+    ensures offers { (ring : Bool) (cap : ℕ) → AskFor (map string_bytes words.now) ring cap
+        → OffersBuffer ring cap (R.log reader) (R.log result.1) }
 {
     let Some((ring, cap)) = settings(words) else {
         return (Ending::Usage, reader, writer);

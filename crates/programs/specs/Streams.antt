@@ -1,9 +1,9 @@
 -- How the two streams of a run fared.
-use Rattle.std.specs.Prelude.{◌≡◌, ℕ, ◌+◌, ◌^◌, ◌<◌, ◌≤◌, []}
+use Rattle.std.specs.Prelude.{◌≡◌, ℕ, ◌+◌, ◌^◌, ◌<◌, ◌≤◌, Bool, [], if◌then◌else◌}
 use Rattle.std.specs.IoError.{error_kind}
 use Rattle.std.specs.declared.io.Error.{Error}
 use Rattle.std.specs.declared.io.ErrorKind.TheVariants.{Other, OutOfMemory}
-use Rattle.buffer_redux.specs.Block.{Block}
+use Rattle.buffer_redux.specs.Block.{Block, Kind, Plain, Ring, round}
 use Rattle.buffer_redux.specs.Buffered.{Buffered}
 use Rattle.buffer_redux.specs.StreamLog.{StreamLog}
 pub use Rattle.forward.specs.Streams.{MetNoFault, ReadGaveUp, ReadFailed, SendFailed, EndsOnce}
@@ -14,7 +14,15 @@ pub record OverCount (e : Error) (count : ℕ) (read read' written written' : St
   pub large : 2 ^ 64 ≤ count + 1
   pub met : MetNoFault read read' written written'
 
--- a buffer that was just made, of this capacity at least
+-- the kind and the capacity of a buffer of a run that asks for a ring, or for none, and for so many bytes: the capacity of a
+-- ring is the next multiple of 4096
+abbrev pub kind_asked : Bool → Kind
+kind_asked ring = if ring then Ring else Plain
+
+abbrev pub capacity_asked : Bool → ℕ → ℕ
+capacity_asked ring cap = if ring then round cap else cap
+
+-- an empty buffer, of this capacity at least
 pub record IsFresh (cap : ℕ) (b : Block) : Type 0 where
   pub bytes : b.bytes ≡ []
   pub capacity : cap ≤ b.capacity

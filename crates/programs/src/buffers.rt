@@ -1,9 +1,9 @@
 //! The buffers of a run.
-ghost use Rattle.std.specs.Prelude.{◌≡◌, ◌+◌, ◌<◌, ◌≤◌, [], ◌++◌, length, IfOk, IfErr, OnOk, if◌then◌else◌};
-ghost use Rattle.buffer_redux.specs.Block.{Plain, Ring, usable};
+ghost use Rattle.std.specs.Prelude.{◌≡◌, ◌+◌, ◌<◌, ◌≤◌, [], ◌++◌, length, IfOk, IfErr, OnOk};
+ghost use Rattle.buffer_redux.specs.Block.{IsNew, Plain, usable};
 ghost use Rattle.buffer_redux.specs.BufWriter.{WritesInOrder};
 ghost use Rattle.buffer_redux.specs.Faults.{IsInterrupt, MetInterrupts, SendErrorCaused};
-ghost use Rattle.programs.specs.Streams.{BufferRefused, IsFresh};
+ghost use Rattle.programs.specs.Streams.{BufferRefused, capacity_asked, kind_asked};
 
 use buffer_redux::tell::{TellRead, TellWrite};
 use buffer_redux::{BufReader, BufWriter, GrowError, MakeError};
@@ -14,7 +14,7 @@ use std::io::Write;
 /// The greatest capacity of a buffer, in bytes.
 pub const GREATEST_CAPACITY: usize = 1048576;
 
-/// A buffered reader and a buffered writer of these capacities over the two streams. Where one is refused, both streams come
+/// A buffered reader and a buffered writer of these capacities over the two streams, of rings the next multiples of 4096. Where one is refused, both streams come
 /// back, and none was called.
 pub fn buffered<R: TellRead, W: TellWrite>(
     alloc: Global,
@@ -25,10 +25,10 @@ pub fn buffered<R: TellRead, W: TellWrite>(
 ) -> Result<(BufReader<R>, BufWriter<W>), (io::Error, R, W)>
     requires source { capacities.0 ≤ GREATEST_CAPACITY }
     requires target { capacities.1 ≤ GREATEST_CAPACITY }
-    ensures source { IfOk result (λ b. IsFresh capacities.0 b.0.block) }
-    ensures target { IfOk result (λ b. IsFresh capacities.1 b.1.block) }
-    ensures source_kind { IfOk result (λ b. b.0.block.kind ≡ (if ring then Ring else Plain)) }
-    ensures target_kind { IfOk result (λ b. b.1.block.kind ≡ (if ring then Ring else Plain)) }
+    ensures source { IfOk result (λ b. IsNew (kind_asked ring) (capacity_asked ring capacities.0) b.0.block) }
+    ensures target { IfOk result (λ b. IsNew (kind_asked ring) (capacity_asked ring capacities.1) b.1.block) }
+    ensures reader { IfOk result (λ b. b.0.inner ≡ reader) }
+    ensures writer { IfOk result (λ b. b.1.inner ≡ writer) }
     ensures read { IfOk result (λ b. b.0.log ≡ R.log reader) }
     ensures written { IfOk result (λ b. b.1.log ≡ W.log writer) }
     ensures refused { IfErr result (λ e. BufferRefused e.0 (R.log reader) (R.log e.1) (W.log writer) (W.log e.2)) }
@@ -50,8 +50,8 @@ fn buffered_reader<R: TellRead>(
     reader: R,
 ) -> Result<BufReader<R>, MakeError<R>>
     requires { cap ≤ GREATEST_CAPACITY }
-    ensures made { IfOk result (λ r. IsFresh cap r.block) }
-    ensures kind { IfOk result (λ r. r.block.kind ≡ (if ring then Ring else Plain)) }
+    ensures made { IfOk result (λ r. IsNew (kind_asked ring) (capacity_asked ring cap) r.block) }
+    ensures inner { IfOk result (λ r. r.inner ≡ reader) }
     ensures log { IfOk result (λ r. r.log ≡ R.log reader) }
     ensures handed_back { IfErr result (λ e. e.0 ≡ reader) }
     ensures refused { IfErr result (λ e. e.1 ≡ GrowError.Memory) }
@@ -63,7 +63,7 @@ fn buffered_reader<R: TellRead>(
     }
 }
 
-/// A buffered writer of this capacity.
+/// A buffered writer of this capacity, of a ring the next multiple of 4096.
 pub fn buffered_writer<W: TellWrite>(
     alloc: Global,
     ring: bool,
@@ -71,8 +71,8 @@ pub fn buffered_writer<W: TellWrite>(
     writer: W,
 ) -> Result<BufWriter<W>, MakeError<W>>
     requires { cap ≤ GREATEST_CAPACITY }
-    ensures made { IfOk result (λ w. IsFresh cap w.block) }
-    ensures kind { IfOk result (λ w. w.block.kind ≡ (if ring then Ring else Plain)) }
+    ensures made { IfOk result (λ w. IsNew (kind_asked ring) (capacity_asked ring cap) w.block) }
+    ensures inner { IfOk result (λ w. w.inner ≡ writer) }
     ensures log { IfOk result (λ w. w.log ≡ W.log writer) }
     ensures handed_back { IfErr result (λ e. e.0 ≡ writer) }
     ensures refused { IfErr result (λ e. e.1 ≡ GrowError.Memory) }

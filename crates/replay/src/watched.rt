@@ -111,6 +111,7 @@ impl<S> Watched<S> {
     }
 }
 
+// The clause `bytes` is owed to std's trait, and says nothing here; `notes` says what is noted.
 impl<S: Read> Read for Watched<S> {
     ghost use Rattle.std.specs.Prelude.{length, None};
     ghost use Rattle.std.specs.Io.{ReadsAtMost};

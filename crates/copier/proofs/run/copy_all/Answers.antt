@@ -1,6 +1,6 @@
-use Rattle.std.proofs.Common.{inl, arith}
+use Rattle.std.proofs.Common.{inl, inr, refl, arith}
 use Rattle.std.proofs.lemmas.Result.{err_from_is_err_and}
-use Rattle.copier.proofs.Moving.{copy_begins, copy_once, copy_unflushed, flush_begins, copy_caused, copy_often, flush_often, flushed_at_most, flushed_once, left_caused, flush_caused, flush_copied}
+use Rattle.copier.proofs.Moving.{copy_begins, copy_once, copy_unflushed, flush_begins, copy_caused, copy_often, flush_often, flushed_at_most, flushed_once, left_caused, flush_caused, flush_copied, offers_all}
 use Rattle.copier.proofs.run.copy_all.Goals as goal
 
 pub returns-in_err-total-clause-caused : goal.returns-in_err-total-clause-caused
@@ -125,3 +125,66 @@ returns-clause-flushes g c =
     flushed_once copy.reader copy.writer c.requires.source.bytes c.requires.target.bytes copy.copied.ended
     (omega (arith, c.if-buf_len-gt0.false, c.buf_len.ensures.value)) c.flush.new.self _ copy.copied.moved
     (omega (arith, c.requires.source.capacity)) flushed.in_order flushed.steps
+
+pub returns-in_err-total-clause-all : goal.returns-in_err-total-clause-all
+returns-in_err-total-clause-all g c =
+    let p = err_from_is_err_and c.from_residual.result c.from_residual.ensures.1 in
+    let copy = c.in_err-total.ensures in
+    rw (p.1, p.2) (record {
+      copying = _;
+      copied = _;
+      copy = copy.copied;
+      source = copy.reader;
+      target = copy.writer;
+      ended = (refl, refl);
+    })
+
+pub returns-then-buf_len-gt0-clause-all : goal.returns-then-buf_len-gt0-clause-all
+returns-then-buf_len-gt0-clause-all g c =
+    let copy = c.in_ok-total.ensures in record {
+      copying = _;
+      copied = _;
+      copy = copy.copied;
+      source = copy.reader;
+      target = copy.writer;
+      ended = inl (omega (arith, c.if-buf_len-gt0.true, c.buf_len.ensures.value), c.from.ensures, refl);
+    }
+
+pub returns-in_err-flush-clause-all : goal.returns-in_err-flush-clause-all
+returns-in_err-flush-clause-all g c =
+    let p = err_from_is_err_and c.from_residual-in_err-flush.result c.from_residual-in_err-flush.ensures.1 in
+    let copy = c.in_ok-total.ensures in
+    rw (p.1, p.2) (record {
+      copying = _;
+      copied = _;
+      copy = copy.copied;
+      source = copy.reader;
+      target = copy.writer;
+      ended = inr (omega (arith, c.if-buf_len-gt0.false, c.buf_len.ensures.value), c.in_err-flush.ensures.flushed.steps);
+    })
+
+pub returns-clause-all : goal.returns-clause-all
+returns-clause-all g c =
+    let copy = c.in_ok-total.ensures in record {
+      copying = _;
+      copied = _;
+      copy = copy.copied;
+      source = copy.reader;
+      target = copy.writer;
+      ended = inr (
+        omega (arith, c.if-buf_len-gt0.false, c.buf_len.ensures.value),
+        (refl, c.in_ok-flush.ensures.flushed.steps),
+      );
+    }
+
+pub returns-in_err-total-clause-offers : goal.returns-in_err-total-clause-offers
+returns-in_err-total-clause-offers g c = offers_all c.in_err-total.ensures.reader c.requires.whole
+
+pub returns-then-buf_len-gt0-clause-offers : goal.returns-then-buf_len-gt0-clause-offers
+returns-then-buf_len-gt0-clause-offers g c = offers_all c.in_ok-total.ensures.reader c.requires.whole
+
+pub returns-in_err-flush-clause-offers : goal.returns-in_err-flush-clause-offers
+returns-in_err-flush-clause-offers g c = offers_all c.in_ok-total.ensures.reader c.requires.whole
+
+pub returns-clause-offers : goal.returns-clause-offers
+returns-clause-offers g c = offers_all c.in_ok-total.ensures.reader c.requires.whole

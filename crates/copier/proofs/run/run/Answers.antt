@@ -1,4 +1,5 @@
-use Rattle.copier.proofs.Moving.{IsBeginning-none}
+use Rattle.std.proofs.Common.{inl}
+use Rattle.copier.proofs.Moving.{IsBeginning-none, run_caused}
 use Rattle.copier.proofs.run.run.Goals as goal
 
 pub returns-in-Err-clause-a_beginning : goal.returns-in-Err-clause-a_beginning
@@ -25,3 +26,39 @@ returns-clause-flushes g c =
       ← c.in-Ok.ensures.written,
     )
     c.copy_all-answer.ensures.flushes
+
+pub returns-clause-caused : goal.returns-clause-caused
+returns-clause-caused g c =
+    rw (
+      c.into_inner_with_buffer-reader.ensures.log,
+      c.into_inner_with_buffer-writer.ensures.log,
+      ← c.in-Ok.ensures.read,
+      ← c.in-Ok.ensures.written,
+    )
+    (run_caused _ _ _ _ _ c.copy_all-answer.ensures.caused)
+
+pub returns-clause-often : goal.returns-clause-often
+returns-clause-often g c =
+    rw (
+      c.into_inner_with_buffer-reader.ensures.log,
+      c.into_inner_with_buffer-writer.ensures.log,
+      ← c.in-Ok.ensures.read,
+      ← c.in-Ok.ensures.written,
+    )
+    c.copy_all-answer.ensures.often
+
+pub returns-clause-through : goal.returns-clause-through
+returns-clause-through g c =
+    let made = c.in-Ok.ensures in inl (record {
+      source = _;
+      source' = _;
+      target = _;
+      target' = _;
+      source_made = made.source;
+      target_made = made.target;
+      reads = (made.reader, made.read);
+      writes = (made.writer, made.written);
+      copies = c.copy_all-answer.ensures.all;
+      reader_left = c.into_inner_with_buffer-reader.ensures.inner;
+      writer_left = c.into_inner_with_buffer-writer.ensures.inner;
+    })

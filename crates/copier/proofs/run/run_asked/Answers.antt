@@ -1,4 +1,6 @@
-use Rattle.std.proofs.Common.{refl}
+use Rattle.std.specs.Prelude.{unwrap_or}
+use Rattle.std.proofs.Common.{◌≡◌, ℕ, Bool, ap, refl, sym}
+use Rattle.copier.proofs.Endings.{never_usage, run_ended}
 use Rattle.copier.proofs.Moving.{IsBeginning-none}
 use Rattle.copier.proofs.SettingsFacts.{asked_in_range}
 use Rattle.copier.proofs.run.run_asked.Goals as goal
@@ -19,3 +21,31 @@ returns-in_default-clause-usage g c = (
       cc,
   λ none. refl,
 )
+
+pub returns-in_default-clause-through : goal.returns-in_default-clause-through
+returns-in_default-clause-through g c = λ ring cap asks. absurd (let told = (c.settings.ensures ring cap).1 asks in cc)
+
+pub returns-clause-through : goal.returns-clause-through
+returns-clause-through g c = λ ring cap asks.
+    let told = (c.in-Some.ensures ring cap).1 asks in
+    let ring_is : ring ≡ c.in-Some.ring = sym (ap (λ o. (unwrap_or {T = Bool × ℕ} o (ring, cap)).0) told) in
+    let cap_is : cap ≡ c.in-Some.cap = sym (ap (λ o. (unwrap_or {T = Bool × ℕ} o (ring, cap)).1) told) in
+    rw (ring_is, cap_is) (c.run-answer.result.0, c.of.ensures, c.run-answer.ensures.through)
+
+pub returns-clause-offers : goal.returns-clause-offers
+returns-clause-offers g c = λ ring cap asks.
+    let told = (c.in-Some.ensures ring cap).1 asks in
+    let ring_is : ring ≡ c.in-Some.ring = sym (ap (λ o. (unwrap_or {T = Bool × ℕ} o (ring, cap)).0) told) in
+    let cap_is : cap ≡ c.in-Some.cap = sym (ap (λ o. (unwrap_or {T = Bool × ℕ} o (ring, cap)).1) told) in
+    rw (ring_is, cap_is) c.run-answer.ensures.offers
+
+pub returns-clause-usage : goal.returns-clause-usage
+returns-clause-usage g c = (
+  λ is asks. never_usage c.run-answer.result.0 _ c.of.ensures is,
+  λ none. absurd (none (c.in-Some.ring, c.in-Some.cap, (c.in-Some.ensures c.in-Some.ring c.in-Some.cap).0 refl)),
+)
+
+pub returns-clause-ended : goal.returns-clause-ended
+returns-clause-ended g c =
+    let run = c.run-answer.ensures in
+    run_ended c.run-answer.result.0 _ _ _ _ _ c.of.ensures run.copied run.caused run.often run.not_flushed run.flushes
