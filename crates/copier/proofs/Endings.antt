@@ -1,6 +1,5 @@
 -- What a run did that ended so.
 use Rattle.std.proofs.Common.{◌≡◌, ◌∙◌, ℕ, Result, Ok, Err, IfOk, IfErr, OnErr, rules, sym}
-use Rattle.std.proofs.lemmas.Grind.{common_steps}
 use Rattle.std.specs.IoError.{error_kind}
 use Rattle.std.specs.declared.io.Error.{Error}
 use Rattle.std.specs.declared.io.ErrorKind.TheVariants.{OutOfMemory}
