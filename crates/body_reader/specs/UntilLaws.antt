@@ -1,70 +1,16 @@
 -- Laws of bodies that end at a delimiter.
-use Rattle.std.proofs.Common.{◌≡◌, ℕ, zero, suc, ◌+◌, ◌-◌, ◌<◌, ◌≤◌, List, [], ◌∷◌, ◌++◌, length, take, drop, inl, inr, sym, ap, refl, subst, ◌∙◌, arith, get_or, append_assoc, append-nil, length-append}
+use Rattle.std.proofs.Common.{◌≡◌, ℕ, zero, suc, ◌+◌, ◌-◌, ◌<◌, ◌≤◌, List, [], ◌∷◌, ◌++◌, length, take, drop, inl, inr, sym, ap, refl, subst, ◌∙◌, arith, append_assoc, append-nil, length-append}
 use Rattle.std.proofs.Math.Seq.{take-append-add}
 use Rattle.std.proofs.lemmas.Bool.{cases_lt}
-use Rattle.std.proofs.lemmas.List.{get_or_append_left, get_or-append_right, nil_from_length, take_at}
+use Rattle.std.proofs.lemmas.List.{nil_from_length, take_at}
 use Rattle.memchr.specs.Find.{Nowhere, OccursAt}
+use Rattle.buffer_redux.specs.OccursLaws.{OccursAt-behind, OccursAt-fewer, OccursAt-front, OccursAt-last, OccursAt-later, OccursAt-more, OccursAt-self}
 use Rattle.body_reader.specs.declared.coding.Look.TheVariants as look
 use Rattle.body_reader.specs.declared.until.Part.{Part}
 use Rattle.body_reader.specs.declared.until.Part.TheVariants.{Inside, Behind}
 use Rattle.body_reader.specs.Coding.{Agree, Carries, IsDone, IsLawful, IsOpen, Lacks, Leads, Looks, Passes}
 use Rattle.body_reader.specs.CodingLaws.{Agree-nothing, overlaps}
 use Rattle.body_reader.specs.Until.{EndsPart, IsClear, MayBegin, until}
-
--- what stands in bytes stands in more, at the same place
-occurs_more : (a b needle : List ℕ) (k : ℕ) → OccursAt a needle k → OccursAt (a ++ b) needle k
-occurs_more a b needle k o = record {
-  fits = omega (arith, o.fits, length-append a b);
-  reads = λ j h. get_or_append_left a b 0 (k + j) (omega (arith, o.fits, h)) ∙ o.reads j h;
-}
-
--- and in fewer, where it fits
-occurs_less : (a b needle : List ℕ) (k : ℕ) → k + length needle ≤ length a → OccursAt (a ++ b) needle k
-    → OccursAt a needle k
-occurs_less a b needle k fits o = record {
-  fits = fits;
-  reads = λ j h. sym (get_or_append_left a b 0 (k + j) (omega (arith, fits, h))) ∙ o.reads j h;
-}
-
-moved : (a k j : ℕ) → a ≤ k → (k - a) + j ≡ (k + j) - a
-moved a k j behind = omega arith
-
--- what stands behind the first bytes stands in the others
-occurs_behind : (a b needle : List ℕ) (k : ℕ) → length a ≤ k → OccursAt (a ++ b) needle k
-    → OccursAt b needle (k - length a)
-occurs_behind a b needle k behind o = record {
-  fits = omega (arith, o.fits, behind, length-append a b);
-  reads = λ j h.
-      ap (λ i. get_or b i 0) (moved (length a) k j behind)
-      ∙ sym (get_or-append_right a b (length a) (k + j) 0 refl (omega (arith, behind)))
-      ∙ o.reads j h;
-}
-
-moved_back : (a k j : ℕ) → ((a + k) + j) - a ≡ k + j
-moved_back a k j = omega arith
-
--- and the other way
-occurs_later : (a b needle : List ℕ) (k : ℕ) → OccursAt b needle k → OccursAt (a ++ b) needle (length a + k)
-occurs_later a b needle k o = record {
-  fits = omega (arith, o.fits, length-append a b);
-  reads = λ j h.
-      get_or-append_right a b (length a) ((length a + k) + j) 0 refl (omega arith)
-      ∙ ap (λ i. get_or b i 0) (moved_back (length a) k j) ∙ o.reads j h;
-}
-
-occurs_self : (needle : List ℕ) → OccursAt needle needle 0
-occurs_self needle = record {
-  fits = omega arith;
-  reads = λ j h. let same : 0 + j ≡ j = omega arith in
-      ap (λ i. get_or needle i 0) same;
-}
-
-plus_nothing : (n : ℕ) → n + 0 ≡ n
-plus_nothing n = omega arith
-
-occurs_last : (text needle : List ℕ) → OccursAt (text ++ needle) needle (length text)
-occurs_last text needle =
-    subst (OccursAt (text ++ needle) needle) (plus_nothing (length text)) (occurs_later text needle needle 0 (occurs_self needle))
 
 module _ (needle : List ℕ) (some : 0 < length needle) where
   not_there : (bytes follow rest : List ℕ) → IsClear needle Inside bytes follow → Agree follow rest → (k : ℕ)
@@ -78,7 +24,7 @@ module _ (needle : List ℕ) (some : 0 < length needle) where
     λ k low high occurs. elim (cases_lt k (length bytes)) [
       | inl front ↦ not_there bytes follow rest clear agree k front occurs
       | inr behind ↦ c.1 (k - length bytes) (omega arith) (omega (arith, high, behind, length-append bytes payload))
-          (occurs_behind bytes rest needle k behind occurs)
+          (OccursAt-behind bytes rest needle k behind occurs)
     ],
   )
 
@@ -86,7 +32,7 @@ module _ (needle : List ℕ) (some : 0 < length needle) where
       → whole ≡ bytes ++ payload → Nowhere (OccursAt rest needle) 0 (length payload)
   later_none bytes rest whole payload none is k low high occurs =
       none (length bytes + k) (omega arith) (omega (arith, high, ap length is, length-append bytes payload))
-      (occurs_later bytes rest needle k occurs)
+      (OccursAt-later bytes rest needle k occurs)
 
   clear_back : (bytes follow rest whole : List ℕ) → IsClear needle Inside bytes follow → Agree follow rest
       → EndsPart needle Inside (bytes ++ rest) whole
@@ -95,7 +41,7 @@ module _ (needle : List ℕ) (some : 0 < length needle) where
     | inl found ↦ (found.0, found.1, (found.2, later_none bytes rest whole found.0 c.1 found.1))
     | inr found ↦
         let occurs : OccursAt (bytes ++ rest) needle (length whole) =
-        subst (λ l. OccursAt l needle (length whole)) (sym c.0) (occurs_last whole needle) in
+        subst (λ l. OccursAt l needle (length whole)) (sym c.0) (OccursAt-last whole needle) in
         elim (cases_lt (length whole) (length bytes)) [
           | inl short ↦ absurd (not_there bytes follow rest clear agree (length whole) short occurs)
           | inr long ↦
@@ -116,12 +62,12 @@ module _ (needle : List ℕ) (some : 0 < length needle) where
     back = λ rest whole agree c. clear_back bytes follow rest whole clear agree c;
     within = λ rest payload past c same.
         let last : OccursAt rest needle (length payload) =
-        subst (λ l. OccursAt l needle (length payload)) (sym c.0) (occurs_last payload needle) in
+        subst (λ l. OccursAt l needle (length payload)) (sym c.0) (OccursAt-last payload needle) in
         let here : OccursAt bytes needle (length payload) =
-        subst (λ l. OccursAt l needle (length payload)) (sym same) (occurs_more rest past needle (length payload) last) in
+        subst (λ l. OccursAt l needle (length payload)) (sym same) (OccursAt-more rest past needle (length payload) last) in
         absurd (clear [] (Agree-nothing follow) (length payload) (omega arith)
         (omega (arith, some, here.fits))
-        (occurs_more bytes [] needle (length payload) here));
+        (OccursAt-more bytes [] needle (length payload) here));
   }
   clear_leads Behind bytes follow clear = absurd clear
 
@@ -135,27 +81,10 @@ module _ (needle : List ℕ) (some : 0 < length needle) where
     λ rest agree k low high occurs.
         clear rest agree (length bytes + k) (omega arith) (omega (arith, high, length-append bytes more))
         (subst (λ l. OccursAt l needle (length bytes + k)) (sym (append_assoc bytes more rest))
-        (occurs_later bytes (more ++ rest) needle k occurs)),
+        (OccursAt-later bytes (more ++ rest) needle k occurs)),
     λ _. inside_open,
   )
   clear_still Behind bytes more follow clear = absurd clear
-
-  -- the bytes of the delimiter stand in front
-  front_is : (bytes needle' : List ℕ) → OccursAt bytes needle' 0 → take (length needle') bytes ≡ needle'
-  front_is [] [] o = refl
-  front_is [] (x ∷ needle') o = absurd (omega (arith, o.fits))
-  front_is (y ∷ bytes) [] o = refl
-  front_is (y ∷ bytes) (x ∷ needle') o =
-      let first : y ≡ x = o.reads 0 (omega arith) in
-      let rest : OccursAt bytes needle' 0 = record {
-        fits = omega (arith, o.fits);
-        reads = λ j h.
-            let here : 0 + j ≡ j = omega arith in
-            let later : 0 + suc j ≡ suc j = omega arith in
-            ap (λ i. get_or bytes i 0) here ∙ sym (ap (λ i. get_or (y ∷ bytes) i 0) later)
-            ∙ o.reads (suc j) (omega (arith, h));
-      } in
-      ap (λ z. z ∷ take (length needle') bytes) first ∙ ap (λ l. x ∷ l) (front_is bytes needle' rest)
 
   end_back : (rest whole : List ℕ) → EndsPart needle Inside (needle ++ rest) whole
       → (payload : List ℕ) × (whole ≡ [] ++ payload) × EndsPart needle Behind rest payload
@@ -165,7 +94,7 @@ module _ (needle : List ℕ) (some : 0 < length needle) where
     (nil_from_length rest (omega (arith, ap length c.0, length-append needle rest)), refl),
   )
   end_back rest (x ∷ whole) c =
-      absurd (c.1 0 (omega arith) (omega arith) (occurs_more needle rest needle 0 (occurs_self needle)))
+      absurd (c.1 0 (omega arith) (omega arith) (OccursAt-more needle rest needle 0 (OccursAt-self needle)))
 
   end_passes : (follow : List ℕ) → Passes (until needle) Inside needle Behind follow
   end_passes follow = record {
@@ -187,7 +116,7 @@ module _ (needle : List ℕ) (some : 0 < length needle) where
   looks_end shown here = (
     some,
     omega (arith, here.fits),
-    subst (λ l. Passes (until needle) Inside l Behind (drop (length needle) shown)) (sym (front_is shown needle here))
+    subst (λ l. Passes (until needle) Inside l Behind (drop (length needle) shown)) (sym (OccursAt-front shown needle here))
         (end_passes (drop (length needle) shown)),
     tt,
     inside_open,
@@ -199,7 +128,7 @@ module _ (needle : List ℕ) (some : 0 < length needle) where
     some = more;
     goes_on = inside_open;
     carries = λ bytes follow later few same rest agree k low high occurs.
-        let further : OccursAt ((bytes ++ rest) ++ agree.1) needle k = occurs_more (bytes ++ rest) agree.1 needle k occurs in
+        let further : OccursAt ((bytes ++ rest) ++ agree.1) needle k = OccursAt-more (bytes ++ rest) agree.1 needle k occurs in
         let equal : (bytes ++ rest) ++ agree.1 ≡ shown ++ (later ++ agree.0) =
         append_assoc bytes rest agree.1 ∙ ap (λ l. bytes ++ l) (sym agree.2) ∙ sym (append_assoc bytes follow agree.0)
         ∙ ap (λ l. l ++ agree.0) same ∙ append_assoc shown later agree.0 in
@@ -210,7 +139,7 @@ module _ (needle : List ℕ) (some : 0 < length needle) where
   pub looks_before : (shown : List ℕ) (n : ℕ) → 0 < n → Nowhere (OccursAt shown needle) 0 n → OccursAt shown needle n
       → Carries (until needle) Inside n shown
   looks_before shown n more none here = looks_payload shown n more (λ later k low high occurs.
-      none k low high (occurs_less shown later needle k (omega (arith, high, here.fits)) occurs))
+      none k low high (OccursAt-fewer shown later needle k (omega (arith, high, here.fits)) occurs))
 
   -- where it stands in more than is shown, what is shown from there on is its front
   front_of : (shown more : List ℕ) (k : ℕ) → OccursAt (shown ++ more) needle k → k ≤ length shown
@@ -221,13 +150,13 @@ module _ (needle : List ℕ) (some : 0 < length needle) where
       let whole = x ∷ shown in
       let more_than : length needle ≡ length whole + (length needle - length whole) = omega (arith, short) in (
         take (length needle - length whole) more,
-        sym (front_is (whole ++ more) needle occurs) ∙ ap (λ n. take n (whole ++ more)) more_than
+        sym (OccursAt-front (whole ++ more) needle occurs) ∙ ap (λ n. take n (whole ++ more)) more_than
             ∙ take-append-add whole more (length needle - length whole),
       )
   front_of (x ∷ shown) more (suc k) occurs within short =
       front_of shown more k
       (subst (OccursAt (shown ++ more) needle) (less k)
-      (occurs_behind (x ∷ []) (shown ++ more) needle (suc k) (omega arith) occurs))
+      (OccursAt-behind (x ∷ []) (shown ++ more) needle (suc k) (omega arith) occurs))
       (omega (arith, within)) (omega (arith, short))
     where
       less : (j : ℕ) → suc j - 1 ≡ j
@@ -241,7 +170,7 @@ module _ (needle : List ℕ) (some : 0 < length needle) where
         | inl beyond ↦
             let front = front_of shown later k occurs (omega (arith, high, begins.within)) beyond in
             begins.clear k high beyond front.0 front.1
-        | inr fits ↦ none k (occurs_less shown later needle k fits occurs)
+        | inr fits ↦ none k (OccursAt-fewer shown later needle k fits occurs)
       ])
 
   -- where it may begin at once, nothing is settled until a byte more is shown
@@ -252,7 +181,7 @@ module _ (needle : List ℕ) (some : 0 < length needle) where
     no_payload = λ byte follow same clear.
         let whole : (byte ∷ []) ++ (follow ++ rest) ≡ needle = ap (λ l. l ++ rest) (sym same) ∙ sym is in
         clear (follow ++ rest) (rest, [], sym (append-nil (follow ++ rest))) 0 (omega arith) (omega arith)
-        (subst (λ l. OccursAt l needle 0) (sym whole) (occurs_self needle));
+        (subst (λ l. OccursAt l needle 0) (sym whole) (OccursAt-self needle));
     not_wrong = λ why wrong. wrong;
     further = λ more payload c agree. omega (arith, few, ap length c.0, length-append payload needle);
   }
@@ -278,10 +207,10 @@ module _ (needle : List ℕ) (some : 0 < length needle) where
     | inl short ↦
         let here : OccursAt (b ++ ys) needle (length x) =
         subst (λ l. OccursAt l needle (length x)) same
-        (occurs_more a xs needle (length x)
-        (subst (λ l. OccursAt l needle (length x)) (sym p.0) (occurs_last x needle))) in
+        (OccursAt-more a xs needle (length x)
+        (subst (λ l. OccursAt l needle (length x)) (sym p.0) (OccursAt-last x needle))) in
         absurd (q.1 (length x) (omega arith) short
-        (occurs_less b ys needle (length x) (omega (arith, short, ap length q.0, length-append y needle)) here))
+        (OccursAt-fewer b ys needle (length x) (omega (arith, short, ap length q.0, length-append y needle)) here))
   ]
 
   only_one : (a b x y xs ys : List ℕ) → EndsPart needle Inside a x → EndsPart needle Inside b y → a ++ xs ≡ b ++ ys
