@@ -18,6 +18,8 @@ pub use Rattle.piece_reader.specs.Runs
 pub use Rattle.piece_reader.specs.RunsLaws
 pub use Rattle.piece_reader.specs.StaysLeftLaws
 pub use Rattle.piece_reader.specs.Steps
+pub use Rattle.piece_reader.specs.Terminated
+pub use Rattle.piece_reader.specs.TerminatedLaws
 pub use Rattle.piece_reader.specs.TextLaws
 pub use Rattle.piece_reader.specs.Texts
 pub use Rattle.piece_reader.specs.Trimming

@@ -53,6 +53,7 @@ impl<A: Decoder, B: Decoder> Decoder for ByFirst<A, B> {
     ghost use Rattle.codec.specs.FirstByteLaws.{either_lawful};
 
     type Wrong = EitherWrong<A::Wrong, B::Wrong>;
+
     type Note = (A::Note, B::Note);
 
     ghost grammar = { λ d. either d.byte (A.grammar d.one) (B.grammar d.other) };

@@ -37,6 +37,7 @@ impl<D: Decoder> Decoder for Ended<D> {
     ghost use Rattle.codec.specs.EndedLaws.{ended_lawful};
 
     type Wrong = Unended<D::Wrong>;
+
     type Note = D::Note;
 
     ghost grammar = { λ d. ended (D.grammar d.0) };

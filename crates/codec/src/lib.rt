@@ -32,8 +32,8 @@ pub use length_prefixed_writer::LengthPrefixedOut;
 pub use number::Number;
 pub use piece_reader::{
     ByHeader, Decoder, Delimited, End, Found, Header, HeaderError, Items, KnownReader,
-    LengthPrefixed, NextError, PayloadReader, PieceReader, Span, TooLong, Trimmed, find_end,
-    fit_buffer, piece_buffer,
+    LengthPrefixed, NextError, PayloadReader, PieceReader, Span, Terminated, TooLong, Trimmed,
+    find_end, fit_buffer, piece_buffer,
 };
 pub use scan::{ByScan, Scan, ScanNote, ScanStep};
 pub use scan_writer::ScanOut;

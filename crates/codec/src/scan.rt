@@ -78,12 +78,7 @@ impl<S: Scan> LengthPrefixed for ByScan<S> {
     }
 
     #[inline(always)]
-    fn header(
-        &self,
-        bytes: &[u8],
-        seen: usize,
-        note: &mut ScanNote<S::State>,
-    ) -> Header {
+    fn header(&self, bytes: &[u8], seen: usize, note: &mut ScanNote<S::State>) -> Header {
         scan_header(&self.0, bytes, seen, note)
     }
 

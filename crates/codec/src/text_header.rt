@@ -165,12 +165,7 @@ impl<T: TextHeader> LengthPrefixed for ByTextHeader<T> {
     }
 
     #[inline(always)]
-    fn header(
-        &self,
-        bytes: &[u8],
-        seen: usize,
-        note: &mut ScanNote<TextHeaderState>,
-    ) -> Header {
+    fn header(&self, bytes: &[u8], seen: usize, note: &mut ScanNote<TextHeaderState>) -> Header {
         scan_header(self, bytes, seen, note)
     }
 

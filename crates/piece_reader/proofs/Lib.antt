@@ -9,3 +9,4 @@ pub mod Refilling
 pub mod Saying
 pub mod Searching
 pub mod Taking
+pub mod Terminating

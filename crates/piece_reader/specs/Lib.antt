@@ -18,6 +18,8 @@ pub mod Runs
 pub mod RunsLaws
 pub mod StaysLeftLaws
 pub mod Steps
+pub mod Terminated
+pub mod TerminatedLaws
 pub mod TextLaws
 pub mod Texts
 pub mod Trimming

@@ -19,6 +19,8 @@ mod length_prefixed;
 mod length_prefixed_reader;
 mod payloads;
 mod reader;
+mod terminated;
+mod terminated_reader;
 mod trimmed;
 mod trimmed_reader;
 
@@ -33,4 +35,5 @@ pub use items::Items;
 pub use length_prefixed::LengthPrefixed;
 pub use payloads::{KnownReader, PayloadReader};
 pub use reader::PieceReader;
+pub use terminated::Terminated;
 pub use trimmed::Trimmed;

@@ -3,7 +3,7 @@ use crate::packets::Packets;
 use buffer_redux::tell::Told;
 use codec::{
     ByHeader, ByScan, ByTextHeader, Delimited, NextError, NotPlain, PieceReader, PieceWriter,
-    TooLong, Trimmed, WritePieceError,
+    Terminated, TooLong, Trimmed, WritePieceError,
 };
 use decoders::{BulkStrings, Lengths, Netstrings, Order, Width};
 use std::test::Fail;
@@ -26,6 +26,19 @@ fn write_piece_error(rt: HostRuntime) -> Result<(), Fail> {
     let refused = writer.write_piece(b"a\nb");
     assert!(rt; matches!(refused, Err(WritePieceError::Refused(NotPlain::HasEnd))));
     Ok(drop(writer))
+}
+
+#[test]
+fn terminated(rt: HostRuntime) -> Result<(), Fail> {
+    let alloc = rt.alloc();
+    let end = Vec::from_slice(alloc, b"\r\n\r\n")?;
+    let heads = Terminated { end, max: 100 };
+    let stream = Told::new(b"a\r\nb\r\n\r\nc".as_slice());
+    let mut reader = PieceReader::new(alloc, stream, heads)?;
+    assert!(rt; matches!(reader.next(), Ok(Some(b"a\r\nb"))));
+    assert!(rt; matches!(reader.next(), Ok(Some(b"c"))));
+    assert!(rt; matches!(reader.next(), Ok(None)));
+    Ok(drop(reader))
 }
 
 #[test]

@@ -1,10 +1,12 @@
-//! Pieces that a byte ends.
+//! Pieces that a byte ends, or several.
 use crate::asks::Want::{End, Next, Rest, Wrong};
 use crate::asks::Why::Long;
 use crate::asks::{Asks, Want, Why, walk};
 use buffer_redux::MakeError;
 use buffer_redux::tell::TellRead;
-use codec::{Decoder, Delimited, HeaderError, NextError, PieceReader, TooLong, Trimmed};
+use codec::{
+    Decoder, Delimited, HeaderError, NextError, PieceReader, Terminated, TooLong, Trimmed,
+};
 use redux_script::Answer;
 use std::alloc::Global;
 use std::io;
@@ -157,5 +159,49 @@ fn delimited(rt: HostRuntime) -> Result<(), Fail> {
     let trimmed = swept(alloc, Trimmed(Delimited { end: b'\n', max: 3 }), &TRIMMED)?;
     let met = (lines, empty, records, trimmed);
     assert!(rt; met == (Ok(61), Ok(7), Ok(15), Ok(46)), "{met:?}");
+    Ok(())
+}
+
+// The pieces are those of Python's `split` at `aba`, where none is too long.
+static SEVERAL: [Row<'static>; 6] = [
+    (b"", &[End, End]),
+    (
+        b"xabaababaz",
+        &[Next(b"x"), Next(b""), Next(b"baz"), End, End],
+    ),
+    (b"wxyzaba", &[Next(b"wxyz"), End]),
+    (
+        b"abxyzab",
+        &[Wrong(Long(4)), Wrong(Long(4)), Rest(b"abxyzab")],
+    ),
+    (b"abcdabx", &[Wrong(Long(4))]),
+    (b"ab", &[Next(b"ab"), End, End]),
+];
+
+// A row by the bytes `aba`.
+#[derive(Drop)]
+struct Terminates<'a>(&'a Row<'a>);
+
+impl Run for Terminates<'_> {
+    fn run(&self, alloc: Global, script: &[Answer]) -> io::Result<Option<Came>> {
+        let &(bytes, wants) = self.0;
+        let end = Vec::from_slice(alloc, b"aba")?;
+        let decoder = Terminated { end, max: 4 };
+        let reader = reader(alloc, decoder, source(alloc, bytes, script)?)?;
+        Ok(walk(reader, wants))
+    }
+}
+
+#[test]
+fn terminated(rt: HostRuntime) -> Result<(), Fail> {
+    let alloc = rt.alloc();
+    let mut met = 0usize;
+    for row in &SEVERAL {
+        match sweep(alloc, &[Terminates(row)], &[7, 3, 2, 1], FAULT)? {
+            Ok(count) => met = met.saturating_add(count),
+            Err(at) => assert!(rt; false, "{at:?}"),
+        }
+    }
+    assert!(rt; met == 99, "{met}");
     Ok(())
 }
