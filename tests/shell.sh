@@ -261,6 +261,11 @@ unpack|\0000\0002ab|i64 2 i64||ab\n|0|131 1
 unpack|\0000\0002ab|2 i65|||1|66 0
 unpack|\0000\0002ab||i65||1|1 65
 END
+    # What comes in one read goes out in one write, and there is one flush for it.
+    many=$(awk 'BEGIN { for (i = 0; i < 400; i++) printf "%s", "ab\\n" }')
+    framed=$(awk 'BEGIN { for (i = 0; i < 400; i++) printf "%s", "\\0000\\0002ab" }')
+    answers pack "$many" '' '' "$framed" 0 '2 1'
+    answers unpack "$framed" '' '' "$many" 0 '2 1'
     # The byte that makes the line too long is the last that is asked for.
     answers pack "ab\\n${most}A\\nc\\n" '1*' '' '\0000\0002ab' 4 '65539 1' "${long#frames: }"
     refuses 'pack|unpack' '' Pack packs 'pack unpack' "$no_text"

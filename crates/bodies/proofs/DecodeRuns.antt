@@ -124,7 +124,7 @@ module _ {R W : Type 0} (remaining : R → Option (List ℕ)) (limits : Limits) 
       → Ran (Err e)
   stopped count (cause.Wrong why) e (over, (held, end), sent, met) is =
       subst (λ x. Ran (Err x)) (sym is) (wrong count over held sent why end met)
-  stopped count (cause.Read fault) e (over, (held, left), sent, failed) is =
+  stopped count (cause.Read fault) e (over, (held, left), sent, again, failed) is =
       subst (λ x. Ran (Err x)) (sym is) (moved_all count over held sent, left, failed)
   stopped count (cause.Write fault) e (first, inr refused) is = absurd refused.1
   stopped count (cause.Write fault) e (first, inl failed) is = subst (λ x. Ran (Err x)) (sym is)

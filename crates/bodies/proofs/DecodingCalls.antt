@@ -22,7 +22,7 @@ use Rattle.programs.specs.FlushesLaws.{FlushesOnce-flush}
 use Rattle.programs.specs.PromptLaws.{WritesOn-grows, WritesOn-unflushed}
 use Rattle.bodies.specs.Words.{Error, WasFlushed, WritesInOrder, Buffered, std_read_rules, StreamLog, StdPolicy, BodyWent, ChunkedState, IsChunkedReader, IsWhole, LooksBehind, ReadsPayload, handed_of, taken_count, AskAnswers, Asks, FlushAnswers, Flushes, FilterRules, Gives, Passes, taken_more, RunError}
 use Rattle.bodies.specs.Decode.{IsDue}
-use Rattle.bodies.specs.Decoding.{HandsPieces, Holds, IsPieceTarget, IsReady, WritesPiece, ask_error, decoding_rules, end_answer, held_of}
+use Rattle.bodies.specs.Decoding.{HandsPieces, Holds, IsPieceTarget, IsReady, NoneBuffered, WritesPiece, ask_error, decoding_rules, end_answer, held_of}
 use Rattle.bodies.specs.Decoding as Source
 use Rattle.bodies.specs.DecodingLaws.{hands_held, hands_none, none_held}
 use Rattle.bodies.specs.FiltersLaws.{ended, fault_gives, some_of, std_fault}
@@ -49,12 +49,13 @@ module _ {R W : Type 0} (remaining : R → Option (List ℕ)) (s : Decoding R W)
   abbrev rules : FilterRules (Decoding R W) RunError
   rules = decoding_rules remaining
 
-  pub held_still : Holds remaining s s
-  held_still = record {
+  pub held_still : 0 < s.held → Holds remaining s s
+  held_still some = record {
     hands = hands_none remaining s s refl refl;
     told = refl;
     still = refl;
     kept = λ some. some;
+    none = λ none. absurd (omega (arith, some, none));
     ready = ready;
   }
 
@@ -81,12 +82,13 @@ module _ {R W : Type 0} (remaining : R → Option (List ℕ)) (s : Decoding R W)
       }
 
     pub held_on : (n : ℕ) → BodyWent remaining std_read_rules s.source (take n out) m → m.reader.log ≡ s.source.reader.log
-        → n ≤ length out → IsChunkedReader m → Holds remaining s (read m n)
-    held_on n went told bound whole = record {
+        → n ≤ length out → IsChunkedReader m → (n ≡ 0 → NoneBuffered m) → Holds remaining s (read m n)
+    held_on n went told bound whole all = record {
       hands = read_hands m n went;
       told = told;
       still = refl;
       kept = λ some. absurd (omega (arith, some, none));
+      none = all;
       ready = read_ready m n went (omega (arith, bound, len, ready.room)) whole;
     }
 
@@ -148,6 +150,10 @@ module _ {R W : Type 0} (remaining : R → Option (List ℕ)) (s : Decoding R W)
             },
             wrote.answers.1,
             inl (omega (arith, long, taken_more s.target v piece wrote.answers.0)),
+            λ room. record {
+              told = wrote.fits (omega (arith, room, long, taken_more s.target v piece wrote.answers.0));
+              capacity = wrote.capacity;
+            },
           );
         }
 
@@ -240,7 +246,7 @@ module _ {R W : Type 0} (remaining : R → Option (List ℕ)) (s : Decoding R W)
     pub asked_more : (n : ℕ) → ReadsPayload remaining std_read_rules s.source out (Ok n) m → 0 < n
         → Asks rules s (Ok true) (asked m n)
     asked_more n p some = asks_so m n (omega (arith, p.answers.0, len, ready.room)) p.went p.whole (over (Ok n) p)
-        (omega (arith, ends (Ok n) p)) (Ok true) (some, p.answers.1, inl (read_gives n p))
+        (omega (arith, ends (Ok n) p)) (Ok true) (some, p.answers.1, inl (read_gives n p), λ finds. absurd (finds tt))
 
     -- the ask for a piece failed
     pub asked_failed : (e : ChunkedError) → ReadsPayload remaining std_read_rules s.source out (Err e) m

@@ -150,7 +150,7 @@ module _ {R W : Type 0} (remaining : R → Option (List ℕ)) (trace : W → W �
 
   pub stopped : (count : ℕ) (why : Cause RunError) (e : RunError) → StopsBy rules count begin why t → IsErrorOf why e → Ran e
   stopped count (cause.Wrong why) e (over, wrong, sent, met) is = absurd wrong
-  stopped count (cause.Read fault) e (over, left, sent, failed) is = subst Ran (sym is) (
+  stopped count (cause.Read fault) e (over, left, sent, again, failed) is = subst Ran (sym is) (
     moved_all count over [] t.target.writer still left sent,
     not_ended over.payloads [] (none_lost count over) [] t.target.writer still refl,
     failed,

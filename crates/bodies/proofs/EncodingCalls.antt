@@ -1,5 +1,5 @@
 -- What a chunk, and the end of a body, do to the writer; and what the calls of a filter of chunks do.
-use Rattle.std.proofs.Common.{MatchResult, ◌⊎◌, ◌≡◌, ℕ, ◌+◌, ◌<◌, ◌≤◌, inl, inr, List, [], length, take, Result, Ok, Err, refl, subst, sym, ap, ◌∙◌, arith, length-append, zero, suc, ◌==◌, not, Bool, ◌∷◌, ◌++◌, true, false, Option, append-nil}
+use Rattle.std.proofs.Common.{MatchResult, ◌⊎◌, ◌≡◌, ℕ, ◌+◌, ◌-◌, ◌<◌, ◌≤◌, inl, inr, List, [], length, length-take-le, take, Result, Ok, Err, refl, subst, sym, ap, ◌∙◌, arith, length-append, zero, suc, ◌==◌, not, Bool, ◌∷◌, ◌++◌, true, false, Option, append-nil}
 use Rattle.std.proofs.lemmas.Bool.{cases_lt}
 use Rattle.buffer_redux.specs.BufWriter.{WasSent}
 use Rattle.buffer_redux.specs.EmptyReads.{none_before_fault, none_where_shown, ReadsWhenEmpty-std}
@@ -13,7 +13,7 @@ use Rattle.forward.specs.declared.error.AskError.{AskError}
 use Rattle.programs.specs.FlushesLaws.{flushed_once, FlushesOnce-flush}
 use Rattle.programs.specs.PromptLaws.{WritesOn-grows, WritesOn-joins, WritesOn-unflushed}
 use Rattle.programs.specs.StreamsLaws.{MetInterrupts-none}
-use Rattle.bodies.specs.Words.{around, AskAnswers, Asks, body_end, Buffered, chunk, ChunkedWriterState, ChunksWent, Error, Fills, FilterRules, FlushAnswers, Flushes, IsChunkedWriter, line_end, MetInterrupts, MetInterrupts-joins, Passes, PutsIn, ReadsAlong, room, RunError, SendErrorCaused-after, SendsFirst, size_digits, std_read_rules, StdPolicy, StreamLog, taken_more, WasFlushed, WritesChunk, WritesInOrder, AllSent, SendErrorCaused}
+use Rattle.bodies.specs.Words.{around, AskAnswers, Asks, body_end, Buffered, chunk, ChunkedWriterState, ChunksWent, Error, Fills, FilterRules, FlushAnswers, Flushes, IsChunkedWriter, IsStill, line_end, MetInterrupts, MetInterrupts-joins, Passes, PutsIn, ReadsAlong, room, RunError, SendErrorCaused-after, SendsFirst, size_digits, std_read_rules, StdPolicy, StreamLog, taken_more, WasFlushed, WritesChunk, WritesInOrder, AllSent, SendErrorCaused}
 use Rattle.bodies.specs.Encode.{EndsBody}
 use Rattle.bodies.specs.Encoding.{encoding_rules, IsReady}
 use Rattle.bodies.specs.Filters.{Asked}
@@ -71,6 +71,27 @@ module _ {W : Type 0} (tells : W → StreamLog) (trace : W → W → Type 0) whe
     chunk_not_sent e p = elim (cases_lt (room b.writer) (around + length payload)) [
       | inl none ↦ p.full some none
       | inr there ↦ absurd (let odd = (p.fits some there).0 in cc)
+    ]
+
+    -- one for which there is room is copied in
+    pub chunk_still : (n : ℕ) → WritesChunk tells trace b payload (Ok n) c → length (chunk (take n payload)) ≤ room b.writer - around
+        → IsStill b.writer c.writer
+    chunk_still n p fits = elim (cases_lt (room b.writer) (around + length payload)) [
+      | inl none ↦ absurd (omega (
+        arith,
+        fits,
+        none,
+        some,
+        (p.full some none).0,
+        length-take-le n payload (omega (arith, (p.full some none).0)),
+        length-append (size_digits (length (take n payload))) (line_end (take n payload ++ line_end [])),
+        length-append (take n payload) (line_end []),
+      ))
+      | inr there ↦
+          let puts = (p.fits some there).1 in record {
+            told = PutsIn-told b.writer c.writer (chunk payload) puts;
+            capacity = puts.capacity;
+          }
     ]
 
   -- the end of a body, and a flush
@@ -166,6 +187,12 @@ module _ {R W : Type 0} (remaining : R → Option (List ℕ)) (tells : W → Str
               length-append (chunk payload) [],
               length-append (size_digits (length payload)) (line_end (payload ++ line_end [])),
             )),
+            λ room. chunk_still tells trace s.target c s.source.block.bytes some (suc n) p (omega (
+              arith,
+              room,
+              taken_more s.target.writer c.writer _ order,
+              length-append (chunk payload) [],
+            )),
           );
         }
 
@@ -221,7 +248,7 @@ module _ {R W : Type 0} (remaining : R → Option (List ℕ)) (tells : W → Str
         let order = fills.in_order in
         let asked = fill_asked s.source t (Ok a) fills in
         let quiet = none_where_shown std_read_rules ReadsWhenEmpty-std s.source t a fills.filled some in
-        empty_asked asked (λ same. omega (
+        let told : ¬ (t.log ≡ s.source.log) = λ same. omega (
           arith,
           some,
           ap length lacks,
@@ -230,7 +257,8 @@ module _ {R W : Type 0} (remaining : R → Option (List ℕ)) (tells : W → Str
           length-append s.source.log.reads.given order.got,
           length-append s.source.block.bytes order.got,
           ap (λ l. length l.reads.given) same,
-        )) (omega (arith, quiet)) (Ok true) (
+        ) in
+        empty_asked asked told (omega (arith, quiet)) (Ok true) (
           some,
           fills.caused,
           inl (record {
@@ -241,6 +269,7 @@ module _ {R W : Type 0} (remaining : R → Option (List ℕ)) (tells : W → Str
               ap length fills.caused,
             );
           }),
+          λ none. told,
         )
 
     -- a read failed

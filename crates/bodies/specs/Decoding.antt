@@ -1,13 +1,14 @@
 -- A filter that hands out the payload of a body.
-use Rattle.std.specs.Prelude.{◌≡◌, ℕ, ◌<◌, ◌≤◌, List, [], ◌++◌, length, take, Bool, true, false, Result, Ok, Err, MatchResult, Option}
+use Rattle.std.specs.Prelude.{◌≡◌, ℕ, ◌+◌, ◌-◌, ◌<◌, ◌≤◌, ◌⊎◌, List, [], ◌++◌, length, take, Bool, true, false, Result, Ok, Err, MatchResult, Option}
 use Rattle.std.specs.List.{All}
 use Rattle.buffer_redux.specs.Block.{Plain}
 use Rattle.chunked.specs.declared.error.ChunkedError.{ChunkedError}
 use Rattle.chunked.specs.declared.error.ChunkedError.TheVariants as chunked
+use Rattle.chunked.specs.declared.error.Malformed.{Malformed}
 use Rattle.forward.specs.declared.error.AskError.{AskError}
 use Rattle.forward.specs.declared.error.AskError.TheVariants.{Wrong}
 use Rattle.forward.specs.declared.error.AskError.TheVariants as ask
-use Rattle.bodies.specs.Words.{Error, RanDry, WritesInOrder, Buffered, MetInterrupts, SendErrorCaused, std_read_rules, StdPolicy, IsBody, BodyWent, Breaks, ChunkedState, IsChunkedReader, IsWhole, LooksBehind, handed_of, taken_count, FilterRules, AllSent, taken_in, RunError}
+use Rattle.bodies.specs.Words.{Error, RanDry, WritesInOrder, Buffered, MetInterrupts, SendErrorCaused, std_read_rules, StdPolicy, IsBody, BodyWent, Breaks, ChunkedState, IsChunkedReader, IsWhole, LooksBehind, handed_of, taken_count, FilterRules, AllSent, IsStill, taken_in, RunError}
 use Rattle.bodies.specs.Decode.{IsDue}
 use Rattle.bodies.specs.Filters.{Asked, joined}
 use Rattle.bodies.specs.declared.decoding.Decoding.{Decoding}
@@ -42,21 +43,28 @@ pub record HandsPieces {R W : Type 0} (remaining : R → Option (List ℕ)) (s :
   pub order : held_of s ++ payload ≡ joined pieces ++ held_of t
   pub some : All (λ piece. 0 < length piece) pieces
 
+-- no payload can be handed out of what is buffered: the body ended, or there is none, or the next byte is wrong
+abbrev pub NoneBuffered : {R : Type 0} → ChunkedState R StdPolicy → Type 0
+NoneBuffered d = IsWhole d ⊎ ((d.reader.block.bytes ≡ []) ⊎ ((why : Malformed) × Breaks why d))
+
 -- where none was held, a piece of what is buffered is, or there is none; and the reader inside wasn't asked
 pub record Holds {R W : Type 0} (remaining : R → Option (List ℕ)) (s t : Decoding R W) : Type 0 where
   pub hands : HandsPieces remaining s [] t
   pub told : t.source.reader.log ≡ s.source.reader.log
   pub still : t.target ≡ s.target
   pub kept : 0 < s.held → 0 < t.held
+  pub none : t.held ≡ 0 → NoneBuffered t.source
   pub ready : IsReady t
 
--- the piece was taken in, or nothing of it, and nothing was flushed
+-- the piece was taken in, or nothing of it, and nothing was flushed. Where it fits behind what is buffered no call is made
 pub record WritesPiece {W : Type 0} (u : Buffered W StdPolicy) (piece : List ℕ) (answer : Result (Unit {0}) Error)
     (v : Buffered W StdPolicy) : Type 0 where
   pub answers : MatchResult answer (λ _. WritesInOrder u piece v × MetInterrupts u.log.writes v.log.writes)
       (λ e. WritesInOrder u [] v × SendErrorCaused u.log.writes v.log.writes e)
   pub not_flushed : v.log.writes.flushed ≡ u.log.writes.flushed
   pub flushes : v.log.writes.flushes ≡ u.log.writes.flushes
+  pub fits : length u.block.bytes + length piece ≤ u.block.capacity → v.log ≡ u.log
+  pub capacity : v.block.capacity ≡ u.block.capacity
   pub target : IsPieceTarget v
 
 -- what an ask answers where no payload came, and where the body ended, by whether the stream did
@@ -94,22 +102,24 @@ decoding_rules remaining = record {
   hands = HandsPieces remaining;
   takes = λ s pieces t. WritesInOrder s.target (joined pieces) t.target;
   has = λ s. 0 < s.held;
-  lacks = λ s. s.held ≡ 0;
+  lacks = λ s. (s.held ≡ 0) × NoneBuffered s.source;
   waits = λ s. (s.held ≡ 0) × (s.source.reader.block.bytes ≡ []);
+  -- no clause of a read of payload says that it asks where none is buffered
+  finds = λ s. Unit {0};
   sent = λ s. AllSent s.target;
   taken = λ s. taken_in s.target;
+  still = λ s t. IsStill s.target t.target;
+  room = λ s. s.target.block.capacity - length s.target.block.bytes;
   asks = λ s t. Asks s.source t.source;
   wants = λ s. 0;
   ends = λ s how t. (t.held ≡ 0) × PiecesEnd s.source how t.source;
   closed = λ s. ⊥;
   fresh = λ s. record {
-    taken : s.source.taken ≡ [];
-    handed : handed_of s.source ≡ [];
     buffered : s.source.reader.block.bytes ≡ [];
     target : s.target.block.bytes ≡ [];
     held : s.held ≡ 0;
   };
-  due = λ s. IsDue s.source.limits;
+  due = λ s bytes due. IsDue s.source.limits (s.source.taken ++ bytes) (handed_of s.source ++ due);
   drops = ⊥;
   refused = λ e t. ⊥;
 }

@@ -75,21 +75,21 @@ module _ {R W : Type 0} (remaining : R → Option (List ℕ)) where
       let went = moves.hands.went in
       let m = s.source in
       let due : List ℕ → Type 0 = λ bytes. IsDue m.limits (m.taken ++ bytes) (handed_of m) in
-      let payload : handed_of m ≡ joined p =
-      went.handed ∙ ap (λ l. l ++ moves.hands.payload) fresh.handed
-      ∙ handed_joined first s p moves.hands fresh.held lacks in
+      let before = first.source.taken in
+      let payload : handed_of m ≡ handed_of first.source ++ joined p =
+      went.handed ∙ ap (λ l. handed_of first.source ++ l) (handed_joined first s p moves.hands fresh.held lacks) in
       elim (asked_after due m.reader t.source.reader asks first.source.reader went.wire fresh.buffered went.along.in_order
       gives.give) [
         | inl same ↦ inl same
         | inr (bytes, is_due, last) ↦ inr (record {
           before = went.wire ++ bytes;
           asked = last;
-          due = handed_of m;
-          is_due = subst (λ l. IsDue first.source.limits (l ++ bytes) (handed_of m))
-              (went.taken ∙ ap (λ l. l ++ went.wire) fresh.taken)
-              (subst (λ l. IsDue l (m.taken ++ bytes) (handed_of m)) went.limits is_due);
-          sent = subst (λ l. WasSent (first.target.log.writes.received ++ l) s.target.log.writes) (sym payload)
-              (sent_all first.target s.target (joined p) moves.takes fresh.target sent);
+          due = joined p;
+          is_due = subst (λ l. IsDue first.source.limits l (handed_of first.source ++ joined p))
+              (ap (λ l. l ++ bytes) went.taken ∙ append_assoc before went.wire bytes)
+              (subst (IsDue first.source.limits (m.taken ++ bytes)) payload
+              (subst (λ l. IsDue l (m.taken ++ bytes) (handed_of m)) went.limits is_due));
+          sent = sent_all first.target s.target (joined p) moves.takes fresh.target sent;
         })
       ]
 
@@ -100,8 +100,10 @@ module _ {R W : Type 0} (remaining : R → Option (List ℕ)) where
     takes_none = λ s. WritesInOrder-none s.target;
     takes_joins = takes_joins;
     ends_after = λ a b c p how hands still end. (end.0, ends_after a b c how (still_open a b still) end.1);
-    waits_lacks = λ s waits. waits.0;
+    waits_lacks = λ s waits. (waits.0, inr (inl waits.1));
+    waits_fresh = λ s waits sent. record { buffered = waits.1; target = sent.empty; held = waits.0 };
     received_taken = λ s. omega arith;
     taken_on = λ s t p taken. omega (arith, taken_more s.target t.target (joined p) taken);
-    asks_sent = λ first s t p fresh moves still. asks_sent first s t p fresh moves (still_open first s still);
+    asks_sent = λ first s t p fresh moves still lacks.
+        asks_sent first s t p fresh moves (still_open first s still) lacks.0;
   }

@@ -1,6 +1,6 @@
 -- A filter that makes what is given chunks.
-use Rattle.std.specs.Prelude.{◌≡◌, ℕ, ◌+◌, ◌<◌, List, [], length, MatchResult, Option}
-use Rattle.bodies.specs.Words.{ReadsAlong, std_read_rules, ChunksWent, IsChunkedWriter, FilterRules, AllSent, taken_in, RunError}
+use Rattle.std.specs.Prelude.{◌≡◌, ℕ, ◌+◌, ◌-◌, ◌<◌, List, [], length, MatchResult, Option}
+use Rattle.bodies.specs.Words.{ReadsAlong, std_read_rules, ChunksWent, IsChunkedWriter, FilterRules, AllSent, IsStill, around, room, taken_in, RunError}
 use Rattle.bodies.specs.Encode.{IsDue}
 use Rattle.bodies.specs.Filters.{Asked, joined}
 use Rattle.bodies.specs.declared.encoding.Encoding.{Encoding}
@@ -21,8 +21,11 @@ encoding_rules remaining trace = record {
   has = λ s. 0 < length s.source.block.bytes;
   lacks = λ s. s.source.block.bytes ≡ [];
   waits = λ s. s.source.block.bytes ≡ [];
+  finds = λ s. ⊥;
   sent = λ s. AllSent s.target.writer;
   taken = λ s. taken_in s.target.writer;
+  still = λ s t. IsStill s.target.writer t.target.writer;
+  room = λ s. room s.target.writer - around;
   asks = λ s t. Asked (λ bytes. bytes ≡ []) s.source t.source × (s.source.log.reads.asks < t.source.log.reads.asks);
   wants = λ s. 0;
   ends = λ s how t. MatchResult how

@@ -52,6 +52,7 @@ module _ {R W : Type 0} (remaining : R → Option (List ℕ)) (trace : W → W �
     takes_joins = λ a b c p q. ChunksWent-joins trace none joins a.target b.target c.target p q;
     ends_after = λ a b c p how hands still end. ends_after a b c how still end;
     waits_lacks = λ s waits. waits;
+    waits_fresh = λ s waits sent. (waits, sent.empty);
     received_taken = λ s. omega arith;
     taken_on = λ s t p taken. omega (arith, taken_more s.target.writer t.target.writer (flat_map chunk p) taken.in_order);
     asks_sent = λ first s t p fresh moves still lacks sent asked. asks_sent first s t p fresh moves still sent asked.0;

@@ -16,5 +16,5 @@ pub use Rattle.chunked.specs.declared.limits.Limits.{Limits}
 pub use Rattle.forward.specs.Filter.{AskAnswers, Asks, AsksSent, FilterRules, FlushAnswers, Flushes, Gives, IsLawful, Moves, Passes, StaysOpen}
 pub use Rattle.programs.specs.Prompt.{AskedLast, AsksGive, HoldsNothingBack, WritesOn}
 pub use Rattle.programs.specs.Streams.{AllFlushed, AllSent, BufferRefused, EndsOnce, GaveNothing, MetNoFault, OverCount, ReadFailed, SendFailed}
-pub use Rattle.programs.specs.TakenIn.{sent_all, taken_in, taken_more}
+pub use Rattle.programs.specs.TakenIn.{IsStill, IsStill-same, sent_all, taken_in, taken_more}
 pub use Rattle.std.specs.declared.io.Error.{Error}

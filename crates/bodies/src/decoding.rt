@@ -2,7 +2,7 @@
 ghost use Rattle.std.specs.Prelude.{◌≡◌, ◌≤◌, length, take};
 ghost use Rattle.buffer_redux.specs.Policy.{std_read_rules};
 ghost use Rattle.chunked.specs.ChunkedReader.{BodyWent, IsChunkedReader};
-ghost use Rattle.bodies.specs.Decoding.{Holds, IsPieceTarget, IsReady, LooksOn, WritesPiece, ask_error, decoding_rules};
+ghost use Rattle.bodies.specs.Decoding.{Holds, IsPieceTarget, IsReady, LooksOn, NoneBuffered, WritesPiece, ask_error, decoding_rules};
 ghost use Rattle.bodies.specs.DecodingLaws.{decoding_lawful};
 
 use crate::error::RunError;
@@ -83,6 +83,7 @@ fn read_held<R: TellRead>(source: &mut ChunkedReader<R>, piece: &mut [u8]) -> us
     ensures went { BodyWent R.remaining std_read_rules source.old (take result piece.new) source.new }
     ensures told { source.new.reader.log ≡ source.old.reader.log }
     ensures bound { result ≤ length piece.new }
+    ensures all { result ≡ 0 → NoneBuffered source.new }
     ensures whole { IsChunkedReader source.new }
 {
     source.read_buffered(&mut piece[..HELD])

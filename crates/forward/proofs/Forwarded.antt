@@ -6,13 +6,13 @@ use Rattle.forward.specs.Filter.{AsksOnce, FilterRules, IsLawful}
 use Rattle.forward.specs.Flushes.{FlushesSend}
 use Rattle.forward.specs.Forward.{Forwards, flushed_last}
 use Rattle.forward.specs.Link.{Ask, Goes, IsPrompt, Linked}
-use Rattle.forward.specs.Steps.{AskedFrom, ForwardsNext, NextAnswers}
+use Rattle.forward.specs.Steps.{AlsoAsked, AskedFrom, AskedTo, ForwardsNext, NextAnswers}
 use Rattle.forward.specs.StreamsLaws.{MetNoFault-none}
 use Rattle.forward.specs.declared.error.Cause.{Cause}
 use Rattle.forward.specs.declared.error.Cause.TheVariants.{Count}
 use Rattle.forward.proofs.Between.{Paced, SoFar}
 use Rattle.forward.proofs.Forwarding.{answers_on, goes_on, none_forwarded, once_on}
-use Rattle.forward.proofs.Moving.{AsksOnce-none, Goes-none, Moves-none, Moves-on, StaysOpen-joins, StaysOpen-none}
+use Rattle.forward.proofs.Moving.{AsksOnce-none, Goes-none, Goes-weaker, Moves-none, Moves-on, StaysOpen-joins, StaysOpen-none}
 
 module _ {T W : Type 0} (rules : FilterRules T W) (lawful : IsLawful rules) where
   module _ (first : Linked T) (fresh : rules.fresh first.filter) where
@@ -21,7 +21,7 @@ module _ {T W : Type 0} (rules : FilterRules T W) (lawful : IsLawful rules) wher
 
     pub so_far_none : rules.ready first.filter → SoFar rules Prompt 0 first first
     so_far_none ready = record {
-      goes = Goes-none rules Prompt first;
+      goes = Goes-none rules (AlsoAsked rules Prompt) first;
       once = AsksOnce-none rules first.filter first.filter refl (λ closed. closed);
       still = StaysOpen-none rules first.filter first.filter refl;
       forwarded = none_forwarded rules lawful first.filter first.filter (Moves-none rules lawful first.filter);
@@ -87,7 +87,7 @@ module _ {T W : Type 0} (rules : FilterRules T W) (lawful : IsLawful rules) wher
           asked.asks
 
       module _ (answer : Result Bool (Cause W)) (next : ForwardsNext rules s answer t) where
-        all_goes : Goes rules Prompt (option_map_or flushed_last (result_err answer) 0) first t
+        all_goes : Goes rules (AskedTo rules answer Prompt) (option_map_or flushed_last (result_err answer) 0) first t
         all_goes = goes_on rules lawful Prompt count first s t before prompt_of answer next
 
         all_once : AsksOnce rules first.filter t.filter
@@ -131,7 +131,7 @@ module _ {T W : Type 0} (rules : FilterRules T W) (lawful : IsLawful rules) wher
         → (most : ℕ) → count ≡ most → 2 ^ 64 ≤ most + 1
         → Forwards rules first (Err (record { count = most; cause = Count })) s
     counted_all count s before paced most is large = record {
-      goes = before.goes;
+      goes = Goes-weaker rules (AlsoAsked rules Prompt) Prompt (λ ask is. is.0) 0 first s before.goes;
       once = before.once.once;
       flushes = paced.send;
       ready = before.ready;

@@ -4,11 +4,11 @@ use Rattle.std.specs.Option.{option_map_or}
 use Rattle.std.specs.Result.{result_err}
 use Rattle.std.specs.declared.io.Error.{Error}
 use Rattle.redux_buffer.specs.Faults.{MetInterrupts, OnlyInterrupts, OnlyInterrupts-joins, OnlyInterrupts-same}
-use Rattle.forward.specs.Filter.{AsksOnce, FilterRules, FlushesOnce, IsLawful, Moves, StaysOpen, Wrote}
+use Rattle.forward.specs.Filter.{AsksOnce, FilterRules, FlushesOnce, IsLawful, Moves, StaysOpen, WasAsked, Wrote}
 use Rattle.forward.specs.Forward.{Forwarded, ForwardedFirst, NoneFailed, flushed_last}
 use Rattle.forward.specs.Link.{Ask, Goes, LinkFlushes, LinkPasses, Linked, NotAsked}
 use Rattle.forward.specs.Prompt.{WritesOn}
-use Rattle.forward.specs.Steps.{AskedFrom, ForwardsNext, GivesUp, GoesAhead, IsQuiet, NextAnswers, OnTrue, OnlyInterrupted, TakesTurn}
+use Rattle.forward.specs.Steps.{AlsoAsked, AskedFrom, AskedTo, ForwardsNext, GivesUp, GoesAhead, IsQuiet, NextAnswers, OnTrue, OnlyInterrupted, TakesTurn}
 use Rattle.forward.specs.Streams.{ReadGaveUp}
 use Rattle.forward.specs.StreamsLaws.{MetNoFault-joins, ReadFailed-after, SendFailed-after}
 use Rattle.forward.specs.declared.error.AskError.{AskError}
@@ -33,6 +33,19 @@ module _ {T W : Type 0} (rules : FilterRules T W) where
     ap length writes.received.equal,
     length-append (rules.written s).writes.received writes.received.more,
   )
+
+  -- asks that came to an answer are such others
+  so_asked : {E : Type 0} (Such Other : Ask T → Type 0) → ((ask : Ask T) → Such ask → Other ask) → (answer : Result Bool E)
+      (ask : Ask T) → AskedTo rules answer Such ask → AskedTo rules answer Other ask
+  so_asked Such Other so (Ok true) ask is = (so ask is.0, is.1)
+  so_asked Such Other so (Ok false) ask is = so ask is
+  so_asked Such Other so (Err e) ask is = so ask is
+
+  also_asked : {E : Type 0} (Such : Ask T → Type 0) (answer : Result Bool E) (ask : Ask T) → AlsoAsked rules Such ask
+      → AskedTo rules answer Such ask × WasAsked rules ask.before ask.after
+  also_asked Such (Ok true) ask is = (is, is.1)
+  also_asked Such (Ok false) ask is = is
+  also_asked Such (Err e) ask is = is
 
   met_writes : (s t : T) → rules.read t ≡ rules.read s → Wrote rules s t → NoneFailed rules s t
   met_writes s t told met = record {
@@ -104,8 +117,9 @@ module _ {T W : Type 0} (rules : FilterRules T W) where
         forwarded_on first.filter s.filter t.filter count before.forwarded next.0,
         next.1,
         next.2,
+        next.3,
         ReadFailed-after e (rules.read first.filter) (rules.read s.filter) (rules.read t.filter) (rules.written first.filter)
-            (rules.written s.filter) (rules.written t.filter) before.met next.3,
+            (rules.written s.filter) (rules.written t.filter) before.met next.4,
       )
       behind (Err (Write e)) once next = (
         first_joins first.filter s.filter t.filter count before.forwarded next.0,
@@ -122,10 +136,12 @@ module _ {T W : Type 0} (rules : FilterRules T W) where
       behind (Err Count) once next = absurd (omega (arith, next.1))
 
       module _ (answer : Result Bool (Cause W)) (next : ForwardsNext rules s answer t) where
-        pub goes_on : Goes rules Such (option_map_or flushed_last (result_err answer) 0) first t
-        goes_on = Goes-joins rules Such (option_map_or flushed_last (result_err answer) 0) first s t before.goes
-            (Goes-weaker rules (AskedFrom rules s.filter) Such so (option_map_or flushed_last (result_err answer) 0) s t
-            next.goes)
+        pub goes_on : Goes rules (AskedTo rules answer Such) (option_map_or flushed_last (result_err answer) 0) first t
+        goes_on =
+            let more = option_map_or flushed_last (result_err answer) 0 in
+            Goes-joins rules (AskedTo rules answer Such) (AlsoAsked rules Such) (also_asked Such answer) more first s t before.goes
+            (Goes-weaker rules (AskedTo rules answer (AskedFrom rules s.filter)) (AskedTo rules answer Such)
+            (so_asked (AskedFrom rules s.filter) Such so answer) more s t next.goes)
 
         pub once_on : AsksOnce rules first.filter t.filter
         once_on = AsksOnce-joins rules first.filter s.filter t.filter before.once before.still next.once
@@ -175,7 +191,7 @@ module _ {T W : Type 0} (rules : FilterRules T W) where
 
       pub passed : LinkPasses rules s (Ok true) m → ForwardsNext rules s (Ok true) m
       passed p = record {
-        goes = unasked (AskedFrom rules s.filter) 0 (Ok true) p;
+        goes = unasked (AlsoAsked rules (AskedFrom rules s.filter)) 0 (Ok true) p;
         once = unasked_once (Ok true) p;
         flushes = inl p.passes.flushes;
         quiet = λ drops sent. p.passes.flushes;
@@ -209,7 +225,7 @@ module _ {T W : Type 0} (rules : FilterRules T W) where
 
       none_passed : (Such : Ask T → Type 0) → LinkPasses rules s (Ok false) m → SoFar rules Such 0 s m
       none_passed Such p = record {
-        goes = unasked Such 0 (Ok false) p;
+        goes = unasked (AlsoAsked rules Such) 0 (Ok false) p;
         once = unasked_once (Ok false) p;
         still = StaysOpen-none rules s.filter m.filter p.passes.told;
         forwarded = none_forwarded s.filter m.filter p.passes.answers.0;
@@ -268,12 +284,15 @@ module _ {T W : Type 0} (rules : FilterRules T W) where
       moves : Moves rules s.filter [] [] t.filter
       moves = Moves-on rules lawful s.filter m.filter t.filter [] [] p.flushes.moves turn.moves
 
-      goes : (more : ℕ) → Goes rules (AskedFrom rules s.filter) more s t
-      goes more = Goes-weaker rules (AskedFrom rules m.filter) (AskedFrom rules s.filter)
+      goes : (more : ℕ) → Goes rules (AskedTo rules answer (AskedFrom rules s.filter)) more s t
+      goes more = Goes-weaker rules (AskedTo rules answer (AskedFrom rules m.filter))
+          (AskedTo rules answer (AskedFrom rules s.filter))
+          (so_asked (AskedFrom rules m.filter) (AskedFrom rules s.filter)
           (asked_after s.filter m.filter p.flushes.moves (flush_once s m (Ok tt) p)
-          (StaysOpen-none rules s.filter m.filter p.flushes.told)) more s t
-          (Goes-turn rules (AskedFrom rules m.filter) more s m t (flush_unasked s m (Ok tt) p) p.noted
-          (once_more s.filter m.filter p.flushes.flushes) turn.told turn.asks turn.noted turn.along turn.turn turn.each)
+          (StaysOpen-none rules s.filter m.filter p.flushes.told)) answer) more s t
+          (Goes-turn rules (AskedTo rules answer (AskedFrom rules m.filter)) more s m t (flush_unasked s m (Ok tt) p) p.noted
+          (once_more s.filter m.filter p.flushes.flushes) turn.told turn.asks turn.noted turn.along turn.turn turn.each
+          turn.asked)
 
       once : AsksOnce rules s.filter t.filter
       once = AsksOnce-joins rules s.filter m.filter t.filter (flush_once s m (Ok tt) p)
@@ -304,10 +323,14 @@ module _ {T W : Type 0} (rules : FilterRules T W) where
           → (rules.written t.filter).writes.flushes ≡ (rules.written s.filter).writes.flushes
       quiet drops sent = ap (λ l. l.writes.flushes) turn.told ∙ p.flushes.quiet drops sent
 
-      ended : (next : Result Bool (Cause W)) → OnTrue rules next (GoesAhead rules s.filter t.filter)
+      ended : (next : Result Bool (Cause W))
+          → ((ask : Ask T) → AskedTo rules answer (AskedFrom rules s.filter) ask
+          → AskedTo rules next (AskedFrom rules s.filter) ask) → OnTrue rules next (GoesAhead rules s.filter t.filter)
           → NextAnswers rules 0 s.filter next t.filter → ForwardsNext rules s next t
-      ended next more answers = record {
-        goes = goes (option_map_or flushed_last (result_err next) 0);
+      ended next so more answers = record {
+        goes = Goes-weaker rules (AskedTo rules answer (AskedFrom rules s.filter))
+            (AskedTo rules next (AskedFrom rules s.filter)) so (option_map_or flushed_last (result_err next) 0) s t
+            (goes (option_map_or flushed_last (result_err next) 0));
         once = once;
         flushes = flushes;
         quiet = quiet;
@@ -319,7 +342,7 @@ module _ {T W : Type 0} (rules : FilterRules T W) where
 
     module _ (s m t : Linked T) (p : LinkFlushes rules s (Ok tt) m) where
       pub no_more : TakesTurn rules m (Ok false) t → ForwardsNext rules s (Ok false) t
-      no_more turn = ended s m t p (Ok false) turn (Ok false) tt (
+      no_more turn = ended s m t p (Ok false) turn (Ok false) (λ ask is. is) tt (
         none_forwarded s.filter t.filter (moves s m t p (Ok false) turn),
         lawful.ends_after s.filter m.filter t.filter [] (Ok tt) p.flushes.moves.hands
             (StaysOpen-none rules s.filter m.filter p.flushes.told) turn.answers.0,
@@ -328,7 +351,7 @@ module _ {T W : Type 0} (rules : FilterRules T W) where
       )
 
       pub wrong_next : (why : W) → TakesTurn rules m (Err (asked.Wrong why)) t → ForwardsNext rules s (Err (Wrong why)) t
-      wrong_next why turn = ended s m t p (Err (asked.Wrong why)) turn (Err (Wrong why)) tt (
+      wrong_next why turn = ended s m t p (Err (asked.Wrong why)) turn (Err (Wrong why)) (λ ask is. is) tt (
         none_forwarded s.filter t.filter (moves s m t p (Err (asked.Wrong why)) turn),
         lawful.ends_after s.filter m.filter t.filter [] (Err why) p.flushes.moves.hands
             (StaysOpen-none rules s.filter m.filter p.flushes.told) turn.answers.0,
@@ -336,23 +359,24 @@ module _ {T W : Type 0} (rules : FilterRules T W) where
         met s m t p (Err (asked.Wrong why)) turn turn.answers.1,
       )
 
-      not_read : (answer : Result Bool (AskError W)) (e : Error) → TakesTurn rules m answer t
-          → GivesUp rules m.filter e t.filter → ForwardsNext rules s (Err (Read e)) t
-      not_read answer e turn up = ended s m t p answer turn (Err (Read e)) tt (
-        none_forwarded s.filter t.filter (moves s m t p answer turn),
+      not_read : (why : AskError W) (e : Error) → TakesTurn rules m (Err why) t → GivesUp rules m.filter e t.filter
+          → ForwardsNext rules s (Err (Read e)) t
+      not_read why e turn up = ended s m t p (Err why) turn (Err (Read e)) (λ ask is. is) tt (
+        none_forwarded s.filter t.filter (moves s m t p (Err why) turn),
         up.0,
         turn.sent,
+        lawful.waits_fresh t.filter up.0 turn.sent,
         record {
           reader = subst (λ l. ReadGaveUp e l.reads.faults (rules.read t.filter).reads.faults) p.flushes.told up.1;
-          writer = wrote s m t p answer turn;
+          writer = wrote s m t p (Err why) turn;
         },
       )
 
       pub none_read : (e : Error) → TakesTurn rules m (Err (asked.Io e)) t → ForwardsNext rules s (Err (Read e)) t
-      none_read e turn = not_read (Err (asked.Io e)) e turn turn.answers
+      none_read e turn = not_read (asked.Io e) e turn turn.answers
 
       pub some_read : (e : Error) → TakesTurn rules m (Err (asked.IoBehind e)) t → ForwardsNext rules s (Err (Read e)) t
-      some_read e turn = not_read (Err (asked.IoBehind e)) e turn turn.answers
+      some_read e turn = not_read (asked.IoBehind e) e turn turn.answers
 
       -- a payload came, and is moved
       module _ (turn : TakesTurn rules m (Ok true) t) where

@@ -1,9 +1,9 @@
 -- How calls of a filter, and of a link, follow one another.
 use Rattle.std.proofs.Common.{◌≡◌, ℕ, ◌+◌, ◌≤◌, inl, inr, List, [], ◌∷◌, ◌++◌, refl, sym, ap, subst, ◌∙◌, arith, append-nil, append_assoc, length-append, All, flat_map}
 use Rattle.std.proofs.lemmas.Grind.{flat_map-append}
-use Rattle.std.proofs.lemmas.List.Elements.{All-append, All-cons, All-nil, All-weaker}
-use Rattle.forward.specs.Filter.{AsksOnce, FilterRules, IsLawful, Moves, StaysOpen}
-use Rattle.forward.specs.Link.{Ask, AreTurns, AsksAlong, Goes, IsAsk, IsTurn, Linked, NotAsked, states_of}
+use Rattle.std.proofs.lemmas.List.Elements.{All-append, All-cons, All-head, All-nil, All-tail, All-weaker}
+use Rattle.forward.specs.Filter.{AsksOnce, FilterRules, IsLawful, Moves, StaysOpen, WasAsked}
+use Rattle.forward.specs.Link.{Ask, AreTurns, AskedBefore, AsksAlong, Goes, IsAsk, IsTurn, Linked, NotAsked, states_of}
 use Rattle.forward.specs.Prompt.{AsksGive}
 use Rattle.forward.specs.PromptLaws.{AsksGive-joins, AsksGive-none, WritesOn-none, WritesOn-joins}
 
@@ -106,6 +106,17 @@ module _ {T W : Type 0} (rules : FilterRules T W) where
         ∙ sym (flat_map-append (λ turn. turn) first.turns second.turns);
   }
 
+  abbrev pub Asked : Ask T → Type 0
+  Asked ask = WasAsked rules ask.before ask.after
+
+  -- behind asks of the stream alone
+  pub asked_join : (asks more : List (Ask T)) → All Asked asks → AskedBefore rules more → AskedBefore rules (asks ++ more)
+  asked_join [] more each asked = asked
+  asked_join (ask ∷ []) [] each asked = tt
+  asked_join (ask ∷ []) (next ∷ more) each asked = (All-head Asked ask [] each, asked)
+  asked_join (ask ∷ next ∷ asks) more each asked =
+      (All-head Asked ask (next ∷ asks) each, asked_join (next ∷ asks) more (All-tail Asked ask (next ∷ asks) each) asked)
+
   module _ (Such : Ask T → Type 0) where
     -- the stream was not asked
     pub Goes-unasked : (more : ℕ) (s t : Linked T) → NotAsked rules s.filter t.filter → t.states ≡ s.states
@@ -116,6 +127,7 @@ module _ {T W : Type 0} (rules : FilterRules T W) where
       along = none;
       turns = turns_none;
       each = All-nil Such;
+      asked = tt;
       flushes = omega (arith, flushes);
     }
 
@@ -126,23 +138,30 @@ module _ {T W : Type 0} (rules : FilterRules T W) where
     pub Goes-turn : (more : ℕ) (s m t : Linked T) → NotAsked rules s.filter m.filter → m.states ≡ s.states
         → (rules.written m.filter).writes.flushes ≤ (rules.written s.filter).writes.flushes + 1
         → rules.written t.filter ≡ rules.written m.filter → (asks : List (Ask T)) → t.states ≡ m.states ++ states_of asks
-        → AsksAlong rules m.filter asks t.filter → IsTurn rules asks → All Such asks → Goes rules Such more s t
-    Goes-turn more s m t none same flushed told asks noted along turn each = record {
+        → AsksAlong rules m.filter asks t.filter → IsTurn rules asks → All Such asks → AskedBefore rules asks
+        → Goes rules Such more s t
+    Goes-turn more s m t none same flushed told asks noted along turn each asked = record {
       asks = asks;
       noted = noted ∙ ap (λ l. l ++ states_of asks) same;
       along = along_after s.filter m.filter t.filter asks none along;
       turns = one_turn asks turn;
       each = each;
+      asked = asked;
       flushes = omega (arith, flushed, ap (λ l. l.writes.flushes) told);
     }
 
-    pub Goes-joins : (more : ℕ) (s t u : Linked T) → Goes rules Such 0 s t → Goes rules Such more t u → Goes rules Such more s u
-    Goes-joins more s t u first second = record {
+    -- asks of the stream alone, and then others
+    pub Goes-joins : (First : Ask T → Type 0) → ((ask : Ask T) → First ask → Such ask × Asked ask) → (more : ℕ) (s t u : Linked T)
+        → Goes rules First 0 s t → Goes rules Such more t u → Goes rules Such more s u
+    Goes-joins First so more s t u first second = record {
       asks = first.asks ++ second.asks;
       noted = noted_on s.states t.states u.states first.asks second.asks first.noted second.noted;
       along = AsksAlong-joins s.filter t.filter u.filter first.asks second.asks first.along second.along;
       turns = turns_join first.asks second.asks first.turns second.turns;
-      each = All-append Such first.asks second.asks first.each second.each;
+      each = All-append Such first.asks second.asks (All-weaker First Such (λ ask is. (so ask is).0) first.asks first.each)
+          second.each;
+      asked = asked_join first.asks second.asks (All-weaker First Asked (λ ask is. (so ask is).1) first.asks first.each)
+          second.asked;
       flushes = omega (
         arith,
         first.flushes,
@@ -159,5 +178,6 @@ module _ {T W : Type 0} (rules : FilterRules T W) where
       along = goes.along;
       turns = goes.turns;
       each = All-weaker Such Other so goes.asks goes.each;
+      asked = goes.asked;
       flushes = goes.flushes;
     }

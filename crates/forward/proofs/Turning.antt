@@ -1,16 +1,16 @@
 -- A turn of asks.
 use Rattle.std.proofs.Common.{◌≡◌, ℕ, ◌+◌, ◌<◌, ◌≤◌, ◌⊎◌, inl, inr, List, [], ◌∷◌, ◌++◌, length, Bool, true, false, None, Some, Result, Ok, Err, refl, sym, ap, subst, ◌∙◌, arith, append-nil, append_assoc, length-append, All}
 use Rattle.std.proofs.lemmas.List.{append_cancel_left}
-use Rattle.std.proofs.lemmas.List.Elements.{All-nil, All-push}
+use Rattle.std.proofs.lemmas.List.Elements.{All-nil, All-push, All-weaker}
 use Rattle.std.specs.declared.io.Error.{Error}
 use Rattle.redux_buffer.specs.Faults.{IsInterrupt, OnlyInterrupts, OnlyInterrupts-none}
-use Rattle.forward.specs.Filter.{AsksOnce, FailedToRead, FilterRules, IsLawful, Moves, StaysOpen}
-use Rattle.forward.specs.Link.{Ask, AsksAlong, Gave, IsIdle, IsInterrupted, IsTurn, IsTurnBehind, LinkAsks, Linked, states_of}
-use Rattle.forward.specs.Steps.{AskedFrom, OnlyInterrupted, RowGoes, TakesTurn, TurnAnswers}
+use Rattle.forward.specs.Filter.{AsksOnce, FailedToRead, FilterRules, IsLawful, Moves, StaysOpen, WasAsked}
+use Rattle.forward.specs.Link.{Ask, AskedBefore, AsksAlong, Gave, IsIdle, IsInterrupted, IsTurn, IsTurnBehind, LinkAsks, Linked, states_of}
+use Rattle.forward.specs.Steps.{AlsoAsked, AskedFrom, AskedTo, OnlyInterrupted, RowGoes, TakesTurn, TurnAnswers}
 use Rattle.forward.specs.StreamsLaws.{gave_up, one_more, only_more}
 use Rattle.forward.specs.declared.error.AskError.{AskError}
 use Rattle.forward.specs.declared.error.AskError.TheVariants.{Wrong, Io, IoBehind}
-use Rattle.forward.proofs.Moving.{AsksAlong-joins, AsksOnce-joins, AsksOnce-none, Moves-none, Moves-on, NotAsked-none, StaysOpen-joins, StaysOpen-none, along_one, noted_on}
+use Rattle.forward.proofs.Moving.{Asked, AsksAlong-joins, AsksOnce-joins, AsksOnce-none, Moves-none, Moves-on, NotAsked-none, StaysOpen-joins, StaysOpen-none, along_one, asked_join, noted_on}
 
 module _ {T W : Type 0} (rules : FilterRules T W) where
   -- as many asks as this count were interrupted
@@ -19,7 +19,7 @@ module _ {T W : Type 0} (rules : FilterRules T W) where
     pub noted : t.states ≡ s.states ++ states_of asks
     pub along : AsksAlong rules s.filter asks t.filter
     pub turn : (more : List (Ask T)) → IsTurnBehind rules count more → IsTurn rules (asks ++ more)
-    pub each : All (AskedFrom rules s.filter) asks
+    pub each : All (AlsoAsked rules (AskedFrom rules s.filter)) asks
     pub told : rules.written t.filter ≡ rules.written s.filter
     pub ready : rules.ready t.filter
     pub lacks : rules.lacks t.filter
@@ -37,7 +37,7 @@ module _ {T W : Type 0} (rules : FilterRules T W) where
       noted = sym (append-nil s.states);
       along = NotAsked-none rules s.filter;
       turn = λ more is. is;
-      each = All-nil (AskedFrom rules s.filter);
+      each = All-nil (AlsoAsked rules (AskedFrom rules s.filter));
       told = refl;
       ready = ready;
       lacks = lacks;
@@ -64,15 +64,27 @@ module _ {T W : Type 0} (rules : FilterRules T W) where
       along = AsksAlong-joins rules s.filter t.filter u.filter before.asks (last ∷ []) before.along
           (along_one rules t.filter u.filter (record { asks = next.asks.asks; told = next.asks.told }))
 
-      each : All (AskedFrom rules s.filter) all
-      each = All-push (AskedFrom rules s.filter) before.asks last before.each (record {
+      from : AskedFrom rules s.filter last
+      from = record {
         moves = before.moves;
         once = before.once;
         still = before.still;
         lacks = before.lacks;
         sent = before.sent;
         asks = next.asks.asks;
-      })
+      }
+
+      each_asked : WasAsked rules t.filter u.filter → All (AlsoAsked rules (AskedFrom rules s.filter)) all
+      each_asked was = All-push (AlsoAsked rules (AskedFrom rules s.filter)) before.asks last before.each (from, was)
+
+      each_from : All (AskedFrom rules s.filter) all
+      each_from = All-push (AskedFrom rules s.filter) before.asks last
+          (All-weaker (AlsoAsked rules (AskedFrom rules s.filter)) (AskedFrom rules s.filter) (λ ask is. is.0) before.asks
+          before.each) from
+
+      asked : AskedBefore rules all
+      asked = asked_join rules before.asks (last ∷ [])
+          (All-weaker (AlsoAsked rules (AskedFrom rules s.filter)) (Asked rules) (λ ask is. is.1) before.asks before.each) tt
 
       once : AsksOnce rules s.filter u.filter
       once = AsksOnce-joins rules s.filter t.filter u.filter before.once before.still next.asks.once
@@ -85,6 +97,15 @@ module _ {T W : Type 0} (rules : FilterRules T W) where
 
       only : (rules.read u.filter).reads.faults ≡ (rules.read t.filter).reads.faults → OnlyInterrupted rules s.filter u.filter
       only same = subst (OnlyInterrupts (rules.read s.filter).reads.faults) (sym same) before.met
+
+    -- one that failed asked the stream
+    fault_asked : (a b : T) (e : Error) → FailedToRead rules e a b → WasAsked rules a b
+    fault_asked a b e fault none same = omega (
+      arith,
+      ap length fault,
+      length-append (rules.read a).reads.faults (e ∷ []),
+      ap (λ l. length l.reads.faults) same,
+    )
 
     -- an ask that was interrupted, in front of others
     again : (ask : Ask T) → IsInterrupted rules ask → (row : ℕ) → (more : List (Ask T))
@@ -113,7 +134,7 @@ module _ {T W : Type 0} (rules : FilterRules T W) where
             along = along count t u before answer next;
             turn = λ more so. subst (IsTurn rules) (sym (append_assoc before.asks (last count t u before answer next ∷ []) more))
                 (before.turn (last count t u before answer next ∷ more) (turn more so));
-            each = each count t u before answer next;
+            each = each_asked count t u before answer next (fault_asked t.filter u.filter e failed.1);
             told = next.asks.told ∙ before.told;
             ready = next.asks.ready;
             lacks = lawful.waits_lacks u.filter failed.0;
@@ -203,6 +224,12 @@ module _ {T W : Type 0} (rules : FilterRules T W) where
           let a = next.asks.answers in
           failed e (Err (IoBehind e)) next (λ is. absurd (ends is)) (a.0, a.1)
 
+      each : (answer : Result Bool (AskError W)) (next : LinkAsks rules t answer u)
+          → All (AskedTo rules answer (AskedFrom rules s.filter)) (all count t u before answer next)
+      each (Ok true) next = each_asked count t u before (Ok true) next next.asks.answers.3
+      each (Ok false) next = each_from count t u before (Ok false) next
+      each (Err e) next = each_from count t u before (Err e) next
+
       -- the last ask of a turn
       pub turn_ends : (answer : Result Bool (AskError W)) → LinkAsks rules t answer u → RowGoes answer count None
           → TakesTurn rules s answer u
@@ -211,7 +238,8 @@ module _ {T W : Type 0} (rules : FilterRules T W) where
         noted = noted count t u before answer next;
         along = along count t u before answer next;
         turn = before.turn (last count t u before answer next ∷ []) (often answer next ends);
-        each = each count t u before answer next;
+        each = each answer next;
+        asked = asked count t u before answer next;
         told = next.asks.told ∙ before.told;
         ready = next.asks.ready;
         moves = moves count t u before answer next;

@@ -17,13 +17,18 @@ pub record FilterRules (T W : Type 0) : Type 1 where
   -- from one state to the other these payloads were handed out, and what becomes of these was taken in
   pub hands : T → List (List ℕ) → T → Type 0
   pub takes : T → List (List ℕ) → T → Type 0
-  -- a payload is there; or none is; or none is, and what is left may become one
+  -- a payload is held that was asked for; or none is there, neither held nor buffered; or none is, and what is left may become one
   pub has : T → Type 0
   pub lacks : T → Type 0
   pub waits : T → Type 0
   -- all that was taken in was received and flushed; and how many bytes were taken in, whether or not they were received
   pub sent : T → Type 0
   pub taken : T → ℕ
+  -- the writer was let be: not called, and given no memory; and so many bytes are taken in so
+  pub still : T → T → Type 0
+  pub room : T → ℕ
+  -- a payload may come from here though the stream isn't asked
+  pub finds : T → Type 0
   -- how the stream is asked: for bytes that come while what is there holds no payload
   pub asks : T → T → Type 0
   -- how many bytes may come at the most before a payload is there, or none is; 0 where that isn't known
@@ -32,9 +37,9 @@ pub record FilterRules (T W : Type 0) : Type 1 where
   pub ends : T → Result (Unit {0}) W → T → Type 0
   -- the stream's end was told, behind which it isn't asked
   pub closed : T → Type 0
-  -- nothing was read or taken in yet
+  -- it may be forwarded from here: all that was taken in was sent, and no payload is held
   pub fresh : T → Type 0
-  -- what is due of bytes that were given
+  -- what is due of what is buffered and then these bytes, which are given next
   pub due : T → List ℕ → List ℕ → Type 0
   -- nothing may be taken in for a payload; and why one was refused, beside the writer's fault
   pub drops : Type 0
@@ -64,14 +69,16 @@ module _ {T W : Type 0} (rules : FilterRules T W) where
       ⊎ (((rules.written t).writes.flushes ≡ (rules.written s).writes.flushes + 1)
       × (rules.taken s ≤ length (rules.written t).writes.received))
 
-  -- what an answer of `pass` says. Something was taken in, but for a payload that was dropped. Where the writer failed, or one
-  -- was refused, the one payload that was handed out may be lost
+  -- what an answer of `pass` says. Something was taken in, but for a payload that was dropped; where there was room for it, the
+  -- writer was let be, as where there was none. Where the writer failed, or one was refused, the one payload that was handed out
+  -- may be lost
   abbrev pub PassAnswers : T → Result Bool Error → T → Type 0
   PassAnswers s (Ok true) t =
       (payload : List ℕ) × Moves s (payload ∷ []) (payload ∷ []) t × Wrote s t
       × ((rules.taken s < rules.taken t) ⊎ (rules.drops × StaysSent s t))
+      × (rules.taken t ≤ rules.taken s + rules.room s → rules.still s t)
   PassAnswers s (Ok false) t =
-      Moves s [] [] t × Wrote s t × rules.lacks t × (¬ rules.has s) × (rules.drops → StaysSent s t)
+      Moves s [] [] t × Wrote s t × rules.lacks t × (¬ rules.has s) × (rules.drops → StaysSent s t) × rules.still s t
   PassAnswers s (Err e) t =
       (lost : List (List ℕ)) × Moves s lost [] t × (FailedToWrite e s t ⊎ rules.refused e t) × (length lost ≤ 1)
 
@@ -123,8 +130,12 @@ module _ {T W : Type 0} (rules : FilterRules T W) where
   abbrev pub StaysOpen : T → T → Type 0
   StaysOpen s t = Gives s t ⊎ rules.closed t
 
+  -- the stream was asked, as its log tells, unless it needn't be for a payload
+  abbrev pub WasAsked : T → T → Type 0
+  WasAsked s t = ¬ (rules.finds s) → ¬ (rules.read t ≡ rules.read s)
+
   abbrev pub AskAnswers : T → Result Bool (AskError W) → T → Type 0
-  AskAnswers s (Ok true) t = rules.has t × Read s t × StaysOpen s t
+  AskAnswers s (Ok true) t = rules.has t × Read s t × StaysOpen s t × WasAsked s t
   AskAnswers s (Ok false) t = rules.ends s (Ok tt) t × Read s t
   AskAnswers s (Err (Wrong why)) t = rules.ends s (Err why) t × Read s t
   AskAnswers s (Err (Io e)) t = rules.waits t × FailedToRead e s t × StaysOpen s t × (rules.wants t ≡ rules.wants s)
@@ -146,8 +157,8 @@ module _ {T W : Type 0} (rules : FilterRules T W) where
       (rules.read t ≡ rules.read s)
       ⊎ SentBeforeAsking (rules.due first) (rules.read first) (rules.read t) (rules.written first) (rules.written s)
 
-  -- payloads go on in order, and an end that follows some is their end. And where no payload is there, and all that was taken in
-  -- was sent, so was what is due of each byte that comes before the last ask
+  -- payloads go on in order, and an end that follows some is their end. It may be forwarded on where a payload may come. And where
+  -- no payload is there, and all that was taken in was sent, so was what is due of each byte that comes before the last ask
   pub record IsLawful : Type 0 where
     pub hands_none : (s : T) → rules.hands s [] s
     pub hands_joins : (a b c : T) (p q : List (List ℕ)) → rules.hands a p b → rules.hands b q c → rules.hands a (p ++ q) c
@@ -156,6 +167,7 @@ module _ {T W : Type 0} (rules : FilterRules T W) where
     pub ends_after : (a b c : T) (p : List (List ℕ)) (how : Result (Unit {0}) W) → rules.hands a p b → StaysOpen a b
         → rules.ends b how c → rules.ends a how c
     pub waits_lacks : (s : T) → rules.waits s → rules.lacks s
+    pub waits_fresh : (s : T) → rules.waits s → rules.sent s → rules.fresh s
     pub received_taken : (s : T) → length (rules.written s).writes.received ≤ rules.taken s
     pub taken_on : (s t : T) (p : List (List ℕ)) → rules.takes s p t → rules.taken s ≤ rules.taken t
     pub asks_sent : (first s t : T) (p : List (List ℕ)) → rules.fresh first → Moves first p p s → StaysOpen first s

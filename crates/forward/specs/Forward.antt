@@ -44,11 +44,11 @@ module _ {T W : Type 0} (rules : FilterRules T W) where
       SendFailed e (rules.read s) (rules.read t) (rules.written s) (rules.written t)
       ⊎ (OnlyInterrupts (rules.read s).reads.faults (rules.read t).reads.faults × rules.refused e t)
 
-  -- what each cause says, behind which so many payloads went over
+  -- what each cause says, behind which so many payloads went over. Where a read failed, it may be forwarded on
   abbrev pub StopsBy : ℕ → T → Cause W → T → Type 0
   StopsBy count s (Wrong why) t = Forwarded count s t × rules.ends s (Err why) t × rules.sent t × NoneFailed s t
   StopsBy count s (Read e) t =
-      Forwarded count s t × rules.waits t × rules.sent t
+      Forwarded count s t × rules.waits t × rules.sent t × rules.fresh t
       × ReadFailed e (rules.read s) (rules.read t) (rules.written s) (rules.written t)
   StopsBy count s (Write e) t = ForwardedFirst count s t × NotWritten e s t
   StopsBy count s Count t = Forwarded count s t × (2 ^ 64 ≤ count + 1) × NoneFailed s t

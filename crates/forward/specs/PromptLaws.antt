@@ -72,3 +72,15 @@ AsksGive-none a = omega arith
 
 pub AsksGive-joins : (a b c : StreamLog) → AsksGive a b → AsksGive b c → AsksGive a c
 AsksGive-joins a b c first second = omega (arith, first, second)
+
+-- where what is due is also such
+pub HoldsNothingBack-such : (P Q : List ℕ → List ℕ → Type 0) (a b k l : StreamLog)
+    → ((bytes due : List ℕ) → P bytes due → Q bytes due) → HoldsNothingBack P a b k l → HoldsNothingBack Q a b k l
+HoldsNothingBack-such P Q a b k l so (inl none) = inl none
+HoldsNothingBack-such P Q a b k l so (inr sent) = inr (record {
+  before = sent.before;
+  asked = sent.asked;
+  due = sent.due;
+  is_due = so sent.before sent.due sent.is_due;
+  sent = sent.sent;
+})

@@ -5,9 +5,9 @@ use Rattle.std.specs.Result.{result_err}
 use Rattle.std.specs.List.{All}
 use Rattle.std.specs.declared.io.Error.{Error}
 use Rattle.redux_buffer.specs.Faults.{IsInterrupt, OnlyInterrupts}
-use Rattle.forward.specs.Filter.{AsksOnce, FilterRules, FlushesOnce, Moves, StaysOpen, StaysSent}
+use Rattle.forward.specs.Filter.{AsksOnce, FilterRules, FlushesOnce, Moves, StaysOpen, StaysSent, WasAsked}
 use Rattle.forward.specs.Forward.{Forwarded, NoneFailed, StopsBy, flushed_last}
-use Rattle.forward.specs.Link.{Ask, AsksAlong, Goes, IsTurn, Linked, states_of}
+use Rattle.forward.specs.Link.{Ask, AskedBefore, AsksAlong, Goes, IsTurn, Linked, states_of}
 use Rattle.forward.specs.Streams.{ReadGaveUp}
 use Rattle.forward.specs.declared.error.AskError.{AskError}
 use Rattle.forward.specs.declared.error.AskError.TheVariants.{Wrong, Io, IoBehind}
@@ -32,6 +32,16 @@ module _ {T W : Type 0} (rules : FilterRules T W) where
     pub sent : rules.sent ask.before
     pub asks : rules.asks ask.before ask.after
 
+  -- the stream was asked in it too
+  abbrev pub AlsoAsked : (Ask T → Type 0) → Ask T → Type 0
+  AlsoAsked Such ask = Such ask × WasAsked rules ask.before ask.after
+
+  -- how asks were made that came to this answer: where it is a payload, the stream was asked in each
+  abbrev pub AskedTo : {E : Type 0} → Result Bool E → (Ask T → Type 0) → Ask T → Type 0
+  AskedTo (Ok true) Such = AlsoAsked Such
+  AskedTo (Ok false) Such = Such
+  AskedTo (Err e) Such = Such
+
   -- reads were at most interrupted
   abbrev pub OnlyInterrupted : T → T → Type 0
   OnlyInterrupted s t = OnlyInterrupts (rules.read s).reads.faults (rules.read t).reads.faults
@@ -53,7 +63,8 @@ module _ {T W : Type 0} (rules : FilterRules T W) where
     pub noted : t.states ≡ s.states ++ states_of asks
     pub along : AsksAlong rules s.filter asks t.filter
     pub turn : IsTurn rules asks
-    pub each : All (AskedFrom s.filter) asks
+    pub each : All (AskedTo answer (AskedFrom s.filter)) asks
+    pub asked : AskedBefore rules asks
     pub told : rules.written t.filter ≡ rules.written s.filter
     pub ready : rules.ready t.filter
     pub moves : Moves rules s.filter [] [] t.filter
@@ -83,7 +94,7 @@ module _ {T W : Type 0} (rules : FilterRules T W) where
 
   -- what is done for one payload
   pub record ForwardsNext (s : Linked T) (answer : Result Bool (Cause W)) (t : Linked T) : Type 0 where
-    pub goes : Goes rules (AskedFrom s.filter) (option_map_or flushed_last (result_err answer) 0) s t
+    pub goes : Goes rules (AskedTo answer (AskedFrom s.filter)) (option_map_or flushed_last (result_err answer) 0) s t
     pub once : AsksOnce rules s.filter t.filter
     pub flushes : FlushesOnce rules s.filter t.filter
     pub quiet : rules.drops → rules.sent s.filter

@@ -17,7 +17,7 @@ use Rattle.piece_filter.specs.PieceRuns.{Over, all_received}
 use Rattle.piece_filter.specs.Pieces.{HasEnded, IsReady, Keeps, PiecesEnd, piece_rules}
 use Rattle.piece_filter.specs.PiecesCalls as pieces
 use Rattle.piece_filter.specs.PiecesLaws.{coded_all, whole_text}
-use Rattle.frames.specs.Words.{All, AllSent, Asks, bytes_at, Error, error_kind, Fits, FitsLine, ForwardAnswers, frame, frames, GaveNothing, Grammar, HasLines, HasPieces, IsLent, IsLine, IsOpen, IsPieces, lined, LineState, MetNoFault, OverCount, RanDry, rest, room_for, RunError, Span, Stopped, StreamLog, with_ends}
+use Rattle.frames.specs.Words.{All, AllSent, Asks, Begins, bytes_at, Error, error_kind, Fits, FitsLine, ForwardAnswers, frame, frames, GaveNothing, Grammar, HasLines, HasPieces, IsLent, IsLine, IsOpen, IsPieces, lined, LineState, MetNoFault, OverCount, RanDry, rest, room_for, RunError, Span, Stopped, StreamLog, with_ends}
 use Rattle.frames.specs.Ending.{IsErrorOf}
 use Rattle.frames.specs.Pack.{PackedFirst, PackedLines, PackRan, Packs}
 use Rattle.frames.specs.Packing.{packing}
@@ -61,15 +61,16 @@ module _ {R W : Type 0} (remaining : R → Option (List ℕ)) {s : Packing R W} 
       let next = opened answer line in lines_on s (after h) ready.also next.0.went.decoder refl next.1 fits
 
   pub asked_more : (span : Span) → IsLent (lined m.pieces.decoder.max) m.pieces.handed m.pieces.reader.block.bytes span
+      → ¬ (Begins (lined s.source.pieces.decoder.max) (rest s.source.pieces))
       → NextLine remaining s.source (Ok (Some (bytes_at span m.pieces.reader.block.bytes))) m
       → Asks (piece_rules remaining packing) s (Ok true) (after (Some span))
-  asked_more span lent line =
+  asked_more span lent no_piece line =
       let payload = bytes_at span m.pieces.reader.block.bytes in
       let next = (opened (Ok (Some payload)) line).0 in
       let fits = IsHanded-fits s.source.pieces.decoder.max s.source.pieces m.pieces payload next.bytes next.answers.1 in
       pieces.asked_more remaining packing ready (after (Some span)) lacks (kept (Some span))
       (lines (Ok (Some payload)) line (Some span) (omega (arith, fits.fits, ap (λ d. d.max) next.went.decoder)))
-      going span refl lent next
+      going span refl lent no_piece next
 
   -- none came
   lines_none : (answer : NextAnswer) → NextLine remaining s.source answer m → (packing {R = R} {W = W}).also (after s.held)
@@ -131,13 +132,13 @@ fronts g (payload ∷ p) next more bytes (inr (last, none)) =
 
 -- from empty buffers on
 module _ {R W : Type 0} (remaining : R → Option (List ℕ)) (s t : Packing R W)
-    (fresh : (piece_rules remaining (packing {W = W})).fresh s) (going : s.source.pieces.ended ≡ false)
+    (fresh : (piece_rules remaining (packing {W = W})).fresh s) (unread : s.source.pieces.reader.block.bytes ≡ []) (going : s.source.pieces.ended ≡ false)
     (ready : IsReady packing t) where
   abbrev max : ℕ
   max = s.source.pieces.decoder.max
 
   abbrev Went : List (List ℕ) → List (List ℕ) → Type 0
-  Went = Over remaining packing s t fresh
+  Went = Over remaining packing s t fresh unread
 
   abbrev Ran : Result (Unit {0}) RunError → Type 0
   Ran = PackRan max s.source.pieces.reader.log t.source.pieces.reader.log s.target.writer.log t.target.writer.log
@@ -167,7 +168,7 @@ module _ {R W : Type 0} (remaining : R → Option (List ℕ)) (s t : Packing R W
       fit = all_fit max over.bytes p (texts p p over);
       whole = inr (refl, dry end.1);
       given = over.given ∙ ap (λ l. s.source.pieces.reader.log.reads.given ++ (over.bytes ++ l)) end.0;
-      received = append-nil _ ∙ all_received remaining packing s t fresh p p over sent ∙ replied p p over;
+      received = append-nil _ ∙ all_received remaining packing s t fresh unread p p over sent ∙ replied p p over;
     },
     refl,
     refl,
@@ -191,7 +192,7 @@ module _ {R W : Type 0} (remaining : R → Option (List ℕ)) (s t : Packing R W
         fit = all.2;
         such = such;
         given = over.given ∙ ap (λ l. s.source.pieces.reader.log.reads.given ++ (l ++ rest t.source.pieces)) all.0;
-        received = all_received remaining packing s t fresh p p over sent ∙ replied p p over;
+        received = all_received remaining packing s t fresh unread p p over sent ∙ replied p p over;
         flushed = sent.flushed;
       }
 
@@ -256,7 +257,7 @@ module _ {R W : Type 0} (remaining : R → Option (List ℕ)) (s t : Packing R W
   pub packed : (answer : Result ℕ (Stopped RunError)) (outcome : Result (Unit {0}) RunError)
       → MatchResult answer (λ _. IsOk outcome) (λ stopped. IsErrAnd outcome (IsErrorOf stopped.cause))
       → ForwardAnswers (piece_rules remaining packing) s answer t → Ran outcome
-  packed = outcome_ran remaining packing s t fresh packing_sound (λ e refused. refused) Ran ended_ran wrong_ran
+  packed = outcome_ran remaining packing s t fresh unread packing_sound (λ e refused. refused) Ran ended_ran wrong_ran
       (λ p over open' still sent e failed. (
         some_lines (FitsLine max) p over still sent
             (open_unended max (rest t.source.pieces)

@@ -1,5 +1,5 @@
 -- What the outcome of a whole run over pieces comes to.
-use Rattle.std.proofs.Common.{ℕ, inl, inr, List, ◌++◌, length, false, Option, Result, Ok, Err, ◌≡◌, sym, subst, arith}
+use Rattle.std.proofs.Common.{ℕ, inl, inr, List, [], ◌++◌, length, false, Option, Result, Ok, Err, ◌≡◌, sym, subst, arith}
 use Rattle.std.proofs.lemmas.Bool.{false≢true}
 use Rattle.std.specs.Prelude.{IsErrAnd, IsOk, MatchResult}
 use Rattle.forward.specs.declared.error.Cause.{Cause}
@@ -12,12 +12,12 @@ use Rattle.frames.specs.declared.error.RunError.TheVariants.{Read, Write, Io}
 
 -- a run from empty buffers on that says so of each way to end says so of its outcome
 module _ {T R D X A W : Type 0} (remaining : R → Option (List ℕ)) (f : Piecewise T R D X A W RunError) (s t : T)
-    (fresh : (piece_rules remaining f).fresh s) (sound : IsSound f) (never : (e : Error) → ¬ (f.refused e t)) where
+    (fresh : (piece_rules remaining f).fresh s) (unread : (f.source s).reader.block.bytes ≡ []) (sound : IsSound f) (never : (e : Error) → ¬ (f.refused e t)) where
   abbrev rules : FilterRules T RunError
   rules = piece_rules remaining f
 
   abbrev Went : List (List ℕ) → List (List ℕ) → Type 0
-  Went = Over remaining f s t fresh
+  Went = Over remaining f s t fresh unread
 
   module _ (Ran : Result (Unit {0}) RunError → Type 0)
       (ended : (p : List (List ℕ)) → Went p p → PiecesEnd f s (Ok tt) t → AllSent (f.target t) → NoneFailed rules s t
@@ -33,21 +33,21 @@ module _ {T R D X A W : Type 0} (remaining : R → Option (List ℕ)) (f : Piece
       → OverCount e (length p) (rules.read s) (rules.read t) (rules.written s) (rules.written t) → Ran (Err (Io e))) where
     stopped : (count : ℕ) (why : Cause RunError) (e : RunError) → StopsBy rules count s why t → IsErrorOf why e → Ran (Err e)
     stopped count (cause.Wrong why) e (over, (none, end), sent, met) is = subst (λ x. Ran (Err x)) (sym is)
-        (wrong over.payloads (all_over remaining f s t fresh count over none) why end (sound.all_sent t sent) met)
-    stopped count (cause.Read fault) e (over, (none, open', going), sent, failed) is = subst (λ x. Ran (Err x)) (sym is)
-        (read over.payloads (all_over remaining f s t fresh count over none) open' going (sound.all_sent t sent) fault failed)
+        (wrong over.payloads (all_over remaining f s t fresh unread count over none) why end (sound.all_sent t sent) met)
+    stopped count (cause.Read fault) e (over, (none, open', going), sent, again, failed) is = subst (λ x. Ran (Err x)) (sym is)
+        (read over.payloads (all_over remaining f s t fresh unread count over none) open' going (sound.all_sent t sent) fault failed)
     stopped count (cause.Write fault) e (first, inr refused) is = absurd (never fault refused.1)
     stopped count (cause.Write fault) e (first, inl failed) is = subst (λ x. Ran (Err x)) (sym is)
-        (write first.payloads (first.lost ++ held_of f t) (over_lost remaining f s t fresh count first) fault failed)
+        (write first.payloads (first.lost ++ held_of f t) (over_lost remaining f s t fresh unread count first) fault failed)
     stopped count cause.Count e (over, large, met) is = subst (λ x. Ran (Err x)) (sym is.2)
-        (full over.payloads (held_of f t) (over_held remaining f s t fresh count over) is.0
+        (full over.payloads (held_of f t) (over_held remaining f s t fresh unread count over) is.0
         (record { other = is.1; large = omega (arith, large, over.all); met = met }))
 
     pub outcome_ran : (answer : Result ℕ (Stopped RunError)) (outcome : Result (Unit {0}) RunError)
         → MatchResult answer (λ _. IsOk outcome) (λ stopped. IsErrAnd outcome (IsErrorOf stopped.cause))
         → ForwardAnswers rules s answer t → Ran outcome
     outcome_ran (Ok count) (Ok _) is (over, (none, end), sent, met) =
-        ended over.payloads (all_over remaining f s t fresh count over none) end (sound.all_sent t sent) met
+        ended over.payloads (all_over remaining f s t fresh unread count over none) end (sound.all_sent t sent) met
     outcome_ran (Ok count) (Err e) is p = absurd (false≢true is)
     outcome_ran (Err stopped) (Ok _) is p = absurd is
     outcome_ran (Err halt) (Err e) is p = stopped halt.count halt.cause e p is

@@ -1,9 +1,11 @@
 -- What the calls of a filter of frames do, and what a whole run of `unpack` comes to.
-use Rattle.std.proofs.Common.{◌≡◌, ℕ, ◌+◌, ◌≤◌, ◌<◌, ◌⊎◌, inl, inr, true, false, List, [], length, Option, None, Some, Ok, Err, refl, sym, ap, subst, ◌∙◌, arith, ◌++◌, Result, append-nil}
+use Rattle.std.proofs.Common.{◌≡◌, ℕ, ◌+◌, ◌≤◌, ◌<◌, ◌⊎◌, inl, inr, true, false, List, [], ◌∷◌, length, Option, None, Some, Ok, Err, refl, sym, ap, subst, ◌∙◌, arith, ◌++◌, Result, append-nil, length-append}
 use Rattle.std.proofs.lemmas.Bool.{true≢false}
 use Rattle.std.proofs.lemmas.List.Elements.{All-nil}
 use Rattle.std.specs.Prelude.{IsErrAnd, IsOk, MatchResult}
 use Rattle.std.specs.declared.io.ErrorKind.TheVariants.{OutOfMemory}
+use Rattle.buffer_redux.specs.Buffered.{Buffered}
+use Rattle.buffer_redux.specs.declared.policy.StdPolicy.{StdPolicy}
 use Rattle.codec.specs.NextPieceLaws.{MetEnd-once}
 use Rattle.forward.specs.declared.error.AskError.TheVariants as ask
 use Rattle.frame_reader.specs.Frames.{BeginsTooLong}
@@ -16,7 +18,7 @@ use Rattle.piece_filter.specs.PieceRuns.{Over, all_received}
 use Rattle.piece_filter.specs.Pieces.{HasEnded, IsReady, Keeps, piece_rules}
 use Rattle.piece_filter.specs.PiecesCalls as pieces
 use Rattle.piece_filter.specs.PiecesLaws.{coded_all}
-use Rattle.frames.specs.Words.{All, AllSent, Asks, bytes_at, Error, error_kind, Fits, ForwardAnswers, framed, frames, GaveNothing, IsCutShort, IsLent, IsOpen, MetNoFault, RanDry, ReaderState, rest, RunError, Span, Stopped, StreamLog, with_end, with_ends}
+use Rattle.frames.specs.Words.{All, AllSent, Asks, Begins, bytes_at, Error, error_kind, Fits, ForwardAnswers, framed, frames, GaveNothing, IsCutShort, IsLent, IsOpen, IsStill, MetNoFault, newline, RanDry, ReaderState, rest, room, RunError, Span, Stopped, StreamLog, with_end, with_ends}
 use Rattle.frames.specs.Ending.{IsErrorOf}
 use Rattle.frames.specs.Unpack.{Unpacked, UnpackedFirst, UnpackRan, Unpacks}
 use Rattle.frames.specs.Unpacking.{unpacking}
@@ -35,6 +37,15 @@ frames_on s t takes decoder told kind capacity = record {
     capacity = omega (arith, takes.target.capacity, capacity, ap (λ d. d.max) decoder);
   };
   told = told;
+}
+
+-- a line for which there is room is copied in
+pub still_line : {W : Type 0} (u v : Buffered W StdPolicy) (payload : List ℕ)
+    → (length u.block.bytes + (length payload + 1) ≤ u.block.capacity → v.log ≡ u.log) → v.block.capacity ≡ u.block.capacity
+    → length (with_end payload) ≤ room u → IsStill u v
+still_line u v payload told capacity fits = record {
+  told = told (omega (arith, fits, length-append payload (newline ∷ [])));
+  capacity = capacity;
 }
 
 -- what is nothing, or cut short, has fewer bytes than the longest frame
@@ -58,11 +69,12 @@ module _ {R W : Type 0} (remaining : R → Option (List ℕ)) {s : Unpacking R W
       (NextPiece-reads remaining s.source m (piece_answer answer) next.piece).told refl refl
 
   pub asked_more : (span : Span) → IsLent (framed m.decoder.max) m.handed m.reader.block.bytes span
-      → Next remaining s.source (Ok (Some (bytes_at span m.reader.block.bytes))) m
+      → ¬ (Begins (framed s.source.decoder.max) (rest s.source)) → Next remaining s.source (Ok (Some (bytes_at span m.reader.block.bytes))) m
       → Asks (piece_rules remaining unpacking) s (Ok true) (after (Some span))
-  asked_more span lent next =
+  asked_more span lent no_piece next =
       pieces.asked_more remaining unpacking ready (after (Some span)) lacks (kept (Some span))
-      (takes_then (Ok (Some (bytes_at span m.reader.block.bytes))) next (Some span)) ready.also.told span refl lent next.piece
+      (takes_then (Ok (Some (bytes_at span m.reader.block.bytes))) next (Some span)) ready.also.told span refl lent no_piece
+      next.piece
 
   -- none came
   pub asked_none : Next remaining s.source (Ok None) m → Asks (piece_rules remaining unpacking) s (Ok false) (after s.held)
@@ -109,13 +121,13 @@ module _ {R W : Type 0} (remaining : R → Option (List ℕ)) {s : Unpacking R W
 
 -- from empty buffers on
 module _ {R W : Type 0} (remaining : R → Option (List ℕ)) (s t : Unpacking R W)
-    (fresh : (piece_rules remaining (unpacking {W = W})).fresh s) (told : s.source.ended ≡ false)
+    (fresh : (piece_rules remaining (unpacking {W = W})).fresh s) (unread : s.source.reader.block.bytes ≡ []) (told : s.source.ended ≡ false)
     (ready : IsReady unpacking t) where
   abbrev max : ℕ
   max = s.source.decoder.max
 
   abbrev Went : List (List ℕ) → List (List ℕ) → Type 0
-  Went = Over remaining unpacking s t fresh
+  Went = Over remaining unpacking s t fresh unread
 
   abbrev Ran : Result (Unit {0}) RunError → Type 0
   Ran = UnpackRan max s.source.reader.log t.source.reader.log s.target.log t.target.log
@@ -138,7 +150,7 @@ module _ {R W : Type 0} (remaining : R → Option (List ℕ)) (s t : Unpacking R
     payloads = p;
     fit = (whole p p over).1;
     given = over.given ∙ ap (λ l. s.source.reader.log.reads.given ++ (l ++ rest t.source)) (whole p p over).0;
-    received = all_received remaining unpacking s t fresh p p over sent ∙ replied p p over;
+    received = all_received remaining unpacking s t fresh unread p p over sent ∙ replied p p over;
     flushed = sent.flushed;
   }
 
@@ -174,7 +186,7 @@ module _ {R W : Type 0} (remaining : R → Option (List ℕ)) (s t : Unpacking R
   pub unpacked_all : (answer : Result ℕ (Stopped RunError)) (outcome : Result (Unit {0}) RunError)
       → MatchResult answer (λ _. IsOk outcome) (λ stopped. IsErrAnd outcome (IsErrorOf stopped.cause))
       → ForwardAnswers (piece_rules remaining unpacking) s answer t → Ran outcome
-  unpacked_all = outcome_ran remaining unpacking s t fresh unpacking_sound (λ e refused. refused) Ran
+  unpacked_all = outcome_ran remaining unpacking s t fresh unread unpacking_sound (λ e refused. refused) Ran
       (λ p over end sent met. (
         subst (Unpacked max s.source.reader.log t.source.reader.log s.target.log t.target.log) end.0 (unpacked p over sent),
         dry end.1,

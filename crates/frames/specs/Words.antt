@@ -3,7 +3,7 @@ pub use Rattle.buffer_redux.specs.BufReader.{RanDry}
 pub use Rattle.buffer_redux.specs.BufWriter.{WritesInOrder}
 pub use Rattle.buffer_redux.specs.StreamLog.{StreamLog}
 pub use Rattle.codec.specs.Decoding.{IsLent, bytes_at}
-pub use Rattle.codec.specs.Grammar.{Grammar, IsOpen}
+pub use Rattle.codec.specs.Grammar.{Begins, Grammar, IsOpen}
 pub use Rattle.codec.specs.NextPiece.{NextAnswer, NextBuffered, NextPiece, empties, load_answer}
 pub use Rattle.codec.specs.PieceReader.{ReaderState, rest, room_for}
 pub use Rattle.codec.specs.Texts.{HasPieces, IsPieces}
@@ -17,6 +17,8 @@ pub use Rattle.frames.specs.declared.error.RunError.{RunError}
 pub use Rattle.line_reader.specs.LineReader.{LineState, lined}
 pub use Rattle.line_reader.specs.Lines.{FitsLine, HasLines, IsLine, newline, with_end, with_ends}
 pub use Rattle.programs.specs.Prompt.{HoldsNothingBack}
+pub use Rattle.buffer_redux.specs.WriteParts.{room}
+pub use Rattle.programs.specs.TakenIn.{IsStill}
 pub use Rattle.programs.specs.Streams.{AllFlushed, AllSent, BufferRefused, EndsOnce, GaveNothing, MetNoFault, OverCount, ReadFailed, SendFailed}
 pub use Rattle.std.specs.IoError.{error_kind}
 pub use Rattle.std.specs.List.{All}

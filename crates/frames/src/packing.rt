@@ -6,6 +6,7 @@ ghost use Rattle.forward.specs.Filter.{Passes};
 ghost use Rattle.frame_reader.specs.Framed.{framed_out};
 ghost use Rattle.frames.specs.Packing.{packing};
 ghost use Rattle.frames.specs.PackingLaws.{packing_lawful};
+ghost use Rattle.frames.specs.Words.{frame, IsStill, room};
 ghost use Rattle.piece_filter.specs.Pieces.{IsReady, piece_rules};
 
 use crate::error::RunError;
@@ -96,6 +97,8 @@ fn write_line<W: TellWrite>(target: &mut FrameWriter<W>, line: &[u8]) -> io::Res
     ensures caused { IfErr result (λ e. SendErrorCaused target.old.writer.log.writes target.new.writer.log.writes e) }
     ensures not_flushed { target.new.writer.log.writes.flushed ≡ target.old.writer.log.writes.flushed }
     ensures flushes { target.new.writer.log.writes.flushes ≡ target.old.writer.log.writes.flushes }
+    ensures fits { OnOk result (length (frame line.now) ≤ room target.old.writer
+        → IsStill target.old.writer target.new.writer) }
 {
     match target.write_frame(line) {
         Ok(()) => Ok(()),

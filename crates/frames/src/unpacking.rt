@@ -1,5 +1,5 @@
 //! Payloads of frames as they go over, one by one, as lines.
-ghost use Rattle.std.specs.Prelude.{◌≡◌, [], ◌∷◌, ◌++◌, length, IfErr, OnOk, OnErr};
+ghost use Rattle.std.specs.Prelude.{◌≡◌, ◌+◌, ◌≤◌, [], ◌∷◌, ◌++◌, length, IfErr, OnOk, OnErr};
 ghost use Rattle.buffer_redux.specs.BufWriter.{WritesInOrder};
 ghost use Rattle.buffer_redux.specs.Faults.{MetInterrupts, SendErrorCaused};
 ghost use Rattle.line_reader.specs.Lines.{newline};
@@ -85,6 +85,8 @@ fn print_line<W: TellWrite>(target: &mut BufWriter<W>, line: &[u8]) -> io::Resul
     ensures caused { IfErr result (λ e. SendErrorCaused target.old.log.writes target.new.log.writes e) }
     ensures kind { target.new.block.kind ≡ target.old.block.kind }
     ensures capacity { target.new.block.capacity ≡ target.old.block.capacity }
+    ensures fits { length target.old.block.bytes + (length line.now + 1) ≤ target.old.block.capacity
+        → target.new.log ≡ target.old.log }
 {
     make_room(target, line.len() + 1)?;
     put(target, line);

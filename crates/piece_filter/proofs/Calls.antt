@@ -1,5 +1,5 @@
 -- What the calls of a filter that answers payloads do.
-use Rattle.std.proofs.Common.{◌≡◌, ℕ, ◌≤◌, ◌<◌, inl, inr, Bool, true, false, List, [], ◌∷◌, length, Option, None, Some, Result, Ok, Err, refl, sym, ap, subst, arith, ◌∙◌}
+use Rattle.std.proofs.Common.{◌≡◌, ℕ, ◌+◌, ◌≤◌, ◌<◌, inl, inr, Bool, true, false, List, [], ◌∷◌, length, Option, None, Some, Result, Ok, Err, refl, sym, ap, subst, arith, ◌∙◌}
 use Rattle.std.proofs.lemmas.Bool.{true≢false}
 use Rattle.std.specs.declared.io.Error.{Error}
 use Rattle.buffer_redux.specs.BufWriter.{WasFlushed, WritesInOrder}
@@ -9,7 +9,7 @@ use Rattle.buffer_redux.specs.Buffered.{Buffered}
 use Rattle.buffer_redux.specs.WriterLaws.{WritesInOrder-none}
 use Rattle.buffer_redux.specs.declared.policy.StdPolicy.{StdPolicy}
 use Rattle.piece_reader.specs.Decoding.{IsLent, bytes_at}
-use Rattle.piece_reader.specs.Grammar.{Grammar}
+use Rattle.piece_reader.specs.Grammar.{Begins, Grammar}
 use Rattle.piece_reader.specs.NextPiece.{NextAnswer, NextPiece, StaysLeft}
 use Rattle.piece_reader.specs.NextPieceLaws.{MetEnd-once}
 use Rattle.piece_reader.specs.PieceReader.{ReaderState, rest}
@@ -19,6 +19,7 @@ use Rattle.forward.specs.Filter.{Asks, FilterRules, Flushes, Moves, PassAnswers,
 use Rattle.forward.specs.PromptLaws.{WritesOn-none}
 use Rattle.forward.specs.declared.error.AskError.TheVariants.{Wrong, Io, IoBehind}
 use Rattle.programs.specs.Streams.{AllSent}
+use Rattle.programs.specs.TakenIn.{IsStill-same}
 use Rattle.piece_filter.specs.Answering.{Answered, IsWrong, answering}
 use Rattle.piece_filter.specs.AnsweringLaws.{answering_lawful}
 use Rattle.piece_filter.specs.Pieces.{IsReady, Keeps, Piecewise, held_at, piece_rules}
@@ -47,7 +48,9 @@ module _ {R D X A W N : Type 0} (remaining : R → Option (List ℕ)) (grammar :
     passes (reply, is, some, puts) =
         pieces.passed remaining f ready (answered false) puts.not_flushed puts.flushes payload reply
         (pieces.took_held remaining f ready (answered false) refl (λ sent. absurd (true≢false (sym sent))) span held refl)
-        is puts.taken puts.met (inl some)
+        is puts.taken puts.met (inl some) (λ room.
+        let fits : length s.target.block.bytes + length reply ≤ s.target.block.capacity = omega (arith, room, some) in
+        record { told = (puts.fits fits).1; capacity = puts.kept (omega (arith, fits)) })
 
     pub drops : Answered Answers s.service payload s.target (Ok false) b v → Passes rules s (Ok true) (answered s.sent)
     drops (is, same) =
@@ -57,7 +60,7 @@ module _ {R D X A W N : Type 0} (remaining : R → Option (List ℕ)) (grammar :
         (pieces.took_held remaining f ready (answered s.sent) refl (λ sent. still (ready.also sent)) span held refl)
         is (subst (WritesInOrder s.target []) (sym same) (WritesInOrder-none s.target))
         (subst (λ x. MetInterrupts s.target.log.writes x.log.writes) (sym same) (MetInterrupts-none s.target.log.writes))
-        (inr (tt, λ sent. (sent.0, still sent.1)))
+        (inr (tt, λ sent. (sent.0, still sent.1))) (λ room. IsStill-same s.target v same)
 
     pub refused : (e : Error) → Answered Answers s.service payload s.target (Err e) b v
         → Passes rules s (Err e) (record s { target = v; service = b; sent = false })
@@ -94,9 +97,9 @@ module _ {R D X A W N : Type 0} (remaining : R → Option (List ℕ)) (grammar :
 
       answers_behind : (t : Answering R D W A X N) (answer : Result Bool Error) → PassAnswers rules (holding span) answer t
           → PassAnswers rules s answer t
-      answers_behind t (Ok true) (p, moves, met, some) = (p, joins t (p ∷ []) (p ∷ []) moves, met, some)
-      answers_behind t (Ok false) (moves, met, none, isnt, still) =
-          (joins t [] [] moves, met, none, λ has. has lacks, still)
+      answers_behind t (Ok true) (p, moves, met, some, still) = (p, joins t (p ∷ []) (p ∷ []) moves, met, some, still)
+      answers_behind t (Ok false) (moves, met, none, isnt, sent, still) =
+          (joins t [] [] moves, met, none, λ has. has lacks, sent, still)
       answers_behind t (Err e) (lost, moves, caused, few) = (lost, joins t lost [] moves, caused, few)
 
       pub passes_behind : (t : Answering R D W A X N) (answer : Result Bool Error) → Passes rules (holding span) answer t
@@ -110,9 +113,10 @@ module _ {R D X A W N : Type 0} (remaining : R → Option (List ℕ)) (grammar :
         answers = answers_behind t answer p.answers;
       }
 
-    pub none_passes : StaysLeft (grammar s.source.decoder) s.source m → Passes rules s (Ok false) (record s { source = m })
-    none_passes stays = pieces.none_passed remaining f ready (record s { source = m }) lacks
-        (record { target = refl; service = refl; sent = λ sent. sent }) ready.also lacks stays
+    pub none_passes : StaysLeft (grammar s.source.decoder) s.source m → ¬ (Begins (grammar s.source.decoder) (rest s.source))
+        → Passes rules s (Ok false) (record s { source = m })
+    none_passes stays no_piece = pieces.none_passed remaining f ready (record s { source = m }) lacks
+        (record { target = refl; service = refl; sent = λ sent. sent }) ready.also lacks stays no_piece
 
     -- the reader was asked for the next
     module _ (going : s.source.ended ≡ false) where
@@ -126,10 +130,11 @@ module _ {R D X A W N : Type 0} (remaining : R → Option (List ℕ)) (grammar :
       Next answer = NextPiece remaining (grammar s.source.decoder) s.source answer m
 
       pub asked_more : (span : Span) → IsLent (grammar m.decoder) m.handed m.reader.block.bytes span
+          → ¬ (Begins (grammar s.source.decoder) (rest s.source))
           → Next (Ok (Some (bytes_at span m.reader.block.bytes))) → Asks rules s (Ok true) (asked (Some span))
-      asked_more span lent next =
+      asked_more span lent no_piece next =
           pieces.asked_more remaining f ready (asked (Some span)) lacks (kept (Some span)) ready.also going
-          span refl lent next
+          span refl lent no_piece next
 
       pub asked_none : Next (Ok None) → Asks rules s (Ok false) (asked s.held)
       asked_none next = pieces.asked_none remaining f ready (asked s.held) lacks (kept s.held) ready.also going lacks next
@@ -180,13 +185,11 @@ module _ {R D X A W N : Type 0} (remaining : R → Option (List ℕ)) (grammar :
     pub flushed : WasFlushed tells trace s.target (Ok tt) v → Flushes rules s (Ok tt) (record s { target = v; sent = true })
     flushed w =
         let t : Answering R D W A X N = record s { target = v; sent = true } in
-        pieces.flushed remaining f ready t
-        (pieces.took_none remaining f ready t refl (λ sent. record { empty = w.ok.empty; flushed = w.ok.flushed }) refl) refl refl
+        pieces.flushed remaining f ready t refl (λ sent. record { empty = w.ok.empty; flushed = w.ok.flushed }) refl refl
         tells trace not_sent (Ok tt) w (λ x is all. (refl, all))
 
     pub not_flushed : (e : Error) → WasFlushed tells trace s.target (Err e) v → Flushes rules s (Err e) (record s { target = v })
     not_flushed e w =
         let t : Answering R D W A X N = record s { target = v } in
-        pieces.flushed remaining f ready t
-        (pieces.took_none remaining f ready t refl (λ sent. absurd (true≢false (sym sent ∙ unsent))) refl) refl refl tells trace
+        pieces.flushed remaining f ready t refl (λ sent. absurd (true≢false (sym sent ∙ unsent))) refl refl tells trace
         not_sent (Err e) w (λ x is. absurd (let odd : ◌≡◌ {A = Result (Unit {0}) Error} (Err e) (Ok x) = is in cc))

@@ -1,15 +1,16 @@
 -- How all of some bytes is taken in, or nothing.
-use Rattle.std.proofs.Common.{◌≡◌, ℕ, ◌+◌, ◌<◌, ◌≤◌, ◌⊎◌, inl, inr, List, [], ◌++◌, length, min, Result, Ok, Err, IsOk, OnOk, refl, sym, ap, subst, ◌∙◌, arith, append-nil}
-use Rattle.std.proofs.lemmas.Bool.{true≢false}
+use Rattle.std.proofs.Common.{◌≡◌, ℕ, ◌+◌, ◌-◌, ◌^◌, ◌==◌, ◌<◌, ◌≤◌, ◌⊎◌, if◌then◌else◌, nat_le, Bool, true, false, inl, inr, List, [], ◌++◌, length, min, Result, Ok, Err, IsOk, OnOk, refl, sym, ap, subst, ◌∙◌, arith, append-nil}
+use Rattle.std.proofs.lemmas.Bool.{cases_lt, true≢false}
 use Rattle.std.proofs.lemmas.List.{append_cancel_left}
-use Rattle.std.specs.Prelude.{OnErr}
+use Rattle.std.specs.Prelude.{MatchResult, OnErr}
 use Rattle.std.specs.declared.io.Error.{Error}
-use Rattle.buffer_redux.specs.Block.{MakesRoom, usable}
+use Rattle.buffer_redux.specs.Block.{Block, Kind, MakesRoom, Plain, Reserves, Ring, by_kind, capacity_for, round, usable}
 use Rattle.buffer_redux.specs.BufWriter.{WasSent, WritesInOrder}
 use Rattle.buffer_redux.specs.Buffered.{Buffered, with_block}
+use Rattle.buffer_redux.specs.GrowError.{GrowthFailed}
 use Rattle.buffer_redux.specs.Faults.{MetInterrupts, MetInterrupts-none, SendErrorCaused, SendErrorCaused-after}
 use Rattle.buffer_redux.specs.StreamLog.{StreamLog}
-use Rattle.buffer_redux.specs.WriteParts.{PartsRefused, WritesParts}
+use Rattle.buffer_redux.specs.WriteParts.{Appends, MakesPlace, PartsRefused, WritesParts}
 use Rattle.buffer_redux.specs.WritePartsLaws.{WritesParts-limit, WritesParts-sent}
 use Rattle.buffer_redux.specs.WriterLaws.{WritesInOrder-joins}
 use Rattle.buffer_redux.specs.declared.policy.StdPolicy.{StdPolicy}
@@ -30,12 +31,65 @@ module _ {W : Type 0} (tells : W → StreamLog) (trace : W → W → Type 0) (m 
       idle : (n : ℕ) → n ≡ 0 → min n n ≡ 0
       idle n none = rw none refl
 
+-- an empty block grows by so many at most, or to so many, rounded up
+grows_to : (within none : Bool) (k : Kind) (capacity less n all : ℕ) → all ≡ n
+    → (if within then capacity else by_kind k (if none then capacity + n else capacity - less + n) (round all))
+    ≤ capacity + n + 4095
+grows_to true none k capacity less n all is = omega arith
+grows_to false true Plain capacity less n all is = omega arith
+grows_to false false Plain capacity less n all is = omega arith
+grows_to false none Ring capacity less n all is = omega (arith, is)
+
+capacity_bound : (b : Block) (n : ℕ) → length b.bytes ≡ 0 → capacity_for b n ≤ b.capacity + n + 4095
+capacity_bound b n none = grows_to (nat_le n (usable b)) (length b.bytes == 0) b.kind b.capacity (usable b) n
+    (length b.bytes + n) (omega (arith, none))
+
+module _ {W : Type 0} (tells : W → StreamLog) (trace : W → W → Type 0) (m : Buffered W StdPolicy) (empty : m.block.bytes ≡ [])
+  where
+    -- place that is made where nothing is buffered is no more
+    place_bound : (count : ℕ) (answer : Result (Unit {0}) Error) (q : Buffered W StdPolicy)
+        → MakesPlace tells trace count m answer q → q.block.capacity ≤ m.block.capacity + count + 4095
+    place_bound count answer q place = by_sending place.sending place.left place.sent answer place.ended
+      where
+        by_sending : (sending : Result (Unit {0}) Error) (left : Buffered W StdPolicy) → WasSent tells trace m sending left
+            → (answer : Result (Unit {0}) Error) → MatchResult sending
+            (λ _. MatchResult answer (λ _. Reserves count left.block q.block × (q ≡ with_block left q.block))
+            (λ e. GrowthFailed count left.block e × (q ≡ left)))
+            (λ e. (answer ≡ Err e) × (q ≡ left)) → q.block.capacity ≤ m.block.capacity + count + 4095
+        by_sending (Ok _) left sent (Ok _) (grown, others) = omega (
+          arith,
+          grown.capacity,
+          capacity_bound left.block count (ap length sent.ok.empty),
+          sent.capacity,
+        )
+        by_sending (Ok _) left sent (Err e) (failed, same) = omega (arith, ap (λ x. x.block.capacity) same, sent.capacity)
+        by_sending (Err e) left sent answer (is, same) = omega (arith, ap (λ x. x.block.capacity) same, sent.capacity)
+
+    pub parts_bound : (bytes : List ℕ) (answer : Result (Unit {0}) Error) (t : Buffered W StdPolicy)
+        → WritesParts tells trace m bytes answer t → t.block.capacity ≤ m.block.capacity + length bytes + 4095
+    parts_bound bytes answer t p = elim (cases_lt (usable m.block) (length bytes)) [
+      | inl few ↦ by_answer answer (p.full few)
+      | inr fit ↦ omega (arith, (p.fits fit).1.added.capacity)
+    ]
+      where
+        by_answer : (answer : Result (Unit {0}) Error) → MatchResult answer
+            (λ _. (q : Buffered W StdPolicy) × MakesPlace tells trace (min (length bytes) (2 ^ 64 - 1)) m (Ok tt) q
+            × Appends q bytes t)
+            (λ e. MakesPlace tells trace (min (length bytes) (2 ^ 64 - 1)) m (Err e) t)
+            → t.block.capacity ≤ m.block.capacity + length bytes + 4095
+        by_answer (Ok _) (q, place, puts) = omega (
+          arith,
+          puts.added.capacity,
+          place_bound (min (length bytes) (2 ^ 64 - 1)) (Ok tt) q place,
+        )
+        by_answer (Err e) place = omega (arith, place_bound (min (length bytes) (2 ^ 64 - 1)) (Err e) t place)
+
 module _ {W : Type 0} (tells : W → StreamLog) (trace : W → W → Type 0) (s t : Buffered W StdPolicy) (bytes : List ℕ) where
   -- behind what took nothing in, and met interruptions at most, the parts were written, and the stream wasn't called
   module _ (m : Buffered W StdPolicy) (order : WritesInOrder s [] m) (met : MetInterrupts s.log.writes m.log.writes)
       (not_flushed : m.log.writes.flushed ≡ s.log.writes.flushed) (flushes : m.log.writes.flushes ≡ s.log.writes.flushes)
       (told : t.log ≡ m.log) (kept : length bytes ≤ s.block.capacity → t.block.capacity ≡ s.block.capacity)
-      (limit : t.block.limit ≡ s.block.limit) where
+      (limit : t.block.limit ≡ s.block.limit) (grown : t.block.capacity ≤ s.block.capacity + length bytes + 4095) where
     met_still : MetInterrupts s.log.writes t.log.writes
     met_still = subst (λ l. MetInterrupts s.log.writes l.writes) (sym told) met
 
@@ -55,6 +109,7 @@ module _ {W : Type 0} (tells : W → StreamLog) (trace : W → W → Type 0) (s 
       full = full;
       caused = tt;
       kept = kept;
+      grown = grown;
       limit = limit;
       not_flushed = ap (λ l. l.writes.flushed) told ∙ not_flushed;
       flushes = ap (λ l. l.writes.flushes) told ∙ flushes;
@@ -66,6 +121,7 @@ module _ {W : Type 0} (tells : W → StreamLog) (trace : W → W → Type 0) (s 
       full = full;
       caused = refused e empty p.caused;
       kept = kept;
+      grown = grown;
       limit = limit;
       not_flushed = ap (λ l. l.writes.flushed) told ∙ not_flushed;
       flushes = ap (λ l. l.writes.flushes) told ∙ flushes;
@@ -82,7 +138,8 @@ module _ {W : Type 0} (tells : W → StreamLog) (trace : W → W → Type 0) (s 
       puts m order (subst (λ l. MetInterrupts s.log.writes l.writes) (sym same) (MetInterrupts-none s.log.writes))
       (ap (λ l. l.writes.flushed) same) (ap (λ l. l.writes.flushes) same) there.1
       (λ _. (p.fits fit).1.added.capacity ∙ room.capacity) (WritesParts-limit tells trace m t bytes answer p ∙ room.limit)
-      answer (λ _. (there.0, there.1 ∙ same)) (λ few. absurd (omega (arith, fits, few))) (never answer there.0) p
+      (omega (arith, (p.fits fit).1.added.capacity, room.capacity)) answer (λ _. (there.0, there.1 ∙ same))
+      (λ few. absurd (omega (arith, fits, few))) (never answer there.0) p
     where
       never : (answer : Result (Unit {0}) Error) → IsOk answer → OnErr answer (t.block.bytes ≡ [])
       never (Ok _) ok = tt
@@ -99,7 +156,8 @@ module _ {W : Type 0} (tells : W → StreamLog) (trace : W → W → Type 0) (s 
       (ap (λ l. l.writes.flushed) same ∙ sent.not_flushed) (ap (λ l. l.writes.flushes) same ∙ sent.sends.sent.flushes)
       told (λ small. (p.fits (space small)).1.added.capacity ∙ room.capacity ∙ sent.capacity)
       (WritesParts-limit tells trace m t bytes answer p ∙ room.limit ∙ sent.sends.sent.dropped.limit)
-      answer (λ fit. absurd (omega (arith, fit, few))) (λ _. kept answer p) (nothing answer p) p
+      (omega (arith, parts_bound tells trace m empty bytes answer t p, room.capacity, sent.capacity)) answer
+      (λ fit. absurd (omega (arith, fit, few))) (λ _. kept answer p) (nothing answer p) p
     where
       empty : m.block.bytes ≡ []
       empty = room.bytes ∙ sent.ok.empty

@@ -1,19 +1,30 @@
 -- What a whole run over pieces comes to.
-use Rattle.std.proofs.Common.{◌≡◌, ℕ, ◌⊎◌, List, ◌++◌, Option, None, refl, sym, ap, subst, ◌∙◌, append-nil, append_assoc}
+use Rattle.std.proofs.Common.{◌≡◌, ℕ, ◌⊎◌, List, [], ◌++◌, Option, None, refl, sym, ap, subst, ◌∙◌, append-nil, append_assoc}
 use Rattle.buffer_redux.specs.BufReader.{RanDry}
+use Rattle.buffer_redux.specs.StreamLog.{StreamLog}
 use Rattle.buffer_redux.specs.WriterLaws.{WritesInOrder-fresh}
 use Rattle.piece_reader.specs.PieceReader.{rest}
+use Rattle.piece_reader.specs.PiecesWentLaws.{drop_none}
 use Rattle.forward.specs.Filter.{FilterRules, Moves}
 use Rattle.forward.specs.Forward.{Forwarded, ForwardedFirst}
+use Rattle.forward.specs.Prompt.{HoldsNothingBack}
+use Rattle.forward.specs.PromptLaws.{HoldsNothingBack-such}
 use Rattle.programs.specs.Streams.{AllSent}
 use Rattle.piece_filter.specs.Pieces.{AnswersAll, HasEnded, IsText, Piecewise, grammar_of, held_of, piece_rules}
 use Rattle.piece_filter.specs.PiecesLaws.{given_since, none_held}
 
 -- from empty buffers on
 module _ {T R D X A W E : Type 0} (remaining : R → Option (List ℕ)) (f : Piecewise T R D X A W E) (s t : T)
-    (fresh : (piece_rules remaining f).fresh s) where
+    (fresh : (piece_rules remaining f).fresh s) (unread : (f.source s).reader.block.bytes ≡ []) where
   abbrev rules : FilterRules T E
   rules = piece_rules remaining f
+
+  -- what is due then is that of what is given
+  pub holds_unread : (a b k l : StreamLog) → HoldsNothingBack (rules.due s) a b k l
+      → HoldsNothingBack (f.due (f.source s).decoder (f.service s)) a b k l
+  holds_unread a b k l = HoldsNothingBack-such (rules.due s) (f.due (f.source s).decoder (f.service s)) a b k l
+      (λ bytes due is. subst (λ left. f.due (f.source s).decoder (f.service s) (left ++ bytes) due)
+      (drop_none (f.source s).handed (f.source s).reader.block.bytes unread) is)
 
   -- these payloads were handed out, and what becomes of those was taken in
   pub record Over (handed taken : List (List ℕ)) : Type 0 where
@@ -41,11 +52,11 @@ module _ {T R D X A W E : Type 0} (remaining : R → Option (List ℕ)) (f : Pie
       record {
         bytes = hands.bytes;
         text = subst (λ l. IsText (grammar_of f s) hands.bytes l (f.source t).ended)
-            (sym (ap (λ l. l ++ hands.got) (none_held remaining f s fresh.2)) ∙ hands.order ∙ is) hands.text;
-        given = given_since (f.source s) (f.source t) hands.bytes fresh.0 hands.went.hands;
+            (sym (ap (λ l. l ++ hands.got) (none_held remaining f s fresh.1)) ∙ hands.order ∙ is) hands.text;
+        given = given_since (f.source s) (f.source t) hands.bytes unread hands.went.hands;
         reply = moves.takes.reply;
         answers = moves.takes.answers;
-        received = WritesInOrder-fresh (f.target s) (f.target t) moves.takes.reply fresh.1 moves.takes.in_order;
+        received = WritesInOrder-fresh (f.target s) (f.target t) moves.takes.reply fresh.0 moves.takes.in_order;
         decoder = hands.went.decoder;
         dry = hands.dry;
       }

@@ -7,14 +7,14 @@ use Rattle.buffer_redux.specs.Buffered.{Buffered}
 use Rattle.buffer_redux.specs.LogGrows.{ReadLogGrows}
 use Rattle.buffer_redux.specs.declared.policy.StdPolicy.{StdPolicy}
 use Rattle.piece_reader.specs.Decoding.{IsLent, bytes_at}
-use Rattle.piece_reader.specs.Grammar.{Grammar, IsOpen}
+use Rattle.piece_reader.specs.Grammar.{Begins, Grammar, IsOpen}
 use Rattle.piece_reader.specs.NextPiece.{AskedWhere, PiecesWent, empties}
 use Rattle.piece_reader.specs.PieceReader.{IsPieceReader, ReaderState, rest}
 use Rattle.piece_reader.specs.Texts.{HasPieces, IsPieces}
 use Rattle.piece_reader.specs.declared.decoder.Span.{Span}
 use Rattle.forward.specs.Filter.{FilterRules}
 use Rattle.programs.specs.Streams.{AllSent}
-use Rattle.programs.specs.TakenIn.{taken_in}
+use Rattle.programs.specs.TakenIn.{IsStill, taken_in}
 
 -- the parts of such a filter: a reader, the place of a payload that is held until it is passed, and a writer; what answers
 -- payloads; which bytes are pieces, and what becomes of their payloads
@@ -120,18 +120,21 @@ module _ {T R D X A W E : Type 0} (remaining : R → Option (List ℕ)) (f : Pie
     hands = HandsPieces;
     takes = TakesPieces f;
     has = λ s. ¬ (f.held s ≡ None);
-    lacks = λ s. f.held s ≡ None;
+    lacks = λ s. (f.held s ≡ None) × ¬ (Begins (grammar_of f s) (rest (f.source s)));
     waits = λ s.
         (f.held s ≡ None) × IsOpen (grammar_of f s) (rest (f.source s)) × ((f.source s).ended ≡ false);
+    finds = λ s. ⊥;
     sent = f.sent;
     taken = λ s. taken_in (f.target s);
+    still = λ s t. IsStill (f.target s) (f.target t);
+    room = λ s. (f.target s).block.capacity - length (f.target s).block.bytes;
     asks = λ s t. AskedWhere (IsOpen (grammar_of f s)) (f.source s) (f.source t)
         × ReadLogGrows (f.source s).reader.log.reads (f.source t).reader.log.reads;
     wants = λ s. (grammar_of f s).most - length (rest (f.source s));
     ends = λ s how t. (f.held t ≡ None) × PiecesEnd f s how t;
     closed = λ s. HasEnded f s;
-    fresh = λ s. ((f.source s).reader.block.bytes ≡ []) × ((f.target s).block.bytes ≡ []) × (f.held s ≡ None);
-    due = λ s. f.due (f.source s).decoder (f.service s);
+    fresh = λ s. ((f.target s).block.bytes ≡ []) × (f.held s ≡ None);
+    due = λ s bytes. f.due (f.source s).decoder (f.service s) (rest (f.source s) ++ bytes);
     drops = f.drops;
     refused = f.refused;
   }

@@ -1,6 +1,7 @@
 -- What the calls of a filter of pieces do.
-use Rattle.std.proofs.Common.{◌≡◌, ℕ, ◌+◌, ◌≤◌, ◌<◌, ◌⊎◌, inl, inr, Bool, true, false, List, [], ◌∷◌, ◌++◌, length, Option, None, Some, Result, Ok, Err, refl, sym, ap, subst, ◌∙◌, arith, length-append}
+use Rattle.std.proofs.Common.{◌≡◌, ℕ, ◌+◌, ◌≤◌, ◌<◌, ◌⊎◌, inl, inr, Bool, true, false, List, [], ◌∷◌, ◌++◌, length, Option, None, Some, Result, Ok, Err, refl, sym, ap, subst, ◌∙◌, arith, append-nil, length-append}
 use Rattle.std.proofs.lemmas.Bool.{true≢false}
+use Rattle.std.proofs.lemmas.List.{append_cancel_left}
 use Rattle.std.specs.declared.io.Error.{Error}
 use Rattle.buffer_redux.specs.BufWriter.{WasFlushed, WritesInOrder}
 use Rattle.buffer_redux.specs.Faults.{MetInterrupts, SendErrorCaused, MetInterrupts-none}
@@ -8,7 +9,7 @@ use Rattle.buffer_redux.specs.LogGrows.{ReadLogGrows-none}
 use Rattle.buffer_redux.specs.StreamLog.{StreamLog}
 use Rattle.buffer_redux.specs.WriterLaws.{WritesInOrder-none}
 use Rattle.piece_reader.specs.Decoding.{IsLent, bytes_at}
-use Rattle.piece_reader.specs.Grammar.{IsOpen}
+use Rattle.piece_reader.specs.Grammar.{Begins, IsOpen}
 use Rattle.piece_reader.specs.NextPiece.{AskedWhere, Faulted, NextAnswer, NextPiece, PiecesWent, StaysLeft, empties}
 use Rattle.piece_reader.specs.NextPieceLaws.{MetEnd-once}
 use Rattle.piece_reader.specs.PieceReader.{IsPieceReader, ReaderState, rest}
@@ -24,7 +25,7 @@ use Rattle.forward.specs.declared.error.AskError.{AskError}
 use Rattle.programs.specs.FlushesLaws.{FlushesOnce-flush}
 use Rattle.programs.specs.PromptLaws.{WritesOn-unflushed}
 use Rattle.programs.specs.Streams.{AllSent}
-use Rattle.programs.specs.TakenIn.{taken_more}
+use Rattle.programs.specs.TakenIn.{IsStill, IsStill-same, taken_more}
 use Rattle.piece_filter.specs.Pieces.{CanShow, HandsPieces, HasEnded, IsReady, Keeps, Piecewise, TakesPieces, grammar_of, held_at, held_of, piece_rules}
 use Rattle.piece_filter.specs.PiecesLaws.{answers_one, hands_nothing, hands_one, none_held, takes_nothing}
 
@@ -152,8 +153,9 @@ module _ {T R D X A W E : Type 0} (remaining : R → Option (List ℕ)) (f : Pie
       (steady : (f.target t).log.writes.flushes ≡ (f.target s).log.writes.flushes) where
     pub passed : (payload reply : List ℕ) → Took (payload ∷ []) → f.answers (f.service s) payload reply (f.service t)
         → WritesInOrder (f.target s) reply (f.target t) → MetInterrupts (f.target s).log.writes (f.target t).log.writes
-        → (0 < length reply) ⊎ (f.drops × (f.sent s → f.sent t)) → Passes rules s (Ok true) t
-    passed payload reply took is taken met some = record {
+        → (0 < length reply) ⊎ (f.drops × (f.sent s → f.sent t))
+        → (length reply ≤ rules.room s → IsStill (f.target s) (f.target t)) → Passes rules s (Ok true) t
+    passed payload reply took is taken met some still = record {
       told = took.told;
       ready = took.leaves;
       closed = took.closed;
@@ -174,6 +176,7 @@ module _ {T R D X A W E : Type 0} (remaining : R → Option (List ℕ)) (f : Pie
           | inl more ↦ inl (omega (arith, taken_more (f.target s) (f.target t) reply taken, more))
           | inr dropped ↦ inr dropped
         ],
+        λ room. still (omega (arith, room, taken_more (f.target s) (f.target t) reply taken)),
       );
     }
 
@@ -190,8 +193,11 @@ module _ {T R D X A W E : Type 0} (remaining : R → Option (List ℕ)) (f : Pie
     }
 
   -- all was flushed, or not
-  module _ (took : Took []) (held : f.held t ≡ f.held s) (same : f.service t ≡ f.service s) (tells : W → StreamLog)
-      (trace : W → W → Type 0) where
+  module _ (still : f.source t ≡ f.source s) (also : f.also t) (held : f.held t ≡ f.held s) (same : f.service t ≡ f.service s)
+      (tells : W → StreamLog) (trace : W → W → Type 0) where
+    took : Took []
+    took = took_none still also held
+
     flush_answers : (answer : Result (Unit {0}) Error) → WasFlushed tells trace (f.target s) answer (f.target t)
         → ((x : Unit {0}) → answer ≡ Ok x → AllSent (f.target t) → f.sent t) → FlushAnswers rules s answer t
     flush_answers (Ok x) w sends = (sends x refl (record { empty = w.ok.empty; flushed = w.ok.flushed }), w.ok.met)
@@ -208,7 +214,7 @@ module _ {T R D X A W E : Type 0} (remaining : R → Option (List ℕ)) (f : Pie
       flushes = FlushesOnce-flush (f.target s) (f.target t) answer w.steps;
       quiet = λ drops sent. absurd (unsent drops sent);
       moves = record { hands = took.hands; takes = takes_nothing remaining f s t same w.in_order };
-      lacks = λ lacks. held ∙ lacks;
+      lacks = λ lacks. (held ∙ lacks.0, subst (λ m. ¬ (Begins (f.grammar m.decoder) (rest m))) (sym still) lacks.1);
       answers = flush_answers answer w sends;
     }
 
@@ -222,8 +228,9 @@ module _ {T R D X A W E : Type 0} (remaining : R → Option (List ℕ)) (f : Pie
         (subst (WritesInOrder (f.target s) []) (sym same) (WritesInOrder-none (f.target s)))
 
     -- none was there
-    pub none_passed : f.held t ≡ None → StaysLeft (grammar_of f s) (f.source s) (f.source t) → Passes rules s (Ok false) t
-    none_passed none stays = record {
+    pub none_passed : f.held t ≡ None → StaysLeft (grammar_of f s) (f.source s) (f.source t)
+        → ¬ (Begins (grammar_of f s) (rest (f.source s))) → Passes rules s (Ok false) t
+    none_passed none stays no_piece = record {
       told = ap (λ m. m.reader.log) stays.same;
       ready = record {
         whole = subst (λ d. IsPieceReader (f.grammar d) (f.source t)) (sym (ap (λ m. m.decoder) stays.same)) stays.whole;
@@ -242,9 +249,10 @@ module _ {T R D X A W E : Type 0} (remaining : R → Option (List ℕ)) (f : Pie
         },
         subst (λ v. MetInterrupts (f.target s).log.writes v.log.writes) (sym same)
             (MetInterrupts-none (f.target s).log.writes),
-        none,
+        (none, subst (λ m. ¬ (Begins (f.grammar m.decoder) (rest m))) (sym stays.same) no_piece),
         λ has. has lacks,
         λ _. keeps.sent,
+        IsStill-same (f.target s) (f.target t) same,
       );
     }
 
@@ -267,11 +275,36 @@ module _ {T R D X A W E : Type 0} (remaining : R → Option (List ℕ)) (f : Pie
         answers = answers;
       }
 
+      -- what wasn't buffered was asked for
+      more_asked : ¬ (Begins (grammar_of f s) (rest (f.source s))) → (payload : List ℕ) → Next (Ok (Some payload))
+          → ¬ ((f.source t).reader.log ≡ (f.source s).reader.log)
+      more_asked no_piece payload next told =
+          let hands = next.went.hands in
+          let given = (f.source s).reader.log.reads.given in
+          let none : hands.got ≡ [] = append_cancel_left given hands.got []
+          (sym hands.given ∙ ap (λ l. l.reads.given) told ∙ sym (append-nil given)) in
+          let left = rest (f.source s) in
+          elim next.answers.1 [
+            | inl whole ↦ no_piece (record {
+              piece = next.bytes;
+              payload = payload;
+              more = rest (f.source t);
+              is = whole.0;
+              equal = sym (append-nil left) ∙ ap (λ l. left ++ l) (sym none) ∙ sym hands.equal;
+            })
+            | inr last ↦ omega (
+              arith,
+              MetEnd-once (f.source s) (f.source t) going last.5,
+              ap (λ l. l.reads.zero_reads) told,
+            )
+          ]
+
       -- a payload came, and is held
       pub asked_more : (span : Span) → f.held t ≡ Some span
           → IsLent (grammar_of f t) (f.source t).handed (f.source t).reader.block.bytes span
+          → ¬ (Begins (grammar_of f s) (rest (f.source s)))
           → Next (Ok (Some (bytes_at span (f.source t).reader.block.bytes))) → Asks rules s (Ok true) t
-      asked_more span is lent next =
+      asked_more span is lent no_piece next =
           let payload = bytes_at span (f.source t).reader.block.bytes in
           asked (Ok (Some payload)) next (subst (CanShow (grammar_of f t) (f.source t)) (sym is) lent)
           (hands_one remaining f s t payload [] going next
@@ -290,6 +323,7 @@ module _ {T R D X A W E : Type 0} (remaining : R → Option (List ℕ)) (f : Pie
               })
               | inr last ↦ inr last.4
             ],
+            λ none. more_asked no_piece payload next,
           )
 
       -- no payload came

@@ -203,7 +203,7 @@ module _ {T R D X A W E : Type 0} (remaining : R → Option (List ℕ)) (f : Pie
     ends_after a b c p (Err why) h end = sound.wrong_after a b c why h.went.grows.zero_reads end
 
     asks_sent : (first s t : T) (p : List (List ℕ)) → rules.fresh first → Moves rules first p p s → StaysOpen rules first s
-        → f.held s ≡ None → f.sent s → rules.asks s t → AsksSent rules first s t
+        → rules.lacks s → f.sent s → rules.asks s t → AsksSent rules first s t
     asks_sent first s t p fresh moves still lacks sent (inl same, grows) = inl same
     asks_sent first s t p fresh moves (inr closed) lacks sent (inr over, grows) =
         absurd (true≢false (sym closed ∙ over.not_ended))
@@ -212,20 +212,22 @@ module _ {T R D X A W E : Type 0} (remaining : R → Option (List ℕ)) (f : Pie
         let takes = moves.takes in
         let left = rest (f.source s) in
         let d = (f.source first).decoder in
+        let came = hands.went.hands in
         let whole : IsPieces (f.grammar d) hands.bytes p [] = elim hands.text [
-          | inl is ↦ subst (λ l. IsPieces (f.grammar d) hands.bytes l []) (handed_all first s p hands fresh.2 lacks) is
+          | inl is ↦ subst (λ l. IsPieces (f.grammar d) hands.bytes l []) (handed_all first s p hands fresh.1 lacks.0) is
           | inr last ↦ absurd (true≢false (sym last.1 ∙ over.not_ended))
         ] in
         inr (record {
-          before = (hands.bytes ++ left) ++ over.came;
-          asked = AskedLast-after (f.source first).reader.log (f.source s).reader.log (f.source t).reader.log
-              (hands.bytes ++ left) over.came (given_since (f.source first) (f.source s) hands.bytes fresh.0 hands.went.hands)
-              gives.give (asked_last (IsOpen (grammar_of f s)) (f.source s) (f.source t) over grows);
+          before = came.got ++ over.came;
+          asked = AskedLast-after (f.source first).reader.log (f.source s).reader.log (f.source t).reader.log came.got over.came
+              came.given gives.give (asked_last (IsOpen (grammar_of f s)) (f.source s) (f.source t) over grows);
           due = takes.reply;
-          is_due = subst (λ l. f.due d (f.service first) l takes.reply) (sym (append_assoc hands.bytes left over.came))
+          is_due = subst (λ l. f.due d (f.service first) l takes.reply)
+              (sym (append_assoc hands.bytes left over.came) ∙ ap (λ l. l ++ over.came) came.equal
+              ∙ append_assoc (rest (f.source first)) came.got over.came)
               (sound.is_due d (f.service first) (f.service s) hands.bytes (left ++ over.came) takes.reply p whole
               (subst (λ d. IsOpen (f.grammar d) (left ++ over.came)) hands.went.decoder over.such) takes.answers);
-          sent = sent_all (f.target first) (f.target s) takes.reply takes.in_order fresh.1 (sound.all_sent s sent);
+          sent = sent_all (f.target first) (f.target s) takes.reply takes.in_order fresh.0 (sound.all_sent s sent);
         })
 
     pub piece_lawful : IsLawful (piece_rules remaining f)
@@ -235,7 +237,8 @@ module _ {T R D X A W E : Type 0} (remaining : R → Option (List ℕ)) (f : Pie
       takes_none = takes_none;
       takes_joins = takes_joins;
       ends_after = λ a b c p how h still end. (end.0, ends_after a b c p how h end.1);
-      waits_lacks = λ s waits. waits.0;
+      waits_lacks = λ s waits. (waits.0, waits.1.no_piece);
+      waits_fresh = λ s waits sent. ((sound.all_sent s sent).empty, waits.0);
       received_taken = λ s. omega arith;
       taken_on = λ s t p taken. omega (arith, taken_more (f.target s) (f.target t) taken.reply taken.in_order);
       asks_sent = asks_sent;

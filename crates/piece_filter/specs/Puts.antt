@@ -12,7 +12,8 @@ abbrev pub IsRefused : {W P : Type 0} → ℕ → Error → Buffered W P → Typ
 IsRefused count e t = (more : ℕ) × (more ≤ count) × (t.block.bytes ≡ []) × GrowthFailed more t.block e
 
 -- all of these bytes were taken in, or nothing, and nothing was flushed. Where they fit the inner writer isn't called, and else
--- what was buffered is sent first. The buffer grows only where they are more than its capacity
+-- what was buffered is sent first. The buffer grows only where they are more than its capacity, and then by so many at most, but
+-- for what rounds up to pages
 pub record Puts {W : Type 0} (s : Buffered W StdPolicy) (bytes : List ℕ) (answer : Result (Unit {0}) Error)
     (t : Buffered W StdPolicy) : Type 0 where
   pub taken : MatchResult answer (λ _. WritesInOrder s bytes t) (λ e. WritesInOrder s [] t)
@@ -21,6 +22,7 @@ pub record Puts {W : Type 0} (s : Buffered W StdPolicy) (bytes : List ℕ) (answ
   pub full : s.block.capacity < length s.block.bytes + length bytes → OnOk answer (t.block.bytes ≡ bytes)
   pub caused : IfErr answer (λ e. SendErrorCaused s.log.writes t.log.writes e ⊎ IsRefused (length bytes) e t)
   pub kept : length bytes ≤ s.block.capacity → t.block.capacity ≡ s.block.capacity
+  pub grown : t.block.capacity ≤ s.block.capacity + length bytes + 4095
   pub limit : t.block.limit ≡ s.block.limit
   pub not_flushed : t.log.writes.flushed ≡ s.log.writes.flushed
   pub flushes : t.log.writes.flushes ≡ s.log.writes.flushes

@@ -43,10 +43,9 @@ pub struct Answering<R: TellRead, D: Decoder, W: TellWrite, S: Answer> {
 }
 
 impl<R: TellRead, D: Decoder, W: TellWrite, S: Answer> Answering<R, D, W, S> {
-    /// A filter before the first piece.
+    /// A filter before the first piece. What `source` has buffered goes over first.
     pub fn new(source: PieceReader<R, D>, target: BufWriter<W>, service: S) -> Answering<R, D, W, S>
         requires whole { IsPieceReader (D.grammar source.decoder) source }
-        requires unread { source.reader.block.bytes ≡ [] }
         requires unwritten { target.block.bytes ≡ [] }
         ensures ready { IsReady (answering D.grammar S.answers) result }
         ensures fresh { (piece_rules R.remaining (answering D.grammar S.answers)).fresh result }

@@ -11,6 +11,14 @@ use Rattle.programs.specs.Streams.{AllSent}
 abbrev pub taken_in : {W P : Type 0} → Buffered W P → ℕ
 taken_in u = length u.log.writes.received + length u.block.bytes
 
+-- the writer inside wasn't called, and the buffer has the same capacity
+pub record IsStill {W P : Type 0} (u v : Buffered W P) : Type 0 where
+  pub told : v.log ≡ u.log
+  pub capacity : v.block.capacity ≡ u.block.capacity
+
+pub IsStill-same : {W P : Type 0} (u v : Buffered W P) → v ≡ u → IsStill u v
+IsStill-same u v same = record { told = ap (λ x. x.log) same; capacity = ap (λ x. x.block.capacity) same }
+
 module _ {W P : Type 0} (u v : Buffered W P) (accepted : List ℕ) (taken : WritesInOrder u accepted v) where
   -- from an empty buffer on, all that was taken in was received once all was sent
   module _ (none : u.block.bytes ≡ []) (sent : AllSent v) where

@@ -10,11 +10,12 @@ use redux_play::laws::keep_unsent_lines;
 use std::io;
 use std::io::{ErrorKind, Write};
 
-/// Writes to the log, and returns how many bytes it took: all, unless there was a fault.
+/// Writes to the log, and returns how many bytes it took: all, unless there was a fault. The device isn't flushed.
 pub fn put<W: TellWrite>(log: &mut LineWriter<W>, text: &[u8]) -> (usize, io::Result<()>)
     ensures taken { WritesInOrder log.old (take result.0 text.now) log.new }
     ensures all { OnOk result.1 (result.0 ≡ length text.now) }
     ensures caused { IfErr result.1 (DeviceFailed log.old.log.writes log.new.log.writes) }
+    ensures flushes { log.new.log.writes.flushes ≡ log.old.log.writes.flushes }
 {
     let mut at = 0;
     while at < text.len() {

@@ -1,6 +1,6 @@
 //! A policy of one's own that claims a minimum, and what follows of the claim for whoever fills under it.
-ghost use Rattle.std.specs.Prelude.{◌≡◌, ◌≤◌, Some, Ok, false, IfOk, IsTrue, length};
-ghost use Rattle.buffer_redux.specs.BufReader.{RanDry};
+ghost use Rattle.std.specs.Prelude.{◌≡◌, ◌≤◌, [], Some, Ok, false, IfOk, IsTrue, length};
+ghost use Rattle.buffer_redux.specs.BufReader.{RanDry, ReadsInOrder};
 
 use buffer_redux::policy::{DoRead, ReaderPolicy};
 use buffer_redux::tell::TellRead;
@@ -32,10 +32,11 @@ impl ReaderPolicy for HeaderFirst {
     fn after_consume(&mut self, _buffer: &mut Buffer, _amt: usize) {}
 }
 
-/// Whether sixteen bytes are in sight; if not, the stream has ended.
+/// Whether sixteen bytes are in sight; if not, the stream has ended. They stay in the reader.
 pub fn sees_header<R: TellRead>(reader: &mut BufReader<R, HeaderFirst>) -> io::Result<bool>
     ensures seen { IfOk result (λ seen. IsTrue seen → 16 ≤ length reader.new.block.bytes) }
     ensures ended { result ≡ Ok false → RanDry reader.old reader.new }
+    ensures kept { ReadsInOrder reader.old [] reader.new }
 {
     Ok(reader.fill_buf()?.len() >= 16)
 }

@@ -1,4 +1,4 @@
-use Rattle.std.proofs.Common.{arith, drop, length-append, length-take-le, subst, sym}
+use Rattle.std.proofs.Common.{arith, drop, inl, inr, length-append, length-take-le, subst, sym}
 use Rattle.std.proofs.lemmas.List.{take-append-le}
 use Rattle.bodies.specs.Words.{std_read_rules, BodyWent}
 use Rattle.bodies.proofs.decoding.read_held.Goals as goal
@@ -13,6 +13,17 @@ returns g c =
           (sym (take-append-le c.read_buffered.result out more hands.bound)) hands.went;
       told = hands.told;
       bound = omega (arith, hands.bound, length-append out more);
+      all = λ none. elim hands.all [
+        | inl all ↦ absurd (omega (
+          arith,
+          none,
+          all,
+          c.requires,
+          c.read_buffered.auto.out,
+          length-take-le 8191 c.args.piece.now (omega (arith, c.requires)),
+        ))
+        | inr why ↦ why
+      ];
       whole = hands.whole;
     }
 

@@ -14,6 +14,8 @@ returns g c =
       );
       not_flushed = ap (λ l. l.writes.flushed) put.told ∙ made.not_flushed;
       flushes = ap (λ l. l.writes.flushes) put.told ∙ made.flushes;
+      fits = λ fit. put.told ∙ made.fits fit;
+      capacity = put.capacity ∙ made.capacity;
       target = record {
         plain = put.kind ∙ made.kind ∙ c.requires.target.plain;
         capacity = omega (arith, put.capacity, made.capacity, c.requires.target.capacity);

@@ -1,4 +1,4 @@
-use Rattle.std.proofs.Common.{[], None, ap, append-nil, arith, inl, refl, ◌∙◌}
+use Rattle.std.proofs.Common.{[], None, ap, append-nil, arith, length-append, inl, refl, ◌∙◌}
 use Rattle.std.proofs.lemmas.Result.{err_from_is_err_and}
 use Rattle.frame_reader.specs.WriteFrameLaws.{PiecesTaken-frames}
 use Rattle.piece_filter.specs.PiecesCalls.{lost, passed, took_held, took_none}
@@ -30,3 +30,4 @@ returns g c =
     (lines_on c.args.filter.now t ready.also refl wrote.taken.encoder ready.also.open' tt) c.args.span c.requires.held refl)
     (append-nil _ ∙ ap (λ l. frame l) c.lent.ensures) (PiecesTaken-frames g.W.TellWrite.trace s.target t.target _ wrote.taken)
     wrote.met (inl (some_frame c.lent.result.now))
+    (λ room. wrote.fits (omega (arith, room, length-append (frame c.lent.result.now) [])))

@@ -1,6 +1,7 @@
 use Rattle.std.proofs.Common.{None, refl, subst}
 use Rattle.forward.specs.Forward.{Forwards}
 use Rattle.forward.specs.ForwardLaws.{Goes-holds}
+use Rattle.piece_filter.specs.PieceRuns.{holds_unread}
 use Rattle.piece_filter.specs.Pieces.{piece_rules}
 use Rattle.frames.specs.Unpacking.{unpacking}
 use Rattle.frames.specs.declared.unpacking.Unpacking.{Unpacking}
@@ -15,9 +16,10 @@ returns g c =
     let t = c.forward-answer.new.link in
     let over = subst (λ k. Forwards rules k c.forward-answer.result t) c.new-link.ensures c.forward-answer.ensures in
     rw c.into_inner-source.ensures (record {
-      ran = unpacked_all g.R.TellRead.remaining first t.filter (c.requires.nothing, c.requires.empty, refl) c.requires.reads.told
+      ran = unpacked_all g.R.TellRead.remaining first t.filter (c.requires.empty, refl) c.requires.nothing c.requires.reads.told
           over.ready c.forward-answer.result c.outcome.result c.outcome.ensures over.answers;
-      prompt = Goes-holds rules _ t over.goes;
+      prompt = holds_unread g.R.TellRead.remaining unpacking first t.filter (c.requires.empty, refl) c.requires.nothing _ _ _ _
+          (Goes-holds rules _ t over.goes);
       once = over.once;
       flushes = over.flushes;
     })

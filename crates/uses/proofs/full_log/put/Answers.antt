@@ -13,6 +13,7 @@ loop-at-preserved g c =
     let rest = ap length (between_to_end text at (length text) (omega arith)) in record {
       within = omega (arith, c.in-Ok.ensures.bound, rest, length-drop at text);
       grows = WriteLogGrows-joins _ _ _ before.grows c.in-Ok.ensures.keeps.grows;
+      flushes = omega (arith, before.flushes, c.in-Ok.ensures.keeps.flushes);
       taken = WritesInOrder-piece _ _ _ text at _ before.within before.taken c.in-Ok.ensures.in_order;
     }
 
@@ -44,3 +45,12 @@ returns-in-Ok-eq0-clause-caused g c =
         steady.1 refl (omega (arith, rest, length-drop at text, c.loop-at-test.true)),
       );
     })
+
+pub returns-in-Ok-eq0-clause-flushes : goal.returns-in-Ok-eq0-clause-flushes
+returns-in-Ok-eq0-clause-flushes g c = omega (arith, c.loop-at.invariant.flushes, c.in-Ok-eq0.ensures.keeps.flushes)
+
+pub returns-in-Err-clause-flushes : goal.returns-in-Err-clause-flushes
+returns-in-Err-clause-flushes g c = omega (arith, c.loop-at.invariant.flushes, c.in-Err.ensures.keeps.flushes)
+
+pub returns-clause-flushes : goal.returns-clause-flushes
+returns-clause-flushes g c = c.loop-at.invariant.flushes

@@ -1,4 +1,4 @@
-use Rattle.std.proofs.Common.{◌-◌, ◌≤◌, length, take}
+use Rattle.std.proofs.Common.{◌≡◌, ◌-◌, ◌≤◌, length, take}
 use Rattle.buffer_redux.specs.BufWriter.{WritesInOrder}
 use Rattle.buffer_redux.specs.LogGrows.{WriteLogGrows}
 use Rattle.uses.proofs.full_log.put.Given as goal
@@ -8,6 +8,7 @@ abbrev pub invariant-loop-at : goal.invariant-loop-at
 invariant-loop-at g l = record {
   within : l.at ≤ length l.text;
   grows : WriteLogGrows l.initial.log.log.writes l.log.log.writes;
+  flushes : l.log.log.writes.flushes ≡ l.initial.log.log.writes.flushes;
   taken : WritesInOrder l.initial.log (take l.at l.text) l.log;
 }
 

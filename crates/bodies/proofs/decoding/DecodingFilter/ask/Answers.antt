@@ -6,18 +6,18 @@ pub returns-in-Ok-eq0 : goal.returns-in-Ok-eq0
 returns-in-Ok-eq0 g c =
     let len = c.read_payload.auto.out ∙ ap length c.as_mut_slice.ensures.value in
     let looked = c.ask_behind.ensures in
-    rw looked.equal (asked_behind g.R.TellRead.remaining c.args.self.now c.requires.ready c.requires.lacks
+    rw looked.equal (asked_behind g.R.TellRead.remaining c.args.self.now c.requires.ready c.requires.lacks.0
     c.read_payload.new.self c.read_payload.new.out len c.in-Ok-eq0.field-0 c.in-Ok-eq0.field-0-test
     c.in-Ok-eq0.ensures.reads c.ask_behind.new.source looked.end looked.looks)
 
 pub returns-in-Ok : goal.returns-in-Ok
 returns-in-Ok g c =
     let len = c.read_payload.auto.out ∙ ap length c.as_mut_slice.ensures.value in
-    asked_more g.R.TellRead.remaining c.args.self.now c.requires.ready c.requires.lacks c.read_payload.new.self
+    asked_more g.R.TellRead.remaining c.args.self.now c.requires.ready c.requires.lacks.0 c.read_payload.new.self
     c.read_payload.new.out len c.in-Ok.count c.in-Ok.ensures.reads (omega (arith, c.in-Ok.count-test))
 
 pub returns-in-Err : goal.returns-in-Err
 returns-in-Err g c =
     let len = c.read_payload.auto.out ∙ ap length c.as_mut_slice.ensures.value in
-    rw c.ask_error.ensures (asked_failed g.R.TellRead.remaining c.args.self.now c.requires.ready c.requires.lacks
+    rw c.ask_error.ensures (asked_failed g.R.TellRead.remaining c.args.self.now c.requires.ready c.requires.lacks.0
     c.read_payload.new.self c.read_payload.new.out len c.in-Err.e c.in-Err.ensures.reads)

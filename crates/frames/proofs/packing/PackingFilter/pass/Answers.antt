@@ -1,4 +1,4 @@
-use Rattle.std.proofs.Common.{◌∷◌, [], ap, append-nil, arith, inl, refl, subst, sym, ◌∙◌}
+use Rattle.std.proofs.Common.{◌∷◌, [], ap, append-nil, length-append, arith, inl, refl, subst, sym, ◌∙◌}
 use Rattle.std.proofs.lemmas.Result.{err_from_is_err_and}
 use Rattle.frame_reader.specs.WriteFrameLaws.{PiecesTaken-frames}
 use Rattle.line_reader.specs.LinesAlongLaws.{NextBuffered-none, NextBuffered-some}
@@ -39,7 +39,7 @@ returns-in_ok-write_line-in-Some-next_buffered g c =
     (lines_on c.args.self.now t c.requires.also next.0.0.went.decoder wrote.taken.encoder next.0.1 (none_fits m _ none))
     line next.0.0 next.1)
     (append-nil (frame line)) (PiecesTaken-frames g.W.TellWrite.trace c.args.self.now.target t.target _ wrote.taken) wrote.met
-    (inl (some_frame line))
+    (inl (some_frame line)) (λ room. wrote.fits (omega (arith, room, length-append (frame line) [])))
 
 pub returns-in-None : goal.returns-in-None
 returns-in-None g c =
@@ -51,4 +51,4 @@ returns-in-None g c =
     none_passed g.R.TellRead.remaining packing c.requires t none
     (record { target = refl; service = refl; sent = λ sent. sent })
     (lines_on c.args.self.now t c.requires.also (ap (λ x. x.decoder) looked.0.same) refl (looked.2 ∙ c.requires.also.open')
-    (none_fits m _ none)) none looked.0
+    (none_fits m _ none)) none looked.0 looked.1

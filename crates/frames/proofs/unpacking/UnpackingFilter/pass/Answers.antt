@@ -5,7 +5,7 @@ use Rattle.piece_filter.specs.PiecesCalls.{lost, none_passed, not_held, passed, 
 use Rattle.frames.specs.Words.{with_end}
 use Rattle.frames.specs.Unpacking.{unpacking}
 use Rattle.frames.specs.UnpackingLaws.{some_line}
-use Rattle.frames.proofs.Unpacks.{frames_on}
+use Rattle.frames.proofs.Unpacks.{frames_on, still_line}
 use Rattle.frames.proofs.unpacking.UnpackingFilter.pass.Goals as goal
 
 pub returns-in_err-print_line : goal.returns-in_err-print_line
@@ -28,6 +28,7 @@ returns-in-Some g c =
     (took_held g.R.TellRead.remaining unpacking c.requires t refl
     (frames_on c.args.self.now t frames refl frames.told wrote.kind wrote.capacity) c.in-Some.span c.in-Some.is refl)
     (ap (λ l. with_end l) c.lent.ensures) wrote.taken wrote.met (inl (some_line c.lent.result.now))
+    (still_line s.target t.target c.lent.result.now wrote.fits wrote.capacity)
 
 pub returns-in_err-print_line-in-Some-next_buffered : goal.returns-in_err-print_line-in-Some-next_buffered
 returns-in_err-print_line-in-Some-next_buffered g c =
@@ -59,6 +60,7 @@ returns-in_ok-print_line-in-Some-next_buffered g c =
     (frames_on s t c.requires.also next.0.went.decoder
     (NextPiece-reads g.R.TellRead.remaining s.source m _ next.0).told wrote.kind wrote.capacity) some.payload.now next.0 next.1)
     refl wrote.taken wrote.met (inl (some_line some.payload.now))
+    (still_line s.target t.target some.payload.now wrote.fits wrote.capacity)
 
 pub returns-in-None : goal.returns-in-None
 returns-in-None g c =
@@ -70,4 +72,4 @@ returns-in-None g c =
     none_passed g.R.TellRead.remaining unpacking c.requires t none
     (record { target = refl; service = refl; sent = λ sent. sent })
     (frames_on s t c.requires.also (ap (λ x. x.decoder) stays.0.same)
-    (ap (λ x. x.ended) stays.0.same ∙ c.requires.also.told) refl refl) none stays.0
+    (ap (λ x. x.ended) stays.0.same ∙ c.requires.also.told) refl refl) none stays.0 stays.1

@@ -6,17 +6,17 @@ use Rattle.piece_filter.proofs.answering.AnsweringFilter.ask.Goals as goal
 
 pub returns-then-has_ended : goal.returns-then-has_ended
 returns-then-has_ended g c =
-    asked_ended g.R.TellRead.remaining g.D.Decoder.grammar g.S.Answer.answers c.requires.ready c.requires.lacks
+    asked_ended g.R.TellRead.remaining g.D.Decoder.grammar g.S.Answer.answers c.requires.ready c.requires.lacks.0
     (sym c.has_ended.ensures.value ∙ c.if-has_ended.true)
 
 pub returns-in-Ok-Some : goal.returns-in-Ok-Some
 returns-in-Ok-Some g c =
     let m = c.step.new.self in
     let grammar = g.D.Decoder.grammar c.args.self.now.source.decoder in
-    asked_more g.R.TellRead.remaining g.D.Decoder.grammar g.S.Answer.answers c.requires.ready c.requires.lacks m
+    asked_more g.R.TellRead.remaining g.D.Decoder.grammar g.S.Answer.answers c.requires.ready c.requires.lacks.0 m
     (sym c.has_ended.ensures.value ∙ c.if-has_ended.false) c.in-Ok-Some.span
     (subst (λ found. IfSome found (IsLent (g.D.Decoder.grammar m.decoder) m.handed m.reader.block.bytes))
-    c.in-Ok-Some.field-0-is c.in-Ok-Some.ensures.lends)
+    c.in-Ok-Some.field-0-is c.in-Ok-Some.ensures.lends) c.requires.lacks.1
     (subst (λ found. NextPiece g.R.TellRead.remaining grammar c.args.self.now.source (load_answer (Ok found) m) m)
     c.in-Ok-Some.field-0-is c.in-Ok-Some.ensures.next)
 
@@ -24,27 +24,27 @@ pub returns-in-Ok-None : goal.returns-in-Ok-None
 returns-in-Ok-None g c =
     let m = c.step.new.self in
     let grammar = g.D.Decoder.grammar c.args.self.now.source.decoder in
-    asked_none g.R.TellRead.remaining g.D.Decoder.grammar g.S.Answer.answers c.requires.ready c.requires.lacks m
+    asked_none g.R.TellRead.remaining g.D.Decoder.grammar g.S.Answer.answers c.requires.ready c.requires.lacks.0 m
     (sym c.has_ended.ensures.value ∙ c.if-has_ended.false)
     (subst (λ found. NextPiece g.R.TellRead.remaining grammar c.args.self.now.source (load_answer (Ok found) m) m)
     c.in-Ok-None.field-0-is c.in-Ok-None.ensures.next)
 
 pub returns-in-Err-Wrong : goal.returns-in-Err-Wrong
 returns-in-Err-Wrong g c =
-    asked_wrong g.R.TellRead.remaining g.D.Decoder.grammar g.S.Answer.answers c.requires.ready c.requires.lacks c.step.new.self
+    asked_wrong g.R.TellRead.remaining g.D.Decoder.grammar g.S.Answer.answers c.requires.ready c.requires.lacks.0 c.step.new.self
     (sym c.has_ended.ensures.value ∙ c.if-has_ended.false) c.in-Err-Wrong.why
     (rw c.in-Err-Wrong.field-0-is at c.in-Err-Wrong.ensures.next)
 
 pub returns-then-rest-have : goal.returns-then-rest-have
 returns-then-rest-have g c =
-    asked_behind g.R.TellRead.remaining g.D.Decoder.grammar g.S.Answer.answers c.requires.ready c.requires.lacks c.step.new.self
+    asked_behind g.R.TellRead.remaining g.D.Decoder.grammar g.S.Answer.answers c.requires.ready c.requires.lacks.0 c.step.new.self
     (sym c.has_ended.ensures.value ∙ c.if-has_ended.false) c.in-Err-Io.e
     (rw c.in-Err-Io.field-0-is at c.in-Err-Io.ensures.next)
     (omega (arith, c.if-rest-have.true, ap length c.rest.ensures.value, ap length c.rest-have.ensures.value))
 
 pub returns-else-rest-have : goal.returns-else-rest-have
 returns-else-rest-have g c =
-    asked_idle g.R.TellRead.remaining g.D.Decoder.grammar g.S.Answer.answers c.requires.ready c.requires.lacks c.step.new.self
+    asked_idle g.R.TellRead.remaining g.D.Decoder.grammar g.S.Answer.answers c.requires.ready c.requires.lacks.0 c.step.new.self
     (sym c.has_ended.ensures.value ∙ c.if-has_ended.false) c.in-Err-Io.e
     (rw c.in-Err-Io.field-0-is at c.in-Err-Io.ensures.next)
     (omega (arith, c.if-rest-have.false, ap length c.rest.ensures.value, ap length c.rest-have.ensures.value))

@@ -13,4 +13,4 @@ pub returns-in-None : goal.returns-in-None
 returns-in-None g c =
     let m = c.step_buffered.new.self in
     none_passes g.R.TellRead.remaining g.D.Decoder.grammar g.S.Answer.answers c.requires c.in_default.is m
-    c.in-None.ensures.next.0
+    c.in-None.ensures.next.0 c.in-None.ensures.next.1
