@@ -19,10 +19,30 @@ if [ "${1-}" != built ] || [ ! -x "$program" ]; then
     (cd crates/resp_server && rt run < stdin > /dev/null) || exit 1
 fi
 scratch=$(mktemp -d) || exit 1
-port=17379
-socat "TCP-LISTEN:$port,bind=127.0.0.1,reuseaddr,fork" "EXEC:$program" &
+server=
+ends() {
+    if [ -n "$server" ]; then kill "$server" 2> /dev/null; fi
+    rm -rf "$scratch"
+}
+trap ends EXIT
+trap 'exit 129' HUP
+trap 'exit 130' INT
+trap 'exit 141' PIPE
+trap 'exit 143' TERM
+# Any port that is free: socat says which it took.
+socat -d -d TCP-LISTEN:0,bind=127.0.0.1,backlog=128,fork "EXEC:$program" 2> "$scratch/relay" &
 server=$!
-trap 'kill "$server"; rm -rf "$scratch"' EXIT
+tries=0
+until grep -qs 'listening on' "$scratch/relay"; do
+    tries=$((tries + 1))
+    if [ "$tries" -gt 100 ] || ! kill -0 "$server" 2> /dev/null; then
+        echo 'redis: socat does not listen' >&2
+        cat "$scratch/relay" >&2
+        exit 1
+    fi
+    sleep 0.1
+done
+port=$(sed -n 's/.*listening on .*:\([0-9]*\)$/\1/p' "$scratch/relay")
 failed=0
 
 client() { timeout 60 redis-cli -h 127.0.0.1 -p "$port" "$@"; }
@@ -36,16 +56,6 @@ says() { # the answer wanted, the command
         failed=1
     fi
 }
-
-tries=0
-until client PING > /dev/null 2>&1; do
-    tries=$((tries + 1))
-    if [ "$tries" -gt 50 ]; then
-        echo 'redis: the server is not there' >&2
-        exit 1
-    fi
-    sleep 0.1
-done
 
 # Each connection has a store of its own.
 says PONG PING
