@@ -117,6 +117,38 @@ row "${P}$C\r\n3;a\nb\r\nabc\r\n0\r\n\r\n$G" '400'
 row "${P}$C\r\nfffffffffffffffff\r\nabc" '400'
 row "${P}$C\r\n0\r\nT v\r\n\r\n$G" '400'
 
+# What is asked for isn't named plainly, or coded.
+for host in 'a b' 'a, b' 'a/b' 'a:bad' 'a:80:80' '\0377' '[::1' '[g]' ':80' 'a@b'; do
+    row "GET / HTTP/1.1\r\nHost: $host\r\n\r\n$G" '400'
+done
+for host in '' 'a' 'a:' 'a:80' 'A-b.c_d~1' '127.0.0.1:8080' '[::1]' '[::ffff:1.2.3.4]:80' 'a%20b'; do
+    row "GET / HTTP/1.1\r\nHost: $host\r\n\r\n$G" '200:0 200:0'
+done
+for target in 'x' '/#x' '*' '/\0042<>' '/a\0134b' '/\0377' 'http:/a' 'http://' '://a' 'a:80'; do
+    row "GET $target HTTP/1.1\r\n$H\r\n$G" '400'
+done
+for target in '/' '/a/b;c=d?e=%20f&g' 'http://a/b?c' 'http://[::1]:80/'; do
+    row "GET $target HTTP/1.1\r\n$H\r\n$G" '200:0 200:0'
+done
+row "OPTIONS * HTTP/1.1\r\n$H\r\n$G" '200:0 200:0'
+row "${P}Transfer-Encoding: gzip, chunked\r\n\r\n3\r\nabc\r\n0\r\n\r\n$G" '400'
+row "${P}Transfer-Encoding: identity, chunked\r\n\r\n3\r\nabc\r\n0\r\n\r\n$G" '400'
+
+# Empty lines in front of a head, or at the end, say nothing.
+row "\r\n$G" '200:0'
+row "\r\n\r\n$G" '200:0'
+row "$G\r\n" '200:0'
+row "$G\r\n\r\n" '200:0'
+row "\r\n" ''
+row "$G\n" '200:0 400'
+row "$G\r\n\r" '200:0'
+
+# A target of 8,000 bytes and a few fields are read, and a head that is too long isn't.
+long=$(printf '%08000d' 0)
+row "GET /$long HTTP/1.1\r\n${H}X: $(printf '%0200d' 0)\r\n\r\n$G" '200:0 200:0'
+row "GET /$long$long$long HTTP/1.1\r\n$H\r\n$G" '400'
+row "GET / HTTP/1.1\r\n${H}X: $long$long$long\r\n\r\n$G" '400'
+
 # Cut short.
 row "GET / HTTP/1.1\r\n${H}X: " '400'
 row "${P}Content-Length: 5\r\n\r\nhel" '400'

@@ -1,5 +1,5 @@
 -- Heads of requests, and what they say of the body.
-use Rattle.std.specs.Prelude.{◌≡◌, ◌≢◌, ℕ, ◌≤◌, ◌==◌, ◌↔◌, ◌&&◌, ◌||◌, not, nat_lt, if◌then◌else◌, Bool, List, [], length, IsTrue, Option, None, Some, Result, Ok}
+use Rattle.std.specs.Prelude.{◌≡◌, ◌≢◌, ℕ, ◌≤◌, ◌==◌, ◌↔◌, ◌&&◌, ◌||◌, not, nat_lt, if◌then◌else◌, Bool, false, List, [], length, map, All, IsTrue, Option, None, Some, Result, Ok}
 use Rattle.codec.specs.declared.HeaderError.{HeaderError}
 use Rattle.codec.specs.declared.HeaderError.TheVariants.{Truncated}
 use Rattle.codec.specs.declared.scan.ScanStep.{ScanStep}
@@ -15,23 +15,28 @@ use Rattle.http1.specs.declared.fields.KnownFields.{KnownFields}
 use Rattle.http1.specs.Framing.{method_kind, request_framing}
 use Rattle.http1.specs.Message.{has_one_host, known_of}
 use Rattle.httparse.specs.Grammar.{ReadsRequest, RequestHead}
+use Rattle.httparse.specs.Spans.{name_and_value}
+use Rattle.messages.specs.Target.{is_plain_field, is_target}
 use Rattle.messages.specs.declared.head.BadHead.{BadHead}
 use Rattle.messages.specs.declared.head.BadHead.TheVariants.{Lines, Refused}
 use Rattle.messages.specs.declared.head.Extent.{Extent}
 use Rattle.messages.specs.declared.head.Extent.TheVariants as extent
 use Rattle.messages.specs.declared.head.ParsedHead.{ParsedHead}
 use Rattle.messages.specs.declared.lines.Before.{Before}
-use Rattle.messages.specs.declared.lines.Before.TheVariants.{Text, Return, Feed, EmptyReturn}
+use Rattle.messages.specs.declared.lines.Before.TheVariants.{Start, StartReturn, Text, Return, Feed, EmptyReturn}
 
--- one more byte of a head: each CR and LF is one of a CR LF, and behind an empty line the head ends
+-- one more byte of a head: each CR and LF is one of a CR LF, and behind an empty line the head ends, but for such in front of it,
+-- which say nothing (RFC 9112, section 2.2)
 abbrev pub turn : Before → ℕ → ScanStep Before
+turn Start byte = if byte == 13 then More StartReturn else (if byte == 10 then Bad else More Text)
+turn StartReturn byte = if byte == 10 then More Start else Bad
 turn Text byte = if byte == 13 then More Return else (if byte == 10 then Bad else More Text)
 turn Return byte = if byte == 10 then More Feed else Bad
 turn Feed byte = if byte == 13 then More EmptyReturn else (if byte == 10 then Bad else More Text)
 turn EmptyReturn byte = if byte == 10 then Sized 0 else Bad
 
 abbrev pub lines : Scanning Before
-lines = record { start = Text; turn = turn; most_header = 8192; max = 0; tail = [] }
+lines = record { start = Start; turn = turn; most_header = 16384; max = 0; tail = [] }
 
 -- lines up to an empty one, as pieces
 abbrev pub texts : Grammar HeaderError
@@ -52,8 +57,9 @@ keeps minor known = not known.close && (nat_lt 0 minor || known.keep_alive)
 abbrev pub expects : ℕ → KnownFields → Bool
 expects minor known = nat_lt 0 minor && known.expect_continue
 
--- these bytes are just the head of a request, which says so (RFC 9112, section 6): at most one field says where the body ends, no
--- tunnel begins behind it, and it has one `Host`, which HTTP/1.0 may leave out. An answer to `HEAD` has no body
+-- these bytes are just the head of a request, which says so (RFC 9112, section 6): at most one field says where the body ends, with
+-- no coding but `chunked`, no tunnel begins behind it, its target is one, and it has one `Host`, which HTTP/1.0 may leave out, and
+-- which names a host. An answer to `HEAD` has no body
 pub record IsHead (bytes : List ℕ) (said : ParsedHead) : Type 0 where
   pub head : RequestHead
   pub reads : ReadsRequest bytes head []
@@ -61,6 +67,9 @@ pub record IsHead (bytes : List ℕ) (said : ParsedHead) : Type 0 where
   pub host : IsTrue (has_one_host head.minor (known_of head.fields))
   pub single : (known_of head.fields).framing_fields ≤ 1
   pub open' : method_kind head.method ≢ kind.Connect
+  pub uncoded : (known_of head.fields).other_coding ≡ false
+  pub hosts : All (λ h. IsTrue (is_plain_field h)) (map name_and_value head.fields)
+  pub target : IsTrue (is_target head.method head.target)
   pub framed : extent_of (request_framing (method_kind head.method) head.minor (known_of head.fields)) ≡ Some said.extent
   pub bare : IsTrue said.bare ↔ (method_kind head.method ≡ kind.Head)
   pub keeps : said.keeps ≡ keeps head.minor (known_of head.fields)
@@ -81,7 +90,7 @@ IsNoHead bytes Refused = (text : Begins texts bytes) × ((said : ParsedHead) →
 
 abbrev pub heads : Grammar BadHead
 heads = record {
-  most = 8192;
+  most = 16384;
   piece = IsHeadPiece;
   wrong = IsNoHead;
   last = λ bytes payload. ⊥;

@@ -18,7 +18,7 @@ pub texts_lawful : IsLawful texts
 texts_lawful = length_prefixed_lawful (scanned lines) (scanned_headers lines lines_small)
 
 -- no head has more bytes
-pub text_few : (bytes none : List ℕ) → texts.piece bytes none → length bytes ≤ 8192
+pub text_few : (bytes none : List ℕ) → texts.piece bytes none → length bytes ≤ 16384
 text_few bytes none is =
     let some = (scanned_headers lines lines_small).some bytes (length none) is.0 is.1 in
     omega (arith, some, is.2, ap length is.3, length-append none [], length-drop is.0 bytes)

@@ -3,3 +3,4 @@ pub mod HeadsLaws
 pub mod Messages
 pub mod MessagesLaws
 pub mod Passing
+pub mod Target

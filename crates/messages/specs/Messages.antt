@@ -204,7 +204,7 @@ rest_of (source.Chunked body) = Chunks body.limits body.place
 
 -- a plain buffer in which three heads fit: a reader of heads keeps it, and takes no memory
 abbrev pub IsRoomy : Block → Type 0
-IsRoomy b = (b.kind ≡ Plain) × (3 * 8192 ≤ b.capacity)
+IsRoomy b = (b.kind ≡ Plain) × (3 * 16384 ≤ b.capacity)
 
 -- its buffer is such, and a chunk has room for its size
 abbrev pub HasRoom : {S : Type 0} → Source S → Type 0

@@ -55,13 +55,13 @@ impl<R: Tell> Model for Body<R> {
       rest = rest_of b.source;
     } };
 
-    ghost invariant = { λ b. (8192 ≤ b.head.capacity) × HasRoom b.source };
+    ghost invariant = { λ b. (16384 ≤ b.head.capacity) × HasRoom b.source };
 }
 
 impl<R: Tell> Body<R> {
     /// The body of a message with this head, of which the reader has the beginning.
     pub(crate) fn new(alloc: Global, reader: BufReader<R>, head: Buffer, said: ParsedHead) -> Self
-        requires room { 8192 ≤ head.capacity }
+        requires room { 16384 ≤ head.capacity }
         requires roomy { IsRoomy reader.block }
         ensures { result ≡ begun (unbuffered reader) head.bytes said }
     {

@@ -5,6 +5,7 @@ ghost use Rattle.messages.specs.declared.head.ParsedHead.{ParsedHead};
 ghost use Rattle.messages.specs.Heads.{IsHead, expects, extent_of, keeps};
 
 use crate::lines::{Before, Lines};
+use crate::target::{are_hosts_plain, is_target};
 use codec::{ByHeader, ByScan, Decoder, End, Found, HeaderError, ScanNote, Span};
 use http1::fields::KnownFields;
 use http1::framing::{Framing, FramingError, MethodKind, request_framing};
@@ -14,7 +15,7 @@ use std::error::Error;
 use std::fmt;
 
 /// No head has more bytes.
-pub const MAX_HEAD: usize = 8192;
+pub const MAX_HEAD: usize = 16384;
 
 /// No head has more fields.
 pub const MAX_FIELDS: usize = 64;
@@ -103,8 +104,9 @@ impl Decoder for Heads {
     ghost lawful = { λ _. heads_lawful };
 }
 
-/// What a head says: these bytes are just a head, of HTTP/1.0 or 1.1, with one `Host`, which 1.0 may leave out, and at most one
-/// field that says where the body ends, as RFC 9112, section 6 has it. `CONNECT` is refused: a tunnel begins behind it.
+/// What a head says: these bytes are just a head, of HTTP/1.0 or 1.1, whose target is one, with one `Host`, which 1.0 may leave
+/// out and which names a host, and at most one field that says where the body ends, as RFC 9112, section 6 has it, with no coding
+/// but `chunked`. `CONNECT` is refused: a tunnel begins behind it.
 pub fn read_head(head: &[u8]) -> Option<ParsedHead>
     ensures some { IfSome result (λ said. IsHead head.now said) }
     ensures none { IfNone result ((said : ParsedHead) → ¬ (IsHead head.now said)) }
@@ -120,8 +122,19 @@ pub fn read_head(head: &[u8]) -> Option<ParsedHead>
     if known.framing_fields > 1 || !has_one_host(spans.version, &known) {
         return None;
     }
-    let method = MethodKind::of(spans.method.of(head));
+    let name = spans.method.of(head);
+    let target = spans.path.of(head);
+    let method = MethodKind::of(name);
     if is_connect(method) {
+        return None;
+    }
+    if known.other_coding {
+        return None;
+    }
+    if !are_hosts_plain(head, &fields[..spans.headers]) {
+        return None;
+    }
+    if !is_target(name, target) {
         return None;
     }
     match extent_of(request_framing(method, spans.version, &known)) {

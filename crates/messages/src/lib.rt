@@ -10,8 +10,11 @@ mod head;
 pub mod laws;
 mod lines;
 mod requests;
+mod target;
 
 pub use body::Body;
+pub use chunked::Malformed;
+pub use codec::HeaderError;
 pub use error::BodyError;
 pub use head::{BadHead, Extent, Heads, MAX_FIELDS, MAX_HEAD, ParsedHead, read_head};
 pub use requests::{Requests, Stop};

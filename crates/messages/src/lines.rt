@@ -5,7 +5,11 @@ use codec::{Scan, ScanStep};
 /// What stands before the next byte of a head.
 #[derive(Clone, Copy, Debug, Drop)]
 pub enum Before {
-    /// The beginning, or a byte of a line.
+    /// The beginning, or the end of an empty line in front.
+    Start,
+    /// A CR behind that.
+    StartReturn,
+    /// A byte of a line.
     Text,
     /// A CR behind such.
     Return,
@@ -28,11 +32,20 @@ impl Scan for Lines {
     ghost scanning = { λ _. lines };
 
     fn start(&self) -> Before {
-        Before::Text
+        Before::Start
     }
 
     fn turn(&self, before: Before, byte: u8) -> ScanStep<Before> {
         match before {
+            Before::Start => match byte {
+                b'\r' => ScanStep::More(Before::StartReturn),
+                b'\n' => ScanStep::Bad,
+                _ => ScanStep::More(Before::Text),
+            },
+            Before::StartReturn => match byte {
+                b'\n' => ScanStep::More(Before::Start),
+                _ => ScanStep::Bad,
+            },
             Before::Text => match byte {
                 b'\r' => ScanStep::More(Before::Return),
                 b'\n' => ScanStep::Bad,

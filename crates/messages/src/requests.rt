@@ -8,7 +8,7 @@ ghost use Rattle.messages.specs.Heads.{IsHeadPiece, heads};
 ghost use Rattle.messages.specs.Messages.{Begun, Enters, answer_of};
 
 use crate::body::Body;
-use crate::head::{BadHead, Heads, read_head};
+use crate::head::{BadHead, Heads, MAX_HEAD, read_head};
 use buffer_redux::tell::{Tell, TellRead};
 use buffer_redux::{BufReader, Buffer, GrowError, MakeError};
 use codec::{NextError, PieceReader, Span};
@@ -45,17 +45,17 @@ impl<R: Tell> Model for Requests<R> {
 
     ghost view = { λ r. r.pieces };
 
-    ghost invariant = { λ r. (8192 ≤ r.head.capacity) × (r.pieces.ended ≡ false) };
+    ghost invariant = { λ r. (16384 ≤ r.head.capacity) × (r.pieces.ended ≡ false) };
 }
 
 impl<R: Tell> Requests<R> {
     /// The requests of `inner`. A refusal hands it back.
     pub fn new(alloc: Global, inner: R) -> Result<Self, MakeError<R>>
-        ensures made { IfOk result (IsFresh R.log 8192 8192 inner (record {})) }
+        ensures made { IfOk result (IsFresh R.log 8192 16384 inner (record {})) }
         ensures handed_back { IfErr result (λ e. e.0 ≡ inner) }
         ensures refused { IfErr result (λ e. e.1 ≡ GrowError.Memory) }
     {
-        let head = match Buffer::new(alloc) {
+        let head = match Buffer::with_capacity(alloc, MAX_HEAD) {
             Ok(head) => head,
             Err(e) => return Err(MakeError(inner, e)),
         };
@@ -76,11 +76,11 @@ impl<R: Tell> Requests<R> {
         buffer: Buffer,
         inner: R,
     ) -> Result<Self, MakeError<(Buffer, R)>>
-        ensures made { IfOk result (IsOver R.log 8192 buffer inner (record {})) }
+        ensures made { IfOk result (IsOver R.log 16384 buffer inner (record {})) }
         ensures handed_back { IfErr result (λ e. (e.0.0 ≡ buffer) × (e.0.1 ≡ inner)) }
         ensures refused { IfErr result (λ e. e.1 ≡ GrowError.Memory) }
     {
-        let head = match Buffer::new(alloc) {
+        let head = match Buffer::with_capacity(alloc, MAX_HEAD) {
             Ok(head) => head,
             Err(e) => return Err(MakeError((buffer, inner), e)),
         };
@@ -96,7 +96,7 @@ impl<R: Tell> Requests<R> {
 
     /// The requests of this reader, with room for a head.
     pub(crate) fn before(alloc: Global, pieces: PieceReader<R, Heads>, head: Buffer) -> Self
-        requires room { 8192 ≤ head.capacity }
+        requires room { 16384 ≤ head.capacity }
         requires told { pieces.ended ≡ false }
         ensures { result ≡ pieces }
     {
@@ -105,6 +105,21 @@ impl<R: Tell> Requests<R> {
             pieces,
             head,
         }
+    }
+
+    /// The stream. What is read through this is in no message.
+    pub fn get_ref(&self) -> &R
+        ensures inner { result.now ≡ self.now.reader.inner }
+        ensures log { R.log result.now ≡ self.now.reader.log }
+    {
+        self.pieces.get_ref()
+    }
+
+    /// What is buffered of the stream, and comes next.
+    pub fn buffered(&self) -> &[u8]
+        ensures { result.now ≡ rest self.now }
+    {
+        self.pieces.rest()
     }
 
     // Goes on behind the head that was handed out last, which is there.

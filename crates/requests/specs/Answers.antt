@@ -1,6 +1,7 @@
 -- What is answered to requests.
-use Rattle.std.specs.Prelude.{◌≡◌, ◌≢◌, ℕ, ◌+◌, ◌-◌, ◌^◌, ◌<◌, ◌≤◌, ◌⊎◌, ◌&&◌, nat_lt, if◌then◌else◌, Bool, true, false, List, [], ◌∷◌, ◌++◌, All, length, drop, Option, Result, Ok, Err, MatchResult, IfErr, IsErr, ⊤, codes}
+use Rattle.std.specs.Prelude.{◌≡◌, ◌≢◌, ℕ, ◌+◌, ◌-◌, ◌^◌, ◌<◌, ◌≤◌, ◌⊎◌, ◌&&◌, ◌||◌, ◌==◌, nat_lt, if◌then◌else◌, Bool, true, false, List, [], ◌∷◌, ◌++◌, All, length, drop, Option, Result, Ok, Err, MatchResult, IfErr, IsErr, IsTrue, ⊤, codes}
 use Rattle.std.specs.Fmt.{decimal}
+use Rattle.std.specs.List.{prefix_len}
 use Rattle.std.specs.IoError.{error_kind}
 use Rattle.std.specs.declared.io.Error.{Error}
 use Rattle.std.specs.declared.io.ErrorKind.TheVariants.{Interrupted, Other}
@@ -92,18 +93,25 @@ abbrev pub call_at : {S : Type 0} → Place S → List ℕ
 call_at (Before requests) = []
 call_at (Inside body) = called (waits body.said)
 
+-- these are ends of lines alone, and so empty lines, which say nothing (RFC 9112, section 2.2)
+abbrev pub is_end : ℕ → Bool
+is_end b = (b == 13) || (b == 10)
+
+abbrev pub is_blank : List ℕ → Bool
+is_blank bytes = prefix_len is_end bytes == length bytes
+
 -- what comes is to be refused: no head begins what is left, or the stream ended in one; or the next byte of the body is wrong,
 -- or the stream ended before that was complete
 abbrev pub IsWrong : {S : Type 0} → Unbuffered S → Place S → Type 0
 IsWrong s (Before requests) = ((e : BadHead) × heads.wrong (rest requests) e)
-    ⊎ ((ends_of s < ends_of (left_of requests)) × (0 < length (rest requests)) × IsOpen heads (rest requests))
+    ⊎ ((ends_of s < ends_of (left_of requests)) × (is_blank (rest requests) ≡ false) × IsOpen heads (rest requests))
 IsWrong s (Inside body) = ((name : Malformed) × IsWrongNext body.rest body.stream.left name)
     ⊎ ((ends_of s < ends_of body.stream) × (body.stream.left ≡ [])
     × ((payload : List ℕ) → ¬ (IsRest body.rest [] payload)))
 
--- the stream ended, and nothing is left, where a head would begin
+-- the stream ended, and nothing is left but empty lines, where a head would begin
 abbrev pub HasEnded : {S : Type 0} → Unbuffered S → Place S → Type 0
-HasEnded s (Before requests) = (ends_of s < ends_of (left_of requests)) × (rest requests ≡ [])
+HasEnded s (Before requests) = (ends_of s < ends_of (left_of requests)) × IsTrue (is_blank (rest requests))
 HasEnded s (Inside body) = ⊥
 
 -- whether another message may follow this one, as its head says

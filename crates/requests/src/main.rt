@@ -6,9 +6,9 @@
 //! (`Prompt`); where sending fails, nothing was taken behind what failed (`IsLast`).
 #![tactic(auto)]
 
-ghost use Rattle.std.specs.Prelude.{◌≡◌, ℕ, ◌<◌, ◌≤◌, if◌then◌else◌, true, false, List, [], ◌++◌, codes, length, map, IfErr, IfOk, MatchResult, Ok, OnOk};
+ghost use Rattle.std.specs.Prelude.{◌≡◌, ℕ, ◌<◌, ◌≤◌, if◌then◌else◌, true, false, List, [], ◌++◌, codes, length, map, IfErr, IfOk, IsTrue, MatchResult, Ok, OnOk};
 ghost use Rattle.std.specs.IoError.{error_kind};
-ghost use Rattle.std.specs.List.{concat};
+ghost use Rattle.std.specs.List.{concat, prefix_len};
 ghost use Rattle.std.specs.declared.io.Error.{Error};
 ghost use Rattle.redux_buffer.specs.Faults.{IsInterrupt};
 ghost use Rattle.buffer_redux.specs.Buffered.{Buffered};
@@ -20,11 +20,11 @@ ghost use Rattle.messages.specs.declared.head.Heads.{Heads};
 ghost use Rattle.messages.specs.Heads.{heads};
 ghost use Rattle.messages.specs.Messages.{Begun, EachGave, InsideGoes, IsRest, answer_of};
 ghost use Rattle.requests.specs.Sending.{Comes, IsHeld, IsUnflushed, Puts, SendsHeld, SendsUnless, Writes};
-ghost use Rattle.requests.specs.Answers.{EndsBody, EndsSent, FailsOn, ReadsSteadily, Serves, TakeFails, TakesWhole, Turns, accepted, called, ending_of, has_body, length_line, refused, sending_of, sent_till, sent_with, unfinished, waits};
+ghost use Rattle.requests.specs.Answers.{EndsBody, EndsSent, FailsOn, ReadsSteadily, Serves, TakeFails, TakesWhole, Turns, accepted, called, ending_of, has_body, is_blank, is_end, length_line, refused, sending_of, sent_till, sent_with, unfinished, waits};
 
 use buffer_redux::BufWriter;
 use buffer_redux::tell::{Tell, TellRead, TellWrite, Told};
-use messages::{Body, BodyError, Extent, ParsedHead, Requests, Stop};
+use messages::{BadHead, Body, BodyError, Extent, HeaderError, ParsedHead, Requests, Stop};
 use std::io;
 use std::io::{ErrorKind, Write};
 
@@ -167,6 +167,9 @@ fn stopped<R: TellRead, W: TellWrite>(
     if is_interrupt(&stop) {
         return Ok(requests);
     }
+    if is_blank_end(&stop, requests.buffered()) {
+        return Err((Place::Before(requests), Ending::Over));
+    }
     match stop {
         Stop::Ended => Err((Place::Before(requests), Ending::Over)),
         Stop::Bad(_) => {
@@ -175,6 +178,33 @@ fn stopped<R: TellRead, W: TellWrite>(
         }
         Stop::Io(e) => Err((Place::Before(requests), Ending::Unread(e))),
     }
+}
+
+// Whether the stream ended behind empty lines, which say nothing.
+fn is_blank_end(stop: &Stop, left: &[u8]) -> bool
+    ensures yes { result ≡ true → (have : ℕ) × (stop.now ≡ Stop.Bad (BadHead.Lines (HeaderError.Truncated have)))
+        × IsTrue (is_blank left.now) }
+    ensures cut { (have : ℕ) → stop.now ≡ Stop.Bad (BadHead.Lines (HeaderError.Truncated have))
+        → result ≡ is_blank left.now }
+{
+    match stop {
+        Stop::Bad(BadHead::Lines(HeaderError::Truncated(_))) => is_blank(left),
+        _ => false,
+    }
+}
+
+fn is_blank(left: &[u8]) -> bool
+    ensures { result ≡ is_blank left.now }
+{
+    blank_len(left) == left.len()
+}
+
+fn blank_len(left: &[u8]) -> usize
+    ensures { result ≡ prefix_len is_end left.now }
+{
+    left.iter()
+        .take_while(|b| **b == b'\r' || **b == b'\n')
+        .count()
 }
 
 fn ending_of(sending: io::Result<()>) -> Ending

@@ -1,4 +1,4 @@
-use Rattle.std.proofs.Common.{◌≡◌, ◌+◌, MatchBool, [], ◌∷◌, true, false, ap, length, subst, sym, inl, inr, refl, arith, length-append}
+use Rattle.std.proofs.Common.{◌≡◌, ◌+◌, ◌∙◌, IsTrue, MatchBool, [], ◌∷◌, true, false, ap, length, subst, sym, inl, inr, refl, arith, length-append}
 use Rattle.std.proofs.lemmas.List.Elements.{All-nil}
 use Rattle.redux_buffer.specs.Faults.{OnlyInterrupts-none}
 use Rattle.codec.specs.NextPiece.{MetEnd, NoEnd, empties}
@@ -6,7 +6,8 @@ use Rattle.codec.specs.PieceReader.{ReaderState, left_of}
 use Rattle.messages.specs.declared.head.Heads.{Heads}
 use Rattle.requests.specs.declared.Ending.TheVariants.{Over, Unread}
 use Rattle.requests.specs.declared.Place.TheVariants.{Before}
-use Rattle.requests.specs.Answers.{IsLast, Keeps, Runs, ends_of, faults_of}
+use Rattle.requests.specs.Answers.{IsLast, Keeps, Runs, ends_of, faults_of, is_blank}
+use Rattle.messages.specs.declared.requests.Stop.TheVariants.{Bad}
 use Rattle.requests.proofs.Answering.{FailsLast-of, Runs-ended, Runs-stopped, none_answered}
 use Rattle.requests.proofs.Reading.{failed_behind, interrupted_once, none_met, nothing_went}
 use Rattle.requests.proofs.Sending.{Writes-after, Writes-put, on_ok}
@@ -40,8 +41,26 @@ returns-in-Ended g c = λ s w told next comes.
     Runs-stopped [] (Before c.args.requests) (refl, refl) (omega (arith, met)) Over
     (none_answered (nothing_went ended ended.answers.0) comes.writes tt) (
       none_met ended.answers.2,
-      inr (All-nil (Keeps true), inr (omega (arith, met), ended.answers.1)),
+      inr (All-nil (Keeps true), inr (omega (arith, met), subst (λ l. IsTrue (is_blank l)) (sym ended.answers.1) refl)),
     )
+
+pub returns-then-is_blank_end : goal.returns-then-is_blank_end
+returns-then-is_blank_end g c = λ s w told next comes.
+    let was = c.is_blank_end.ensures.yes c.if-is_blank_end.true in
+    let cut = rw was.1 at next in
+    elim cut.answers.3 [
+      | inl wrong ↦ absurd wrong.0
+      | inr end ↦
+          (let met = met_end s c.args.requests told end.3 in
+          Runs-stopped [] (Before c.args.requests) (refl, refl) (omega (arith, met)) Over
+          (none_answered (nothing_went cut cut.answers.0) comes.writes tt) (
+            none_met cut.answers.1,
+            inr (
+              All-nil (Keeps true),
+              inr (omega (arith, met), subst (λ l. IsTrue (is_blank l)) c.buffered.ensures was.2),
+            ),
+          ))
+    ]
 
 pub returns-in-Bad : goal.returns-in-Bad
 returns-in-Bad g c = λ s w told next comes.
@@ -60,7 +79,12 @@ returns-in-Bad g c = λ s w told next comes.
     (FailsLast-of (IsLast [] [] true (Before c.args.requests)) sending refl (inr refl) comes.writes.puts c.refuse.ensures.puts))
     (λ _. elim bad.answers.3 [
       | inl wrong ↦ inl (_, wrong.0)
-      | inr cut ↦ inr (omega (arith, met_end s c.args.requests told cut.3), cut.2, cut.1)
+      | inr cut ↦ inr (
+        omega (arith, met_end s c.args.requests told cut.3),
+        ap is_blank (sym c.buffered.ensures) ∙ sym (c.is_blank_end.ensures.cut _ (c.in-Bad.is ∙ ap Bad cut.0))
+            ∙ c.if-is_blank_end.false,
+        cut.1,
+      )
     ])
     (on_ok sending (none_met bad.answers.1, inr (All-nil (Keeps true), inl refl))))
 

@@ -1,0 +1,42 @@
+use Rattle.std.proofs.Common.{◌≡◌, ◌≤◌, List, [], ◌∷◌, map, length, All, IsTrue, take_all, sym, refl, ap, ◌∙◌, subst, arith}
+use Rattle.std.proofs.lemmas.Bool.{false≢true}
+use Rattle.std.proofs.lemmas.List.Elements.{All-nil, All-cons, All-head, All-tail, All-map, All-get_or, All-more}
+use Rattle.httparse.specs.Spans.{header_bytes}
+use Rattle.httparse.specs.declared.spans.HeaderSpan.{HeaderSpan}
+use Rattle.messages.specs.Target.{is_plain_field}
+use Rattle.messages.proofs.target.are_hosts_plain.Goals as goal
+
+all_of_map : {X Y : Type 0} (P : Y → Type 0) (f : X → Y) (xs : List X) → All P (map f xs) → All (λ x. P (f x)) xs
+all_of_map P f [] h = All-nil (λ x. P (f x))
+all_of_map P f (x ∷ xs) h =
+    All-cons (λ x. P (f x)) x xs (All-head P (f x) (map f xs) h) (all_of_map P f xs (All-tail P (f x) (map f xs) h))
+
+abbrev no_span : HeaderSpan
+no_span = record { name = record { start = 0; end = 0 }; value = record { start = 0; end = 0 } }
+
+pub loop-span-init : goal.loop-span-init
+loop-span-init c = All-nil _
+
+pub loop-span-preserved : goal.loop-span-preserved
+loop-span-preserved c =
+    All-more (λ s. IsTrue (is_plain_field (header_bytes c.args.head.now s))) c.args.spans.now c.loop-span.span-index no_span
+    c.loop-span-test.true c.loop-span.invariant (sym c.is_plain.ensures ∙ c.if-not-is_plain.false)
+
+pub returns-then-not-is_plain : goal.returns-then-not-is_plain
+returns-then-not-is_plain c = (
+  λ wrong. absurd (let odd = wrong in cc),
+  λ all.
+      let each = all_of_map (λ h. IsTrue (is_plain_field h)) (header_bytes c.args.head.now) c.args.spans.now all in
+      let here = All-get_or (λ s. IsTrue (is_plain_field (header_bytes c.args.head.now s))) c.args.spans.now
+      c.loop-span.span-index no_span c.loop-span-test.true each in
+      absurd (false≢true (sym c.if-not-is_plain.true ∙ c.is_plain.ensures ∙ here)),
+)
+
+pub returns : goal.returns
+returns c =
+    let finished : length c.args.spans.now ≤ c.loop-span.span-index = omega (arith, c.loop-span-test.false) in (
+      λ _. All-map (λ h. IsTrue (is_plain_field h)) (header_bytes c.args.head.now) c.args.spans.now
+          (subst (All (λ s. IsTrue (is_plain_field (header_bytes c.args.head.now s))))
+          (take_all c.loop-span.span-index c.args.spans.now finished) c.loop-span.invariant),
+      λ _. refl,
+    )
