@@ -61,6 +61,7 @@ impl Decoder for Resp {
     ghost use Rattle.decoders.specs.RespLaws.{resp_lawful};
 
     type Wrong = EitherWrong<HeaderError, Unended<TooLong>>;
+
     type Note = (ScanNote<StringState>, ());
 
     ghost grammar = { λ d. resp d.max };
@@ -216,6 +217,7 @@ impl Decoder for Lines {
     ghost use Rattle.decoders.specs.RespLaws.{lines_lawful};
 
     type Wrong = TooLong;
+
     type Note = ();
 
     ghost grammar = { λ d. lines d.max };

@@ -28,6 +28,7 @@ impl Decoder for Frames {
     ghost use Rattle.frame_reader.specs.FramedLaws.{framed_lawful};
 
     type Wrong = FrameFault;
+
     type Note = ();
 
     ghost grammar = { λ d. framed d.max };

@@ -32,6 +32,7 @@ impl Decoder for Lines {
     ghost use Rattle.line_reader.specs.Lines.{newline};
 
     type Wrong = TooLong;
+
     type Note = ();
 
     ghost grammar = { λ d. delimited newline d.max };

@@ -72,6 +72,7 @@ impl Decoder for Heads {
     ghost use Rattle.messages.specs.HeadsLaws.{heads_lawful};
 
     type Wrong = BadHead;
+
     type Note = ScanNote<Before>;
 
     ghost grammar = { λ _. heads };
