@@ -11,7 +11,7 @@ import re
 import sys
 
 top = pathlib.Path(__file__).resolve().parent.parent
-PAGES = ("README.md", "CALLING.md", "docs/STD.md", "docs/PROOFS.md", "docs/POLICIES.md", "docs/PROTOCOLS.md")
+PAGES = ("*.md", "docs/*.md", "crates/*/README.md")
 ELSE = re.compile(r"\n\} else \{\nreturn Ok\(assert!\(rt; false\)\);\n\}\n")
 IMPORTS = re.compile(r"(?:pub )?(?:ghost )?use (.*?);?")
 
@@ -101,7 +101,8 @@ def main():
     ]
     rust = texts("crates/tests_*/src/**/*.rt", "crates/uses/src/**/*.rt")
     antt = texts(*(f"crates/{it}/{part}/**/*.antt" for it in ("tests_*", "uses", "redux_buffer") for part in ("proofs", "specs")))
-    pieces = [(page, *it) for page in PAGES for it in pieces_of(top / page)]
+    pages = sorted(it for pattern in PAGES for it in top.glob(pattern))
+    pieces = [(page.relative_to(top), *it) for page in pages for it in pieces_of(page)]
     wrong += [
         f"{page}:{at}: this stands in no test"
         for page, at, is_rust, piece in pieces
