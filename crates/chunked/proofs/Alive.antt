@@ -1,5 +1,5 @@
 -- From each place a body can be completed.
-use Rattle.std.proofs.Common.{ℕ, zero, suc, ◌-◌, ◌<◌, List, [], ◌∷◌, ◌++◌, length, replicate, arith, inl, refl}
+use Rattle.std.proofs.Common.{ℕ, zero, suc, ◌-◌, ◌<◌, List, [], ◌∷◌, ◌++◌, ◌≡◌, ◌⊎◌, length, replicate, arith, inl, inr, refl}
 use Rattle.std.proofs.lemmas.List.{length-replicate}
 use Rattle.chunked.specs.declared.limits.Limits.{Limits}
 use Rattle.chunked.specs.declared.place.Place.{Place}
@@ -24,40 +24,63 @@ module _ (limits : Limits) where
     equal = refl;
   }
 
+-- with payload of such a byte
+module _ (limits : Limits) (filler : ℕ) where
   -- any payload of this length, and then the least body
   data_some : 0 < limits.line → (left : ℕ)
-      → CompletesData limits left (replicate left 0 ++ line_end (48 ∷ line_end (line_end []))) (replicate left 0 ++ [])
+      → CompletesData limits left (replicate left filler ++ line_end (48 ∷ line_end (line_end []))) (replicate left filler ++ [])
   data_some some left = record {
-    front = replicate left 0;
+    front = replicate left filler;
     later = [];
     behind = 48 ∷ line_end (line_end []);
-    many = length-replicate left 0;
+    many = length-replicate left filler;
     equal = refl;
     both = refl;
-    body = least_body some;
+    body = least_body limits some;
   }
+
+  -- no payload, or one that begins with that byte
+  abbrev Plain : List ℕ → Type 0
+  Plain payload = (payload ≡ []) ⊎ ((more : List ℕ) × (payload ≡ filler ∷ more))
+
+  filled : (left : ℕ) → Plain (replicate left filler ++ [])
+  filled zero = inl refl
+  filled (suc n) = inr (replicate n filler ++ [], refl)
 
   -- bytes with a payload that complete the body from here
   pub record Completed (p : Place) : Type 0 where
     pub rest : List ℕ
     pub payload : List ℕ
     pub completes : Completes limits p rest payload
+    pub plain : Plain payload
 
   pub record CompletedSize (size : ℕ) : Type 0 where
     pub rest : List ℕ
     pub payload : List ℕ
     pub goes_on : BehindSize limits size rest payload
+    pub plain : Plain payload
 
   size_some : 0 < limits.line → (size : ℕ) → CompletedSize size
-  size_some some zero = record { rest = line_end []; payload = []; goes_on = (refl, no_trailers limits.trailers) }
+  size_some some zero = record {
+    rest = line_end [];
+    payload = [];
+    goes_on = (refl, no_trailers limits limits.trailers);
+    plain = inl refl;
+  }
   size_some some (suc n) = record {
-    rest = replicate (suc n) 0 ++ line_end (48 ∷ line_end (line_end []));
-    payload = replicate (suc n) 0 ++ [];
+    rest = replicate (suc n) filler ++ line_end (48 ∷ line_end (line_end []));
+    payload = replicate (suc n) filler ++ [];
     goes_on = data_some some (suc n);
+    plain = filled (suc n);
   }
 
   pub Completes-some : 0 < limits.line → (p : Place) → IsPlace p → Completed p
-  Completes-some some Line is = record { rest = 48 ∷ line_end (line_end []); payload = []; completes = least_body some }
+  Completes-some some Line is = record {
+    rest = 48 ∷ line_end (line_end []);
+    payload = [];
+    completes = least_body limits some;
+    plain = inl refl;
+  }
   Completes-some some (Size number room) is = let goes = size_some some number in record {
     rest = line_end goes.rest;
     payload = goes.payload;
@@ -74,6 +97,7 @@ module _ (limits : Limits) where
       fits = omega arith;
       goes_on = goes.goes_on;
     };
+    plain = goes.plain;
   }
   Completes-some some (Extension within size room) is = let goes = size_some some size in record {
     rest = is.1.0 ++ line_end goes.rest;
@@ -90,20 +114,27 @@ module _ (limits : Limits) where
       },
       is.0,
     );
+    plain = goes.plain;
   }
-  Completes-some some (SizeFeed size) is = let goes = size_some some size in
-      record { rest = 10 ∷ goes.rest; payload = goes.payload; completes = ((goes.rest, refl, goes.goes_on), is) }
+  Completes-some some (SizeFeed size) is = let goes = size_some some size in record {
+    rest = 10 ∷ goes.rest;
+    payload = goes.payload;
+    completes = ((goes.rest, refl, goes.goes_on), is);
+    plain = goes.plain;
+  }
   Completes-some some (Data left) is = record {
-    rest = replicate left 0 ++ line_end (48 ∷ line_end (line_end []));
-    payload = replicate left 0 ++ [];
+    rest = replicate left filler ++ line_end (48 ∷ line_end (line_end []));
+    payload = replicate left filler ++ [];
     completes = data_some some left;
+    plain = filled left;
   }
   Completes-some some DataFeed is = record {
     rest = 10 ∷ (48 ∷ line_end (line_end []));
     payload = [];
-    completes = (48 ∷ line_end (line_end []), refl, least_body some);
+    completes = (48 ∷ line_end (line_end []), refl, least_body limits some);
+    plain = inl refl;
   }
-  Completes-some some (Fields room) is = record { rest = line_end []; payload = []; completes = (refl, no_trailers room) }
+  Completes-some some (Fields room) is = record { rest = line_end []; payload = []; completes = (refl, no_trailers limits room); plain = inl refl }
   Completes-some some (FieldName room) is = record {
     rest = 58 ∷ line_end (line_end []);
     payload = [];
@@ -116,9 +147,10 @@ module _ (limits : Limits) where
         equal = refl;
         is_rest = IsField-valued 97 [] (inl refl) tt;
         fits = omega (arith, is);
-        goes_on = no_trailers (room - 1);
+        goes_on = no_trailers limits (room - 1);
       },
     );
+    plain = inl refl;
   }
   Completes-some some (FieldValue room) is = record {
     rest = line_end (line_end []);
@@ -132,11 +164,12 @@ module _ (limits : Limits) where
         equal = refl;
         is_rest = IsField-valued 97 [] (inl refl) tt;
         fits = omega arith;
-        goes_on = no_trailers room;
+        goes_on = no_trailers limits room;
       },
     );
+    plain = inl refl;
   }
   Completes-some some (FieldFeed room) is =
-      record { rest = 10 ∷ line_end []; payload = []; completes = (refl, (line_end [], refl, no_trailers room)) }
-  Completes-some some LastFeed is = record { rest = 10 ∷ []; payload = []; completes = (refl, refl) }
-  Completes-some some Done is = record { rest = []; payload = []; completes = (refl, refl) }
+      record { rest = 10 ∷ line_end []; payload = []; completes = (refl, (line_end [], refl, no_trailers limits room)); plain = inl refl }
+  Completes-some some LastFeed is = record { rest = 10 ∷ []; payload = []; completes = (refl, refl); plain = inl refl }
+  Completes-some some Done is = record { rest = []; payload = []; completes = (refl, refl); plain = inl refl }

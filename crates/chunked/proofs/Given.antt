@@ -47,7 +47,7 @@ module _ {S P : Type 0} (t : ChunkedState S P) (is : IsChunkedReader t) (body pa
 
   not_past : (m : List ℕ) → t.taken ≡ body ++ m → m ≡ []
   not_past m past =
-      let goes = Completes-some t.limits (chunks_some t.limits is_body.payloads body is_body.chunks) t.place is.place in
+      let goes = Completes-some t.limits 0 (chunks_some t.limits is_body.payloads body is_body.chunks) t.place is.place in
       let longer = is.leads.onward goes.rest goes.payload goes.completes in
       let joined : body ++ (m ++ goes.rest) ≡ (t.taken ++ goes.rest) ++ [] =
       sym (append_assoc body m goes.rest) ∙ ap (λ l. l ++ goes.rest) (sym past) ∙ sym (append-nil (t.taken ++ goes.rest)) in

@@ -1,327 +1,348 @@
--- What calls of the layers below take of a body and of its stream, where they ask that, and why they fail.
-use Rattle.std.proofs.Common.{◌≡◌, ℕ, ◌+◌, ◌<◌, List, [], ◌++◌, length, Option, Err, inl, inr, sym, ap, subst, ◌∙◌, arith, refl, append_assoc, append-nil, length-append, ◌≢◌, zero, suc, ◌-◌, ◌≤◌, ◌∷◌, take, replicate, Some, Result, Ok, length-take-le}
-use Rattle.std.proofs.lemmas.List.{append_cancel_left, length-replicate, nil_from_length}
-use Rattle.std.specs.Borrow.{Bor}
-use Rattle.std.specs.declared.io.Error.{Error}
-use Rattle.buffer_redux.specs.Policy.{ReadRules, std_read_rules}
-use Rattle.buffer_redux.specs.ReaderLaws.{WantsBytes-std, FillBuf-along, Fills-empty, ReadsAlong-none, ReadsAlong-then, ReadsAlong-turn}
-use Rattle.buffer_redux.specs.Unbuffer.{unbuffered, Unbuffered}
+-- What calls of the reader of a body take of it and of its stream, where they ask that, and why they fail.
+use Rattle.std.proofs.Common.{◌≡◌, ℕ, suc, ◌+◌, ◌<◌, List, [], ◌∷◌, ◌++◌, length, ◌⊎◌, inl, inr, Option, Result, Err, sym, ap, subst, ◌∙◌, arith, refl, append-nil, length-append, replicate}
+use Rattle.std.proofs.lemmas.List.{length-replicate, nil_from_length}
+use Rattle.body_reader.specs.Asking.{AskedWhere}
+use Rattle.body_reader.specs.AskingLaws.{AskedWhere-of}
+use Rattle.body_reader.specs.Between as between
+use Rattle.body_reader.specs.BodyReader.{BodyWent, Breaks, Drains, EndsEarly, IsBodyReader, IsWhole, NoPayload, ReadsPayload, handed_of}
+use Rattle.body_reader.specs.BodyReaderLaws.{BodyWent-leads}
+use Rattle.body_reader.specs.Coding.{Agree, IsDone, IsLawful, IsOpen, Leads, LeadsOpen, heeded}
+use Rattle.body_reader.specs.CodingLaws.{Agree-nothing, Leads-done, Leads-whole}
+use Rattle.body_reader.specs.EitherLaws.{either_lawful}
+use Rattle.body_reader.specs.Sized.{sized}
+use Rattle.body_reader.specs.SizedLaws.{sized_lawful}
+use Rattle.body_reader.specs.declared.error.BodyError.{BodyError as Unread}
+use Rattle.body_reader.specs.declared.error.BodyError.TheVariants as unread
+use Rattle.body_reader.specs.declared.either.Either.TheVariants as coding
+use Rattle.body_reader.specs.declared.either.Side.{Side}
+use Rattle.body_reader.specs.declared.either.Side.TheVariants as side
+use Rattle.body_reader.specs.declared.sized.Sized.{Sized as OfLength}
+use Rattle.buffer_redux.specs.Policy.{std_read_rules}
+use Rattle.buffer_redux.specs.Unbuffer.{Unbuffered, unbuffered}
 use Rattle.buffer_redux.specs.UnbufferLaws.{ReadsAlong-stream}
-use Rattle.buffer_redux.specs.declared.policy.StdPolicy.{StdPolicy}
-use Rattle.buffer_redux.specs.BufReader.{FillBuf, ReaderConsumes, Reads, ReadsAlong}
-use Rattle.buffer_redux.specs.Buffered.{Buffered}
-use Rattle.buffer_redux.specs.EmptyReads.{ReadsWhenEmpty-std, none_where_shown, once_at_most}
-use Rattle.chunked.specs.ChunkedReader.{Breaks, BodyWent, ChunkedState, IsChunkedReader, IsWhole, PayloadAnswers, handed_of, Drains, ReadsOn, ReadsPayload}
-use Rattle.chunked.specs.ChunkedReaderLaws.{body_done, BodyWent-joins, BodyWent-none, Completes-nothing, IsWhole-done}
-use Rattle.chunked.specs.EmptyReads.{EndsOnce}
-use Rattle.chunked.specs.Body.{IsBody}
-use Rattle.chunked.specs.Place.{Completes, IsWrong}
-use Rattle.chunked.specs.PlaceLaws.{IsWrong-done}
+use Rattle.chunked.specs.Coding.{chunked}
+use Rattle.chunked.specs.CodingLaws.{chunked_lawful}
+use Rattle.chunked.specs.Place.{Completes, CompletesData, IsSettled}
+use Rattle.chunked.specs.Body.{line_end}
+use Rattle.chunked.specs.declared.coding.Chunked.{Chunked as InChunks}
 use Rattle.chunked.specs.declared.error.Malformed.{Malformed}
-use Rattle.chunked.specs.declared.error.ChunkedError.{ChunkedError}
-use Rattle.chunked.specs.declared.error.ChunkedError.TheVariants.{NotChunked, Truncated, Io}
-use Rattle.chunked.specs.Asking.{AskedWhere}
-use Rattle.chunked.specs.AskingLaws.{AskedWhere-of, AskedWhere-on, AsksEmpty, AsksGive, LeadsOn, Took, fill_asks, fill_then, payload_asks, payload_gives, payload_idle, read_asks, took_some}
 use Rattle.chunked.specs.declared.limits.Limits.{Limits}
 use Rattle.chunked.specs.declared.place.Place.{Place}
-use Rattle.chunked.specs.declared.place.Place.TheVariants.{Done}
+use Rattle.chunked.specs.declared.place.Place.TheVariants.{Data, Done}
 use Rattle.chunked.proofs.Alive.{Completes-some}
-use Rattle.messages.specs.Messages.{Backward, BeginsNone, Bytes, Chunks, EachGave, Ends, Fails, IsRest, IsRoomy, Onward, Takes, body_error, GoesOn, IsReady, IsWrongNext, Rest, Unended}
-use Rattle.messages.specs.declared.error.BodyError.TheVariants.{Truncated, Io as Fault}
-use Rattle.messages.specs.MessagesLaws.{Onward-joins}
+use Rattle.messages.specs.Messages.{Backward, BodyCoding, Bytes, Chunks, Ends, Fails, FinishFails, GoesOn, HasRoom, IsNamed, IsReady, IsRest, IsWrongNext, Onward, Reader, Rest, RunsShort, Takes, Unended, body_error, grammar_of, has_line, left_in, rest_of, stream_of}
+use Rattle.messages.specs.declared.error.BodyError.TheVariants.{Wrong, Io as Fault}
+use Rattle.std.specs.declared.io.Error.{Error}
 
--- some of so many bytes
-bytes_onward : (left : ℕ) (wire : List ℕ) (left' : ℕ) → length wire + left' ≡ left
-    → Onward (Bytes left) wire wire (Bytes left')
-bytes_onward left wire left' few later payload is =
-    (omega (arith, few, is.0, length-append wire later), ap (λ l. wire ++ l) is.1)
+-- what is left of a body is what completes it
+pub rest_is : (c : BodyCoding) (p : Side ℕ Place) → (grammar_of c).is_place p → (wire payload : List ℕ)
+    → (grammar_of c).completes p wire payload → IsRest (rest_of c p) wire payload
+rest_is (coding.First c) (side.First left) is wire payload it = it
+rest_is (coding.First c) (side.Second place) is wire payload it = absurd is
+rest_is (coding.Second c) (side.Second place) is wire payload it = it
+rest_is (coding.Second c) (side.First left) is wire payload it = absurd is
 
-bytes_backward : (left : ℕ) (wire : List ℕ) (left' : ℕ) → length wire + left' ≡ left
-    → Backward (Bytes left) wire wire (Bytes left')
-bytes_backward left wire left' few later whole is =
-    (later, is.1, (omega (arith, few, is.0, length-append wire later), refl))
+pub completes_is : (c : BodyCoding) (p : Side ℕ Place) → (grammar_of c).is_place p → (wire payload : List ℕ)
+    → IsRest (rest_of c p) wire payload → (grammar_of c).completes p wire payload
+completes_is (coding.First c) (side.First left) is wire payload it = it
+completes_is (coding.First c) (side.Second place) is wire payload it = absurd is
+completes_is (coding.Second c) (side.Second place) is wire payload it = it
+completes_is (coding.Second c) (side.First left) is wire payload it = absurd is
 
-pub bytes_take : {R : Type 0} {remaining : R → Option (List ℕ)} {s t : Buffered R StdPolicy} (left : ℕ) (wire : List ℕ)
-    (left' : ℕ) → ReadsAlong remaining std_read_rules s wire t → length wire + left' ≡ left
-    → Takes remaining (unbuffered s) (Bytes left) wire (unbuffered t) (Bytes left')
-bytes_take {R} {remaining} {s} {t} left wire left' along few = record {
-  wire = wire;
-  went = ReadsAlong-stream remaining std_read_rules s wire t along;
-  onward = bytes_onward left wire left' few;
-  backward = bytes_backward left wire left' few;
-}
+lawful : (c : BodyCoding) → IsLawful (grammar_of c)
+lawful = either_lawful (λ c. sized c.0) (λ c. chunked c.0) (λ c. sized_lawful c.0) (λ c. chunked_lawful c.0)
 
--- some that was buffered
-pub bytes_held : {R : Type 0} {remaining : R → Option (List ℕ)} {s t : Buffered R StdPolicy} (left count left' : ℕ)
-    → ReadsAlong remaining std_read_rules s (take count s.block.bytes) t → count ≤ length s.block.bytes → left' + count ≡ left
-    → Takes remaining (unbuffered s) (Bytes left) (take count s.block.bytes) (unbuffered t) (Bytes left')
-bytes_held {R} {remaining} {s} left count left' along held few =
-    bytes_take left (take count s.block.bytes) left' along (omega (arith, few, length-take-le count s.block.bytes held))
+-- what follows isn't heeded, and a byte is looked at
+unheeded : (c : BodyCoding) (bytes rest : List ℕ) → Agree (heeded (grammar_of c) bytes) rest
+unheeded (coding.First c) bytes rest = (rest, [], sym (append-nil rest))
+unheeded (coding.Second c) bytes rest = (rest, [], sym (append-nil rest))
 
--- where a body in chunks ended none is left
-pub chunks_done : {S P : Type 0} {t : ChunkedState S P} → IsChunkedReader t → IsWhole t → IsRest (Chunks t.limits t.place) [] []
-chunks_done {S} {P} {t} is whole =
-    subst (λ p. IsRest (Chunks t.limits p) [] []) (sym (body_done t (handed_of t) is whole)) (refl, refl)
+one_ahead : (c : BodyCoding) → (grammar_of c).ahead ≡ 1
+one_ahead (coding.First c) = refl
+one_ahead (coding.Second c) = refl
 
--- its room stays
-pub chunks_room : {S P : Type 0} {remaining : S → Option (List ℕ)} {rules : ReadRules P} {s t : ChunkedState S P}
-    {handed : List ℕ} → BodyWent remaining rules s handed t → t.reader.block.kind ≡ s.reader.block.kind
-    → IsRoomy s.reader.block × (0 < s.limits.line) → IsRoomy t.reader.block × (0 < t.limits.line)
-chunks_room went kind (roomy, line) = ((kind ∙ roomy.0, omega (arith, roomy.1, went.along.capacity)), rw went.limits line)
+no_byte : (c : BodyCoding) (p : Side ℕ Place) (bytes : List ℕ) → IsOpen (grammar_of c) p bytes → bytes ≡ []
+no_byte c p bytes is = nil_from_length bytes (omega (arith, is.few, one_ahead c))
 
-module _ {S P : Type 0} {remaining : S → Option (List ℕ)} {rules : ReadRules P} {s : ChunkedState S P} (is : IsChunkedReader s)
-    {handed : List ℕ} {t : ChunkedState S P} (went : BodyWent remaining rules s handed t) where
-  -- its rest
-  pub chunks_end : IsWhole t → EachGave (unbuffered s.reader) (unbuffered t.reader)
-      → Ends remaining (unbuffered s.reader) (Chunks s.limits s.place) (unbuffered t.reader)
-  chunks_end whole gave =
-      let back = is.leads.back went.wire (handed_of t) (rw (← went.taken, ← went.limits) whole) in
-      record {
-        wire = went.wire;
-        payload = back.0;
-        went = ReadsAlong-stream remaining rules s.reader went.wire t.reader went.along;
-        is = back.2;
-        gave = gave;
-      }
+module _ (c : BodyCoding) (p q : Side ℕ Place) (wire handed bytes : List ℕ) (is : (grammar_of c).is_place p)
+    (is' : (grammar_of c).is_place q) (leads : Leads (grammar_of c) p wire handed q (heeded (grammar_of c) bytes)) where
+  onward_is : Onward (rest_of c p) wire handed (rest_of c q)
+  onward_is later payload it = rest_is c p is (wire ++ later) (handed ++ payload)
+      (leads.onward later payload (unheeded c bytes later) (completes_is c q is' later payload it))
 
-  -- some of it
-  module _ (is' : IsChunkedReader t) where
-    pub chunks_onward : Onward (Chunks s.limits s.place) went.wire handed (Chunks t.limits t.place)
-    chunks_onward later payload completes =
-        let back = is.leads.back (went.wire ++ later) (handed_of s ++ (handed ++ payload))
-        (rw (
-          ← went.limits,
-          ← append_assoc s.taken went.wire later,
-          ← went.taken,
-          ← append_assoc (handed_of s) handed payload,
-          ← went.handed,
-        ) (is'.leads.onward later payload completes)) in
-        subst (Completes s.limits s.place (went.wire ++ later))
-        (sym (append_cancel_left (handed_of s) (handed ++ payload) back.0 back.1)) back.2
+  backward_is : Backward (rest_of c p) wire handed (rest_of c q)
+  backward_is later whole it =
+      let back = leads.back later whole (unheeded c bytes later) (completes_is c p is (wire ++ later) whole it) in
+      (back.0, back.1, rest_is c q is' later back.0 back.2)
 
-    chunks_backward : Backward (Chunks s.limits s.place) went.wire handed (Chunks t.limits t.place)
-    chunks_backward later whole completes =
-        let back = is'.leads.back later (handed_of s ++ whole)
-        (rw (went.limits, went.taken, append_assoc s.taken went.wire later)
-        (is.leads.onward (went.wire ++ later) whole completes)) in (
-          back.0,
-          append_cancel_left (handed_of s) whole (handed ++ back.0)
-              (back.1 ∙ ap (λ l. l ++ back.0) went.handed ∙ append_assoc (handed_of s) handed back.0),
-          back.2,
-        )
+-- from each place a body can be completed
+some_rest : (c : BodyCoding) → has_line c → (p : Side ℕ Place) → (grammar_of c).is_place p
+    → (rest : List ℕ) × (payload : List ℕ) × (grammar_of c).completes p rest payload
+some_rest (coding.First c) line (side.First left) is =
+    (replicate left 0, replicate left 0, (length-replicate left 0, refl))
+some_rest (coding.First c) line (side.Second place) is = absurd is
+some_rest (coding.Second c) line (side.Second place) is =
+    let end = Completes-some c.0 0 line place is in (end.rest, end.payload, end.completes)
+some_rest (coding.Second c) line (side.First left) is = absurd is
 
-    pub chunks_take : Takes remaining (unbuffered s.reader) (Chunks s.limits s.place) handed (unbuffered t.reader)
-        (Chunks t.limits t.place)
-    chunks_take = record {
-      wire = went.wire;
-      went = ReadsAlong-stream remaining rules s.reader went.wire t.reader went.along;
-      onward = chunks_onward;
-      backward = chunks_backward;
-    }
+-- where bytes settle nothing the body goes on behind them
+goes_on : (c : BodyCoding) → has_line c → (p : Side ℕ Place) → (grammar_of c).is_place p → (handed bytes : List ℕ)
+    → LeadsOpen (grammar_of c) p handed bytes → GoesOn (rest_of c p) handed bytes
+goes_on c line p is handed bytes o =
+    let none = no_byte c o.place o.shown o.settles_nothing in
+    let all : bytes ≡ o.wire = o.equal ∙ ap (λ l. o.wire ++ l) none ∙ append-nil o.wire in
+    let end = some_rest c line o.place o.is_place in
+    let agree : Agree o.shown end.0 = subst (λ l. Agree l end.0) (sym none) (end.0, [], sym (append-nil end.0)) in
+    let further = o.settles_nothing.further end.0 end.1 end.2 agree in
+    subst (GoesOn (rest_of c p) handed) (sym all) (record {
+      rest = rest_of c o.place;
+      onward = onward_is c p o.place o.wire handed o.shown is o.is_place o.leads;
+      more = (end.0, end.1, omega (arith, further), rest_is c o.place o.is_place end.0 end.1 end.2);
+    })
 
--- no beginning of what is wrong in a body in chunks is the rest of it
-chunks_begin_none : {S : Type 0} (t : ChunkedState S StdPolicy) → IsChunkedReader t → (why : Malformed) → Breaks why t
-    → BeginsNone (Chunks t.limits t.place) t.reader.block.bytes
-chunks_begin_none t is why breaks later [] behind payload same c =
-    IsWrong-done t.limits breaks.byte why
-    (subst (λ p. IsWrong t.limits p breaks.byte why) (Completes-nothing t.limits t.place payload c) breaks.name)
-chunks_begin_none t is why breaks later (b ∷ wire) behind payload same c =
-    let first : breaks.byte ≡ b = (let row = rw breaks.next at same in cc) in
-    breaks.none wire (handed_of t ++ payload) (subst (λ x. IsBody t.limits (t.taken ++ (x ∷ wire)) (handed_of t ++ payload))
-    (sym first) (is.leads.onward (b ∷ wire) payload c))
+-- bytes of a body of a length hold payload
+none_of_length : (c : OfLength) (n : ℕ) (p : Side ℕ Place) (wire bytes : List ℕ) → (grammar_of (coding.First c)).is_place p
+    → Leads (grammar_of (coding.First c)) (side.First n) wire [] p (heeded (grammar_of (coding.First c)) bytes)
+    → length wire ≡ 0
+none_of_length c n (side.First m) wire bytes is leads =
+    let rest = replicate {A = ℕ} m 0 in
+    let same = leads.onward rest rest (unheeded (coding.First c) bytes rest) (length-replicate m 0, refl) in
+    omega (arith, ap length same.1, length-append wire rest)
+none_of_length c n (side.Second q) wire bytes is leads = absurd is
 
-pub chunks_wrong : {S : Type 0} (t : ChunkedState S StdPolicy) → IsChunkedReader t → (why : Malformed) → Breaks why t
-    → IsWrongNext (Chunks t.limits t.place) t.reader.block.bytes why
-chunks_wrong t is why breaks = (
-  record { byte = breaks.byte; later = breaks.later; next = breaks.next; name = breaks.name },
-  chunks_begin_none t is why breaks,
+-- and so does a byte of a chunk
+front_byte : (limits : Limits) (left b : ℕ) (rest payload front : List ℕ)
+    → (c : CompletesData limits (suc left) (b ∷ rest) payload) → c.front ≡ front → (more : List ℕ) × (payload ≡ b ∷ more)
+front_byte limits left b rest payload [] c is = absurd (omega (arith, c.many, ap length is))
+front_byte limits left b rest payload (x ∷ front) c is =
+    let same : b ∷ rest ≡ x ∷ (front ++ line_end c.behind) = c.equal ∙ ap (λ l. l ++ line_end c.behind) is in
+    let head : x ≡ b = cc in
+    (front ++ c.later, c.both ∙ ap (λ l. l ++ c.later) is ∙ ap (λ z. z ∷ (front ++ c.later)) head)
+
+first_byte : (limits : Limits) (place : Place) → IsSettled place → (b : ℕ) (rest payload : List ℕ)
+    → Completes limits place (b ∷ rest) payload → (more : List ℕ) × (payload ≡ b ∷ more)
+first_byte limits (Data (suc left)) settled b rest payload c = front_byte limits left b rest payload c.front c refl
+first_byte limits Done settled b rest payload c = absurd (let odd : b ∷ rest ≡ [] = c.1 in cc)
+first_byte limits place settled b rest payload c = absurd settled
+
+other_byte : (b : ℕ) (payload more : List ℕ) → payload ≡ b ∷ more
+    → (payload ≡ []) ⊎ ((later : List ℕ) × (payload ≡ suc b ∷ later)) → ⊥
+other_byte b payload more is (inl none) = let odd : [] ≡ b ∷ more = sym none ∙ is in cc
+other_byte b payload more is (inr other) =
+    let same : b ∷ more ≡ suc b ∷ other.0 = sym is ∙ other.1 in
+    let head : b ≡ suc b = cc in
+    omega (arith, head)
+
+none_of_chunks : (c : InChunks) → 0 < c.0.line → (place : Place) → IsSettled place → (p : Side ℕ Place)
+    (wire bytes : List ℕ) → (grammar_of (coding.Second c)).is_place p
+    → Leads (grammar_of (coding.Second c)) (side.Second place) wire [] p (heeded (grammar_of (coding.Second c)) bytes)
+    → length wire ≡ 0
+none_of_chunks c line place settled (side.First m) wire bytes is leads = absurd is
+none_of_chunks c line place settled (side.Second q) [] bytes is leads = refl
+none_of_chunks c line place settled (side.Second q) (b ∷ wire) bytes is leads =
+    let end = Completes-some c.0 (suc b) line q is in
+    let first = first_byte c.0 place settled b (wire ++ end.rest) end.payload
+    (leads.onward end.rest end.payload (unheeded (coding.Second c) bytes end.rest) end.completes) in
+    absurd (other_byte b end.payload first.0 first.1 end.plain)
+
+-- so bytes of which the next is payload, or behind which none is, settle something
+module _ {S : Type 0} (u : Unbuffered S) where
+  abbrev Settle : BodyCoding → Side ℕ Place → Type 0
+  Settle c p = (more : List ℕ) → LeadsOpen (grammar_of c) p [] (u.left ++ more) → ⊥
+
+  no_taken : (c : BodyCoding) (p : Side ℕ Place) (more : List ℕ) (o : LeadsOpen (grammar_of c) p [] (u.left ++ more))
+      → length o.wire ≡ 0 → 0 < length u.left → ⊥
+  no_taken c p more o none some = omega (
+    arith,
+    none,
+    some,
+    ap length o.equal,
+    length-append u.left more,
+    length-append o.wire o.shown,
+    ap length (no_byte c o.place o.shown o.settles_nothing),
+  )
+
+  ready_is : (c : BodyCoding) → has_line c → (p : Side ℕ Place) → (grammar_of c).is_place p → IsReady u (rest_of c p)
+      → IsDone (grammar_of c) p ⊎ Settle c p
+  ready_is (coding.First c) line (side.First n) is (inl none) = inl (sym none, refl)
+  ready_is (coding.First c) line (side.First n) is (inr some) = inr (λ more o.
+      no_taken (coding.First c) (side.First n) more o (none_of_length c n o.place o.wire o.shown o.is_place o.leads) some)
+  ready_is (coding.First c) line (side.Second q) is ready = absurd is
+  ready_is (coding.Second c) line (side.Second q) is (inl done) =
+      inl (subst (λ x. Completes c.0 x [] []) (sym done) (refl, refl))
+  ready_is (coding.Second c) line (side.Second q) is (inr held) = inr (λ more o.
+      no_taken (coding.Second c) (side.Second q) more o
+      (none_of_chunks c line q held.0 o.place o.wire o.shown o.is_place o.leads) held.1)
+  ready_is (coding.Second c) line (side.First n) is ready = absurd is
+
+-- what is wrong
+wrong_is : (c : BodyCoding) (p : Side ℕ Place) → (grammar_of c).is_place p → (bytes : List ℕ) (name : Malformed)
+    → (grammar_of c).wrong p bytes (side.Second name) → IsWrongNext (rest_of c p) bytes name
+wrong_is (coding.Second c) (side.Second q) is bytes name wrong = (
+  wrong,
+  λ later wire behind payload same it.
+      (chunked_lawful c.0).never q bytes name wire payload is wrong it (later, behind, same),
 )
+wrong_is (coding.Second c) (side.First n) is bytes name wrong = absurd is
+wrong_is (coding.First c) (side.First n) is bytes name wrong = absurd wrong
+wrong_is (coding.First c) (side.Second q) is bytes name wrong = absurd is
 
--- an error of a reader of chunks says why no payload comes
-pub chunks_fail : {S : Type 0} (s t : ChunkedState S StdPolicy) → IsChunkedReader t → IsRoomy s.reader.block → (asked : ℕ)
-    (e : ChunkedError) → PayloadAnswers std_read_rules s asked (Err e) t
-    → EndsOnce s.reader.log.reads (Err e) t.reader.log.reads
-    → Fails (unbuffered s.reader) (body_error e) (unbuffered t.reader) (Chunks t.limits t.place)
-chunks_fail s t is roomy asked (NotChunked why right) answers never =
-    ((answers.1, never), chunks_wrong t is why answers.2)
-chunks_fail s t is roomy asked (Truncated right) answers once = (
-  answers.1,
-  omega (arith, once, answers.2.dry.dry (WantsBytes-std s.reader.policy) (omega (arith, roomy.1))),
-  answers.2.dry.none,
-  λ payload c. answers.2.none (handed_of t ++ payload) (rw append-nil at (is.leads.onward [] payload c)),
-  (t.limits, t.place, refl),
-)
-chunks_fail s t is roomy asked (Io e) answers never =
-    elim answers [ inl fault ↦ (fault, never) | inr failed ↦ absurd failed.3.gave.allowed ]
+none_wrong : (c : BodyCoding) (p : Side ℕ Place) (bytes : List ℕ) (none : Unit {0})
+    → (grammar_of c).wrong p bytes (side.First none) → ⊥
+none_wrong (coding.First c) (side.First n) bytes none wrong = wrong
+none_wrong (coding.First c) (side.Second q) bytes none wrong = wrong
+none_wrong (coding.Second c) (side.First n) bytes none wrong = wrong
+none_wrong (coding.Second c) (side.Second q) bytes none wrong = wrong
 
--- an error of a body of more pieces than are counted is a fault
-pub body_fault : (e : ChunkedError) (why : Error) → ◌≡◌ {A = Result ℕ ChunkedError} (Err e) (Err (Io why))
-    → body_error e ≡ Fault why
-body_fault e why is = let same : e ≡ Io why = cc in ap body_error same
+-- why no payload comes
+module _ {S : Type 0} (s t : Unbuffered S) where
+  cut_is : (c : BodyCoding) (p : Side ℕ Place) → (grammar_of c).is_place p → IsOpen (grammar_of c) p t.left
+      → (t.log.reads.faults ≡ s.log.reads.faults) × (t.log.reads.zero_reads ≡ s.log.reads.zero_reads + 1) → (right : ℕ)
+      → Fails s (body_error p (unread.Truncated right)) t (rest_of c p)
+  cut_is (coding.First c) (side.First n) is opened met right =
+      (met.0, met.1, no_byte (coding.First c) (side.First n) t.left opened, not_rest, refl)
+    where
+      not_rest : (payload : List ℕ) → ¬ (IsRest (Bytes n) [] payload)
+      not_rest payload it = omega (arith, opened.further [] payload it (Agree-nothing t.left))
+  cut_is (coding.Second c) (side.Second q) is opened met right =
+      (met.0, met.1, no_byte (coding.Second c) (side.Second q) t.left opened, not_rest, (c.0, q, refl))
+    where
+      not_rest : (payload : List ℕ) → ¬ (IsRest (Chunks c.0 q) [] payload)
+      not_rest payload it = omega (arith, opened.further [] payload it (Agree-nothing t.left))
+  cut_is (coding.First c) (side.Second q) is opened met right = absurd is
+  cut_is (coding.Second c) (side.First n) is opened met right = absurd is
 
--- calls behind others ask behind what those took
-pub asked_on : {R : Type 0} (r q : Rest) (s m t : Buffered R StdPolicy) (wire handed : List ℕ) → Took s wire m
-    → Onward r wire handed q → AskedWhere (Unended r) (unbuffered s) (unbuffered m)
-    → AskedWhere (GoesOn q []) (unbuffered m) (unbuffered t) → AskedWhere (Unended r) (unbuffered s) (unbuffered t)
-asked_on r q s m t wire handed took onward before asks =
-    AskedWhere-on (Unended r) (GoesOn q []) s m t wire took (λ bytes on. (
-      handed ++ [],
-      record {
-        rest = on.rest;
-        onward = Onward-joins r q on.rest wire bytes handed [] onward on.onward;
-        more = on.more;
-      },
-    )) before asks
+short_is : (c : BodyCoding) (p : Side ℕ Place) → (grammar_of c).is_place p → (bytes : List ℕ)
+    → IsOpen (grammar_of c) p bytes ⊎ ((why : Side (Unit {0}) Malformed) × (grammar_of c).wrong p bytes why)
+    → (bytes ≡ []) ⊎ ((name : Malformed) × IsWrongNext (rest_of c p) bytes name)
+short_is c p is bytes (inl opened) = inl (no_byte c p bytes opened)
+short_is c p is bytes (inr (side.First none, wrong)) = absurd (none_wrong c p bytes none wrong)
+short_is c p is bytes (inr (side.Second name, wrong)) = inr (name, wrong_is c p is bytes name wrong)
 
--- in a body of so many bytes, where nothing is left of the buffer
-bytes_asked : {R : Type 0} (n : ℕ) (s t : Unbuffered R) → 0 < n → AskedWhere (λ bytes. bytes ≡ []) s t
-    → AskedWhere (GoesOn (Bytes n) []) s t
-bytes_asked n s t some asks =
-    let long = length-replicate {A = ℕ} n 0 in
-    AskedWhere-of (λ bytes. bytes ≡ []) (GoesOn (Bytes n) []) s t (λ bytes none. subst (GoesOn (Bytes n) []) (sym none) (record {
-      rest = Bytes n;
-      onward = λ later payload is. is;
-      more = (replicate n 0, replicate n 0, omega (arith, some, long), (long, refl));
-    })) asks
+-- calls of the reader
+module _ {R : Type 0} {remaining : R → Option (List ℕ)} {s t : Reader R} (is : IsBodyReader (grammar_of s.coding) s)
+    (is' : IsBodyReader (grammar_of s.coding) t) {handed : List ℕ}
+    (went : BodyWent remaining std_read_rules (grammar_of s.coding) s handed t) where
+  abbrev kept : (Rest → Type 0) → Type 0
+  kept P = P (rest_of s.coding t.place) → P (left_in t)
 
-pub read_asked : {R : Type 0} {s t : Buffered R StdPolicy} {before after : List ℕ} {answer : Result ℕ Error} (n : ℕ) → 0 < n
-    → Reads std_read_rules s before answer after t → AskedWhere (GoesOn (Bytes n) []) (unbuffered s) (unbuffered t)
-read_asked {R} {s} {t} {before} {after} {answer} n some reads =
-    bytes_asked n (unbuffered s) (unbuffered t) some (read_asks s t before after answer reads)
+  keep : (P : Rest → Type 0) → kept P
+  keep P = subst (λ c. P (rest_of c t.place)) (sym went.coding)
 
--- of n bytes so many are left, and the others were dropped
-pub record Skips {R : Type 0} (remaining : R → Option (List ℕ)) (n : ℕ) (s : Buffered R StdPolicy) (left : ℕ)
-    (t : Buffered R StdPolicy) : Type 0 where
-  pub wire : List ℕ
-  pub along : ReadsAlong remaining std_read_rules s wire t
-  pub few : length wire + left ≡ n
-  pub gives : AsksGive s t
-  pub asked : AskedWhere (Unended (Bytes n)) (unbuffered s) (unbuffered t)
-  pub gave : EachGave (unbuffered s) (unbuffered t)
-  pub kind : t.block.kind ≡ s.block.kind
+  leads : Leads (grammar_of s.coding) s.place went.wire handed t.place (heeded (grammar_of s.coding) t.reader.block.bytes)
+  leads = BodyWent-leads remaining std_read_rules (grammar_of s.coding) s t handed is is' went
 
-module _ {R : Type 0} {remaining : R → Option (List ℕ)} {n left : ℕ} {s m : Buffered R StdPolicy}
-    (before : Skips remaining n s left m) (some : 0 < left) where
-  fill_asked : (t : Buffered R StdPolicy) → AsksEmpty m t → AskedWhere (Unended (Bytes n)) (unbuffered s) (unbuffered t)
-  fill_asked t asks =
-      asked_on (Bytes n) (Bytes left) s m t before.wire before.wire
-      (record { order = before.along.in_order; gives = before.gives }) (bytes_onward n before.wire left before.few) before.asked
-      (bytes_asked left (unbuffered m) (unbuffered t) some asks)
-
-  -- a further fill takes nothing
-  pub Skips-filled : {t : Buffered R StdPolicy} {answer : Result (Bor (List ℕ)) Error}
-      → FillBuf remaining std_read_rules m answer t
-      → ((wire : List ℕ) × ReadsAlong remaining std_read_rules s wire t × (length wire + left ≡ n))
-      × AskedWhere (Unended (Bytes n)) (unbuffered s) (unbuffered t)
-  Skips-filled {t} {answer} filled =
-      let along = ReadsAlong-then _ _ _ _ _ before.wire before.along (FillBuf-along _ _ _ _ _ filled) in
-      ((before.wire, along, before.few), fill_asked t (fill_asks m t answer filled.fills))
-
-  -- where that shows nothing the stream ended
-  pub Skips-ended : {f : Buffered R StdPolicy} {shown : Bor (List ℕ)} → FillBuf remaining std_read_rules m (Ok shown) f
-      → 0 < s.block.capacity → length shown.now ≡ 0
-      → Fails (unbuffered s) (Truncated (Some left)) (unbuffered f) (Bytes left)
-  Skips-ended {f} {shown} filled room none =
-      let empty : length f.block.bytes ≡ 0 = omega (arith, none, ap length filled.shown) in
-      let dry = Fills-empty std_read_rules m shown f filled.fills (WantsBytes-std m.policy)
-      (omega (arith, room, before.along.capacity)) empty in (
-        filled.fills.caused ∙ before.gave.0,
-        omega (arith, before.gave.1, dry, once_at_most std_read_rules ReadsWhenEmpty-std m f shown filled.fills.filled),
-        nil_from_length f.block.bytes empty,
-        λ payload is. omega (arith, some, is.0),
-        refl,
-      )
-
-  -- some of what it shows is dropped
-  pub Skips-more : {f t : Buffered R StdPolicy} {shown : Bor (List ℕ)} → FillBuf remaining std_read_rules m (Ok shown) f
-      → (k : ℕ) → 0 < k → k ≤ length shown.now → k ≤ left → t.inner ≡ f.inner → ReaderConsumes std_read_rules k f t
-      → Skips remaining n s (left - k) t
-  Skips-more {f} {t} {shown} filled k positive held few inner gone =
-      let long = length-take-le k shown.now held in
-      let asks = fill_then m f t (Ok shown) filled.fills gone.told in
-      let one = ReadsAlong-turn _ _ _ _ _ _ _ (ReadsAlong-none remaining std_read_rules m) filled k t inner gone in
-      let took = took_some m (take k shown.now) t one.in_order (omega (arith, long, positive)) asks in
-      record {
-        wire = before.wire ++ take k shown.now;
-        along = ReadsAlong-turn _ _ _ _ _ _ _ before.along filled k t inner gone;
-        few = omega (arith, before.few, few, length-append before.wire (take k shown.now), long);
-        gives = omega (arith, before.gives, took.gives);
-        asked = fill_asked t asks;
-        gave = (
-          ap (λ l. l.reads.faults) gone.told ∙ filled.fills.caused ∙ before.gave.0,
-          ap (λ l. l.reads.zero_reads) gone.told
-              ∙ none_where_shown std_read_rules ReadsWhenEmpty-std m f shown filled.fills.filled
-              (omega (arith, positive, held, ap length filled.shown)) ∙ before.gave.1,
-        );
-        kind = gone.told_policy.law.kind ∙ gone.dropped.kind ∙ filled.fills.kind ∙ before.kind;
-      }
-
--- in a body in chunks
-more_to_come : (limits : Limits) (p : Place) (later payload : List ℕ) → p ≢ Done → Completes limits p later payload
-    → 0 < length later
-more_to_come limits p [] payload differs c = absurd (differs (Completes-nothing limits p payload c))
-more_to_come limits p (x ∷ later) payload differs c = omega arith
-
-module _ {R : Type 0} {remaining : R → Option (List ℕ)} {s t : ChunkedState R StdPolicy} (is : IsChunkedReader s)
-    (some : 0 < s.limits.line) {out : List ℕ} {answer : Result ℕ ChunkedError}
-    (reads : ReadsPayload remaining std_read_rules s out answer t) where
-  goes_on : (bytes : List ℕ) → LeadsOn s.limits s.place bytes → GoesOn (Chunks s.limits s.place) [] bytes
-  goes_on bytes on = let end = Completes-some s.limits some on.place on.is_place in record {
-    rest = Chunks s.limits on.place;
-    onward = on.leads.onward;
-    more = (end.rest, end.payload, more_to_come s.limits on.place _ _ on.before_end end.completes, end.completes);
-  }
-
-  pub chunks_asked : AskedWhere (GoesOn (Chunks s.limits s.place) []) (unbuffered s.reader) (unbuffered t.reader)
-  chunks_asked =
-      AskedWhere-of (LeadsOn s.limits s.place) (GoesOn (Chunks s.limits s.place) []) (unbuffered s.reader) (unbuffered t.reader)
-      goes_on (payload_asks remaining s t is out answer reads)
-
-  pub chunks_idle : IsReady (unbuffered s.reader) (Chunks s.limits s.place) → t.reader.log ≡ s.reader.log
-  chunks_idle (inl done) = ap (λ x. x.log) (reads.ended (IsWhole-done s is done))
-  chunks_idle (inr held) = payload_idle remaining s t is out answer reads held.0 held.1
-
--- reads of its payload that handed some out each
-module _ {R : Type 0} (remaining : R → Option (List ℕ)) {s : ChunkedState R StdPolicy} (is : IsChunkedReader s)
-    (some : 0 < s.limits.line) where
-  record Drained (m : ChunkedState R StdPolicy) : Type 0 where
-    pub handed : List ℕ
-    pub went : BodyWent remaining std_read_rules s handed m
-    pub whole : IsChunkedReader m
-    pub gives : AsksGive s.reader m.reader
-    pub asked : AskedWhere (Unended (Chunks s.limits s.place)) (unbuffered s.reader) (unbuffered m.reader)
-
-  then_asked : {m t : ChunkedState R StdPolicy} {out : List ℕ} {answer : Result ℕ ChunkedError} → Drained m
-      → ReadsPayload remaining std_read_rules m out answer t
-      → AskedWhere (Unended (Chunks s.limits s.place)) (unbuffered s.reader) (unbuffered t.reader)
-  then_asked {m} {t} d reads =
-      asked_on (Chunks s.limits s.place) (Chunks m.limits m.place) s.reader m.reader t.reader d.went.wire d.handed
-      (record { order = d.went.along.in_order; gives = d.gives }) (chunks_onward is d.went d.whole) d.asked
-      (chunks_asked d.whole (subst (λ l. 0 < l.line) (sym d.went.limits) some) reads)
-
-  drained : (count : ℕ) (t : ChunkedState R StdPolicy) → ReadsOn remaining std_read_rules count s t → Drained t
-  drained zero t same = subst Drained same (record {
-    handed = [];
-    went = BodyWent-none remaining std_read_rules s;
-    whole = is;
-    gives = omega arith;
-    asked = inl refl;
+  pub body_take : Takes remaining (stream_of s) (left_in s) handed (stream_of t) (left_in t)
+  body_take = keep (Takes remaining (stream_of s) (left_in s) handed (stream_of t)) (record {
+    wire = went.wire;
+    went = ReadsAlong-stream remaining std_read_rules s.reader went.wire t.reader went.along;
+    onward = onward_is s.coding s.place t.place went.wire handed t.reader.block.bytes is.place is'.place leads;
+    backward = backward_is s.coding s.place t.place went.wire handed t.reader.block.bytes is.place is'.place leads;
   })
-  drained (suc count) t (m, out, n, before, reads) = let d = drained count m before in record {
-    handed = d.handed ++ take (suc n) out;
-    went = BodyWent-joins remaining std_read_rules s m t d.handed (take (suc n) out) d.went reads.went;
-    whole = reads.whole;
-    gives = omega (arith, d.gives, payload_gives remaining m t d.whole out (Ok (suc n)) reads (suc n) refl);
-    asked = then_asked d reads;
+
+  pub body_room : HasRoom s → HasRoom t
+  body_room (roomy, line) = (
+    (went.keeps.kind ∙ roomy.0, omega (arith, roomy.1, went.along.capacity)),
+    subst has_line (sym went.coding) line,
+  )
+
+  done : IsWhole (grammar_of s.coding) t → IsDone (grammar_of s.coding) t.place
+  done = Leads-done (grammar_of s.coding) (lawful s.coding) t.taken (handed_of t) t.place
+      (heeded (grammar_of s.coding) t.reader.block.bytes) is'.leads is'.place
+
+  pub body_done : IsWhole (grammar_of s.coding) t → IsRest (left_in t) [] []
+  body_done whole = keep (λ r. IsRest r [] []) (rest_is s.coding t.place is'.place [] [] (done whole))
+
+  pub body_end : IsWhole (grammar_of s.coding) t → between.EachGave s.reader t.reader
+      → Ends remaining (stream_of s) (left_in s) (unbuffered t.reader)
+  body_end whole gave = record {
+    wire = went.wire;
+    payload = handed ++ [];
+    went = ReadsAlong-stream remaining std_read_rules s.reader went.wire t.reader went.along;
+    is = subst (λ l. IsRest (left_in s) l (handed ++ [])) (append-nil went.wire)
+        (onward_is s.coding s.place t.place went.wire handed t.reader.block.bytes is.place is'.place leads [] []
+        (rest_is s.coding t.place is'.place [] [] (done whole)));
+    gave = (gave.faults, gave.zero_reads);
   }
 
-  pub drain_asked : {answer : Result ℕ ChunkedError} {t : ChunkedState R StdPolicy}
-      → Drains remaining std_read_rules s answer t
-      → AskedWhere (Unended (Chunks s.limits s.place)) (unbuffered s.reader) (unbuffered t.reader)
-  drain_asked {answer} {t} reads =
-      let d = drained reads.count reads.last reads.before in
-      elim reads.end [
-        | inl same ↦
-            subst (λ x. AskedWhere (Unended (Chunks s.limits s.place)) (unbuffered s.reader) (unbuffered x.reader)) same d.asked
-        | inr (out, room, read) ↦ then_asked d read
-      ]
+  pub body_fails : (e : Unread (Side (Unit {0}) Malformed)) → NoPayload (grammar_of s.coding) s e t
+      → Fails (stream_of s) (body_error t.place e) (stream_of t) (left_in t)
+  body_fails (unread.Wrong (side.Second name) right) fails = keep (Fails (stream_of s) (Wrong name) (stream_of t)) (
+    (fails.1.faults, fails.1.zero_reads),
+    wrong_is s.coding t.place is'.place t.reader.block.bytes name fails.2.name,
+  )
+  body_fails (unread.Wrong (side.First none) right) fails =
+      absurd (none_wrong s.coding t.place t.reader.block.bytes none fails.2.name)
+  body_fails (unread.Truncated right) fails =
+      keep (Fails (stream_of s) (body_error t.place (unread.Truncated right)) (stream_of t))
+      (cut_is (stream_of s) (stream_of t) s.coding t.place is'.place fails.2.settles_nothing fails.1 right)
+  body_fails (unread.Io e) fails = fails.0
+
+  pub body_named : (e : Unread (Side (Unit {0}) Malformed)) → NoPayload (grammar_of s.coding) s e t → IsNamed e
+  body_named (unread.Wrong (side.Second name) right) fails = tt
+  body_named (unread.Wrong (side.First none) right) fails =
+      none_wrong s.coding t.place t.reader.block.bytes none fails.2.name
+  body_named (unread.Truncated right) fails = tt
+  body_named (unread.Io e) fails = tt
+
+  pub body_short : (out : List ℕ) (count : ℕ) → (count ≡ length out)
+      ⊎ (IsWhole (grammar_of s.coding) t ⊎ (EndsEarly (grammar_of s.coding) t
+      ⊎ ((why : Side (Unit {0}) Malformed) × Breaks (grammar_of s.coding) why t)))
+      → RunsShort (length out) count (left_in t) (stream_of t).left
+  body_short out count (inl all) = inl all
+  body_short out count (inr (inl whole)) = inr (inl (body_done whole))
+  body_short out count (inr (inr (inl early))) =
+      inr (inr (inl (no_byte s.coding t.place t.reader.block.bytes early.settles_nothing)))
+  body_short out count (inr (inr (inr breaks))) =
+      keep (λ r. RunsShort (length out) count r (stream_of t).left)
+      (inr (inr (short_is s.coding t.place is'.place t.reader.block.bytes (inr (breaks.0, breaks.1.name)))))
+
+-- whether a body ended
+module _ {R : Type 0} {d : Reader R} (is : IsBodyReader (grammar_of d.coding) d) where
+  pub ended_is : IsWhole (grammar_of d.coding) d → IsRest (left_in d) [] []
+  ended_is whole = rest_is d.coding d.place is.place [] []
+      (Leads-done (grammar_of d.coding) (lawful d.coding) d.taken (handed_of d) d.place
+      (heeded (grammar_of d.coding) d.reader.block.bytes) is.leads is.place whole)
+
+  pub is_ended : IsRest (left_in d) [] [] → IsWhole (grammar_of d.coding) d
+  is_ended rest = Leads-whole (grammar_of d.coding) d.taken (handed_of d) d.place
+      (heeded (grammar_of d.coding) d.reader.block.bytes) is.leads (completes_is d.coding d.place is.place [] [] rest)
+
+-- why the rest of one can't be dropped
+module _ {R : Type 0} {remaining : R → Option (List ℕ)} {s t : Reader R} (is : IsBodyReader (grammar_of s.coding) s)
+    {e : Unread (Side (Unit {0}) Malformed)} (drains : Drains remaining std_read_rules (grammar_of s.coding) s (Err e) t) where
+  many_is : (why : Error) → e ≡ unread.Io why → body_error t.place e ≡ Fault why
+  many_is why same = ap (body_error t.place) same
+
+  pub drain_fails : FinishFails (stream_of s) drains.payload (body_error t.place e) (stream_of t) (left_in t)
+  drain_fails = elim drains.answers [
+    | inl fails ↦ inl (body_fails is drains.whole drains.went e fails)
+    | inr many ↦ inr (many.0, many_is many.0 many.1, many.2, many.3)
+  ]
+
+-- where the stream is asked
+module _ {R : Type 0} {s : Reader R} (is : IsBodyReader (grammar_of s.coding) s) (line : has_line s.coding) where
+  pub body_asked : (t : Reader R) → AskedWhere (LeadsOpen (grammar_of s.coding) s.place []) (stream_of s) (stream_of t)
+      → AskedWhere (GoesOn (left_in s) []) (stream_of s) (stream_of t)
+  body_asked t = AskedWhere-of (LeadsOpen (grammar_of s.coding) s.place []) (GoesOn (left_in s) []) (stream_of s) (stream_of t)
+      (λ more o. goes_on s.coding line s.place is.place [] (s.reader.block.bytes ++ more) o)
+
+  pub drain_asked : {remaining : R → Option (List ℕ)} {answer : Result (Unit {0}) (Unread (Side (Unit {0}) Malformed))} {t : Reader R}
+      → Drains remaining std_read_rules (grammar_of s.coding) s answer t
+      → AskedWhere (Unended (left_in s)) (stream_of s) (unbuffered t.reader)
+  drain_asked {remaining} {answer} {t} drains =
+      AskedWhere-of (λ bytes. (dropped : List ℕ) × LeadsOpen (grammar_of s.coding) s.place dropped bytes)
+      (Unended (left_in s)) (stream_of s) (unbuffered t.reader)
+      (λ more o. (o.0, goes_on s.coding line s.place is.place o.0 (s.reader.block.bytes ++ more) o.1)) drains.asked
+
+  pub body_idle : {remaining : R → Option (List ℕ)} {out : List ℕ} {answer : Result ℕ (Unread (Side (Unit {0}) Malformed))} {t : Reader R}
+      → ReadsPayload remaining std_read_rules (grammar_of s.coding) s out answer t → IsReady (stream_of s) (left_in s)
+      → (stream_of t).log ≡ (stream_of s).log
+  body_idle {remaining} {out} {answer} {t} reads ready = elim (ready_is (stream_of s) s.coding line s.place is.place ready) [
+    | inl done ↦ ap (λ b. b.log) (reads.idle (inl (Leads-whole (grammar_of s.coding) s.taken (handed_of s) s.place
+        (heeded (grammar_of s.coding) s.reader.block.bytes) is.leads done)))
+    | inr settles ↦ elim reads.asked [
+      | inl same ↦ same
+      | inr over ↦ absurd (settles over.came over.such)
+    ]
+  ]

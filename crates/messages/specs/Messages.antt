@@ -1,23 +1,33 @@
 -- Messages, and what contracts see of a reader that stands in one.
-use Rattle.std.specs.Prelude.{◌≡◌, ◌⊎◌, ◌≤◌, ◌<◌, ◌+◌, ◌-◌, ◌*◌, ◌^◌, ℕ, List, [], ◌∷◌, ◌++◌, length, MatchOption, Option, None, Some, Ok, Err}
+use Rattle.std.specs.Prelude.{◌≡◌, ◌⊎◌, ◌≤◌, ◌<◌, ◌+◌, ◌-◌, ◌*◌, ◌^◌, ℕ, List, [], ◌∷◌, ◌++◌, length, MatchOption, Option, None, Some, Ok, Err, ⊤}
 use Rattle.std.specs.IoError.{error_kind}
 use Rattle.std.specs.declared.io.Error.{Error}
 use Rattle.std.specs.declared.io.ErrorKind.TheVariants.{Other}
 use Rattle.buffer_redux.specs.Block.{Block, Plain}
 use Rattle.buffer_redux.specs.Unbuffer.{StreamWent, Unbuffered, unbuffered}
-use Rattle.chunked.specs.declared.error.ChunkedError.{ChunkedError}
+use Rattle.body_reader.specs.BodyReader.{BodyState}
+use Rattle.body_reader.specs.Coding.{Grammar}
+use Rattle.body_reader.specs.Either.{either}
+use Rattle.body_reader.specs.Sized.{sized}
+use Rattle.body_reader.specs.declared.error.BodyError.{BodyError as Unread}
+use Rattle.body_reader.specs.declared.error.BodyError.TheVariants as unread
+use Rattle.body_reader.specs.declared.either.Either.{Either}
+use Rattle.body_reader.specs.declared.either.Either.TheVariants as coding
+use Rattle.body_reader.specs.declared.either.Side.{Side}
+use Rattle.body_reader.specs.declared.either.Side.TheVariants as side
+use Rattle.body_reader.specs.declared.sized.Sized.{Sized as OfLength}
+use Rattle.buffer_redux.specs.declared.policy.StdPolicy.{StdPolicy}
+use Rattle.chunked.specs.Coding.{chunked}
+use Rattle.chunked.specs.Coding as chunks
+use Rattle.chunked.specs.declared.coding.Chunked.{Chunked as InChunks}
 use Rattle.chunked.specs.declared.error.Malformed.{Malformed}
-use Rattle.chunked.specs.declared.error.ChunkedError.TheVariants as chunks
 use Rattle.chunked.specs.declared.limits.Limits.{Limits}
 use Rattle.chunked.specs.declared.place.Place.{Place}
 use Rattle.chunked.specs.declared.place.Place.TheVariants.{Line, Done}
-use Rattle.chunked.specs.Between.{MeetsWrong}
 use Rattle.chunked.specs.Place.{Completes, IsSettled}
 use Rattle.codec.specs.declared.NextError.TheVariants as why
 use Rattle.codec.specs.NextPiece.{NextAnswer, NextPiece}
 use Rattle.codec.specs.PieceReader.{ReaderState, left_of}
-use Rattle.messages.specs.declared.body.Source.{Source}
-use Rattle.messages.specs.declared.body.Source.TheVariants as source
 use Rattle.messages.specs.declared.error.BodyError.{BodyError}
 use Rattle.messages.specs.declared.error.BodyError.TheVariants.{Wrong, Truncated, Io as Fault}
 use Rattle.messages.specs.declared.head.Extent.{Extent}
@@ -125,7 +135,7 @@ BeginsNone r bytes = (later wire behind payload : List ℕ) → bytes ++ later �
 -- the next of these bytes is wrong so, and no beginning of them is that; in a body of a length no byte is wrong
 abbrev pub IsWrongNext : Rest → List ℕ → Malformed → Type 0
 IsWrongNext (Bytes n) bytes name = ⊥
-IsWrongNext (Chunks limits place) bytes name = MeetsWrong limits place bytes name × BeginsNone (Chunks limits place) bytes
+IsWrongNext (Chunks limits place) bytes name = chunks.IsWrongNext limits place bytes name × BeginsNone (Chunks limits place) bytes
 
 -- so much payload is as much as was asked for, or there is none behind it in what is buffered: the body ended, nothing is left of
 -- the buffer, or what comes next is wrong
@@ -144,11 +154,17 @@ Fails s (Truncated due) t r =
 Fails s (Fault e) t r =
     (t.log.reads.faults ≡ s.log.reads.faults ++ e ∷ []) × (t.log.reads.zero_reads ≡ s.log.reads.zero_reads)
 
--- as a reader of chunks says it
-abbrev pub body_error : ChunkedError → BodyError
-body_error (chunks.NotChunked name right) = Wrong name
-body_error (chunks.Truncated right) = Truncated None
-body_error (chunks.Io e) = Fault e
+-- as the reader of a body says it, where it stands. In a body of a length no byte is wrong
+abbrev pub IsNamed : Unread (Side (Unit {0}) Malformed) → Type 0
+IsNamed (unread.Wrong (side.First none) right) = ⊥
+IsNamed e = ⊤
+
+abbrev pub body_error : Side ℕ Place → Unread (Side (Unit {0}) Malformed) → BodyError
+body_error place (unread.Wrong (side.First none) right) = Truncated None
+body_error place (unread.Wrong (side.Second name) right) = Wrong name
+body_error (side.First due) (unread.Truncated right) = Truncated (Some due)
+body_error (side.Second place) (unread.Truncated right) = Truncated None
+body_error place (unread.Io e) = Fault e
 
 -- why a body wasn't finished, of which this payload was dropped: none comes; or it is of more pieces than are counted
 abbrev pub FinishFails : {S : Type 0} → Unbuffered S → List ℕ → BodyError → Unbuffered S → Rest → Type 0
@@ -192,21 +208,38 @@ pub record MessagesWent {S : Type 0} (remaining : S → Option (List ℕ)) (s : 
   pub are : AreMessages messages bytes
   pub went : StreamWent remaining s bytes t
 
--- what the stream has left, where this reads the rest of a body
-abbrev pub stream_of : {S : Type 0} → Source S → Unbuffered S
-stream_of (source.Sized reader left) = unbuffered reader
-stream_of (source.Chunked body) = unbuffered body.reader
+-- the coding of a body, and what it says
+abbrev pub BodyCoding : Type 0
+BodyCoding = Either OfLength InChunks
 
--- what is left of the body
-abbrev pub rest_of : {S : Type 0} → Source S → Rest
-rest_of (source.Sized reader left) = Bytes left
-rest_of (source.Chunked body) = Chunks body.limits body.place
+abbrev pub grammar_of : BodyCoding → Grammar (Side ℕ Place) (Side (Unit {0}) Malformed)
+grammar_of = either (λ c. sized c.0) (λ c. chunked c.0)
+
+-- what is left of a body in a place
+abbrev pub rest_of : BodyCoding → Side ℕ Place → Rest
+rest_of (coding.First c) (side.First left) = Bytes left
+rest_of (coding.Second c) (side.Second place) = Chunks c.0 place
+rest_of c place = Bytes 0
+
+abbrev pub Reader : Type 0 → Type 0
+Reader S = BodyState S StdPolicy BodyCoding (Side ℕ Place)
+
+-- what the stream has left, where this reads the rest of a body, and that rest
+abbrev pub stream_of : {S : Type 0} → Reader S → Unbuffered S
+stream_of d = unbuffered d.reader
+
+abbrev pub left_in : {S : Type 0} → Reader S → Rest
+left_in d = rest_of d.coding d.place
 
 -- a plain buffer in which three heads fit: a reader of heads keeps it, and takes no memory
 abbrev pub IsRoomy : Block → Type 0
 IsRoomy b = (b.kind ≡ Plain) × (3 * 16384 ≤ b.capacity)
 
--- its buffer is such, and a chunk has room for its size
-abbrev pub HasRoom : {S : Type 0} → Source S → Type 0
-HasRoom (source.Sized reader left) = IsRoomy reader.block
-HasRoom (source.Chunked body) = IsRoomy body.reader.block × (0 < body.limits.line)
+-- a chunk has room for its size
+abbrev pub has_line : BodyCoding → Type 0
+has_line (coding.First c) = ⊤
+has_line (coding.Second c) = 0 < c.0.line
+
+-- its buffer is such
+abbrev pub HasRoom : {S : Type 0} → Reader S → Type 0
+HasRoom d = IsRoomy d.reader.block × has_line d.coding

@@ -1,22 +1,20 @@
 //! The reader of requests, in a body.
-ghost use Rattle.std.specs.Prelude.{◌≡◌, ℕ, ◌+◌, ◌<◌, ◌≤◌, ◌↔◌, List, [], length, take, IfErr, IfOk, IsTrue, MatchResult, Ok, OnOk};
-ghost use Rattle.chunked.specs.Asking.{AskedWhere};
-ghost use Rattle.chunked.specs.Between.{handed_out};
-ghost use Rattle.buffer_redux.specs.BufReader.{ReadsAlong};
-ghost use Rattle.buffer_redux.specs.Policy.{std_read_rules};
+ghost use Rattle.std.specs.Prelude.{◌≡◌, ◌<◌, ◌≤◌, ◌↔◌, ℕ, List, [], length, take, IfErr, IfOk, IsTrue, MatchResult, Ok, OnOk};
+ghost use Rattle.body_reader.specs.Asking.{AskedWhere};
+ghost use Rattle.body_reader.specs.Between.{handed_out};
 ghost use Rattle.buffer_redux.specs.Unbuffer.{unbuffered};
 ghost use Rattle.codec.specs.PieceReader.{left_of};
-ghost use Rattle.messages.specs.Messages.{Bytes, Chunks, EachGave, Ends, Fails, FinishFails, GoesOn, HasRoom, InsideGoes, IsReady, IsRest, IsRoomy, RunsShort, Takes, Unended, begun, rest_of, stream_of};
+ghost use Rattle.messages.specs.Messages.{EachGave, Ends, Fails, FinishFails, GoesOn, HasRoom, InsideGoes, IsReady, IsRest, IsRoomy, RunsShort, Takes, Unended, begun, body_of, grammar_of, has_line, left_in, rest_of, stream_of};
 
 use crate::error::{BodyError, unread};
 use crate::head::{Extent, Heads, ParsedHead};
 use crate::requests::Requests;
+use body_reader::{BodyReader, Either, Sized};
 use buffer_redux::tell::{Tell, TellRead};
 use buffer_redux::{BufReader, Buffer};
-use chunked::{ChunkedReader, Limits};
+use chunked::{Chunked, Limits};
 use codec::PieceReader;
 use std::alloc::Global;
-use std::io::{BufRead, Read};
 use std::marker::Model;
 
 /// How much of a chunked body may be no payload.
@@ -25,37 +23,32 @@ pub const LIMITS: Limits = Limits {
     trailers: 4096,
 };
 
-// What reads the rest of a body.
-#[derive(Drop)]
-enum Source<R: Tell> {
-    // A reader that has so many bytes of the body before what follows it.
-    Sized(BufReader<R>, u64),
-    Chunked(ChunkedReader<R>),
-}
+/// Bodies of a length, and bodies in chunks.
+pub type BodyCoding = Either<Sized, Chunked>;
 
 /// A reader of requests that stands in the body of one.
 #[derive(Drop)]
 pub struct Body<R: Tell> {
     alloc: Global,
-    source: Source<R>,
+    reader: BodyReader<R, BodyCoding>,
     head: Buffer,
     said: ParsedHead,
 }
 
 impl<R: Tell> Model for Body<R> {
     ghost use Rattle.std.specs.Prelude.{◌≤◌};
-    ghost use Rattle.messages.specs.Messages.{HasRoom, InBody, rest_of, stream_of};
+    ghost use Rattle.messages.specs.Messages.{HasRoom, InBody, left_in, stream_of};
 
     ghost Value = { InBody R };
 
     ghost view = { λ b. record {
-      stream = stream_of b.source;
+      stream = stream_of b.reader;
       head = b.head.bytes;
       said = b.said;
-      rest = rest_of b.source;
+      rest = left_in b.reader;
     } };
 
-    ghost invariant = { λ b. (16384 ≤ b.head.capacity) × HasRoom b.source };
+    ghost invariant = { λ b. (16384 ≤ b.head.capacity) × HasRoom b.reader };
 }
 
 impl<R: Tell> Body<R> {
@@ -65,13 +58,9 @@ impl<R: Tell> Body<R> {
         requires roomy { IsRoomy reader.block }
         ensures { result ≡ begun (unbuffered reader) head.bytes said }
     {
-        let source = match said.extent {
-            Extent::Sized(len) => Source::Sized(reader, len),
-            Extent::Chunked => Source::Chunked(ChunkedReader::new(reader, LIMITS)),
-        };
         Body {
             alloc,
-            source,
+            reader: BodyReader::new(reader, coding_of(said.extent)),
             head,
             said,
         }
@@ -95,20 +84,14 @@ impl<R: Tell> Body<R> {
     pub fn buffered(&self) -> &[u8]
         ensures { result.now ≡ self.now.stream.left }
     {
-        match &self.source {
-            Source::Sized(reader, _) => reader.buffer(),
-            Source::Chunked(body) => body.get_ref().buffer(),
-        }
+        self.reader.get_ref().buffer()
     }
 
     /// Whether the body ended.
     pub fn is_done(&self) -> bool
         ensures { IsTrue result ↔ IsRest self.now.rest [] [] }
     {
-        match &self.source {
-            Source::Sized(_, left) => *left == 0,
-            Source::Chunked(body) => is_chunked_done(body),
-        }
+        is_done(&self.reader)
     }
 }
 
@@ -129,10 +112,7 @@ impl<R: TellRead> Body<R> {
         ensures idle { IsReady self.old.stream self.old.rest → self.new.stream.log ≡ self.old.stream.log }
         ensures none { length out.new ≡ 0 → (result ≡ Ok 0) × (self.new.stream ≡ self.old.stream) }
     {
-        match &mut self.source {
-            Source::Sized(reader, left) => read_sized(reader, left, out),
-            Source::Chunked(body) => read_chunked(body, out),
-        }
+        read(&mut self.reader, out)
     }
 
     /// Hands out payload that is buffered, and asks the stream for nothing. Less than the slice takes comes only where the body
@@ -143,10 +123,7 @@ impl<R: TellRead> Body<R> {
         ensures unasked { self.new.stream.log ≡ self.old.stream.log }
         ensures all { RunsShort (length out.new) result self.new.rest self.new.stream.left }
     {
-        match &mut self.source {
-            Source::Sized(reader, left) => take_sized(reader, left, out),
-            Source::Chunked(body) => take_chunked(body, out),
-        }
+        read_buffered(&mut self.reader, out)
     }
 
     /// Goes on to the next head: takes what is left of the body, and drops its payload. The stream is asked for no byte behind
@@ -160,11 +137,11 @@ impl<R: TellRead> Body<R> {
     {
         let Body {
             alloc,
-            source,
+            reader,
             head,
             said,
         } = self;
-        match end_of(source) {
+        match finish(reader) {
             Ok(reader) => {
                 let (inner, buffer) = reader.into_inner_with_buffer();
                 match PieceReader::with_buffer(alloc, buffer, inner, Heads) {
@@ -172,10 +149,10 @@ impl<R: TellRead> Body<R> {
                     Err(_) => unreachable!(),
                 }
             }
-            Err((source, e)) => Err((
+            Err((reader, e)) => Err((
                 Body {
                     alloc,
-                    source,
+                    reader,
                     head,
                     said,
                 },
@@ -185,167 +162,85 @@ impl<R: TellRead> Body<R> {
     }
 }
 
-// Reads of a body that has so many bytes before what follows it.
-fn read_sized<R: TellRead>(
-    reader: &mut BufReader<R>,
-    left: &mut u64,
-    out: &mut [u8],
-) -> Result<usize, BodyError>
-    ensures bound { IfOk result (λ n. n ≤ length out.new) }
-    ensures kind { reader.new.block.kind ≡ reader.old.block.kind }
-    ensures room { reader.old.block.capacity ≤ reader.new.block.capacity }
-    ensures takes { Takes R.remaining (unbuffered reader.old) (Bytes left.old) (handed_out out.new result)
-        (unbuffered reader.new) (Bytes left.new) }
-    ensures ended { result ≡ Ok 0 → 0 < length out.new → left.new ≡ 0 }
-    ensures gave { OnOk result (EachGave (unbuffered reader.old) (unbuffered reader.new)) }
-    ensures fails { IfErr result (λ e. Fails (unbuffered reader.old) e (unbuffered reader.new) (Bytes left.new)) }
-    ensures asked { AskedWhere (GoesOn (Bytes left.old) []) (unbuffered reader.old) (unbuffered reader.new) }
-    ensures idle { IsReady (unbuffered reader.old) (Bytes left.old) → reader.new.log ≡ reader.old.log }
-    ensures none { length out.new ≡ 0 → (result ≡ Ok 0) × (reader.new ≡ reader.old) }
+// The coding of the body that a head says.
+fn coding_of(extent: Extent) -> BodyCoding
+    ensures rest { rest_of result (grammar_of result).first ≡ body_of extent }
+    ensures line { has_line result }
+    ensures ahead { (grammar_of result).ahead ≡ 1 }
 {
-    let most = (*left).min(out.len() as u64) as usize;
-    if most == 0 {
-        return Ok(0);
+    match extent {
+        Extent::Sized(len) => Either::First(Sized(len)),
+        Extent::Chunked => Either::Second(Chunked(LIMITS)),
     }
-    let count = reader.read(&mut out[..most])?;
-    if count == 0 {
-        return Err(BodyError::Truncated(Some(*left)));
-    }
-    *left -= count as u64;
-    Ok(count)
 }
 
-// Reads of a body in chunks.
-fn read_chunked<R: TellRead>(
-    body: &mut ChunkedReader<R>,
+// Whether a body ended.
+fn is_done<R: Tell>(reader: &BodyReader<R, BodyCoding>) -> bool
+    ensures { IsTrue result ↔ IsRest (left_in reader.now) [] [] }
+{
+    let _ = reader.get_ref();
+    reader.is_done()
+}
+
+// Hands out payload.
+fn read<R: TellRead>(
+    reader: &mut BodyReader<R, BodyCoding>,
     out: &mut [u8],
 ) -> Result<usize, BodyError>
-    requires { HasRoom (Source.Chunked body.old) }
+    requires { HasRoom reader.old }
     ensures bound { IfOk result (λ n. n ≤ length out.new) }
-    ensures room { HasRoom (Source.Chunked body.new) }
-    ensures takes { Takes R.remaining (unbuffered body.old.reader) (Chunks body.old.limits body.old.place)
-        (handed_out out.new result) (unbuffered body.new.reader) (Chunks body.new.limits body.new.place) }
-    ensures ended { result ≡ Ok 0 → 0 < length out.new → IsRest (Chunks body.new.limits body.new.place) [] [] }
-    ensures gave { OnOk result (EachGave (unbuffered body.old.reader) (unbuffered body.new.reader)) }
-    ensures fails { IfErr result (λ e. Fails (unbuffered body.old.reader) e (unbuffered body.new.reader)
-        (Chunks body.new.limits body.new.place)) }
-    ensures asked { AskedWhere (GoesOn (Chunks body.old.limits body.old.place) []) (unbuffered body.old.reader)
-        (unbuffered body.new.reader) }
-    ensures idle { IsReady (unbuffered body.old.reader) (Chunks body.old.limits body.old.place)
-        → body.new.reader.log ≡ body.old.reader.log }
-    ensures none { length out.new ≡ 0 → (result ≡ Ok 0) × (body.new.reader ≡ body.old.reader) }
+    ensures room { HasRoom reader.new }
+    ensures takes { Takes R.remaining (stream_of reader.old) (left_in reader.old) (handed_out out.new result)
+        (stream_of reader.new) (left_in reader.new) }
+    ensures ended { result ≡ Ok 0 → 0 < length out.new → IsRest (left_in reader.new) [] [] }
+    ensures gave { OnOk result (EachGave (stream_of reader.old) (stream_of reader.new)) }
+    ensures fails { IfErr result (λ e. Fails (stream_of reader.old) e (stream_of reader.new) (left_in reader.new)) }
+    ensures asked { AskedWhere (GoesOn (left_in reader.old) []) (stream_of reader.old) (stream_of reader.new) }
+    ensures idle { IsReady (stream_of reader.old) (left_in reader.old)
+        → (stream_of reader.new).log ≡ (stream_of reader.old).log }
+    ensures none { length out.new ≡ 0 → (result ≡ Ok 0) × (stream_of reader.new ≡ stream_of reader.old) }
 {
-    let _ = body.get_ref();
-    match body.read_payload(out) {
+    let _ = reader.get_ref();
+    match reader.read_payload(out) {
         Ok(count) => Ok(count),
-        Err(e) => Err(unread(e)),
+        Err(e) => Err(unread(reader.place(), e)),
     }
 }
 
-fn is_chunked_done<R: Tell>(body: &ChunkedReader<R>) -> bool
-    ensures { IsTrue result ↔ IsRest (Chunks body.now.limits body.now.place) [] [] }
-{
-    let _ = body.get_ref();
-    body.is_done()
-}
-
-// Takes what is buffered of a body that has so many bytes before what follows it.
-fn take_sized<R: TellRead>(reader: &mut BufReader<R>, left: &mut u64, out: &mut [u8]) -> usize
+// Hands out payload that is buffered.
+fn read_buffered<R: TellRead>(reader: &mut BodyReader<R, BodyCoding>, out: &mut [u8]) -> usize
+    requires { HasRoom reader.old }
     ensures bound { result ≤ length out.new }
-    ensures kind { reader.new.block.kind ≡ reader.old.block.kind }
-    ensures room { reader.old.block.capacity ≤ reader.new.block.capacity }
-    ensures takes { Takes R.remaining (unbuffered reader.old) (Bytes left.old) (take result out.new)
-        (unbuffered reader.new) (Bytes left.new) }
-    ensures unasked { reader.new.log ≡ reader.old.log }
-    ensures all { RunsShort (length out.new) result (Bytes left.new) reader.new.block.bytes }
+    ensures room { HasRoom reader.new }
+    ensures takes { Takes R.remaining (stream_of reader.old) (left_in reader.old) (take result out.new)
+        (stream_of reader.new) (left_in reader.new) }
+    ensures unasked { (stream_of reader.new).log ≡ (stream_of reader.old).log }
+    ensures all { RunsShort (length out.new) result (left_in reader.new) (stream_of reader.new).left }
 {
-    let shown = reader.buffer();
-    let count = (*left).min(shown.len().min(out.len()) as u64) as usize;
-    out[..count].copy_from_slice(&shown[..count]);
-    reader.consume(count);
-    *left -= count as u64;
-    count
-}
-
-// Takes what is buffered of a body in chunks.
-fn take_chunked<R: TellRead>(body: &mut ChunkedReader<R>, out: &mut [u8]) -> usize
-    requires { HasRoom (Source.Chunked body.old) }
-    ensures bound { result ≤ length out.new }
-    ensures room { HasRoom (Source.Chunked body.new) }
-    ensures takes { Takes R.remaining (unbuffered body.old.reader) (Chunks body.old.limits body.old.place)
-        (take result out.new) (unbuffered body.new.reader) (Chunks body.new.limits body.new.place) }
-    ensures unasked { body.new.reader.log ≡ body.old.reader.log }
-    ensures all { RunsShort (length out.new) result (Chunks body.new.limits body.new.place) body.new.reader.block.bytes }
-{
-    let _ = body.get_ref();
-    body.read_buffered(out)
+    let _ = reader.get_ref();
+    reader.read_buffered(out)
 }
 
 // Takes what is left of a body.
-fn end_of<R: TellRead>(source: Source<R>) -> Result<BufReader<R>, (Source<R>, BodyError)>
-    requires { HasRoom source }
-    ensures room { MatchResult result (λ reader. IsRoomy reader.block) (λ e. HasRoom e.0) }
-    ensures ends { MatchResult result
-        (λ reader. Ends R.remaining (stream_of source) (rest_of source) (unbuffered reader))
+fn finish<R: TellRead>(
+    reader: BodyReader<R, BodyCoding>,
+) -> Result<BufReader<R>, (BodyReader<R, BodyCoding>, BodyError)>
+    requires { HasRoom reader }
+    ensures room { MatchResult result (λ rest. IsRoomy rest.block) (λ e. HasRoom e.0) }
+    ensures ends { MatchResult result (λ rest. Ends R.remaining (stream_of reader) (left_in reader) (unbuffered rest))
         (λ e. (handed : List ℕ)
-        × Takes R.remaining (stream_of source) (rest_of source) handed (stream_of e.0) (rest_of e.0)
-        × FinishFails (stream_of source) handed e.1 (stream_of e.0) (rest_of e.0)) }
+        × Takes R.remaining (stream_of reader) (left_in reader) handed (stream_of e.0) (left_in e.0)
+        × FinishFails (stream_of reader) handed e.1 (stream_of e.0) (left_in e.0)) }
     ensures asked { MatchResult result
-        (λ reader. AskedWhere (Unended (rest_of source)) (stream_of source) (unbuffered reader))
-        (λ e. AskedWhere (Unended (rest_of source)) (stream_of source) (stream_of e.0)) }
+        (λ rest. AskedWhere (Unended (left_in reader)) (stream_of reader) (unbuffered rest))
+        (λ e. AskedWhere (Unended (left_in reader)) (stream_of reader) (stream_of e.0)) }
 {
-    match source {
-        Source::Sized(mut reader, mut left) => match skip(&mut reader, &mut left) {
-            Ok(()) => Ok(reader),
-            Err(e) => Err((Source::Sized(reader, left), e)),
-        },
-        Source::Chunked(body) => finish_chunked(body),
-    }
-}
-
-fn finish_chunked<R: TellRead>(
-    body: ChunkedReader<R>,
-) -> Result<BufReader<R>, (Source<R>, BodyError)>
-    requires { HasRoom (Source.Chunked body) }
-    ensures room { MatchResult result (λ reader. IsRoomy reader.block) (λ e. HasRoom e.0) }
-    ensures ends { MatchResult result
-        (λ reader. Ends R.remaining (unbuffered body.reader) (Chunks body.limits body.place) (unbuffered reader))
-        (λ e. (handed : List ℕ) × Takes R.remaining (unbuffered body.reader) (Chunks body.limits body.place) handed
-        (stream_of e.0) (rest_of e.0)
-        × FinishFails (unbuffered body.reader) handed e.1 (stream_of e.0) (rest_of e.0)) }
-    ensures asked { MatchResult result
-        (λ reader. AskedWhere (Unended (Chunks body.limits body.place)) (unbuffered body.reader) (unbuffered reader))
-        (λ e. AskedWhere (Unended (Chunks body.limits body.place)) (unbuffered body.reader) (stream_of e.0)) }
-{
-    let _ = body.get_ref();
-    match body.finish() {
-        Ok(reader) => Ok(reader),
-        Err((body, e)) => {
-            let _ = body.get_ref();
-            Err((Source::Chunked(body), unread(e)))
+    let _ = reader.get_ref();
+    match reader.finish() {
+        Ok(rest) => Ok(rest),
+        Err((reader, e)) => {
+            let place = reader.place();
+            Err((reader, unread(place, e)))
         }
     }
-}
-
-// Drops so many bytes.
-fn skip<R: TellRead>(reader: &mut BufReader<R>, left: &mut u64) -> Result<(), BodyError>
-    requires { 0 < reader.old.block.capacity }
-    ensures kind { reader.new.block.kind ≡ reader.old.block.kind }
-    ensures dropped { (wire : List ℕ) × ReadsAlong R.remaining std_read_rules reader.old wire reader.new
-        × (length wire + left.new ≡ left.old) }
-    ensures all { OnOk result (left.new ≡ 0) }
-    ensures gave { OnOk result (EachGave (unbuffered reader.old) (unbuffered reader.new)) }
-    ensures fails { IfErr result (λ e. Fails (unbuffered reader.old) e (unbuffered reader.new) (Bytes left.new)) }
-    ensures asked { AskedWhere (Unended (Bytes left.old)) (unbuffered reader.old) (unbuffered reader.new) }
-{
-    while *left > 0 {
-        let shown = reader.fill_buf()?;
-        if shown.is_empty() {
-            return Err(BodyError::Truncated(Some(*left)));
-        }
-        let count = (*left).min(shown.len() as u64) as usize;
-        reader.consume(count);
-        *left -= count as u64;
-    }
-    Ok(())
 }

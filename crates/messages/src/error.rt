@@ -1,8 +1,9 @@
 //! Why there is no payload.
 ghost use Rattle.std.specs.Prelude.{◌≡◌};
-ghost use Rattle.messages.specs.Messages.{body_error};
+ghost use Rattle.messages.specs.Messages.{IsNamed, body_error};
 
-use chunked::{ChunkedError, Malformed};
+use body_reader::{BodyError as Unread, Side};
+use chunked::{Malformed, Place};
 use std::error::Error;
 use std::{fmt, io};
 
@@ -44,13 +45,18 @@ impl From<io::Error> for BodyError {
     }
 }
 
-// Why a reader of chunks handed none out.
-pub(crate) fn unread(e: ChunkedError) -> BodyError
-    ensures { result ≡ body_error e }
+// Why a reader of a body handed none out, where it stands.
+pub(crate) fn unread(place: Side<u64, Place>, e: Unread<Side<(), Malformed>>) -> BodyError
+    requires { IsNamed e }
+    ensures { result ≡ body_error place e }
 {
     match e {
-        ChunkedError::NotChunked(why, _) => BodyError::Wrong(why),
-        ChunkedError::Truncated(_) => BodyError::Truncated(None),
-        ChunkedError::Io(e) => BodyError::Io(e),
+        Unread::Wrong(Side::Second(why), _) => BodyError::Wrong(why),
+        Unread::Wrong(Side::First(()), _) => unreachable!(),
+        Unread::Truncated(_) => match place {
+            Side::First(due) => BodyError::Truncated(Some(due)),
+            Side::Second(_) => BodyError::Truncated(None),
+        },
+        Unread::Io(e) => BodyError::Io(e),
     }
 }

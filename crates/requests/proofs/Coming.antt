@@ -6,7 +6,7 @@ use Rattle.buffer_redux.specs.Buffered.{Buffered}
 use Rattle.buffer_redux.specs.StreamLog.{StreamLog}
 use Rattle.buffer_redux.specs.Unbuffer.{Unbuffered}
 use Rattle.buffer_redux.specs.declared.policy.StdPolicy.{StdPolicy}
-use Rattle.chunked.specs.Asking.{AskedWhere}
+use Rattle.body_reader.specs.Asking.{AskedWhere}
 use Rattle.codec.specs.Grammar.{IsOpen}
 use Rattle.codec.specs.NextPiece.{NextAnswer, NextPiece}
 use Rattle.codec.specs.NextPieceLaws.{AsksNone-settled}

@@ -1,6 +1,6 @@
 use Rattle.std.proofs.Common.{◌≡◌, ℕ, ◌≤◌, List, [], ◌∷◌, ◌++◌, length, Result, Ok, Err, IfOk, ap, refl, arith, rules, ◌∙◌, length-append, subst}
 use Rattle.std.proofs.lemmas.List.{length-take-le}
-use Rattle.chunked.specs.Between.{handed_out}
+use Rattle.body_reader.specs.Between.{handed_out}
 use Rattle.messages.specs.MessagesLaws.{InsideGoes-joins, InsideGoes-none}
 use Rattle.requests.specs.declared.Untaken.{Untaken}
 use Rattle.requests.specs.Answers.{faults_of, sent_till, sent_with}

@@ -1,0 +1,63 @@
+use Rattle.std.proofs.Common.{◌≡◌, Ok, ap, inr}
+use Rattle.buffer_redux.specs.Unbuffer.{unbuffered}
+use Rattle.messages.proofs.Going.{body_asked, body_done, body_fails, body_idle, body_named, body_room, body_take}
+use Rattle.messages.proofs.body.read.Goals as goal
+
+pub returns-in-Ok-clause-room : goal.returns-in-Ok-clause-room
+returns-in-Ok-clause-room g c =
+    let reads = c.in-Ok.ensures.reads in
+    body_room c.get_ref.ensures.whole reads.whole reads.went c.requires
+
+pub returns-in-Ok-clause-takes : goal.returns-in-Ok-clause-takes
+returns-in-Ok-clause-takes g c =
+    let reads = c.in-Ok.ensures.reads in
+    body_take c.get_ref.ensures.whole reads.whole reads.went
+
+pub returns-in-Ok-clause-ended : goal.returns-in-Ok-clause-ended
+returns-in-Ok-clause-ended g c = λ none some.
+    let reads = c.in-Ok.ensures.reads in
+    body_done c.get_ref.ensures.whole reads.whole reads.went (reads.answers.2 (let zero : c.in-Ok.count ≡ 0 = cc in zero) some)
+
+pub returns-in-Ok-clause-gave : goal.returns-in-Ok-clause-gave
+returns-in-Ok-clause-gave g c = let gave = c.in-Ok.ensures.reads.answers.1 in (gave.faults, gave.zero_reads)
+
+pub returns-in-Ok-clause-asked : goal.returns-in-Ok-clause-asked
+returns-in-Ok-clause-asked g c =
+    body_asked c.get_ref.ensures.whole c.requires.1 c.read_payload.new.self c.in-Ok.ensures.reads.asked
+
+pub returns-in-Ok-clause-idle : goal.returns-in-Ok-clause-idle
+returns-in-Ok-clause-idle g c = body_idle c.get_ref.ensures.whole c.requires.1 c.in-Ok.ensures.reads
+
+pub returns-in-Ok-clause-none : goal.returns-in-Ok-clause-none
+returns-in-Ok-clause-none g c = λ none.
+    let reads = c.in-Ok.ensures.reads in
+    let zero : c.in-Ok.count ≡ 0 = (let same = reads.empty none in cc) in
+    (ap Ok zero, ap (λ b. unbuffered b) (reads.idle (inr none)))
+
+pub unread-requires : goal.unread-requires
+unread-requires g c =
+    let reads = c.in-Err.ensures.reads in
+    body_named c.get_ref.ensures.whole reads.whole reads.went c.in-Err.e reads.answers
+
+pub returns-in-Err-clause-room : goal.returns-in-Err-clause-room
+returns-in-Err-clause-room g c =
+    let reads = c.in-Err.ensures.reads in
+    body_room c.get_ref.ensures.whole reads.whole reads.went c.requires
+
+pub returns-in-Err-clause-takes : goal.returns-in-Err-clause-takes
+returns-in-Err-clause-takes g c =
+    let reads = c.in-Err.ensures.reads in
+    body_take c.get_ref.ensures.whole reads.whole reads.went
+
+pub returns-in-Err-clause-fails : goal.returns-in-Err-clause-fails
+returns-in-Err-clause-fails g c =
+    let reads = c.in-Err.ensures.reads in
+    rw (c.unread.ensures, c.place.ensures)
+    (body_fails c.get_ref.ensures.whole reads.whole reads.went c.in-Err.e reads.answers)
+
+pub returns-in-Err-clause-asked : goal.returns-in-Err-clause-asked
+returns-in-Err-clause-asked g c =
+    body_asked c.get_ref.ensures.whole c.requires.1 c.read_payload.new.self c.in-Err.ensures.reads.asked
+
+pub returns-in-Err-clause-idle : goal.returns-in-Err-clause-idle
+returns-in-Err-clause-idle g c = body_idle c.get_ref.ensures.whole c.requires.1 c.in-Err.ensures.reads

@@ -1,0 +1,17 @@
+use Rattle.messages.proofs.Going.{body_room, body_short, body_take}
+use Rattle.messages.proofs.body.read_buffered.Goals as goal
+
+pub returns-clause-room : goal.returns-clause-room
+returns-clause-room g c =
+    let reads = c.read_buffered.ensures in
+    body_room c.get_ref.ensures.whole reads.whole reads.went c.requires
+
+pub returns-clause-takes : goal.returns-clause-takes
+returns-clause-takes g c =
+    let reads = c.read_buffered.ensures in
+    body_take c.get_ref.ensures.whole reads.whole reads.went
+
+pub returns-clause-all : goal.returns-clause-all
+returns-clause-all g c =
+    let reads = c.read_buffered.ensures in
+    body_short c.get_ref.ensures.whole reads.whole reads.went c.read_buffered.new.out c.read_buffered.result reads.all
