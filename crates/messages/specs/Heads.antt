@@ -1,12 +1,7 @@
 -- Heads of requests, and what they say of the body.
-use Rattle.std.specs.Prelude.{◌≡◌, ◌≢◌, ℕ, ◌≤◌, ◌==◌, ◌↔◌, ◌&&◌, ◌||◌, not, nat_lt, if◌then◌else◌, Bool, false, List, [], length, map, All, IsTrue, Option, None, Some, Result, Ok}
+use Rattle.std.specs.Prelude.{◌≡◌, ◌⊎◌, ◌≢◌, ℕ, ◌<◌, ◌≤◌, ◌↔◌, ◌&&◌, ◌||◌, not, nat_lt, Bool, false, List, [], length, map, All, IsTrue, Option, None, Some, Result, Ok}
 use Rattle.codec.specs.declared.HeaderError.{HeaderError}
-use Rattle.codec.specs.declared.HeaderError.TheVariants.{Truncated}
-use Rattle.codec.specs.declared.scan.ScanStep.{ScanStep}
-use Rattle.codec.specs.declared.scan.ScanStep.TheVariants.{More, Sized, Bad}
 use Rattle.codec.specs.Grammar.{Begins, Grammar}
-use Rattle.codec.specs.HeaderFormat.{length_prefixed}
-use Rattle.codec.specs.Scanning.{Scanning, scanned}
 use Rattle.http1.specs.declared.framing.Framing.{Framing}
 use Rattle.http1.specs.declared.framing.Framing.TheVariants as framing
 use Rattle.http1.specs.declared.framing.FramingError.{FramingError}
@@ -16,31 +11,15 @@ use Rattle.http1.specs.Framing.{method_kind, request_framing}
 use Rattle.http1.specs.Message.{has_one_host, known_of}
 use Rattle.httparse.specs.Grammar.{ReadsRequest, RequestHead}
 use Rattle.httparse.specs.Spans.{name_and_value}
+use Rattle.messages.specs.Faults.{IsFault}
+use Rattle.messages.specs.Lines.{line_fault, texts}
 use Rattle.messages.specs.Target.{is_plain_field, is_target}
-use Rattle.messages.specs.declared.head.BadHead.{BadHead}
-use Rattle.messages.specs.declared.head.BadHead.TheVariants.{Lines, Refused}
+use Rattle.messages.specs.Versions.{as_known}
+use Rattle.messages.specs.declared.bad_head.BadHead.{BadHead}
+use Rattle.messages.specs.declared.bad_head.BadHead.TheVariants.{CutShort, LongHead}
 use Rattle.messages.specs.declared.head.Extent.{Extent}
 use Rattle.messages.specs.declared.head.Extent.TheVariants as extent
 use Rattle.messages.specs.declared.head.ParsedHead.{ParsedHead}
-use Rattle.messages.specs.declared.lines.Before.{Before}
-use Rattle.messages.specs.declared.lines.Before.TheVariants.{Start, StartReturn, Text, Return, Feed, EmptyReturn}
-
--- one more byte of a head: each CR and LF is one of a CR LF, and behind an empty line the head ends, but for such in front of it,
--- which say nothing (RFC 9112, section 2.2)
-abbrev pub turn : Before → ℕ → ScanStep Before
-turn Start byte = if byte == 13 then More StartReturn else (if byte == 10 then Bad else More Text)
-turn StartReturn byte = if byte == 10 then More Start else Bad
-turn Text byte = if byte == 13 then More Return else (if byte == 10 then Bad else More Text)
-turn Return byte = if byte == 10 then More Feed else Bad
-turn Feed byte = if byte == 13 then More EmptyReturn else (if byte == 10 then Bad else More Text)
-turn EmptyReturn byte = if byte == 10 then Sized 0 else Bad
-
-abbrev pub lines : Scanning Before
-lines = record { start = Start; turn = turn; most_header = 16384; max = 0; tail = [] }
-
--- lines up to an empty one, as pieces
-abbrev pub texts : Grammar HeaderError
-texts = length_prefixed (scanned lines)
 
 -- where the body ends, if that is said plainly
 abbrev pub extent_of : Result Framing FramingError → Option Extent
@@ -57,10 +36,10 @@ keeps minor known = not known.close && (nat_lt 0 minor || known.keep_alive)
 abbrev pub expects : ℕ → KnownFields → Bool
 expects minor known = nat_lt 0 minor && known.expect_continue
 
--- these bytes are just the head of a request, which says so (RFC 9112, section 6): at most one field says where the body ends, with
+-- these bytes are just the head of a request of HTTP/1.0 or 1.1, which says so (RFC 9112, section 6): at most one field says where the body ends, with
 -- no coding but `chunked`, no tunnel begins behind it, its target is one, and it has one `Host`, which HTTP/1.0 may leave out, and
 -- which names a host. An answer to `HEAD` has no body
-pub record IsHead (bytes : List ℕ) (said : ParsedHead) : Type 0 where
+pub record IsKnownHead (bytes : List ℕ) (said : ParsedHead) : Type 0 where
   pub head : RequestHead
   pub reads : ReadsRequest bytes head []
   pub few : length head.fields ≤ 64
@@ -75,6 +54,11 @@ pub record IsHead (bytes : List ℕ) (said : ParsedHead) : Type 0 where
   pub keeps : said.keeps ≡ keeps head.minor (known_of head.fields)
   pub expects : said.expects ≡ expects head.minor (known_of head.fields)
 
+-- the same of a later version of HTTP/1, which is read as if it were 1.1; no head has more bytes
+pub record IsHead (bytes : List ℕ) (said : ParsedHead) : Type 0 where
+  pub few : length bytes ≤ 16384
+  pub known : IsKnownHead (as_known bytes) said
+
 -- a head as a piece, lent whole
 pub record IsHeadPiece (bytes payload : List ℕ) : Type 0 where
   pub same : payload ≡ bytes
@@ -83,10 +67,14 @@ pub record IsHeadPiece (bytes payload : List ℕ) : Type 0 where
   pub said : ParsedHead
   pub is : IsHead bytes said
 
--- these are no lines, or lines in front are no such head
+-- why a text is no head
+abbrev pub IsRefused : List ℕ → BadHead → Type 0
+IsRefused bytes e = ((16384 < length bytes) × (e ≡ LongHead)) ⊎ IsFault (as_known bytes) e
+
+-- these are no lines, or lines in front are no such head, for this reason
 abbrev pub IsNoHead : List ℕ → BadHead → Type 0
-IsNoHead bytes (Lines why) = texts.wrong bytes why
-IsNoHead bytes Refused = (text : Begins texts bytes) × ((said : ParsedHead) → ¬ (IsHead text.piece said))
+IsNoHead bytes e = ((why : HeaderError) × texts.wrong bytes why × (e ≡ line_fault bytes))
+    ⊎ ((text : Begins texts bytes) × ((said : ParsedHead) → ¬ (IsHead text.piece said)) × IsFault (as_known text.piece) e)
 
 abbrev pub heads : Grammar BadHead
 heads = record {
@@ -94,5 +82,5 @@ heads = record {
   piece = IsHeadPiece;
   wrong = IsNoHead;
   last = λ bytes payload. ⊥;
-  cut = λ bytes e. e ≡ Lines (Truncated (length bytes));
+  cut = λ bytes e. e ≡ CutShort (length bytes);
 }

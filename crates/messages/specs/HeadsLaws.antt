@@ -1,21 +1,29 @@
 -- Laws of heads.
-use Rattle.std.specs.Prelude.{◌≡◌, ℕ, ◌≤◌, List, [], ◌++◌, length}
-use Rattle.std.proofs.Common.{sym, ap, subst, ◌∙◌, arith, refl, append_assoc, length-append}
+use Rattle.std.specs.Prelude.{◌≡◌, ℕ, ◌≤◌, Bool, true, false, if◌then◌else◌, ◌&&◌, List, [], ◌∷◌, ◌++◌, length, take}
+use Rattle.std.proofs.Common.{sym, ap, subst, inl, inr, ◌∙◌, arith, refl, append_assoc, length-append}
+use Rattle.std.proofs.lemmas.Bool.{true≢false}
 use Rattle.std.proofs.lemmas.List.{length-drop}
 use Rattle.codec.specs.declared.HeaderError.{HeaderError}
+use Rattle.codec.specs.declared.scan.ScanStep.{ScanStep}
+use Rattle.codec.specs.declared.scan.ScanStep.TheVariants.{More, Sized, Bad}
 use Rattle.codec.specs.Grammar.{Begins, IsLawful, IsOpen}
-use Rattle.codec.specs.HeaderFormatLaws.{length_prefixed_lawful}
-use Rattle.codec.specs.Scanning.{IsSmall, scanned}
 use Rattle.codec.specs.ScanningLaws.{scanned_headers}
-use Rattle.messages.specs.declared.head.BadHead.{BadHead}
-use Rattle.messages.specs.declared.head.BadHead.TheVariants.{Lines, Refused}
-use Rattle.messages.specs.Heads.{IsHead, IsNoHead, heads, lines, texts}
-
-pub lines_small : IsSmall lines
-lines_small = record { some = omega arith; small = omega arith }
-
-pub texts_lawful : IsLawful texts
-texts_lawful = length_prefixed_lawful (scanned lines) (scanned_headers lines lines_small)
+use Rattle.http1.specs.declared.fields.KnownFields.{KnownFields}
+use Rattle.http1.specs.declared.framing.MethodKind.{MethodKind}
+use Rattle.http1.specs.Framing.{method_kind, request_framing}
+use Rattle.http1.specs.Message.{known_of}
+use Rattle.httparse.proofs.GrammarLemmas.{request_unique}
+use Rattle.httparse.specs.Grammar.{RequestHead}
+use Rattle.messages.specs.declared.bad_head.BadHead.{BadHead}
+use Rattle.messages.specs.declared.bad_head.BadHead.TheVariants.{BareEnd, LongLine, LongHead, ManyFields, CutShort, Version, Tunnel, Coding, Refused}
+use Rattle.messages.specs.declared.head.ParsedHead.{ParsedHead}
+use Rattle.messages.specs.declared.lines.Before.{Before}
+use Rattle.messages.specs.declared.lines.Before.TheVariants.{Start, StartReturn, First, FirstReturn, Feed, Text, Return, EmptyReturn}
+use Rattle.messages.specs.Faults.{IsFault, IsFew, ends_chunked, has_many_lines, head_fault, is_connect, lines_fault, said_fault, text_fault}
+use Rattle.messages.specs.Heads.{IsHead, IsNoHead, heads}
+use Rattle.messages.specs.Lines.{fault_on, fault_then, line_fault, lines, texts, too_long, turn}
+use Rattle.messages.specs.LinesLaws.{line_fault_stays, lines_small, texts_lawful}
+use Rattle.messages.specs.Versions.{as_known, behind_blank, first_line, has_other_version}
 
 -- no head has more bytes
 pub text_few : (bytes none : List ℕ) → texts.piece bytes none → length bytes ≤ 16384
@@ -27,37 +35,107 @@ text_few bytes none is =
 clash : (bytes : List ℕ) (e : HeaderError) (b : Begins texts bytes) → ¬ (texts.wrong bytes e)
 clash bytes e b bad = texts_lawful.apart b.piece b.payload b.more e b.is (subst (λ l. texts.wrong l e) b.equal bad)
 
+-- a text has one name
+one_fault : (bytes : List ℕ) (e e' : BadHead) → IsFault bytes e → IsFault bytes e' → e ≡ e'
+one_fault bytes e e' (inl (h, few, is)) (inl (h', few', is')) =
+    is ∙ ap head_fault (request_unique bytes h h' [] [] few.0 few'.0).0 ∙ sym is'
+one_fault bytes e e' (inl (h, few, is)) (inr (none, is')) = absurd (none h few)
+one_fault bytes e e' (inr (none, is)) (inl (h, few, is')) = absurd (none h few)
+one_fault bytes e e' (inr (none, is)) (inr (none', is')) = is ∙ sym is'
+
 reason : (bytes : List ℕ) (e e' : BadHead) → IsNoHead bytes e → IsNoHead bytes e' → e ≡ e'
-reason bytes (Lines a) (Lines b) bad bad' = ap Lines (texts_lawful.reason bytes a b bad bad')
-reason bytes (Lines a) Refused bad refused = absurd (clash bytes a refused.0 bad)
-reason bytes Refused (Lines a) refused bad = absurd (clash bytes a refused.0 bad)
-reason bytes Refused Refused refused refused' = refl
+reason bytes e e' (inl (why, bad, is)) (inl (why', bad', is')) = is ∙ sym is'
+reason bytes e e' (inl (why, bad, is)) (inr (b, none, is')) = absurd (clash bytes why b bad)
+reason bytes e e' (inr (b, none, is)) (inl (why, bad, is')) = absurd (clash bytes why b bad)
+reason bytes e e' (inr (b, none, is)) (inr (b', none', is')) =
+    let same = (texts_lawful.one b.piece b'.piece b.more b'.more b.payload b'.payload b.is b'.is (sym b.equal ∙ b'.equal)).0 in
+    one_fault (as_known b.piece) e e' is (subst (λ l. IsFault (as_known l) e') (sym same) is')
 
 stays : (bytes more : List ℕ) (e : BadHead) → IsNoHead bytes e → IsNoHead (bytes ++ more) e
-stays bytes more (Lines why) bad = texts_lawful.stays bytes more why bad
-stays bytes more Refused (b, not_head) =
-    let equal = ap (λ l. l ++ more) b.equal ∙ append_assoc b.piece b.more more in
-    (record { piece = b.piece; payload = b.payload; more = b.more ++ more; is = b.is; equal = equal }, not_head)
+stays bytes more e (inl (why, bad, is)) =
+    inl (why, texts_lawful.stays bytes more why bad, is ∙ sym (line_fault_stays bytes more why bad))
+stays bytes more e (inr (b, none, is)) =
+    let equal = ap (λ l. l ++ more) b.equal ∙ append_assoc b.piece b.more more in inr (
+      record { piece = b.piece; payload = b.payload; more = b.more ++ more; is = b.is; equal = equal },
+      none,
+      is,
+    )
 
 nothing : (e : BadHead) → ¬ (IsNoHead [] e)
-nothing (Lines why) bad = texts_lawful.nothing why bad
-nothing Refused (b, not_head) =
+nothing e (inl (why, bad, is)) = texts_lawful.nothing why bad
+nothing e (inr (b, none, is)) =
     absurd (omega (arith, texts_lawful.some b.piece b.payload b.is, ap length b.equal, length-append b.piece b.more))
+
+-- where the stream ended in a head, the bytes alone aren't wrong
+abbrev is_cut : BadHead → Bool
+is_cut BareEnd = false
+is_cut LongLine = false
+is_cut LongHead = false
+is_cut ManyFields = false
+is_cut (CutShort have) = true
+is_cut Version = false
+is_cut Tunnel = false
+is_cut Coding = false
+is_cut Refused = false
+
+whole_long : (place : Before) → is_cut (too_long place) ≡ false
+whole_long Start = refl
+whole_long StartReturn = refl
+whole_long First = refl
+whole_long FirstReturn = refl
+whole_long Feed = refl
+whole_long Text = refl
+whole_long Return = refl
+whole_long EmptyReturn = refl
+
+whole_then : (t : ScanStep Before) (on : Before → BadHead) → ((next : Before) → is_cut (on next) ≡ false)
+    → is_cut (fault_then t on) ≡ false
+whole_then (More next) on later = later next
+whole_then (Sized len) on later = refl
+whole_then Bad on later = refl
+
+whole_lines : (place : Before) (bytes : List ℕ) → is_cut (fault_on place bytes) ≡ false
+whole_lines place [] = whole_long place
+whole_lines place (byte ∷ bytes) =
+    whole_then (turn place byte) (λ next. fault_on next bytes) (λ next. whole_lines next bytes)
+
+whole_if : (test : Bool) (a b : BadHead) → is_cut a ≡ false → is_cut b ≡ false → is_cut (if test then a else b) ≡ false
+whole_if true a b is is' = is
+whole_if false a b is is' = is'
+
+whole_said : (method : MethodKind) (minor : ℕ) (known : KnownFields) → is_cut (said_fault method minor known) ≡ false
+whole_said method minor known =
+    let coded = known.other_coding && ends_chunked (request_framing method minor known) in
+    whole_if (is_connect method) Tunnel (if coded then Coding else Refused) refl (whole_if coded Coding Refused refl refl)
+
+whole_text : (text : List ℕ) → is_cut (lines_fault text) ≡ false
+whole_text text =
+    let other = has_other_version (first_line text) in
+    whole_if (has_many_lines text) ManyFields (if other then Version else Refused) refl (whole_if other Version Refused refl refl)
+
+whole_fault : (bytes : List ℕ) (e : BadHead) → IsFault bytes e → is_cut e ≡ false
+whole_fault bytes e (inl (h, few, is)) = ap is_cut is ∙ whole_said (method_kind h.method) h.minor (known_of h.fields)
+whole_fault bytes e (inr (none, is)) = ap is_cut is ∙ whole_text (behind_blank bytes)
+
+pub never_cut : (bytes : List ℕ) (have : ℕ) → ¬ (IsNoHead bytes (CutShort have))
+never_cut bytes have (inl (why, bad, is)) = absurd (true≢false (ap is_cut is ∙ whole_lines Start (take 16384 bytes)))
+never_cut bytes have (inr (b, none, is)) = absurd (true≢false (whole_fault (as_known b.piece) (CutShort have) is))
 
 -- what settles nothing of heads settles nothing of lines
 pub open_texts : (bytes : List ℕ) → IsOpen heads bytes → IsOpen texts bytes
 open_texts bytes o = record {
-  no_piece = λ b. o.not_wrong Refused (
-    b,
-    λ said is. o.no_piece (record {
-      piece = b.piece;
-      payload = b.piece;
-      more = b.more;
-      is = record { same = refl; none = b.payload; text = b.is; said = said; is = is };
-      equal = b.equal;
-    }),
-  );
-  not_wrong = λ e wrong. o.not_wrong (Lines e) wrong;
+  no_piece = λ b.
+      let no_head : (said : ParsedHead) → ¬ (IsHead b.piece said) = λ said is. o.no_piece (record {
+        piece = b.piece;
+        payload = b.piece;
+        more = b.more;
+        is = record { same = refl; none = b.payload; text = b.is; said = said; is = is };
+        equal = b.equal;
+      }) in
+      let none : (h : RequestHead) → ¬ (IsFew (as_known b.piece) h) = λ h few.
+      o.not_wrong (head_fault h) (inr (b, no_head, inl (h, few, refl))) in
+      o.not_wrong (text_fault (as_known b.piece)) (inr (b, no_head, inr (none, refl)));
+  not_wrong = λ why wrong. o.not_wrong (line_fault bytes) (inl (why, wrong, refl));
 }
 
 pub heads_lawful : IsLawful heads
@@ -67,12 +145,12 @@ heads_lawful = record {
       (parts.0, is.same ∙ parts.0 ∙ sym is'.same);
   some = λ p a is. texts_lawful.some p is.none is.text;
   room = texts_lawful.room;
-  apart = λ p a more e is. elim e as (λ e. ¬ (IsNoHead (p ++ more) e)) [
-    | Lines why ↦ texts_lawful.apart p is.none more why is.text
-    | Refused ↦ λ refused.
-        let b = refused.0 in
+  apart = λ p a more e is no. elim no as (λ _. ⊥) [
+    | inl wrong ↦ texts_lawful.apart p is.none more wrong.0 is.text wrong.1
+    | inr refused ↦
+        (let b = refused.0 in
         let parts = texts_lawful.one p b.piece more b.more is.none b.payload is.text b.is b.equal in
-        refused.1 is.said (subst (λ l. IsHead l is.said) parts.0 is.is)
+        refused.1 is.said (subst (λ l. IsHead l is.said) parts.0 is.is))
   ];
   reason = reason;
   stays = stays;

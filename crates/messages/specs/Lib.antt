@@ -1,6 +1,10 @@
+pub mod Faults
 pub mod Heads
 pub mod HeadsLaws
+pub mod Lines
+pub mod LinesLaws
 pub mod Messages
 pub mod MessagesLaws
 pub mod Passing
 pub mod Target
+pub mod Versions

@@ -16,6 +16,7 @@ use Rattle.messages.specs.declared.head.Extent.TheVariants.{Sized, Chunked}
 use Rattle.messages.specs.declared.head.Heads as head
 use Rattle.messages.specs.Heads.{IsHead, IsHeadPiece, extent_of, heads}
 use Rattle.messages.specs.HeadsLaws.{heads_lawful}
+use Rattle.messages.specs.Versions.{as_known}
 use Rattle.messages.specs.Messages.{AreMessages, Backward, Begun, EachGave, Enters, InBody, InTurn, InsideGoes, IsMessage, IsRest, Message, MessagesWent, Onward, Rest, Takes, body_of}
 
 -- a body ends in one place
@@ -36,9 +37,10 @@ one_message a b xs ys h k p q m n same =
     let behind : m.wire ++ xs ≡ n.wire ++ ys =
     append_cancel_left h (m.wire ++ xs) (n.wire ++ ys) (cut ∙ ap (λ l. l ++ (n.wire ++ ys)) (sym head)) in
     let is = subst (λ l. IsHead l n.text.said) (sym head) n.text.is in
-    let says = request_unique h m.text.is.head is.head [] [] m.text.is.reads is.reads in
-    let both = sym m.text.is.framed
-    ∙ ap (λ h. extent_of (request_framing (method_kind h.method) h.minor (known_of h.fields))) says.0 ∙ is.framed in
+    let here = m.text.is.known in
+    let says = request_unique (as_known h) here.head is.known.head [] [] here.reads is.known.reads in
+    let both = sym here.framed
+    ∙ ap (λ h. extent_of (request_framing (method_kind h.method) h.minor (known_of h.fields))) says.0 ∙ is.known.framed in
     let extent : m.text.said.extent ≡ n.text.said.extent = cc in
     let body = one_body m.text.said.extent m.wire n.wire p q xs ys m.body
     (subst (λ e. IsRest (body_of e) n.wire q) (sym extent) n.body) behind in

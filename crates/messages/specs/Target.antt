@@ -1,8 +1,8 @@
 -- What names the resource that is asked for: a target, and a `Host`.
-use Rattle.std.specs.Prelude.{ℕ, ◌+◌, ◌-◌, Bool, true, false, not, ◌&&◌, ◌||◌, List, length, take, drop, slice_index, nat_lt, if◌then◌else◌, ◌==◌, codes, bytes_eq, nat_eq}
+use Rattle.std.specs.Prelude.{ℕ, ◌+◌, ◌-◌, Bool, not, ◌&&◌, ◌||◌, List, length, drop, slice_index, nat_lt, if◌then◌else◌, ◌==◌, codes, bytes_eq, nat_eq}
 use Rattle.http1.specs.Fields.{is_named}
 use Rattle.std.specs.List.{prefix_len, list_any, starts_with}
-use Rattle.std.specs.Char.{is_ascii_alphabetic, is_ascii_alphanumeric, is_ascii_digit, is_ascii_hexdigit}
+use Rattle.std.specs.Char.{is_ascii_alphanumeric, is_ascii_digit, is_ascii_hexdigit}
 
 -- the text has this byte there
 abbrev pub has_at : List ℕ → ℕ → ℕ → Bool

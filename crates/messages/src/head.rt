@@ -1,18 +1,20 @@
 //! Heads of requests as pieces, and what they say of the body.
-ghost use Rattle.std.specs.Prelude.{◌≡◌, ◌↔◌, IfNone, IfSome, IsTrue};
+ghost use Rattle.std.specs.Prelude.{◌≡◌, ◌<◌, ◌≤◌, ◌↔◌, IfErr, IfNone, IfOk, IfSome, IsTrue, OnErr, length, slice_set};
 ghost use Rattle.http1.specs.Message.{has_one_host};
 ghost use Rattle.messages.specs.declared.head.ParsedHead.{ParsedHead};
-ghost use Rattle.messages.specs.Heads.{IsHead, expects, extent_of, keeps};
+ghost use Rattle.messages.specs.Faults.{IsFault};
+ghost use Rattle.messages.specs.Heads.{IsHead, IsKnownHead, IsRefused, expects, extent_of, keeps};
 
-use crate::lines::{Before, Lines};
+use crate::bad_head::BadHead;
+use crate::faults::fault;
+use crate::lines::{Before, Lines, line_fault};
 use crate::target::{are_hosts_plain, is_target};
-use codec::{ByHeader, ByScan, Decoder, End, Found, HeaderError, ScanNote, Span};
+use crate::version::later_at;
+use codec::{ByHeader, ByScan, Decoder, End, Found, ScanNote, Span};
 use http1::fields::KnownFields;
 use http1::framing::{Framing, FramingError, MethodKind, request_framing};
 use httparse::Status;
 use httparse::spans::{EMPTY_HEADER_SPAN, parse_request};
-use std::error::Error;
-use std::fmt;
 
 /// No head has more bytes.
 pub const MAX_HEAD: usize = 16384;
@@ -42,33 +44,14 @@ pub struct ParsedHead {
     pub expects: bool,
 }
 
-/// Why what comes next is no head.
-#[derive(Clone, Copy, Debug, PartialEq, Eq, Drop)]
-pub enum BadHead {
-    /// Its lines don't end by CR LF, or are too many, or are cut short.
-    Lines(HeaderError),
-    /// The lines are no request of HTTP/1.1, or it isn't plain where its body ends.
-    Refused,
-}
-
-impl fmt::Display for BadHead {
-    fn fmt<W: fmt::Write>(&self, f: &mut fmt::Formatter<W>) -> fmt::Result {
-        f.write_str(match self {
-            BadHead::Lines(_) => "no head of lines that CR LF ends",
-            BadHead::Refused => "no request whose body plainly ends",
-        })
-    }
-}
-
-impl Error for BadHead {}
-
 /// Heads as pieces, each lent whole.
 #[derive(Clone, Copy, Debug, Drop)]
 pub struct Heads;
 
 impl Decoder for Heads {
     ghost use Rattle.codec.specs.Scanning.{scan_notes};
-    ghost use Rattle.messages.specs.Heads.{heads, lines};
+    ghost use Rattle.messages.specs.Heads.{heads};
+    ghost use Rattle.messages.specs.Lines.{lines};
     ghost use Rattle.messages.specs.HeadsLaws.{heads_lawful};
 
     type Wrong = BadHead;
@@ -90,27 +73,69 @@ impl Decoder for Heads {
     fn decode(&self, bytes: &[u8], seen: usize, note: &mut ScanNote<Before>) -> Found<BadHead> {
         match ByHeader(ByScan(Lines)).decode(bytes, seen, note) {
             Found::Piece(_, used) => match read_head(&bytes[..used]) {
-                Some(_) => Found::Piece(Span { from: 0, len: used }, used),
-                None => Found::Wrong(BadHead::Refused),
+                Ok(_) => Found::Piece(Span { from: 0, len: used }, used),
+                Err(e) => Found::Wrong(e),
             },
             Found::More(need) => Found::More(need),
-            Found::Wrong(e) => Found::Wrong(BadHead::Lines(e)),
+            Found::Wrong(_) => Found::Wrong(line_fault(bytes)),
         }
     }
 
     fn at_end(&self, bytes: &[u8]) -> End<BadHead> {
-        End::Wrong(BadHead::Lines(HeaderError::Truncated(bytes.len())))
+        End::Wrong(BadHead::CutShort(bytes.len()))
     }
 
     ghost lawful = { λ _. heads_lawful };
 }
 
-/// What a head says: these bytes are just a head, of HTTP/1.0 or 1.1, whose target is one, with one `Host`, which 1.0 may leave
+/// What a head says: these bytes are just a head, of HTTP/1.0, or of 1.1 and later ones, which are read as 1.1, whose target is one, with one `Host`, which 1.0 may leave
 /// out and which names a host, and at most one field that says where the body ends, as RFC 9112, section 6 has it, with no coding
-/// but `chunked`. `CONNECT` is refused: a tunnel begins behind it.
-pub fn read_head(head: &[u8]) -> Option<ParsedHead>
-    ensures some { IfSome result (λ said. IsHead head.now said) }
-    ensures none { IfNone result ((said : ParsedHead) → ¬ (IsHead head.now said)) }
+/// but `chunked`. `CONNECT` is refused: a tunnel begins behind it. An `Err` says why they are none.
+pub fn read_head(head: &[u8]) -> Result<ParsedHead, BadHead>
+    ensures head { IfOk result (λ said. IsHead head.now said) }
+    ensures none { OnErr result ((said : ParsedHead) → ¬ (IsHead head.now said)) }
+    ensures fault { IfErr result (IsRefused head.now) }
+{
+    if head.len() > MAX_HEAD {
+        return Err(BadHead::LongHead);
+    }
+    match later_at(head) {
+        Some(at) => read_later(head, at),
+        None => read_known(head),
+    }
+}
+
+// Reads a head of a later version as if it were of 1.1: this byte says that it isn't.
+fn read_later(head: &[u8], at: usize) -> Result<ParsedHead, BadHead>
+    requires few { length head.now ≤ 16384 }
+    requires within { at < length head.now }
+    ensures head { IfOk result (λ said. IsKnownHead (slice_set head.now at 49) said) }
+    ensures none { OnErr result ((said : ParsedHead) → ¬ (IsKnownHead (slice_set head.now at 49) said)) }
+    ensures fault { IfErr result (IsFault (slice_set head.now at 49)) }
+{
+    let mut room = [0; MAX_HEAD];
+    let copy = &mut room[..head.len()];
+    copy.copy_from_slice(head);
+    copy[at] = b'1';
+    read_known(copy)
+}
+
+// Reads a head of HTTP/1.0 or 1.1.
+fn read_known(head: &[u8]) -> Result<ParsedHead, BadHead>
+    ensures head { IfOk result (λ said. IsKnownHead head.now said) }
+    ensures none { OnErr result ((said : ParsedHead) → ¬ (IsKnownHead head.now said)) }
+    ensures fault { IfErr result (IsFault head.now) }
+{
+    match said_of(head) {
+        Some(said) => Ok(said),
+        None => Err(fault(head)),
+    }
+}
+
+// The same, where nobody asks why.
+fn said_of(head: &[u8]) -> Option<ParsedHead>
+    ensures some { IfSome result (λ said. IsKnownHead head.now said) }
+    ensures none { IfNone result ((said : ParsedHead) → ¬ (IsKnownHead head.now said)) }
 {
     let mut fields = [EMPTY_HEADER_SPAN; MAX_FIELDS];
     let Ok(Status::Complete(spans)) = parse_request(head, &mut fields) else {

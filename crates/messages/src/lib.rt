@@ -4,17 +4,20 @@
 //! the next head. There is no other way from one to the other, so no byte of a body is taken for a head, also after an `Err`.
 #![tactic(auto)]
 
+mod bad_head;
 mod body;
 mod error;
+mod faults;
 mod head;
 pub mod laws;
 mod lines;
 mod requests;
 mod target;
+mod version;
 
+pub use bad_head::BadHead;
 pub use body::Body;
 pub use chunked::Malformed;
-pub use codec::HeaderError;
 pub use error::BodyError;
-pub use head::{BadHead, Extent, Heads, MAX_FIELDS, MAX_HEAD, ParsedHead, read_head};
+pub use head::{Extent, Heads, MAX_FIELDS, MAX_HEAD, ParsedHead, read_head};
 pub use requests::{Requests, Stop};

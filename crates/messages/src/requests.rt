@@ -7,8 +7,9 @@ ghost use Rattle.codec.specs.PieceReader.{IsFresh, IsOver, IsSettled, TakenApart
 ghost use Rattle.messages.specs.Heads.{IsHeadPiece, heads};
 ghost use Rattle.messages.specs.Messages.{Begun, Enters, answer_of};
 
+use crate::bad_head::BadHead;
 use crate::body::Body;
-use crate::head::{BadHead, Heads, MAX_HEAD, read_head};
+use crate::head::{Heads, MAX_HEAD, read_head};
 use buffer_redux::tell::{Tell, TellRead};
 use buffer_redux::{BufReader, Buffer, GrowError, MakeError};
 use codec::{NextError, PieceReader, Span};
@@ -129,7 +130,7 @@ impl<R: Tell> Requests<R> {
         ensures { Enters self (bytes_at span self.reader.block.bytes) result }
     {
         let lent = self.pieces.lent(span);
-        let Some(said) = read_head(lent) else {
+        let Ok(said) = read_head(lent) else {
             unreachable!()
         };
         self.head.clear();

@@ -1,5 +1,5 @@
 -- Answers, one after another.
-use Rattle.std.proofs.Common.{◌≡◌, ◌⊎◌, ℕ, ◌+◌, Bool, true, false, List, [], ◌∷◌, ◌++◌, length, Option, Result, Ok, Err, OnOk, IfErr, sym, ap, subst, inl, inr, ◌∙◌, refl, arith, append_assoc, append-nil, length-append}
+use Rattle.std.proofs.Common.{◌≡◌, ◌⊎◌, ℕ, ◌+◌, Bool, true, List, [], ◌∷◌, ◌++◌, length, Option, None, Some, IfSome, Result, Ok, Err, OnOk, IfErr, sym, ap, subst, inl, inr, ◌∙◌, refl, arith, append_assoc, append-nil, length-append}
 use Rattle.std.proofs.lemmas.List.Elements.{All-nil}
 use Rattle.std.specs.declared.io.Error.{Error}
 use Rattle.redux_buffer.specs.Faults.{OnlyInterrupts}
@@ -21,10 +21,12 @@ use Rattle.requests.specs.declared.Ending.TheVariants.{Over, Unread}
 use Rattle.requests.specs.declared.Place.{Place}
 use Rattle.requests.specs.declared.Place.TheVariants.{Before, Inside}
 use Rattle.requests.specs.declared.Untaken.{Untaken}
+use Rattle.requests.specs.declared.writing.Refusal.{Refusal}
+use Rattle.requests.specs.declared.writing.Refusal.TheVariants.{BadRequest}
 use Rattle.requests.specs.declared.Untaken.TheVariants.{Body, Unsent, Many}
-use Rattle.requests.specs.Answers.{Answers, EndsBody, EndsBy, Continues, FailsLast, IsLast, IsLastAnswer, IsAnswer, IsMany, IsOver, IsPart, IsWrong, Keeps, Runs, TakeFails, TakesWhole, accepted, call_at, called, ending_of, faults_of, refused, sending_of, sent_till, stream_at, waits}
+use Rattle.requests.specs.Answers.{Answers, EndsBody, EndsBy, Continues, FailsLast, IsLast, IsLastAnswer, IsAnswer, IsMany, IsOver, IsPart, IsWrong, Keeps, Runs, TakeFails, TakesWhole, answered, call_at, called, ending_of, faults_of, is_known, refusal, refused, sending_of, sent_till, stream_at, waits}
 use Rattle.requests.specs.Sending.{IsUnflushed, Puts, Writes}
-use Rattle.requests.proofs.Reading.{IsMany-still, IsOver-still, IsWrong-still, ReadFails-still, begun_once, begun_steady, is_part, joined}
+use Rattle.requests.proofs.Reading.{IsMany-still, IsOver-still, IsWrong-still, each_wrong, ReadFails-still, begun_once, begun_steady, is_part, joined}
 use Rattle.requests.proofs.Sending.{Puts-after, Writes-after, Writes-put, on_ok}
 
 regroup : (a b more : List ℕ) → (a ++ []) ++ (b ++ more) ≡ (a ++ b) ++ more
@@ -35,11 +37,11 @@ pub IsLastAnswer-after : (ms ns : List Message) (text : List ℕ) → IsLastAnsw
 IsLastAnswer-after ms ns text (before, m, said, all, is, same) =
     (ms ++ before, m, said, ap (λ l. ms ++ l) all ∙ sym (append_assoc ms before (m ∷ [])), is, same)
 
-IsLast-after : {S : Type 0} (ms ns : List Message) (taken : List ℕ) (refuses : Bool) (place : Place S) (text : List ℕ)
+IsLast-after : {S : Type 0} (ms ns : List Message) (taken : List ℕ) (refuses : Option Refusal) (place : Place S) (text : List ℕ)
     → IsLast ns taken refuses place text → IsLast (ms ++ ns) taken refuses place text
-IsLast-after ms ns taken true place text last = last
-IsLast-after ms ns taken false (Before requests) text last = IsLastAnswer-after ms ns text last
-IsLast-after ms ns taken false (Inside body) text last = last
+IsLast-after ms ns taken (Some why) place text last = last
+IsLast-after ms ns taken None (Before requests) text last = IsLastAnswer-after ms ns text last
+IsLast-after ms ns taken None (Inside body) text last = last
 
 module _ {W : Type 0} {tells : W → StreamLog} {trace : W → W → Type 0} where
   pub FailsLast-of : {w v w' : Buffered W StdPolicy} {text front part : List ℕ} (Last : List ℕ → Type 0)
@@ -73,10 +75,10 @@ module _ {W : Type 0} {tells : W → StreamLog} {trace : W → W → Type 0} whe
         (handed : List ℕ) (place : Place R) (part : IsPart place taken handed)
         (once : EndsOnce s.log.reads (stream_at place).log.reads) where
       -- a run that is over behind this, unless that wasn't taken in
-      pub Runs-ended : (refuses : Bool) (sending : Result (Unit {0}) Error)
+      pub Runs-ended : (refuses : Option Refusal) (sending : Result (Unit {0}) Error)
           → Answers remaining tells trace messages s w taken (call_at place ++ refused refuses)
           (IsLast messages taken refuses place) (stream_at place) sending w'
-          → (refuses ≡ true → IsWrong s place)
+          → IfSome refuses (IsWrong s place)
           → OnOk sending (OnlyInterrupts (faults_of s) (faults_of (stream_at place)) × IsOver messages taken refuses s place)
           → Runs remaining tells trace s w place (ending_of sending) w'
       Runs-ended refuses (Ok x) answers wrong over = record {
@@ -104,19 +106,19 @@ module _ {W : Type 0} {tells : W → StreamLog} {trace : W → W → Type 0} whe
 
       -- nothing is refused, and this is why no more is read
       pub Runs-stopped : (ending : Ending)
-          → Answers remaining tells trace messages s w taken (call_at place ++ []) (IsLast messages taken false place)
+          → Answers remaining tells trace messages s w taken (call_at place ++ []) (IsLast messages taken None place)
           (stream_at place) (sending_of ending) w'
-          → EndsBy remaining tells trace s messages taken handed false place w' ending
+          → EndsBy remaining tells trace s messages taken handed None place w' ending
           → Runs remaining tells trace s w place ending w'
       Runs-stopped ending answers ends = record {
         messages = messages;
         taken = taken;
         handed = handed;
         part = part;
-        refuses = false;
+        refuses = None;
         answers = answers;
         once = once;
-        wrong = λ odd. absurd (cc);
+        wrong = tt;
         ends = ends;
       }
 
@@ -126,22 +128,22 @@ module _ {W : Type 0} {tells : W → StreamLog} {trace : W → W → Type 0} whe
           (goes : InsideGoes remaining b handed t) {w u : Buffered W StdPolicy}
           (call : Writes tells trace (left_of s, w) (called (waits b.said)) (Ok tt) (b.stream, u)) where
         refused_torn : {v w' : Buffered W StdPolicy} (answer : Result (Unit {0}) Error) → EndsOnce b.stream.log.reads t.stream.log.reads
-            → OnlyInterrupts (faults_of b.stream) (faults_of t.stream) → IsWrong b.stream (Inside t)
-            → Writes tells trace (b.stream, u) [] (Ok tt) (t.stream, v) → Puts tells trace v (refused true) answer w'
+            → OnlyInterrupts (faults_of b.stream) (faults_of t.stream) → IsWrong b.stream (Inside t) BadRequest
+            → Writes tells trace (b.stream, u) [] (Ok tt) (t.stream, v) → Puts tells trace v (refusal BadRequest) answer w'
             → IsUnflushed v w' → Runs remaining tells trace (left_of s) w (Inside t) (ending_of answer) w'
         refused_torn {v} {w'} answer once reads torn on puts unflushed =
             let at : call_at (Inside t) ≡ called (waits b.said) = ap (λ x. called (waits x)) goes.said in
-            let Last = IsLast [] (b.head ++ goes.takes.wire) true (Inside t) in
+            let Last = IsLast [] (b.head ++ goes.takes.wire) (Some BadRequest) (Inside t) in
             let first : Writes tells trace (left_of s, w) (call_at (Inside t)) (Ok tt) (t.stream, v) =
             subst (λ l. Writes tells trace (left_of s, w) l (Ok tt) (t.stream, v))
             (append-nil (called (waits b.said)) ∙ sym at)
             (Writes-after joins (left_of s, w) (b.stream, u) (t.stream, v) (called (waits b.said)) [] (Ok tt) call on) in
-            Runs-ended handed (Inside t) (is_part begun goes) (begun_once begun t.stream once) true answer
+            Runs-ended handed (Inside t) (is_part begun goes) (begun_once begun t.stream once) (Some BadRequest) answer
             (part_answered begun goes
-            (Writes-after joins (left_of s, w) (t.stream, v) (t.stream, w') (call_at (Inside t)) (refused true) answer first
+            (Writes-after joins (left_of s, w) (t.stream, v) (t.stream, w') (call_at (Inside t)) (refusal BadRequest) answer first
             (Writes-put t.stream puts unflushed))
             (FailsLast-of Last answer refl (inr refl) first.puts puts))
-            (λ _. IsWrong-still (begun_steady begun) (Inside t) torn)
+            (IsWrong-still (begun_steady begun) (Inside t) BadRequest torn)
             (on_ok answer (joined (begun_steady begun) t.stream reads, inr (All-nil (Keeps true), inl refl)))
 
         -- where nothing is refused
@@ -170,46 +172,47 @@ module _ {W : Type 0} {tells : W → StreamLog} {trace : W → W → Type 0} whe
             subst (λ x. Runs remaining tells trace (left_of s) w (Inside t) x w') (sym is)
             (subst (Runs remaining tells trace (left_of s) w (Inside t) (Unread e)) (sym same)
             (Runs-stopped handed (Inside t) (is_part begun goes) (begun_once begun t.stream once) (Unread e)
-            (unrefused (Ok tt) (IsLast [] (b.head ++ goes.takes.wire) false (Inside t)) on)
+            (unrefused (Ok tt) (IsLast [] (b.head ++ goes.takes.wire) None (Inside t)) on)
             (ReadFails-still (begun_steady begun) e t.stream fails, all)))
         torn_answered {v} {w'} (Unsent e) ending reads on (is, same) =
             subst (λ x. Runs remaining tells trace (left_of s) w (Inside t) x w') (sym is)
             (subst (Runs remaining tells trace (left_of s) w (Inside t) (stop.Unsent e)) (sym same)
             (Runs-stopped handed (Inside t) (is_part begun goes)
             (begun_once begun t.stream (omega (arith, reads.ends))) (stop.Unsent e)
-            (unrefused (Err e) (IsLast [] (b.head ++ goes.takes.wire) false (Inside t)) on) tt))
+            (unrefused (Err e) (IsLast [] (b.head ++ goes.takes.wire) None (Inside t)) on) tt))
         torn_answered {v} {w'} Many ending (reads, many) on (is, same) =
             subst (λ x. Runs remaining tells trace (left_of s) w (Inside t) x w') (sym is)
             (subst (Runs remaining tells trace (left_of s) w (Inside t) stop.Many) (sym same)
             (Runs-stopped handed (Inside t) (is_part begun goes)
             (begun_once begun t.stream (omega (arith, reads.ends))) stop.Many
-            (unrefused (Ok tt) (IsLast [] (b.head ++ goes.takes.wire) false (Inside t)) on) (
+            (unrefused (Ok tt) (IsLast [] (b.head ++ goes.takes.wire) None (Inside t)) on) (
               joined (begun_steady begun) t.stream reads.faults,
               IsMany-still (begun_steady begun) 0 (length handed) t.stream reads.faults many,
             )))
 
       -- one did, whole, and its payload was counted
-      pub one_answered : {s : ReaderState R Heads} {b : InBody R} {t : Unbuffered R} {len : ℕ} {said : ParsedHead}
+      pub one_answered : {s : ReaderState R Heads} {b : InBody R} {t : Unbuffered R} {len : ℕ} {known : Bool} {said : ParsedHead}
           {w u v w' : Buffered W StdPolicy} {sending : Result (Unit {0}) Error} → Begun remaining s b
-          → (whole : TakesWhole remaining b t len) → said ≡ b.said
+          → (whole : TakesWhole remaining b t len) → said ≡ b.said → known ≡ is_known b.head
           → Writes tells trace (left_of s, w) (called (waits b.said)) (Ok tt) (b.stream, u)
           → Writes tells trace (b.stream, u) [] (Ok tt) (t, v)
-          → Puts tells trace v (accepted said len) sending w' → IsUnflushed v w'
+          → Puts tells trace v (answered known said len) sending w' → IsUnflushed v w'
           → Answers remaining tells trace ((b.head, whole.1) ∷ []) (left_of s) w [] [] (IsLastAnswer ((b.head, whole.1) ∷ [])) t
           sending w'
-      one_answered {s} {b} {t} {len} {said} {w} {u} {v} {w'} {sending} begun (wire, payload, went, is, many) same call on puts
+      one_answered {s} {b} {t} {len} {known} {said} {w} {u} {v} {w'} {sending} begun (wire, payload, went, is, many) same method call on puts
           unflushed =
           let one = MessagesWent-one remaining s b b [] wire payload t begun (Takes-none remaining b.stream b.rest) went is in
-          let text = called (waits b.said) ++ accepted b.said (length payload) in
-          let answer : accepted said len ≡ accepted b.said (length payload) =
-          ap (λ x. accepted x len) same ∙ ap (accepted b.said) many in
+          let text = called (waits b.said) ++ answered (is_known b.head) b.said (length payload) in
+          let answer : answered known said len ≡ answered (is_known b.head) b.said (length payload) =
+          ap (λ x. answered known x len) same ∙ ap (answered known b.said) many
+          ∙ ap (λ k. answered k b.said (length payload)) method in
           let first : Writes tells trace (left_of s, w) (called (waits b.said)) (Ok tt) (t, v) =
           subst (λ l. Writes tells trace (left_of s, w) l (Ok tt) (t, v)) (append-nil (called (waits b.said)))
           (Writes-after joins (left_of s, w) (b.stream, u) (t, v) (called (waits b.said)) [] (Ok tt) call on) in
-          let says : Puts tells trace v (accepted b.said (length payload)) sending w' =
+          let says : Puts tells trace v (answered (is_known b.head) b.said (length payload)) sending w' =
           subst (λ l. Puts tells trace v l sending w') answer puts in
           let both : Writes tells trace (left_of s, w) text sending (t, w') =
-          Writes-after joins (left_of s, w) (t, v) (t, w') (called (waits b.said)) (accepted b.said (length payload)) sending first
+          Writes-after joins (left_of s, w) (t, v) (t, w') (called (waits b.said)) (answered (is_known b.head) b.said (length payload)) sending first
           (Writes-put t says unflushed) in
           record {
             bytes = one.bytes;
@@ -265,7 +268,7 @@ module _ {W : Type 0} {tells : W → StreamLog} {trace : W → W → Type 0} whe
           refuses = b.refuses;
           answers = Answers-joins a.answers b.answers (IsLast-after a.messages b.messages b.taken b.refuses place);
           once = omega (arith, b.once, a.reads.ends);
-          wrong = λ is. IsWrong-still a.reads place (b.wrong is);
+          wrong = each_wrong a.reads place b.refuses b.wrong;
           ends = ends ending b.ends;
         }
           where

@@ -11,7 +11,7 @@ use Rattle.codec.specs.Grammar.{IsOpen}
 use Rattle.codec.specs.NextPiece.{NextAnswer, NextPiece}
 use Rattle.codec.specs.NextPieceLaws.{AsksNone-settled}
 use Rattle.codec.specs.PieceReader.{IsSettled, ReaderState, left_of, rest}
-use Rattle.messages.specs.declared.head.BadHead.{BadHead}
+use Rattle.messages.specs.declared.bad_head.BadHead.{BadHead}
 use Rattle.messages.specs.declared.head.Heads.{Heads}
 use Rattle.messages.specs.Heads.{heads}
 use Rattle.messages.specs.HeadsLaws.{heads_lawful}

@@ -1,5 +1,5 @@
 -- What reads of a run met.
-use Rattle.std.proofs.Common.{◌≡◌, ℕ, ◌+◌, ◌<◌, ◌≤◌, Bool, true, List, [], ◌∷◌, ◌++◌, All, length, Option, Ok, sym, ap, subst, inl, inr, ◌∙◌, refl, arith, append_assoc, append-nil, length-append}
+use Rattle.std.proofs.Common.{◌≡◌, ℕ, ◌+◌, ◌<◌, ◌≤◌, Bool, true, List, [], ◌∷◌, ◌++◌, All, length, Option, None, Some, IfSome, Ok, sym, ap, subst, inl, inr, ◌∙◌, refl, arith, append_assoc, append-nil, length-append}
 use Rattle.std.proofs.lemmas.List.{nil_from_length}
 use Rattle.std.proofs.lemmas.List.Elements.{All-append, All-cons, All-nil}
 use Rattle.std.specs.declared.io.Error.{Error}
@@ -18,13 +18,14 @@ use Rattle.codec.specs.PiecesWentLaws.{PiecesWent-stream}
 use Rattle.codec.specs.PieceReader.{ReaderState, left_of}
 use Rattle.messages.specs.declared.error.BodyError.{BodyError}
 use Rattle.messages.specs.declared.error.BodyError.TheVariants.{Wrong, Truncated, Io}
-use Rattle.messages.specs.declared.head.BadHead.{BadHead}
+use Rattle.messages.specs.declared.bad_head.BadHead.{BadHead}
 use Rattle.messages.specs.declared.head.Heads.{Heads}
 use Rattle.messages.specs.Heads.{IsHead, heads}
 use Rattle.messages.specs.Messages.{Begun, Bytes, Chunks, EachGave, Ends, Fails, FinishFails, GoesOn, InBody, InsideGoes, IsRest, IsWrongNext, Message, Onward, Rest, Unended, body_of}
 use Rattle.messages.specs.MessagesLaws.{Begun-gave}
 use Rattle.programs.specs.Streams.{EndsOnce}
 use Rattle.requests.specs.declared.Place.{Place}
+use Rattle.requests.specs.declared.writing.Refusal.{Refusal}
 use Rattle.requests.specs.declared.Place.TheVariants.{Before, Inside}
 use Rattle.requests.specs.declared.Untaken.{Untaken}
 use Rattle.requests.specs.declared.Untaken.TheVariants.{Body, Unsent, Many}
@@ -62,17 +63,22 @@ module _ {S : Type 0} {s m : Unbuffered S} (steady : ReadsSteadily s m) where
   pub steadily : {t : Unbuffered S} → ReadsSteadily m t → ReadsSteadily s t
   steadily {t} more = record { faults = joined t more.faults; ends = more.ends ∙ steady.ends }
 
-  pub IsWrong-still : (place : Place S) → IsWrong m place → IsWrong s place
-  IsWrong-still (Before requests) (inl none) = inl none
-  IsWrong-still (Before requests) (inr (more, some, cut)) = inr (omega (arith, steady.ends, more), some, cut)
-  IsWrong-still (Inside body) (inl torn) = inl torn
-  IsWrong-still (Inside body) (inr (more, none, cut)) = inr (omega (arith, steady.ends, more), none, cut)
+  pub IsWrong-still : (place : Place S) (why : Refusal) → IsWrong m place why → IsWrong s place why
+  IsWrong-still (Before requests) why (inl none) = inl none
+  IsWrong-still (Before requests) why (inr (is, more, some, cut)) = inr (is, omega (arith, steady.ends, more), some, cut)
+  IsWrong-still (Inside body) why (is, inl torn) = (is, inl torn)
+  IsWrong-still (Inside body) why (is, inr (more, none, cut)) = (is, inr (omega (arith, steady.ends, more), none, cut))
+
+  pub each_wrong : (place : Place S) (refuses : Option Refusal) → IfSome refuses (IsWrong m place)
+      → IfSome refuses (IsWrong s place)
+  each_wrong place (Some why) wrong = IsWrong-still place why wrong
+  each_wrong place None none = tt
 
   HasEnded-still : (place : Place S) → HasEnded m place → HasEnded s place
   HasEnded-still (Before requests) (more, none) = (omega (arith, steady.ends, more), none)
   HasEnded-still (Inside body) odd = odd
 
-  pub IsOver-still : (ms ns : List Message) (taken : List ℕ) (refuses : Bool) (place : Place S) → All (Keeps true) ms
+  pub IsOver-still : (ms ns : List Message) (taken : List ℕ) (refuses : Option Refusal) (place : Place S) → All (Keeps true) ms
       → IsOver ns taken refuses m place → IsOver (ms ++ ns) taken refuses s place
   IsOver-still ms ns taken refuses place keep (inl (closes, none, not, ends)) = inl (
     record {
@@ -107,11 +113,11 @@ module _ {S : Type 0} {s m : Unbuffered S} (steady : ReadsSteadily s m) where
   pub TakeFails-of : {W : Type 0} (handed : List ℕ) (b : InBody S) (w : Buffered W StdPolicy) (e : Untaken)
       → ((why : Error) → e ≡ Body (Io why) → ¬ (IsInterrupt why)) → FailsOn m e b w → TakeFails s handed e b w
   TakeFails-of handed b w (Body (Wrong why)) hard ((gave, torn), sent) =
-      (omega (arith, steady.ends, gave.1), joined b.stream (none_met gave.0), inl (why, torn))
+      (omega (arith, steady.ends, gave.1), joined b.stream (none_met gave.0), (refl, inl (why, torn)))
   TakeFails-of handed b w (Body (Truncated due)) hard ((none, end, left, cut, so_many), sent) = (
     omega (arith, steady.ends, end),
     joined b.stream (none_met none),
-    inr (omega (arith, steady.ends, end), left, cut),
+    (refl, inr (omega (arith, steady.ends, end), left, cut)),
   )
   TakeFails-of handed b w (Body (Io e)) hard ((fault, none), sent) = (
     omega (arith, steady.ends, none),
@@ -124,7 +130,7 @@ module _ {S : Type 0} {s m : Unbuffered S} (steady : ReadsSteadily s m) where
   pub TakeFails-behind : {W : Type 0} (handed more : List ℕ) (b : InBody S) (w : Buffered W StdPolicy) (why : BodyError)
       → FinishFails m more why b.stream b.rest → EachGave m b.stream → TakeFails s (handed ++ more) (unfinished why) b w
   TakeFails-behind handed more b w (Wrong why) (inl (gave, torn)) same =
-      (omega (arith, steady.ends, gave.1), joined b.stream (none_met gave.0), inl (why, torn))
+      (omega (arith, steady.ends, gave.1), joined b.stream (none_met gave.0), (refl, inl (why, torn)))
   TakeFails-behind handed more b w (Truncated due) (inl (none, end, left, cut, many)) same = absurd (omega (arith, end, same.1))
   TakeFails-behind handed more b w (Io e) (inl fails) same = absurd (no_fault b e fails same.0)
   TakeFails-behind handed more b w (Wrong why) (inr (e, is, other, many)) same = absurd (cc)

@@ -1,7 +1,7 @@
 -- What is answered to requests.
-use Rattle.std.specs.Prelude.{◌≡◌, ◌≢◌, ℕ, ◌+◌, ◌-◌, ◌^◌, ◌<◌, ◌≤◌, ◌⊎◌, ◌&&◌, ◌||◌, ◌==◌, nat_lt, if◌then◌else◌, Bool, true, false, List, [], ◌∷◌, ◌++◌, All, length, drop, Option, Result, Ok, Err, MatchResult, IfErr, IsErr, IsTrue, ⊤, codes}
+use Rattle.std.specs.Prelude.{◌≡◌, ◌≢◌, ℕ, ◌+◌, ◌-◌, ◌^◌, ◌<◌, ◌≤◌, ◌⊎◌, ◌&&◌, ◌||◌, ◌==◌, nat_lt, if◌then◌else◌, Bool, true, false, List, [], ◌∷◌, ◌++◌, All, length, drop, nat_eq, Option, None, Some, Result, Ok, Err, MatchResult, IfErr, IfSome, IsErr, IsSome, IsTrue, ⊤, codes}
 use Rattle.std.specs.Fmt.{decimal}
-use Rattle.std.specs.List.{prefix_len}
+use Rattle.std.specs.List.{prefix_len, starts_with}
 use Rattle.std.specs.IoError.{error_kind}
 use Rattle.std.specs.declared.io.Error.{Error}
 use Rattle.std.specs.declared.io.ErrorKind.TheVariants.{Interrupted, Other}
@@ -15,7 +15,8 @@ use Rattle.codec.specs.Grammar.{IsOpen}
 use Rattle.codec.specs.PieceReader.{ReaderState, left_of, rest}
 use Rattle.messages.specs.declared.error.BodyError.{BodyError}
 use Rattle.messages.specs.declared.error.BodyError.TheVariants.{Io}
-use Rattle.messages.specs.declared.head.BadHead.{BadHead}
+use Rattle.messages.specs.declared.bad_head.BadHead.{BadHead}
+use Rattle.messages.specs.declared.bad_head.BadHead.TheVariants.{BareEnd, LongLine, LongHead, ManyFields, CutShort, Version, Tunnel, Coding, Refused}
 use Rattle.messages.specs.declared.head.Extent.{Extent}
 use Rattle.messages.specs.declared.head.Extent.TheVariants.{Sized, Chunked}
 use Rattle.messages.specs.declared.head.ParsedHead.{ParsedHead}
@@ -23,6 +24,8 @@ use Rattle.messages.specs.Heads.{IsHead, heads}
 use Rattle.messages.specs.declared.head.Heads.{Heads}
 use Rattle.messages.specs.Messages.{AreMessages, EachGave, Fails, InBody, InTurn, IsRest, IsWrongNext, Message, Onward, body_of}
 use Rattle.programs.specs.Streams.{AllSent, EndsOnce}
+use Rattle.requests.specs.declared.writing.Refusal.{Refusal}
+use Rattle.requests.specs.declared.writing.Refusal.TheVariants.{BadRequest, LongTarget, LargeHead, Unknown, OtherVersion}
 use Rattle.requests.specs.declared.Place.{Place}
 use Rattle.requests.specs.declared.Place.TheVariants.{Before, Inside}
 use Rattle.requests.specs.declared.Ending.{Ending}
@@ -37,9 +40,30 @@ abbrev pub called : Bool → List ℕ
 called true = codes "HTTP/1.1 100 Continue\r\n\r\n"
 called false = []
 
-abbrev pub refused : Bool → List ℕ
-refused true = codes "HTTP/1.1 400 Bad Request\r\nContent-Length: 0\r\nConnection: close\r\n\r\n"
-refused false = []
+abbrev pub refusal : Refusal → List ℕ
+refusal BadRequest = codes "HTTP/1.1 400 Bad Request\r\nContent-Length: 0\r\nConnection: close\r\n\r\n"
+refusal LongTarget = codes "HTTP/1.1 414 URI Too Long\r\nContent-Length: 0\r\nConnection: close\r\n\r\n"
+refusal LargeHead =
+    codes "HTTP/1.1 431 Request Header Fields Too Large\r\nContent-Length: 0\r\nConnection: close\r\n\r\n"
+refusal Unknown = codes "HTTP/1.1 501 Not Implemented\r\nContent-Length: 0\r\nConnection: close\r\n\r\n"
+refusal OtherVersion =
+    codes "HTTP/1.1 505 HTTP Version Not Supported\r\nContent-Length: 0\r\nConnection: close\r\n\r\n"
+
+abbrev pub refused : Option Refusal → List ℕ
+refused (Some why) = refusal why
+refused None = []
+
+-- by which status what is no head is refused (RFC 9110, section 15; RFC 6585, section 5; RFC 9112, sections 3 and 6.1)
+abbrev pub refusal_of : BadHead → Refusal
+refusal_of BareEnd = BadRequest
+refusal_of LongLine = LongTarget
+refusal_of LongHead = LargeHead
+refusal_of ManyFields = LargeHead
+refusal_of (CutShort have) = BadRequest
+refusal_of Version = OtherVersion
+refusal_of Tunnel = Unknown
+refusal_of Coding = Unknown
+refusal_of Refused = BadRequest
 
 -- whether the client waits for a call, and there is a body to come
 abbrev pub has_body : Extent → Bool
@@ -62,9 +86,39 @@ success false = codes "HTTP/1.1 200 OK\r\nContent-Length: 21\r\nConnection: clos
 abbrev pub accepted : ParsedHead → ℕ → List ℕ
 accepted said len = success said.keeps ++ (if said.bare then [] else length_line len)
 
--- the answer to a message: 200, and how much payload all of its body has
+-- 501, to a method that isn't known
+abbrev pub declined : Bool → List ℕ
+declined true = codes "HTTP/1.1 501 Not Implemented\r\nContent-Length: 0\r\nConnection: keep-alive\r\n\r\n"
+declined false = codes "HTTP/1.1 501 Not Implemented\r\nContent-Length: 0\r\nConnection: close\r\n\r\n"
+
+-- an end of a line
+abbrev pub is_end : ℕ → Bool
+is_end b = (b == 13) || (b == 10)
+
+-- a line begins with a method that is known (RFC 9110, section 9.3, and RFC 5789)
+abbrev pub begins : List ℕ → List ℕ → Bool
+begins line name = starts_with nat_eq line name
+
+abbrev pub begins_often : List ℕ → Bool
+begins_often line =
+    begins line (codes "GET ") || (begins line (codes "HEAD ") || (begins line (codes "POST ") || begins line (codes "PUT ")))
+
+abbrev pub begins_known : List ℕ → Bool
+begins_known line =
+    begins_often line || (begins line (codes "DELETE ")
+    || (begins line (codes "OPTIONS ") || (begins line (codes "TRACE ") || begins line (codes "PATCH "))))
+
+-- a head's first line, behind empty ones
+abbrev pub is_known : List ℕ → Bool
+is_known head = begins_known (drop (prefix_len is_end head) head)
+
+abbrev pub answered : Bool → ParsedHead → ℕ → List ℕ
+answered known said len = if known then accepted said len else declined said.keeps
+
+-- the answer to a message: 200, and how much payload all of its body has; or 501
 abbrev pub IsAnswer : Message → List ℕ → Type 0
-IsAnswer m text = (said : ParsedHead) × IsHead m.0 said × (text ≡ called (waits said) ++ accepted said (length m.1))
+IsAnswer m text = (said : ParsedHead) × IsHead m.0 said
+    × (text ≡ called (waits said) ++ answered (is_known m.0) said (length m.1))
 
 -- the whole body was taken, with so much payload
 abbrev pub TakesWhole : {S : Type 0} → (S → Option (List ℕ)) → InBody S → Unbuffered S → ℕ → Type 0
@@ -94,20 +148,18 @@ call_at (Before requests) = []
 call_at (Inside body) = called (waits body.said)
 
 -- these are ends of lines alone, and so empty lines, which say nothing (RFC 9112, section 2.2)
-abbrev pub is_end : ℕ → Bool
-is_end b = (b == 13) || (b == 10)
-
 abbrev pub is_blank : List ℕ → Bool
 is_blank bytes = prefix_len is_end bytes == length bytes
 
--- what comes is to be refused: no head begins what is left, or the stream ended in one; or the next byte of the body is wrong,
--- or the stream ended before that was complete
-abbrev pub IsWrong : {S : Type 0} → Unbuffered S → Place S → Type 0
-IsWrong s (Before requests) = ((e : BadHead) × heads.wrong (rest requests) e)
-    ⊎ ((ends_of s < ends_of (left_of requests)) × (is_blank (rest requests) ≡ false) × IsOpen heads (rest requests))
-IsWrong s (Inside body) = ((name : Malformed) × IsWrongNext body.rest body.stream.left name)
+-- what comes is to be refused so: no head begins what is left, for that reason, or the stream ended in one; or the next byte of
+-- the body is wrong, or the stream ended before that was complete
+abbrev pub IsWrong : {S : Type 0} → Unbuffered S → Place S → Refusal → Type 0
+IsWrong s (Before requests) why = ((e : BadHead) × heads.wrong (rest requests) e × (why ≡ refusal_of e))
+    ⊎ ((why ≡ BadRequest) × (ends_of s < ends_of (left_of requests)) × (is_blank (rest requests) ≡ false)
+    × IsOpen heads (rest requests))
+IsWrong s (Inside body) why = (why ≡ BadRequest) × (((name : Malformed) × IsWrongNext body.rest body.stream.left name)
     ⊎ ((ends_of s < ends_of body.stream) × (body.stream.left ≡ [])
-    × ((payload : List ℕ) → ¬ (IsRest body.rest [] payload)))
+    × ((payload : List ℕ) → ¬ (IsRest body.rest [] payload))))
 
 -- the stream ended, and nothing is left but empty lines, where a head would begin
 abbrev pub HasEnded : {S : Type 0} → Unbuffered S → Place S → Type 0
@@ -128,10 +180,10 @@ pub record Closes (messages : List Message) : Type 0 where
 
 -- why no more is answered: behind the last message none may follow, nothing was taken behind it, and no end was met, as who asks
 -- there may meet one; or what comes was refused, or the stream ended
-abbrev pub IsOver : {S : Type 0} → List Message → List ℕ → Bool → Unbuffered S → Place S → Type 0
+abbrev pub IsOver : {S : Type 0} → List Message → List ℕ → Option Refusal → Unbuffered S → Place S → Type 0
 IsOver messages taken refuses s place =
-    (Closes messages × (taken ≡ []) × (refuses ≡ false) × (ends_of (stream_at place) ≡ ends_of s))
-    ⊎ (All (Keeps true) messages × ((refuses ≡ true) ⊎ HasEnded s place))
+    (Closes messages × (taken ≡ []) × (refuses ≡ None) × (ends_of (stream_at place) ≡ ends_of s))
+    ⊎ (All (Keeps true) messages × (IsSome refuses ⊎ HasEnded s place))
 
 -- these bytes behind whole messages are none, or a head, and of the body that it says some with this payload
 abbrev pub IsPart : {S : Type 0} → Place S → List ℕ → List ℕ → Type 0
@@ -159,7 +211,7 @@ abbrev pub TakeFails : {S W : Type 0} → Unbuffered S → List ℕ → Untaken 
 TakeFails s handed (Body (Io e)) b w' =
     EndsOnce s.log.reads b.stream.log.reads × ReadFails s e b.stream × AllSent w'
 TakeFails s handed (Body wrong) b w' =
-    EndsOnce s.log.reads b.stream.log.reads × OnlyInterrupts (faults_of s) (faults_of b.stream) × IsWrong s (Inside b)
+    EndsOnce s.log.reads b.stream.log.reads × OnlyInterrupts (faults_of s) (faults_of b.stream) × IsWrong s (Inside b) BadRequest
 TakeFails s handed (Unsent e) b w' = ReadsSteadily s b.stream
 TakeFails s handed Many b w' = ReadsSteadily s b.stream × IsMany (length handed) s b.stream
 
@@ -178,16 +230,16 @@ abbrev pub sent_with : {A : Type 0} → Result A Untaken → Result (Unit {0}) E
 sent_with (Ok a) = Ok tt
 sent_with (Err e) = sent_till e
 
--- this is the 200 of the last of these messages
+-- this is the 200, or the 501, of the last of these messages
 abbrev pub IsLastAnswer : List Message → List ℕ → Type 0
 IsLastAnswer messages text = (before : List Message) × (m : Message) × (said : ParsedHead) × (messages ≡ before ++ m ∷ [])
-    × IsHead m.0 said × (text ≡ accepted said (length m.1))
+    × IsHead m.0 said × (text ≡ answered (is_known m.0) said (length m.1))
 
--- this is sent last, where the reader stands there: a refusal, or such a 200, or the call for a body of which nothing was taken
-abbrev pub IsLast : {S : Type 0} → List Message → List ℕ → Bool → Place S → List ℕ → Type 0
-IsLast messages taken true place text = text ≡ refused true
-IsLast messages taken false (Before requests) text = IsLastAnswer messages text
-IsLast messages taken false (Inside body) text = (text ≡ call_at (Inside body)) × (taken ≡ body.head)
+-- this is sent last, where the reader stands there: a refusal, or such an answer, or the call for a body of which nothing was taken
+abbrev pub IsLast : {S : Type 0} → List Message → List ℕ → Option Refusal → Place S → List ℕ → Type 0
+IsLast messages taken (Some why) place text = text ≡ refusal why
+IsLast messages taken None (Before requests) text = IsLastAnswer messages text
+IsLast messages taken None (Inside body) text = (text ≡ call_at (Inside body)) × (taken ≡ body.head)
 
 -- of this text all but such a last part was taken in, and then taking that in failed; or a flush did, behind the whole text
 pub record FailsLast {W : Type 0} (tells : W → StreamLog) (trace : W → W → Type 0) (Last : List ℕ → Type 0)
@@ -215,7 +267,7 @@ abbrev pub EndsBody : {W : Type 0} → (W → StreamLog) → (W → W → Type 0
     → Buffered W StdPolicy → Type 0
 EndsBody tells trace w (Body (Io e)) ending w' = (ending ≡ Unread e) × (w' ≡ w)
 EndsBody tells trace w (Body wrong) ending w' = (answer : Result (Unit {0}) Error) × (ending ≡ ending_of answer)
-    × Puts tells trace w (refused true) answer w' × IsUnflushed w w'
+    × Puts tells trace w (refusal BadRequest) answer w' × IsUnflushed w w'
 EndsBody tells trace w (Unsent e) ending w' = (ending ≡ stop.Unsent e) × (w' ≡ w)
 EndsBody tells trace w Many ending w' = (ending ≡ stop.Many) × (w' ≡ w)
 
@@ -249,7 +301,7 @@ module _ {R W : Type 0} (remaining : R → Option (List ℕ)) (tells : W → Str
     pub reads : ReadsSteadily s t
 
   -- why a run ends: it is over; or these are more than are counted; or a read failed, and all had been sent
-  abbrev pub EndsBy : Unbuffered R → List Message → List ℕ → List ℕ → Bool → Place R → Buffered W StdPolicy → Ending → Type 0
+  abbrev pub EndsBy : Unbuffered R → List Message → List ℕ → List ℕ → Option Refusal → Place R → Buffered W StdPolicy → Ending → Type 0
   EndsBy s messages taken handed refuses place w' Over =
       OnlyInterrupts (faults_of s) (faults_of (stream_at place)) × IsOver messages taken refuses s place
   EndsBy s messages taken handed refuses place w' stop.Many = OnlyInterrupts (faults_of s) (faults_of (stream_at place))
@@ -258,18 +310,18 @@ module _ {R W : Type 0} (remaining : R → Option (List ℕ)) (tells : W → Str
   EndsBy s messages taken handed refuses place w' (stop.Unsent e) = ⊤
 
   -- a run, but for what is sent last: behind the answers were written the call for a body that the client waits for, and a refusal
-  -- of what is wrong; so there is no 200 but for a whole message. The end is asked for once
+  -- of what is wrong, by its status; so there is no 200 but for a whole message. The end is asked for once
   pub record Runs (s : Unbuffered R) (w : Buffered W StdPolicy) (place : Place R) (ending : Ending)
       (w' : Buffered W StdPolicy) : Type 0 where
     pub messages : List Message
     pub taken : List ℕ
     pub handed : List ℕ
     pub part : IsPart place taken handed
-    pub refuses : Bool
+    pub refuses : Option Refusal
     pub answers : Answers messages s w taken (call_at place ++ refused refuses) (IsLast messages taken refuses place)
         (stream_at place) (sending_of ending) w'
     pub once : EndsOnce s.log.reads (stream_at place).log.reads
-    pub wrong : refuses ≡ true → IsWrong s place
+    pub wrong : IfSome refuses (IsWrong s place)
     pub ends : EndsBy s messages taken handed refuses place w' ending
 
   -- a run: where sending failed, it returns why, and nothing was taken that comes behind what failed; or all was sent

@@ -1,14 +1,16 @@
 //! Answers each request on standard input by how many bytes of payload its body has.
 //!
-//! 200 and that number, where all of the body came; 100 before it, where the client waits for that; 400 where what comes is no
-//! request, or its body is none, or ends early, and then no more. It ends behind a request after which none may follow, and
-//! where the stream does. It asks the stream only where all that it answered was sent, and sends only there and at the end
+//! 200 and that number, where all of the body came, or 501 to a method that it doesn't know; 100 before it, where the client
+//! waits for that. What comes and is no request is refused by the status that RFC 9112 has for it (`refusal_of`), and 400 is for
+//! a body that is none, or ends early, and then no more. It ends behind a request after which none may follow, and where the
+//! stream does. It asks the stream only where all that it answered was sent, and sends only there and at the end
 //! (`Prompt`); where sending fails, nothing was taken behind what failed (`IsLast`).
 #![tactic(auto)]
 
-ghost use Rattle.std.specs.Prelude.{◌≡◌, ℕ, ◌<◌, ◌≤◌, if◌then◌else◌, true, false, List, [], ◌++◌, codes, length, map, IfErr, IfOk, IsTrue, MatchResult, Ok, OnOk};
+mod writing;
+
+ghost use Rattle.std.specs.Prelude.{◌≡◌, ℕ, ◌<◌, ◌≤◌, true, false, List, [], length, IfErr, IfOk, IsTrue, MatchResult, Ok, OnOk};
 ghost use Rattle.std.specs.IoError.{error_kind};
-ghost use Rattle.std.specs.List.{concat, prefix_len};
 ghost use Rattle.std.specs.declared.io.Error.{Error};
 ghost use Rattle.redux_buffer.specs.Faults.{IsInterrupt};
 ghost use Rattle.buffer_redux.specs.Buffered.{Buffered};
@@ -19,12 +21,15 @@ ghost use Rattle.codec.specs.PieceReader.{IsSettled, ReaderState, left_of};
 ghost use Rattle.messages.specs.declared.head.Heads.{Heads};
 ghost use Rattle.messages.specs.Heads.{heads};
 ghost use Rattle.messages.specs.Messages.{Begun, EachGave, InsideGoes, IsRest, answer_of};
-ghost use Rattle.requests.specs.Sending.{Comes, IsHeld, IsUnflushed, Puts, SendsHeld, SendsUnless, Writes};
-ghost use Rattle.requests.specs.Answers.{EndsBody, EndsSent, FailsOn, ReadsSteadily, Serves, TakeFails, TakesWhole, Turns, accepted, called, ending_of, has_body, is_blank, is_end, length_line, refused, sending_of, sent_till, sent_with, unfinished, waits};
+ghost use Rattle.requests.specs.Sending.{Comes, IsHeld, SendsHeld, SendsUnless, Writes};
+ghost use Rattle.requests.specs.Answers.{EndsBody, EndsSent, FailsOn, ReadsSteadily, Serves, TakeFails, TakesWhole, Turns, answered, called, ending_of, is_blank, is_known, refusal_of, sending_of, sent_till, sent_with, unfinished, waits};
 
+use crate::writing::{
+    Refusal, answer_whole, blank_len, call_for_body, is_known, refusal_of, refuse,
+};
 use buffer_redux::BufWriter;
 use buffer_redux::tell::{Tell, TellRead, TellWrite, Told};
-use messages::{BadHead, Body, BodyError, Extent, HeaderError, ParsedHead, Requests, Stop};
+use messages::{BadHead, Body, BodyError, Requests, Stop};
 use std::io;
 use std::io::{ErrorKind, Write};
 
@@ -172,8 +177,8 @@ fn stopped<R: TellRead, W: TellWrite>(
     }
     match stop {
         Stop::Ended => Err((Place::Before(requests), Ending::Over)),
-        Stop::Bad(_) => {
-            let ending = ending_of(refuse(writer));
+        Stop::Bad(why) => {
+            let ending = ending_of(refuse(refusal_of(why), writer));
             Err((Place::Before(requests), ending))
         }
         Stop::Io(e) => Err((Place::Before(requests), Ending::Unread(e))),
@@ -182,13 +187,13 @@ fn stopped<R: TellRead, W: TellWrite>(
 
 // Whether the stream ended behind empty lines, which say nothing.
 fn is_blank_end(stop: &Stop, left: &[u8]) -> bool
-    ensures yes { result ≡ true → (have : ℕ) × (stop.now ≡ Stop.Bad (BadHead.Lines (HeaderError.Truncated have)))
+    ensures yes { result ≡ true → (have : ℕ) × (stop.now ≡ Stop.Bad (BadHead.CutShort have))
         × IsTrue (is_blank left.now) }
-    ensures cut { (have : ℕ) → stop.now ≡ Stop.Bad (BadHead.Lines (HeaderError.Truncated have))
+    ensures cut { (have : ℕ) → stop.now ≡ Stop.Bad (BadHead.CutShort have)
         → result ≡ is_blank left.now }
 {
     match stop {
-        Stop::Bad(BadHead::Lines(HeaderError::Truncated(_))) => is_blank(left),
+        Stop::Bad(BadHead::CutShort(_)) => is_blank(left),
         _ => false,
     }
 }
@@ -197,14 +202,6 @@ fn is_blank(left: &[u8]) -> bool
     ensures { result ≡ is_blank left.now }
 {
     blank_len(left) == left.len()
-}
-
-fn blank_len(left: &[u8]) -> usize
-    ensures { result ≡ prefix_len is_end left.now }
-{
-    left.iter()
-        .take_while(|b| **b == b'\r' || **b == b'\n')
-        .count()
 }
 
 fn ending_of(sending: io::Result<()>) -> Ending
@@ -252,8 +249,9 @@ fn answer_called<R: TellRead, W: TellWrite>(
         → Turns R.remaining W.log W.trace (left_of s) w result writer.new }
 {
     let said = body.said();
+    let known = is_known(body.head());
     match take_whole(body, writer) {
-        Ok((len, requests)) => match accept(len, said, writer) {
+        Ok((len, requests)) => match answer_whole(known, len, said, writer) {
             Ok(()) => {
                 if said.keeps {
                     Ok(requests)
@@ -419,90 +417,8 @@ fn unended<W: TellWrite>(e: Untaken, writer: &mut BufWriter<W>) -> Ending
 {
     match e {
         Untaken::Body(BodyError::Io(e)) => Ending::Unread(e),
-        Untaken::Body(_) => ending_of(refuse(writer)),
+        Untaken::Body(_) => ending_of(refuse(Refusal::BadRequest, writer)),
         Untaken::Unsent(e) => Ending::Unsent(e),
         Untaken::Many => Ending::Many,
     }
-}
-
-// Says how many bytes of payload there were, and whether another request may follow.
-fn accept<W: TellWrite>(len: u64, said: ParsedHead, writer: &mut BufWriter<W>) -> io::Result<()>
-    ensures puts { Puts W.log W.trace writer.old (accepted said len) result writer.new }
-    ensures unflushed { IsUnflushed writer.old writer.new }
-{
-    if said.keeps {
-        let head = b"HTTP/1.1 200 OK\r\nContent-Length: 21\r\nConnection: keep-alive\r\n\r\n";
-        accept_by(head, len, said.bare, writer)
-    } else {
-        let head = b"HTTP/1.1 200 OK\r\nContent-Length: 21\r\nConnection: close\r\n\r\n";
-        accept_by(head, len, said.bare, writer)
-    }
-}
-
-fn accept_by<W: TellWrite>(
-    head: &[u8],
-    len: u64,
-    bare: bool,
-    writer: &mut BufWriter<W>,
-) -> io::Result<()>
-    ensures puts { Puts W.log W.trace writer.old (head.now ++ (if bare then [] else length_line len)) result writer.new }
-    ensures unflushed { IsUnflushed writer.old writer.new }
-{
-    if bare {
-        return put(writer, &[head]);
-    }
-    let mut digits = itoa::Buffer::new();
-    let number = digits.format(len).as_bytes();
-    let blanks: &[u8] = b"                    ";
-    put_line(head, &blanks[number.len()..], number, writer)
-}
-
-fn put_line<'a, W: TellWrite>(
-    head: &'a [u8],
-    blanks: &'a [u8],
-    number: &'a [u8],
-    writer: &mut BufWriter<W>,
-) -> io::Result<()>
-    ensures puts { Puts W.log W.trace writer.old (head.now ++ (blanks.now ++ (number.now ++ codes "\n"))) result
-        writer.new }
-    ensures unflushed { IsUnflushed writer.old writer.new }
-{
-    put(writer, &[head, blanks, number, b"\n"])
-}
-
-fn call_for_body<W: TellWrite>(said: ParsedHead, writer: &mut BufWriter<W>) -> io::Result<()>
-    ensures puts { Puts W.log W.trace writer.old (called (waits said)) result writer.new }
-    ensures unflushed { IsUnflushed writer.old writer.new }
-{
-    if said.expects && has_body(said.extent) {
-        put(writer, &[b"HTTP/1.1 100 Continue\r\n\r\n"])
-    } else {
-        Ok(())
-    }
-}
-
-fn has_body(extent: Extent) -> bool
-    ensures { result ≡ has_body extent }
-{
-    match extent {
-        Extent::Sized(len) => len > 0,
-        Extent::Chunked => true,
-    }
-}
-
-fn refuse<W: TellWrite>(writer: &mut BufWriter<W>) -> io::Result<()>
-    ensures puts { Puts W.log W.trace writer.old (refused true) result writer.new }
-    ensures unflushed { IsUnflushed writer.old writer.new }
-{
-    put(
-        writer,
-        &[b"HTTP/1.1 400 Bad Request\r\nContent-Length: 0\r\nConnection: close\r\n\r\n"],
-    )
-}
-
-fn put<W: TellWrite>(writer: &mut BufWriter<W>, parts: &[&[u8]]) -> io::Result<()>
-    ensures puts { Puts W.log W.trace writer.old (concat (map (λ part. part.now) parts.now)) result writer.new }
-    ensures unflushed { IsUnflushed writer.old writer.new }
-{
-    writer.write_parts(parts)
 }

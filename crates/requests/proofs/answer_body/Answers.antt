@@ -1,4 +1,4 @@
-use Rattle.std.proofs.Common.{[], ◌++◌, Err, Ok, arith, append-nil, refl, inr, false}
+use Rattle.std.proofs.Common.{[], ◌++◌, Err, Ok, arith, append-nil, refl, inr, None}
 use Rattle.buffer_redux.specs.UnbufferLaws.{StreamWent-none}
 use Rattle.messages.specs.Messages.{InsideGoes}
 use Rattle.requests.specs.declared.Ending.TheVariants.{Unsent}
@@ -39,5 +39,5 @@ returns-in-Err g c = λ s w begun writes.
     (part_answered begun none
     (Writes-after g.met.W.TellWrite.trace_joins (_, w) (b.stream, c.args.writer.now) (b.stream, c.call_for_body.new.writer) []
     (called (waits b.said) ++ []) (Err c.in-Err.e) writes (Writes-put b.stream more call.unflushed))
-    (FailsLast-of (IsLast [] (b.head ++ none.takes.wire) false (Inside b)) (Err c.in-Err.e) refl
+    (FailsLast-of (IsLast [] (b.head ++ none.takes.wire) None (Inside b)) (Err c.in-Err.e) refl
     (inr (append-nil _, append-nil b.head)) writes.puts more)) tt

@@ -2,7 +2,7 @@ use Rattle.std.proofs.Common.{[], ◌∷◌, true, ap, sym, ◌∙◌, refl, inl
 use Rattle.std.proofs.lemmas.List.Elements.{All-cons, All-nil}
 use Rattle.requests.specs.declared.Ending.TheVariants.{Over, Unsent}
 use Rattle.requests.specs.declared.Place.TheVariants.{Before}
-use Rattle.requests.specs.Answers.{Keeps}
+use Rattle.requests.specs.Answers.{Keeps, is_known}
 use Rattle.requests.proofs.Answering.{Runs-stopped, one_answered, torn_answered}
 use Rattle.requests.proofs.Reading.{begun_steady, no_shorter, steadily}
 use Rattle.requests.proofs.answer_called.Goals as goal
@@ -15,8 +15,8 @@ returns-then-said g c = λ s w begun call.
     let keeps = sym (ap (λ x. x.keeps) c.said-said.ensures) ∙ c.if-said.true in (
       record {
         messages = (b.head, whole.1) ∷ [];
-        answers = one_answered g.met.W.TellWrite.trace_joins begun whole c.said-said.ensures call c.in-Ok.ensures.writes
-            c.in-Ok-accept.ensures.puts c.in-Ok-accept.ensures.unflushed;
+        answers = one_answered g.met.W.TellWrite.trace_joins begun whole c.said-said.ensures (c.is_known-known.ensures ∙ ap is_known c.head.ensures) call c.in-Ok.ensures.writes
+            c.in-Ok-answer_whole.ensures.puts c.in-Ok-answer_whole.ensures.unflushed;
         keep = All-cons (Keeps true) (b.head, whole.1) [] (b.said, begun.is, keeps) (All-nil (Keeps true));
         reads = reads;
       },
@@ -29,8 +29,8 @@ returns-else-said g c = λ s w begun call.
     let whole = c.in-Ok.ensures.whole in
     let reads = steadily (begun_steady begun) c.in-Ok.ensures.steady in
     Runs-stopped [] (Before c.in-Ok.requests) (refl, refl) (omega (arith, reads.ends)) Over
-    (one_answered g.met.W.TellWrite.trace_joins begun whole c.said-said.ensures call c.in-Ok.ensures.writes
-    c.in-Ok-accept.ensures.puts c.in-Ok-accept.ensures.unflushed) (
+    (one_answered g.met.W.TellWrite.trace_joins begun whole c.said-said.ensures (c.is_known-known.ensures ∙ ap is_known c.head.ensures) call c.in-Ok.ensures.writes
+    c.in-Ok-answer_whole.ensures.puts c.in-Ok-answer_whole.ensures.unflushed) (
       reads.faults,
       inl (
         record {
@@ -46,12 +46,12 @@ returns-else-said g c = λ s w begun call.
       ),
     )
 
-pub returns-in-Err-accept : goal.returns-in-Err-accept
-returns-in-Err-accept g c = λ s w begun call.
+pub returns-in-Err-answer_whole : goal.returns-in-Err-answer_whole
+returns-in-Err-answer_whole g c = λ s w begun call.
     Runs-stopped [] (Before c.in-Ok.requests) (refl, refl)
-    (omega (arith, (steadily (begun_steady begun) c.in-Ok.ensures.steady).ends)) (Unsent c.in-Err-accept.e)
-    (one_answered g.met.W.TellWrite.trace_joins begun c.in-Ok.ensures.whole c.said-said.ensures call c.in-Ok.ensures.writes
-    c.in-Err-accept.ensures.puts c.in-Err-accept.ensures.unflushed) tt
+    (omega (arith, (steadily (begun_steady begun) c.in-Ok.ensures.steady).ends)) (Unsent c.in-Err-answer_whole.e)
+    (one_answered g.met.W.TellWrite.trace_joins begun c.in-Ok.ensures.whole c.said-said.ensures (c.is_known-known.ensures ∙ ap is_known c.head.ensures) call c.in-Ok.ensures.writes
+    c.in-Err-answer_whole.ensures.puts c.in-Err-answer_whole.ensures.unflushed) tt
 
 pub returns-in-Err : goal.returns-in-Err
 returns-in-Err g c = λ s w begun call.

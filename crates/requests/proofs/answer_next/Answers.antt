@@ -1,4 +1,4 @@
-use Rattle.std.proofs.Common.{[], Ok, Err, false, sym, subst, inl, refl, arith}
+use Rattle.std.proofs.Common.{[], Ok, Err, None, sym, subst, inl, refl, arith}
 use Rattle.buffer_redux.specs.UnbufferLaws.{StreamWent-none}
 use Rattle.codec.specs.PieceReader.{left_of}
 use Rattle.requests.specs.declared.Ending.TheVariants.{Unsent}
@@ -39,5 +39,5 @@ returns-in-Err g c =
     c.in-Err.ensures (open_where c.args.requests) in
     Runs-stopped [] (Before c.args.requests) (refl, refl) (omega arith) (Unsent c.in-Err.e)
     (none_answered (StreamWent-none g.R.TellRead.remaining s) sent
-    (FailsLast-of (IsLast [] [] false (Before c.args.requests)) (Err c.in-Err.e) refl (inl refl)
+    (FailsLast-of (IsLast [] [] None (Before c.args.requests)) (Err c.in-Err.e) refl (inl refl)
     (Puts-none g.met.W.TellWrite.trace_none c.args.writer.now) sent.puts)) tt

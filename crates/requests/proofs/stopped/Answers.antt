@@ -1,12 +1,13 @@
-use Rattle.std.proofs.Common.{◌≡◌, ◌+◌, ◌∙◌, IsTrue, MatchBool, [], ◌∷◌, true, false, ap, length, subst, sym, inl, inr, refl, arith, length-append}
+use Rattle.std.proofs.Common.{◌≡◌, ◌+◌, ◌∙◌, IsTrue, MatchBool, [], ◌∷◌, Some, true, false, ap, length, subst, sym, inl, inr, refl, arith, length-append}
 use Rattle.std.proofs.lemmas.List.Elements.{All-nil}
 use Rattle.redux_buffer.specs.Faults.{OnlyInterrupts-none}
 use Rattle.codec.specs.NextPiece.{MetEnd, NoEnd, empties}
 use Rattle.codec.specs.PieceReader.{ReaderState, left_of}
+use Rattle.messages.specs.HeadsLaws.{never_cut}
 use Rattle.messages.specs.declared.head.Heads.{Heads}
 use Rattle.requests.specs.declared.Ending.TheVariants.{Over, Unread}
 use Rattle.requests.specs.declared.Place.TheVariants.{Before}
-use Rattle.requests.specs.Answers.{IsLast, Keeps, Runs, ends_of, faults_of, is_blank}
+use Rattle.requests.specs.Answers.{IsLast, Keeps, Runs, ends_of, faults_of, is_blank, refusal_of}
 use Rattle.messages.specs.declared.requests.Stop.TheVariants.{Bad}
 use Rattle.requests.proofs.Answering.{FailsLast-of, Runs-ended, Runs-stopped, none_answered}
 use Rattle.requests.proofs.Reading.{failed_behind, interrupted_once, none_met, nothing_went}
@@ -49,7 +50,7 @@ returns-then-is_blank_end g c = λ s w told next comes.
     let was = c.is_blank_end.ensures.yes c.if-is_blank_end.true in
     let cut = rw was.1 at next in
     elim cut.answers.3 [
-      | inl wrong ↦ absurd wrong.0
+      | inl wrong ↦ absurd (never_cut _ _ wrong.0)
       | inr end ↦
           (let met = met_end s c.args.requests told end.3 in
           Runs-stopped [] (Before c.args.requests) (refl, refl) (omega (arith, met)) Over
@@ -66,6 +67,7 @@ pub returns-in-Bad : goal.returns-in-Bad
 returns-in-Bad g c = λ s w told next comes.
     let bad = rw c.in-Bad.is at next in
     let sending = c.refuse.result in
+    let why = c.refusal_of.result in
     let v = c.args.writer.now in
     let t = left_of c.args.requests in
     subst (λ x. Runs g.R.TellRead.remaining g.W.Tell.log g.W.TellWrite.trace (left_of s) w (Before c.args.requests) x
@@ -73,13 +75,14 @@ returns-in-Bad g c = λ s w told next comes.
     (elim bad.answers.3 [
       | inl wrong ↦ omega (arith, wrong.1)
       | inr cut ↦ omega (arith, met_end s c.args.requests told cut.3)
-    ]) true sending (none_answered (nothing_went bad bad.answers.0)
+    ]) (Some why) sending (none_answered (nothing_went bad bad.answers.0)
     (Writes-after g.met.W.TellWrite.trace_joins (left_of s, w) (t, v) (t, c.refuse.new.writer) [] _ sending comes.writes
     (Writes-put t c.refuse.ensures.puts c.refuse.ensures.unflushed))
-    (FailsLast-of (IsLast [] [] true (Before c.args.requests)) sending refl (inr refl) comes.writes.puts c.refuse.ensures.puts))
-    (λ _. elim bad.answers.3 [
-      | inl wrong ↦ inl (_, wrong.0)
+    (FailsLast-of (IsLast [] [] (Some why) (Before c.args.requests)) sending refl (inr refl) comes.writes.puts c.refuse.ensures.puts))
+    (elim bad.answers.3 [
+      | inl wrong ↦ inl (_, wrong.0, c.refusal_of.ensures)
       | inr cut ↦ inr (
+        c.refusal_of.ensures ∙ ap refusal_of cut.0,
         omega (arith, met_end s c.args.requests told cut.3),
         ap is_blank (sym c.buffered.ensures) ∙ sym (c.is_blank_end.ensures.cut _ (c.in-Bad.is ∙ ap Bad cut.0))
             ∙ c.if-is_blank_end.false,

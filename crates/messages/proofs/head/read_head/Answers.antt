@@ -1,55 +1,17 @@
-use Rattle.std.proofs.Common.{◌≡◌, ◌∙◌, length, take, drop, All, IsTrue, sym, ap, subst, arith, rules}
-use Rattle.std.proofs.lemmas.List.{length-drop, length-map, length-take-le, nil_from_length}
-use Rattle.http1.specs.Fields.{known_fields}
-use Rattle.http1.specs.Framing.{method_kind}
-use Rattle.http1.specs.Message.{has_one_host, known_of}
-use Rattle.httparse.specs.Grammar.{ReadsRequest}
-use Rattle.httparse.specs.Spans.{header_bytes, name_and_value}
-use Rattle.messages.specs.Target.{is_plain_field, is_target}
-use Rattle.messages.specs.Heads.{expects, extent_of, keeps}
+use Rattle.std.proofs.Common.{◌∙◌, ap, subst, sym}
+use Rattle.messages.specs.Heads.{IsKnownHead}
+use Rattle.messages.specs.Versions.{with_one}
+use Rattle.messages.proofs.HeadsRead.{on_err}
 use Rattle.messages.proofs.head.read_head.Goals as goal
 
-pub returns-in-Some-clause-some : goal.returns-in-Some-clause-some
-returns-in-Some-clause-some c =
-    let bytes = c.args.head.now in
-    let spans = c.in-Ok-Complete.spans in
-    let headers = c.parse_request.new.headers in
-    let found = rw c.in-Ok-Complete.field-0-is at c.in-Ok-Complete.ensures.complete in
-    let within = rw c.in-Ok-Complete.field-0-is at c.in-Ok-Complete.ensures.within in
-    let room : length headers ≡ 64 = search rules in
-    let h = found.0 in
-    let known = c.from_spans-known.result in
-    let fields : known ≡ known_of h.fields = c.from_spans-known.ensures ∙ ap known_fields found.1.fields in
-    let minor : spans.version ≡ h.minor = found.1.version in
-    let kind : c.of-method.result ≡ method_kind h.method =
-    c.of-method.ensures ∙ ap method_kind (c.of-name.ensures ∙ found.1.method) in
-    let host : IsTrue (has_one_host spans.version known) = search rules in
-    record {
-      head = h;
-      reads = subst (ReadsRequest bytes h)
-          (nil_from_length (drop spans.len bytes) (omega (arith, c.if-spans-head.false, length-drop spans.len bytes)))
-          found.1.reads;
-      few = omega (
-        arith,
-        room,
-        within.section.count_fits,
-        ap length found.1.fields,
-        length-map (take spans.headers headers) (header_bytes bytes),
-        length-map h.fields name_and_value,
-        length-take-le spans.headers headers within.section.count_fits,
-      );
-      host = subst (λ k. IsTrue (has_one_host h.minor k)) fields (subst (λ n. IsTrue (has_one_host n known)) minor host);
-      single = omega (arith, c.if-known-gt1.false, ap (λ k. k.framing_fields) fields);
-      open' = λ is. (let odd = c.is_connect.ensures.1 (kind ∙ is) in cc);
-      uncoded = sym (ap (λ k. k.other_coding) fields) ∙ c.if-known.false;
-      hosts = subst (All (λ h. IsTrue (is_plain_field h))) found.1.fields
-          (c.are_hosts_plain.ensures.0 c.if-not-are_hosts_plain.false);
-      target = ap (λ m. is_target m h.target) (sym (c.of-name.ensures ∙ found.1.method))
-          ∙ ap (is_target c.of-name.result.now) (sym (c.of-target.ensures ∙ found.1.path)) ∙ sym c.is_target.ensures
-          ∙ c.if-not-is_target.false;
-      framed = rw (← fields, ← minor, ← kind)
-          (sym (c.extent_of.ensures ∙ ap extent_of c.request_framing.ensures) ∙ c.in-Some.is);
-      bare = (λ yes. sym kind ∙ c.is_bare.ensures.0 yes, λ is. c.is_bare.ensures.1 (kind ∙ is));
-      keeps = c.keeps.ensures ∙ ap (λ n. keeps n known) minor ∙ ap (keeps h.minor) fields;
-      expects = c.expects.ensures ∙ ap (λ n. expects n known) minor ∙ ap (expects h.minor) fields;
-    }
+pub returns-in-Some-clause-none : goal.returns-in-Some-clause-none
+returns-in-Some-clause-none c =
+    let same = ap (with_one c.args.head.now) (sym c.later_at.ensures.value ∙ c.in-Some.is) in
+    on_err c.read_later.result (λ none said is. none said (subst (λ l. IsKnownHead l said) same is.known))
+    c.read_later.ensures.none
+
+pub returns-in-None-clause-none : goal.returns-in-None-clause-none
+returns-in-None-clause-none c =
+    let same = ap (with_one c.args.head.now) (sym c.later_at.ensures.value ∙ c.in-None.is) in
+    on_err c.read_known.result (λ none said is. none said (subst (λ l. IsKnownHead l said) same is.known))
+    c.read_known.ensures.none

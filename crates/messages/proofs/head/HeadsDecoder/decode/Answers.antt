@@ -1,10 +1,12 @@
-use Rattle.std.proofs.Common.{ℕ, List, ◌++◌, drop, sym, take}
+use Rattle.std.proofs.Common.{arith, ℕ, List, drop, inl, inr, sym, take}
 use Rattle.std.proofs.lemmas.List.{take-append-drop}
 use Rattle.codec.specs.Decoding.{bytes_at}
 use Rattle.codec.specs.Grammar.{Lacks}
-use Rattle.messages.specs.declared.head.BadHead.TheVariants.{Lines, Refused}
-use Rattle.messages.specs.Heads.{IsNoHead, heads, texts}
-use Rattle.messages.specs.HeadsLaws.{open_texts}
+use Rattle.messages.specs.Faults.{IsFault}
+use Rattle.messages.specs.Heads.{heads}
+use Rattle.messages.specs.HeadsLaws.{open_texts, text_few}
+use Rattle.messages.specs.Lines.{texts}
+use Rattle.messages.specs.Versions.{as_known}
 use Rattle.messages.proofs.head.HeadsDecoder.decode.Goals as goal
 
 -- what settles nothing of lines settles nothing of heads
@@ -12,28 +14,37 @@ lacks_head : (n : ℕ) (bytes : List ℕ) → Lacks texts n bytes → Lacks head
 lacks_head n bytes lacks more few = let still = lacks more few in record {
   no_piece = λ b. still.no_piece
       (record { piece = b.piece; payload = b.is.none; more = b.more; is = b.is.text; equal = b.equal });
-  not_wrong = λ e. elim e as (λ e. ¬ (IsNoHead (bytes ++ more) e)) [
-    | Lines why ↦ still.not_wrong why
-    | Refused ↦ λ refused. still.no_piece refused.0
+  not_wrong = λ e no. elim no as (λ _. ⊥) [
+    | inl wrong ↦ still.not_wrong wrong.0 wrong.1
+    | inr refused ↦ still.no_piece refused.0
   ];
 }
 
-pub returns-in-None-clause-finds : goal.returns-in-None-clause-finds
-returns-in-None-clause-finds c = (
-  record {
-    piece = take c.in-Piece.used c.args.bytes.now;
-    payload = bytes_at c.in-Piece.field-0 c.args.bytes.now;
-    more = drop c.in-Piece.used c.args.bytes.now;
-    is = c.in-Piece.ensures.finds.is;
-    equal = sym (take-append-drop c.in-Piece.used c.args.bytes.now);
-  },
-  c.in-None.ensures.none,
-)
+pub returns-in-Err-clause-finds : goal.returns-in-Err-clause-finds
+returns-in-Err-clause-finds c =
+    let piece = take c.in-Piece.used c.args.bytes.now in
+    let is = c.in-Piece.ensures.finds.is in inr (
+      record {
+        piece = piece;
+        payload = bytes_at c.in-Piece.field-0 c.args.bytes.now;
+        more = drop c.in-Piece.used c.args.bytes.now;
+        is = is;
+        equal = sym (take-append-drop c.in-Piece.used c.args.bytes.now);
+      },
+      c.in-Err.ensures.none,
+      elim c.in-Err.ensures.fault as (λ _. IsFault (as_known piece) c.in-Err.e) [
+        | inl long ↦ absurd (omega (arith, long.0, text_few piece _ is))
+        | inr why ↦ why
+      ],
+    )
 
 pub returns-in-More-clause-finds : goal.returns-in-More-clause-finds
 returns-in-More-clause-finds c =
     let wants = c.in-More.ensures.finds in
     (wants.0, wants.1, lacks_head c.in-More.need c.args.bytes.now wants.2)
+
+pub returns-in-Wrong-clause-finds : goal.returns-in-Wrong-clause-finds
+returns-in-Wrong-clause-finds c = inl (c.in-Wrong.field-0, c.in-Wrong.ensures.finds, c.line_fault.ensures)
 
 pub decode-requires-clause-open : goal.decode-requires-clause-open
 decode-requires-clause-open c = open_texts (take c.args.seen c.args.bytes.now) c.requires.open

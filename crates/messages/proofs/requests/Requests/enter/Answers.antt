@@ -30,7 +30,7 @@ append-requires g c =
 pub returns : goal.returns
 returns g c =
     let t = c.self.inside.pieces in
-    let said = c.in-Some.said in
+    let said = c.in-Ok.said in
     let head = c.append.new.self.bytes in
     let apart = c.into_inner_with_buffer-inner.ensures.apart in
     let u : Unbuffered g.row.R.Denot = unbuffered c.with_buffer.result in
@@ -40,7 +40,7 @@ returns g c =
     let enters : Enters t (bytes_at c.args.span t.reader.block.bytes) (begun u head said) = record {
       head = lent ∙ c.lent-lent.ensures;
       stream = stands;
-      is = subst (λ l. IsHead l said) (sym lent) c.in-Some.ensures.some;
+      is = subst (λ l. IsHead l said) (sym lent) c.in-Ok.ensures.head;
       rest = refl;
     } in
     rw c.new.ensures (subst (λ x. Enters x (bytes_at c.args.span x.reader.block.bytes) (begun u head said)) c.self.view_is enters)

@@ -1,4 +1,4 @@
-use Rattle.std.proofs.Common.{subst}
+use Rattle.std.proofs.Common.{◌≡◌, false, inl, inr, subst}
 use Rattle.messages.specs.Messages.{Begun}
 use Rattle.messages.specs.MessagesLaws.{Enters-begun, lent}
 use Rattle.messages.proofs.requests.Requests.next.Goals as goal
@@ -16,3 +16,9 @@ returns-in-Ok-Some-clause-next g c =
     let next = rw c.in-Ok-Some.field-0-is at c.in-Ok-Some.ensures.next in
     subst (λ x. Begun g.R.TellRead.remaining x c.enter.result) c.self.view_is
     (Enters-begun g.R.TellRead.remaining c.self.inside.pieces c.step.new.self _ c.enter.result next c.enter.ensures)
+
+pub invariant_of-self : goal.invariant_of-self
+invariant_of-self g c =
+    let next = rw c.in-Ok-Some.field-0-is at c.in-Ok-Some.ensures.next in
+    let told : c.step.new.self.ended ≡ false = elim next.answers.1 [ inl is ↦ is.1 | inr last ↦ absurd last.0 ] in
+    (c.self.invariant.0, told)

@@ -1,4 +1,7 @@
-use Rattle.std.proofs.Common.{subst}
+use Rattle.std.proofs.Common.{ap, subst}
+use Rattle.codec.specs.Grammar.{Begins}
+use Rattle.codec.specs.PieceReader.{rest}
+use Rattle.messages.specs.Heads.{heads}
 use Rattle.messages.specs.Messages.{Begun}
 use Rattle.messages.specs.MessagesLaws.{Enters-begun, lent}
 use Rattle.messages.proofs.requests.Requests.next_buffered.Goals as goal
@@ -14,3 +17,7 @@ returns-in-Some-clause-begun g c =
     subst (λ x. Begun g.R.TellRead.remaining x c.enter.result) c.self.view_is
     (Enters-begun g.R.TellRead.remaining c.self.inside.pieces c.step_buffered.new.self _ c.enter.result
     c.in-Some.ensures.next.0 c.enter.ensures)
+
+pub returns-in-None-clause-none : goal.returns-in-None-clause-none
+returns-in-None-clause-none g c = λ begins.
+    c.in-None.ensures.next.1 (subst (Begins heads) (ap rest c.in-None.ensures.next.0.same) begins)

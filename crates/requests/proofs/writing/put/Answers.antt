@@ -1,6 +1,6 @@
 use Rattle.requests.proofs.Sending.{Puts-parts}
 use Rattle.buffer_redux.specs.WritePartsLaws.{WritesParts-unflushed}
-use Rattle.requests.proofs.put.Goals as goal
+use Rattle.requests.proofs.writing.put.Goals as goal
 
 pub returns-clause-puts : goal.returns-clause-puts
 returns-clause-puts g c =

@@ -1,7 +1,7 @@
 use Rattle.std.proofs.Common.{◌≡◌, ◌&&◌, true, sym, ap, subst, ◌∙◌}
 use Rattle.requests.specs.Answers.{called, has_body, waits}
 use Rattle.requests.specs.Sending.{Puts}
-use Rattle.requests.proofs.call_for_body.Goals as goal
+use Rattle.requests.proofs.writing.call_for_body.Goals as goal
 
 pub returns-then-has_body-clause-puts : goal.returns-then-has_body-clause-puts
 returns-then-has_body-clause-puts g c =

@@ -1,7 +1,7 @@
 use Rattle.std.proofs.Common.{[], ◌++◌, if◌then◌else◌, sym, subst}
 use Rattle.requests.specs.Answers.{length_line, success}
 use Rattle.requests.specs.Sending.{Puts}
-use Rattle.requests.proofs.accept.Goals as goal
+use Rattle.requests.proofs.writing.accept.Goals as goal
 
 pub returns-then-said-clause-puts : goal.returns-then-said-clause-puts
 returns-then-said-clause-puts g c =

@@ -1,0 +1,44 @@
+use Rattle.std.proofs.Common.{◌≡◌, ◌∙◌, inl, length, take, drop, ap, subst, arith, rules}
+use Rattle.std.proofs.lemmas.List.{length-drop, length-map, length-take-le, nil_from_length}
+use Rattle.http1.specs.Fields.{known_fields}
+use Rattle.http1.specs.Framing.{method_kind}
+use Rattle.http1.specs.Message.{known_of}
+use Rattle.httparse.specs.Grammar.{ReadsRequest}
+use Rattle.httparse.specs.Spans.{header_bytes, name_and_value}
+use Rattle.messages.specs.Faults.{said_fault}
+use Rattle.messages.proofs.faults.fault.Goals as goal
+
+pub returns : goal.returns
+returns c =
+    let bytes = c.args.head.now in
+    let spans = c.in-Ok-Complete.spans in
+    let headers = c.parse_request.new.headers in
+    let found = rw c.in-Ok-Complete.field-0-is at c.in-Ok-Complete.ensures.complete in
+    let within = rw c.in-Ok-Complete.field-0-is at c.in-Ok-Complete.ensures.within in
+    let room : length headers ≡ 64 = search rules in
+    let h = found.0 in
+    let known = c.from_spans-known.result in
+    let fields : known ≡ known_of h.fields = c.from_spans-known.ensures ∙ ap known_fields found.1.fields in
+    let minor : spans.version ≡ h.minor = found.1.version in
+    let kind : c.of-method.result ≡ method_kind h.method =
+    c.of-method.ensures ∙ ap method_kind (c.of-name.ensures ∙ found.1.method) in
+    inl (
+      h,
+      (
+        subst (ReadsRequest bytes h)
+            (nil_from_length (drop spans.len bytes) (omega (arith, c.if-spans-head.false, length-drop spans.len bytes)))
+            found.1.reads,
+        omega (
+          arith,
+          room,
+          within.section.count_fits,
+          ap length found.1.fields,
+          length-map (take spans.headers headers) (header_bytes bytes),
+          length-map h.fields name_and_value,
+          length-take-le spans.headers headers within.section.count_fits,
+        ),
+      ),
+      c.said_fault.ensures ∙ ap (λ k. said_fault k spans.version known) kind
+          ∙ ap (λ n. said_fault (method_kind h.method) n known) minor
+          ∙ ap (said_fault (method_kind h.method) h.minor) fields,
+    )

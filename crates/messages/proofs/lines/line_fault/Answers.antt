@@ -1,0 +1,8 @@
+use Rattle.std.proofs.Common.{◌∙◌, ap}
+use Rattle.std.proofs.lemmas.List.{take_min}
+use Rattle.messages.specs.declared.lines.Before.TheVariants.{Start}
+use Rattle.messages.specs.Lines.{fault_on}
+use Rattle.messages.proofs.lines.line_fault.Goals as goal
+
+pub returns : goal.returns
+returns c = rw c.min.ensures at c.text_fault.ensures ∙ ap (fault_on Start) (take_min 16384 c.args.bytes.now)

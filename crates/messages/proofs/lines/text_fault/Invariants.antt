@@ -1,0 +1,8 @@
+use Rattle.std.proofs.Common.{◌≡◌, drop}
+use Rattle.messages.specs.declared.lines.Before.TheVariants.{Start}
+use Rattle.messages.specs.Lines.{fault_on}
+use Rattle.messages.proofs.lines.text_fault.Given as goal
+
+-- what is wrong is so from here on
+abbrev pub invariant-loop-byte : goal.invariant-loop-byte
+invariant-loop-byte l = fault_on Start l.text ≡ fault_on l.place (drop l.byte-index l.text)

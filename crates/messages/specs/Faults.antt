@@ -1,0 +1,56 @@
+-- Why a text whose lines end as those of a head is none.
+use Rattle.std.specs.Prelude.{◌≡◌, ◌⊎◌, ℕ, ◌≤◌, ◌==◌, ◌&&◌, nat_lt, if◌then◌else◌, Bool, true, false, List, [], count_by, length, Result, Ok, Err}
+use Rattle.http1.specs.declared.fields.KnownFields.{KnownFields}
+use Rattle.http1.specs.declared.framing.Framing.{Framing}
+use Rattle.http1.specs.declared.framing.Framing.TheVariants.{NoBody, Length, Chunked, UntilClose}
+use Rattle.http1.specs.declared.framing.FramingError.{FramingError}
+use Rattle.http1.specs.declared.framing.MethodKind.{MethodKind}
+use Rattle.http1.specs.declared.framing.MethodKind.TheVariants.{Head, Connect, Other}
+use Rattle.http1.specs.Framing.{method_kind, request_framing}
+use Rattle.http1.specs.Message.{known_of}
+use Rattle.httparse.specs.Grammar.{ReadsRequest, RequestHead}
+use Rattle.messages.specs.Versions.{behind_blank, first_line, has_other_version}
+use Rattle.messages.specs.declared.bad_head.BadHead.{BadHead}
+use Rattle.messages.specs.declared.bad_head.BadHead.TheVariants.{ManyFields, Version, Tunnel, Coding, Refused}
+
+-- between the first line and the empty one that ends a head stand more than 64
+abbrev pub has_many_lines : List ℕ → Bool
+has_many_lines text = nat_lt 66 (count_by (λ b. b == 10) text)
+
+-- what is wrong with a text that is no head of a request with so few fields
+abbrev pub lines_fault : List ℕ → BadHead
+lines_fault text =
+    if has_many_lines text then ManyFields else (if has_other_version (first_line text) then Version else Refused)
+
+abbrev pub text_fault : List ℕ → BadHead
+text_fault bytes = lines_fault (behind_blank bytes)
+
+abbrev pub is_connect : MethodKind → Bool
+is_connect Connect = true
+is_connect Head = false
+is_connect Other = false
+
+abbrev pub ends_chunked : Result Framing FramingError → Bool
+ends_chunked (Ok Chunked) = true
+ends_chunked (Ok NoBody) = false
+ends_chunked (Ok (Length len)) = false
+ends_chunked (Ok UntilClose) = false
+ends_chunked (Err e) = false
+
+-- what is wrong with a head that says so: behind it begins a tunnel; or its body ends plainly, by chunks, which hold another coding
+abbrev pub said_fault : MethodKind → ℕ → KnownFields → BadHead
+said_fault method minor known =
+    if is_connect method then Tunnel
+    else (if known.other_coding && ends_chunked (request_framing method minor known) then Coding else Refused)
+
+abbrev pub head_fault : RequestHead → BadHead
+head_fault h = said_fault (method_kind h.method) h.minor (known_of h.fields)
+
+-- these bytes are just this head of a request, which has few fields
+abbrev pub IsFew : List ℕ → RequestHead → Type 0
+IsFew bytes h = ReadsRequest bytes h [] × (length h.fields ≤ 64)
+
+-- if they are none that counts here, this says why: by the head that they are, and else by what they are
+abbrev pub IsFault : List ℕ → BadHead → Type 0
+IsFault bytes e = ((h : RequestHead) × IsFew bytes h × (e ≡ head_fault h))
+    ⊎ (((h : RequestHead) → ¬ (IsFew bytes h)) × (e ≡ text_fault bytes))

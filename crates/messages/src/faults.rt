@@ -1,0 +1,75 @@
+//! Why a text whose lines end as those of a head is none.
+ghost use Rattle.std.specs.Prelude.{◌≡◌};
+ghost use Rattle.messages.specs.Faults.{IsFault, ends_chunked, has_many_lines, lines_fault, said_fault, text_fault};
+
+use crate::bad_head::BadHead;
+use crate::head::MAX_FIELDS;
+use crate::version::{blank_len, first_len, has_other_version};
+use http1::fields::KnownFields;
+use http1::framing::{Framing, FramingError, MethodKind, request_framing};
+use httparse::Status;
+use httparse::spans::{EMPTY_HEADER_SPAN, parse_request};
+
+/// If these bytes are no head that counts here, this is why. The first line is read once more for it.
+pub(crate) fn fault(head: &[u8]) -> BadHead
+    ensures { IsFault head.now result }
+{
+    let mut fields = [EMPTY_HEADER_SPAN; MAX_FIELDS];
+    let Ok(Status::Complete(spans)) = parse_request(head, &mut fields) else {
+        return text_fault(head);
+    };
+    if spans.len < head.len() {
+        return text_fault(head);
+    }
+    let known = KnownFields::from_spans(head, &fields[..spans.headers]);
+    let name = spans.method.of(head);
+    let method = MethodKind::of(name);
+    said_fault(method, spans.version, &known)
+}
+
+fn said_fault(method: MethodKind, minor: u8, known: &KnownFields) -> BadHead
+    ensures { result ≡ said_fault method minor known.now }
+{
+    if matches!(method, MethodKind::Connect) {
+        return BadHead::Tunnel;
+    }
+    if known.other_coding && ends_chunked(request_framing(method, minor, known)) {
+        BadHead::Coding
+    } else {
+        BadHead::Refused
+    }
+}
+
+fn ends_chunked(framing: Result<Framing, FramingError>) -> bool
+    ensures { result ≡ ends_chunked framing }
+{
+    match framing {
+        Ok(Framing::Chunked) => true,
+        Ok(Framing::NoBody | Framing::Length(_) | Framing::UntilClose) | Err(_) => false,
+    }
+}
+
+fn text_fault(bytes: &[u8]) -> BadHead
+    ensures { result ≡ text_fault bytes.now }
+{
+    lines_fault(&bytes[blank_len(bytes)..])
+}
+
+fn lines_fault(text: &[u8]) -> BadHead
+    ensures { result ≡ lines_fault text.now }
+{
+    if has_many_lines(text) {
+        return BadHead::ManyFields;
+    }
+    if has_other_version(&text[..first_len(text)]) {
+        BadHead::Version
+    } else {
+        BadHead::Refused
+    }
+}
+
+fn has_many_lines(text: &[u8]) -> bool
+    ensures { result ≡ has_many_lines text.now }
+{
+    text.iter().filter(|b| **b == b'\n').count() > MAX_FIELDS + 2
+}

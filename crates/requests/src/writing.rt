@@ -1,0 +1,210 @@
+//! What is written: answers, refusals and calls for bodies.
+ghost use Rattle.std.specs.Prelude.{◌≡◌, ◌≤◌, if◌then◌else◌, [], ◌++◌, codes, length, map};
+ghost use Rattle.std.specs.List.{concat, prefix_len};
+ghost use Rattle.requests.specs.Sending.{IsUnflushed, Puts};
+ghost use Rattle.requests.specs.Answers.{accepted, answered, begins_known, begins_often, called, declined, has_body, is_end, is_known, length_line, refusal, refusal_of, waits};
+
+use buffer_redux::BufWriter;
+use buffer_redux::tell::{Tell, TellWrite};
+use messages::{BadHead, Extent, ParsedHead};
+use std::io;
+use std::io::Write;
+
+// Why what comes is refused, by a status each.
+#[derive(Clone, Copy, Drop)]
+pub(crate) enum Refusal {
+    // 400.
+    BadRequest,
+    // 414.
+    LongTarget,
+    // 431.
+    LargeHead,
+    // 501.
+    Unknown,
+    // 505.
+    OtherVersion,
+}
+
+pub(crate) fn blank_len(left: &[u8]) -> usize
+    ensures value { result ≡ prefix_len is_end left.now }
+    ensures within { result ≤ length left.now }
+{
+    left.iter()
+        .take_while(|b| **b == b'\r' || **b == b'\n')
+        .count()
+}
+
+// Whether the method of a head is known.
+pub(crate) fn is_known(head: &[u8]) -> bool
+    ensures { result ≡ is_known head.now }
+{
+    begins_known(&head[blank_len(head)..])
+}
+
+fn begins_known(line: &[u8]) -> bool
+    ensures { result ≡ begins_known line.now }
+{
+    begins_often(line)
+        || (line.starts_with(b"DELETE ")
+            || (line.starts_with(b"OPTIONS ")
+                || (line.starts_with(b"TRACE ") || line.starts_with(b"PATCH "))))
+}
+
+fn begins_often(line: &[u8]) -> bool
+    ensures { result ≡ begins_often line.now }
+{
+    line.starts_with(b"GET ")
+        || (line.starts_with(b"HEAD ") || (line.starts_with(b"POST ") || line.starts_with(b"PUT ")))
+}
+
+// Answers a request that came whole.
+pub(crate) fn answer_whole<W: TellWrite>(
+    known: bool,
+    len: u64,
+    said: ParsedHead,
+    writer: &mut BufWriter<W>,
+) -> io::Result<()>
+    ensures puts { Puts W.log W.trace writer.old (answered known said len) result writer.new }
+    ensures unflushed { IsUnflushed writer.old writer.new }
+{
+    if known {
+        accept(len, said, writer)
+    } else {
+        decline(said.keeps, writer)
+    }
+}
+
+fn decline<W: TellWrite>(keeps: bool, writer: &mut BufWriter<W>) -> io::Result<()>
+    ensures puts { Puts W.log W.trace writer.old (declined keeps) result writer.new }
+    ensures unflushed { IsUnflushed writer.old writer.new }
+{
+    if keeps {
+        put(
+            writer,
+            &[
+                b"HTTP/1.1 501 Not Implemented\r\nContent-Length: 0\r\nConnection: keep-alive\r\n\r\n",
+            ],
+        )
+    } else {
+        refuse(Refusal::Unknown, writer)
+    }
+}
+
+// Says how many bytes of payload there were, and whether another request may follow.
+fn accept<W: TellWrite>(len: u64, said: ParsedHead, writer: &mut BufWriter<W>) -> io::Result<()>
+    ensures puts { Puts W.log W.trace writer.old (accepted said len) result writer.new }
+    ensures unflushed { IsUnflushed writer.old writer.new }
+{
+    if said.keeps {
+        let head = b"HTTP/1.1 200 OK\r\nContent-Length: 21\r\nConnection: keep-alive\r\n\r\n";
+        accept_by(head, len, said.bare, writer)
+    } else {
+        let head = b"HTTP/1.1 200 OK\r\nContent-Length: 21\r\nConnection: close\r\n\r\n";
+        accept_by(head, len, said.bare, writer)
+    }
+}
+
+fn accept_by<W: TellWrite>(
+    head: &[u8],
+    len: u64,
+    bare: bool,
+    writer: &mut BufWriter<W>,
+) -> io::Result<()>
+    ensures puts { Puts W.log W.trace writer.old (head.now ++ (if bare then [] else length_line len)) result writer.new }
+    ensures unflushed { IsUnflushed writer.old writer.new }
+{
+    if bare {
+        return put(writer, &[head]);
+    }
+    let mut digits = itoa::Buffer::new();
+    let number = digits.format(len).as_bytes();
+    let blanks: &[u8] = b"                    ";
+    put_line(head, &blanks[number.len()..], number, writer)
+}
+
+fn put_line<'a, W: TellWrite>(
+    head: &'a [u8],
+    blanks: &'a [u8],
+    number: &'a [u8],
+    writer: &mut BufWriter<W>,
+) -> io::Result<()>
+    ensures puts { Puts W.log W.trace writer.old (head.now ++ (blanks.now ++ (number.now ++ codes "\n"))) result
+        writer.new }
+    ensures unflushed { IsUnflushed writer.old writer.new }
+{
+    put(writer, &[head, blanks, number, b"\n"])
+}
+
+pub(crate) fn call_for_body<W: TellWrite>(
+    said: ParsedHead,
+    writer: &mut BufWriter<W>,
+) -> io::Result<()>
+    ensures puts { Puts W.log W.trace writer.old (called (waits said)) result writer.new }
+    ensures unflushed { IsUnflushed writer.old writer.new }
+{
+    if said.expects && has_body(said.extent) {
+        put(writer, &[b"HTTP/1.1 100 Continue\r\n\r\n"])
+    } else {
+        Ok(())
+    }
+}
+
+fn has_body(extent: Extent) -> bool
+    ensures { result ≡ has_body extent }
+{
+    match extent {
+        Extent::Sized(len) => len > 0,
+        Extent::Chunked => true,
+    }
+}
+
+pub(crate) fn refusal_of(why: BadHead) -> Refusal
+    ensures { result ≡ refusal_of why }
+{
+    match why {
+        BadHead::BareEnd | BadHead::CutShort(_) | BadHead::Refused => Refusal::BadRequest,
+        BadHead::LongLine => Refusal::LongTarget,
+        BadHead::LongHead | BadHead::ManyFields => Refusal::LargeHead,
+        BadHead::Tunnel | BadHead::Coding => Refusal::Unknown,
+        BadHead::Version => Refusal::OtherVersion,
+    }
+}
+
+pub(crate) fn refuse<W: TellWrite>(why: Refusal, writer: &mut BufWriter<W>) -> io::Result<()>
+    ensures puts { Puts W.log W.trace writer.old (refusal why) result writer.new }
+    ensures unflushed { IsUnflushed writer.old writer.new }
+{
+    match why {
+        Refusal::BadRequest => put(
+            writer,
+            &[b"HTTP/1.1 400 Bad Request\r\nContent-Length: 0\r\nConnection: close\r\n\r\n"],
+        ),
+        Refusal::LongTarget => put(
+            writer,
+            &[b"HTTP/1.1 414 URI Too Long\r\nContent-Length: 0\r\nConnection: close\r\n\r\n"],
+        ),
+        Refusal::LargeHead => put(
+            writer,
+            &[
+                b"HTTP/1.1 431 Request Header Fields Too Large\r\nContent-Length: 0\r\nConnection: close\r\n\r\n",
+            ],
+        ),
+        Refusal::Unknown => put(
+            writer,
+            &[b"HTTP/1.1 501 Not Implemented\r\nContent-Length: 0\r\nConnection: close\r\n\r\n"],
+        ),
+        Refusal::OtherVersion => put(
+            writer,
+            &[
+                b"HTTP/1.1 505 HTTP Version Not Supported\r\nContent-Length: 0\r\nConnection: close\r\n\r\n",
+            ],
+        ),
+    }
+}
+
+fn put<W: TellWrite>(writer: &mut BufWriter<W>, parts: &[&[u8]]) -> io::Result<()>
+    ensures puts { Puts W.log W.trace writer.old (concat (map (λ part. part.now) parts.now)) result writer.new }
+    ensures unflushed { IsUnflushed writer.old writer.new }
+{
+    writer.write_parts(parts)
+}
