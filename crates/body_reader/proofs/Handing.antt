@@ -7,10 +7,11 @@ use Rattle.buffer_redux.specs.BufReader.{ReaderConsumes, ReaderKeeps, ReadsAlong
 use Rattle.buffer_redux.specs.Policy.{ReadRules}
 use Rattle.buffer_redux.specs.ReaderLaws.{ReaderKeeps-along}
 use Rattle.buffer_redux.specs.StreamLog.{after_read, zero_of_none, zero_of_some}
+use Rattle.body_reader.specs.declared.coding.Look.{Look}
 use Rattle.body_reader.specs.declared.error.BodyError.{BodyError}
 use Rattle.body_reader.specs.declared.error.BodyError.TheVariants.{Truncated, Io}
 use Rattle.body_reader.specs.declared.progress.Progress.{Progress}
-use Rattle.body_reader.specs.Between.{AsksOpen, FillsOn, Proceeds, HandsOn, KeepsBuffer, SkipsOn, Takes, TakesFront, handed_out}
+use Rattle.body_reader.specs.Between.{AsksOpen, FillsOn, PassesOn, Proceeds, HandsOn, KeepsBuffer, SkipsOn, Takes, TakesFront, handed_out}
 use Rattle.body_reader.specs.BetweenLaws.{AsksOpen-then, EachGave-none, EachGave-same, Proceeds-after, Takes-none}
 use Rattle.body_reader.specs.Coding.{Carries, Grammar, IsDone, IsKnown, IsLawful, IsOpen, Leads, heeded}
 use Rattle.body_reader.specs.CodingLaws.{open_at}
@@ -263,6 +264,21 @@ module _ {S Q P W : Type 0} (remaining : S → Option (List ℕ)) (rules : ReadR
     hands_failed e M goes = (
       Proceeds-err remaining rules g s p [] e M
           (λ n. (n ≤ length out) × (n ≡ 0 → 0 < length out → IsDone g q.place)) m q goes,
+      never,
+    )
+
+    -- or none was to be passed further
+    pub hands_passed : (l : Look P W) → PassesOn remaining rules g s p l m q → (answer : Result ℕ (BodyError W))
+        → (t : Buffered S Q) (r : Progress P) → HandsOn remaining rules g m q out answer t r
+        → HandsOn remaining rules g s p out answer t r
+    hands_passed l passes answer t r hands = (
+      Proceeds-after remaining rules g s p m q t passes.wire passes.takes (EachGave-same s m passes.told) (inl passes.told)
+          (handed_out out answer) answer (λ n. (n ≤ length out) × (n ≡ 0 → 0 < length out → IsDone g r.place)) r hands.0
+          (λ done. (
+          let first = passes.idle done in
+          let then = hands.0.idle (subst (λ x. IsDone g x.place) (sym first.1) done) in
+          (then.0 ∙ first.0, then.1 ∙ first.1)
+          )),
       never,
     )
 

@@ -164,7 +164,35 @@ pub fn read_past<R: TellRead, P: ReaderPolicy, C: Coding>(
 }
 
 /// Hands out payload behind what is none.
+#[inline(always)]
 pub fn read_new<R: TellRead, P: ReaderPolicy, C: Coding>(
+    reader: &mut BufReader<R, P>,
+    coding: &C,
+    progress: &mut Progress<C::Place>,
+    known: &mut usize,
+    out: &mut [u8],
+) -> Result<usize, BodyError<C::Wrong>>
+    requires place { (C.grammar coding.now).is_place progress.old.place }
+    requires room { (C.grammar coding.now).ahead ≤ reader.old.block.capacity }
+    requires none { known.old ≡ 0 }
+    requires some { 0 < length out.old }
+    ensures hands { HandsOn R.remaining P.rules (C.grammar coding.now) reader.old progress.old out.new result reader.new
+        progress.new }
+    ensures known { IsKnown (C.grammar coding.now) progress.new.place known.new reader.new.block.bytes }
+{
+    if let Look::Payload(sure) = pass(reader, coding, progress) {
+        let held = reader.buf_len();
+        if held > 0 {
+            *known = sure.min(held as u64) as usize;
+            return Ok(hand_out(reader, coding, progress, known, out));
+        }
+    }
+    read_slowly(reader, coding, progress, known, out)
+}
+
+// The same, where the stream may have to be asked. A call of its own, so that what it answers is cleared there alone.
+#[inline(never)]
+fn read_slowly<R: TellRead, P: ReaderPolicy, C: Coding>(
     reader: &mut BufReader<R, P>,
     coding: &C,
     progress: &mut Progress<C::Place>,
