@@ -6,5 +6,7 @@ pub mod Nullable
 pub mod NullableLaws
 pub mod Resp
 pub mod RespLaws
+pub mod Strings
+pub mod StringsLaws
 pub mod TextWords
 pub mod TextWordsLaws

@@ -4,6 +4,7 @@
 #![tactic(auto)]
 
 mod bulk_strings;
+pub mod laws;
 mod lengths;
 mod lengths_writer;
 mod netstrings;
