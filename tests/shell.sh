@@ -521,6 +521,11 @@ run_resp_server() {
         holds "$name as read $at fails" "$scratch/want"
         reads="$reads 512"
     done
+    # An input that ends within a request, or within a part of one, is told.
+    cut='the input ends within a request'
+    answers '' '*2\r\n$3\r\nGET\r\n' '512*' '' '' 5 '2 0' "$cut"
+    answers '' 'PING\r\n*1\r\n$4\r\nPI' '512*' '' '+PONG\r\n' 5 '2 1' "$cut"
+    answers '' 'PING\r\nPIN' '512*' '' '+PONG\r\n' 5 '2 1' "$cut"
 }
 
 # Its errors are told by the system's own words; a stream that doesn't wait is refused by such a line too.

@@ -40,16 +40,14 @@ module _ {S D W I A T P : Type 0} (remaining : S → Option (List ℕ)) (tells :
   -- the piece was answered
   pub took_piece : (b more : Bool) → b ≡ more → Answered tells trace (Answers s.service said.0 shown) ready (Ok b) after last
       → (x : Exchange) × TookPiece remaining tells trace g item_of Answers s x more (server t after last)
-  took_piece b more same (reply, a, along, unflushed, met) = (
+  took_piece b more same (reply, a, written) = (
     exchange reply,
     record {
       ready = ready;
       fetched = fetched;
       all = refl;
       answers = answers reply more (subst (λ m. Answers s.service said.0 shown reply m after) same a);
-      along = along;
-      unflushed = unflushed;
-      met = met;
+      written = written;
     },
   )
 
@@ -57,15 +55,13 @@ module _ {S D W I A T P : Type 0} (remaining : S → Option (List ℕ)) (tells :
   pub answer_failed : (e : Error) → Answered tells trace (Answers s.service said.0 shown) ready (Err e) after last
       → FlushFailed remaining tells trace g item_of Answers s e (server t after last)
       ⊎ ((x : Exchange) × AnswerFailed remaining tells trace g item_of Answers s x e (server t after last))
-  answer_failed e (reply, more, a, nothing, refused, unflushed) = inr (
+  answer_failed e (reply, more, a, written) = inr (
     exchange reply,
     record {
       ready = ready;
       fetched = fetched;
       all = refl;
       answers = (more, answers reply more a);
-      nothing = nothing;
-      refused = refused;
-      unflushed = unflushed;
+      written = written;
     },
   )

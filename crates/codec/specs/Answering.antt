@@ -1,20 +1,25 @@
 -- What an answer to a piece does.
-use Rattle.std.specs.Prelude.{◌≡◌, ℕ, List, [], length, Bool, Result, Ok, Err}
+use Rattle.std.specs.Prelude.{◌≡◌, ◌⊎◌, ℕ, List, [], Bool, Result, Ok, Err, MatchResult}
 use Rattle.std.specs.declared.io.Error.{Error}
 use Rattle.buffer_redux.specs.Buffered.{Buffered}
-use Rattle.buffer_redux.specs.BufWriter.{WritesAlong}
-use Rattle.buffer_redux.specs.Faults.{MetInterrupts}
-use Rattle.buffer_redux.specs.Policy.{std_write_rules}
 use Rattle.buffer_redux.specs.StreamLog.{StreamLog}
-use Rattle.buffer_redux.specs.WriteParts.{PartsRefused}
+use Rattle.buffer_redux.specs.WriteParts.{WritesParts}
 
--- at Ok such an answer was taken in, it says whether a further piece is taken, and nothing went wrong but that writes were
--- interrupted; at Err there was one, of which nothing was taken in, since the writer refused it. Nothing is flushed
+-- these bytes were taken in by one write of parts; or there are none, and nothing was done
+abbrev pub WritesOnce : {T P : Type 0} → (T → StreamLog) → (T → T → Type 0) → Buffered T P → List ℕ → Buffered T P → Type 0
+WritesOnce tells trace w bytes v = WritesParts tells trace w bytes (Ok tt) v ⊎ ((bytes ≡ []) × (v ≡ w))
+
+-- at Ok such an answer was written, and it says whether a further piece is taken; at Err there was one, which one write of parts
+-- refused. Nothing else was done to the writer
 abbrev pub Answered : {A T P : Type 0} → (T → StreamLog) → (T → T → Type 0) → (List ℕ → Bool → A → Type 0) → Buffered T P
     → Result Bool Error → A → Buffered T P → Type 0
-Answered tells trace Answers w (Ok more) t v =
-    (reply : List ℕ) × Answers reply more t × WritesAlong tells trace std_write_rules w reply v
-    × (v.log.writes.flushes ≡ w.log.writes.flushes) × MetInterrupts w.log.writes v.log.writes
+Answered tells trace Answers w (Ok more) t v = (answer : List ℕ) × Answers answer more t × WritesOnce tells trace w answer v
 Answered tells trace Answers w (Err e) t v =
-    (reply : List ℕ) × (more : Bool) × Answers reply more t × WritesAlong tells trace std_write_rules w [] v
-    × PartsRefused (length reply) w e v × (v.log.writes.flushes ≡ w.log.writes.flushes)
+    (answer : List ℕ) × (more : Bool) × Answers answer more t × WritesParts tells trace w answer (Err e) v
+
+-- this answer, behind which a further piece is taken or none, was written by one write of parts, or refused
+abbrev pub AnswersBy : {T P : Type 0} → (T → StreamLog) → (T → T → Type 0) → List ℕ → Bool → Buffered T P → Result Bool Error
+    → Buffered T P → Type 0
+AnswersBy tells trace answer more w result v = MatchResult result
+    (λ further. (further ≡ more) × WritesParts tells trace w answer (Ok tt) v)
+    (λ e. WritesParts tells trace w answer (Err e) v)

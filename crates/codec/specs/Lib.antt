@@ -25,6 +25,7 @@ pub use Rattle.piece_reader.specs.Texts
 pub use Rattle.piece_reader.specs.Trimming
 pub use Rattle.piece_reader.specs.TrimmingLaws
 pub mod Answering
+pub mod AnsweringLaws
 pub mod CodecLaws
 pub mod DelimitedOut
 pub mod DelimitedOutLaws

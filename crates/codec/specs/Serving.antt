@@ -3,10 +3,9 @@ use Rattle.std.specs.Prelude.{◌≡◌, ℕ, ◌+◌, ◌^◌, ◌≤◌, ◌�
 use Rattle.std.specs.declared.io.Error.{Error}
 use Rattle.buffer_redux.specs.Buffered.{Buffered}
 use Rattle.buffer_redux.specs.BufWriter.{FlushedAlong, WasFlushed, WritesAlong}
-use Rattle.buffer_redux.specs.Faults.{MetInterrupts}
 use Rattle.buffer_redux.specs.Policy.{std_write_rules}
 use Rattle.buffer_redux.specs.StreamLog.{StreamLog}
-use Rattle.buffer_redux.specs.WriteParts.{PartsRefused}
+use Rattle.buffer_redux.specs.WriteParts.{WritesParts}
 use Rattle.piece_reader.specs.declared.error.NextError.TheVariants as next
 use Rattle.codec.specs.declared.serving.ServeError.{ServeError}
 use Rattle.codec.specs.declared.serving.ServeError.TheVariants.{Flush, Read, Write, Wrong}
@@ -14,6 +13,7 @@ use Rattle.codec.specs.declared.serving.Served.{Served}
 use Rattle.codec.specs.declared.serving.Served.TheVariants as served
 use Rattle.codec.specs.declared.serving.Step.{Step}
 use Rattle.codec.specs.declared.serving.Step.TheVariants as step
+use Rattle.codec.specs.Answering.{WritesOnce}
 use Rattle.codec.specs.Fetching.{FlushedFirst}
 use Rattle.piece_reader.specs.Grammar.{Grammar}
 use Rattle.piece_reader.specs.NextPiece.{NextAnswer, NextPiece, PiecesWent}
@@ -55,15 +55,13 @@ module _ {S D W I A T P : Type 0} (remaining : S → Option (List ℕ)) (tells :
     pub next : NextPiece remaining g s.pieces answer t
     pub first : FlushedFirst tells trace g s.pieces s.answers {A = Unit {0}} (Ok tt) t ready
 
-  -- just this piece was taken, and answered, without a flush
+  -- just this piece was taken, and its answer was written, by one write of parts
   pub record TookPiece (s : Server S D A T P) (x : Exchange) (more : Bool) (t : Server S D A T P) : Type 0 where
     pub ready : Buffered T P
     pub fetched : Fetched s (Ok (Some x.payload)) ready t.pieces
     pub all : fetched.next.bytes ≡ x.bytes
     pub answers : Answers s.service (item_of x.bytes) x.payload x.reply more t.service
-    pub along : WritesAlong tells trace std_write_rules ready x.reply t.answers
-    pub unflushed : t.answers.log.writes.flushes ≡ ready.log.writes.flushes
-    pub met : MetInterrupts ready.log.writes t.answers.log.writes
+    pub written : WritesOnce tells trace ready x.reply t.answers
 
   -- there was no piece, and nothing was answered
   pub record TookNone (s : Server S D A T P) (answer : NextAnswer W) (t : Server S D A T P) : Type 0 where
@@ -75,15 +73,13 @@ module _ {S D W I A T P : Type 0} (remaining : S → Option (List ℕ)) (tells :
     pub first : FlushedFirst tells trace g s.pieces s.answers {A = Unit {0}} (Err e) t.pieces t.answers
     pub service : t.service ≡ s.service
 
-  -- a piece was taken, and what it asks for was done, but nothing was written for it
+  -- a piece was taken, and what it asks for was done, but the one write of its answer was refused
   pub record AnswerFailed (s : Server S D A T P) (x : Exchange) (e : Error) (t : Server S D A T P) : Type 0 where
     pub ready : Buffered T P
     pub fetched : Fetched s (Ok (Some x.payload)) ready t.pieces
     pub all : fetched.next.bytes ≡ x.bytes
     pub answers : (more : Bool) × Answers s.service (item_of x.bytes) x.payload x.reply more t.service
-    pub nothing : WritesAlong tells trace std_write_rules ready [] t.answers
-    pub refused : PartsRefused (length x.reply) ready e t.answers
-    pub unflushed : t.answers.log.writes.flushes ≡ ready.log.writes.flushes
+    pub written : WritesParts tells trace ready x.reply (Err e) t.answers
 
   -- what one turn does
   abbrev pub Turns : Server S D A T P → Result Step (ServeError W) → Server S D A T P → Type 0

@@ -7,6 +7,7 @@ use Rattle.buffer_redux.specs.BufWriter.{WasFlushed, WritesAlong}
 use Rattle.buffer_redux.specs.Policy.{std_write_rules}
 use Rattle.buffer_redux.specs.StreamLog.{StreamLog}
 use Rattle.buffer_redux.specs.WritesAlongLaws.{FlushedAlong-of, WasFlushed-along, WritesAlong-joins, WritesAlong-none, WritesAlong-then}
+use Rattle.codec.specs.AnsweringLaws.{WritesOnce-along}
 use Rattle.codec.specs.Fetching.{FlushedFirst}
 use Rattle.piece_reader.specs.Grammar.{Grammar}
 use Rattle.piece_reader.specs.NextPiece.{PiecesWent}
@@ -72,7 +73,8 @@ module _ {S D W I A T P : Type 0} (remaining : S → Option (List ℕ)) (tells :
         WritesAlong-joins tells trace std_write_rules joins s.answers took.ready t.answers (joined (λ x. x.reply) earlier)
         x.reply (WritesAlong-then tells trace std_write_rules joins s.answers m.answers took.ready
         (joined (λ x. x.reply) earlier) (Talked-along joins earlier true m talked)
-        (first_along m.pieces m.answers t.pieces took.ready took.fetched.first)) took.along
+        (first_along m.pieces m.answers t.pieces took.ready took.fetched.first))
+        (WritesOnce-along tells trace took.ready t.answers none x.reply took.written)
 
     module _ (joins : (u v w : T) → trace u v → trace v w → trace u w) where
       still : (m t : Server S D A T P) → m ≡ t → PiecesWent remaining g.most m.pieces [] t.pieces × (t.service ≡ m.service)
@@ -137,7 +139,7 @@ module _ {S D W I A T P : Type 0} (remaining : S → Option (List ℕ)) (tells :
         failed.fetched.next.bytes,
         failed.fetched.next.went,
         WritesAlong-then tells trace std_write_rules joins m.answers failed.ready t.answers []
-            (first_along m.pieces m.answers t.pieces failed.ready failed.fetched.first) failed.nothing,
+            (first_along m.pieces m.answers t.pieces failed.ready failed.fetched.first) failed.written.along,
       )
       turn_failed m t (Flush ended e) turn = absurd turn
 

@@ -2,6 +2,7 @@
 //! a decoder, come from the crate `piece_reader`, of which this one hands on every name.
 #![tactic(auto)]
 
+mod answering;
 mod both;
 mod by_first;
 mod delimited_writer;
@@ -20,6 +21,7 @@ mod text_header;
 mod text_header_writer;
 mod writer;
 
+pub use answering::write_answer;
 pub use both::{Codec, written_text};
 pub use by_first::{ByFirst, EitherWrong};
 pub use delimited_writer::NotPlain;

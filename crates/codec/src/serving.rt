@@ -16,8 +16,9 @@ pub trait Service<D: Items> {
     // What a piece makes of it: what it says, its payload, what is written for it, and whether a further piece is taken.
     ghost answers: { Self → D.Item → List ℕ → List ℕ → Bool → Self → Type 0 };
 
-    /// Answers a piece, and says whether a further one is taken. It may write nothing, as to a part of a request, and flushes
-    /// nothing. An `Err` is the writer's: nothing of the answer was taken in then, and what the piece asked for is done.
+    /// Answers a piece, and says whether a further one is taken. It writes once, by one `write_parts` as
+    /// [`write_answer`](crate::write_answer) makes, or nothing, as to a part of a request, and sends and flushes nothing else. An
+    /// `Err` is the writer's: nothing of the answer was taken in then, and what the piece asked for is done.
     fn answer<W: TellWrite>(
         &mut self,
         item: D::Item,

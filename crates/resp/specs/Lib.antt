@@ -1,3 +1,4 @@
+pub mod Clients
 pub mod Commands
 pub mod Numbers
 pub mod Replies

@@ -1,5 +1,6 @@
 -- What a session does with a piece, and replies.
 use Rattle.std.specs.Prelude.{◌≡◌, ℕ, List, [], Bool, true, false, MatchBool, codes}
+use Rattle.std.specs.Global.{Global}
 use Rattle.decoders.specs.declared.resp.RespItem.{RespItem}
 use Rattle.resp.specs.Commands.{Acts, Means, goes_on}
 use Rattle.resp.specs.Stored.{Same, Values, held}
@@ -8,8 +9,9 @@ use Rattle.resp.specs.declared.command.Command.{Command}
 use Rattle.resp.specs.declared.request.Fed.{Fed}
 use Rattle.resp.specs.declared.request.Fed.TheVariants.{More, Whole, Bad}
 use Rattle.resp.specs.declared.request.Refusal.{Refusal}
-use Rattle.resp.specs.declared.session.Session.{Session}
 use Rattle.resp.specs.declared.request.Refusal.TheVariants.{Count, NoBulk, NoArray}
+use Rattle.resp.specs.declared.session.Session.{Session}
+use Rattle.resp.specs.declared.store.Store.{Store}
 
 -- what came of a request, and what the store holds
 pub record SessionState : Type 0 where
@@ -21,6 +23,10 @@ session waiting values = record { waiting = waiting; values = values }
 
 abbrev pub state_of : Session → SessionState
 state_of s = session s.request (held s.store)
+
+-- what answers, over this request and this store
+abbrev pub session_of : Global → Waiting → Store → Session
+session_of alloc request store = record { alloc = alloc; request = request; store = store }
 
 -- why a piece belongs to no request
 abbrev pub refusal_reply : Refusal → List ℕ
@@ -45,3 +51,7 @@ RepliesTo m old (Bad why) reply more t new = (reply ≡ refusal_reply why) × (m
 abbrev pub Replies : SessionState → RespItem → List ℕ → List ℕ → Bool → SessionState → Type 0
 Replies s item payload reply more t = (fed : Fed) × (between : Waiting) × Feeds s.waiting item payload fed between
     × RepliesTo between s.values fed reply more t.waiting t.values
+
+-- the same, of what answers
+abbrev pub RepliesBy : Session → RespItem → List ℕ → List ℕ → Bool → Session → Type 0
+RepliesBy s item payload reply more t = Replies (state_of s) item payload reply more (state_of t)

@@ -1,7 +1,7 @@
 //! A request, and the command that it is.
 ghost use Rattle.std.specs.Prelude.{◌≡◌, ◌↔◌, List, ℕ, IfErr, IfOk, IsTrue, MatchOption};
+ghost use Rattle.buffer_redux.specs.WriteParts.{WritesParts};
 ghost use Rattle.resp.specs.Commands.{Acts, Deletes, IsNoName, Means, MeansRest, Raises, RaisesNone, SameWord, goes_on, word_of};
-ghost use Rattle.resp.specs.Replies.{Replied};
 ghost use Rattle.resp.specs.Stored.{held};
 ghost use Rattle.resp.specs.Waiting.{bytes_of};
 
@@ -147,7 +147,7 @@ pub fn act<W: TellWrite>(
     writer: &mut BufWriter<W>,
 ) -> io::Result<()>
     ensures { (reply : List ℕ) × Acts (held store.old) command.entry reply (held store.new)
-        × Replied W.log W.trace writer.old reply result writer.new }
+        × WritesParts W.log W.trace writer.old reply result writer.new }
 {
     match command {
         Command::Ping => put(writer, b"+PONG\r\n"),

@@ -1,5 +1,5 @@
 //! A request, of which some parts may still be to come.
-ghost use Rattle.std.specs.Prelude.{◌≡◌, ◌<◌, ◌∷◌, ◌++◌, [], OnOk, OnErr};
+ghost use Rattle.std.specs.Prelude.{◌≡◌, ◌<◌, ◌↔◌, ◌∷◌, ◌++◌, [], IsTrue, OnOk, OnErr};
 ghost use Rattle.resp.specs.Waiting.{Begins, Feeds, Keeps, TakesPart, bytes_of, nothing};
 
 use decoders::RespItem;
@@ -71,6 +71,13 @@ impl Request {
         ensures { result ≡ self.now.lost }
     {
         self.lost
+    }
+
+    // Whether parts are to come.
+    pub(crate) fn is_begun(&self) -> bool
+        ensures { IsTrue result ↔ (0 < self.now.left) }
+    {
+        self.left > 0
     }
 
     /// The request was answered.

@@ -1,29 +1,23 @@
-//! A session: the store, and what came of a request.
-ghost use Rattle.std.specs.Prelude.{◌≡◌, IfOk, false, true};
+//! What answers the pieces of one client: what came of its request, and the store.
+ghost use Rattle.std.specs.Prelude.{◌≡◌};
 ghost use Rattle.codec.specs.Answering.{Answered};
-ghost use Rattle.resp.specs.Replies.{Replied};
-ghost use Rattle.resp.specs.Sessions.{RepliesWhole, refusal_reply, session, state_of};
+ghost use Rattle.resp.specs.Sessions.{RepliesWhole, refusal_reply, session, session_of};
 ghost use Rattle.resp.specs.Stored.{held};
-ghost use Rattle.resp.specs.Waiting.{nothing};
 
 use crate::command::{act, command_of, goes_on};
-use crate::reply::put;
 use crate::request::{Fed, Refusal, Request};
 use crate::store::Store;
 use buffer_redux::BufWriter;
 use buffer_redux::tell::TellWrite;
-use codec::Service;
+use codec::{Service, write_answer};
 use decoders::{Resp, RespItem};
 use std::alloc::Global;
 use std::io;
 
-/// The most bytes of a bulk string, and of a line.
-pub const MAX_PART: usize = 65536;
-
 /// What is replied to bytes that are no piece.
 pub static PROTOCOL_ERROR: &[u8] = b"-ERR Protocol error\r\n";
 
-/// What answers requests.
+/// What answers the pieces of one client.
 #[derive(Drop)]
 pub struct Session {
     alloc: Global,
@@ -32,23 +26,36 @@ pub struct Session {
 }
 
 impl Session {
-    /// One that has no request yet.
-    pub fn new(alloc: Global, store: Store) -> Session
-        ensures { state_of result ≡ session nothing (held store) }
+    /// What came of a request, and the store.
+    pub fn new(alloc: Global, request: Request, store: Store) -> Session
+        ensures { result ≡ session_of alloc request store }
     {
         Session {
             alloc,
-            request: Request::new(alloc),
+            request,
             store,
         }
+    }
+
+    /// Both as they are now.
+    pub fn into_parts(self) -> (Request, Store)
+        ensures request { result.0 ≡ self.request }
+        ensures store { result.1 ≡ self.store }
+    {
+        let Session {
+            alloc: _,
+            request,
+            store,
+        } = self;
+        (request, store)
     }
 }
 
 /// Each request that is whole gets one reply, and each piece that is of none an error, behind which no further is taken.
 impl Service<Resp> for Session {
-    ghost use Rattle.resp.specs.Sessions.{Replies, state_of};
+    ghost use Rattle.resp.specs.Sessions.{RepliesBy};
 
-    ghost answers = { λ s item payload reply more t. Replies (state_of s) item payload reply more (state_of t) };
+    ghost answers = { RepliesBy };
 
     fn answer<W: TellWrite>(
         &mut self,
@@ -59,7 +66,7 @@ impl Service<Resp> for Session {
         match self.request.take(self.alloc, item, payload) {
             Fed::More => Ok(true),
             Fed::Whole => answer_whole(self.alloc, &mut self.request, &mut self.store, writer),
-            Fed::Bad(refusal) => put_last(writer, refusal_text(refusal)),
+            Fed::Bad(refusal) => write_answer(writer, &[refusal_text(refusal)], false),
         }
     }
 }
@@ -76,7 +83,7 @@ fn answer_whole<W: TellWrite>(
 {
     if request.is_lost() {
         request.clear();
-        return put_on(writer, b"-ERR out of memory\r\n");
+        return write_answer(writer, &[b"-ERR out of memory\r\n"], true);
     }
     let command = command_of(request.parts());
     let done = act(alloc, command, store, writer);
@@ -84,28 +91,6 @@ fn answer_whole<W: TellWrite>(
     request.clear();
     match done {
         Ok(()) => Ok(more),
-        Err(e) => Err(e),
-    }
-}
-
-// Writes a reply, behind which a further request is taken.
-fn put_on<W: TellWrite>(writer: &mut BufWriter<W>, bytes: &[u8]) -> io::Result<bool>
-    ensures replied { Replied W.log W.trace writer.old bytes.now result writer.new }
-    ensures more { IfOk result (λ more. more ≡ true) }
-{
-    match put(writer, bytes) {
-        Ok(()) => Ok(true),
-        Err(e) => Err(e),
-    }
-}
-
-// Writes the last reply.
-fn put_last<W: TellWrite>(writer: &mut BufWriter<W>, bytes: &[u8]) -> io::Result<bool>
-    ensures replied { Replied W.log W.trace writer.old bytes.now result writer.new }
-    ensures more { IfOk result (λ more. more ≡ false) }
-{
-    match put(writer, bytes) {
-        Ok(()) => Ok(false),
         Err(e) => Err(e),
     }
 }

@@ -1,6 +1,7 @@
 //! The callers of `uses`, a module each.
 mod commands;
 mod csv_rows;
+mod echo;
 mod filter;
 mod full_log;
 mod int_lines;

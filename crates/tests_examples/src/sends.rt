@@ -17,7 +17,7 @@ use codec::{
 use decoders::{BulkStrings, Lengths, Netstrings};
 use frame_reader::{FrameError, FrameReader, FrameWriter, WriteFrameError};
 use line_reader::{LineError, LineReader};
-use resp::{Command, Full, Refusal, Session, Store};
+use resp::{Client, Command, Ending, Full, Refusal, Store};
 use std::fs::File;
 
 fn is_send<T: Send>(_value: &T) {}
@@ -230,10 +230,18 @@ pub fn answers_shared<W: Sync>(a: &Found<W>, b: &End<W>, c: &NextError<W>, d: &W
     is_sync(d);
 }
 
-pub fn entries(a: &Store, b: &Command<'_>, c: &Full, d: &Refusal, e: &Session) {
+pub fn entries(a: &Store, b: &Command<'_>, c: &Full, d: &Refusal, e: &Ending) {
     is_both(a);
     is_both(b);
     is_both(c);
     is_both(d);
     is_both(e);
+}
+
+pub fn client_sent<R: Tell + Send>(x: &Client<R>) {
+    is_send(x);
+}
+
+pub fn client_shared<R: Tell + Sync>(x: &Client<R>) {
+    is_sync(x);
 }

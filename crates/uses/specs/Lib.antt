@@ -1,3 +1,4 @@
+pub mod Echo
 pub mod Filter
 pub mod IntLines
 pub mod LineCount

@@ -4,6 +4,7 @@
 #![tactic(auto)]
 
 pub mod csv_rows;
+pub mod echo;
 pub mod filter;
 pub mod full_log;
 pub mod int_lines;

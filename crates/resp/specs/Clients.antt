@@ -1,0 +1,39 @@
+-- What contracts see of a client, and how it was served.
+use Rattle.std.specs.Prelude.{◌≡◌, ℕ, ◌<◌}
+use Rattle.buffer_redux.specs.Buffered.{Buffered}
+use Rattle.codec.specs.PieceReader.{ReaderState}
+use Rattle.codec.specs.Serving.{Server, server}
+use Rattle.codec.specs.declared.serving.Served.{Served}
+use Rattle.codec.specs.declared.serving.Served.TheVariants as served
+use Rattle.decoders.specs.declared.resp.Resp.{Resp}
+use Rattle.resp.specs.Sessions.{session_of}
+use Rattle.resp.specs.Waiting.{Waiting}
+use Rattle.resp.specs.declared.client.Client.{Client}
+use Rattle.resp.specs.declared.client.Ending.{Ending}
+use Rattle.resp.specs.declared.client.Ending.TheVariants.{Closed, End, Within, Many}
+use Rattle.resp.specs.declared.session.Session.{Session}
+use Rattle.resp.specs.declared.store.Store.{Store}
+
+-- the reader of its pieces, and what came of the request that has begun
+abbrev pub pieces_of : {S : Type 0} → Client S → ReaderState S Resp
+pieces_of client = client.requests
+
+abbrev pub begun_of : {S : Type 0} → Client S → Waiting
+begun_of client = client.request
+
+-- a client, a store, and the writer of replies, as what a server does is said of them
+abbrev pub serving : {S T P : Type 0} → Client S → Store → Buffered T P → Server S Resp Session T P
+serving client store replies = server client.requests (session_of client.alloc client.request store) replies
+
+-- how serving its pieces ended
+abbrev pub ends_as : Ending → Served
+ends_as Closed = served.Closed
+ends_as End = served.End
+ends_as Within = served.End
+ends_as Many = served.Many
+
+-- a stream's end is told as one within a request just where parts of one are to come
+abbrev pub IsWithin : Waiting → Ending → Type 0
+IsWithin s End = s.left ≡ 0
+IsWithin s Within = 0 < s.left
+IsWithin s ending = Unit {0}
