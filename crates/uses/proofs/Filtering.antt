@@ -1,5 +1,5 @@
 -- What goes on of lines, one after another.
-use Rattle.std.proofs.Common.{◌≡◌, ◌∙◌, ℕ, ◌+◌, ◌^◌, ◌<◌, ◌≤◌, ◌⊎◌, List, [], ◌∷◌, ◌++◌, length, Result, Ok, Err, Option, IfOk, inl, inr, ap, arith, refl, subst, sym, append-nil, append_assoc, length-append}
+use Rattle.std.proofs.Common.{◌≡◌, ◌∙◌, ℕ, ◌+◌, ◌^◌, ◌<◌, ◌≤◌, ◌⊎◌, List, [], ◌∷◌, ◌++◌, length, Result, Ok, Err, Option, IfOk, IfErr, inl, inr, ap, arith, refl, subst, sym, append-nil, append_assoc, length-append}
 use Rattle.std.specs.declared.io.Error.{Error}
 use Rattle.buffer_redux.specs.Buffered.{Buffered}
 use Rattle.buffer_redux.specs.BufReader.{ReadsToEnd}
@@ -9,7 +9,7 @@ use Rattle.buffer_redux.specs.Policy.{ReadRules, std_read_rules}
 use Rattle.buffer_redux.specs.ReaderLaws.{WantsBytes}
 use Rattle.buffer_redux.specs.StreamLog.{StreamLog}
 use Rattle.buffer_redux.specs.UntilLaws.{ReadsUntil-end}
-use Rattle.uses.specs.Filter.{AllGoOn, FiltersAll, GoesOn}
+use Rattle.uses.specs.Filter.{AllGoOn, FiltersAll, FiltersSome, GoesOn}
 use Rattle.uses.specs.Tally.{HandsPieces}
 use Rattle.uses.proofs.Pieces.{HandsPieces-more}
 
@@ -72,3 +72,24 @@ FiltersAll-flushed remaining word from w m v tells trace lines last hands ended 
   flushed = flushed.ok.flushed;
 }
 FiltersAll-flushed remaining word from w m v tells trace lines last hands ended out goes_on accepted (Err e) flushed = tt
+
+-- or couldn't be
+pub FiltersSome-flushed : {S P T Q : Type 0} (remaining : S → Option (List ℕ)) (word : List ℕ) (from : Buffered S P)
+    (w m v : Buffered T Q) (tells : T → StreamLog) (trace : T → T → Type 0) (lines : List (List ℕ)) (last : Buffered S P)
+    → HandsPieces remaining std_read_rules lines from last
+    → ((end : Buffered S P) × ReadsToEnd remaining std_read_rules last [] end) ⊎ (2 ^ 64 ≤ length lines + 1)
+    → (out : List ℕ) → AllGoOn word lines out
+    → m.log.writes.received ++ m.block.bytes ≡ (w.log.writes.received ++ w.block.bytes) ++ out
+    → (r : Result (Unit {0}) Error) → WasFlushed tells trace m r v
+    → IfErr r (λ e. FiltersSome remaining tells trace word from w e v)
+FiltersSome-flushed remaining word from w m v tells trace lines last hands ended out goes_on accepted (Ok x) flushed = tt
+FiltersSome-flushed remaining word from w m v tells trace lines last hands ended out goes_on accepted (Err e) flushed = record {
+  lines = lines;
+  last = last;
+  hands = hands;
+  out = out;
+  goes_on = goes_on;
+  writer = m;
+  accepted = accepted;
+  fails = inr (inr (ended, flushed));
+}

@@ -1,10 +1,15 @@
 -- Lines that are copied where they have a word.
-use Rattle.std.specs.Prelude.{◌≡◌, ℕ, ◌+◌, ◌^◌, ◌≤◌, ◌⊎◌, List, [], ◌∷◌, ◌++◌, length, Option}
+use Rattle.std.specs.Prelude.{◌≡◌, ℕ, ◌+◌, ◌^◌, ◌≤◌, ◌⊎◌, List, [], ◌∷◌, ◌++◌, length, Option, Some, Err}
 use Rattle.std.specs.Str.Iter.{HasSubslice}
+use Rattle.std.specs.declared.io.Error.{Error}
 use Rattle.buffer_redux.specs.Buffered.{Buffered}
 use Rattle.buffer_redux.specs.BufReader.{ReadsToEnd}
-use Rattle.buffer_redux.specs.Pieces.{without_end}
+use Rattle.buffer_redux.specs.BufWriter.{WasFlushed}
+use Rattle.buffer_redux.specs.LineWriter.{ThenSendsLines, line_rules}
+use Rattle.buffer_redux.specs.Pieces.{GivesLine, Splitting, without_end}
 use Rattle.buffer_redux.specs.Policy.{std_read_rules}
+use Rattle.buffer_redux.specs.StreamLog.{StreamLog}
+use Rattle.buffer_redux.specs.WriteFmt.{WritesText}
 use Rattle.uses.specs.Tally.{HandsPieces}
 
 -- what goes on of a line: its text and a line feed, where the word stands in it, and else nothing
@@ -30,3 +35,28 @@ pub record FiltersAll {S P T Q : Type 0} (remaining : S → Option (List ℕ)) (
   pub goes_on : AllGoOn word lines out
   pub received : v.log.writes.received ≡ (w.log.writes.received ++ w.block.bytes) ++ out
   pub flushed : v.log.writes.flushed ≡ v.log.writes.received
+
+-- why lines were gone over no further, behind these: the next wasn't read, or is no UTF-8, and nothing was done to the writer; the
+-- write of the next, which has the word, failed; or there is none, and the flush did
+abbrev pub FailsBehind : {S P T Q : Type 0} → (S → Option (List ℕ)) → (T → StreamLog) → (T → T → Type 0) → List ℕ
+    → List (List ℕ) → Buffered S P → Buffered S P → Buffered T Q → Error → Buffered T Q → Type 0
+FailsBehind {S} {P} remaining tells trace word lines from last w e v =
+    ((s : Splitting S P) × (t : Splitting S P) × (s.reader ≡ last) × (s.byte ≡ 10) × (s.begun ≡ [])
+    × GivesLine remaining std_read_rules s (Some (Err e)) t × (v ≡ w))
+    ⊎ (((line : List ℕ) × (next : Buffered S P) × HandsPieces remaining std_read_rules (lines ++ line ∷ []) from next
+    × HasSubslice (without_end line) word
+    × ThenSendsLines tells trace (WritesText tells trace line_rules w (Some (without_end line ++ 10 ∷ []))) (Err e) v)
+    ⊎ ((((end : Buffered S P) × ReadsToEnd remaining std_read_rules last [] end) ⊎ (2 ^ 64 ≤ length lines + 1))
+    × WasFlushed tells trace w (Err e) v))
+
+-- these lines were read, and just what goes on of them was accepted, behind what the writer held; and then that
+pub record FiltersSome {S P T Q : Type 0} (remaining : S → Option (List ℕ)) (tells : T → StreamLog) (trace : T → T → Type 0)
+    (word : List ℕ) (from : Buffered S P) (w : Buffered T Q) (e : Error) (v : Buffered T Q) : Type 0 where
+  pub lines : List (List ℕ)
+  pub last : Buffered S P
+  pub hands : HandsPieces remaining std_read_rules lines from last
+  pub out : List ℕ
+  pub goes_on : AllGoOn word lines out
+  pub writer : Buffered T Q
+  pub accepted : writer.log.writes.received ++ writer.block.bytes ≡ (w.log.writes.received ++ w.block.bytes) ++ out
+  pub fails : FailsBehind remaining tells trace word lines from last writer e v

@@ -1,6 +1,6 @@
 //! Copies lines to a writer that tells where one can't be sent.
-ghost use Rattle.std.specs.Prelude.{◌<◌, IfOk};
-ghost use Rattle.uses.specs.Filter.{FiltersAll};
+ghost use Rattle.std.specs.Prelude.{◌<◌, IfErr, IfOk};
+ghost use Rattle.uses.specs.Filter.{FiltersAll, FiltersSome};
 
 use buffer_redux::tell::{TellRead, TellWrite, Told};
 use buffer_redux::{BufReader, LineSender, LineWriter};
@@ -9,7 +9,7 @@ use std::io;
 use std::io::{Read, Write};
 
 /// Copies the lines that have `word` in them, and ends at the first that can't be sent. After an `Ok` just these were received
-/// and flushed.
+/// and flushed; after an `Err` those of all lines before the one that failed were accepted, and of that a beginning.
 pub fn matching<R: TellRead + Drop, W: TellWrite>(
     alloc: Global,
     reader: BufReader<R>,
@@ -18,6 +18,8 @@ pub fn matching<R: TellRead + Drop, W: TellWrite>(
 ) -> io::Result<()>
     ensures all { 0 < reader.block.capacity
         → IfOk result (λ _. FiltersAll R.remaining word.now reader writer.old writer.new) }
+    ensures some { 0 < reader.block.capacity
+        → IfErr result (λ e. FiltersSome R.remaining W.log W.trace word.now reader writer.old e writer.new) }
 {
     for line in reader.lines(alloc) {
         let line = line?;
