@@ -13,3 +13,5 @@ pub mod BodyReaderLaws
 pub mod Given
 pub mod Either
 pub mod EitherLaws
+pub mod JustOrUntil
+pub mod JustOrUntilLaws

@@ -6,6 +6,7 @@
 mod coding;
 mod either;
 mod error;
+mod just_or_until;
 pub mod laws;
 mod progress;
 mod reader;
@@ -16,6 +17,7 @@ mod until;
 pub use coding::{Coding, Look};
 pub use either::{Either, Side};
 pub use error::BodyError;
+pub use just_or_until::{JustOr, JustOrUntil};
 pub use reader::BodyReader;
 pub use sized::Sized;
 pub use until::{Part, Until};

@@ -17,9 +17,9 @@ use crate::steps::{fill_on, hand_buffered, read_on, take_front};
 use buffer_redux::policy::{ReaderPolicy, StdPolicy};
 use buffer_redux::tell::{Call, CallLog, Tell, TellRead};
 use buffer_redux::{BufReader, Buffer, MakeError};
-use std::io;
 use std::io::{BufRead, ErrorKind, Read};
 use std::marker::Model;
+use std::{io, mem};
 
 /// A reader of one body, out of a buffered reader of yours. What follows the body stays in that:
 /// [`finish`](BodyReader::finish) hands it back.
@@ -127,6 +127,20 @@ impl<R: Tell, C: Coding, P> BodyReader<R, C, P> {
             known: _,
         } = self;
         reader
+    }
+
+    /// Goes on before the next body, which is of this coding, and leaves the old coding in its place. A body that isn't finished
+    /// is torn by that: [`drain`](BodyReader::drain) takes the rest of it.
+    pub fn begin_next(&mut self, coding: &mut C)
+        requires room { (C.grammar coding.old).ahead ≤ self.old.reader.block.capacity }
+        ensures begun { self.new ≡ begun (C.grammar coding.old) self.old.reader coding.old }
+        ensures before { coding.new ≡ self.old.coding }
+        ensures whole { IsBodyReader (C.grammar coding.old) self.new }
+    {
+        self.progress = Progress::new(coding.first());
+        self.calls = CallLog::new();
+        self.known = 0;
+        mem::swap(&mut self.coding, coding);
     }
 
     /// The payload that is buffered, as far as the last fill said, and wasn't consumed.
@@ -254,8 +268,8 @@ impl<R: TellRead, C: Coding, P: ReaderPolicy> BodyReader<R, C, P> {
         }
     }
 
-    // Takes the rest of the body, and drops its payload.
-    fn drain(&mut self) -> Result<(), BodyError<C::Wrong>>
+    /// Takes the rest of the body, and drops its payload, as [`finish`](BodyReader::finish) does.
+    pub fn drain(&mut self) -> Result<(), BodyError<C::Wrong>>
         ensures { Drains R.remaining P.rules (C.grammar self.old.coding) self.old result self.new }
     {
         let _ = self.get_ref();

@@ -1,0 +1,67 @@
+use Rattle.std.proofs.Common.{◌≡◌, ◌<◌, ◌+◌, ℕ, List, [], ◌∷◌, ◌++◌, false, true, length, drop, subst, sym, ap, ◌∙◌, arith, length-append, append-nil}
+use Rattle.std.proofs.lemmas.Bool.Decides.{Decides-eqb}
+use Rattle.std.proofs.lemmas.Slice.Eq.{starts_is}
+use Rattle.body_reader.specs.declared.coding.Look.TheVariants.{Passed}
+use Rattle.body_reader.specs.declared.just_or_until.JustOr.TheVariants as at
+use Rattle.body_reader.specs.declared.until.Part.TheVariants.{Inside}
+use Rattle.body_reader.specs.Coding.{Lacks, Looks}
+use Rattle.body_reader.specs.JustOrUntil.{just_or_until}
+use Rattle.body_reader.specs.JustOrUntilLaws.{alike_looks, alike_start, alike_until, apart, looks_begun, looks_just}
+use Rattle.body_reader.proofs.just_or_until.JustOrUntilCoding.look.Goals as goal
+
+-- what begins a text and isn't it is shorter
+more_in : (shown just rest : List ℕ) → just ≡ shown ++ rest → ¬ (just ≡ shown) → (same : List ℕ) → just ≡ same
+    → length shown < length same
+more_in shown just [] is not same equal = absurd (not (is ∙ append-nil shown))
+more_in shown just (x ∷ rest) is not same equal = omega (arith, ap length is, length-append shown (x ∷ rest), ap length equal)
+
+pub returns-then-starts_with : goal.returns-then-starts_with
+returns-then-starts_with c =
+    let s = c.args.self.now in
+    let shown = c.args.shown.now in
+    let same : c.as_slice-just.result.now ≡ s.just.items = c.as_slice-just.ensures.value in
+    let begins = (starts_is Decides-eqb shown c.as_slice-just.result.now c.starts_with.result c.starts_with.ensures.value).0
+    c.if-starts_with.true in
+    subst (λ p. Looks (just_or_until s.just.items s.until.delimiter.items s.room) p shown
+    (Passed (length c.as_slice-just.result.now) at.Just)) (sym c.in-Start.is)
+    (subst (λ l. Looks (just_or_until s.just.items s.until.delimiter.items s.room) at.Start shown (Passed (length l) at.Just))
+    (sym same)
+    (looks_just s.just.items s.until.delimiter.items s.room s.some s.shorter s.fits shown
+    (drop (length c.as_slice-just.result.now) shown)
+    (begins ∙ ap (λ l. l ++ drop (length c.as_slice-just.result.now) shown) same)))
+
+pub returns-then-starts_with-2 : goal.returns-then-starts_with-2
+returns-then-starts_with-2 c =
+    let s = c.args.self.now in
+    let shown = c.args.shown.now in
+    let just = c.as_slice-just.result.now in
+    let same : just ≡ s.just.items = c.as_slice-just.ensures.value in
+    let begins : just ≡ shown ++ drop (length shown) just =
+    (starts_is Decides-eqb just shown c.starts_with-in-Start.result c.starts_with-in-Start.ensures.value).0
+    c.if-starts_with-2.true in
+    let longer = (starts_is Decides-eqb shown just c.starts_with.result c.starts_with.ensures.value).1 in
+    subst (λ p. Lacks (just_or_until s.just.items s.until.delimiter.items s.room) p (length shown + 1) shown)
+    (sym c.in-Start.is)
+    (looks_begun s.just.items s.until.delimiter.items s.room s.some s.shorter s.fits shown (drop (length shown) just)
+    (sym same ∙ begins)
+    (more_in shown just (drop (length shown) just) begins (λ equal.
+    let yes = longer [] (sym (append-nil shown) ∙ ap (λ l. l ++ []) (sym equal)) in
+    let odd : false ≡ true = sym c.if-starts_with.false ∙ yes in cc)
+    s.just.items same))
+
+pub returns-else-starts_with-2 : goal.returns-else-starts_with-2
+returns-else-starts_with-2 c =
+    let s = c.args.self.now in
+    let shown = c.args.shown.now in
+    let just = c.as_slice-just.result.now in
+    let same : just ≡ s.just.items = c.as_slice-just.ensures.value in
+    let first = (starts_is Decides-eqb shown just c.starts_with.result c.starts_with.ensures.value).1 in
+    let second = (starts_is Decides-eqb just shown c.starts_with-in-Start.result c.starts_with-in-Start.ensures.value).1 in
+    let differs = apart s.just.items s.until.delimiter.items s.room s.some s.shorter s.fits shown
+    (λ more is. (let yes = first more (is ∙ ap (λ l. l ++ more) (sym same)) in
+    let odd : false ≡ true = sym c.if-starts_with.false ∙ yes in cc))
+    (λ more is. (let yes = second more (same ∙ is) in
+    let odd : false ≡ true = sym c.if-starts_with-2.false ∙ yes in cc)) in
+    rw (c.in-Start.is, c.until_of.ensures)
+    (alike_looks s.just.items s.until.delimiter.items s.room s.some s.shorter s.fits at.Start Inside shown
+    (alike_start s.just.items s.until.delimiter.items s.room s.some s.shorter s.fits shown differs) c.look.result c.look.ensures)

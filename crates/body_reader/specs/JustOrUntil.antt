@@ -1,0 +1,48 @@
+-- Bodies that are just some bytes, or else end at a delimiter.
+use Rattle.std.specs.Prelude.{◌≡◌, ℕ, ◌⊎◌, List, [], ◌++◌, length, true, ⊤}
+use Rattle.body_reader.specs.declared.coding.Look.{Look}
+use Rattle.body_reader.specs.declared.coding.Look.TheVariants as look
+use Rattle.body_reader.specs.declared.until.Part.{Part}
+use Rattle.body_reader.specs.declared.until.Part.TheVariants.{Inside}
+use Rattle.body_reader.specs.Coding.{Agree, Grammar}
+use Rattle.body_reader.specs.Until.{EndsPart, IsClear, most_left}
+use Rattle.body_reader.specs.declared.just_or_until.JustOr.{JustOr}
+use Rattle.body_reader.specs.declared.just_or_until.JustOr.TheVariants as at
+
+-- just these bytes; or they don't begin so, and are a payload and then the delimiter, which stands nowhere before
+abbrev pub EndsJust : List ℕ → List ℕ → JustOr → List ℕ → List ℕ → Type 0
+EndsJust just needle at.Start rest payload =
+    ((rest ≡ just) × (payload ≡ [])) ⊎ (((more : List ℕ) → ¬ (rest ≡ just ++ more)) × EndsPart needle Inside rest payload)
+EndsJust just needle (at.Until part) rest payload = EndsPart needle part rest payload
+EndsJust just needle at.Just rest payload = (rest ≡ []) × (payload ≡ [])
+
+-- these bytes are its payload, whatever goes on as what follows
+abbrev pub IsText : List ℕ → List ℕ → JustOr → List ℕ → List ℕ → Type 0
+IsText just needle at.Start bytes follow = (¬ Agree just (bytes ++ follow)) × IsClear needle Inside bytes follow
+IsText just needle (at.Until part) bytes follow = IsClear needle part bytes follow
+IsText just needle at.Just bytes follow = ⊥
+
+abbrev pub most_between : List ℕ → JustOr → ℕ
+most_between needle at.Start = length needle
+most_between needle (at.Until part) = most_left needle part
+most_between needle at.Just = 0
+
+abbrev pub just_or_until : List ℕ → List ℕ → ℕ → Grammar JustOr (Unit {0})
+just_or_until just needle room = record {
+  first = at.Start;
+  ahead = room;
+  is_place = λ place. ⊤;
+  completes = EndsJust just needle;
+  carries = IsText just needle;
+  wrong = λ place shown why. ⊥;
+  between = most_between needle;
+  heeds = true;
+}
+
+-- what a look for the delimiter says
+abbrev pub until_of : Look Part (Unit {0}) → Look JustOr (Unit {0})
+until_of (look.Payload sure) = look.Payload sure
+until_of (look.Passed count part) = look.Passed count (at.Until part)
+until_of (look.More need) = look.More need
+until_of (look.Wrong why) = look.Wrong why
+until_of look.Ended = look.Ended

@@ -1,0 +1,253 @@
+-- Laws of bodies that are just some bytes, or else end at a delimiter.
+use Rattle.std.proofs.Common.{◌≡◌, ℕ, ◌+◌, ◌<◌, ◌≤◌, List, [], ◌∷◌, ◌++◌, length, take, drop, inl, inr, sym, ap, refl, subst, ◌∙◌, arith, append_assoc, append-nil, length-append}
+use Rattle.std.proofs.lemmas.List.{nil_from_length, take-append-drop, take_at}
+use Rattle.body_reader.specs.declared.coding.Look.{Look}
+use Rattle.body_reader.specs.declared.coding.Look.TheVariants as look
+use Rattle.body_reader.specs.declared.until.Part.{Part}
+use Rattle.body_reader.specs.declared.until.Part.TheVariants.{Inside, Behind}
+use Rattle.body_reader.specs.Coding.{Agree, Carries, IsDone, IsLawful, IsOpen, Lacks, Leads, Looks, Passes}
+use Rattle.body_reader.specs.CodingLaws.{Agree-front, Agree-less, Agree-nothing, overlaps}
+use Rattle.body_reader.specs.Until.{EndsPart, IsClear, most_left, until}
+use Rattle.body_reader.specs.UntilLaws.{clear_leads, clear_still, until_lawful}
+use Rattle.body_reader.specs.declared.just_or_until.JustOr.{JustOr}
+use Rattle.body_reader.specs.declared.just_or_until.JustOr.TheVariants as at
+use Rattle.body_reader.specs.JustOrUntil.{EndsJust, IsText, just_or_until, most_between, until_of}
+
+module _ (just needle : List ℕ) (room : ℕ) (some : 0 < length just) (shorter : length just < length needle)
+    (fits : length needle ≤ room) where
+  -- where what goes on as these bytes is the same in both
+  pub record Alike (place : JustOr) (part : Part) (shown : List ℕ) : Type 0 where
+    pub there : (rest payload : List ℕ) → Agree shown rest → EndsPart needle part rest payload
+        → EndsJust just needle place rest payload
+    pub back : (rest payload : List ℕ) → Agree shown rest → EndsJust just needle place rest payload
+        → EndsPart needle part rest payload
+    pub carried : (bytes follow more : List ℕ) → bytes ++ follow ≡ shown ++ more → IsClear needle part bytes follow
+        → IsText just needle place bytes follow
+    pub clear : (bytes follow : List ℕ) → IsText just needle place bytes follow → IsClear needle part bytes follow
+    pub between : most_between needle place ≡ most_left needle part
+
+  pub alike_until : (part : Part) (shown : List ℕ) → Alike (at.Until part) part shown
+  alike_until part shown = record {
+    there = λ rest payload agree c. c;
+    back = λ rest payload agree c. c;
+    carried = λ bytes follow more same clear. clear;
+    clear = λ bytes follow clear. clear;
+    between = refl;
+  }
+
+  -- what goes on as bytes that neither begin the others nor begin with them
+  differs : (shown rest more : List ℕ) → ¬ Agree just shown → Agree shown rest → ¬ (rest ≡ just ++ more)
+  differs shown rest more apart agree same = apart (
+    more ++ agree.1,
+    agree.0,
+    sym (append_assoc just more agree.1) ∙ ap (λ l. l ++ agree.1) (sym same) ∙ sym agree.2,
+  )
+
+  pub alike_start : (shown : List ℕ) → ¬ Agree just shown → Alike at.Start Inside shown
+  alike_start shown apart = record {
+    there = λ rest payload agree c. inr ((λ more same. differs shown rest more apart agree same), c);
+    back = λ rest payload agree c. elim c [
+      | inl here ↦ absurd (differs shown rest [] apart agree (here.0 ∙ sym (append-nil just)))
+      | inr there ↦ there.1
+    ];
+    carried = λ bytes follow more same clear. (
+      λ agree. apart (agree.0, more ++ agree.1, agree.2 ∙ ap (λ l. l ++ agree.1) same ∙ append_assoc shown more agree.1),
+      clear,
+    );
+    clear = λ bytes follow text. text.1;
+    between = refl;
+  }
+
+  alike_more : (place : JustOr) (part : Part) (shown more : List ℕ) → Alike place part shown
+      → Alike place part (shown ++ more)
+  alike_more place part shown more like = record {
+    there = λ rest payload agree c. like.there rest payload (Agree-less shown more rest agree) c;
+    back = λ rest payload agree c. like.back rest payload (Agree-less shown more rest agree) c;
+    carried = λ bytes follow later same clear.
+        like.carried bytes follow (more ++ later) (same ∙ append_assoc shown more later) clear;
+    clear = like.clear;
+    between = like.between;
+  }
+
+  pub alike_leads : (place : JustOr) (part q : Part) (wire handed follow : List ℕ) → Alike place part (wire ++ follow)
+      → Leads (until needle) part wire handed q follow → Leads (just_or_until just needle room) place wire handed (at.Until q) follow
+  alike_leads place part q wire handed follow like leads = record {
+    onward = λ rest payload agree c.
+        like.there (wire ++ rest) (handed ++ payload) (Agree-front wire follow rest agree) (leads.onward rest payload agree c);
+    back = λ rest whole agree c.
+        leads.back rest whole agree (like.back (wire ++ rest) whole (Agree-front wire follow rest agree) c);
+    within = λ rest payload past c same. leads.within rest payload past
+        (like.back rest payload
+        ([], past ++ follow, append-nil (wire ++ follow) ∙ ap (λ l. l ++ follow) same ∙ append_assoc rest past follow) c) same;
+  }
+
+  goes_on : (place : JustOr) (part : Part) (shown : List ℕ) → Alike place part shown → ¬ IsDone (until needle) part
+      → ¬ IsDone (just_or_until just needle room) place
+  goes_on place part shown like on done = on (like.back [] [] (Agree-nothing shown) done)
+
+  alike_open : (place : JustOr) (part : Part) (shown : List ℕ) → Alike place part shown → IsOpen (until needle) part shown
+      → IsOpen (just_or_until just needle room) place shown
+  alike_open place part shown like open' = record {
+    few = omega (arith, open'.few, fits);
+    goes_on = goes_on place part shown like open'.goes_on;
+    no_payload = λ byte follow same text. open'.no_payload byte follow same (like.clear (byte ∷ []) follow text);
+    not_wrong = λ why wrong. wrong;
+    further = λ rest payload c agree. open'.further rest payload (like.back rest payload agree c) agree;
+  }
+
+  pub alike_looks : (place : JustOr) (part : Part) (shown : List ℕ) → Alike place part shown → (l : Look Part (Unit {0}))
+      → Looks (until needle) part shown l → Looks (just_or_until just needle room) place shown (until_of l)
+  alike_looks place part shown like (look.Payload n) looks = record {
+    some = looks.some;
+    goes_on = goes_on place part shown like looks.goes_on;
+    carries = λ bytes follow more few same.
+        like.carried bytes follow more same (looks.carries bytes follow more few same);
+  }
+  alike_looks place part shown like (look.Passed n q) looks = (
+    looks.0,
+    looks.1,
+    record {
+      leads = alike_leads place part q (take n shown) [] (drop n shown)
+          (subst (Alike place part) (sym (take-append-drop n shown)) like) looks.2.leads;
+      few = omega (arith, looks.2.few, like.between);
+    },
+    tt,
+    λ done. looks.4 (like.back [] [] (Agree-nothing shown) done),
+  )
+  alike_looks place part shown like (look.More n) looks = record {
+    few = looks.few;
+    most = omega (arith, looks.most, fits);
+    is_open = λ more short'. alike_open place part (shown ++ more) (alike_more place part shown more like)
+        (looks.is_open more short');
+  }
+  alike_looks place part shown like (look.Wrong why) looks = absurd looks.0
+  alike_looks place part shown like look.Ended looks = like.there [] [] (Agree-nothing shown) looks
+
+  -- what begins with just the bytes is these
+  just_passes : (follow : List ℕ) → Passes (just_or_until just needle room) at.Start just at.Just follow
+  just_passes follow = record {
+    leads = record {
+      onward = λ rest payload agree c.
+          inl (ap (λ l. just ++ l) c.0 ∙ append-nil just, c.1);
+      back = λ rest whole agree c. elim c [
+        | inl here ↦ (
+          [],
+          here.1,
+          (nil_from_length rest (omega (arith, ap length here.0, length-append just rest)), refl),
+        )
+        | inr there ↦ absurd (there.0 rest refl)
+      ];
+      within = λ rest payload past c same. nil_from_length past (elim c [
+        | inl here ↦ omega (arith, ap length same, ap length here.0, length-append rest past)
+        | inr there ↦ absurd (omega (
+          arith,
+          ap length same,
+          ap length there.1.0,
+          shorter,
+          length-append rest past,
+          length-append payload needle,
+        ))
+      ]);
+    };
+    few = omega (arith, shorter);
+  }
+
+  start_goes_on : ¬ IsDone (just_or_until just needle room) at.Start
+  start_goes_on (inl here) = omega (arith, some, ap length here.0)
+  start_goes_on (inr there) = omega (arith, shorter, ap length there.1.0)
+
+  pub looks_just : (shown more : List ℕ) → shown ≡ just ++ more
+      → Looks (just_or_until just needle room) at.Start shown (look.Passed (length just) at.Just)
+  looks_just shown more same = (
+    some,
+    omega (arith, ap length same, length-append just more),
+    subst (λ l. Passes (just_or_until just needle room) at.Start l at.Just (drop (length just) shown))
+        (sym (ap (take (length just)) same ∙ take_at just more (length just) refl))
+        (just_passes (drop (length just) shown)),
+    tt,
+    start_goes_on,
+  )
+
+  -- the beginning of just the bytes settles nothing
+  begun_open : (shown rest : List ℕ) → just ≡ shown ++ rest → length shown < length just
+      → IsOpen (just_or_until just needle room) at.Start shown
+  begun_open shown rest is few = record {
+    few = omega (arith, few, shorter, fits);
+    goes_on = start_goes_on;
+    no_payload = λ byte follow same text.
+        text.0 ([], rest, append-nil just ∙ is ∙ ap (λ l. l ++ rest) same);
+    not_wrong = λ why wrong. wrong;
+    further = λ more payload c agree. elim c [
+      | inl here ↦ omega (arith, few, ap length here.0)
+      | inr there ↦ omega (arith, few, shorter, ap length there.1.0, length-append payload needle)
+    ];
+  }
+
+  pub looks_begun : (shown rest : List ℕ) → just ≡ shown ++ rest → length shown < length just
+      → Lacks (just_or_until just needle room) at.Start (length shown + 1) shown
+  looks_begun shown rest is few = record {
+    few = omega arith;
+    most = omega (arith, few, shorter, fits);
+    is_open = λ more less. subst (IsOpen (just_or_until just needle room) at.Start)
+        (sym (append-nil shown) ∙ ap (λ l. shown ++ l)
+        (sym (nil_from_length more (omega (arith, less, length-append shown more)))))
+        (begun_open shown rest is few);
+  }
+
+  -- bytes of which none begin the others differ
+  pub apart : (shown : List ℕ) → ((more : List ℕ) → ¬ (shown ≡ just ++ more)) → ((more : List ℕ) → ¬ (just ≡ shown ++ more))
+      → ¬ Agree just shown
+  apart shown not_begins not_begun agree = elim (overlaps just agree.0 shown agree.1 agree.2) [
+    | inl found ↦ not_begins found.0 found.1
+    | inr found ↦ not_begun found.0 found.1
+  ]
+
+  -- payload leads on, and what stands behind it is payload still
+  pub text_leads : (place : JustOr) (bytes follow : List ℕ) → IsText just needle place bytes follow
+      → Leads (just_or_until just needle room) place bytes bytes (at.Until Inside) follow
+  text_leads at.Start bytes follow text = alike_leads at.Start Inside Inside bytes bytes follow
+      (alike_start (bytes ++ follow) text.0) (clear_leads needle (omega (arith, shorter)) Inside bytes follow text.1)
+  text_leads (at.Until part) bytes follow text = alike_leads (at.Until part) part Inside bytes bytes follow
+      (alike_until part (bytes ++ follow)) (clear_leads needle (omega (arith, shorter)) part bytes follow text)
+  text_leads at.Just bytes follow text = absurd text
+
+  pub text_still : (place : JustOr) (bytes more follow : List ℕ) → IsText just needle place (bytes ++ more) follow
+      → IsClear needle Inside more follow × (0 < length more → ¬ IsDone (just_or_until just needle room) (at.Until Inside))
+  text_still at.Start bytes more follow text = clear_still needle (omega (arith, shorter)) Inside bytes more follow text.1
+  text_still (at.Until part) bytes more follow text = clear_still needle (omega (arith, shorter)) part bytes more follow text
+  text_still at.Just bytes more follow text = absurd text
+
+  longer : (body payload : List ℕ) → EndsPart needle Inside body payload → length just < length body
+  longer body payload c = omega (arith, shorter, ap length c.0, length-append payload needle)
+
+  -- what begins with just the bytes is no longer body
+  not_longer : (a b y xs ys : List ℕ) → a ≡ just → ((more : List ℕ) → ¬ (b ≡ just ++ more)) → length just < length b
+      → ¬ (a ++ xs ≡ b ++ ys)
+  not_longer a b y xs ys is not long' same = elim (overlaps just xs b ys (ap (λ l. l ++ xs) (sym is) ∙ same)) [
+    | inl found ↦ not found.0 found.1
+    | inr found ↦ omega (arith, long', ap length found.1, length-append b found.0)
+  ]
+
+  only_one : (a b x y xs ys : List ℕ) → EndsJust just needle at.Start a x → EndsJust just needle at.Start b y
+      → a ++ xs ≡ b ++ ys → (a ≡ b) × (x ≡ y)
+  only_one a b x y xs ys (inl p) (inl q) same = (p.0 ∙ sym q.0, p.1 ∙ sym q.1)
+  only_one a b x y xs ys (inl p) (inr q) same = absurd (not_longer a b y xs ys p.0 q.0 (longer b y q.1) same)
+  only_one a b x y xs ys (inr p) (inl q) same = absurd (not_longer b a x ys xs q.0 p.0 (longer a x p.1) (sym same))
+  only_one a b x y xs ys (inr p) (inr q) same =
+      (until_lawful needle (omega (arith, shorter))).one a b x y xs ys p.1 q.1 same
+
+  just_nothing : (place : JustOr) (payload : List ℕ) → EndsJust just needle place [] payload → payload ≡ []
+  just_nothing at.Start payload (inl c) = c.1
+  just_nothing at.Start payload (inr c) = absurd (omega (arith, longer [] payload c.1))
+  just_nothing (at.Until part) payload c = (until_lawful needle (omega (arith, shorter))).nothing part payload tt c
+  just_nothing at.Just payload c = c.1
+
+  pub just_or_until_lawful : IsLawful (just_or_until just needle room)
+  just_or_until_lawful = record {
+    some = omega (arith, shorter, fits);
+    begins = tt;
+    nothing = λ place payload is c. just_nothing place payload c;
+    none_wrong = λ place why is wrong. wrong;
+    never = λ place shown why rest payload is wrong c agree. wrong;
+    one = λ a b x y xs ys p q same. only_one a b x y xs ys p q same;
+  }
