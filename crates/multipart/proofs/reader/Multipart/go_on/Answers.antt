@@ -1,0 +1,28 @@
+use Rattle.std.proofs.Common.{subst, sym}
+use Rattle.std.proofs.lemmas.Result.{err_from_is_err_and}
+use Rattle.body_reader.specs.BodyReader.{IsBodyReader, IsWhole}
+use Rattle.multipart.specs.Multipart.{codes}
+use Rattle.multipart.proofs.Turning.{goes, goes_not}
+use Rattle.multipart.proofs.reader.Multipart.go_on.Goals as goal
+
+pub returns-in_err-collect : goal.returns-in_err-collect
+returns-in_err-collect g c =
+    let p = err_from_is_err_and c.from_residual.result c.from_residual.ensures.1 in
+    rw (p.1, p.2) (goes_not g.R.TellRead.remaining g.P.ReaderPolicy.rules c.args.self.now c.collect.new.self _
+    c.in_err-collect.ensures.collects c.in_err-collect.ensures.within)
+
+pub end_head-requires-clause-whole : goal.end_head-requires-clause-whole
+end_head-requires-clause-whole g c =
+    let m = c.collect.new.self.body in
+    let collects = c.in_ok-collect.ensures.collects in
+    subst (λ x. IsWhole (codes x) m) (sym collects.went.coding) collects.answers.1
+
+pub end_head-requires-clause-reader : goal.end_head-requires-clause-reader
+end_head-requires-clause-reader g c =
+    let m = c.collect.new.self.body in
+    let collects = c.in_ok-collect.ensures.collects in
+    subst (λ x. IsBodyReader (codes x) m) (sym collects.went.coding) collects.whole
+
+pub returns : goal.returns
+returns g c = goes g.R.TellRead.remaining g.P.ReaderPolicy.rules c.args.self.now c.collect.new.self _ _
+    c.in_ok-collect.ensures.collects c.in_ok-collect.ensures.within c.end_head.ensures

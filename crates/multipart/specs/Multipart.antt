@@ -1,0 +1,139 @@
+-- What contracts see of a reader of parts, and what its calls promise.
+use Rattle.std.specs.Prelude.{◌≡◌, ◌≢◌, ℕ, ◌+◌, ◌<◌, ◌≤◌, ◌⊎◌, ⊤, List, [], ◌∷◌, ◌++◌, length, Bool, true, false, Option, Result, Ok, Err, IsTrue, MatchResult}
+use Rattle.std.specs.declared.io.Error.{Error}
+use Rattle.buffer_redux.specs.Buffered.{Buffered}
+use Rattle.buffer_redux.specs.Policy.{ReadRules}
+use Rattle.buffer_redux.specs.Unbuffer.{unbuffered}
+use Rattle.body_reader.specs.declared.error.BodyError.{BodyError}
+use Rattle.body_reader.specs.declared.error.BodyError.TheVariants as why
+use Rattle.body_reader.specs.declared.just_or_until.JustOr.{JustOr}
+use Rattle.body_reader.specs.declared.just_or_until.JustOrUntil.{JustOrUntil}
+use Rattle.body_reader.specs.Asking.{AskedWhere}
+use Rattle.body_reader.specs.Between.{EachGave}
+use Rattle.body_reader.specs.BodyReader.{BodyState, BodyWent, Drains, IsBodyReader, IsWhole, NoPayload, begun, handed_of}
+use Rattle.body_reader.specs.Coding.{Grammar, IsBody, LeadsOpen}
+use Rattle.body_reader.specs.JustOrUntil.{just_or_until}
+use Rattle.multipart.specs.declared.error.NewError.{NewError}
+use Rattle.multipart.specs.declared.error.NewError.TheVariants as new
+use Rattle.multipart.specs.declared.error.PartError.{PartError}
+use Rattle.multipart.specs.declared.error.PartError.TheVariants as part
+use Rattle.multipart.specs.declared.reader.Limits.{Limits}
+use Rattle.multipart.specs.declared.reader.Stand.{Stand}
+use Rattle.multipart.specs.declared.reader.Stand.TheVariants.{Preamble, Head, Part, Ended}
+use Rattle.multipart.specs.Head.{is_opening}
+
+-- the section that is being read, of a text or a head; the coding of those that it takes turns with; the head that came last; where
+-- the reader stands; and how many parts began
+pub record FormState (S Q : Type 0) : Type 0 where
+  pub body : BodyState S Q JustOrUntil JustOr
+  pub other : JustOrUntil
+  pub head : List ℕ
+  pub stand : Stand
+  pub parts : ℕ
+  pub limits : Limits
+
+abbrev pub codes : JustOrUntil → Grammar JustOr (Unit {0})
+codes c = just_or_until c.just.items c.until.delimiter.items c.room
+
+-- which stand for a head behind the last boundary
+abbrev pub hyphens : List ℕ
+hyphens = 45 ∷ 45 ∷ []
+
+-- a boundary that begins a line ends a text, also where it begins the text; an empty line ends a head, or two hyphens are all of it
+pub record AreCodings (texts heads : JustOrUntil) : Type 0 where
+  pub line : texts.until.delimiter.items ≡ 13 ∷ 10 ∷ texts.just.items
+  pub empty_line : heads.until.delimiter.items ≡ 13 ∷ 10 ∷ 13 ∷ 10 ∷ []
+  pub hyphens : heads.just.items ≡ hyphens
+  pub room : heads.room ≡ texts.room
+
+-- which coding is whose; and what the head is: all that came of one so far, or a whole one in front of a text
+abbrev pub HasHead : {S Q : Type 0} → Stand → FormState S Q → Type 0
+HasHead Preamble d = AreCodings d.body.coding d.other
+HasHead Head d = AreCodings d.other d.body.coding × (d.head ≡ handed_of d.body)
+HasHead Part d = AreCodings d.body.coding d.other × ((bytes : List ℕ) × IsBody (codes d.other) bytes d.head)
+HasHead Ended d = AreCodings d.other d.body.coding × (d.body.taken ≡ hyphens)
+
+-- what is true of every reader of parts
+abbrev pub IsForm : {S Q : Type 0} → FormState S Q → Type 0
+IsForm d = HasHead d.stand d
+
+-- before the first byte of a body with this boundary
+pub record IsBegun {S Q : Type 0} (reader : Buffered S Q) (boundary : List ℕ) (limits : Limits) (t : FormState S Q)
+    : Type 0 where
+  pub mark : t.body.coding.just.items ≡ 45 ∷ 45 ∷ boundary
+  pub body : t.body ≡ begun (codes t.body.coding) reader t.body.coding
+  pub stand : t.stand ≡ Preamble
+  pub parts : t.parts ≡ 0
+  pub limited : t.limits ≡ limits
+
+-- why no reader can be made
+abbrev pub IsRefused : {S Q : Type 0} → Buffered S Q → List ℕ → NewError → Type 0
+IsRefused reader boundary new.Boundary = (length boundary ≡ 0) ⊎ (70 < length boundary)
+IsRefused reader boundary new.Room = reader.block.capacity < length boundary + 4
+IsRefused reader boundary new.Memory = ⊤
+
+-- the next section begins, where the last one left the buffered reader
+abbrev pub turned : {S Q : Type 0} → FormState S Q → Stand → FormState S Q
+turned d stand = record d { body = begun (codes d.other) d.body.reader d.other; other = d.body.coding; stand = stand }
+
+-- an error of a section as one of the whole
+abbrev pub part_error : BodyError (Unit {0}) → PartError
+part_error (why.Wrong w right) = part.Boundary
+part_error (why.Truncated right) = part.Truncated
+part_error (why.Io e) = part.Io e
+
+-- a head ended, and then: the two hyphens end the body; a head that begins as the line of its boundary ends leads into a part, unless
+-- those are too many
+abbrev pub EndsHead : {S Q : Type 0} → FormState S Q → Result Bool PartError → FormState S Q → Type 0
+EndsHead s (Ok false) t = (s.body.taken ≡ hyphens) × (t ≡ record s { stand = Ended })
+EndsHead s (Ok true) t = (s.body.taken ≢ hyphens) × IsTrue (is_opening s.head) × (s.parts < s.limits.parts)
+    × (t ≡ turned (record s { parts = s.parts + 1 }) Part)
+EndsHead s (Err part.Boundary) t = (s.body.taken ≢ hyphens) × ¬ IsTrue (is_opening s.head) × (t ≡ s)
+EndsHead s (Err part.ManyParts) t =
+    (s.body.taken ≢ hyphens) × IsTrue (is_opening s.head) × (s.limits.parts ≤ s.parts) × (t ≡ s)
+EndsHead s (Err e) t = ⊥
+
+module _ {S Q : Type 0} (remaining : S → Option (List ℕ)) (rules : ReadRules Q) where
+  -- the rest of the text was dropped, and a head begins behind its end; or why not, within the text
+  abbrev pub LeavesText : FormState S Q → Result (Unit {0}) PartError → FormState S Q → Type 0
+  LeavesText s (Ok _) t = (b : BodyState S Q JustOrUntil JustOr) × Drains remaining rules (codes s.body.coding) s.body (Ok tt) b
+      × (t ≡ turned (record s { body = b; head = [] }) Head)
+  LeavesText s (Err e) t = (w : BodyError (Unit {0})) × Drains remaining rules (codes s.body.coding) s.body (Err w) t.body
+      × (e ≡ part_error w) × (t ≡ record s { body = t.body })
+
+  -- why a head of at most so many bytes doesn't end, of which so much was collected
+  abbrev pub NoHead : ℕ → BodyState S Q JustOrUntil JustOr → List ℕ → PartError → BodyState S Q JustOrUntil JustOr → Type 0
+  NoHead most s head part.LongHead t = EachGave s.reader t.reader × (most < length head + t.known)
+  NoHead most s head part.Memory t = EachGave s.reader t.reader
+  NoHead most s head e t = (w : BodyError (Unit {0})) × (e ≡ part_error w) × NoPayload (codes s.coding) s w t
+
+  -- the payload of a head is collected, to its end or why not. The stream is asked only where nothing is settled
+  pub record Collects (most : ℕ) (s : BodyState S Q JustOrUntil JustOr) (before : List ℕ) (answer : Result (Unit {0}) PartError)
+      (t : BodyState S Q JustOrUntil JustOr) (after : List ℕ) : Type 0 where
+    pub payload : List ℕ
+    pub went : BodyWent remaining rules (codes s.coding) s payload t
+    pub collected : after ≡ before ++ payload
+    pub asked : AskedWhere (λ bytes. (dropped : List ℕ) × LeadsOpen (codes s.coding) s.place dropped bytes)
+        (unbuffered s.reader) (unbuffered t.reader)
+    pub answers : MatchResult answer (λ _. EachGave s.reader t.reader × IsWhole (codes s.coding) t)
+        (λ e. NoHead most s after e t)
+    pub whole : IsBodyReader (codes s.coding) t
+
+  -- from a head on
+  abbrev pub GoesOn : FormState S Q → Result Bool PartError → FormState S Q → Type 0
+  GoesOn s answer t = (b : BodyState S Q JustOrUntil JustOr) × (head : List ℕ)
+      × ((Collects s.limits.head s.body s.head (Ok tt) b head × EndsHead (record s { body = b; head = head }) answer t)
+      ⊎ ((e : PartError) × (answer ≡ Err e) × Collects s.limits.head s.body s.head (Err e) b head
+      × (t ≡ record s { body = b; head = head })))
+
+  -- from a text on: also what is left of it is passed
+  abbrev pub PassesText : FormState S Q → Result Bool PartError → FormState S Q → Type 0
+  PassesText s answer t = ((m : FormState S Q) × LeavesText s (Ok tt) m × GoesOn m answer t)
+      ⊎ ((e : PartError) × (answer ≡ Err e) × LeavesText s (Err e) t)
+
+  -- going on to the next part: behind the last one nothing is done
+  abbrev pub NextPart : Stand → FormState S Q → Result Bool PartError → FormState S Q → Type 0
+  NextPart Ended s answer t = (answer ≡ Ok false) × (t ≡ s)
+  NextPart Head s answer t = GoesOn s answer t
+  NextPart Preamble s answer t = PassesText s answer t
+  NextPart Part s answer t = PassesText s answer t

@@ -1,0 +1,336 @@
+//! The reader of parts.
+ghost use Rattle.std.specs.Prelude.{◌≡◌, ◌≢◌, ◌<◌, ◌≤◌, ◌+◌, ◌-◌, ◌⊎◌, ◌∷◌, ◌++◌, length, min, take, vec_items, Ok, IfErr, IfOk, IfSome};
+ghost use Rattle.body_reader.specs.BodyReader.{BodyWent, FillsPayload, IsBodyReader, IsWhole, ReadsPayload};
+ghost use Rattle.multipart.specs.Multipart.{AreCodings, Collects, EndsHead, GoesOn, IsBegun, IsForm, IsRefused, LeavesText, NextPart, codes};
+
+use crate::error::{NewError, PartError};
+use crate::head::is_opening;
+use body_reader::{BodyError, BodyReader, JustOrUntil, Until};
+use buffer_redux::BufReader;
+use buffer_redux::policy::{ReaderPolicy, StdPolicy};
+use buffer_redux::tell::{Tell, TellRead};
+use std::alloc::Global;
+use std::marker::Model;
+
+/// How much of a body is no text of a part.
+#[derive(Clone, Copy, Debug, Drop)]
+pub struct Limits {
+    /// The most bytes that a head has.
+    pub head: usize,
+    /// The most parts.
+    pub parts: u64,
+}
+
+/// Where a reader stands.
+#[derive(Clone, Copy, Debug, PartialEq, Eq, Drop)]
+pub enum Stand {
+    /// Before the first boundary.
+    Preamble,
+    /// Behind a boundary.
+    Head,
+    /// In the text of a part.
+    Part,
+    /// Behind the last boundary, and its two hyphens.
+    Ended,
+}
+
+/// A reader of the parts of one body.
+///
+/// [`next_part`](Multipart::next_part) goes on to the next part. [`head`](Multipart::head) lends its head then, and its text is
+/// read by [`read`](Multipart::read), or lent by [`fill`](Multipart::fill) and [`piece`](Multipart::piece).
+#[derive(Drop)]
+pub struct Multipart<R: Tell, P = StdPolicy> {
+    body: BodyReader<R, JustOrUntil, P>,
+    // The coding of what comes behind: heads and texts come by turns.
+    other: JustOrUntil,
+    head: Vec<u8>,
+    stand: Stand,
+    parts: u64,
+    limits: Limits,
+}
+
+impl<R: Tell, P> Model for Multipart<R, P> {
+    ghost use Rattle.multipart.specs.Multipart.{FormState, IsForm};
+
+    ghost Value = { FormState R P };
+
+    ghost view = { λ m. record {
+      body = m.body;
+      other = m.other;
+      head = m.head.items;
+      stand = m.stand;
+      parts = m.parts;
+      limits = m.limits;
+    } };
+
+    ghost invariant = { λ m. IsForm (record {
+      body = m.body;
+      other = m.other;
+      head = m.head.items;
+      stand = m.stand;
+      parts = m.parts;
+      limits = m.limits;
+    }) };
+}
+
+impl<R: Tell, P> Multipart<R, P> {
+    /// A reader of a body with this boundary, that comes next of `reader`. Its buffer has the bytes of the boundary, and four
+    /// more. An `Err` hands the reader back.
+    pub fn new(
+        alloc: Global,
+        reader: BufReader<R, P>,
+        boundary: &[u8],
+        limits: Limits,
+    ) -> Result<Self, (BufReader<R, P>, NewError)>
+        ensures begun { IfOk result (IsBegun reader boundary.now limits) }
+        ensures whole { IfOk result IsForm }
+        ensures handed_back { IfErr result (λ e. e.0 ≡ reader) }
+        ensures refused { IfErr result (λ e. IsRefused reader boundary.now e.1) }
+    {
+        if boundary.is_empty() || boundary.len() > 70 {
+            return Err((reader, NewError::Boundary));
+        }
+        let room = boundary.len() + 4;
+        if reader.capacity() < room {
+            return Err((reader, NewError::Room));
+        }
+        match codings(alloc, boundary, room) {
+            Some((texts, heads)) => Ok(Multipart {
+                body: BodyReader::new(reader, texts),
+                other: heads,
+                head: Vec::new(alloc),
+                stand: Stand::Preamble,
+                parts: 0,
+                limits,
+            }),
+            None => Err((reader, NewError::Memory)),
+        }
+    }
+
+    /// The buffered reader.
+    pub fn get_ref(&self) -> &BufReader<R, P>
+        ensures reader { result.now ≡ self.now.body.reader }
+        ensures whole { IsForm self.now }
+    {
+        self.body.get_ref()
+    }
+
+    /// The buffered reader where it stands. Behind the last part that is behind the two hyphens, and the rest of that line and
+    /// the epilogue follow; else a part is torn.
+    pub fn into_inner_torn(self) -> BufReader<R, P>
+        ensures { result ≡ self.body.reader }
+    {
+        let Multipart {
+            body,
+            other: _,
+            head: _,
+            stand: _,
+            parts: _,
+            limits: _,
+        } = self;
+        body.into_inner_torn()
+    }
+
+    /// Where the reader stands.
+    pub fn stand(&self) -> Stand
+        ensures { result ≡ self.now.stand }
+    {
+        self.stand
+    }
+
+    /// The head of the part: what stands behind its boundary, up to the empty line. It begins with the end of the boundary's
+    /// line, and [`field`](crate::field) finds a field in it.
+    pub fn head(&self) -> &[u8]
+        ensures { result.now ≡ self.now.head }
+    {
+        self.head.as_slice()
+    }
+
+    /// The text of the part that is buffered, as far as the last [`fill`](Multipart::fill) said, and wasn't consumed.
+    pub fn piece(&self) -> &[u8]
+        ensures { result.now ≡ take self.now.body.known self.now.body.reader.block.bytes }
+    {
+        self.body.piece()
+    }
+}
+
+// The codings of texts and of heads.
+fn codings(alloc: Global, boundary: &[u8], room: usize) -> Option<(JustOrUntil, JustOrUntil)>
+    requires some { 0 < length boundary.now }
+    requires room { room ≡ length boundary.now + 4 }
+    ensures texts { IfSome result (λ both. both.0.just.items ≡ 45 ∷ 45 ∷ boundary.now) }
+    ensures codings { IfSome result (λ both. AreCodings both.0 both.1) }
+    ensures room { IfSome result (λ both. both.0.room ≡ room) }
+{
+    let texts = coding(alloc, b"--", b"\r\n--", boundary, room)?;
+    let heads = coding(alloc, b"--", b"\r\n\r\n", b"", room)?;
+    Some((texts, heads))
+}
+
+// A coding of what is just `just` and then `tail`, or else ends at `end` and then that.
+fn coding(alloc: Global, just: &[u8], end: &[u8], tail: &[u8], room: usize) -> Option<JustOrUntil>
+    requires some { 0 < length just.now }
+    requires shorter { length just.now < length end.now }
+    requires fits { length end.now + length tail.now ≤ room }
+    ensures { IfSome result (λ c. (c.just.items ≡ just.now ++ tail.now) × (c.until.delimiter.items ≡ end.now ++ tail.now)
+        × (c.room ≡ room)) }
+{
+    let just = joined(alloc, just, tail)?;
+    let delimiter = joined(alloc, end, tail)?;
+    Some(JustOrUntil {
+        just,
+        until: Until { delimiter },
+        room,
+    })
+}
+
+// Both, one after the other.
+fn joined(alloc: Global, front: &[u8], tail: &[u8]) -> Option<Vec<u8>>
+    ensures { IfSome result (λ v. vec_items v ≡ front.now ++ tail.now) }
+{
+    let mut both = Vec::new(alloc);
+    if both.extend_from_slice(front).is_err() || both.extend_from_slice(tail).is_err() {
+        return None;
+    }
+    Some(both)
+}
+
+impl<R: TellRead, P: ReaderPolicy> Multipart<R, P> {
+    /// Hands out text of the part, at least a byte unless it ended or the slice is empty; and none where the reader stands in no
+    /// part. After a `Truncated` or an `Io` a further call goes on.
+    pub fn read(&mut self, out: &mut [u8]) -> Result<usize, BodyError<()>>
+        ensures reads { self.old.stand ≡ Stand.Part → ReadsPayload R.remaining P.rules (codes self.old.body.coding) self.old.body
+            out.new result self.new.body }
+        ensures none { self.old.stand ≢ Stand.Part → (result ≡ Ok 0) × (self.new ≡ self.old) }
+        ensures within { self.new ≡ record self.old { body = self.new.body } }
+    {
+        if !matches!(self.stand, Stand::Part) {
+            return Ok(0);
+        }
+        self.body.read_payload(out)
+    }
+
+    /// How many bytes of the part's text are buffered, which [`piece`](Multipart::piece) lends: none only where it ended, or the
+    /// reader stands in no part. Where some are known nobody is asked.
+    pub fn fill(&mut self) -> Result<usize, BodyError<()>>
+        ensures fills { self.old.stand ≡ Stand.Part → FillsPayload R.remaining P.rules (codes self.old.body.coding) self.old.body
+            result self.new.body }
+        ensures none { self.old.stand ≢ Stand.Part → (result ≡ Ok 0) × (self.new ≡ self.old) }
+        ensures within { self.new ≡ record self.old { body = self.new.body } }
+    {
+        if !matches!(self.stand, Stand::Part) {
+            return Ok(0);
+        }
+        self.body.fill_payload()
+    }
+
+    /// Proceeds on behind the first `count` bytes that [`piece`](Multipart::piece) lends, or behind all.
+    pub fn consume(&mut self, count: usize)
+        ensures went { self.old.stand ≡ Stand.Part → BodyWent R.remaining P.rules (codes self.old.body.coding) self.old.body
+            (take (min count self.old.body.known) self.old.body.reader.block.bytes) self.new.body }
+        ensures left { self.old.stand ≡ Stand.Part → self.new.body.known ≡ self.old.body.known - count }
+        ensures told { self.new.body.reader.log ≡ self.old.body.reader.log }
+        ensures none { self.old.stand ≢ Stand.Part → self.new ≡ self.old }
+        ensures within { self.new ≡ record self.old { body = self.new.body } }
+    {
+        if matches!(self.stand, Stand::Part) {
+            self.body.consume_payload(count);
+        }
+    }
+
+    /// Goes on to the next part, behind what is left of this one; `false` where there is none. An `Err` loses no byte, and a
+    /// further call goes on where this one stopped.
+    ///
+    /// The stream is asked only where what is buffered settles nothing: for no byte behind the empty line of a head, nor behind
+    /// the two hyphens of the last boundary.
+    pub fn next_part(&mut self) -> Result<bool, PartError>
+        ensures { NextPart R.remaining P.rules self.old.stand self.old result self.new }
+    {
+        match self.stand {
+            Stand::Ended => Ok(false),
+            Stand::Head => self.go_on(),
+            Stand::Preamble | Stand::Part => {
+                self.leave_text()?;
+                self.go_on()
+            }
+        }
+    }
+
+    // Goes on into the part behind this head.
+    fn go_on(&mut self) -> Result<bool, PartError>
+        requires head { self.old.stand ≡ Stand.Head }
+        ensures { GoesOn R.remaining P.rules self.old result self.new }
+    {
+        self.collect()?;
+        self.end_head()
+    }
+
+    // Goes on behind the boundary that ends this text.
+    fn leave_text(&mut self) -> Result<(), PartError>
+        requires text { (self.old.stand ≡ Stand.Preamble) ⊎ (self.old.stand ≡ Stand.Part) }
+        ensures { LeavesText R.remaining P.rules self.old result self.new }
+    {
+        self.body.drain()?;
+        self.body.begin_next(&mut self.other);
+        self.head.clear();
+        self.stand = Stand::Head;
+        Ok(())
+    }
+
+    // Collects the head.
+    fn collect(&mut self) -> Result<(), PartError>
+        requires head { self.old.stand ≡ Stand.Head }
+        ensures collects { Collects R.remaining P.rules self.old.limits.head self.old.body self.old.head result self.new.body
+            self.new.head }
+        ensures within { self.new ≡ record self.old { body = self.new.body; head = self.new.head } }
+    {
+        collect_into(&mut self.body, &mut self.head, self.limits.head)
+    }
+
+    // Goes on into the part behind this head, or says that there is none.
+    fn end_head(&mut self) -> Result<bool, PartError>
+        requires head { self.old.stand ≡ Stand.Head }
+        requires whole { IsWhole (codes self.old.body.coding) self.old.body }
+        requires reader { IsBodyReader (codes self.old.body.coding) self.old.body }
+        ensures { EndsHead self.old result self.new }
+    {
+        if self.body.taken() == 2 {
+            self.stand = Stand::Ended;
+            return Ok(false);
+        }
+        if !is_opening(self.head.as_slice()) {
+            return Err(PartError::Boundary);
+        }
+        if self.parts >= self.limits.parts {
+            return Err(PartError::ManyParts);
+        }
+        self.body.begin_next(&mut self.other);
+        self.parts += 1;
+        self.stand = Stand::Part;
+        Ok(true)
+    }
+}
+
+// Collects what comes of a head, of at most so many bytes.
+fn collect_into<R: TellRead, P: ReaderPolicy>(
+    body: &mut BodyReader<R, JustOrUntil, P>,
+    head: &mut Vec<u8>,
+    most: usize,
+) -> Result<(), PartError>
+    ensures { Collects R.remaining P.rules most body.old (vec_items head.old) result body.new (vec_items head.new) }
+{
+    let _ = body.get_ref();
+    loop {
+        let count = body.fill_payload()?;
+        if count == 0 {
+            return Ok(());
+        }
+        if count > most.saturating_sub(head.len()) {
+            return Err(PartError::LongHead);
+        }
+        if head.extend_from_slice(body.piece()).is_err() {
+            return Err(PartError::Memory);
+        }
+        body.consume_payload(count);
+    }
+}

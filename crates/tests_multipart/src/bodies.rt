@@ -1,0 +1,157 @@
+//! The bodies.
+
+/// A part: its name, its file's name, its type and its text, each empty where there is none.
+#[derive(Clone, Copy)]
+pub struct Part(
+    pub &'static [u8],
+    pub &'static [u8],
+    pub &'static [u8],
+    pub &'static [u8],
+);
+
+/// A boundary, a body, where its parts stand in [`PARTS`], and what stands behind it.
+#[derive(Clone, Copy)]
+pub struct Body {
+    pub boundary: &'static [u8],
+    pub bytes: &'static [u8],
+    pub from: usize,
+    pub count: usize,
+    pub behind: &'static [u8],
+}
+
+pub static PARTS: [Part; 13] = [
+    Part(b"comment", b"", b"", b"caf\xc3\xa9 & co"),
+    Part(b"file", b"note.txt", b"text/plain", b"one\r\n--two\r\n"),
+    Part(b"quoted %22name%22", b"", b"", b""),
+    Part(b"empty", b"", b"", b""),
+    Part(b"a", b"", b"", b"1"),
+    Part(
+        b"f",
+        b"x.bin",
+        b"application/octet-stream",
+        b"\x00\r\n-\r\n--",
+    ),
+    Part(b"", b"", b"text/plain; charset=\"us-ascii\"", b"hello\r\n"),
+    Part(b"", b"", b"text/html; charset=\"us-ascii\"", b"<b>x</b>"),
+    Part(b"", b"", b"", b"one"),
+    Part(b"", b"", b"", b""),
+    Part(b"", b"", b"", b""),
+    Part(b"", b"", b"", b"\r\n"),
+    Part(b"", b"", b"", b"\r\n--a\r\r\n-\r\n\r\n--"),
+];
+
+pub static BODIES: [Body; 6] = [
+    // `curl -F`, of a text, a file, and two that are empty.
+    Body {
+        boundary: b"------------------------7e8e528b8b54de33",
+        bytes: b"--------------------------7e8e528b8b54de33\r\n\
+          Content-Disposition: form-data; name=\"comment\"\r\n\
+          \r\n\
+          caf\xc3\xa9 & co\r\n\
+          --------------------------7e8e528b8b54de33\r\n\
+          Content-Disposition: form-data; name=\"file\"; filename=\"note.txt\"\r\n\
+          Content-Type: text/plain\r\n\
+          \r\n\
+          one\r\n\
+          --two\r\n\
+          \r\n\
+          --------------------------7e8e528b8b54de33\r\n\
+          Content-Disposition: form-data; name=\"quoted %22name%22\"\r\n\
+          \r\n\
+          \r\n\
+          --------------------------7e8e528b8b54de33\r\n\
+          Content-Disposition: form-data; name=\"empty\"\r\n\
+          \r\n\
+          \r\n\
+          --------------------------7e8e528b8b54de33--\r\n",
+        from: 0,
+        count: 4,
+        behind: b"\r\n",
+    },
+    // `urllib3`'s encoder.
+    Body {
+        boundary: b"8d4b0a1f",
+        bytes: b"--8d4b0a1f\r\n\
+          Content-Disposition: form-data; name=\"a\"\r\n\
+          \r\n\
+          1\r\n\
+          --8d4b0a1f\r\n\
+          Content-Disposition: form-data; name=\"f\"; filename=\"x.bin\"\r\n\
+          Content-Type: application/octet-stream\r\n\
+          \r\n\
+          \x00\r\n\
+          -\r\n\
+          --\r\n\
+          --8d4b0a1f--\r\n",
+        from: 4,
+        count: 2,
+        behind: b"\r\n",
+    },
+    // Python's `email`, with a preamble.
+    Body {
+        boundary: b"===============7330==",
+        bytes: b"This is a multi-part message in MIME format.\r\n\
+          --===============7330==\r\n\
+          Content-Type: text/plain; charset=\"us-ascii\"\r\n\
+          MIME-Version: 1.0\r\n\
+          Content-Transfer-Encoding: 7bit\r\n\
+          \r\n\
+          hello\r\n\
+          \r\n\
+          --===============7330==\r\n\
+          Content-Type: text/html; charset=\"us-ascii\"\r\n\
+          MIME-Version: 1.0\r\n\
+          Content-Transfer-Encoding: 7bit\r\n\
+          \r\n\
+          <b>x</b>\r\n\
+          --===============7330==--\r\n",
+        from: 6,
+        count: 2,
+        behind: b"\r\n",
+    },
+    // RFC 2046, section 5.1.1: no field, blanks behind a boundary, a part without a line, an epilogue.
+    Body {
+        boundary: b"b",
+        bytes: b"pre\r\n\
+          --b \x09\r\n\
+          \r\n\
+          one\r\n\
+          --b\r\n\
+          \r\n\
+          --b\r\n\
+          A: x\r\n\
+          \r\n\
+          \r\n\
+          --b\r\n\
+          \r\n\
+          \r\n\
+          \r\n\
+          --b--epi",
+        from: 8,
+        count: 4,
+        behind: b"epi",
+    },
+    // No part.
+    Body {
+        boundary: b"b",
+        bytes: b"--b--",
+        from: 12,
+        count: 0,
+        behind: b"",
+    },
+    // Beginnings of the boundary in a text.
+    Body {
+        boundary: b"ab",
+        bytes: b"--ab\r\n\
+          \r\n\
+          \r\n\
+          --a\r\r\n\
+          -\r\n\
+          \r\n\
+          --\r\n\
+          --ab--",
+        from: 12,
+        count: 1,
+        behind: b"",
+    },
+];

@@ -1,0 +1,11 @@
+//! Multipart bodies of `curl`, of Python's `urllib3` and `email` and of RFC 2046, cut in every way.
+#![tactic(auto)]
+
+#[cfg(test)]
+mod bodies;
+#[cfg(test)]
+mod examples;
+#[cfg(test)]
+mod parts;
+#[cfg(test)]
+mod waits;
