@@ -15,7 +15,8 @@ lent all and returns nothing. A method of a trait of the libraries' own, as of a
 counts as made where its type is named. A function that is called without being run, as in a caller that is just proved, counts
 too: whether it came to something the tests say.
 
-tests/uncalled.txt names those that nothing makes yet, and no other.
+tests/uncalled.txt names those that a library alone makes, since they rest on what calls before them said, which no test proves;
+and beside each the module that calls it. One that stands there alone nothing makes yet.
 """
 import collections
 import re
@@ -25,15 +26,6 @@ from causes import LEFT_OUT
 from typed import TOP, Program, Sources, Tokens, Type, inside, substituted, unify
 
 UNNAMED = ("fmt", "from", "drop")
-# Calls that rest on what calls before them said, which no test proves: each with the functions of a library that make it.
-WITHIN = {
-    "forward::link::Link::ask": "forward::pump",
-    "forward::link::Link::flush": "forward::pump",
-    "forward::link::Link::pass": "forward::pump",
-    "piece_reader::reader::PieceReader::step_on": "line_reader::reader::steps",
-    "codec::laws::known::read_each": "codec::laws::lists",
-    "codec::header_bytes::HeaderBytes::push_number": "codec::text_header_writer",
-}
 # Of these of std the value inside is bound by `?`, `Ok(..)` or `Some(..)`.
 WRAPPERS = ("Result", "Option")
 UNWRAPS = ("unwrap", "expect", "unwrap_or", "unwrap_or_default", "ok", "as_mut", "as_ref", "by_ref", "clone", "into_iter")
@@ -379,15 +371,17 @@ def main():
         if module.crate in callers:
             types |= {it for it in (sources.resolve(module, [name]) for name in module.uses) if isinstance(it, str)}
     calls = {f"{owner}::{name}": (owner, name, trait) for owner, name, trait in public_calls(program, libraries)}
-    wrong = [f"`{it}` isn't called within `{by}`" for it, by in WITHIN.items()
-             if it not in calls or calls[it][:2] not in made_by(program, [fn for fn in every if fn.file.name == by])]
     left = {it for it, (owner, name, trait) in calls.items()
-            if it not in WITHIN and (owner, name) not in made and not (trait in program.traits and owner in types)}
-    known = set((TOP / "tests/uncalled.txt").read_text(encoding="utf-8").split())
-    wrong += [f"`{it}` is called by no test, no row and no caller" for it in sorted(left - known)]
-    wrong += [f"tests/uncalled.txt: `{it}` is called, or isn't there" for it in sorted(known - left)]
-    count = len(calls) - len(WITHIN) - len(left)
-    said = f"a test, a row or a caller makes {count} public calls, a library {len(WITHIN)} more, and nothing {len(left)}"
+            if (owner, name) not in made and not (trait in program.traits and owner in types)}
+    lines = (TOP / "tests/uncalled.txt").read_text(encoding="utf-8").splitlines()
+    within = {it: by for it, _, by in (line.partition(" ") for line in lines)}
+    wrong = [f"`{it}` is called by no test, no row and no caller" for it in sorted(left - set(within))]
+    wrong += [f"tests/uncalled.txt: `{it}` is called, or isn't there" for it in sorted(set(within) - left)]
+    wrong += [f"tests/uncalled.txt: `{it}` isn't called within `{by}`" for it, by in within.items()
+              if by and it in left and calls[it][:2] not in made_by(program, [fn for fn in every if fn.file.name == by])]
+    alone = sum(not by for by in within.values())
+    said = f"a test, a row or a caller makes {len(calls) - len(within)} public calls, a library {len(within) - alone} more"
+    said += f", and nothing {alone}" if alone else ""
     print("\n".join(wrong) or said)
     return 1 if wrong else 0
 

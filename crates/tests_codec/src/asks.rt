@@ -1,4 +1,5 @@
 //! Readers that are asked for one thing after another.
+use std::io::ErrorKind;
 use tests_common::sweep::Came;
 
 /// A call, and what it is to answer, or what is seen between two calls.
@@ -18,6 +19,26 @@ pub enum Want<'a> {
     Rest(&'a [u8]),
     /// The stream was read so often.
     Asked(usize),
+    /// Whether the next call asks the stream for nothing.
+    Ready(bool),
+    /// The next piece where it is buffered, which asks for nothing.
+    Buffered(Option<&'a [u8]>),
+    /// Whether the stream ended, which no call told.
+    Ended(bool),
+    /// The stream fails so, and the call isn't made again.
+    Failed(ErrorKind),
+    /// It fails in a line that is skipped.
+    Unskipped,
+    /// Whether a line is being skipped.
+    Skipping(bool),
+    /// So many of the bytes that are left were looked at.
+    Looked(usize),
+    /// So many of them are dropped.
+    Dropped(usize),
+    /// Whether something came where nothing was left.
+    Refilled(bool),
+    /// The stream itself gives these bytes.
+    Past(&'a [u8]),
 }
 
 /// Why bytes are no piece.
@@ -41,6 +62,9 @@ pub trait Asks {
     /// What is buffered and was not handed out.
     fn left(&self) -> &[u8];
 
+    /// Whether the next call asks the stream for nothing.
+    fn is_ready(&self) -> bool;
+
     /// How many bytes each read of the stream was offered.
     fn asked(&self) -> &[usize];
 }
@@ -50,6 +74,7 @@ fn meets<A: Asks>(reader: &mut A, want: Want<'_>) -> Option<bool> {
     match want {
         Want::Rest(bytes) => Some(reader.left() == bytes),
         Want::Asked(count) => Some(reader.asked().len() == count),
+        Want::Ready(ready) => Some(reader.is_ready() == ready),
         _ => reader.answers(want),
     }
 }

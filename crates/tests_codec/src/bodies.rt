@@ -11,10 +11,10 @@ use chunked::{ChunkedError, ChunkedReader, Limits, Malformed};
 use redux_script::Answer;
 use std::alloc::{AllocError, Global};
 use std::io;
-use std::io::Read;
+use std::io::{ErrorKind, Read};
 use std::test::Fail;
 use tests_common::sweep::{Came, FAULT, Run, sweep};
-use tests_common::{Source, asked, first, read_to_end, reader, source};
+use tests_common::{Source, asked, first, kind, read, read_to_end, reader, source};
 
 // How a body ends.
 #[derive(Clone, Copy)]
@@ -276,5 +276,36 @@ fn tells_how_bodies_end(rt: HostRuntime) -> Result<(), Fail> {
         *met = sweep(rt.alloc(), rows, &[1], FAULT)?;
     }
     assert!(rt; met == [Ok(36), Ok(40), Ok(104), Ok(55)], "{met:?}");
+    Ok(())
+}
+
+// The rows, and what one read answers, as std's do.
+static READ: [(Row<'static>, Result<usize, ErrorKind>); 4] = [
+    (Row(9, 9, b"3\r\nabc\r\n", b"abc", Whole(b"")), Ok(3)),
+    (Row(9, 9, b"0\r\n\r\n", b"", Whole(b"")), Ok(0)),
+    (
+        Row(9, 9, b"x", b"", Wrong(NoSize, 0)),
+        Err(ErrorKind::InvalidData),
+    ),
+    (
+        Row(9, 9, b"", b"", Truncated(0)),
+        Err(ErrorKind::UnexpectedEof),
+    ),
+];
+
+// Whether one read answers so, over a buffer of eight bytes that the stream was offered whole.
+fn is_read(alloc: Global, row: &Row<'_>, want: Result<usize, ErrorKind>) -> io::Result<bool> {
+    let mut body = body(alloc, row, &[])?;
+    let mut out = [0; 8];
+    let answer = kind(read(&mut body, &mut out));
+    let payload = first(&out, row.3.len()) == row.3;
+    Ok(payload && answer == want && asked(body.get_ref()).first() == Some(&8))
+}
+
+#[test]
+fn reads_as_std_does(rt: HostRuntime) -> Result<(), Fail> {
+    for (at, (row, want)) in READ.iter().enumerate() {
+        assert!(rt; is_read(rt.alloc(), row, *want)?, "row {at}");
+    }
     Ok(())
 }

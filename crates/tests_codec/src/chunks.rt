@@ -256,3 +256,18 @@ fn refuses_trailers(rt: HostRuntime) -> Result<(), Fail> {
     }
     Ok(())
 }
+
+// A writer that is made again of its parts.
+fn over_parts<W: TellWrite + Drop>(body: ChunkedWriter<W>) -> io::Result<ChunkedWriter<W>> {
+    let (inner, buffer) = body.into_inner_with_buffer();
+    if buffer.capacity() <= 20 {
+        return Err(io::Error::from(ErrorKind::InvalidInput));
+    }
+    Ok(ChunkedWriter::with_buffer(buffer, inner))
+}
+
+#[test]
+fn goes_on_over_its_parts(rt: HostRuntime) -> Result<(), Fail> {
+    assert!(rt; goes_on(over_parts(hello(rt.alloc())?)?)?);
+    Ok(())
+}

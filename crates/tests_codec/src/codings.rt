@@ -10,7 +10,9 @@ use std::alloc::{AllocError, Global};
 use std::io;
 use std::io::{BufRead, ErrorKind, Read};
 use std::test::Fail;
-use tests_common::{Source, asked, first, holding, holding_in, read_to_end, source};
+use tests_common::{
+    Source, asked, consume, fill_buf, first, holding, holding_in, read_to_end, source,
+};
 
 // Which coding.
 #[derive(Clone, Copy)]
@@ -232,11 +234,14 @@ fn holds(
     Ok(true)
 }
 
-// Whether the other calls do what they say, over a buffer that holds `ab`, and a stream of `c`, a line feed and `deGET`.
+// Whether the other calls do what they say, over a buffer that holds `ab`, and a stream that fails, and then has `xc`, a line
+// feed and `deGET`.
 fn answers(alloc: Global, mut body: BodyReader<Source, Sized>) -> io::Result<bool> {
     let mut out = [0; 8];
-    let held = body.read_buffered(&mut out) == 2 && body.place() == 4;
-    let none = body.get_ref().buffer().is_empty();
+    let held = body.read_buffered(&mut out) == 2 && body.place() == 5;
+    let none = body.get_ref().buffer().is_empty() && fill_buf(&mut body).is_err();
+    let shown = fill_buf(&mut body)? == b"xc\nde".as_slice();
+    consume(&mut body, 1);
     let mut line = Vec::new(alloc);
     let count = body.read_until(b'\n', &mut line)?;
     let rest = body.read(&mut out)?;
@@ -244,6 +249,7 @@ fn answers(alloc: Global, mut body: BodyReader<Source, Sized>) -> io::Result<boo
     let inner = body.into_inner_torn();
     Ok(
         held && none
+            && shown
             && count == 2
             && line.as_slice() == b"c\n".as_slice()
             && rest == 2
@@ -255,8 +261,9 @@ fn answers(alloc: Global, mut body: BodyReader<Source, Sized>) -> io::Result<boo
 #[test]
 fn other_calls(rt: HostRuntime) -> Result<(), Fail> {
     let alloc = rt.alloc();
-    let stream = source(alloc, b"c\ndeGET", &[])?;
-    let seen = match BodyReader::with_buffer(holding(alloc, 8, b"ab")?, stream, Sized(6)) {
+    let script = [Answer::Fail(ErrorKind::TimedOut)];
+    let stream = source(alloc, b"xc\ndeGET", &script)?;
+    let seen = match BodyReader::with_buffer(holding(alloc, 8, b"ab")?, stream, Sized(7)) {
         Ok(body) => answers(alloc, body)?,
         Err(_) => false,
     };

@@ -1,9 +1,9 @@
 //! Frames, read and written.
-use crate::asks::Want::{Asked, End, Next, Rest, Wrong};
+use crate::asks::Want::{Asked, End, Failed, Next, Ready, Rest, Wrong};
 use crate::asks::Why::{Long, Truncated};
 use crate::asks::{Asks, Want, walk};
-use buffer_redux::MakeError;
 use buffer_redux::tell::{TellRead, TellWrite};
+use buffer_redux::{Buffer, IntoInnerError, MakeError};
 use frame_reader::{FrameError, FrameReader, FrameWriter, WriteFrameError};
 use redux_script::Answer;
 use std::alloc::{AllocError, Global};
@@ -11,7 +11,7 @@ use std::io;
 use std::io::ErrorKind;
 use std::test::Fail;
 use tests_common::sweep::{Came, FAULT, Run, sweep};
-use tests_common::{Source, Target, source, target};
+use tests_common::{Source, Target, holding, source, target};
 
 // The greatest length of a payload, the bytes of the stream, and call after call.
 #[derive(Drop)]
@@ -62,6 +62,10 @@ fn rest<R: TellRead>(frames: &FrameReader<R>) -> &[u8] {
     frames.rest()
 }
 
+fn has_frame<R: TellRead>(frames: &FrameReader<R>) -> bool {
+    frames.has_frame()
+}
+
 impl Asks for Frames {
     fn answers(&mut self, want: Want<'_>) -> Option<bool> {
         is_such(next(self), want)
@@ -69,6 +73,10 @@ impl Asks for Frames {
 
     fn left(&self) -> &[u8] {
         rest(self)
+    }
+
+    fn is_ready(&self) -> bool {
+        has_frame(self)
     }
 
     fn asked(&self) -> &[usize] {
@@ -83,6 +91,7 @@ fn is_such(answer: Result<Option<&[u8]>, FrameError>, want: Want<'_>) -> Option<
         (Ok(None), End) => Some(true),
         (Err(FrameError::Truncated(have)), Wrong(Truncated(count))) => Some(have == count),
         (Err(FrameError::TooLong(len)), Wrong(Long(count))) => Some(usize::from(len) == count),
+        (Err(FrameError::Io(e)), Failed(kind)) => Some(e.kind() == kind),
         (Err(FrameError::Io(e)), _) => (e.kind() != ErrorKind::Other).then_some(false),
         _ => Some(false),
     }
@@ -129,24 +138,66 @@ fn takes_the_longest(rt: HostRuntime) -> Result<(), Fail> {
     Ok(())
 }
 
-// Two frames come in one read.
-static AT_ONCE: Reads<'static> = Reads(
-    3,
-    b"\x00\x01a\x00\x01b",
-    &[Next(b"a"), Rest(b"\x00\x01b"), Next(b"b"), Asked(1)],
-);
+// Two frames come in one read; and the stream fails within a length, and gives the rest in one read.
+static SCRIPTED: [(Reads<'static>, &[Answer]); 2] = [
+    (
+        Reads(
+            3,
+            b"\x00\x01a\x00\x01b",
+            &[
+                Ready(false),
+                Next(b"a"),
+                Rest(b"\x00\x01b"),
+                Ready(true),
+                Next(b"b"),
+                Asked(1),
+            ],
+        ),
+        &[],
+    ),
+    (
+        Reads(
+            3,
+            b"\x00\x01a",
+            &[
+                Failed(ErrorKind::Other),
+                Rest(b"\x00"),
+                Next(b"a"),
+                End,
+                Asked(4),
+            ],
+        ),
+        &[Answer::Serve(1), FAULT],
+    ),
+];
 
 #[test]
-fn reads_two_at_once(rt: HostRuntime) -> Result<(), Fail> {
-    assert!(rt;
-        matches!(
-            AT_ONCE.run(rt.alloc(), &[])?,
-            Some(Came {
-                failed: 0,
-                calls: 1
-            })
-        )
-    );
+fn reads_as_the_stream_gives(rt: HostRuntime) -> Result<(), Fail> {
+    for (row, (frame, script)) in SCRIPTED.iter().enumerate() {
+        let came = frame.run(rt.alloc(), script)?;
+        assert!(rt; matches!(came, Some(Came { failed: 0, .. })), "row {row}");
+    }
+    Ok(())
+}
+
+// The frames behind the first, of a reader that is made again of its parts.
+fn goes_on(alloc: Global, frames: Frames) -> Result<Frames, MakeError<(Buffer, Source)>> {
+    let (inner, buffer) = frames.into_inner_with_buffer();
+    FrameReader::with_buffer(alloc, buffer, inner, 3)
+}
+
+fn behind_one(alloc: Global) -> io::Result<Frames> {
+    let bytes = b"\x00\x01a\x00\x01b\x00\x03cde";
+    let mut frames = reader(alloc, 3, source(alloc, bytes, &[])?)?;
+    let _ = next(&mut frames);
+    Ok(frames)
+}
+
+#[test]
+fn goes_on_over_its_parts(rt: HostRuntime) -> Result<(), Fail> {
+    let frames = goes_on(rt.alloc(), behind_one(rt.alloc())?)?;
+    let wants = [Ready(true), Next(b"b"), Next(b"cde"), Asked(1), End];
+    assert!(rt; walk(frames, &wants).is_some());
     Ok(())
 }
 
@@ -248,5 +299,51 @@ impl Run for Writes<'_> {
 fn writes_frames(rt: HostRuntime) -> Result<(), Fail> {
     let met = sweep(rt.alloc(), &WRITES, &[usize::MAX, 2, 1], FAULT)?;
     assert!(rt; met == Ok(48), "{met:?}");
+    Ok(())
+}
+
+// What the stream answers, whether all is sent, and what it took then.
+static SENT: [(&[Answer], bool, &'static [u8]); 2] = [
+    (&[], true, b"x\x00\x01a"),
+    (&[FAULT], false, b""),
+];
+
+// A writer of frames behind a byte that another left.
+fn behind_byte(alloc: Global, script: &[Answer]) -> io::Result<Sends> {
+    let buffer = holding(alloc, 9, b"x")?;
+    let mut frames = FrameWriter::with_buffer(alloc, buffer, target(alloc, script)?, 3)?;
+    let _ = puts(&mut frames, b"a", 3);
+    Ok(frames)
+}
+
+fn send<W: TellWrite>(frames: &mut FrameWriter<W>) -> io::Result<()> {
+    frames.send()
+}
+
+// Whether a send ends so, and flushes nothing.
+fn sends(alloc: Global, script: &[Answer], is_sent: bool, want: &[u8]) -> io::Result<bool> {
+    let mut frames = behind_byte(alloc, script)?;
+    let sent = send(&mut frames).is_ok();
+    let target = frames.get_ref().get_ref();
+    Ok(sent == is_sent && target.taken() == want && target.flushes() == 0)
+}
+
+// Whether a writer comes apart so, and flushes once.
+fn comes_apart(alloc: Global, script: &[Answer], is_sent: bool, want: &[u8]) -> io::Result<bool> {
+    Ok(match behind_byte(alloc, script)?.into_inner() {
+        Ok(target) => {
+            let target = target.into_inner();
+            is_sent && target.taken() == want && target.flushes() == 1
+        }
+        Err(IntoInnerError(frames, _)) => !is_sent && taken(&frames) == want,
+    })
+}
+
+#[test]
+fn sends_frames(rt: HostRuntime) -> Result<(), Fail> {
+    for &(script, is_sent, want) in &SENT {
+        assert!(rt; sends(rt.alloc(), script, is_sent, want)?);
+        assert!(rt; comes_apart(rt.alloc(), script, is_sent, want)?);
+    }
     Ok(())
 }

@@ -7,6 +7,10 @@ mod asks;
 #[cfg(test)]
 mod bodies;
 #[cfg(test)]
+mod by_hand;
+#[cfg(test)]
+mod by_hand_out;
+#[cfg(test)]
 mod chunks;
 #[cfg(test)]
 mod codings;
@@ -17,12 +21,18 @@ mod examples;
 #[cfg(test)]
 mod frames;
 #[cfg(test)]
+mod laws;
+#[cfg(test)]
 mod lines;
 pub mod packets;
+#[cfg(test)]
+mod parts;
 #[cfg(test)]
 mod pieces;
 #[cfg(test)]
 mod ready;
+#[cfg(test)]
+mod requests;
 #[cfg(test)]
 mod served;
 #[cfg(test)]

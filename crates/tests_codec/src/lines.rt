@@ -1,10 +1,13 @@
 //! Lines.
-use crate::asks::Want::{Asked, End, Next, Rest, Skipped, Trimmed, Wrong};
+use crate::asks::Want::{
+    Asked, End, Next, Past, Ready, Rest, Skipped, Skipping, Trimmed, Unskipped, Wrong,
+};
 use crate::asks::Why::Long;
 use crate::asks::{Asks, Want, walk};
+use crate::by_hand::gives;
 use buffer_redux::MakeError;
 use buffer_redux::tell::TellRead;
-use line_reader::{LineError, LineReader};
+use line_reader::{LineError, LineReader, trimmed};
 use redux_script::Answer;
 use std::alloc::Global;
 use std::io;
@@ -102,10 +105,25 @@ fn rest<R: TellRead>(lines: &LineReader<R>) -> &[u8] {
     lines.rest()
 }
 
+fn has_line<R: TellRead>(lines: &LineReader<R>) -> bool {
+    lines.has_line()
+}
+
+fn is_skipping<R: TellRead>(lines: &LineReader<R>) -> bool {
+    lines.is_skipping()
+}
+
+fn past<R: TellRead>(lines: &mut LineReader<R>, bytes: &[u8]) -> Option<bool> {
+    gives(lines.get_mut(), bytes)
+}
+
 impl Asks for Lines {
     fn answers(&mut self, want: Want<'_>) -> Option<bool> {
         match want {
             Skipped(count) => Some(skip_line(self).ok()? == count),
+            Unskipped => Some(skip_line(self).is_err()),
+            Skipping(skipping) => Some(is_skipping(self) == skipping),
+            Past(bytes) => past(self, bytes),
             Trimmed(_) => is_such(next_trimmed(self), want),
             _ => is_such(next(self), want),
         }
@@ -113,6 +131,10 @@ impl Asks for Lines {
 
     fn left(&self) -> &[u8] {
         rest(self)
+    }
+
+    fn is_ready(&self) -> bool {
+        has_line(self)
     }
 
     fn asked(&self) -> &[usize] {
@@ -162,7 +184,7 @@ fn skips_lines(rt: HostRuntime) -> Result<(), Fail> {
 }
 
 // A fault in a line that is dropped; and a terminal that ends after three bytes of a line, and goes on.
-static SCRIPTED: [(Row<'static>, &[Answer], usize); 4] = [
+static SCRIPTED: [(Row<'static>, &[Answer], usize); 6] = [
     (
         Row(
             3,
@@ -180,9 +202,36 @@ static SCRIPTED: [(Row<'static>, &[Answer], usize); 4] = [
     (
         Row(
             3,
+            b"abcdef\nok",
+            &[
+                Unskipped,
+                Skipping(true),
+                Ready(false),
+                Next(b"ok"),
+                Skipping(false),
+                Ready(true),
+                End,
+            ],
+        ),
+        &[Answer::Serve(3), Answer::Fail(ErrorKind::TimedOut)],
+        0,
+    ),
+    (
+        Row(
+            3,
+            b"a\nbcd\n",
+            &[Ready(false), Next(b"a"), Past(b"c"), Next(b"bd"), Asked(3)],
+        ),
+        &[Answer::Serve(3)],
+        0,
+    ),
+    (
+        Row(
+            3,
             b"a\nb\ncdef\ng\n",
             &[
                 Next(b"a"),
+                Ready(true),
                 Next(b"b"),
                 Asked(1),
                 Next(b"cde"),
@@ -233,6 +282,57 @@ fn reads_as_the_stream_gives(rt: HostRuntime) -> Result<(), Fail> {
     for (row, script, times) in &SCRIPTED {
         let came = row.run(rt.alloc(), script)?;
         assert!(rt; matches!(came, Some(Came { failed, .. }) if failed == *times));
+    }
+    Ok(())
+}
+
+// The lines behind the first, of a reader that is made again of its parts.
+fn goes_on(alloc: Global, lines: Lines, max: usize) -> Option<Lines> {
+    let (inner, buffer, _) = lines.into_inner_with_buffer();
+    LineReader::with_buffer(alloc, buffer, inner, max).ok()
+}
+
+fn behind_one(alloc: Global) -> io::Result<Lines> {
+    let mut lines = reader(alloc, 3, source(alloc, b"a\nbcd\ne", &[])?)?;
+    let _ = next(&mut lines);
+    Ok(lines)
+}
+
+// With this greatest length, or nothing where that is refused.
+static GO_ON: [(usize, Option<&[Want<'static>]>); 3] = [
+    (9, Some(&[Next(b"bcd"), Asked(1), Next(b"e"), End])),
+    (2, Some(&[Wrong(Long(2)), Asked(1)])),
+    (usize::MAX, None),
+];
+
+fn is_so(alloc: Global, max: usize, wants: Option<&[Want<'_>]>) -> io::Result<bool> {
+    Ok(match (goes_on(alloc, behind_one(alloc)?, max), wants) {
+        (Some(lines), Some(wants)) => lines.max() == max && walk(lines, wants).is_some(),
+        (None, None) => true,
+        _ => false,
+    })
+}
+
+#[test]
+fn goes_on_with_another_length(rt: HostRuntime) -> Result<(), Fail> {
+    for &(max, wants) in &GO_ON {
+        assert!(rt; is_so(rt.alloc(), max, wants)?, "{max}");
+    }
+    Ok(())
+}
+
+// As std's `lines` has it.
+static TRIMS: [(&'static [u8], &'static [u8]); 4] = [
+    (b"", b""),
+    (b"a\r", b"a"),
+    (b"\r\r", b"\r"),
+    (b"\ra", b"\ra"),
+];
+
+#[test]
+fn trims_lines(rt: HostRuntime) -> Result<(), Fail> {
+    for &(line, want) in &TRIMS {
+        assert!(rt; trimmed(line) == want);
     }
     Ok(())
 }

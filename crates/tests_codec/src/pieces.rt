@@ -1,11 +1,13 @@
 //! Pieces that a byte ends, or several.
 use crate::asks::Want::{End, Next, Rest, Wrong};
-use crate::asks::Why::Long;
+use crate::asks::Why::{Long, Truncated};
 use crate::asks::{Asks, Want, Why, walk};
+use crate::by_hand::{by_hand, is_settled};
 use buffer_redux::MakeError;
 use buffer_redux::tell::TellRead;
 use codec::{
-    Decoder, Delimited, HeaderError, NextError, PieceReader, Terminated, TooLong, Trimmed,
+    Decoder, Delimited, Ended, HeaderError, NextError, PieceReader, Terminated, TooLong, Trimmed,
+    Unended,
 };
 use redux_script::Answer;
 use std::alloc::Global;
@@ -37,7 +39,16 @@ impl Explained for HeaderError {
     }
 }
 
-// Neither this maker nor any call below promises anything.
+impl<W: Explained> Explained for Unended<W> {
+    fn why(self) -> Why {
+        match self {
+            Unended::Wrong(e) => e.why(),
+            Unended::Cut(have) => Why::Truncated(have),
+        }
+    }
+}
+
+// A reader over the usual buffer. Neither it nor any call below promises anything.
 fn reader<R: TellRead + Drop, D: Decoder>(
     alloc: Global,
     decoder: D,
@@ -67,11 +78,18 @@ where
     D::Wrong: Explained,
 {
     fn answers(&mut self, want: Want<'_>) -> Option<bool> {
-        step(self, want)
+        match want {
+            Next(_) | End | Wrong(_) => step(self, want),
+            _ => by_hand(self, want),
+        }
     }
 
     fn left(&self) -> &[u8] {
         rest(self)
+    }
+
+    fn is_ready(&self) -> bool {
+        is_settled(self)
     }
 
     fn asked(&self) -> &[usize] {
@@ -149,6 +167,21 @@ static TRIMMED: [Row<'static>; 2] = [
         &[Next(b"ab"), Wrong(Long(3)), Rest(b"abc\r")],
     ),
 ];
+
+// The same lines, but none that the stream ended in.
+static WHOLE: [Row<'static>; 3] = [
+    (b"", &[End, End]),
+    (b"a\nbc", &[Next(b"a"), Wrong(Truncated(2)), Rest(b"bc")]),
+    (b"abc\nabcd", &[Next(b"abc"), Wrong(Long(3))]),
+];
+
+#[test]
+fn ended(rt: HostRuntime) -> Result<(), Fail> {
+    let lines = Ended(Delimited { end: b'\n', max: 3 });
+    let met = swept(rt.alloc(), lines, &WHOLE)?;
+    assert!(rt; met == Ok(38), "{met:?}");
+    Ok(())
+}
 
 #[test]
 fn delimited(rt: HostRuntime) -> Result<(), Fail> {

@@ -1,10 +1,14 @@
 //! Pieces of several kinds, and steps before which a writer is flushed.
 use buffer_redux::BufWriter;
-use buffer_redux::tell::Told;
-use codec::{ByFirst, ByHeader, ByScan, ByTextHeader, Delimited, PieceReader, fetch};
+use buffer_redux::tell::{TellRead, Told};
+use codec::{ByFirst, ByHeader, ByScan, ByTextHeader, Delimited, PieceReader, fetch, fetch_item};
 use decoders::{BulkStrings, NullableStrings, Resp, RespItem};
-use std::io::Write;
+use redux_script::Answer;
+use std::alloc::Global;
+use std::io;
+use std::io::{ErrorKind, Write};
 use std::test::Fail;
+use tests_common::{Source, Target, flushes, source, target, writer};
 
 #[test]
 fn fetched(rt: HostRuntime) -> Result<(), Fail> {
@@ -62,4 +66,50 @@ fn resp(rt: HostRuntime) -> Result<(), Fail> {
     assert!(rt; matches!(reader.step_item(), Ok(Some((RespItem::Null, _)))));
     assert!(rt; matches!(reader.step_item(), Ok(None)));
     Ok(drop(reader))
+}
+
+// What a stream of replies answers, and whether a request is fetched then, of which another is buffered.
+static FETCHES: [(&[Answer], bool); 2] = [
+    (&[], true),
+    (&[Answer::Fail(ErrorKind::TimedOut)], false),
+];
+
+fn requests(alloc: Global) -> io::Result<PieceReader<Source, Resp>> {
+    let stream = source(alloc, b"PING\r\n+OK\r\n", &[])?;
+    Ok(PieceReader::new(alloc, stream, Resp { max: 9 })?)
+}
+
+// What the request that is fetched is.
+fn item_of(
+    reader: &mut PieceReader<Source, Resp>,
+    writer: &mut BufWriter<Target>,
+) -> Option<RespItem> {
+    let (item, _) = fetch_item(reader, writer).ok()?.ok()??;
+    Some(item)
+}
+
+// What the request that is buffered is.
+fn buffered<R: TellRead>(reader: &mut PieceReader<R, Resp>) -> Option<RespItem> {
+    let (item, _) = reader.step_item_buffered()?;
+    Some(item)
+}
+
+// The stream is asked once, behind a flush that was Ok.
+fn is_fetched(alloc: Global, script: &[Answer], fetched: bool) -> io::Result<bool> {
+    let mut reader = requests(alloc)?;
+    let mut writer = writer(alloc, 9, b"x", target(alloc, script)?)?;
+    let none = buffered(&mut reader).is_none();
+    let found = item_of(&mut reader, &mut writer) == Some(RespItem::Inline);
+    let next = buffered(&mut reader) == Some(RespItem::Simple);
+    let asked = reader.get_ref().get_ref().offers().len() == usize::from(fetched);
+    let flushed = flushes(&writer) == usize::from(fetched);
+    Ok(none && asked && flushed && (found, next) == (fetched, fetched))
+}
+
+#[test]
+fn fetches_items(rt: HostRuntime) -> Result<(), Fail> {
+    for &(script, fetched) in &FETCHES {
+        assert!(rt; is_fetched(rt.alloc(), script, fetched)?);
+    }
+    Ok(())
 }

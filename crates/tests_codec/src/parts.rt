@@ -1,0 +1,103 @@
+//! What decoders are made of: numbers in text, headers, lengths in bytes, extensions of a chunk's size.
+use chunked::Within;
+use codec::{HeaderBytes, Number};
+use decoders::Width;
+use std::test::Fail;
+
+// Texts, and the numbers that they are: without a zero in front, and of at most eighteen digits.
+static NUMBERS: [(&'static [u8], Option<Number>); 7] = [
+    (b"", Some(Number::Empty)),
+    (b"0", Some(Number::Is(0))),
+    (b"10", Some(Number::Is(10))),
+    (
+        b"999999999999999999",
+        Some(Number::Is(999_999_999_999_999_999)),
+    ),
+    (b"1000000000000000000", None),
+    (b"07", None),
+    (b"1-", None),
+];
+
+fn number(text: &[u8]) -> Option<Number> {
+    let mut number = Number::Empty;
+    for byte in text {
+        number = number.with(*byte)?;
+    }
+    Some(number)
+}
+
+#[test]
+fn numbers(rt: HostRuntime) -> Result<(), Fail> {
+    for &(text, want) in &NUMBERS {
+        assert!(rt; number(text) == want);
+    }
+    Ok(())
+}
+
+#[test]
+fn headers(rt: HostRuntime) -> Result<(), Fail> {
+    let mut header = HeaderBytes::new(b"*");
+    header.push(b"3\r\n");
+    assert!(rt; header.bytes.get(..header.len) == Some(b"*3\r\n".as_slice()));
+    Ok(())
+}
+
+// How many bytes a length has, and the greatest length that they say.
+static WIDTHS: [(Width, usize, usize); 4] = [
+    (Width::One, 1, 255),
+    (Width::Two, 2, 65535),
+    (Width::Four, 4, 4_294_967_295),
+    (Width::Eight, 8, 18_446_744_073_709_551_615),
+];
+
+fn said_by(width: Width) -> (usize, usize) {
+    (width.size(), width.most())
+}
+
+#[test]
+fn widths(rt: HostRuntime) -> Result<(), Fail> {
+    for &(width, size, most) in &WIDTHS {
+        assert!(rt; said_by(width) == (size, most));
+    }
+    Ok(())
+}
+
+// Beginnings of extensions, as RFC 9112, section 7.1.1 has them: whether one may end there, and else how many bytes complete
+// one at least; or that no extension begins so.
+static EXTENSIONS: [(&'static [u8], Option<(bool, usize)>); 13] = [
+    (b"", Some((true, 0))),
+    (b" ", Some((false, 2))),
+    (b" ;\t", Some((false, 1))),
+    (b";a", Some((true, 0))),
+    (b";a ", Some((false, 2))),
+    (b";a = ", Some((false, 1))),
+    (b";a=b", Some((true, 0))),
+    (b";a=\"", Some((false, 1))),
+    (b";a=\"\\", Some((false, 2))),
+    (b";a=\"\\\"\"", Some((true, 0))),
+    (b"a", None),
+    (b";=", None),
+    (b";a=\"\n", None),
+];
+
+fn within(text: &[u8]) -> Option<Within> {
+    let mut place = Within::Behind;
+    for byte in text {
+        place = place.next(*byte)?;
+    }
+    Some(place)
+}
+
+// Whether an extension may end there, and how many bytes complete one.
+fn ending(text: &[u8]) -> Option<(bool, usize)> {
+    let place = within(text)?;
+    Some((place.may_end(), place.least()))
+}
+
+#[test]
+fn extensions(rt: HostRuntime) -> Result<(), Fail> {
+    for &(text, want) in &EXTENSIONS {
+        assert!(rt; ending(text) == want);
+    }
+    Ok(())
+}

@@ -1,0 +1,187 @@
+//! Heads of requests, and messages one after another.
+use Went::{Before, Inside, Passed};
+use buffer_redux::tell::TellRead;
+use messages::laws::{Stopped, pass};
+use messages::{BadHead, Body, BodyError, Extent, ParsedHead, Requests, Stop, read_head};
+use std::alloc::Global;
+use std::io;
+use std::test::Fail;
+use tests_common::{Source, holding, source};
+
+// What a head says that has no body, and behind which another request may come.
+const PLAIN: ParsedHead = ParsedHead {
+    extent: Extent::Sized(0),
+    bare: false,
+    keeps: true,
+    expects: false,
+};
+
+// What one says behind which none comes.
+const LAST: ParsedHead = ParsedHead {
+    extent: Extent::Sized(0),
+    bare: false,
+    keeps: false,
+    expects: false,
+};
+
+// Heads, and what they say by RFC 9112, sections 3, 6 and 9.3, and RFC 9110, section 10.1.1, or why they are none.
+static HEADS: [(&'static [u8], Result<ParsedHead, BadHead>); 14] = [
+    (b"GET / HTTP/1.1\r\nHost: a\r\n\r\n", Ok(PLAIN)),
+    (
+        b"HEAD / HTTP/1.1\r\nHost: a\r\nConnection: close\r\n\r\n",
+        Ok(ParsedHead {
+            extent: Extent::Sized(0),
+            bare: true,
+            keeps: false,
+            expects: false,
+        }),
+    ),
+    (
+        b"PUT /a HTTP/1.1\r\nHost: a\r\nContent-Length: 5\r\nExpect: 100-continue\r\n\r\n",
+        Ok(ParsedHead {
+            extent: Extent::Sized(5),
+            bare: false,
+            keeps: true,
+            expects: true,
+        }),
+    ),
+    (
+        b"POST /a HTTP/1.1\r\nHost: a\r\nTransfer-Encoding: chunked\r\n\r\n",
+        Ok(ParsedHead {
+            extent: Extent::Chunked,
+            bare: false,
+            keeps: true,
+            expects: false,
+        }),
+    ),
+    (b"GET / HTTP/1.0\r\n\r\n", Ok(LAST)),
+    (
+        b"GET / HTTP/1.0\r\nConnection: keep-alive\r\n\r\n",
+        Ok(PLAIN),
+    ),
+    (b"GET / HTTP/1.1\r\n\r\n", Err(BadHead::Refused)),
+    (
+        b"GET / HTTP/1.1\r\nHost: a\r\n\r\nb",
+        Err(BadHead::Refused),
+    ),
+    (
+        b"GET / HTTP/2.0\r\nHost: a\r\n\r\n",
+        Err(BadHead::Version),
+    ),
+    (
+        b"CONNECT a:80 HTTP/1.1\r\nHost: a:80\r\n\r\n",
+        Err(BadHead::Tunnel),
+    ),
+    (
+        b"PUT / HTTP/1.1\r\nHost: a\r\nContent-Length: 5\r\nContent-Length: 6\r\n\r\n",
+        Err(BadHead::Refused),
+    ),
+    (
+        b"PUT / HTTP/1.1\r\nHost: a\r\nContent-Length: 5\r\nTransfer-Encoding: chunked\r\n\r\n",
+        Err(BadHead::Refused),
+    ),
+    (
+        b"PUT / HTTP/1.1\r\nHost: a\r\nTransfer-Encoding: gzip\r\n\r\n",
+        Err(BadHead::Refused),
+    ),
+    (
+        b"PUT / HTTP/1.1\r\nHost: a\r\nTransfer-Encoding: gzip, chunked\r\n\r\n",
+        Err(BadHead::Coding),
+    ),
+];
+
+#[test]
+fn reads_heads(rt: HostRuntime) -> Result<(), Fail> {
+    for (row, &(head, said)) in HEADS.iter().enumerate() {
+        assert!(rt; read_head(head) == said, "row {row}");
+    }
+    Ok(())
+}
+
+// What came of messages that were passed.
+#[derive(Clone, Copy, PartialEq, Eq)]
+enum Went {
+    // So many bytes are buffered behind them.
+    Passed(usize),
+    // The stream ended before a head.
+    Before,
+    // It ended within a body, before so many bytes of it where its length is known.
+    Inside(Option<u64>),
+}
+
+const TWO: &[u8] =
+    b"GET /a HTTP/1.1\r\nHost: h\r\n\r\nPUT /b HTTP/1.1\r\nHost: h\r\nContent-Length: 2\r\n\r\nok";
+
+const CUT: &[u8] = b"PUT /b HTTP/1.1\r\nHost: h\r\nContent-Length: 3\r\n\r\nok";
+
+const CUT_CHUNKS: &[u8] =
+    b"PUT /b HTTP/1.1\r\nHost: h\r\nTransfer-Encoding: chunked\r\n\r\n2\r\nok\r\n0\r\n";
+
+// What is given, how many messages are passed, and what comes of that.
+static PASSED: [(&'static [u8], usize, Went); 6] = [
+    (TWO, 0, Passed(8)),
+    (TWO, 1, Passed(49)),
+    (TWO, 2, Passed(0)),
+    (TWO, 3, Before),
+    (CUT, 1, Inside(Some(1))),
+    (CUT_CHUNKS, 1, Inside(None)),
+];
+
+// A reader over a buffer that holds the first eight bytes.
+fn over(alloc: Global, bytes: &[u8]) -> io::Result<Requests<Source>> {
+    let at = bytes.len().min(8);
+    let stream = source(alloc, bytes.get(at..).unwrap_or(b""), &[])?;
+    Ok(Requests::with_buffer(alloc, holding(alloc, 8, bytes)?, stream)?)
+}
+
+// How many bytes are buffered.
+fn buffered<R: TellRead + Drop>(requests: Requests<R>) -> usize {
+    let (_, buffer) = requests.into_inner_with_buffer();
+    buffer.len()
+}
+
+// Where it stopped, if that is what a stream that ended makes of it.
+fn stopped_at<R: TellRead + Drop>(stopped: Stopped<R>) -> Option<Went> {
+    match stopped {
+        Stopped::Before(_requests, stop) => matches!(stop, Stop::Ended).then_some(Before),
+        Stopped::Inside(_body, e) => match &e {
+            BodyError::Truncated(due) => Some(Inside(*due)),
+            _ => None,
+        },
+    }
+}
+
+fn passes(alloc: Global, bytes: &[u8], count: usize) -> io::Result<Option<Went>> {
+    Ok(match pass(over(alloc, bytes)?, count) {
+        Ok(next) => Some(Passed(buffered(next))),
+        Err(stopped) => stopped_at(stopped),
+    })
+}
+
+#[test]
+fn passes_messages(rt: HostRuntime) -> Result<(), Fail> {
+    for (row, &(bytes, count, went)) in PASSED.iter().enumerate() {
+        assert!(rt;
+            passes(rt.alloc(), bytes, count)? == Some(went),
+            "row {row}"
+        );
+    }
+    Ok(())
+}
+
+// Whether a body has this head.
+fn has_head<R: TellRead + Drop>(body: Body<R>, head: &[u8]) -> bool {
+    body.head() == head
+}
+
+#[test]
+fn shows_a_head(rt: HostRuntime) -> Result<(), Fail> {
+    let requests = over(rt.alloc(), TWO)?;
+    assert!(rt; requests.get_ref().get_ref().offers().is_empty());
+    let shown = match requests.next() {
+        Ok(body) => has_head(body, b"GET /a HTTP/1.1\r\nHost: h\r\n\r\n"),
+        Err(_) => false,
+    };
+    assert!(rt; shown);
+    Ok(())
+}
