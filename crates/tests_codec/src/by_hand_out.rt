@@ -147,15 +147,25 @@ fn goes_on(
 // No buffer holds three lines of so many bytes.
 const HUGE: usize = 0x4000_0000_0000_0000;
 
-// Whether it takes a longer line then, or there is no buffer for such.
-fn takes(alloc: Global, max: usize, payload: &[u8], made: bool) -> io::Result<bool> {
+// Whether a refusal hands back a buffer with what it held.
+fn hands_back(refusal: MakeError<(Buffer, Target, Delimited)>) -> bool {
+    let MakeError(parts, _e) = refusal;
+    let (buffer, _inner, _encoder) = parts;
+    buffer.buf() == b"x".as_slice()
+}
+
+// Whether a longer line is taken then.
+fn takes_longer(writer: Lines) -> bool {
+    let mut writer = writer;
+    let put = write_buffered(&mut writer, b"abcd") == Some(true);
+    keeps(writer, b"xabcd\n") && put
+}
+
+// Whether it goes on with such a length, or there is no buffer for it.
+fn takes(alloc: Global, max: usize, made: bool) -> io::Result<bool> {
     Ok(match goes_on(alloc, behind_byte(alloc, &[])?, max) {
-        Ok(mut writer) => {
-            made && write_buffered(&mut writer, payload) == Some(true) && keeps(writer, b"xabcd\n")
-        }
-        Err(MakeError((buffer, _inner, _encoder), _e)) => {
-            !made && buffer.buf() == b"x".as_slice()
-        }
+        Ok(writer) => takes_longer(writer) && made,
+        Err(refusal) => hands_back(refusal) && !made,
     })
 }
 
@@ -163,7 +173,7 @@ fn takes(alloc: Global, max: usize, payload: &[u8], made: bool) -> io::Result<bo
 fn comes_apart_and_goes_on(rt: HostRuntime) -> Result<(), Fail> {
     assert!(rt; comes_apart(rt.alloc(), &[], true)?);
     assert!(rt; comes_apart(rt.alloc(), &[FAULT], false)?);
-    assert!(rt; takes(rt.alloc(), 4, b"abcd", true)?);
-    assert!(rt; takes(rt.alloc(), HUGE, b"abcd", false)?);
+    assert!(rt; takes(rt.alloc(), 4, true)?);
+    assert!(rt; takes(rt.alloc(), HUGE, false)?);
     Ok(())
 }

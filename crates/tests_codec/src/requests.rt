@@ -60,14 +60,8 @@ static HEADS: [(&'static [u8], Result<ParsedHead, BadHead>); 14] = [
         Ok(PLAIN),
     ),
     (b"GET / HTTP/1.1\r\n\r\n", Err(BadHead::Refused)),
-    (
-        b"GET / HTTP/1.1\r\nHost: a\r\n\r\nb",
-        Err(BadHead::Refused),
-    ),
-    (
-        b"GET / HTTP/2.0\r\nHost: a\r\n\r\n",
-        Err(BadHead::Version),
-    ),
+    (b"GET / HTTP/1.1\r\nHost: a\r\n\r\nb", Err(BadHead::Refused)),
+    (b"GET / HTTP/2.0\r\nHost: a\r\n\r\n", Err(BadHead::Version)),
     (
         b"CONNECT a:80 HTTP/1.1\r\nHost: a:80\r\n\r\n",
         Err(BadHead::Tunnel),
