@@ -1,7 +1,12 @@
+use Said::{Del, Get, Incr, Other, Set, Text};
 use buffer_redux::BufWriter;
 use buffer_redux::tell::Told;
-use resp::{Client, Ending, Store};
-use std::alloc::Global;
+use decoders::RespItem;
+use resp::{
+    Client, Command, Ending, Fed, Full, MAX_PARTS, Refusal, Request, Store, command_of,
+    parse_number,
+};
+use std::alloc::{AllocError, Global};
 use std::test::Fail;
 
 // What a client that sends these requests, at once, is answered, and how serving it ended.
@@ -59,4 +64,156 @@ fn tells_an_end_within_a_request(rt: HostRuntime) -> Result<(), Fail> {
     drop(store);
     drop(replies);
     Ok(drop(client))
+}
+
+// What a command is, by its arguments.
+#[derive(Clone, Copy)]
+enum Said<'a> {
+    Text(&'a [u8]),
+    Get(&'a [u8]),
+    Set(&'a [u8], &'a [u8]),
+    // So many keys.
+    Del(usize),
+    Incr(&'a [u8]),
+    Other(Kind),
+}
+
+// A command without arguments, or with wrong ones, or none at all.
+#[derive(Clone, Copy)]
+enum Kind {
+    Ping,
+    DbSize,
+    Quit,
+    Nothing,
+    Arguments,
+    Unknown,
+}
+
+// Parts of requests, and the commands that they are in the protocol of Redis.
+static COMMANDS: [(&[&[u8]], Said<'static>); 15] = [
+    (&[b"PING"], Other(Kind::Ping)),
+    (&[b"ping", b"a b"], Text(b"a b")),
+    (&[b"Echo", b""], Text(b"")),
+    (&[b"echo"], Other(Kind::Arguments)),
+    (&[b"get", b"a"], Get(b"a")),
+    (&[b"get", b"a", b"b"], Other(Kind::Arguments)),
+    (&[b"SET", b"a", b"b"], Set(b"a", b"b")),
+    (&[b"del", b"a", b"b"], Del(2)),
+    (&[b"del"], Other(Kind::Arguments)),
+    (&[b"INCR", b"n"], Incr(b"n")),
+    (&[b"dbsize"], Other(Kind::DbSize)),
+    (&[b"quit"], Other(Kind::Quit)),
+    (&[b"COMMAND", b"DOCS"], Other(Kind::Nothing)),
+    (&[b"gets", b"a"], Other(Kind::Unknown)),
+    (&[], Other(Kind::Unknown)),
+];
+
+fn owned(alloc: Global, parts: &[&[u8]]) -> Result<Vec<Vec<u8>>, AllocError> {
+    let mut all = Vec::new(alloc);
+    for part in parts {
+        all.push(Vec::from_slice(alloc, part)?)?;
+    }
+    Ok(all)
+}
+
+fn is_kind(command: Command<'_>, kind: Kind) -> bool {
+    match kind {
+        Kind::Ping => matches!(command, Command::Ping),
+        Kind::DbSize => matches!(command, Command::DbSize),
+        Kind::Quit => matches!(command, Command::Quit),
+        Kind::Nothing => matches!(command, Command::Nothing),
+        Kind::Arguments => matches!(command, Command::Arguments),
+        Kind::Unknown => matches!(command, Command::Unknown),
+    }
+}
+
+fn is_said(command: Command<'_>, said: Said<'_>) -> bool {
+    match (command, said) {
+        (Command::Echo(text), Text(bytes)) => text == bytes,
+        (Command::Get(key), Get(bytes)) => key == bytes,
+        (Command::Set(key, value), Set(bytes, other)) => (key, value) == (bytes, other),
+        (Command::Del(keys), Del(count)) => keys.len() == count,
+        (Command::Incr(key), Incr(bytes)) => key == bytes,
+        (_, Other(kind)) => is_kind(command, kind),
+        _ => false,
+    }
+}
+
+#[test]
+fn reads_commands(rt: HostRuntime) -> Result<(), Fail> {
+    for (row, &(parts, said)) in COMMANDS.iter().enumerate() {
+        let parts = owned(rt.alloc(), parts)?;
+        assert!(rt; is_said(command_of(parts.as_slice()), said), "row {row}");
+    }
+    Ok(())
+}
+
+// Texts, and the numbers that Redis takes them for.
+static NUMBERS: [(&'static [u8], Option<i64>); 9] = [
+    (b"0", Some(0)),
+    (b"-17", Some(-17)),
+    (b"9223372036854775807", Some(i64::MAX)),
+    (b"9223372036854775808", None),
+    (b"", None),
+    (b"-", None),
+    (b"-0", None),
+    (b"+1", None),
+    (b"01", None),
+];
+
+#[test]
+fn reads_numbers(rt: HostRuntime) -> Result<(), Fail> {
+    for (row, &(text, number)) in NUMBERS.iter().enumerate() {
+        assert!(rt; parse_number(text) == number, "row {row}");
+    }
+    Ok(())
+}
+
+// Pieces one after another, what each makes of the request, and how many parts that has then.
+static PIECES: [(RespItem, &'static [u8], Fed, usize); 12] = [
+    (RespItem::Bulk, b"a", Fed::Bad(Refusal::NoArray), 0),
+    (RespItem::Array(Some(0)), b"", Fed::More, 0),
+    (RespItem::Array(Some(2)), b"", Fed::More, 0),
+    (RespItem::Bulk, b"get", Fed::More, 1),
+    (RespItem::Null, b"", Fed::Bad(Refusal::NoBulk), 1),
+    (RespItem::Bulk, b"a", Fed::Whole, 2),
+    (RespItem::Inline, b"", Fed::More, 0),
+    (RespItem::Inline, b"PING", Fed::Whole, 1),
+    (RespItem::NullArray, b"", Fed::More, 1),
+    (RespItem::Array(None), b"", Fed::Bad(Refusal::Count), 1),
+    (
+        RespItem::Array(Some(MAX_PARTS + 1)),
+        b"",
+        Fed::Bad(Refusal::Count),
+        1,
+    ),
+    (RespItem::Array(Some(MAX_PARTS)), b"", Fed::More, 0),
+];
+
+#[test]
+fn gathers_requests(rt: HostRuntime) -> Result<(), Fail> {
+    let alloc = rt.alloc();
+    let mut request = Request::new(alloc);
+    for (row, &(item, payload, fed, count)) in PIECES.iter().enumerate() {
+        let right = request.take(alloc, item, payload) == fed && request.parts().len() == count;
+        assert!(rt; right, "row {row}");
+    }
+    let lost = request.is_lost();
+    request.clear();
+    assert!(rt; !lost && request.take(alloc, RespItem::Inline, b"PING") == Fed::Whole);
+    Ok(())
+}
+
+#[test]
+fn stores_entries(rt: HostRuntime) -> Result<(), Fail> {
+    let alloc = rt.alloc();
+    let mut store = Store::new(alloc, 1);
+    assert!(rt;
+        store.set(alloc, b"a", b"one").is_ok() && store.get(b"a") == Some(b"one".as_slice())
+    );
+    assert!(rt; matches!(store.set(alloc, b"b", b"two"), Err(Full::Entries)));
+    assert!(rt; store.set(alloc, b"a", b"").is_ok() && store.get(b"a") == Some(b"".as_slice()));
+    assert!(rt; store.get(b"b").is_none() && !store.del(b"b") && store.len() == 1);
+    assert!(rt; store.del(b"a") && store.len() == 0);
+    Ok(())
 }
