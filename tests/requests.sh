@@ -316,24 +316,6 @@ for some in (one, body, chunks, one + body + chunks):
 assert writes([(one, 1), (one * 3, 3), (body, 1), (chunks, 1)]) == [1, 1, 1, 1]
 PEER
 
-# A refusal comes, though 5 MB stand behind what is refused; and who waits for the end has it at once.
-runs=$((runs + 1))
-python3 - "$port" << 'PEER' || wrong 'a refusal before 5 MB'
-import http.client, socket, sys, time
-for _ in range(10):
-    to = http.client.HTTPConnection('127.0.0.1', int(sys.argv[1]), timeout=20)
-    to.request('POST', '/', body=b'x' * 5000000, headers={'X': 'a' * 20000})
-    assert to.getresponse().status == 431
-    to.close()
-to = socket.create_connection(('127.0.0.1', int(sys.argv[1])))
-begun = time.monotonic()
-to.sendall(b'GET / HTTP/1.1\r\nHost: a\r\nConnection: close\r\n\r\n')
-got = b''
-while more := to.recv(4096):
-    got += more
-assert got.startswith(b'HTTP/1.1 200 ') and time.monotonic() - begun < 1
-PEER
-
 # Four at once, fifty times, each when the last is answered: no answer waits for the one before it.
 runs=$((runs + 1))
 python3 - "$port" << 'PEER' || wrong 'four at once, fifty times'

@@ -7,7 +7,6 @@
 //! (`Prompt`); where sending fails, nothing was taken behind what failed (`IsLast`).
 #![tactic(auto)]
 
-mod lingering;
 mod writing;
 
 ghost use Rattle.std.specs.Prelude.{◌≡◌, ℕ, ◌<◌, ◌≤◌, true, false, List, [], length, IfErr, IfOk, IsTrue, MatchResult, Ok, OnOk};
@@ -25,7 +24,6 @@ ghost use Rattle.messages.specs.Messages.{Begun, EachGave, InsideGoes, IsRest, a
 ghost use Rattle.requests.specs.Sending.{Comes, IsHeld, SendsHeld, SendsUnless, Writes};
 ghost use Rattle.requests.specs.Answers.{EndsBody, EndsSent, FailsOn, ReadsSteadily, Serves, TakeFails, TakesWhole, Turns, answered, called, ending_of, is_blank, is_known, refusal_of, sending_of, sent_till, sent_with, unfinished, waits};
 
-use crate::lingering::linger;
 use crate::writing::{
     Refusal, answer_whole, blank_len, call_for_body, is_known, refusal_of, refuse,
 };
@@ -39,13 +37,7 @@ fn main(rt: HostRuntime) -> io::Result<()> {
     let alloc = rt.alloc();
     let mut writer = BufWriter::new(alloc, Told::new(rt.stdout()))?;
     match Requests::new(alloc, Told::new(rt.stdin())) {
-        Ok(requests) => {
-            serve(requests, &mut writer).1?;
-            // All was sent, and what is no socket needs no more.
-            match linger(&rt, &rt.stdin(), &rt.stdout()) {
-                Ok(()) | Err(_) => Ok(()),
-            }
-        }
+        Ok(requests) => serve(requests, &mut writer).1,
         Err(_) => Err(io::Error::from(ErrorKind::OutOfMemory)),
     }
 }
