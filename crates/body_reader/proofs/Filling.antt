@@ -1,19 +1,21 @@
 -- Payload is buffered, and how that ends.
-use Rattle.std.proofs.Common.{◌≡◌, ℕ, zero, suc, ◌<◌, ◌≤◌, List, [], ◌++◌, length, min, Option, Result, Ok, Err, sym, ap, subst, ◌∙◌, arith, inl, inr, refl, append_assoc, append-nil}
-use Rattle.std.proofs.lemmas.Bool.{cases_lt}
+use Rattle.std.proofs.Common.{◌≡◌, ℕ, zero, suc, ◌+◌, ◌<◌, ◌≤◌, List, [], ◌++◌, length, min, take, Option, Result, Ok, Err, sym, ap, subst, ◌∙◌, arith, inl, inr, refl, append_assoc, append-nil, length-append}
+use Rattle.std.proofs.lemmas.List.{length-take-le}
 use Rattle.std.specs.declared.io.Error.{Error}
+use Rattle.buffer_redux.specs.Block.{Block, IsBlock, Kind, OnKind, Plain, Ring, usable}
 use Rattle.buffer_redux.specs.Buffered.{Buffered}
+use Rattle.buffer_redux.specs.BufReader.{ReadsInOrder, ReadsIntoBuf}
 use Rattle.buffer_redux.specs.Peek.{ReadsAhead}
 use Rattle.buffer_redux.specs.Policy.{ReadRules}
-use Rattle.buffer_redux.specs.Unbuffer.{unbuffered}
+use Rattle.buffer_redux.specs.Sparing.{Spared}
+use Rattle.buffer_redux.specs.StreamLog.{zero_of_none, zero_of_some}
 use Rattle.body_reader.specs.declared.error.BodyError.{BodyError}
 use Rattle.body_reader.specs.declared.error.BodyError.TheVariants.{Truncated, Io}
 use Rattle.body_reader.specs.declared.progress.Progress.{Progress}
-use Rattle.body_reader.specs.Asking.{AskedWhere}
 use Rattle.body_reader.specs.Between.{AsksOpen, FillsOn, Proceeds, Settles, SkipsOn, Takes}
-use Rattle.body_reader.specs.BetweenLaws.{AsksOpen-then, EachGave-none, Proceeds-after, ReadsAhead-asks, ReadsAhead-ended, ReadsAhead-failed, ReadsAhead-gave, ReadsAhead-keeps, Takes-none, Takes-still}
+use Rattle.body_reader.specs.BetweenLaws.{AsksOpen-then, EachGave-none, Proceeds-after, Takes-none, Takes-still}
 use Rattle.body_reader.specs.Coding.{Carries, Grammar, IsDone, IsLawful, IsOpen}
-use Rattle.body_reader.specs.CodingLaws.{Lacks-one, open_at}
+use Rattle.body_reader.specs.CodingLaws.{open_at}
 
 -- fewer bytes are payload too, also where more are shown
 pub Carries-less : {P W : Type 0} (g : Grammar P W) (p : P) (sure n : ℕ) (shown got : List ℕ) → Carries g p sure shown → 0 < n
@@ -37,6 +39,15 @@ pub one_ahead : {S Q A : Type 0} (remaining : S → Option (List ℕ)) (rules : 
 one_ahead remaining rules m answer t room ahead =
     let same : min 1 m.block.capacity ≡ 1 = omega (arith, room) in
     subst (λ k. ReadsAhead remaining rules k m answer t) same ahead
+
+-- an empty buffer has room for as many bytes as it holds
+room_so : (k : Kind) (b : Block) → OnKind k (length b.bytes ≡ 0 → usable b ≡ b.capacity) (length b.bytes + usable b ≡ b.capacity)
+    → length b.bytes ≡ 0 → 0 < b.capacity → 0 < usable b
+room_so Plain b space none room = omega (arith, space none, room)
+room_so Ring b space none room = omega (arith, space, none, room)
+
+pub room_of_empty : (b : Block) → IsBlock b → length b.bytes ≡ 0 → 0 < b.capacity → 0 < usable b
+room_of_empty b is none room = room_so b.kind b is.space none room
 
 module _ {S Q P W : Type 0} (remaining : S → Option (List ℕ)) (rules : ReadRules Q) (g : Grammar P W) where
   -- a failure means the same, whatever an Ok would
@@ -66,68 +77,126 @@ module _ {S Q P W : Type 0} (remaining : S → Option (List ℕ)) (rules : ReadR
   show_some s p sure carries t zero shows = absurd (carries.goes_on (shows.ends.1.1 refl))
   show_some s p sure carries t (suc n) shows = omega arith
 
-  -- a byte of payload is read ahead
-  module _ {A : Type 0} (lawful : IsLawful g) (s : Buffered S Q) (p : Progress P) (place : g.is_place p.place) (sure : ℕ)
-      (carries : Carries g p.place sure s.block.bytes) (t : Buffered S Q) where
-    asks : (answer : Result A Error) → ReadsAhead remaining rules 1 s answer t
-        → AskedWhere (IsOpen g p.place) (unbuffered s) (unbuffered t)
-    asks answer ahead = elim (cases_lt (length s.block.bytes) 1) [
-      | inl few ↦ ReadsAhead-asks remaining rules g p.place 1 s answer t
-          (Lacks-one g lawful p.place place carries.goes_on s.block.bytes few) ahead
-      | inr held ↦ inl (ap (λ x. x.log) (ahead.buffered held))
-    ]
+  -- payload is buffered
+  pub show_held : (s : Buffered S Q) (p : Progress P) → g.is_place p.place → (sure : ℕ) → Carries g p.place sure s.block.bytes
+      → 0 < length s.block.bytes → (n : ℕ) → n ≡ min sure (length s.block.bytes) → FillsOn remaining rules g s p (Ok n) s p
+  show_held s p place sure carries held n is =
+      let some : 0 < n = omega (arith, is, held, carries.some) in
+      record {
+        wire = [];
+        takes = Takes-none remaining rules g s p place;
+        asked = inl refl;
+        ends = (
+          EachGave-none s,
+          (
+            (
+              omega (arith, is),
+              (λ _. Carries-fewer g p.place sure n s.block.bytes carries some (omega (arith, is))),
+            ),
+            (λ none. absurd (omega (arith, none, some))),
+          ),
+        );
+        idle = λ _. (refl, refl);
+      }
 
-    asks_open : (answer : Result A Error) → ReadsAhead remaining rules 1 s answer t → AsksOpen remaining rules g s p.place t
-    asks_open answer ahead = AsksOpen-then remaining rules g s p s p t [] (Takes-none remaining rules g s p place)
-        (EachGave-none s) (inl refl) (asks answer ahead)
+  -- payload is read into the buffer, which is empty
+  module _ (lawful : IsLawful g) (s : Buffered S Q) (p : Progress P) (place : g.is_place p.place) (sure : ℕ)
+      (carries : Carries g p.place sure s.block.bytes) (empty : s.block.bytes ≡ []) (room : 0 < usable s.block)
+      (t : Buffered S Q) (order : ReadsInOrder s [] t) (spared : (keep : ℕ) → Spared keep s t) where
+    is_open : (bytes : List ℕ) → bytes ≡ [] → IsOpen g p.place bytes
+    is_open bytes none = open_at g lawful p.place place carries.goes_on bytes (omega (arith, ap length none))
 
-    still : (answer : Result A Error) → ReadsAhead remaining rules 1 s answer t → Takes remaining rules g s p [] [] t p
-    still answer ahead = Takes-still remaining rules g s p s p t [] [] (Takes-none remaining rules g s p place) ahead.along
-        (ReadsAhead-keeps remaining rules 1 s answer t ahead g.ahead lawful.some)
+    module _ (answer : Result ℕ Error) (reads : ReadsIntoBuf remaining s answer t) where
+      asks : AsksOpen remaining rules g s p.place t
+      asks =
+          let once = reads.read.read room in
+          AsksOpen-then remaining rules g s p s p t [] (Takes-none remaining rules g s p place) (EachGave-none s) (inl refl)
+          (inr (record {
+            came = [];
+            given = ap (λ l. l.reads.given) once.told ∙ ap (λ l. s.log.reads.given ++ l.reads.latest) (sym once.told);
+            such = is_open (s.block.bytes ++ []) (append-nil s.block.bytes ∙ empty);
+            some = omega (arith, ap (λ l. l.reads.asks) once.told);
+            asks = omega (arith, ap (λ l. l.reads.asks) once.told);
+          }))
 
-    pub show_fails : (e : Error) → ReadsAhead {A = A} remaining rules 1 s (Err e) t
-        → FillsOn remaining rules g s p (Err (Io e)) t p
-    show_fails e ahead = record {
-      wire = [];
-      takes = still (Err e) ahead;
-      asked = asks_open (Err e) ahead;
-      ends = (
-        ReadsAhead-failed {A = A} remaining rules 1 s t e ahead,
-        open_at g lawful p.place place carries.goes_on t.block.bytes ahead.ended.0,
-      );
-      idle = λ done. absurd (carries.goes_on done);
-    }
+      still : Takes remaining rules g s p [] [] t p
+      still =
+          let once = reads.read.read room in
+          Takes-still remaining rules g s p s p t [] [] (Takes-none remaining rules g s p place) (record {
+            in_order = order;
+            known = reads.known;
+            grows = reads.grows;
+            capacity = omega (arith, once.added.capacity);
+            claims = ap rules.claims reads.policy;
+          }) (record {
+            kind = once.added.kind;
+            room = λ _. (once.added.capacity, once.added.limit);
+            spared = λ keep high claims. spared keep;
+          })
 
-    pub show_dry : (a : A) → ReadsAhead remaining rules 1 s (Ok a) t → length t.block.bytes < 1
-        → FillsOn remaining rules g s p (Err (Truncated p.count)) t p
-    show_dry a ahead few = record {
-      wire = [];
-      takes = still (Ok a) ahead;
-      asked = asks_open (Ok a) ahead;
-      ends = (
-        ReadsAhead-ended remaining rules 1 s t a ahead few,
-        refl,
-        open_at g lawful p.place place carries.goes_on t.block.bytes few,
-      );
-      idle = λ done. absurd (carries.goes_on done);
-    }
-
-    pub show_well : (a : A) → ReadsAhead remaining rules 1 s (Ok a) t → 1 ≤ length t.block.bytes → (n : ℕ)
-        → n ≡ min sure (length t.block.bytes) → FillsOn remaining rules g s p (Ok n) t p
-    show_well a ahead more n is =
-        let equal : s.block.bytes ++ ahead.along.in_order.got ≡ t.block.bytes = sym ahead.along.in_order.equal in
-        let some : 0 < n = omega (arith, is, more, carries.some) in
+    pub show_fails : (e : Error) → ReadsIntoBuf remaining s (Err e) t → FillsOn remaining rules g s p (Err (Io e)) t p
+    show_fails e reads =
+        let o = reads.read.read room in
         record {
           wire = [];
-          takes = still (Ok a) ahead;
-          asked = asks_open (Ok a) ahead;
+          takes = still (Err e) reads;
+          asked = asks (Err e) reads;
           ends = (
-            ReadsAhead-gave remaining rules 1 s t a ahead more,
+            (ap (λ l. l.reads.faults) o.told, ap (λ l. l.reads.zero_reads) o.told),
+            is_open t.block.bytes (o.added.bytes ∙ append-nil s.block.bytes ∙ empty),
+          );
+          idle = λ done. absurd (carries.goes_on done);
+        }
+
+    pub show_dry : ReadsIntoBuf remaining s (Ok 0) t → FillsOn remaining rules g s p (Err (Truncated p.count)) t p
+    show_dry reads =
+        let o = reads.read.read room in
+        record {
+          wire = [];
+          takes = still (Ok 0) reads;
+          asked = asks (Ok 0) reads;
+          ends = (
+            (
+              ap (λ l. l.reads.faults) o.told,
+              ap (λ l. l.reads.zero_reads) o.told
+                  ∙ zero_of_none 0 o.out s.log.reads.zero_reads refl (omega (arith, o.offered, room)),
+            ),
+            refl,
+            is_open t.block.bytes (o.added.bytes ∙ append-nil s.block.bytes ∙ empty),
+          );
+          idle = λ done. absurd (carries.goes_on done);
+        }
+
+    pub show_well : (came : ℕ) → ReadsIntoBuf remaining s (Ok came) t → 0 < came → (n : ℕ) → n ≡ min sure came
+        → FillsOn remaining rules g s p (Ok n) t p
+    show_well came reads more n is =
+        let o = reads.read.read room in
+        let some : 0 < n = omega (arith, is, more, carries.some) in
+        let long : length (take came o.out) ≡ came = length-take-le came o.out o.bound.0 in
+        let all : length t.block.bytes ≡ came =
+        omega (arith, ap length o.added.bytes, length-append s.block.bytes (take came o.out), ap length empty, long) in
+        record {
+          wire = [];
+          takes = still (Ok came) reads;
+          asked = asks (Ok came) reads;
+          ends = (
+            record {
+              faults = ap (λ l. l.reads.faults) o.told;
+              zero_reads = ap (λ l. l.reads.zero_reads) o.told ∙ zero_of_some came o.out s.log.reads.zero_reads (inl more);
+              asks = omega (
+                arith,
+                more,
+                ap (λ l. l.reads.asks) o.told,
+                ap (λ l. length l.reads.given) o.told,
+                length-append s.log.reads.given (take came o.out),
+                long,
+              );
+            },
             (
               (
-                omega (arith, is),
-                (λ _. subst (Carries g p.place n) equal
-                    (Carries-less g p.place sure n s.block.bytes ahead.along.in_order.got carries some (omega (arith, is)))),
+                omega (arith, is, all),
+                (λ _. subst (Carries g p.place n) (sym o.added.bytes)
+                    (Carries-less g p.place sure n s.block.bytes (take came o.out) carries some (omega (arith, is)))),
               ),
               (λ none. absurd (omega (arith, none, some))),
             ),

@@ -53,6 +53,14 @@ handed_out out (Err e) = []
 abbrev pub spend : {P W : Type 0} → Grammar P W → P → List ℕ → ℕ
 spend g p bytes = 2 * g.between p + (g.ahead - length bytes)
 
+-- a read that has to look: no payload is known, the slice isn't empty, and the buffer holds what a look needs
+pub record BeginsRead {S Q P W : Type 0} (g : Grammar P W) (s : Buffered S Q) (p : Progress P) (known : ℕ) (out : List ℕ)
+    : Type 0 where
+  pub place : g.is_place p.place
+  pub room : g.ahead ≤ s.block.capacity
+  pub none : known ≡ 0
+  pub some : 0 < length out
+
 module _ {S Q P W : Type 0} (remaining : S → Option (List ℕ)) (rules : ReadRules Q) (g : Grammar P W) where
   -- what any calls do that take these bytes of a body, in which there is this payload
   pub record Takes (s : Buffered S Q) (p : Progress P) (wire handed : List ℕ) (t : Buffered S Q) (q : Progress P)

@@ -4,8 +4,8 @@ use Rattle.std.proofs.lemmas.List.{nil_from_length, take-append-drop, take_at}
 use Rattle.body_reader.specs.declared.coding.Look.{Look}
 use Rattle.body_reader.specs.declared.coding.Look.TheVariants as look
 use Rattle.body_reader.specs.declared.until.Part.{Part}
-use Rattle.body_reader.specs.declared.until.Part.TheVariants.{Inside, Behind}
-use Rattle.body_reader.specs.Coding.{Agree, Carries, IsDone, IsLawful, IsOpen, Lacks, Leads, Looks, Passes}
+use Rattle.body_reader.specs.declared.until.Part.TheVariants.{Inside}
+use Rattle.body_reader.specs.Coding.{Agree, IsDone, IsLawful, IsOpen, Lacks, Leads, Looks, Passes}
 use Rattle.body_reader.specs.CodingLaws.{Agree-front, Agree-less, Agree-nothing, overlaps}
 use Rattle.body_reader.specs.Until.{EndsPart, IsClear, most_left, until}
 use Rattle.body_reader.specs.UntilLaws.{clear_leads, clear_still, until_lawful}

@@ -2,7 +2,7 @@
 ghost use Rattle.std.specs.Prelude.{[], ◌≡◌, ◌-◌, ◌<◌, ◌≤◌, length, min, take, drop};
 ghost use Rattle.buffer_redux.specs.Buffered.{GoesPast};
 ghost use Rattle.body_reader.specs.Coding.{Carries, IsKnown};
-ghost use Rattle.body_reader.specs.Between.{FillsOn, FindsKnown, HandsOn, HandsShown, PassesOn, SkipsOn, TakesFront};
+ghost use Rattle.body_reader.specs.Between.{BeginsRead, FillsOn, FindsKnown, HandsOn, HandsShown, PassesOn, SkipsOn, TakesFront};
 
 use crate::coding::{Coding, Look};
 use crate::error::BodyError;
@@ -60,6 +60,8 @@ pub fn skip<R: TellRead, P: ReaderPolicy, C: Coding>(
 }
 
 /// Has some byte of payload buffered, of which the next `sure` bytes are, and returns how many are buffered.
+// One read is a look at a byte ahead too, and has one answer less.
+#[inline(always)]
 pub fn show<R: TellRead, P: ReaderPolicy, C: Coding>(
     reader: &mut BufReader<R, P>,
     coding: &C,
@@ -71,10 +73,15 @@ pub fn show<R: TellRead, P: ReaderPolicy, C: Coding>(
     requires sure { Carries (C.grammar coding.now) progress.now.place sure reader.old.block.bytes }
     ensures { FillsOn R.remaining P.rules (C.grammar coding.now) reader.old progress.now result reader.new progress.now }
 {
-    if reader.peek(1)?.is_empty() {
-        return Err(BodyError::Truncated(progress.count));
+    let held = reader.buf_len();
+    if held > 0 {
+        return Ok(sure.min(held as u64) as usize);
     }
-    Ok(sure.min(reader.buf_len() as u64) as usize)
+    match reader.read_into_buf() {
+        Ok(0) => Err(BodyError::Truncated(progress.count)),
+        Ok(came) => Ok(sure.min(came as u64) as usize),
+        Err(e) => Err(BodyError::Io(e)),
+    }
 }
 
 /// Has payload buffered, and returns how much: none only where the body ended.
@@ -140,6 +147,7 @@ pub fn hand_out<R: TellRead, P: ReaderPolicy, C: Coding>(
 }
 
 /// Reads past the buffer of payload, of which the next `most` bytes are.
+#[inline(never)]
 pub fn read_past<R: TellRead, P: ReaderPolicy, C: Coding>(
     reader: &mut BufReader<R, P>,
     coding: &C,
@@ -163,6 +171,35 @@ pub fn read_past<R: TellRead, P: ReaderPolicy, C: Coding>(
     Ok(count)
 }
 
+/// Hands out payload, of which the next `sure` bytes are.
+#[inline(always)]
+pub fn read_sure<R: TellRead, P: ReaderPolicy, C: Coding>(
+    reader: &mut BufReader<R, P>,
+    coding: &C,
+    progress: &mut Progress<C::Place>,
+    known: &mut usize,
+    sure: u64,
+    out: &mut [u8],
+) -> Result<usize, BodyError<C::Wrong>>
+    requires begins { BeginsRead (C.grammar coding.now) reader.old progress.old known.old out.old }
+    requires sure { Carries (C.grammar coding.now) progress.old.place sure reader.old.block.bytes }
+    ensures hands { HandsOn R.remaining P.rules (C.grammar coding.now) reader.old progress.old out.new result reader.new
+        progress.new }
+    ensures known { IsKnown (C.grammar coding.now) progress.new.place known.new reader.new.block.bytes }
+{
+    let held = reader.buf_len();
+    if held > 0 {
+        *known = sure.min(held as u64) as usize;
+        return Ok(hand_out(reader, coding, progress, known, out));
+    }
+    let most = sure.min(out.len() as u64) as usize;
+    if most >= reader.capacity() {
+        return read_past(reader, coding, progress, most, out);
+    }
+    *known = show(reader, coding, progress, sure)?;
+    Ok(hand_out(reader, coding, progress, known, out))
+}
+
 /// Hands out payload behind what is none.
 #[inline(always)]
 pub fn read_new<R: TellRead, P: ReaderPolicy, C: Coding>(
@@ -172,20 +209,13 @@ pub fn read_new<R: TellRead, P: ReaderPolicy, C: Coding>(
     known: &mut usize,
     out: &mut [u8],
 ) -> Result<usize, BodyError<C::Wrong>>
-    requires place { (C.grammar coding.now).is_place progress.old.place }
-    requires room { (C.grammar coding.now).ahead ≤ reader.old.block.capacity }
-    requires none { known.old ≡ 0 }
-    requires some { 0 < length out.old }
+    requires { BeginsRead (C.grammar coding.now) reader.old progress.old known.old out.old }
     ensures hands { HandsOn R.remaining P.rules (C.grammar coding.now) reader.old progress.old out.new result reader.new
         progress.new }
     ensures known { IsKnown (C.grammar coding.now) progress.new.place known.new reader.new.block.bytes }
 {
     if let Look::Payload(sure) = pass(reader, coding, progress) {
-        let held = reader.buf_len();
-        if held > 0 {
-            *known = sure.min(held as u64) as usize;
-            return Ok(hand_out(reader, coding, progress, known, out));
-        }
+        return read_sure(reader, coding, progress, known, sure, out);
     }
     read_slowly(reader, coding, progress, known, out)
 }
@@ -199,10 +229,7 @@ fn read_slowly<R: TellRead, P: ReaderPolicy, C: Coding>(
     known: &mut usize,
     out: &mut [u8],
 ) -> Result<usize, BodyError<C::Wrong>>
-    requires place { (C.grammar coding.now).is_place progress.old.place }
-    requires room { (C.grammar coding.now).ahead ≤ reader.old.block.capacity }
-    requires none { known.old ≡ 0 }
-    requires some { 0 < length out.old }
+    requires { BeginsRead (C.grammar coding.now) reader.old progress.old known.old out.old }
     ensures hands { HandsOn R.remaining P.rules (C.grammar coding.now) reader.old progress.old out.new result reader.new
         progress.new }
     ensures known { IsKnown (C.grammar coding.now) progress.new.place known.new reader.new.block.bytes }
@@ -211,12 +238,7 @@ fn read_slowly<R: TellRead, P: ReaderPolicy, C: Coding>(
     if sure == 0 {
         return Ok(0);
     }
-    let most = sure.min(out.len() as u64) as usize;
-    if reader.buf_len() == 0 && most >= reader.capacity() {
-        return read_past(reader, coding, progress, most, out);
-    }
-    *known = show(reader, coding, progress, sure)?;
-    Ok(hand_out(reader, coding, progress, known, out))
+    read_sure(reader, coding, progress, known, sure, out)
 }
 
 /// Hands out payload, at least a byte unless the body ended or the slice is empty.

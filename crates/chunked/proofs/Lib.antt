@@ -4,6 +4,7 @@ pub mod Least
 pub mod Extending
 pub mod Passing
 pub mod PassingOn
+pub mod Framing
 pub mod Alive
 pub mod Skipping
 pub mod Handing

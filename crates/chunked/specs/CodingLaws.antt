@@ -13,7 +13,7 @@ use Rattle.chunked.specs.Body.{line_end}
 use Rattle.chunked.specs.BodyLaws.{IsBody-same}
 use Rattle.chunked.specs.ChunkedReaderLaws.{Completes-nothing}
 use Rattle.chunked.specs.Coding.{chunked}
-use Rattle.chunked.specs.Place.{Advances, Completes, IsPlace, IsSettled, IsWrong, Leads, Within}
+use Rattle.chunked.specs.Place.{Advances, Comes, Completes, IsPlace, IsSettled, IsWrong, Leads, Within}
 use Rattle.chunked.specs.PlaceLaws.{IsWrong-done}
 use Rattle.chunked.specs.WrongLaws.{IsWrong-none}
 
@@ -125,6 +125,19 @@ module _ (limits : Limits) where
       → body.Looks (chunked limits) p shown (look.More 1)
   looks_none p shown place open' none =
       Lacks-one (chunked limits) chunked_lawful p place (not_done p open') shown (omega (arith, ap length none))
+
+  pub looks_comes : (p : Place) (shown : List ℕ) (n : ℕ) (q : Place) → p ≢ Done → 0 < n → n ≤ length shown
+      → Comes limits p (take n shown) q → body.Looks (chunked limits) p shown (look.Passed n q)
+  looks_comes p shown n q open' some held comes = (
+    some,
+    held,
+    record {
+      leads = leads_on p (take n shown) [] q [] comes.passes.leads comes.short;
+      few = comes.passes.few;
+    },
+    comes.place,
+    not_done p open',
+  )
 
   pub looks_passed : (p : Place) (shown : List ℕ) (r : Reached) → p ≢ Done → Advances limits p shown r → 0 < r.taken
       → body.Looks (chunked limits) p shown (look.Passed r.taken r.place)

@@ -157,6 +157,12 @@ StepsOver limits p b (Err why) = IsWrong limits p b why
 abbrev pub Within : Limits → Place → List ℕ → Type 0
 Within limits p wire = (rest payload past : List ℕ) → Completes limits p rest payload → wire ≡ rest ++ past → past ≡ []
 
+-- these bytes, which are no payload and don't go past the end, lead from one place to the other
+pub record Comes (limits : Limits) (p : Place) (wire : List ℕ) (q : Place) : Type 0 where
+  pub passes : Passes limits p wire q
+  pub place : IsPlace q
+  pub short : Within limits p wire
+
 -- of these bytes the first are taken, which leads on; where it ends something is wrong, or payload or nothing comes next, or
 -- all were taken
 pub record Advances (limits : Limits) (p : Place) (shown : List ℕ) (r : Reached) : Type 0 where

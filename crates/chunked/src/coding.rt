@@ -1,7 +1,11 @@
 //! The chunked coding, as one that a `BodyReader` reads.
 ghost use Rattle.std.specs.Prelude.{◌≡◌};
+ghost use Rattle.body_reader.specs.Coding.{Looks};
+ghost use Rattle.chunked.specs.Coding.{chunked};
+ghost use Rattle.chunked.specs.Place.{IsPlace, IsSettled};
 
 use crate::error::Malformed;
+use crate::frame::frame;
 use crate::limits::Limits;
 use crate::place::Place;
 use crate::step::{advance, is_settled};
@@ -12,7 +16,6 @@ use body_reader::{Coding, Look};
 pub struct Chunked(pub Limits);
 
 impl Coding for Chunked {
-    ghost use Rattle.chunked.specs.Coding.{chunked};
     ghost use Rattle.chunked.specs.CodingLaws.{chunked_lawful};
 
     type Place = Place;
@@ -29,6 +32,7 @@ impl Coding for Chunked {
         1
     }
 
+    #[inline(always)]
     fn look(&self, place: Place, shown: &[u8]) -> Look<Place, Malformed> {
         if is_settled(place) {
             return match place {
@@ -36,17 +40,7 @@ impl Coding for Chunked {
                 _ => Look::Ended,
             };
         }
-        if shown.is_empty() {
-            return Look::More(1);
-        }
-        let reached = advance(&self.0, place, shown);
-        if reached.taken > 0 {
-            return Look::Passed(reached.taken, reached.place);
-        }
-        match reached.wrong {
-            Some(why) => Look::Wrong(why),
-            None => unreachable!(),
-        }
+        look_on(&self.0, place, shown)
     }
 
     fn behind(&self, place: Place, payload: &[u8]) -> Place {
@@ -57,4 +51,27 @@ impl Coding for Chunked {
     }
 
     ghost lawful = { λ c. chunked_lawful c.0 };
+}
+
+// What comes next where neither payload does nor the end. A call of its own, so that the reader's loop has the other answers alone.
+#[inline(never)]
+fn look_on(limits: &Limits, place: Place, shown: &[u8]) -> Look<Place, Malformed>
+    requires place { IsPlace place }
+    requires open { ¬ IsSettled place }
+    ensures { Looks (chunked limits.now) place shown.now result }
+{
+    if shown.is_empty() {
+        return Look::More(1);
+    }
+    if let Some((taken, size)) = frame(limits, place, shown) {
+        return Look::Passed(taken, Place::Data(size));
+    }
+    let reached = advance(limits, place, shown);
+    if reached.taken > 0 {
+        return Look::Passed(reached.taken, reached.place);
+    }
+    match reached.wrong {
+        Some(why) => Look::Wrong(why),
+        None => unreachable!(),
+    }
 }

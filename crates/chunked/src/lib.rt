@@ -9,6 +9,7 @@ mod chunk;
 mod coding;
 mod error;
 mod extension;
+mod frame;
 pub mod laws;
 mod limits;
 mod place;

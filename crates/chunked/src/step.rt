@@ -24,8 +24,9 @@ pub struct Reached {
     pub wrong: Option<Malformed>,
 }
 
-// The value of a hexadecimal digit.
-fn digit(byte: u8) -> Option<u8>
+/// The value of a hexadecimal digit.
+#[inline(always)]
+pub fn digit(byte: u8) -> Option<u8>
     ensures { SomeIff result (digit_value byte < 16) (digit_value byte) }
 {
     match byte {

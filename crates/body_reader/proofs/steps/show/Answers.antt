@@ -1,47 +1,54 @@
-use Rattle.std.proofs.Common.{◌≡◌, ◌<◌, ◌≤◌, ap, arith, length, min, sym}
-use Rattle.std.proofs.lemmas.Bool.{eqb-true}
-use Rattle.std.proofs.lemmas.List.{length-take}
-use Rattle.std.proofs.lemmas.Result.{err_from_is_err_and}
-use Rattle.body_reader.proofs.Filling.{one_ahead, show_dry, show_fails, show_well}
-use Rattle.body_reader.proofs.Handing.{some_of}
+use Rattle.std.proofs.Common.{Ok, ◌≡◌, ◌<◌, arith, length, subst}
+use Rattle.std.proofs.lemmas.List.{nil_from_length}
+use Rattle.buffer_redux.specs.Block.{usable}
+use Rattle.buffer_redux.specs.BufReader.{ReadsIntoBuf}
+use Rattle.body_reader.proofs.Filling.{room_of_empty, show_dry, show_fails, show_held, show_well}
 use Rattle.body_reader.proofs.steps.show.Goals as goal
+use Rattle.body_reader.proofs.steps.show.Goals.{After-read_into_buf}
 
-pub returns-in_err-peek : goal.returns-in_err-peek
-returns-in_err-peek g c =
-    let lawful = g.met.C.Coding.lawful c.args.coding.now in
-    let s = c.args.reader.now in
-    let found = rw c.in_err-peek.was at c.peek.follows.holds-at-none in
-    let room : 1 ≤ s.block.capacity = omega (arith, c.requires.room, lawful.some) in
-    let p = err_from_is_err_and c.from_residual.result c.from_residual.ensures.1 in
-    rw (p.1, p.2) (show_fails g.R.TellRead.remaining g.P.ReaderPolicy.rules (g.C.Coding.grammar c.args.coding.now) lawful s
-    c.args.progress.now c.requires.place c.args.sure c.requires.sure _ _
-    (one_ahead g.R.TellRead.remaining g.P.ReaderPolicy.rules s _ _ room found.0))
+none_held : (g : _) (c : After-read_into_buf g) → length c.args.reader.now.block.bytes ≡ 0
+none_held g c = omega (arith, c.buf_len-held.ensures.value, c.if-held-gt0.false)
 
-pub returns-then-is_empty : goal.returns-then-is_empty
-returns-then-is_empty g c =
+has_room : (g : _) (c : After-read_into_buf g) → 0 < usable c.args.reader.now.block
+has_room g c =
     let lawful = g.met.C.Coding.lawful c.args.coding.now in
-    let s = c.args.reader.now in
-    let t = c.peek.follows.lender-at-none in
-    let found = rw c.in_ok-peek.was at c.peek.follows.holds-at-none in
-    let room : 1 ≤ s.block.capacity = omega (arith, c.requires.room, lawful.some) in
-    let none : length c.in_ok-peek.field-0.now ≡ 0 = eqb-true _ _ (sym c.if-is_empty.ensures) in
-    let few : length t.block.bytes < 1 =
-    omega (arith, none, ap length found.1, length-take (min 1 s.block.capacity) t.block.bytes, room) in
-    show_dry g.R.TellRead.remaining g.P.ReaderPolicy.rules (g.C.Coding.grammar c.args.coding.now) lawful s c.args.progress.now
-    c.requires.place c.args.sure c.requires.sure t _
-    (one_ahead g.R.TellRead.remaining g.P.ReaderPolicy.rules s _ t room found.0) few
+    room_of_empty c.args.reader.now.block c.buf_len-held.ensures.whole (none_held g c)
+    (omega (arith, c.requires.room, lawful.some))
 
-pub returns : goal.returns
-returns g c =
-    let lawful = g.met.C.Coding.lawful c.args.coding.now in
+pub returns-then-held-gt0 : goal.returns-then-held-gt0
+returns-then-held-gt0 g c =
+    show_held g.R.TellRead.remaining g.P.ReaderPolicy.rules (g.C.Coding.grammar c.args.coding.now) c.args.reader.now
+    c.args.progress.now c.requires.place c.args.sure c.requires.sure
+    (omega (arith, c.buf_len-held.ensures.value, c.if-held-gt0.true)) c.min.result
+    (omega (arith, c.min.ensures, c.buf_len-held.ensures.value))
+
+pub returns-in-Ok-eq0 : goal.returns-in-Ok-eq0
+returns-in-Ok-eq0 g c =
+    let at = (goal.at.returns-in-Ok-eq0 g c).After-read_into_buf in
     let s = c.args.reader.now in
-    let t = c.peek.follows.lender-at-none in
-    let found = rw c.in_ok-peek.was at c.peek.follows.holds-at-none in
-    let room : 1 ≤ s.block.capacity = omega (arith, c.requires.room, lawful.some) in
-    let some : 0 < length c.in_ok-peek.field-0.now = some_of _ c.if-is_empty.ensures in
-    let more : 1 ≤ length t.block.bytes =
-    omega (arith, some, ap length found.1, length-take (min 1 s.block.capacity) t.block.bytes) in
-    show_well g.R.TellRead.remaining g.P.ReaderPolicy.rules (g.C.Coding.grammar c.args.coding.now) lawful s c.args.progress.now
-    c.requires.place c.args.sure c.requires.sure t _
-    (one_ahead g.R.TellRead.remaining g.P.ReaderPolicy.rules s _ t room found.0) more c.min.result
-    (omega (arith, c.min.ensures, c.buf_len.ensures.value))
+    let reads = c.in-Ok-eq0.ensures in
+    let none : c.in-Ok-eq0.field-0 ≡ 0 = omega (arith, c.in-Ok-eq0.field-0-test) in
+    show_dry g.R.TellRead.remaining g.P.ReaderPolicy.rules (g.C.Coding.grammar c.args.coding.now)
+    (g.met.C.Coding.lawful c.args.coding.now) s c.args.progress.now c.requires.place c.args.sure c.requires.sure
+    (nil_from_length s.block.bytes (none_held g at)) (has_room g at) c.read_into_buf.new.self reads.in_order reads.spared
+    (subst (λ n. ReadsIntoBuf g.R.TellRead.remaining s (Ok n) c.read_into_buf.new.self) none reads.reads)
+
+pub returns-in-Ok : goal.returns-in-Ok
+returns-in-Ok g c =
+    let at = (goal.at.returns-in-Ok g c).After-read_into_buf in
+    let s = c.args.reader.now in
+    let reads = c.in-Ok.ensures in
+    show_well g.R.TellRead.remaining g.P.ReaderPolicy.rules (g.C.Coding.grammar c.args.coding.now)
+    (g.met.C.Coding.lawful c.args.coding.now) s c.args.progress.now c.requires.place c.args.sure c.requires.sure
+    (nil_from_length s.block.bytes (none_held g at)) (has_room g at) c.read_into_buf.new.self reads.in_order reads.spared
+    c.in-Ok.came reads.reads (omega (arith, c.in-Ok.came-test)) c.min-in-Ok.result (omega (arith, c.min-in-Ok.ensures))
+
+pub returns-in-Err : goal.returns-in-Err
+returns-in-Err g c =
+    let at = (goal.at.returns-in-Err g c).After-read_into_buf in
+    let s = c.args.reader.now in
+    let reads = c.in-Err.ensures in
+    show_fails g.R.TellRead.remaining g.P.ReaderPolicy.rules (g.C.Coding.grammar c.args.coding.now)
+    (g.met.C.Coding.lawful c.args.coding.now) s c.args.progress.now c.requires.place c.args.sure c.requires.sure
+    (nil_from_length s.block.bytes (none_held g at)) (has_room g at) c.read_into_buf.new.self reads.in_order reads.spared
+    c.in-Err.e reads.reads

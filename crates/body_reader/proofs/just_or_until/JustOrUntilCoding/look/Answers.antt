@@ -6,7 +6,7 @@ use Rattle.body_reader.specs.declared.just_or_until.JustOr.TheVariants as at
 use Rattle.body_reader.specs.declared.until.Part.TheVariants.{Inside}
 use Rattle.body_reader.specs.Coding.{Lacks, Looks}
 use Rattle.body_reader.specs.JustOrUntil.{just_or_until}
-use Rattle.body_reader.specs.JustOrUntilLaws.{alike_looks, alike_start, alike_until, apart, looks_begun, looks_just}
+use Rattle.body_reader.specs.JustOrUntilLaws.{alike_looks, alike_start, apart, looks_begun, looks_just}
 use Rattle.body_reader.proofs.just_or_until.JustOrUntilCoding.look.Goals as goal
 
 -- what begins a text and isn't it is shorter

@@ -1,10 +1,8 @@
-use Rattle.std.proofs.Common.{arith, subst, sym}
-use Rattle.std.proofs.lemmas.Bool.{eqb-true}
-use Rattle.std.proofs.lemmas.List.{nil_from_length}
+use Rattle.std.proofs.Common.{subst, sym}
 use Rattle.body_reader.specs.Coding as body
 use Rattle.body_reader.specs.declared.Look.TheVariants.{Payload}
 use Rattle.chunked.specs.Coding.{chunked}
-use Rattle.chunked.specs.CodingLaws.{looks_data, looks_none, looks_passed, looks_wrong, open_of, settled_some}
+use Rattle.chunked.specs.CodingLaws.{looks_data, settled_some}
 use Rattle.chunked.specs.Place.{IsSettled}
 use Rattle.chunked.proofs.coding.ChunkedCoding.look.Goals as goal
 
@@ -15,20 +13,5 @@ returns-in-Data c =
     (looks_data c.args.self.now.0 c.in-Data.left c.args.shown.now
     (settled_some c.args.self.now.0 c.in-Data.left (subst IsSettled c.in-Data.is settled)))
 
-pub returns-then-is_empty : goal.returns-then-is_empty
-returns-then-is_empty c =
-    looks_none c.args.self.now.0 c.args.place c.args.shown.now c.requires
-    (open_of c.args.self.now.0 c.args.place (λ settled. (let odd = c.is_settled.ensures.1 settled in cc)))
-    (nil_from_length c.args.shown.now (eqb-true _ _ (sym c.if-is_empty.ensures)))
-
-pub returns-then-reached-gt0 : goal.returns-then-reached-gt0
-returns-then-reached-gt0 c =
-    looks_passed c.args.self.now.0 c.args.place c.args.shown.now c.advance-reached.result
-    (open_of c.args.self.now.0 c.args.place (λ settled. (let odd = c.is_settled.ensures.1 settled in cc)))
-    c.advance-reached.ensures (omega arith)
-
-pub returns : goal.returns
-returns c =
-    looks_wrong c.args.self.now.0 c.args.place c.args.shown.now c.advance-reached.result c.in-Some.why
-    (open_of c.args.self.now.0 c.args.place (λ settled. (let odd = c.is_settled.ensures.1 settled in cc)))
-    c.advance-reached.ensures (omega (arith, c.if-reached-gt0.false)) c.in-Some.is
+pub look_on-requires-clause-open : goal.look_on-requires-clause-open
+look_on-requires-clause-open c = λ settled. (let odd = c.is_settled.ensures.1 settled in cc)
