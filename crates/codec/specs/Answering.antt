@@ -4,6 +4,15 @@ use Rattle.std.specs.declared.io.Error.{Error}
 use Rattle.buffer_redux.specs.Buffered.{Buffered}
 use Rattle.buffer_redux.specs.StreamLog.{StreamLog}
 use Rattle.buffer_redux.specs.WriteParts.{WritesParts}
+use Rattle.piece_reader.specs.Grammar.{Grammar}
+
+-- what a decoder reads as a piece, or as a last one: all its bytes, what it says, and its payload
+pub record IsPieceRead {D W I : Type 0} (grammar : D → Grammar W) (item_of : D → List ℕ → I) (item : I) (payload : List ℕ)
+    : Type 0 where
+  pub decoder : D
+  pub bytes : List ℕ
+  pub is : (grammar decoder).piece bytes payload ⊎ (grammar decoder).last bytes payload
+  pub says : item ≡ item_of decoder bytes
 
 -- these bytes were taken in by one write of parts; or there are none, and nothing was done
 abbrev pub WritesOnce : {T P : Type 0} → (T → StreamLog) → (T → T → Type 0) → Buffered T P → List ℕ → Buffered T P → Type 0

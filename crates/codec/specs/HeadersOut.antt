@@ -1,6 +1,7 @@
 -- Headers as they are written.
 use Rattle.std.specs.Prelude.{◌≡◌, ℕ, ◌+◌, ◌<◌, ◌≤◌, List, length}
 use Rattle.codec.specs.Encoding.{Encoding}
+use Rattle.piece_reader.specs.Grammar.{Grammar}
 use Rattle.piece_reader.specs.HeaderFormat.{HeaderFormat}
 use Rattle.piece_reader.specs.declared.header_error.HeaderError.{HeaderError}
 use Rattle.piece_reader.specs.declared.header_error.HeaderError.TheVariants.{TooLong}
@@ -25,3 +26,8 @@ length_prefixed_out h o = record {
   tail = h.tail;
   refuses = λ payload e. (o.max < length payload) × (e ≡ TooLong (length payload));
 }
+
+-- these bytes are a piece with this payload, and say this
+pub record IsItemRead {W I : Type 0} (g : Grammar W) (item_of : List ℕ → I) (item : I) (payload bytes : List ℕ) : Type 0 where
+  pub piece : g.piece bytes payload
+  pub says : item_of bytes ≡ item

@@ -11,6 +11,7 @@ mod ended;
 mod error;
 mod fetching;
 mod header_bytes;
+mod items_writer;
 pub mod laws;
 mod length_prefixed_writer;
 mod number;
@@ -30,6 +31,7 @@ pub use ended::{Ended, Unended};
 pub use error::WritePieceError;
 pub use fetching::{fetch, fetch_item};
 pub use header_bytes::HeaderBytes;
+pub use items_writer::{ItemsOut, write_item};
 pub use length_prefixed_writer::LengthPrefixedOut;
 pub use number::Number;
 pub use piece_reader::{

@@ -1,6 +1,6 @@
 //! Pieces are answered, one after another.
 ghost use Rattle.std.specs.Prelude.{ℕ, List, Bool, IfOk, IfErr};
-ghost use Rattle.codec.specs.Answering.{Answered};
+ghost use Rattle.codec.specs.Answering.{Answered, IsPieceRead};
 ghost use Rattle.codec.specs.ServingAll.{ServesAll, StopsAll};
 ghost use Rattle.codec.specs.Serving.{Ends, Serves, Stops, Turns, server};
 
@@ -16,15 +16,17 @@ pub trait Service<D: Items> {
     // What a piece makes of it: what it says, its payload, what is written for it, and whether a further piece is taken.
     ghost answers: { Self → D.Item → List ℕ → List ℕ → Bool → Self → Type 0 };
 
-    /// Answers a piece, and says whether a further one is taken. It writes once, by one `write_parts` as
-    /// [`write_answer`](crate::write_answer) makes, or nothing, as to a part of a request, and sends and flushes nothing else. An
-    /// `Err` is the writer's: nothing of the answer was taken in then, and what the piece asked for is done.
+    /// Answers a piece, and says whether a further one is taken. What it is given is a piece of the grammar, so no payload is
+    /// longer than the decoder allows. It writes once, by one `write_parts` as [`write_answer`](crate::write_answer) makes, or
+    /// nothing, as to a part of a request, and sends and flushes nothing else. An `Err` is the writer's: nothing of the answer was
+    /// taken in then, and what the piece asked for is done.
     fn answer<W: TellWrite>(
         &mut self,
         item: D::Item,
         payload: &[u8],
         writer: &mut BufWriter<W>,
     ) -> io::Result<bool>
+        requires { IsPieceRead D.grammar D.item_of item payload.now }
         ensures { Answered W.log W.trace (answers self.old item payload.now) writer.old result self.new writer.new };
 }
 

@@ -10,3 +10,5 @@ pub mod Strings
 pub mod StringsLaws
 pub mod TextWords
 pub mod TextWordsLaws
+pub mod Varints
+pub mod VarintsLaws

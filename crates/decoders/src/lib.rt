@@ -4,15 +4,19 @@
 #![tactic(auto)]
 
 mod bulk_strings;
+mod kind_varints;
 pub mod laws;
 mod lengths;
 mod lengths_writer;
 mod netstrings;
 mod nullable;
 mod resp;
+mod varints;
 
 pub use bulk_strings::BulkStrings;
+pub use kind_varints::KindVarints;
 pub use lengths::{Lengths, Order, Width};
 pub use netstrings::Netstrings;
 pub use nullable::{NullableStrings, StringState};
 pub use resp::{Resp, RespItem};
+pub use varints::{VarintPlace, Varints};

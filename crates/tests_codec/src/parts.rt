@@ -1,7 +1,7 @@
-//! What decoders are made of: numbers in text, headers, lengths in bytes, extensions of a chunk's size.
+//! What decoders are made of: numbers in text, headers, lengths in bytes, also of seven bits, extensions of a chunk's size.
 use chunked::Within;
-use codec::{HeaderBytes, Number};
-use decoders::Width;
+use codec::{HeaderBytes, Number, ScanOut};
+use decoders::{Varints, Width};
 use std::test::Fail;
 
 // Texts, and the numbers that they are: without a zero in front, and of at most eighteen digits.
@@ -58,6 +58,36 @@ fn said_by(width: Width) -> (usize, usize) {
 fn widths(rt: HostRuntime) -> Result<(), Fail> {
     for &(width, size, most) in &WIDTHS {
         assert!(rt; said_by(width) == (size, most));
+    }
+    Ok(())
+}
+
+// Lengths, and the bytes that they are: those of MQTT 3.1.1, table 2.4, and the example of Protocol Buffers' encoding, 300.
+static VARINTS: [(usize, &'static [u8]); 9] = [
+    (0, b"\x00"),
+    (127, b"\x7f"),
+    (128, b"\x80\x01"),
+    (300, b"\xac\x02"),
+    (16_383, b"\xff\x7f"),
+    (16_384, b"\x80\x80\x01"),
+    (2_097_151, b"\xff\xff\x7f"),
+    (2_097_152, b"\x80\x80\x80\x01"),
+    (268_435_455, b"\xff\xff\xff\x7f"),
+];
+
+fn is_varint(len: usize, bytes: &[u8]) -> bool {
+    let varints = Varints { max: 268_435_455 };
+    if len > varints.max_written() {
+        return false;
+    }
+    let header = varints.header_of(len);
+    header.bytes.get(..header.len) == Some(bytes)
+}
+
+#[test]
+fn varints(rt: HostRuntime) -> Result<(), Fail> {
+    for &(len, bytes) in &VARINTS {
+        assert!(rt; is_varint(len, bytes));
     }
     Ok(())
 }

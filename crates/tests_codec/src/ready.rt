@@ -2,8 +2,8 @@
 use crate::asks::Want::{End, Next, Rest, Wrong};
 use crate::asks::Why::{Long, NoHeader, NoTail, Truncated};
 use crate::pieces::{Row, swept};
-use codec::{ByHeader, ByTextHeader};
-use decoders::{BulkStrings, Lengths, Netstrings, Order, Width};
+use codec::{ByHeader, ByScan, ByTextHeader};
+use decoders::{BulkStrings, Lengths, Netstrings, Order, Varints, Width};
 use std::alloc::Global;
 use std::io;
 use std::test::Fail;
@@ -73,6 +73,16 @@ static EIGHT: [Row<'static>; 3] = [
     (b"\0\0\0\0\0\0\0", &[Wrong(Truncated(7))]),
 ];
 
+// Lengths of MQTT 3.1.1, table 2.4, and the example of Protocol Buffers' encoding, 300.
+static VARINTS: [Row<'static>; 6] = [
+    (b"\x02hi\0", &[Next(b"hi"), Next(b""), End]),
+    (b"\xac\x02", &[Wrong(Long(300))]),
+    (b"\xff\xff\x7f", &[Wrong(Long(2_097_151))]),
+    (b"\xff\xff\xff\x7f", &[Wrong(Long(268_435_455))]),
+    (b"\xff\xff\xff\xff", &[Wrong(NoHeader)]),
+    (b"\x80", &[Wrong(Truncated(1))]),
+];
+
 type Answer = io::Result<Result<usize, (usize, usize)>>;
 
 fn lengths(alloc: Global, width: Width, order: Order, rows: &[Row<'_>]) -> Answer {
@@ -94,8 +104,9 @@ fn lengths_in_bytes(rt: HostRuntime) -> Result<(), Fail> {
     let big = lengths(alloc, Width::Two, Order::BigEndian, &BIG)?;
     let little = lengths(alloc, Width::Four, Order::LittleEndian, &LITTLE)?;
     let eight = lengths(alloc, Width::Eight, Order::BigEndian, &EIGHT)?;
-    let met = (one, big, little, eight);
-    assert!(rt; met == (Ok(17), Ok(34), Ok(34), Ok(59)), "{met:?}");
+    let varints = swept(alloc, ByHeader(ByScan(Varints { max: 3 })), &VARINTS)?;
+    let met = (one, big, little, eight, varints);
+    assert!(rt; met == (Ok(17), Ok(34), Ok(34), Ok(59), Ok(51)), "{met:?}");
     Ok(())
 }
 

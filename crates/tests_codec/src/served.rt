@@ -2,7 +2,7 @@
 use buffer_redux::BufWriter;
 use buffer_redux::tell::{TellRead, Told};
 use codec::{ByFirst, ByHeader, ByScan, ByTextHeader, Delimited, PieceReader, fetch, fetch_item};
-use decoders::{BulkStrings, NullableStrings, Resp, RespItem};
+use decoders::{BulkStrings, KindVarints, NullableStrings, Resp, RespItem};
 use redux_script::Answer;
 use std::alloc::Global;
 use std::io;
@@ -49,6 +49,17 @@ fn nullable(rt: HostRuntime) -> Result<(), Fail> {
     assert!(rt; matches!(reader.next(), Ok(Some(b"hi"))));
     assert!(rt; matches!(reader.next(), Ok(Some(b""))));
     assert!(rt; matches!(reader.next(), Ok(None)));
+    Ok(drop(reader))
+}
+
+#[test]
+fn packets(rt: HostRuntime) -> Result<(), Fail> {
+    let alloc = rt.alloc();
+    let stream = Told::new(b"\x30\x02hi\xc0\x00".as_slice());
+    let mut reader = PieceReader::new(alloc, stream, KindVarints { max: 300 })?;
+    assert!(rt; matches!(reader.step_item(), Ok(Some((0x30, _)))));
+    assert!(rt; matches!(reader.step_item(), Ok(Some((0xc0, _)))));
+    assert!(rt; matches!(reader.step_item(), Ok(None)));
     Ok(drop(reader))
 }
 

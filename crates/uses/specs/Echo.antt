@@ -1,13 +1,12 @@
 -- What a server that echoes answers.
-use Rattle.std.specs.Prelude.{◌≡◌, ℕ, List, [], ◌∷◌, ◌++◌, Bool, true, false}
-use Rattle.decoders.specs.declared.resp.RespItem.{RespItem}
-use Rattle.decoders.specs.declared.resp.RespItem.TheVariants.{Bulk}
+use Rattle.std.specs.Prelude.{◌≡◌, ℕ, List, [], ◌∷◌, ◌++◌, length, Bool, true, false, MatchBool, ◌==◌}
+use Rattle.decoders.specs.Varints.{varint_bytes}
 use Rattle.uses.specs.declared.echo.Echo.{Echo}
 
--- a bulk string as a line; and nothing to another piece, behind which no further is taken
-abbrev pub echoes : Echo → RespItem → List ℕ → List ℕ → Bool → Echo → Type 0
-echoes a Bulk payload answer more b = (answer ≡ payload ++ 10 ∷ []) × (more ≡ true)
-echoes a item payload answer more b = (answer ≡ []) × (more ≡ false)
+-- a packet as it came; and for one of kind 0 an empty one, behind which no further is taken
+abbrev pub echoes : Echo → ℕ → List ℕ → List ℕ → Bool → Echo → Type 0
+echoes a kind payload answer more b = MatchBool (kind == 0) ((answer ≡ 0 ∷ 0 ∷ []) × (more ≡ false))
+    ((answer ≡ (kind ∷ varint_bytes (length payload)) ++ payload) × (more ≡ true))
 
 -- what echoes has no state
 abbrev pub echo : Echo

@@ -1,49 +1,54 @@
-//! A server that sends bulk strings back as lines.
+//! A server that sends packets back as they came.
 ghost use Rattle.std.specs.Prelude.{IfErr, IfOk};
 ghost use Rattle.codec.specs.ServingAll.{ServesAll, StopsAll};
 ghost use Rattle.codec.specs.Serving.{server};
-ghost use Rattle.decoders.specs.Resp.{resp, resp_item};
+ghost use Rattle.decoders.specs.Varints.{kind_of, kind_pieces};
 ghost use Rattle.uses.specs.Echo.{echo, echoes};
 
 use buffer_redux::BufWriter;
 use buffer_redux::tell::{TellRead, TellWrite};
 use codec::{
-    EitherWrong, HeaderError, PieceReader, ServeError, Served, Service, TooLong, Unended,
-    serve_all, write_answer,
+    HeaderError, PieceReader, ServeError, Served, Service, serve_all, write_answer, write_item,
 };
-use decoders::{Resp, RespItem};
+use decoders::KindVarints;
 use std::io;
 
-/// Sends each bulk string back as a line, and takes no piece behind another.
+/// Sends each packet back, but of one of kind 0 only that, and takes none behind it.
 #[derive(Drop)]
 pub struct Echo;
 
-impl Service<Resp> for Echo {
+impl Service<KindVarints> for Echo {
     ghost use Rattle.uses.specs.Echo.{echoes};
 
     ghost answers = { echoes };
 
     fn answer<W: TellWrite>(
         &mut self,
-        item: RespItem,
+        kind: u8,
         payload: &[u8],
         writer: &mut BufWriter<W>,
     ) -> io::Result<bool> {
-        match item {
-            RespItem::Bulk => write_answer(writer, &[payload, b"\n"], true),
-            _ => Ok(false),
+        if kind == 0 {
+            return write_answer(writer, &[b"\0\0"], false);
         }
+        write_item(
+            writer,
+            &KindVarints { max: 268_435_455 },
+            kind,
+            payload,
+            true,
+        )
     }
 }
 
-/// Echoes all of a stream, up to its end or another piece.
+/// Echoes all of a stream, up to its end or a packet of kind 0.
 pub fn echo_all<R: TellRead, W: TellWrite>(
-    reader: &mut PieceReader<R, Resp>,
+    reader: &mut PieceReader<R, KindVarints>,
     writer: &mut BufWriter<W>,
-) -> Result<Served, ServeError<EitherWrong<HeaderError, Unended<TooLong>>>>
-    ensures served { IfOk result (λ ended. ServesAll R.remaining W.log W.trace (resp reader.old.decoder.max) resp_item echoes
+) -> Result<Served, ServeError<HeaderError>>
+    ensures served { IfOk result (λ ended. ServesAll R.remaining W.log W.trace (kind_pieces reader.old.decoder.max) kind_of echoes
         (server reader.old echo writer.old) ended (server reader.new echo writer.new)) }
-    ensures failed { IfErr result (λ e. StopsAll R.remaining W.log W.trace (resp reader.old.decoder.max) resp_item echoes
+    ensures failed { IfErr result (λ e. StopsAll R.remaining W.log W.trace (kind_pieces reader.old.decoder.max) kind_of echoes
         (server reader.old echo writer.old) e (server reader.new echo writer.new)) }
 {
     serve_all(&mut Echo, reader, writer)
