@@ -4,6 +4,7 @@ use Rattle.std.proofs.lemmas.List.{length-replicate, nil_from_length}
 use Rattle.body_reader.specs.Asking.{AskedWhere}
 use Rattle.body_reader.specs.AskingLaws.{AskedWhere-of}
 use Rattle.body_reader.specs.Between as between
+use Rattle.body_reader.specs.Between.{LeavesRoom}
 use Rattle.body_reader.specs.BodyReader.{BodyWent, Breaks, Drains, EndsEarly, IsBodyReader, IsWhole, NoPayload, ReadsPayload, handed_of}
 use Rattle.body_reader.specs.BodyReaderLaws.{BodyWent-leads}
 use Rattle.body_reader.specs.Coding.{Agree, IsDone, IsLawful, IsOpen, Leads, LeadsOpen, heeded}
@@ -18,6 +19,7 @@ use Rattle.body_reader.specs.declared.either.Side.{Side}
 use Rattle.body_reader.specs.declared.either.Side.TheVariants as side
 use Rattle.body_reader.specs.declared.sized.Sized.{Sized as OfLength}
 use Rattle.buffer_redux.specs.Policy.{std_read_rules}
+use Rattle.buffer_redux.specs.declared.policy.StdPolicy.{StdPolicy}
 use Rattle.buffer_redux.specs.Unbuffer.{Unbuffered, unbuffered}
 use Rattle.buffer_redux.specs.UnbufferLaws.{ReadsAlong-stream}
 use Rattle.chunked.specs.Coding.{chunked}
@@ -30,7 +32,8 @@ use Rattle.chunked.specs.declared.limits.Limits.{Limits}
 use Rattle.chunked.specs.declared.place.Place.{Place}
 use Rattle.chunked.specs.declared.place.Place.TheVariants.{Data, Done}
 use Rattle.chunked.proofs.Alive.{Completes-some}
-use Rattle.messages.specs.Messages.{Backward, BodyCoding, Bytes, Chunks, Ends, Fails, FinishFails, GoesOn, HasRoom, IsNamed, IsReady, IsRest, IsWrongNext, Onward, Reader, Rest, RunsShort, Takes, Unended, body_error, grammar_of, has_line, left_in, rest_of, stream_of}
+use Rattle.messages.specs.MessagesLaws.{same_room}
+use Rattle.messages.specs.Messages.{Backward, BodyCoding, Bytes, Chunks, Ends, Fails, FinishFails, GoesOn, HasRoom, IsNamed, IsReady, IsRest, IsWrongNext, Onward, Reader, Rest, RunsShort, Takes, Unended, body_error, grammar_of, has_line, left_in, rest_of, room_of, stream_of}
 use Rattle.messages.specs.declared.error.BodyError.TheVariants.{Wrong, Io as Fault}
 use Rattle.std.specs.declared.io.Error.{Error}
 
@@ -219,6 +222,10 @@ short_is c p is bytes (inl opened) = inl (no_byte c p bytes opened)
 short_is c p is bytes (inr (side.First none, wrong)) = absurd (none_wrong c p bytes none wrong)
 short_is c p is bytes (inr (side.Second name, wrong)) = inr (name, wrong_is c p is bytes name wrong)
 
+-- the policy leaves the buffer as it is
+std_leaves : LeavesRoom {Q = StdPolicy} std_read_rules
+std_leaves p b n p' b' left = (ap (λ b. b.capacity) left.1, ap (λ b. b.limit) left.1)
+
 -- calls of the reader
 module _ {R : Type 0} {remaining : R → Option (List ℕ)} {s t : Reader R} (is : IsBodyReader (grammar_of s.coding) s)
     (is' : IsBodyReader (grammar_of s.coding) t) {handed : List ℕ}
@@ -241,10 +248,18 @@ module _ {R : Type 0} {remaining : R → Option (List ℕ)} {s t : Reader R} (is
   })
 
   pub body_room : HasRoom s → HasRoom t
-  body_room (roomy, line) = (
-    (went.keeps.kind ∙ roomy.0, omega (arith, roomy.1, went.along.capacity)),
-    subst has_line (sym went.coding) line,
-  )
+  body_room (roomy, line) =
+      let kept = went.keeps.room std_leaves in (
+        record {
+          kind = went.keeps.kind ∙ roomy.kind;
+          capacity = omega (arith, roomy.capacity, went.along.capacity);
+          limit = kept.1 ∙ roomy.limit ∙ sym kept.0;
+        },
+        subst has_line (sym went.coding) line,
+      )
+
+  pub body_kept : room_of t.reader.block ≡ room_of s.reader.block
+  body_kept = let kept = went.keeps.room std_leaves in same_room t.reader.block s.reader.block kept.0 kept.1
 
   done : IsWhole (grammar_of s.coding) t → IsDone (grammar_of s.coding) t.place
   done = Leads-done (grammar_of s.coding) (lawful s.coding) t.taken (handed_of t) t.place

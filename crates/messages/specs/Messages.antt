@@ -4,6 +4,7 @@ use Rattle.std.specs.IoError.{error_kind}
 use Rattle.std.specs.declared.io.Error.{Error}
 use Rattle.std.specs.declared.io.ErrorKind.TheVariants.{Other}
 use Rattle.buffer_redux.specs.Block.{Block, Plain}
+use Rattle.buffer_redux.specs.Buffered.{Buffered}
 use Rattle.buffer_redux.specs.Unbuffer.{StreamWent, Unbuffered, unbuffered}
 use Rattle.body_reader.specs.BodyReader.{BodyState}
 use Rattle.body_reader.specs.Coding.{Grammar}
@@ -79,21 +80,38 @@ pub record IsMessage (bytes head payload : List ℕ) : Type 0 where
   pub text : IsHeadPiece head head
   pub body : IsRest (body_of text.said.extent) wire payload
 
--- a reader in a body: what the stream has left, the head and what that says, and what is left of the body
+-- how much a buffer takes: its capacity, and how far that may grow
+pub record Room : Type 0 where
+  pub capacity : ℕ
+  pub limit : ℕ
+
+abbrev pub room_of : Block → Room
+room_of b = record { capacity = b.capacity; limit = b.limit }
+
+-- a reader in a body: what the stream has left, how much its buffer takes, the head and what that says, and what is left of
+-- the body
 pub record InBody (S : Type 0) : Type 0 where
   pub stream : Unbuffered S
+  pub room : Room
   pub head : List ℕ
   pub said : ParsedHead
   pub rest : Rest
 
-abbrev pub begun : {S : Type 0} → Unbuffered S → List ℕ → ParsedHead → InBody S
-begun stream head said = record { stream = stream; head = head; said = said; rest = body_of said.extent }
+abbrev pub begun : {S : Type 0} → Buffered S StdPolicy → List ℕ → ParsedHead → InBody S
+begun reader head said = record {
+  stream = unbuffered reader;
+  room = room_of reader.block;
+  head = head;
+  said = said;
+  rest = body_of said.extent;
+}
 
 -- the reader stands in front of a body, behind its head, which was the next piece
 pub record Begun {S : Type 0} (remaining : S → Option (List ℕ)) (s : ReaderState S Heads) (b : InBody S) : Type 0 where
   pub behind : ReaderState S Heads
   pub next : NextPiece remaining heads s (Ok (Some b.head)) behind
   pub stream : b.stream ≡ left_of behind
+  pub room : b.room ≡ room_of s.reader.block
   pub is : IsHead b.head b.said
   pub rest : b.rest ≡ body_of b.said.extent
 
@@ -101,6 +119,7 @@ pub record Begun {S : Type 0} (remaining : S → Option (List ℕ)) (s : ReaderS
 pub record Enters {S : Type 0} (s : ReaderState S Heads) (bytes : List ℕ) (b : InBody S) : Type 0 where
   pub head : b.head ≡ bytes
   pub stream : b.stream ≡ left_of s
+  pub room : b.room ≡ room_of s.reader.block
   pub is : IsHead b.head b.said
   pub rest : b.rest ≡ body_of b.said.extent
 
@@ -180,10 +199,11 @@ pub record Ends {S : Type 0} (remaining : S → Option (List ℕ)) (s : Unbuffer
   pub is : IsRest r wire payload
   pub gave : EachGave s t
 
--- a call of a reader in a body, which keeps the head and what that says, did so
+-- a call of a reader in a body, which keeps the head and what that says, and how much its buffer takes, did so
 pub record InsideGoes {S : Type 0} (remaining : S → Option (List ℕ)) (s : InBody S) (handed : List ℕ) (t : InBody S)
     : Type 0 where
   pub takes : Takes remaining s.stream s.rest handed t.stream t.rest
+  pub room : t.room ≡ s.room
   pub head : t.head ≡ s.head
   pub said : t.said ≡ s.said
 
@@ -231,9 +251,11 @@ stream_of d = unbuffered d.reader
 abbrev pub left_in : {S : Type 0} → Reader S → Rest
 left_in d = rest_of d.coding d.place
 
--- a plain buffer in which three heads fit: a reader of heads keeps it, and takes no memory
-abbrev pub IsRoomy : Block → Type 0
-IsRoomy b = (b.kind ≡ Plain) × (3 * 16384 ≤ b.capacity)
+-- a plain buffer in which three heads fit, and which grows no further: a reader of heads keeps it, and takes no memory
+pub record IsRoomy (b : Block) : Type 0 where
+  pub kind : b.kind ≡ Plain
+  pub capacity : 3 * 16384 ≤ b.capacity
+  pub limit : b.limit ≡ b.capacity
 
 -- a chunk has room for its size
 abbrev pub has_line : BodyCoding → Type 0

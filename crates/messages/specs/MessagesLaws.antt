@@ -2,6 +2,7 @@
 use Rattle.std.specs.Prelude.{◌≡◌, ℕ, List, [], ◌∷◌, ◌++◌, length, Option, Some, Ok}
 use Rattle.std.proofs.Common.{sym, ap, subst, ◌∙◌, arith, refl, append_assoc, append-nil, inl, inr}
 use Rattle.std.proofs.lemmas.List.{append_cancel_left}
+use Rattle.buffer_redux.specs.Block.{Block}
 use Rattle.buffer_redux.specs.Unbuffer.{StreamWent, Unbuffered}
 use Rattle.buffer_redux.specs.UnbufferLaws.{StreamWent-joins, StreamWent-none}
 use Rattle.chunked.specs.BodyLaws.{IsBody-same, front_same}
@@ -17,7 +18,7 @@ use Rattle.messages.specs.declared.head.Heads as head
 use Rattle.messages.specs.Heads.{IsHead, IsHeadPiece, extent_of, heads}
 use Rattle.messages.specs.HeadsLaws.{heads_lawful}
 use Rattle.messages.specs.Versions.{as_known}
-use Rattle.messages.specs.Messages.{AreMessages, Backward, Begun, EachGave, Enters, InBody, InTurn, InsideGoes, IsMessage, IsRest, Message, MessagesWent, Onward, Rest, Takes, body_of}
+use Rattle.messages.specs.Messages.{AreMessages, Backward, Begun, EachGave, Enters, InBody, InTurn, InsideGoes, IsMessage, IsRest, Message, MessagesWent, Onward, Rest, Takes, body_of, room_of}
 
 -- a body ends in one place
 one_body : (e : Extent) (a b p q xs ys : List ℕ) → IsRest (body_of e) a p → IsRest (body_of e) b q → a ++ xs ≡ b ++ ys
@@ -71,6 +72,10 @@ InTurn-joins Is [] ns a b is are = subst (λ l. InTurn Is ns (l ++ b)) (sym is) 
 InTurn-joins Is (m ∷ ms) ns a b (f, more, one, is, equal) are =
     (f, more ++ b, one, InTurn-joins Is ms ns more b is are, ap (λ l. l ++ b) equal ∙ append_assoc f more b)
 
+pub same_room : (b c : Block) → b.capacity ≡ c.capacity → b.limit ≡ c.limit → room_of b ≡ room_of c
+same_room b c capacity limit =
+    ap (λ n. record { capacity = n; limit = b.limit }) capacity ∙ ap (λ n. record { capacity = c.capacity; limit = n }) limit
+
 -- reads that each gave some, and then more such
 pub EachGave-joins : {S : Type 0} (s m t : Unbuffered S) → EachGave s m → EachGave m t → EachGave s t
 EachGave-joins s m t before more = (more.0 ∙ before.0, more.1 ∙ before.1)
@@ -100,6 +105,7 @@ module _ {S : Type 0} (remaining : S → Option (List ℕ)) where
     behind = t;
     next = subst (λ l. NextPiece remaining heads s (Ok (Some l)) t) (sym enters.head) next;
     stream = enters.stream;
+    room = enters.room ∙ same_room t.reader.block s.reader.block next.went.capacity next.went.limit;
     is = enters.is;
     rest = enters.rest;
   }
@@ -137,12 +143,13 @@ module _ {S : Type 0} (remaining : S → Option (List ℕ)) where
   }
 
   pub InsideGoes-none : (b : InBody S) → InsideGoes remaining b [] b
-  InsideGoes-none b = record { takes = Takes-none b.stream b.rest; head = refl; said = refl }
+  InsideGoes-none b = record { takes = Takes-none b.stream b.rest; room = refl; head = refl; said = refl }
 
   pub InsideGoes-joins : (s m t : InBody S) (h k : List ℕ) → InsideGoes remaining s h m → InsideGoes remaining m k t
       → InsideGoes remaining s (h ++ k) t
   InsideGoes-joins s m t h k a b = record {
     takes = Takes-joins s.stream m.stream t.stream s.rest m.rest t.rest h k a.takes b.takes;
+    room = b.room ∙ a.room;
     head = b.head ∙ a.head;
     said = b.said ∙ a.said;
   }

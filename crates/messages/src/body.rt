@@ -4,7 +4,8 @@ ghost use Rattle.body_reader.specs.Asking.{AskedWhere};
 ghost use Rattle.body_reader.specs.Between.{handed_out};
 ghost use Rattle.buffer_redux.specs.Unbuffer.{unbuffered};
 ghost use Rattle.codec.specs.PieceReader.{left_of};
-ghost use Rattle.messages.specs.Messages.{EachGave, Ends, Fails, FinishFails, GoesOn, HasRoom, InsideGoes, IsReady, IsRest, IsRoomy, RunsShort, Takes, Unended, begun, body_of, grammar_of, has_line, left_in, rest_of, stream_of};
+ghost use Rattle.messages.specs.Heads.{IsHead};
+ghost use Rattle.messages.specs.Messages.{EachGave, Ends, Fails, FinishFails, GoesOn, HasRoom, InsideGoes, IsReady, IsRest, IsRoomy, RunsShort, Takes, Unended, begun, body_of, grammar_of, has_line, left_in, rest_of, room_of, stream_of};
 
 use crate::error::{BodyError, unread};
 use crate::head::{Extent, Heads, ParsedHead};
@@ -36,27 +37,30 @@ pub struct Body<R: Tell> {
 }
 
 impl<R: Tell> Model for Body<R> {
-    ghost use Rattle.std.specs.Prelude.{◌≤◌};
-    ghost use Rattle.messages.specs.Messages.{HasRoom, InBody, left_in, stream_of};
+    ghost use Rattle.std.specs.Prelude.{◌≡◌};
+    ghost use Rattle.messages.specs.Heads.{IsHead};
+    ghost use Rattle.messages.specs.Messages.{HasRoom, InBody, left_in, room_of, stream_of};
 
     ghost Value = { InBody R };
 
     ghost view = { λ b. record {
       stream = stream_of b.reader;
+      room = room_of b.reader.reader.block;
       head = b.head.bytes;
       said = b.said;
       rest = left_in b.reader;
     } };
 
-    ghost invariant = { λ b. (16384 ≤ b.head.capacity) × HasRoom b.reader };
+    ghost invariant = { λ b. (b.head.capacity ≡ 16384) × IsHead b.head.bytes b.said × HasRoom b.reader };
 }
 
 impl<R: Tell> Body<R> {
     /// The body of a message with this head, of which the reader has the beginning.
     pub(crate) fn new(alloc: Global, reader: BufReader<R>, head: Buffer, said: ParsedHead) -> Self
-        requires room { 16384 ≤ head.capacity }
+        requires room { head.capacity ≡ 16384 }
+        requires is { IsHead head.bytes said }
         requires roomy { IsRoomy reader.block }
-        ensures { result ≡ begun (unbuffered reader) head.bytes said }
+        ensures { result ≡ begun reader head.bytes said }
     {
         Body {
             alloc,
@@ -75,7 +79,8 @@ impl<R: Tell> Body<R> {
 
     /// What the head says.
     pub fn said(&self) -> ParsedHead
-        ensures { result ≡ self.now.said }
+        ensures value { result ≡ self.now.said }
+        ensures is { IsHead self.now.head result }
     {
         self.said
     }
@@ -127,11 +132,12 @@ impl<R: TellRead> Body<R> {
     }
 
     /// Goes on to the next head: takes what is left of the body, and drops its payload. The stream is asked for no byte behind
-    /// it. An `Err` hands the reader back, in the body still.
+    /// it. An `Err` hands the reader back, in the body still. The buffer is kept, and takes no memory.
     pub fn finish(self) -> Result<Requests<R>, (Self, BodyError)>
         ensures ends { MatchResult result (λ next. Ends R.remaining self.stream self.rest (left_of next))
             (λ e. (handed : List ℕ) × InsideGoes R.remaining self handed e.0
             × FinishFails self.stream handed e.1 e.0.stream e.0.rest) }
+        ensures room { IfOk result (λ next. room_of next.reader.block ≡ self.room) }
         ensures asked { MatchResult result (λ next. AskedWhere (Unended self.rest) self.stream (left_of next))
             (λ e. AskedWhere (Unended self.rest) self.stream e.0.stream) }
     {
@@ -190,6 +196,7 @@ fn read<R: TellRead>(
     requires { HasRoom reader.old }
     ensures bound { IfOk result (λ n. n ≤ length out.new) }
     ensures room { HasRoom reader.new }
+    ensures kept { room_of reader.new.reader.block ≡ room_of reader.old.reader.block }
     ensures takes { Takes R.remaining (stream_of reader.old) (left_in reader.old) (handed_out out.new result)
         (stream_of reader.new) (left_in reader.new) }
     ensures ended { result ≡ Ok 0 → 0 < length out.new → IsRest (left_in reader.new) [] [] }
@@ -212,6 +219,7 @@ fn read_buffered<R: TellRead>(reader: &mut BodyReader<R, BodyCoding>, out: &mut 
     requires { HasRoom reader.old }
     ensures bound { result ≤ length out.new }
     ensures room { HasRoom reader.new }
+    ensures kept { room_of reader.new.reader.block ≡ room_of reader.old.reader.block }
     ensures takes { Takes R.remaining (stream_of reader.old) (left_in reader.old) (take result out.new)
         (stream_of reader.new) (left_in reader.new) }
     ensures unasked { (stream_of reader.new).log ≡ (stream_of reader.old).log }
@@ -227,6 +235,8 @@ fn finish<R: TellRead>(
 ) -> Result<BufReader<R>, (BodyReader<R, BodyCoding>, BodyError)>
     requires { HasRoom reader }
     ensures room { MatchResult result (λ rest. IsRoomy rest.block) (λ e. HasRoom e.0) }
+    ensures kept { MatchResult result (λ rest. room_of rest.block ≡ room_of reader.reader.block)
+        (λ e. room_of e.0.reader.block ≡ room_of reader.reader.block) }
     ensures ends { MatchResult result (λ rest. Ends R.remaining (stream_of reader) (left_in reader) (unbuffered rest))
         (λ e. (handed : List ℕ)
         × Takes R.remaining (stream_of reader) (left_in reader) handed (stream_of e.0) (left_in e.0)

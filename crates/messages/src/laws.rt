@@ -3,7 +3,7 @@ ghost use Rattle.std.specs.Prelude.{◌≡◌, ℕ, ◌<◌, List, ◌∷◌, []
 ghost use Rattle.buffer_redux.specs.Unbuffer.{Unbuffered, unbuffer_remaining};
 ghost use Rattle.codec.specs.PieceReader.{ReaderState, left_of};
 ghost use Rattle.messages.specs.declared.head.Heads as head;
-ghost use Rattle.messages.specs.Messages.{AreMessages, Begun, EachGave, Ends, InBody, Message, MessagesWent, Takes};
+ghost use Rattle.messages.specs.Messages.{AreMessages, Begun, EachGave, Ends, InBody, Message, MessagesWent, Takes, room_of};
 ghost use Rattle.messages.specs.Passing.{StopsIn};
 
 use crate::body::Body;
@@ -46,14 +46,16 @@ pub enum Stopped<R: Tell> {
 
 /// Passes so many messages, however the stream is cut: each begins where the one before it ended, and what is left begins where
 /// the last did. An `Err` stands behind fewer, before a head, of which nothing is gone, or in a body, and says why. Until then
-/// no read failed, or gave nothing.
+/// no read failed, or gave nothing. However many there are, the buffer takes what it took at first.
 pub fn pass<R: TellRead>(requests: Requests<R>, count: usize) -> Result<Requests<R>, Stopped<R>>
     ensures passed { IfOk result (λ next. (messages : List Message) × (length messages ≡ count)
         × MessagesWent R.remaining (left_of requests) messages (left_of next)
-        × EachGave (left_of requests) (left_of next)) }
+        × EachGave (left_of requests) (left_of next)
+        × (room_of next.reader.block ≡ room_of requests.reader.block)) }
     ensures stopped { IfErr result (λ stopped. (messages : List Message) × (between : ReaderState R head.Heads)
         × (length messages < count) × MessagesWent R.remaining (left_of requests) messages (left_of between)
-        × EachGave (left_of requests) (left_of between) × (between.ended ≡ false) × StopsIn R.remaining between stopped) }
+        × EachGave (left_of requests) (left_of between) × (room_of between.reader.block ≡ room_of requests.reader.block)
+        × (between.ended ≡ false) × StopsIn R.remaining between stopped) }
 {
     let mut next = requests;
     for _ in 0..count {
@@ -71,7 +73,8 @@ pub fn pass<R: TellRead>(requests: Requests<R>, count: usize) -> Result<Requests
 fn pass_one<R: TellRead>(requests: Requests<R>) -> Result<Requests<R>, Stopped<R>>
     ensures passed { IfOk result (λ next. (head : List ℕ) × (payload : List ℕ)
         × MessagesWent R.remaining (left_of requests) ((head, payload) ∷ []) (left_of next)
-        × EachGave (left_of requests) (left_of next)) }
+        × EachGave (left_of requests) (left_of next)
+        × (room_of next.reader.block ≡ room_of requests.reader.block)) }
     ensures stopped { IfErr result (StopsIn R.remaining requests) }
     ensures told { requests.ended ≡ false }
 {

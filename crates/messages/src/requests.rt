@@ -1,5 +1,6 @@
 //! The reader of requests, before a head.
-ghost use Rattle.std.specs.Prelude.{◌≡◌, ◌≤◌, ◌↔◌, IfErr, IfOk, IsTrue, MatchResult, false};
+ghost use Rattle.std.specs.Prelude.{◌≡◌, ◌≤◌, ◌*◌, ◌↔◌, IfErr, IfOk, IsOk, IsTrue, MatchResult, false};
+ghost use Rattle.buffer_redux.specs.Block.{Plain};
 ghost use Rattle.codec.specs.Decoding.{IsLent, bytes_at};
 ghost use Rattle.codec.specs.Grammar.{Begins};
 ghost use Rattle.codec.specs.NextPiece.{NextPiece, StaysLeft};
@@ -38,7 +39,7 @@ pub struct Requests<R: Tell> {
 }
 
 impl<R: Tell> Model for Requests<R> {
-    ghost use Rattle.std.specs.Prelude.{◌≡◌, ◌≤◌, false};
+    ghost use Rattle.std.specs.Prelude.{◌≡◌, false};
     ghost use Rattle.codec.specs.PieceReader.{ReaderState};
     ghost use Rattle.messages.specs.declared.head.Heads.{Heads};
 
@@ -46,7 +47,7 @@ impl<R: Tell> Model for Requests<R> {
 
     ghost view = { λ r. r.pieces };
 
-    ghost invariant = { λ r. (16384 ≤ r.head.capacity) × (r.pieces.ended ≡ false) };
+    ghost invariant = { λ r. (r.head.capacity ≡ 16384) × (r.pieces.ended ≡ false) };
 }
 
 impl<R: Tell> Requests<R> {
@@ -70,34 +71,61 @@ impl<R: Tell> Requests<R> {
         }
     }
 
-    /// The same over a buffer of yours, as [`PieceReader::with_buffer`]: what it holds comes first, as the beginning of a head. A
-    /// refusal hands both back.
-    pub fn with_buffer(
+    /// The same over buffers of yours: what `buffer` holds comes first, as the beginning of a head, and `head` is room for one,
+    /// of which nothing is kept.
+    ///
+    /// A plain `buffer` in which three heads fit is kept, and so is a `head` whose capacity is [`MAX_HEAD`]: then this takes no
+    /// memory. For any other there is a new one, as [`PieceReader::with_buffer`] has it. A refusal hands all three back.
+    pub fn with_buffers(
         alloc: Global,
         buffer: Buffer,
+        head: Buffer,
         inner: R,
-    ) -> Result<Self, MakeError<(Buffer, R)>>
+    ) -> Result<Self, MakeError<(Buffer, Buffer, R)>>
         ensures made { IfOk result (IsOver R.log 16384 buffer inner (record {})) }
-        ensures handed_back { IfErr result (λ e. (e.0.0 ≡ buffer) × (e.0.1 ≡ inner)) }
+        ensures handed_back { IfErr result (λ e. (e.0.0 ≡ buffer) × (e.0.1 ≡ head) × (e.0.2 ≡ inner)) }
         ensures refused { IfErr result (λ e. e.1 ≡ GrowError.Memory) }
+        ensures kept { buffer.kind ≡ Plain → 3 * 16384 ≤ buffer.capacity → head.capacity ≡ 16384 → IsOk result }
     {
-        let head = match Buffer::with_capacity(alloc, MAX_HEAD) {
-            Ok(head) => head,
-            Err(e) => return Err(MakeError((buffer, inner), e)),
+        if head.capacity() == MAX_HEAD {
+            return Requests::over(alloc, buffer, head, inner);
+        }
+        let room = match Buffer::with_capacity(alloc, MAX_HEAD) {
+            Ok(room) => room,
+            Err(e) => return Err(MakeError((buffer, head, inner), e)),
         };
+        match Requests::over(alloc, buffer, room, inner) {
+            Ok(requests) => Ok(requests),
+            Err(MakeError(back, e)) => Err(MakeError((back.0, head, back.2), e)),
+        }
+    }
+
+    // The same over this room for a head.
+    fn over(
+        alloc: Global,
+        buffer: Buffer,
+        head: Buffer,
+        inner: R,
+    ) -> Result<Self, MakeError<(Buffer, Buffer, R)>>
+        requires room { head.capacity ≡ 16384 }
+        ensures made { IfOk result (IsOver R.log 16384 buffer inner (record {})) }
+        ensures handed_back { IfErr result (λ e. (e.0.0 ≡ buffer) × (e.0.1 ≡ head) × (e.0.2 ≡ inner)) }
+        ensures refused { IfErr result (λ e. e.1 ≡ GrowError.Memory) }
+        ensures kept { buffer.kind ≡ Plain → 3 * 16384 ≤ buffer.capacity → IsOk result }
+    {
         match PieceReader::with_buffer(alloc, buffer, inner, Heads) {
             Ok(pieces) => Ok(Requests {
                 alloc,
                 pieces,
                 head,
             }),
-            Err(MakeError(back, e)) => Err(MakeError((back.0, back.1), e)),
+            Err(MakeError(back, e)) => Err(MakeError((back.0, head, back.1), e)),
         }
     }
 
     /// The requests of this reader, with room for a head.
     pub(crate) fn before(alloc: Global, pieces: PieceReader<R, Heads>, head: Buffer) -> Self
-        requires room { 16384 ≤ head.capacity }
+        requires room { head.capacity ≡ 16384 }
         requires told { pieces.ended ≡ false }
         ensures { result ≡ pieces }
     {
@@ -144,18 +172,19 @@ impl<R: Tell> Requests<R> {
         Body::new(alloc, BufReader::with_buffer(buffer, inner), head, said)
     }
 
-    /// The stream, and the buffer with what comes next of it.
-    pub fn into_inner_with_buffer(self) -> (R, Buffer)
+    /// The stream, the buffer with what comes next of it, and the room for a head.
+    pub fn into_inner_with_buffers(self) -> (R, Buffer, Buffer)
         ensures apart { TakenApart R.log self result.0 result.1 }
         ensures told { self.ended ≡ false }
+        ensures head { result.2.capacity ≡ 16384 }
     {
         let Requests {
             alloc: _,
             pieces,
-            head: _,
+            head,
         } = self;
         let (inner, buffer, _ended) = pieces.into_inner_with_buffer();
-        (inner, buffer)
+        (inner, buffer, head)
     }
 }
 

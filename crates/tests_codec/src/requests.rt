@@ -1,5 +1,6 @@
 //! Heads of requests, and messages one after another.
 use Went::{Before, Inside, Passed};
+use buffer_redux::Buffer;
 use buffer_redux::tell::TellRead;
 use messages::laws::{Stopped, pass};
 use messages::{BadHead, Body, BodyError, Extent, ParsedHead, Requests, Stop, read_head};
@@ -121,17 +122,23 @@ static PASSED: [(&'static [u8], usize, Went); 6] = [
     (CUT_CHUNKS, 1, Inside(None)),
 ];
 
-// A reader over a buffer that holds the first eight bytes.
+// A reader over a buffer that holds the first eight bytes, with no room for a head.
 fn over(alloc: Global, bytes: &[u8]) -> io::Result<Requests<Source>> {
     let at = bytes.len().min(8);
     let stream = source(alloc, bytes.get(at..).unwrap_or(b""), &[])?;
-    Ok(Requests::with_buffer(alloc, holding(alloc, 8, bytes)?, stream)?)
+    let buffer = holding(alloc, 8, bytes)?;
+    Ok(Requests::with_buffers(alloc, buffer, Buffer::with_capacity(alloc, 0)?, stream)?)
+}
+
+// The same reader, made again of its parts.
+fn again<R: TellRead + Drop>(alloc: Global, requests: Requests<R>) -> io::Result<Requests<R>> {
+    let (inner, buffer, head) = requests.into_inner_with_buffers();
+    Ok(Requests::with_buffers(alloc, buffer, head, inner)?)
 }
 
 // How many bytes are buffered.
-fn buffered<R: TellRead + Drop>(requests: Requests<R>) -> usize {
-    let (_, buffer) = requests.into_inner_with_buffer();
-    buffer.len()
+fn buffered<R: TellRead + Drop>(requests: &Requests<R>) -> usize {
+    requests.buffered().len()
 }
 
 // Where it stopped, if that is what a stream that ended makes of it.
@@ -146,8 +153,8 @@ fn stopped_at<R: TellRead + Drop>(stopped: Stopped<R>) -> Option<Went> {
 }
 
 fn passes(alloc: Global, bytes: &[u8], count: usize) -> io::Result<Option<Went>> {
-    Ok(match pass(over(alloc, bytes)?, count) {
-        Ok(next) => Some(Passed(buffered(next))),
+    Ok(match pass(again(alloc, over(alloc, bytes)?)?, count) {
+        Ok(next) => Some(Passed(buffered(&next))),
         Err(stopped) => stopped_at(stopped),
     })
 }

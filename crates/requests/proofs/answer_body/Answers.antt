@@ -15,7 +15,7 @@ answer_called-requires g c = record { held = c.in-Ok.ensures.puts.held c.require
 pub returns-in-Ok : goal.returns-in-Ok
 returns-in-Ok g c = λ s w begun writes.
     let b = c.args.body in
-    let call = rw c.said.ensures at c.in-Ok.ensures in
+    let call = rw c.said.ensures.value at c.in-Ok.ensures in
     c.answer_called.ensures s w begun
     (Writes-after g.met.W.TellWrite.trace_joins (_, w) (b.stream, c.args.writer.now) (b.stream, c.call_for_body.new.writer) []
     (called (waits b.said)) (Ok tt) writes (Writes-put b.stream call.puts call.unflushed))
@@ -30,10 +30,11 @@ returns-in-Err g c = λ s w begun writes.
         onward = λ later payload is. is;
         backward = λ later whole is. (whole, refl, is);
       };
+      room = refl;
       head = refl;
       said = refl;
     } in
-    let call = rw c.said.ensures at c.in-Err.ensures in
+    let call = rw c.said.ensures.value at c.in-Err.ensures in
     let more = Puts-more [] call.puts in
     Runs-stopped [] (Inside b) (is_part begun none) (omega (arith, (begun_steady begun).ends)) (Unsent c.in-Err.e)
     (part_answered begun none

@@ -1,12 +1,17 @@
 use Rattle.std.proofs.Common.{inl, inr, subst, sym}
 use Rattle.messages.specs.Messages.{IsNamed}
-use Rattle.messages.proofs.Going.{body_end, body_named, body_room, body_take, drain_asked, drain_fails}
+use Rattle.messages.proofs.Going.{body_end, body_kept, body_named, body_room, body_take, drain_asked, drain_fails}
 use Rattle.messages.proofs.body.finish.Goals as goal
 
 pub returns-in-Ok-clause-room : goal.returns-in-Ok-clause-room
 returns-in-Ok-clause-room g c =
     let left = c.in-Ok.ensures in
     rw left.2 (body_room c.get_ref.ensures.whole left.1.whole left.1.went c.requires).0
+
+pub returns-in-Ok-clause-kept : goal.returns-in-Ok-clause-kept
+returns-in-Ok-clause-kept g c =
+    let left = c.in-Ok.ensures in
+    rw left.2 (body_kept c.get_ref.ensures.whole left.1.whole left.1.went)
 
 pub returns-in-Ok-clause-ends : goal.returns-in-Ok-clause-ends
 returns-in-Ok-clause-ends g c =
@@ -29,6 +34,11 @@ pub returns-in-Err-clause-room : goal.returns-in-Err-clause-room
 returns-in-Err-clause-room g c =
     let drains = c.in-Err.ensures in
     body_room c.get_ref.ensures.whole drains.whole drains.went c.requires
+
+pub returns-in-Err-clause-kept : goal.returns-in-Err-clause-kept
+returns-in-Err-clause-kept g c =
+    let drains = c.in-Err.ensures in
+    body_kept c.get_ref.ensures.whole drains.whole drains.went
 
 pub returns-in-Err-clause-ends : goal.returns-in-Err-clause-ends
 returns-in-Err-clause-ends g c =

@@ -1,12 +1,17 @@
 use Rattle.std.proofs.Common.{◌≡◌, Ok, ap, inr}
 use Rattle.buffer_redux.specs.Unbuffer.{unbuffered}
-use Rattle.messages.proofs.Going.{body_asked, body_done, body_fails, body_idle, body_named, body_room, body_take}
+use Rattle.messages.proofs.Going.{body_asked, body_done, body_fails, body_idle, body_kept, body_named, body_room, body_take}
 use Rattle.messages.proofs.body.read.Goals as goal
 
 pub returns-in-Ok-clause-room : goal.returns-in-Ok-clause-room
 returns-in-Ok-clause-room g c =
     let reads = c.in-Ok.ensures.reads in
     body_room c.get_ref.ensures.whole reads.whole reads.went c.requires
+
+pub returns-in-Ok-clause-kept : goal.returns-in-Ok-clause-kept
+returns-in-Ok-clause-kept g c =
+    let reads = c.in-Ok.ensures.reads in
+    body_kept c.get_ref.ensures.whole reads.whole reads.went
 
 pub returns-in-Ok-clause-takes : goal.returns-in-Ok-clause-takes
 returns-in-Ok-clause-takes g c =
@@ -43,6 +48,11 @@ pub returns-in-Err-clause-room : goal.returns-in-Err-clause-room
 returns-in-Err-clause-room g c =
     let reads = c.in-Err.ensures.reads in
     body_room c.get_ref.ensures.whole reads.whole reads.went c.requires
+
+pub returns-in-Err-clause-kept : goal.returns-in-Err-clause-kept
+returns-in-Err-clause-kept g c =
+    let reads = c.in-Err.ensures.reads in
+    body_kept c.get_ref.ensures.whole reads.whole reads.went
 
 pub returns-in-Err-clause-takes : goal.returns-in-Err-clause-takes
 returns-in-Err-clause-takes g c =

@@ -1,10 +1,15 @@
-use Rattle.messages.proofs.Going.{body_room, body_short, body_take}
+use Rattle.messages.proofs.Going.{body_kept, body_room, body_short, body_take}
 use Rattle.messages.proofs.body.read_buffered.Goals as goal
 
 pub returns-clause-room : goal.returns-clause-room
 returns-clause-room g c =
     let reads = c.read_buffered.ensures in
     body_room c.get_ref.ensures.whole reads.whole reads.went c.requires
+
+pub returns-clause-kept : goal.returns-clause-kept
+returns-clause-kept g c =
+    let reads = c.read_buffered.ensures in
+    body_kept c.get_ref.ensures.whole reads.whole reads.went
 
 pub returns-clause-takes : goal.returns-clause-takes
 returns-clause-takes g c =

@@ -1,4 +1,4 @@
-use Rattle.std.proofs.Common.{[], ◌∷◌, ◌++◌, arith, length-append, refl}
+use Rattle.std.proofs.Common.{[], ◌∷◌, ◌++◌, ◌∙◌, arith, length-append, refl}
 use Rattle.buffer_redux.specs.UnbufferLaws.{StreamWent-none}
 use Rattle.codec.specs.PieceReader.{left_of}
 use Rattle.messages.specs.MessagesLaws.{EachGave-joins, MessagesWent-joins}
@@ -10,6 +10,7 @@ loop-init g c = record {
   many = refl;
   went = record { bytes = []; are = refl; went = StreamWent-none g.R.TellRead.remaining (left_of c.args.requests) };
   gave = (refl, refl);
+  room = refl;
 }
 
 pub loop-preserved : goal.loop-preserved
@@ -22,6 +23,7 @@ loop-preserved g c =
       went = MessagesWent-joins g.R.TellRead.remaining (left_of c.args.requests) (left_of c.loop.next) (left_of c.in-Ok.behind)
           before.messages ((one.0, one.1) ∷ []) before.went one.2;
       gave = EachGave-joins (left_of c.args.requests) (left_of c.loop.next) (left_of c.in-Ok.behind) before.gave one.3;
+      room = one.4 ∙ before.room;
     }
 
 pub returns-in-Err-clause-stopped : goal.returns-in-Err-clause-stopped
@@ -32,6 +34,7 @@ returns-in-Err-clause-stopped g c =
       omega (arith, before.many, c.loop-test.true),
       before.went,
       before.gave,
+      before.room,
       c.in-Err.ensures.told,
       c.in-Err.ensures.stopped,
     )

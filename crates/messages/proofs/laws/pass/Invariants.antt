@@ -1,13 +1,14 @@
 use Rattle.std.proofs.Common.{◌≡◌, List, length}
 use Rattle.codec.specs.PieceReader.{left_of}
-use Rattle.messages.specs.Messages.{EachGave, Message, MessagesWent}
+use Rattle.messages.specs.Messages.{EachGave, Message, MessagesWent, room_of}
 use Rattle.messages.proofs.laws.pass.Given as goal
 
--- these messages went, and no read failed, or gave nothing
+-- these messages went, and no read failed, or gave nothing; and the buffer takes what it took
 abbrev pub invariant-loop : goal.invariant-loop
 invariant-loop g l = record {
   messages : List Message;
   many : length messages ≡ l.counter;
   went : MessagesWent g.R.TellRead.remaining (left_of l.fn.requests) messages (left_of l.next);
   gave : EachGave (left_of l.fn.requests) (left_of l.next);
+  room : room_of l.next.reader.block ≡ room_of l.fn.requests.reader.block;
 }

@@ -1,4 +1,4 @@
-use Rattle.std.proofs.Common.{[], ◌++◌}
+use Rattle.std.proofs.Common.{[], ◌++◌, ◌∙◌}
 use Rattle.codec.specs.PieceReader.{left_of}
 use Rattle.messages.specs.MessagesLaws.{Begun-gave, EachGave-joins, MessagesWent-one, Takes-none}
 use Rattle.messages.proofs.laws.pass_one.Goals as goal
@@ -13,6 +13,7 @@ returns-in-Ok-finish-clause-passed g c =
           c.in-Ok.ensures.next (Takes-none g.R.TellRead.remaining body.stream body.rest) ends.went ends.is,
       EachGave-joins (left_of c.args.requests) body.stream (left_of c.in-Ok-finish.next)
           (Begun-gave g.R.TellRead.remaining c.args.requests body c.in-Ok.ensures.next) ends.gave,
+      c.in-Ok-finish.ensures.room ∙ c.in-Ok.ensures.next.room,
     )
 
 pub returns-in-Err-finish-clause-stopped : goal.returns-in-Err-finish-clause-stopped

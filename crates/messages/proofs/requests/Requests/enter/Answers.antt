@@ -5,6 +5,7 @@ use Rattle.codec.specs.PieceReader.{left_of}
 use Rattle.messages.specs.Heads.{IsHead, IsHeadPiece}
 use Rattle.messages.specs.HeadsLaws.{text_few}
 use Rattle.messages.specs.Messages.{Enters, begun}
+use Rattle.messages.specs.MessagesLaws.{same_room}
 use Rattle.messages.proofs.requests.Requests.enter.Goals as goal
 
 pub unreachable-requires : goal.unreachable-requires
@@ -37,10 +38,11 @@ returns g c =
     let stands : u ≡ left_of t = rw (c.with_buffer.ensures, apart.bytes, apart.log, apart.inner) refl in
     let lent : head ≡ c.lent-lent.result.now =
     c.append.ensures.bytes.bytes ∙ ap (λ l. l ++ c.lent-lent.result.now) c.clear.ensures.bytes.bytes in
-    let enters : Enters t (bytes_at c.args.span t.reader.block.bytes) (begun u head said) = record {
+    let enters : Enters t (bytes_at c.args.span t.reader.block.bytes) (begun c.with_buffer.result head said) = record {
       head = lent ∙ c.lent-lent.ensures;
       stream = stands;
+      room = rw c.with_buffer.ensures (same_room c.into_inner_with_buffer-inner.result.1 t.reader.block apart.capacity apart.limit);
       is = subst (λ l. IsHead l said) (sym lent) c.in-Ok.ensures.head;
       rest = refl;
     } in
-    rw c.new.ensures (subst (λ x. Enters x (bytes_at c.args.span x.reader.block.bytes) (begun u head said)) c.self.view_is enters)
+    rw c.new.ensures (subst (λ x. Enters x (bytes_at c.args.span x.reader.block.bytes) (begun c.with_buffer.result head said)) c.self.view_is enters)
