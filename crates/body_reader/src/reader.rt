@@ -1,11 +1,11 @@
 //! The reader of a body.
 ghost use Rattle.std.specs.Prelude.{None, Some, [], ◌≡◌, ℕ, List, ◌-◌, ◌<◌, ◌≤◌, ◌↔◌, length, min, take, Err, IfErr, IfOk, IfSome, IsOkAnd, IsTrue, MatchResult, Ok};
-ghost use Rattle.std.specs.Borrow.{sem};
+ghost use Rattle.std.specs.Borrow.{Lends, sem};
 ghost use Rattle.std.specs.Io.{ReadsAtMost, StartsWith};
 ghost use Rattle.std.specs.Io.BufRead.{Rests};
 ghost use Rattle.body_reader.specs.contracts.reader.BodyReader.{the_row};
 ghost use Rattle.std.specs.Io.KnownBytes.{ReadConsumes};
-ghost use Rattle.buffer_redux.specs.Buffered.{over_buffer};
+ghost use Rattle.buffer_redux.specs.Buffered.{over_buffer, with_inner};
 ghost use Rattle.buffer_redux.specs.StreamLog.{StreamLog, after_read};
 ghost use Rattle.body_reader.specs.Coding.{IsBody};
 ghost use Rattle.body_reader.specs.BodyReader.{BodyState, BodyWent, Drains, FillsAsIo, FillsPayload, IsBodyReader, IsWhole, LooksBehind, ReadsAsIo, ReadsBuffered, ReadsPayload, begun, taken_count};
@@ -112,6 +112,16 @@ impl<R: Tell, C: Coding, P> BodyReader<R, C, P> {
         ensures whole { IsBodyReader (C.grammar self.now.coding) self.now }
     {
         &self.reader
+    }
+
+    /// The stream inside, for changes. What is read through this is in no body.
+    pub fn get_mut(&mut self) -> &mut R
+        ensures* writes_back { sem 𝓛 (Lends (the_row R.row C.row P.row C.Place.row C.Wrong.row R.Tell C.Coding) R.row
+            self.entry result (λ stream. record self.old { reader = with_inner R.log self.old.reader stream })) }
+        ensures inner { result.now ≡ self.old.reader.inner }
+        ensures log { R.log result.now ≡ self.old.reader.log }
+    {
+        self.reader.get_mut()
     }
 
     /// The buffered reader where it stands, which may be within the body: that is torn then.

@@ -1,2 +1,3 @@
+pub mod AsIo
 pub mod Going
 pub mod HeadsRead

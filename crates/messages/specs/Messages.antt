@@ -1,11 +1,14 @@
 -- Messages, and what contracts see of a reader that stands in one.
-use Rattle.std.specs.Prelude.{◌≡◌, ◌⊎◌, ◌≤◌, ◌<◌, ◌+◌, ◌-◌, ◌*◌, ◌^◌, ℕ, List, [], ◌∷◌, ◌++◌, length, MatchOption, Option, None, Some, Ok, Err, ⊤}
+use Rattle.std.specs.Prelude.{◌≡◌, ◌⊎◌, ◌≤◌, ◌<◌, ◌+◌, ◌-◌, ◌*◌, ◌^◌, ℕ, List, [], ◌∷◌, ◌++◌, length, IfErr, MatchOption, OnOk, Option, None, Some, Result, Ok, Err, ⊤}
 use Rattle.std.specs.IoError.{error_kind}
 use Rattle.std.specs.declared.io.Error.{Error}
-use Rattle.std.specs.declared.io.ErrorKind.TheVariants.{Other}
+use Rattle.std.specs.declared.io.ErrorKind.TheVariants.{InvalidData, Other, UnexpectedEof}
 use Rattle.buffer_redux.specs.Block.{Block, Plain}
 use Rattle.buffer_redux.specs.Buffered.{Buffered}
+use Rattle.buffer_redux.specs.StreamLog.{StreamLog, no_calls}
 use Rattle.buffer_redux.specs.Unbuffer.{StreamWent, Unbuffered, unbuffered}
+use Rattle.body_reader.specs.Asking.{AskedWhere}
+use Rattle.body_reader.specs.Between.{handed_out}
 use Rattle.body_reader.specs.BodyReader.{BodyState}
 use Rattle.body_reader.specs.Coding.{Grammar}
 use Rattle.body_reader.specs.Either.{either}
@@ -88,11 +91,12 @@ pub record Room : Type 0 where
 abbrev pub room_of : Block → Room
 room_of b = record { capacity = b.capacity; limit = b.limit }
 
--- a reader in a body: what the stream has left, how much its buffer takes, the head and what that says, and what is left of
--- the body
+-- a reader in a body: what the stream has left, how much its buffer takes, what was handed out of the body, as a stream tells
+-- it, the head and what that says, and what is left of the body
 pub record InBody (S : Type 0) : Type 0 where
   pub stream : Unbuffered S
   pub room : Room
+  pub calls : StreamLog
   pub head : List ℕ
   pub said : ParsedHead
   pub rest : Rest
@@ -101,6 +105,7 @@ abbrev pub begun : {S : Type 0} → Buffered S StdPolicy → List ℕ → Parsed
 begun reader head said = record {
   stream = unbuffered reader;
   room = room_of reader.block;
+  calls = no_calls;
   head = head;
   said = said;
   rest = body_of said.extent;
@@ -112,6 +117,7 @@ pub record Begun {S : Type 0} (remaining : S → Option (List ℕ)) (s : ReaderS
   pub next : NextPiece remaining heads s (Ok (Some b.head)) behind
   pub stream : b.stream ≡ left_of behind
   pub room : b.room ≡ room_of s.reader.block
+  pub fresh : b.calls ≡ no_calls
   pub is : IsHead b.head b.said
   pub rest : b.rest ≡ body_of b.said.extent
 
@@ -120,6 +126,7 @@ pub record Enters {S : Type 0} (s : ReaderState S Heads) (bytes : List ℕ) (b :
   pub head : b.head ≡ bytes
   pub stream : b.stream ≡ left_of s
   pub room : b.room ≡ room_of s.reader.block
+  pub fresh : b.calls ≡ no_calls
   pub is : IsHead b.head b.said
   pub rest : b.rest ≡ body_of b.said.extent
 
@@ -204,8 +211,28 @@ pub record InsideGoes {S : Type 0} (remaining : S → Option (List ℕ)) (s : In
     : Type 0 where
   pub takes : Takes remaining s.stream s.rest handed t.stream t.rest
   pub room : t.room ≡ s.room
+  pub told : t.calls.reads.given ≡ s.calls.reads.given ++ handed
   pub head : t.head ≡ s.head
   pub said : t.said ≡ s.said
+
+-- with this stream in place of that
+abbrev pub with_stream : {S : Type 0} → (S → StreamLog) → InBody S → S → InBody S
+with_stream tells b stream = record b { stream = record { left = b.stream.left; inner = stream; log = tells stream } }
+
+-- an error as one of std's streams
+abbrev pub BecomesIo : BodyError → Error → Type 0
+BecomesIo (Wrong name) e = error_kind e ≡ InvalidData
+BecomesIo (Truncated due) e = error_kind e ≡ UnexpectedEof
+BecomesIo (Fault same) e = e ≡ same
+
+-- what a read as one of std's does: an error is the stream's own, or its kind tells why no payload comes
+pub record ReadsAsIo {S : Type 0} (remaining : S → Option (List ℕ)) (s : InBody S) (out : List ℕ) (answer : Result ℕ Error)
+    (t : InBody S) : Type 0 where
+  pub goes : InsideGoes remaining s (handed_out out answer) t
+  pub gave : OnOk answer (EachGave s.stream t.stream)
+  pub ended : answer ≡ Ok 0 → 0 < length out → IsRest t.rest [] []
+  pub fails : IfErr answer (λ e. (why : BodyError) × Fails s.stream why t.stream t.rest × BecomesIo why e)
+  pub asked : AskedWhere (GoesOn s.rest []) s.stream t.stream
 
 -- a head, and a payload
 abbrev pub Message : Type 0

@@ -106,6 +106,7 @@ module _ {S : Type 0} (remaining : S → Option (List ℕ)) where
     next = subst (λ l. NextPiece remaining heads s (Ok (Some l)) t) (sym enters.head) next;
     stream = enters.stream;
     room = enters.room ∙ same_room t.reader.block s.reader.block next.went.capacity next.went.limit;
+    fresh = enters.fresh;
     is = enters.is;
     rest = enters.rest;
   }
@@ -143,13 +144,20 @@ module _ {S : Type 0} (remaining : S → Option (List ℕ)) where
   }
 
   pub InsideGoes-none : (b : InBody S) → InsideGoes remaining b [] b
-  InsideGoes-none b = record { takes = Takes-none b.stream b.rest; room = refl; head = refl; said = refl }
+  InsideGoes-none b = record {
+    takes = Takes-none b.stream b.rest;
+    room = refl;
+    told = sym (append-nil b.calls.reads.given);
+    head = refl;
+    said = refl;
+  }
 
   pub InsideGoes-joins : (s m t : InBody S) (h k : List ℕ) → InsideGoes remaining s h m → InsideGoes remaining m k t
       → InsideGoes remaining s (h ++ k) t
   InsideGoes-joins s m t h k a b = record {
     takes = Takes-joins s.stream m.stream t.stream s.rest m.rest t.rest h k a.takes b.takes;
     room = b.room ∙ a.room;
+    told = b.told ∙ ap (λ l. l ++ k) a.told ∙ append_assoc s.calls.reads.given h k;
     head = b.head ∙ a.head;
     said = b.said ∙ a.said;
   }

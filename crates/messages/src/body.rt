@@ -1,11 +1,17 @@
 //! The reader of requests, in a body.
-ghost use Rattle.std.specs.Prelude.{◌≡◌, ◌<◌, ◌≤◌, ◌↔◌, ℕ, List, [], length, take, IfErr, IfOk, IsTrue, MatchResult, Ok, OnOk};
+ghost use Rattle.std.specs.Prelude.{◌≡◌, ◌<◌, ◌≤◌, ◌↔◌, ℕ, List, [], ◌++◌, length, take, IfErr, IfOk, IsTrue, MatchResult, None, Ok, OnOk};
+ghost use Rattle.std.specs.Borrow.{Lends, sem};
+ghost use Rattle.std.specs.Io.{ReadsAtMost};
+ghost use Rattle.std.specs.Io.KnownBytes.{ReadConsumes};
 ghost use Rattle.body_reader.specs.Asking.{AskedWhere};
 ghost use Rattle.body_reader.specs.Between.{handed_out};
+ghost use Rattle.body_reader.specs.BodyReader.{handed_of};
+ghost use Rattle.buffer_redux.specs.StreamLog.{after_read};
 ghost use Rattle.buffer_redux.specs.Unbuffer.{unbuffered};
 ghost use Rattle.codec.specs.PieceReader.{left_of};
+ghost use Rattle.messages.specs.contracts.body.Body.{the_row};
 ghost use Rattle.messages.specs.Heads.{IsHead};
-ghost use Rattle.messages.specs.Messages.{EachGave, Ends, Fails, FinishFails, GoesOn, HasRoom, InsideGoes, IsReady, IsRest, IsRoomy, RunsShort, Takes, Unended, begun, body_of, grammar_of, has_line, left_in, rest_of, room_of, stream_of};
+ghost use Rattle.messages.specs.Messages.{BecomesIo, EachGave, Ends, Fails, FinishFails, GoesOn, HasRoom, InsideGoes, IsReady, IsRest, IsRoomy, ReadsAsIo, RunsShort, Takes, Unended, begun, body_of, grammar_of, has_line, left_in, rest_of, room_of, stream_of, with_stream};
 
 use crate::error::{BodyError, unread};
 use crate::head::{Extent, Heads, ParsedHead};
@@ -16,6 +22,8 @@ use buffer_redux::{BufReader, Buffer};
 use chunked::{Chunked, Limits};
 use codec::PieceReader;
 use std::alloc::Global;
+use std::io;
+use std::io::Read;
 use std::marker::Model;
 
 /// How much of a chunked body may be no payload.
@@ -46,6 +54,7 @@ impl<R: Tell> Model for Body<R> {
     ghost view = { λ b. record {
       stream = stream_of b.reader;
       room = room_of b.reader.reader.block;
+      calls = b.reader.calls;
       head = b.head.bytes;
       said = b.said;
       rest = left_in b.reader;
@@ -90,6 +99,41 @@ impl<R: Tell> Body<R> {
         ensures { result.now ≡ self.now.stream.left }
     {
         self.reader.get_ref().buffer()
+    }
+
+    /// The stream. What is read through this is in no message.
+    pub fn get_ref(&self) -> &R
+        ensures inner { result.now ≡ self.now.stream.inner }
+        ensures log { R.log result.now ≡ self.now.stream.log }
+    {
+        self.reader.get_ref().get_ref()
+    }
+
+    /// The stream, for changes, as of a time limit, or to answer where it goes both ways. What is read through this is in no
+    /// message.
+    pub fn get_mut(&mut self) -> &mut R
+        ensures* writes_back { sem 𝓛 (Lends (the_row R.row R.Tell) R.row self.entry result
+            (with_stream R.log self.old)) }
+        ensures inner { result.now ≡ self.old.stream.inner }
+        ensures log { R.log result.now ≡ self.old.stream.log }
+    {
+        self.reader.get_mut()
+    }
+
+    /// The buffered reader where it stands, which may be within the body: that is torn then; and the room for a head, with this
+    /// one in it. [`finish`](Body::finish) is the way to the next head.
+    pub fn into_inner_torn(self) -> (BufReader<R>, Buffer)
+        ensures stream { unbuffered result.0 ≡ self.stream }
+        ensures room { room_of result.0.block ≡ self.room }
+        ensures head { result.1.bytes ≡ self.head }
+    {
+        let Body {
+            alloc: _,
+            reader,
+            head,
+            said: _,
+        } = self;
+        (reader.into_inner_torn(), head)
     }
 
     /// Whether the body ended.
@@ -168,6 +212,33 @@ impl<R: TellRead> Body<R> {
     }
 }
 
+impl<R: Tell> Tell for Body<R> {
+    ghost log = { λ b. b.calls };
+}
+
+/// Payload, as [`read`](Body::read) hands it out. An error is the stream's own, or of the kind `InvalidData` or `UnexpectedEof`.
+impl<R: TellRead> Read for Body<R> {
+    fn read(&mut self, out: &mut [u8]) -> io::Result<usize>
+        ensures bound { ReadsAtMost result out.new }
+        ensures bytes { ReadConsumes None None result out.new }
+        ensures read { ReadsAsIo R.remaining self.old out.new result self.new }
+    {
+        self.read_told(out)
+    }
+}
+
+/// The same, told.
+impl<R: TellRead> TellRead for Body<R> {
+    fn read_told(&mut self, out: &mut [u8]) -> io::Result<usize>
+        ensures bound { ReadsAtMost result out.new }
+        ensures told { self.new.calls ≡ after_read self.old.calls out.new result }
+        ensures bytes { ReadConsumes None None result out.new }
+        ensures read { ReadsAsIo R.remaining self.old out.new result self.new }
+    {
+        read_told(&mut self.reader, out)
+    }
+}
+
 // The coding of the body that a head says.
 fn coding_of(extent: Extent) -> BodyCoding
     ensures rest { rest_of result (grammar_of result).first ≡ body_of extent }
@@ -197,6 +268,7 @@ fn read<R: TellRead>(
     ensures bound { IfOk result (λ n. n ≤ length out.new) }
     ensures room { HasRoom reader.new }
     ensures kept { room_of reader.new.reader.block ≡ room_of reader.old.reader.block }
+    ensures told { handed_of reader.new ≡ handed_of reader.old ++ handed_out out.new result }
     ensures takes { Takes R.remaining (stream_of reader.old) (left_in reader.old) (handed_out out.new result)
         (stream_of reader.new) (left_in reader.new) }
     ensures ended { result ≡ Ok 0 → 0 < length out.new → IsRest (left_in reader.new) [] [] }
@@ -214,12 +286,35 @@ fn read<R: TellRead>(
     }
 }
 
+// Hands out payload as one of std's streams does, and tells it.
+fn read_told<R: TellRead>(
+    reader: &mut BodyReader<R, BodyCoding>,
+    out: &mut [u8],
+) -> io::Result<usize>
+    requires { HasRoom reader.old }
+    ensures bound { ReadsAtMost result out.new }
+    ensures room { HasRoom reader.new }
+    ensures kept { room_of reader.new.reader.block ≡ room_of reader.old.reader.block }
+    ensures told { reader.new.calls ≡ after_read reader.old.calls out.new result }
+    ensures takes { Takes R.remaining (stream_of reader.old) (left_in reader.old) (handed_out out.new result)
+        (stream_of reader.new) (left_in reader.new) }
+    ensures ended { result ≡ Ok 0 → 0 < length out.new → IsRest (left_in reader.new) [] [] }
+    ensures gave { OnOk result (EachGave (stream_of reader.old) (stream_of reader.new)) }
+    ensures fails { IfErr result (λ e. (why : BodyError)
+        × Fails (stream_of reader.old) why (stream_of reader.new) (left_in reader.new) × BecomesIo why e) }
+    ensures asked { AskedWhere (GoesOn (left_in reader.old) []) (stream_of reader.old) (stream_of reader.new) }
+{
+    let _ = reader.get_ref();
+    reader.read_told(out)
+}
+
 // Hands out payload that is buffered.
 fn read_buffered<R: TellRead>(reader: &mut BodyReader<R, BodyCoding>, out: &mut [u8]) -> usize
     requires { HasRoom reader.old }
     ensures bound { result ≤ length out.new }
     ensures room { HasRoom reader.new }
     ensures kept { room_of reader.new.reader.block ≡ room_of reader.old.reader.block }
+    ensures told { handed_of reader.new ≡ handed_of reader.old ++ take result out.new }
     ensures takes { Takes R.remaining (stream_of reader.old) (left_in reader.old) (take result out.new)
         (stream_of reader.new) (left_in reader.new) }
     ensures unasked { (stream_of reader.new).log ≡ (stream_of reader.old).log }
@@ -240,7 +335,8 @@ fn finish<R: TellRead>(
     ensures ends { MatchResult result (λ rest. Ends R.remaining (stream_of reader) (left_in reader) (unbuffered rest))
         (λ e. (handed : List ℕ)
         × Takes R.remaining (stream_of reader) (left_in reader) handed (stream_of e.0) (left_in e.0)
-        × FinishFails (stream_of reader) handed e.1 (stream_of e.0) (left_in e.0)) }
+        × FinishFails (stream_of reader) handed e.1 (stream_of e.0) (left_in e.0)
+        × (handed_of e.0 ≡ handed_of reader ++ handed)) }
     ensures asked { MatchResult result
         (λ rest. AskedWhere (Unended (left_in reader)) (stream_of reader) (unbuffered rest))
         (λ e. AskedWhere (Unended (left_in reader)) (stream_of reader) (stream_of e.0)) }

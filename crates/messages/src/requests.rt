@@ -1,10 +1,13 @@
 //! The reader of requests, before a head.
 ghost use Rattle.std.specs.Prelude.{◌≡◌, ◌≤◌, ◌*◌, ◌↔◌, IfErr, IfOk, IsOk, IsTrue, MatchResult, false};
+ghost use Rattle.std.specs.Borrow.{Lends, sem};
 ghost use Rattle.buffer_redux.specs.Block.{Plain};
+ghost use Rattle.buffer_redux.specs.Buffered.{with_inner};
 ghost use Rattle.codec.specs.Decoding.{IsLent, bytes_at};
 ghost use Rattle.codec.specs.Grammar.{Begins};
 ghost use Rattle.codec.specs.NextPiece.{NextPiece, StaysLeft};
 ghost use Rattle.codec.specs.PieceReader.{IsFresh, IsOver, IsSettled, TakenApart, rest};
+ghost use Rattle.messages.specs.contracts.requests.Requests.{the_row};
 ghost use Rattle.messages.specs.Heads.{IsHeadPiece, heads};
 ghost use Rattle.messages.specs.Messages.{Begun, Enters, answer_of};
 
@@ -142,6 +145,17 @@ impl<R: Tell> Requests<R> {
         ensures log { R.log result.now ≡ self.now.reader.log }
     {
         self.pieces.get_ref()
+    }
+
+    /// The stream, for changes, as of a time limit, or to answer where it goes both ways. What is read through this is in no
+    /// message.
+    pub fn get_mut(&mut self) -> &mut R
+        ensures* writes_back { sem 𝓛 (Lends (the_row R.row R.Tell) R.row self.entry result
+            (λ stream. record self.old { reader = with_inner R.log self.old.reader stream })) }
+        ensures inner { result.now ≡ self.old.reader.inner }
+        ensures log { R.log result.now ≡ self.old.reader.log }
+    {
+        self.pieces.get_mut()
     }
 
     /// What is buffered of the stream, and comes next.

@@ -1,4 +1,5 @@
 //! Readers of bodies of a length, in chunks, and of parts up to a delimiter.
+use crate::by_hand::gives;
 use End::{Open, Truncated, Whole};
 use Kind::{Chunks, Length, OneOf, Part};
 use body_reader::{BodyError, BodyReader, Coding, Either, Sized, Until};
@@ -246,6 +247,7 @@ fn answers(alloc: Global, mut body: BodyReader<Source, Sized>) -> io::Result<boo
     let count = body.read_until(b'\n', &mut line)?;
     let rest = body.read(&mut out)?;
     let ended = body.is_done() && !body.is_at_end()?;
+    let past = gives(body.get_mut(), b"?");
     let inner = body.into_inner_torn();
     Ok(
         held && none
@@ -254,6 +256,7 @@ fn answers(alloc: Global, mut body: BodyReader<Source, Sized>) -> io::Result<boo
             && line.as_slice() == b"c\n".as_slice()
             && rest == 2
             && ended
+            && past == Some(false)
             && inner.buffer() == b"GET".as_slice(),
     )
 }

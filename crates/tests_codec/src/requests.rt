@@ -1,4 +1,5 @@
 //! Heads of requests, and messages one after another.
+use crate::by_hand::gives;
 use Went::{Before, Inside, Passed};
 use buffer_redux::Buffer;
 use buffer_redux::tell::TellRead;
@@ -7,7 +8,7 @@ use messages::{BadHead, Body, BodyError, Extent, ParsedHead, Requests, Stop, rea
 use std::alloc::Global;
 use std::io;
 use std::test::Fail;
-use tests_common::{Source, holding, source};
+use tests_common::{Source, holding, read, source};
 
 // What a head says that has no body, and behind which another request may come.
 const PLAIN: ParsedHead = ParsedHead {
@@ -184,5 +185,40 @@ fn shows_a_head(rt: HostRuntime) -> Result<(), Fail> {
         Err(_) => false,
     };
     assert!(rt; shown);
+    Ok(())
+}
+
+const PUT: &[u8] = b"PUT /b HTTP/1.1\r\nHost: h\r\nContent-Length: 5\r\n\r\nhello";
+
+// Whether a body is read as a stream is, two bytes and then one, and left with the others.
+fn is_left<R: TellRead + Drop>(body: Body<R>) -> bool {
+    let mut body = body;
+    let told = gives(&mut body, b"he");
+    let mut out = [0; 1];
+    let count = read(&mut body, &mut out);
+    let past = gives(body.get_mut(), b"?");
+    let (reader, head) = body.into_inner_torn();
+    told == Some(true)
+        && matches!(count, Ok(1))
+        && out == *b"l"
+        && past == Some(false)
+        && reader.buffer() == b"lo".as_slice()
+        && head.len() + 5 == PUT.len()
+}
+
+#[test]
+fn leaves_a_body(rt: HostRuntime) -> Result<(), Fail> {
+    let left = match over(rt.alloc(), PUT)?.next() {
+        Ok(body) => body.get_ref().get_ref().offers().len() == 1 && is_left(body),
+        Err(_) => false,
+    };
+    assert!(rt; left);
+    Ok(())
+}
+
+#[test]
+fn reads_past_a_head(rt: HostRuntime) -> Result<(), Fail> {
+    let mut requests = over(rt.alloc(), PUT)?;
+    assert!(rt; gives(requests.get_mut(), b"TTP/1.1") == Some(true));
     Ok(())
 }

@@ -1,4 +1,4 @@
-use Rattle.std.proofs.Common.{[], ◌++◌, Err, Ok, arith, append-nil, refl, inr, None}
+use Rattle.std.proofs.Common.{[], ◌++◌, Err, Ok, arith, append-nil, refl, inr, None, sym}
 use Rattle.buffer_redux.specs.UnbufferLaws.{StreamWent-none}
 use Rattle.messages.specs.Messages.{InsideGoes}
 use Rattle.requests.specs.declared.Ending.TheVariants.{Unsent}
@@ -31,6 +31,7 @@ returns-in-Err g c = λ s w begun writes.
         backward = λ later whole is. (whole, refl, is);
       };
       room = refl;
+      told = sym (append-nil b.calls.reads.given);
       head = refl;
       said = refl;
     } in

@@ -47,6 +47,7 @@ returns-in-Err-clause-ends g c =
       drains.payload,
       body_take c.get_ref.ensures.whole drains.whole drains.went,
       drain_fails c.get_ref.ensures.whole drains,
+      drains.went.handed,
     )
 
 pub returns-in-Err-clause-asked : goal.returns-in-Err-clause-asked

@@ -13,6 +13,9 @@ returns-in-Ok-clause-kept g c =
     let reads = c.in-Ok.ensures.reads in
     body_kept c.get_ref.ensures.whole reads.whole reads.went
 
+pub returns-in-Ok-clause-told : goal.returns-in-Ok-clause-told
+returns-in-Ok-clause-told g c = c.in-Ok.ensures.reads.went.handed
+
 pub returns-in-Ok-clause-takes : goal.returns-in-Ok-clause-takes
 returns-in-Ok-clause-takes g c =
     let reads = c.in-Ok.ensures.reads in
@@ -53,6 +56,9 @@ pub returns-in-Err-clause-kept : goal.returns-in-Err-clause-kept
 returns-in-Err-clause-kept g c =
     let reads = c.in-Err.ensures.reads in
     body_kept c.get_ref.ensures.whole reads.whole reads.went
+
+pub returns-in-Err-clause-told : goal.returns-in-Err-clause-told
+returns-in-Err-clause-told g c = c.in-Err.ensures.reads.went.handed
 
 pub returns-in-Err-clause-takes : goal.returns-in-Err-clause-takes
 returns-in-Err-clause-takes g c =

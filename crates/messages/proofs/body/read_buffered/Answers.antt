@@ -11,6 +11,9 @@ returns-clause-kept g c =
     let reads = c.read_buffered.ensures in
     body_kept c.get_ref.ensures.whole reads.whole reads.went
 
+pub returns-clause-told : goal.returns-clause-told
+returns-clause-told g c = c.read_buffered.ensures.went.handed
+
 pub returns-clause-takes : goal.returns-clause-takes
 returns-clause-takes g c =
     let reads = c.read_buffered.ensures in

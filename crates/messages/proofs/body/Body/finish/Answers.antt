@@ -5,7 +5,11 @@ pub returns-in-Err : goal.returns-in-Err
 returns-in-Err g c =
     let failed = c.in-Err.ensures.ends in
     rw (← c.self.view_is) (record {
-      ends = (failed.0, record { takes = failed.1; room = c.in-Err.ensures.kept; head = refl; said = refl }, failed.2);
+      ends = (
+        failed.0,
+        record { takes = failed.1; room = c.in-Err.ensures.kept; told = failed.3; head = refl; said = refl },
+        failed.2,
+      );
       room = tt;
       asked = c.in-Err.ensures.asked;
     })

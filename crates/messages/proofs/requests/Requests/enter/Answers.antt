@@ -42,6 +42,7 @@ returns g c =
       head = lent ∙ c.lent-lent.ensures;
       stream = stands;
       room = rw c.with_buffer.ensures (same_room c.into_inner_with_buffer-inner.result.1 t.reader.block apart.capacity apart.limit);
+      fresh = refl;
       is = subst (λ l. IsHead l said) (sym lent) c.in-Ok.ensures.head;
       rest = refl;
     } in

@@ -1,0 +1,64 @@
+-- What a read of a body as one of std's takes of it and of its stream, and why it fails.
+use Rattle.std.proofs.Common.{◌≡◌, ℕ, ◌<◌, List, [], length, IfErr, OnOk, Option, Result, Ok, Err, subst}
+use Rattle.std.specs.declared.io.Error.{Error}
+use Rattle.body_reader.specs.Asking.{AskedWhere}
+use Rattle.body_reader.specs.Between as between
+use Rattle.body_reader.specs.BodyReader.{IsBodyReader, ReadsAsIo}
+use Rattle.body_reader.specs.declared.error.BodyError.{BodyError as Unread}
+use Rattle.body_reader.specs.declared.error.BodyError.TheVariants as unread
+use Rattle.body_reader.specs.declared.either.Side.{Side}
+use Rattle.body_reader.specs.declared.either.Side.TheVariants as side
+use Rattle.buffer_redux.specs.Policy.{std_read_rules}
+use Rattle.chunked.specs.declared.error.Malformed.{Malformed}
+use Rattle.chunked.specs.declared.place.Place.{Place}
+use Rattle.messages.specs.declared.error.BodyError.{BodyError}
+use Rattle.messages.specs.Messages.{BecomesIo, EachGave, Fails, GoesOn, HasRoom, IsNamed, IsRest, Reader, Takes, body_error, grammar_of, has_line, left_in, room_of, stream_of}
+use Rattle.messages.proofs.Going.{body_asked, body_done, body_fails, body_kept, body_named, body_room, body_take}
+
+abbrev Reads : {R : Type 0} → (R → Option (List ℕ)) → Reader R → List ℕ → Result ℕ Error → Reader R → Type 0
+Reads remaining s out answer t = ReadsAsIo remaining std_read_rules (grammar_of s.coding) s out answer t
+
+becomes_is : (place : Side ℕ Place) (why : Unread (Side (Unit {0}) Malformed)) (e : Error) → IsNamed why
+    → between.BecomesIo why e → BecomesIo (body_error place why) e
+becomes_is place (unread.Wrong (side.First none) right) e named becomes = absurd named
+becomes_is place (unread.Wrong (side.Second name) right) e named becomes = becomes
+becomes_is (side.First due) (unread.Truncated right) e named becomes = becomes
+becomes_is (side.Second q) (unread.Truncated right) e named becomes = becomes
+becomes_is place (unread.Io same) e named becomes = becomes
+
+module _ {R : Type 0} (remaining : R → Option (List ℕ)) (s t : Reader R) (is : IsBodyReader (grammar_of s.coding) s)
+    (out : List ℕ) where
+  pub io_room : (answer : Result ℕ Error) → Reads remaining s out answer t → HasRoom s
+      → HasRoom t × (room_of t.reader.block ≡ room_of s.reader.block)
+  io_room (Ok n) reads room = (body_room is reads.whole reads.went room, body_kept is reads.whole reads.went)
+  io_room (Err e) (why, reads, becomes) room =
+      (body_room is reads.whole reads.went room, body_kept is reads.whole reads.went)
+
+  pub io_take : (answer : Result ℕ Error) → Reads remaining s out answer t
+      → Takes remaining (stream_of s) (left_in s) (between.handed_out out answer) (stream_of t) (left_in t)
+  io_take (Ok n) reads = body_take is reads.whole reads.went
+  io_take (Err e) (why, reads, becomes) = body_take is reads.whole reads.went
+
+  pub io_ended : (answer : Result ℕ Error) → Reads remaining s out answer t → answer ≡ Ok 0 → 0 < length out
+      → IsRest (left_in t) [] []
+  io_ended (Ok n) reads none some =
+      body_done is reads.whole reads.went (reads.answers.2 (let zero : n ≡ 0 = cc in zero) some)
+  io_ended (Err e) reads none some = absurd (subst (λ r. OnOk r ⊥) none tt)
+
+  pub io_gave : (answer : Result ℕ Error) → Reads remaining s out answer t → OnOk answer (EachGave (stream_of s) (stream_of t))
+  io_gave (Ok n) reads = (reads.answers.1.faults, reads.answers.1.zero_reads)
+  io_gave (Err e) reads = tt
+
+  pub io_fails : (answer : Result ℕ Error) → Reads remaining s out answer t
+      → IfErr answer (λ e. (why : BodyError) × Fails (stream_of s) why (stream_of t) (left_in t) × BecomesIo why e)
+  io_fails (Ok n) reads = tt
+  io_fails (Err e) (why, reads, becomes) = (
+    body_error t.place why,
+    body_fails is reads.whole reads.went why reads.answers,
+    becomes_is t.place why e (body_named is reads.whole reads.went why reads.answers) becomes,
+  )
+
+  pub io_asked : (answer : Result ℕ Error) → Reads remaining s out answer t → has_line s.coding
+      → AskedWhere (GoesOn (left_in s) []) (stream_of s) (stream_of t)
+  io_asked (Ok n) reads line = body_asked is line t reads.asked
+  io_asked (Err e) (why, reads, becomes) line = body_asked is line t reads.asked
