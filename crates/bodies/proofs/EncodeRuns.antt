@@ -71,7 +71,7 @@ module _ {R W : Type 0} (remaining : R → Option (List ℕ)) (trace : W → W �
   module _ (p lost : List (List ℕ)) (moves : Moves rules begin (p ++ lost) p t) (end : List ℕ) (v : Buffered W StdPolicy)
       (taken : WritesInOrder t.target.writer end v) where
     order : WritesInOrder u (flat_map chunk p ++ end) v
-    order = WritesInOrder-joins u t.target.writer v (flat_map chunk p) end moves.takes.in_order taken
+    order = WritesInOrder-joins u t.target.writer v (flat_map chunk p) end moves.takes.went.in_order taken
 
     abbrev moved : Moved first.log t.source.log u.log v.log
     moved = record {

@@ -1,12 +1,16 @@
 -- What a chunk, and the end of a body, do to the writer; and what the calls of a filter of chunks do.
 use Rattle.std.proofs.Common.{MatchResult, ◌⊎◌, ◌≡◌, ℕ, ◌+◌, ◌-◌, ◌<◌, ◌≤◌, inl, inr, List, [], length, length-take-le, take, Result, Ok, Err, refl, subst, sym, ap, ◌∙◌, arith, length-append, zero, suc, ◌==◌, not, Bool, ◌∷◌, ◌++◌, true, false, Option, append-nil}
 use Rattle.std.proofs.lemmas.Bool.{cases_lt}
+use Rattle.std.specs.IoError.{error_kind}
+use Rattle.std.specs.declared.io.ErrorKind.TheVariants.{InvalidInput}
+use Rattle.buffer_redux.specs.Block.{IsBlock}
 use Rattle.buffer_redux.specs.BufWriter.{WasSent}
 use Rattle.buffer_redux.specs.EmptyReads.{none_before_fault, none_where_shown, ReadsWhenEmpty-std}
 use Rattle.buffer_redux.specs.ReaderLaws.{ReadsAlong-none}
 use Rattle.buffer_redux.specs.WritePartsLaws.{PutsIn-told}
 use Rattle.buffer_redux.specs.WriterLaws.{WritesInOrder-then}
 use Rattle.chunked.specs.AskingLaws.{fill_leaves, took_some}
+use Rattle.chunked.specs.ChunkedWriter.{LacksPayload, NotFinished}
 use Rattle.chunked.specs.ChunkedWriterLaws.{ChunksWent-none}
 use Rattle.forward.specs.declared.error.AskError.TheVariants.{Io}
 use Rattle.forward.specs.declared.error.AskError.{AskError}
@@ -17,7 +21,7 @@ use Rattle.bodies.specs.Words.{around, AskAnswers, Asks, body_end, Buffered, chu
 use Rattle.bodies.specs.Encode.{EndsBody}
 use Rattle.bodies.specs.Encoding.{encoding_rules, IsReady}
 use Rattle.bodies.specs.Filters.{Asked}
-use Rattle.bodies.specs.FiltersLaws.{ended, fault_gives, fill_asked, some_of, std_fault}
+use Rattle.bodies.specs.FiltersLaws.{ended, fault_gives, fill_asked, fill_capacity, some_of, std_fault}
 use Rattle.bodies.specs.declared.encoding.Encoding.{Encoding}
 use Rattle.bodies.specs.declared.error.RunError.TheVariants.{Write}
 
@@ -49,16 +53,17 @@ module _ {W : Type 0} (tells : W → StreamLog) (trace : W → W → Type 0) whe
         }
   ]
 
-  module _ (b c : ChunkedWriterState W) (payload : List ℕ) (some : 0 < length payload) where
+  module _ (b c : ChunkedWriterState W) (payload : List ℕ) (some : 0 < length payload) (between : b.due ≡ 0)
+      (small : around + length payload ≤ b.writer.block.capacity) where
     pub chunk_quietly : (n : ℕ) → WritesChunk tells trace b payload (Ok n) c → Quiet b.writer c.writer
-    chunk_quietly n p = put_quietly b.writer c.writer (chunk payload) (chunk (take n payload)) (around + length payload)
-        (λ there. (p.fits some there).1) (λ none. (p.full some none).1)
+    chunk_quietly n p = put_quietly b.writer c.writer (chunk payload) (chunk payload) (around + length payload)
+        (λ there. (p.fits some between there).1) (λ none. (p.full some between none small).1)
 
     -- a chunk that was written has a byte at least
-    pub chunk_some : (n : ℕ) → WritesChunk tells trace b payload (Ok n) c → IsChunkedWriter b → 0 < n
-    chunk_some n p is = elim (cases_lt (room b.writer) (around + length payload)) [
-      | inl none ↦ omega (arith, (p.full some none).0, some, is.capacity)
-      | inr there ↦ omega (arith, ap count (p.fits some there).0, some)
+    pub chunk_some : (n : ℕ) → WritesChunk tells trace b payload (Ok n) c → 0 < n
+    chunk_some n p = elim (cases_lt (room b.writer) (around + length payload)) [
+      | inl none ↦ omega (arith, (p.full some between none small).0, some)
+      | inr there ↦ omega (arith, ap count (p.fits some between there).0, some)
     ]
       where
         count : Result ℕ Error → ℕ
@@ -69,12 +74,13 @@ module _ {W : Type 0} (tells : W → StreamLog) (trace : W → W → Type 0) whe
     pub chunk_not_sent : (e : Error) → WritesChunk tells trace b payload (Err e) c
         → WasSent tells trace b.writer (Err e) c.writer
     chunk_not_sent e p = elim (cases_lt (room b.writer) (around + length payload)) [
-      | inl none ↦ p.full some none
-      | inr there ↦ absurd (let odd = (p.fits some there).0 in cc)
+      | inl none ↦ p.full some between none small
+      | inr there ↦ absurd (let odd = (p.fits some between there).0 in cc)
     ]
 
     -- one for which there is room is copied in
-    pub chunk_still : (n : ℕ) → WritesChunk tells trace b payload (Ok n) c → length (chunk (take n payload)) ≤ room b.writer - around
+    pub chunk_still : (n : ℕ) → WritesChunk tells trace b payload (Ok n) c
+        → length (chunk (take n payload)) ≤ room b.writer - around
         → IsStill b.writer c.writer
     chunk_still n p fits = elim (cases_lt (room b.writer) (around + length payload)) [
       | inl none ↦ absurd (omega (
@@ -82,17 +88,39 @@ module _ {W : Type 0} (tells : W → StreamLog) (trace : W → W → Type 0) whe
         fits,
         none,
         some,
-        (p.full some none).0,
-        length-take-le n payload (omega (arith, (p.full some none).0)),
+        (p.full some between none small).0,
+        length-take-le n payload (omega (arith, (p.full some between none small).0)),
         length-append (size_digits (length (take n payload))) (line_end (take n payload ++ line_end [])),
         length-append (take n payload) (line_end []),
       ))
       | inr there ↦
-          let puts = (p.fits some there).1 in record {
+          let puts = (p.fits some between there).1 in record {
             told = PutsIn-told b.writer c.writer (chunk payload) puts;
             capacity = puts.capacity;
           }
     ]
+
+  -- the end of a body wasn't taken in
+  pub ends_not : (b c : ChunkedWriterState W) → b.due ≡ 0 → (e : Error)
+      → (LacksPayload b c × (error_kind e ≡ InvalidInput)) ⊎ NotFinished tells trace b [] e c
+      → EndsBody b.writer (Err (Write e)) c.writer
+  ends_not b c between e (inl lacks) = absurd (omega (arith, lacks.0.due, between))
+  ends_not b c between e (inr not) =
+      let sent = not.sends in
+      let writes = WritesOn-unflushed b.writer c.writer [] sent.in_order sent.not_flushed in
+      record {
+        end = [];
+        taken = sent.in_order;
+        answers = (inr refl, (e, refl, sent.caused));
+        writes = writes;
+        once = omega (arith, sent.sends.sent.flushes);
+        flushes = omega (
+          arith,
+          sent.sends.sent.flushes,
+          ap length writes.received.equal,
+          length-append b.writer.log.writes.received writes.received.more,
+        );
+      }
 
   -- the end of a body, and a flush
   module _ (u m v : Buffered W StdPolicy) (taken : WritesInOrder u (body_end []) m) (quiet : Quiet u m) where
@@ -140,20 +168,29 @@ module _ {R W : Type 0} (remaining : R → Option (List ℕ)) (tells : W → Str
   rules = encoding_rules remaining trace
 
   -- what is buffered is made a chunk
-  module _ (some : 0 < length s.source.block.bytes) (c : ChunkedWriterState W) where
+  module _ (some : 0 < length s.source.block.bytes) (held : IsBlock s.source.block) (c : ChunkedWriterState W) where
+    small : around + length s.source.block.bytes ≤ s.target.writer.block.capacity
+    small = omega (arith, held.fits, ready.fits)
+
     pub not_passed : (e : Error) → WritesChunk tells trace s.target s.source.block.bytes (Err e) c
         → Passes rules s (Err e) (record s { target = c })
     not_passed e p =
-        let failed = chunk_not_sent tells trace s.target c s.source.block.bytes some e p in
+        let failed = chunk_not_sent tells trace s.target c s.source.block.bytes some ready.between small e p in
+        let chunks = p.chunks ready.between small in
         record {
           told = refl;
-          ready = record { capacity = ready.capacity; whole = p.whole };
+          ready = record {
+            capacity = ready.capacity;
+            fits = omega (arith, ready.fits, chunks.went.capacity);
+            between = chunks.due ∙ ready.between;
+            whole = p.whole;
+          };
           closed = λ closed. closed;
           writes = WritesOn-unflushed s.target.writer c.writer [] failed.in_order failed.not_flushed;
           flushes = failed.sends.sent.flushes;
           answers = (
             [],
-            record { hands = ReadsAlong-none remaining std_read_rules s.source; takes = p.went },
+            record { hands = ReadsAlong-none remaining std_read_rules s.source; takes = chunks },
             inl failed.caused,
             omega arith,
           );
@@ -161,16 +198,23 @@ module _ {R W : Type 0} (remaining : R → Option (List ℕ)) (tells : W → Str
 
     pub passed : (n : ℕ) → n ≤ length s.source.block.bytes → WritesChunk tells trace s.target s.source.block.bytes (Ok n) c
         → (t : Buffered R StdPolicy) → ReadsAlong remaining std_read_rules s.source (take n s.source.block.bytes) t
-        → t.log ≡ s.source.log → Passes rules s (Ok true) (record s { source = t; target = c })
-    passed zero within p t gone told =
-        absurd (omega (arith, chunk_some tells trace s.target c s.source.block.bytes some 0 p ready.whole))
-    passed (suc n) within p t gone told =
+        → t.log ≡ s.source.log → t.block.capacity ≡ s.source.block.capacity
+        → Passes rules s (Ok true) (record s { source = t; target = c })
+    passed zero within p t gone told same =
+        absurd (omega (arith, chunk_some tells trace s.target c s.source.block.bytes some ready.between small 0 p))
+    passed (suc n) within p t gone told same =
         let payload = take (suc n) s.source.block.bytes in
-        let quiet = chunk_quietly tells trace s.target c s.source.block.bytes some (suc n) p in
-        let order = p.went.in_order in
+        let quiet = chunk_quietly tells trace s.target c s.source.block.bytes some ready.between small (suc n) p in
+        let chunks = p.chunks ready.between small in
+        let order = chunks.went.in_order in
         record {
           told = told;
-          ready = record { capacity = omega (arith, ready.capacity, gone.capacity); whole = p.whole };
+          ready = record {
+            capacity = omega (arith, ready.capacity, gone.capacity);
+            fits = omega (arith, ready.fits, same, chunks.went.capacity);
+            between = chunks.due ∙ ready.between;
+            whole = p.whole;
+          };
           closed = λ closed. closed;
           writes = WritesOn-unflushed s.target.writer c.writer _ order quiet.not_flushed;
           flushes = quiet.flushes;
@@ -178,7 +222,7 @@ module _ {R W : Type 0} (remaining : R → Option (List ℕ)) (tells : W → Str
             payload,
             record {
               hands = subst (λ l. ReadsAlong remaining std_read_rules s.source l t) (sym (append-nil payload)) gone;
-              takes = p.went;
+              takes = chunks;
             },
             quiet.met,
             inl (omega (
@@ -187,7 +231,7 @@ module _ {R W : Type 0} (remaining : R → Option (List ℕ)) (tells : W → Str
               length-append (chunk payload) [],
               length-append (size_digits (length payload)) (line_end (payload ++ line_end [])),
             )),
-            λ room. chunk_still tells trace s.target c s.source.block.bytes some (suc n) p (omega (
+            λ room. chunk_still tells trace s.target c s.source.block.bytes some ready.between small (suc n) p (omega (
               arith,
               room,
               taken_more s.target.writer c.writer _ order,
@@ -207,7 +251,12 @@ module _ {R W : Type 0} (remaining : R → Option (List ℕ)) (tells : W → Str
         → Flushes rules s answer (record s { target = c })
     flushes_all answer f = record {
       told = refl;
-      ready = record { capacity = ready.capacity; whole = whole };
+      ready = record {
+        capacity = ready.capacity;
+        fits = omega (arith, ready.fits, went.went.capacity);
+        between = went.due ∙ ready.between;
+        whole = whole;
+      };
       closed = λ closed. closed;
       writes = WritesOn-grows s.target.writer.log.writes c.writer.log.writes f.grows;
       flushes = FlushesOnce-flush s.target.writer c.writer answer f.steps;
@@ -223,12 +272,17 @@ module _ {R W : Type 0} (remaining : R → Option (List ℕ)) (tells : W → Str
     abbrev after : Encoding R W
     after = record s { source = t }
 
-    empty_asked : Asked (λ bytes. bytes ≡ []) s.source t → ¬ (t.log ≡ s.source.log)
+    empty_asked : t.block.capacity ≡ s.source.block.capacity → Asked (λ bytes. bytes ≡ []) s.source t → ¬ (t.log ≡ s.source.log)
         → t.log.reads.zero_reads ≤ s.source.log.reads.zero_reads + 1
         → (answer : Result Bool (AskError RunError)) → AskAnswers rules s answer after → Asks rules s answer after
-    empty_asked asked told quiet answer answers = record {
+    empty_asked same asked told quiet answer answers = record {
       told = refl;
-      ready = record { capacity = omega (arith, ready.capacity, along.capacity); whole = ready.whole };
+      ready = record {
+        capacity = omega (arith, ready.capacity, along.capacity);
+        fits = omega (arith, ready.fits, same);
+        between = ready.between;
+        whole = ready.whole;
+      };
       moves = record { hands = along; takes = ChunksWent-none trace none joins s.target };
       sent = λ sent. sent;
       asks = (asked, elim asked.asked [ inl same ↦ absurd (told same) | inr over ↦ over.some ]);
@@ -241,7 +295,8 @@ module _ {R W : Type 0} (remaining : R → Option (List ℕ)) (tells : W → Str
         → empty ≡ (length t.block.bytes == 0) → Asks rules s (Ok (not empty)) after
     asked a fills true is =
         let end = ended s.source t a fills is ready.capacity in
-        empty_asked (fill_asked s.source t (Ok a) fills) (λ same. omega (arith, end.1, ap (λ l. l.reads.zero_reads) same))
+        empty_asked (fill_capacity s.source t (Ok a) fills) (fill_asked s.source t (Ok a) fills)
+        (λ same. omega (arith, end.1, ap (λ l. l.reads.zero_reads) same))
         (omega (arith, end.1)) (Ok false) (end, fills.caused)
     asked a fills false is =
         let some = some_of (length t.block.bytes) is in
@@ -258,7 +313,7 @@ module _ {R W : Type 0} (remaining : R → Option (List ℕ)) (tells : W → Str
           length-append s.source.block.bytes order.got,
           ap (λ l. length l.reads.given) same,
         ) in
-        empty_asked asked told (omega (arith, quiet)) (Ok true) (
+        empty_asked (fill_capacity s.source t (Ok a) fills) asked told (omega (arith, quiet)) (Ok true) (
           some,
           fills.caused,
           inl (record {
@@ -279,7 +334,7 @@ module _ {R W : Type 0} (remaining : R → Option (List ℕ)) (tells : W → Str
         let quiet = none_before_fault std_read_rules ReadsWhenEmpty-std s.source t e fills.filled in
         let fault = std_fault s.source t e fills in
         let asked = fill_asked s.source t (Err e) fills in
-        empty_asked asked (λ same. omega (
+        empty_asked (fill_capacity s.source t (Err e) fills) asked (λ same. omega (
           arith,
           ap length fault,
           length-append s.source.log.reads.faults (e ∷ []),

@@ -1,5 +1,5 @@
 -- A filter that makes what is given chunks.
-use Rattle.std.specs.Prelude.{◌≡◌, ℕ, ◌+◌, ◌-◌, ◌<◌, List, [], length, MatchResult, Option}
+use Rattle.std.specs.Prelude.{◌≡◌, ℕ, ◌+◌, ◌-◌, ◌<◌, ◌≤◌, List, [], length, MatchResult, Option}
 use Rattle.bodies.specs.Words.{ReadsAlong, std_read_rules, ChunksWent, IsChunkedWriter, FilterRules, AllSent, IsStill, around, room, taken_in, RunError}
 use Rattle.bodies.specs.Encode.{IsDue}
 use Rattle.bodies.specs.Filters.{Asked, joined}
@@ -8,6 +8,9 @@ use Rattle.bodies.specs.declared.encoding.Encoding.{Encoding}
 -- what each call of the filter wants
 pub record IsReady {R W : Type 0} (s : Encoding R W) : Type 0 where
   pub capacity : 0 < s.source.block.capacity
+  -- no chunk of what one read may give is begun that doesn't fit
+  pub fits : around + s.source.block.capacity ≤ s.target.writer.block.capacity
+  pub between : s.target.due ≡ 0
   pub whole : IsChunkedWriter s.target
 
 -- at the end nothing is left, and the reader gave nothing, once. No byte is wrong

@@ -39,7 +39,7 @@ module _ {R W : Type 0} (remaining : R → Option (List ℕ)) (trace : W → W �
               last;
           due = flat_map chunk p;
           is_due = record { payloads = p; carried = moves.takes.carried; equal = refl; joined = refl };
-          sent = sent_all first.target.writer s.target.writer (flat_map chunk p) moves.takes.in_order fresh.1 sent;
+          sent = sent_all first.target.writer s.target.writer (flat_map chunk p) moves.takes.went.in_order fresh.1 sent;
         })
       ]
 
@@ -54,6 +54,6 @@ module _ {R W : Type 0} (remaining : R → Option (List ℕ)) (trace : W → W �
     waits_lacks = λ s waits. waits;
     waits_fresh = λ s waits sent. (waits, sent.empty);
     received_taken = λ s. omega arith;
-    taken_on = λ s t p taken. omega (arith, taken_more s.target.writer t.target.writer (flat_map chunk p) taken.in_order);
+    taken_on = λ s t p taken. omega (arith, taken_more s.target.writer t.target.writer (flat_map chunk p) taken.went.in_order);
     asks_sent = λ first s t p fresh moves still lacks sent asked. asks_sent first s t p fresh moves still sent asked.0;
   }

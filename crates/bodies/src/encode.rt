@@ -1,5 +1,5 @@
 //! What is given made the payload of a body, over any two streams that tell.
-ghost use Rattle.std.specs.Prelude.{◌+◌};
+ghost use Rattle.std.specs.Prelude.{◌≡◌, ◌+◌, ◌≤◌};
 ghost use Rattle.chunked.specs.ChunkedWriter.{around};
 ghost use Rattle.programs.specs.Streams.{IsFresh};
 ghost use Rattle.bodies.specs.Encode.{Encodes, EndsBody};
@@ -46,6 +46,7 @@ fn encode_all<R: TellRead, W: TellWrite>(
 ) -> (Result<(), RunError>, BufReader<R>, BufWriter<W>)
     requires source { IsFresh 1 source.block }
     requires target { IsFresh (around + 1) target.block }
+    requires fits { around + source.block.capacity ≤ target.block.capacity }
     ensures { Encodes source.log result.1.log target.log result.2.log result.0 }
 {
     let mut link = Link::new(Encoding {
@@ -68,6 +69,7 @@ fn encode_all<R: TellRead, W: TellWrite>(
 
 // Ends the body, and flushes it.
 fn end<W: TellWrite>(body: ChunkedWriter<W>) -> (Result<(), RunError>, BufWriter<W>)
+    requires between { body.due ≡ 0 }
     ensures { EndsBody body.writer result.0 result.1 }
 {
     match body.finish() {

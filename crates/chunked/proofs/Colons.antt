@@ -43,12 +43,18 @@ split line name value end same token all ends =
           ∙ drop_at (name ++ 58 ∷ []) value (end + 1) long)) all;
     }
 
-pub field_splits : (line : List ℕ) (end : ℕ) → slice_index line end ≡ 58 → NoColonBefore line end → IsField line
-    → Splits line end
-field_splits line end is before f =
-    split line f.name f.value end f.equal f.token f.all
-    (name_ends f.name f.value end f.token.0 (sym (ap (λ l. slice_index l end) f.equal) ∙ is)
-    (subst (λ l. NoColonBefore l end) f.equal before))
+module _ (line : List ℕ) (end : ℕ) (is : slice_index line end ≡ 58) (before : NoColonBefore line end) (f : IsField line) where
+  name_length : length f.name ≡ end
+  name_length =
+      name_ends f.name f.value end f.token.0 (sym (ap (λ l. slice_index l end) f.equal) ∙ is)
+      (subst (λ l. NoColonBefore l end) f.equal before)
+
+  pub field_splits : Splits line end
+  field_splits = split line f.name f.value end f.equal f.token f.all name_length
+
+  -- the name stands in front of it
+  pub field_name : take end line ≡ f.name
+  field_name = ap (take end) f.equal ∙ take_at f.name (58 ∷ f.value) end name_length
 
 pub splits_field : (line : List ℕ) (end : ℕ) → end < length line → slice_index line end ≡ 58 → Splits line end → IsField line
 splits_field line end within is s = record {

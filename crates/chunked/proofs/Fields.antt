@@ -8,9 +8,9 @@ use Rattle.buffer_redux.specs.Buffered.{Buffered}
 use Rattle.buffer_redux.specs.WriteParts.{PutsIn}
 use Rattle.buffer_redux.specs.WritePartsLaws.{PutsIn-joins}
 use Rattle.buffer_redux.specs.declared.policy.StdPolicy.{StdPolicy}
-use Rattle.chunked.specs.Body.{IsField, fields_bytes, line_end}
+use Rattle.chunked.specs.Body.{fields_bytes, line_end}
 use Rattle.chunked.specs.Chunk.{body_end}
-use Rattle.chunked.specs.Trailers.{lines_of}
+use Rattle.chunked.specs.Trailers.{IsTrailer, lines_of}
 
 -- a line with its end
 abbrev pub ended : List ℕ → List ℕ
@@ -61,16 +61,16 @@ front_fits fields i within =
       length-append (get_or fields i []) (line_end []),
     )
 
--- each of them is a line
-one_more : (fields : List (List ℕ)) (field : List ℕ) → AllByRecursion IsField fields → IsField field
-    → AllByRecursion IsField (fields ++ field ∷ [])
+-- each of them is a line that trailers may have
+one_more : (fields : List (List ℕ)) (field : List ℕ) → AllByRecursion IsTrailer fields → IsTrailer field
+    → AllByRecursion IsTrailer (fields ++ field ∷ [])
 one_more [] field all is = (is, tt)
 one_more (f ∷ fields) field all is = (all.0, one_more fields field all.1 is)
 
-pub lines_more : (fields : List (List ℕ)) (i : ℕ) → i < length fields → AllByRecursion IsField (take i fields)
-    → IsField (get_or fields i []) → AllByRecursion IsField (take (i + 1) fields)
+pub lines_more : (fields : List (List ℕ)) (i : ℕ) → i < length fields → AllByRecursion IsTrailer (take i fields)
+    → IsTrailer (get_or fields i []) → AllByRecursion IsTrailer (take (i + 1) fields)
 lines_more fields i within all is =
-    subst (AllByRecursion IsField) (sym (take_more fields i [] within)) (one_more (take i fields) (get_or fields i []) all is)
+    subst (AllByRecursion IsTrailer) (sym (take_more fields i [] within)) (one_more (take i fields) (get_or fields i []) all is)
 
 -- the line of an index, in a slice of slices
 pub line_at : (fields : List (Bor (List ℕ))) (i : ℕ) → i < length fields

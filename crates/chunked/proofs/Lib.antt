@@ -1,5 +1,6 @@
 mod Digits
 pub mod Writing
+mod Going
 pub mod Least
 pub mod Extending
 pub mod Passing

@@ -1,7 +1,7 @@
--- What a write does, and what finishing does, of what was sent first and what was copied in behind.
-use Rattle.std.proofs.Common.{◌≡◌, ℕ, zero, suc, ◌+◌, ◌-◌, ◌^◌, ◌<◌, ◌≤◌, ◌==◌, false, List, [], ◌∷◌, ◌++◌, length, take, min, Result, Ok, sym, ap, subst, ◌∙◌, arith, inl, inr, refl, append-nil}
+-- What goes into a buffered writer, and what a whole chunk and the end of a body do there.
+use Rattle.std.proofs.Common.{◌≡◌, ℕ, zero, suc, ◌+◌, ◌-◌, ◌^◌, ◌<◌, ◌≤◌, ◌==◌, false, true, List, [], ◌∷◌, ◌++◌, length, take, Result, Ok, Err, sym, ap, subst, ◌∙◌, arith, inl, inr, refl, append-nil}
 use Rattle.std.proofs.lemmas.Bool.{cases_lt}
-use Rattle.std.proofs.lemmas.List.{length-take-le, take_all}
+use Rattle.std.proofs.lemmas.List.{take_all}
 use Rattle.std.proofs.lemmas.List.Elements.{All-nil, All-cons}
 use Rattle.std.specs.List.{All, AllByRecursion, flat_map}
 use Rattle.std.specs.declared.io.Error.{Error}
@@ -9,19 +9,25 @@ use Rattle.buffer_redux.specs.Block.{Block, IsBlock, Kind, Plain, Ring, limit_of
 use Rattle.buffer_redux.specs.Buffered.{Buffered}
 use Rattle.buffer_redux.specs.BufWriter.{WasSent, WritesInOrder}
 use Rattle.buffer_redux.specs.LogGrows.{WriteLogGrows, WriteLogGrows-flush}
-use Rattle.buffer_redux.specs.StreamLog.{StreamLog, after_flush, after_write}
+use Rattle.buffer_redux.specs.StreamLog.{StreamLog, after_flush, after_write, portion}
 use Rattle.buffer_redux.specs.WriteParts.{PutsIn, SendsFirst, room}
-use Rattle.buffer_redux.specs.WritePartsLaws.{PutsIn-order, SendsFirst-order}
+use Rattle.buffer_redux.specs.WritePartsLaws.{PutsIn-order}
+use Rattle.buffer_redux.specs.WriterLaws.{WritesInOrder-joins, WritesInOrder-none}
 use Rattle.buffer_redux.specs.declared.policy.StdPolicy.{StdPolicy}
-use Rattle.chunked.specs.Body.{IsField}
-use Rattle.chunked.specs.Chunk.{IsCarried, IsChunks, body_end, chunk}
+use Rattle.chunked.specs.Chunk.{HasBegun, IsCarried, IsChunks, body_end, chunk}
 use Rattle.chunked.specs.ChunkLaws.{IsChunks-body, IsChunks-joins}
-use Rattle.chunked.specs.ChunkedWriter.{ChunkedWriterState, ChunkingWent, ChunksWent, Finishes, IsChunkedWriter, WritesChunk, accepted_of, around, taken_payloads}
+use Rattle.chunked.specs.ChunkedWriter.{ChunkedWriterState, ChunkingWent, ChunksWent, Finishes, IsChunkedWriter, MakesSpace, PayloadWent, WritesChunk, accepted_of, around, taken_payloads}
+use Rattle.chunked.specs.Trailers.{IsTrailer}
+use Rattle.chunked.specs.TrailersLaws.{trailers_are_fields}
 
 -- a slice that isn't empty has some byte
 pub some_of : (n : ℕ) → (n == 0) ≡ false → 0 < n
 some_of zero is = absurd (let odd = is in cc)
 some_of (suc n) is = omega arith
+
+pub none_of : (n : ℕ) → (n == 0) ≡ true → n ≡ 0
+none_of zero is = refl
+none_of (suc n) is = grind (arith, is)
 
 -- no block is larger than a chunk may be
 limit_small : (k : Kind) → limit_of k ≤ 2 ^ 62
@@ -31,124 +37,227 @@ limit_small Ring = omega arith
 pub block_small : (b : Block) → IsBlock b → b.capacity ≤ 2 ^ 62
 block_small b is = omega (arith, is.limit, is.most, limit_small b.kind)
 
--- all was sent first, where there was no room
-abbrev pub Spaced : {S : Type 0} → (S → StreamLog) → (S → S → Type 0) → ℕ → Buffered S StdPolicy → Buffered S StdPolicy → Type 0
-Spaced tells trace n s m = (n ≤ room s → m ≡ s) × (room s < n → WasSent tells trace s (Ok tt) m)
-
 -- these bytes went in behind what was buffered, or sent
-record WentIn {S : Type 0} (trace : S → S → Type 0) (s : Buffered S StdPolicy) (bytes : List ℕ) (t : Buffered S StdPolicy)
+pub record WentIn {S : Type 0} (trace : S → S → Type 0) (s : Buffered S StdPolicy) (bytes : List ℕ) (t : Buffered S StdPolicy)
     : Type 0 where
   pub in_order : WritesInOrder s bytes t
   pub went : trace s.inner t.inner
   pub capacity : t.block.capacity ≡ s.block.capacity
   pub limit : t.block.limit ≡ s.block.limit
+  pub whole : IsBlock t.block
 
 module _ {S : Type 0} (tells : S → StreamLog) (trace : S → S → Type 0) (none : (a : S) → trace a a)
     (joins : (a b c : S) → trace a b → trace b c → trace a c) where
-  untouched : (s t : Buffered S StdPolicy) (bytes : List ℕ) → PutsIn s bytes t → trace s.inner t.inner
-  untouched s t bytes puts = subst (trace s.inner) (ap (λ x. x.inner) (sym puts.others)) (none s.inner)
+  pub went_on : (s m t : Buffered S StdPolicy) (a b : List ℕ) → WentIn trace s a m → WentIn trace m b t
+      → WentIn trace s (a ++ b) t
+  went_on s m t a b p q = record {
+    in_order = WritesInOrder-joins s m t a b p.in_order q.in_order;
+    went = joins s.inner m.inner t.inner p.went q.went;
+    capacity = q.capacity ∙ p.capacity;
+    limit = q.limit ∙ p.limit;
+    whole = q.whole;
+  }
 
-  module _ (s m t : Buffered S StdPolicy) (n : ℕ) (spaced : Spaced tells trace n s m) (bytes : List ℕ)
+  pub puts_went : (s t : Buffered S StdPolicy) (bytes : List ℕ) → PutsIn s bytes t → WentIn trace s bytes t
+  puts_went s t bytes puts = record {
+    in_order = PutsIn-order s t bytes puts;
+    went = subst (trace s.inner) (ap (λ x. x.inner) (sym puts.others)) (none s.inner);
+    capacity = puts.capacity;
+    limit = puts.limit;
+    whole = puts.whole;
+  }
+
+  pub sent_went : (s t : Buffered S StdPolicy) (answer : Result (Unit {0}) Error) → WasSent tells trace s answer t
+      → WentIn trace s [] t
+  sent_went s t answer sent = record {
+    in_order = sent.in_order;
+    went = sent.went.calls;
+    capacity = sent.capacity;
+    limit = sent.sends.sent.dropped.limit;
+    whole = sent.whole;
+  }
+
+  pub space_went : (s t : Buffered S StdPolicy) (n : ℕ) (answer : Result (Unit {0}) Error) → IsBlock s.block
+      → MakesSpace tells trace n s answer t → WentIn trace s [] t
+  space_went s t n answer whole made = elim (cases_lt (room s) n) [
+    | inl full ↦ sent_went s t answer (made.full full)
+    | inr there ↦ subst (λ x. WentIn trace s [] x) (sym (made.fits there).1) (record {
+      in_order = WritesInOrder-none s;
+      went = none s.inner;
+      capacity = refl;
+      limit = refl;
+      whole = whole;
+    })
+  ]
+
+  -- all was sent, as there was no space
+  pub sent_first : (s m : Buffered S StdPolicy) (n : ℕ) (answer : Result (Unit {0}) Error) → room s < n
+      → WasSent tells trace s answer m → MakesSpace tells trace n s answer m
+  sent_first s m n answer full sent = record { fits = λ there. absurd (omega (arith, there, full)); full = λ _. sent }
+
+  -- there was space
+  pub had_space : (s : Buffered S StdPolicy) (n : ℕ) → n ≤ room s → MakesSpace tells trace n s (Ok tt) s
+  had_space s n there = record { fits = λ _. (refl, refl); full = λ full. absurd (omega (arith, there, full)) }
+
+  -- space was made, and these bytes were copied in
+  module _ (s m t : Buffered S StdPolicy) (n : ℕ) (spaced : MakesSpace tells trace n s (Ok tt) m) (bytes : List ℕ)
       (puts : PutsIn m bytes t) where
     pub straight : n ≤ room s → PutsIn s bytes t
-    straight there = subst (λ w. PutsIn w bytes t) (spaced.0 there) puts
+    straight there = subst (λ w. PutsIn w bytes t) (spaced.fits there).1 puts
 
     pub behind : room s < n → SendsFirst tells trace s bytes t
-    behind none = record { sent = m; sends = spaced.1 none; puts = puts }
+    behind full = record { sent = m; sends = spaced.full full; puts = puts }
 
-    put : WentIn trace s bytes t
-    put = elim (cases_lt (room s) n) [
-      | inl none' ↦
-          let sent = spaced.1 none' in
-          record {
-            in_order = SendsFirst-order tells trace s t bytes (behind none');
-            went = joins s.inner m.inner t.inner sent.went.calls (untouched m t bytes puts);
-            capacity = puts.capacity ∙ sent.capacity;
-            limit = puts.limit ∙ sent.sends.sent.dropped.limit;
-          }
-      | inr there ↦
-          let puts = straight there in
-          record {
-            in_order = PutsIn-order s t bytes puts;
-            went = untouched s t bytes puts;
-            capacity = puts.capacity;
-            limit = puts.limit;
-          }
-    ]
+  -- bytes of the body went in, with some payload
+  pub payload_went : (s t : ChunkedWriterState S) (bytes payload : List ℕ) → WentIn trace s.writer bytes t.writer
+      → t.wire ≡ s.wire ++ bytes → accepted_of t ≡ accepted_of s ++ payload → PayloadWent trace s bytes payload t
+  payload_went s t bytes payload went wire accepted = record {
+    in_order = went.in_order;
+    wire = wire;
+    accepted = accepted;
+    calls = went.went;
+    capacity = went.capacity;
+    limit = went.limit;
+  }
+
+  -- and none did
+  pub nothing_went : (s t : ChunkedWriterState S) → WentIn trace s.writer [] t.writer → t.wire ≡ s.wire → t.calls ≡ s.calls
+      → PayloadWent trace s [] [] t
+  nothing_went s t went wire calls = payload_went s t [] [] went (wire ∙ sym (append-nil s.wire))
+      (ap (λ l. l.writes.received) calls ∙ sym (append-nil (accepted_of s)))
 
   taken_some : (payload : List ℕ) (n : ℕ) → 0 < n → taken_payloads payload (Ok n) ≡ take n payload ∷ []
   taken_some payload zero some = absurd (omega (arith, some))
   taken_some payload (suc n) some = refl
 
-  module _ (s : ChunkedWriterState S) (is : IsChunkedWriter s) (payload : List ℕ) (some : 0 < length payload)
-      (m t : Buffered S StdPolicy)
-      (spaced : Spaced tells trace (around + length payload) s.writer m) (n : ℕ)
-      (count : n ≡ min (length payload) (m.block.capacity - around)) (puts : PutsIn m (chunk (take n payload)) t)
-      (wire : List ℕ) (wired : wire ≡ s.wire ++ chunk (take n payload)) (calls : StreamLog)
-      (noted : calls ≡ after_write s.calls payload (Ok n)) where
-    abbrev Left : ChunkedWriterState S
-    Left = record { writer = t; wire = wire; calls = calls }
+  -- a chunk that fits the capacity
+  module _ (s : ChunkedWriterState S) (is : IsChunkedWriter s) (between : s.due ≡ 0) (payload : List ℕ)
+      (some : 0 < length payload) (small : around + length payload ≤ s.writer.block.capacity) where
+    -- it went in whole
+    module _ (m t : Buffered S StdPolicy)
+        (spaced : MakesSpace tells trace (around + length payload) s.writer (Ok tt) m) (puts : PutsIn m (chunk payload) t)
+        (wire : List ℕ) (wired : wire ≡ s.wire ++ chunk payload) (calls : StreamLog)
+        (noted : calls ≡ after_write s.calls payload (Ok (length payload))) where
+      abbrev Left : ChunkedWriterState S
+      Left = record { writer = t; wire = wire; calls = calls; due = s.due }
 
-    went_in : WentIn trace s.writer (chunk (take n payload)) t
-    went_in = put s.writer m t (around + length payload) spaced (chunk (take n payload)) puts
+      went_in : WentIn trace s.writer (chunk payload) t
+      went_in = went_on s.writer m t [] (chunk payload)
+          (space_went s.writer m (around + length payload) (Ok tt) is.block spaced) (puts_went m t (chunk payload) puts)
 
-    counted : n ≡ min (length payload) (s.writer.block.capacity - around)
-    counted = count ∙ ap (λ c. min (length payload) (c - around)) (sym puts.capacity ∙ went_in.capacity)
+      carried : IsCarried payload
+      carried = (some, omega (arith, small, block_small s.writer.block is.block))
 
-    within : n ≤ length payload
-    within = omega (arith, counted)
+      one : All IsCarried (payload ∷ [])
+      one = All-cons IsCarried payload [] carried (All-nil IsCarried)
 
-    carried : IsCarried (take n payload)
-    carried = (
-      omega (arith, counted, some, is.capacity, length-take-le n payload within),
-      omega (arith, counted, is.capacity, block_small s.writer.block is.block, length-take-le n payload within),
-    )
+      all : take (length payload) payload ≡ payload
+      all = take_all (length payload) payload (omega arith)
 
-    one : All IsCarried (take n payload ∷ [])
-    one = All-cons IsCarried (take n payload) [] carried (All-nil IsCarried)
+      accepted_more : accepted_of Left ≡ accepted_of s ++ take (length payload) payload
+      accepted_more = ap (λ l. l.writes.received) noted
 
-    wire_more : wire ≡ s.wire ++ flat_map chunk (take n payload ∷ [])
-    wire_more = wired ∙ ap (λ l. s.wire ++ l) (sym (append-nil (chunk (take n payload))))
+      pub whole : IsChunkedWriter Left
+      whole = record {
+        whole = λ _.
+            subst (λ l. IsChunks l (accepted_of Left)) (ap (λ l. s.wire ++ l) (append-nil (chunk payload)) ∙ sym wired)
+            (subst (λ l. IsChunks (s.wire ++ flat_map chunk (payload ∷ [])) l)
+            (ap (λ l. accepted_of s ++ l) (append-nil payload ∙ sym all) ∙ sym accepted_more)
+            (IsChunks-joins s.wire (accepted_of s) (payload ∷ []) (is.whole between) one));
+        begun = λ within. absurd (omega (arith, within, between));
+        block = puts.whole;
+        capacity = omega (arith, went_in.capacity, is.capacity);
+      }
 
-    accepted_more : accepted_of Left ≡ accepted_of s ++ flat_map (λ p. p) (take n payload ∷ [])
-    accepted_more = ap (λ l. l.writes.received) noted ∙ ap (λ l. accepted_of s ++ l) (sym (append-nil (take n payload)))
+      went : PayloadWent trace s (chunk payload) (take (length payload) payload) Left
+      went = payload_went s Left (chunk payload) (take (length payload) payload) went_in wired accepted_more
 
-    pub whole : IsChunkedWriter Left
-    whole = record {
-      whole = subst (λ l. IsChunks wire l) (sym accepted_more)
-          (subst (λ l. IsChunks l (accepted_of s ++ flat_map (λ p. p) (take n payload ∷ []))) (sym wire_more)
-          (IsChunks-joins s.wire (accepted_of s) (take n payload ∷ []) is.whole one));
-      block = puts.whole;
-      capacity = omega (arith, went_in.capacity, is.capacity);
-    }
+      chunks : ChunksWent trace s (payload ∷ []) Left
+      chunks = record {
+        carried = one;
+        went = subst (λ l. PayloadWent trace s l (flat_map (λ p. p) (payload ∷ [])) Left) (sym (append-nil (chunk payload)))
+            (subst (λ l. PayloadWent trace s (chunk payload) l Left) (all ∙ sym (append-nil payload)) went);
+        due = refl;
+      }
 
-    all : around + length payload ≤ room s.writer → n ≡ length payload
-    all there = omega (arith, there, counted)
+      pub wrote : WritesChunk tells trace s payload (Ok (length payload)) Left
+      wrote = record {
+        went = (chunk payload, went);
+        nothing = λ nothing. absurd (omega (arith, nothing, some));
+        chunks = λ _ _. subst (λ l. ChunksWent trace s l Left)
+            (sym (taken_some payload (length payload) some ∙ ap (λ l. l ∷ []) all)) chunks;
+        fits = λ _ _ there. (refl, straight s.writer m t (around + length payload) spaced (chunk payload) puts there);
+        full = λ _ _ full _. (refl, behind s.writer m t (around + length payload) spaced (chunk payload) puts full);
+        begins = λ _ large. absurd (omega (arith, large, small));
+        goes_on = λ _ within. absurd (omega (arith, within, between));
+        noted = noted;
+        whole = whole;
+      }
 
-    pub wrote : WritesChunk tells trace s payload (Ok n) Left
-    wrote = record {
-      went = subst (λ l. ChunksWent trace s l Left) (sym (taken_some payload n (omega (arith, counted, some, is.capacity))))
-          (record {
-            carried = one;
-            in_order = subst (λ l. WritesInOrder s.writer l t) (sym (append-nil (chunk (take n payload)))) went_in.in_order;
-            wire = wire_more;
-            accepted = accepted_more;
-            calls = went_in.went;
-            capacity = went_in.capacity;
-            limit = went_in.limit;
-          });
-      nothing = λ none. absurd (omega (arith, none, some));
-      fits = λ _ there. (
-        ap (λ k. Ok k) (all there),
-        subst (λ l. PutsIn s.writer (chunk l) t) (take_all n payload (omega (arith, all there)))
-            (straight s.writer m t (around + length payload) spaced (chunk (take n payload)) puts there),
-      );
-      full = λ _ none. (
-        counted,
-        behind s.writer m t (around + length payload) spaced (chunk (take n payload)) puts none,
-      );
+    -- sending failed
+    module _ (full : room s.writer < around + length payload) (e : Error) (m : Buffered S StdPolicy)
+        (sent : WasSent tells trace s.writer (Err e) m) where
+      abbrev Unsent : ChunkedWriterState S
+      Unsent = record s { writer = m }
+
+      none_went : PayloadWent trace s [] [] Unsent
+      none_went = nothing_went s Unsent (sent_went s.writer m (Err e) sent) refl refl
+
+      pub unsent_whole : IsChunkedWriter Unsent
+      unsent_whole = record {
+        whole = is.whole;
+        begun = is.begun;
+        block = sent.whole;
+        capacity = omega (arith, sent.capacity, is.capacity);
+      }
+
+      pub unsent : WritesChunk tells trace s payload (Err e) Unsent
+      unsent = record {
+        went = ([], none_went);
+        nothing = λ nothing. absurd (omega (arith, nothing, some));
+        chunks = λ _ _. record { carried = All-nil IsCarried; went = none_went; due = refl };
+        fits = λ _ _ there. absurd (omega (arith, there, full));
+        full = λ _ _ _ _. sent;
+        begins = λ _ large. absurd (omega (arith, large, small));
+        goes_on = λ _ within. absurd (omega (arith, within, between));
+        noted = refl;
+        whole = unsent_whole;
+      }
+
+  -- an empty payload
+  module _ (s : ChunkedWriterState S) (is : IsChunkedWriter s) (payload : List ℕ) (empty : length payload ≡ 0)
+      (calls : StreamLog) (noted : calls ≡ after_write s.calls payload (Ok 0)) where
+    abbrev Still : ChunkedWriterState S
+    Still = record s { calls = calls }
+
+    still_went : PayloadWent trace s [] [] Still
+    still_went = payload_went s Still [] [] (record {
+      in_order = WritesInOrder-none s.writer;
+      went = none s.writer.inner;
+      capacity = refl;
+      limit = refl;
+      whole = is.block;
+    }) (sym (append-nil s.wire)) (ap (λ l. l.writes.received) noted)
+
+    same_payload : accepted_of s ≡ accepted_of Still
+    same_payload = sym (append-nil (accepted_of s)) ∙ sym still_went.accepted
+
+    pub wrote_nothing : WritesChunk tells trace s payload (Ok 0) Still
+    wrote_nothing = record {
+      went = ([], still_went);
+      nothing = λ _. (refl, refl, refl);
+      chunks = λ _ _. record { carried = All-nil IsCarried; went = still_went; due = refl };
+      fits = λ some _ _. absurd (omega (arith, some, empty));
+      full = λ some _ _ _. absurd (omega (arith, some, empty));
+      begins = λ _ large. absurd (omega (arith, large, empty, is.capacity));
+      goes_on = λ some _. absurd (omega (arith, some, empty));
       noted = noted;
-      whole = whole;
+      whole = record {
+        whole = λ between. subst (IsChunks s.wire) same_payload (is.whole between);
+        begun = λ within. subst (HasBegun s.due s.wire) same_payload (is.begun within);
+        block = is.block;
+        capacity = is.capacity;
+      };
     }
 
   -- the same of a writer that is known by another name
@@ -157,31 +266,34 @@ module _ {S : Type 0} (tells : S → StreamLog) (trace : S → S → Type 0) (no
   same_writer v s t payload answer same h = subst (λ c. WritesChunk tells trace c payload answer t) same h
 
   -- the end of the body went in behind the chunks
-  pub finishes : (v s : ChunkedWriterState S) → v ≡ s → (is : IsChunkedWriter v) → (m t : Buffered S StdPolicy)
-      → (fields : List (List ℕ)) → AllByRecursion IsField fields → (n : ℕ) → n ≡ length (body_end fields)
-      → Spaced tells trace n v.writer m → PutsIn m (body_end fields) t → Finishes tells trace s fields t
-  finishes v s same is m t fields lines n len spaced puts =
-      let there = subst (λ k. Spaced tells trace k v.writer m) len spaced in
+  pub finishes : (v s : ChunkedWriterState S) → v ≡ s → (is : IsChunkedWriter v) → v.due ≡ 0 → (m t : Buffered S StdPolicy)
+      → (fields : List (List ℕ)) → AllByRecursion IsTrailer fields → (n : ℕ) → n ≡ length (body_end fields)
+      → MakesSpace tells trace n v.writer (Ok tt) m → PutsIn m (body_end fields) t → Finishes tells trace s fields t
+  finishes v s same is between m t fields lines n len spaced puts =
+      let there = subst (λ k. MakesSpace tells trace k v.writer (Ok tt) m) len spaced in
+      let made = space_went v.writer m (length (body_end fields)) (Ok tt) is.block there in
       subst (λ c. Finishes tells trace c fields t) same (record {
+        between = between;
         lines = lines;
-        in_order = (put v.writer m t (length (body_end fields)) there (body_end fields) puts).in_order;
-        body = λ limits lets. IsChunks-body limits lets.0 fields lines lets.1 v.wire (accepted_of v) is.whole;
+        in_order = (went_on v.writer m t [] (body_end fields) made (puts_went m t (body_end fields) puts)).in_order;
+        body = λ limits lets. IsChunks-body limits lets.0 fields (trailers_are_fields fields lines) lets.1 v.wire
+            (accepted_of v) (is.whole between);
         fits = straight v.writer m t (length (body_end fields)) there (body_end fields) puts;
         full = behind v.writer m t (length (body_end fields)) there (body_end fields) puts;
       })
 
-  -- a flush that is told took no chunk in
+  -- a flush that is told took nothing in
   pub flush_went : (s m v : ChunkedWriterState S) (answer : Result (Unit {0}) Error) (calls : StreamLog) → v ≡ m
       → ChunksWent trace s [] m → m.calls ≡ s.calls → calls ≡ after_flush v.calls answer
       → ChunkingWent trace s (record v { calls = calls })
   flush_went s m v answer calls same went still noted =
       let before : v.calls ≡ s.calls = ap (λ c. c.calls) same ∙ still in
       let told : calls ≡ after_flush s.calls answer = noted ∙ ap (λ l. after_flush l answer) before in
-      let went : ChunksWent trace s [] v = subst (λ c. ChunksWent trace s [] c) (sym same) went in
+      let went : PayloadWent trace s [] [] v = subst (λ c. PayloadWent trace s [] [] c) (sym same) went.went in
       record {
-        payloads = [];
+        bytes = [];
+        payload = [];
         went = record {
-          carried = went.carried;
           in_order = went.in_order;
           wire = went.wire;
           accepted = ap (λ l. l.writes.received) told ∙ sym (append-nil (accepted_of s));

@@ -1,30 +1,28 @@
 -- What was written is a body.
 use Rattle.std.proofs.Common.{◌≡◌, ℕ, List, ◌++◌, sym, subst, ◌∙◌}
 use Rattle.std.proofs.lemmas.List.{append_cancel_left}
-use Rattle.std.specs.List.{flat_map}
 use Rattle.buffer_redux.specs.Buffered.{Buffered}
 use Rattle.buffer_redux.specs.StreamLog.{StreamLog}
 use Rattle.buffer_redux.specs.WriterLaws.{WritesInOrder-contents, WritesInOrder-joins}
 use Rattle.buffer_redux.specs.declared.policy.StdPolicy.{StdPolicy}
 use Rattle.chunked.specs.declared.limits.Limits.{Limits}
 use Rattle.chunked.specs.Body.{IsBody}
-use Rattle.chunked.specs.Chunk.{body_end, chunk}
+use Rattle.chunked.specs.Chunk.{body_end}
 use Rattle.chunked.specs.ChunkedWriter.{ChunkedWriterState, LetsThrough, accepted_of}
 use Rattle.chunked.specs.RoundTrip.{WroteBody}
 
 module _ {S : Type 0} (tells : S → StreamLog) (trace : S → S → Type 0) (first : Buffered S StdPolicy)
-    (payloads fields : List (List ℕ)) (w : ChunkedWriterState S) (last : Buffered S StdPolicy) (wrote : List ℕ)
-    (h : WroteBody tells trace first payloads fields w last wrote) where
+    (payload : List ℕ) (fields : List (List ℕ)) (w : ChunkedWriterState S) (last : Buffered S StdPolicy) (wrote : List ℕ)
+    (h : WroteBody tells trace first payload fields w last wrote) where
   the_bytes : wrote ≡ w.wire ++ body_end fields
   the_bytes =
-      let whole = WritesInOrder-joins first w.writer last (flat_map chunk payloads) (body_end fields) h.went.in_order
-      h.finishes.in_order in
+      let whole = WritesInOrder-joins first w.writer last h.taken (body_end fields) h.went.in_order h.finishes.in_order in
       let held = first.log.writes.received ++ first.block.bytes in
       append_cancel_left held wrote (w.wire ++ body_end fields)
-      (sym h.gained ∙ WritesInOrder-contents first last (flat_map chunk payloads ++ body_end fields) whole
+      (sym h.gained ∙ WritesInOrder-contents first last (h.taken ++ body_end fields) whole
       ∙ (λ i. held ++ (sym h.went.wire i ++ body_end fields)))
 
-  pub written_body : (limits : Limits) → LetsThrough fields limits → IsBody limits wrote (flat_map (λ p. p) payloads)
+  pub written_body : (limits : Limits) → LetsThrough fields limits → IsBody limits wrote payload
   written_body limits lets =
       subst (λ p. IsBody limits wrote p) h.went.accepted
       (subst (λ l. IsBody limits l (accepted_of w)) (sym the_bytes) (h.finishes.body limits lets))

@@ -23,7 +23,8 @@ pub mod AskingLaws
 pub mod Given
 pub mod Chunk
 pub mod ChunkLaws
+pub mod Trailers
+pub mod TrailersLaws
 pub mod ChunkedWriter
 pub mod ChunkedWriterLaws
-pub mod Trailers
 pub mod RoundTrip

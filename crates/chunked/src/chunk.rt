@@ -1,11 +1,12 @@
 //! What a chunk is made of, and how it goes into a buffered writer.
-ghost use Rattle.std.specs.Prelude.{◌≡◌, ◌^◌, ◌<◌, ◌≤◌, ◌+◌, ◌-◌, ◌++◌, [], drop, length, Ok};
+ghost use Rattle.std.specs.Prelude.{◌≡◌, ◌^◌, ◌<◌, ◌≤◌, ◌+◌, ◌-◌, ◌++◌, [], drop, length};
+ghost use Rattle.std.specs.Io.{WritesAtMost};
 ghost use Rattle.buffer_redux.specs.Block.{usable};
-ghost use Rattle.buffer_redux.specs.BufWriter.{WasSent};
+ghost use Rattle.buffer_redux.specs.StreamLog.{portion};
 ghost use Rattle.buffer_redux.specs.WriteParts.{PutsIn, room};
 ghost use Rattle.chunked.specs.Body.{line_end};
-ghost use Rattle.chunked.specs.Chunk.{chunk, size_digits};
-ghost use Rattle.chunked.specs.ChunkedWriter.{around};
+ghost use Rattle.chunked.specs.Chunk.{chunk, chunk_begun, chunk_end, size_digits};
+ghost use Rattle.chunked.specs.ChunkedWriter.{MakesSpace, TakesPart, around};
 
 use buffer_redux::BufWriter;
 use buffer_redux::tell::{Call, CallLog, TellWrite};
@@ -56,8 +57,7 @@ impl SizeLine {
 /// Sends all that is buffered, without a flush of the inner writer, where fewer bytes than these fit behind it.
 #[inline(always)]
 pub fn make_space<W: TellWrite>(writer: &mut BufWriter<W>, bytes: usize) -> io::Result<()>
-    ensures fits { bytes ≤ room writer.old → (result ≡ Ok tt) × (writer.new ≡ writer.old) }
-    ensures full { room writer.old < bytes → WasSent W.log W.trace writer.old result writer.new }
+    ensures { MakesSpace W.log W.trace bytes writer.old result writer.new }
 {
     if writer.capacity() - writer.buf_len() < bytes {
         return writer.send();
@@ -91,4 +91,63 @@ pub fn put_chunk<W: TellWrite>(writer: &mut BufWriter<W>, wire: &mut CallLog, pa
     put(writer, wire, line.as_bytes());
     put(writer, wire, payload);
     put(writer, wire, b"\r\n");
+}
+
+/// Copies the line of a chunk of so many bytes in, for which there is room, and notes it.
+pub fn put_line<W: TellWrite>(writer: &mut BufWriter<W>, wire: &mut CallLog, size: u64)
+    requires small { size < 2 ^ 62 }
+    requires room { around ≤ room writer.old }
+    ensures put { PutsIn writer.old (chunk_begun size []) writer.new }
+    ensures wire { wire.new.log.writes.received ≡ wire.old.log.writes.received ++ chunk_begun size [] }
+{
+    let line = SizeLine::new(size);
+    writer.make_room();
+    put(writer, wire, line.as_bytes());
+}
+
+// Takes bytes of a payload in: into the buffer where they and the end of a line fit there, what it holds being sent first where
+// they don't fit behind that; and else past it, by one write.
+fn take<W: TellWrite>(writer: &mut BufWriter<W>, part: &[u8]) -> io::Result<usize>
+    ensures bound { WritesAtMost result part.now }
+    ensures takes { TakesPart W.log W.trace writer.old part.now result writer.new }
+{
+    match make_space(writer, part.len() + 2) {
+        Ok(()) => {
+            if writer.capacity() - writer.buf_len() < part.len() + 2 {
+                return writer.get_mut().write_told(part);
+            }
+            writer.make_room();
+            writer.put(part);
+            Ok(part.len())
+        }
+        Err(e) => Err(e),
+    }
+}
+
+/// Takes bytes of a payload in, and notes what was taken.
+pub fn take_part<W: TellWrite>(
+    writer: &mut BufWriter<W>,
+    wire: &mut CallLog,
+    part: &[u8],
+) -> io::Result<usize>
+    ensures bound { WritesAtMost result part.now }
+    ensures takes { TakesPart W.log W.trace writer.old part.now result writer.new }
+    ensures wire { wire.new.log.writes.received ≡ wire.old.log.writes.received ++ portion part.now result }
+{
+    let answer = take(writer, part);
+    wire.note(&Call::Write(part, &answer));
+    answer
+}
+
+/// Copies the end of the line behind a payload in, for which there is room, where no byte of it is due.
+pub fn end_chunk<W: TellWrite>(writer: &mut BufWriter<W>, wire: &mut CallLog, due: usize)
+    requires room { 2 ≤ room writer.old }
+    ensures put { PutsIn writer.old (chunk_end due) writer.new }
+    ensures wire { wire.new.log.writes.received ≡ wire.old.log.writes.received ++ chunk_end due }
+{
+    let _ = writer.capacity();
+    if due == 0 {
+        writer.make_room();
+        put(writer, wire, b"\r\n");
+    }
 }

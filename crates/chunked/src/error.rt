@@ -125,8 +125,12 @@ impl From<ChunkedError> for io::Error {
 pub enum TrailersError {
     /// The line of this index is none of trailers: it isn't a token, a colon and a value.
     NoField(usize),
+    /// The line of this index says where the body ends: its name is `Content-Length` or `Transfer-Encoding`, in any case.
+    Framing(usize),
     /// The last chunk and the trailers have more bytes than the buffer.
     TooLong,
+    /// So many bytes are still to come of a chunk that was begun.
+    Due(usize),
     /// What was buffered had to be sent first, and that failed. The call can be made again.
     Io(io::Error),
 }
@@ -140,7 +144,11 @@ impl fmt::Display for TrailersError {
                     "line {index} of the trailers isn't a name, a colon and a value"
                 )
             }
+            TrailersError::Framing(index) => {
+                write!(f, "line {index} of the trailers says where the body ends")
+            }
             TrailersError::TooLong => f.write_str("the trailers don't fit into the buffer"),
+            TrailersError::Due(count) => write!(f, "a chunk lacks {count} bytes"),
             TrailersError::Io(e) => fmt::Display::fmt(e, f),
         }
     }
@@ -167,7 +175,7 @@ impl<B> fmt::Display for FinishError<B> {
 
 impl<B: fmt::Debug + Drop> Error for FinishError<B> {}
 
-/// The fault, or `InvalidInput` where trailers were refused. The writer is dropped.
+/// The fault, or `InvalidInput` where trailers were refused, or a chunk lacks bytes. The writer is dropped.
 impl<B: Drop> From<FinishError<B>> for io::Error {
     ghost use Rattle.std.specs.Prelude.{◌≡◌, ◌≢◌, ◌⊎◌};
     ghost use Rattle.std.specs.IoError.{error_kind};
@@ -180,10 +188,8 @@ impl<B: Drop> From<FinishError<B>> for io::Error {
 
     fn from(e: FinishError<B>) -> io::Error {
         match e.1 {
-            TrailersError::NoField(_) | TrailersError::TooLong => {
-                io::Error::from(ErrorKind::InvalidInput)
-            }
             TrailersError::Io(fault) => fault,
+            _ => io::Error::from(ErrorKind::InvalidInput),
         }
     }
 }

@@ -1,5 +1,5 @@
 //! Laws, each as the contract of a function.
-ghost use Rattle.std.specs.Prelude.{◌≡◌, ℕ, ◌<◌, List, ◌++◌, Some, flat_map};
+ghost use Rattle.std.specs.Prelude.{◌≡◌, ℕ, ◌<◌, List, ◌++◌, Some};
 ghost use Rattle.std.specs.List.{AllByRecursion};
 ghost use Rattle.buffer_redux.specs.Buffered.{Buffered};
 ghost use Rattle.buffer_redux.specs.BufReader.{ReadsAlong};
@@ -80,12 +80,12 @@ pub fn behind_body<R: TellRead, P: ReaderPolicy>(reader: &ChunkedReader<R, P>)
         → (handed ≡ payload) × (ahead R.remaining reader.now.reader ≡ Some behind) }
 {}
 
-/// Where a writer of a body took payloads in, each in one write, and was finished with these trailers, or with none, what the
-/// buffered writer gained is a body with these payloads, joined.
+/// Where a writer of a body took this payload in, in any writes, and was finished with these trailers, or with none, what the
+/// buffered writer gained is a body with this payload.
 pub fn written_body<W: TellWrite>(writer: &ChunkedWriter<W>)
-    ensures { (first last : Buffered W StdPolicy) (payloads fields : List (List ℕ)) (wrote : List ℕ) (limits : Limits)
-        → WroteBody W.log W.trace first payloads fields writer.now last wrote → LetsThrough fields limits
-        → IsBody limits wrote (flat_map (λ p. p) payloads) }
+    ensures { (first last : Buffered W StdPolicy) (payload : List ℕ) (fields : List (List ℕ)) (wrote : List ℕ) (limits : Limits)
+        → WroteBody W.log W.trace first payload fields writer.now last wrote → LetsThrough fields limits
+        → IsBody limits wrote payload }
 {}
 
 /// What was written and finished so is what a reader hands out that it is given to, and then what follows, however both streams
@@ -95,11 +95,11 @@ pub fn round_trip<W: TellWrite, R: TellRead, P: ReaderPolicy>(
     writer: &ChunkedWriter<W>,
     reader: &ChunkedReader<R, P>,
 )
-    ensures { (first last : Buffered W StdPolicy) (payloads fields : List (List ℕ)) (wrote : List ℕ)
-        → WroteBody W.log W.trace first payloads fields writer.now last wrote
+    ensures { (first last : Buffered W StdPolicy) (payload : List ℕ) (fields : List (List ℕ)) (wrote : List ℕ)
+        → WroteBody W.log W.trace first payload fields writer.now last wrote
         → (start : Buffered R P) (limits : Limits) (behind handed : List ℕ) → LetsThrough fields limits
         → WasGiven R.remaining P.rules start limits wrote behind handed reader.now
-        → HandsGiven P.rules (flat_map (λ p. p) payloads) behind handed reader.now }
+        → HandsGiven P.rules payload behind handed reader.now }
 {
     given_body(reader);
 }

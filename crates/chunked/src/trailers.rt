@@ -4,7 +4,7 @@ ghost use Rattle.std.specs.List.{AllByRecursion};
 ghost use Rattle.buffer_redux.specs.WriteParts.{PutsIn, room};
 ghost use Rattle.chunked.specs.Body.{IsField};
 ghost use Rattle.chunked.specs.Chunk.{body_end};
-ghost use Rattle.chunked.specs.Trailers.{CannotEnd, lines_of};
+ghost use Rattle.chunked.specs.Trailers.{CannotEnd, IsFraming, IsTrailer, lines_of};
 
 use crate::chunk::put;
 use crate::error::TrailersError;
@@ -26,18 +26,36 @@ fn is_field(line: &[u8]) -> bool
     }
 }
 
+// Whether this line says where the body ends, as none of trailers may (RFC 9110, section 6.5.1).
+fn is_framing(line: &[u8]) -> bool
+    requires { IsField line.now }
+    ensures { IsTrue result ↔ IsFraming line.now }
+{
+    match memchr(b':', line) {
+        Some(colon) => {
+            let name = &line[..colon];
+            name.eq_ignore_ascii_case(b"content-length")
+                || name.eq_ignore_ascii_case(b"transfer-encoding")
+        }
+        None => false,
+    }
+}
+
 /// How many bytes the end of a body with these trailers has, if it goes into a buffer of so many.
 pub fn end_len(fields: &[&[u8]], capacity: usize) -> Result<usize, TrailersError>
     requires { capacity < 2 ^ 63 }
-    ensures lines { IfOk result (λ n. AllByRecursion IsField (lines_of fields.now)) }
+    ensures lines { IfOk result (λ n. AllByRecursion IsTrailer (lines_of fields.now)) }
     ensures fits { IfOk result (λ n. length (body_end (lines_of fields.now)) ≤ capacity) }
     ensures len { IfOk result (λ n. n ≡ length (body_end (lines_of fields.now))) }
-    ensures cannot { IfErr result (CannotEnd (lines_of fields.now) capacity) }
+    ensures cannot { IfErr result (CannotEnd 0 (lines_of fields.now) capacity) }
 {
     let mut len = BARE_END;
     for (i, field) in fields.iter().enumerate() {
         if !is_field(field) {
             return Err(TrailersError::NoField(i));
+        }
+        if is_framing(field) {
+            return Err(TrailersError::Framing(i));
         }
         len = len.saturating_add(field.len()).saturating_add(2);
     }

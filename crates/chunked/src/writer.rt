@@ -1,33 +1,37 @@
 //! The writer of a body.
 ghost use Rattle.std.specs.Prelude.{◌≡◌, ◌<◌, ◌≤◌, ◌⊎◌, [], length, MatchResult, Some};
+ghost use Rattle.std.specs.IoError.{error_kind};
 ghost use Rattle.std.specs.declared.io.Error.{Error};
+ghost use Rattle.std.specs.declared.io.ErrorKind.TheVariants.{InvalidInput};
 ghost use Rattle.std.specs.Io.{WritesAtMost};
 ghost use Rattle.std.specs.List.{AllByRecursion};
 ghost use Rattle.std.specs.Io.KnownBytes.{Keeps, WriteAppends};
 ghost use Rattle.buffer_redux.specs.Buffered.{over_buffer};
 ghost use Rattle.buffer_redux.specs.BufWriter.{WasFlushed};
 ghost use Rattle.buffer_redux.specs.StreamLog.{StreamLog, after_flush, after_write};
-ghost use Rattle.chunked.specs.Body.{IsField};
 ghost use Rattle.chunked.specs.Chunk.{body_end};
-ghost use Rattle.chunked.specs.ChunkedWriter.{ChunkingWent, ChunksWent, Finishes, IsChunkedWriter, NotFinished, WritesChunk};
-ghost use Rattle.chunked.specs.ChunkedWriter.{accepted_of, around, unbegun};
+ghost use Rattle.chunked.specs.ChunkedWriter.{ChunkingWent, ChunksWent, Finishes, IsChunkedWriter, WritesChunk};
+ghost use Rattle.chunked.specs.ChunkedWriter.{LacksPayload, NotFinished, accepted_of, around, unbegun};
 ghost use Rattle.chunked.specs.ChunkedWriterLaws.{ChunkingWent-none, ChunkingWent-joins, ChunkingWent-grows};
-ghost use Rattle.chunked.specs.Trailers.{CannotEnd, lines_of};
+ghost use Rattle.chunked.specs.Trailers.{CannotEnd, IsTrailer, lines_of};
 
 use crate::chunk::{AROUND, make_space, put_chunk};
 use crate::error::{FinishError, TrailersError};
 use crate::trailers::{BARE_END, end_len, put_end};
 use buffer_redux::tell::{Call, CallLog, Tell, TellWrite};
 use buffer_redux::{BufWriter, Buffer, IntoInnerError};
-use std::io::Write;
+use std::io::{ErrorKind, Write};
 use std::marker::Model;
 use std::{fmt, io};
 
+mod past;
+
 /// A writer of one body, into a buffered writer of yours. [`finish`](ChunkedWriter::finish) ends the body, and hands that back.
 ///
-/// Each write makes one chunk, which goes into the buffer whole or not at all; an empty slice makes none. The writer takes no
-/// memory. One that is dropped drops the buffered writer, which sends what it holds: the body has no end then, so a reader can
-/// tell that it is cut short.
+/// Each write makes one chunk; an empty slice makes none. One that fits the buffer goes into it whole or not at all. Of another
+/// the payload goes past the buffer, and further writes go on in it until none of it is [`due`](ChunkedWriter::due). The writer
+/// takes no memory. One that is dropped drops the buffered writer, which sends what it holds: the body has no end then, so a
+/// reader can tell that it is cut short.
 ///
 /// ```
 /// let inner = BufWriter::new(alloc, Told::new(Vec::new(alloc)))?;
@@ -44,6 +48,8 @@ pub struct ChunkedWriter<W: TellWrite> {
     wire: CallLog,
     // The payload, as a stream tells it.
     calls: CallLog,
+    // How many bytes of payload are still to come of the chunk that was begun.
+    due: usize,
 }
 
 impl<W: TellWrite> Model for ChunkedWriter<W> {
@@ -55,12 +61,14 @@ impl<W: TellWrite> Model for ChunkedWriter<W> {
       writer = c.writer;
       wire = c.wire.log.writes.received;
       calls = c.calls.log;
+      due = c.due;
     } };
 
     ghost invariant = { λ c. IsChunkedWriter (record {
       writer = c.writer;
       wire = c.wire.log.writes.received;
       calls = c.calls.log;
+      due = c.due;
     }) };
 }
 
@@ -77,11 +85,12 @@ impl<W: TellWrite> ChunkedWriter<W> {
             writer,
             wire: CallLog::new(),
             calls: CallLog::new(),
+            due: 0,
         }
     }
 
-    /// The same over a buffer of yours, of which the bytes are sent first. So the writer of a body that was taken apart goes on:
-    /// its next chunk stands behind those of the other.
+    /// The same over a buffer of yours, of which the bytes are sent first. So the writer of a body that was taken apart between
+    /// chunks goes on: its next chunk stands behind those of the other.
     pub fn with_buffer(buffer: Buffer, inner: W) -> Self
         requires room { around < buffer.capacity }
         ensures begun { result ≡ unbegun (over_buffer W.log (record {}) buffer inner) }
@@ -107,8 +116,17 @@ impl<W: TellWrite> ChunkedWriter<W> {
         self.into_inner().into_inner_with_buffer()
     }
 
+    /// How many bytes of payload are still to come of a chunk that was begun, since it doesn't fit the buffer; 0 between chunks.
+    pub fn due(&self) -> usize
+        ensures due { result ≡ self.now.due }
+        ensures whole { IsChunkedWriter self.now }
+    {
+        self.due
+    }
+
     /// The buffered writer, with the chunks that were not sent. The body isn't ended: [`new`](ChunkedWriter::new) goes on with
-    /// it, and what is written into this before stands within it.
+    /// it, and what is written into this before stands within it. A chunk of which payload is [`due`](ChunkedWriter::due) stays
+    /// cut short: nothing goes on with that.
     pub fn into_inner(self) -> BufWriter<W>
         ensures { result ≡ self.writer }
     {
@@ -116,6 +134,7 @@ impl<W: TellWrite> ChunkedWriter<W> {
             writer,
             wire: _,
             calls: _,
+            due: _,
         } = self;
         writer
     }
@@ -123,17 +142,23 @@ impl<W: TellWrite> ChunkedWriter<W> {
     /// Ends the body: takes the last chunk in, with no trailers, and hands the buffered writer back, which neither sent nor
     /// flushed it. Where it doesn't fit, all that is buffered is sent first. Where that fails, the writer comes back with the
     /// fault and as it was, but for what the inner writer took: it can be finished again, or written to.
+    ///
+    /// Where payload is [`due`](ChunkedWriter::due) the body can't be ended: the writer comes back as it was, with
+    /// `InvalidInput`.
     pub fn finish(self) -> Result<BufWriter<W>, IntoInnerError<Self>>
         ensures { MatchResult result (Finishes W.log W.trace self [])
-            (λ e. NotFinished W.log W.trace self [] e.1 e.0) }
+            (λ e. (LacksPayload self e.0 × (error_kind e.1 ≡ InvalidInput)) ⊎ NotFinished W.log W.trace self [] e.1 e.0) }
     {
+        if self.due > 0 {
+            return Err(IntoInnerError(self, io::Error::from(ErrorKind::InvalidInput)));
+        }
         self.end(BARE_END, &[])
     }
 
     /// The same with trailers, whose lines these are, without their ends. The last chunk and all trailers go into the buffer
     /// whole or not at all. A line is a token, a colon and a value: of visible bytes, blanks, tabs and bytes from 128. Any
-    /// other is refused, and so are trailers that the buffer has no capacity for with the last chunk; the writer comes back
-    /// as it was then.
+    /// other is refused, and so is one that says where the body ends, and so are trailers that the buffer has no capacity for
+    /// with the last chunk; the writer comes back as it was then.
     ///
     /// ```
     /// let inner = BufWriter::new(alloc, Told::new(Vec::new(alloc)))?;
@@ -151,10 +176,14 @@ impl<W: TellWrite> ChunkedWriter<W> {
     /// ```
     pub fn finish_with_trailers(self, fields: &[&[u8]]) -> Result<BufWriter<W>, FinishError<Self>>
         ensures { MatchResult result (Finishes W.log W.trace self (lines_of fields.now))
-            (λ e. (CannotEnd (lines_of fields.now) self.writer.block.capacity e.1 × (e.0 ≡ self) × IsChunkedWriter e.0)
+            (λ e. (CannotEnd self.due (lines_of fields.now) self.writer.block.capacity e.1 × (e.0 ≡ self) × IsChunkedWriter e.0)
             ⊎ ((fault : Error) × (e.1 ≡ TrailersError.Io fault)
             × NotFinished W.log W.trace self (lines_of fields.now) fault e.0)) }
     {
+        if self.due > 0 {
+            let due = self.due;
+            return Err(FinishError(self, TrailersError::Due(due)));
+        }
         match end_len(fields, self.writer.capacity()) {
             Ok(len) => match self.end(len, fields) {
                 Ok(writer) => Ok(writer),
@@ -166,7 +195,8 @@ impl<W: TellWrite> ChunkedWriter<W> {
 
     // Ends the body with these trailers, with which its end has so many bytes.
     fn end(mut self, len: usize, fields: &[&[u8]]) -> Result<BufWriter<W>, IntoInnerError<Self>>
-        requires lines { AllByRecursion IsField (lines_of fields.now) }
+        requires between { self.due ≡ 0 }
+        requires lines { AllByRecursion IsTrailer (lines_of fields.now) }
         requires fits { length (body_end (lines_of fields.now)) ≤ self.writer.block.capacity }
         requires len { len ≡ length (body_end (lines_of fields.now)) }
         ensures { MatchResult result (Finishes W.log W.trace self (lines_of fields.now))
@@ -178,6 +208,7 @@ impl<W: TellWrite> ChunkedWriter<W> {
                     mut writer,
                     mut wire,
                     calls: _,
+                    due: _,
                 } = self;
                 put_end(&mut writer, &mut wire, fields);
                 Ok(writer)
@@ -191,12 +222,16 @@ impl<W: TellWrite> ChunkedWriter<W> {
 impl<W: TellWrite> Write for ChunkedWriter<W> {
     ghost contents = { λ c. Some (accepted_of c) };
 
-    /// Takes one chunk in, with all of `payload` where it fits behind what is buffered. Where it doesn't, all that is buffered is
-    /// sent first, and the chunk has as much of it as fits. A chunk is taken to need 20 bytes beside its payload, which are
-    /// those of the longest size. An empty `payload` makes no chunk.
+    /// Takes `payload` in as one chunk. Where that doesn't fit behind what is buffered, all of this is sent first. A chunk is
+    /// taken to need 20 bytes beside its payload, which are those of the longest size. An empty `payload` makes no chunk.
     ///
-    /// An `Err` is that of the sending: no byte of the chunk was taken in, and just what the inner writer took is gone from the
-    /// buffer, so the call can be made again.
+    /// Where the capacity has no room for the chunk either, it is begun: its line goes behind what is buffered, and is sent with
+    /// it, and then the payload goes past the buffer, by one write of the inner writer, which may take less. Further payload goes
+    /// on in the chunk, as long as some of it is [`due`](ChunkedWriter::due), and never beyond its end; a rest that fits is
+    /// buffered.
+    ///
+    /// An `Err` is that of the sending, or of the write past the buffer. No byte of `payload` was taken in, and just what the
+    /// inner writer took is gone from the buffer, so the call can be made again. A chunk may have been begun then.
     fn write(&mut self, payload: &[u8]) -> io::Result<usize>
         ensures bound { WritesAtMost result payload.now }
         ensures bytes { WriteAppends (Some (accepted_of self.old)) (Some (accepted_of self.new)) result payload.now }
@@ -206,11 +241,12 @@ impl<W: TellWrite> Write for ChunkedWriter<W> {
             self.calls.note(&Call::Write(payload, &Ok(0)));
             return Ok(0);
         }
-        make_space(&mut self.writer, AROUND + payload.len())?;
-        let count = payload.len().min(self.writer.capacity() - AROUND);
-        put_chunk(&mut self.writer, &mut self.wire, &payload[..count]);
-        self.calls.note(&Call::Write(payload, &Ok(count)));
-        Ok(count)
+        if self.writer.capacity() - self.writer.buf_len() < AROUND + payload.len() || self.due > 0 {
+            return self.write_outlined(payload);
+        }
+        put_chunk(&mut self.writer, &mut self.wire, payload);
+        self.calls.note(&Call::Write(payload, &Ok(payload.len())));
+        Ok(payload.len())
     }
 
     /// Sends all chunks, and flushes the inner writer. It makes no chunk, and doesn't end the body.

@@ -15,7 +15,7 @@ struct Row<'a>(usize, &'a [&'a [u8]], &'a [&'a [u8]], &'a [u8]);
 
 // Bodies from the documentation of protocols and from the tests of another writer and of a parser, the letters of sizes in lower
 // case. The longest trailers just fit into the buffer.
-static BODIES: [Row<'static>; 8] = [
+static BODIES: [Row<'static>; 10] = [
     Row(
         45,
         &[b"Wiki", b"pedia", b" in\r\n\r\nchunks."],
@@ -48,12 +48,19 @@ Expires: Wed, 21 Oct 2015 07:28:00 GMT\r\n\r\n",
         &[b"Vary: *", b"Content-Type: text/plain"],
         b"5\r\nhello\r\n6\r\n world\r\n0\r\nVary: *\r\nContent-Type: text/plain\r\n\r\n",
     ),
-    // What doesn't fit goes in by chunks of as many bytes as do.
+    // What doesn't fit is one chunk too: with its line sent first, or past the buffer.
+    Row(24, &[b"hello world"], &[], b"b\r\nhello world\r\n0\r\n\r\n"),
     Row(
         24,
-        &[b"hello world"],
+        &[b"h", b"0123456789abcdef0123456789abcde"],
         &[],
-        b"4\r\nhell\r\n4\r\no wo\r\n3\r\nrld\r\n0\r\n\r\n",
+        b"1\r\nh\r\n1f\r\n0123456789abcdef0123456789abcde\r\n0\r\n\r\n",
+    ),
+    Row(
+        21,
+        &[b"0123456789abcdefghijk"],
+        &[],
+        b"15\r\n0123456789abcdefghijk\r\n0\r\n\r\n",
     ),
     Row(31, &[b"hello world"], &[], b"b\r\nhello world\r\n0\r\n\r\n"),
 ];
@@ -124,7 +131,7 @@ fn ends_again<W: TellWrite + Drop>(
 fn writes<W: TellWrite>(body: &mut ChunkedWriter<W>, bytes: &[u8]) -> usize {
     let mut failed = 0usize;
     let mut left = bytes;
-    for _ in 0..10 {
+    for _ in 0..40 {
         match write(body, left) {
             Ok(count) => left = left.get(count..).unwrap_or(b""),
             Err(_) => failed = failed.saturating_add(1),
@@ -179,28 +186,42 @@ impl Run for Row<'_> {
 #[test]
 fn writes_bodies(rt: HostRuntime) -> Result<(), Fail> {
     let met = sweep(rt.alloc(), &BODIES, &[usize::MAX, 3, 1], FAULT)?;
-    assert!(rt; met == Ok(460), "{met:?}");
+    assert!(rt; met == Ok(560), "{met:?}");
     Ok(())
 }
 
-// Trailers that are refused behind a chunk of five bytes in a buffer of 26, and at which line where that is why.
-static REFUSED: [(&[&[u8]], Option<usize>); 9] = [
-    (&[b"A: b", b""], Some(1)),
-    (&[b"A: b\r\nC: d"], Some(0)),
-    (&[b"A: b", b"C: d", b"E: \rf"], Some(2)),
-    (&[b"A"], Some(0)),
-    (&[b"A:", b": b"], Some(1)),
-    (&[b"A : b"], Some(0)),
-    (&[b"0123456789abcdef:123"], None),
-    (&[b"0123456789abcde:", b"A:"], None),
-    (&[b"0123456789abcdef:123", b"\n"], Some(1)),
+// Why trailers are refused: a line is none, or says where the body ends; or they don't fit.
+#[derive(Clone, Copy)]
+enum Refusal {
+    Field(usize),
+    Framing(usize),
+    Long,
+}
+
+// Trailers that are refused behind a chunk of five bytes in a buffer of 26.
+static REFUSED: [(&[&[u8]], Refusal); 14] = [
+    (&[b"A: b", b""], Refusal::Field(1)),
+    (&[b"A: b\r\nC: d"], Refusal::Field(0)),
+    (&[b"A: b", b"C: d", b"E: \rf"], Refusal::Field(2)),
+    (&[b"A"], Refusal::Field(0)),
+    (&[b"A:", b": b"], Refusal::Field(1)),
+    (&[b"A : b"], Refusal::Field(0)),
+    (&[b"0123456789abcdef:123"], Refusal::Long),
+    (&[b"0123456789abcde:", b"A:"], Refusal::Long),
+    (&[b"0123456789abcdef:123", b"\n"], Refusal::Field(1)),
+    (&[b"A: b", b"Content-Length: 5"], Refusal::Framing(1)),
+    (&[b"cONTENT-lENGTH:"], Refusal::Framing(0)),
+    (&[b"transfer-encoding: chunked"], Refusal::Framing(0)),
+    (&[b"Content-Length : 5"], Refusal::Field(0)),
+    (&[b"Transfer-Encoding2: gzip"], Refusal::Long),
 ];
 
 // Whether that is why.
-fn says(why: &TrailersError, index: Option<usize>) -> bool {
-    match (why, index) {
-        (TrailersError::NoField(at), Some(index)) => *at == index,
-        (TrailersError::TooLong, None) => true,
+fn says(why: &TrailersError, refusal: Refusal) -> bool {
+    match (why, refusal) {
+        (TrailersError::NoField(at), Refusal::Field(index)) => *at == index,
+        (TrailersError::Framing(at), Refusal::Framing(index)) => *at == index,
+        (TrailersError::TooLong, Refusal::Long) => true,
         _ => false,
     }
 }
@@ -233,17 +254,17 @@ fn goes_on(mut body: Body) -> io::Result<bool> {
 fn refused<W: TellWrite + Drop>(
     body: ChunkedWriter<W>,
     fields: &[&[u8]],
-    index: Option<usize>,
+    refusal: Refusal,
 ) -> Option<ChunkedWriter<W>> {
     match finish_with(body, fields) {
         Ok(_) => None,
-        Err(FinishError(body, why)) => says(&why, index).then_some(body),
+        Err(FinishError(body, why)) => says(&why, refusal).then_some(body),
     }
 }
 
 // Whether it is as it was.
-fn refuses(alloc: Global, fields: &[&[u8]], index: Option<usize>) -> io::Result<bool> {
-    match refused(hello(alloc)?, fields, index) {
+fn refuses(alloc: Global, fields: &[&[u8]], refusal: Refusal) -> io::Result<bool> {
+    match refused(hello(alloc)?, fields, refusal) {
         Some(body) => goes_on(body),
         None => Ok(false),
     }
@@ -251,9 +272,56 @@ fn refuses(alloc: Global, fields: &[&[u8]], index: Option<usize>) -> io::Result<
 
 #[test]
 fn refuses_trailers(rt: HostRuntime) -> Result<(), Fail> {
-    for (row, (fields, index)) in REFUSED.iter().enumerate() {
-        assert!(rt; refuses(rt.alloc(), fields, *index)?, "row {row}");
+    for (row, (fields, refusal)) in REFUSED.iter().enumerate() {
+        assert!(rt; refuses(rt.alloc(), fields, *refusal)?, "row {row}");
     }
+    Ok(())
+}
+
+fn due<W: TellWrite>(body: &ChunkedWriter<W>) -> usize {
+    body.due()
+}
+
+fn lacks_so(why: &TrailersError, count: usize) -> bool {
+    match why {
+        TrailersError::Due(due) => *due == count,
+        _ => false,
+    }
+}
+
+// The body that comes back from both calls that end one, since so many bytes of a chunk are due.
+fn lacks<W: TellWrite + Drop>(body: ChunkedWriter<W>, count: usize) -> Option<ChunkedWriter<W>> {
+    let Err(IntoInnerError(body, e)) = finish(body) else {
+        return None;
+    };
+    match finish_with(body, &[]) {
+        Ok(_) => None,
+        Err(FinishError(body, why)) => {
+            (lacks_so(&why, count) && e.kind() == ErrorKind::InvalidInput).then_some(body)
+        }
+    }
+}
+
+// Whether a chunk of 32 bytes, as whose line was sent the stream failed, is ended by just as many.
+fn ends_chunk(alloc: Global) -> io::Result<bool> {
+    let mut begun = body(alloc, 24, &[Answer::ServeEach(usize::MAX), FAULT])?;
+    let failed = write(&mut begun, &[b'a'; 32]).is_err() && due(&begun) == 32;
+    let Some(mut begun) = lacks(begun, 32) else {
+        return Ok(false);
+    };
+    let some = write(&mut begun, b"aaaaaaaaaa")? == 10 && due(&begun) == 22;
+    write_all(&mut begun, &[b'a'; 30])?;
+    let all = due(&begun) == 0;
+    let want = b"20\r\naaaaaaaaaaaaaaaaaaaaaaaaaaaaaaaa\r\n8\r\naaaaaaaa\r\n0\r\n\r\n";
+    match finish(begun) {
+        Ok(inner) => Ok(failed && some && all && sends(inner, want)?),
+        Err(_) => Ok(false),
+    }
+}
+
+#[test]
+fn ends_chunks_that_were_begun(rt: HostRuntime) -> Result<(), Fail> {
+    assert!(rt; ends_chunk(rt.alloc())?);
     Ok(())
 }
 

@@ -122,12 +122,15 @@ fn of_cut_bodies(rt: HostRuntime) -> Result<(), Fail> {
 fn of_trailers(rt: HostRuntime) -> Result<(), Fail> {
     let errors = [
         FinishError(7, TrailersError::NoField(7)),
+        FinishError(7, TrailersError::Framing(7)),
         FinishError(7, TrailersError::TooLong),
+        FinishError(7, TrailersError::Due(7)),
         FinishError(7, TrailersError::Io(fault())),
     ];
     let came = lines(rt.alloc(), &errors)?;
     let text = "line 7 of the trailers isn't a name, a colon and a value\n\
-the trailers don't fit into the buffer\ntimed out\n";
+line 7 of the trailers says where the body ends\n\
+the trailers don't fit into the buffer\na chunk lacks 7 bytes\ntimed out\n";
     assert!(rt; came.as_str() == text, "{came}");
     Ok(())
 }
@@ -145,7 +148,9 @@ fn as_io_errors(rt: HostRuntime) {
     assert!(rt; kind_of(ChunkedError::NotChunked(BadSize, 7)) == ErrorKind::InvalidData);
     let refused = |why| kind_of(FinishError(7, why));
     assert!(rt; refused(TrailersError::NoField(7)) == ErrorKind::InvalidInput);
+    assert!(rt; refused(TrailersError::Framing(7)) == ErrorKind::InvalidInput);
     assert!(rt; refused(TrailersError::TooLong) == ErrorKind::InvalidInput);
+    assert!(rt; refused(TrailersError::Due(7)) == ErrorKind::InvalidInput);
     assert!(rt; refused(TrailersError::Io(fault())) == ErrorKind::TimedOut);
 }
 

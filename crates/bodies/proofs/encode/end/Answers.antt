@@ -1,6 +1,6 @@
 use Rattle.std.proofs.Common.{[]}
 use Rattle.chunked.specs.Chunk.{body_end}
-use Rattle.bodies.proofs.EncodingCalls.{ends_badly, ends_well, put_quietly}
+use Rattle.bodies.proofs.EncodingCalls.{ends_badly, ends_not, ends_well, put_quietly}
 use Rattle.bodies.proofs.encode.end.Goals as goal
 
 pub returns-in-Ok-flush : goal.returns-in-Ok-flush
@@ -18,3 +18,9 @@ returns-in-Err-flush g c =
     (put_quietly g.W.Tell.log g.W.TellWrite.trace c.args.body.writer c.in-Ok.target (body_end []) (body_end []) _ end.fits
     end.full)
     c.in-Err-flush.e c.in-Err-flush.ensures.flushed
+
+pub returns-in-Err : goal.returns-in-Err
+returns-in-Err g c =
+    rw c.into_inner.ensures
+    (ends_not g.W.Tell.log g.W.TellWrite.trace c.args.body c.in-Err.field-0.0 c.requires.between c.in-Err.field-0.1
+    c.in-Err.ensures)

@@ -2,5 +2,5 @@ use Rattle.chunked.proofs.Written.{written_body}
 use Rattle.chunked.proofs.laws.written_body.Goals as goal
 
 pub returns : goal.returns
-returns g c = λ first last payloads fields wrote limits h lets.
-    written_body g.W.Tell.log g.W.TellWrite.trace first payloads fields c.args.writer.now last wrote h limits lets
+returns g c = λ first last payload fields wrote limits h lets.
+    written_body g.W.Tell.log g.W.TellWrite.trace first payload fields c.args.writer.now last wrote h limits lets

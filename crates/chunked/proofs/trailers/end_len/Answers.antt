@@ -1,8 +1,7 @@
-use Rattle.std.proofs.Common.{◌≡◌, ℕ, ◌+◌, ◌-◌, ◌^◌, ◌<◌, ◌≤◌, List, Bor, length, min, take, ap, subst, arith, rules}
+use Rattle.std.proofs.Common.{◌≡◌, ℕ, ◌+◌, ◌-◌, ◌^◌, ◌<◌, ◌≤◌, List, Bor, length, min, take, ap, subst, arith, rules, refl}
 use Rattle.std.specs.List.{AllByRecursion}
-use Rattle.chunked.specs.Body.{IsField}
 use Rattle.chunked.specs.Chunk.{body_end}
-use Rattle.chunked.specs.Trailers.{lines_of}
+use Rattle.chunked.specs.Trailers.{IsFraming, IsTrailer, lines_of}
 use Rattle.chunked.proofs.Fields.{all_lines, front, front_len, front_more_len, inside, line_at, lines_more}
 use Rattle.chunked.proofs.trailers.end_len.Goals as goal
 
@@ -22,7 +21,7 @@ loop-i-preserved c =
     let there = inside fields i within in
     let is = line_at fields i within in
     record {
-      lines = lines_more (lines_of fields) i there before.lines (subst IsField is (search rules));
+      lines = lines_more (lines_of fields) i there before.lines (subst IsTrailer is (search rules));
       counted = omega (
         arith,
         before.counted,
@@ -33,11 +32,22 @@ loop-i-preserved c =
       );
     }
 
+pub returns-then-is_framing-clause-cannot : goal.returns-then-is_framing-clause-cannot
+returns-then-is_framing-clause-cannot c =
+    let fields = c.args.fields.now in
+    let i = c.loop-i.i in (
+      refl,
+      inside fields i c.loop-i-test.true,
+      c.loop-i.invariant.lines,
+      subst IsFraming (line_at fields i c.loop-i-test.true) (c.is_framing.ensures.0 c.if-is_framing.true),
+    )
+
 pub returns-then-len-capacity-clause-cannot : goal.returns-then-len-capacity-clause-cannot
 returns-then-len-capacity-clause-cannot c =
     let fields = c.args.fields.now in
     let all = all_lines fields c.loop-i.i c.loop-i-test.false in (
-      subst (AllByRecursion IsField) all c.loop-i.invariant.lines,
+      refl,
+      subst (AllByRecursion IsTrailer) all c.loop-i.invariant.lines,
       omega (
         arith,
         c.if-len-capacity.true,
@@ -49,7 +59,7 @@ returns-then-len-capacity-clause-cannot c =
 
 pub returns-clause-lines : goal.returns-clause-lines
 returns-clause-lines c =
-    subst (AllByRecursion IsField) (all_lines c.args.fields.now c.loop-i.i c.loop-i-test.false) c.loop-i.invariant.lines
+    subst (AllByRecursion IsTrailer) (all_lines c.args.fields.now c.loop-i.i c.loop-i-test.false) c.loop-i.invariant.lines
 
 pub returns-clause-fits : goal.returns-clause-fits
 returns-clause-fits c =

@@ -15,7 +15,7 @@ returns-in_err-count g c =
     (not_passed g.R.TellRead.remaining g.W.Tell.log g.W.TellWrite.trace g.met.W.TellWrite.trace_none
     g.met.W.TellWrite.trace_joins s c.requires
     (some_of _ (sym c.if-is_empty.false ∙ c.is_empty.ensures ∙ ap (λ l. length l == 0) c.buffer.ensures.value))
-    c.write.new.self e
+    c.buffer.ensures.whole c.write.new.self e
     (subst (λ l. WritesChunk g.W.Tell.log g.W.TellWrite.trace s.target l (Err e) c.write.new.self) c.buffer-2.ensures.value
     c.in_err-count.ensures.writes))
 
@@ -26,9 +26,10 @@ returns g c =
     passed g.R.TellRead.remaining g.W.Tell.log g.W.TellWrite.trace g.met.W.TellWrite.trace_none
     g.met.W.TellWrite.trace_joins s c.requires
     (some_of _ (sym c.if-is_empty.false ∙ c.is_empty.ensures ∙ ap (λ l. length l == 0) c.buffer.ensures.value))
-    c.write.new.self n
+    c.buffer.ensures.whole c.write.new.self n
     (subst (λ l. n ≤ length l) c.buffer-2.ensures.value c.in_ok-count.ensures.bound)
     (subst (λ l. WritesChunk g.W.Tell.log g.W.TellWrite.trace s.target l (Ok n) c.write.new.self) c.buffer-2.ensures.value
     c.in_ok-count.ensures.writes)
     c.consume.new.self (ReaderConsumes-along g.R.TellRead.remaining std_read_rules s.source n c.consume.new.self
     c.consume.ensures.inner c.consume.ensures.consumed) c.consume.ensures.consumed.told
+    (ap (λ b. b.capacity) c.consume.ensures.consumed.told_policy.allowed.1 ∙ c.consume.ensures.consumed.dropped.capacity)

@@ -1,0 +1,398 @@
+-- What payload that goes on in a chunk does, and what a chunk does that is begun.
+use Rattle.std.proofs.Common.{◌≡◌, ℕ, zero, suc, ◌+◌, ◌-◌, ◌^◌, ◌<◌, ◌≤◌, ◌⊎◌, List, [], ◌∷◌, ◌++◌, length, min, take, Result, Ok, Err, MatchResult, sym, ap, subst, ◌∙◌, arith, inl, inr, refl, append_assoc, append-nil, length-append}
+use Rattle.std.proofs.lemmas.Bool.{cases_lt}
+use Rattle.std.proofs.lemmas.List.{length-take, length-take-le, take_all}
+use Rattle.std.specs.declared.io.Error.{Error}
+use Rattle.std.specs.Io.{WritesAtMost}
+use Rattle.buffer_redux.specs.Block.{IsBlock, MakesRoom}
+use Rattle.buffer_redux.specs.Buffered.{Buffered, GoesDirect, with_block}
+use Rattle.buffer_redux.specs.BufWriter.{WritesInOrder}
+use Rattle.buffer_redux.specs.StreamLog.{StreamLog, after_write, portion}
+use Rattle.buffer_redux.specs.WriteParts.{PutsIn, room}
+use Rattle.buffer_redux.specs.declared.policy.StdPolicy.{StdPolicy}
+use Rattle.chunked.specs.Body.{line_end}
+use Rattle.chunked.specs.Chunk.{HasBegun, IsChunks, chunk_begun, chunk_end}
+use Rattle.chunked.specs.ChunkLaws.{HasBegun-begins, HasBegun-ends, HasBegun-more, size_digits-few}
+use Rattle.chunked.specs.ChunkedWriter.{Begins, BeginsChunk, ChunkedWriterState, GoesOn, IsChunkedWriter, IsNoted, MakesSpace, PayloadWent, TakesPart, WentOn, WritesChunk, accepted_of, around, greatest}
+use Rattle.chunked.specs.ChunkedWriterLaws.{PayloadWent-joins}
+use Rattle.chunked.proofs.Writing.{WentIn, nothing_went, payload_went, puts_went, space_went, went_on}
+
+-- behind the last byte the line ends
+pub chunk_end_more : (due : ℕ) → 0 < due → chunk_end due ≡ []
+chunk_end_more zero some = absurd (omega (arith, some))
+chunk_end_more (suc due) some = refl
+
+chunk_end_last : (due : ℕ) → due ≡ 0 → chunk_end due ≡ line_end []
+chunk_end_last due none = ap chunk_end none
+
+pub puts_nothing : {S : Type 0} (s : Buffered S StdPolicy) → IsBlock s.block → (due : ℕ) → 0 < due
+    → PutsIn s (chunk_end due) s
+puts_nothing s whole due some = subst (λ l. PutsIn s l s) (sym (chunk_end_more due some)) (record {
+  others = refl;
+  added = sym (append-nil s.block.bytes);
+  capacity = refl;
+  limit = refl;
+  kind = refl;
+  consumed = refl;
+  whole = whole;
+})
+
+-- room was made
+pub puts_roomy : {S : Type 0} (s t : Buffered S StdPolicy) → MakesRoom s.block t.block → t ≡ with_block s t.block
+    → IsBlock t.block → PutsIn s [] t
+puts_roomy s t room others whole = record {
+  others = others;
+  added = room.bytes ∙ sym (append-nil s.block.bytes);
+  capacity = room.capacity;
+  limit = room.limit;
+  kind = room.kind;
+  consumed = room.consumed;
+  whole = whole;
+}
+
+-- as much as is due, and no more, is a beginning of all
+take_due : (n due : ℕ) (payload : List ℕ) → n ≤ due → take n (take due payload) ≡ take n payload
+take_due zero due payload within = refl
+take_due (suc n) zero payload within = absurd (omega (arith, within))
+take_due (suc n) (suc due) [] within = refl
+take_due (suc n) (suc due) (x ∷ payload) within = ap (λ l. x ∷ l) (take_due n due payload (omega (arith, within)))
+
+pub take_min : (due : ℕ) (payload : List ℕ) → take (min (length payload) due) payload ≡ take due payload
+take_min due payload = elim (cases_lt (length payload) due) [
+  | inl less ↦
+      let all : min (length payload) due ≡ length payload = omega (arith, less) in
+      ap (λ n. take n payload) all ∙ take_all (length payload) payload (omega arith)
+      ∙ sym (take_all due payload (omega (arith, less)))
+  | inr more ↦
+      let all : min (length payload) due ≡ due = omega (arith, more) in
+      ap (λ n. take n payload) all
+]
+
+module _ {S : Type 0} (tells : S → StreamLog) (trace : S → S → Type 0) (none : (a : S) → trace a a)
+    (joins : (a b c : S) → trace a b → trace b c → trace a c) where
+  -- space was made for a part, and it was taken in, or it wasn't
+  module _ (s m t : Buffered S StdPolicy) (part : List ℕ) (made : MakesSpace tells trace (length part + 2) s (Ok tt) m) where
+    same_capacity : m.block.capacity ≡ s.block.capacity
+    same_capacity = elim (cases_lt (room s) (length part + 2)) [
+      | inl full ↦ (made.full full).capacity
+      | inr there ↦ ap (λ x. x.block.capacity) (made.fits there).1
+    ]
+
+    has_room : length part + 2 ≤ s.block.capacity → length part + 2 ≤ room m
+    has_room small = elim (cases_lt (room s) (length part + 2)) [
+      | inl full ↦ omega (arith, small, ap length (made.full full).ok.empty, (made.full full).capacity)
+      | inr there ↦ omega (arith, there, ap room (made.fits there).1)
+    ]
+
+    pub goes_past : room m < length part + 2 → (answer : Result ℕ Error) → GoesDirect after_write m part answer t
+        → trace m.inner t.inner → TakesPart tells trace s part answer t
+    goes_past none answer direct calls = record {
+      sending = Ok tt;
+      spaced = m;
+      makes_space = made;
+      inside = λ _ small. absurd (omega (arith, has_room small, none));
+      past = λ _ _. (direct, calls);
+      failed = λ e is. absurd (let odd : ◌≡◌ {A = Result (Unit {0}) Error} (Ok tt) (Err e) = is in cc);
+    }
+
+    pub goes_inside : length part + 2 ≤ room m → PutsIn m part t → TakesPart tells trace s part (Ok (length part)) t
+    goes_inside there puts = record {
+      sending = Ok tt;
+      spaced = m;
+      makes_space = made;
+      inside = λ _ _. (refl, puts);
+      past = λ _ large. absurd (omega (arith, large, there, same_capacity));
+      failed = λ e is. absurd (let odd : ◌≡◌ {A = Result (Unit {0}) Error} (Ok tt) (Err e) = is in cc);
+    }
+
+  pub takes_nothing : (s m : Buffered S StdPolicy) (part : List ℕ) (e : Error)
+      → MakesSpace tells trace (length part + 2) s (Err e) m → TakesPart tells trace s part (Err e) m
+  takes_nothing s m part e made = record {
+    sending = Err e;
+    spaced = m;
+    makes_space = made;
+    inside = λ is _. absurd (let odd : ◌≡◌ {A = Result (Unit {0}) Error} (Err e) (Ok tt) = is in cc);
+    past = λ is _. absurd (let odd : ◌≡◌ {A = Result (Unit {0}) Error} (Err e) (Ok tt) = is in cc);
+    failed = λ e' is. (let same : ◌≡◌ {A = Result (Unit {0}) Error} (Err e) (Err e') = is in cc, refl);
+  }
+
+  -- the same of a writer that is known by another name
+  pub same_whole : (v s : ChunkedWriterState S) → v ≡ s → IsChunkedWriter v → IsChunkedWriter s
+  same_whole v s same h = subst IsChunkedWriter same h
+
+  pub same_on : (v s t : ChunkedWriterState S) (payload : List ℕ) (answer : Result ℕ Error) → v ≡ s
+      → WentOn tells trace v payload answer t → WentOn tells trace s payload answer t
+  same_on v s t payload answer same h = subst (λ c. WentOn tells trace c payload answer t) same h
+
+  pub same_begins : (v s t : ChunkedWriterState S) (size : ℕ) (answer : Result (Unit {0}) Error) → v ≡ s
+      → Begins tells trace size v answer t → Begins tells trace size s answer t
+  same_begins v s t size answer same h = subst (λ c. Begins tells trace size c answer t) same h
+
+  -- past an empty buffer
+  past_went : (s t : Buffered S StdPolicy) (part : List ℕ) (answer : Result ℕ Error) → IsBlock s.block → s.block.bytes ≡ []
+      → GoesDirect after_write s part answer t → trace s.inner t.inner → WentIn trace s (portion part answer) t
+  past_went s t part answer whole empty direct calls = record {
+    in_order = record {
+      sent = portion part answer;
+      received = ap (λ l. l.writes.received) direct.told;
+      equal = ap (λ b. portion part answer ++ b.bytes) direct.block ∙ ap (λ l. portion part answer ++ l) empty
+          ∙ append-nil (portion part answer) ∙ ap (λ l. l ++ portion part answer) (sym empty);
+      consumed = omega (arith, ap (λ b. b.consumed) direct.block);
+    };
+    went = calls;
+    capacity = ap (λ b. b.capacity) direct.block;
+    limit = ap (λ b. b.limit) direct.block;
+    whole = subst IsBlock (sym direct.block) whole;
+  }
+
+  -- a part that was taken in, or not; and the end of a line fits behind it
+  pub record PartWent (s : Buffered S StdPolicy) (part : List ℕ) (answer : Result ℕ Error) (t : Buffered S StdPolicy)
+      : Type 0 where
+    pub went : WentIn trace s (portion part answer) t
+    pub room : around < s.block.capacity → MatchResult answer (λ _. 2 ≤ room t) (λ _. Unit {0})
+
+  module _ (s m t : Buffered S StdPolicy) (part : List ℕ) (whole : IsBlock s.block)
+      (made : MakesSpace tells trace (length part + 2) s (Ok tt) m) where
+    spaced : WentIn trace s [] m
+    spaced = space_went tells trace none joins s m (length part + 2) (Ok tt) whole made
+
+    put_inside : length part + 2 ≤ s.block.capacity → PutsIn m part t → PartWent s part (Ok (length part)) t
+    put_inside small puts = record {
+      went = subst (λ l. WentIn trace s l t) (sym (take_all (length part) part (omega arith)))
+          (went_on tells trace none joins s m t [] part spaced (puts_went tells trace none joins m t part puts));
+      room = λ _.
+          let there = has_room s m t part made small in
+          omega (arith, there, puts.capacity, ap length puts.added, length-append m.block.bytes part);
+    }
+
+    empty_there : s.block.capacity < length part + 2 → m.block.bytes ≡ []
+    empty_there large = (made.full (omega (arith, large))).ok.empty
+
+    put_past : s.block.capacity < length part + 2 → (answer : Result ℕ Error) → GoesDirect after_write m part answer t
+        → trace m.inner t.inner → PartWent s part answer t
+    put_past large answer direct calls = record {
+      went = went_on tells trace none joins s m t [] (portion part answer) spaced
+          (past_went m t part answer spaced.whole (empty_there large) direct calls);
+      room = λ some. roomy some answer;
+    }
+      where
+        roomy : around < s.block.capacity → (answer : Result ℕ Error) → MatchResult answer (λ _. 2 ≤ room t) (λ _. Unit {0})
+        roomy some (Ok n) = omega (
+          arith,
+          some,
+          spaced.capacity,
+          ap (λ b. b.capacity) direct.block,
+          ap (λ b. length b.bytes) direct.block,
+          ap length (empty_there large),
+        )
+        roomy some (Err e) = tt
+
+  pub part_went : (s t : Buffered S StdPolicy) (part : List ℕ) (answer : Result ℕ Error) → IsBlock s.block
+      → TakesPart tells trace s part answer t → PartWent s part answer t
+  part_went s t part answer whole takes = by_sending takes.sending refl takes.makes_space
+    where
+      by_sending : (sending : Result (Unit {0}) Error) → takes.sending ≡ sending
+          → MakesSpace tells trace (length part + 2) s sending takes.spaced → PartWent s part answer t
+      by_sending (Ok _) is made = elim (cases_lt s.block.capacity (length part + 2)) [
+        | inl large ↦
+            let past = takes.past is large in
+            put_past s takes.spaced t part whole made large answer past.0 past.1
+        | inr small ↦
+            let inside = takes.inside is small in
+            subst (λ a. PartWent s part a t) (sym inside.0) (put_inside s takes.spaced t part whole made small inside.1)
+      ]
+      by_sending (Err e) is made =
+          let failed = takes.failed e is in
+          subst (λ a. PartWent s part a t) (sym failed.0) (subst (λ x. PartWent s part (Err e) x) (sym failed.1) (record {
+            went = space_went tells trace none joins s takes.spaced (length part + 2) (Err e) whole made;
+            room = λ _. tt;
+          }))
+
+  -- payload went on in a chunk
+  module _ (s : ChunkedWriterState S) (is : IsChunkedWriter s) (within : 0 < s.due) (payload : List ℕ) where
+    -- so many bytes of it
+    module _ (n : ℕ) (count : n ≤ length payload) (below : n ≤ s.due) (m : Buffered S StdPolicy)
+        (part : WentIn trace s.writer (take n (take s.due payload)) m) (t : ChunkedWriterState S)
+        (left : t.due ≡ s.due - n) (ends : PutsIn m (chunk_end t.due) t.writer)
+        (wired : t.wire ≡ s.wire ++ (take n payload ++ chunk_end t.due))
+        (noted : t.calls ≡ after_write s.calls payload (Ok n)) where
+      long : length (take n payload) ≡ n
+      long = length-take-le n payload count
+
+      went_in : WentIn trace s.writer (take n payload ++ chunk_end t.due) t.writer
+      went_in = subst (λ l. WentIn trace s.writer (l ++ chunk_end t.due) t.writer) (take_due n s.due payload below)
+          (went_on tells trace none joins s.writer m t.writer (take n (take s.due payload)) (chunk_end t.due) part
+          (puts_went tells trace none joins m t.writer (chunk_end t.due) ends))
+
+      accepted : accepted_of t ≡ accepted_of s ++ take n payload
+      accepted = ap (λ l. l.writes.received) noted
+
+      ended : t.due ≡ 0 → IsChunks t.wire (accepted_of t)
+      ended none =
+          subst (λ l. IsChunks l (accepted_of t))
+          (ap (λ l. s.wire ++ (take n payload ++ l)) (sym (chunk_end_last t.due none)) ∙ sym wired)
+          (subst (λ l. IsChunks (s.wire ++ (take n payload ++ line_end [])) l) (sym accepted)
+          (HasBegun-ends s.due s.wire (accepted_of s) (take n payload) (is.begun within) within
+          (omega (arith, none, left, below, long))))
+
+      goes : 0 < t.due → HasBegun t.due t.wire (accepted_of t)
+      goes some =
+          subst (λ d. HasBegun d t.wire (accepted_of t)) (ap (λ k. s.due - k) long ∙ sym left)
+          (subst (λ l. HasBegun (s.due - length (take n payload)) l (accepted_of t))
+          (ap (λ l. s.wire ++ l) (sym (append-nil (take n payload)) ∙ ap (λ l. take n payload ++ l)
+          (sym (chunk_end_more t.due some))) ∙ sym wired)
+          (subst (λ l. HasBegun (s.due - length (take n payload)) (s.wire ++ take n payload) l) (sym accepted)
+          (HasBegun-more s.due s.wire (accepted_of s) (take n payload) (is.begun within) (omega (arith, long, below)))))
+
+      pub goes_whole : IsChunkedWriter t
+      goes_whole = record {
+        whole = ended;
+        begun = goes;
+        block = ends.whole;
+        capacity = omega (arith, went_in.capacity, is.capacity);
+      }
+
+      pub goes_went : PayloadWent trace s (take n payload ++ chunk_end t.due) (take n payload) t
+      goes_went = payload_went tells trace none joins s t (take n payload ++ chunk_end t.due) (take n payload) went_in wired
+          accepted
+
+    -- the same of a writer that takes nothing in
+    stays_whole : (t : ChunkedWriterState S) → WentIn trace s.writer [] t.writer → t.due ≡ s.due → t.wire ≡ s.wire
+        → t.calls ≡ s.calls → IsChunkedWriter t
+    stays_whole t went due wire calls = record {
+      whole = λ none. absurd (omega (arith, none, due, within));
+      begun = λ _. subst (λ d. HasBegun d t.wire (accepted_of t)) (sym due)
+          (subst (λ l. HasBegun s.due l (accepted_of t)) (sym wire)
+          (subst (λ l. HasBegun s.due s.wire l) (ap (λ l. l.writes.received) (sym calls)) (is.begun within)));
+      block = went.whole;
+      capacity = omega (arith, went.capacity, is.capacity);
+    }
+
+    module _ (part : List ℕ) (same : part ≡ take s.due payload) (m : Buffered S StdPolicy) where
+      pub goes_on : (n : ℕ) → n ≤ length part → TakesPart tells trace s.writer part (Ok n) m → (wire : List ℕ)
+          → wire ≡ s.wire ++ take n part → (t : ChunkedWriterState S) → t.due ≡ s.due - n
+          → PutsIn m (chunk_end t.due) t.writer → t.wire ≡ wire ++ chunk_end t.due
+          → t.calls ≡ after_write s.calls payload (Ok n) → WentOn tells trace s payload (Ok n) t
+      goes_on n within' takes wire so_far t left ends wired noted =
+          let long : length part ≡ min s.due (length payload) = ap length same ∙ length-take s.due payload in
+          let count : n ≤ length payload = omega (arith, within', long) in
+          let below : n ≤ s.due = omega (arith, within', long) in
+          let takes : TakesPart tells trace s.writer (take s.due payload) (Ok n) m =
+          subst (λ l. TakesPart tells trace s.writer l (Ok n) m) same takes in
+          let all : t.wire ≡ s.wire ++ (take n payload ++ chunk_end t.due) =
+          wired ∙ ap (λ l. l ++ chunk_end t.due) so_far ∙ append_assoc s.wire (take n part) (chunk_end t.due)
+          ∙ ap (λ l. s.wire ++ (l ++ chunk_end t.due)) (ap (take n) same ∙ take_due n s.due payload below) in
+          let part = (part_went s.writer m (take s.due payload) (Ok n) is.block takes).went in record {
+            goes = record { taken = m; takes = takes; ended = (below, left, ends, all) };
+            went = (take n payload ++ chunk_end t.due, goes_went n count below m part t left ends all noted);
+            noted = noted;
+            whole = goes_whole n count below m part t left ends all noted;
+          }
+
+      pub stops : (e : Error) → TakesPart tells trace s.writer part (Err e) m → (wire : List ℕ) → wire ≡ s.wire ++ []
+          → WentOn tells trace s payload (Err e) (record s { writer = m; wire = wire })
+      stops e takes wire so_far =
+          let takes : TakesPart tells trace s.writer (take s.due payload) (Err e) m =
+          subst (λ l. TakesPart tells trace s.writer l (Err e) m) same takes in
+          let still : wire ≡ s.wire = so_far ∙ append-nil s.wire in
+          let part = (part_went s.writer m (take s.due payload) (Err e) is.block takes).went in
+          let t : ChunkedWriterState S = record s { writer = m; wire = wire } in record {
+            goes = record { taken = m; takes = takes; ended = (refl, refl, still) };
+            went = ([], nothing_went tells trace none joins s t part still refl);
+            noted = refl;
+            whole = stays_whole t part refl still refl;
+          }
+
+  -- a chunk was begun, behind whole ones
+  module _ (s : ChunkedWriterState S) (is : IsChunkedWriter s) (between : s.due ≡ 0) (size : ℕ) (small : size < 2 ^ 62)
+    where
+      pub begun_whole : (some : 0 < size) (m t : Buffered S StdPolicy) → MakesSpace tells trace around s.writer (Ok tt) m
+          → PutsIn m (chunk_begun size []) t → (wire : List ℕ) → wire ≡ s.wire ++ chunk_begun size []
+          → IsChunkedWriter (record s { writer = t; wire = wire; due = size })
+      begun_whole some m t made puts wire wired = record {
+        whole = λ none. absurd (omega (arith, none, some));
+        begun = λ _. subst (λ l. HasBegun size l (accepted_of s)) (sym wired)
+            (HasBegun-begins size s.wire (accepted_of s) small (is.whole between));
+        block = puts.whole;
+        capacity = omega (
+          arith,
+          puts.capacity,
+          (space_went tells trace none joins s.writer m around (Ok tt) is.block made).capacity,
+          is.capacity,
+        );
+      }
+
+      begun_went : (t : ChunkedWriterState S) → Begins tells trace size s (Ok tt) t
+          → PayloadWent trace s (chunk_begun size []) [] t
+      begun_went t b =
+          payload_went tells trace none joins s t (chunk_begun size []) []
+          (went_on tells trace none joins s.writer b.spaced t.writer [] (chunk_begun size [])
+          (space_went tells trace none joins s.writer b.spaced around (Ok tt) is.block b.makes_space)
+          (puts_went tells trace none joins b.spaced t.writer (chunk_begun size []) b.ended.0)) b.ended.1
+          (ap (λ l. l.writes.received) b.calls ∙ sym (append-nil (accepted_of s)))
+
+      not_begun_went : (e : Error) (t : ChunkedWriterState S) → Begins tells trace size s (Err e) t → PayloadWent trace s [] [] t
+      not_begun_went e t b =
+          nothing_went tells trace none joins s t
+          (subst (λ w. WentIn trace s.writer [] w) (sym b.ended.0)
+          (space_went tells trace none joins s.writer b.spaced around (Err e) is.block b.makes_space)) b.ended.1 b.calls
+
+  -- a write within a chunk, and one that begins a chunk
+  module _ (s : ChunkedWriterState S) (payload : List ℕ) (some : 0 < length payload) where
+    pub wrote_on : 0 < s.due → (answer : Result ℕ Error) (t : ChunkedWriterState S) → WentOn tells trace s payload answer t
+        → WritesChunk tells trace s payload answer t
+    wrote_on within answer t went = record {
+      went = went.went;
+      nothing = λ nothing. absurd (omega (arith, nothing, some));
+      chunks = λ between _. absurd (omega (arith, within, between));
+      fits = λ _ between _. absurd (omega (arith, within, between));
+      full = λ _ between _ _. absurd (omega (arith, within, between));
+      begins = λ between _. absurd (omega (arith, within, between));
+      goes_on = λ _ _. went.goes;
+      noted = went.noted;
+      whole = went.whole;
+    }
+
+    noted_on : (b t : ChunkedWriterState S) (answer : Result ℕ Error) → b.calls ≡ s.calls → IsNoted b payload answer t
+        → IsNoted s payload answer t
+    noted_on b t (Ok n) same noted = noted ∙ ap (λ l. after_write l payload (Ok n)) same
+    noted_on b t (Err e) same noted = noted ∙ same
+
+    module _ (is : IsChunkedWriter s) (between : s.due ≡ 0) (large : s.writer.block.capacity < around + length payload) where
+      abbrev size : ℕ
+      size = min (length payload) greatest
+
+      small : size < 2 ^ 62
+      small = omega arith
+
+      pub wrote_begun : (b : ChunkedWriterState S) → Begins tells trace size s (Ok tt) b → (answer : Result ℕ Error)
+          (t : ChunkedWriterState S) → WentOn tells trace b payload answer t → WritesChunk tells trace s payload answer t
+      wrote_begun b begins answer t went = record {
+        went = (
+          chunk_begun size [] ++ went.went.0,
+          PayloadWent-joins trace none joins s b t (chunk_begun size []) went.went.0 [] (portion payload answer)
+              (begun_went s is between size small b begins) went.went.1,
+        );
+        nothing = λ nothing. absurd (omega (arith, nothing, some));
+        chunks = λ _ fits. absurd (omega (arith, fits, large));
+        fits = λ _ _ fits. absurd (omega (arith, fits, large));
+        full = λ _ _ _ fits. absurd (omega (arith, fits, large));
+        begins = λ _ _. record { beginning = Ok tt; begun = b; begins = begins; ended = went.goes };
+        goes_on = λ _ within. absurd (omega (arith, within, between));
+        noted = noted_on b t answer begins.calls went.noted;
+        whole = went.whole;
+      }
+
+      pub not_begun : (e : Error) (t : ChunkedWriterState S) → Begins tells trace size s (Err e) t → IsChunkedWriter t
+          → WritesChunk tells trace s payload (Err e) t
+      not_begun e t begins whole = record {
+        went = ([], not_begun_went s is between size small e t begins);
+        nothing = λ nothing. absurd (omega (arith, nothing, some));
+        chunks = λ _ fits. absurd (omega (arith, fits, large));
+        fits = λ _ _ fits. absurd (omega (arith, fits, large));
+        full = λ _ _ _ fits. absurd (omega (arith, fits, large));
+        begins = λ _ _. record { beginning = Err e; begun = t; begins = begins; ended = (refl, refl) };
+        goes_on = λ _ within. absurd (omega (arith, within, between));
+        noted = begins.calls;
+        whole = whole;
+      }

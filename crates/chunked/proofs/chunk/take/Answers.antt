@@ -1,0 +1,34 @@
+use Rattle.std.proofs.Common.{[], ap, subst, ◌∙◌, arith, refl}
+use Rattle.buffer_redux.specs.StreamLog.{after_write}
+use Rattle.buffer_redux.specs.WritePartsLaws.{PutsIn-joins}
+use Rattle.chunked.proofs.Going.{goes_inside, goes_past, puts_roomy, takes_nothing}
+use Rattle.chunked.proofs.chunk.take.Goals as goal
+
+pub returns-then-capacity-buf_len-clause-takes : goal.returns-then-capacity-buf_len-clause-takes
+returns-then-capacity-buf_len-clause-takes g c =
+    let m = c.make_space.new.writer in
+    let part = c.args.part.now in
+    goes_past g.W.Tell.log g.W.TellWrite.trace g.met.W.TellWrite.trace_none g.met.W.TellWrite.trace_joins _ m _ part
+    c.in-Ok.ensures (omega (arith, c.if-capacity-buf_len.true, c.capacity.ensures.value, c.buf_len.ensures.value)) _
+    (record {
+      policy = refl;
+      block = refl;
+      bound = c.write_told.ensures.bound;
+      told = c.write_told.ensures.told ∙ ap (λ l. after_write l part c.write_told.result) c.get_mut.ensures.log;
+    })
+    (subst (λ x. g.W.TellWrite.trace x c.write_told.new.self) c.get_mut.ensures.inner c.write_told.ensures.trace)
+
+pub returns-else-capacity-buf_len-clause-takes : goal.returns-else-capacity-buf_len-clause-takes
+returns-else-capacity-buf_len-clause-takes g c =
+    let m = c.make_space.new.writer in
+    goes_inside g.W.Tell.log g.W.TellWrite.trace g.met.W.TellWrite.trace_none g.met.W.TellWrite.trace_joins _ m _
+    c.args.part.now c.in-Ok.ensures
+    (omega (arith, c.if-capacity-buf_len.false, c.capacity.ensures.value, c.buf_len.ensures.value))
+    (PutsIn-joins m c.make_room.new.self c.put.new.self [] c.args.part.now
+    (puts_roomy m c.make_room.new.self c.make_room.ensures.room c.make_room.ensures.others c.make_room.ensures.whole)
+    c.put.ensures.put)
+
+pub returns-in-Err-clause-takes : goal.returns-in-Err-clause-takes
+returns-in-Err-clause-takes g c =
+    takes_nothing g.W.Tell.log g.W.TellWrite.trace g.met.W.TellWrite.trace_none g.met.W.TellWrite.trace_joins _ _ _ _
+    c.in-Err.ensures

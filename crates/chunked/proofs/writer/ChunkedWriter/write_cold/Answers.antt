@@ -1,0 +1,40 @@
+use Rattle.std.proofs.Common.{◌≡◌, ◌+◌, ◌<◌, length, Ok, Err, ap, subst, arith}
+use Rattle.chunked.specs.ChunkedWriter.{Begins, around}
+use Rattle.chunked.proofs.Going.{not_begun, same_whole, wrote_begun}
+use Rattle.chunked.proofs.writer.ChunkedWriter.write_cold.Goals as goal
+
+pub returns-in-Ok-clause-writes : goal.returns-in-Ok-clause-writes
+returns-in-Ok-clause-writes g c =
+    let s = c.args.self.now in
+    let payload = c.args.payload.now in
+    let is = same_whole g.W.Tell.log g.W.TellWrite.trace g.met.W.TellWrite.trace_none g.met.W.TellWrite.trace_joins _ s
+    c.self.view_is c.self.invariant in
+    let between : s.due ≡ 0 = omega (arith, c.if-self-gt0.false, ap (λ x. x.due) c.self.view_is) in
+    let large : s.writer.block.capacity < around + length payload = omega (
+      arith,
+      c.if-payload-capacity.false,
+      c.capacity.ensures.value,
+      ap (λ x. x.writer.block.capacity) c.self.view_is,
+    ) in
+    wrote_begun g.W.Tell.log g.W.TellWrite.trace g.met.W.TellWrite.trace_none g.met.W.TellWrite.trace_joins s payload
+    c.requires.some is between large c.begin.new.self
+    (subst (λ k. Begins g.W.Tell.log g.W.TellWrite.trace k s (Ok tt) c.begin.new.self) c.min.ensures c.in-Ok.ensures.begins)
+    c.go_on-in-Ok.result c.go_on-in-Ok.new.self c.go_on-in-Ok.ensures.went
+
+pub returns-in-Err-clause-writes : goal.returns-in-Err-clause-writes
+returns-in-Err-clause-writes g c =
+    let s = c.args.self.now in
+    let payload = c.args.payload.now in
+    let is = same_whole g.W.Tell.log g.W.TellWrite.trace g.met.W.TellWrite.trace_none g.met.W.TellWrite.trace_joins _ s
+    c.self.view_is c.self.invariant in
+    let between : s.due ≡ 0 = omega (arith, c.if-self-gt0.false, ap (λ x. x.due) c.self.view_is) in
+    let large : s.writer.block.capacity < around + length payload = omega (
+      arith,
+      c.if-payload-capacity.false,
+      c.capacity.ensures.value,
+      ap (λ x. x.writer.block.capacity) c.self.view_is,
+    ) in
+    not_begun g.W.Tell.log g.W.TellWrite.trace g.met.W.TellWrite.trace_none g.met.W.TellWrite.trace_joins s payload
+    c.requires.some is between large c.in-Err.e c.begin.new.self
+    (subst (λ k. Begins g.W.Tell.log g.W.TellWrite.trace k s (Err c.in-Err.e) c.begin.new.self) c.min.ensures
+    c.in-Err.ensures.begins) c.in-Err.ensures.whole
