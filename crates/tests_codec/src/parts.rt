@@ -1,7 +1,7 @@
-//! What decoders are made of: numbers in text, headers, lengths in bytes, also of seven bits, extensions of a chunk's size.
+//! What decoders are made of: numbers in text, headers, lengths in bytes, also of seven bits, fields, extensions of a chunk's size.
 use chunked::Within;
-use codec::{HeaderBytes, Number, ScanOut};
-use decoders::{Varints, Width};
+use codec::{ByHeader, Decoder, Found, HeaderBytes, Number, ScanOut};
+use decoders::{Lengths, Order, Varints, Width};
 use std::test::Fail;
 
 // Texts, and the numbers that they are: without a zero in front, and of at most eighteen digits.
@@ -89,6 +89,28 @@ fn varints(rt: HostRuntime) -> Result<(), Fail> {
     for &(len, bytes) in &VARINTS {
         assert!(rt; is_varint(len, bytes));
     }
+    Ok(())
+}
+
+// The field that some bytes begin with, which has its length in front, in two bytes; and what stands behind it.
+fn field(bytes: &[u8]) -> Option<(&[u8], &[u8])> {
+    let fields = ByHeader(Lengths {
+        width: Width::Two,
+        order: Order::BigEndian,
+        max: 65_535,
+    });
+    match fields.decode(bytes, 0, &mut ()) {
+        Found::Piece(span, used) => {
+            Some((&bytes[span.from..span.from + span.len], &bytes[used..]))
+        }
+        _ => None,
+    }
+}
+
+#[test]
+fn fields(rt: HostRuntime) -> Result<(), Fail> {
+    assert!(rt; field(b"\0\x02hi\x01") == Some((b"hi".as_slice(), b"\x01".as_slice())));
+    assert!(rt; field(b"\0\x02h").is_none());
     Ok(())
 }
 
