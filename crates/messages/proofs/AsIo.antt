@@ -12,7 +12,7 @@ use Rattle.buffer_redux.specs.Policy.{std_read_rules}
 use Rattle.chunked.specs.declared.error.Malformed.{Malformed}
 use Rattle.chunked.specs.declared.place.Place.{Place}
 use Rattle.messages.specs.declared.error.BodyError.{BodyError}
-use Rattle.messages.specs.Messages.{BecomesIo, EachGave, Fails, GoesOn, HasRoom, IsNamed, IsRest, Reader, Takes, body_error, grammar_of, has_line, left_in, room_of, stream_of}
+use Rattle.messages.specs.Messages.{BecomesIo, EachGave, Fails, GoesOn, HasRoom, IsNamed, IsRest, Reader, ReaderTakes, body_error, grammar_of, has_line, left_in, room_of, stream_of}
 use Rattle.messages.proofs.Going.{body_asked, body_done, body_fails, body_kept, body_named, body_room, body_take}
 
 abbrev Reads : {R : Type 0} → (R → Option (List ℕ)) → Reader R → List ℕ → Result ℕ Error → Reader R → Type 0
@@ -35,7 +35,7 @@ module _ {R : Type 0} (remaining : R → Option (List ℕ)) (s t : Reader R) (is
       (body_room is reads.whole reads.went room, body_kept is reads.whole reads.went)
 
   pub io_take : (answer : Result ℕ Error) → Reads remaining s out answer t
-      → Takes remaining (stream_of s) (left_in s) (between.handed_out out answer) (stream_of t) (left_in t)
+      → ReaderTakes remaining s (between.handed_out out answer) t
   io_take (Ok n) reads = body_take is reads.whole reads.went
   io_take (Err e) (why, reads, becomes) = body_take is reads.whole reads.went
 

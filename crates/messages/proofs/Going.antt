@@ -33,7 +33,7 @@ use Rattle.chunked.specs.declared.place.Place.{Place}
 use Rattle.chunked.specs.declared.place.Place.TheVariants.{Data, Done}
 use Rattle.chunked.proofs.Alive.{Completes-some}
 use Rattle.messages.specs.MessagesLaws.{same_room}
-use Rattle.messages.specs.Messages.{Backward, BodyCoding, Bytes, Chunks, Ends, Fails, FinishFails, GoesOn, HasRoom, IsNamed, IsReady, IsRest, IsWrongNext, Onward, Reader, Rest, RunsShort, Takes, Unended, body_error, grammar_of, has_line, left_in, rest_of, room_of, stream_of}
+use Rattle.messages.specs.Messages.{Backward, BodyCoding, Bytes, Chunks, Ends, Fails, FinishFails, GoesOn, HasRoom, IsNamed, IsReady, IsRest, IsWrongNext, Onward, Reader, ReaderTakes, Rest, RunsShort, Unended, body_error, grammar_of, has_line, left_in, rest_of, room_of, stream_of}
 use Rattle.messages.specs.declared.error.BodyError.TheVariants.{Wrong, Io as Fault}
 use Rattle.std.specs.declared.io.Error.{Error}
 
@@ -239,13 +239,18 @@ module _ {R : Type 0} {remaining : R → Option (List ℕ)} {s t : Reader R} (is
   leads : Leads (grammar_of s.coding) s.place went.wire handed t.place (heeded (grammar_of s.coding) t.reader.block.bytes)
   leads = BodyWent-leads remaining std_read_rules (grammar_of s.coding) s t handed is is' went
 
-  pub body_take : Takes remaining (stream_of s) (left_in s) handed (stream_of t) (left_in t)
-  body_take = keep (Takes remaining (stream_of s) (left_in s) handed (stream_of t)) (record {
-    wire = went.wire;
-    went = ReadsAlong-stream remaining std_read_rules s.reader went.wire t.reader went.along;
-    onward = onward_is s.coding s.place t.place went.wire handed t.reader.block.bytes is.place is'.place leads;
-    backward = backward_is s.coding s.place t.place went.wire handed t.reader.block.bytes is.place is'.place leads;
-  })
+  pub body_take : ReaderTakes remaining s handed t
+  body_take = (
+    record {
+      wire = went.wire;
+      went = ReadsAlong-stream remaining std_read_rules s.reader went.wire t.reader went.along;
+      onward = keep (Onward (left_in s) went.wire handed)
+          (onward_is s.coding s.place t.place went.wire handed t.reader.block.bytes is.place is'.place leads);
+      backward = keep (Backward (left_in s) went.wire handed)
+          (backward_is s.coding s.place t.place went.wire handed t.reader.block.bytes is.place is'.place leads);
+    },
+    went.taken,
+  )
 
   pub body_room : HasRoom s → HasRoom t
   body_room (roomy, line) =

@@ -92,7 +92,7 @@ abbrev pub room_of : Block → Room
 room_of b = record { capacity = b.capacity; limit = b.limit }
 
 -- a reader in a body: what the stream has left, how much its buffer takes, what was handed out of the body, as a stream tells
--- it, the head and what that says, and what is left of the body
+-- it, the head and what that says, what is left of the body, and what was taken of it
 pub record InBody (S : Type 0) : Type 0 where
   pub stream : Unbuffered S
   pub room : Room
@@ -100,6 +100,7 @@ pub record InBody (S : Type 0) : Type 0 where
   pub head : List ℕ
   pub said : ParsedHead
   pub rest : Rest
+  pub taken : List ℕ
 
 abbrev pub begun : {S : Type 0} → Buffered S StdPolicy → List ℕ → ParsedHead → InBody S
 begun reader head said = record {
@@ -109,6 +110,7 @@ begun reader head said = record {
   head = head;
   said = said;
   rest = body_of said.extent;
+  taken = [];
 }
 
 -- the reader stands in front of a body, behind its head, which was the next piece
@@ -120,6 +122,7 @@ pub record Begun {S : Type 0} (remaining : S → Option (List ℕ)) (s : ReaderS
   pub fresh : b.calls ≡ no_calls
   pub is : IsHead b.head b.said
   pub rest : b.rest ≡ body_of b.said.extent
+  pub taken : b.taken ≡ []
 
 -- the reader went on behind a head, into the body that it says
 pub record Enters {S : Type 0} (s : ReaderState S Heads) (bytes : List ℕ) (b : InBody S) : Type 0 where
@@ -129,6 +132,7 @@ pub record Enters {S : Type 0} (s : ReaderState S Heads) (bytes : List ℕ) (b :
   pub fresh : b.calls ≡ no_calls
   pub is : IsHead b.head b.said
   pub rest : b.rest ≡ body_of b.said.extent
+  pub taken : b.taken ≡ []
 
 -- why there is no message is the answer of a reader of pieces
 abbrev pub answer_of : Stop → NextAnswer BadHead
@@ -210,6 +214,7 @@ pub record Ends {S : Type 0} (remaining : S → Option (List ℕ)) (s : Unbuffer
 pub record InsideGoes {S : Type 0} (remaining : S → Option (List ℕ)) (s : InBody S) (handed : List ℕ) (t : InBody S)
     : Type 0 where
   pub takes : Takes remaining s.stream s.rest handed t.stream t.rest
+  pub taken : t.taken ≡ s.taken ++ takes.wire
   pub room : t.room ≡ s.room
   pub told : t.calls.reads.given ≡ s.calls.reads.given ++ handed
   pub head : t.head ≡ s.head
@@ -277,6 +282,12 @@ stream_of d = unbuffered d.reader
 
 abbrev pub left_in : {S : Type 0} → Reader S → Rest
 left_in d = rest_of d.coding d.place
+
+-- it took these bytes so
+abbrev pub ReaderTakes : {S : Type 0} → (S → Option (List ℕ)) → Reader S → List ℕ → Reader S → Type 0
+ReaderTakes remaining d handed d' =
+    (takes : Takes remaining (stream_of d) (left_in d) handed (stream_of d') (left_in d'))
+    × (d'.taken ≡ d.taken ++ takes.wire)
 
 -- a plain buffer in which three heads fit, and which grows no further: a reader of heads keeps it, and takes no memory
 pub record IsRoomy (b : Block) : Type 0 where

@@ -109,6 +109,7 @@ module _ {S : Type 0} (remaining : S → Option (List ℕ)) where
     fresh = enters.fresh;
     is = enters.is;
     rest = enters.rest;
+    taken = enters.taken;
   }
 
   pub Begun-went : (s : ReaderState S head.Heads) (b : InBody S) → Begun remaining s b
@@ -123,6 +124,21 @@ module _ {S : Type 0} (remaining : S → Option (List ℕ)) where
     ap (λ u. u.log.reads.faults) begun.stream ∙ begun.next.answers.0,
     ap (λ u. u.log.reads.zero_reads) begun.stream
         ∙ elim begun.next.answers.1 [ inl is ↦ is.2 | inr last ↦ absurd last.0 ],
+  )
+
+  -- with what completes its body it is a message
+  pub Begun-message : (s : ReaderState S head.Heads) (b : InBody S) (wire payload : List ℕ) → Begun remaining s b
+      → IsRest (body_of b.said.extent) wire payload
+      → (m : IsMessage (b.head ++ wire) b.head payload) × (m.wire ≡ wire) × (m.text.said ≡ b.said)
+  Begun-message s b wire payload begun body = (
+    record {
+      wire = wire;
+      equal = refl;
+      text = record (lent s begun.behind b.head begun.next).1 { said = b.said; is = begun.is };
+      body = body;
+    },
+    refl,
+    refl,
   )
 
   -- calls in a body go on
@@ -144,8 +160,10 @@ module _ {S : Type 0} (remaining : S → Option (List ℕ)) where
   }
 
   pub InsideGoes-none : (b : InBody S) → InsideGoes remaining b [] b
+  unfolding Takes-none
   InsideGoes-none b = record {
     takes = Takes-none b.stream b.rest;
+    taken = sym (append-nil b.taken);
     room = refl;
     told = sym (append-nil b.calls.reads.given);
     head = refl;
@@ -154,8 +172,10 @@ module _ {S : Type 0} (remaining : S → Option (List ℕ)) where
 
   pub InsideGoes-joins : (s m t : InBody S) (h k : List ℕ) → InsideGoes remaining s h m → InsideGoes remaining m k t
       → InsideGoes remaining s (h ++ k) t
+  unfolding Takes-joins
   InsideGoes-joins s m t h k a b = record {
     takes = Takes-joins s.stream m.stream t.stream s.rest m.rest t.rest h k a.takes b.takes;
+    taken = b.taken ∙ ap (λ l. l ++ b.takes.wire) a.taken ∙ append_assoc s.taken a.takes.wire b.takes.wire;
     room = b.room ∙ a.room;
     told = b.told ∙ ap (λ l. l ++ k) a.told ∙ append_assoc s.calls.reads.given h k;
     head = b.head ∙ a.head;
@@ -171,12 +191,9 @@ module _ {S : Type 0} (remaining : S → Option (List ℕ)) where
     went = StreamWent-joins remaining (left_of s) b.stream t b.head (takes.wire ++ wire)
         (Begun-went s b begun)
         (StreamWent-joins remaining b.stream m.stream t takes.wire wire takes.went went);
-    are = InTurn-one (λ m first. IsMessage first m.0 m.1) (b.head, handed ++ payload) (b.head ++ (takes.wire ++ wire)) (record {
-      wire = takes.wire ++ wire;
-      equal = refl;
-      text = record (lent s begun.behind b.head begun.next).1 { said = b.said; is = begun.is };
-      body = subst (λ r. IsRest r (takes.wire ++ wire) (handed ++ payload)) begun.rest (takes.onward wire payload is);
-    });
+    are = InTurn-one (λ m first. IsMessage first m.0 m.1) (b.head, handed ++ payload) (b.head ++ (takes.wire ++ wire))
+        (Begun-message s b (takes.wire ++ wire) (handed ++ payload) begun
+        (subst (λ r. IsRest r (takes.wire ++ wire) (handed ++ payload)) begun.rest (takes.onward wire payload is))).0;
   }
 
   pub MessagesWent-joins : (s m t : Unbuffered S) (ms ns : List Message) → MessagesWent remaining s ms m

@@ -1,5 +1,5 @@
 //! The reader of requests, in a body.
-ghost use Rattle.std.specs.Prelude.{◌≡◌, ◌<◌, ◌≤◌, ◌↔◌, ℕ, List, [], ◌++◌, length, take, IfErr, IfOk, IsTrue, MatchResult, None, Ok, OnOk};
+ghost use Rattle.std.specs.Prelude.{◌≡◌, ◌-◌, ◌^◌, ◌<◌, ◌≤◌, ◌↔◌, ℕ, List, [], ◌++◌, length, min, take, IfErr, IfOk, IsTrue, MatchResult, None, Ok, OnOk};
 ghost use Rattle.std.specs.Borrow.{Lends, sem};
 ghost use Rattle.std.specs.Io.{ReadsAtMost};
 ghost use Rattle.std.specs.Io.KnownBytes.{ReadConsumes};
@@ -11,7 +11,7 @@ ghost use Rattle.buffer_redux.specs.Unbuffer.{unbuffered};
 ghost use Rattle.codec.specs.PieceReader.{left_of};
 ghost use Rattle.messages.specs.contracts.body.Body.{the_row};
 ghost use Rattle.messages.specs.Heads.{IsHead};
-ghost use Rattle.messages.specs.Messages.{BecomesIo, EachGave, Ends, Fails, FinishFails, GoesOn, HasRoom, InsideGoes, IsReady, IsRest, IsRoomy, ReadsAsIo, RunsShort, Takes, Unended, begun, body_of, grammar_of, has_line, left_in, rest_of, room_of, stream_of, with_stream};
+ghost use Rattle.messages.specs.Messages.{BecomesIo, EachGave, Ends, Fails, FinishFails, GoesOn, HasRoom, InsideGoes, IsReady, IsRest, IsRoomy, ReadsAsIo, ReaderTakes, RunsShort, Unended, begun, body_of, grammar_of, has_line, left_in, rest_of, room_of, stream_of, with_stream};
 
 use crate::error::{BodyError, unread};
 use crate::head::{Extent, Heads, ParsedHead};
@@ -58,6 +58,7 @@ impl<R: Tell> Model for Body<R> {
       head = b.head.bytes;
       said = b.said;
       rest = left_in b.reader;
+      taken = b.reader.taken;
     } };
 
     ghost invariant = { λ b. (b.head.capacity ≡ 16384) × IsHead b.head.bytes b.said × HasRoom b.reader };
@@ -92,6 +93,14 @@ impl<R: Tell> Body<R> {
         ensures is { IsHead self.now.head result }
     {
         self.said
+    }
+
+    /// How many bytes of the body were taken so far, as far as a `u64` counts: its payload, and in chunks what is none. Who reads
+    /// chunks knows by that how much of them is none, which has no bound but those of a line and of the trailers.
+    pub fn taken(&self) -> u64
+        ensures { result ≡ min (length self.now.taken) (2 ^ 64 - 1) }
+    {
+        self.reader.taken()
     }
 
     /// What is buffered of the stream: the rest of the body comes first.
@@ -269,8 +278,7 @@ fn read<R: TellRead>(
     ensures room { HasRoom reader.new }
     ensures kept { room_of reader.new.reader.block ≡ room_of reader.old.reader.block }
     ensures told { handed_of reader.new ≡ handed_of reader.old ++ handed_out out.new result }
-    ensures takes { Takes R.remaining (stream_of reader.old) (left_in reader.old) (handed_out out.new result)
-        (stream_of reader.new) (left_in reader.new) }
+    ensures takes { ReaderTakes R.remaining reader.old (handed_out out.new result) reader.new }
     ensures ended { result ≡ Ok 0 → 0 < length out.new → IsRest (left_in reader.new) [] [] }
     ensures gave { OnOk result (EachGave (stream_of reader.old) (stream_of reader.new)) }
     ensures fails { IfErr result (λ e. Fails (stream_of reader.old) e (stream_of reader.new) (left_in reader.new)) }
@@ -296,8 +304,7 @@ fn read_told<R: TellRead>(
     ensures room { HasRoom reader.new }
     ensures kept { room_of reader.new.reader.block ≡ room_of reader.old.reader.block }
     ensures told { reader.new.calls ≡ after_read reader.old.calls out.new result }
-    ensures takes { Takes R.remaining (stream_of reader.old) (left_in reader.old) (handed_out out.new result)
-        (stream_of reader.new) (left_in reader.new) }
+    ensures takes { ReaderTakes R.remaining reader.old (handed_out out.new result) reader.new }
     ensures ended { result ≡ Ok 0 → 0 < length out.new → IsRest (left_in reader.new) [] [] }
     ensures gave { OnOk result (EachGave (stream_of reader.old) (stream_of reader.new)) }
     ensures fails { IfErr result (λ e. (why : BodyError)
@@ -315,8 +322,7 @@ fn read_buffered<R: TellRead>(reader: &mut BodyReader<R, BodyCoding>, out: &mut 
     ensures room { HasRoom reader.new }
     ensures kept { room_of reader.new.reader.block ≡ room_of reader.old.reader.block }
     ensures told { handed_of reader.new ≡ handed_of reader.old ++ take result out.new }
-    ensures takes { Takes R.remaining (stream_of reader.old) (left_in reader.old) (take result out.new)
-        (stream_of reader.new) (left_in reader.new) }
+    ensures takes { ReaderTakes R.remaining reader.old (take result out.new) reader.new }
     ensures unasked { (stream_of reader.new).log ≡ (stream_of reader.old).log }
     ensures all { RunsShort (length out.new) result (left_in reader.new) (stream_of reader.new).left }
 {
@@ -334,7 +340,7 @@ fn finish<R: TellRead>(
         (λ e. room_of e.0.reader.block ≡ room_of reader.reader.block) }
     ensures ends { MatchResult result (λ rest. Ends R.remaining (stream_of reader) (left_in reader) (unbuffered rest))
         (λ e. (handed : List ℕ)
-        × Takes R.remaining (stream_of reader) (left_in reader) handed (stream_of e.0) (left_in e.0)
+        × ReaderTakes R.remaining reader handed e.0
         × FinishFails (stream_of reader) handed e.1 (stream_of e.0) (left_in e.0)
         × (handed_of e.0 ≡ handed_of reader ++ handed)) }
     ensures asked { MatchResult result

@@ -7,7 +7,14 @@ returns-in-Err g c =
     rw (← c.self.view_is) (record {
       ends = (
         failed.0,
-        record { takes = failed.1; room = c.in-Err.ensures.kept; told = failed.3; head = refl; said = refl },
+        record {
+          takes = failed.1.0;
+          taken = failed.1.1;
+          room = c.in-Err.ensures.kept;
+          told = failed.3;
+          head = refl;
+          said = refl;
+        },
         failed.2,
       );
       room = tt;

@@ -45,5 +45,6 @@ returns g c =
       fresh = refl;
       is = subst (λ l. IsHead l said) (sym lent) c.in-Ok.ensures.head;
       rest = refl;
+      taken = refl;
     } in
     rw c.new.ensures (subst (λ x. Enters x (bytes_at c.args.span x.reader.block.bytes) (begun c.with_buffer.result head said)) c.self.view_is enters)

@@ -1,0 +1,14 @@
+use Rattle.std.proofs.Common.{refl}
+use Rattle.messages.proofs.body.Body.read_buffered.Goals as goal
+
+pub returns-clause-goes : goal.returns-clause-goes
+returns-clause-goes g c =
+    rw (← c.self.view_is)
+    (record {
+      takes = c.read_buffered.ensures.takes.0;
+      taken = c.read_buffered.ensures.takes.1;
+      room = c.read_buffered.ensures.kept;
+      told = c.read_buffered.ensures.told;
+      head = refl;
+      said = refl;
+    })
