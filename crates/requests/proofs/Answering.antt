@@ -1,5 +1,5 @@
 -- Answers, one after another.
-use Rattle.std.proofs.Common.{◌≡◌, ◌⊎◌, ℕ, ◌+◌, Bool, true, List, [], ◌∷◌, ◌++◌, length, Option, None, Some, IfSome, Result, Ok, Err, OnOk, IfErr, sym, ap, subst, inl, inr, ◌∙◌, refl, arith, append_assoc, append-nil, length-append}
+use Rattle.std.proofs.Common.{◌≡◌, ◌⊎◌, ℕ, ◌+◌, Bool, true, false, List, [], ◌∷◌, ◌++◌, length, Option, None, Some, IfSome, Result, Ok, Err, OnOk, IfErr, sym, ap, subst, inl, inr, ◌∙◌, refl, arith, append_assoc, append-nil, length-append}
 use Rattle.std.proofs.lemmas.List.Elements.{All-nil}
 use Rattle.std.specs.declared.io.Error.{Error}
 use Rattle.redux_buffer.specs.Faults.{OnlyInterrupts}
@@ -12,19 +12,20 @@ use Rattle.codec.specs.PieceReader.{ReaderState, left_of}
 use Rattle.messages.specs.declared.error.BodyError.TheVariants.{Wrong, Truncated, Io}
 use Rattle.messages.specs.declared.head.Heads.{Heads}
 use Rattle.messages.specs.declared.head.ParsedHead.{ParsedHead}
-use Rattle.messages.specs.Messages.{Begun, InBody, InsideGoes, IsMessage, Message}
-use Rattle.messages.specs.MessagesLaws.{Begun-went, InTurn-joins, InTurn-one, MessagesWent-one, Takes-none}
+use Rattle.messages.specs.Messages.{Begun, InBody, InsideGoes, IsRest, Message}
+use Rattle.messages.specs.MessagesLaws.{Begun-message, Begun-went, InTurn-joins, InTurn-one}
 use Rattle.programs.specs.Streams.{EndsOnce}
 use Rattle.requests.specs.declared.Ending.{Ending}
 use Rattle.requests.specs.declared.Ending.TheVariants as stop
 use Rattle.requests.specs.declared.Ending.TheVariants.{Over, Unread}
 use Rattle.requests.specs.declared.Place.{Place}
 use Rattle.requests.specs.declared.Place.TheVariants.{Before, Inside}
-use Rattle.requests.specs.declared.Untaken.{Untaken}
+use Rattle.requests.specs.declared.taking.Untaken.{Untaken}
 use Rattle.requests.specs.declared.writing.Refusal.{Refusal}
-use Rattle.requests.specs.declared.writing.Refusal.TheVariants.{BadRequest}
-use Rattle.requests.specs.declared.Untaken.TheVariants.{Body, Unsent, Many}
-use Rattle.requests.specs.Answers.{Answers, EndsBody, EndsBy, Continues, FailsLast, IsLast, IsLastAnswer, IsAnswer, IsMany, IsOver, IsPart, IsWrong, Keeps, Runs, TakeFails, TakesWhole, answered, call_at, called, ending_of, faults_of, is_known, refusal, refused, sending_of, sent_till, stream_at, waits}
+use Rattle.requests.specs.declared.writing.Refusal.TheVariants.{BadRequest, LargeBody}
+use Rattle.requests.specs.declared.taking.Untaken.TheVariants.{Body, Large, Unsent, Many}
+use Rattle.requests.specs.Answers.{Answers, EndsBody, EndsBy, Continues, FailsLast, IsLast, IsLastAnswer, IsAnswer, IsMany, IsOver, IsPart, IsTaken, IsWrong, Keeps, Runs, TakeFails, TakesWhole, answered, call_at, called, ending_of, faults_of, is_known, refusal, refused, sending_of, sent_till, stream_at, waits}
+use Rattle.requests.specs.Large.{is_large}
 use Rattle.requests.specs.Sending.{IsUnflushed, Puts, Writes}
 use Rattle.requests.proofs.Reading.{IsMany-still, IsOver-still, IsWrong-still, each_wrong, ReadFails-still, begun_once, begun_steady, is_part, joined}
 use Rattle.requests.proofs.Sending.{Puts-after, Writes-after, Writes-put, on_ok}
@@ -78,7 +79,7 @@ module _ {W : Type 0} {tells : W → StreamLog} {trace : W → W → Type 0} whe
       pub Runs-ended : (refuses : Option Refusal) (sending : Result (Unit {0}) Error)
           → Answers remaining tells trace messages s w taken (call_at place ++ refused refuses)
           (IsLast messages taken refuses place) (stream_at place) sending w'
-          → IfSome refuses (IsWrong s place)
+          → IfSome refuses (IsWrong s place handed)
           → OnOk sending (OnlyInterrupts (faults_of s) (faults_of (stream_at place)) × IsOver messages taken refuses s place)
           → Runs remaining tells trace s w place (ending_of sending) w'
       Runs-ended refuses (Ok x) answers wrong over = record {
@@ -127,23 +128,24 @@ module _ {W : Type 0} {tells : W → StreamLog} {trace : W → W → Type 0} whe
       module _ {s : ReaderState R Heads} {b t : InBody R} {handed : List ℕ} (begun : Begun remaining s b)
           (goes : InsideGoes remaining b handed t) {w u : Buffered W StdPolicy}
           (call : Writes tells trace (left_of s, w) (called (waits b.said)) (Ok tt) (b.stream, u)) where
-        refused_torn : {v w' : Buffered W StdPolicy} (answer : Result (Unit {0}) Error) → EndsOnce b.stream.log.reads t.stream.log.reads
-            → OnlyInterrupts (faults_of b.stream) (faults_of t.stream) → IsWrong b.stream (Inside t) BadRequest
-            → Writes tells trace (b.stream, u) [] (Ok tt) (t.stream, v) → Puts tells trace v (refusal BadRequest) answer w'
-            → IsUnflushed v w' → Runs remaining tells trace (left_of s) w (Inside t) (ending_of answer) w'
-        refused_torn {v} {w'} answer once reads torn on puts unflushed =
+        refused_torn : {v w' : Buffered W StdPolicy} (why : Refusal) (answer : Result (Unit {0}) Error)
+            → EndsOnce b.stream.log.reads t.stream.log.reads → OnlyInterrupts (faults_of b.stream) (faults_of t.stream)
+            → IsWrong b.stream (Inside t) handed why → Writes tells trace (b.stream, u) [] (Ok tt) (t.stream, v)
+            → Puts tells trace v (refusal why) answer w' → IsUnflushed v w'
+            → Runs remaining tells trace (left_of s) w (Inside t) (ending_of answer) w'
+        refused_torn {v} {w'} why answer once reads torn on puts unflushed =
             let at : call_at (Inside t) ≡ called (waits b.said) = ap (λ x. called (waits x)) goes.said in
-            let Last = IsLast [] (b.head ++ goes.takes.wire) (Some BadRequest) (Inside t) in
+            let Last = IsLast [] (b.head ++ goes.takes.wire) (Some why) (Inside t) in
             let first : Writes tells trace (left_of s, w) (call_at (Inside t)) (Ok tt) (t.stream, v) =
             subst (λ l. Writes tells trace (left_of s, w) l (Ok tt) (t.stream, v))
             (append-nil (called (waits b.said)) ∙ sym at)
             (Writes-after joins (left_of s, w) (b.stream, u) (t.stream, v) (called (waits b.said)) [] (Ok tt) call on) in
-            Runs-ended handed (Inside t) (is_part begun goes) (begun_once begun t.stream once) (Some BadRequest) answer
+            Runs-ended handed (Inside t) (is_part begun goes) (begun_once begun t.stream once) (Some why) answer
             (part_answered begun goes
-            (Writes-after joins (left_of s, w) (t.stream, v) (t.stream, w') (call_at (Inside t)) (refusal BadRequest) answer first
+            (Writes-after joins (left_of s, w) (t.stream, v) (t.stream, w') (call_at (Inside t)) (refusal why) answer first
             (Writes-put t.stream puts unflushed))
             (FailsLast-of Last answer refl (inr refl) first.puts puts))
-            (IsWrong-still (begun_steady begun) (Inside t) BadRequest torn)
+            (IsWrong-still (begun_steady begun) (Inside t) handed why torn)
             (on_ok answer (joined (begun_steady begun) t.stream reads, inr (All-nil (Keeps true), inl refl)))
 
         -- where nothing is refused
@@ -164,16 +166,19 @@ module _ {W : Type 0} {tells : W → StreamLog} {trace : W → W → Type 0} whe
             → Runs remaining tells trace (left_of s) w (Inside t) ending w'
         torn_answered {v} {w'} (Body (Wrong why)) ending (once, reads, torn) on (answer, is, puts, unflushed) =
             subst (λ x. Runs remaining tells trace (left_of s) w (Inside t) x w') (sym is)
-            (refused_torn answer once reads torn on puts unflushed)
+            (refused_torn BadRequest answer once reads torn on puts unflushed)
         torn_answered {v} {w'} (Body (Truncated due)) ending (once, reads, torn) on (answer, is, puts, unflushed) =
             subst (λ x. Runs remaining tells trace (left_of s) w (Inside t) x w') (sym is)
-            (refused_torn answer once reads torn on puts unflushed)
+            (refused_torn BadRequest answer once reads torn on puts unflushed)
         torn_answered {v} {w'} (Body (Io e)) ending (once, fails, all) on (is, same) =
             subst (λ x. Runs remaining tells trace (left_of s) w (Inside t) x w') (sym is)
             (subst (Runs remaining tells trace (left_of s) w (Inside t) (Unread e)) (sym same)
             (Runs-stopped handed (Inside t) (is_part begun goes) (begun_once begun t.stream once) (Unread e)
             (unrefused (Ok tt) (IsLast [] (b.head ++ goes.takes.wire) None (Inside t)) on)
             (ReadFails-still (begun_steady begun) e t.stream fails, all)))
+        torn_answered {v} {w'} Large ending (reads, large) on (answer, is, puts, unflushed) =
+            subst (λ x. Runs remaining tells trace (left_of s) w (Inside t) x w') (sym is)
+            (refused_torn LargeBody answer (omega (arith, reads.ends)) reads.faults (inr (refl, large)) on puts unflushed)
         torn_answered {v} {w'} (Unsent e) ending reads on (is, same) =
             subst (λ x. Runs remaining tells trace (left_of s) w (Inside t) x w') (sym is)
             (subst (Runs remaining tells trace (left_of s) w (Inside t) (stop.Unsent e)) (sym same)
@@ -199,9 +204,14 @@ module _ {W : Type 0} {tells : W → StreamLog} {trace : W → W → Type 0} whe
           → Puts tells trace v (answered known said len) sending w' → IsUnflushed v w'
           → Answers remaining tells trace ((b.head, whole.1) ∷ []) (left_of s) w [] [] (IsLastAnswer ((b.head, whole.1) ∷ [])) t
           sending w'
-      one_answered {s} {b} {t} {len} {known} {said} {w} {u} {v} {w'} {sending} begun (wire, payload, went, is, many) same method call on puts
-          unflushed =
-          let one = MessagesWent-one remaining s b b [] wire payload t begun (Takes-none remaining b.stream b.rest) went is in
+      one_answered {s} {b} {t} {len} {known} {said} {w} {u} {v} {w'} {sending} begun (wire, payload, went, is, many, small) same
+          method call on puts unflushed =
+          let bytes = b.head ++ wire in
+          let message = Begun-message remaining s b wire payload begun (subst (λ r. IsRest r wire payload) begun.rest is) in
+          let taken : is_large message.0.text.said.extent (length message.0.wire) (length payload) ≡ false =
+          subst (λ x. is_large x.extent (length message.0.wire) (length payload) ≡ false) (sym message.2)
+          (subst (λ l. is_large b.said.extent (length l) (length payload) ≡ false) (sym message.1)
+          (subst (λ l. is_large b.said.extent (length (l ++ wire)) (length payload) ≡ false) begun.taken small)) in
           let text = called (waits b.said) ++ answered (is_known b.head) b.said (length payload) in
           let answer : answered known said len ≡ answered (is_known b.head) b.said (length payload) =
           ap (λ x. answered known x len) same ∙ ap (answered known b.said) many
@@ -212,12 +222,13 @@ module _ {W : Type 0} {tells : W → StreamLog} {trace : W → W → Type 0} whe
           let says : Puts tells trace v (answered (is_known b.head) b.said (length payload)) sending w' =
           subst (λ l. Puts tells trace v l sending w') answer puts in
           let both : Writes tells trace (left_of s, w) text sending (t, w') =
-          Writes-after joins (left_of s, w) (t, v) (t, w') (called (waits b.said)) (answered (is_known b.head) b.said (length payload)) sending first
-          (Writes-put t says unflushed) in
+          Writes-after joins (left_of s, w) (t, v) (t, w') (called (waits b.said))
+          (answered (is_known b.head) b.said (length payload)) sending first (Writes-put t says unflushed) in
           record {
-            bytes = one.bytes;
-            are = one.are;
-            went = subst (λ l. StreamWent remaining (left_of s) l t) (sym (append-nil one.bytes)) one.went;
+            bytes = bytes;
+            are = InTurn-one IsTaken (b.head, payload) bytes (message.0, taken);
+            went = subst (λ l. StreamWent remaining (left_of s) l t) (sym (append-nil bytes))
+                (StreamWent-joins remaining (left_of s) b.stream t b.head wire (Begun-went remaining s b begun) went);
             text = text;
             answers = InTurn-one IsAnswer (b.head, payload) text (b.said, begun.is, refl);
             writes = subst (λ l. Writes tells trace (left_of s, w) l sending (t, w')) (sym (append-nil text)) both;
@@ -233,7 +244,7 @@ module _ {W : Type 0} {tells : W → StreamLog} {trace : W → W → Type 0} whe
           → Answers remaining tells trace (ms ++ ns) s w taken last Then t sending w'
       Answers-joins {ms} {ns} {s} {m} {t} {w} {v} {w'} {taken} {last} {Last} {Then} {sending} a b so = record {
         bytes = a.bytes ++ b.bytes;
-        are = InTurn-joins (λ m first. IsMessage first m.0 m.1) ms ns a.bytes b.bytes a.are b.are;
+        are = InTurn-joins IsTaken ms ns a.bytes b.bytes a.are b.are;
         went = subst (λ l. StreamWent remaining s l t) (regroup a.bytes b.bytes taken)
             (StreamWent-joins remaining s m t (a.bytes ++ []) (b.bytes ++ taken) a.went b.went);
         text = a.text ++ b.text;
@@ -268,7 +279,7 @@ module _ {W : Type 0} {tells : W → StreamLog} {trace : W → W → Type 0} whe
           refuses = b.refuses;
           answers = Answers-joins a.answers b.answers (IsLast-after a.messages b.messages b.taken b.refuses place);
           once = omega (arith, b.once, a.reads.ends);
-          wrong = each_wrong a.reads place b.refuses b.wrong;
+          wrong = each_wrong a.reads place b.handed b.refuses b.wrong;
           ends = ends ending b.ends;
         }
           where

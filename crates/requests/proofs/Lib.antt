@@ -1,4 +1,5 @@
 pub mod Answering
 pub mod Coming
+pub mod Large
 pub mod Reading
 pub mod Sending

@@ -1,5 +1,5 @@
 -- What reads of a run met.
-use Rattle.std.proofs.Common.{◌≡◌, ℕ, ◌+◌, ◌<◌, ◌≤◌, true, List, [], ◌∷◌, ◌++◌, All, length, Option, None, Some, IfSome, Ok, sym, ap, subst, inl, inr, ◌∙◌, refl, arith, append_assoc, append-nil, length-append}
+use Rattle.std.proofs.Common.{◌≡◌, ℕ, ◌+◌, ◌<◌, ◌≤◌, true, false, List, [], ◌∷◌, ◌++◌, All, length, Option, None, Some, IfSome, Ok, sym, ap, subst, inl, inr, ◌∙◌, refl, arith, append_assoc, append-nil, length-append}
 use Rattle.std.proofs.lemmas.List.{nil_from_length}
 use Rattle.std.proofs.lemmas.List.Elements.{All-append, All-cons, All-nil}
 use Rattle.std.specs.declared.io.Error.{Error}
@@ -27,8 +27,9 @@ use Rattle.programs.specs.Streams.{EndsOnce}
 use Rattle.requests.specs.declared.Place.{Place}
 use Rattle.requests.specs.declared.writing.Refusal.{Refusal}
 use Rattle.requests.specs.declared.Place.TheVariants.{Before, Inside}
-use Rattle.requests.specs.declared.Untaken.{Untaken}
-use Rattle.requests.specs.declared.Untaken.TheVariants.{Body, Unsent, Many}
+use Rattle.requests.specs.declared.taking.Untaken.{Untaken}
+use Rattle.requests.specs.declared.taking.Untaken.TheVariants.{Body, Large, Unsent, Many}
+use Rattle.requests.specs.Large.{is_large}
 use Rattle.requests.specs.Answers.{FailsOn, HasEnded, IsMany, IsOver, IsPart, IsWrong, Keeps, ReadFails, ReadsSteadily, TakeFails, TakesWhole, faults_of, sent_till, unfinished}
 
 -- no fault was met, or one
@@ -63,16 +64,20 @@ module _ {S : Type 0} {s m : Unbuffered S} (steady : ReadsSteadily s m) where
   pub steadily : {t : Unbuffered S} → ReadsSteadily m t → ReadsSteadily s t
   steadily {t} more = record { faults = joined t more.faults; ends = more.ends ∙ steady.ends }
 
-  pub IsWrong-still : (place : Place S) (why : Refusal) → IsWrong m place why → IsWrong s place why
-  IsWrong-still (Before requests) why (inl none) = inl none
-  IsWrong-still (Before requests) why (inr (is, more, some, cut)) = inr (is, omega (arith, steady.ends, more), some, cut)
-  IsWrong-still (Inside body) why (is, inl torn) = (is, inl torn)
-  IsWrong-still (Inside body) why (is, inr (more, none, cut)) = (is, inr (omega (arith, steady.ends, more), none, cut))
+  pub IsWrong-still : (place : Place S) (handed : List ℕ) (why : Refusal) → IsWrong m place handed why
+      → IsWrong s place handed why
+  IsWrong-still (Before requests) handed why (inl none) = inl none
+  IsWrong-still (Before requests) handed why (inr (is, more, some, cut)) =
+      inr (is, omega (arith, steady.ends, more), some, cut)
+  IsWrong-still (Inside body) handed why (inl (is, inl torn)) = inl (is, inl torn)
+  IsWrong-still (Inside body) handed why (inl (is, inr (more, none, cut))) =
+      inl (is, inr (omega (arith, steady.ends, more), none, cut))
+  IsWrong-still (Inside body) handed why (inr large) = inr large
 
-  pub each_wrong : (place : Place S) (refuses : Option Refusal) → IfSome refuses (IsWrong m place)
-      → IfSome refuses (IsWrong s place)
-  each_wrong place (Some why) wrong = IsWrong-still place why wrong
-  each_wrong place None none = tt
+  pub each_wrong : (place : Place S) (handed : List ℕ) (refuses : Option Refusal) → IfSome refuses (IsWrong m place handed)
+      → IfSome refuses (IsWrong s place handed)
+  each_wrong place handed (Some why) wrong = IsWrong-still place handed why wrong
+  each_wrong place handed None none = tt
 
   HasEnded-still : (place : Place S) → HasEnded m place → HasEnded s place
   HasEnded-still (Before requests) (more, none) = (omega (arith, steady.ends, more), none)
@@ -113,11 +118,11 @@ module _ {S : Type 0} {s m : Unbuffered S} (steady : ReadsSteadily s m) where
   pub TakeFails-of : {W : Type 0} (handed : List ℕ) (b : InBody S) (w : Buffered W StdPolicy) (e : Untaken)
       → ((why : Error) → e ≡ Body (Io why) → ¬ (IsInterrupt why)) → FailsOn m e b w → TakeFails s handed e b w
   TakeFails-of handed b w (Body (Wrong why)) hard ((gave, torn), sent) =
-      (omega (arith, steady.ends, gave.1), joined b.stream (none_met gave.0), (refl, inl (why, torn)))
+      (omega (arith, steady.ends, gave.1), joined b.stream (none_met gave.0), inl (refl, inl (why, torn)))
   TakeFails-of handed b w (Body (Truncated due)) hard ((none, end, left, cut, so_many), sent) = (
     omega (arith, steady.ends, end),
     joined b.stream (none_met none),
-    (refl, inr (omega (arith, steady.ends, end), left, cut)),
+    inl (refl, inr (omega (arith, steady.ends, end), left, cut)),
   )
   TakeFails-of handed b w (Body (Io e)) hard ((fault, none), sent) = (
     omega (arith, steady.ends, none),
@@ -125,12 +130,13 @@ module _ {S : Type 0} {s m : Unbuffered S} (steady : ReadsSteadily s m) where
     elim sent [ inl same ↦ absurd (no_fault b e (fault, none) (ap (λ l. l.reads.faults) same)) | inr all ↦ all ],
   )
   TakeFails-of handed b w (Unsent e) hard gave = steadily (steady_none gave)
-  TakeFails-of handed b w Many hard gave = elim gave [ ]
+  TakeFails-of handed b w Large hard odd = elim odd [ ]
+  TakeFails-of handed b w Many hard odd = elim odd [ ]
 
   pub TakeFails-behind : {W : Type 0} (handed more : List ℕ) (b : InBody S) (w : Buffered W StdPolicy) (why : BodyError)
       → FinishFails m more why b.stream b.rest → EachGave m b.stream → TakeFails s (handed ++ more) (unfinished why) b w
   TakeFails-behind handed more b w (Wrong why) (inl (gave, torn)) same =
-      (omega (arith, steady.ends, gave.1), joined b.stream (none_met gave.0), (refl, inl (why, torn)))
+      (omega (arith, steady.ends, gave.1), joined b.stream (none_met gave.0), inl (refl, inl (why, torn)))
   TakeFails-behind handed more b w (Truncated due) (inl (none, end, left, cut, many)) same = absurd (omega (arith, end, same.1))
   TakeFails-behind handed more b w (Io e) (inl fails) same = absurd (no_fault b e fails same.0)
   TakeFails-behind handed more b w (Wrong why) (inr (e, is, other, many)) same = absurd (cc)
@@ -157,19 +163,22 @@ module _ {R : Type 0} {remaining : R → Option (List ℕ)} {s : ReaderState R H
   -- a part of it was taken
   pub is_part : {t : InBody R} {handed : List ℕ} (goes : InsideGoes remaining b handed t)
       → IsPart (Inside t) (b.head ++ goes.takes.wire) handed
-  is_part {t} {handed} goes = (
-    goes.takes.wire,
-    ap (λ l. l ++ goes.takes.wire) (sym goes.head),
-    subst (λ h. IsHead h t.said) (sym goes.head) (subst (λ x. IsHead b.head x) (sym goes.said) begun.is),
-    subst (λ x. Onward (body_of x.extent) goes.takes.wire handed t.rest) (sym goes.said)
-        (subst (λ r. Onward r goes.takes.wire handed t.rest) begun.rest goes.takes.onward),
-  )
+  is_part {t} {handed} goes =
+      let taken : goes.takes.wire ≡ t.taken = sym (goes.taken ∙ ap (λ l. l ++ goes.takes.wire) begun.taken) in (
+        ap (λ l. l ++ goes.takes.wire) (sym goes.head) ∙ ap (λ l. t.head ++ l) taken,
+        subst (λ h. IsHead h t.said) (sym goes.head) (subst (λ x. IsHead b.head x) (sym goes.said) begun.is),
+        subst (λ x. Onward (body_of x.extent) t.taken handed t.rest) (sym goes.said)
+            (subst (λ l. Onward (body_of b.said.extent) l handed t.rest) taken
+            (subst (λ r. Onward r goes.takes.wire handed t.rest) begun.rest goes.takes.onward)),
+      )
 
 -- nothing is left where none is
-nothing_more : (r : Rest) (wire payload : List ℕ) → IsRest r [] [] → IsRest r wire payload → payload ≡ []
-nothing_more (Bytes n) wire payload none is = is.1 ∙ nil_from_length wire (is.0 ∙ sym none.0)
+nothing_more : (r : Rest) (wire payload : List ℕ) → IsRest r [] [] → IsRest r wire payload
+    → (wire ≡ []) × (payload ≡ [])
+nothing_more (Bytes n) wire payload none is =
+    let empty : wire ≡ [] = nil_from_length wire (is.0 ∙ sym none.0) in (empty, is.1 ∙ empty)
 nothing_more (Chunks limits place) wire payload none is =
-    (subst (λ p. Completes limits p wire payload) (Completes-nothing limits place [] none) is).0
+    let done = subst (λ p. Completes limits p wire payload) (Completes-nothing limits place [] none) is in (done.1, done.0)
 
 -- the stream isn't asked for more of it then
 none_follows : (r q : Rest) (bytes handed : List ℕ) → IsRest r [] [] → Onward r bytes handed q
@@ -230,13 +239,21 @@ unfinished_sent (Io e) = refl
 
 -- what was read, and what ended it, is the whole body
 pub whole_taken : {R : Type 0} (remaining : R → Option (List ℕ)) (b m : InBody R) (payload : List ℕ) (t : Unbuffered R) (len : ℕ)
-    → InsideGoes remaining b payload m → len ≡ length payload → IsRest m.rest [] [] → Ends remaining m.stream m.rest t
-    → TakesWhole remaining b t len
-whole_taken remaining b m payload t len goes many none ends = (
-  goes.takes.wire ++ ends.wire,
-  payload ++ ends.payload,
-  StreamWent-joins remaining b.stream m.stream t goes.takes.wire ends.wire goes.takes.went ends.went,
-  goes.takes.onward ends.wire ends.payload ends.is,
-  many ∙ ap length (sym (append-nil payload))
-      ∙ ap (λ l. length (payload ++ l)) (sym (nothing_more m.rest ends.wire ends.payload none ends.is)),
-)
+    → InsideGoes remaining b payload m → len ≡ length payload → IsRest m.rest [] []
+    → is_large m.said.extent (length m.taken) len ≡ false → Ends remaining m.stream m.rest t → TakesWhole remaining b t len
+whole_taken remaining b m payload t len goes many none small ends =
+    let nothing = nothing_more m.rest ends.wire ends.payload none ends.is in
+    let all : len ≡ length (payload ++ ends.payload) =
+    many ∙ ap length (sym (append-nil payload)) ∙ ap (λ l. length (payload ++ l)) (sym nothing.1) in
+    let wire : goes.takes.wire ++ ends.wire ≡ goes.takes.wire =
+    ap (λ l. goes.takes.wire ++ l) nothing.0 ∙ append-nil goes.takes.wire in (
+      goes.takes.wire ++ ends.wire,
+      payload ++ ends.payload,
+      StreamWent-joins remaining b.stream m.stream t goes.takes.wire ends.wire goes.takes.went ends.went,
+      goes.takes.onward ends.wire ends.payload ends.is,
+      all,
+      subst (λ n. is_large b.said.extent (length (b.taken ++ (goes.takes.wire ++ ends.wire))) n ≡ false) all
+          (subst (λ l. is_large b.said.extent (length l) len ≡ false)
+          (goes.taken ∙ ap (λ l. b.taken ++ l) (sym wire))
+          (subst (λ x. is_large x.extent (length m.taken) len ≡ false) goes.said small)),
+    )

@@ -82,7 +82,13 @@ module _ {W : Type 0} {tells : W → StreamLog} {trace : W → W → Type 0} whe
     front = p.along;
     held = λ held none. elim (cases_lt (usable w.block) (length bytes)) [
       | inl few ↦
-          absurd (omega (arith, few, ap length none, ap length (p.full few).2.added.bytes, length-append (p.full few).0.block.bytes bytes))
+          absurd (omega (
+            arith,
+            few,
+            ap length none,
+            ap length (p.full few).2.added.bytes,
+            length-append (p.full few).0.block.bytes bytes,
+          ))
       | inr fit ↦
           (let put = (p.fits fit).1 in
           let same : v.log ≡ w.log = ap (λ x. x.log) put.others in

@@ -1,5 +1,5 @@
 -- What is answered to requests.
-use Rattle.std.specs.Prelude.{◌≡◌, ◌≢◌, ℕ, ◌+◌, ◌-◌, ◌^◌, ◌<◌, ◌≤◌, ◌⊎◌, ◌&&◌, ◌||◌, ◌==◌, nat_lt, if◌then◌else◌, Bool, true, false, List, [], ◌∷◌, ◌++◌, All, length, drop, nat_eq, Option, None, Some, Result, Ok, Err, MatchResult, IfErr, IfSome, IsErr, IsSome, IsTrue, ⊤, codes}
+use Rattle.std.specs.Prelude.{◌≡◌, ◌≢◌, ℕ, ◌+◌, ◌-◌, ◌^◌, ◌<◌, ◌≤◌, ◌⊎◌, ◌&&◌, ◌||◌, ◌==◌, not, nat_lt, if◌then◌else◌, Bool, true, false, List, [], ◌∷◌, ◌++◌, All, length, drop, nat_eq, Option, None, Some, Result, Ok, Err, MatchResult, IfErr, IfSome, IsErr, IsSome, IsTrue, ⊤, codes}
 use Rattle.std.specs.Fmt.{decimal}
 use Rattle.std.specs.List.{prefix_len, starts_with}
 use Rattle.std.specs.IoError.{error_kind}
@@ -22,17 +22,18 @@ use Rattle.messages.specs.declared.head.Extent.TheVariants.{Sized, Chunked}
 use Rattle.messages.specs.declared.head.ParsedHead.{ParsedHead}
 use Rattle.messages.specs.Heads.{IsHead, heads}
 use Rattle.messages.specs.declared.head.Heads.{Heads}
-use Rattle.messages.specs.Messages.{AreMessages, EachGave, Fails, InBody, InTurn, IsRest, IsWrongNext, Message, Onward, body_of}
+use Rattle.messages.specs.Messages.{EachGave, Fails, InBody, InTurn, IsMessage, IsRest, IsWrongNext, Message, Onward, body_of}
 use Rattle.programs.specs.Streams.{AllSent, EndsOnce}
 use Rattle.requests.specs.declared.writing.Refusal.{Refusal}
-use Rattle.requests.specs.declared.writing.Refusal.TheVariants.{BadRequest, LongTarget, LargeHead, Unknown, OtherVersion}
+use Rattle.requests.specs.declared.writing.Refusal.TheVariants.{BadRequest, LargeBody, LongTarget, LargeHead, Unknown, OtherVersion}
 use Rattle.requests.specs.declared.Place.{Place}
 use Rattle.requests.specs.declared.Place.TheVariants.{Before, Inside}
 use Rattle.requests.specs.declared.Ending.{Ending}
 use Rattle.requests.specs.declared.Ending.TheVariants as stop
 use Rattle.requests.specs.declared.Ending.TheVariants.{Over, Unread}
-use Rattle.requests.specs.declared.Untaken.{Untaken}
-use Rattle.requests.specs.declared.Untaken.TheVariants.{Body, Unsent, Many}
+use Rattle.requests.specs.declared.taking.Untaken.{Untaken}
+use Rattle.requests.specs.declared.taking.Untaken.TheVariants.{Body, Large, Unsent, Many}
+use Rattle.requests.specs.Large.{TurnsLarge, is_large}
 use Rattle.requests.specs.Sending.{IsUnflushed, Puts, SendsHeld, Writes}
 
 -- a call for a body, and a refusal, each where there is one
@@ -45,6 +46,7 @@ refusal BadRequest = codes "HTTP/1.1 400 Bad Request\r\nContent-Length: 0\r\nCon
 refusal LongTarget = codes "HTTP/1.1 414 URI Too Long\r\nContent-Length: 0\r\nConnection: close\r\n\r\n"
 refusal LargeHead =
     codes "HTTP/1.1 431 Request Header Fields Too Large\r\nContent-Length: 0\r\nConnection: close\r\n\r\n"
+refusal LargeBody = codes "HTTP/1.1 413 Content Too Large\r\nContent-Length: 0\r\nConnection: close\r\n\r\n"
 refusal Unknown = codes "HTTP/1.1 501 Not Implemented\r\nContent-Length: 0\r\nConnection: close\r\n\r\n"
 refusal OtherVersion =
     codes "HTTP/1.1 505 HTTP Version Not Supported\r\nContent-Length: 0\r\nConnection: close\r\n\r\n"
@@ -65,13 +67,13 @@ refusal_of Tunnel = Unknown
 refusal_of Coding = Unknown
 refusal_of Refused = BadRequest
 
--- whether the client waits for a call, and there is a body to come
+-- whether the client waits for a call, and there is a body to come, which isn't refused at once
 abbrev pub has_body : Extent → Bool
 has_body (Sized len) = nat_lt 0 len
 has_body Chunked = true
 
 abbrev pub waits : ParsedHead → Bool
-waits said = said.expects && has_body said.extent
+waits said = said.expects && (has_body said.extent && not (is_large said.extent 0 0))
 
 -- how much payload there was, in 21 bytes
 abbrev pub length_line : ℕ → List ℕ
@@ -120,10 +122,16 @@ abbrev pub IsAnswer : Message → List ℕ → Type 0
 IsAnswer m text = (said : ParsedHead) × IsHead m.0 said
     × (text ≡ called (waits said) ++ answered (is_known m.0) said (length m.1))
 
--- the whole body was taken, with so much payload
+-- a message is these bytes, and its body isn't too large
+abbrev pub IsTaken : Message → List ℕ → Type 0
+IsTaken m first = (is : IsMessage first m.0 m.1)
+    × (is_large is.text.said.extent (length is.wire) (length m.1) ≡ false)
+
+-- the whole body was taken, which isn't too large, with so much payload
 abbrev pub TakesWhole : {S : Type 0} → (S → Option (List ℕ)) → InBody S → Unbuffered S → ℕ → Type 0
 TakesWhole remaining b t len = (wire : List ℕ) × (payload : List ℕ) × StreamWent remaining b.stream wire t
     × IsRest b.rest wire payload × (len ≡ length payload)
+    × (is_large b.said.extent (length (b.taken ++ wire)) (length payload) ≡ false)
 
 -- how often the stream gave nothing, though it was asked for something; and what it failed with
 abbrev pub ends_of : {S : Type 0} → Unbuffered S → ℕ
@@ -152,14 +160,16 @@ abbrev pub is_blank : List ℕ → Bool
 is_blank bytes = prefix_len is_end bytes == length bytes
 
 -- what comes is to be refused so: no head begins what is left, for that reason, or the stream ended in one; or the next byte of
--- the body is wrong, or the stream ended before that was complete
-abbrev pub IsWrong : {S : Type 0} → Unbuffered S → Place S → Refusal → Type 0
-IsWrong s (Before requests) why = ((e : BadHead) × heads.wrong (rest requests) e × (why ≡ refusal_of e))
+-- the body is wrong, or the stream ended before that was complete, or what was taken of it is too large, with this payload
+abbrev pub IsWrong : {S : Type 0} → Unbuffered S → Place S → List ℕ → Refusal → Type 0
+IsWrong s (Before requests) handed why = ((e : BadHead) × heads.wrong (rest requests) e × (why ≡ refusal_of e))
     ⊎ ((why ≡ BadRequest) × (ends_of s < ends_of (left_of requests)) × (is_blank (rest requests) ≡ false)
     × IsOpen heads (rest requests))
-IsWrong s (Inside body) why = (why ≡ BadRequest) × (((name : Malformed) × IsWrongNext body.rest body.stream.left name)
+IsWrong s (Inside body) handed why = ((why ≡ BadRequest)
+    × (((name : Malformed) × IsWrongNext body.rest body.stream.left name)
     ⊎ ((ends_of s < ends_of body.stream) × (body.stream.left ≡ [])
-    × ((payload : List ℕ) → ¬ (IsRest body.rest [] payload))))
+    × ((payload : List ℕ) → ¬ (IsRest body.rest [] payload)))))
+    ⊎ ((why ≡ LargeBody) × TurnsLarge body.said.extent body.taken handed)
 
 -- the stream ended, and nothing is left but empty lines, where a head would begin
 abbrev pub HasEnded : {S : Type 0} → Unbuffered S → Place S → Type 0
@@ -188,8 +198,8 @@ IsOver messages taken refuses s place =
 -- these bytes behind whole messages are none, or a head, and of the body that it says some with this payload
 abbrev pub IsPart : {S : Type 0} → Place S → List ℕ → List ℕ → Type 0
 IsPart (Before requests) taken handed = (taken ≡ []) × (handed ≡ [])
-IsPart (Inside body) taken handed = (wire : List ℕ) × (taken ≡ body.head ++ wire) × IsHead body.head body.said
-    × Onward (body_of body.said.extent) wire handed body.rest
+IsPart (Inside body) taken handed = (taken ≡ body.head ++ body.taken) × IsHead body.head body.said
+    × Onward (body_of body.said.extent) body.taken handed body.rest
 
 -- behind interruptions a read failed so
 abbrev pub ReadFails : {S : Type 0} → Unbuffered S → Error → Unbuffered S → Type 0
@@ -204,14 +214,16 @@ IsMany count s t = 2 ^ 64 ≤ count + (length (faults_of t) - length (faults_of 
 abbrev pub FailsOn : {S W : Type 0} → Unbuffered S → Untaken → InBody S → Buffered W StdPolicy → Type 0
 FailsOn s (Body e) b w' = Fails s e b.stream b.rest × ((b.stream.log ≡ s.log) ⊎ AllSent w')
 FailsOn s (Unsent e) b w' = EachGave s b.stream
-FailsOn s Many b w' = ⊥
+FailsOn s e b w' = ⊥
 
--- why a body isn't taken whole, of which this payload was: so, or it is wrong, or more than is counted
+-- why a body isn't taken whole, of which this payload was: so, or it is wrong, or too large, or more than is counted
 abbrev pub TakeFails : {S W : Type 0} → Unbuffered S → List ℕ → Untaken → InBody S → Buffered W StdPolicy → Type 0
 TakeFails s handed (Body (Io e)) b w' =
     EndsOnce s.log.reads b.stream.log.reads × ReadFails s e b.stream × AllSent w'
 TakeFails s handed (Body wrong) b w' =
-    EndsOnce s.log.reads b.stream.log.reads × OnlyInterrupts (faults_of s) (faults_of b.stream) × IsWrong s (Inside b) BadRequest
+    EndsOnce s.log.reads b.stream.log.reads × OnlyInterrupts (faults_of s) (faults_of b.stream)
+    × IsWrong s (Inside b) handed BadRequest
+TakeFails s handed Large b w' = ReadsSteadily s b.stream × TurnsLarge b.said.extent b.taken handed
 TakeFails s handed (Unsent e) b w' = ReadsSteadily s b.stream
 TakeFails s handed Many b w' = ReadsSteadily s b.stream × IsMany (length handed) s b.stream
 
@@ -224,7 +236,7 @@ unfinished e = Body e
 abbrev pub sent_till : Untaken → Result (Unit {0}) Error
 sent_till (Body e) = Ok tt
 sent_till (Unsent e) = Err e
-sent_till Many = Ok tt
+sent_till e = Ok tt
 
 abbrev pub sent_with : {A : Type 0} → Result A Untaken → Result (Unit {0}) Error
 sent_with (Ok a) = Ok tt
@@ -235,7 +247,8 @@ abbrev pub IsLastAnswer : List Message → List ℕ → Type 0
 IsLastAnswer messages text = (before : List Message) × (m : Message) × (said : ParsedHead) × (messages ≡ before ++ m ∷ [])
     × IsHead m.0 said × (text ≡ answered (is_known m.0) said (length m.1))
 
--- this is sent last, where the reader stands there: a refusal, or such an answer, or the call for a body of which nothing was taken
+-- this is sent last, where the reader stands there: a refusal, or such an answer, or the call for a body of which nothing was
+-- taken
 abbrev pub IsLast : {S : Type 0} → List Message → List ℕ → Option Refusal → Place S → List ℕ → Type 0
 IsLast messages taken (Some why) place text = text ≡ refusal why
 IsLast messages taken None (Before requests) text = IsLastAnswer messages text
@@ -262,12 +275,14 @@ abbrev pub sending_of : Ending → Result (Unit {0}) Error
 sending_of (stop.Unsent e) = Err e
 sending_of ending = Ok tt
 
--- how that ends a run: what is wrong is refused
+-- how that ends a run: what is wrong, or too large, is refused
 abbrev pub EndsBody : {W : Type 0} → (W → StreamLog) → (W → W → Type 0) → Buffered W StdPolicy → Untaken → Ending
     → Buffered W StdPolicy → Type 0
 EndsBody tells trace w (Body (Io e)) ending w' = (ending ≡ Unread e) × (w' ≡ w)
 EndsBody tells trace w (Body wrong) ending w' = (answer : Result (Unit {0}) Error) × (ending ≡ ending_of answer)
     × Puts tells trace w (refusal BadRequest) answer w' × IsUnflushed w w'
+EndsBody tells trace w Large ending w' = (answer : Result (Unit {0}) Error) × (ending ≡ ending_of answer)
+    × Puts tells trace w (refusal LargeBody) answer w' × IsUnflushed w w'
 EndsBody tells trace w (Unsent e) ending w' = (ending ≡ stop.Unsent e) × (w' ≡ w)
 EndsBody tells trace w Many ending w' = (ending ≡ stop.Many) × (w' ≡ w)
 
@@ -286,7 +301,7 @@ module _ {R W : Type 0} (remaining : R → Option (List ℕ)) (tells : W → Str
   pub record Answers (messages : List Message) (s : Unbuffered R) (w : Buffered W StdPolicy) (taken last : List ℕ)
       (Last : List ℕ → Type 0) (t : Unbuffered R) (sending : Result (Unit {0}) Error) (w' : Buffered W StdPolicy) : Type 0 where
     pub bytes : List ℕ
-    pub are : AreMessages messages bytes
+    pub are : InTurn IsTaken messages bytes
     pub went : StreamWent remaining s (bytes ++ taken) t
     pub text : List ℕ
     pub answers : InTurn IsAnswer messages text
@@ -301,7 +316,8 @@ module _ {R W : Type 0} (remaining : R → Option (List ℕ)) (tells : W → Str
     pub reads : ReadsSteadily s t
 
   -- why a run ends: it is over; or these are more than are counted; or a read failed, and all had been sent
-  abbrev pub EndsBy : Unbuffered R → List Message → List ℕ → List ℕ → Option Refusal → Place R → Buffered W StdPolicy → Ending → Type 0
+  abbrev pub EndsBy : Unbuffered R → List Message → List ℕ → List ℕ → Option Refusal → Place R → Buffered W StdPolicy
+      → Ending → Type 0
   EndsBy s messages taken handed refuses place w' Over =
       OnlyInterrupts (faults_of s) (faults_of (stream_at place)) × IsOver messages taken refuses s place
   EndsBy s messages taken handed refuses place w' stop.Many = OnlyInterrupts (faults_of s) (faults_of (stream_at place))
@@ -309,8 +325,8 @@ module _ {R W : Type 0} (remaining : R → Option (List ℕ)) (tells : W → Str
   EndsBy s messages taken handed refuses place w' (Unread e) = ReadFails s e (stream_at place) × AllSent w'
   EndsBy s messages taken handed refuses place w' (stop.Unsent e) = ⊤
 
-  -- a run, but for what is sent last: behind the answers were written the call for a body that the client waits for, and a refusal
-  -- of what is wrong, by its status; so there is no 200 but for a whole message. The end is asked for once
+  -- a run, but for what is sent last: behind the answers were written the call for a body that the client waits for, and a
+  -- refusal of what is wrong, by its status; so there is no 200 but for a whole message. The end is asked for once
   pub record Runs (s : Unbuffered R) (w : Buffered W StdPolicy) (place : Place R) (ending : Ending)
       (w' : Buffered W StdPolicy) : Type 0 where
     pub messages : List Message
@@ -321,7 +337,7 @@ module _ {R W : Type 0} (remaining : R → Option (List ℕ)) (tells : W → Str
     pub answers : Answers messages s w taken (call_at place ++ refused refuses) (IsLast messages taken refuses place)
         (stream_at place) (sending_of ending) w'
     pub once : EndsOnce s.log.reads (stream_at place).log.reads
-    pub wrong : IfSome refuses (IsWrong s place)
+    pub wrong : IfSome refuses (IsWrong s place handed)
     pub ends : EndsBy s messages taken handed refuses place w' ending
 
   -- a run: where sending failed, it returns why, and nothing was taken that comes behind what failed; or all was sent

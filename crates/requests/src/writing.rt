@@ -1,9 +1,10 @@
-//! What is written: answers, refusals and calls for bodies.
+//! What is written: answers, refusals and calls for bodies; and what is held is sent.
 ghost use Rattle.std.specs.Prelude.{◌≡◌, ◌≤◌, if◌then◌else◌, [], ◌++◌, codes, length, map};
 ghost use Rattle.std.specs.List.{concat, prefix_len};
-ghost use Rattle.requests.specs.Sending.{IsUnflushed, Puts};
+ghost use Rattle.requests.specs.Sending.{IsHeld, IsUnflushed, Puts, SendsHeld};
 ghost use Rattle.requests.specs.Answers.{accepted, answered, begins_known, begins_often, called, declined, has_body, is_end, is_known, length_line, refusal, refusal_of, waits};
 
+use crate::limits::is_large;
 use buffer_redux::BufWriter;
 use buffer_redux::tell::{Tell, TellWrite};
 use messages::{BadHead, Extent, ParsedHead};
@@ -15,6 +16,8 @@ use std::io::Write;
 pub(crate) enum Refusal {
     // 400.
     BadRequest,
+    // 413.
+    LargeBody,
     // 414.
     LongTarget,
     // 431.
@@ -142,11 +145,17 @@ pub(crate) fn call_for_body<W: TellWrite>(
     ensures puts { Puts W.log W.trace writer.old (called (waits said)) result writer.new }
     ensures unflushed { IsUnflushed writer.old writer.new }
 {
-    if said.expects && has_body(said.extent) {
+    if waits(said) {
         put(writer, &[b"HTTP/1.1 100 Continue\r\n\r\n"])
     } else {
         Ok(())
     }
+}
+
+fn waits(said: ParsedHead) -> bool
+    ensures { result ≡ waits said }
+{
+    said.expects && (has_body(said.extent) && !is_large(said.extent, 0, 0))
 }
 
 fn has_body(extent: Extent) -> bool
@@ -179,6 +188,10 @@ pub(crate) fn refuse<W: TellWrite>(why: Refusal, writer: &mut BufWriter<W>) -> i
             writer,
             &[b"HTTP/1.1 400 Bad Request\r\nContent-Length: 0\r\nConnection: close\r\n\r\n"],
         ),
+        Refusal::LargeBody => put(
+            writer,
+            &[b"HTTP/1.1 413 Content Too Large\r\nContent-Length: 0\r\nConnection: close\r\n\r\n"],
+        ),
         Refusal::LongTarget => put(
             writer,
             &[b"HTTP/1.1 414 URI Too Long\r\nContent-Length: 0\r\nConnection: close\r\n\r\n"],
@@ -207,4 +220,15 @@ fn put<W: TellWrite>(writer: &mut BufWriter<W>, parts: &[&[u8]]) -> io::Result<(
     ensures unflushed { IsUnflushed writer.old writer.new }
 {
     writer.write_parts(parts)
+}
+
+// Sends what is held, if there is something.
+pub(crate) fn send_held<W: TellWrite>(writer: &mut BufWriter<W>) -> io::Result<()>
+    requires held { IsHeld writer.old }
+    ensures { SendsHeld W.log W.trace writer.old result writer.new }
+{
+    if writer.buffer().is_empty() {
+        return Ok(());
+    }
+    writer.flush()
 }

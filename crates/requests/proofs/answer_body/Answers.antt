@@ -10,7 +10,7 @@ use Rattle.requests.proofs.Sending.{Puts-more, Writes-after, Writes-put}
 use Rattle.requests.proofs.answer_body.Goals as goal
 
 pub answer_called-requires : goal.answer_called-requires
-answer_called-requires g c = record { held = c.in-Ok.ensures.puts.held c.requires.held }
+answer_called-requires g c = record { held = c.in-Ok.ensures.puts.held c.requires.held; first = c.requires.first }
 
 pub returns-in-Ok : goal.returns-in-Ok
 returns-in-Ok g c = λ s w begun writes.
@@ -30,6 +30,7 @@ returns-in-Err g c = λ s w begun writes.
         onward = λ later payload is. is;
         backward = λ later whole is. (whole, refl, is);
       };
+      taken = sym (append-nil b.taken);
       room = refl;
       told = sym (append-nil b.calls.reads.given);
       head = refl;

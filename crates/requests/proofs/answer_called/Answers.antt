@@ -15,7 +15,8 @@ returns-then-said g c = λ s w begun call.
     let keeps = sym (ap (λ x. x.keeps) c.said-said.ensures.value) ∙ c.if-said.true in (
       record {
         messages = (b.head, whole.1) ∷ [];
-        answers = one_answered g.met.W.TellWrite.trace_joins begun whole c.said-said.ensures.value (c.is_known-known.ensures ∙ ap is_known c.head.ensures) call c.in-Ok.ensures.writes
+        answers = one_answered g.met.W.TellWrite.trace_joins begun whole c.said-said.ensures.value
+            (c.is_known-known.ensures ∙ ap is_known c.head.ensures) call c.in-Ok.ensures.writes
             c.in-Ok-answer_whole.ensures.puts c.in-Ok-answer_whole.ensures.unflushed;
         keep = All-cons (Keeps true) (b.head, whole.1) [] (b.said, begun.is, keeps) (All-nil (Keeps true));
         reads = reads;
@@ -29,7 +30,8 @@ returns-else-said g c = λ s w begun call.
     let whole = c.in-Ok.ensures.whole in
     let reads = steadily (begun_steady begun) c.in-Ok.ensures.steady in
     Runs-stopped [] (Before c.in-Ok.requests) (refl, refl) (omega (arith, reads.ends)) Over
-    (one_answered g.met.W.TellWrite.trace_joins begun whole c.said-said.ensures.value (c.is_known-known.ensures ∙ ap is_known c.head.ensures) call c.in-Ok.ensures.writes
+    (one_answered g.met.W.TellWrite.trace_joins begun whole c.said-said.ensures.value
+    (c.is_known-known.ensures ∙ ap is_known c.head.ensures) call c.in-Ok.ensures.writes
     c.in-Ok-answer_whole.ensures.puts c.in-Ok-answer_whole.ensures.unflushed) (
       reads.faults,
       inl (
@@ -50,7 +52,8 @@ pub returns-in-Err-answer_whole : goal.returns-in-Err-answer_whole
 returns-in-Err-answer_whole g c = λ s w begun call.
     Runs-stopped [] (Before c.in-Ok.requests) (refl, refl)
     (omega (arith, (steadily (begun_steady begun) c.in-Ok.ensures.steady).ends)) (Unsent c.in-Err-answer_whole.e)
-    (one_answered g.met.W.TellWrite.trace_joins begun c.in-Ok.ensures.whole c.said-said.ensures.value (c.is_known-known.ensures ∙ ap is_known c.head.ensures) call c.in-Ok.ensures.writes
+    (one_answered g.met.W.TellWrite.trace_joins begun c.in-Ok.ensures.whole c.said-said.ensures.value
+    (c.is_known-known.ensures ∙ ap is_known c.head.ensures) call c.in-Ok.ensures.writes
     c.in-Err-answer_whole.ensures.puts c.in-Err-answer_whole.ensures.unflushed) tt
 
 pub returns-in-Err : goal.returns-in-Err

@@ -14,7 +14,7 @@ pub answer_body-requires : goal.answer_body-requires
 answer_body-requires g c =
     let came = comes g.met.W.TellWrite.trace_none g.met.W.TellWrite.trace_joins c.args.requests c.args.writer.now
     c.send_to_ask.new.writer c.in-Ok.ensures _ c.in-Ok-next.ensures.next.behind c.in-Ok-next.ensures.next.next in
-    record { held = came.writes.puts.held c.requires.held }
+    record { held = came.writes.puts.held c.requires.held; first = c.in-Ok-next.ensures.next.taken }
 
 pub returns-in-Ok-next : goal.returns-in-Ok-next
 returns-in-Ok-next g c =

@@ -78,7 +78,8 @@ returns-in-Bad g c = λ s w told next comes.
     ]) (Some why) sending (none_answered (nothing_went bad bad.answers.0)
     (Writes-after g.met.W.TellWrite.trace_joins (left_of s, w) (t, v) (t, c.refuse.new.writer) [] _ sending comes.writes
     (Writes-put t c.refuse.ensures.puts c.refuse.ensures.unflushed))
-    (FailsLast-of (IsLast [] [] (Some why) (Before c.args.requests)) sending refl (inr refl) comes.writes.puts c.refuse.ensures.puts))
+    (FailsLast-of (IsLast [] [] (Some why) (Before c.args.requests)) sending refl (inr refl) comes.writes.puts
+    c.refuse.ensures.puts))
     (elim bad.answers.3 [
       | inl wrong ↦ inl (_, wrong.0, c.refusal_of.ensures)
       | inr cut ↦ inr (

@@ -3,13 +3,13 @@ use Rattle.codec.specs.PieceReader.{left_of}
 use Rattle.messages.specs.MessagesLaws.{InsideGoes-joins}
 use Rattle.requests.proofs.Reading.{TakeFails-behind, steadily, steady_none, unasked, unasked_log, unfinished_sent, whole_taken}
 use Rattle.requests.proofs.Sending.{Writes-after, Writes-read}
-use Rattle.requests.proofs.take_whole.Goals as goal
+use Rattle.requests.proofs.taking.take_whole.Goals as goal
 
 pub returns-in-Ok-finish-clause-whole : goal.returns-in-Ok-finish-clause-whole
 returns-in-Ok-finish-clause-whole g c =
     let read = c.in-Ok.ensures.goes in
     whole_taken g.R.TellRead.remaining c.args.body c.payload_len.new.body read.0 (left_of c.in-Ok-finish.requests) c.in-Ok.len
-    read.1 read.2 c.in-Ok.ensures.ended c.in-Ok-finish.ensures.ends
+    read.1 read.2 c.in-Ok.ensures.ended c.in-Ok.ensures.small c.in-Ok-finish.ensures.ends
 
 pub returns-in-Ok-finish-clause-steady : goal.returns-in-Ok-finish-clause-steady
 returns-in-Ok-finish-clause-steady g c =

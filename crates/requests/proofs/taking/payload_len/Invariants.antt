@@ -1,10 +1,11 @@
 use Rattle.std.proofs.Common.{◌≡◌, ℕ, ◌+◌, ◌≤◌, List, [], length, Ok}
 use Rattle.messages.specs.Messages.{InsideGoes}
 use Rattle.requests.specs.Answers.{ReadsSteadily, faults_of}
+use Rattle.requests.specs.Large.{IsFresh}
 use Rattle.requests.specs.Sending.{IsHeld, Writes}
-use Rattle.requests.proofs.payload_len.Given as goal
+use Rattle.requests.proofs.taking.payload_len.Given as goal
 
--- this payload was read, and each turn read some of it, or was interrupted
+-- this payload was read, and each turn read some of it, or was interrupted; before the last one it wasn't too large
 abbrev pub invariant-loop-read : goal.invariant-loop-read
 invariant-loop-read g l = record {
   payload : List ℕ;
@@ -15,4 +16,5 @@ invariant-loop-read g l = record {
   writes : Writes g.W.Tell.log g.W.TellWrite.trace (l.initial.body.stream, l.initial.writer) [] (Ok tt)
       (l.body.stream, l.writer);
   held : IsHeld l.writer;
+  fresh : IsFresh l.initial.body.said.extent 4096 l.body.taken payload;
 }

@@ -1,6 +1,6 @@
 use Rattle.std.proofs.Common.{◌≡◌, ◌<◌, length, inl, inr, refl, rules}
 use Rattle.std.proofs.lemmas.List.{nil_from_length}
-use Rattle.requests.proofs.send_held.Goals as goal
+use Rattle.requests.proofs.writing.send_held.Goals as goal
 
 pub returns-then-is_empty : goal.returns-then-is_empty
 returns-then-is_empty g c =

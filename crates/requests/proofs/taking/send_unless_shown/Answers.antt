@@ -1,5 +1,5 @@
 use Rattle.std.proofs.Common.{◌<◌, ◌≡◌, length, inl, inr, refl, rules, arith}
-use Rattle.requests.proofs.send_unless_shown.Goals as goal
+use Rattle.requests.proofs.taking.send_unless_shown.Goals as goal
 
 pub returns-then-not-is_empty : goal.returns-then-not-is_empty
 returns-then-not-is_empty g c =

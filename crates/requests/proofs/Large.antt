@@ -1,0 +1,46 @@
+-- Which bodies are too large.
+use Rattle.std.proofs.Common.{◌≡◌, ℕ, ◌+◌, ◌-◌, ◌*◌, ◌^◌, ◌≤◌, ◌||◌, nat_lt, min, Bool, true, false, List, Option, ◌++◌, length, sym, ap, inl, inr, ◌∙◌, refl, arith}
+use Rattle.std.proofs.lemmas.Bool.{cases_lt, le-ltb, lt-ltb, ltb-false}
+use Rattle.messages.specs.declared.head.Extent.{Extent}
+use Rattle.messages.specs.declared.head.Extent.TheVariants.{Sized, Chunked}
+use Rattle.messages.specs.Messages.{InBody, InsideGoes}
+use Rattle.requests.specs.Large.{IsFresh, is_large, max_payload}
+
+first_false : (a b : Bool) → a || b ≡ false → a ≡ false
+first_false false b none = refl
+first_false true b none = none
+
+-- how much payload one has that isn't too large
+pub small_payload : (extent : Extent) (taken payload : ℕ) → is_large extent taken payload ≡ false → payload ≤ max_payload
+small_payload (Sized all) taken payload small = ltb-false max_payload payload (first_false _ _ small)
+small_payload Chunked taken payload small = ltb-false max_payload payload (first_false _ _ small)
+
+-- a count of what was taken ends far beyond that
+same_test : (n p : ℕ) → p ≤ max_payload
+    → nat_lt (16384 + 6 * p) (min n (2 ^ 64 - 1)) ≡ nat_lt (16384 + 6 * p) n
+same_test n p few = elim (cases_lt (16384 + 6 * p) n) [
+  | inl more ↦ lt-ltb (16384 + 6 * p) (min n (2 ^ 64 - 1)) (omega (arith, few, more)) ∙ sym (lt-ltb (16384 + 6 * p) n more)
+  | inr less ↦ le-ltb (16384 + 6 * p) (min n (2 ^ 64 - 1)) (omega (arith, less)) ∙ sym (le-ltb (16384 + 6 * p) n less)
+]
+
+pub large_counted : (extent : Extent) (n p : ℕ) → is_large extent (min n (2 ^ 64 - 1)) p ≡ is_large extent n p
+large_counted (Sized all) n p = refl
+large_counted Chunked n p = elim (cases_lt max_payload p) [
+  | inl over ↦ ap (λ b. b || nat_lt (16384 + 6 * p) (min n (2 ^ 64 - 1))) (lt-ltb max_payload p over)
+      ∙ sym (ap (λ b. b || nat_lt (16384 + 6 * p) n) (lt-ltb max_payload p over))
+  | inr few ↦ ap (λ b. nat_lt max_payload p || b) (same_test n p few)
+]
+
+-- what a test of counts says of what was taken
+pub tested : (e e' : Extent) (m q : ℕ) (taken payload : List ℕ) (b : Bool) → b ≡ is_large e m q → e ≡ e'
+    → m ≡ min (length taken) (2 ^ 64 - 1) → q ≡ length payload → is_large e' (length taken) (length payload) ≡ b
+tested e e' m q taken payload b is same count len = sym (is ∙ ap (λ x. is_large x m q) same
+    ∙ ap (λ n. is_large e' n q) count ∙ ap (λ n. is_large e' (min (length taken) (2 ^ 64 - 1)) n) len
+    ∙ large_counted e' (length taken) (length payload))
+
+-- what was read is no older than the last read, where it wasn't too large before that
+pub fresh_behind : {S : Type 0} {remaining : S → Option (List ℕ)} {m t : InBody S} (extent : Extent) (most : ℕ)
+    (payload last : List ℕ) → is_large extent (length m.taken) (length payload) ≡ false → InsideGoes remaining m last t
+    → length last ≤ most → IsFresh extent most t.taken (payload ++ last)
+fresh_behind {S} {remaining} {m} extent most payload last small goes few =
+    inr (m.taken, goes.takes.wire, payload, last, goes.taken, refl, few, small)

@@ -1,0 +1,25 @@
+-- Which bodies are too large to be taken whole.
+use Rattle.std.specs.Prelude.{◌≡◌, ℕ, ◌+◌, ◌*◌, ◌≤◌, ◌⊎◌, ◌||◌, nat_lt, Bool, false, List, [], ◌++◌, length, IsTrue}
+use Rattle.messages.specs.declared.head.Extent.{Extent}
+use Rattle.messages.specs.declared.head.Extent.TheVariants.{Sized, Chunked}
+
+-- the most payload, of 2 ^ 40 bytes
+abbrev pub max_payload : ℕ
+max_payload = 1099511627776
+
+-- so many bytes were taken of a body, with so much payload, and that is too much; or its head says so. In chunks of one byte
+-- each byte of payload takes six, and what else is none, as extensions and trailers, has a total
+abbrev pub is_large : Extent → ℕ → ℕ → Bool
+is_large (Sized all) taken payload = nat_lt max_payload payload || nat_lt max_payload all
+is_large Chunked taken payload = nat_lt max_payload payload || nat_lt (16384 + 6 * payload) taken
+
+-- it wasn't before the last read, which handed out this much payload at most; or nothing was read
+abbrev pub IsFresh : Extent → ℕ → List ℕ → List ℕ → Type 0
+IsFresh extent most taken handed = ((taken ≡ []) × (handed ≡ []))
+    ⊎ ((before : List ℕ) × (wire : List ℕ) × (payload : List ℕ) × (last : List ℕ) × (taken ≡ before ++ wire)
+    × (handed ≡ payload ++ last) × (length last ≤ most) × (is_large extent (length before) (length payload) ≡ false))
+
+-- what was taken of a body is too large with this payload, as soon as that was read
+pub record TurnsLarge (extent : Extent) (taken handed : List ℕ) : Type 0 where
+  pub large : IsTrue (is_large extent (length taken) (length handed))
+  pub fresh : IsFresh extent 4096 taken handed

@@ -1,0 +1,167 @@
+//! Bodies are taken whole, and their payload counted.
+ghost use Rattle.std.specs.Prelude.{◌≡◌, ℕ, ◌<◌, ◌≤◌, true, false, List, [], length, IfErr, IfOk, MatchResult, Ok, OnOk};
+ghost use Rattle.std.specs.declared.io.Error.{Error};
+ghost use Rattle.redux_buffer.specs.Faults.{IsInterrupt};
+ghost use Rattle.body_reader.specs.Between.{handed_out};
+ghost use Rattle.codec.specs.PieceReader.{left_of};
+ghost use Rattle.messages.specs.Messages.{EachGave, InsideGoes, IsRest};
+ghost use Rattle.requests.specs.Answers.{FailsOn, ReadsSteadily, TakeFails, TakesWhole, sent_till, sent_with, unfinished};
+ghost use Rattle.requests.specs.Large.{is_large};
+ghost use Rattle.requests.specs.Sending.{IsHeld, SendsUnless, Writes};
+
+use crate::limits::is_large;
+use crate::writing::send_held;
+use buffer_redux::BufWriter;
+use buffer_redux::tell::{TellRead, TellWrite};
+use messages::{Body, BodyError, Requests};
+use std::io;
+use std::io::ErrorKind;
+
+// Why a body isn't taken whole.
+#[derive(Drop)]
+pub enum Untaken {
+    // It can't be read.
+    Body(BodyError),
+    // It is too large.
+    Large,
+    // What was held couldn't be sent before the stream was asked.
+    Unsent(io::Error),
+    // It was read more often than is counted.
+    Many,
+}
+
+// Takes the whole body, and counts its payload.
+pub fn take_whole<R: TellRead, W: TellWrite>(
+    body: Body<R>,
+    writer: &mut BufWriter<W>,
+) -> Result<(u64, Requests<R>), (Body<R>, Untaken)>
+    requires held { IsHeld writer.old }
+    requires first { body.taken ≡ [] }
+    ensures whole { IfOk result (λ r. TakesWhole R.remaining body (left_of r.1) r.0) }
+    ensures steady { IfOk result (λ r. ReadsSteadily body.stream (left_of r.1)) }
+    ensures part { IfErr result (λ e. (handed : List ℕ) × InsideGoes R.remaining body handed e.0
+        × TakeFails body.stream handed e.1 e.0 writer.new) }
+    ensures writes { MatchResult result
+        (λ r. Writes W.log W.trace (body.stream, writer.old) [] (Ok tt) (left_of r.1, writer.new))
+        (λ e. Writes W.log W.trace (body.stream, writer.old) [] (sent_till e.1) (e.0.stream, writer.new)) }
+{
+    let mut body = body;
+    match payload_len(&mut body, writer) {
+        Ok(len) => match body.finish() {
+            Ok(requests) => Ok((len, requests)),
+            Err((body, e)) => Err((body, unfinished(e))),
+        },
+        Err(e) => Err((body, e)),
+    }
+}
+
+// Why the end of a body isn't taken, for which nothing is asked: a fault is our own.
+fn unfinished(e: BodyError) -> Untaken
+    ensures { result ≡ unfinished e }
+{
+    match e {
+        BodyError::Io(_) => Untaken::Many,
+        e => Untaken::Body(e),
+    }
+}
+
+// How many bytes of payload the body has, of which all is read, unless it is too large. A read that was interrupted is made
+// again; any other failure is returned, so no answer counts a part of a body.
+fn payload_len<R: TellRead, W: TellWrite>(
+    body: &mut Body<R>,
+    writer: &mut BufWriter<W>,
+) -> Result<u64, Untaken>
+    requires held { IsHeld writer.old }
+    requires first { body.old.taken ≡ [] }
+    ensures goes { (payload : List ℕ) × InsideGoes R.remaining body.old payload body.new
+        × MatchResult result (λ len. len ≡ length payload)
+        (λ e. TakeFails body.old.stream payload e body.new writer.new) }
+    ensures ended { OnOk result (IsRest body.new.rest [] []) }
+    ensures small { IfOk result (λ len. is_large body.new.said.extent (length body.new.taken) len ≡ false) }
+    ensures steady { OnOk result (ReadsSteadily body.old.stream body.new.stream) }
+    ensures writes { Writes W.log W.trace (body.old.stream, writer.old) [] (sent_with result)
+        (body.new.stream, writer.new) }
+{
+    let extent = body.said().extent;
+    let mut out = [0; 4096];
+    let mut len = 0u64;
+    for _read in 0..u64::MAX {
+        if is_large(extent, body.taken(), len) {
+            return Err(Untaken::Large);
+        }
+        match read_on(body, &mut out, writer) {
+            Ok(0) => {
+                let all = body.taken();
+                if is_large(extent, all, len) {
+                    return Err(Untaken::Large);
+                }
+                return Ok(len);
+            }
+            Ok(count) => {
+                len += count as u64;
+            }
+            Err(e) => {
+                if !is_interrupted(&e) {
+                    return Err(e);
+                }
+            }
+        }
+    }
+    Err(Untaken::Many)
+}
+
+// Reads some payload. Where it isn't buffered, what is held is sent before the stream is asked.
+fn read_on<R: TellRead, W: TellWrite>(
+    body: &mut Body<R>,
+    out: &mut [u8],
+    writer: &mut BufWriter<W>,
+) -> Result<usize, Untaken>
+    requires some { 0 < length out.old }
+    requires held { IsHeld writer.old }
+    ensures bound { IfOk result (λ n. n ≤ length out.new) }
+    ensures goes { InsideGoes R.remaining body.old (handed_out out.new result) body.new }
+    ensures ended { result ≡ Ok 0 → IsRest body.new.rest [] [] }
+    ensures gave { OnOk result (EachGave body.old.stream body.new.stream) }
+    ensures fails { IfErr result (λ e. FailsOn body.old.stream e body.new writer.new) }
+    ensures writes { Writes W.log W.trace (body.old.stream, writer.old) [] (sent_with result)
+        (body.new.stream, writer.new) }
+{
+    let count = body.read_buffered(out);
+    if count > 0 {
+        return Ok(count);
+    }
+    if body.is_done() {
+        return Ok(0);
+    }
+    match send_unless_shown(body, writer) {
+        Ok(()) => match body.read(out) {
+            Ok(count) => Ok(count),
+            Err(e) => Err(Untaken::Body(e)),
+        },
+        Err(e) => Err(Untaken::Unsent(e)),
+    }
+}
+
+// Sends what is held where more of the body has to be asked for.
+fn send_unless_shown<R: TellRead, W: TellWrite>(
+    body: &Body<R>,
+    writer: &mut BufWriter<W>,
+) -> io::Result<()>
+    requires held { IsHeld writer.old }
+    ensures { SendsUnless W.log W.trace (0 < length body.now.stream.left) writer.old result writer.new }
+{
+    if !body.buffered().is_empty() {
+        return Ok(());
+    }
+    send_held(writer)
+}
+
+fn is_interrupted(e: &Untaken) -> bool
+    ensures yes { result ≡ true → (why : Error) × (e.now ≡ Untaken.Body (BodyError.Io why)) × IsInterrupt why }
+    ensures no { (why : Error) → e.now ≡ Untaken.Body (BodyError.Io why) → IsInterrupt why → result ≡ true }
+{
+    match e {
+        Untaken::Body(BodyError::Io(e)) => e.kind() == ErrorKind::Interrupted,
+        _ => false,
+    }
+}
