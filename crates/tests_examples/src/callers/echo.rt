@@ -18,7 +18,8 @@ fn echoes_packets(rt: HostRuntime) -> Result<(), Fail> {
     );
     let ended = matches!(echo_all(&mut reader, &mut writer), Ok(Served::End));
     drop(reader);
-    let received = writer.get_ref().get_ref().as_slice() == b"\x30\x02hi\xc0\0\0\0\x30\x03one".as_slice();
+    let received = writer.get_ref().get_ref().as_slice()
+        == b"\x30\x02hi\xc0\0\0\0\x30\x03one".as_slice();
     drop(writer);
     assert!(rt; closed && ended && received);
     Ok(())
