@@ -130,7 +130,8 @@ done
 row "OPTIONS * HTTP/1.1\r\n$H\r\n$G" '200:0 200:0'
 
 # What is understood, and not done: other codings within chunks (RFC 9112, section 6.1), tunnels, methods that aren't known, and
-# other versions; later ones of HTTP/1 are as 1.1 (RFC 9110, section 2.5). Empty elements of a list say nothing (RFC 9110, section 5.6.1), so behind one `chunked` stands alone.
+# other versions; later ones of HTTP/1 are as 1.1 (RFC 9110, section 2.5). Empty elements of a list say nothing (RFC 9110,
+# section 5.6.1), so behind one `chunked` stands alone.
 for coding in 'gzip, chunked' 'identity, chunked' 'gzip\r\nTransfer-Encoding: chunked'; do
     row "${P}Transfer-Encoding: $coding\r\n\r\n3\r\nabc\r\n0\r\n\r\n$G" '501'
 done
