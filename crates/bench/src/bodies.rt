@@ -5,7 +5,7 @@ use crate::makers::{told, told_sink};
 use crate::whole::turns;
 use buffer_redux::tell::{TellRead, TellWrite};
 use buffer_redux::{BufReader, BufWriter};
-use chunked::{ChunkedReader, ChunkedWriter, Limits};
+use chunked::{Chunked, ChunkedReader, ChunkedWriter, Limits};
 use std::alloc::{AllocError, Global};
 use std::io;
 use std::io::{ErrorKind, Write};
@@ -32,8 +32,8 @@ pub fn bodies(alloc: Global, case: &Case, bytes: &[u8]) -> io::Result<u64> {
         line: 64,
         trailers: 4096,
     };
-    let reader = BufReader::with_capacity(alloc, case.capacity, told(bytes))?;
-    body_to_end(ChunkedReader::new(reader, limits))
+    let reader = BufReader::with_capacity(alloc, case.capacity.max(1), told(bytes))?;
+    body_to_end(ChunkedReader::new(reader, Chunked(limits)))
 }
 
 #[inline(never)]

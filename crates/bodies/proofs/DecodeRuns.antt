@@ -4,13 +4,14 @@ use Rattle.std.proofs.lemmas.Grind.{flat_map-append}
 use Rattle.std.specs.Global.{Vec}
 use Rattle.buffer_redux.specs.ReaderLaws.{ReadsInOrder-fresh}
 use Rattle.buffer_redux.specs.WriterLaws.{WritesInOrder-fresh}
+use Rattle.chunked.specs.CodingLaws.{leads_of}
 use Rattle.chunked.specs.Place.{Leads}
 use Rattle.chunked.specs.PlaceLaws.{Leads-none}
 use Rattle.chunked.specs.declared.place.Place.TheVariants.{Line}
 use Rattle.forward.specs.Forward.{ForwardAnswers, Forwarded, StopsBy}
 use Rattle.forward.specs.declared.error.Cause.{Cause}
 use Rattle.forward.specs.declared.error.Cause.TheVariants as cause
-use Rattle.bodies.specs.Words.{Error, Buffered, StreamLog, StdPolicy, IsBody, BreaksAt, IsWhole, begun, Limits, FilterRules, Moves, AllSent, BufferRefused, MetNoFault, RunError}
+use Rattle.bodies.specs.Words.{Error, Buffered, StreamLog, StdPolicy, IsBody, BreaksAt, IsWhole, begun, chunked, handed_of, Limits, FilterRules, Moves, AllSent, BufferRefused, MetNoFault, RunError}
 use Rattle.bodies.specs.Decode.{DecodeRan, Decodes, Moved, MovedAll}
 use Rattle.bodies.specs.Decoding.{IsReady, PiecesEnd, decoding_rules, held_of}
 use Rattle.bodies.specs.DecodingLaws.{none_held}
@@ -21,7 +22,8 @@ use Rattle.bodies.specs.declared.error.RunError.TheVariants.{NotChunked, Truncat
 
 -- a filter before a body
 abbrev pub start : {R W : Type 0} → Limits → Buffered R StdPolicy → Buffered W StdPolicy → Vec ℕ → Decoding R W
-start limits first u piece = record { source = begun first limits; target = u; piece = piece; held = 0 }
+start limits first u piece =
+    record { source = begun (chunked limits) first (record { 0 = limits }); target = u; piece = piece; held = 0 }
 
 -- from empty buffers on
 module _ {R W : Type 0} (remaining : R → Option (List ℕ)) (limits : Limits) (first : Buffered R StdPolicy)
@@ -52,8 +54,9 @@ module _ {R W : Type 0} (remaining : R → Option (List ℕ)) (limits : Limits) 
           payload = moves.hands.payload;
           place = t.source.place;
           part = record {
-            leads = subst (λ l. Leads l Line t.source.taken moves.hands.payload t.source.place) went.limits
-                (subst (λ l. Leads t.source.limits Line t.source.taken l t.source.place) went.handed ready.whole.leads);
+            leads = subst (λ c. Leads c.0 Line t.source.taken moves.hands.payload t.source.place) went.coding
+                (subst (λ l. Leads t.source.coding.0 Line t.source.taken l t.source.place) went.handed
+                (leads_of t.source.coding.0 Line t.source.taken (handed_of t.source) t.source.place ready.whole.leads));
             is_place = ready.whole.place;
           };
           rest = t.source.reader.block.bytes;
@@ -90,22 +93,23 @@ module _ {R W : Type 0} (remaining : R → Option (List ℕ)) (limits : Limits) 
         flushed = sent.flushed;
       }
 
-      is_body : IsWhole t.source → IsBody limits t.source.taken over.moves.hands.payload
-      is_body whole = subst (λ l. IsBody l t.source.taken over.moves.hands.payload) over.moves.hands.went.limits
-          (subst (IsBody t.source.limits t.source.taken) over.moves.hands.went.handed whole)
+      is_body : IsWhole (chunked t.source.coding.0) t.source → IsBody limits t.source.taken over.moves.hands.payload
+      is_body whole = subst (λ c. IsBody c.0 t.source.taken over.moves.hands.payload) over.moves.hands.went.coding
+          (subst (IsBody t.source.coding.0 t.source.taken) over.moves.hands.went.handed whole)
 
       -- what comes next is wrong, or missing, or more than the body
       wrong : (why : RunError) → PiecesEnd begin.source (Err why) t.source
           → MetNoFault first.log t.source.reader.log u.log t.target.log → Ran (Err why)
       wrong (NotChunked why right) (breaks, count) met = (
         moved_all,
-        subst (λ l. BreaksAt l t.source.place t.source.taken t.source.reader.block.bytes why) over.moves.hands.went.limits breaks,
+        subst (λ c. BreaksAt c.0 t.source.place t.source.taken t.source.reader.block.bytes why) over.moves.hands.went.coding
+            breaks,
         count,
         met,
       )
       wrong (Truncated right) (none, left, dry, count) met = (
         moved_all,
-        subst (λ l. (whole : List ℕ) → ¬ IsBody l t.source.taken whole) over.moves.hands.went.limits none,
+        subst (λ c. (whole : List ℕ) → ¬ IsBody c.0 t.source.taken whole) over.moves.hands.went.coding none,
         left,
         dry,
         count,

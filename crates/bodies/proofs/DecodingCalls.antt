@@ -1,49 +1,79 @@
 -- What the calls of a filter of payload do.
-use Rattle.std.proofs.Common.{◌≡◌, ℕ, ◌+◌, ◌<◌, ◌≤◌, inl, inr, List, [], ◌∷◌, ◌++◌, length, take, true, false, Bool, Option, Result, Ok, Err, refl, sym, ap, subst, ◌∙◌, arith, append-nil, length-append, length-take-le}
+use Rattle.std.proofs.Common.{◌≡◌, ℕ, ◌+◌, ◌<◌, ◌≤◌, ◌⊎◌, inl, inr, List, [], ◌∷◌, ◌++◌, length, take, true, false, Bool, Option, Result, Ok, Err, refl, sym, ap, subst, ◌∙◌, arith, append-nil, length-take-le}
 use Rattle.std.proofs.lemmas.List.Elements.{All-cons, All-nil}
-use Rattle.std.proofs.lemmas.List.{with_items_is}
+use Rattle.std.proofs.lemmas.List.{nil_from_length, with_items_is}
 use Rattle.std.specs.Vec.{with_items}
-use Rattle.buffer_redux.specs.EmptyReads.{ReadsWhenEmpty-std, none_before_fault, none_where_shown}
 use Rattle.buffer_redux.specs.LogGrows.{ReadLogGrows-joins}
-use Rattle.buffer_redux.specs.ReaderLaws.{WantsBytes-std}
 use Rattle.buffer_redux.specs.Unbuffer.{unbuffered}
 use Rattle.buffer_redux.specs.WriterLaws.{WritesInOrder-none}
-use Rattle.chunked.specs.AskingLaws.{AskedWhere-of, AskedWhere-on, LeadsOn, fill_asks, fill_leaves, payload_asks, payload_gives, payload_leaves}
-use Rattle.chunked.specs.Between.{Faulted}
-use Rattle.chunked.specs.ChunkedReaderLaws.{BodyWent-joins, LooksBehind-went}
-use Rattle.chunked.specs.EmptyReads.{EndsOnce, ReadsPayload-ends}
+use Rattle.body_reader.specs.AskingLaws.{AskedWhere-of, AskedWhere-on}
+use Rattle.body_reader.specs.Between.{EachGave}
+use Rattle.body_reader.specs.BodyReader.{Breaks, EndsEarly}
+use Rattle.body_reader.specs.BodyReaderLaws.{BodyWent-joins}
+use Rattle.body_reader.specs.Coding.{IsOpen, LeadsOpen}
+use Rattle.body_reader.specs.declared.error.BodyError.{BodyError}
+use Rattle.body_reader.specs.declared.error.BodyError.TheVariants as body
+use Rattle.chunked.specs.Coding.{IsWrongNext}
+use Rattle.chunked.specs.CodingLaws.{breaks_at, leads_of}
 use Rattle.chunked.specs.Place.{Leads}
 use Rattle.chunked.specs.PlaceLaws.{Leads-joins}
-use Rattle.chunked.specs.declared.error.ChunkedError.{ChunkedError}
-use Rattle.chunked.specs.declared.error.ChunkedError.TheVariants.{NotChunked, Truncated, Io}
+use Rattle.chunked.specs.declared.error.Malformed.{Malformed}
 use Rattle.chunked.specs.declared.place.Place.TheVariants.{Line}
 use Rattle.forward.specs.declared.error.AskError.{AskError}
 use Rattle.programs.specs.FlushesLaws.{FlushesOnce-flush}
 use Rattle.programs.specs.PromptLaws.{WritesOn-grows, WritesOn-unflushed}
-use Rattle.bodies.specs.Words.{Error, WasFlushed, WritesInOrder, Buffered, std_read_rules, StreamLog, StdPolicy, BodyWent, ChunkedState, IsChunkedReader, IsWhole, LooksBehind, ReadsPayload, handed_of, taken_count, AskAnswers, Asks, FlushAnswers, Flushes, FilterRules, Gives, Passes, taken_more, RunError}
+use Rattle.bodies.specs.Words.{Error, WasFlushed, WritesInOrder, Buffered, std_read_rules, StreamLog, StdPolicy, BodyWent, IsBody, IsBodyReader, IsWhole, LooksBehind, ReadsPayload, chunked, handed_of, taken_count, AskAnswers, Asks, FlushAnswers, Flushes, FilterRules, Gives, Passes, taken_more, RunError}
 use Rattle.bodies.specs.Decode.{IsDue}
-use Rattle.bodies.specs.Decoding.{HandsPieces, Holds, IsPieceTarget, IsReady, NoneBuffered, WritesPiece, ask_error, decoding_rules, end_answer, held_of}
+use Rattle.bodies.specs.Decoding.{ChunkedState, HandsPieces, Holds, IsPieceTarget, IsReady, NoneBuffered, WritesPiece, ask_error, decoding_rules, end_answer, held_of}
 use Rattle.bodies.specs.Decoding as Source
 use Rattle.bodies.specs.DecodingLaws.{hands_held, hands_none, none_held}
-use Rattle.bodies.specs.FiltersLaws.{ended, fault_gives, some_of, std_fault}
+use Rattle.bodies.specs.FiltersLaws.{fault_gives}
 use Rattle.bodies.specs.declared.decoding.Decoding.{Decoding}
 
--- the payload in what was taken is due, and bytes that hold none make no more due
-due_on : {R : Type 0} (d : ChunkedState R StdPolicy) → IsChunkedReader d → (bytes : List ℕ) → LeadsOn d.limits d.place bytes
-    → IsDue d.limits (d.taken ++ bytes) (handed_of d)
-due_on d is bytes on = record {
-  place = on.place;
-  part = record {
-    leads = subst (λ l. Leads d.limits Line (d.taken ++ bytes) l on.place) (append-nil (handed_of d))
-        (Leads-joins d.limits Line d.place on.place d.taken bytes (handed_of d) [] is.leads on.leads);
-    is_place = on.is_place;
-  };
-}
+-- bytes that settle nothing are none
+open_none : {R : Type 0} (d : ChunkedState R) (bytes : List ℕ) → IsOpen (chunked d.coding.0) d.place bytes → bytes ≡ []
+open_none d bytes open' = nil_from_length bytes (omega (arith, open'.few))
 
-own_fault : {R : Type 0} (s : Buffered R StdPolicy) (e : Error) (t : Buffered R StdPolicy) → Faulted std_read_rules s e t
-    → t.log.reads.faults ≡ s.log.reads.faults ++ e ∷ []
-own_fault s e t (inl fault) = fault
-own_fault s e t (inr failed) = absurd failed.3.gave.allowed
+-- the payload in what was taken is due, and bytes that hold none make no more due
+due_on : {R : Type 0} (d : ChunkedState R) → IsBodyReader (chunked d.coding.0) d → (bytes : List ℕ)
+    → LeadsOpen (chunked d.coding.0) d.place [] bytes → IsDue d.coding.0 (d.taken ++ bytes) (handed_of d)
+due_on d is bytes on =
+    let limits = d.coding.0 in
+    let none : on.shown ≡ [] = nil_from_length on.shown (omega (arith, on.settles_nothing.few)) in
+    let all : on.wire ≡ bytes = sym (append-nil on.wire) ∙ ap (λ l. on.wire ++ l) (sym none) ∙ sym on.equal in
+    record {
+      place = on.place;
+      part = record {
+        leads = subst (λ l. Leads limits Line (d.taken ++ bytes) l on.place) (append-nil (handed_of d))
+            (Leads-joins limits Line d.place on.place d.taken bytes (handed_of d) []
+            (leads_of limits Line d.taken (handed_of d) d.place is.leads)
+            (subst (λ l. Leads limits d.place l [] on.place) all (leads_of limits d.place on.wire [] on.place on.leads)));
+        is_place = on.is_place;
+      };
+    }
+
+-- where nothing was settled no body was taken, and nothing is buffered
+early_none : {R : Type 0} (d : ChunkedState R) → EndsEarly (chunked d.coding.0) d
+    → ((payload : List ℕ) → ¬ IsBody d.coding.0 d.taken payload) × (d.reader.block.bytes ≡ [])
+early_none d early = (
+  λ payload whole. early.none d.taken payload d.reader.block.bytes whole refl,
+  open_none d d.reader.block.bytes early.settles_nothing,
+)
+
+-- where less was handed out than could be, no payload is buffered
+pub shown_none : {R : Type 0} (s d : ChunkedState R) → d.coding ≡ s.coding → IsBodyReader (chunked s.coding.0) d
+    → IsWhole (chunked s.coding.0) d ⊎ (EndsEarly (chunked s.coding.0) d
+    ⊎ ((why : Malformed) × Breaks (chunked s.coding.0) why d))
+    → NoneBuffered d
+shown_none s d same is (inl whole) = inl (subst (λ c. IsWhole (chunked c.0) d) (sym same) whole)
+shown_none s d same is (inr (inl early)) =
+    inr (inl (early_none d (subst (λ c. EndsEarly (chunked c.0) d) (sym same) early)).1)
+shown_none s d same is (inr (inr (why, breaks))) =
+    inr (inr (
+      why,
+      breaks_at d (subst (λ c. IsBodyReader (chunked c.0) d) (sym same) is) why
+          (subst (λ c. IsWrongNext c.0 d.place d.reader.block.bytes why) (sym same) breaks.name),
+    ))
 
 module _ {R W : Type 0} (remaining : R → Option (List ℕ)) (s : Decoding R W) (ready : IsReady s) where
   abbrev rules : FilterRules (Decoding R W) RunError
@@ -60,19 +90,20 @@ module _ {R W : Type 0} (remaining : R → Option (List ℕ)) (s : Decoding R W)
   }
 
   -- none was held, and payload was read into the piece
-  module _ (none : s.held ≡ 0) (m : ChunkedState R StdPolicy) (out : List ℕ) (len : length out ≡ length s.piece.items) where
-    abbrev read : ChunkedState R StdPolicy → ℕ → Decoding R W
+  module _ (none : s.held ≡ 0) (m : ChunkedState R) (out : List ℕ) (len : length out ≡ length s.piece.items) where
+    abbrev read : ChunkedState R → ℕ → Decoding R W
     read t n = record s { source = t; piece = with_items s.piece out; held = n }
 
     refilled : (with_items s.piece out).items ≡ out
     refilled = with_items_is s.piece out (len ∙ sym s.piece.ok.0)
 
-    module _ (t : ChunkedState R StdPolicy) (n : ℕ) (went : BodyWent remaining std_read_rules s.source (take n out) t) where
+    module _ (t : ChunkedState R) (n : ℕ)
+        (went : BodyWent remaining std_read_rules (chunked s.source.coding.0) s.source (take n out) t) where
       read_hands : HandsPieces remaining s [] (read t n)
       read_hands = hands_held remaining s (read t n) (take n out) went
           (ap (λ l. l ++ take n out) (none_held remaining s none) ∙ sym (ap (λ l. take n l) refilled))
 
-      read_ready : n ≤ 16384 → IsChunkedReader t → IsReady (read t n)
+      read_ready : n ≤ 16384 → IsBodyReader (chunked t.coding.0) t → IsReady (read t n)
       read_ready most whole = record {
         capacity = omega (arith, ready.capacity, went.along.capacity);
         whole = whole;
@@ -81,8 +112,9 @@ module _ {R W : Type 0} (remaining : R → Option (List ℕ)) (s : Decoding R W)
         held = most;
       }
 
-    pub held_on : (n : ℕ) → BodyWent remaining std_read_rules s.source (take n out) m → m.reader.log ≡ s.source.reader.log
-        → n ≤ length out → IsChunkedReader m → (n ≡ 0 → NoneBuffered m) → Holds remaining s (read m n)
+    pub held_on : (n : ℕ) → BodyWent remaining std_read_rules (chunked s.source.coding.0) s.source (take n out) m
+        → m.reader.log ≡ s.source.reader.log → n ≤ length out → IsBodyReader (chunked m.coding.0) m
+        → (n ≡ 0 → NoneBuffered m) → Holds remaining s (read m n)
     held_on n went told bound whole all = record {
       hands = read_hands m n went;
       told = told;
@@ -185,12 +217,13 @@ module _ {R W : Type 0} (remaining : R → Option (List ℕ)) (s : Decoding R W)
     }
 
   -- the reader inside was asked for a piece
-  module _ (none : s.held ≡ 0) (m : ChunkedState R StdPolicy) (out : List ℕ) (len : length out ≡ length s.piece.items) where
-    abbrev asked : ChunkedState R StdPolicy → ℕ → Decoding R W
+  module _ (none : s.held ≡ 0) (m : ChunkedState R) (out : List ℕ) (len : length out ≡ length s.piece.items) where
+    abbrev asked : ChunkedState R → ℕ → Decoding R W
     asked = read none m out len
 
-    asks_so : (t : ChunkedState R StdPolicy) (n : ℕ) → n ≤ 16384 → BodyWent remaining std_read_rules s.source (take n out) t
-        → IsChunkedReader t → Source.Asks s.source t
+    asks_so : (t : ChunkedState R) (n : ℕ) → n ≤ 16384
+        → BodyWent remaining std_read_rules (chunked s.source.coding.0) s.source (take n out) t
+        → IsBodyReader (chunked t.coding.0) t → Source.Asks s.source t
         → t.reader.log.reads.zero_reads ≤ s.source.reader.log.reads.zero_reads + 1
         → (answer : Result Bool (AskError RunError)) → AskAnswers rules s answer (asked t n) → Asks rules s answer (asked t n)
     asks_so t n most went whole over once answer answers = record {
@@ -207,143 +240,144 @@ module _ {R W : Type 0} (remaining : R → Option (List ℕ)) (s : Decoding R W)
     }
 
     -- nothing was handed out
-    asks_none : (t : ChunkedState R StdPolicy) → BodyWent remaining std_read_rules s.source [] t → IsChunkedReader t
-        → Source.Asks s.source t → t.reader.log.reads.zero_reads ≤ s.source.reader.log.reads.zero_reads + 1
+    asks_none : (t : ChunkedState R) → BodyWent remaining std_read_rules (chunked s.source.coding.0) s.source [] t
+        → IsBodyReader (chunked t.coding.0) t → Source.Asks s.source t
+        → t.reader.log.reads.zero_reads ≤ s.source.reader.log.reads.zero_reads + 1
         → (answer : Result Bool (AskError RunError)) → AskAnswers rules s answer (asked t s.held)
         → Asks rules s answer (asked t s.held)
     asks_none t went whole over once answer answers =
         asks_so t s.held (omega (arith, none))
-        (subst (λ n. BodyWent remaining std_read_rules s.source (take n out) t) (sym none) went) whole over once answer answers
+        (subst (λ n. BodyWent remaining std_read_rules (chunked s.source.coding.0) s.source (take n out) t) (sym none) went)
+        whole over once answer answers
 
     abbrev Such : List ℕ → Type 0
-    Such bytes = IsDue s.source.limits (s.source.taken ++ bytes) (handed_of s.source)
+    Such bytes = IsDue s.source.coding.0 (s.source.taken ++ bytes) (handed_of s.source)
 
-    module _ (answer : Result ℕ ChunkedError) (p : ReadsPayload remaining std_read_rules s.source out answer m) where
+    -- each ask gave a byte, as far as faults are counted
+    gives_on : (t : ChunkedState R) (n : ℕ) → EachGave s.source.reader t.reader → Gives rules s (asked t n)
+    gives_on t n gave =
+        record { zero_reads = gave.zero_reads; give = omega (arith, gave.asks, ap length gave.faults) }
+
+    module _ (answer : Result ℕ (BodyError Malformed))
+        (p : ReadsPayload remaining std_read_rules (chunked s.source.coding.0) s.source out answer m) where
       over : Source.Asks s.source m
       over = record {
-        asked = AskedWhere-of (LeadsOn s.source.limits s.source.place) Such (unbuffered s.source.reader)
-            (unbuffered m.reader) (due_on s.source ready.whole) (payload_asks remaining s.source m ready.whole out answer p);
+        asked = AskedWhere-of (LeadsOpen (chunked s.source.coding.0) s.source.place []) Such (unbuffered s.source.reader)
+            (unbuffered m.reader)
+            (λ more open'. due_on s.source ready.whole (s.source.reader.block.bytes ++ more) open') p.asked;
         grows = p.went.along.grows;
       }
 
-      ends : EndsOnce s.source.reader.log.reads answer m.reader.log.reads
-      ends = ReadsPayload-ends std_read_rules ReadsWhenEmpty-std remaining s.source m out answer p
+      here : IsBodyReader (chunked m.coding.0) m
+      here = subst (λ c. IsBodyReader (chunked c.0) m) (sym p.went.coding) p.whole
 
-    -- a piece came, or the body ended
-    read_gives : (n : ℕ) → ReadsPayload remaining std_read_rules s.source out (Ok n) m → Gives rules s (asked m n)
-    read_gives n p =
-        let faults = p.went.along.grows.faults in
-        record {
-          zero_reads = ends (Ok n) p;
-          give = omega (
-            arith,
-            payload_gives remaining s.source m ready.whole out (Ok n) p n refl,
-            ap length faults.equal,
-            length-append s.source.reader.log.reads.faults faults.more,
-          );
-        }
-
-    pub asked_more : (n : ℕ) → ReadsPayload remaining std_read_rules s.source out (Ok n) m → 0 < n
+    pub asked_more : (n : ℕ) → ReadsPayload remaining std_read_rules (chunked s.source.coding.0) s.source out (Ok n) m → 0 < n
         → Asks rules s (Ok true) (asked m n)
-    asked_more n p some = asks_so m n (omega (arith, p.answers.0, len, ready.room)) p.went p.whole (over (Ok n) p)
-        (omega (arith, ends (Ok n) p)) (Ok true) (some, p.answers.1, inl (read_gives n p), λ finds. absurd (finds tt))
+    asked_more n p some =
+        let gave = p.answers.1 in
+        asks_so m n (omega (arith, p.answers.0, len, ready.room)) p.went (here (Ok n) p) (over (Ok n) p)
+        (omega (arith, gave.zero_reads)) (Ok true) (some, gave.faults, inl (gives_on m n gave), λ finds. absurd (finds tt))
 
     -- the ask for a piece failed
-    pub asked_failed : (e : ChunkedError) → ReadsPayload remaining std_read_rules s.source out (Err e) m
+    pub asked_failed : (e : BodyError Malformed)
+        → ReadsPayload remaining std_read_rules (chunked s.source.coding.0) s.source out (Err e) m
         → Asks rules s (Err (ask_error e)) (asked m s.held)
-    asked_failed (NotChunked why right) p =
-        let answer = Err (NotChunked why right) in
-        asks_none m p.went p.whole (over answer p) (omega (arith, ends answer p)) (Err (ask_error (NotChunked why right)))
-        ((none, (p.answers.2, p.answers.0)), p.answers.1)
-    asked_failed (Truncated right) p =
-        let answer = Err (Truncated right) in
-        let early = p.answers.2 in
-        asks_none m p.went p.whole (over answer p) (ends answer p) (Err (ask_error (Truncated right))) (
-          (
-            none,
-            (
-              early.none,
-              early.dry.none,
-              early.dry.dry (WantsBytes-std s.source.reader.policy) ready.capacity,
-              p.answers.0,
-            ),
-          ),
-          p.answers.1,
-        )
-    asked_failed (Io e) p =
-        let answer = Err (Io e) in
-        let fault = own_fault s.source.reader e m.reader p.answers in
-        asks_none m p.went p.whole (over answer p) (omega (arith, ends answer p)) (Err (ask_error (Io e))) (
-          (none, payload_leaves remaining s.source m ready.whole out answer p e refl),
-          fault,
+    asked_failed (body.Wrong why right) p =
+        let answer = Err (body.Wrong why right) in
+        let gave = p.answers.1 in
+        let breaks = breaks_at m (here answer p) why
+        (subst (λ c. IsWrongNext c.0 m.place m.reader.block.bytes why) (sym p.went.coding) p.answers.2.name) in
+        asks_none m p.went (here answer p) (over answer p) (omega (arith, gave.zero_reads))
+        (Err (ask_error (body.Wrong why right)))
+        ((none, (breaks, p.answers.0)), gave.faults)
+    asked_failed (body.Truncated right) p =
+        let answer = Err (body.Truncated right) in
+        let met = p.answers.1 in
+        let found = early_none m (subst (λ c. EndsEarly (chunked c.0) m) (sym p.went.coding) p.answers.2) in
+        asks_none m p.went (here answer p) (over answer p) (omega (arith, met.1)) (Err (ask_error (body.Truncated right)))
+        ((none, (found.0, found.1, omega (arith, met.1), p.answers.0)), met.0)
+    asked_failed (body.Io e) p =
+        let answer = Err (body.Io e) in
+        let fault = p.answers.0 in
+        let found = early_none m (subst (λ c. EndsEarly (chunked c.0) m) (sym p.went.coding) p.answers.1) in
+        asks_none m p.went (here answer p) (over answer p) (omega (arith, fault.1)) (Err (ask_error (body.Io e))) (
+          (none, found.1),
+          fault.0,
           inl (record {
-            zero_reads = ends answer p;
-            give = fault_gives Such s.source.reader m.reader (over answer p) e fault;
+            zero_reads = fault.1;
+            give = fault_gives Such s.source.reader m.reader (over answer p) e fault.0;
           }),
           refl,
         )
 
     -- the body ended, and then it was asked whether more follows
-    module _ (k : ℕ) (nothing : k ≡ 0) (p : ReadsPayload remaining std_read_rules s.source out (Ok k) m)
-        (t : ChunkedState R StdPolicy) where
-      first : BodyWent remaining std_read_rules s.source [] m
-      first = subst (λ j. BodyWent remaining std_read_rules s.source (take j out) m) nothing p.went
+    module _ (k : ℕ) (nothing : k ≡ 0)
+        (p : ReadsPayload remaining std_read_rules (chunked s.source.coding.0) s.source out (Ok k) m) (t : ChunkedState R) where
+      gave : EachGave s.source.reader m.reader
+      gave = p.answers.1
 
-      due : IsDue s.source.limits (s.source.taken ++ first.wire) (handed_of s.source)
-      due = subst (λ l. IsDue l (s.source.taken ++ first.wire) (handed_of s.source)) first.limits
-          (subst (λ l. IsDue m.limits l (handed_of s.source)) first.taken
-          (subst (IsDue m.limits m.taken) (first.handed ∙ append-nil (handed_of s.source))
-          (record { place = m.place; part = record { leads = p.whole.leads; is_place = p.whole.place } })))
+      first : BodyWent remaining std_read_rules (chunked s.source.coding.0) s.source [] m
+      first = subst (λ j. BodyWent remaining std_read_rules (chunked s.source.coding.0) s.source (take j out) m) nothing p.went
 
-      module _ (end : Result Bool Error) (looks : LooksBehind remaining std_read_rules m end t) where
-        done : IsWhole t
-        done = subst IsWhole (sym looks.still) (p.answers.2 nothing (omega (arith, len, ready.room)))
+      due : IsDue s.source.coding.0 (s.source.taken ++ first.wire) (handed_of s.source)
+      due = subst (λ c. IsDue c.0 (s.source.taken ++ first.wire) (handed_of s.source)) first.coding
+          (subst (λ l. IsDue m.coding.0 l (handed_of s.source)) first.taken
+          (subst (IsDue m.coding.0 m.taken) (first.handed ∙ append-nil (handed_of s.source)) (record {
+            place = m.place;
+            part = record {
+              leads = leads_of m.coding.0 Line m.taken (handed_of m) m.place (here (Ok k) p).leads;
+              is_place = p.whole.place;
+            };
+          })))
+
+      module _ (end : Result Bool Error) (looks : LooksBehind remaining std_read_rules (chunked m.coding.0) m end t) where
+        done : IsWhole (chunked t.coding.0) t
+        done = subst (λ d. IsWhole (chunked d.coding.0) d) (sym looks.still)
+            (subst (λ c. IsWhole (chunked c.0) m) (sym p.went.coding)
+            (p.answers.2 nothing (omega (arith, len, ready.room))))
 
         over_on : Source.Asks s.source t
         over_on = record {
-          asked = AskedWhere-on Such (λ bytes. bytes ≡ []) s.source.reader m.reader t.reader first.wire
-              (record {
-                order = first.along.in_order;
-                gives = payload_gives remaining s.source m ready.whole out (Ok k) p k refl;
-              })
-              (λ bytes none. subst Such (sym (append-nil first.wire) ∙ ap (λ l. first.wire ++ l) (sym none)) due)
-              (over (Ok k) p).asked (fill_asks m.reader t.reader end looks.fills);
+          asked = AskedWhere-on Such (λ bytes. bytes ≡ []) s.source.reader m.reader t.reader first.wire first.along.in_order gave
+              (λ more none. subst Such (sym (append-nil first.wire) ∙ ap (λ l. first.wire ++ l) (sym none)) due)
+              (over (Ok k) p).asked looks.asked;
           grows = ReadLogGrows-joins s.source.reader.log.reads m.reader.log.reads t.reader.log.reads first.along.grows
-              looks.fills.grows;
+              looks.went.along.grows;
         }
 
         asks_behind : (answer : Result Bool (AskError RunError))
             → t.reader.log.reads.zero_reads ≤ m.reader.log.reads.zero_reads + 1
             → AskAnswers rules s answer (asked t s.held) → Asks rules s answer (asked t s.held)
         asks_behind answer once answers =
-            asks_none t
-            (BodyWent-joins remaining std_read_rules s.source m t [] [] first
-            (LooksBehind-went remaining std_read_rules m t end looks))
-            (subst IsChunkedReader (sym looks.still) (record { leads = p.whole.leads; place = p.whole.place })) over_on
-            (omega (arith, once, ends (Ok k) p)) answer answers
+            asks_none t (BodyWent-joins remaining std_read_rules (chunked s.source.coding.0) s.source m t [] [] first
+            (subst (λ x. BodyWent remaining std_read_rules (chunked x.0) m [] t) first.coding looks.went))
+            (subst (λ c. IsBodyReader (chunked c.0) t) (sym looks.went.coding) looks.whole) over_on
+            (omega (arith, once, gave.zero_reads)) answer answers
 
       -- none does, or some, or that can't be told
-      pub asked_behind : (end : Result Bool Error) → LooksBehind remaining std_read_rules m end t
+      pub asked_behind : (end : Result Bool Error) → LooksBehind remaining std_read_rules (chunked m.coding.0) m end t
           → Asks rules s (end_answer end (taken_count t)) (asked t s.held)
       asked_behind (Ok true) looks =
-          let end = ended m.reader t.reader true looks.fills looks.none (omega (arith, ready.capacity, first.along.capacity)) in
-          asks_behind (Ok true) looks (Ok false) (omega (arith, end.1)) (
-            (none, (done (Ok true) looks, end.0, omega (arith, end.1, ends (Ok k) p))),
-            looks.fills.caused ∙ p.answers.1,
+          let left = looks.answers.0 in
+          let met = looks.answers.1 in
+          asks_behind (Ok true) looks (Ok false) (omega (arith, met.1)) (
+            (none, (done (Ok true) looks, left, omega (arith, met.1, gave.zero_reads))),
+            met.0 ∙ gave.faults,
           )
       asked_behind (Ok false) looks =
-          let some = some_of (length t.reader.block.bytes) looks.none in
-          let quiet = none_where_shown std_read_rules ReadsWhenEmpty-std m.reader t.reader false looks.fills.filled some in
-          asks_behind (Ok false) looks (end_answer (Ok false) (taken_count t)) (omega (arith, quiet))
-          ((none, (done (Ok false) looks, some, refl)), looks.fills.caused ∙ p.answers.1)
+          let some = looks.answers.0 in
+          let more = looks.answers.1 in
+          asks_behind (Ok false) looks (end_answer (Ok false) (taken_count t)) (omega (arith, more.zero_reads))
+          ((none, (done (Ok false) looks, some, refl)), more.faults ∙ gave.faults)
       asked_behind (Err e) looks =
-          let quiet = none_before_fault std_read_rules ReadsWhenEmpty-std m.reader t.reader e looks.fills.filled in
-          let fault = std_fault m.reader t.reader e looks.fills ∙ ap (λ l. l ++ e ∷ []) p.answers.1 in
-          asks_behind (Err e) looks (end_answer (Err e) (taken_count t)) (omega (arith, quiet)) (
-            (none, fill_leaves m.reader t.reader e looks.fills),
+          let left = looks.answers.0 in
+          let failed = looks.answers.1 in
+          let fault = failed.0 ∙ ap (λ l. l ++ e ∷ []) gave.faults in
+          asks_behind (Err e) looks (end_answer (Err e) (taken_count t)) (omega (arith, failed.1)) (
+            (none, left),
             fault,
             inl (record {
-              zero_reads = quiet ∙ ends (Ok k) p;
+              zero_reads = failed.1 ∙ gave.zero_reads;
               give = fault_gives Such s.source.reader t.reader (over_on (Err e) looks) e fault;
             }),
             refl,

@@ -17,7 +17,7 @@ use Rattle.bodies.specs.Encoding.{encoding_rules}
 use Rattle.bodies.specs.Filters.{IsErrorOf, joined}
 use Rattle.bodies.specs.FiltersLaws.{each_some}
 use Rattle.bodies.specs.declared.encoding.Encoding.{Encoding}
-use Rattle.bodies.specs.declared.error.RunError.TheVariants.{Write, Io}
+use Rattle.bodies.specs.declared.error.RunError.TheVariants.{Io}
 
 abbrev least : Limits
 least = record { line = 16; trailers = 0 }

@@ -9,7 +9,6 @@ use Rattle.buffer_redux.specs.EmptyReads.{none_before_fault, none_where_shown, R
 use Rattle.buffer_redux.specs.ReaderLaws.{ReadsAlong-none}
 use Rattle.buffer_redux.specs.WritePartsLaws.{PutsIn-told}
 use Rattle.buffer_redux.specs.WriterLaws.{WritesInOrder-then}
-use Rattle.chunked.specs.AskingLaws.{fill_leaves, took_some}
 use Rattle.chunked.specs.ChunkedWriter.{LacksPayload, NotFinished}
 use Rattle.chunked.specs.ChunkedWriterLaws.{ChunksWent-none}
 use Rattle.forward.specs.declared.error.AskError.TheVariants.{Io}
@@ -21,6 +20,7 @@ use Rattle.bodies.specs.Words.{around, AskAnswers, Asks, body_end, Buffered, chu
 use Rattle.bodies.specs.Encode.{EndsBody}
 use Rattle.bodies.specs.Encoding.{encoding_rules, IsReady}
 use Rattle.bodies.specs.Filters.{Asked}
+use Rattle.bodies.specs.FillLaws.{fill_leaves, some_came}
 use Rattle.bodies.specs.FiltersLaws.{ended, fault_gives, fill_asked, fill_capacity, some_of, std_fault}
 use Rattle.bodies.specs.declared.encoding.Encoding.{Encoding}
 use Rattle.bodies.specs.declared.error.RunError.TheVariants.{Write}
@@ -320,7 +320,7 @@ module _ {R W : Type 0} (remaining : R → Option (List ℕ)) (tells : W → Str
             zero_reads = quiet;
             give = omega (
               arith,
-              (took_some s.source [] t order (omega (arith, some)) asked.asked).gives,
+              some_came s.source t order some asked.asked,
               ap length fills.caused,
             );
           }),

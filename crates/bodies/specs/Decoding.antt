@@ -2,13 +2,15 @@
 use Rattle.std.specs.Prelude.{◌≡◌, ℕ, ◌+◌, ◌-◌, ◌<◌, ◌≤◌, ◌⊎◌, List, [], ◌++◌, length, take, Bool, true, false, Result, Ok, Err, MatchResult, Option}
 use Rattle.std.specs.List.{All}
 use Rattle.buffer_redux.specs.Block.{Plain}
-use Rattle.chunked.specs.declared.error.ChunkedError.{ChunkedError}
-use Rattle.chunked.specs.declared.error.ChunkedError.TheVariants as chunked
+use Rattle.body_reader.specs.declared.error.BodyError.{BodyError}
+use Rattle.body_reader.specs.declared.error.BodyError.TheVariants as body
+use Rattle.chunked.specs.declared.coding.Chunked.{Chunked}
 use Rattle.chunked.specs.declared.error.Malformed.{Malformed}
+use Rattle.chunked.specs.declared.place.Place.{Place}
 use Rattle.forward.specs.declared.error.AskError.{AskError}
 use Rattle.forward.specs.declared.error.AskError.TheVariants.{Wrong}
 use Rattle.forward.specs.declared.error.AskError.TheVariants as ask
-use Rattle.bodies.specs.Words.{Error, RanDry, WritesInOrder, Buffered, MetInterrupts, SendErrorCaused, std_read_rules, StdPolicy, IsBody, BodyWent, Breaks, ChunkedState, IsChunkedReader, IsWhole, LooksBehind, handed_of, taken_count, FilterRules, AllSent, IsStill, taken_in, RunError}
+use Rattle.bodies.specs.Words.{Error, RanDry, WritesInOrder, Buffered, MetInterrupts, SendErrorCaused, std_read_rules, StdPolicy, BodyState, BodyWent, BreaksAt, IsBody, IsBodyReader, IsWhole, LooksBehind, chunked, handed_of, taken_count, FilterRules, AllSent, IsStill, taken_in, RunError}
 use Rattle.bodies.specs.Decode.{IsDue}
 use Rattle.bodies.specs.Filters.{Asked, joined}
 use Rattle.bodies.specs.declared.decoding.Decoding.{Decoding}
@@ -19,9 +21,13 @@ pub record IsPieceTarget {W : Type 0} (u : Buffered W StdPolicy) : Type 0 where
   pub plain : u.block.kind ≡ Plain
   pub capacity : 16384 < u.block.capacity
 
+-- a reader of a chunked body
+abbrev pub ChunkedState : Type 0 → Type 0
+ChunkedState R = BodyState R StdPolicy Chunked Place
+
 -- the reader inside was asked only where the payload in all that had come was handed out before
-abbrev pub Asks : {R : Type 0} → ChunkedState R StdPolicy → ChunkedState R StdPolicy → Type 0
-Asks s t = Asked (λ bytes. IsDue s.limits (s.taken ++ bytes) (handed_of s)) s.reader t.reader
+abbrev pub Asks : {R : Type 0} → ChunkedState R → ChunkedState R → Type 0
+Asks s t = Asked (λ bytes. IsDue s.coding.0 (s.taken ++ bytes) (handed_of s)) s.reader t.reader
 
 -- the payload that was read and not passed on
 abbrev pub held_of : {R W : Type 0} → Decoding R W → List ℕ
@@ -30,7 +36,7 @@ held_of s = take s.held s.piece.items
 -- what each call of the filter wants
 pub record IsReady {R W : Type 0} (s : Decoding R W) : Type 0 where
   pub capacity : 0 < s.source.reader.block.capacity
-  pub whole : IsChunkedReader s.source
+  pub whole : IsBodyReader (chunked s.source.coding.0) s.source
   pub target : IsPieceTarget s.target
   pub room : length s.piece.items ≡ 16384
   pub held : s.held ≤ 16384
@@ -39,13 +45,14 @@ pub record IsReady {R W : Type 0} (s : Decoding R W) : Type 0 where
 pub record HandsPieces {R W : Type 0} (remaining : R → Option (List ℕ)) (s : Decoding R W) (pieces : List (List ℕ))
     (t : Decoding R W) : Type 0 where
   pub payload : List ℕ
-  pub went : BodyWent remaining std_read_rules s.source payload t.source
+  pub went : BodyWent remaining std_read_rules (chunked s.source.coding.0) s.source payload t.source
   pub order : held_of s ++ payload ≡ joined pieces ++ held_of t
   pub some : All (λ piece. 0 < length piece) pieces
 
 -- no payload can be handed out of what is buffered: the body ended, or there is none, or the next byte is wrong
-abbrev pub NoneBuffered : {R : Type 0} → ChunkedState R StdPolicy → Type 0
-NoneBuffered d = IsWhole d ⊎ ((d.reader.block.bytes ≡ []) ⊎ ((why : Malformed) × Breaks why d))
+abbrev pub NoneBuffered : {R : Type 0} → ChunkedState R → Type 0
+NoneBuffered d = IsWhole (chunked d.coding.0) d
+    ⊎ ((d.reader.block.bytes ≡ []) ⊎ ((why : Malformed) × BreaksAt d.coding.0 d.place d.taken d.reader.block.bytes why))
 
 -- where none was held, a piece of what is buffered is, or there is none; and the reader inside wasn't asked
 pub record Holds {R W : Type 0} (remaining : R → Option (List ℕ)) (s t : Decoding R W) : Type 0 where
@@ -68,30 +75,31 @@ pub record WritesPiece {W : Type 0} (u : Buffered W StdPolicy) (piece : List ℕ
   pub target : IsPieceTarget v
 
 -- what an ask answers where no payload came, and where the body ended, by whether the stream did
-abbrev pub ask_error : ChunkedError → AskError RunError
-ask_error (chunked.NotChunked why right) = Wrong (NotChunked why right)
-ask_error (chunked.Truncated right) = Wrong (Truncated right)
-ask_error (chunked.Io e) = ask.Io e
+abbrev pub ask_error : BodyError Malformed → AskError RunError
+ask_error (body.Wrong why right) = Wrong (NotChunked why right)
+ask_error (body.Truncated right) = Wrong (Truncated right)
+ask_error (body.Io e) = ask.Io e
 
 abbrev pub end_answer : Result Bool Error → ℕ → Result Bool (AskError RunError)
 end_answer (Ok true) taken = Ok false
 end_answer (Ok false) taken = Err (Wrong (Behind taken))
 end_answer (Err e) taken = Err (ask.Io e)
 
-pub record LooksOn {R : Type 0} (remaining : R → Option (List ℕ)) (s : ChunkedState R StdPolicy)
-    (answer : Result Bool (AskError RunError)) (t : ChunkedState R StdPolicy) : Type 0 where
+pub record LooksOn {R : Type 0} (remaining : R → Option (List ℕ)) (s : ChunkedState R)
+    (answer : Result Bool (AskError RunError)) (t : ChunkedState R) : Type 0 where
   pub end : Result Bool Error
-  pub looks : LooksBehind remaining std_read_rules s end t
+  pub looks : LooksBehind remaining std_read_rules (chunked s.coding.0) s end t
   pub equal : answer ≡ end_answer end (taken_count t)
 
 -- the body ended, and the stream behind it, which gave nothing; or what comes next is wrong, or missing, or more than the body
-abbrev pub PiecesEnd : {R : Type 0} → ChunkedState R StdPolicy → Result (Unit {0}) RunError → ChunkedState R StdPolicy → Type 0
-PiecesEnd s (Ok _) t = IsWhole t × (t.reader.block.bytes ≡ []) × RanDry s.reader t.reader
-PiecesEnd s (Err (NotChunked why right)) t = Breaks why t × (right ≡ taken_count t)
+abbrev pub PiecesEnd : {R : Type 0} → ChunkedState R → Result (Unit {0}) RunError → ChunkedState R → Type 0
+PiecesEnd s (Ok _) t = IsWhole (chunked t.coding.0) t × (t.reader.block.bytes ≡ []) × RanDry s.reader t.reader
+PiecesEnd s (Err (NotChunked why right)) t =
+    BreaksAt t.coding.0 t.place t.taken t.reader.block.bytes why × (right ≡ taken_count t)
 PiecesEnd s (Err (Truncated right)) t =
-    ((payload : List ℕ) → ¬ IsBody t.limits t.taken payload) × (t.reader.block.bytes ≡ []) × RanDry s.reader t.reader
+    ((payload : List ℕ) → ¬ IsBody t.coding.0 t.taken payload) × (t.reader.block.bytes ≡ []) × RanDry s.reader t.reader
     × (right ≡ taken_count t)
-PiecesEnd s (Err (Behind right)) t = IsWhole t × (0 < length t.reader.block.bytes) × (right ≡ taken_count t)
+PiecesEnd s (Err (Behind right)) t = IsWhole (chunked t.coding.0) t × (0 < length t.reader.block.bytes) × (right ≡ taken_count t)
 PiecesEnd s (Err other) t = ⊥
 
 abbrev pub decoding_rules : {R W : Type 0} → (R → Option (List ℕ)) → FilterRules (Decoding R W) RunError
@@ -119,7 +127,7 @@ decoding_rules remaining = record {
     target : s.target.block.bytes ≡ [];
     held : s.held ≡ 0;
   };
-  due = λ s bytes due. IsDue s.source.limits (s.source.taken ++ bytes) (handed_of s.source ++ due);
+  due = λ s bytes due. IsDue s.source.coding.0 (s.source.taken ++ bytes) (handed_of s.source ++ due);
   drops = ⊥;
   refused = λ e t. ⊥;
 }

@@ -3,9 +3,8 @@ use Rattle.std.proofs.Common.{◌≡◌, ℕ, ◌<◌, inl, inr, List, [], ◌++
 use Rattle.std.proofs.lemmas.Grind.{flat_map-append}
 use Rattle.std.proofs.lemmas.List.Elements.{All-append, All-nil}
 use Rattle.buffer_redux.specs.WriterLaws.{WritesInOrder-joins, WritesInOrder-none}
-use Rattle.chunked.specs.ChunkedReaderLaws.{BodyWent-joins, BodyWent-none}
-use Rattle.programs.specs.Prompt.{WasSent}
-use Rattle.bodies.specs.Words.{WritesInOrder, std_read_rules, BodyWent, handed_of, AsksSent, FilterRules, Gives, IsLawful, Moves, StaysOpen, AllSent, sent_all, taken_more, RunError}
+use Rattle.body_reader.specs.BodyReaderLaws.{BodyWent-joins, BodyWent-none}
+use Rattle.bodies.specs.Words.{WritesInOrder, std_read_rules, BodyWent, chunked, handed_of, AsksSent, FilterRules, Gives, IsLawful, Moves, StaysOpen, AllSent, sent_all, taken_more, RunError}
 use Rattle.bodies.specs.Decode.{IsDue}
 use Rattle.bodies.specs.Decoding.{Asks, HandsPieces, PiecesEnd, decoding_rules, held_of}
 use Rattle.bodies.specs.Filters.{joined}
@@ -18,21 +17,24 @@ module _ {R W : Type 0} (remaining : R → Option (List ℕ)) where
   rules = decoding_rules remaining
 
   -- what was handed out is held, behind what was
-  pub hands_held : (s t : Decoding R W) (payload : List ℕ) → BodyWent remaining std_read_rules s.source payload t.source
+  pub hands_held : (s t : Decoding R W) (payload : List ℕ)
+      → BodyWent remaining std_read_rules (chunked s.source.coding.0) s.source payload t.source
       → held_of s ++ payload ≡ held_of t → HandsPieces remaining s [] t
   hands_held s t payload went order =
       record { payload = payload; went = went; order = order; some = All-nil (λ piece. 0 < length piece) }
 
   pub hands_none : (s t : Decoding R W) → t.source ≡ s.source → held_of s ≡ held_of t → HandsPieces remaining s [] t
   hands_none s t same held = hands_held s t []
-      (subst (BodyWent remaining std_read_rules s.source []) (sym same) (BodyWent-none remaining std_read_rules s.source))
+      (subst (BodyWent remaining std_read_rules (chunked s.source.coding.0) s.source []) (sym same)
+      (BodyWent-none remaining std_read_rules (chunked s.source.coding.0) s.source))
       (append-nil (held_of s) ∙ held)
 
   hands_joins : (a b c : Decoding R W) (p q : List (List ℕ)) → HandsPieces remaining a p b → HandsPieces remaining b q c
       → HandsPieces remaining a (p ++ q) c
   hands_joins a b c p q f g = record {
     payload = f.payload ++ g.payload;
-    went = BodyWent-joins remaining std_read_rules a.source b.source c.source f.payload g.payload f.went g.went;
+    went = BodyWent-joins remaining std_read_rules (chunked a.source.coding.0) a.source b.source c.source f.payload g.payload
+        f.went (subst (λ x. BodyWent remaining std_read_rules (chunked x.0) b.source g.payload c.source) f.went.coding g.went);
     order =
         sym (append_assoc (held_of a) f.payload g.payload)
         ∙ ap (λ l. l ++ g.payload) f.order ∙ append_assoc (joined p) (held_of b) g.payload
@@ -74,7 +76,7 @@ module _ {R W : Type 0} (remaining : R → Option (List ℕ)) where
   asks_sent first s t p fresh moves gives lacks sent asks =
       let went = moves.hands.went in
       let m = s.source in
-      let due : List ℕ → Type 0 = λ bytes. IsDue m.limits (m.taken ++ bytes) (handed_of m) in
+      let due : List ℕ → Type 0 = λ bytes. IsDue m.coding.0 (m.taken ++ bytes) (handed_of m) in
       let before = first.source.taken in
       let payload : handed_of m ≡ handed_of first.source ++ joined p =
       went.handed ∙ ap (λ l. handed_of first.source ++ l) (handed_joined first s p moves.hands fresh.held lacks) in
@@ -85,10 +87,10 @@ module _ {R W : Type 0} (remaining : R → Option (List ℕ)) where
           before = went.wire ++ bytes;
           asked = last;
           due = joined p;
-          is_due = subst (λ l. IsDue first.source.limits l (handed_of first.source ++ joined p))
+          is_due = subst (λ l. IsDue first.source.coding.0 l (handed_of first.source ++ joined p))
               (ap (λ l. l ++ bytes) went.taken ∙ append_assoc before went.wire bytes)
-              (subst (IsDue first.source.limits (m.taken ++ bytes)) payload
-              (subst (λ l. IsDue l (m.taken ++ bytes) (handed_of m)) went.limits is_due));
+              (subst (IsDue first.source.coding.0 (m.taken ++ bytes)) payload
+              (subst (λ c. IsDue c.0 (m.taken ++ bytes) (handed_of m)) went.coding is_due));
           sent = sent_all first.target s.target (joined p) moves.takes fresh.target sent;
         })
       ]

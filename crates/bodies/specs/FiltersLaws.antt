@@ -7,10 +7,10 @@ use Rattle.buffer_redux.specs.EmptyReads.{ReadsWhenEmpty-std, ReadsWhole-std, on
 use Rattle.buffer_redux.specs.Fill.{Answered, Ends, Ordered, Turns}
 use Rattle.buffer_redux.specs.Policy.{no_read, read_now}
 use Rattle.buffer_redux.specs.ReaderLaws.{Fills-empty, ReadsInOrder-fresh, WantsBytes-std}
-use Rattle.chunked.specs.AskingLaws.{fill_asks}
 use Rattle.buffer_redux.specs.declared.policy.DoRead.{DoRead}
 use Rattle.programs.specs.PromptLaws.{AskedLast-after}
 use Rattle.bodies.specs.Words.{Error, Fills, ReadsInOrder, Buffered, std_read_rules, StdPolicy, AskedLast, AsksGive}
+use Rattle.bodies.specs.FillLaws.{fill_asks}
 use Rattle.bodies.specs.Filters.{Asked, joined}
 
 -- payloads that aren't empty have a byte each

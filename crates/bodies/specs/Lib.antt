@@ -1,5 +1,6 @@
 pub mod Ending
 pub mod Filters
+pub mod FillLaws
 pub mod FiltersLaws
 pub mod Decode
 pub mod Decoding

@@ -1,5 +1,6 @@
 -- Words of std and of the crates below that contracts and proofs here are made of.
 pub use Rattle.bodies.specs.declared.error.RunError.{RunError}
+pub use Rattle.body_reader.specs.BodyReader.{BodyState, BodyWent, IsBodyReader, IsWhole, LooksBehind, ReadsPayload, begun, handed_of, taken_count}
 pub use Rattle.buffer_redux.specs.BufReader.{Fills, RanDry, ReadsAlong, ReadsInOrder}
 pub use Rattle.buffer_redux.specs.BufWriter.{WasFlushed, WritesInOrder}
 pub use Rattle.buffer_redux.specs.Buffered.{Buffered}
@@ -10,7 +11,7 @@ pub use Rattle.buffer_redux.specs.WriteParts.{PutsIn, SendsFirst, room}
 pub use Rattle.buffer_redux.specs.declared.policy.StdPolicy.{StdPolicy}
 pub use Rattle.chunked.specs.Body.{IsBody, line_end}
 pub use Rattle.chunked.specs.Chunk.{IsCarried, IsChunks, body_end, chunk, size_digits}
-pub use Rattle.chunked.specs.ChunkedReader.{BodyWent, Breaks, BreaksAt, ChunkedState, IsChunkedReader, IsWhole, LooksBehind, ReadsPayload, begun, handed_of, taken_count}
+pub use Rattle.chunked.specs.Coding.{BreaksAt, chunked}
 pub use Rattle.chunked.specs.ChunkedWriter.{ChunkedWriterState, ChunksWent, IsChunkedWriter, WritesChunk, around, unbegun}
 pub use Rattle.chunked.specs.declared.limits.Limits.{Limits}
 pub use Rattle.forward.specs.Filter.{AskAnswers, Asks, AsksSent, FilterRules, FlushAnswers, Flushes, Gives, IsLawful, Moves, Passes, StaysOpen}

@@ -7,7 +7,7 @@ use crate::decoding::{Decoding, PIECE};
 use crate::error::{RunError, error_of};
 use buffer_redux::tell::{TellRead, TellWrite};
 use buffer_redux::{BufReader, BufWriter};
-use chunked::{ChunkedReader, Limits};
+use chunked::{Chunked, ChunkedReader, Limits};
 use forward::{Link, forward};
 use programs::buffered;
 use std::alloc::Global;
@@ -54,7 +54,7 @@ fn decode_all<R: TellRead, W: TellWrite>(
     ensures { Decodes limits source.log result.1.log target.log result.2.log result.0 }
 {
     let mut link = Link::new(Decoding {
-        source: ChunkedReader::new(source, limits),
+        source: ChunkedReader::new(source, Chunked(limits)),
         target,
         piece,
         held: 0,

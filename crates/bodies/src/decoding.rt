@@ -1,7 +1,8 @@
 //! The payload of a body as it goes over, piece by piece.
 ghost use Rattle.std.specs.Prelude.{◌≡◌, ◌≤◌, length, take};
 ghost use Rattle.buffer_redux.specs.Policy.{std_read_rules};
-ghost use Rattle.chunked.specs.ChunkedReader.{BodyWent, IsChunkedReader};
+ghost use Rattle.body_reader.specs.BodyReader.{BodyWent, IsBodyReader};
+ghost use Rattle.chunked.specs.Coding.{chunked};
 ghost use Rattle.bodies.specs.Decoding.{Holds, IsPieceTarget, IsReady, LooksOn, NoneBuffered, WritesPiece, ask_error, decoding_rules};
 ghost use Rattle.bodies.specs.DecodingLaws.{decoding_lawful};
 
@@ -80,11 +81,12 @@ fn hold<R: TellRead, W: TellWrite>(filter: &mut Decoding<R, W>)
 #[inline(always)]
 fn read_held<R: TellRead>(source: &mut ChunkedReader<R>, piece: &mut [u8]) -> usize
     requires { length piece.old ≡ PIECE }
-    ensures went { BodyWent R.remaining std_read_rules source.old (take result piece.new) source.new }
+    ensures went { BodyWent R.remaining std_read_rules (chunked source.old.coding.0) source.old (take result piece.new)
+        source.new }
     ensures told { source.new.reader.log ≡ source.old.reader.log }
     ensures bound { result ≤ length piece.new }
     ensures all { result ≡ 0 → NoneBuffered source.new }
-    ensures whole { IsChunkedReader source.new }
+    ensures whole { IsBodyReader (chunked source.new.coding.0) source.new }
 {
     source.read_buffered(&mut piece[..HELD])
 }
@@ -118,7 +120,7 @@ fn ask_error(e: ChunkedError) -> AskError<RunError>
     ensures { result ≡ ask_error e }
 {
     match e {
-        ChunkedError::NotChunked(why, right) => AskError::Wrong(RunError::NotChunked(why, right)),
+        ChunkedError::Wrong(why, right) => AskError::Wrong(RunError::NotChunked(why, right)),
         ChunkedError::Truncated(right) => AskError::Wrong(RunError::Truncated(right)),
         ChunkedError::Io(e) => AskError::Io(e),
     }

@@ -85,9 +85,11 @@ module _ {S Q C P W : Type 0} (g : Grammar P W) (lawful : IsLawful g) (t : BodyS
       (same ∙ ap (λ l. t.taken ++ (t.reader.block.bytes ++ l)) none
       ∙ ap (λ l. t.taken ++ l) (append-nil t.reader.block.bytes))
 
-  pub given_all : IsWhole g t → handed_of t ≡ payload
-  given_all whole = (lawful.one t.taken body (handed_of t) payload (t.reader.block.bytes ++ rest) behind whole is_body
-      (sym same)).1
+  pub given_all : IsWhole g t → (handed_of t ≡ payload) × (t.reader.block.bytes ++ rest ≡ behind)
+  given_all whole =
+      let left = t.reader.block.bytes ++ rest in
+      let all = lawful.one t.taken body (handed_of t) payload left behind whole is_body (sym same) in
+      (all.1, append_cancel_left t.taken left behind (sym same ∙ ap (λ l. l ++ behind) (sym all.0)))
 
 -- calls lead from place to place, with what they took and handed out
 module _ {S Q C P W : Type 0} (remaining : S → Option (List ℕ)) (rules : ReadRules Q) (g : Grammar P W)

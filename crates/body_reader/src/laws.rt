@@ -30,11 +30,12 @@ pub fn since_new<R: TellRead, C: Coding, P: ReaderPolicy>(reader: &BodyReader<R,
 {}
 
 /// Where what was taken, then what is buffered, and then some bytes, begin with a body: what was handed out begins its payload,
-/// nothing is answered as wrong, nor as missing where the body is there, and once it ended all of its payload was handed out.
+/// nothing is answered as wrong, nor as missing where the body is there, and once it ended all of its payload was handed out, and
+/// what is buffered, and then those bytes, follow it.
 pub fn given_body<R: TellRead, C: Coding, P: ReaderPolicy>(reader: &BodyReader<R, C, P>)
     ensures { (body payload behind rest : List ℕ) → IsBody (C.grammar reader.now.coding) body payload
         → body ++ behind ≡ reader.now.taken ++ (reader.now.reader.block.bytes ++ rest)
-        → HandsGiven (C.grammar reader.now.coding) payload rest reader.now }
+        → HandsGiven (C.grammar reader.now.coding) payload behind rest reader.now }
 {
     let _ = reader.get_ref();
 }

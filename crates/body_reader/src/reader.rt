@@ -5,7 +5,10 @@ ghost use Rattle.std.specs.Io.{ReadsAtMost, StartsWith};
 ghost use Rattle.std.specs.Io.BufRead.{Rests};
 ghost use Rattle.body_reader.specs.contracts.reader.BodyReader.{the_row};
 ghost use Rattle.std.specs.Io.KnownBytes.{ReadConsumes};
+ghost use Rattle.buffer_redux.specs.Block.{capacity_for};
 ghost use Rattle.buffer_redux.specs.Buffered.{over_buffer, with_inner};
+ghost use Rattle.buffer_redux.specs.GrowError.{FitsWithin};
+ghost use Rattle.buffer_redux.specs.MakeError.{growth};
 ghost use Rattle.buffer_redux.specs.StreamLog.{StreamLog, after_read};
 ghost use Rattle.body_reader.specs.Coding.{IsBody};
 ghost use Rattle.body_reader.specs.BodyReader.{BodyState, BodyWent, Drains, FillsAsIo, FillsPayload, IsBodyReader, IsWhole, LooksBehind, ReadsAsIo, ReadsBuffered, ReadsPayload, begun, taken_count};
@@ -19,7 +22,7 @@ use buffer_redux::tell::{Call, CallLog, Tell, TellRead};
 use buffer_redux::{BufReader, Buffer, MakeError};
 use std::io::{BufRead, ErrorKind, Read};
 use std::marker::Model;
-use std::{io, mem};
+use std::{fmt, io, mem};
 
 /// A reader of one body, out of a buffered reader of yours. What follows the body stays in that:
 /// [`finish`](BodyReader::finish) hands it back.
@@ -77,6 +80,8 @@ impl<R: Tell, C: Coding> BodyReader<R, C> {
         ensures handed_back { IfErr result (λ e. e.0 ≡ (buffer, inner, coding)) }
         ensures kept { (C.grammar coding).ahead ≤ buffer.capacity
             → IsOkAnd result (λ b. b.reader.block ≡ buffer) }
+        ensures within { buffer.capacity < (C.grammar coding).ahead → FitsWithin (growth result)
+            (capacity_for buffer ((C.grammar coding).ahead - length buffer.bytes)) buffer.limit }
     {
         let ahead = coding.ahead();
         if buffer.capacity() < ahead {
@@ -299,6 +304,20 @@ impl<R: TellRead, C: Coding, P: ReaderPolicy> BodyReader<R, C, P> {
         ensures { LooksBehind R.remaining P.rules (C.grammar self.old.coding) self.old result self.new }
     {
         Ok(self.reader.peek(1)?.is_empty())
+    }
+}
+
+/// The buffered reader, where in the body it stands, and how many bytes of the body were taken.
+impl<R: Tell + fmt::Debug, C: Coding, P: fmt::Debug> fmt::Debug for BodyReader<R, C, P>
+where
+    C::Place: fmt::Debug,
+{
+    fn fmt<T: fmt::Write>(&self, f: &mut fmt::Formatter<T>) -> fmt::Result {
+        f.debug_struct("body_reader::BodyReader")
+            .field("reader", &self.reader)
+            .field("place", &self.progress.place)
+            .field("taken", &self.progress.count)
+            .finish()
     }
 }
 

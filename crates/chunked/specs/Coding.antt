@@ -1,10 +1,11 @@
 -- The chunked coding, as one that a reader of bodies reads.
-use Rattle.std.specs.Prelude.{◌≡◌, ℕ, ◌≤◌, List, ◌∷◌, length, false}
+use Rattle.std.specs.Prelude.{◌≡◌, ℕ, ◌≤◌, List, ◌∷◌, ◌++◌, length, false}
 use Rattle.body_reader.specs.Coding.{Grammar}
 use Rattle.chunked.specs.declared.error.Malformed.{Malformed}
 use Rattle.chunked.specs.declared.limits.Limits.{Limits}
 use Rattle.chunked.specs.declared.place.Place.{Place}
 use Rattle.chunked.specs.declared.place.Place.TheVariants.{Line, Data}
+use Rattle.chunked.specs.Body.{IsBody}
 use Rattle.chunked.specs.Place.{Completes, IsPlace, IsWrong, most_between}
 
 -- bytes of a chunk
@@ -15,6 +16,14 @@ InChunk p bytes follow = ⊥
 -- the next of these bytes is wrong
 abbrev pub IsWrongNext : Limits → Place → List ℕ → Malformed → Type 0
 IsWrongNext limits p shown why = (byte : ℕ) × (later : List ℕ) × (shown ≡ byte ∷ later) × IsWrong limits p byte why
+
+-- the next of these bytes is wrong in this place, and no body begins with what was taken and then that byte
+pub record BreaksAt (limits : Limits) (p : Place) (taken bytes : List ℕ) (why : Malformed) : Type 0 where
+  pub byte : ℕ
+  pub later : List ℕ
+  pub next : bytes ≡ byte ∷ later
+  pub name : IsWrong limits p byte why
+  pub none : (rest payload : List ℕ) → ¬ IsBody limits (taken ++ byte ∷ rest) payload
 
 abbrev pub chunked : Limits → Grammar Place Malformed
 chunked limits = record {

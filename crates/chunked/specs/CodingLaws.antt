@@ -2,19 +2,20 @@
 use Rattle.std.proofs.Common.{◌≡◌, ◌≢◌, ℕ, zero, suc, ◌+◌, ◌<◌, ◌≤◌, List, [], ◌∷◌, ◌++◌, length, take, drop, slice_index, Some, IfSome, sym, ap, subst, ◌∙◌, arith, inl, inr, refl, append-nil, length-append}
 use Rattle.std.proofs.lemmas.List.{drop_more, nil_from_length}
 use Rattle.body_reader.specs.declared.Look.TheVariants as look
+use Rattle.body_reader.specs.BodyReader.{BodyState, IsBodyReader, handed_of}
 use Rattle.body_reader.specs.Coding as body
 use Rattle.body_reader.specs.CodingLaws.{Lacks-one, overlaps}
+use Rattle.chunked.specs.declared.coding.Chunked.{Chunked}
 use Rattle.chunked.specs.declared.error.Malformed.{Malformed}
 use Rattle.chunked.specs.declared.limits.Limits.{Limits}
 use Rattle.chunked.specs.declared.place.Place.{Place}
-use Rattle.chunked.specs.declared.place.Place.TheVariants.{Data, Done}
+use Rattle.chunked.specs.declared.place.Place.TheVariants.{Line, Data, Done}
 use Rattle.chunked.specs.declared.step.Reached.{Reached}
 use Rattle.chunked.specs.Body.{line_end}
 use Rattle.chunked.specs.BodyLaws.{IsBody-same}
-use Rattle.chunked.specs.ChunkedReaderLaws.{Completes-nothing}
-use Rattle.chunked.specs.Coding.{chunked}
+use Rattle.chunked.specs.Coding.{BreaksAt, IsWrongNext, chunked}
 use Rattle.chunked.specs.Place.{Advances, Comes, Completes, IsPlace, IsSettled, IsWrong, Leads, Within}
-use Rattle.chunked.specs.PlaceLaws.{IsWrong-done}
+use Rattle.chunked.specs.PlaceLaws.{Completes-nothing, IsWrong-done}
 use Rattle.chunked.specs.WrongLaws.{IsWrong-none}
 
 module _ (limits : Limits) where
@@ -25,6 +26,17 @@ module _ (limits : Limits) where
     onward = λ rest payload agree c. leads.onward rest payload c;
     back = λ rest whole agree c. leads.back rest whole c;
     within = within;
+  }
+
+  -- where nothing is heeded of what follows, whatever does goes on so
+  pub follows : (rest : List ℕ) → body.Agree [] rest
+  follows rest = (rest, [], sym (append-nil rest))
+
+  pub leads_of : (p : Place) (wire handed : List ℕ) (q : Place) → body.Leads (chunked limits) p wire handed q []
+      → Leads limits p wire handed q
+  leads_of p wire handed q leads = record {
+    onward = λ rest payload c. leads.onward rest payload (follows rest) c;
+    back = λ rest whole c. leads.back rest whole (follows rest) c;
   }
 
   nothing : (p : Place) (payload : List ℕ) → Completes limits p [] payload → payload ≡ []
@@ -168,3 +180,17 @@ module _ (limits : Limits) where
         ),
         not_done p open',
       )
+
+-- where the next byte is wrong, no body begins with what was taken and then that byte
+pub breaks_at : {S Q : Type 0} (d : BodyState S Q Chunked Place) → IsBodyReader (chunked d.coding.0) d → (why : Malformed)
+    → IsWrongNext d.coding.0 d.place d.reader.block.bytes why
+    → BreaksAt d.coding.0 d.place d.taken d.reader.block.bytes why
+breaks_at d is why (byte, later, next, name) = record {
+  byte = byte;
+  later = later;
+  next = next;
+  name = name;
+  none = λ rest payload whole.
+      let goes = (leads_of d.coding.0 Line d.taken (handed_of d) d.place is.leads).back (byte ∷ rest) payload whole in
+      IsWrong-none d.coding.0 d.place byte why rest goes.0 name goes.2;
+}

@@ -10,17 +10,8 @@ pub mod Place
 pub mod PlaceLaws
 pub mod LineLaws
 pub mod WrongLaws
-pub mod Between
-pub mod BetweenLaws
-pub mod ChunkedReader
-pub mod ChunkedReaderLaws
 pub mod Coding
 pub mod CodingLaws
-pub mod EmptyReads
-pub mod Kinds
-pub mod Asking
-pub mod AskingLaws
-pub mod Given
 pub mod Chunk
 pub mod ChunkLaws
 pub mod Trailers

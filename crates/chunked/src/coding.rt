@@ -9,7 +9,62 @@ use crate::frame::frame;
 use crate::limits::Limits;
 use crate::place::Place;
 use crate::step::{advance, is_settled};
-use body_reader::{Coding, Look};
+use body_reader::{BodyError, BodyReader, Coding, Look};
+use buffer_redux::policy::StdPolicy;
+
+/// A reader of one body, out of a buffered reader of yours, whose buffer has some byte. What follows the body stays in that:
+/// [`finish`](BodyReader::finish) hands it back.
+///
+/// ```
+/// let stream = Told::new(b"5\r\nhello\r\n0\r\n\r\nGET".as_slice());
+/// let limits = Limits {
+///     line: 64,
+///     trailers: 4096,
+/// };
+/// let mut body = ChunkedReader::new(BufReader::new(alloc, stream)?, Chunked(limits));
+/// let mut out = [0; 8];
+/// assert!(rt; matches!(body.read_payload(&mut out), Ok(5)));
+/// assert!(rt; matches!(body.read_payload(&mut out), Ok(0)));
+/// assert!(rt; body.is_done());
+/// assert!(rt; body.into_inner_torn().buffer() == b"GET".as_slice());
+/// ```
+///
+/// What is left of a body is dropped where it is finished:
+///
+/// ```
+/// let stream = Told::new(b"5\r\nhello\r\n0\r\n\r\nGET".as_slice());
+/// let limits = Limits {
+///     line: 64,
+///     trailers: 4096,
+/// };
+/// let mut body = ChunkedReader::new(BufReader::new(alloc, stream)?, Chunked(limits));
+/// let mut out = [0; 5];
+/// assert!(rt; matches!(body.read_payload(&mut out), Ok(5)));
+/// let rest = body.finish().map_err(|(_, e)| io::Error::from(e))?;
+/// assert!(rt; rest.buffer() == b"GET".as_slice());
+/// ```
+pub type ChunkedReader<R, P = StdPolicy> = BodyReader<R, Chunked, P>;
+
+/// Why there is no further payload of a chunked body.
+///
+/// ```
+/// let stream = Told::new(b"5\r\nhello!\r\n".as_slice());
+/// let limits = Limits {
+///     line: 64,
+///     trailers: 4096,
+/// };
+/// let mut body = ChunkedReader::new(BufReader::new(alloc, stream)?, Chunked(limits));
+/// let mut out = [0; 8];
+/// assert!(rt; matches!(body.read_payload(&mut out), Ok(5)));
+/// let refused = body.read_payload(&mut out);
+/// assert!(rt;
+///     matches!(
+///         refused,
+///         Err(ChunkedError::Wrong(Malformed::ChunkTooLong, 8))
+///     )
+/// );
+/// ```
+pub type ChunkedError = BodyError<Malformed>;
 
 /// The chunked coding, with so much room for what is no payload.
 #[derive(Clone, Copy, Debug, Drop)]

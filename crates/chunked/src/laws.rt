@@ -1,22 +1,22 @@
 //! Laws, each as the contract of a function.
-ghost use Rattle.std.specs.Prelude.{◌≡◌, ℕ, ◌<◌, List, ◌++◌, Some};
+ghost use Rattle.std.specs.Prelude.{◌≡◌, ℕ, ◌<◌, List, ◌++◌};
 ghost use Rattle.std.specs.List.{AllByRecursion};
 ghost use Rattle.buffer_redux.specs.Buffered.{Buffered};
-ghost use Rattle.buffer_redux.specs.BufReader.{ReadsAlong};
-ghost use Rattle.buffer_redux.specs.Remaining.{ahead};
 ghost use Rattle.buffer_redux.specs.declared.policy.StdPolicy.{StdPolicy};
+ghost use Rattle.body_reader.specs.BodyReader.{handed_of};
+ghost use Rattle.body_reader.specs.Given.{HandsGiven};
 ghost use Rattle.chunked.specs.Body.{IsBody, IsField, fields_bytes};
 ghost use Rattle.chunked.specs.ChunkedWriter.{LetsThrough};
-ghost use Rattle.chunked.specs.ChunkedReader.{BodyWent, IsWhole, begun, handed_of};
-ghost use Rattle.chunked.specs.Given.{HandsGiven, WasGiven};
+ghost use Rattle.chunked.specs.Coding.{chunked};
 ghost use Rattle.chunked.specs.Place.{IsWrong};
 ghost use Rattle.chunked.specs.RoundTrip.{WroteBody};
 
+use crate::coding::ChunkedReader;
 use crate::error::Malformed;
 use crate::limits::Limits;
 use crate::place::Place;
-use crate::reader::ChunkedReader;
 use crate::writer::ChunkedWriter;
+use body_reader::laws::given_body;
 use buffer_redux::policy::ReaderPolicy;
 use buffer_redux::tell::{TellRead, TellWrite};
 
@@ -38,47 +38,16 @@ pub fn one_name()
         → IsWrong limits place byte second → first ≡ second }
 {}
 
-/// Since the reader was made, the bytes that were taken came out of the buffered reader, in order, and what was handed out is
-/// all that its calls handed out.
-pub fn since_new<R: TellRead, P: ReaderPolicy>(reader: &ChunkedReader<R, P>)
-    ensures taken { (first : Buffered R P) (limits : Limits) (payload : List ℕ)
-        → BodyWent R.remaining P.rules (begun first limits) payload reader.now
-        → ReadsAlong R.remaining P.rules first reader.now.taken reader.now.reader }
-    ensures handed { (first : Buffered R P) (limits : Limits) (payload : List ℕ)
-        → BodyWent R.remaining P.rules (begun first limits) payload reader.now
-        → handed_of reader.now ≡ payload }
-{}
-
 /// The bytes that were taken are right: some body begins with them. And each body that does has a payload that begins with
 /// what was handed out.
 pub fn taken_begins<R: TellRead, P: ReaderPolicy>(reader: &ChunkedReader<R, P>)
-    ensures right { 0 < reader.now.limits.line → (rest payload : List ℕ)
-        × IsBody reader.now.limits (reader.now.taken ++ rest) (handed_of reader.now ++ payload) }
-    ensures payload { (rest whole : List ℕ) → IsBody reader.now.limits (reader.now.taken ++ rest) whole
+    ensures right { 0 < reader.now.coding.0.line → (rest payload : List ℕ)
+        × IsBody reader.now.coding.0 (reader.now.taken ++ rest) (handed_of reader.now ++ payload) }
+    ensures payload { (rest whole : List ℕ) → IsBody reader.now.coding.0 (reader.now.taken ++ rest) whole
         → (payload : List ℕ) × (whole ≡ handed_of reader.now ++ payload) }
 {
     let _ = reader.get_ref();
 }
-
-/// Where what was buffered at first, and was given since, begins with a body, what was handed out begins its payload. Nothing is
-/// answered as wrong then, nor as missing. And once the body ended all of its payload was handed out, and what is buffered is
-/// what follows the body.
-pub fn given_body<R: TellRead, P: ReaderPolicy>(reader: &ChunkedReader<R, P>)
-    ensures { (first : Buffered R P) (limits : Limits) (body payload behind handed : List ℕ)
-        → WasGiven R.remaining P.rules first limits body behind handed reader.now → IsBody limits body payload
-        → HandsGiven P.rules payload behind handed reader.now }
-{
-    let _ = reader.get_ref();
-}
-
-/// Where the bytes that are known to be left begin with a body, a reader of that which ended, as `finish` does, has handed out or
-/// dropped its payload, and leaves just what follows it.
-pub fn behind_body<R: TellRead, P: ReaderPolicy>(reader: &ChunkedReader<R, P>)
-    ensures { (first : Buffered R P) (limits : Limits) (body payload behind handed : List ℕ)
-        → ahead R.remaining first ≡ Some (body ++ behind) → IsBody limits body payload
-        → BodyWent R.remaining P.rules (begun first limits) handed reader.now → IsWhole reader.now
-        → (handed ≡ payload) × (ahead R.remaining reader.now.reader ≡ Some behind) }
-{}
 
 /// Where a writer of a body took this payload in, in any writes, and was finished with these trailers, or with none, what the
 /// buffered writer gained is a body with this payload.
@@ -96,10 +65,10 @@ pub fn round_trip<W: TellWrite, R: TellRead, P: ReaderPolicy>(
     reader: &ChunkedReader<R, P>,
 )
     ensures { (first last : Buffered W StdPolicy) (payload : List ℕ) (fields : List (List ℕ)) (wrote : List ℕ)
-        → WroteBody W.log W.trace first payload fields writer.now last wrote
-        → (start : Buffered R P) (limits : Limits) (behind handed : List ℕ) → LetsThrough fields limits
-        → WasGiven R.remaining P.rules start limits wrote behind handed reader.now
-        → HandsGiven P.rules payload behind handed reader.now }
+        → WroteBody W.log W.trace first payload fields writer.now last wrote → (behind rest : List ℕ)
+        → LetsThrough fields reader.now.coding.0
+        → wrote ++ behind ≡ reader.now.taken ++ (reader.now.reader.block.bytes ++ rest)
+        → HandsGiven (chunked reader.now.coding.0) payload behind rest reader.now }
 {
     given_body(reader);
 }

@@ -319,6 +319,7 @@ fn collect_into<R: TellRead, P: ReaderPolicy>(
 ) -> Result<(), PartError>
     ensures { Collects R.remaining P.rules most body.old (vec_items head.old) result body.new (vec_items head.new) }
 {
+    // Says that the reader is whole, also where nothing comes.
     let _ = body.get_ref();
     loop {
         let count = body.fill_payload()?;

@@ -7,7 +7,7 @@ use chunked::Malformed::{
     BadField, BadSize, BareFeed, BareReturn, ChunkTooLong, LineTooLong, NoSize, SizeTooLarge,
     TrailersTooLong,
 };
-use chunked::{ChunkedError, ChunkedReader, Limits, Malformed};
+use chunked::{Chunked, ChunkedError, ChunkedReader, Limits, Malformed};
 use redux_script::Answer;
 use std::alloc::{AllocError, Global};
 use std::io;
@@ -133,18 +133,21 @@ static CUT: [Row<'static>; 8] = [
 // A reader of a body over a script.
 type Body = ChunkedReader<Source>;
 
-/// A reader of a body under these limits. Neither it nor any call below promises anything.
-pub fn over<R: Tell, P>(
+/// A reader of a body under these limits, whose buffer has some byte. Neither it nor any call below promises anything.
+pub fn over<R: Tell + Drop, P: Drop>(
     reader: BufReader<R, P>,
     line: usize,
     trailers: usize,
-) -> ChunkedReader<R, P> {
-    ChunkedReader::new(reader, Limits { line, trailers })
+) -> io::Result<ChunkedReader<R, P>> {
+    if reader.capacity() == 0 {
+        return Err(io::Error::from(ErrorKind::Other));
+    }
+    Ok(ChunkedReader::new(reader, Chunked(Limits { line, trailers })))
 }
 
 fn body(alloc: Global, row: &Row<'_>, script: &[Answer]) -> io::Result<Body> {
     let reader = reader(alloc, 8, b"", source(alloc, row.2, script)?)?;
-    Ok(over(reader, row.0, row.1))
+    over(reader, row.0, row.1)
 }
 
 // One read of payload.
@@ -189,7 +192,7 @@ fn payload_of<R: TellRead, P: ReaderPolicy>(
 fn ends<R: Tell, P>(body: &ChunkedReader<R, P>, why: &Option<ChunkedError>, end: End<'_>) -> bool {
     match (why, end) {
         (None, Whole(_)) => is_done(body),
-        (Some(ChunkedError::NotChunked(why, right)), Wrong(name, count)) => {
+        (Some(ChunkedError::Wrong(why, right)), Wrong(name, count)) => {
             *why == name && *right == count && took(body) == count && !is_done(body)
         }
         (Some(ChunkedError::Truncated(right)), Truncated(count)) => {

@@ -101,7 +101,7 @@ static WRONG: [(Malformed, &str); 9] = [
 #[test]
 fn of_wrong_bodies(rt: HostRuntime) -> Result<(), Fail> {
     for &(why, text) in &WRONG {
-        let came = display(rt.alloc(), &ChunkedError::NotChunked(why, 7))?;
+        let came = display(rt.alloc(), &ChunkedError::Wrong(why, 7))?;
         assert!(rt; came.as_str() == text, "{came}");
     }
     Ok(())
@@ -145,7 +145,7 @@ fn as_io_errors(rt: HostRuntime) {
     assert!(rt; kind_of(LineError::TooLong(4)) == ErrorKind::InvalidData);
     assert!(rt; kind_of(LineError::from(fault())) == ErrorKind::TimedOut);
     assert!(rt; kind_of(ChunkedError::Truncated(7)) == ErrorKind::UnexpectedEof);
-    assert!(rt; kind_of(ChunkedError::NotChunked(BadSize, 7)) == ErrorKind::InvalidData);
+    assert!(rt; kind_of(ChunkedError::Wrong(BadSize, 7)) == ErrorKind::InvalidData);
     let refused = |why| kind_of(FinishError(7, why));
     assert!(rt; refused(TrailersError::NoField(7)) == ErrorKind::InvalidInput);
     assert!(rt; refused(TrailersError::Framing(7)) == ErrorKind::InvalidInput);
@@ -157,8 +157,8 @@ fn as_io_errors(rt: HostRuntime) {
 type Reader = ChunkedReader<Told<&'static [u8]>>;
 
 // A reader of a body that was not begun.
-fn body(alloc: Global) -> Result<Reader, GrowError> {
-    Ok(bodies::over(reader(alloc, 8, b"", Told::new(b"".as_slice()))?, 9, 9))
+fn body(alloc: Global) -> io::Result<Reader> {
+    bodies::over(reader(alloc, 8, b"", Told::new(b"".as_slice()))?, 9, 9)
 }
 
 #[test]
@@ -166,7 +166,7 @@ fn of_bodies(rt: HostRuntime) -> Result<(), Fail> {
     let text = shown(rt.alloc(), body(rt.alloc())?)?;
     assert!(rt;
         text.as_str()
-            == "chunked::ChunkedReader { reader: buffer_redux::BufReader { reader: Told { stream: [] }, buf_len: 0, capacity: 8, \
+            == "body_reader::BodyReader { reader: buffer_redux::BufReader { reader: Told { stream: [] }, buf_len: 0, capacity: 8, \
 policy: StdPolicy }, place: Line, taken: 0 }"
     );
     let inner = writer(rt.alloc(), 45, b"", Told::new(Vec::new(rt.alloc())))?;

@@ -2,7 +2,8 @@
 use buffer_redux::tell::Told;
 use buffer_redux::{BufReader, BufWriter};
 use chunked::{
-    ChunkedError, ChunkedReader, ChunkedWriter, FinishError, Limits, Malformed, TrailersError,
+    Chunked, ChunkedError, ChunkedReader, ChunkedWriter, FinishError, Limits, Malformed,
+    TrailersError,
 };
 use std::io;
 use std::io::Write;
@@ -16,7 +17,7 @@ fn chunked_reader(rt: HostRuntime) -> Result<(), Fail> {
         line: 64,
         trailers: 4096,
     };
-    let mut body = ChunkedReader::new(BufReader::new(alloc, stream)?, limits);
+    let mut body = ChunkedReader::new(BufReader::new(alloc, stream)?, Chunked(limits));
     let mut out = [0; 8];
     assert!(rt; matches!(body.read_payload(&mut out), Ok(5)));
     assert!(rt; matches!(body.read_payload(&mut out), Ok(0)));
@@ -33,7 +34,7 @@ fn chunked_finish(rt: HostRuntime) -> Result<(), Fail> {
         line: 64,
         trailers: 4096,
     };
-    let mut body = ChunkedReader::new(BufReader::new(alloc, stream)?, limits);
+    let mut body = ChunkedReader::new(BufReader::new(alloc, stream)?, Chunked(limits));
     let mut out = [0; 5];
     assert!(rt; matches!(body.read_payload(&mut out), Ok(5)));
     let rest = body.finish().map_err(|(_, e)| io::Error::from(e))?;
@@ -49,14 +50,14 @@ fn chunked_error(rt: HostRuntime) -> Result<(), Fail> {
         line: 64,
         trailers: 4096,
     };
-    let mut body = ChunkedReader::new(BufReader::new(alloc, stream)?, limits);
+    let mut body = ChunkedReader::new(BufReader::new(alloc, stream)?, Chunked(limits));
     let mut out = [0; 8];
     assert!(rt; matches!(body.read_payload(&mut out), Ok(5)));
     let refused = body.read_payload(&mut out);
     assert!(rt;
         matches!(
             refused,
-            Err(ChunkedError::NotChunked(Malformed::ChunkTooLong, 8))
+            Err(ChunkedError::Wrong(Malformed::ChunkTooLong, 8))
         )
     );
     Ok(drop(body))

@@ -1,4 +1,7 @@
-use Rattle.std.proofs.Common.{subst, sym}
+use Rattle.std.proofs.Common.{◌∙◌, arith, subst, sym}
+use Rattle.body_reader.specs.BodyReaderLaws.{begun-is}
+use Rattle.chunked.specs.Coding.{chunked}
+use Rattle.chunked.specs.CodingLaws.{chunked_lawful}
 use Rattle.forward.specs.Forward.{ForwardAnswers}
 use Rattle.forward.specs.ForwardLaws.{Goes-holds}
 use Rattle.bodies.specs.Decode.{DecodeRan}
@@ -6,6 +9,18 @@ use Rattle.bodies.specs.Decoding.{decoding_rules}
 use Rattle.bodies.proofs.DecodeRuns.{ended, start, stopped}
 use Rattle.bodies.proofs.decode.decode_all.Goals.{in-Ok, in-Err}
 use Rattle.bodies.proofs.decode.decode_all.Goals as goal
+
+pub forward-answer-requires-clause-ready : goal.forward-answer-requires-clause-ready
+forward-answer-requires-clause-ready g c =
+    let a = c.args in
+    rw (c.new-link.ensures, c.new.ensures.begun) (record {
+      capacity = c.requires.capacity;
+      whole = begun-is (chunked a.limits) (chunked_lawful a.limits) a.source (record { 0 = a.limits })
+          (omega (arith, c.requires.capacity));
+      target = c.requires.target;
+      room = sym a.piece.ok.0 ∙ c.requires.room;
+      held = omega arith;
+    })
 
 pub returns : goal.returns
 returns g c =

@@ -2,6 +2,7 @@ use Rattle.chunked.proofs.Written.{written_body}
 use Rattle.chunked.proofs.laws.round_trip.Goals as goal
 
 pub returns : goal.returns
-returns g c = λ first last payload fields wrote h start limits behind handed lets given.
-    c.given_body.ensures start limits wrote _ behind handed given
-    (written_body g.W.Tell.log g.W.TellWrite.trace first payload fields c.args.writer.now last wrote h limits lets)
+returns g c = λ first last payload fields wrote h behind rest lets given.
+    c.given_body.ensures wrote payload behind rest
+    (written_body g.W.Tell.log g.W.TellWrite.trace first payload fields c.args.writer.now last wrote h
+    c.args.reader.now.coding.0 lets) given

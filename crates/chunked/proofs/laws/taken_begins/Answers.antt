@@ -1,12 +1,19 @@
+use Rattle.chunked.specs.declared.place.Place.TheVariants.{Line}
+use Rattle.body_reader.specs.BodyReader.{handed_of}
+use Rattle.chunked.specs.CodingLaws.{leads_of}
 use Rattle.chunked.proofs.Alive.{Completes-some}
 use Rattle.chunked.proofs.laws.taken_begins.Goals as goal
 
 pub returns-clause-right : goal.returns-clause-right
 returns-clause-right g c = λ some.
+    let t = c.args.reader.now in
     let is = c.get_ref.ensures.whole in
-    let goes = Completes-some c.args.reader.now.limits 0 some c.args.reader.now.place is.place in
-    (goes.rest, goes.payload, is.leads.onward goes.rest goes.payload goes.completes)
+    let goes = Completes-some t.coding.0 0 some t.place is.place in
+    let leads = leads_of t.coding.0 Line t.taken (handed_of t) t.place is.leads in
+    (goes.rest, goes.payload, leads.onward goes.rest goes.payload goes.completes)
 
 pub returns-clause-payload : goal.returns-clause-payload
 returns-clause-payload g c = λ rest whole body.
-    let goes = c.get_ref.ensures.whole.leads.back rest whole body in (goes.0, goes.1)
+    let t = c.args.reader.now in
+    let leads = leads_of t.coding.0 Line t.taken (handed_of t) t.place c.get_ref.ensures.whole.leads in
+    let goes = leads.back rest whole body in (goes.0, goes.1)
