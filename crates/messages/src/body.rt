@@ -1,17 +1,16 @@
 //! The reader of requests, in a body.
-ghost use Rattle.std.specs.Prelude.{◌≡◌, ◌-◌, ◌^◌, ◌<◌, ◌≤◌, ◌↔◌, ℕ, List, [], ◌++◌, length, min, take, IfErr, IfOk, IsTrue, MatchResult, None, Ok, OnOk};
+ghost use Rattle.std.specs.Prelude.{◌≡◌, ◌-◌, ◌^◌, ◌<◌, ◌≤◌, ◌↔◌, ℕ, List, [], ◌++◌, length, min, take, IfErr, IfOk, IsTrue, MatchResult, Ok, OnOk};
 ghost use Rattle.std.specs.Borrow.{Lends, sem};
-ghost use Rattle.std.specs.Io.{ReadsAtMost};
-ghost use Rattle.std.specs.Io.KnownBytes.{ReadConsumes};
 ghost use Rattle.body_reader.specs.Asking.{AskedWhere};
 ghost use Rattle.body_reader.specs.Between.{handed_out};
 ghost use Rattle.body_reader.specs.BodyReader.{handed_of};
-ghost use Rattle.buffer_redux.specs.StreamLog.{after_read};
 ghost use Rattle.buffer_redux.specs.Unbuffer.{unbuffered};
 ghost use Rattle.codec.specs.PieceReader.{left_of};
 ghost use Rattle.messages.specs.contracts.body.Body.{the_row};
 ghost use Rattle.messages.specs.Heads.{IsHead};
-ghost use Rattle.messages.specs.Messages.{BecomesIo, EachGave, Ends, Fails, FinishFails, GoesOn, HasRoom, InsideGoes, IsReady, IsRest, IsRoomy, ReadsAsIo, ReaderTakes, RunsShort, Unended, begun, body_of, grammar_of, has_line, left_in, rest_of, room_of, stream_of, with_stream};
+ghost use Rattle.messages.specs.Messages.{EachGave, Ends, Fails, FinishFails, GoesOn, HasRoom, InsideGoes, IsReady, IsRest, IsRoomy, ReaderTakes, RunsShort, Unended, begun, body_of, grammar_of, has_line, left_in, rest_of, room_of, stream_of, with_stream};
+
+mod tells;
 
 use crate::error::{BodyError, unread};
 use crate::head::{Extent, Heads, ParsedHead};
@@ -22,8 +21,6 @@ use buffer_redux::{BufReader, Buffer};
 use chunked::{Chunked, Limits};
 use codec::PieceReader;
 use std::alloc::Global;
-use std::io;
-use std::io::Read;
 use std::marker::Model;
 
 /// How much of a chunked body may be no payload.
@@ -221,33 +218,6 @@ impl<R: TellRead> Body<R> {
     }
 }
 
-impl<R: Tell> Tell for Body<R> {
-    ghost log = { λ b. b.calls };
-}
-
-/// Payload, as [`read`](Body::read) hands it out. An error is the stream's own, or of the kind `InvalidData` or `UnexpectedEof`.
-impl<R: TellRead> Read for Body<R> {
-    fn read(&mut self, out: &mut [u8]) -> io::Result<usize>
-        ensures bound { ReadsAtMost result out.new }
-        ensures bytes { ReadConsumes None None result out.new }
-        ensures read { ReadsAsIo R.remaining self.old out.new result self.new }
-    {
-        self.read_told(out)
-    }
-}
-
-/// The same, told.
-impl<R: TellRead> TellRead for Body<R> {
-    fn read_told(&mut self, out: &mut [u8]) -> io::Result<usize>
-        ensures bound { ReadsAtMost result out.new }
-        ensures told { self.new.calls ≡ after_read self.old.calls out.new result }
-        ensures bytes { ReadConsumes None None result out.new }
-        ensures read { ReadsAsIo R.remaining self.old out.new result self.new }
-    {
-        read_told(&mut self.reader, out)
-    }
-}
-
 // The coding of the body that a head says.
 fn coding_of(extent: Extent) -> BodyCoding
     ensures rest { rest_of result (grammar_of result).first ≡ body_of extent }
@@ -292,27 +262,6 @@ fn read<R: TellRead>(
         Ok(count) => Ok(count),
         Err(e) => Err(unread(reader.place(), e)),
     }
-}
-
-// Hands out payload as one of std's streams does, and tells it.
-fn read_told<R: TellRead>(
-    reader: &mut BodyReader<R, BodyCoding>,
-    out: &mut [u8],
-) -> io::Result<usize>
-    requires { HasRoom reader.old }
-    ensures bound { ReadsAtMost result out.new }
-    ensures room { HasRoom reader.new }
-    ensures kept { room_of reader.new.reader.block ≡ room_of reader.old.reader.block }
-    ensures told { reader.new.calls ≡ after_read reader.old.calls out.new result }
-    ensures takes { ReaderTakes R.remaining reader.old (handed_out out.new result) reader.new }
-    ensures ended { result ≡ Ok 0 → 0 < length out.new → IsRest (left_in reader.new) [] [] }
-    ensures gave { OnOk result (EachGave (stream_of reader.old) (stream_of reader.new)) }
-    ensures fails { IfErr result (λ e. (why : BodyError)
-        × Fails (stream_of reader.old) why (stream_of reader.new) (left_in reader.new) × BecomesIo why e) }
-    ensures asked { AskedWhere (GoesOn (left_in reader.old) []) (stream_of reader.old) (stream_of reader.new) }
-{
-    let _ = reader.get_ref();
-    reader.read_told(out)
 }
 
 // Hands out payload that is buffered.

@@ -2,7 +2,7 @@ use Rattle.std.proofs.Common.{◌≡◌, ℕ, List, ◌++◌, Result, Ok, Err, a
 use Rattle.std.specs.declared.io.Error.{Error}
 use Rattle.body_reader.specs.Between.{handed_out}
 use Rattle.buffer_redux.specs.StreamLog.{StreamLog, after_read}
-use Rattle.messages.proofs.body.BodyTellRead.read_told.Goals as goal
+use Rattle.messages.proofs.body.tells.BodyTellRead.read_told.Goals as goal
 
 -- what a read tells as given is what it handed out
 told : (log log' : StreamLog) (out : List ℕ) (answer : Result ℕ Error) → log' ≡ after_read log out answer

@@ -1,5 +1,5 @@
 use Rattle.messages.proofs.AsIo.{io_asked, io_ended, io_fails, io_gave, io_room, io_take}
-use Rattle.messages.proofs.body.read_told.Goals as goal
+use Rattle.messages.proofs.body.tells.read_told.Goals as goal
 
 pub returns-clause-room : goal.returns-clause-room
 returns-clause-room g c =
