@@ -2,6 +2,7 @@ pub mod Skipping
 pub mod Handing
 pub mod Payload
 pub mod Draining
+pub mod Collecting
 pub mod Filling
 pub mod Consuming
 pub mod Resting

@@ -1,5 +1,5 @@
 -- What contracts see of a reader of a body, and what its calls promise.
-use Rattle.std.specs.Prelude.{◌≡◌, ℕ, ◌-◌, ◌^◌, ◌<◌, ◌≤◌, ◌⊎◌, List, [], ◌++◌, length, min, take, Bool, MatchBool, Option, Result, Ok, Err, MatchResult}
+use Rattle.std.specs.Prelude.{◌≡◌, ℕ, ◌+◌, ◌-◌, ◌^◌, ◌<◌, ◌≤◌, ◌⊎◌, List, [], ◌++◌, length, min, take, Bool, MatchBool, Option, Result, Ok, Err, MatchResult}
 use Rattle.std.specs.Borrow.{Bor}
 use Rattle.std.specs.IoError.{error_kind}
 use Rattle.std.specs.declared.io.Error.{Error}
@@ -11,6 +11,8 @@ use Rattle.buffer_redux.specs.StreamLog.{StreamLog, after_read, no_calls}
 use Rattle.buffer_redux.specs.Unbuffer.{unbuffered}
 use Rattle.body_reader.specs.declared.error.BodyError.{BodyError}
 use Rattle.body_reader.specs.declared.error.BodyError.TheVariants.{Wrong, Truncated, Io}
+use Rattle.body_reader.specs.declared.error.CollectError.{CollectError}
+use Rattle.body_reader.specs.declared.error.CollectError.TheVariants as collect
 use Rattle.body_reader.specs.Asking.{AskedWhere}
 use Rattle.body_reader.specs.Between.{AsksOpen, BecomesIo, EachGave, Faulted, KeepsBuffer, MetEnd, handed_out}
 use Rattle.body_reader.specs.Coding.{Grammar, IsBody, IsKnown, IsOpen, Leads, LeadsOpen, heeded}
@@ -105,6 +107,24 @@ module _ {S Q C P W : Type 0} (remaining : S → Option (List ℕ)) (rules : Rea
     pub asked : AskedWhere (λ bytes. (dropped : List ℕ) × LeadsOpen g s.place dropped bytes) (unbuffered s.reader)
         (unbuffered t.reader)
     pub ended : IsWhole g s → t.reader ≡ s.reader
+    pub whole : IsBodyReader g t
+
+  -- why no more payload was collected, of which so much is there: none comes; or more than so many bytes would be; or memory was
+  -- refused
+  abbrev pub NotCollected : ℕ → BodyState S Q C P → List ℕ → CollectError W → BodyState S Q C P → Type 0
+  NotCollected most s all (collect.Body why) t = NoPayload g s why t
+  NotCollected most s all collect.TooLong t = EachGave s.reader t.reader × (most < length all + t.known)
+  NotCollected most s all collect.Memory t = EachGave s.reader t.reader
+
+  -- the rest of the body was taken, and its payload appended, or why not. The stream is asked only where nothing was settled
+  pub record Collects (most : ℕ) (s : BodyState S Q C P) (before : List ℕ) (answer : Result (Unit {0}) (CollectError W))
+      (t : BodyState S Q C P) (after : List ℕ) : Type 0 where
+    pub payload : List ℕ
+    pub went : BodyWent s payload t
+    pub collected : after ≡ before ++ payload
+    pub asked : AskedWhere (λ bytes. (dropped : List ℕ) × LeadsOpen g s.place dropped bytes) (unbuffered s.reader)
+        (unbuffered t.reader)
+    pub answers : MatchResult answer (λ _. EachGave s.reader t.reader × IsWhole g t) (λ e. NotCollected most s after e t)
     pub whole : IsBodyReader g t
 
   -- payload is buffered, how much the answer says: none only where the body ended. The stream is asked only where nothing was

@@ -16,7 +16,7 @@ mod until;
 
 pub use coding::{Coding, Look};
 pub use either::{Either, Side};
-pub use error::BodyError;
+pub use error::{BodyError, CollectError};
 pub use just_or_until::{JustOr, JustOrUntil};
 pub use reader::BodyReader;
 pub use sized::Sized;

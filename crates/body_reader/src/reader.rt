@@ -1,5 +1,5 @@
 //! The reader of a body.
-ghost use Rattle.std.specs.Prelude.{None, Some, [], ◌≡◌, ℕ, List, ◌-◌, ◌<◌, ◌≤◌, ◌↔◌, length, min, take, Err, IfErr, IfOk, IfSome, IsOkAnd, IsTrue, MatchResult, Ok};
+ghost use Rattle.std.specs.Prelude.{None, Some, [], ◌≡◌, ℕ, List, ◌-◌, ◌<◌, ◌≤◌, ◌↔◌, length, min, take, vec_items, Err, IfErr, IfOk, IfSome, IsOkAnd, IsTrue, MatchResult, Ok};
 ghost use Rattle.std.specs.Borrow.{Lends, sem};
 ghost use Rattle.std.specs.Io.{ReadsAtMost, StartsWith};
 ghost use Rattle.std.specs.Io.BufRead.{Rests};
@@ -11,10 +11,10 @@ ghost use Rattle.buffer_redux.specs.GrowError.{FitsWithin};
 ghost use Rattle.buffer_redux.specs.MakeError.{growth};
 ghost use Rattle.buffer_redux.specs.StreamLog.{StreamLog, after_read};
 ghost use Rattle.body_reader.specs.Coding.{IsBody};
-ghost use Rattle.body_reader.specs.BodyReader.{BodyState, BodyWent, Drains, FillsAsIo, FillsPayload, IsBodyReader, IsWhole, LooksBehind, ReadsAsIo, ReadsBuffered, ReadsPayload, begun, taken_count};
+ghost use Rattle.body_reader.specs.BodyReader.{BodyState, BodyWent, Collects, Drains, FillsAsIo, FillsPayload, IsBodyReader, IsWhole, LooksBehind, ReadsAsIo, ReadsBuffered, ReadsPayload, begun, taken_count};
 
 use crate::coding::{Coding, Look};
-use crate::error::BodyError;
+use crate::error::{BodyError, CollectError};
 use crate::progress::Progress;
 use crate::steps::{fill_on, hand_buffered, read_on, take_front};
 use buffer_redux::policy::{ReaderPolicy, StdPolicy};
@@ -296,6 +296,32 @@ impl<R: TellRead, C: Coding, P: ReaderPolicy> BodyReader<R, C, P> {
             self.consume_payload(count);
         }
         Err(BodyError::Io(io::Error::from(ErrorKind::Other)))
+    }
+
+    /// Takes the rest of the body, and appends its payload to `out`, which has at most `most` bytes then.
+    pub fn collect(
+        &mut self,
+        most: usize,
+        out: &mut Vec<u8>,
+    ) -> Result<(), CollectError<C::Wrong>>
+        ensures { Collects R.remaining P.rules (C.grammar self.old.coding) most self.old (vec_items out.old) result self.new
+            (vec_items out.new) }
+    {
+        // Says that the reader is whole, also where nothing comes.
+        let _ = self.get_ref();
+        loop {
+            let came = self.fill_payload()?;
+            if came == 0 {
+                return Ok(());
+            }
+            if came > most.saturating_sub(out.len()) {
+                return Err(CollectError::TooLong);
+            }
+            if out.extend_from_slice(self.piece()).is_err() {
+                return Err(CollectError::Memory);
+            }
+            self.consume_payload(came);
+        }
     }
 
     /// Whether nothing follows what was taken: reads a byte ahead, unless one is buffered, and leaves what comes. Behind the end

@@ -2,14 +2,15 @@
 use Rattle.std.proofs.Common.{◌≡◌, ℕ, ◌⊎◌, List, [], Option, Result, Ok, Err, Bool, subst, sym, ap, ◌∙◌, refl, inl, inr}
 use Rattle.buffer_redux.specs.Policy.{ReadRules}
 use Rattle.body_reader.specs.declared.error.BodyError.{BodyError}
+use Rattle.body_reader.specs.declared.error.CollectError.{CollectError}
 use Rattle.body_reader.specs.declared.just_or_until.JustOr.{JustOr}
 use Rattle.body_reader.specs.declared.just_or_until.JustOrUntil.{JustOrUntil}
-use Rattle.body_reader.specs.BodyReader.{BodyState, Drains, IsBodyReader, IsWhole, begun, handed_of}
+use Rattle.body_reader.specs.BodyReader.{BodyState, Collects, Drains, IsWhole, begun, handed_of}
 use Rattle.body_reader.specs.Coding.{IsBody}
 use Rattle.multipart.specs.declared.error.PartError.{PartError}
 use Rattle.multipart.specs.declared.reader.Stand.{Stand}
 use Rattle.multipart.specs.declared.reader.Stand.TheVariants.{Preamble, Head, Part, Ended}
-use Rattle.multipart.specs.Multipart.{AreCodings, Collects, EndsHead, FormState, GoesOn, HasHead, IsForm, LeavesText, NextPart, PassesText, codes, part_error, turned}
+use Rattle.multipart.specs.Multipart.{AreCodings, CollectsHead, EndsHead, FormState, GoesOn, HasHead, IsForm, LeavesText, NextPart, PassesText, codes, head_error, part_error, turned}
 
 -- a part begins behind a head
 pub begins_part : {S Q : Type 0} (d s : FormState S Q) → d ≡ s → IsForm d → s.stand ≡ Head
@@ -50,13 +51,26 @@ module _ {S Q : Type 0} (remaining : S → Option (List ℕ)) (rules : ReadRules
             none,
       )
 
+  pub collects_not : (s d : FormState S Q) (b : BodyState S Q JustOrUntil JustOr) (after : List ℕ) (w : CollectError (Unit {0}))
+      → d ≡ s → Collects remaining rules (codes d.body.coding) d.limits.head d.body d.head (Err w) b after
+      → CollectsHead remaining rules s.limits.head s.body s.head (Err (head_error w)) b after
+  collects_not s d b after w same collects =
+      subst (λ x. CollectsHead remaining rules x.limits.head x.body x.head (Err (head_error w)) b after) same
+      (w, collects, refl)
+
+  pub collects : (s d : FormState S Q) (b : BodyState S Q JustOrUntil JustOr) (after : List ℕ) → d ≡ s
+      → Collects remaining rules (codes d.body.coding) d.limits.head d.body d.head (Ok tt) b after
+      → CollectsHead remaining rules s.limits.head s.body s.head (Ok tt) b after
+  collects s d b after same all =
+      subst (λ x. CollectsHead remaining rules x.limits.head x.body x.head (Ok tt) b after) same all
+
   pub goes_not : (s m : FormState S Q) (e : PartError)
-      → Collects remaining rules s.limits.head s.body s.head (Err e) m.body m.head
+      → CollectsHead remaining rules s.limits.head s.body s.head (Err e) m.body m.head
       → m ≡ record s { body = m.body; head = m.head } → GoesOn remaining rules s (Err e) m
   goes_not s m e collects within = (m.body, m.head, inr (e, refl, collects, within))
 
   pub goes : (s m t : FormState S Q) (answer : Result Bool PartError)
-      → Collects remaining rules s.limits.head s.body s.head (Ok tt) m.body m.head
+      → CollectsHead remaining rules s.limits.head s.body s.head (Ok tt) m.body m.head
       → m ≡ record s { body = m.body; head = m.head } → EndsHead m answer t → GoesOn remaining rules s answer t
   goes s m t answer collects within ends =
       (m.body, m.head, inl (collects, subst (λ x. EndsHead x answer t) within ends))

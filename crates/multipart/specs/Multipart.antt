@@ -3,15 +3,14 @@ use Rattle.std.specs.Prelude.{◌≡◌, ◌≢◌, ℕ, ◌+◌, ◌<◌, ◌�
 use Rattle.std.specs.declared.io.Error.{Error}
 use Rattle.buffer_redux.specs.Buffered.{Buffered}
 use Rattle.buffer_redux.specs.Policy.{ReadRules}
-use Rattle.buffer_redux.specs.Unbuffer.{unbuffered}
 use Rattle.body_reader.specs.declared.error.BodyError.{BodyError}
 use Rattle.body_reader.specs.declared.error.BodyError.TheVariants as why
+use Rattle.body_reader.specs.declared.error.CollectError.{CollectError}
+use Rattle.body_reader.specs.declared.error.CollectError.TheVariants as collect
 use Rattle.body_reader.specs.declared.just_or_until.JustOr.{JustOr}
 use Rattle.body_reader.specs.declared.just_or_until.JustOrUntil.{JustOrUntil}
-use Rattle.body_reader.specs.Asking.{AskedWhere}
-use Rattle.body_reader.specs.Between.{EachGave}
-use Rattle.body_reader.specs.BodyReader.{BodyState, BodyWent, Drains, IsBodyReader, IsWhole, NoPayload, begun, handed_of}
-use Rattle.body_reader.specs.Coding.{Grammar, IsBody, LeadsOpen}
+use Rattle.body_reader.specs.BodyReader.{BodyState, Collects, Drains, begun, handed_of}
+use Rattle.body_reader.specs.Coding.{Grammar, IsBody}
 use Rattle.body_reader.specs.JustOrUntil.{just_or_until}
 use Rattle.multipart.specs.declared.error.NewError.{NewError}
 use Rattle.multipart.specs.declared.error.NewError.TheVariants as new
@@ -82,6 +81,12 @@ part_error (why.Wrong w right) = part.Boundary
 part_error (why.Truncated right) = part.Truncated
 part_error (why.Io e) = part.Io e
 
+-- why a head wasn't collected, as an error of the whole
+abbrev pub head_error : CollectError (Unit {0}) → PartError
+head_error (collect.Body e) = part_error e
+head_error collect.TooLong = part.LongHead
+head_error collect.Memory = part.Memory
+
 -- a head ended, and then: the two hyphens end the body; a head that begins as the line of its boundary ends leads into a part, unless
 -- those are too many
 abbrev pub EndsHead : {S Q : Type 0} → FormState S Q → Result Bool PartError → FormState S Q → Type 0
@@ -101,29 +106,18 @@ module _ {S Q : Type 0} (remaining : S → Option (List ℕ)) (rules : ReadRules
   LeavesText s (Err e) t = (w : BodyError (Unit {0})) × Drains remaining rules (codes s.body.coding) s.body (Err w) t.body
       × (e ≡ part_error w) × (t ≡ record s { body = t.body })
 
-  -- why a head of at most so many bytes doesn't end, of which so much was collected
-  abbrev pub NoHead : ℕ → BodyState S Q JustOrUntil JustOr → List ℕ → PartError → BodyState S Q JustOrUntil JustOr → Type 0
-  NoHead most s head part.LongHead t = EachGave s.reader t.reader × (most < length head + t.known)
-  NoHead most s head part.Memory t = EachGave s.reader t.reader
-  NoHead most s head e t = (w : BodyError (Unit {0})) × (e ≡ part_error w) × NoPayload (codes s.coding) s w t
-
-  -- the payload of a head is collected, to its end or why not. The stream is asked only where nothing is settled
-  pub record Collects (most : ℕ) (s : BodyState S Q JustOrUntil JustOr) (before : List ℕ) (answer : Result (Unit {0}) PartError)
-      (t : BodyState S Q JustOrUntil JustOr) (after : List ℕ) : Type 0 where
-    pub payload : List ℕ
-    pub went : BodyWent remaining rules (codes s.coding) s payload t
-    pub collected : after ≡ before ++ payload
-    pub asked : AskedWhere (λ bytes. (dropped : List ℕ) × LeadsOpen (codes s.coding) s.place dropped bytes)
-        (unbuffered s.reader) (unbuffered t.reader)
-    pub answers : MatchResult answer (λ _. EachGave s.reader t.reader × IsWhole (codes s.coding) t)
-        (λ e. NoHead most s after e t)
-    pub whole : IsBodyReader (codes s.coding) t
+  -- a head of at most so many bytes is collected, to its end or why not
+  abbrev pub CollectsHead : ℕ → BodyState S Q JustOrUntil JustOr → List ℕ → Result (Unit {0}) PartError
+      → BodyState S Q JustOrUntil JustOr → List ℕ → Type 0
+  CollectsHead most s before (Ok _) t after = Collects remaining rules (codes s.coding) most s before (Ok tt) t after
+  CollectsHead most s before (Err e) t after = (w : CollectError (Unit {0}))
+      × Collects remaining rules (codes s.coding) most s before (Err w) t after × (e ≡ head_error w)
 
   -- from a head on
   abbrev pub GoesOn : FormState S Q → Result Bool PartError → FormState S Q → Type 0
   GoesOn s answer t = (b : BodyState S Q JustOrUntil JustOr) × (head : List ℕ)
-      × ((Collects s.limits.head s.body s.head (Ok tt) b head × EndsHead (record s { body = b; head = head }) answer t)
-      ⊎ ((e : PartError) × (answer ≡ Err e) × Collects s.limits.head s.body s.head (Err e) b head
+      × ((CollectsHead s.limits.head s.body s.head (Ok tt) b head × EndsHead (record s { body = b; head = head }) answer t)
+      ⊎ ((e : PartError) × (answer ≡ Err e) × CollectsHead s.limits.head s.body s.head (Err e) b head
       × (t ≡ record s { body = b; head = head })))
 
   -- from a text on: also what is left of it is passed

@@ -1,7 +1,7 @@
 //! Why a multipart body can't be read.
 ghost use Rattle.std.specs.Prelude.{◌≡◌};
 
-use body_reader::BodyError;
+use body_reader::{BodyError, CollectError};
 use std::error::Error;
 use std::io::ErrorKind;
 use std::{fmt, io};
@@ -48,6 +48,20 @@ impl From<BodyError<()>> for PartError {
             BodyError::Wrong(_, _) => PartError::Boundary,
             BodyError::Truncated(_) => PartError::Truncated,
             BodyError::Io(e) => PartError::Io(e),
+        }
+    }
+}
+
+impl From<CollectError<()>> for PartError {
+    ghost use Rattle.multipart.specs.Multipart.{head_error};
+
+    ghost from_gives = { λ e r. r ≡ head_error e };
+
+    fn from(e: CollectError<()>) -> PartError {
+        match e {
+            CollectError::Body(e) => PartError::from(e),
+            CollectError::TooLong => PartError::LongHead,
+            CollectError::Memory => PartError::Memory,
         }
     }
 }

@@ -1,7 +1,7 @@
 //! The reader of parts.
 ghost use Rattle.std.specs.Prelude.{◌≡◌, ◌≢◌, ◌<◌, ◌≤◌, ◌+◌, ◌-◌, ◌⊎◌, ◌∷◌, ◌++◌, length, min, take, vec_items, Ok, IfErr, IfOk, IfSome};
 ghost use Rattle.body_reader.specs.BodyReader.{BodyWent, FillsPayload, IsBodyReader, IsWhole, ReadsPayload};
-ghost use Rattle.multipart.specs.Multipart.{AreCodings, Collects, EndsHead, GoesOn, IsBegun, IsForm, IsRefused, LeavesText, NextPart, codes};
+ghost use Rattle.multipart.specs.Multipart.{AreCodings, CollectsHead, EndsHead, GoesOn, IsBegun, IsForm, IsRefused, LeavesText, NextPart, codes};
 
 use crate::error::{NewError, PartError};
 use crate::head::is_opening;
@@ -280,11 +280,12 @@ impl<R: TellRead, P: ReaderPolicy> Multipart<R, P> {
     // Collects the head.
     fn collect(&mut self) -> Result<(), PartError>
         requires head { self.old.stand ≡ Stand.Head }
-        ensures collects { Collects R.remaining P.rules self.old.limits.head self.old.body self.old.head result self.new.body
+        ensures collects { CollectsHead R.remaining P.rules self.old.limits.head self.old.body self.old.head result self.new.body
             self.new.head }
         ensures within { self.new ≡ record self.old { body = self.new.body; head = self.new.head } }
     {
-        collect_into(&mut self.body, &mut self.head, self.limits.head)
+        self.body.collect(self.limits.head, &mut self.head)?;
+        Ok(())
     }
 
     // Goes on into the part behind this head, or says that there is none.
@@ -308,30 +309,5 @@ impl<R: TellRead, P: ReaderPolicy> Multipart<R, P> {
         self.parts += 1;
         self.stand = Stand::Part;
         Ok(true)
-    }
-}
-
-// Collects what comes of a head, of at most so many bytes.
-fn collect_into<R: TellRead, P: ReaderPolicy>(
-    body: &mut BodyReader<R, JustOrUntil, P>,
-    head: &mut Vec<u8>,
-    most: usize,
-) -> Result<(), PartError>
-    ensures { Collects R.remaining P.rules most body.old (vec_items head.old) result body.new (vec_items head.new) }
-{
-    // Says that the reader is whole, also where nothing comes.
-    let _ = body.get_ref();
-    loop {
-        let count = body.fill_payload()?;
-        if count == 0 {
-            return Ok(());
-        }
-        if count > most.saturating_sub(head.len()) {
-            return Err(PartError::LongHead);
-        }
-        if head.extend_from_slice(body.piece()).is_err() {
-            return Err(PartError::Memory);
-        }
-        body.consume_payload(count);
     }
 }
