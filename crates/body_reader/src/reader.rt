@@ -148,8 +148,8 @@ impl<R: Tell, C: Coding, P> BodyReader<R, C, P> {
     /// is torn by that: [`drain`](BodyReader::drain) takes the rest of it.
     pub fn begin_next(&mut self, coding: &mut C)
         requires room { (C.grammar coding.old).ahead ≤ self.old.reader.block.capacity }
-        ensures begun { self.new ≡ begun (C.grammar coding.old) self.old.reader coding.old }
         ensures before { coding.new ≡ self.old.coding }
+        ensures begun { self.new ≡ begun (C.grammar coding.old) self.old.reader coding.old }
         ensures whole { IsBodyReader (C.grammar coding.old) self.new }
     {
         self.progress = Progress::new(coding.first());
@@ -228,10 +228,10 @@ impl<R: TellRead, C: Coding, P: ReaderPolicy> BodyReader<R, C, P> {
 
     /// Proceeds on behind the first `count` bytes that [`piece`](BodyReader::piece) lends, or behind all.
     pub fn consume_payload(&mut self, count: usize)
-        ensures went { BodyWent R.remaining P.rules (C.grammar self.old.coding) self.old
-            (take (min count self.old.known) self.old.reader.block.bytes) self.new }
         ensures left { self.new.known ≡ self.old.known - count }
         ensures told { self.new.reader.log ≡ self.old.reader.log }
+        ensures went { BodyWent R.remaining P.rules (C.grammar self.old.coding) self.old
+            (take (min count self.old.known) self.old.reader.block.bytes) self.new }
         ensures whole { IsBodyReader (C.grammar self.new.coding) self.new }
     {
         let count = count.min(self.known);
@@ -299,11 +299,7 @@ impl<R: TellRead, C: Coding, P: ReaderPolicy> BodyReader<R, C, P> {
     }
 
     /// Takes the rest of the body, and appends its payload to `out`, which has at most `most` bytes then.
-    pub fn collect(
-        &mut self,
-        most: usize,
-        out: &mut Vec<u8>,
-    ) -> Result<(), CollectError<C::Wrong>>
+    pub fn collect(&mut self, most: usize, out: &mut Vec<u8>) -> Result<(), CollectError<C::Wrong>>
         ensures { Collects R.remaining P.rules (C.grammar self.old.coding) most self.old (vec_items out.old) result self.new
             (vec_items out.new) }
     {

@@ -264,12 +264,12 @@ impl<R: TellRead, P> BufReader<R, P> {
     /// Reads once into the buffer, without the policy, and returns how many bytes came. Returns `Ok(0)` and doesn't ask
     /// the reader where nothing can be written behind the buffered bytes. A fault of the reader leaves the bytes.
     pub fn read_into_buf(&mut self) -> io::Result<usize>
-        ensures reads { ReadsIntoBuf R.remaining self.old result self.new }
         ensures in_order { ReadsInOrder self.old [] self.new }
         ensures not_asked { usable self.old.block ≡ 0 → self.new.inner ≡ self.old.inner }
         ensures err { OnErr result (LeavesBytes self.old.block self.new.block) }
         ensures end { result ≡ Ok 0 → 0 < usable self.old.block → IsAtEnd (R.remaining self.new.inner) }
         ensures spared { (keep : ℕ) → Spared keep self.old self.new }
+        ensures reads { ReadsIntoBuf R.remaining self.old result self.new }
     {
         self.buf.read_from(&mut self.inner)
     }
@@ -358,10 +358,10 @@ impl<R: TellRead, P: ReaderPolicy> BufRead for BufReader<R, P> {
 
     /// Drops the first `amount` bytes that are buffered, or all, and tells the policy how many those were.
     fn consume(&mut self, amount: usize)
-        ensures bytes { DropsConsumable (reader_remaining R.remaining P.rules self.old)
-            (reader_remaining R.remaining P.rules self.new) (Some (length self.old.block.bytes)) amount }
         ensures in_order { ReadsInOrder self.old (take amount self.old.block.bytes) self.new }
         ensures inner { self.new.inner ≡ self.old.inner }
+        ensures bytes { DropsConsumable (reader_remaining R.remaining P.rules self.old)
+            (reader_remaining R.remaining P.rules self.new) (Some (length self.old.block.bytes)) amount }
         ensures consumed { ReaderConsumes P.rules amount self.old self.new }
         ensures keeps { ReaderKeeps R.remaining P.rules self.old self.new }
     {

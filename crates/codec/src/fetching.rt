@@ -30,10 +30,10 @@ pub fn fetch<R: TellRead, D: Decoder, W: TellWrite, P: WriterPolicy>(
     reader: &mut PieceReader<R, D>,
     writer: &mut BufWriter<W, P>,
 ) -> io::Result<Result<Option<Span>, NextError<D::Wrong>>>
-    ensures next { IfOk result (λ answer. NextPiece R.remaining (D.grammar reader.old.decoder) reader.old
-        (load_answer answer reader.new) reader.new) }
     ensures lends { IfOk result (λ answer. IfOk answer (λ found. IfSome found
         (IsLent (D.grammar reader.new.decoder) reader.new.handed reader.new.reader.block.bytes))) }
+    ensures next { IfOk result (λ answer. NextPiece R.remaining (D.grammar reader.old.decoder) reader.old
+        (load_answer answer reader.new) reader.new) }
     ensures first { FlushedFirst W.log W.trace (D.grammar reader.old.decoder) reader.old writer.old result
         reader.new writer.new }
 {
@@ -51,10 +51,10 @@ pub fn fetch_item<R: TellRead, D: Items, W: TellWrite, P: WriterPolicy>(
     reader: &mut PieceReader<R, D>,
     writer: &mut BufWriter<W, P>,
 ) -> io::Result<Result<Option<(D::Item, Span)>, NextError<D::Wrong>>>
-    ensures next { IfOk result (λ answer. NextItem R.remaining (D.grammar reader.old.decoder)
-        (D.item_of reader.old.decoder) reader.old answer reader.new) }
     ensures lends { IfOk result (λ answer. IfOk answer (λ found. IfSome found (λ said.
         IsLent (D.grammar reader.new.decoder) reader.new.handed reader.new.reader.block.bytes said.1))) }
+    ensures next { IfOk result (λ answer. NextItem R.remaining (D.grammar reader.old.decoder)
+        (D.item_of reader.old.decoder) reader.old answer reader.new) }
     ensures first { FlushedFirst W.log W.trace (D.grammar reader.old.decoder) reader.old writer.old result
         reader.new writer.new }
 {

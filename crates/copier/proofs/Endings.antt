@@ -1,5 +1,5 @@
 -- What a run did that ended so.
-use Rattle.std.proofs.Common.{◌≡◌, ◌∙◌, ℕ, Result, Ok, Err, IfOk, IfErr, OnErr, rules, sym}
+use Rattle.std.proofs.Common.{◌≡◌, ◌∙◌, ◌⊎◌, inl, inr, ℕ, Result, Ok, Err, IfOk, IfErr, OnErr, rules, sym}
 use Rattle.std.specs.IoError.{error_kind}
 use Rattle.std.specs.declared.io.Error.{Error}
 use Rattle.std.specs.declared.io.ErrorKind.TheVariants.{OutOfMemory}
@@ -7,7 +7,15 @@ use Rattle.buffer_redux.specs.StreamLog.{StreamLog}
 use Rattle.programs.specs.Ending.{EndsAs, FailsSo}
 use Rattle.programs.specs.declared.ending.Ending.{Ending}
 use Rattle.programs.specs.declared.ending.Ending.TheVariants.{Done, Failed, ReadFailed, WriteFailed, Usage, Memory}
-use Rattle.copier.specs.Copy.{Copied, InterruptedOften, RunEnded, RunFailed, RunFlushes, RunStopped}
+use Rattle.copier.specs.Copy.{Copied, EitherFailed, InterruptedOften, OverTotal, RunEnded, RunFailed, RunFlushes, RunStopped}
+
+-- why a run failed, once there were buffers
+pub run_caused : (answer : Result ℕ Error) (read read' written written' : StreamLog)
+    → IfErr answer (λ e. EitherFailed e read read' written written' ⊎ OverTotal e read read' written written')
+    → IfErr answer (λ e. RunFailed e read read' written written')
+run_caused (Ok n) read read' written written' caused = tt
+run_caused (Err e) read read' written written' (inl failed) = inl failed
+run_caused (Err e) read read' written written' (inr over) = inr (inr over)
 
 memory_of : (e : Error) → FailsSo Failed e Memory → error_kind e ≡ OutOfMemory
 memory_of e ends = let other = ends.other in search rules

@@ -4,9 +4,8 @@ use Rattle.std.proofs.lemmas.List.{append_cancel_left, nil_from_length}
 use Rattle.std.specs.IoError.{error_kind}
 use Rattle.std.specs.declared.io.Error.{Error}
 use Rattle.std.specs.declared.io.ErrorKind.TheVariants.{Interrupted, WriteZero}
-use Rattle.std.specs.Prelude.{IfErr}
 use Rattle.buffer_redux.specs.Block.{IsBlock}
-use Rattle.buffer_redux.specs.Faults.{TookNothing, TookNothing-after, MetInterrupts, MetInterrupts-joins, OnlyInterrupts, SendErrorCaused, SendErrorCaused-after}
+use Rattle.buffer_redux.specs.Faults.{interrupt_limit, TookNothing, TookNothing-after, MetInterrupts, MetInterrupts-joins, OnlyInterrupts, SendErrorCaused, SendErrorCaused-after}
 use Rattle.buffer_redux.specs.StreamLog.{StreamLog, FillLog, after_flush, zero_of_some, zero_of_none}
 use Rattle.buffer_redux.specs.Transfer.{Sends}
 use Rattle.buffer_redux.specs.Policy.{std_read_rules, std_write_rules}
@@ -20,7 +19,7 @@ use Rattle.buffer_redux.specs.ReaderTells.{reader_log, ReaderWent, FaultsAlike-o
 use Rattle.buffer_redux.specs.WriterTells.{writer_log, TellsFailures, WriterWent, WriterCalled}
 use Rattle.buffer_redux.specs.Copy.{MovedBy, MovedTooMuch, LastWrite, CopyEnded, StreamFailed, TakesNothing, faults_met}
 use Rattle.programs.specs.Streams.{EndsOnce}
-use Rattle.copier.specs.Copy.{Copied, EitherFailed, IsBeginning, OnlyFlushLeft, InterruptedOften, OverTotal, RunFailed, RunFlushes}
+use Rattle.copier.specs.Copy.{Copied, EitherFailed, IsBeginning, OnlyFlushLeft, InterruptedOften, OverTotal, RunFlushes}
 use Rattle.copier.specs.Copy as RunFaults
 
 -- nothing was given, and nothing received
@@ -43,14 +42,6 @@ pub offers_all : {R P : Type 0} {remaining : R → Option (List ℕ)} {s t : Buf
 offers_all went whole =
     let offers = went.offers ReadsWhole-std whole in
     elim offers.offer [ inl none ↦ inl none | inr all ↦ inr (all ∙ offers.capacity) ]
-
--- why a run failed, once there were buffers
-pub run_caused : (answer : Result ℕ Error) (read read' written written' : StreamLog)
-    → IfErr answer (λ e. EitherFailed e read read' written written' ⊎ OverTotal e read read' written written')
-    → IfErr answer (λ e. RunFailed e read read' written written')
-run_caused (Ok n) read read' written written' caused = tt
-run_caused (Err e) read read' written written' (inl failed) = inl failed
-run_caused (Err e) read read' written written' (inr over) = inr (inr over)
 
 -- what was handed on between buffers that were empty at first
 module _ {R P W Q : Type 0} (s t : Buffered R P) (u v : Buffered W Q) (none : s.block.bytes ≡ [])
@@ -223,9 +214,9 @@ module _ {R P W Q : Type 0} {remaining : R → Option (List ℕ)} {trace : W →
   })
 
   -- what the copy met of faults, the streams inside met
-  rise_inside : faults_met (reader_log s).fills (writer_log u).writes + 65
+  rise_inside : faults_met (reader_log s).fills (writer_log u).writes + interrupt_limit + 1
       ≤ faults_met (reader_log t).fills (writer_log v).writes
-      → v.log.writes.zero_writes ≡ u.log.writes.zero_writes → RunFaults.FaultsRise 65 s.log t.log u.log v.log
+      → v.log.writes.zero_writes ≡ u.log.writes.zero_writes → RunFaults.FaultsRise (interrupt_limit + 1) s.log t.log u.log v.log
   rise_inside rise same =
       let alike = went.faults refl in
       omega (
@@ -249,7 +240,8 @@ module _ {R P W Q : Type 0} {remaining : R → Option (List ℕ)} {trace : W →
       (reader_log s).fills (reader_log t).fills u v
       ⊎ MovedTooMuch e (reader_log s).fills (reader_log t).fills (writer_log u).writes (writer_log v).writes
       → (error_kind e ≡ Interrupted
-      → faults_met (reader_log s).fills (writer_log u).writes + 65 ≤ faults_met (reader_log t).fills (writer_log v).writes)
+      → faults_met (reader_log s).fills (writer_log u).writes + interrupt_limit + 1
+      ≤ faults_met (reader_log t).fills (writer_log v).writes)
       → InterruptedOften e s.log t.log u.log v.log
   copy_often e (inl (inl source)) often is =
       inl (rise_inside (often is) (went'.met (tells_all u.policy) (own_met u v source.writer)).only.zero_writes)
@@ -337,7 +329,7 @@ module _ {R P W Q : Type 0} {remaining : R → Option (List ℕ)} {trace : W →
           by_sending flushes.sending (Err e) refl flushes.sends flushes.ended
         where
           rise : (interrupts : List Error) → v'.log.writes.faults ≡ v.log.writes.faults ++ interrupts ++ e ∷ []
-              → 64 ≤ length interrupts → RunFaults.FaultsRise 65 s.log t.log u.log v'.log
+              → interrupt_limit ≤ length interrupts → RunFaults.FaultsRise (interrupt_limit + 1) s.log t.log u.log v'.log
           rise interrupts faults many =
               let before = went'.grows.faults in
               let alike = went.faults refl in
@@ -363,7 +355,7 @@ module _ {R P W Q : Type 0} {remaining : R → Option (List ℕ)} {trace : W →
               → Sends (length v.block.bytes) v.block v.log sending v'.block flushes.sent_log
               → MatchResult sending (λ _. v'.log ≡ after_flush flushes.sent_log answer)
               (λ d. (answer ≡ Err d) × (v'.log ≡ flushes.sent_log))
-              → RunFaults.FaultsRise 65 s.log t.log u.log v'.log ⊎ OnlyFlushLeft s.log t.log u.log v'.log
+              → RunFaults.FaultsRise (interrupt_limit + 1) s.log t.log u.log v'.log ⊎ OnlyFlushLeft s.log t.log u.log v'.log
           by_sending (Ok _) answer failed sends ended' =
               inr (only_flush_left total moved room in_order flushes.sent_log sends)
           by_sending (Err d) answer failed sends ended' =

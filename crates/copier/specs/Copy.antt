@@ -7,6 +7,7 @@ use Rattle.buffer_redux.specs.Block.{IsNew}
 use Rattle.buffer_redux.specs.Buffered.{Buffered}
 use Rattle.buffer_redux.specs.BufWriter.{Flushes}
 use Rattle.buffer_redux.specs.Copy.{CopyBuf, SourceFailed}
+use Rattle.buffer_redux.specs.Faults.{interrupt_limit}
 use Rattle.buffer_redux.specs.Policy.{std_read_rules, std_write_rules}
 use Rattle.buffer_redux.specs.ReaderTells.{ReaderWent, reader_log}
 use Rattle.buffer_redux.specs.StreamLog.{StreamLog}
@@ -58,10 +59,10 @@ pub record OnlyFlushLeft (read read' written written' : StreamLog) : Type 0 wher
   pub received : written'.writes.received ≡ written.writes.received ++ bytes
   pub ended : GaveNothing read read'
 
--- `Interrupted` is answered only where the streams met 65 faults, or by the writer's own flush
+-- `Interrupted` is answered only where the streams met more faults than the limit of interruptions, or by the writer's own flush
 abbrev pub InterruptedOften : Error → StreamLog → StreamLog → StreamLog → StreamLog → Type 0
 InterruptedOften e read read' written written' = error_kind e ≡ Interrupted
-    → FaultsRise 65 read read' written written' ⊎ OnlyFlushLeft read read' written written'
+    → FaultsRise (interrupt_limit + 1) read read' written written' ⊎ OnlyFlushLeft read read' written written'
 
 -- the writer was flushed once where all was copied, or just that was left; and else never
 abbrev pub RunFlushes : Result ℕ Error → StreamLog → StreamLog → StreamLog → StreamLog → Type 0

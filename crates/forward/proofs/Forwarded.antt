@@ -11,8 +11,8 @@ use Rattle.forward.specs.StreamsLaws.{MetNoFault-none}
 use Rattle.forward.specs.declared.error.Cause.{Cause}
 use Rattle.forward.specs.declared.error.Cause.TheVariants.{Count}
 use Rattle.forward.proofs.Between.{Paced, SoFar}
-use Rattle.forward.proofs.Forwarding.{answers_on, goes_on, none_forwarded, once_on}
-use Rattle.forward.proofs.Moving.{AsksOnce-none, Goes-none, Goes-weaker, Moves-none, Moves-on, StaysOpen-joins, StaysOpen-none}
+use Rattle.forward.proofs.Forwarding.{answers_on, goes_on, once_on}
+use Rattle.forward.proofs.Moving.{AsksOnce-none, Goes-none, Goes-weaker, Moves-none, Moves-on, none_forwarded, StaysOpen-joins, StaysOpen-none}
 
 module _ {T W : Type 0} (rules : FilterRules T W) (lawful : IsLawful rules) where
   module _ (first : Linked T) (fresh : rules.fresh first.filter) where

@@ -16,7 +16,7 @@ use Rattle.forward.specs.declared.error.AskError.TheVariants as asked
 use Rattle.forward.specs.declared.error.Cause.{Cause}
 use Rattle.forward.specs.declared.error.Cause.TheVariants.{Wrong, Read, Write, Count}
 use Rattle.forward.proofs.Between.{SoFar}
-use Rattle.forward.proofs.Moving.{AsksOnce-joins, AsksOnce-none, Goes-joins, Goes-turn, Goes-unasked, Goes-weaker, Moves-joins, Moves-on, StaysOpen-joins, StaysOpen-none}
+use Rattle.forward.proofs.Moving.{AsksOnce-joins, AsksOnce-none, first_joins, forwarded_joins, forwarded_on, Goes-joins, Goes-turn, Goes-unasked, Goes-weaker, Moves-on, none_first, none_forwarded, StaysOpen-joins, StaysOpen-none}
 
 module _ {T W : Type 0} (rules : FilterRules T W) where
   -- the writer was flushed once at most
@@ -54,37 +54,6 @@ module _ {T W : Type 0} (rules : FilterRules T W) where
   }
 
   module _ (lawful : IsLawful rules) where
-    pub none_forwarded : (s t : T) → Moves rules s [] [] t → Forwarded rules 0 s t
-    none_forwarded s t moves = record { payloads = []; moves = moves; all = refl }
-
-    none_first : (s t : T) (lost : List (List ℕ)) → Moves rules s lost [] t → length lost ≤ 1 → ForwardedFirst rules 0 s t
-    none_first s t lost moves few = record { payloads = []; lost = lost; moves = moves; all = refl; few = few }
-
-    forwarded_joins : (a b c : T) (n k : ℕ) → Forwarded rules n a b → Forwarded rules k b c → Forwarded rules (n + k) a c
-    forwarded_joins a b c n k first second = record {
-      payloads = first.payloads ++ second.payloads;
-      moves = Moves-joins rules lawful a b c first.payloads second.payloads first.payloads second.payloads first.moves
-          second.moves;
-      all = omega (arith, first.all, second.all, length-append first.payloads second.payloads);
-    }
-
-    forwarded_on : (a b c : T) (n : ℕ) → Forwarded rules n a b → Forwarded rules 0 b c → Forwarded rules n a c
-    forwarded_on a b c n first second =
-        let both = forwarded_joins a b c n 0 first second in
-        record { payloads = both.payloads; moves = both.moves; all = omega (arith, both.all) }
-
-    first_joins : (a b c : T) (n : ℕ) → Forwarded rules n a b → ForwardedFirst rules 0 b c → ForwardedFirst rules n a c
-    first_joins a b c n first second = record {
-      payloads = first.payloads ++ second.payloads;
-      lost = second.lost;
-      moves = subst (λ l. Moves rules a l (first.payloads ++ second.payloads) c)
-          (sym (append_assoc first.payloads second.payloads second.lost))
-          (Moves-joins rules lawful a b c first.payloads (second.payloads ++ second.lost) first.payloads second.payloads
-          first.moves second.moves);
-      all = omega (arith, first.all, second.all, length-append first.payloads second.payloads);
-      few = second.few;
-    }
-
     -- behind those that went over before comes the next
     module _ (Such : Ask T → Type 0) (count : ℕ) (first s t : Linked T) (before : SoFar rules Such count first s)
         (so : (ask : Ask T) → AskedFrom rules s.filter ask → Such ask) where
@@ -95,26 +64,26 @@ module _ {T W : Type 0} (rules : FilterRules T W) where
       behind : (answer : Result Bool (Cause W)) → AsksOnce rules s.filter t.filter
           → NextAnswers rules 0 s.filter answer t.filter → NextAnswers rules count first.filter answer t.filter
       behind (Ok true) once next = (
-        forwarded_joins first.filter s.filter t.filter count 1 before.forwarded next.0,
+        forwarded_joins rules lawful first.filter s.filter t.filter count 1 before.forwarded next.0,
         met_on next.1,
         StaysOpen-joins rules first.filter s.filter t.filter before.still once next.2,
       )
       behind (Ok false) once next = (
-        forwarded_on first.filter s.filter t.filter count before.forwarded next.0,
+        forwarded_on rules lawful first.filter s.filter t.filter count before.forwarded next.0,
         lawful.ends_after first.filter s.filter t.filter before.forwarded.payloads (Ok tt) before.forwarded.moves.hands
             before.still next.1,
         next.2,
         met_on next.3,
       )
       behind (Err (Wrong why)) once next = (
-        forwarded_on first.filter s.filter t.filter count before.forwarded next.0,
+        forwarded_on rules lawful first.filter s.filter t.filter count before.forwarded next.0,
         lawful.ends_after first.filter s.filter t.filter before.forwarded.payloads (Err why) before.forwarded.moves.hands
             before.still next.1,
         next.2,
         met_on next.3,
       )
       behind (Err (Read e)) once next = (
-        forwarded_on first.filter s.filter t.filter count before.forwarded next.0,
+        forwarded_on rules lawful first.filter s.filter t.filter count before.forwarded next.0,
         next.1,
         next.2,
         next.3,
@@ -122,7 +91,7 @@ module _ {T W : Type 0} (rules : FilterRules T W) where
             (rules.written s.filter) (rules.written t.filter) before.met next.4,
       )
       behind (Err (Write e)) once next = (
-        first_joins first.filter s.filter t.filter count before.forwarded next.0,
+        first_joins rules lawful first.filter s.filter t.filter count before.forwarded next.0,
         elim next.1 [
           | inl failed ↦ inl (SendFailed-after e (rules.read first.filter) (rules.read s.filter) (rules.read t.filter)
               (rules.written first.filter) (rules.written s.filter) (rules.written t.filter) before.met failed)
@@ -215,7 +184,7 @@ module _ {T W : Type 0} (rules : FilterRules T W) where
         received = longer s.filter m.filter p.passes.writes;
         ready = p.passes.ready;
         answers = (
-          none_first s.filter m.filter p.passes.answers.0 p.passes.answers.1 p.passes.answers.3,
+          none_first rules lawful s.filter m.filter p.passes.answers.0 p.passes.answers.1 p.passes.answers.3,
           elim p.passes.answers.2 [
             | inl failed ↦ inl (record { reader = unread p.passes.told; writer = failed })
             | inr refused ↦ inr (unread p.passes.told, refused)
@@ -228,7 +197,7 @@ module _ {T W : Type 0} (rules : FilterRules T W) where
         goes = unasked (AlsoAsked rules Such) 0 (Ok false) p;
         once = unasked_once (Ok false) p;
         still = StaysOpen-none rules s.filter m.filter p.passes.told;
-        forwarded = none_forwarded s.filter m.filter p.passes.answers.0;
+        forwarded = none_forwarded rules lawful s.filter m.filter p.passes.answers.0;
         met = met_writes s.filter m.filter p.passes.told p.passes.answers.1;
         ready = p.passes.ready;
       }
@@ -273,7 +242,7 @@ module _ {T W : Type 0} (rules : FilterRules T W) where
         received = longer s.filter m.filter p.flushes.writes;
         ready = p.flushes.ready;
         answers = (
-          none_first s.filter m.filter [] p.flushes.moves (omega arith),
+          none_first rules lawful s.filter m.filter [] p.flushes.moves (omega arith),
           inl (record { reader = unread p.flushes.told; writer = p.flushes.answers }),
         );
       }
@@ -343,7 +312,7 @@ module _ {T W : Type 0} (rules : FilterRules T W) where
     module _ (s m t : Linked T) (p : LinkFlushes rules s (Ok tt) m) where
       pub no_more : TakesTurn rules m (Ok false) t → ForwardsNext rules s (Ok false) t
       no_more turn = ended s m t p (Ok false) turn (Ok false) (λ ask is. is) tt (
-        none_forwarded s.filter t.filter (moves s m t p (Ok false) turn),
+        none_forwarded rules lawful s.filter t.filter (moves s m t p (Ok false) turn),
         lawful.ends_after s.filter m.filter t.filter [] (Ok tt) p.flushes.moves.hands
             (StaysOpen-none rules s.filter m.filter p.flushes.told) turn.answers.0,
         turn.sent,
@@ -352,7 +321,7 @@ module _ {T W : Type 0} (rules : FilterRules T W) where
 
       pub wrong_next : (why : W) → TakesTurn rules m (Err (asked.Wrong why)) t → ForwardsNext rules s (Err (Wrong why)) t
       wrong_next why turn = ended s m t p (Err (asked.Wrong why)) turn (Err (Wrong why)) (λ ask is. is) tt (
-        none_forwarded s.filter t.filter (moves s m t p (Err (asked.Wrong why)) turn),
+        none_forwarded rules lawful s.filter t.filter (moves s m t p (Err (asked.Wrong why)) turn),
         lawful.ends_after s.filter m.filter t.filter [] (Err why) p.flushes.moves.hands
             (StaysOpen-none rules s.filter m.filter p.flushes.told) turn.answers.0,
         turn.sent,
@@ -362,7 +331,7 @@ module _ {T W : Type 0} (rules : FilterRules T W) where
       not_read : (why : AskError W) (e : Error) → TakesTurn rules m (Err why) t → GivesUp rules m.filter e t.filter
           → ForwardsNext rules s (Err (Read e)) t
       not_read why e turn up = ended s m t p (Err why) turn (Err (Read e)) (λ ask is. is) tt (
-        none_forwarded s.filter t.filter (moves s m t p (Err why) turn),
+        none_forwarded rules lawful s.filter t.filter (moves s m t p (Err why) turn),
         up.0,
         turn.sent,
         lawful.waits_fresh t.filter up.0 turn.sent,
@@ -386,7 +355,7 @@ module _ {T W : Type 0} (rules : FilterRules T W) where
           once = once s m t p (Ok true) turn;
           still = StaysOpen-joins rules s.filter m.filter t.filter (StaysOpen-none rules s.filter m.filter p.flushes.told)
               turn.once turn.answers.2;
-          forwarded = none_forwarded s.filter t.filter (moves s m t p (Ok true) turn);
+          forwarded = none_forwarded rules lawful s.filter t.filter (moves s m t p (Ok true) turn);
           met = met s m t p (Ok true) turn turn.answers.1;
           ready = turn.ready;
         }

@@ -1,8 +1,9 @@
 -- How calls of a filter, and of a link, follow one another.
-use Rattle.std.proofs.Common.{◌≡◌, ℕ, ◌+◌, ◌≤◌, inl, inr, List, [], ◌∷◌, ◌++◌, refl, sym, ap, subst, ◌∙◌, arith, append-nil, append_assoc, length-append, All, flat_map}
+use Rattle.std.proofs.Common.{◌≡◌, ℕ, ◌+◌, ◌≤◌, inl, inr, List, [], ◌∷◌, ◌++◌, length, refl, sym, ap, subst, ◌∙◌, arith, append-nil, append_assoc, length-append, All, flat_map}
 use Rattle.std.proofs.lemmas.Grind.{flat_map-append}
 use Rattle.std.proofs.lemmas.List.Elements.{All-append, All-cons, All-head, All-nil, All-tail, All-weaker}
 use Rattle.forward.specs.Filter.{AsksOnce, FilterRules, IsLawful, Moves, StaysOpen, WasAsked}
+use Rattle.forward.specs.Forward.{Forwarded, ForwardedFirst}
 use Rattle.forward.specs.Link.{Ask, AreTurns, AskedBefore, AsksAlong, Goes, IsAsk, IsTurn, Linked, NotAsked, states_of}
 use Rattle.forward.specs.Prompt.{AsksGive}
 use Rattle.forward.specs.PromptLaws.{AsksGive-joins, AsksGive-none, WritesOn-none, WritesOn-joins}
@@ -24,6 +25,37 @@ module _ {T W : Type 0} (rules : FilterRules T W) where
     Moves-on a b c p p' first second =
         subst (λ l. Moves rules a l p' c) (append-nil p)
         (subst (λ l. Moves rules a (p ++ []) l c) (append-nil p') (Moves-joins a b c p [] p' [] first second))
+
+    pub none_forwarded : (s t : T) → Moves rules s [] [] t → Forwarded rules 0 s t
+    none_forwarded s t moves = record { payloads = []; moves = moves; all = refl }
+
+    pub none_first : (s t : T) (lost : List (List ℕ)) → Moves rules s lost [] t → length lost ≤ 1 → ForwardedFirst rules 0 s t
+    none_first s t lost moves few = record { payloads = []; lost = lost; moves = moves; all = refl; few = few }
+
+    pub forwarded_joins : (a b c : T) (n k : ℕ) → Forwarded rules n a b → Forwarded rules k b c → Forwarded rules (n + k) a c
+    forwarded_joins a b c n k first second = record {
+      payloads = first.payloads ++ second.payloads;
+      moves = Moves-joins a b c first.payloads second.payloads first.payloads second.payloads first.moves
+          second.moves;
+      all = omega (arith, first.all, second.all, length-append first.payloads second.payloads);
+    }
+
+    pub forwarded_on : (a b c : T) (n : ℕ) → Forwarded rules n a b → Forwarded rules 0 b c → Forwarded rules n a c
+    forwarded_on a b c n first second =
+        let both = forwarded_joins a b c n 0 first second in
+        record { payloads = both.payloads; moves = both.moves; all = omega (arith, both.all) }
+
+    pub first_joins : (a b c : T) (n : ℕ) → Forwarded rules n a b → ForwardedFirst rules 0 b c → ForwardedFirst rules n a c
+    first_joins a b c n first second = record {
+      payloads = first.payloads ++ second.payloads;
+      lost = second.lost;
+      moves = subst (λ l. Moves rules a l (first.payloads ++ second.payloads) c)
+          (sym (append_assoc first.payloads second.payloads second.lost))
+          (Moves-joins a b c first.payloads (second.payloads ++ second.lost) first.payloads second.payloads
+          first.moves second.moves);
+      all = omega (arith, first.all, second.all, length-append first.payloads second.payloads);
+      few = second.few;
+    }
 
   pub AsksOnce-none : (s t : T) → rules.read t ≡ rules.read s → (rules.closed s → rules.closed t) → AsksOnce rules s t
   AsksOnce-none s t same closed = record {

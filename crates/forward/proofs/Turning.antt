@@ -3,7 +3,7 @@ use Rattle.std.proofs.Common.{◌≡◌, ℕ, ◌+◌, ◌<◌, ◌≤◌, ◌�
 use Rattle.std.proofs.lemmas.List.{append_cancel_left}
 use Rattle.std.proofs.lemmas.List.Elements.{All-nil, All-push, All-weaker}
 use Rattle.std.specs.declared.io.Error.{Error}
-use Rattle.redux_buffer.specs.Faults.{IsInterrupt, OnlyInterrupts, OnlyInterrupts-none}
+use Rattle.redux_buffer.specs.Faults.{IsInterrupt, interrupt_limit, OnlyInterrupts, OnlyInterrupts-none}
 use Rattle.forward.specs.Filter.{AsksOnce, FailedToRead, FilterRules, IsLawful, Moves, StaysOpen, WasAsked}
 use Rattle.forward.specs.Link.{Ask, AskedBefore, AsksAlong, Gave, IsIdle, IsInterrupted, IsTurn, IsTurnBehind, LinkAsks, Linked, states_of}
 use Rattle.forward.specs.Steps.{AlsoAsked, AskedFrom, AskedTo, OnlyInterrupted, RowGoes, TakesTurn, TurnAnswers}
@@ -109,7 +109,7 @@ module _ {T W : Type 0} (rules : FilterRules T W) where
 
     -- an ask that was interrupted, in front of others
     again : (ask : Ask T) → IsInterrupted rules ask → (row : ℕ) → (more : List (Ask T))
-        → (IsIdle rules ask × (row < 64) × IsTurnBehind rules (row + 1) more) ⊎ (Gave rules ask × IsTurnBehind rules 1 more)
+        → (IsIdle rules ask × (row < interrupt_limit) × IsTurnBehind rules (row + 1) more) ⊎ (Gave rules ask × IsTurnBehind rules 1 more)
         → IsTurnBehind rules row (ask ∷ more)
     again ask is row [] (inl idle) = absurd idle.2
     again ask is row [] (inr gave) = absurd gave.1
@@ -163,8 +163,8 @@ module _ {T W : Type 0} (rules : FilterRules T W) where
           retry e (Err (IoBehind e)) next goes.0 (a.0, a.1, a.2) with (omega (arith, goes.1))
           (λ more so. again _ is count more (inr (a.3, subst (λ n. IsTurnBehind rules n more) goes.1 so)))
 
-      -- these are 64 at the most
-      pub row_fits : count ≤ 64 → (answer : Result Bool (AskError W)) → (with : ℕ) → RowGoes answer count (Some with) → with ≤ 64
+      -- these are at most as many as the limit
+      pub row_fits : count ≤ interrupt_limit → (answer : Result Bool (AskError W)) → (with : ℕ) → RowGoes answer count (Some with) → with ≤ interrupt_limit
       row_fits most (Ok more) with goes = absurd (no_row with goes)
       row_fits most (Err (Wrong why)) with goes = absurd (no_row with goes)
       row_fits most (Err (Io e)) with goes = omega (arith, goes.1, goes.2)
@@ -178,7 +178,7 @@ module _ {T W : Type 0} (rules : FilterRules T W) where
     same_fault xs ys e d one other =
         let same : e ∷ [] ≡ d ∷ [] = append_cancel_left xs (e ∷ []) (d ∷ []) (sym one ∙ other) in cc
 
-    module _ (count : ℕ) (t u : Linked T) (before : Retrying count s t) (most : count ≤ 64) where
+    module _ (count : ℕ) (t u : Linked T) (before : Retrying count s t) (most : count ≤ interrupt_limit) where
       often : (answer : Result Bool (AskError W)) → LinkAsks rules t answer u → RowGoes answer count None
           → IsTurnBehind rules count (record { before = t.filter; after = u.filter } ∷ [])
       often (Ok true) next ends is = absurd (not_interrupted _ is.error (sym next.asks.answers.1 ∙ is.failed))
@@ -191,7 +191,7 @@ module _ {T W : Type 0} (rules : FilterRules T W) where
       often (Err (IoBehind e)) next ends is =
           absurd (ends (subst IsInterrupt (sym (same_fault _ _ e is.error next.asks.answers.1 is.failed)) is.interrupt))
 
-      failed : (e : Error) (answer : Result Bool (AskError W)) (next : LinkAsks rules t answer u) → (IsInterrupt e → count ≡ 64)
+      failed : (e : Error) (answer : Result Bool (AskError W)) (next : LinkAsks rules t answer u) → (IsInterrupt e → count ≡ interrupt_limit)
           → rules.waits u.filter × FailedToRead rules e t.filter u.filter → TurnAnswers rules s.filter (Err (Io e)) u.filter
       failed e answer next few a =
           let first = (rules.read s.filter).reads.faults in

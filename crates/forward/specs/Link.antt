@@ -2,7 +2,7 @@
 use Rattle.std.specs.Prelude.{◌≡◌, ℕ, ◌+◌, ◌<◌, ◌≤◌, ◌⊎◌, List, [], ◌∷◌, ◌++◌, length, Bool, Result}
 use Rattle.std.specs.List.{All, flat_map}
 use Rattle.std.specs.declared.io.Error.{Error}
-use Rattle.redux_buffer.specs.Faults.{IsInterrupt}
+use Rattle.redux_buffer.specs.Faults.{IsInterrupt, interrupt_limit}
 use Rattle.forward.specs.Filter.{Asks, AsksSent, FailedToRead, FilterRules, Flushes, Passes, WasAsked}
 use Rattle.forward.specs.Prompt.{WritesOn}
 use Rattle.forward.specs.declared.error.AskError.{AskError}
@@ -50,14 +50,14 @@ module _ {T W : Type 0} (rules : FilterRules T W) where
   abbrev pub Gave : Ask T → Type 0
   Gave ask = rules.wants ask.after < rules.wants ask.before
 
-  -- an ask, made again where it was interrupted, behind so many in a row that were. It ends by an interruption only behind 64 in
-  -- a row; and where bytes came in one that was interrupted, it is the first of a new row
+  -- an ask, made again where it was interrupted, behind so many in a row that were. It ends by an interruption only behind as
+  -- many in a row as the limit; and where bytes came in one that was interrupted, it is the first of a new row
   abbrev pub IsTurnBehind : ℕ → List (Ask T) → Type 0
   IsTurnBehind row [] = ⊥
-  IsTurnBehind row (ask ∷ []) = IsInterrupted ask → IsIdle ask × (row ≡ 64)
+  IsTurnBehind row (ask ∷ []) = IsInterrupted ask → IsIdle ask × (row ≡ interrupt_limit)
   IsTurnBehind row (ask ∷ next ∷ more) =
       IsInterrupted ask
-      × ((IsIdle ask × (row < 64) × IsTurnBehind (row + 1) (next ∷ more)) ⊎ (Gave ask × IsTurnBehind 1 (next ∷ more)))
+      × ((IsIdle ask × (row < interrupt_limit) × IsTurnBehind (row + 1) (next ∷ more)) ⊎ (Gave ask × IsTurnBehind 1 (next ∷ more)))
 
   abbrev pub IsTurn : List (Ask T) → Type 0
   IsTurn asks = IsTurnBehind 0 asks

@@ -4,7 +4,7 @@ use Rattle.std.specs.Option.{option_map_or}
 use Rattle.std.specs.Result.{result_err}
 use Rattle.std.specs.List.{All}
 use Rattle.std.specs.declared.io.Error.{Error}
-use Rattle.redux_buffer.specs.Faults.{IsInterrupt, OnlyInterrupts}
+use Rattle.redux_buffer.specs.Faults.{IsInterrupt, interrupt_limit, OnlyInterrupts}
 use Rattle.forward.specs.Filter.{AsksOnce, FilterRules, FlushesOnce, Moves, StaysOpen, StaysSent, WasAsked}
 use Rattle.forward.specs.Forward.{Forwarded, NoneFailed, StopsBy, flushed_last}
 use Rattle.forward.specs.Link.{Ask, AskedBefore, AsksAlong, Goes, IsTurn, Linked, states_of}
@@ -17,8 +17,8 @@ use Rattle.forward.specs.declared.error.Cause.{Cause}
 abbrev pub RowGoes : {W : Type 0} → Result Bool (AskError W) → ℕ → Option ℕ → Type 0
 RowGoes (Ok more) row next = next ≡ None
 RowGoes (Err (Wrong why)) row next = next ≡ None
-RowGoes (Err (Io e)) row None = IsInterrupt e → 64 ≤ row
-RowGoes (Err (Io e)) row (Some next) = IsInterrupt e × (row < 64) × (next ≡ row + 1)
+RowGoes (Err (Io e)) row None = IsInterrupt e → interrupt_limit ≤ row
+RowGoes (Err (Io e)) row (Some next) = IsInterrupt e × (row < interrupt_limit) × (next ≡ row + 1)
 RowGoes (Err (IoBehind e)) row None = ¬ IsInterrupt e
 RowGoes (Err (IoBehind e)) row (Some next) = IsInterrupt e × (next ≡ 1)
 

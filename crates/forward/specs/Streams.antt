@@ -1,7 +1,7 @@
 -- How the two streams of a run fared.
 use Rattle.std.specs.Prelude.{◌+◌, ◌≤◌, List, length}
 use Rattle.std.specs.declared.io.Error.{Error}
-use Rattle.redux_buffer.specs.Faults.{IsInterrupt, OnlyInterrupts, FaultAfterInterrupts, MetInterrupts, SendErrorCaused}
+use Rattle.redux_buffer.specs.Faults.{IsInterrupt, interrupt_limit, OnlyInterrupts, FaultAfterInterrupts, MetInterrupts, SendErrorCaused}
 use Rattle.redux_buffer.specs.StreamLog.{StreamLog, ReadLog}
 
 -- reads and writes were at most interrupted
@@ -9,10 +9,10 @@ pub record MetNoFault (read read' written written' : StreamLog) : Type 0 where
   pub reader : OnlyInterrupts read.reads.faults read'.reads.faults
   pub writer : MetInterrupts written.writes written'.writes
 
--- after reads that were interrupted, one failed with this error: an interrupted one after 64 of them at least
+-- after reads that were interrupted, one failed with this error: an interrupted one after as many of them as the limit at least
 pub record ReadGaveUp (e : Error) (old new : List Error) : Type 0 where
   pub fault : FaultAfterInterrupts old new e
-  pub often : IsInterrupt e → length old + 65 ≤ length new
+  pub often : IsInterrupt e → length old + interrupt_limit + 1 ≤ length new
 
 -- a read failed with this error, and writes were at most interrupted
 pub record ReadFailed (e : Error) (read read' written written' : StreamLog) : Type 0 where

@@ -2,7 +2,7 @@
 use Rattle.std.proofs.Common.{◌≡◌, ◌+◌, ◌≤◌, List, [], ◌∷◌, ◌++◌, length, length-append, ap, ◌∙◌, arith, append_assoc}
 use Rattle.std.proofs.lemmas.List.Elements.{All-push}
 use Rattle.std.specs.declared.io.Error.{Error}
-use Rattle.redux_buffer.specs.Faults.{IsInterrupt, OnlyInterrupts, OnlyInterrupts-none, OnlyInterrupts-joins, FaultAfterInterrupts-after, MetInterrupts-joins, MetInterrupts-none, SendErrorCaused-after}
+use Rattle.redux_buffer.specs.Faults.{IsInterrupt, interrupt_limit, OnlyInterrupts, OnlyInterrupts-none, OnlyInterrupts-joins, FaultAfterInterrupts-after, MetInterrupts-joins, MetInterrupts-none, SendErrorCaused-after}
 use Rattle.redux_buffer.specs.StreamLog.{StreamLog}
 use Rattle.forward.specs.Streams.{MetNoFault, ReadFailed, ReadGaveUp, SendFailed}
 
@@ -29,7 +29,7 @@ one_more b c e fault = ap length fault ∙ length-append b (e ∷ [])
 
 -- after interrupted reads one failed, and was not tried again
 pub gave_up : (a b c : List Error) (e : Error) → OnlyInterrupts a b → c ≡ b ++ e ∷ []
-    → (IsInterrupt e → length a + 65 ≤ length c) → ReadGaveUp e a c
+    → (IsInterrupt e → length a + interrupt_limit + 1 ≤ length c) → ReadGaveUp e a c
 gave_up a b c e p fault often = record {
   fault = record {
     interrupts = p.interrupts;

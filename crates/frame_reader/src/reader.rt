@@ -189,13 +189,13 @@ impl<R: TellRead> FrameReader<R> {
     /// returned each time.
     #[inline(always)]
     pub fn next(&mut self) -> Result<Option<&[u8]>, FrameError>
-        ensures* after_borrow { sem 𝓛 (Rests (the_row R.row R.Tell) self.entry
-            (Next R.remaining self.entry.now (answer_of result))) }
         ensures fits { IfOk result (λ found. IfSome found (λ payload. length payload.now ≤ self.old.decoder.max)) }
         ensures ready { (payload more : List ℕ) → length payload ≤ self.old.decoder.max
             → rest self.old ≡ frame payload ++ more → answer_of result ≡ Ok (Some payload) }
         ensures too_long { (len : ℕ) → self.old.decoder.max < len → BeginsWith len (rest self.old)
             → answer_of result ≡ Err (FrameError.TooLong len) }
+        ensures* after_borrow { sem 𝓛 (Rests (the_row R.row R.Tell) self.entry
+            (Next R.remaining self.entry.now (answer_of result))) }
     {
         match self.step()? {
             Some(span) => Ok(Some(self.lent(span))),
@@ -207,9 +207,9 @@ impl<R: TellRead> FrameReader<R> {
     /// the stream for nothing. `None` where it doesn't.
     #[inline(always)]
     pub fn next_buffered(&mut self) -> Option<&[u8]>
+        ensures fits { IfSome result (λ payload. length payload.now ≤ self.old.decoder.max) }
         ensures* after_borrow { sem 𝓛 (Rests (the_row R.row R.Tell) self.entry
             (NextBuffered R.remaining (framed self.entry.now.decoder.max) self.entry.now (option_copied result))) }
-        ensures fits { IfSome result (λ payload. length payload.now ≤ self.old.decoder.max) }
     {
         match self.step_buffered() {
             Some(span) => Some(self.lent(span)),

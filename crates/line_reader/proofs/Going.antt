@@ -183,19 +183,19 @@ module _ {S : Type 0} (remaining : S → Option (List ℕ)) where
 
     -- all of that, and that it fits
     pub NextLine-says : (Fits : Type 0) → Fits → record {
-      after_borrow : Unit {0};
       fits : Fits;
       ready : (line more : List ℕ) → IsLine line → length line ≤ max → rest s.pieces ≡ line ++ newline ∷ more
           → answer ≡ Ok (Some line);
       too_long : BeginsTooLong max (rest s.pieces) → answer ≡ Err (TooLong max);
       ended : s.pieces.ended ≡ true → answer ≡ Ok None;
+      after_borrow : Unit {0};
     }
     NextLine-says Fits fits = record {
-      after_borrow = tt;
       fits = fits;
       ready = NextLine-ready;
       too_long = NextLine-too_long;
       ended = NextLine-told;
+      after_borrow = tt;
     }
 
   -- a line that is lent fits

@@ -169,8 +169,8 @@ impl<R: Tell> LineReader<R> {
     /// of the others doesn't know that, and would ask the stream again. That a line [`is_skipping`](LineReader::is_skipping) is
     /// forgotten: ask before.
     pub fn into_inner_with_buffer(self) -> (R, Buffer, bool)
-        ensures apart { TakenApart R.log self.pieces result.0 result.1 }
         ensures ended { result.2 ≡ self.pieces.ended }
+        ensures apart { TakenApart R.log self.pieces result.0 result.1 }
     {
         let LineReader {
             pieces,
@@ -247,14 +247,14 @@ impl<R: TellRead> LineReader<R> {
     /// lent begins where a line begins.
     #[inline(always)]
     pub fn next(&mut self) -> Result<Option<&[u8]>, LineError>
-        ensures* after_borrow { sem 𝓛 (Rests (the_row R.row R.Tell) self.entry
-            (NextLine R.remaining self.entry.now (answer_of result))) }
         ensures fits { IfOk result (λ found. IfSome found (λ line. length line.now ≤ self.old.pieces.decoder.max)) }
         ensures ready { (line more : List ℕ) → IsLine line → length line ≤ self.old.pieces.decoder.max
             → rest self.old.pieces ≡ line ++ newline ∷ more → answer_of result ≡ Ok (Some line) }
         ensures too_long { BeginsTooLong self.old.pieces.decoder.max (rest self.old.pieces)
             → answer_of result ≡ Err (LineError.TooLong self.old.pieces.decoder.max) }
         ensures ended { self.old.pieces.ended ≡ true → answer_of result ≡ Ok None }
+        ensures* after_borrow { sem 𝓛 (Rests (the_row R.row R.Tell) self.entry
+            (NextLine R.remaining self.entry.now (answer_of result))) }
     {
         if let Some(span) = self.step_buffered() {
             return Ok(Some(self.lent(span)));
@@ -269,9 +269,9 @@ impl<R: TellRead> LineReader<R> {
     /// until the next call. What is asked in between, as [`has_ended`](LineReader::has_ended), is asked while no line is lent.
     #[inline(always)]
     pub fn step(&mut self) -> Result<Option<Span>, LineError>
-        ensures next { NextLine R.remaining self.old (load_answer result self.new.pieces) self.new }
         ensures lends { IfOk result (λ found. IfSome found
             (IsLent (lined self.new.pieces.decoder.max) self.new.pieces.handed self.new.pieces.reader.block.bytes)) }
+        ensures next { NextLine R.remaining self.old (load_answer result self.new.pieces) self.new }
     {
         match self.step_buffered() {
             Some(span) => Ok(Some(span)),

@@ -205,9 +205,9 @@ impl<R: Tell> Requests<R> {
 impl<R: TellRead> Requests<R> {
     /// Goes on into the next message. An `Err` says why there is none, and hands the reader back, before what there is.
     pub fn next(mut self) -> Result<Body<R>, (Self, Stop)>
+        ensures told { self.ended ≡ false }
         ensures next { MatchResult result (Begun R.remaining self)
             (λ e. NextPiece R.remaining heads self (answer_of e.1) e.0) }
-        ensures told { self.ended ≡ false }
     {
         match self.pieces.step() {
             Ok(Some(span)) => Ok(self.enter(span)),
@@ -220,8 +220,8 @@ impl<R: TellRead> Requests<R> {
     /// Goes on into the next message as [`next`](Requests::next) does where its head stands whole in the buffer, and asks the
     /// stream for nothing. An `Err` hands the reader back where it doesn't: `next` says then why, or asks for more.
     pub fn next_buffered(mut self) -> Result<Body<R>, Self>
-        ensures begun { IfOk result (Begun R.remaining self) }
         ensures unasked { IfOk result (λ body. body.stream.log ≡ self.reader.log) }
+        ensures begun { IfOk result (Begun R.remaining self) }
         ensures stays { IfErr result (StaysLeft heads self) }
         ensures none { IfErr result (λ next. ¬ (Begins heads (rest next))) }
     {

@@ -199,10 +199,10 @@ impl<R: TellRead, P: ReaderPolicy> Multipart<R, P> {
     /// Hands out text of the part, at least a byte unless it ended or the slice is empty; and none where the reader stands in no
     /// part. After a `Truncated` or an `Io` a further call goes on.
     pub fn read(&mut self, out: &mut [u8]) -> Result<usize, BodyError<()>>
-        ensures reads { self.old.stand ≡ Stand.Part → ReadsPayload R.remaining P.rules (codes self.old.body.coding) self.old.body
-            out.new result self.new.body }
         ensures none { self.old.stand ≢ Stand.Part → (result ≡ Ok 0) × (self.new ≡ self.old) }
         ensures within { self.new ≡ record self.old { body = self.new.body } }
+        ensures reads { self.old.stand ≡ Stand.Part → ReadsPayload R.remaining P.rules (codes self.old.body.coding) self.old.body
+            out.new result self.new.body }
     {
         if !matches!(self.stand, Stand::Part) {
             return Ok(0);
@@ -213,10 +213,10 @@ impl<R: TellRead, P: ReaderPolicy> Multipart<R, P> {
     /// How many bytes of the part's text are buffered, which [`piece`](Multipart::piece) lends: none only where it ended, or the
     /// reader stands in no part. Where some are known nobody is asked.
     pub fn fill(&mut self) -> Result<usize, BodyError<()>>
-        ensures fills { self.old.stand ≡ Stand.Part → FillsPayload R.remaining P.rules (codes self.old.body.coding) self.old.body
-            result self.new.body }
         ensures none { self.old.stand ≢ Stand.Part → (result ≡ Ok 0) × (self.new ≡ self.old) }
         ensures within { self.new ≡ record self.old { body = self.new.body } }
+        ensures fills { self.old.stand ≡ Stand.Part → FillsPayload R.remaining P.rules (codes self.old.body.coding) self.old.body
+            result self.new.body }
     {
         if !matches!(self.stand, Stand::Part) {
             return Ok(0);
@@ -226,12 +226,12 @@ impl<R: TellRead, P: ReaderPolicy> Multipart<R, P> {
 
     /// Proceeds on behind the first `count` bytes that [`piece`](Multipart::piece) lends, or behind all.
     pub fn consume(&mut self, count: usize)
-        ensures went { self.old.stand ≡ Stand.Part → BodyWent R.remaining P.rules (codes self.old.body.coding) self.old.body
-            (take (min count self.old.body.known) self.old.body.reader.block.bytes) self.new.body }
         ensures left { self.old.stand ≡ Stand.Part → self.new.body.known ≡ self.old.body.known - count }
         ensures told { self.new.body.reader.log ≡ self.old.body.reader.log }
         ensures none { self.old.stand ≢ Stand.Part → self.new ≡ self.old }
         ensures within { self.new ≡ record self.old { body = self.new.body } }
+        ensures went { self.old.stand ≡ Stand.Part → BodyWent R.remaining P.rules (codes self.old.body.coding) self.old.body
+            (take (min count self.old.body.known) self.old.body.reader.block.bytes) self.new.body }
     {
         if matches!(self.stand, Stand::Part) {
             self.body.consume_payload(count);

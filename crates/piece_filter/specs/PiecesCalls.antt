@@ -10,15 +10,15 @@ use Rattle.buffer_redux.specs.StreamLog.{StreamLog}
 use Rattle.buffer_redux.specs.WriterLaws.{WritesInOrder-none}
 use Rattle.piece_reader.specs.Decoding.{IsLent, bytes_at}
 use Rattle.piece_reader.specs.Grammar.{Begins, IsOpen}
-use Rattle.piece_reader.specs.NextPiece.{AskedWhere, Faulted, NextAnswer, NextPiece, PiecesWent, StaysLeft, empties}
+use Rattle.piece_reader.specs.NextPiece.{Faulted, NextAnswer, NextPiece, PiecesWent, StaysLeft, empties}
 use Rattle.piece_reader.specs.NextPieceLaws.{MetEnd-once}
-use Rattle.piece_reader.specs.PieceReader.{IsPieceReader, ReaderState, rest}
+use Rattle.piece_reader.specs.PieceReader.{IsPieceReader, rest}
 use Rattle.piece_reader.specs.PiecesWentLaws.{PiecesWent-none}
 use Rattle.piece_reader.specs.StaysLeftLaws.{StaysLeft-went}
 use Rattle.piece_reader.specs.declared.decoder.Span.{Span}
 use Rattle.piece_reader.specs.declared.error.NextError.TheVariants as Why
 use Rattle.forward.specs.Filter.{AskAnswers, Asks, FilterRules, FlushAnswers, Flushes, Passes, StaysOpen}
-use Rattle.forward.specs.Prompt.{AsksGive, WritesOn}
+use Rattle.forward.specs.Prompt.{WritesOn}
 use Rattle.forward.specs.PromptLaws.{WritesOn-grows, WritesOn-none}
 use Rattle.forward.specs.declared.error.AskError.TheVariants.{Wrong, Io, IoBehind}
 use Rattle.forward.specs.declared.error.AskError.{AskError}
@@ -27,7 +27,7 @@ use Rattle.programs.specs.PromptLaws.{WritesOn-unflushed}
 use Rattle.programs.specs.Streams.{AllSent}
 use Rattle.programs.specs.TakenIn.{IsStill, IsStill-same, taken_more}
 use Rattle.piece_filter.specs.Pieces.{CanShow, HandsPieces, HasEnded, IsReady, Keeps, Piecewise, TakesPieces, grammar_of, held_at, held_of, piece_rules}
-use Rattle.piece_filter.specs.PiecesLaws.{answers_one, hands_nothing, hands_one, none_held, takes_nothing}
+use Rattle.piece_filter.specs.PiecesLaws.{answers_one, gave_but_failed, hands_nothing, hands_one, none_held, takes_nothing}
 
 -- there is no place
 pub not_held : (h : Option Span) → ((span : Span) → ¬ (h ≡ Some span)) → h ≡ None
@@ -39,25 +39,6 @@ open_piece : {X : Type 0} (none : NextAnswer X) (ended : Bool) (payload : List �
     → (ended ≡ true → Ok (Some payload) ≡ none) → ended ≡ false
 open_piece none true payload is told = (let odd : Ok (Some payload) ≡ none = told refl in cc)
 open_piece none false payload is told = refl
-
--- each ask gave a byte, but for the one that failed
-gave_but_failed : {S D : Type 0} (Such : List ℕ → Type 0) (s m : ReaderState S D) (e : Error) → AskedWhere Such s m
-    → Faulted s e m → AsksGive s.reader.log m.reader.log
-gave_but_failed Such s m e (inl same) fault = omega (
-  arith,
-  ap (λ l. l.reads.asks) same,
-  ap (λ l. length l.reads.given) same,
-  ap (λ l. length l.reads.faults) same,
-)
-gave_but_failed Such s m e (inr over) fault = omega (
-  arith,
-  over.asks,
-  ap length over.given,
-  length-append s.reader.log.reads.given (over.came ++ over.last),
-  length-append over.came over.last,
-  ap length fault,
-  length-append s.reader.log.reads.faults (e ∷ []),
-)
 
 module _ {T R D X A W E : Type 0} (remaining : R → Option (List ℕ)) (f : Piecewise T R D X A W E) {s : T}
     (ready : IsReady f s) (t : T) where

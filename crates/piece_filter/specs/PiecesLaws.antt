@@ -1,17 +1,18 @@
 -- Payloads of pieces are handed out in order, and what is due is sent with what becomes of them.
 use Rattle.std.proofs.Common.{◌≡◌, ℕ, inl, inr, List, [], ◌∷◌, ◌++◌, length, false, Option, None, Some, Result, Ok, Err, refl, sym, ap, subst, ◌∙◌, arith, append-nil, append_assoc, length-append, flat_map}
 use Rattle.std.proofs.lemmas.Bool.{true≢false}
+use Rattle.std.specs.declared.io.Error.{Error}
 use Rattle.buffer_redux.specs.BufWriter.{WritesInOrder}
 use Rattle.buffer_redux.specs.LogGrows.{ReadLogGrows}
 use Rattle.buffer_redux.specs.WriterLaws.{WritesInOrder-joins, WritesInOrder-none}
 use Rattle.piece_reader.specs.Grammar.{Grammar, IsOpen}
-use Rattle.piece_reader.specs.NextPiece.{AskedOver, HandsBytes, NextPiece, PiecesWent}
+use Rattle.piece_reader.specs.NextPiece.{AskedOver, AskedWhere, Faulted, HandsBytes, NextPiece, PiecesWent}
 use Rattle.piece_reader.specs.NextPieceLaws.{MetEnd-once}
 use Rattle.piece_reader.specs.PieceReader.{ReaderState, rest}
 use Rattle.piece_reader.specs.PiecesWentLaws.{PiecesWent-joins, PiecesWent-none, drop_none}
 use Rattle.piece_reader.specs.Texts.{HasPieces, IsPieces, StartsWith}
 use Rattle.forward.specs.Filter.{AsksSent, FilterRules, IsLawful, Moves, StaysOpen}
-use Rattle.forward.specs.Prompt.{AskedLast}
+use Rattle.forward.specs.Prompt.{AskedLast, AsksGive}
 use Rattle.forward.specs.PromptLaws.{AskedLast-after}
 use Rattle.programs.specs.TakenIn.{sent_all, taken_more}
 use Rattle.piece_filter.specs.Pieces.{AnswersAll, HandsPieces, IsSound, IsText, PiecesEnd, Piecewise, TakesPieces, grammar_of, held_at, held_of, piece_rules}
@@ -21,6 +22,25 @@ pub given_since : {S D : Type 0} (s t : ReaderState S D) (bytes : List ℕ) → 
     → t.reader.log.reads.given ≡ s.reader.log.reads.given ++ (bytes ++ rest t)
 given_since s t bytes none hands = hands.given ∙ ap (λ l. s.reader.log.reads.given ++ l)
     (sym (hands.equal ∙ ap (λ l. l ++ hands.got) (drop_none s.handed s.reader.block.bytes none)))
+
+-- each ask gave a byte, but for the one that failed
+pub gave_but_failed : {S D : Type 0} (Such : List ℕ → Type 0) (s m : ReaderState S D) (e : Error) → AskedWhere Such s m
+    → Faulted s e m → AsksGive s.reader.log m.reader.log
+gave_but_failed Such s m e (inl same) fault = omega (
+  arith,
+  ap (λ l. l.reads.asks) same,
+  ap (λ l. length l.reads.given) same,
+  ap (λ l. length l.reads.faults) same,
+)
+gave_but_failed Such s m e (inr over) fault = omega (
+  arith,
+  over.asks,
+  ap length over.given,
+  length-append s.reader.log.reads.given (over.came ++ over.last),
+  length-append over.came over.last,
+  ap length fault,
+  length-append s.reader.log.reads.faults (e ∷ []),
+)
 
 module _ {A : Type 0} (Answers : A → List ℕ → List ℕ → A → Type 0) where
   pub answers_one : (a b : A) (payload reply : List ℕ) → Answers a payload reply b → AnswersAll Answers a (payload ∷ []) reply b

@@ -213,8 +213,8 @@ impl<R: Tell, D: Decoder> PieceReader<R, D> {
     /// The last part is whether the stream ended, which no call has told yet ([`has_ended`](PieceReader::has_ended)): a reader
     /// that is made of the others doesn't know that, and would ask the stream again.
     pub fn into_inner_with_buffer(self) -> (R, Buffer, bool)
-        ensures apart { TakenApart R.log self result.0 result.1 }
         ensures ended { result.2 ≡ self.ended }
+        ensures apart { TakenApart R.log self result.0 result.1 }
     {
         let PieceReader {
             reader,
@@ -296,7 +296,6 @@ impl<R: TellRead, D: Decoder> PieceReader<R, D> {
     /// An `Err` says why there is no piece, and leaves what came of it: the next call looks at it again.
     #[inline(always)]
     pub fn step(&mut self) -> Result<Option<Span>, NextError<D::Wrong>>
-        ensures next { NextPiece R.remaining (D.grammar self.old.decoder) self.old (load_answer result self.new) self.new }
         ensures lends { IfOk result (λ found. IfSome found
             (IsLent (D.grammar self.new.decoder) self.new.handed self.new.reader.block.bytes)) }
         ensures ready { (piece payload more : List ℕ) → (D.grammar self.old.decoder).piece piece payload
@@ -304,6 +303,7 @@ impl<R: TellRead, D: Decoder> PieceReader<R, D> {
         ensures wrong { (e : D.Wrong) → (D.grammar self.old.decoder).wrong (rest self.old) e
             → load_answer result self.new ≡ Err (NextError.Wrong e) }
         ensures ended { self.old.ended ≡ true → load_answer result self.new ≡ Ok None }
+        ensures next { NextPiece R.remaining (D.grammar self.old.decoder) self.old (load_answer result self.new) self.new }
     {
         let at = self.handed;
         match self.take() {
@@ -320,9 +320,9 @@ impl<R: TellRead, D: Decoder> PieceReader<R, D> {
     /// nothing. `None` where it doesn't: `step` says then why, or asks for more. What was looked at isn't looked at again.
     #[inline(always)]
     pub fn step_buffered(&mut self) -> Option<Span>
+        ensures lends { IfSome result (IsLent (D.grammar self.new.decoder) self.new.handed self.new.reader.block.bytes) }
         ensures next { NextBuffered R.remaining (D.grammar self.old.decoder) self.old
             (buffered_answer result self.new) self.new }
-        ensures lends { IfSome result (IsLent (D.grammar self.new.decoder) self.new.handed self.new.reader.block.bytes) }
     {
         let at = self.handed;
         match self.take() {
@@ -383,11 +383,11 @@ impl<R: TellRead, D: Decoder> PieceReader<R, D> {
         requires most { need ≤ (D.grammar self.old.decoder).most }
         requires lacks { Lacks (D.grammar self.old.decoder) need (rest self.old) }
         requires looked { self.old.seen ≡ length (rest self.old) }
-        ensures next { NextPiece R.remaining (D.grammar self.old.decoder) self.old (load_answer result self.new) self.new }
         ensures lends { IfOk result (λ found. IfSome found
             (IsLent (D.grammar self.new.decoder) self.new.handed self.new.reader.block.bytes)) }
         ensures front { IfOk result (λ found. IfSome found (λ _.
             HandsBytes self.old (take self.new.handed self.new.reader.block.bytes) self.new)) }
+        ensures next { NextPiece R.remaining (D.grammar self.old.decoder) self.old (load_answer result self.new) self.new }
     {
         self.drop_handed();
         let mut need = need;

@@ -2,7 +2,7 @@
 ghost use Rattle.std.specs.Prelude.{◌≡◌, ◌+◌, ◌<◌, ◌≤◌, [], ◌++◌, length, IfOk, IfErr, OnOk};
 ghost use Rattle.buffer_redux.specs.Block.{IsNew, Plain, usable};
 ghost use Rattle.buffer_redux.specs.BufWriter.{WritesInOrder};
-ghost use Rattle.buffer_redux.specs.Faults.{IsInterrupt, MetInterrupts, SendErrorCaused};
+ghost use Rattle.buffer_redux.specs.Faults.{IsInterrupt, MetInterrupts, SendErrorCaused, interrupt_limit};
 ghost use Rattle.programs.specs.Streams.{BufferRefused, capacity_asked, kind_asked};
 
 use buffer_redux::tell::{TellRead, TellWrite};
@@ -85,7 +85,7 @@ pub fn buffered_writer<W: TellWrite>(
 }
 
 /// Sends all that is buffered where so many more bytes don't fit, and makes all free space usable. Nothing is flushed.
-/// An interrupted write is answered only behind 64 others.
+/// An interrupted write is answered only behind `INTERRUPT_LIMIT` others.
 pub fn make_room<W: TellWrite>(target: &mut BufWriter<W>, whole: usize) -> io::Result<()>
     requires plain { target.old.block.kind ≡ Plain }
     requires inside { whole ≤ target.old.block.capacity }
@@ -98,7 +98,7 @@ pub fn make_room<W: TellWrite>(target: &mut BufWriter<W>, whole: usize) -> io::R
     ensures met { OnOk result (MetInterrupts target.old.log.writes target.new.log.writes) }
     ensures caused { IfErr result (λ e. SendErrorCaused target.old.log.writes target.new.log.writes e) }
     ensures often { IfErr result (λ e. IsInterrupt e
-        → length target.old.log.writes.faults + 65 ≤ length target.new.log.writes.faults) }
+        → length target.old.log.writes.faults + interrupt_limit + 1 ≤ length target.new.log.writes.faults) }
     ensures kind { target.new.block.kind ≡ target.old.block.kind }
     ensures capacity { target.new.block.capacity ≡ target.old.block.capacity }
 {

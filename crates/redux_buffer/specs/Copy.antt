@@ -4,7 +4,7 @@ use Rattle.std.specs.IoError.{error_kind}
 use Rattle.std.specs.declared.io.Error.{Error}
 use Rattle.std.specs.declared.io.ErrorKind.TheVariants.{Interrupted, Other}
 use Rattle.redux_buffer.specs.StreamLog.{StreamLog, FillLog, WriteLog, after_write}
-use Rattle.redux_buffer.specs.Faults.{OnlyInterrupts, FaultAfterInterrupts, MetInterrupts}
+use Rattle.redux_buffer.specs.Faults.{OnlyInterrupts, FaultAfterInterrupts, MetInterrupts, interrupt_limit}
 
 -- the writer received n bytes, and these are the ones that the reader was told are consumed, by as many consumes at most
 pub record MovedBy (n : ℕ) (from from' : FillLog) (to to' : WriteLog) : Type 0 where
@@ -124,19 +124,20 @@ pub record CopyTurn {W : Type 0} (tells : W → StreamLog) (trace call : W → W
       (λ _. faults_met from' (tells w').writes ≡ faults_met from (tells w).writes)
       (λ _. faults_met from' (tells w').writes ≡ faults_met from (tells w).writes + 1)
 
--- a turn that is begun again where it was interrupted, 64 times at the most
+-- a turn that is begun again where it was interrupted, up to the limit
 pub record CopyRetried {W : Type 0} (tells : W → StreamLog) (trace call : W → W → Type 0) (result : Result ℕ Error)
     (from from' : FillLog) (w w' : W) : Type 0 where
   pub answers : TurnAnswers tells trace call result from from' w w'
   pub often : IfErr result
-      (λ e. error_kind e ≡ Interrupted → faults_met from (tells w).writes + 65 ≤ faults_met from' (tells w').writes)
+      (λ e. error_kind e ≡ Interrupted
+      → faults_met from (tells w).writes + interrupt_limit + 1 ≤ faults_met from' (tells w').writes)
   pub few : MatchResult result
-      (λ _. faults_met from' (tells w').writes ≤ faults_met from (tells w).writes + 64)
-      (λ _. faults_met from' (tells w').writes ≤ faults_met from (tells w).writes + 65)
+      (λ _. faults_met from' (tells w').writes ≤ faults_met from (tells w).writes + interrupt_limit)
+      (λ _. faults_met from' (tells w').writes ≤ faults_met from (tells w).writes + interrupt_limit + 1)
 
 -- a whole copy: at Ok it ended, and the total is the number of bytes that went over; at an `Err` some went over, and
--- `Interrupted` comes only after 64 more such faults; and each fill and each write was one of a turn. The faults were at most
--- 64 for each byte that went over, and 64 in the last turn, with one more where that failed
+-- `Interrupted` comes only after more such faults than the limit; and each fill and each write was one of a turn. The faults were
+-- at most as many as the limit for each byte that went over, and as many in the last turn, with one more where that failed
 pub record CopyBuf {W : Type 0} (tells : W → StreamLog) (trace call : W → W → Type 0) (result : Result ℕ Error)
     (from from' : FillLog) (w w' : W) : Type 0 where
   pub moved : MatchResult result
@@ -146,12 +147,13 @@ pub record CopyBuf {W : Type 0} (tells : W → StreamLog) (trace call : W → W 
   pub failed : IfErr result (λ e. StreamFailed tells trace call e from from' w w'
       ⊎ MovedTooMuch e from from' (tells w).writes (tells w').writes)
   pub often : IfErr result
-      (λ e. error_kind e ≡ Interrupted → faults_met from (tells w).writes + 65 ≤ faults_met from' (tells w').writes)
+      (λ e. error_kind e ≡ Interrupted
+      → faults_met from (tells w).writes + interrupt_limit + 1 ≤ faults_met from' (tells w').writes)
   pub few : MatchResult result
       (λ _. faults_met from' (tells w').writes
-      ≤ faults_met from (tells w).writes + 64 * (length from'.consumed - length from.consumed + 1))
+      ≤ faults_met from (tells w).writes + interrupt_limit * (length from'.consumed - length from.consumed + 1))
       (λ _. faults_met from' (tells w').writes
-      ≤ faults_met from (tells w).writes + 64 * (length from'.consumed - length from.consumed + 1) + 1)
+      ≤ faults_met from (tells w).writes + interrupt_limit * (length from'.consumed - length from.consumed + 1) + 1)
   pub fills : MatchResult result
       (λ _. FillsMade 1 from from' (tells w).writes (tells w').writes)
       (λ _. FillsMade 0 from from' (tells w).writes (tells w').writes)

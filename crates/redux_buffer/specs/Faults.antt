@@ -1,5 +1,5 @@
 -- What the faults that a stream tells say of a call.
-use Rattle.std.specs.Prelude.{◌≡◌, ◌+◌, ◌≤◌, ◌⊎◌, List, [], ◌∷◌, ◌++◌, length}
+use Rattle.std.specs.Prelude.{◌≡◌, ℕ, ◌+◌, ◌≤◌, ◌⊎◌, List, [], ◌∷◌, ◌++◌, length}
 use Rattle.std.proofs.Common.{sym, refl, ap, subst, ◌∙◌, arith, inl, inr, append-nil, append_assoc}
 use Rattle.std.proofs.lemmas.List.{take_at, drop_at, append_cancel_left}
 use Rattle.std.proofs.lemmas.List.Elements.{All-nil, All-push, All-append, All-take, All-drop}
@@ -18,6 +18,10 @@ IsInterrupt e = error_kind e ≡ Interrupted
 -- `e.kind()` is `OutOfMemory`
 abbrev pub IsMemory : Error → Type 0
 IsMemory e = error_kind e ≡ OutOfMemory
+
+-- how often in a row an interrupted call is made again
+abbrev pub interrupt_limit : ℕ
+interrupt_limit = 64
 
 -- no fault came but these, which are `Interrupted`
 pub record OnlyInterrupts (old new : List Error) : Type 0 where
@@ -54,10 +58,10 @@ pub record FaultedAfter (interrupts : List Error) (old new : WriteLog) (e : Erro
   pub faults : new.faults ≡ old.faults ++ interrupts ++ e ∷ []
   pub zero_writes : new.zero_writes ≡ old.zero_writes
 
--- sending failed so: `Interrupted` is answered only after 64 interrupted writes
+-- sending failed so: `Interrupted` is answered only after as many interrupted writes as the limit
 pub record SendFailed (interrupts : List Error) (old new : WriteLog) (e : Error) : Type 0 where
   pub cause : TookNothing interrupts old new (error_kind e) ⊎ FaultedAfter interrupts old new e
-  pub often : error_kind e ≡ Interrupted → 64 ≤ length interrupts
+  pub often : error_kind e ≡ Interrupted → interrupt_limit ≤ length interrupts
 
 -- an error was caused by a write that took nothing of something, or is the writer's last fault; before it came no fault
 -- but `Interrupted`

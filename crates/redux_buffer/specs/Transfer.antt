@@ -5,7 +5,7 @@ use Rattle.std.specs.List.{All}
 use Rattle.std.specs.declared.io.Error.{Error}
 use Rattle.redux_buffer.specs.Block.{Block, Extends, ConsumesFirst, OnlyRingMoves, usable}
 use Rattle.redux_buffer.specs.StreamLog.{StreamLog, WriteLog, portion, with_zero, with_short, with_fault, after_read, after_write}
-use Rattle.redux_buffer.specs.Faults.{IsInterrupt, OnlyInterrupted, SendFailed}
+use Rattle.redux_buffer.specs.Faults.{IsInterrupt, OnlyInterrupted, interrupt_limit, SendFailed}
 
 -- one read into the whole tail, which left it as out; what was given stands behind the bytes
 pub record ReadsOnce (old : Block) (log : StreamLog) (answer : Result ℕ Error) (new : Block)
@@ -44,12 +44,12 @@ pub record Offers {W : Type 0} (tells : W → StreamLog) (trace : W → W → Ty
   pub told : tells t ≡ after_write (tells s) bs answer
   pub traced : trace s t
 
--- a write of bs, asked again where it was interrupted: 64 times at the most, and `Interrupted` is answered only then
+-- a write of bs, asked again where it was interrupted, up to the limit, and `Interrupted` is answered only then
 pub record WritesRetried (bs : List ℕ) (log : StreamLog) (answer : Result ℕ Error) (log' : StreamLog) : Type 0 where
   pub interrupts : List Error
   pub interrupted : All IsInterrupt interrupts
-  pub most : length interrupts ≤ 64
-  pub often : IfErr answer (λ e. IsInterrupt e → length interrupts ≡ 64)
+  pub most : length interrupts ≤ interrupt_limit
+  pub often : IfErr answer (λ e. IsInterrupt e → length interrupts ≡ interrupt_limit)
   pub received : log'.writes.received ≡ log.writes.received ++ portion bs answer
   pub flushed : log'.writes.flushed ≡ log.writes.flushed
   pub flushes : log'.writes.flushes ≡ log.writes.flushes
@@ -71,9 +71,10 @@ pub record Sent (count : ℕ) (old : Block) (log : StreamLog) (new : Block) (log
   pub others : log' ≡ record log { writes = log'.writes }
 
 -- the first amount bytes were sent, or all where there are fewer; where that failed, those that the writer took, and not
--- all of them. For each byte that went out there were at most 64 interrupted writes, and 64 more before a failure. The
--- stream isn't called where there is nothing to send, and else its last write offered something. Just that one took all
--- that it was offered, none before a failure, and every other one fell short: so each write offered all that was left
+-- all of them. For each byte that went out there were at most as many interrupted writes as the limit, and as many more
+-- before a failure. The stream isn't called where there is nothing to send, and else its last write offered something. Just
+-- that one took all that it was offered, none before a failure, and every other one fell short: so each write offered all
+-- that was left
 pub record Sends (amount : ℕ) (old : Block) (log : StreamLog) (answer : Result (Unit {0}) Error) (new : Block)
     (log' : StreamLog) : Type 0 where
   pub count : ℕ
@@ -91,5 +92,5 @@ pub record Sends (amount : ℕ) (old : Block) (log : StreamLog) (answer : Result
       (λ _. 0 < min amount (length old.bytes)
       → log'.writes.asks + log.writes.short_writes ≡ log.writes.asks + log'.writes.short_writes + 1)
       (λ _. log'.writes.asks + log.writes.short_writes ≡ log.writes.asks + log'.writes.short_writes)
-  pub few : MatchResult answer (λ _. length interrupts ≤ 64 * count)
-      (λ _. length interrupts ≤ 64 * count + 64)
+  pub few : MatchResult answer (λ _. length interrupts ≤ interrupt_limit * count)
+      (λ _. length interrupts ≤ interrupt_limit * (count + 1))

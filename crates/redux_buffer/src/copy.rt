@@ -16,9 +16,9 @@ use std::io::ErrorKind;
 /// not, the bytes that were consumed are those that were received. `Other` without a fault is returned where the count
 /// passes what a `u64` holds.
 pub fn copy_buf<B: TellBufRead, W: TellWrite>(b: &mut B, w: &mut W) -> io::Result<u64>
-    ensures copied { CopyBuf W.log W.trace W.call result (B.log b.old).fills (B.log b.new).fills w.old w.new }
     ensures reader { B.trace b.old b.new }
     ensures writer { W.trace w.old w.new }
+    ensures copied { CopyBuf W.log W.trace W.call result (B.log b.old).fills (B.log b.new).fills w.old w.new }
 {
     let mut total = 0u64;
     'turns: loop {
@@ -65,9 +65,9 @@ fn copy_retried<B: TellBufRead, W: TellWrite>(b: &mut B, w: &mut W) -> io::Resul
 /// consumed, and copying has ended. A fault is returned at once, `Interrupted` too, and moves nothing.
 #[inline(always)]
 pub fn copy_turn<B: TellBufRead, W: TellWrite>(b: &mut B, w: &mut W) -> io::Result<usize>
-    ensures turn { CopyTurn W.log W.trace W.call result (B.log b.old).fills (B.log b.new).fills w.old w.new }
     ensures reader { B.trace b.old b.new }
     ensures writer { W.trace w.old w.new }
+    ensures turn { CopyTurn W.log W.trace W.call result (B.log b.old).fills (B.log b.new).fills w.old w.new }
 {
     let taken = match b.fill_told() {
         Ok(bytes) => w.write_told(bytes)?,

@@ -44,8 +44,8 @@ impl<W: TellWrite> BufWriter<W, StdPolicy> {
     #[inline(always)]
     pub fn put(&mut self, bytes: &[u8])
         requires room { length bytes.now ≤ usable self.old.block }
-        ensures put { PutsIn self.old bytes.now self.new }
         ensures added { Extends bytes.now self.old.block self.new.block }
+        ensures put { PutsIn self.old bytes.now self.new }
     {
         self.buf.append(bytes);
     }

@@ -16,10 +16,10 @@ impl<R: TellRead, D: Items> PieceReader<R, D> {
     /// Goes on to the next piece as [`step`](PieceReader::step) does, and returns what the piece says, and where its payload is.
     #[inline(always)]
     pub fn step_item(&mut self) -> Result<Option<(D::Item, Span)>, NextError<D::Wrong>>
-        ensures next { NextItem R.remaining (D.grammar self.old.decoder) (D.item_of self.old.decoder) self.old
-            result self.new }
         ensures lends { IfOk result (λ found. IfSome found (λ said.
             IsLent (D.grammar self.new.decoder) self.new.handed self.new.reader.block.bytes said.1)) }
+        ensures next { NextItem R.remaining (D.grammar self.old.decoder) (D.item_of self.old.decoder) self.old
+            result self.new }
     {
         let at = self.handed;
         match self.take() {
@@ -49,13 +49,13 @@ impl<R: TellRead, D: Items> PieceReader<R, D> {
     /// stream for nothing. `None` where it doesn't, as [`step_buffered`](PieceReader::step_buffered) says.
     #[inline(always)]
     pub fn step_item_buffered(&mut self) -> Option<(D::Item, Span)>
-        ensures next { IfSome result (λ said. NextItem R.remaining (D.grammar self.old.decoder)
-            (D.item_of self.old.decoder) self.old (Ok (Some said)) self.new) }
+        ensures lends { IfSome result (λ said.
+            IsLent (D.grammar self.new.decoder) self.new.handed self.new.reader.block.bytes said.1) }
         ensures inside { self.new.reader ≡ self.old.reader }
         ensures stays { IfNone result (StaysLeft (D.grammar self.old.decoder) self.old self.new) }
         ensures none { IfNone result (¬ (Begins (D.grammar self.old.decoder) (rest self.old))) }
-        ensures lends { IfSome result (λ said.
-            IsLent (D.grammar self.new.decoder) self.new.handed self.new.reader.block.bytes said.1) }
+        ensures next { IfSome result (λ said. NextItem R.remaining (D.grammar self.old.decoder)
+            (D.item_of self.old.decoder) self.old (Ok (Some said)) self.new) }
     {
         let at = self.handed;
         match self.take() {

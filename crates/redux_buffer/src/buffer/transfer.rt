@@ -16,12 +16,12 @@ impl Buffer {
     /// Reads once, into all the space that can be written, and returns how many bytes came. Returns `Ok(0)` and doesn't
     /// ask the reader where there is no such space. A fault of the reader leaves the bytes.
     pub fn read_from<R: TellRead>(&mut self, rdr: &mut R) -> io::Result<usize>
-        ensures read { ReadsFrom self.old (R.log rdr.old) result self.new (R.log rdr.new) }
         ensures not_asked { usable self.old ≡ 0 → rdr.new ≡ rdr.old }
         ensures err { OnErr result (LeavesBytes self.old self.new) }
+        ensures end { result ≡ Ok 0 → 0 < usable self.old → IsAtEnd (R.remaining rdr.new) }
         ensures known { GivesRemaining (R.remaining rdr.old) (R.log rdr.old).reads
             (R.remaining rdr.new) (R.log rdr.new).reads }
-        ensures end { result ≡ Ok 0 → 0 < usable self.old → IsAtEnd (R.remaining rdr.new) }
+        ensures read { ReadsFrom self.old (R.log rdr.old) result self.new (R.log rdr.new) }
         ensures whole { IsBlock self.new }
     {
         if self.usable_space() == 0 {
@@ -35,10 +35,10 @@ impl Buffer {
     /// Writes all bytes once, drops those that the writer took, and returns how many those are. Returns `Ok(0)` and
     /// doesn't ask the writer where the buffer is empty. A fault of the writer changes nothing.
     pub fn write_to<W: TellWrite>(&mut self, wrt: &mut W) -> io::Result<usize>
-        ensures wrote { WritesTo self.old (W.log wrt.old) result self.new (W.log wrt.new) }
         ensures not_asked { length self.old.bytes ≡ 0 → wrt.new ≡ wrt.old }
         ensures moved { OnlyRingMoves self.old self.new }
         ensures trace { W.trace wrt.old wrt.new }
+        ensures wrote { WritesTo self.old (W.log wrt.old) result self.new (W.log wrt.new) }
         ensures whole { IsBlock self.new }
     {
         if self.is_empty() {
@@ -56,10 +56,10 @@ impl Buffer {
     /// that takes nothing is returned as `WriteZero`. At any fault the buffer has lost just what the writer took.
     #[inline(never)]
     pub fn write_max<W: TellWrite>(&mut self, max: usize, wrt: &mut W) -> io::Result<()>
-        ensures sent { Sends max self.old (W.log wrt.old) result self.new (W.log wrt.new) }
         ensures idle { max ≡ 0 ⊎ (length self.old.bytes ≡ 0)
             → (result ≡ Ok tt) × (wrt.new ≡ wrt.old) × (self.new ≡ self.old) }
         ensures trace { W.trace wrt.old wrt.new }
+        ensures sent { Sends max self.old (W.log wrt.old) result self.new (W.log wrt.new) }
         ensures whole { IsBlock self.new }
     {
         let mut left = max.min(self.len());
@@ -79,10 +79,10 @@ impl Buffer {
 
     /// Writes all bytes, as [`write_max`](Buffer::write_max) does.
     pub fn write_all<W: TellWrite>(&mut self, wrt: &mut W) -> io::Result<()>
-        ensures sent { Sends (length self.old.bytes) self.old (W.log wrt.old) result self.new (W.log wrt.new) }
         ensures idle { length self.old.bytes ≡ 0
             → (result ≡ Ok tt) × (wrt.new ≡ wrt.old) × (self.new ≡ self.old) }
         ensures trace { W.trace wrt.old wrt.new }
+        ensures sent { Sends (length self.old.bytes) self.old (W.log wrt.old) result self.new (W.log wrt.new) }
         ensures whole { IsBlock self.new }
     {
         let len = self.len();

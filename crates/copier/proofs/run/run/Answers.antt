@@ -1,5 +1,6 @@
 use Rattle.std.proofs.Common.{inl}
-use Rattle.copier.proofs.Moving.{IsBeginning-none, run_caused}
+use Rattle.copier.proofs.Endings.{run_caused}
+use Rattle.copier.proofs.Moving.{IsBeginning-none}
 use Rattle.copier.proofs.run.run.Goals as goal
 
 pub returns-in-Err-clause-a_beginning : goal.returns-in-Err-clause-a_beginning
