@@ -4,6 +4,8 @@
 #[cfg(test)]
 mod bodies;
 #[cfg(test)]
+mod collected;
+#[cfg(test)]
 mod examples;
 #[cfg(test)]
 mod parts;
