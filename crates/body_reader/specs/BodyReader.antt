@@ -116,12 +116,14 @@ module _ {S Q C P W : Type 0} (remaining : S → Option (List ℕ)) (rules : Rea
   NotCollected most s all collect.TooLong t = EachGave s.reader t.reader × (most < length all + t.known)
   NotCollected most s all collect.Memory t = EachGave s.reader t.reader
 
-  -- the rest of the body was taken, and its payload appended, or why not. The stream is asked only where nothing was settled
+  -- the rest of the body was taken, and its payload appended, or why not: of no more bytes than fit so many. The stream is asked
+  -- only where nothing was settled
   pub record Collects (most : ℕ) (s : BodyState S Q C P) (before : List ℕ) (answer : Result (Unit {0}) (CollectError W))
       (t : BodyState S Q C P) (after : List ℕ) : Type 0 where
     pub payload : List ℕ
     pub went : BodyWent s payload t
     pub collected : after ≡ before ++ payload
+    pub few : 0 < length payload → length after ≤ most
     pub asked : AskedWhere (λ bytes. (dropped : List ℕ) × LeadsOpen g s.place dropped bytes) (unbuffered s.reader)
         (unbuffered t.reader)
     pub answers : MatchResult answer (λ _. EachGave s.reader t.reader × IsWhole g t) (λ e. NotCollected most s after e t)

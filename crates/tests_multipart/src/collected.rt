@@ -1,9 +1,10 @@
 //! A payload that is collected.
 use body_reader::{BodyReader, CollectError, Sized};
-use buffer_redux::BufReader;
 use redux_script::Answer;
+use std::alloc::Global;
+use std::io;
 use std::test::Fail;
-use tests_common::{holding_in, source};
+use tests_common::{Source, holding_in, source};
 
 /// The most bytes that the vector may have, what it has then, and whether the body ended.
 static ROWS: [(usize, &[u8], bool); 4] = [
@@ -13,15 +14,24 @@ static ROWS: [(usize, &[u8], bool); 4] = [
     (6, b">hello", true),
 ];
 
+fn of_five(
+    alloc: Global,
+    bytes: &[u8],
+    script: &[Answer],
+) -> Result<BodyReader<Source, Sized>, io::Error> {
+    let buffer = holding_in(alloc, false, 8, b"")?;
+    BodyReader::with_buffer(buffer, source(alloc, bytes, script)?, Sized(5)).map_err(
+        io::Error::from,
+    )
+}
+
 // Five bytes, of which three come first, and then eight with what follows, behind one that the vector has.
 #[test]
 fn collects(rt: HostRuntime) -> Result<(), Fail> {
     let alloc = rt.alloc();
     for &(most, collected, ended) in ROWS.iter() {
         let script = [Answer::Serve(3), Answer::Serve(8)];
-        let stream = source(alloc, b"hello, world", &script)?;
-        let buffer = holding_in(alloc, false, 8, b"")?;
-        let mut body = BodyReader::new(BufReader::with_buffer(buffer, stream), Sized(5));
+        let mut body = of_five(alloc, b"hello, world", &script)?;
         let mut out = Vec::new(alloc);
         out.extend_from_slice(b">")?;
         let answer = body.collect(most, &mut out);
@@ -41,9 +51,7 @@ fn collects(rt: HostRuntime) -> Result<(), Fail> {
 #[test]
 fn collects_what_came(rt: HostRuntime) -> Result<(), Fail> {
     let alloc = rt.alloc();
-    let stream = source(alloc, b"hel", &[])?;
-    let buffer = holding_in(alloc, false, 8, b"")?;
-    let mut body = BodyReader::new(BufReader::with_buffer(buffer, stream), Sized(5));
+    let mut body = of_five(alloc, b"hel", &[])?;
     let mut out = Vec::new(alloc);
     let refused = body.collect(6, &mut out);
     assert!(rt; matches!(refused, Err(CollectError::Body(_))));

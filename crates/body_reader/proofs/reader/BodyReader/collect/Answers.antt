@@ -19,7 +19,7 @@ added (Ok a) xs ys all is taken = is
 added (Err e) xs ys all is taken = absurd (let odd : true ≡ false = taken in cc)
 
 pub loop-came-init : goal.loop-came-init
-loop-came-init g c = collected_none _ _ _ _ _ c.get_ref.ensures.whole
+loop-came-init g c = collected_none _ _ _ _ _ _ c.get_ref.ensures.whole
 
 pub returns-in_err-came : goal.returns-in_err-came
 returns-in_err-came g c =
@@ -29,8 +29,8 @@ returns-in_err-came g c =
     let s = c.args.self.now in
     let so = c.loop-came.invariant in
     let p = err_from_is_err_and c.from_residual.result c.from_residual.ensures.1 in
-    rw (p.1, p.2) (collects_none remaining rules' (grammar s.coding) s _ c.loop-came.self _ so c.fill_payload.new.self
-    c.args.most _ (fills_here remaining rules' grammar s c.loop-came.self so.went.coding _ _ c.in_err-came.ensures))
+    rw (p.1, p.2) (collects_none remaining rules' (grammar s.coding) c.args.most s _ c.loop-came.self _ so c.fill_payload.new.self
+    _ (fills_here remaining rules' grammar s c.loop-came.self so.went.coding _ _ c.in_err-came.ensures))
 
 pub returns-then-came-eq0 : goal.returns-then-came-eq0
 returns-then-came-eq0 g c =
@@ -39,8 +39,8 @@ returns-then-came-eq0 g c =
     let grammar = g.C.Coding.grammar in
     let s = c.args.self.now in
     let so = c.loop-came.invariant in
-    collects_all remaining rules' (grammar s.coding) s _ c.loop-came.self _ so c.fill_payload.new.self c.in_ok-came.came
-    (fills_here remaining rules' grammar s c.loop-came.self so.went.coding _ _ c.in_ok-came.ensures) c.args.most
+    collects_all remaining rules' (grammar s.coding) c.args.most s _ c.loop-came.self _ so c.fill_payload.new.self c.in_ok-came.came
+    (fills_here remaining rules' grammar s c.loop-came.self so.went.coding _ _ c.in_ok-came.ensures)
     c.if-came-eq0.true
 
 pub returns-then-came-saturating_sub : goal.returns-then-came-saturating_sub
@@ -50,8 +50,8 @@ returns-then-came-saturating_sub g c =
     let grammar = g.C.Coding.grammar in
     let s = c.args.self.now in
     let so = c.loop-came.invariant in
-    collects_long remaining rules' (grammar s.coding) s _ c.loop-came.self _ so c.fill_payload.new.self c.in_ok-came.came
-    (fills_here remaining rules' grammar s c.loop-came.self so.went.coding _ _ c.in_ok-came.ensures) c.args.most
+    collects_long remaining rules' (grammar s.coding) c.args.most s _ c.loop-came.self _ so c.fill_payload.new.self c.in_ok-came.came
+    (fills_here remaining rules' grammar s c.loop-came.self so.went.coding _ _ c.in_ok-came.ensures)
     (omega (arith, c.if-came-saturating_sub.true, c.saturating_sub.ensures, c.len.ensures))
 
 pub returns-then-is_err : goal.returns-then-is_err
@@ -66,8 +66,8 @@ returns-then-is_err g c =
     (sym c.is_err.ensures.value ∙ c.if-is_err.true) in
     subst (Collects remaining rules' (grammar s.coding) c.args.most s (vec_items c.args.out.now) (Err why.Memory)
     c.fill_payload.new.self) (sym same)
-    (collects_no_room remaining rules' (grammar s.coding) s _ c.loop-came.self _ so c.fill_payload.new.self c.in_ok-came.came
-    (fills_here remaining rules' grammar s c.loop-came.self so.went.coding _ _ c.in_ok-came.ensures) c.args.most)
+    (collects_no_room remaining rules' (grammar s.coding) c.args.most s _ c.loop-came.self _ so c.fill_payload.new.self c.in_ok-came.came
+    (fills_here remaining rules' grammar s c.loop-came.self so.went.coding _ _ c.in_ok-came.ensures))
 
 pub loop-came-preserved : goal.loop-came-preserved
 loop-came-preserved g c =
@@ -88,8 +88,9 @@ loop-came-preserved g c =
     (vec_items c.extend_from_slice.new.self) c.extend_from_slice.ensures.items
     (sym c.is_err.ensures.value ∙ c.if-is_err.false) in
     let piece = ap (λ l. vec_items c.loop-came.out ++ l) c.piece.ensures in
-    subst (Collected remaining rules' (grammar s.coding) s (vec_items c.args.out.now) t) (sym (same ∙ piece))
-    (collected_more remaining rules' (grammar s.coding) s _ c.loop-came.self _ so f n
+    subst (Collected remaining rules' (grammar s.coding) c.args.most s (vec_items c.args.out.now) t) (sym (same ∙ piece))
+    (collected_more remaining rules' (grammar s.coding) c.args.most s _ c.loop-came.self _ so f n
     (fills_here remaining rules' grammar s c.loop-came.self so.went.coding _ _ fills) t
     (went_here remaining rules' grammar s f here _ t went) c.consume_payload.ensures.told
-    (is_here grammar s t (went.coding ∙ here) c.consume_payload.ensures.whole))
+    (is_here grammar s t (went.coding ∙ here) c.consume_payload.ensures.whole)
+    (omega (arith, fills.answers.0, c.if-came-eq0.false, c.if-came-saturating_sub.false, c.saturating_sub.ensures, c.len.ensures)))

@@ -5,7 +5,7 @@ use Rattle.body_reader.proofs.reader.BodyReader.collect.Given as goal
 -- what came so far was collected
 abbrev pub invariant-loop-came : goal.invariant-loop-came
 invariant-loop-came g l = Collected g.R.TellRead.remaining g.P.ReaderPolicy.rules (g.C.Coding.grammar l.initial.self.coding)
-    l.initial.self (vec_items l.initial.out) l.self (vec_items l.out)
+    l.initial.most l.initial.self (vec_items l.initial.out) l.self (vec_items l.out)
 
 abbrev pub decreases-loop-came : goal.decreases-loop-came
 decreases-loop-came g l = l.most - length (vec_items l.out)
