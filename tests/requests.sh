@@ -22,6 +22,10 @@ cleans() {
     rm -rf "$scratch"
 }
 trap cleans EXIT
+trap 'exit 129' HUP
+trap 'exit 130' INT
+trap 'exit 141' PIPE
+trap 'exit 143' TERM
 
 if [ "$built" != built ] || [ ! -x "$program" ]; then
     (cd crates/requests && rt run < stdin) > "$scratch/log" 2>&1 || {
@@ -157,6 +161,9 @@ row "\r\n$G" '200:0'
 row "\r\n\r\n$G" '200:0'
 row "$G\r\n" '200:0'
 row "$G\r\n\r\n" '200:0'
+row "${P}Content-Length: 5\r\n\r\nhello\r\n" '200:5'
+row "${P}$C\r\n3\r\nabc\r\n0\r\n\r\n\r\n\r\n" '200:3'
+row "${P}Content-Length: 5\r\n\r\nhello\r\n$G\r\n" '200:5 200:0'
 row "\r\n" ''
 row "$G\n" '200:0 400'
 row "$G\r\n\r" '200:0'
