@@ -345,7 +345,7 @@ many = [answered(to, 1000) for _ in range(5)]
 to.shutdown(socket.SHUT_WR)
 assert to.recv(1) == b'', 'more answers'
 middle = sorted(four)[100]
-print(f'{name}: {4 / middle:.0f} a second, four at once; {1000 / min(many):.0f}, a thousand at once')
+print(f'{name}: {4 / middle:.0f} a second, four at once; {1000 / sorted(many)[2]:.0f}, a thousand at once')
 assert middle < 0.02, four
 PEER
 runs=$((runs + 1))
