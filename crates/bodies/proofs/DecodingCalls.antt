@@ -10,7 +10,7 @@ use Rattle.body_reader.specs.AskingLaws.{AskedWhere-of, AskedWhere-on}
 use Rattle.body_reader.specs.Between.{EachGave}
 use Rattle.body_reader.specs.BodyReader.{Breaks, EndsEarly}
 use Rattle.body_reader.specs.BodyReaderLaws.{BodyWent-joins}
-use Rattle.body_reader.specs.Coding.{IsOpen, LeadsOpen}
+use Rattle.body_reader.specs.Coding.{AskedFor, IsOpen, LeadsOpen}
 use Rattle.body_reader.specs.declared.error.BodyError.{BodyError}
 use Rattle.body_reader.specs.declared.error.BodyError.TheVariants as body
 use Rattle.chunked.specs.Coding.{IsWrongNext}
@@ -262,9 +262,10 @@ module _ {R W : Type 0} (remaining : R → Option (List ℕ)) (s : Decoding R W)
         (p : ReadsPayload remaining std_read_rules (chunked s.source.coding.0) s.source out answer m) where
       over : Source.Asks s.source m
       over = record {
-        asked = AskedWhere-of (LeadsOpen (chunked s.source.coding.0) s.source.place []) Such (unbuffered s.source.reader)
-            (unbuffered m.reader)
-            (λ more open'. due_on s.source ready.whole (s.source.reader.block.bytes ++ more) open') p.asked;
+        asked = AskedWhere-of
+            (AskedFor (chunked s.source.coding.0) s.source.place (length out) m.reader.log.reads.offer) Such
+            (unbuffered s.source.reader) (unbuffered m.reader)
+            (λ more ask. due_on s.source ready.whole (s.source.reader.block.bytes ++ more) ask.leads) p.asked;
         grows = p.went.along.grows;
       }
 

@@ -1,5 +1,6 @@
 -- Payload is handed out, and how that ends.
 use Rattle.std.proofs.Common.{◌≡◌, ◌==◌, false, ℕ, zero, suc, ◌-◌, ◌<◌, ◌≤◌, List, [], ◌++◌, length, min, take, drop, Option, Result, Ok, Err, sym, ap, subst, ◌∙◌, arith, inl, inr, refl, append_assoc, append-nil, length-append}
+use Rattle.std.proofs.lemmas.Bool.{cases_lt}
 use Rattle.std.proofs.lemmas.List.{length-drop, length-take-le, nil_from_length, take-append-drop, take-append-le}
 use Rattle.std.specs.declared.io.Error.{Error}
 use Rattle.buffer_redux.specs.Buffered.{Buffered, GoesDirect, GoesPast}
@@ -8,14 +9,15 @@ use Rattle.buffer_redux.specs.Policy.{ReadRules}
 use Rattle.buffer_redux.specs.ReaderLaws.{ReaderKeeps-along}
 use Rattle.buffer_redux.specs.StreamLog.{after_read, zero_of_none, zero_of_some}
 use Rattle.body_reader.specs.declared.coding.Look.{Look}
+use Rattle.body_reader.specs.declared.coding.Look.TheVariants.{Payload}
 use Rattle.body_reader.specs.declared.error.BodyError.{BodyError}
 use Rattle.body_reader.specs.declared.error.BodyError.TheVariants.{Truncated, Io}
 use Rattle.body_reader.specs.declared.progress.Progress.{Progress}
-use Rattle.body_reader.specs.Between.{AsksOpen, FillsOn, PassesOn, Proceeds, HandsOn, KeepsBuffer, SkipsOn, Takes, TakesFront, handed_out}
-use Rattle.body_reader.specs.BetweenLaws.{AsksOpen-then, EachGave-none, EachGave-same, Proceeds-after, Takes-none}
-use Rattle.body_reader.specs.Coding.{Carries, Grammar, IsDone, IsKnown, IsLawful, IsOpen, Leads, heeded}
-use Rattle.body_reader.specs.CodingLaws.{open_at}
-use Rattle.body_reader.proofs.Filling.{Proceeds-err, behind_skipped, ended_here}
+use Rattle.body_reader.specs.Between.{AllShown, AsksFor, EachGave, FillsOn, HandsAll, PassesOn, Proceeds, HandsOn, KeepsBuffer, SkipsOn, Stretch, Takes, TakesFront, handed_out}
+use Rattle.body_reader.specs.BetweenLaws.{AsksFor-then, EachGave-none, EachGave-same, Proceeds-after, Takes-none}
+use Rattle.body_reader.specs.Coding.{Carries, Grammar, IsDone, IsKnown, IsLawful, IsOpen, Leads, Looks, heeded}
+use Rattle.body_reader.specs.CodingLaws.{Leads-none, Leads-then, open_at}
+use Rattle.body_reader.proofs.Filling.{Carries-less, Proceeds-err, Proceeds-of, ended_here, payload_here}
 use Rattle.body_reader.proofs.Skipping.{Notes, consumes_left, takes_front}
 
 pub some_of : (n : ℕ) → false ≡ (n == 0) → 0 < n
@@ -91,225 +93,190 @@ module _ {S Q P W : Type 0} (remaining : S → Option (List ℕ)) (rules : ReadR
 
 module _ {S Q P W : Type 0} (remaining : S → Option (List ℕ)) (rules : ReadRules Q) (g : Grammar P W) where
   -- into an empty slice none is handed out
-  pub hands_none : (s : Buffered S Q) (p : Progress P) (out : List ℕ) → g.is_place p.place → length out ≡ 0
-      → HandsOn remaining rules g s p out (Ok 0) s p
-  hands_none s p out place none = (
+  pub hands_none : (known : ℕ) (s : Buffered S Q) (p : Progress P) (out : List ℕ) → g.is_place p.place → length out ≡ 0
+      → HandsOn remaining rules g known s p out (Ok 0) s p
+  hands_none known s p out place none = (
     record {
       wire = [];
       takes = Takes-none remaining rules g s p place;
       asked = inl refl;
-      ends = (EachGave-none s, (omega arith, (λ _ room. absurd (omega (arith, room, none)))));
+      ends = (
+        EachGave-none s,
+        (omega arith, (λ _ room. absurd (omega (arith, room, none))), (λ some. absurd (omega (arith, some)))),
+      );
       idle = λ _. (refl, refl);
     },
     λ _. (refl, refl),
   )
 
   -- what is known is handed out
-  pub hands_front : (n : ℕ) (s : Buffered S Q) (p : Progress P) (k : ℕ) (t : Buffered S Q) (q : Progress P) (k' : ℕ)
-      (out : List ℕ) → TakesFront remaining rules g n s p k t q k' → IsKnown g p.place k s.block.bytes → 0 < k
-      → n ≡ min k (length out) → 0 < length out → take n out ≡ take n s.block.bytes
-      → HandsOn remaining rules g s p out (Ok n) t q
-  hands_front n s p k t q k' out taken known some is room same = (
-    record {
-      wire = take n s.block.bytes;
-      takes = subst (λ l. Takes remaining rules g s p (take n s.block.bytes) l t q) (sym same) taken.takes;
-      asked = inl taken.told;
-      ends = (
-        EachGave-same s t taken.told,
-        (omega (arith, is), (λ none _. absurd (omega (arith, none, is, some, room)))),
-      );
-      idle = λ done. absurd ((known.1 some).goes_on done);
-    },
-    λ none. absurd (omega (arith, none, room)),
-  )
-
-  -- one read past the buffer
-  module _ (lawful : IsLawful g) (s : Buffered S Q) (p : Progress P) (place : g.is_place p.place) (most : ℕ)
-      (carries : Carries g p.place most s.block.bytes) (past : GoesPast s.block most) (out : List ℕ) (t : Buffered S Q)
-      (keeps : ReaderKeeps remaining rules s t) (lent : List ℕ) (size : length lent ≡ most)
-      (more : List ℕ) (whole : out ≡ lent ++ more) where
-    empty : s.block.bytes ≡ []
-    empty = nil_from_length s.block.bytes past.0
-
-    buffer_kept : (answer : Result ℕ Error) → GoesDirect after_read s lent answer t → KeepsBuffer rules g.ahead s t
-    buffer_kept answer direct = record {
-      kind = keeps.kind;
-      room = λ _. (ap (λ b. b.capacity) direct.block, ap (λ b. b.limit) direct.block);
-      spared = λ keep high claims. keeps.sparing keep claims;
-    }
-
-    is_open : (bytes : List ℕ) → bytes ≡ [] → IsOpen g p.place bytes
-    is_open bytes none = open_at g lawful p.place place carries.goes_on bytes (omega (arith, ap length none))
-
-    asked : (answer : Result ℕ Error) → GoesDirect after_read s lent answer t → AsksOpen remaining rules g s p.place t
-    asked answer direct = AsksOpen-then remaining rules g s p s p t [] (Takes-none remaining rules g s p place)
-        (EachGave-none s) (inl refl)
-        (inr (record {
-          came = [];
-          given = ap (λ l. l.reads.given) direct.told ∙ ap (λ l. s.log.reads.given ++ l.reads.latest) (sym direct.told);
-          such = is_open (s.block.bytes ++ []) (append-nil s.block.bytes ∙ empty);
-          some = omega (arith, ap (λ l. l.reads.asks) direct.told);
-          asks = omega (arith, ap (λ l. l.reads.asks) direct.told);
-        }))
-
-    still : (answer : Result ℕ Error) → GoesDirect after_read s lent answer t → ReadsInOrder s [] t
-        → Takes remaining rules g s p [] [] t p
-    still answer direct order = record {
-      along = ReaderKeeps-along remaining rules s [] t order keeps;
-      leads = subst (Leads g p.place [] [] p.place) (ap (λ b. heeded g b.bytes) (sym direct.block))
-          (Takes-none remaining rules g s p place).leads;
-      taken = sym (append-nil p.taken.log.fills.consumed);
-      place = place;
-      keeps = buffer_kept answer direct;
-    }
-
-    none_left : (answer : Result ℕ Error) → GoesDirect after_read s lent answer t → IsOpen g p.place t.block.bytes
-    none_left answer direct = is_open t.block.bytes (ap (λ b. b.bytes) direct.block ∙ empty)
-
-    room : 0 < length out
-    room = omega (arith, carries.some, size, ap length whole, length-append lent more)
-
-    pub past_fails : (e : Error) → GoesDirect after_read s lent (Err e) t → ReadsInOrder s [] t
-        → HandsOn remaining rules g s p out (Err (Io e)) t p
-    past_fails e direct order = (
+  module _ (n : ℕ) (s : Buffered S Q) (p : Progress P) (k : ℕ) (t : Buffered S Q) (q : Progress P) (k' : ℕ) (out : List ℕ)
+      (taken : TakesFront remaining rules g n s p k t q k') (known : IsKnown g p.place k s.block.bytes) (some : 0 < k)
+      (is : n ≡ min k (length out)) (room : 0 < length out) (same : take n out ≡ take n s.block.bytes) where
+    hands_these : (before : ℕ) → HandsAll g p.place s.block.bytes before out n t.block.bytes
+        → HandsOn remaining rules g before s p out (Ok n) t q
+    hands_these before all = (
       record {
-        wire = [];
-        takes = still (Err e) direct order;
-        asked = asked (Err e) direct;
+        wire = take n s.block.bytes;
+        takes = subst (λ l. Takes remaining rules g s p (take n s.block.bytes) l t q) (sym same) taken.takes;
+        asked = inl taken.told;
         ends = (
-          (ap (λ l. l.reads.faults) direct.told, ap (λ l. l.reads.zero_reads) direct.told),
-          none_left (Err e) direct,
+          EachGave-same s t taken.told,
+          (omega (arith, is), (λ none _. absurd (omega (arith, none, is, some, room))), (λ _. all)),
         );
-        idle = λ done. absurd (carries.goes_on done);
+        idle = λ done. absurd ((known.1 some).goes_on done);
       },
       λ none. absurd (omega (arith, none, room)),
     )
 
-    pub past_dry : GoesDirect after_read s lent (Ok 0) t → ReadsInOrder s [] t
-        → HandsOn remaining rules g s p out (Err (Truncated p.count)) t p
-    past_dry direct order = (
-      record {
-        wire = [];
-        takes = still (Ok 0) direct order;
-        asked = asked (Ok 0) direct;
-        ends = (
-          (
-            ap (λ l. l.reads.faults) direct.told,
-            ap (λ l. l.reads.zero_reads) direct.told
-                ∙ zero_of_none 0 lent s.log.reads.zero_reads refl (omega (arith, size, carries.some)),
-          ),
-          refl,
-          none_left (Ok 0) direct,
-        );
-        idle = λ done. absurd (carries.goes_on done);
-      },
-      λ none. absurd (omega (arith, none, room)),
-    )
+    -- it was known before
+    pub hands_known : HandsOn remaining rules g k s p out (Ok n) t q
+    hands_known = hands_these k (elim (cases_lt n (length out)) [
+      | inl short ↦ inr (inr (inl (some, omega (arith, is, short))))
+      | inr full ↦ inl (omega (arith, is, full))
+    ])
 
-    pub past_carries : (n : ℕ) → n ≤ length lent → GoesDirect after_read s lent (Ok n) t → ReadsInOrder s (take n lent) t
-        → g.carries p.place (take n out) t.block.bytes
-    past_carries n within direct order =
-        subst (λ l. g.carries p.place l t.block.bytes) (sym (ap (take n) whole ∙ take-append-le n lent more within))
-        (carries.carries (take n lent) t.block.bytes order.got
-        (omega (arith, within, size, length-take-le n lent within)) order.equal)
+    order : ReadsInOrder s (take n s.block.bytes) t
+    order = taken.takes.along.in_order
 
-    pub past_given : (n : ℕ) → 0 < n → n ≤ length lent → GoesDirect after_read s lent (Ok n) t
-        → ReadsInOrder s (take n lent) t → (there : P) (q : Progress P) → Notes p there (take n out) q
-        → Leads g p.place (take n out) (take n out) there (heeded g t.block.bytes) → g.is_place there
-        → HandsOn remaining rules g s p out (Ok n) t q
-    past_given n given within direct order there q notes leads is_place =
-        let same : take n out ≡ take n lent = ap (take n) whole ∙ take-append-le n lent more within in (
-          record {
-            wire = take n out;
-            takes = record {
-              along = subst (λ l. ReadsAlong remaining rules s l t) (sym same)
-                  (ReaderKeeps-along remaining rules s (take n lent) t order keeps);
-              leads = subst (λ x. Leads g p.place (take n out) (take n out) x (heeded g t.block.bytes)) (sym notes.place) leads;
-              taken = notes.taken;
-              place = subst g.is_place (sym notes.place) is_place;
-              keeps = buffer_kept (Ok n) direct;
-            };
-            asked = asked (Ok n) direct;
-            ends = (
-              record {
-                faults = ap (λ l. l.reads.faults) direct.told;
-                zero_reads = ap (λ l. l.reads.zero_reads) direct.told
-                    ∙ zero_of_some n lent s.log.reads.zero_reads (inl given);
-                asks = omega (
-                  arith,
-                  given,
-                  ap (λ l. l.reads.asks) direct.told,
-                  ap (λ l. length l.reads.given) direct.told,
-                  length-append s.log.reads.given (take n lent),
-                  length-take-le n lent within,
-                );
-              },
-              (
-                omega (arith, within, ap length whole, length-append lent more),
-                (λ none _. absurd (omega (arith, none, given))),
-              ),
-            );
-            idle = λ done. absurd (carries.goes_on done);
-          },
-          λ none. absurd (omega (arith, none, room)),
-        )
+    -- or is as much as a look says
+    looked_all : Looks g p.place s.block.bytes (Payload k) → k ≡ n → Stretch g p.place s.block.bytes (take n out) t.block.bytes
+    looked_all looks whole =
+        let handed = take n out in
+        let size : k ≡ length handed = omega (arith, whole, is, length-take-le n out (omega (arith, is))) in
+        let equal : handed ++ t.block.bytes ≡ s.block.bytes ++ order.got =
+        ap (λ l. l ++ t.block.bytes) same ∙ order.equal in
+        record {
+          wire = [];
+          got = order.got;
+          equal = equal;
+          place = p.place;
+          leads = Leads-none g p.place (heeded g (handed ++ t.block.bytes));
+          looks = (
+            subst (Carries g p.place (length handed)) (sym equal)
+                (subst (λ c. Carries g p.place c (s.block.bytes ++ order.got)) size
+                (Carries-less g p.place k k s.block.bytes order.got looks.0 some (omega arith))),
+            omega (arith, looks.1, size),
+          );
+        }
+
+    none_left' : k ≡ length s.block.bytes → k ≡ n → t.block.bytes ≡ []
+    none_left' held whole = nil_from_length t.block.bytes (omega (
+      arith,
+      held,
+      whole,
+      ap length order.equal,
+      ap length order.given,
+      ap (λ l. length l.reads.given) taken.told,
+      length-append (take n s.block.bytes) t.block.bytes,
+      length-append s.block.bytes order.got,
+      length-append s.log.reads.given order.got,
+      length-take-le n s.block.bytes (omega (arith, held, whole)),
+    ))
+
+    pub hands_shown : AllShown g p.place k s.block.bytes → (before : ℕ) → HandsOn remaining rules g before s p out (Ok n) t q
+    hands_shown all before = hands_these before (elim (cases_lt n (length out)) [
+      | inl short ↦
+          let whole : k ≡ n = omega (arith, is, short) in
+          elim all [
+            | inl held ↦ inr (inl (none_left' held whole))
+            | inr looks ↦ inr (inr (inr (looked_all looks whole)))
+          ]
+      | inr full ↦ inl (omega (arith, is, full))
+    ])
 
   -- behind what is no payload, which failed, or came to the end
-  module _ (s : Buffered S Q) (p : Progress P) (out : List ℕ) (m : Buffered S Q) (q : Progress P) (room : 0 < length out) where
+  module _ (known : ℕ) (s : Buffered S Q) (p : Progress P) (out : List ℕ) (m : Buffered S Q) (q : Progress P)
+      (room : 0 < length out) where
     never : {t : Buffered S Q} {answer : Result ℕ (BodyError W)} → length out ≡ 0 → (answer ≡ Ok 0) × (t ≡ s)
     never none = absurd (omega (arith, none, room))
 
+    -- what an Ok means behind other calls
+    abbrev Handed : Buffered S Q → Progress P → Buffered S Q → Progress P → ℕ → Type 0
+    Handed from at t r n = (n ≤ length out) × (n ≡ 0 → 0 < length out → IsDone g r.place)
+        × (0 < n → HandsAll g at.place from.block.bytes known out n t.block.bytes)
+
     pub hands_failed : {A : Type 0} (e : BodyError W) (M : A → Type 0)
-        → Proceeds remaining rules g s p [] (Err e) M m q → HandsOn remaining rules g s p out (Err e) m q
-    hands_failed e M goes = (
-      Proceeds-err remaining rules g s p [] e M
-          (λ n. (n ≤ length out) × (n ≡ 0 → 0 < length out → IsDone g q.place)) m q goes,
+        → Proceeds remaining rules g (length out) s p [] (Err e) M m q → HandsOn remaining rules g known s p out (Err e) m q
+    hands_failed e M goes =
+        (Proceeds-err remaining rules g (length out) s p [] e M (Handed s p m q) m q goes, never)
+
+    all_behind : (wire : List ℕ) → Takes remaining rules g s p wire [] m q → (n : ℕ) (rest : List ℕ)
+        → HandsAll g q.place m.block.bytes known out n rest → HandsAll g p.place s.block.bytes known out n rest
+    all_behind wire takes n rest (inl full) = inl full
+    all_behind wire takes n rest (inr (inl none)) = inr (inl none)
+    all_behind wire takes n rest (inr (inr (inl before))) = inr (inr (inl before))
+    all_behind wire takes n rest (inr (inr (inr x))) =
+        let order = takes.along.in_order in
+        let handed = take n out in
+        inr (inr (inr (record {
+          wire = wire ++ x.wire;
+          got = order.got ++ x.got;
+          equal = append_assoc wire x.wire (handed ++ rest) ∙ ap (λ l. wire ++ l) x.equal
+              ∙ sym (append_assoc wire m.block.bytes x.got) ∙ ap (λ l. l ++ x.got) order.equal
+              ∙ append_assoc s.block.bytes order.got x.got;
+          place = x.place;
+          leads = Leads-then g p.place q.place x.place wire x.wire [] [] m.block.bytes x.got (handed ++ rest) x.equal
+              takes.leads x.leads;
+          looks = x.looks;
+        })))
+
+    -- behind calls that took bytes without payload, and of which each read gave some
+    hands_after : (wire : List ℕ) → Takes remaining rules g s p wire [] m q → EachGave s m
+        → AsksFor remaining rules g (length out) s p.place m → (answer : Result ℕ (BodyError W)) (t : Buffered S Q)
+        (r : Progress P) → HandsOn remaining rules g known m q out answer t r
+        → (IsDone g p.place → (t ≡ s) × (r ≡ p)) → HandsOn remaining rules g known s p out answer t r
+    hands_after wire takes gave asked answer t r hands idle = (
+      Proceeds-after remaining rules g (length out) s p m q t wire takes gave asked (handed_out out answer) answer
+          (Handed s p t r) r
+          (Proceeds-of remaining rules g (length out) m q (handed_out out answer) answer (Handed m q t r) (Handed s p t r) t r
+          (λ n means. (means.0, means.1, λ some. all_behind wire takes n t.block.bytes (means.2 some))) hands.0) idle,
       never,
     )
 
-    -- or none was to be passed further
     pub hands_passed : (l : Look P W) → PassesOn remaining rules g s p l m q → (answer : Result ℕ (BodyError W))
-        → (t : Buffered S Q) (r : Progress P) → HandsOn remaining rules g m q out answer t r
-        → HandsOn remaining rules g s p out answer t r
-    hands_passed l passes answer t r hands = (
-      Proceeds-after remaining rules g s p m q t passes.wire passes.takes (EachGave-same s m passes.told) (inl passes.told)
-          (handed_out out answer) answer (λ n. (n ≤ length out) × (n ≡ 0 → 0 < length out → IsDone g r.place)) r hands.0
-          (λ done. (
-          let first = passes.idle done in
-          let then = hands.0.idle (subst (λ x. IsDone g x.place) (sym first.1) done) in
-          (then.0 ∙ first.0, then.1 ∙ first.1)
-          )),
-      never,
-    )
+        → (t : Buffered S Q) (r : Progress P) → HandsOn remaining rules g known m q out answer t r
+        → HandsOn remaining rules g known s p out answer t r
+    hands_passed l passes answer t r hands =
+        hands_after passes.wire passes.takes (EachGave-same s m passes.told) (inl passes.told) answer t r hands
+        (λ done. (
+        let first = passes.idle done in
+        let then = hands.0.idle (subst (λ x. IsDone g x.place) (sym first.1) done) in
+        (then.0 ∙ first.0, then.1 ∙ first.1)
+        ))
 
-    pub hands_ended : SkipsOn remaining rules g s p (Ok 0) m q → HandsOn remaining rules g s p out (Ok 0) m q
+    pub hands_ended : SkipsOn remaining rules g (length out) s p (Ok 0) m q
+        → HandsOn remaining rules g known s p out (Ok 0) m q
     hands_ended skips = (
       record {
         wire = skips.wire;
         takes = skips.takes;
         asked = skips.asked;
-        ends = (skips.ends.0, (omega arith, λ _ _. ended_here remaining rules g q.place m.block.bytes skips.ends.1));
+        ends = (
+          skips.ends.0,
+          (
+            omega arith,
+            (λ _ _. ended_here remaining rules g q.place m.block.bytes skips.ends.1),
+            (λ some. absurd (omega (arith, some))),
+          ),
+        );
         idle = skips.idle;
       },
       never,
     )
 
-    pub hands_behind : (sure : ℕ) → 0 < sure → SkipsOn remaining rules g s p (Ok sure) m q → (answer : Result ℕ (BodyError W))
-        → (t : Buffered S Q) (r : Progress P) → HandsOn remaining rules g m q out answer t r
-        → HandsOn remaining rules g s p out answer t r
-    hands_behind sure some skips answer t r hands = (
-      behind_skipped remaining rules g s p m q sure some skips (handed_out out answer) answer
-          (λ n. (n ≤ length out) × (n ≡ 0 → 0 < length out → IsDone g r.place)) t r hands.0,
-      never,
-    )
+    pub hands_behind : (sure : ℕ) → 0 < sure → SkipsOn remaining rules g (length out) s p (Ok sure) m q
+        → (answer : Result ℕ (BodyError W)) → (t : Buffered S Q) (r : Progress P)
+        → HandsOn remaining rules g known m q out answer t r → HandsOn remaining rules g known s p out answer t r
+    hands_behind sure some skips answer t r hands =
+        hands_after skips.wire skips.takes skips.ends.0 skips.asked answer t r hands
+        (λ done. absurd ((payload_here remaining rules g q.place m.block.bytes sure some skips.ends.1).0.goes_on
+        (subst (λ x. IsDone g x.place) (sym (skips.idle done).1) done)))
 
     -- and behind a fill
-    pub hands_filled : (k : ℕ) → 0 < k → FillsOn remaining rules g s p (Ok k) m q → (answer : Result ℕ (BodyError W))
-        → (t : Buffered S Q) (r : Progress P) → HandsOn remaining rules g m q out answer t r
-        → HandsOn remaining rules g s p out answer t r
-    hands_filled k some fills answer t r hands = (
-      Proceeds-after remaining rules g s p m q t fills.wire fills.takes fills.ends.0 fills.asked (handed_out out answer) answer
-          (λ n. (n ≤ length out) × (n ≡ 0 → 0 < length out → IsDone g r.place)) r hands.0
-          (λ done. absurd ((fills.ends.1.0.1 some).goes_on (subst (λ x. IsDone g x.place) (sym (fills.idle done).1) done))),
-      never,
-    )
+    pub hands_filled : (k : ℕ) → 0 < k → FillsOn remaining rules g (length out) s p (Ok k) m q
+        → (answer : Result ℕ (BodyError W)) → (t : Buffered S Q) (r : Progress P)
+        → HandsOn remaining rules g known m q out answer t r → HandsOn remaining rules g known s p out answer t r
+    hands_filled k some fills answer t r hands =
+        hands_after fills.wire fills.takes fills.ends.0 fills.asked answer t r hands
+        (λ done. absurd ((fills.ends.1.0.1 some).goes_on (subst (λ x. IsDone g x.place) (sym (fills.idle done).1) done)))

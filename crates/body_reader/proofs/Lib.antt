@@ -1,5 +1,6 @@
 pub mod Skipping
 pub mod Handing
+pub mod Past
 pub mod Payload
 pub mod Draining
 pub mod Collecting

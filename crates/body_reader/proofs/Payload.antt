@@ -1,15 +1,15 @@
 -- What a call of a reader of a body comes to, seen by contracts.
-use Rattle.std.proofs.Common.{◌≡◌, ℕ, zero, suc, ◌<◌, ◌≤◌, ◌⊎◌, List, [], ◌++◌, length, Option, Result, MatchResult, Ok, Err, sym, ap, subst, ◌∙◌, inl, inr, refl, arith, append-nil, length-append}
+use Rattle.std.proofs.Common.{◌≡◌, ℕ, zero, suc, ◌<◌, ◌≤◌, ◌⊎◌, List, [], ◌++◌, length, Option, Result, IfOk, MatchResult, Ok, Err, sym, ap, subst, ◌∙◌, inl, inr, refl, arith, append-nil, length-append}
 use Rattle.buffer_redux.specs.Buffered.{Buffered}
 use Rattle.buffer_redux.specs.Policy.{ReadRules}
 use Rattle.buffer_redux.specs.StreamLog.{StreamLog, after_read}
 use Rattle.body_reader.specs.declared.error.BodyError.{BodyError}
 use Rattle.body_reader.specs.declared.error.BodyError.TheVariants.{Wrong, Truncated, Io}
 use Rattle.body_reader.specs.declared.progress.Progress.{Progress}
-use Rattle.body_reader.specs.Between.{EachGave, FailsSo, FillsOn, HandsOn, Takes, handed_out}
+use Rattle.body_reader.specs.Between.{EachGave, FailsSo, FillsOn, HandsAll, HandsOn, Takes, handed_out}
 use Rattle.body_reader.specs.BodyReader.{BodyState, BodyWent, Breaks, EndsEarly, FillsPayload, IsBodyReader, IsWhole, ReadsPayload, NoPayload}
 use Rattle.body_reader.specs.BodyReaderLaws.{BodyWent-none}
-use Rattle.body_reader.specs.BetweenLaws.{EachGave-none}
+use Rattle.body_reader.specs.BetweenLaws.{AsksFor-open, EachGave-none}
 use Rattle.body_reader.specs.Coding.{Grammar, IsDone, IsKnown, IsLawful, IsOpen, Leads, heeded}
 use Rattle.body_reader.specs.CodingLaws.{Leads-done, Leads-left, Leads-then, Leads-whole}
 
@@ -116,7 +116,7 @@ module _ {S Q C P W : Type 0} (remaining : S → Option (List ℕ)) (rules : Rea
 module _ {S Q C P W : Type 0} (remaining : S → Option (List ℕ)) (rules : ReadRules Q) (g : Grammar P W) (lawful : IsLawful g)
     (r : Buffered S Q) (c : C) (p : Progress P) (calls : StreamLog) (k : ℕ) (is : IsBodyReader g (seen r c p calls k)) (out : List ℕ)
     (answer : Result ℕ (BodyError W)) (r' : Buffered S Q) (q : Progress P)
-    (hands : HandsOn remaining rules g r p out answer r' q) (k' : ℕ) (known : IsKnown g q.place k' r'.block.bytes) where
+    (hands : HandsOn remaining rules g k r p out answer r' q) (k' : ℕ) (known : IsKnown g q.place k' r'.block.bytes) where
   abbrev after : BodyState S Q C P
   after = seen r' c q (after_payload calls out answer) k'
 
@@ -124,9 +124,11 @@ module _ {S Q C P W : Type 0} (remaining : S → Option (List ℕ)) (rules : Rea
   still = state_is remaining rules g r c p calls k r' q (after_payload calls out answer) k' hands.0.wire (handed_out out answer)
       hands.0.takes (given_after calls out answer) is known
 
-  answered : (a : Result ℕ (BodyError W))
-      → MatchResult a (λ n. EachGave r r' × ((n ≤ length out) × (n ≡ 0 → 0 < length out → IsDone g q.place)))
-      (λ e. FailsSo remaining rules g r e r' q)
+  abbrev Ends : Result ℕ (BodyError W) → Type 0
+  Ends a = MatchResult a (λ n. EachGave r r' × ((n ≤ length out) × (n ≡ 0 → 0 < length out → IsDone g q.place)
+      × (0 < n → HandsAll g p.place r.block.bytes k out n r'.block.bytes))) (λ e. FailsSo remaining rules g r e r' q)
+
+  answered : (a : Result ℕ (BodyError W)) → Ends a
       → MatchResult a (λ n. (n ≤ length out) × EachGave r r' × (n ≡ 0 → 0 < length out → IsWhole g after))
       (λ e. NoPayload g (seen r c p calls k) e after)
   answered (Ok n) ends = (
@@ -136,6 +138,11 @@ module _ {S Q C P W : Type 0} (remaining : S → Option (List ℕ)) (rules : Rea
   )
   answered (Err e) ends =
       stops remaining rules g r c p calls k r' q (after_payload calls out answer) k' lawful still e ends
+
+  all_handed : (a : Result ℕ (BodyError W)) → Ends a
+      → IfOk a (λ n. 0 < n → HandsAll g p.place r.block.bytes k out n r'.block.bytes)
+  all_handed (Ok n) ends = ends.1.2
+  all_handed (Err e) ends = tt
 
   idle : (IsWhole g (seen r c p calls k) ⊎ (length out ≡ 0)) → r' ≡ r
   idle (inl whole) = (hands.0.idle (Leads-done g lawful p.taken.log.fills.consumed calls.reads.given p.place (heeded g r.block.bytes)
@@ -148,6 +155,7 @@ module _ {S Q C P W : Type 0} (remaining : S → Option (List ℕ)) (rules : Rea
         (handed_out out answer) hands.0.takes (given_after calls out answer);
     answers = answered answer hands.0.ends;
     asked = hands.0.asked;
+    all = all_handed answer hands.0.ends;
     idle = idle;
     empty = λ none. (hands.1 none).0;
     noted = noted_after calls out answer;
@@ -159,7 +167,7 @@ module _ {S Q C P W : Type 0} (remaining : S → Option (List ℕ)) (rules : Rea
     (lawful : (c : C) → IsLawful (grammar c)) (d : BodyState S Q C P) (r : Buffered S Q) (c : C) (p : Progress P)
     (calls : StreamLog) (k : ℕ) (view : seen r c p calls k ≡ d) (is : IsBodyReader (grammar c) (seen r c p calls k)) (out : List ℕ)
     (answer : Result ℕ (BodyError W)) (r' : Buffered S Q) (q : Progress P)
-    (hands : HandsOn remaining rules (grammar c) r p out answer r' q) (k' : ℕ)
+    (hands : HandsOn remaining rules (grammar c) k r p out answer r' q) (k' : ℕ)
     (known : IsKnown (grammar c) q.place k' r'.block.bytes) (calls' : StreamLog)
     (noted : calls' ≡ after_payload calls out answer) where
   pub reads_payload : ReadsPayload remaining rules (grammar d.coding) d out answer (seen r' c q calls' k')
@@ -175,12 +183,12 @@ module _ {S Q C P W : Type 0} (remaining : S → Option (List ℕ)) (rules : Rea
 module _ {S Q C P W : Type 0} (remaining : S → Option (List ℕ)) (rules : ReadRules Q) (g : Grammar P W) (lawful : IsLawful g)
     (r : Buffered S Q) (c : C) (p : Progress P) (calls : StreamLog) (k : ℕ) (is : IsBodyReader g (seen r c p calls k))
     (r' : Buffered S Q) (q : Progress P) (none : k ≡ 0) where
-  filled_state : (answer : Result ℕ (BodyError W)) → FillsOn remaining rules g r p answer r' q → (n : ℕ)
+  filled_state : (answer : Result ℕ (BodyError W)) → FillsOn remaining rules g 0 r p answer r' q → (n : ℕ)
       → IsKnown g q.place n r'.block.bytes → IsBodyReader g (seen r' c q calls n)
   filled_state answer fills n known = state_is remaining rules g r c p calls k r' q calls n fills.wire [] fills.takes
       (sym (append-nil calls.reads.given)) is known
 
-  filled_went : (answer : Result ℕ (BodyError W)) → FillsOn remaining rules g r p answer r' q → (n : ℕ)
+  filled_went : (answer : Result ℕ (BodyError W)) → FillsOn remaining rules g 0 r p answer r' q → (n : ℕ)
       → BodyWent remaining rules g (seen r c p calls k) [] (seen r' c q calls n)
   filled_went answer fills n = state_went remaining rules g r c p calls k r' q calls n fills.wire [] fills.takes
       (sym (append-nil calls.reads.given))
@@ -189,7 +197,7 @@ module _ {S Q C P W : Type 0} (remaining : S → Option (List ℕ)) (rules : Rea
   done whole = Leads-done g lawful p.taken.log.fills.consumed calls.reads.given p.place (heeded g r.block.bytes) is.leads is.place whole
 
   -- where the body ended nothing is done
-  none_known : (n : ℕ) → FillsOn remaining rules g r p (Ok n) r' q → IsDone g p.place → n ≡ k
+  none_known : (n : ℕ) → FillsOn remaining rules g 0 r p (Ok n) r' q → IsDone g p.place → n ≡ k
   none_known zero fills at = sym none
   none_known (suc n) fills at = absurd ((fills.ends.1.0.1 (omega arith)).goes_on
       (subst (λ x. IsDone g x.place) (sym (fills.idle at).1) at))
@@ -197,10 +205,10 @@ module _ {S Q C P W : Type 0} (remaining : S → Option (List ℕ)) (rules : Rea
   same : (n : ℕ) → (r' ≡ r) × (q ≡ p) → n ≡ k → seen r' c q calls n ≡ seen r c p calls k
   same n both known = cc
 
-  pub filled_is : (n : ℕ) → FillsOn remaining rules g r p (Ok n) r' q → IsBodyReader g (seen r' c q calls n)
+  pub filled_is : (n : ℕ) → FillsOn remaining rules g 0 r p (Ok n) r' q → IsBodyReader g (seen r' c q calls n)
   filled_is n fills = filled_state (Ok n) fills n fills.ends.1.0
 
-  pub filled : (n : ℕ) → FillsOn remaining rules g r p (Ok n) r' q
+  pub filled : (n : ℕ) → FillsOn remaining rules g 0 r p (Ok n) r' q
       → FillsPayload remaining rules g (seen r c p calls k) (Ok n) (seen r' c q calls n)
   filled n fills = record {
     went = filled_went (Ok n) fills n;
@@ -210,7 +218,8 @@ module _ {S Q C P W : Type 0} (remaining : S → Option (List ℕ)) (rules : Rea
       (λ zero. Leads-whole g q.taken.log.fills.consumed calls.reads.given q.place (heeded g r'.block.bytes) (filled_is n fills).leads
           (fills.ends.1.1 zero)),
     );
-    asked = fills.asked;
+    all = λ some _. fills.ends.1.2 some;
+    asked = AsksFor-open remaining rules g 0 r p.place r' fills.asked;
     still = λ either. elim either [
       | inl some ↦ absurd (omega (arith, some, none))
       | inr whole ↦ same n (fills.idle (done whole)) (none_known n fills (done whole))
@@ -218,16 +227,17 @@ module _ {S Q C P W : Type 0} (remaining : S → Option (List ℕ)) (rules : Rea
     whole = filled_is n fills;
   }
 
-  pub not_filled_is : (e : BodyError W) → FillsOn remaining rules g r p (Err e) r' q → IsBodyReader g (seen r' c q calls k)
+  pub not_filled_is : (e : BodyError W) → FillsOn remaining rules g 0 r p (Err e) r' q → IsBodyReader g (seen r' c q calls k)
   not_filled_is e fills =
       filled_state (Err e) fills k (omega (arith, none), λ some. absurd (omega (arith, some, none)))
 
-  pub not_filled : (e : BodyError W) → FillsOn remaining rules g r p (Err e) r' q
+  pub not_filled : (e : BodyError W) → FillsOn remaining rules g 0 r p (Err e) r' q
       → FillsPayload remaining rules g (seen r c p calls k) (Err e) (seen r' c q calls k)
   not_filled e fills = record {
     went = filled_went (Err e) fills k;
     answers = stops remaining rules g r c p calls k r' q calls k lawful (not_filled_is e fills) e fills.ends;
-    asked = fills.asked;
+    all = tt;
+    asked = AsksFor-open remaining rules g 0 r p.place r' fills.asked;
     still = λ either. elim either [
       | inl some ↦ absurd (omega (arith, some, none))
       | inr whole ↦ same k (fills.idle (done whole)) refl
@@ -241,6 +251,7 @@ pub fill_known : {S Q C P W : Type 0} (remaining : S → Option (List ℕ)) (rul
 fill_known remaining rules g d is some = record {
   went = BodyWent-none remaining rules g d;
   answers = (refl, EachGave-none d.reader, λ none. absurd (omega (arith, some, none)));
+  all = λ _ none. absurd (omega (arith, some, none));
   asked = inl refl;
   still = λ _. refl;
   whole = is;

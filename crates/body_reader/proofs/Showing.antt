@@ -11,7 +11,7 @@ use Rattle.body_reader.specs.declared.progress.Progress.{Progress}
 use Rattle.body_reader.specs.Between.{FindsKnown, HandsShown, NoneShown, PassesOn, Takes, TakesFront}
 use Rattle.body_reader.specs.BetweenLaws.{Takes-joins, Takes-none}
 use Rattle.body_reader.specs.BodyReader.{BodyState, Breaks, EndsEarly, IsBodyReader, IsWhole, ReadsBuffered}
-use Rattle.body_reader.specs.Coding.{Carries, Grammar, IsKnown, IsLawful, Looks, heeded}
+use Rattle.body_reader.specs.Coding.{Grammar, IsKnown, IsLawful, Looks, heeded}
 use Rattle.body_reader.specs.CodingLaws.{Lacks-open, Leads-whole, open_at}
 use Rattle.body_reader.proofs.Filling.{Carries-fewer}
 use Rattle.body_reader.proofs.Payload.{breaks_so, early, seen, state_is, state_went}
@@ -46,7 +46,8 @@ module _ {S Q P W : Type 0} (remaining : S → Option (List ℕ)) (rules : ReadR
     pub payload_found : (sure : ℕ) → l ≡ look.Payload sure → (k : ℕ) → k ≡ min sure (length t.block.bytes)
         → FindsKnown remaining rules g s p t q k
     payload_found sure is k count =
-        let carries : Carries g q.place sure t.block.bytes = subst (Looks g q.place t.block.bytes) is passes.looks in
+        let looks : Looks g q.place t.block.bytes (look.Payload sure) = subst (Looks g q.place t.block.bytes) is passes.looks in
+        let carries = looks.0 in
         found k (
           omega (arith, count),
           (λ some. Carries-fewer g q.place sure k t.block.bytes carries some (omega (arith, count))),
@@ -58,7 +59,7 @@ module _ {S Q P W : Type 0} (remaining : S → Option (List ℕ)) (rules : ReadR
         → ((n : ℕ) → m ≢ look.Payload n) → NoneShown remaining rules g q.place t.block.bytes
     none_so (look.Payload n) looks no_more never = absurd (never n refl)
     none_so (look.Passed n r) looks no_more never = absurd (no_more n r refl)
-    none_so (look.More n) looks no_more never = inr (inl (Lacks-open g q.place n t.block.bytes looks))
+    none_so (look.More n) looks no_more never = inr (inl (Lacks-open g q.place n t.block.bytes looks.0))
     none_so (look.Wrong why) looks no_more never = inr (inr (why, looks.0))
     none_so look.Ended looks no_more never = inl looks
 

@@ -7,15 +7,13 @@ use Rattle.buffer_redux.specs.BufReader.{ReaderConsumes, ReaderKeeps}
 use Rattle.buffer_redux.specs.Peek.{ReadsAhead}
 use Rattle.buffer_redux.specs.Policy.{ReadRules}
 use Rattle.buffer_redux.specs.ReaderLaws.{ReaderConsumes-along}
-use Rattle.buffer_redux.specs.Unbuffer.{unbuffered}
 use Rattle.body_reader.specs.declared.coding.Look.{Look}
 use Rattle.body_reader.specs.declared.coding.Look.TheVariants as look
 use Rattle.body_reader.specs.declared.error.BodyError.TheVariants.{Wrong, Truncated, Io}
 use Rattle.body_reader.specs.declared.progress.Progress.{Progress}
-use Rattle.body_reader.specs.AskingLaws.{AskedWhere-same}
-use Rattle.body_reader.specs.Between.{AsksOpen, EachGave, KeepsBuffer, PassesOn, SkipsOn, Takes, spend}
-use Rattle.body_reader.specs.BetweenLaws.{AsksOpen-then, EachGave-joins, EachGave-none, EachGave-same, Faulted-after, MetEnd-after, ReadsAhead-asks, ReadsAhead-ended, ReadsAhead-failed, ReadsAhead-gave, ReadsAhead-keeps, ReadsAhead-open, Takes-joins, Takes-none, Takes-still}
-use Rattle.body_reader.specs.Coding.{Grammar, IsDone, Lacks, Leads, LeadsOpen, Looks, heeded}
+use Rattle.body_reader.specs.Between.{AsksFor, EachGave, KeepsBuffer, PassesOn, SkipsOn, Takes, spend}
+use Rattle.body_reader.specs.BetweenLaws.{AsksFor-same, AsksFor-then, EachGave-joins, EachGave-none, EachGave-same, Faulted-after, MetEnd-after, ReadsAhead-asks, ReadsAhead-ended, ReadsAhead-failed, ReadsAhead-gave, ReadsAhead-keeps, ReadsAhead-open, Takes-joins, Takes-none, Takes-still}
+use Rattle.body_reader.specs.Coding.{Grammar, IsDone, Lacks, Leads, Looks, heeded}
 use Rattle.body_reader.specs.CodingLaws.{Lacks-open}
 
 -- these bytes were noted, which lead there
@@ -72,7 +70,7 @@ pub record Skipped {S Q P W : Type 0} (remaining : S → Option (List ℕ)) (rul
   pub wire : List ℕ
   pub takes : Takes remaining rules g s p wire [] m q
   pub gave : EachGave s m
-  pub asked : AsksOpen remaining rules g s p.place m
+  pub asked : (slice : ℕ) → AsksFor remaining rules g slice s p.place m
   pub room : g.ahead ≤ m.block.capacity
   pub still : IsDone g p.place → (m ≡ s) × (q ≡ p)
 
@@ -138,7 +136,7 @@ module _ {S Q P W : Type 0} (remaining : S → Option (List ℕ)) (rules : ReadR
     wire = [];
     takes = Takes-none remaining rules g s p place;
     gave = EachGave-none s;
-    asked = inl refl;
+    asked = λ slice. inl refl;
     room = room;
     still = λ _. (refl, refl);
   }
@@ -151,7 +149,7 @@ module _ {S Q P W : Type 0} (remaining : S → Option (List ℕ)) (rules : ReadR
       wire = so.wire ++ passes.wire;
       takes = Takes-joins remaining rules g s p m q t r so.wire [] passes.wire [] so.takes passes.takes;
       gave = EachGave-joins s m t so.gave (EachGave-same m t passes.told);
-      asked = AskedWhere-same (LeadsOpen g p.place []) (unbuffered s) (unbuffered m) (unbuffered t) passes.told so.asked;
+      asked = λ slice. AsksFor-same remaining rules g slice s p.place m t passes.told (so.asked slice);
       room = omega (arith, so.room, passes.takes.along.capacity);
       still = λ done. (
           let first = so.still done in
@@ -161,33 +159,34 @@ module _ {S Q P W : Type 0} (remaining : S → Option (List ℕ)) (rules : ReadR
     }
 
     -- payload comes next
-    pub skips_payload : (sure : ℕ) → l ≡ look.Payload sure → SkipsOn remaining rules g s p (Ok sure) t r
-    skips_payload sure is = record {
+    pub skips_payload : (sure : ℕ) → l ≡ look.Payload sure → (slice : ℕ) → SkipsOn remaining rules g slice s p (Ok sure) t r
+    skips_payload sure is slice = record {
       wire = skipped_there.wire;
       takes = skipped_there.takes;
-      asked = skipped_there.asked;
+      asked = skipped_there.asked slice;
       ends = (skipped_there.gave, inr (subst (Looks g r.place t.block.bytes) is passes.looks));
       idle = skipped_there.still;
     }
 
     -- the body ended
-    pub skips_done : l ≡ look.Ended → SkipsOn remaining rules g s p (Ok 0) t r
-    skips_done is = record {
+    pub skips_done : l ≡ look.Ended → (slice : ℕ) → SkipsOn remaining rules g slice s p (Ok 0) t r
+    skips_done is slice = record {
       wire = skipped_there.wire;
       takes = skipped_there.takes;
-      asked = skipped_there.asked;
+      asked = skipped_there.asked slice;
       ends = (skipped_there.gave, inl (refl, subst (Looks g r.place t.block.bytes) is passes.looks));
       idle = skipped_there.still;
     }
 
     -- what comes next is wrong
-    pub skips_wrong : (why : W) → l ≡ look.Wrong why → SkipsOn remaining rules g s p (Err (Wrong why r.count)) t r
-    skips_wrong why is =
+    pub skips_wrong : (why : W) → l ≡ look.Wrong why → (slice : ℕ)
+        → SkipsOn remaining rules g slice s p (Err (Wrong why r.count)) t r
+    skips_wrong why is slice =
         let looks : Looks g r.place t.block.bytes (look.Wrong why) = subst (Looks g r.place t.block.bytes) is passes.looks in
         record {
           wire = skipped_there.wire;
           takes = skipped_there.takes;
-          asked = skipped_there.asked;
+          asked = skipped_there.asked slice;
           ends = (skipped_there.gave, refl, looks.0);
           idle = skipped_there.still;
         }
@@ -195,8 +194,11 @@ module _ {S Q P W : Type 0} (remaining : S → Option (List ℕ)) (rules : ReadR
     -- there are too few bytes
     module _ (n : ℕ) (is : l ≡ look.More n) {A : Type 0} (answer : Result A Error) (u : Buffered S Q)
         (ahead' : ReadsAhead remaining rules (min n t.block.capacity) t answer u) where
+      looks : Looks g r.place t.block.bytes (look.More n)
+      looks = subst (Looks g r.place t.block.bytes) is passes.looks
+
       lacks : Lacks g r.place n t.block.bytes
-      lacks = subst (Looks g r.place t.block.bytes) is passes.looks
+      lacks = looks.0
 
       pub fits : min n t.block.capacity ≡ n
       fits = omega (arith, skipped_there.room, lacks.most)
@@ -208,9 +210,10 @@ module _ {S Q P W : Type 0} (remaining : S → Option (List ℕ)) (rules : ReadR
       takes_still = Takes-still remaining rules g s p t r u skipped_there.wire [] skipped_there.takes ahead.along
           (ReadsAhead-keeps remaining rules n t answer u ahead g.ahead lacks.most)
 
-      asks_then : AsksOpen remaining rules g s p.place u
-      asks_then = AsksOpen-then remaining rules g s p t r u skipped_there.wire skipped_there.takes skipped_there.gave
-          skipped_there.asked (ReadsAhead-asks remaining rules g r.place n t answer u lacks ahead)
+      asks_then : (slice : ℕ) → AsksFor remaining rules g slice s p.place u
+      asks_then slice = AsksFor-then remaining rules g slice s p t r u skipped_there.wire skipped_there.takes
+          skipped_there.gave (skipped_there.asked slice) (omega (arith, looks.1))
+          (ReadsAhead-asks remaining rules g r.place n t answer u lacks ahead)
 
       never_done : IsDone g p.place → (u ≡ s) × (r ≡ p)
       never_done done = absurd ((Lacks-open g r.place n t.block.bytes lacks).goes_on
@@ -218,13 +221,13 @@ module _ {S Q P W : Type 0} (remaining : S → Option (List ℕ)) (rules : ReadR
 
     module _ (n : ℕ) (is : l ≡ look.More n) {A : Type 0} (u : Buffered S Q) where
       pub skips_fails : (e : Error) → ReadsAhead {A = A} remaining rules (min n t.block.capacity) t (Err e) u
-          → SkipsOn remaining rules g s p (Err (Io e)) u r
-      skips_fails e ahead' =
+          → (slice : ℕ) → SkipsOn remaining rules g slice s p (Err (Io e)) u r
+      skips_fails e ahead' slice =
           let a = ahead n is (Err e) u ahead' in
           record {
             wire = skipped_there.wire;
             takes = takes_still n is (Err e) u ahead';
-            asked = asks_then n is (Err e) u ahead';
+            asked = asks_then n is (Err e) u ahead' slice;
             ends = (
               Faulted-after s t u skipped_there.gave e (ReadsAhead-failed {A = A} remaining rules n t u e a),
               ReadsAhead-open remaining rules g r.place n t (Err e) u (lacks n is (Err e) u ahead') a a.ended.0,
@@ -233,13 +236,13 @@ module _ {S Q P W : Type 0} (remaining : S → Option (List ℕ)) (rules : ReadR
           }
 
       pub skips_cut : (a : A) → ReadsAhead remaining rules (min n t.block.capacity) t (Ok a) u → length u.block.bytes < n
-          → SkipsOn remaining rules g s p (Err (Truncated r.count)) u r
-      skips_cut a ahead' few =
+          → (slice : ℕ) → SkipsOn remaining rules g slice s p (Err (Truncated r.count)) u r
+      skips_cut a ahead' few slice =
           let so' = ahead n is (Ok a) u ahead' in
           record {
             wire = skipped_there.wire;
             takes = takes_still n is (Ok a) u ahead';
-            asked = asks_then n is (Ok a) u ahead';
+            asked = asks_then n is (Ok a) u ahead' slice;
             ends = (
               MetEnd-after s t u skipped_there.gave (ReadsAhead-ended remaining rules n t u a so' few),
               refl,
@@ -266,8 +269,8 @@ module _ {S Q P W : Type 0} (remaining : S → Option (List ℕ)) (rules : ReadR
 
     pub lacks_here : (n : ℕ) → l ≡ look.More n → (length t.block.bytes < n) × (n ≤ g.ahead)
     lacks_here n is =
-        let short : Lacks g r.place n t.block.bytes = subst (Looks g r.place t.block.bytes) is passes.looks in
-        (short.few, short.most)
+        let looks : Looks g r.place t.block.bytes (look.More n) = subst (Looks g r.place t.block.bytes) is passes.looks in
+        (looks.0.few, looks.0.most)
 
     pub fits_here : (n : ℕ) → l ≡ look.More n → min n t.block.capacity ≡ n
     fits_here n is = omega (arith, skipped_there.room, (lacks_here n is).1)

@@ -3,7 +3,7 @@ use Rattle.std.proofs.Common.{◌≡◌, ℕ, inl, inr, List, ◌++◌, length, 
 use Rattle.buffer_redux.specs.BufReader.{ReadsInOrder}
 use Rattle.buffer_redux.specs.Buffered.{Buffered}
 use Rattle.buffer_redux.specs.Unbuffer.{Unbuffered, unbuffered}
-use Rattle.body_reader.specs.Asking.{AskedWhere}
+use Rattle.body_reader.specs.Asking.{AskedOver, AskedWhere}
 use Rattle.body_reader.specs.Between.{EachGave}
 
 pub AskedWhere-of : {R : Type 0} (P Q : List ℕ → Type 0) (s t : Unbuffered R)
@@ -32,18 +32,16 @@ AskedWhere-same P s m t same (inr over) = inr (record {
 })
 
 -- calls behind others, which took these bytes and of which each ask gave some, ask behind what those took
-pub AskedWhere-on : {S Q : Type 0} (P R : List ℕ → Type 0) (s m t : Buffered S Q) (wire : List ℕ) → ReadsInOrder s wire m
+pub AskedOver-on : {S Q : Type 0} (O P R : List ℕ → Type 0) (s m t : Buffered S Q) (wire : List ℕ) → ReadsInOrder s wire m
     → EachGave s m → ((more : List ℕ) → R (m.block.bytes ++ more) → P (wire ++ (m.block.bytes ++ more)))
-    → AskedWhere P (unbuffered s) (unbuffered m) → AskedWhere R (unbuffered m) (unbuffered t)
-    → AskedWhere P (unbuffered s) (unbuffered t)
-AskedWhere-on P R s m t wire order gave so before (inl same) =
-    AskedWhere-same P (unbuffered s) (unbuffered m) (unbuffered t) same before
-AskedWhere-on P R s m t wire order gave so before (inr over) =
+    → AskedWhere O (unbuffered s) (unbuffered m) → AskedOver R (unbuffered m) (unbuffered t)
+    → AskedOver P (unbuffered s) (unbuffered t)
+AskedOver-on O P R s m t wire order gave so before over =
     let got = order.got in
     let bytes : wire ++ (m.block.bytes ++ over.came) ≡ s.block.bytes ++ (got ++ over.came) =
     sym (append_assoc wire m.block.bytes over.came) ∙ ap (λ l. l ++ over.came) order.equal
     ∙ append_assoc s.block.bytes got over.came in
-    inr (record {
+    record {
       came = got ++ over.came;
       given = over.given ∙ ap (λ l. l ++ (over.came ++ t.log.reads.latest)) order.given
           ∙ append_assoc s.log.reads.given got (over.came ++ t.log.reads.latest)
@@ -61,4 +59,12 @@ AskedWhere-on P R s m t wire order gave so before (inr over) =
         length-append s.log.reads.given got,
         length-append got over.came,
       );
-    })
+    }
+
+pub AskedWhere-on : {S Q : Type 0} (P R : List ℕ → Type 0) (s m t : Buffered S Q) (wire : List ℕ) → ReadsInOrder s wire m
+    → EachGave s m → ((more : List ℕ) → R (m.block.bytes ++ more) → P (wire ++ (m.block.bytes ++ more)))
+    → AskedWhere P (unbuffered s) (unbuffered m) → AskedWhere R (unbuffered m) (unbuffered t)
+    → AskedWhere P (unbuffered s) (unbuffered t)
+AskedWhere-on P R s m t wire order gave so before (inl same) =
+    AskedWhere-same P (unbuffered s) (unbuffered m) (unbuffered t) same before
+AskedWhere-on P R s m t wire order gave so before (inr over) = inr (AskedOver-on P P R s m t wire order gave so before over)

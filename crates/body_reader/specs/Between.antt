@@ -10,12 +10,12 @@ use Rattle.buffer_redux.specs.Policy.{ClaimsToSpare, ReadRules}
 use Rattle.buffer_redux.specs.Sparing.{Spared}
 use Rattle.buffer_redux.specs.Unbuffer.{unbuffered}
 use Rattle.body_reader.specs.declared.coding.Look.{Look}
-use Rattle.body_reader.specs.declared.coding.Look.TheVariants.{Passed}
+use Rattle.body_reader.specs.declared.coding.Look.TheVariants.{Payload, Passed}
 use Rattle.body_reader.specs.declared.error.BodyError.{BodyError}
 use Rattle.body_reader.specs.declared.error.BodyError.TheVariants.{Wrong, Truncated, Io}
 use Rattle.body_reader.specs.declared.progress.Progress.{Progress}
 use Rattle.body_reader.specs.Asking.{AskedWhere}
-use Rattle.body_reader.specs.Coding.{Carries, Grammar, IsDone, IsKnown, IsOpen, Leads, LeadsOpen, Looks, heeded}
+use Rattle.body_reader.specs.Coding.{AskedFor, Carries, Grammar, IsDone, IsKnown, IsOpen, Leads, LeadsOpen, Looks, heeded}
 
 -- each read that was made gave bytes
 pub record EachGave {S Q : Type 0} (s t : Buffered S Q) : Type 0 where
@@ -61,6 +61,26 @@ pub record BeginsRead {S Q P W : Type 0} (g : Grammar P W) (s : Buffered S Q) (p
   pub none : known ≡ 0
   pub some : 0 < length out
 
+module _ {P W : Type 0} (g : Grammar P W) where
+  -- so many bytes are all that are buffered, or as many as a look says are payload
+  abbrev pub AllShown : P → ℕ → List ℕ → Type 0
+  AllShown p n bytes = (n ≡ length bytes) ⊎ Looks g p bytes (Payload n)
+
+  -- what was handed out is all that a look says is payload, behind bytes that are none: those, then what was handed out, then
+  -- what is left, are what was there, then what came
+  pub record Stretch (p : P) (before handed left : List ℕ) : Type 0 where
+    pub wire : List ℕ
+    pub got : List ℕ
+    pub equal : wire ++ (handed ++ left) ≡ before ++ got
+    pub place : P
+    pub leads : Leads g p wire [] place (heeded g (handed ++ left))
+    pub looks : Looks g place (handed ++ left) (Payload (length handed))
+
+  -- so much was handed out as the slice takes, or as was buffered or came past the buffer, or as was known, or as a look says
+  abbrev pub HandsAll : P → List ℕ → ℕ → List ℕ → ℕ → List ℕ → Type 0
+  HandsAll p before known out n left =
+      (n ≡ length out) ⊎ ((left ≡ []) ⊎ (((0 < known) × (n ≡ known)) ⊎ Stretch p before (take n out) left))
+
 module _ {S Q P W : Type 0} (remaining : S → Option (List ℕ)) (rules : ReadRules Q) (g : Grammar P W) where
   -- what any calls do that take these bytes of a body, in which there is this payload
   pub record Takes (s : Buffered S Q) (p : Progress P) (wire handed : List ℕ) (t : Buffered S Q) (q : Progress P)
@@ -74,6 +94,10 @@ module _ {S Q P W : Type 0} (remaining : S → Option (List ℕ)) (rules : ReadR
   -- the stream is asked only where nothing was settled, and no payload was left
   abbrev pub AsksOpen : Buffered S Q → P → Buffered S Q → Type 0
   AsksOpen s p t = AskedWhere (LeadsOpen g p []) (unbuffered s) (unbuffered t)
+
+  -- and where nothing was buffered it was offered as much of a slice that takes so many as surely is payload
+  abbrev pub AsksFor : ℕ → Buffered S Q → P → Buffered S Q → Type 0
+  AsksFor room s p t = AskedWhere (AskedFor g p room t.log.reads.offer) (unbuffered s) (unbuffered t)
 
   -- all that is buffered and is no payload was taken, and then a look says so; nobody is asked. What is spent by that can't be
   -- spent again
@@ -94,25 +118,25 @@ module _ {S Q P W : Type 0} (remaining : S → Option (List ℕ)) (rules : ReadR
 
   -- payload comes next, surely so many bytes, or none since the body ended
   abbrev pub Settles : P → List ℕ → ℕ → Type 0
-  Settles p shown sure = ((sure ≡ 0) × IsDone g p) ⊎ Carries g p sure shown
+  Settles p shown sure = ((sure ≡ 0) × IsDone g p) ⊎ Looks g p shown (Payload sure)
 
-  -- what a call does that hands out this payload, and what its answer means
-  pub record Proceeds {A : Type 0} (s : Buffered S Q) (p : Progress P) (handed : List ℕ) (answer : Result A (BodyError W))
-      (Means : A → Type 0) (t : Buffered S Q) (q : Progress P) : Type 0 where
+  -- what a call does that hands out this payload, for a slice that takes so many, and what its answer means
+  pub record Proceeds {A : Type 0} (room : ℕ) (s : Buffered S Q) (p : Progress P) (handed : List ℕ)
+      (answer : Result A (BodyError W)) (Means : A → Type 0) (t : Buffered S Q) (q : Progress P) : Type 0 where
     pub wire : List ℕ
     pub takes : Takes s p wire handed t q
-    pub asked : AsksOpen s p.place t
+    pub asked : AsksFor room s p.place t
     pub ends : MatchResult answer (λ a. EachGave s t × Means a) (λ e. FailsSo s e t q)
     pub idle : IsDone g p.place → (t ≡ s) × (q ≡ p)
 
   -- taking all that is no payload: how many bytes of payload surely come next
-  abbrev pub SkipsOn : Buffered S Q → Progress P → Result ℕ (BodyError W) → Buffered S Q → Progress P → Type 0
-  SkipsOn s p answer t q = Proceeds s p [] answer (Settles q.place t.block.bytes) t q
+  abbrev pub SkipsOn : ℕ → Buffered S Q → Progress P → Result ℕ (BodyError W) → Buffered S Q → Progress P → Type 0
+  SkipsOn room s p answer t q = Proceeds room s p [] answer (Settles q.place t.block.bytes) t q
 
   -- and having some buffered: how many bytes of it are
-  abbrev pub FillsOn : Buffered S Q → Progress P → Result ℕ (BodyError W) → Buffered S Q → Progress P → Type 0
-  FillsOn s p answer t q =
-      Proceeds s p [] answer (λ n. IsKnown g q.place n t.block.bytes × (n ≡ 0 → IsDone g q.place)) t q
+  abbrev pub FillsOn : ℕ → Buffered S Q → Progress P → Result ℕ (BodyError W) → Buffered S Q → Progress P → Type 0
+  FillsOn room s p answer t q = Proceeds room s p [] answer
+      (λ n. IsKnown g q.place n t.block.bytes × (n ≡ 0 → IsDone g q.place) × (0 < n → AllShown g q.place n t.block.bytes)) t q
 
   -- taking the first bytes, of those that are known to be payload
   pub record TakesFront (n : ℕ) (s : Buffered S Q) (p : Progress P) (before : ℕ) (t : Buffered S Q) (q : Progress P) (after : ℕ)
@@ -144,10 +168,13 @@ module _ {S Q P W : Type 0} (remaining : S → Option (List ℕ)) (rules : ReadR
     pub known : IsKnown g q.place after t.block.bytes
     pub all : (handed ≡ length out) ⊎ NoneShown q.place t.block.bytes
 
-  -- handing payload out into a slice, which is left so. None comes into one that isn't empty only where the body ended
-  abbrev pub HandsOn : Buffered S Q → Progress P → List ℕ → Result ℕ (BodyError W) → Buffered S Q → Progress P → Type 0
-  HandsOn s p out answer t q = Proceeds s p (handed_out out answer) answer
-      (λ n. (n ≤ length out) × (n ≡ 0 → 0 < length out → IsDone g q.place)) t q × (length out ≡ 0 → (answer ≡ Ok 0) × (t ≡ s))
+  -- handing payload out into a slice, which is left so: no less than can be. None comes into one that isn't empty only where the
+  -- body ended
+  abbrev pub HandsOn : ℕ → Buffered S Q → Progress P → List ℕ → Result ℕ (BodyError W) → Buffered S Q → Progress P → Type 0
+  HandsOn known s p out answer t q = Proceeds (length out) s p (handed_out out answer) answer
+      (λ n. (n ≤ length out) × (n ≡ 0 → 0 < length out → IsDone g q.place)
+      × (0 < n → HandsAll g p.place s.block.bytes known out n t.block.bytes)) t q
+      × (length out ≡ 0 → (answer ≡ Ok 0) × (t ≡ s))
 
 -- an error as one of std's streams
 abbrev pub BecomesIo : {W : Type 0} → BodyError W → Error → Type 0

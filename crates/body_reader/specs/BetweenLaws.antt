@@ -1,5 +1,5 @@
 -- Laws of what a reader of a body does with its buffered reader.
-use Rattle.std.proofs.Common.{◌≡◌, ℕ, ◌+◌, ◌<◌, ◌≤◌, List, [], ◌∷◌, ◌++◌, length, Option, Result, MatchResult, Ok, Err, ◌⊎◌, inl, inr, sym, ap, subst, ◌∙◌, refl, arith, append_assoc, append-nil, length-append}
+use Rattle.std.proofs.Common.{◌≡◌, ℕ, ◌+◌, ◌<◌, ◌≤◌, List, [], ◌∷◌, ◌++◌, length, min, Option, Result, MatchResult, Ok, Err, ◌⊎◌, inl, inr, sym, ap, subst, ◌∙◌, refl, arith, append_assoc, append-nil, length-append}
 use Rattle.std.specs.declared.io.Error.{Error}
 use Rattle.buffer_redux.specs.Buffered.{Buffered}
 use Rattle.buffer_redux.specs.BufReader.{ReadsAlong}
@@ -12,10 +12,10 @@ use Rattle.body_reader.specs.declared.error.BodyError.{BodyError}
 use Rattle.body_reader.specs.declared.error.BodyError.TheVariants.{Wrong, Truncated, Io}
 use Rattle.body_reader.specs.declared.progress.Progress.{Progress}
 use Rattle.body_reader.specs.Asking.{AskedWhere}
-use Rattle.body_reader.specs.AskingLaws.{AskedWhere-of, AskedWhere-on}
-use Rattle.body_reader.specs.Between.{AsksOpen, EachGave, FailsSo, Faulted, Proceeds, KeepsBuffer, MetEnd, Takes}
-use Rattle.body_reader.specs.Coding.{Grammar, IsDone, IsOpen, Lacks, LeadsOpen, heeded}
-use Rattle.body_reader.specs.CodingLaws.{Leads-none, Leads-still, Leads-then, LeadsOpen-behind, LeadsOpen-here}
+use Rattle.body_reader.specs.AskingLaws.{AskedOver-on, AskedWhere-of, AskedWhere-same}
+use Rattle.body_reader.specs.Between.{AsksFor, AsksOpen, EachGave, FailsSo, Faulted, Proceeds, KeepsBuffer, MetEnd, Takes}
+use Rattle.body_reader.specs.Coding.{AskedFor, Grammar, IsDone, IsOpen, Lacks, LeadsOpen, heeded}
+use Rattle.body_reader.specs.CodingLaws.{AskedFor-behind, AskedFor-here, Leads-none, Leads-still, Leads-then}
 
 pub EachGave-none : {S Q : Type 0} (s : Buffered S Q) → EachGave s s
 EachGave-none s = record { faults = refl; zero_reads = refl; asks = omega arith }
@@ -162,32 +162,48 @@ module _ {S Q P W : Type 0} (remaining : S → Option (List ℕ)) (rules : ReadR
   FailsSo-after s m t q gave (Truncated count) (met, right, is) = (MetEnd-after s m t gave met, right, is)
   FailsSo-after s m t q gave (Io e) (fault, is) = (Faulted-after s m t gave e fault, is)
 
-  -- calls behind some that took bytes without payload, of which each gave some, ask where nothing was settled
-  module _ (s : Buffered S Q) (p : Progress P) (m : Buffered S Q) (q : Progress P) (t : Buffered S Q) (wire : List ℕ)
-      (takes : Takes remaining rules g s p wire [] m q) (gave : EachGave s m) (before : AsksOpen remaining rules g s p.place m) where
-    pub AsksOpen-joins : AsksOpen remaining rules g m q.place t → AsksOpen remaining rules g s p.place t
-    AsksOpen-joins asks =
-        AskedWhere-on (LeadsOpen g p.place []) (LeadsOpen g q.place []) s m t wire takes.along.in_order gave
-        (λ more is. LeadsOpen-behind g p.place q.place wire [] [] m.block.bytes more takes.leads is) before asks
+  pub AsksFor-open : (room : ℕ) (s : Buffered S Q) (p : P) (t : Buffered S Q) → AsksFor remaining rules g room s p t
+      → AsksOpen remaining rules g s p t
+  AsksFor-open room s p t =
+      AskedWhere-of (AskedFor g p room t.log.reads.offer) (LeadsOpen g p []) (unbuffered s) (unbuffered t) (λ more asked. asked.leads)
 
-    pub AsksOpen-then : AskedWhere (IsOpen g q.place) (unbuffered m) (unbuffered t) → AsksOpen remaining rules g s p.place t
-    AsksOpen-then asks = AsksOpen-joins (AskedWhere-of (IsOpen g q.place) (LeadsOpen g q.place []) (unbuffered m) (unbuffered t)
-        (λ more is. LeadsOpen-here g q.place (m.block.bytes ++ more) takes.place is) asks)
+  pub AsksFor-same : (room : ℕ) (s : Buffered S Q) (p : P) (m t : Buffered S Q) → t.log ≡ m.log
+      → AsksFor remaining rules g room s p m → AsksFor remaining rules g room s p t
+  AsksFor-same room s p m t same asks =
+      AskedWhere-same (AskedFor g p room t.log.reads.offer) (unbuffered s) (unbuffered m) (unbuffered t) same
+      (subst (λ l. AskedWhere (AskedFor g p room l.reads.offer) (unbuffered s) (unbuffered m)) (sym same) asks)
+
+  -- calls behind some that took bytes without payload, of which each gave some, ask where nothing was settled
+  module _ (room : ℕ) (s : Buffered S Q) (p : Progress P) (m : Buffered S Q) (q : Progress P) (t : Buffered S Q) (wire : List ℕ)
+      (takes : Takes remaining rules g s p wire [] m q) (gave : EachGave s m)
+      (before : AsksFor remaining rules g room s p.place m) where
+    pub AsksFor-joins : AsksFor remaining rules g room m q.place t → AsksFor remaining rules g room s p.place t
+    AsksFor-joins (inl same) = AsksFor-same room s p.place m t same before
+    AsksFor-joins (inr over) = inr (AskedOver-on (AskedFor g p.place room m.log.reads.offer)
+        (AskedFor g p.place room t.log.reads.offer) (AskedFor g q.place room t.log.reads.offer) s m t wire takes.along.in_order
+        gave (λ more asked. AskedFor-behind g p.place q.place room t.log.reads.offer wire m.block.bytes more takes.leads asked)
+        before over)
+
+    pub AsksFor-then : min room (g.sure q.place) ≤ t.log.reads.offer
+        → AskedWhere (IsOpen g q.place) (unbuffered m) (unbuffered t) → AsksFor remaining rules g room s p.place t
+    AsksFor-then enough asks = AsksFor-joins (AskedWhere-of (IsOpen g q.place) (AskedFor g q.place room t.log.reads.offer)
+        (unbuffered m) (unbuffered t)
+        (λ more is. AskedFor-here g q.place room t.log.reads.offer (m.block.bytes ++ more) takes.place is enough) asks)
 
     -- and go on so
     module _ {A : Type 0} (handed : List ℕ) (answer : Result A (BodyError W)) (Means : A → Type 0) (r : Progress P)
-        (goes : Proceeds remaining rules g m q handed answer Means t r) (idle : IsDone g p.place → (t ≡ s) × (r ≡ p)) where
+        (goes : Proceeds remaining rules g room m q handed answer Means t r) (idle : IsDone g p.place → (t ≡ s) × (r ≡ p)) where
       ends_after : (a : Result A (BodyError W))
           → MatchResult a (λ x. EachGave m t × Means x) (λ e. FailsSo remaining rules g m e t r)
           → MatchResult a (λ x. EachGave s t × Means x) (λ e. FailsSo remaining rules g s e t r)
       ends_after (Ok x) ends = (EachGave-joins s m t gave ends.0, ends.1)
       ends_after (Err e) ends = FailsSo-after s m t r gave e ends
 
-      pub Proceeds-after : Proceeds remaining rules g s p handed answer Means t r
+      pub Proceeds-after : Proceeds remaining rules g room s p handed answer Means t r
       Proceeds-after = record {
         wire = wire ++ goes.wire;
         takes = Takes-joins s p m q t r wire [] goes.wire handed takes goes.takes;
-        asked = AsksOpen-joins goes.asked;
+        asked = AsksFor-joins goes.asked;
         ends = ends_after answer goes.ends;
         idle = idle;
       }

@@ -1,5 +1,5 @@
 -- What contracts see of a reader of a body, and what its calls promise.
-use Rattle.std.specs.Prelude.{◌≡◌, ℕ, ◌+◌, ◌-◌, ◌^◌, ◌<◌, ◌≤◌, ◌⊎◌, List, [], ◌++◌, length, min, take, Bool, MatchBool, Option, Result, Ok, Err, MatchResult}
+use Rattle.std.specs.Prelude.{◌≡◌, ℕ, ◌+◌, ◌-◌, ◌^◌, ◌<◌, ◌≤◌, ◌⊎◌, List, [], ◌++◌, length, min, take, Bool, MatchBool, Option, Result, Ok, Err, IfOk, MatchResult}
 use Rattle.std.specs.Borrow.{Bor}
 use Rattle.std.specs.IoError.{error_kind}
 use Rattle.std.specs.declared.io.Error.{Error}
@@ -14,7 +14,7 @@ use Rattle.body_reader.specs.declared.error.BodyError.TheVariants.{Wrong, Trunca
 use Rattle.body_reader.specs.declared.error.CollectError.{CollectError}
 use Rattle.body_reader.specs.declared.error.CollectError.TheVariants as collect
 use Rattle.body_reader.specs.Asking.{AskedWhere}
-use Rattle.body_reader.specs.Between.{AsksOpen, BecomesIo, EachGave, Faulted, KeepsBuffer, MetEnd, handed_out}
+use Rattle.body_reader.specs.Between.{AllShown, AsksFor, AsksOpen, BecomesIo, EachGave, Faulted, HandsAll, KeepsBuffer, MetEnd, handed_out}
 use Rattle.body_reader.specs.Coding.{Grammar, IsBody, IsKnown, IsOpen, Leads, LeadsOpen, heeded}
 
 -- the buffered reader; the coding; where in the body the reader stands; the bytes of it that were taken so far; what it handed
@@ -81,14 +81,15 @@ module _ {S Q C P W : Type 0} (remaining : S → Option (List ℕ)) (rules : Rea
     pub keeps : KeepsBuffer rules g.ahead s.reader t.reader
 
   -- what one call of `read_payload` does, which left the slice as out. The stream is asked only where nothing was settled, and
-  -- no payload left. Once the body ended, or where the slice is empty, the buffered reader isn't called. An Ok read is noted,
-  -- and no other
+  -- no payload left, and for as much as surely is payload and fits the slice; and no less is handed out than can be. Once the body
+  -- ended, or where the slice is empty, the buffered reader isn't called. An Ok read is noted, and no other
   pub record ReadsPayload (s : BodyState S Q C P) (out : List ℕ) (answer : Result ℕ (BodyError W)) (t : BodyState S Q C P)
       : Type 0 where
     pub went : BodyWent s (handed_out out answer) t
     pub answers : MatchResult answer
         (λ n. (n ≤ length out) × EachGave s.reader t.reader × (n ≡ 0 → 0 < length out → IsWhole g t)) (λ e. NoPayload g s e t)
-    pub asked : AsksOpen remaining rules g s.reader s.place t.reader
+    pub asked : AsksFor remaining rules g (length out) s.reader s.place t.reader
+    pub all : IfOk answer (λ n. 0 < n → HandsAll g s.place s.reader.block.bytes s.known out n t.reader.block.bytes)
     pub idle : (IsWhole g s ⊎ (length out ≡ 0)) → t.reader ≡ s.reader
     pub empty : length out ≡ 0 → answer ≡ Ok 0
     pub noted : MatchResult answer (λ n. t.calls ≡ after_read s.calls out (Ok n)) (λ _. t.calls ≡ s.calls)
@@ -109,15 +110,15 @@ module _ {S Q C P W : Type 0} (remaining : S → Option (List ℕ)) (rules : Rea
     pub ended : IsWhole g s → t.reader ≡ s.reader
     pub whole : IsBodyReader g t
 
-  -- why no more payload was collected, of which so much is there: none comes; or more than so many bytes would be; or memory was
-  -- refused
+  -- why no more payload was collected, of which so much is there: none comes; or some is buffered, with which it would be more than
+  -- so many bytes, or memory for it was refused
   abbrev pub NotCollected : ℕ → BodyState S Q C P → List ℕ → CollectError W → BodyState S Q C P → Type 0
   NotCollected most s all (collect.Body why) t = NoPayload g s why t
-  NotCollected most s all collect.TooLong t = EachGave s.reader t.reader × (most < length all + t.known)
-  NotCollected most s all collect.Memory t = EachGave s.reader t.reader
+  NotCollected most s all collect.TooLong t = EachGave s.reader t.reader × (0 < t.known) × (most < length all + t.known)
+  NotCollected most s all collect.Memory t = EachGave s.reader t.reader × (0 < t.known)
 
   -- the rest of the body was taken, and its payload appended, or why not: of no more bytes than fit so many. The stream is asked
-  -- only where nothing was settled
+  -- only where nothing was settled. Once the body ended nothing is done
   pub record Collects (most : ℕ) (s : BodyState S Q C P) (before : List ℕ) (answer : Result (Unit {0}) (CollectError W))
       (t : BodyState S Q C P) (after : List ℕ) : Type 0 where
     pub payload : List ℕ
@@ -127,14 +128,16 @@ module _ {S Q C P W : Type 0} (remaining : S → Option (List ℕ)) (rules : Rea
     pub asked : AskedWhere (λ bytes. (dropped : List ℕ) × LeadsOpen g s.place dropped bytes) (unbuffered s.reader)
         (unbuffered t.reader)
     pub answers : MatchResult answer (λ _. EachGave s.reader t.reader × IsWhole g t) (λ e. NotCollected most s after e t)
+    pub ended : IsWhole g s → t ≡ s
     pub whole : IsBodyReader g t
 
-  -- payload is buffered, how much the answer says: none only where the body ended. The stream is asked only where nothing was
-  -- settled, and no payload left; where some was known, or the body ended, nothing is done
+  -- payload is buffered, how much the answer says: none only where the body ended, and else all that a look says is. The stream is
+  -- asked only where nothing was settled, and no payload left; where some was known, or the body ended, nothing is done
   pub record FillsPayload (s : BodyState S Q C P) (answer : Result ℕ (BodyError W)) (t : BodyState S Q C P) : Type 0 where
     pub went : BodyWent s [] t
     pub answers : MatchResult answer (λ n. (n ≡ t.known) × EachGave s.reader t.reader × (n ≡ 0 → IsWhole g t))
         (λ e. NoPayload g s e t)
+    pub all : IfOk answer (λ n. 0 < n → s.known ≡ 0 → AllShown g t.place n t.reader.block.bytes)
     pub asked : AsksOpen remaining rules g s.reader s.place t.reader
     pub still : (0 < s.known ⊎ IsWhole g s) → t ≡ s
     pub whole : IsBodyReader g t

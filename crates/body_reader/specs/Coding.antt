@@ -1,5 +1,5 @@
 -- What a coding says of bytes.
-use Rattle.std.specs.Prelude.{◌≡◌, ℕ, ◌+◌, ◌<◌, ◌≤◌, List, [], ◌∷◌, ◌++◌, length, take, drop, Bool, if◌then◌else◌}
+use Rattle.std.specs.Prelude.{◌≡◌, ℕ, ◌+◌, ◌<◌, ◌≤◌, List, [], ◌∷◌, ◌++◌, length, min, take, drop, Bool, if◌then◌else◌}
 use Rattle.body_reader.specs.declared.coding.Look.{Look}
 use Rattle.body_reader.specs.declared.coding.Look.TheVariants.{Payload, Passed, More, Wrong, Ended}
 
@@ -9,8 +9,8 @@ Agree a b = (x : List ℕ) × (y : List ℕ) × (a ++ x ≡ b ++ y)
 
 -- the place before a body; how many bytes a look needs to be shown at most; which places there are; which bytes complete a body
 -- from a place, and the payload in them; which bytes are payload in a place, where others follow that are shown; what is wrong
--- with the next bytes in it; how many bytes there may be at most, from it to the next of payload or to the end of the body; and
--- whether it hangs on what follows where bytes of payload lead
+-- with the next bytes in it; how many bytes there may be at most, from it to the next of payload or to the end of the body; how
+-- many of the next bytes are payload, whatever they are; and whether it hangs on what follows where bytes of payload lead
 pub record Grammar (P W : Type 0) : Type 1 where
   pub first : P
   pub ahead : ℕ
@@ -19,6 +19,7 @@ pub record Grammar (P W : Type 0) : Type 1 where
   pub carries : P → List ℕ → List ℕ → Type 0
   pub wrong : P → List ℕ → W → Type 0
   pub between : P → ℕ
+  pub sure : P → ℕ
   pub heeds : Bool
 
 -- what is heeded of the bytes that follow
@@ -73,6 +74,12 @@ module _ {P W : Type 0} (g : Grammar P W) where
     pub is_place : g.is_place place
     pub settles_nothing : IsOpen place shown
 
+  -- an ask where bytes lead on so, none of which is payload, for a slice that takes so many: where nothing was buffered it offered
+  -- as much of that as surely is payload
+  pub record AskedFor (p : P) (room offer : ℕ) (bytes : List ℕ) : Type 0 where
+    pub leads : LeadsOpen p [] bytes
+    pub enough : leads.shown ≡ [] → min room (g.sure leads.place) ≤ offer
+
   -- the next n bytes are payload, whatever follows what is shown
   pub record Carries (p : P) (n : ℕ) (shown : List ℕ) : Type 0 where
     pub some : 0 < n
@@ -86,15 +93,16 @@ module _ {P W : Type 0} (g : Grammar P W) where
 
   -- what each answer of a look means
   abbrev pub Looks : P → List ℕ → Look P W → Type 0
-  Looks p shown (Payload n) = Carries p n shown
+  Looks p shown (Payload n) = Carries p n shown × (g.sure p ≤ n)
   Looks p shown (Passed n q) =
       (0 < n) × (n ≤ length shown) × Passes p (take n shown) q (heeded g (drop n shown)) × g.is_place q × ¬ IsDone p
-  Looks p shown (More n) = Lacks p n shown
+  Looks p shown (More n) = Lacks p n shown × (g.sure p ≡ 0)
   Looks p shown (Wrong why) = g.wrong p shown why × ¬ IsDone p
   Looks p shown Ended = IsDone p
 
   -- a look may need some byte; a body begins at a place; no byte holds no payload, and isn't wrong; what is wrong neither begins
-  -- what completes a body nor goes on with it; and no body begins another, and each has one payload
+  -- what completes a body nor goes on with it; no more bytes surely are payload than it says; and no body begins another, and each
+  -- has one payload
   pub record IsLawful : Type 0 where
     pub some : 0 < g.ahead
     pub begins : g.is_place g.first
@@ -102,4 +110,5 @@ module _ {P W : Type 0} (g : Grammar P W) where
     pub none_wrong : (p : P) (why : W) → g.is_place p → ¬ g.wrong p [] why
     pub never : (p : P) (shown : List ℕ) (why : W) (rest payload : List ℕ) → g.is_place p → g.wrong p shown why
         → g.completes p rest payload → ¬ Agree shown rest
+    pub sure : (p : P) (n : ℕ) → g.is_place p → Carries p n [] → n ≤ g.sure p
     pub one : (a b x y xs ys : List ℕ) → IsBody a x → IsBody b y → a ++ xs ≡ b ++ ys → (a ≡ b) × (x ≡ y)

@@ -1,8 +1,8 @@
 -- Laws of places: traces of bytes join, and what is wrong completes no body.
-use Rattle.std.proofs.Common.{◌≡◌, ◌⊎◌, ℕ, ◌<◌, Bool, true, false, if◌then◌else◌, List, [], ◌∷◌, ◌++◌, length, arith, inl, inr, sym, ap, subst, ◌∙◌, refl, append_assoc, append-nil}
+use Rattle.std.proofs.Common.{◌≡◌, ◌⊎◌, ℕ, ◌<◌, ◌≤◌, Bool, true, false, if◌then◌else◌, List, [], ◌∷◌, ◌++◌, length, min, arith, inl, inr, sym, ap, subst, ◌∙◌, refl, append_assoc, append-nil}
 use Rattle.body_reader.specs.declared.coding.Look.{Look}
 use Rattle.body_reader.specs.declared.coding.Look.TheVariants.{Payload, Passed, More, Wrong, Ended}
-use Rattle.body_reader.specs.Coding.{Agree, Grammar, IsBody, IsDone, IsLawful, IsOpen, Lacks, Leads, LeadsOpen, Looks, heeded}
+use Rattle.body_reader.specs.Coding.{Agree, AskedFor, Grammar, IsBody, IsDone, IsLawful, IsOpen, Lacks, Leads, LeadsOpen, Looks, heeded}
 
 -- of two texts that begin the same bytes one begins the other
 pub overlaps : (a x b y : List ℕ) → a ++ x ≡ b ++ y
@@ -201,6 +201,21 @@ module _ {P W : Type 0} (g : Grammar P W) where
     settles_nothing = o.settles_nothing;
   }
 
+  -- the same of an ask
+  pub AskedFor-here : (p : P) (room offer : ℕ) (bytes : List ℕ) → g.is_place p → IsOpen g p bytes
+      → min room (g.sure p) ≤ offer → AskedFor g p room offer bytes
+  unfolding LeadsOpen-here
+  AskedFor-here p room offer bytes place is enough =
+      record { leads = LeadsOpen-here p bytes place is; enough = λ none. enough }
+
+  pub AskedFor-behind : (p q : P) (room offer : ℕ) (wire follow more : List ℕ) → Leads g p wire [] q (heeded g follow)
+      → AskedFor g q room offer (follow ++ more) → AskedFor g p room offer (wire ++ (follow ++ more))
+  unfolding LeadsOpen-behind
+  AskedFor-behind p q room offer wire follow more leads asked = record {
+    leads = LeadsOpen-behind p q wire [] [] follow more leads asked.leads;
+    enough = asked.enough;
+  }
+
   -- bytes of which fewer than n settle nothing settle nothing
   pub Lacks-open : (p : P) (n : ℕ) (bytes : List ℕ) → Lacks g p n bytes → IsOpen g p bytes
   Lacks-open p n bytes lacks =
@@ -232,8 +247,8 @@ module _ {P W : Type 0} (g : Grammar P W) where
 
   -- behind a body a look says so
   pub looks_done : (p : P) (shown : List ℕ) (l : Look P W) → IsDone g p → Looks g p shown l → l ≡ Ended
-  looks_done p shown (Payload n) done looks = absurd (looks.goes_on done)
+  looks_done p shown (Payload n) done looks = absurd (looks.0.goes_on done)
   looks_done p shown (Passed n q) done looks = absurd (looks.4 done)
-  looks_done p shown (More n) done looks = absurd ((Lacks-open p n shown looks).goes_on done)
+  looks_done p shown (More n) done looks = absurd ((Lacks-open p n shown looks.0).goes_on done)
   looks_done p shown (Wrong why) done looks = absurd (looks.1 done)
   looks_done p shown Ended done looks = refl

@@ -1,12 +1,12 @@
 -- Laws of bodies of one of two codings.
-use Rattle.std.proofs.Common.{◌≡◌, ℕ, List, [], ◌++◌}
+use Rattle.std.proofs.Common.{◌≡◌, ℕ, ◌≤◌, List, [], ◌++◌}
 use Rattle.body_reader.specs.declared.coding.Look.{Look}
 use Rattle.body_reader.specs.declared.coding.Look.TheVariants as look
 use Rattle.body_reader.specs.declared.either.Either.{Either}
 use Rattle.body_reader.specs.declared.either.Either.TheVariants as which
 use Rattle.body_reader.specs.declared.either.Side.{Side}
 use Rattle.body_reader.specs.declared.either.Side.TheVariants.{First, Second}
-use Rattle.body_reader.specs.Coding.{Agree, Grammar, IsLawful, IsOpen, Leads, Looks}
+use Rattle.body_reader.specs.Coding.{Agree, Carries, Grammar, IsLawful, IsOpen, Leads, Looks}
 use Rattle.body_reader.specs.Either.{either, first_of, of_first, of_second, second_of}
 
 module _ {P V : Type 0} (Q W : Type 0) (g : Grammar P V) where
@@ -32,7 +32,7 @@ module _ {P V : Type 0} (Q W : Type 0) (g : Grammar P V) where
   pub first_looks : (p : P) (shown : List ℕ) (l : Look P V) → Looks g p shown l
       → Looks (of_first {Q = Q} {W = W} g) (First p) shown (first_of l)
   first_looks p shown (look.Payload n) looks =
-      record { some = looks.some; goes_on = looks.goes_on; carries = looks.carries }
+      (record { some = looks.0.some; goes_on = looks.0.goes_on; carries = looks.0.carries }, looks.1)
   first_looks p shown (look.Passed n q) looks = (
     looks.0,
     looks.1,
@@ -40,11 +40,14 @@ module _ {P V : Type 0} (Q W : Type 0) (g : Grammar P V) where
     looks.3,
     looks.4,
   )
-  first_looks p shown (look.More n) looks = record {
-    few = looks.few;
-    most = looks.most;
-    is_open = λ more short. first_open p (shown ++ more) (looks.is_open more short);
-  }
+  first_looks p shown (look.More n) looks = (
+    record {
+      few = looks.0.few;
+      most = looks.0.most;
+      is_open = λ more short. first_open p (shown ++ more) (looks.0.is_open more short);
+    },
+    looks.1,
+  )
   first_looks p shown (look.Wrong why) looks = looks
   first_looks p shown look.Ended looks = looks
 
@@ -65,6 +68,12 @@ module _ {P V : Type 0} (Q W : Type 0) (g : Grammar P V) where
   first_nothing lawful (First p) payload is c = lawful.nothing p payload is c
   first_nothing lawful (Second q) payload is c = absurd is
 
+  first_sure : IsLawful g → (place : Side P Q) (n : ℕ) → (of_first {Q = Q} {W = W} g).is_place place
+      → Carries (of_first {Q = Q} {W = W} g) place n [] → n ≤ (of_first {Q = Q} {W = W} g).sure place
+  first_sure lawful (First p) n is c =
+      lawful.sure p n is (record { some = c.some; goes_on = c.goes_on; carries = c.carries })
+  first_sure lawful (Second q) n is c = absurd is
+
   first_lawful : IsLawful g → IsLawful (of_first {Q = Q} {W = W} g)
   first_lawful lawful = record {
     some = lawful.some;
@@ -72,6 +81,7 @@ module _ {P V : Type 0} (Q W : Type 0) (g : Grammar P V) where
     nothing = first_nothing lawful;
     none_wrong = first_none_wrong lawful;
     never = first_never lawful;
+    sure = first_sure lawful;
     one = lawful.one;
   }
 
@@ -98,7 +108,7 @@ module _ {Q W : Type 0} (P V : Type 0) (g : Grammar Q W) where
   pub second_looks : (p : Q) (shown : List ℕ) (l : Look Q W) → Looks g p shown l
       → Looks (of_second {P = P} {V = V} g) (Second p) shown (second_of l)
   second_looks p shown (look.Payload n) looks =
-      record { some = looks.some; goes_on = looks.goes_on; carries = looks.carries }
+      (record { some = looks.0.some; goes_on = looks.0.goes_on; carries = looks.0.carries }, looks.1)
   second_looks p shown (look.Passed n q) looks = (
     looks.0,
     looks.1,
@@ -106,11 +116,14 @@ module _ {Q W : Type 0} (P V : Type 0) (g : Grammar Q W) where
     looks.3,
     looks.4,
   )
-  second_looks p shown (look.More n) looks = record {
-    few = looks.few;
-    most = looks.most;
-    is_open = λ more short. second_open p (shown ++ more) (looks.is_open more short);
-  }
+  second_looks p shown (look.More n) looks = (
+    record {
+      few = looks.0.few;
+      most = looks.0.most;
+      is_open = λ more short. second_open p (shown ++ more) (looks.0.is_open more short);
+    },
+    looks.1,
+  )
   second_looks p shown (look.Wrong why) looks = looks
   second_looks p shown look.Ended looks = looks
 
@@ -131,6 +144,12 @@ module _ {Q W : Type 0} (P V : Type 0) (g : Grammar Q W) where
   second_nothing lawful (Second q) payload is c = lawful.nothing q payload is c
   second_nothing lawful (First p) payload is c = absurd is
 
+  second_sure : IsLawful g → (place : Side P Q) (n : ℕ) → (of_second {P = P} {V = V} g).is_place place
+      → Carries (of_second {P = P} {V = V} g) place n [] → n ≤ (of_second {P = P} {V = V} g).sure place
+  second_sure lawful (Second q) n is c =
+      lawful.sure q n is (record { some = c.some; goes_on = c.goes_on; carries = c.carries })
+  second_sure lawful (First p) n is c = absurd is
+
   second_lawful : IsLawful g → IsLawful (of_second {P = P} {V = V} g)
   second_lawful lawful = record {
     some = lawful.some;
@@ -138,6 +157,7 @@ module _ {Q W : Type 0} (P V : Type 0) (g : Grammar Q W) where
     nothing = second_nothing lawful;
     none_wrong = second_none_wrong lawful;
     never = second_never lawful;
+    sure = second_sure lawful;
     one = lawful.one;
   }
 

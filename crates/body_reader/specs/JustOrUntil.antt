@@ -36,6 +36,7 @@ just_or_until just needle room = record {
   carries = IsText just needle;
   wrong = λ place shown why. ⊥;
   between = most_between needle;
+  sure = λ place. 0;
   heeds = true;
 }
 

@@ -5,10 +5,10 @@ use Rattle.body_reader.specs.declared.coding.Look.{Look}
 use Rattle.body_reader.specs.declared.coding.Look.TheVariants as look
 use Rattle.body_reader.specs.declared.until.Part.{Part}
 use Rattle.body_reader.specs.declared.until.Part.TheVariants.{Inside}
-use Rattle.body_reader.specs.Coding.{Agree, IsDone, IsLawful, IsOpen, Lacks, Leads, Looks, Passes}
+use Rattle.body_reader.specs.Coding.{Agree, Carries, IsDone, IsLawful, IsOpen, Lacks, Leads, Looks, Passes}
 use Rattle.body_reader.specs.CodingLaws.{Agree-front, Agree-less, Agree-nothing, overlaps}
 use Rattle.body_reader.specs.Until.{EndsPart, IsClear, most_left, until}
-use Rattle.body_reader.specs.UntilLaws.{clear_leads, clear_still, until_lawful}
+use Rattle.body_reader.specs.UntilLaws.{clear_leads, clear_still, clear_unsure, until_lawful}
 use Rattle.body_reader.specs.declared.just_or_until.JustOr.{JustOr}
 use Rattle.body_reader.specs.declared.just_or_until.JustOr.TheVariants as at
 use Rattle.body_reader.specs.JustOrUntil.{EndsJust, IsText, just_or_until, most_between, until_of}
@@ -97,12 +97,15 @@ module _ (just needle : List ℕ) (room : ℕ) (some : 0 < length just) (shorter
 
   pub alike_looks : (place : JustOr) (part : Part) (shown : List ℕ) → Alike place part shown → (l : Look Part (Unit {0}))
       → Looks (until needle) part shown l → Looks (just_or_until just needle room) place shown (until_of l)
-  alike_looks place part shown like (look.Payload n) looks = record {
-    some = looks.some;
-    goes_on = goes_on place part shown like looks.goes_on;
-    carries = λ bytes follow more few same.
-        like.carried bytes follow more same (looks.carries bytes follow more few same);
-  }
+  alike_looks place part shown like (look.Payload n) looks = (
+    record {
+      some = looks.0.some;
+      goes_on = goes_on place part shown like looks.0.goes_on;
+      carries = λ bytes follow more few same.
+          like.carried bytes follow more same (looks.0.carries bytes follow more few same);
+    },
+    omega arith,
+  )
   alike_looks place part shown like (look.Passed n q) looks = (
     looks.0,
     looks.1,
@@ -114,12 +117,15 @@ module _ (just needle : List ℕ) (room : ℕ) (some : 0 < length just) (shorter
     tt,
     λ done. looks.4 (like.back [] [] (Agree-nothing shown) done),
   )
-  alike_looks place part shown like (look.More n) looks = record {
-    few = looks.few;
-    most = omega (arith, looks.most, fits);
-    is_open = λ more short'. alike_open place part (shown ++ more) (alike_more place part shown more like)
-        (looks.is_open more short');
-  }
+  alike_looks place part shown like (look.More n) looks = (
+    record {
+      few = looks.0.few;
+      most = omega (arith, looks.0.most, fits);
+      is_open = λ more short'. alike_open place part (shown ++ more) (alike_more place part shown more like)
+          (looks.0.is_open more short');
+    },
+    refl,
+  )
   alike_looks place part shown like (look.Wrong why) looks = absurd looks.0
   alike_looks place part shown like look.Ended looks = like.there [] [] (Agree-nothing shown) looks
 
@@ -242,6 +248,12 @@ module _ (just needle : List ℕ) (room : ℕ) (some : 0 < length just) (shorter
   just_nothing (at.Until part) payload c = (until_lawful needle (omega (arith, shorter))).nothing part payload tt c
   just_nothing at.Just payload c = c.1
 
+  just_unsure : (place : JustOr) (n : ℕ) → ¬ Carries (just_or_until just needle room) place n []
+  just_unsure at.Start n c = clear_unsure needle (omega (arith, shorter)) Inside n c.some
+      (λ bytes follow more few same. (c.carries bytes follow more few same).1)
+  just_unsure (at.Until part) n c = clear_unsure needle (omega (arith, shorter)) part n c.some c.carries
+  just_unsure at.Just n c = c.carries [] [] [] (omega arith) refl
+
   pub just_or_until_lawful : IsLawful (just_or_until just needle room)
   just_or_until_lawful = record {
     some = omega (arith, shorter, fits);
@@ -249,5 +261,6 @@ module _ (just needle : List ℕ) (room : ℕ) (some : 0 < length just) (shorter
     nothing = λ place payload is c. just_nothing place payload c;
     none_wrong = λ place why is wrong. wrong;
     never = λ place shown why rest payload is wrong c agree. wrong;
+    sure = λ place n is c. absurd (just_unsure place n c);
     one = λ a b x y xs ys p q same. only_one a b x y xs ys p q same;
   }

@@ -1,6 +1,6 @@
 -- Laws of bodies that have so many bytes.
-use Rattle.std.proofs.Common.{◌≡◌, ℕ, ◌-◌, ◌≤◌, List, ◌++◌, length, take, sym, ap, ◌∙◌, arith, refl, length-append}
-use Rattle.std.proofs.lemmas.List.{nil_from_length, take_at}
+use Rattle.std.proofs.Common.{◌≡◌, ℕ, ◌-◌, ◌≤◌, List, [], ◌++◌, length, replicate, take, sym, ap, ◌∙◌, arith, refl, append-nil, length-append}
+use Rattle.std.proofs.lemmas.List.{length-replicate, nil_from_length, take_at}
 use Rattle.body_reader.specs.Coding.{IsLawful, Leads}
 use Rattle.body_reader.specs.Sized.{sized}
 
@@ -22,6 +22,12 @@ sized_lawful n = record {
   nothing = λ p payload is c. c.1;
   none_wrong = λ p why is wrong. wrong;
   never = λ p shown why rest payload is wrong c agree. wrong;
+  sure = λ p count is c. omega (
+    arith,
+    c.carries (replicate count 0) [] (replicate count 0) (omega (arith, length-replicate {A = ℕ} count 0))
+        (append-nil (replicate count 0)),
+    length-replicate {A = ℕ} count 0,
+  );
   one = λ a b x y xs ys p q same.
       let equal : a ≡ b = sym (take_at a xs n p.0) ∙ ap (take n) same ∙ take_at b ys n q.0 in
       (equal, p.1 ∙ equal ∙ sym q.1);

@@ -35,5 +35,6 @@ until needle = record {
   carries = IsClear needle;
   wrong = λ place shown why. ⊥;
   between = most_left needle;
+  sure = λ place. 0;
   heeds = true;
 }

@@ -2,7 +2,7 @@
 use Rattle.std.proofs.Common.{◌≡◌, ℕ, zero, suc, ◌+◌, ◌-◌, ◌<◌, ◌≤◌, List, [], ◌∷◌, ◌++◌, length, take, drop, inl, inr, sym, ap, refl, subst, ◌∙◌, arith, append_assoc, append-nil, length-append}
 use Rattle.std.proofs.Math.Seq.{take-append-add}
 use Rattle.std.proofs.lemmas.Bool.{cases_lt}
-use Rattle.std.proofs.lemmas.List.{nil_from_length, take_at}
+use Rattle.std.proofs.lemmas.List.{length-take-le, nil_from_length, take-append-drop, take_at}
 use Rattle.memchr.specs.Find.{Nowhere, OccursAt}
 use Rattle.buffer_redux.specs.OccursLaws.{OccursAt-behind, OccursAt-fewer, OccursAt-front, OccursAt-last, OccursAt-later, OccursAt-more, OccursAt-self}
 use Rattle.body_reader.specs.declared.coding.Look.TheVariants as look
@@ -231,6 +231,18 @@ module _ (needle : List ℕ) (some : 0 < length needle) where
   until_nothing Inside payload c = absurd (omega (arith, some, ap length c.0, length-append payload needle))
   until_nothing Behind payload c = c.1
 
+  -- no byte is surely payload before it is shown: it may begin the delimiter
+  pub clear_unsure : (place : Part) (n : ℕ) → 0 < n
+      → ((bytes follow more : List ℕ) → length bytes ≤ n → bytes ++ follow ≡ more → IsClear needle place bytes follow) → ⊥
+  clear_unsure Inside n more clear =
+      let front = take 1 needle in
+      let behind = drop 1 needle in
+      let split : front ++ behind ≡ needle = take-append-drop 1 needle in
+      let one : length front ≡ 1 = length-take-le 1 needle (omega (arith, some)) in
+      clear front behind needle (omega (arith, one, more)) split behind ([], [], refl) 0 (omega arith) (omega (arith, one))
+      (subst (λ l. OccursAt l needle 0) (sym split) (OccursAt-self needle))
+  clear_unsure Behind n more clear = clear [] [] [] (omega arith) refl
+
   pub until_lawful : IsLawful (until needle)
   until_lawful = record {
     some = some;
@@ -238,5 +250,6 @@ module _ (needle : List ℕ) (some : 0 < length needle) where
     nothing = λ place payload is c. until_nothing place payload c;
     none_wrong = λ place why is wrong. wrong;
     never = λ place shown why rest payload is wrong c agree. wrong;
+    sure = λ place n is c. absurd (clear_unsure place n c.some c.carries);
     one = λ a b x y xs ys p q same. only_one a b x y xs ys p q same;
   }

@@ -1,17 +1,15 @@
 //! The reader of a body.
-ghost use Rattle.std.specs.Prelude.{None, Some, [], ◌≡◌, ℕ, List, ◌-◌, ◌<◌, ◌≤◌, ◌↔◌, length, min, take, vec_items, Err, IfErr, IfOk, IfSome, IsOkAnd, IsTrue, MatchResult, Ok};
+ghost use Rattle.std.specs.Prelude.{◌≡◌, ◌-◌, ◌<◌, ◌≤◌, ◌↔◌, length, min, take, vec_items, Err, IfErr, IfOk, IsOkAnd, IsTrue, MatchResult, Ok};
 ghost use Rattle.std.specs.Borrow.{Lends, sem};
-ghost use Rattle.std.specs.Io.{ReadsAtMost, StartsWith};
-ghost use Rattle.std.specs.Io.BufRead.{Rests};
 ghost use Rattle.body_reader.specs.contracts.reader.BodyReader.{the_row};
-ghost use Rattle.std.specs.Io.KnownBytes.{ReadConsumes};
 ghost use Rattle.buffer_redux.specs.Block.{capacity_for};
 ghost use Rattle.buffer_redux.specs.Buffered.{over_buffer, with_inner};
 ghost use Rattle.buffer_redux.specs.GrowError.{FitsWithin};
 ghost use Rattle.buffer_redux.specs.MakeError.{growth};
-ghost use Rattle.buffer_redux.specs.StreamLog.{StreamLog, after_read};
 ghost use Rattle.body_reader.specs.Coding.{IsBody};
-ghost use Rattle.body_reader.specs.BodyReader.{BodyState, BodyWent, Collects, Drains, FillsAsIo, FillsPayload, IsBodyReader, IsWhole, LooksBehind, ReadsAsIo, ReadsBuffered, ReadsPayload, begun, taken_count};
+ghost use Rattle.body_reader.specs.BodyReader.{BodyState, BodyWent, Collects, Drains, FillsPayload, IsBodyReader, IsWhole, LooksBehind, ReadsBuffered, ReadsPayload, begun, taken_count};
+
+mod streams;
 
 use crate::coding::{Coding, Look};
 use crate::error::{BodyError, CollectError};
@@ -20,7 +18,7 @@ use crate::steps::{fill_on, hand_buffered, read_on, take_front};
 use buffer_redux::policy::{ReaderPolicy, StdPolicy};
 use buffer_redux::tell::{Call, CallLog, Tell, TellRead};
 use buffer_redux::{BufReader, Buffer, MakeError};
-use std::io::{BufRead, ErrorKind, Read};
+use std::io::ErrorKind;
 use std::marker::Model;
 use std::{fmt, io, mem};
 
@@ -340,73 +338,5 @@ where
             .field("place", &self.progress.place)
             .field("taken", &self.progress.count)
             .finish()
-    }
-}
-
-impl<R: Tell, C: Coding, P> Tell for BodyReader<R, C, P> {
-    ghost log = { λ b. b.calls };
-}
-
-/// Payload, as [`read_payload`](BodyReader::read_payload) hands it out. An error is the stream's own, or of the kind `InvalidData`
-/// or `UnexpectedEof`.
-impl<R: TellRead, C: Coding, P: ReaderPolicy> Read for BodyReader<R, C, P>
-where
-    C::Wrong: Drop,
-{
-    fn read(&mut self, out: &mut [u8]) -> io::Result<usize>
-        ensures bound { ReadsAtMost result out.new }
-        ensures bytes { ReadConsumes None None result out.new }
-        ensures read { ReadsAsIo R.remaining P.rules (C.grammar self.old.coding) self.old out.new result self.new }
-    {
-        Ok(self.read_payload(out)?)
-    }
-}
-
-/// The same, told.
-impl<R: TellRead, C: Coding, P: ReaderPolicy> TellRead for BodyReader<R, C, P>
-where
-    C::Wrong: Drop,
-{
-    fn read_told(&mut self, out: &mut [u8]) -> io::Result<usize>
-        ensures bound { ReadsAtMost result out.new }
-        ensures told { self.new.calls ≡ after_read self.old.calls out.new result }
-        ensures bytes { ReadConsumes None None result out.new }
-        ensures read { (untold : StreamLog) × ReadsAsIo R.remaining P.rules (C.grammar self.old.coding) self.old out.new result
-            (record self.new { calls = untold }) }
-        ensures whole { IsBodyReader (C.grammar self.new.coding) self.new }
-    {
-        let answer = self.read(out);
-        if answer.is_err() {
-            self.calls.note(&Call::Read(out, &answer));
-        }
-        answer
-    }
-}
-
-/// Payload, lent out of the buffer.
-impl<R: TellRead, C: Coding, P: ReaderPolicy> BufRead for BodyReader<R, C, P>
-where
-    C::Wrong: Drop,
-{
-    ghost consumable_len = { λ b. Some b.known };
-
-    fn fill_buf(&mut self) -> io::Result<&[u8]>
-        ensures front { IfSome {T = List ℕ} None (λ xs. IfOk result (λ bytes. StartsWith xs bytes.now)) }
-        ensures end { IfSome {T = List ℕ} None (λ xs. IfOk result (λ bytes. length bytes.now ≡ 0 → xs ≡ [])) }
-        ensures* after_borrow { sem 𝓛 (Rests (the_row R.row C.row P.row C.Place.row C.Wrong.row R.Tell C.Coding) self.entry
-            (FillsAsIo R.remaining P.rules (C.grammar self.entry.now.coding) self.entry.now result)) }
-    {
-        self.fill_payload()?;
-        Ok(self.piece())
-    }
-
-    fn consume(&mut self, amount: usize)
-        ensures went { BodyWent R.remaining P.rules (C.grammar self.old.coding) self.old
-            (take (min amount self.old.known) self.old.reader.block.bytes) self.new }
-        ensures left { self.new.known ≡ self.old.known - amount }
-        ensures told { self.new.reader.log ≡ self.old.reader.log }
-        ensures whole { IsBodyReader (C.grammar self.new.coding) self.new }
-    {
-        self.consume_payload(amount)
     }
 }

@@ -1,7 +1,7 @@
 //! The steps of a reader of a body, over the buffered reader.
-ghost use Rattle.std.specs.Prelude.{[], ◌≡◌, ◌-◌, ◌<◌, ◌≤◌, length, min, take, drop};
+ghost use Rattle.std.specs.Prelude.{[], ◌≡◌, ℕ, ◌-◌, ◌<◌, ◌≤◌, length, min, take, drop};
 ghost use Rattle.buffer_redux.specs.Buffered.{GoesPast};
-ghost use Rattle.body_reader.specs.Coding.{Carries, IsKnown};
+ghost use Rattle.body_reader.specs.Coding.{Carries, IsKnown, Looks};
 ghost use Rattle.body_reader.specs.Between.{BeginsRead, FillsOn, FindsKnown, HandsOn, HandsShown, PassesOn, SkipsOn, TakesFront};
 
 use crate::coding::{Coding, Look};
@@ -41,7 +41,8 @@ pub fn skip<R: TellRead, P: ReaderPolicy, C: Coding>(
 ) -> Result<u64, BodyError<C::Wrong>>
     requires place { (C.grammar coding.now).is_place progress.old.place }
     requires room { (C.grammar coding.now).ahead ≤ reader.old.block.capacity }
-    ensures { SkipsOn R.remaining P.rules (C.grammar coding.now) reader.old progress.old result reader.new progress.new }
+    ensures { (slice : ℕ) → SkipsOn R.remaining P.rules (C.grammar coding.now) slice reader.old progress.old result reader.new
+        progress.new }
 {
     loop {
         match pass(reader, coding, progress) {
@@ -70,8 +71,9 @@ pub fn show<R: TellRead, P: ReaderPolicy, C: Coding>(
 ) -> Result<usize, BodyError<C::Wrong>>
     requires place { (C.grammar coding.now).is_place progress.now.place }
     requires room { (C.grammar coding.now).ahead ≤ reader.old.block.capacity }
-    requires sure { Carries (C.grammar coding.now) progress.now.place sure reader.old.block.bytes }
-    ensures { FillsOn R.remaining P.rules (C.grammar coding.now) reader.old progress.now result reader.new progress.now }
+    requires sure { Looks (C.grammar coding.now) progress.now.place reader.old.block.bytes (Look.Payload sure) }
+    ensures { (slice : ℕ) → min sure slice ≤ reader.old.block.capacity → FillsOn R.remaining P.rules (C.grammar coding.now) slice
+        reader.old progress.now result reader.new progress.now }
 {
     let held = reader.buf_len();
     if held > 0 {
@@ -92,7 +94,7 @@ pub fn fill_on<R: TellRead, P: ReaderPolicy, C: Coding>(
 ) -> Result<usize, BodyError<C::Wrong>>
     requires place { (C.grammar coding.now).is_place progress.old.place }
     requires room { (C.grammar coding.now).ahead ≤ reader.old.block.capacity }
-    ensures { FillsOn R.remaining P.rules (C.grammar coding.now) reader.old progress.old result reader.new progress.new }
+    ensures { FillsOn R.remaining P.rules (C.grammar coding.now) 0 reader.old progress.old result reader.new progress.new }
 {
     let sure = skip(reader, coding, progress)?;
     if sure == 0 {
@@ -159,8 +161,9 @@ pub fn read_past<R: TellRead, P: ReaderPolicy, C: Coding>(
     requires sure { Carries (C.grammar coding.now) progress.old.place most reader.old.block.bytes }
     requires past { GoesPast reader.old.block most }
     requires room { most ≤ length out.old }
-    ensures { HandsOn R.remaining P.rules (C.grammar coding.now) reader.old progress.old out.new result reader.new
-        progress.new }
+    requires offers { min (length out.old) ((C.grammar coding.now).sure progress.old.place) ≤ most }
+    ensures { (known : ℕ) → HandsOn R.remaining P.rules (C.grammar coding.now) known reader.old progress.old out.new result
+        reader.new progress.new }
 {
     let count = reader.read(&mut out[..most])?;
     if count == 0 {
@@ -182,9 +185,9 @@ pub fn read_sure<R: TellRead, P: ReaderPolicy, C: Coding>(
     out: &mut [u8],
 ) -> Result<usize, BodyError<C::Wrong>>
     requires begins { BeginsRead (C.grammar coding.now) reader.old progress.old known.old out.old }
-    requires sure { Carries (C.grammar coding.now) progress.old.place sure reader.old.block.bytes }
-    ensures hands { HandsOn R.remaining P.rules (C.grammar coding.now) reader.old progress.old out.new result reader.new
-        progress.new }
+    requires sure { Looks (C.grammar coding.now) progress.old.place reader.old.block.bytes (Look.Payload sure) }
+    ensures hands { HandsOn R.remaining P.rules (C.grammar coding.now) known.old reader.old progress.old out.new result
+        reader.new progress.new }
     ensures known { IsKnown (C.grammar coding.now) progress.new.place known.new reader.new.block.bytes }
 {
     let held = reader.buf_len();
@@ -210,8 +213,8 @@ pub fn read_new<R: TellRead, P: ReaderPolicy, C: Coding>(
     out: &mut [u8],
 ) -> Result<usize, BodyError<C::Wrong>>
     requires { BeginsRead (C.grammar coding.now) reader.old progress.old known.old out.old }
-    ensures hands { HandsOn R.remaining P.rules (C.grammar coding.now) reader.old progress.old out.new result reader.new
-        progress.new }
+    ensures hands { HandsOn R.remaining P.rules (C.grammar coding.now) known.old reader.old progress.old out.new result
+        reader.new progress.new }
     ensures known { IsKnown (C.grammar coding.now) progress.new.place known.new reader.new.block.bytes }
 {
     if let Look::Payload(sure) = pass(reader, coding, progress) {
@@ -230,8 +233,8 @@ fn read_slowly<R: TellRead, P: ReaderPolicy, C: Coding>(
     out: &mut [u8],
 ) -> Result<usize, BodyError<C::Wrong>>
     requires { BeginsRead (C.grammar coding.now) reader.old progress.old known.old out.old }
-    ensures hands { HandsOn R.remaining P.rules (C.grammar coding.now) reader.old progress.old out.new result reader.new
-        progress.new }
+    ensures hands { HandsOn R.remaining P.rules (C.grammar coding.now) known.old reader.old progress.old out.new result
+        reader.new progress.new }
     ensures known { IsKnown (C.grammar coding.now) progress.new.place known.new reader.new.block.bytes }
 {
     let sure = skip(reader, coding, progress)?;
@@ -252,8 +255,8 @@ pub fn read_on<R: TellRead, P: ReaderPolicy, C: Coding>(
     requires place { (C.grammar coding.now).is_place progress.old.place }
     requires room { (C.grammar coding.now).ahead ≤ reader.old.block.capacity }
     requires held { IsKnown (C.grammar coding.now) progress.old.place known.old reader.old.block.bytes }
-    ensures hands { HandsOn R.remaining P.rules (C.grammar coding.now) reader.old progress.old out.new result reader.new
-        progress.new }
+    ensures hands { HandsOn R.remaining P.rules (C.grammar coding.now) known.old reader.old progress.old out.new result
+        reader.new progress.new }
     ensures known { IsKnown (C.grammar coding.now) progress.new.place known.new reader.new.block.bytes }
 {
     if out.is_empty() {

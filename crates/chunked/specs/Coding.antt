@@ -13,6 +13,11 @@ abbrev pub InChunk : Place → List ℕ → List ℕ → Type 0
 InChunk (Data left) bytes follow = length bytes ≤ left
 InChunk p bytes follow = ⊥
 
+-- how many bytes of a chunk are left
+abbrev pub chunk_left : Place → ℕ
+chunk_left (Data left) = left
+chunk_left p = 0
+
 -- the next of these bytes is wrong
 abbrev pub IsWrongNext : Limits → Place → List ℕ → Malformed → Type 0
 IsWrongNext limits p shown why = (byte : ℕ) × (later : List ℕ) × (shown ≡ byte ∷ later) × IsWrong limits p byte why
@@ -34,5 +39,6 @@ chunked limits = record {
   carries = InChunk;
   wrong = IsWrongNext limits;
   between = most_between limits;
+  sure = chunk_left;
   heeds = false;
 }

@@ -1,6 +1,6 @@
 -- Laws of the chunked coding.
-use Rattle.std.proofs.Common.{◌≡◌, ◌≢◌, ℕ, zero, suc, ◌+◌, ◌<◌, ◌≤◌, List, [], ◌∷◌, ◌++◌, length, take, drop, slice_index, Some, IfSome, sym, ap, subst, ◌∙◌, arith, inl, inr, refl, append-nil, length-append}
-use Rattle.std.proofs.lemmas.List.{drop_more, nil_from_length}
+use Rattle.std.proofs.Common.{◌≡◌, ◌≢◌, ℕ, zero, suc, ◌+◌, ◌<◌, ◌≤◌, List, [], ◌∷◌, ◌++◌, length, replicate, take, drop, slice_index, Some, IfSome, sym, ap, subst, ◌∙◌, arith, inl, inr, refl, append-nil, length-append}
+use Rattle.std.proofs.lemmas.List.{drop_more, length-replicate, nil_from_length}
 use Rattle.body_reader.specs.declared.Look.TheVariants as look
 use Rattle.body_reader.specs.BodyReader.{BodyState, IsBodyReader, handed_of}
 use Rattle.body_reader.specs.Coding as body
@@ -13,7 +13,7 @@ use Rattle.chunked.specs.declared.place.Place.TheVariants.{Line, Data, Done}
 use Rattle.chunked.specs.declared.step.Reached.{Reached}
 use Rattle.chunked.specs.Body.{line_end}
 use Rattle.chunked.specs.BodyLaws.{IsBody-same}
-use Rattle.chunked.specs.Coding.{BreaksAt, IsWrongNext, chunked}
+use Rattle.chunked.specs.Coding.{BreaksAt, IsWrongNext, chunked, chunk_left}
 use Rattle.chunked.specs.Place.{Advances, Comes, Completes, IsPlace, IsSettled, IsWrong, Leads, Within}
 use Rattle.chunked.specs.PlaceLaws.{Completes-nothing, IsWrong-done}
 use Rattle.chunked.specs.WrongLaws.{IsWrong-none}
@@ -52,6 +52,24 @@ module _ (limits : Limits) where
       let head : b ≡ byte = cc in
       IsWrong-none limits p byte why rest payload wrong (subst (λ z. Completes limits p (z ∷ rest) payload) head c)
 
+  -- no more bytes are of a chunk than are left of it
+  no_more : (p : Place) (n : ℕ) → body.Carries (chunked limits) p n [] → n ≤ chunk_left p
+  no_more (Data left) n c = omega (
+    arith,
+    c.carries (replicate n 0) [] (replicate n 0) (omega (arith, length-replicate {A = ℕ} n 0)) (append-nil (replicate n 0)),
+    length-replicate {A = ℕ} n 0,
+  )
+  no_more p n c = absurd (c.carries [] [] [] (omega arith) refl)
+
+  -- nor any where none is
+  pub none_left : (p : Place) → ¬ IsSettled p → chunk_left p ≡ 0
+  none_left (Data left) open' = size left open'
+    where
+      size : (k : ℕ) → ¬ IsSettled (Data k) → k ≡ 0
+      size zero not = refl
+      size (suc k) not = absurd (not tt)
+  none_left p open' = refl
+
   pub chunked_lawful : body.IsLawful (chunked limits)
   chunked_lawful = record {
     some = omega arith;
@@ -61,6 +79,7 @@ module _ (limits : Limits) where
     never = λ p shown why rest payload is wrong c agree.
         never p wrong.0 why rest payload wrong.1 agree.0 agree.1 wrong.3 c
         (ap (λ l. l ++ agree.0) (sym wrong.2) ∙ agree.2);
+    sure = λ p n is c. no_more p n c;
     one = λ a b x y xs ys p q same. let found = IsBody-same limits limits a b x y xs ys p q same in (found.0, found.1);
   }
 
@@ -127,16 +146,21 @@ module _ (limits : Limits) where
   -- what a look answers
   pub looks_data : (left : ℕ) (shown : List ℕ) → 0 < left
       → body.Looks (chunked limits) (Data left) shown (look.Payload left)
-  looks_data left shown some = record {
-    some = some;
-    goes_on = not_done (Data left) (λ is. let odd : Data left ≡ Done = is in cc);
-    carries = λ bytes follow more few same. few;
-  }
+  looks_data left shown some = (
+    record {
+      some = some;
+      goes_on = not_done (Data left) (λ is. let odd : Data left ≡ Done = is in cc);
+      carries = λ bytes follow more few same. few;
+    },
+    omega arith,
+  )
 
-  pub looks_none : (p : Place) (shown : List ℕ) → IsPlace p → p ≢ Done → shown ≡ []
+  pub looks_none : (p : Place) (shown : List ℕ) → IsPlace p → ¬ IsSettled p → shown ≡ []
       → body.Looks (chunked limits) p shown (look.More 1)
-  looks_none p shown place open' none =
-      Lacks-one (chunked limits) chunked_lawful p place (not_done p open') shown (omega (arith, ap length none))
+  looks_none p shown place open' none = (
+    Lacks-one (chunked limits) chunked_lawful p place (not_done p (open_of p open')) shown (omega (arith, ap length none)),
+    none_left p open',
+  )
 
   pub looks_comes : (p : Place) (shown : List ℕ) (n : ℕ) (q : Place) → p ≢ Done → 0 < n → n ≤ length shown
       → Comes limits p (take n shown) q → body.Looks (chunked limits) p shown (look.Passed n q)

@@ -12,7 +12,7 @@ use Rattle.buffer_redux.specs.Policy.{std_read_rules}
 use Rattle.chunked.specs.declared.error.Malformed.{Malformed}
 use Rattle.chunked.specs.declared.place.Place.{Place}
 use Rattle.messages.specs.declared.error.BodyError.{BodyError}
-use Rattle.messages.specs.Messages.{BecomesIo, EachGave, Fails, GoesOn, HasRoom, IsNamed, IsRest, Reader, ReaderTakes, body_error, grammar_of, has_line, left_in, room_of, stream_of}
+use Rattle.messages.specs.Messages.{AskedIn, BecomesIo, EachGave, Fails, HasRoom, IsNamed, IsRest, Reader, ReaderTakes, body_error, grammar_of, has_line, left_in, room_of, stream_of}
 use Rattle.messages.proofs.Going.{body_asked, body_done, body_fails, body_kept, body_named, body_room, body_take}
 
 abbrev Reads : {R : Type 0} → (R → Option (List ℕ)) → Reader R → List ℕ → Result ℕ Error → Reader R → Type 0
@@ -59,6 +59,6 @@ module _ {R : Type 0} (remaining : R → Option (List ℕ)) (s t : Reader R) (is
   )
 
   pub io_asked : (answer : Result ℕ Error) → Reads remaining s out answer t → has_line s.coding
-      → AskedWhere (GoesOn (left_in s) []) (stream_of s) (stream_of t)
-  io_asked (Ok n) reads line = body_asked is line t reads.asked
-  io_asked (Err e) (why, reads, becomes) line = body_asked is line t reads.asked
+      → AskedWhere (AskedIn (left_in s) (length out) (stream_of t).log.reads.offer) (stream_of s) (stream_of t)
+  io_asked (Ok n) reads line = body_asked is line (length out) t reads.asked
+  io_asked (Err e) (why, reads, becomes) line = body_asked is line (length out) t reads.asked

@@ -7,7 +7,7 @@ use Rattle.body_reader.specs.Between as between
 use Rattle.body_reader.specs.Between.{LeavesRoom}
 use Rattle.body_reader.specs.BodyReader.{BodyWent, Breaks, Drains, EndsEarly, IsBodyReader, IsWhole, NoPayload, ReadsPayload, handed_of}
 use Rattle.body_reader.specs.BodyReaderLaws.{BodyWent-leads}
-use Rattle.body_reader.specs.Coding.{Agree, IsDone, IsLawful, IsOpen, Leads, LeadsOpen, heeded}
+use Rattle.body_reader.specs.Coding.{Agree, AskedFor, IsDone, IsLawful, IsOpen, Leads, LeadsOpen, heeded}
 use Rattle.body_reader.specs.CodingLaws.{Agree-nothing, Leads-done, Leads-whole}
 use Rattle.body_reader.specs.EitherLaws.{either_lawful}
 use Rattle.body_reader.specs.Sized.{sized}
@@ -33,7 +33,7 @@ use Rattle.chunked.specs.declared.place.Place.{Place}
 use Rattle.chunked.specs.declared.place.Place.TheVariants.{Data, Done}
 use Rattle.chunked.proofs.Alive.{Completes-some}
 use Rattle.messages.specs.MessagesLaws.{same_room}
-use Rattle.messages.specs.Messages.{Backward, BodyCoding, Bytes, Chunks, Ends, Fails, FinishFails, GoesOn, HasRoom, IsNamed, IsReady, IsRest, IsWrongNext, Onward, Reader, ReaderTakes, Rest, RunsShort, Unended, body_error, grammar_of, has_line, left_in, rest_of, room_of, stream_of}
+use Rattle.messages.specs.Messages.{AskedIn, Backward, BodyCoding, Bytes, Chunks, Ends, Fails, FinishFails, GoesOn, HasRoom, IsNamed, IsReady, IsRest, IsWrongNext, Onward, Reader, ReaderTakes, Rest, RunsShort, Unended, body_error, grammar_of, has_line, left_in, rest_of, room_of, stream_of, sure_of}
 use Rattle.messages.specs.declared.error.BodyError.TheVariants.{Wrong, Io as Fault}
 use Rattle.std.specs.declared.io.Error.{Error}
 
@@ -89,18 +89,46 @@ some_rest (coding.Second c) line (side.Second place) is =
 some_rest (coding.Second c) line (side.First left) is = absurd is
 
 -- where bytes settle nothing the body goes on behind them
-goes_on : (c : BodyCoding) → has_line c → (p : Side ℕ Place) → (grammar_of c).is_place p → (handed bytes : List ℕ)
-    → LeadsOpen (grammar_of c) p handed bytes → GoesOn (rest_of c p) handed bytes
-goes_on c line p is handed bytes o =
-    let none = no_byte c o.place o.shown o.settles_nothing in
-    let all : bytes ≡ o.wire = o.equal ∙ ap (λ l. o.wire ++ l) none ∙ append-nil o.wire in
-    let end = some_rest c line o.place o.is_place in
-    let agree : Agree o.shown end.0 = subst (λ l. Agree l end.0) (sym none) (end.0, [], sym (append-nil end.0)) in
-    let further = o.settles_nothing.further end.0 end.1 end.2 agree in
-    subst (GoesOn (rest_of c p) handed) (sym all) (record {
-      rest = rest_of c o.place;
-      onward = onward_is c p o.place o.wire handed o.shown is o.is_place o.leads;
-      more = (end.0, end.1, omega (arith, further), rest_is c o.place o.is_place end.0 end.1 end.2);
+module _ (c : BodyCoding) (line : has_line c) (p : Side ℕ Place) (is : (grammar_of c).is_place p) (handed bytes : List ℕ)
+    (o : LeadsOpen (grammar_of c) p handed bytes) where
+  none_shown : o.shown ≡ []
+  none_shown = no_byte c o.place o.shown o.settles_nothing
+
+  all_wire : bytes ≡ o.wire
+  all_wire = o.equal ∙ ap (λ l. o.wire ++ l) none_shown ∙ append-nil o.wire
+
+  more_behind : (later : List ℕ) × (payload : List ℕ) × (0 < length later) × IsRest (rest_of c o.place) later payload
+  more_behind =
+      let end = some_rest c line o.place o.is_place in
+      let agree : Agree o.shown end.0 = subst (λ l. Agree l end.0) (sym none_shown) (end.0, [], sym (append-nil end.0)) in
+      let further = o.settles_nothing.further end.0 end.1 end.2 agree in
+      (end.0, end.1, omega (arith, further), rest_is c o.place o.is_place end.0 end.1 end.2)
+
+  goes_on : GoesOn (rest_of c p) handed bytes
+  goes_on = subst (GoesOn (rest_of c p) handed) (sym all_wire) (record {
+    rest = rest_of c o.place;
+    onward = onward_is c p o.place o.wire handed o.shown is o.is_place o.leads;
+    more = more_behind;
+  })
+
+-- as much is offered as surely is payload
+sure_is : (c : BodyCoding) (p : Side ℕ Place) → (grammar_of c).is_place p → sure_of (rest_of c p) ≡ (grammar_of c).sure p
+sure_is (coding.First c) (side.First left) is = refl
+sure_is (coding.First c) (side.Second q) is = absurd is
+sure_is (coding.Second c) (side.First left) is = absurd is
+sure_is (coding.Second c) (side.Second q) is = refl
+
+asked_in : (c : BodyCoding) → has_line c → (p : Side ℕ Place) → (grammar_of c).is_place p → (slice offer : ℕ)
+    (bytes : List ℕ) → AskedFor (grammar_of c) p slice offer bytes → AskedIn (rest_of c p) slice offer bytes
+asked_in c line p is slice offer bytes asked =
+    let o = asked.leads in
+    subst (AskedIn (rest_of c p) slice offer) (sym (all_wire c line p is [] bytes o)) (record {
+      goes_on = record {
+        rest = rest_of c o.place;
+        onward = onward_is c p o.place o.wire [] o.shown is o.is_place o.leads;
+        more = more_behind c line p is [] bytes o;
+      };
+      enough = omega (arith, asked.enough (none_shown c line p is [] bytes o), sure_is c o.place o.is_place);
     })
 
 -- bytes of a body of a length hold payload
@@ -342,10 +370,13 @@ module _ {R : Type 0} {remaining : R → Option (List ℕ)} {s t : Reader R} (is
 
 -- where the stream is asked
 module _ {R : Type 0} {s : Reader R} (is : IsBodyReader (grammar_of s.coding) s) (line : has_line s.coding) where
-  pub body_asked : (t : Reader R) → AskedWhere (LeadsOpen (grammar_of s.coding) s.place []) (stream_of s) (stream_of t)
-      → AskedWhere (GoesOn (left_in s) []) (stream_of s) (stream_of t)
-  body_asked t = AskedWhere-of (LeadsOpen (grammar_of s.coding) s.place []) (GoesOn (left_in s) []) (stream_of s) (stream_of t)
-      (λ more o. goes_on s.coding line s.place is.place [] (s.reader.block.bytes ++ more) o)
+  pub body_asked : (slice : ℕ) (t : Reader R)
+      → AskedWhere (AskedFor (grammar_of s.coding) s.place slice (stream_of t).log.reads.offer) (stream_of s) (stream_of t)
+      → AskedWhere (AskedIn (left_in s) slice (stream_of t).log.reads.offer) (stream_of s) (stream_of t)
+  body_asked slice t =
+      let offer = (stream_of t).log.reads.offer in
+      AskedWhere-of (AskedFor (grammar_of s.coding) s.place slice offer) (AskedIn (left_in s) slice offer) (stream_of s)
+      (stream_of t) (λ more asked. asked_in s.coding line s.place is.place slice offer (s.reader.block.bytes ++ more) asked)
 
   pub drain_asked : {remaining : R → Option (List ℕ)} {answer : Result (Unit {0}) (Unread (Side (Unit {0}) Malformed))} {t : Reader R}
       → Drains remaining std_read_rules (grammar_of s.coding) s answer t
@@ -363,6 +394,6 @@ module _ {R : Type 0} {s : Reader R} (is : IsBodyReader (grammar_of s.coding) s)
         (heeded (grammar_of s.coding) s.reader.block.bytes) is.leads done)))
     | inr settles ↦ elim reads.asked [
       | inl same ↦ same
-      | inr over ↦ absurd (settles over.came over.such)
+      | inr over ↦ absurd (settles over.came over.such.leads)
     ]
   ]

@@ -1,5 +1,5 @@
 -- Messages, and what contracts see of a reader that stands in one.
-use Rattle.std.specs.Prelude.{◌≡◌, ◌⊎◌, ◌≤◌, ◌<◌, ◌+◌, ◌-◌, ◌*◌, ◌^◌, ℕ, List, [], ◌∷◌, ◌++◌, length, IfErr, MatchOption, OnOk, Option, None, Some, Result, Ok, Err, ⊤}
+use Rattle.std.specs.Prelude.{◌≡◌, ◌⊎◌, ◌≤◌, ◌<◌, ◌+◌, ◌-◌, ◌*◌, ◌^◌, ℕ, List, [], ◌∷◌, ◌++◌, length, min, IfErr, MatchOption, OnOk, Option, None, Some, Result, Ok, Err, ⊤}
 use Rattle.std.specs.IoError.{error_kind}
 use Rattle.std.specs.declared.io.Error.{Error}
 use Rattle.std.specs.declared.io.ErrorKind.TheVariants.{InvalidData, Other, UnexpectedEof}
@@ -67,6 +67,16 @@ pub record GoesOn (r : Rest) (handed bytes : List ℕ) : Type 0 where
   pub rest : Rest
   pub onward : Onward r bytes handed rest
   pub more : (later : List ℕ) × (payload : List ℕ) × (0 < length later) × IsRest rest later payload
+
+-- how many of the next bytes surely are payload
+abbrev pub sure_of : Rest → ℕ
+sure_of (Bytes n) = n
+sure_of (Chunks limits place) = chunks.chunk_left place
+
+-- an ask for a slice that takes so many, where these bytes begin that without payload: as much of it was offered as surely is payload
+pub record AskedIn (r : Rest) (room offer : ℕ) (bytes : List ℕ) : Type 0 where
+  pub goes_on : GoesOn r [] bytes
+  pub enough : min room (sure_of goes_on.rest) ≤ offer
 
 abbrev pub Unended : Rest → List ℕ → Type 0
 Unended r bytes = (handed : List ℕ) × GoesOn r handed bytes
@@ -237,7 +247,7 @@ pub record ReadsAsIo {S : Type 0} (remaining : S → Option (List ℕ)) (s : InB
   pub gave : OnOk answer (EachGave s.stream t.stream)
   pub ended : answer ≡ Ok 0 → 0 < length out → IsRest t.rest [] []
   pub fails : IfErr answer (λ e. (why : BodyError) × Fails s.stream why t.stream t.rest × BecomesIo why e)
-  pub asked : AskedWhere (GoesOn s.rest []) s.stream t.stream
+  pub asked : AskedWhere (AskedIn s.rest (length out) t.stream.log.reads.offer) s.stream t.stream
 
 -- a head, and a payload
 abbrev pub Message : Type 0

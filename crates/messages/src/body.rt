@@ -2,13 +2,13 @@
 ghost use Rattle.std.specs.Prelude.{◌≡◌, ◌-◌, ◌^◌, ◌<◌, ◌≤◌, ◌↔◌, ℕ, List, [], ◌++◌, length, min, take, IfErr, IfOk, IsTrue, MatchResult, Ok, OnOk};
 ghost use Rattle.std.specs.Borrow.{Lends, sem};
 ghost use Rattle.body_reader.specs.Asking.{AskedWhere};
-ghost use Rattle.body_reader.specs.Between.{handed_out};
+ghost use Rattle.body_reader.specs.Between.{HandsAll, handed_out};
 ghost use Rattle.body_reader.specs.BodyReader.{handed_of};
 ghost use Rattle.buffer_redux.specs.Unbuffer.{unbuffered};
 ghost use Rattle.codec.specs.PieceReader.{left_of};
 ghost use Rattle.messages.specs.contracts.body.Body.{the_row};
 ghost use Rattle.messages.specs.Heads.{IsHead};
-ghost use Rattle.messages.specs.Messages.{EachGave, Ends, Fails, FinishFails, GoesOn, HasRoom, InsideGoes, IsReady, IsRest, IsRoomy, ReaderTakes, RunsShort, Unended, begun, body_of, grammar_of, has_line, left_in, rest_of, room_of, stream_of, with_stream};
+ghost use Rattle.messages.specs.Messages.{AskedIn, EachGave, Ends, Fails, FinishFails, HasRoom, InsideGoes, IsReady, IsRest, IsRoomy, ReaderTakes, RunsShort, Unended, begun, body_of, grammar_of, has_line, left_in, rest_of, room_of, stream_of, with_stream};
 
 mod tells;
 
@@ -155,15 +155,16 @@ impl<R: TellRead> Body<R> {
     /// is wrong is so at each further call. After an `Io` or a `Truncated` the call can be made again: it asks the stream, and
     /// goes on where more comes.
     ///
-    /// The stream is asked only where no payload is buffered and the body goes on behind all that is: for no byte behind it, and
-    /// once only where it fails or gives nothing.
+    /// The stream is asked only where no payload is buffered and the body goes on behind all that is: for no byte behind it, for as
+    /// much as surely is payload and fits the slice, and once only where it fails or gives nothing.
     pub fn read(&mut self, out: &mut [u8]) -> Result<usize, BodyError>
         ensures bound { IfOk result (λ n. n ≤ length out.new) }
         ensures goes { InsideGoes R.remaining self.old (handed_out out.new result) self.new }
         ensures ended { result ≡ Ok 0 → 0 < length out.new → IsRest self.new.rest [] [] }
         ensures gave { OnOk result (EachGave self.old.stream self.new.stream) }
         ensures fails { IfErr result (λ e. Fails self.old.stream e self.new.stream self.new.rest) }
-        ensures asked { AskedWhere (GoesOn self.old.rest []) self.old.stream self.new.stream }
+        ensures asked { AskedWhere (AskedIn self.old.rest (length out.new) self.new.stream.log.reads.offer) self.old.stream
+            self.new.stream }
         ensures idle { IsReady self.old.stream self.old.rest → self.new.stream.log ≡ self.old.stream.log }
         ensures none { length out.new ≡ 0 → (result ≡ Ok 0) × (self.new.stream ≡ self.old.stream) }
     {
@@ -252,7 +253,10 @@ fn read<R: TellRead>(
     ensures ended { result ≡ Ok 0 → 0 < length out.new → IsRest (left_in reader.new) [] [] }
     ensures gave { OnOk result (EachGave (stream_of reader.old) (stream_of reader.new)) }
     ensures fails { IfErr result (λ e. Fails (stream_of reader.old) e (stream_of reader.new) (left_in reader.new)) }
-    ensures asked { AskedWhere (GoesOn (left_in reader.old) []) (stream_of reader.old) (stream_of reader.new) }
+    ensures asked { AskedWhere (AskedIn (left_in reader.old) (length out.new) (stream_of reader.new).log.reads.offer)
+        (stream_of reader.old) (stream_of reader.new) }
+    ensures all { IfOk result (λ n. 0 < n → HandsAll (grammar_of reader.old.coding) reader.old.place reader.old.reader.block.bytes
+        reader.old.known out.new n reader.new.reader.block.bytes) }
     ensures idle { IsReady (stream_of reader.old) (left_in reader.old)
         → (stream_of reader.new).log ≡ (stream_of reader.old).log }
     ensures none { length out.new ≡ 0 → (result ≡ Ok 0) × (stream_of reader.new ≡ stream_of reader.old) }

@@ -21,8 +21,8 @@ use Rattle.multipart.specs.declared.reader.Stand.{Stand}
 use Rattle.multipart.specs.declared.reader.Stand.TheVariants.{Preamble, Head, Part, Ended}
 use Rattle.multipart.specs.Head.{is_opening}
 
--- the section that is being read, of a text or a head; the coding of those that it takes turns with; the head that came last; where
--- the reader stands; and how many parts began
+-- the section that is being read, of a text or a head; the coding of those that it takes turns with; the head that came last;
+-- where the reader stands; and how many parts began
 pub record FormState (S Q : Type 0) : Type 0 where
   pub body : BodyState S Q JustOrUntil JustOr
   pub other : JustOrUntil
@@ -38,7 +38,8 @@ codes c = just_or_until c.just.items c.until.delimiter.items c.room
 abbrev pub hyphens : List ℕ
 hyphens = 45 ∷ 45 ∷ []
 
--- a boundary that begins a line ends a text, also where it begins the text; an empty line ends a head, or two hyphens are all of it
+-- a boundary that begins a line ends a text, also where it begins the text; an empty line ends a head, or two hyphens are all of
+-- it
 pub record AreCodings (texts heads : JustOrUntil) : Type 0 where
   pub line : texts.until.delimiter.items ≡ 13 ∷ 10 ∷ texts.just.items
   pub empty_line : heads.until.delimiter.items ≡ 13 ∷ 10 ∷ 13 ∷ 10 ∷ []
@@ -87,8 +88,8 @@ head_error (collect.Body e) = part_error e
 head_error collect.TooLong = part.LongHead
 head_error collect.Memory = part.Memory
 
--- a head ended, and then: the two hyphens end the body; a head that begins as the line of its boundary ends leads into a part, unless
--- those are too many
+-- a head ended, and then: the two hyphens end the body; a head that begins as the line of its boundary ends leads into a part,
+-- unless those are too many
 abbrev pub EndsHead : {S Q : Type 0} → FormState S Q → Result Bool PartError → FormState S Q → Type 0
 EndsHead s (Ok false) t = (s.body.taken ≡ hyphens) × (t ≡ record s { stand = Ended })
 EndsHead s (Ok true) t = (s.body.taken ≢ hyphens) × IsTrue (is_opening s.head) × (s.parts < s.limits.parts)

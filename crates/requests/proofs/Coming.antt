@@ -7,6 +7,7 @@ use Rattle.buffer_redux.specs.StreamLog.{StreamLog}
 use Rattle.buffer_redux.specs.Unbuffer.{Unbuffered}
 use Rattle.buffer_redux.specs.declared.policy.StdPolicy.{StdPolicy}
 use Rattle.body_reader.specs.Asking.{AskedWhere}
+use Rattle.body_reader.specs.AskingLaws.{AskedWhere-of}
 use Rattle.codec.specs.Grammar.{IsOpen}
 use Rattle.codec.specs.NextPiece.{NextAnswer, NextPiece}
 use Rattle.codec.specs.NextPieceLaws.{AsksNone-settled}
@@ -15,7 +16,7 @@ use Rattle.messages.specs.declared.bad_head.BadHead.{BadHead}
 use Rattle.messages.specs.declared.head.Heads.{Heads}
 use Rattle.messages.specs.Heads.{heads}
 use Rattle.messages.specs.HeadsLaws.{heads_lawful}
-use Rattle.messages.specs.Messages.{GoesOn, InBody, IsRest, RunsShort}
+use Rattle.messages.specs.Messages.{AskedIn, GoesOn, InBody, IsRest, RunsShort}
 use Rattle.programs.specs.Streams.{AllSent}
 use Rattle.requests.specs.Sending.{Comes, SendsUnless, Writes}
 use Rattle.requests.proofs.Sending.{Writes-after, Writes-read, Writes-sent, open_empty, sent_then}
@@ -29,18 +30,21 @@ open_where s unsettled = record {
 }
 
 -- a body was asked for only where all had been sent: what is buffered of it is none, and it goes on
-pub body_asked : {R W : Type 0} {tells : W → StreamLog} {trace : W → W → Type 0} (count : ℕ) (out : List ℕ) (m t : InBody R)
+pub body_asked : {R W : Type 0} {tells : W → StreamLog} {trace : W → W → Type 0} {slice : ℕ} (count : ℕ) (out : List ℕ)
+    (m t : InBody R)
     (w v : Buffered W StdPolicy) → SendsUnless tells trace (0 < length m.stream.left) w (Ok tt) v → count ≡ 0 → 0 < length out
     → (¬ (IsRest m.rest [] [])) → RunsShort (length out) count m.rest m.stream.left
-    → AskedWhere (GoesOn m.rest []) m.stream t.stream → (t.stream.log ≡ m.stream.log) ⊎ AllSent v
-body_asked count out m t w v sends zero some goes_on short asked = elim (sent_then w v sends) [
+    → AskedWhere (AskedIn m.rest slice t.stream.log.reads.offer) m.stream t.stream → (t.stream.log ≡ m.stream.log) ⊎ AllSent v
+body_asked {slice = slice} count out m t w v sends zero some goes_on short asked = elim (sent_then w v sends) [
   | inl shown ↦ elim short [
     | inl same ↦ absurd (omega (arith, same, zero, some))
     | inr none ↦ elim none [
       | inl done ↦ absurd (goes_on done)
       | inr left ↦ elim left [
         | inl empty ↦ absurd (omega (arith, shown, ap length empty))
-        | inr wrong ↦ inl (wrong_unasked m.stream t.stream m.rest wrong.0 wrong.1 asked)
+        | inr wrong ↦ inl (wrong_unasked m.stream t.stream m.rest wrong.0 wrong.1
+            (AskedWhere-of (AskedIn m.rest slice t.stream.log.reads.offer) (GoesOn m.rest []) m.stream t.stream
+            (λ more ask. ask.goes_on) asked))
       ]
     ]
   ]

@@ -43,6 +43,9 @@ fn collects(rt: HostRuntime) -> Result<(), Fail> {
         // A further call goes on.
         assert!(rt; body.collect(6, &mut out).is_ok());
         assert!(rt; out.as_slice() == b">hello".as_slice());
+        // Behind the end nothing is too long.
+        assert!(rt; body.collect(0, &mut out).is_ok());
+        assert!(rt; out.as_slice() == b">hello".as_slice());
         assert!(rt; body.get_ref().buffer() == b", worl".as_slice());
     }
     Ok(())

@@ -5,7 +5,7 @@ ghost use Rattle.std.specs.Io.KnownBytes.{ReadConsumes};
 ghost use Rattle.body_reader.specs.Asking.{AskedWhere};
 ghost use Rattle.body_reader.specs.Between.{handed_out};
 ghost use Rattle.buffer_redux.specs.StreamLog.{after_read};
-ghost use Rattle.messages.specs.Messages.{BecomesIo, EachGave, Fails, GoesOn, HasRoom, IsRest, ReaderTakes, ReadsAsIo, left_in, room_of, stream_of};
+ghost use Rattle.messages.specs.Messages.{AskedIn, BecomesIo, EachGave, Fails, HasRoom, IsRest, ReaderTakes, ReadsAsIo, left_in, room_of, stream_of};
 
 use crate::body::{Body, BodyCoding};
 use crate::error::BodyError;
@@ -56,7 +56,8 @@ fn read_told<R: TellRead>(
     ensures gave { OnOk result (EachGave (stream_of reader.old) (stream_of reader.new)) }
     ensures fails { IfErr result (λ e. (why : BodyError)
         × Fails (stream_of reader.old) why (stream_of reader.new) (left_in reader.new) × BecomesIo why e) }
-    ensures asked { AskedWhere (GoesOn (left_in reader.old) []) (stream_of reader.old) (stream_of reader.new) }
+    ensures asked { AskedWhere (AskedIn (left_in reader.old) (length out.new) (stream_of reader.new).log.reads.offer)
+        (stream_of reader.old) (stream_of reader.new) }
 {
     let _ = reader.get_ref();
     reader.read_told(out)

@@ -1,13 +1,13 @@
-use Rattle.std.proofs.Common.{◌≡◌, ◌++◌, drop, take, length, refl, arith, subst, sym}
+use Rattle.std.proofs.Common.{◌≡◌, ◌++◌, drop, take, length, length-append, length-drop, refl, arith, subst, sym}
 use Rattle.std.proofs.lemmas.List.{length-take-le}
 use Rattle.std.proofs.lemmas.Result.{err_from_is_err_and}
 use Rattle.buffer_redux.specs.Buffered.{GoesPast}
-use Rattle.body_reader.proofs.Handing.{past_carries, past_dry, past_fails, past_given}
+use Rattle.body_reader.proofs.Past.{past_carries, past_dry, past_fails, past_given}
 use Rattle.body_reader.proofs.Skipping.{Notes}
 use Rattle.body_reader.proofs.steps.read_past.Goals as goal
 
 pub returns-in_err-count : goal.returns-in_err-count
-returns-in_err-count g c =
+returns-in_err-count g c known =
     let read = c.in_err-count.ensures in
     let p = err_from_is_err_and c.from_residual.result c.from_residual.ensures.1 in
     let out = c.args.out.now in
@@ -17,11 +17,19 @@ returns-in_err-count g c =
     subst (GoesPast c.args.reader.now.block) (sym fits) c.requires.past in
     rw (p.1, p.2) (past_fails g.R.TellRead.remaining g.P.ReaderPolicy.rules (g.C.Coding.grammar c.args.coding.now)
     (g.met.C.Coding.lawful c.args.coding.now) c.args.reader.now c.args.progress.now c.requires.place most c.requires.sure
-    c.requires.past _ _ read.keeps c.read.new.out (omega (arith, fits, read.steps.size)) (drop most out) refl _
-    (read.steps.direct past) read.in_order)
+    c.requires.past _ _ read.keeps c.read.new.out (omega (arith, fits, read.steps.size)) (drop most out) refl
+    (omega (
+      arith,
+      c.requires.offers,
+      c.requires.room,
+      fits,
+      read.steps.size,
+      length-append c.read.new.out (drop most out),
+      length-drop most out,
+    )) known _ (read.steps.direct past) read.in_order)
 
 pub returns-then-count-eq0 : goal.returns-then-count-eq0
-returns-then-count-eq0 g c =
+returns-then-count-eq0 g c known =
     let read = rw c.if-count-eq0.true at c.in_ok-count.ensures in
     let out = c.args.out.now in
     let most = c.args.most in
@@ -31,7 +39,15 @@ returns-then-count-eq0 g c =
     past_dry g.R.TellRead.remaining g.P.ReaderPolicy.rules (g.C.Coding.grammar c.args.coding.now)
     (g.met.C.Coding.lawful c.args.coding.now) c.args.reader.now c.args.progress.now c.requires.place most c.requires.sure
     c.requires.past _ _ read.keeps c.read.new.out (omega (arith, fits, read.steps.size)) (drop most out) refl
-    (read.steps.direct past) read.in_order
+    (omega (
+      arith,
+      c.requires.offers,
+      c.requires.room,
+      fits,
+      read.steps.size,
+      length-append c.read.new.out (drop most out),
+      length-drop most out,
+    )) known (read.steps.direct past) read.in_order
 
 pub behind-behind-requires-clause-carries : goal.behind-behind-requires-clause-carries
 behind-behind-requires-clause-carries g c =
@@ -50,7 +66,7 @@ behind-behind-requires-clause-carries g c =
     )
 
 pub returns : goal.returns
-returns g c =
+returns g c known =
     let read = c.in_ok-count.ensures in
     let out = c.args.out.now in
     let most = c.args.most in
@@ -65,7 +81,16 @@ returns g c =
     past_given g.R.TellRead.remaining g.P.ReaderPolicy.rules (g.C.Coding.grammar c.args.coding.now)
     (g.met.C.Coding.lawful c.args.coding.now) c.args.reader.now c.args.progress.now c.requires.place most c.requires.sure
     c.requires.past (c.read.new.out ++ drop most out) c.read.new.self read.keeps c.read.new.out size
-    (drop most out) refl n (omega arith) read.bound.0 (read.steps.direct past) read.in_order there c.take.new.self notes
+    (drop most out) refl
+    (omega (
+      arith,
+      c.requires.offers,
+      c.requires.room,
+      fits,
+      read.steps.size,
+      length-append c.read.new.out (drop most out),
+      length-drop most out,
+    )) known n (omega arith) read.bound.0 (read.steps.direct past) read.in_order there c.take.new.self notes
     (c.behind-behind.ensures.leads c.read.new.self.block.bytes
     (past_carries g.R.TellRead.remaining g.P.ReaderPolicy.rules (g.C.Coding.grammar c.args.coding.now)
     (g.met.C.Coding.lawful c.args.coding.now) c.args.reader.now c.args.progress.now c.requires.place most c.requires.sure

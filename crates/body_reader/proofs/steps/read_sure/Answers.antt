@@ -1,8 +1,8 @@
 use Rattle.std.proofs.Common.{Ok, ◌<◌, ◌≤◌, length, arith}
 use Rattle.std.proofs.lemmas.Result.{err_from_is_err_and}
 use Rattle.body_reader.specs.Coding.{IsKnown}
-use Rattle.body_reader.proofs.Filling.{Carries-fewer, show_some}
-use Rattle.body_reader.proofs.Handing.{hands_failed, hands_filled, hands_front}
+use Rattle.body_reader.proofs.Filling.{Carries-fewer, all_shown, show_some}
+use Rattle.body_reader.proofs.Handing.{hands_failed, hands_filled, hands_shown}
 use Rattle.body_reader.proofs.steps.read_sure.Goals as goal
 
 pub returns-then-held-gt0-clause-hands : goal.returns-then-held-gt0-clause-hands
@@ -12,33 +12,40 @@ returns-then-held-gt0-clause-hands g c =
     let p = c.args.progress.now in
     let k = c.min.result in
     let room : 0 < length c.hand_out.new.out = omega (arith, c.requires.begins.some) in
-    let some : 0 < k = omega (arith, c.min.ensures, c.if-held-gt0.true, c.requires.sure.some) in
+    let some : 0 < k = omega (arith, c.min.ensures, c.if-held-gt0.true, c.requires.sure.0.some) in
     let few : k ≤ c.args.sure = omega (arith, c.min.ensures) in
     let known : IsKnown grammar p.place k s.block.bytes = (
       omega (arith, c.min.ensures, c.buf_len-held.ensures.value),
-      λ _. Carries-fewer grammar p.place c.args.sure k s.block.bytes c.requires.sure some few,
+      λ _. Carries-fewer grammar p.place c.args.sure k s.block.bytes c.requires.sure.0 some few,
     ) in
-    hands_front g.R.TellRead.remaining g.P.ReaderPolicy.rules grammar c.hand_out.result s p k c.hand_out.new.reader
+    hands_shown g.R.TellRead.remaining g.P.ReaderPolicy.rules grammar c.hand_out.result s p k c.hand_out.new.reader
     c.hand_out.new.progress c.hand_out.new.known c.hand_out.new.out c.hand_out.ensures.took known some
     c.hand_out.ensures.count room c.hand_out.ensures.bytes
+    (all_shown g.R.TellRead.remaining g.P.ReaderPolicy.rules grammar p.place s.block.bytes c.args.sure k c.requires.sure
+    (omega (arith, c.min.ensures, c.buf_len-held.ensures.value))) c.args.known.now
 
 pub read_past-requires : goal.read_past-requires
 read_past-requires g c = record {
   place = c.requires.begins.place;
   sure = Carries-fewer (g.C.Coding.grammar c.args.coding.now) c.args.progress.now.place c.args.sure c.min-most.result
-      c.args.reader.now.block.bytes c.requires.sure
-      (omega (arith, c.min-most.ensures, c.requires.sure.some, c.requires.begins.some)) (omega (arith, c.min-most.ensures));
+      c.args.reader.now.block.bytes c.requires.sure.0
+      (omega (arith, c.min-most.ensures, c.requires.sure.0.some, c.requires.begins.some)) (omega (arith, c.min-most.ensures));
   past = (
     omega (arith, c.if-held-gt0.false, c.buf_len-held.ensures.value),
     omega (arith, c.if-most-capacity.true, c.capacity.ensures.value),
   );
   room = omega (arith, c.min-most.ensures);
+  offers = omega (arith, c.min-most.ensures, c.requires.sure.1);
 }
+
+pub returns-then-most-capacity-clause-hands : goal.returns-then-most-capacity-clause-hands
+returns-then-most-capacity-clause-hands g c = c.read_past.ensures c.args.known.now
 
 pub returns-in_err-known-clause-hands : goal.returns-in_err-known-clause-hands
 returns-in_err-known-clause-hands g c =
     let p = err_from_is_err_and c.from_residual.result c.from_residual.ensures.1 in
-    rw (p.1, p.2) (hands_failed _ _ _ _ _ _ _ _ c.requires.begins.some _ _ c.in_err-known.ensures)
+    rw (p.1, p.2) (hands_failed _ _ _ _ _ _ _ _ _ c.requires.begins.some _ _
+    (c.in_err-known.ensures _ (omega (arith, c.min-most.ensures, c.if-most-capacity.false, c.capacity.ensures.value))))
 
 pub returns-clause-hands : goal.returns-clause-hands
 returns-clause-hands g c =
@@ -47,11 +54,12 @@ returns-clause-hands g c =
     let grammar = g.C.Coding.grammar c.args.coding.now in
     let hands = c.hand_out-2 in
     let room : 0 < length hands.new.out = omega (arith, c.requires.begins.some) in
-    let fills = c.in_ok-known.ensures in
-    let some = show_some remaining rules' grammar c.args.reader.now c.args.progress.now c.args.sure c.requires.sure
-    c.show.new.reader _ fills in
-    hands_filled remaining rules' grammar c.args.reader.now c.args.progress.now hands.new.out c.show.new.reader
+    let fills = c.in_ok-known.ensures (length hands.new.out)
+    (omega (arith, c.min-most.ensures, c.if-most-capacity.false, c.capacity.ensures.value)) in
+    let some = show_some remaining rules' grammar (length hands.new.out) c.args.reader.now c.args.progress.now c.args.sure
+    c.requires.sure.0 c.show.new.reader _ fills in
+    hands_filled remaining rules' grammar c.args.known.now c.args.reader.now c.args.progress.now hands.new.out c.show.new.reader
     c.args.progress.now room _ some fills _ hands.new.reader hands.new.progress
-    (hands_front remaining rules' grammar hands.result c.show.new.reader c.args.progress.now _ hands.new.reader
+    (hands_shown remaining rules' grammar hands.result c.show.new.reader c.args.progress.now _ hands.new.reader
     hands.new.progress hands.new.known hands.new.out hands.ensures.took fills.ends.1.0 some hands.ensures.count room
-    hands.ensures.bytes)
+    hands.ensures.bytes (fills.ends.1.2 some) c.args.known.now)

@@ -7,8 +7,7 @@ use Rattle.chunked.proofs.coding.look_on.Goals as goal
 
 pub returns-then-is_empty : goal.returns-then-is_empty
 returns-then-is_empty c =
-    looks_none c.args.limits.now c.args.place c.args.shown.now c.requires.place
-    (open_of c.args.limits.now c.args.place c.requires.open)
+    looks_none c.args.limits.now c.args.place c.args.shown.now c.requires.place c.requires.open
     (nil_from_length c.args.shown.now (eqb-true _ _ (sym c.if-is_empty.ensures)))
 
 pub returns-in-Some : goal.returns-in-Some

@@ -31,7 +31,7 @@ returns-in-Ok-clause-gave g c = let gave = c.in-Ok.ensures.reads.answers.1 in (g
 
 pub returns-in-Ok-clause-asked : goal.returns-in-Ok-clause-asked
 returns-in-Ok-clause-asked g c =
-    body_asked c.get_ref.ensures.whole c.requires.1 c.read_payload.new.self c.in-Ok.ensures.reads.asked
+    body_asked c.get_ref.ensures.whole c.requires.1 _ c.read_payload.new.self c.in-Ok.ensures.reads.asked
 
 pub returns-in-Ok-clause-idle : goal.returns-in-Ok-clause-idle
 returns-in-Ok-clause-idle g c = body_idle c.get_ref.ensures.whole c.requires.1 c.in-Ok.ensures.reads
@@ -73,7 +73,7 @@ returns-in-Err-clause-fails g c =
 
 pub returns-in-Err-clause-asked : goal.returns-in-Err-clause-asked
 returns-in-Err-clause-asked g c =
-    body_asked c.get_ref.ensures.whole c.requires.1 c.read_payload.new.self c.in-Err.ensures.reads.asked
+    body_asked c.get_ref.ensures.whole c.requires.1 _ c.read_payload.new.self c.in-Err.ensures.reads.asked
 
 pub returns-in-Err-clause-idle : goal.returns-in-Err-clause-idle
 returns-in-Err-clause-idle g c = body_idle c.get_ref.ensures.whole c.requires.1 c.in-Err.ensures.reads

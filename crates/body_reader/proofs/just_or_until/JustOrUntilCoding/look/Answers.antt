@@ -1,4 +1,4 @@
-use Rattle.std.proofs.Common.{◌≡◌, ◌<◌, ◌+◌, ℕ, List, [], ◌∷◌, ◌++◌, false, true, length, drop, subst, sym, ap, ◌∙◌, arith, length-append, append-nil}
+use Rattle.std.proofs.Common.{◌≡◌, ◌<◌, ◌+◌, ℕ, List, [], ◌∷◌, ◌++◌, false, true, length, drop, refl, subst, sym, ap, ◌∙◌, arith, length-append, append-nil}
 use Rattle.std.proofs.lemmas.Bool.Decides.{Decides-eqb}
 use Rattle.std.proofs.lemmas.Slice.Eq.{starts_is}
 use Rattle.body_reader.specs.declared.coding.Look.TheVariants.{Passed}
@@ -39,15 +39,17 @@ returns-then-starts_with-2 c =
     let begins : just ≡ shown ++ drop (length shown) just =
     (starts_is Decides-eqb just shown c.starts_with-in-Start.result c.starts_with-in-Start.ensures.value).0
     c.if-starts_with-2.true in
-    let longer = (starts_is Decides-eqb shown just c.starts_with.result c.starts_with.ensures.value).1 in
-    subst (λ p. Lacks (just_or_until s.just.items s.until.delimiter.items s.room) p (length shown + 1) shown)
-    (sym c.in-Start.is)
-    (looks_begun s.just.items s.until.delimiter.items s.room s.some s.shorter s.fits shown (drop (length shown) just)
-    (sym same ∙ begins)
-    (more_in shown just (drop (length shown) just) begins (λ equal.
-    let yes = longer [] (sym (append-nil shown) ∙ ap (λ l. l ++ []) (sym equal)) in
-    let odd : false ≡ true = sym c.if-starts_with.false ∙ yes in cc)
-    s.just.items same))
+    let longer = (starts_is Decides-eqb shown just c.starts_with.result c.starts_with.ensures.value).1 in (
+      subst (λ p. Lacks (just_or_until s.just.items s.until.delimiter.items s.room) p (length shown + 1) shown)
+          (sym c.in-Start.is)
+          (looks_begun s.just.items s.until.delimiter.items s.room s.some s.shorter s.fits shown (drop (length shown) just)
+          (sym same ∙ begins)
+          (more_in shown just (drop (length shown) just) begins (λ equal.
+          let yes = longer [] (sym (append-nil shown) ∙ ap (λ l. l ++ []) (sym equal)) in
+          let odd : false ≡ true = sym c.if-starts_with.false ∙ yes in cc)
+          s.just.items same)),
+      refl,
+    )
 
 pub returns-else-starts_with-2 : goal.returns-else-starts_with-2
 returns-else-starts_with-2 c =

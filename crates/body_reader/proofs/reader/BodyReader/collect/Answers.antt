@@ -1,10 +1,9 @@
 -- Each piece that comes is appended, until the body ends, or why it doesn't.
-use Rattle.std.proofs.Common.{◌≡◌, ◌++◌, ℕ, List, Result, Ok, Err, true, false, if◌then◌else◌, is_ok, is_err, ap, arith, length, min, take, subst, sym, vec_items, ◌∙◌}
+use Rattle.std.proofs.Common.{◌≡◌, ◌++◌, ◌<◌, ℕ, List, Result, Ok, Err, true, false, if◌then◌else◌, is_ok, is_err, ap, arith, length, min, take, subst, sym, vec_items, ◌∙◌}
 use Rattle.std.proofs.lemmas.Result.{err_from_is_err_and}
 use Rattle.body_reader.specs.declared.error.CollectError.TheVariants as why
-use Rattle.body_reader.specs.BodyReader.{BodyWent, Collects, FillsPayload}
+use Rattle.body_reader.specs.BodyReader.{BodyWent, Collects}
 use Rattle.body_reader.proofs.Collecting.{Collected, collected_more, collected_none, collects_all, collects_long, collects_no_room, collects_none}
-use Rattle.body_reader.proofs.Draining.{fills_here, is_here, went_here}
 use Rattle.body_reader.proofs.reader.BodyReader.collect.Goals as goal
 
 -- what was refused leaves a vector as it was
@@ -23,51 +22,27 @@ loop-came-init g c = collected_none _ _ _ _ _ _ c.get_ref.ensures.whole
 
 pub returns-in_err-came : goal.returns-in_err-came
 returns-in_err-came g c =
-    let remaining = g.R.TellRead.remaining in
-    let rules' = g.P.ReaderPolicy.rules in
-    let grammar = g.C.Coding.grammar in
-    let s = c.args.self.now in
-    let so = c.loop-came.invariant in
     let p = err_from_is_err_and c.from_residual.result c.from_residual.ensures.1 in
-    rw (p.1, p.2) (collects_none remaining rules' (grammar s.coding) c.args.most s _ c.loop-came.self _ so c.fill_payload.new.self
-    _ (fills_here remaining rules' grammar s c.loop-came.self so.went.coding _ _ c.in_err-came.ensures))
+    rw (p.1, p.2) (collects_none g.C.Coding.grammar c.loop-came.invariant c.in_err-came.ensures)
 
 pub returns-then-came-eq0 : goal.returns-then-came-eq0
 returns-then-came-eq0 g c =
-    let remaining = g.R.TellRead.remaining in
-    let rules' = g.P.ReaderPolicy.rules in
-    let grammar = g.C.Coding.grammar in
-    let s = c.args.self.now in
-    let so = c.loop-came.invariant in
-    collects_all remaining rules' (grammar s.coding) c.args.most s _ c.loop-came.self _ so c.fill_payload.new.self c.in_ok-came.came
-    (fills_here remaining rules' grammar s c.loop-came.self so.went.coding _ _ c.in_ok-came.ensures)
-    c.if-came-eq0.true
+    collects_all g.C.Coding.grammar c.loop-came.invariant c.in_ok-came.ensures c.if-came-eq0.true
 
 pub returns-then-came-saturating_sub : goal.returns-then-came-saturating_sub
 returns-then-came-saturating_sub g c =
-    let remaining = g.R.TellRead.remaining in
-    let rules' = g.P.ReaderPolicy.rules in
-    let grammar = g.C.Coding.grammar in
-    let s = c.args.self.now in
-    let so = c.loop-came.invariant in
-    collects_long remaining rules' (grammar s.coding) c.args.most s _ c.loop-came.self _ so c.fill_payload.new.self c.in_ok-came.came
-    (fills_here remaining rules' grammar s c.loop-came.self so.went.coding _ _ c.in_ok-came.ensures)
+    collects_long g.C.Coding.grammar c.loop-came.invariant c.in_ok-came.ensures (omega (arith, c.if-came-eq0.false))
     (omega (arith, c.if-came-saturating_sub.true, c.saturating_sub.ensures, c.len.ensures))
 
 pub returns-then-is_err : goal.returns-then-is_err
 returns-then-is_err g c =
-    let remaining = g.R.TellRead.remaining in
-    let rules' = g.P.ReaderPolicy.rules in
-    let grammar = g.C.Coding.grammar in
     let s = c.args.self.now in
-    let so = c.loop-came.invariant in
     let same = not_added c.extend_from_slice.result (vec_items c.loop-came.out) c.piece.result.now
     (vec_items c.extend_from_slice.new.self) c.extend_from_slice.ensures.items
     (sym c.is_err.ensures.value ∙ c.if-is_err.true) in
-    subst (Collects remaining rules' (grammar s.coding) c.args.most s (vec_items c.args.out.now) (Err why.Memory)
-    c.fill_payload.new.self) (sym same)
-    (collects_no_room remaining rules' (grammar s.coding) c.args.most s _ c.loop-came.self _ so c.fill_payload.new.self c.in_ok-came.came
-    (fills_here remaining rules' grammar s c.loop-came.self so.went.coding _ _ c.in_ok-came.ensures))
+    subst (Collects g.R.TellRead.remaining g.P.ReaderPolicy.rules (g.C.Coding.grammar s.coding) c.args.most s
+    (vec_items c.args.out.now) (Err why.Memory) c.fill_payload.new.self) (sym same)
+    (collects_no_room g.C.Coding.grammar c.loop-came.invariant c.in_ok-came.ensures (omega (arith, c.if-came-eq0.false)))
 
 pub loop-came-preserved : goal.loop-came-preserved
 loop-came-preserved g c =
@@ -75,13 +50,10 @@ loop-came-preserved g c =
     let rules' = g.P.ReaderPolicy.rules in
     let grammar = g.C.Coding.grammar in
     let s = c.args.self.now in
-    let so = c.loop-came.invariant in
     let f = c.fill_payload.new.self in
     let t = c.consume_payload.new.self in
-    let n = c.in_ok-came.came in
     let fills = c.in_ok-came.ensures in
-    let here = fills.went.coding ∙ so.went.coding in
-    let all : min n f.known ≡ f.known = omega (arith, fills.answers.0) in
+    let all : min c.in_ok-came.came f.known ≡ f.known = omega (arith, fills.answers.0) in
     let went : BodyWent remaining rules' (grammar f.coding) f (take f.known f.reader.block.bytes) t =
     subst (λ k. BodyWent remaining rules' (grammar f.coding) f (take k f.reader.block.bytes) t) all c.consume_payload.ensures.went in
     let same = added c.extend_from_slice.result (vec_items c.loop-came.out) c.piece.result.now
@@ -89,8 +61,6 @@ loop-came-preserved g c =
     (sym c.is_err.ensures.value ∙ c.if-is_err.false) in
     let piece = ap (λ l. vec_items c.loop-came.out ++ l) c.piece.ensures in
     subst (Collected remaining rules' (grammar s.coding) c.args.most s (vec_items c.args.out.now) t) (sym (same ∙ piece))
-    (collected_more remaining rules' (grammar s.coding) c.args.most s _ c.loop-came.self _ so f n
-    (fills_here remaining rules' grammar s c.loop-came.self so.went.coding _ _ fills) t
-    (went_here remaining rules' grammar s f here _ t went) c.consume_payload.ensures.told
-    (is_here grammar s t (went.coding ∙ here) c.consume_payload.ensures.whole)
+    (collected_more grammar c.loop-came.invariant fills (omega (arith, c.if-came-eq0.false)) (g.met.C.Coding.lawful s.coding) t
+    went c.consume_payload.ensures.told c.consume_payload.ensures.whole
     (omega (arith, fills.answers.0, c.if-came-eq0.false, c.if-came-saturating_sub.false, c.saturating_sub.ensures, c.len.ensures)))

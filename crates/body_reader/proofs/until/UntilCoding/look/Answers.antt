@@ -1,4 +1,4 @@
-use Rattle.std.proofs.Common.{◌≡◌, ◌+◌, ap, arith, length, subst, sym}
+use Rattle.std.proofs.Common.{◌≡◌, ◌+◌, ap, arith, length, refl, subst, sym}
 use Rattle.memchr.specs.Find.{Nowhere, OccursAt}
 use Rattle.body_reader.specs.declared.coding.Look.TheVariants.{Passed}
 use Rattle.body_reader.specs.declared.until.Part.TheVariants.{Inside, Behind}
@@ -28,9 +28,11 @@ returns-in-Some c =
     let none : Nowhere (OccursAt shown needle) 0 c.in-Some.at =
     subst (λ l. Nowhere (OccursAt shown l) 0 c.in-Some.at) same c.in-Some.ensures.0.before in
     let here : OccursAt shown needle c.in-Some.at =
-    subst (λ l. OccursAt shown l c.in-Some.at) same c.in-Some.ensures.1 in
-    subst (λ p. Carries (until needle) p c.in-Some.at shown) (sym c.in-Inside.is)
-    (looks_before needle c.args.self.now.some shown c.in-Some.at (omega arith) none here)
+    subst (λ l. OccursAt shown l c.in-Some.at) same c.in-Some.ensures.1 in (
+      subst (λ p. Carries (until needle) p c.in-Some.at shown) (sym c.in-Inside.is)
+          (looks_before needle c.args.self.now.some shown c.in-Some.at (omega arith) none here),
+      omega arith,
+    )
 
 pub returns-then-at-eq0 : goal.returns-then-at-eq0
 returns-then-at-eq0 c =
@@ -38,9 +40,12 @@ returns-then-at-eq0 c =
     let shown = c.args.shown.now in
     let same : c.as_slice-needle.result.now ≡ needle = c.as_slice-needle.ensures.value in
     let begins : MayBegin needle shown 0 =
-    subst (λ l. MayBegin l shown 0) same (subst (MayBegin c.as_slice-needle.result.now shown) c.if-at-eq0.true c.may_begin-at.ensures.begins) in
-    subst (λ p. Lacks (until needle) p (length shown + 1) shown) (sym c.in-Inside.is)
-    (looks_short needle c.args.self.now.some shown (omega (arith, c.may_begin-at.ensures.short c.if-at-eq0.true, ap length same)) begins)
+    subst (λ l. MayBegin l shown 0) same (subst (MayBegin c.as_slice-needle.result.now shown) c.if-at-eq0.true c.may_begin-at.ensures.begins) in (
+      subst (λ p. Lacks (until needle) p (length shown + 1) shown) (sym c.in-Inside.is)
+          (looks_short needle c.args.self.now.some shown
+          (omega (arith, c.may_begin-at.ensures.short c.if-at-eq0.true, ap length same)) begins),
+      refl,
+    )
 
 pub returns-else-at-eq0 : goal.returns-else-at-eq0
 returns-else-at-eq0 c =
@@ -49,7 +54,10 @@ returns-else-at-eq0 c =
     let shown = c.args.shown.now in
     let at = c.may_begin-at.result in
     let same : slice ≡ needle = c.as_slice-needle.ensures.value in
-    let begins : MayBegin needle shown at = subst (λ l. MayBegin l shown at) same c.may_begin-at.ensures.begins in
-    subst (λ p. Carries (until needle) p at shown) (sym c.in-Inside.is)
-    (looks_until needle c.args.self.now.some shown at (omega (arith, c.if-at-eq0.false)) (λ k occurs.
-    c.in-None.ensures k (omega arith) (omega (arith, occurs.fits)) (subst (λ l. OccursAt shown l k) (sym same) occurs)) begins)
+    let begins : MayBegin needle shown at = subst (λ l. MayBegin l shown at) same c.may_begin-at.ensures.begins in (
+      subst (λ p. Carries (until needle) p at shown) (sym c.in-Inside.is)
+          (looks_until needle c.args.self.now.some shown at (omega (arith, c.if-at-eq0.false)) (λ k occurs.
+          c.in-None.ensures k (omega arith) (omega (arith, occurs.fits)) (subst (λ l. OccursAt shown l k) (sym same) occurs))
+          begins),
+      omega arith,
+    )
