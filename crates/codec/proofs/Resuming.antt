@@ -12,10 +12,11 @@ use Rattle.codec.specs.declared.serving.ServeError.{ServeError}
 use Rattle.codec.specs.declared.serving.ServeError.TheVariants.{Read}
 use Rattle.codec.specs.declared.serving.Served.{Served}
 
-module _ {S D W I A T P : Type 0} (remaining : S → Option (List ℕ)) (tells : T → StreamLog) (trace : T → T → Type 0)
-    (g : Grammar W) (item_of : List ℕ → I) (Answers : A → I → List ℕ → List ℕ → Bool → A → Type 0) where
+module _ {S D W I A F T P : Type 0} (remaining : S → Option (List ℕ)) (tells : T → StreamLog) (trace : T → T → Type 0)
+    (g : Grammar W) (item_of : List ℕ → I) (Answers : A → I → List ℕ → List ℕ → Bool → A → Type 0)
+    (Fails : A → I → List ℕ → F → A → Type 0) where
   -- no read was interrupted
-  pub resumes_none : ((u : T) → trace u u) → (s : Server S D A T P) → Resumes remaining tells trace g item_of Answers 0 s s
+  pub resumes_none : ((u : T) → trace u u) → (s : Server S D A T P) → Resumes remaining tells trace g item_of Answers Fails 0 s s
   resumes_none none s = record {
     exchanges = [];
     exchanged = Exchanged-none remaining tells trace g item_of Answers none s;
@@ -23,19 +24,19 @@ module _ {S D W I A T P : Type 0} (remaining : S → Option (List ℕ)) (tells :
   }
 
   module _ (joins : (u v w : T) → trace u v → trace v w → trace u w) (count : ℕ) (s m : Server S D A T P)
-      (r : Resumes remaining tells trace g item_of Answers count s m) (t : Server S D A T P) where
+      (r : Resumes remaining tells trace g item_of Answers Fails count s m) (t : Server S D A T P) where
     -- one more was
-    pub resumes_more : (e : Error) → IsInterrupt e → Stops remaining tells trace g item_of Answers m (Read e) t
-        → Resumes remaining tells trace g item_of Answers (count + 1) s t
+    pub resumes_more : (e : Error) → IsInterrupt e → Stops remaining tells trace g item_of Answers Fails m (Read e) t
+        → Resumes remaining tells trace g item_of Answers Fails (count + 1) s t
     resumes_more e is f = record {
       exchanges = f.exchanges ++ r.exchanges;
       exchanged = Exchanged-joins remaining tells trace g item_of Answers joins s m t r.exchanges f.exchanges true r.exchanged
-          (Stops-read remaining tells trace g item_of Answers joins m e t f).0;
+          (Stops-read remaining tells trace g item_of Answers Fails joins m e t f).0;
       interrupted = rw add-one (m, r.interrupted, e, is, f);
     }
 
     pub serves_behind : (ended : Served) → Serves remaining tells trace g item_of Answers m ended t
-        → ServesAll remaining tells trace g item_of Answers s ended t
+        → ServesAll remaining tells trace g item_of Answers Fails s ended t
     serves_behind ended f =
         let all = Exchanged-joins remaining tells trace g item_of Answers joins s m t r.exchanges f.ends.exchanges f.ends.more
         r.exchanged (record { taken = f.taken; service = f.service; along = f.all.along }) in
@@ -51,10 +52,11 @@ module _ {S D W I A T P : Type 0} (remaining : S → Option (List ℕ)) (tells :
         }
 
 -- a failure that is said of the decoder of the last call
-pub stops_so : {S D W I A T P : Type 0} (remaining : S → Option (List ℕ)) (tells : T → StreamLog) (trace : T → T → Type 0)
-    (g : D → Grammar W) (item_of : D → List ℕ → I) (Answers : A → I → List ℕ → List ℕ → Bool → A → Type 0) (d d' : D)
-    (m t : Server S D A T P) (e e' : ServeError W) → d' ≡ d → e ≡ e'
-    → Stops remaining tells trace (g d') (item_of d') Answers m e t → Stops remaining tells trace (g d) (item_of d) Answers m e' t
-stops_so remaining tells trace g item_of Answers d d' m t e e' same is f =
-    subst (λ x. Stops remaining tells trace (g d) (item_of d) Answers m x t) is
-    (subst (λ x. Stops remaining tells trace (g x) (item_of x) Answers m e t) same f)
+pub stops_so : {S D W I A F T P : Type 0} (remaining : S → Option (List ℕ)) (tells : T → StreamLog) (trace : T → T → Type 0)
+    (g : D → Grammar W) (item_of : D → List ℕ → I) (Answers : A → I → List ℕ → List ℕ → Bool → A → Type 0)
+    (Fails : A → I → List ℕ → F → A → Type 0) (d d' : D) (m t : Server S D A T P) (e e' : ServeError W F) → d' ≡ d → e ≡ e'
+    → Stops remaining tells trace (g d') (item_of d') Answers Fails m e t
+    → Stops remaining tells trace (g d) (item_of d) Answers Fails m e' t
+stops_so remaining tells trace g item_of Answers Fails d d' m t e e' same is f =
+    subst (λ x. Stops remaining tells trace (g d) (item_of d) Answers Fails m x t) is
+    (subst (λ x. Stops remaining tells trace (g x) (item_of x) Answers Fails m e t) same f)

@@ -1,9 +1,11 @@
 -- What a turn of a server comes to.
-use Rattle.std.proofs.Common.{◌≡◌, ◌⊎◌, ℕ, List, Bool, Option, Result, Ok, Err, Some, IfOk, inr, refl, subst}
+use Rattle.std.proofs.Common.{◌≡◌, ◌⊎◌, ℕ, List, Bool, Option, Result, Ok, Err, Some, IfOk, inr, refl, subst, sym}
 use Rattle.std.specs.declared.io.Error.{Error}
 use Rattle.buffer_redux.specs.Buffered.{Buffered}
 use Rattle.buffer_redux.specs.StreamLog.{StreamLog}
 use Rattle.codec.specs.Answering.{Answered}
+use Rattle.codec.specs.declared.answering.AnswerError.{AnswerError}
+use Rattle.codec.specs.declared.answering.AnswerError.TheVariants.{Failed, Write}
 use Rattle.piece_reader.specs.declared.decoder.Span.{Span}
 use Rattle.piece_reader.specs.declared.error.NextError.{NextError}
 use Rattle.piece_reader.specs.Decoding.{bytes_at}
@@ -11,11 +13,11 @@ use Rattle.codec.specs.Fetching.{FlushedFirst}
 use Rattle.piece_reader.specs.Grammar.{Grammar}
 use Rattle.piece_reader.specs.Items.{NextItem}
 use Rattle.piece_reader.specs.PieceReader.{ReaderState}
-use Rattle.codec.specs.Serving.{AnswerFailed, Exchange, Fetched, FlushFailed, Server, TookPiece, server}
+use Rattle.codec.specs.Serving.{AnswerFailed, Exchange, Fetched, FlushFailed, Server, ServiceFailed, TookPiece, server}
 
-module _ {S D W I A T P : Type 0} (remaining : S → Option (List ℕ)) (tells : T → StreamLog) (trace : T → T → Type 0)
+module _ {S D W I A F T P : Type 0} (remaining : S → Option (List ℕ)) (tells : T → StreamLog) (trace : T → T → Type 0)
     (g : Grammar W) (item_of : List ℕ → I) (Answers : A → I → List ℕ → List ℕ → Bool → A → Type 0)
-    (s : Server S D A T P) (t : ReaderState S D)
+    (Fails : A → I → List ℕ → F → A → Type 0) (s : Server S D A T P) (t : ReaderState S D)
     (ready : Buffered T P) (r : Result (Result (Option (I × Span)) (NextError W)) Error) (said : I × Span)
     (is : r ≡ Ok (Ok (Some said))) (next : IfOk r (λ answer. NextItem remaining g item_of s.pieces answer t))
     (first : FlushedFirst tells trace g s.pieces s.answers r t ready) (shown : List ℕ)
@@ -38,7 +40,8 @@ module _ {S D W I A T P : Type 0} (remaining : S → Option (List ℕ)) (tells :
       (subst (λ l. Answers s.service said.0 l reply more after) lent a)
 
   -- the piece was answered
-  pub took_piece : (b more : Bool) → b ≡ more → Answered tells trace (Answers s.service said.0 shown) ready (Ok b) after last
+  pub took_piece : (b more : Bool) → b ≡ more → Answered tells trace (Answers s.service said.0 shown)
+      (Fails s.service said.0 shown) ready (Ok b) after last
       → (x : Exchange) × TookPiece remaining tells trace g item_of Answers s x more (server t after last)
   took_piece b more same (reply, a, written) = (
     exchange reply,
@@ -52,16 +55,33 @@ module _ {S D W I A T P : Type 0} (remaining : S → Option (List ℕ)) (tells :
   )
 
   -- the piece couldn't be answered
-  pub answer_failed : (e : Error) → Answered tells trace (Answers s.service said.0 shown) ready (Err e) after last
+  pub answer_failed : (r : AnswerError F) (e : Error) → r ≡ Write e
+      → Answered tells trace (Answers s.service said.0 shown) (Fails s.service said.0 shown) ready (Err r) after last
       → FlushFailed remaining tells trace g item_of Answers s e (server t after last)
       ⊎ ((x : Exchange) × AnswerFailed remaining tells trace g item_of Answers s x e (server t after last))
-  answer_failed e (reply, more, a, written) = inr (
-    exchange reply,
-    record {
-      ready = ready;
-      fetched = fetched;
-      all = refl;
-      answers = (more, answers reply more a);
-      written = written;
-    },
-  )
+  answer_failed r e why answered =
+      let failed = subst (λ r. Answered tells trace (Answers s.service said.0 shown) (Fails s.service said.0 shown) ready
+      (Err r) after last) why answered in inr (
+        exchange failed.0,
+        record {
+          ready = ready;
+          fetched = fetched;
+          all = refl;
+          answers = (failed.1, answers failed.0 failed.1 failed.2);
+          written = failed.3;
+        },
+      )
+
+  -- the service failed
+  pub service_failed : (r : AnswerError F) (why : F) → r ≡ Failed why
+      → Answered tells trace (Answers s.service said.0 shown) (Fails s.service said.0 shown) ready (Err r) after last
+      → ServiceFailed remaining tells trace g item_of Answers Fails s why (server t after last)
+  service_failed r why same answered =
+      let failed = subst (λ r. Answered tells trace (Answers s.service said.0 shown) (Fails s.service said.0 shown) ready
+      (Err r) after last) same answered in
+      subst (λ v. ServiceFailed remaining tells trace g item_of Answers Fails s why (server t after v)) (sym failed.1) (record {
+        payload = bytes_at said.1 t.reader.block.bytes;
+        fetched = fetched;
+        fails = subst (λ i. Fails s.service i (bytes_at said.1 t.reader.block.bytes) why after) item.says
+            (subst (λ l. Fails s.service said.0 l why after) lent failed.0);
+      })

@@ -1,6 +1,5 @@
 -- What is written behind a piece is the answer to it.
-use Rattle.std.specs.Prelude.{◌≡◌, ℕ, List, [], Bool, Result, Ok, Err}
-use Rattle.std.specs.declared.io.Error.{Error}
+use Rattle.std.specs.Prelude.{ℕ, List, Bool, Result, Ok, Err}
 use Rattle.std.proofs.Common.{inl, inr, subst, sym}
 use Rattle.buffer_redux.specs.Buffered.{Buffered}
 use Rattle.buffer_redux.specs.BufWriter.{WritesAlong}
@@ -8,15 +7,18 @@ use Rattle.buffer_redux.specs.Policy.{std_write_rules}
 use Rattle.buffer_redux.specs.StreamLog.{StreamLog}
 use Rattle.buffer_redux.specs.WritesAlongLaws.{WritesAlong-none}
 use Rattle.codec.specs.Answering.{Answered, AnswersBy, WritesOnce}
+use Rattle.codec.specs.declared.answering.AnswerError.{AnswerError}
+use Rattle.codec.specs.declared.answering.AnswerError.TheVariants.{Write, Failed}
 
 module _ {T P : Type 0} (tells : T → StreamLog) (trace : T → T → Type 0) (w v : Buffered T P) where
   -- an answer that was written, or refused, and is one to the piece
-  pub AnswersBy-answered : {A : Type 0} (Answers : List ℕ → Bool → A → Type 0) (answer : List ℕ) (more : Bool) (t : A)
-      → Answers answer more t → (result : Result Bool Error) → AnswersBy tells trace answer more w result v
-      → Answered tells trace Answers w result t v
-  AnswersBy-answered Answers answer more t says (Ok further) (is, written) =
+  pub AnswersBy-answered : {A F : Type 0} (Answers : List ℕ → Bool → A → Type 0) (Fails : F → A → Type 0) (answer : List ℕ)
+      (more : Bool) (t : A) → Answers answer more t → (result : Result Bool (AnswerError F))
+      → AnswersBy tells trace answer more w result v → Answered tells trace Answers Fails w result t v
+  AnswersBy-answered Answers Fails answer more t says (Ok further) (is, written) =
       (answer, subst (λ b. Answers answer b t) (sym is) says, inl written)
-  AnswersBy-answered Answers answer more t says (Err e) written = (answer, more, says, written)
+  AnswersBy-answered Answers Fails answer more t says (Err (Write e)) written = (answer, more, says, written)
+  AnswersBy-answered Answers Fails answer more t says (Err (Failed why)) none = absurd none
 
   -- what was written once was accepted
   pub WritesOnce-along : ((u : T) → trace u u) → (bytes : List ℕ) → WritesOnce tells trace w bytes v

@@ -8,7 +8,7 @@ use Rattle.buffer_redux.specs.StreamLog.{StreamLog}
 use Rattle.buffer_redux.specs.WriteParts.{WritesParts}
 use Rattle.piece_reader.specs.declared.error.NextError.TheVariants as next
 use Rattle.codec.specs.declared.serving.ServeError.{ServeError}
-use Rattle.codec.specs.declared.serving.ServeError.TheVariants.{Flush, Read, Write, Wrong}
+use Rattle.codec.specs.declared.serving.ServeError.TheVariants.{Failed, Flush, Read, Write, Wrong}
 use Rattle.codec.specs.declared.serving.Served.{Served}
 use Rattle.codec.specs.declared.serving.Served.TheVariants as served
 use Rattle.codec.specs.declared.serving.Step.{Step}
@@ -48,6 +48,18 @@ Converses {A} item_of Answers a (x ∷ earlier) more b =
     (between : A) × Converses item_of Answers a earlier true between
     × Answers between (item_of x.bytes) x.payload x.reply more b
 
+-- the first of these exchanges, of which the latest is first, is such
+pub record FirstIs (Such : Exchange → Type 0) (exchanges : List Exchange) : Type 0 where
+  pub later : List Exchange
+  pub first : Exchange
+  pub all : exchanges ≡ later ++ first ∷ []
+  pub such : Such first
+
+-- there are no exchanges, or the first is such; or there is just one, so a lone one, behind which no piece is taken
+abbrev pub Opens : (Exchange → Type 0) → (Exchange → Type 0) → List Exchange → Bool → Type 0
+Opens Such Lone exchanges more = (exchanges ≡ []) ⊎ FirstIs Such exchanges
+    ⊎ ((x : Exchange) × (exchanges ≡ x ∷ []) × Lone x × (more ≡ false))
+
 module _ {S D W I A T P : Type 0} (remaining : S → Option (List ℕ)) (tells : T → StreamLog) (trace : T → T → Type 0)
     (g : Grammar W) (item_of : List ℕ → I) (Answers : A → I → List ℕ → List ℕ → Bool → A → Type 0) where
   -- answers were flushed if the stream had to be asked, and then this came of a step
@@ -81,16 +93,6 @@ module _ {S D W I A T P : Type 0} (remaining : S → Option (List ℕ)) (tells :
     pub answers : (more : Bool) × Answers s.service (item_of x.bytes) x.payload x.reply more t.service
     pub written : WritesParts tells trace ready x.reply (Err e) t.answers
 
-  -- what one turn does
-  abbrev pub Turns : Server S D A T P → Result Step (ServeError W) → Server S D A T P → Type 0
-  Turns s (Ok step.Went) t = (x : Exchange) × TookPiece s x true t
-  Turns s (Ok step.Closed) t = (x : Exchange) × TookPiece s x false t
-  Turns s (Ok step.End) t = TookNone s (Ok None) t
-  Turns s (Err (Read e)) t = TookNone s (Err (next.Io e)) t
-  Turns s (Err (Wrong e)) t = TookNone s (Err (next.Wrong e)) t
-  Turns s (Err (Write e)) t = FlushFailed s e t ⊎ ((x : Exchange) × AnswerFailed s x e t)
-  Turns s (Err (Flush ended e)) t = ⊥
-
   -- these exchanges, the latest first, one behind another; behind the last a further piece is taken, or none
   abbrev pub Talked : Server S D A T P → List Exchange → Bool → Server S D A T P → Type 0
   Talked s [] more t = (s ≡ t) × (more ≡ true)
@@ -119,19 +121,37 @@ module _ {S D W I A T P : Type 0} (remaining : S → Option (List ℕ)) (tells :
     pub service : Converses item_of Answers s.service ends.exchanges ends.more t.service
     pub all : FlushedAlong tells trace std_write_rules s.answers (joined (λ x. x.reply) ends.exchanges) t.answers
 
-  -- how they failed: the flush behind an end did, or a turn
-  abbrev pub FailedBy : ServeError W → List Exchange → Bool → Server S D A T P → Server S D A T P → Type 0
-  FailedBy (Flush ended e) exchanges more s t = (m : Server S D A T P) × EndedBy ended exchanges more s m
-      × (t.pieces ≡ m.pieces) × (t.service ≡ m.service) × WasFlushed tells trace m.answers (Err e) t.answers
-  FailedBy e exchanges more s t = (more ≡ true) × Turns s (Err e) t
+  module _ {F : Type 0} (Fails : A → I → List ℕ → F → A → Type 0) where
+    -- a piece was taken, and the service failed at it; nothing was written for it
+    pub record ServiceFailed (s : Server S D A T P) (why : F) (t : Server S D A T P) : Type 0 where
+      pub payload : List ℕ
+      pub fetched : Fetched s (Ok (Some payload)) t.answers t.pieces
+      pub fails : Fails s.service (item_of fetched.next.bytes) payload why t.service
 
-  -- serving failed: exchanges, and then that
-  pub record Stops (s : Server S D A T P) (e : ServeError W) (t : Server S D A T P) : Type 0 where
-    pub exchanges : List Exchange
-    pub more : Bool
-    pub last : Server S D A T P
-    pub talked : Talked s exchanges more last
-    pub fails : FailedBy e exchanges more last t
-    pub taken : PiecesWent remaining g.most s.pieces (joined (λ x. x.bytes) exchanges) last.pieces
-    pub service : Converses item_of Answers s.service exchanges more last.service
-    pub along : WritesAlong tells trace std_write_rules s.answers (joined (λ x. x.reply) exchanges) last.answers
+    -- what one turn does
+    abbrev pub Turns : Server S D A T P → Result Step (ServeError W F) → Server S D A T P → Type 0
+    Turns s (Ok step.Went) t = (x : Exchange) × TookPiece s x true t
+    Turns s (Ok step.Closed) t = (x : Exchange) × TookPiece s x false t
+    Turns s (Ok step.End) t = TookNone s (Ok None) t
+    Turns s (Err (Read e)) t = TookNone s (Err (next.Io e)) t
+    Turns s (Err (Wrong e)) t = TookNone s (Err (next.Wrong e)) t
+    Turns s (Err (Write e)) t = FlushFailed s e t ⊎ ((x : Exchange) × AnswerFailed s x e t)
+    Turns s (Err (Failed why)) t = ServiceFailed s why t
+    Turns s (Err (Flush ended e)) t = ⊥
+
+    -- how they failed: the flush behind an end did, or a turn
+    abbrev pub FailedBy : ServeError W F → List Exchange → Bool → Server S D A T P → Server S D A T P → Type 0
+    FailedBy (Flush ended e) exchanges more s t = (m : Server S D A T P) × EndedBy ended exchanges more s m
+        × (t.pieces ≡ m.pieces) × (t.service ≡ m.service) × WasFlushed tells trace m.answers (Err e) t.answers
+    FailedBy e exchanges more s t = (more ≡ true) × Turns s (Err e) t
+
+    -- serving failed: exchanges, and then that
+    pub record Stops (s : Server S D A T P) (e : ServeError W F) (t : Server S D A T P) : Type 0 where
+      pub exchanges : List Exchange
+      pub more : Bool
+      pub last : Server S D A T P
+      pub talked : Talked s exchanges more last
+      pub fails : FailedBy e exchanges more last t
+      pub taken : PiecesWent remaining g.most s.pieces (joined (λ x. x.bytes) exchanges) last.pieces
+      pub service : Converses item_of Answers s.service exchanges more last.service
+      pub along : WritesAlong tells trace std_write_rules s.answers (joined (λ x. x.reply) exchanges) last.answers

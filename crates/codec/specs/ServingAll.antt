@@ -9,18 +9,18 @@ use Rattle.buffer_redux.specs.Retried.{InterruptedSteps, Step}
 use Rattle.buffer_redux.specs.StreamLog.{StreamLog}
 use Rattle.piece_reader.specs.Grammar.{Grammar}
 use Rattle.piece_reader.specs.NextPiece.{PiecesWent}
-use Rattle.codec.specs.Serving.{Converses, Exchange, Server, Serves, Stops, joined}
+use Rattle.codec.specs.Serving.{Converses, Exchange, FailedBy, Server, Serves, Stops, joined}
 use Rattle.codec.specs.declared.serving.ServeError.{ServeError}
 use Rattle.codec.specs.declared.serving.ServeError.TheVariants.{Read}
 use Rattle.codec.specs.declared.serving.Served.{Served}
 
 -- an error other than an interrupted read
-abbrev pub NotInterrupted : {W : Type 0} → ServeError W → Type 0
+abbrev pub NotInterrupted : {W F : Type 0} → ServeError W F → Type 0
 NotInterrupted (Read e) = ¬ (IsInterrupt e)
 NotInterrupted e = Unit {0}
 
 -- it gave up, which it says by this kind
-abbrev pub IsTimeout : {W : Type 0} → ServeError W → Type 0
+abbrev pub IsTimeout : {W F : Type 0} → ServeError W F → Type 0
 IsTimeout (Read e) = error_kind e ≡ TimedOut
 IsTimeout e = ⊥
 
@@ -32,31 +32,41 @@ module _ {S D W I A T P : Type 0} (remaining : S → Option (List ℕ)) (tells :
     pub service : Converses item_of Answers s.service exchanges more t.service
     pub along : WritesAlong tells trace std_write_rules s.answers (joined (λ x. x.reply) exchanges) t.answers
 
-  -- serving stopped since a read failed
-  abbrev pub ReadStops : Step (Server S D A T P) Served
-  ReadStops s answer t = IfErr answer (λ e. Stops remaining tells trace g item_of Answers s (Read e) t)
+  module _ {F : Type 0} (Fails : A → I → List ℕ → F → A → Type 0) where
+    -- serving stopped since a read failed
+    abbrev pub ReadStops : Step (Server S D A T P) Served
+    ReadStops s answer t = IfErr answer (λ e. Stops remaining tells trace g item_of Answers Fails s (Read e) t)
 
-  -- so many reads were interrupted, and each time serving went on
-  pub record Resumes (count : ℕ) (s t : Server S D A T P) : Type 0 where
-    pub exchanges : List Exchange
-    pub exchanged : Exchanged s exchanges true t
-    pub interrupted : InterruptedSteps ReadStops count s t
+    -- so many reads were interrupted, and each time serving went on
+    pub record Resumes (count : ℕ) (s t : Server S D A T P) : Type 0 where
+      pub exchanges : List Exchange
+      pub exchanged : Exchanged s exchanges true t
+      pub interrupted : InterruptedSteps ReadStops count s t
 
-  -- all exchanges up to an end, whose answers were all received and flushed
-  pub record ServesAll (s : Server S D A T P) (ended : Served) (t : Server S D A T P) : Type 0 where
-    pub exchanges : List Exchange
-    pub more : Bool
-    pub exchanged : Exchanged s exchanges more t
-    pub flushed : FlushedAlong tells trace std_write_rules s.answers (joined (λ x. x.reply) exchanges) t.answers
-    pub count : ℕ
-    pub between : Server S D A T P
-    pub resumes : Resumes count s between
-    pub last : Serves remaining tells trace g item_of Answers between ended t
+    -- all exchanges up to an end, whose answers were all received and flushed
+    pub record ServesAll (s : Server S D A T P) (ended : Served) (t : Server S D A T P) : Type 0 where
+      pub exchanges : List Exchange
+      pub more : Bool
+      pub exchanged : Exchanged s exchanges more t
+      pub flushed : FlushedAlong tells trace std_write_rules s.answers (joined (λ x. x.reply) exchanges) t.answers
+      pub count : ℕ
+      pub between : Server S D A T P
+      pub resumes : Resumes count s between
+      pub last : Serves remaining tells trace g item_of Answers between ended t
 
-  -- serving failed; or 2^64 - 1 reads were interrupted
-  pub record StopsAll (s : Server S D A T P) (e : ServeError W) (t : Server S D A T P) : Type 0 where
-    pub count : ℕ
-    pub between : Server S D A T P
-    pub resumes : Resumes count s between
-    pub last : (Stops remaining tells trace g item_of Answers between e t × NotInterrupted e)
-        ⊎ ((between ≡ t) × (2 ^ 64 ≤ count + 1) × IsTimeout e)
+    -- serving failed; or 2^64 - 1 reads were interrupted
+    pub record StopsAll (s : Server S D A T P) (e : ServeError W F) (t : Server S D A T P) : Type 0 where
+      pub count : ℕ
+      pub between : Server S D A T P
+      pub resumes : Resumes count s between
+      pub last : (Stops remaining tells trace g item_of Answers Fails between e t × NotInterrupted e)
+          ⊎ ((between ≡ t) × (2 ^ 64 ≤ count + 1) × IsTimeout e)
+
+    -- the exchanges of all calls, and what failed behind them: serving did, behind the latest of these; or it gave up
+    pub record FailsBehind (s : Server S D A T P) (e : ServeError W F) (t : Server S D A T P) : Type 0 where
+      pub exchanges : List Exchange
+      pub more : Bool
+      pub last : Server S D A T P
+      pub exchanged : Exchanged s exchanges more last
+      pub fails : ((latest : List Exchange) × FailedBy remaining tells trace g item_of Answers Fails e latest more last t)
+          ⊎ ((last ≡ t) × IsTimeout e)

@@ -1,5 +1,5 @@
 -- How what a server did over several calls joins, and what holds along a conversation.
-use Rattle.std.specs.Prelude.{◌≡◌, ℕ, ◌⊎◌, List, [], ◌∷◌, ◌++◌, length, Bool, true, Option, Ok}
+use Rattle.std.specs.Prelude.{◌≡◌, ℕ, ◌⊎◌, List, [], ◌∷◌, ◌++◌, length, Bool, true, false, Option, Ok}
 use Rattle.std.specs.declared.io.Error.{Error}
 use Rattle.std.proofs.Common.{ap, append-nil, append_assoc, inl, inr, refl, subst, sym, ◌∙◌, arith, length-append}
 use Rattle.buffer_redux.specs.Buffered.{Buffered}
@@ -11,8 +11,9 @@ use Rattle.buffer_redux.specs.WritesAlongLaws.{WasFlushed-along, WritesAlong-joi
 use Rattle.piece_reader.specs.Grammar.{Grammar}
 use Rattle.piece_reader.specs.NextPiece.{PiecesWent}
 use Rattle.piece_reader.specs.PiecesWentLaws.{PiecesWent-joins, PiecesWent-none}
-use Rattle.codec.specs.Serving.{Converses, Exchange, Server, Stops, joined}
-use Rattle.codec.specs.ServingAll.{Exchanged}
+use Rattle.codec.specs.Serving.{Converses, Exchange, Opens, Server, Stops, joined}
+use Rattle.codec.specs.ServingAll.{Exchanged, FailsBehind, StopsAll}
+use Rattle.codec.specs.declared.serving.ServeError.{ServeError}
 use Rattle.codec.specs.declared.serving.ServeError.TheVariants.{Read}
 
 pub joined-joins : (part : Exchange → List ℕ) (earlier later : List Exchange)
@@ -72,6 +73,26 @@ module _ {A I : Type 0} (item_of : List ℕ → I) (Answers : A → I → List �
         ends = inr (elim f.ends [ inl one ↦ one.1 | inr more ↦ more ]);
       }
 
+  -- where every answer of a state is such, or a lone one that closes, so is all that begins there
+  pub Converses-opens : (Such Lone : Exchange → Type 0) (a b : A) (exchanges : List Exchange) (more : Bool)
+      → ((x : Exchange) (further : Bool) (made : A) → Answers a (item_of x.bytes) x.payload x.reply further made
+      → Such x ⊎ (Lone x × (further ≡ false)))
+      → Converses item_of Answers a exchanges more b → Opens Such Lone exchanges more
+  Converses-opens Such Lone a b [] more says talked = inl refl
+  Converses-opens Such Lone a b (x ∷ earlier) more says talked =
+      let f = Converses-begins a b x earlier more talked in elim (says f.first f.further f.made f.answers) [
+        | inl such ↦ inr (inl (record { later = f.later; first = f.first; all = f.all; such = such }))
+        | inr (lone, closes) ↦ inr (inr (elim f.ends [
+          | inl (none, is) ↦ (
+            f.first,
+            subst (λ later. x ∷ earlier ≡ later ++ f.first ∷ []) none f.all,
+            lone,
+            sym is ∙ closes,
+          )
+          | inr goes ↦ absurd (let odd : true ≡ false = sym goes ∙ closes in cc)
+        ]))
+      ]
+
 -- what was accepted over several calls was flushed by the last
 pub FlushedAlong-all : {T P : Type 0} (tells : T → StreamLog) (trace : T → T → Type 0) (s t : Buffered T P) (a : List ℕ)
     → WritesAlong tells trace std_write_rules s a t → t.block.bytes ≡ [] → t.log.writes.flushed ≡ t.log.writes.received
@@ -109,11 +130,12 @@ module _ {S D W I A T P : Type 0} (remaining : S → Option (List ℕ)) (tells :
   }
 
   -- where a read failed all that was taken was answered, and all answers were flushed
-  pub Stops-read : ((u v w : T) → trace u v → trace v w → trace u w) → (s : Server S D A T P) (e : Error) (t : Server S D A T P)
-      (f : Stops remaining tells trace g item_of Answers s (Read e) t)
+  pub Stops-read : {F : Type 0} (Fails : A → I → List ℕ → F → A → Type 0) → ((u v w : T) → trace u v → trace v w → trace u w)
+      → (s : Server S D A T P) (e : Error) (t : Server S D A T P)
+      (f : Stops remaining tells trace g item_of Answers Fails s (Read e) t)
       → Exchanged remaining tells trace g item_of Answers s f.exchanges true t
       × FlushedAlong tells trace std_write_rules s.answers (joined (λ x. x.reply) f.exchanges) t.answers
-  Stops-read joins s e t f =
+  Stops-read Fails joins s e t f =
       let none = f.fails.1 in
       let next = none.fetched.next in
       let flushed : WasFlushed tells trace f.last.answers (Ok tt) t.answers = elim none.fetched.first [
@@ -141,3 +163,27 @@ module _ {S D W I A T P : Type 0} (remaining : S → Option (List ℕ)) (tells :
         FlushedAlong-all tells trace s.answers t.answers (joined (λ x. x.reply) f.exchanges) along flushed.ok.empty
             flushed.ok.flushed,
       )
+
+  -- of a failure behind several calls: all exchanges, and what failed behind them
+  pub StopsAll-behind : {F : Type 0} (Fails : A → I → List ℕ → F → A → Type 0)
+      → ((u v w : T) → trace u v → trace v w → trace u w) → (s : Server S D A T P) (e : ServeError W F) (t : Server S D A T P)
+      → StopsAll remaining tells trace g item_of Answers Fails s e t
+      → FailsBehind remaining tells trace g item_of Answers Fails s e t
+  StopsAll-behind Fails joins s e t f = elim f.last [
+    | inl (stops, other) ↦ record {
+      exchanges = stops.exchanges ++ f.resumes.exchanges;
+      more = stops.more;
+      last = stops.last;
+      exchanged = Exchanged-joins joins s f.between stops.last f.resumes.exchanges stops.exchanges stops.more
+          f.resumes.exchanged (record { taken = stops.taken; service = stops.service; along = stops.along });
+      fails = inl (stops.exchanges, stops.fails);
+    }
+    | inr (same, many, gave_up) ↦ record {
+      exchanges = f.resumes.exchanges;
+      more = true;
+      last = t;
+      exchanged = subst (λ m. Exchanged remaining tells trace g item_of Answers s f.resumes.exchanges true m) same
+          f.resumes.exchanged;
+      fails = inr (refl, gave_up);
+    }
+  ]

@@ -16,19 +16,21 @@ use Rattle.piece_reader.specs.PieceReader.{ReaderState}
 use Rattle.piece_reader.specs.StaysLeftLaws.{StaysLeft-went}
 use Rattle.codec.specs.Serving.{Converses, EndedBy, Ends, Exchange, FailedBy, Server, Serves, Stops, Talked, Turns, joined, server}
 use Rattle.codec.specs.declared.serving.ServeError.{ServeError}
-use Rattle.codec.specs.declared.serving.ServeError.TheVariants.{Flush, Read, Write, Wrong}
+use Rattle.codec.specs.declared.serving.ServeError.TheVariants.{Failed, Flush, Read, Write, Wrong}
 use Rattle.codec.specs.declared.serving.Served.{Served}
 use Rattle.codec.specs.declared.serving.Served.TheVariants as served
 
-module _ {S D W I A T P : Type 0} (remaining : S → Option (List ℕ)) (tells : T → StreamLog) (trace : T → T → Type 0)
-    (g : Grammar W) (item_of : List ℕ → I) (Answers : A → I → List ℕ → List ℕ → Bool → A → Type 0) where
+module _ {S D W I A F T P : Type 0} (remaining : S → Option (List ℕ)) (tells : T → StreamLog) (trace : T → T → Type 0)
+    (g : Grammar W) (item_of : List ℕ → I) (Answers : A → I → List ℕ → List ℕ → Bool → A → Type 0)
+    (Fails : A → I → List ℕ → F → A → Type 0) where
   -- a turn that failed is a failure behind those before
-  pub turn_failed_so : (exchanges : List Exchange) (s t : Server S D A T P) (e : ServeError W)
-      → Turns remaining tells trace g item_of Answers s (Err e) t
-      → FailedBy remaining tells trace g item_of Answers e exchanges true s t
+  pub turn_failed_so : (exchanges : List Exchange) (s t : Server S D A T P) (e : ServeError W F)
+      → Turns remaining tells trace g item_of Answers Fails s (Err e) t
+      → FailedBy remaining tells trace g item_of Answers Fails e exchanges true s t
   turn_failed_so exchanges s t (Read e) turn = (refl, turn)
   turn_failed_so exchanges s t (Wrong e) turn = (refl, turn)
   turn_failed_so exchanges s t (Write e) turn = (refl, turn)
+  turn_failed_so exchanges s t (Failed why) turn = (refl, turn)
   turn_failed_so exchanges s t (Flush ended e) turn = absurd turn
 
 module _ {S D W I A T P : Type 0} (remaining : S → Option (List ℕ)) (tells : T → StreamLog) (trace : T → T → Type 0)
@@ -86,22 +88,6 @@ module _ {S D W I A T P : Type 0} (remaining : S → Option (List ℕ)) (tells :
             (WritesAlong-none tells trace std_write_rules none m.answers),
       )
 
-      -- a failure behind exchanges
-      pub stops : (exchanges : List Exchange) (more : Bool) (m : Server S D A T P)
-          → Talked remaining tells trace g item_of Answers s exchanges more m → (e : ServeError W) (t : Server S D A T P)
-          → FailedBy remaining tells trace g item_of Answers e exchanges more m t
-          → Stops remaining tells trace g item_of Answers s e t
-      stops exchanges more m talked e t fails = record {
-        exchanges = exchanges;
-        more = more;
-        last = m;
-        talked = talked;
-        fails = fails;
-        taken = Talked-taken exchanges more m talked;
-        service = Talked-answers exchanges more m talked;
-        along = Talked-along joins exchanges more m talked;
-      }
-
       -- up to an end
       ends_so : (by : Served) (exchanges : List Exchange) (more : Bool) (m t : Server S D A T P)
           → EndedBy remaining tells trace g item_of Answers by exchanges more m t
@@ -114,63 +100,6 @@ module _ {S D W I A T P : Type 0} (remaining : S → Option (List ℕ)) (tells :
         first_along m.pieces m.answers t.pieces t.answers took.fetched.first,
       )
       ends_so served.Many exchanges more m t (is, many, same) = still m t same
-
-      -- what a turn that failed took: a piece that wasn't answered, or nothing; and nothing was written
-      turn_failed : (m t : Server S D A T P) (e : ServeError W)
-          → Turns remaining tells trace g item_of Answers m (Err e) t
-          → (unanswered : List ℕ) × PiecesWent remaining g.most m.pieces unanswered t.pieces
-          × WritesAlong tells trace std_write_rules m.answers [] t.answers
-      turn_failed m t (Read e) took = (
-        took.fetched.next.bytes,
-        took.fetched.next.went,
-        first_along m.pieces m.answers t.pieces t.answers took.fetched.first,
-      )
-      turn_failed m t (Wrong e) took = (
-        took.fetched.next.bytes,
-        took.fetched.next.went,
-        first_along m.pieces m.answers t.pieces t.answers took.fetched.first,
-      )
-      turn_failed m t (Write e) (inl failed) = (
-        [],
-        StaysLeft-went remaining g m.pieces t.pieces failed.first.2,
-        WasFlushed-along tells trace std_write_rules m.answers (Err e) t.answers failed.first.1,
-      )
-      turn_failed m t (Write e) (inr (x, failed)) = (
-        failed.fetched.next.bytes,
-        failed.fetched.next.went,
-        WritesAlong-then tells trace std_write_rules joins m.answers failed.ready t.answers []
-            (first_along m.pieces m.answers t.pieces failed.ready failed.fetched.first) failed.written.along,
-      )
-      turn_failed m t (Flush ended e) turn = absurd turn
-
-      -- whatever failed, of all that was taken at most the last piece wasn't answered, and just the answers were written
-      pub Stops-went : (e : ServeError W) (t : Server S D A T P) (f : Stops remaining tells trace g item_of Answers s e t)
-          → (unanswered : List ℕ)
-          × PiecesWent remaining g.most s.pieces (joined (λ x. x.bytes) f.exchanges ++ unanswered) t.pieces
-          × WritesAlong tells trace std_write_rules s.answers (joined (λ x. x.reply) f.exchanges) t.answers
-      Stops-went e t f =
-          let last = behind e f.exchanges f.more f.last t f.fails in (
-            last.0,
-            PiecesWent-joins remaining g.most s.pieces f.last.pieces t.pieces (joined (λ x. x.bytes) f.exchanges) last.0
-                f.taken last.1,
-            WritesAlong-then tells trace std_write_rules joins s.answers f.last.answers t.answers
-                (joined (λ x. x.reply) f.exchanges) f.along last.2,
-          )
-        where
-          behind : (e : ServeError W) (exchanges : List Exchange) (more : Bool) (m t : Server S D A T P)
-              → FailedBy remaining tells trace g item_of Answers e exchanges more m t
-              → (unanswered : List ℕ) × PiecesWent remaining g.most m.pieces unanswered t.pieces
-              × WritesAlong tells trace std_write_rules m.answers [] t.answers
-          behind (Read e) exchanges more m t (is, turn) = turn_failed m t (Read e) turn
-          behind (Wrong e) exchanges more m t (is, turn) = turn_failed m t (Wrong e) turn
-          behind (Write e) exchanges more m t (is, turn) = turn_failed m t (Write e) turn
-          behind (Flush ended e) exchanges more m t (n, by, pieces, service, flushed) =
-              let so = ends_so ended exchanges more m n by in (
-                [],
-                subst (λ p. PiecesWent remaining g.most m.pieces [] p) (sym pieces) so.0,
-                WritesAlong-then tells trace std_write_rules joins m.answers n.answers t.answers [] so.2
-                    (WasFlushed-along tells trace std_write_rules n.answers (Err e) t.answers flushed),
-              )
 
       -- up to an end, and then a flush
       module _ (by : Served) (t : Server S D A T P) (ends : Ends remaining tells trace g item_of Answers s by t)
@@ -196,8 +125,90 @@ module _ {S D W I A T P : Type 0} (remaining : S → Option (List ℕ)) (tells :
               flushed;
         }
 
-        pub Ends-failed : (why : Error) → WasFlushed tells trace t.answers (Err why) v
-            → Stops remaining tells trace g item_of Answers s (Flush by why) (server t.pieces t.service v)
-        Ends-failed why flushed =
+      module _ {F : Type 0} (Fails : A → I → List ℕ → F → A → Type 0) where
+        -- a failure behind exchanges
+        pub stops : (exchanges : List Exchange) (more : Bool) (m : Server S D A T P)
+            → Talked remaining tells trace g item_of Answers s exchanges more m → (e : ServeError W F) (t : Server S D A T P)
+            → FailedBy remaining tells trace g item_of Answers Fails e exchanges more m t
+            → Stops remaining tells trace g item_of Answers Fails s e t
+        stops exchanges more m talked e t fails = record {
+          exchanges = exchanges;
+          more = more;
+          last = m;
+          talked = talked;
+          fails = fails;
+          taken = Talked-taken exchanges more m talked;
+          service = Talked-answers exchanges more m talked;
+          along = Talked-along joins exchanges more m talked;
+        }
+
+        -- what a turn that failed took: a piece that wasn't answered, or nothing; and nothing was written
+        turn_failed : (m t : Server S D A T P) (e : ServeError W F)
+            → Turns remaining tells trace g item_of Answers Fails m (Err e) t
+            → (unanswered : List ℕ) × PiecesWent remaining g.most m.pieces unanswered t.pieces
+            × WritesAlong tells trace std_write_rules m.answers [] t.answers
+        turn_failed m t (Read e) took = (
+          took.fetched.next.bytes,
+          took.fetched.next.went,
+          first_along m.pieces m.answers t.pieces t.answers took.fetched.first,
+        )
+        turn_failed m t (Wrong e) took = (
+          took.fetched.next.bytes,
+          took.fetched.next.went,
+          first_along m.pieces m.answers t.pieces t.answers took.fetched.first,
+        )
+        turn_failed m t (Write e) (inl failed) = (
+          [],
+          StaysLeft-went remaining g m.pieces t.pieces failed.first.2,
+          WasFlushed-along tells trace std_write_rules m.answers (Err e) t.answers failed.first.1,
+        )
+        turn_failed m t (Write e) (inr (x, failed)) = (
+          failed.fetched.next.bytes,
+          failed.fetched.next.went,
+          WritesAlong-then tells trace std_write_rules joins m.answers failed.ready t.answers []
+              (first_along m.pieces m.answers t.pieces failed.ready failed.fetched.first) failed.written.along,
+        )
+        turn_failed m t (Failed why) failed = (
+          failed.fetched.next.bytes,
+          failed.fetched.next.went,
+          first_along m.pieces m.answers t.pieces t.answers failed.fetched.first,
+        )
+        turn_failed m t (Flush ended e) turn = absurd turn
+
+        -- whatever failed, of all that was taken at most the last piece wasn't answered, and just the answers were written
+        pub Stops-went : (e : ServeError W F) (t : Server S D A T P)
+            (f : Stops remaining tells trace g item_of Answers Fails s e t) → (unanswered : List ℕ)
+            × PiecesWent remaining g.most s.pieces (joined (λ x. x.bytes) f.exchanges ++ unanswered) t.pieces
+            × WritesAlong tells trace std_write_rules s.answers (joined (λ x. x.reply) f.exchanges) t.answers
+        Stops-went e t f =
+            let last = behind e f.exchanges f.more f.last t f.fails in (
+              last.0,
+              PiecesWent-joins remaining g.most s.pieces f.last.pieces t.pieces (joined (λ x. x.bytes) f.exchanges) last.0
+                  f.taken last.1,
+              WritesAlong-then tells trace std_write_rules joins s.answers f.last.answers t.answers
+                  (joined (λ x. x.reply) f.exchanges) f.along last.2,
+            )
+          where
+            behind : (e : ServeError W F) (exchanges : List Exchange) (more : Bool) (m t : Server S D A T P)
+                → FailedBy remaining tells trace g item_of Answers Fails e exchanges more m t
+                → (unanswered : List ℕ) × PiecesWent remaining g.most m.pieces unanswered t.pieces
+                × WritesAlong tells trace std_write_rules m.answers [] t.answers
+            behind (Read e) exchanges more m t (is, turn) = turn_failed m t (Read e) turn
+            behind (Wrong e) exchanges more m t (is, turn) = turn_failed m t (Wrong e) turn
+            behind (Write e) exchanges more m t (is, turn) = turn_failed m t (Write e) turn
+            behind (Failed why) exchanges more m t (is, turn) = turn_failed m t (Failed why) turn
+            behind (Flush ended e) exchanges more m t (n, by, pieces, service, flushed) =
+                let so = ends_so ended exchanges more m n by in (
+                  [],
+                  subst (λ p. PiecesWent remaining g.most m.pieces [] p) (sym pieces) so.0,
+                  WritesAlong-then tells trace std_write_rules joins m.answers n.answers t.answers [] so.2
+                      (WasFlushed-along tells trace std_write_rules n.answers (Err e) t.answers flushed),
+                )
+
+        -- up to an end, behind which the flush failed
+        pub Ends-failed : (by : Served) (t : Server S D A T P) (ends : Ends remaining tells trace g item_of Answers s by t)
+            (v : Buffered T P) (why : Error) → WasFlushed tells trace t.answers (Err why) v
+            → Stops remaining tells trace g item_of Answers Fails s (Flush by why) (server t.pieces t.service v)
+        Ends-failed by t ends v why flushed =
             stops ends.exchanges ends.more ends.last ends.talked (Flush by why) (server t.pieces t.service v)
             (t, ends.ends, refl, refl, flushed)

@@ -3,12 +3,11 @@ ghost use Rattle.std.specs.Prelude.{◌≡◌, ℕ, ◌≤◌, ◌++◌, List, l
 ghost use Rattle.codec.specs.Answering.{AnswersBy};
 ghost use Rattle.codec.specs.HeadersOut.{HeadersOut, IsItemRead};
 
-use crate::answering::write_answer;
+use crate::answering::{AnswerError, write_answer};
 use crate::header_bytes::HeaderBytes;
 use buffer_redux::BufWriter;
 use buffer_redux::tell::TellWrite;
 use piece_reader::Items;
-use std::io;
 
 /// A protocol whose pieces are a header and a payload, and whose headers are written too, with all that they say: so a
 /// [`Service`](crate::Service) answers by it.
@@ -31,13 +30,13 @@ pub trait ItemsOut: Items {
 }
 
 /// Does as [`write_answer`], where the answer is a piece that says this, with this payload.
-pub fn write_item<D: ItemsOut, W: TellWrite>(
+pub fn write_item<D: ItemsOut, W: TellWrite, F>(
     writer: &mut BufWriter<W>,
     protocol: &D,
     item: D::Item,
     payload: &[u8],
     more: bool,
-) -> io::Result<bool>
+) -> Result<bool, AnswerError<F>>
     requires { length payload.now ≤ (D.headers_out protocol.now item).max }
     ensures { AnswersBy W.log W.trace ((D.headers_out protocol.now item).header (length payload.now) ++ payload.now) more
         writer.old result writer.new }

@@ -22,7 +22,7 @@ mod text_header;
 mod text_header_writer;
 mod writer;
 
-pub use answering::write_answer;
+pub use answering::{AnswerError, write_answer};
 pub use both::{Codec, written_text};
 pub use by_first::{ByFirst, EitherWrong};
 pub use delimited_writer::NotPlain;

@@ -4,6 +4,7 @@ ghost use Rattle.codec.specs.Answering.{Answered, IsPieceRead};
 ghost use Rattle.codec.specs.ServingAll.{ServesAll, StopsAll};
 ghost use Rattle.codec.specs.Serving.{Ends, Serves, Stops, Turns, server};
 
+use crate::answering::AnswerError;
 use crate::fetching::fetch_item;
 use buffer_redux::BufWriter;
 use buffer_redux::tell::{TellRead, TellWrite};
@@ -13,21 +14,27 @@ use std::io::{ErrorKind, Write};
 
 /// What answers the pieces of a protocol: a server, but for its streams.
 pub trait Service<D: Items> {
+    /// What fails in the service itself, as where it is refused memory. One that can't fail takes `Infallible`.
+    type Failure: Drop;
+
     // What a piece makes of it: what it says, its payload, what is written for it, and whether a further piece is taken.
     ghost answers: { Self → D.Item → List ℕ → List ℕ → Bool → Self → Type 0 };
 
+    // Which failures may come of a piece, by what it says and its payload, and what each leaves.
+    ghost fails: { Self → D.Item → List ℕ → Self.Failure → Self → Type 0 };
+
     /// Answers a piece, and says whether a further one is taken. What it is given is a piece of the grammar, so no payload is
     /// longer than the decoder allows. It writes once, by one `write_parts` as [`write_answer`](crate::write_answer) makes, or
-    /// nothing, as to a part of a request, and sends and flushes nothing else. An `Err` is the writer's: nothing of the answer was
-    /// taken in then, and what the piece asked for is done.
+    /// nothing, as to a part of a request, and sends and flushes nothing else. At an `Err` nothing of an answer was taken in.
     fn answer<W: TellWrite>(
         &mut self,
         item: D::Item,
         payload: &[u8],
         writer: &mut BufWriter<W>,
-    ) -> io::Result<bool>
+    ) -> Result<bool, AnswerError<Self::Failure>>
         requires { IsPieceRead D.grammar D.item_of item payload.now }
-        ensures { Answered W.log W.trace (answers self.old item payload.now) writer.old result self.new writer.new };
+        ensures { Answered W.log W.trace (answers self.old item payload.now) (fails self.old item payload.now) writer.old result
+            self.new writer.new };
 }
 
 /// Why serving ended.
@@ -43,7 +50,7 @@ pub enum Served {
 
 /// Why serving failed.
 #[derive(Debug, Drop)]
-pub enum ServeError<W> {
+pub enum ServeError<W, F> {
     /// The stream of pieces failed. All answers were received and flushed, and [`serve`] may be called again.
     Read(io::Error),
     /// The stream of answers failed, behind a piece that was answered, or whose answer is missing.
@@ -52,6 +59,9 @@ pub enum ServeError<W> {
     Flush(Served, io::Error),
     /// What is left is no piece. It stays, and answers to what stood before it may be buffered still.
     Wrong(W),
+    /// The service failed at a piece. That was taken, nothing was written for it, and answers to what stood before it may be
+    /// buffered still.
+    Failed(F),
 }
 
 // What one turn was.
@@ -71,12 +81,12 @@ pub fn serve<R: TellRead, D: Items, W: TellWrite, S: Service<D>>(
     service: &mut S,
     reader: &mut PieceReader<R, D>,
     writer: &mut BufWriter<W>,
-) -> Result<Served, ServeError<D::Wrong>>
+) -> Result<Served, ServeError<D::Wrong, S::Failure>>
     ensures served { IfOk result (λ ended. Serves R.remaining W.log W.trace (D.grammar reader.old.decoder)
         (D.item_of reader.old.decoder) S.answers (server reader.old service.old writer.old) ended
         (server reader.new service.new writer.new)) }
     ensures failed { IfErr result (λ e. Stops R.remaining W.log W.trace (D.grammar reader.old.decoder)
-        (D.item_of reader.old.decoder) S.answers (server reader.old service.old writer.old) e
+        (D.item_of reader.old.decoder) S.answers S.fails (server reader.old service.old writer.old) e
         (server reader.new service.new writer.new)) }
 {
     let ended = answer_pieces(service, reader, writer)?;
@@ -91,12 +101,12 @@ pub fn serve_all<R: TellRead, D: Items, W: TellWrite, S: Service<D>>(
     service: &mut S,
     reader: &mut PieceReader<R, D>,
     writer: &mut BufWriter<W>,
-) -> Result<Served, ServeError<D::Wrong>>
+) -> Result<Served, ServeError<D::Wrong, S::Failure>>
     ensures served { IfOk result (λ ended. ServesAll R.remaining W.log W.trace (D.grammar reader.old.decoder)
-        (D.item_of reader.old.decoder) S.answers (server reader.old service.old writer.old) ended
+        (D.item_of reader.old.decoder) S.answers S.fails (server reader.old service.old writer.old) ended
         (server reader.new service.new writer.new)) }
     ensures failed { IfErr result (λ e. StopsAll R.remaining W.log W.trace (D.grammar reader.old.decoder)
-        (D.item_of reader.old.decoder) S.answers (server reader.old service.old writer.old) e
+        (D.item_of reader.old.decoder) S.answers S.fails (server reader.old service.old writer.old) e
         (server reader.new service.new writer.new)) }
 {
     for _call in 0..u64::MAX {
@@ -110,6 +120,7 @@ pub fn serve_all<R: TellRead, D: Items, W: TellWrite, S: Service<D>>(
             Err(ServeError::Write(e)) => return Err(ServeError::Write(e)),
             Err(ServeError::Flush(ended, e)) => return Err(ServeError::Flush(ended, e)),
             Err(ServeError::Wrong(e)) => return Err(ServeError::Wrong(e)),
+            Err(ServeError::Failed(why)) => return Err(ServeError::Failed(why)),
         }
     }
     Err(ServeError::Read(io::Error::from(ErrorKind::TimedOut)))
@@ -120,12 +131,12 @@ fn answer_pieces<R: TellRead, D: Items, W: TellWrite, S: Service<D>>(
     service: &mut S,
     reader: &mut PieceReader<R, D>,
     writer: &mut BufWriter<W>,
-) -> Result<Served, ServeError<D::Wrong>>
+) -> Result<Served, ServeError<D::Wrong, S::Failure>>
     ensures ended { IfOk result (λ ended. Ends R.remaining W.log W.trace (D.grammar reader.old.decoder)
         (D.item_of reader.old.decoder) S.answers (server reader.old service.old writer.old) ended
         (server reader.new service.new writer.new)) }
     ensures failed { IfErr result (λ e. Stops R.remaining W.log W.trace (D.grammar reader.old.decoder)
-        (D.item_of reader.old.decoder) S.answers (server reader.old service.old writer.old) e
+        (D.item_of reader.old.decoder) S.answers S.fails (server reader.old service.old writer.old) e
         (server reader.new service.new writer.new)) }
 {
     for _turn in 0..u64::MAX {
@@ -143,15 +154,16 @@ fn turn<R: TellRead, D: Items, W: TellWrite, S: Service<D>>(
     service: &mut S,
     reader: &mut PieceReader<R, D>,
     writer: &mut BufWriter<W>,
-) -> Result<Step, ServeError<D::Wrong>>
-    ensures { Turns R.remaining W.log W.trace (D.grammar reader.old.decoder) (D.item_of reader.old.decoder) S.answers
+) -> Result<Step, ServeError<D::Wrong, S::Failure>>
+    ensures { Turns R.remaining W.log W.trace (D.grammar reader.old.decoder) (D.item_of reader.old.decoder) S.answers S.fails
         (server reader.old service.old writer.old) result (server reader.new service.new writer.new) }
 {
     match fetch_item(reader, writer) {
         Ok(Ok(Some(said))) => match service.answer(said.0, reader.lent(said.1), writer) {
             Ok(true) => Ok(Step::Went),
             Ok(false) => Ok(Step::Closed),
-            Err(e) => Err(ServeError::Write(e)),
+            Err(AnswerError::Write(e)) => Err(ServeError::Write(e)),
+            Err(AnswerError::Failed(why)) => Err(ServeError::Failed(why)),
         },
         Ok(Ok(None)) => Ok(Step::End),
         Ok(Err(NextError::Io(e))) => Err(ServeError::Read(e)),

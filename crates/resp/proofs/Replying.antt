@@ -1,5 +1,5 @@
 -- What is replied to a request that is whole.
-use Rattle.std.proofs.Common.{◌≡◌, ℕ, List, Bool, true, false, MatchBool, refl, sym, subst}
+use Rattle.std.proofs.Common.{◌≡◌, ℕ, List, Bool, true, false, MatchBool, sym, subst}
 use Rattle.std.specs.Prelude.{codes}
 use Rattle.resp.specs.Commands.{Acts, Means, goes_on}
 use Rattle.resp.specs.Sessions.{RepliesWhole}

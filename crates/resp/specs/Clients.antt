@@ -1,5 +1,5 @@
 -- What contracts see of a client, and how it was served.
-use Rattle.std.specs.Prelude.{◌≡◌, ℕ, ◌<◌}
+use Rattle.std.specs.Prelude.{◌≡◌, ◌<◌}
 use Rattle.buffer_redux.specs.Buffered.{Buffered}
 use Rattle.codec.specs.PieceReader.{ReaderState}
 use Rattle.codec.specs.Serving.{Server, server}

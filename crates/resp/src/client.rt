@@ -1,5 +1,6 @@
 //! A client, and the store that outlives it.
 ghost use Rattle.std.specs.Prelude.{◌≡◌, IfErr, IfOk};
+ghost use Rattle.codec.specs.Answering.{NeverFails};
 ghost use Rattle.codec.specs.PieceReader.{IsFresh};
 ghost use Rattle.codec.specs.ServingAll.{ServesAll, StopsAll};
 ghost use Rattle.decoders.specs.Resp.{resp, resp_item};
@@ -17,6 +18,7 @@ use codec::{
 };
 use decoders::Resp;
 use std::alloc::Global;
+use std::convert::Infallible;
 use std::mem;
 
 /// The most bytes of a bulk string, and of a line.
@@ -81,12 +83,13 @@ impl<R: TellRead> Client<R> {
         &mut self,
         store: &mut Store,
         replies: &mut BufWriter<W>,
-    ) -> Result<Ending, ServeError<EitherWrong<HeaderError, Unended<TooLong>>>>
-        ensures served { IfOk result (λ ending. ServesAll R.remaining W.log W.trace (resp (pieces_of self.old).decoder.max) resp_item
-            RepliesBy (serving self.old store.old replies.old) (ends_as ending) (serving self.new store.new replies.new)) }
+    ) -> Result<Ending, ServeError<EitherWrong<HeaderError, Unended<TooLong>>, Infallible>>
+        ensures served { IfOk result (λ ending. ServesAll R.remaining W.log W.trace (resp (pieces_of self.old).decoder.max)
+            resp_item RepliesBy NeverFails (serving self.old store.old replies.old) (ends_as ending)
+            (serving self.new store.new replies.new)) }
         ensures within { IfOk result (λ ending. IsWithin (begun_of self.new) ending) }
         ensures failed { IfErr result (λ e. StopsAll R.remaining W.log W.trace (resp (pieces_of self.old).decoder.max) resp_item
-            RepliesBy (serving self.old store.old replies.old) e (serving self.new store.new replies.new)) }
+            RepliesBy NeverFails (serving self.old store.old replies.old) e (serving self.new store.new replies.new)) }
     {
         let request = mem::replace(&mut self.request, Request::new(self.alloc));
         let values = mem::replace(store, Store::new(self.alloc, 0));

@@ -9,10 +9,10 @@ use crate::request::{Fed, Refusal, Request};
 use crate::store::Store;
 use buffer_redux::BufWriter;
 use buffer_redux::tell::TellWrite;
-use codec::{Service, write_answer};
+use codec::{AnswerError, Service, write_answer};
 use decoders::{Resp, RespItem};
 use std::alloc::Global;
-use std::io;
+use std::convert::Infallible;
 
 /// What is replied to bytes that are no piece.
 pub static PROTOCOL_ERROR: &[u8] = b"-ERR Protocol error\r\n";
@@ -53,16 +53,21 @@ impl Session {
 
 /// Each request that is whole gets one reply, and each piece that is of none an error, behind which no further is taken.
 impl Service<Resp> for Session {
+    ghost use Rattle.codec.specs.Answering.{NeverFails};
     ghost use Rattle.resp.specs.Sessions.{RepliesBy};
 
+    type Failure = Infallible;
+
     ghost answers = { RepliesBy };
+
+    ghost fails = { NeverFails };
 
     fn answer<W: TellWrite>(
         &mut self,
         item: RespItem,
         payload: &[u8],
         writer: &mut BufWriter<W>,
-    ) -> io::Result<bool> {
+    ) -> Result<bool, AnswerError<Infallible>> {
         match self.request.take(self.alloc, item, payload) {
             Fed::More => Ok(true),
             Fed::Whole => answer_whole(self.alloc, &mut self.request, &mut self.store, writer),
@@ -77,9 +82,9 @@ fn answer_whole<W: TellWrite>(
     request: &mut Request,
     store: &mut Store,
     writer: &mut BufWriter<W>,
-) -> io::Result<bool>
+) -> Result<bool, AnswerError<Infallible>>
     ensures { Answered W.log W.trace (λ reply more t. RepliesWhole request.old (held store.old) reply more t.waiting t.values)
-        writer.old result (session request.new (held store.new)) writer.new }
+        (λ _ _. ⊥) writer.old result (session request.new (held store.new)) writer.new }
 {
     if request.is_lost() {
         request.clear();
@@ -91,7 +96,7 @@ fn answer_whole<W: TellWrite>(
     request.clear();
     match done {
         Ok(()) => Ok(more),
-        Err(e) => Err(e),
+        Err(e) => Err(AnswerError::Write(e)),
     }
 }
 

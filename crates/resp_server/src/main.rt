@@ -27,6 +27,7 @@ fn main(rt: HostRuntime) -> io::Result<ExitCode> {
         Err(ServeError::Read(e)) => Err(e),
         Err(ServeError::Write(e)) => Err(e),
         Err(ServeError::Flush(_ended, e)) => Err(e),
+        Err(ServeError::Failed(never)) => match never {},
         Err(ServeError::Wrong(EitherWrong::One(HeaderError::Truncated(_)))) => {
             replies.flush()?;
             Ok(cut_off(&rt))

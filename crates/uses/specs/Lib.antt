@@ -1,6 +1,7 @@
 pub mod Echo
 pub mod Filter
 pub mod IntLines
+pub mod Keeper
 pub mod LineCount
 pub mod Progress
 pub mod Records

@@ -1,5 +1,6 @@
 //! A server that sends packets back as they came.
 ghost use Rattle.std.specs.Prelude.{IfErr, IfOk};
+ghost use Rattle.codec.specs.Answering.{NeverFails};
 ghost use Rattle.codec.specs.ServingAll.{ServesAll, StopsAll};
 ghost use Rattle.codec.specs.Serving.{server};
 ghost use Rattle.decoders.specs.Varints.{kind_of, kind_pieces};
@@ -8,26 +9,32 @@ ghost use Rattle.uses.specs.Echo.{echo, echoes};
 use buffer_redux::BufWriter;
 use buffer_redux::tell::{TellRead, TellWrite};
 use codec::{
-    HeaderError, PieceReader, ServeError, Served, Service, serve_all, write_answer, write_item,
+    AnswerError, HeaderError, PieceReader, ServeError, Served, Service, serve_all, write_answer,
+    write_item,
 };
 use decoders::KindVarints;
-use std::io;
+use std::convert::Infallible;
 
 /// Sends each packet back, but of one of kind 0 only that, and takes none behind it.
 #[derive(Drop)]
 pub struct Echo;
 
 impl Service<KindVarints> for Echo {
+    ghost use Rattle.codec.specs.Answering.{NeverFails};
     ghost use Rattle.uses.specs.Echo.{echoes};
 
+    type Failure = Infallible;
+
     ghost answers = { echoes };
+
+    ghost fails = { NeverFails };
 
     fn answer<W: TellWrite>(
         &mut self,
         kind: u8,
         payload: &[u8],
         writer: &mut BufWriter<W>,
-    ) -> io::Result<bool> {
+    ) -> Result<bool, AnswerError<Infallible>> {
         if kind == 0 {
             return write_answer(writer, &[b"\0\0"], false);
         }
@@ -45,11 +52,11 @@ impl Service<KindVarints> for Echo {
 pub fn echo_all<R: TellRead, W: TellWrite>(
     reader: &mut PieceReader<R, KindVarints>,
     writer: &mut BufWriter<W>,
-) -> Result<Served, ServeError<HeaderError>>
+) -> Result<Served, ServeError<HeaderError, Infallible>>
     ensures served { IfOk result (λ ended. ServesAll R.remaining W.log W.trace (kind_pieces reader.old.decoder.max) kind_of echoes
-        (server reader.old echo writer.old) ended (server reader.new echo writer.new)) }
+        NeverFails (server reader.old echo writer.old) ended (server reader.new echo writer.new)) }
     ensures failed { IfErr result (λ e. StopsAll R.remaining W.log W.trace (kind_pieces reader.old.decoder.max) kind_of echoes
-        (server reader.old echo writer.old) e (server reader.new echo writer.new)) }
+        NeverFails (server reader.old echo writer.old) e (server reader.new echo writer.new)) }
 {
     serve_all(&mut Echo, reader, writer)
 }

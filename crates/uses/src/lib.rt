@@ -8,6 +8,7 @@ pub mod echo;
 pub mod filter;
 pub mod full_log;
 pub mod int_lines;
+pub mod keeper;
 pub mod line_count;
 pub mod own_policy;
 pub mod packed;

@@ -10,8 +10,8 @@ loop-turn-preserved g c =
     let m = server c.loop-turn.reader c.loop-turn.service c.loop-turn.writer in
     let before = c.loop-turn.invariant in
     let took = subst (λ d. Turns g.R.TellRead.remaining g.W.Tell.log g.W.TellWrite.trace (g.D.Decoder.grammar d)
-    (g.D.Items.item_of d) g.S.Service.answers m (Ok Went) (server c.turn.new.reader c.turn.new.service c.turn.new.writer))
-    before.decoder (rw c.in-Went.is at c.in_ok-turn.ensures) in
+    (g.D.Items.item_of d) g.S.Service.answers g.S.Service.fails m (Ok Went)
+    (server c.turn.new.reader c.turn.new.service c.turn.new.writer)) before.decoder (rw c.in-Went.is at c.in_ok-turn.ensures) in
     record {
       exchanges = took.0 ∷ before.exchanges;
       talked = (m, before.talked, took.1);
@@ -25,7 +25,8 @@ returns-in-Closed-clause-ended g c =
     let t = server c.turn.new.reader c.turn.new.service c.turn.new.writer in
     let before = c.loop-turn.invariant in
     let took = subst (λ d. Turns g.R.TellRead.remaining g.W.Tell.log g.W.TellWrite.trace (g.D.Decoder.grammar d)
-    (g.D.Items.item_of d) g.S.Service.answers m (Ok Closed) t) before.decoder (rw c.in-Closed.is at c.in_ok-turn.ensures) in
+    (g.D.Items.item_of d) g.S.Service.answers g.S.Service.fails m (Ok Closed) t) before.decoder
+    (rw c.in-Closed.is at c.in_ok-turn.ensures) in
     record {
       exchanges = took.0 ∷ before.exchanges;
       more = false;
@@ -39,8 +40,8 @@ returns-in-End-clause-ended g c =
     let m = server c.loop-turn.reader c.loop-turn.service c.loop-turn.writer in
     let before = c.loop-turn.invariant in
     let none = subst (λ d. Turns g.R.TellRead.remaining g.W.Tell.log g.W.TellWrite.trace (g.D.Decoder.grammar d)
-    (g.D.Items.item_of d) g.S.Service.answers m (Ok End) (server c.turn.new.reader c.turn.new.service c.turn.new.writer))
-    before.decoder (rw c.in-End.is at c.in_ok-turn.ensures) in
+    (g.D.Items.item_of d) g.S.Service.answers g.S.Service.fails m (Ok End)
+    (server c.turn.new.reader c.turn.new.service c.turn.new.writer)) before.decoder (rw c.in-End.is at c.in_ok-turn.ensures) in
     record { exchanges = before.exchanges; more = true; last = m; talked = before.talked; ends = (refl, none) }
 
 pub returns-clause-ended : goal.returns-clause-ended
@@ -61,6 +62,7 @@ returns-in_err-turn-clause-failed g c =
     let t = server c.turn.new.reader c.turn.new.service c.turn.new.writer in
     let before = c.loop-turn.invariant in
     let failed = subst (λ d. Turns g.R.TellRead.remaining g.W.Tell.log g.W.TellWrite.trace (g.D.Decoder.grammar d)
-    (g.D.Items.item_of d) g.S.Service.answers m (Err c.in_err-turn.field-0.0) t) before.decoder c.in_err-turn.ensures in
-    rw (p.1, p.2) (stops _ _ _ _ _ _ _ g.met.W.TellWrite.trace_none g.met.W.TellWrite.trace_joins before.exchanges true m
-    before.talked c.in_err-turn.field-0.0 t (turn_failed_so _ _ _ _ _ _ before.exchanges m t c.in_err-turn.field-0.0 failed))
+    (g.D.Items.item_of d) g.S.Service.answers g.S.Service.fails m (Err c.in_err-turn.field-0.0) t) before.decoder
+    c.in_err-turn.ensures in
+    rw (p.1, p.2) (stops _ _ _ _ _ _ _ g.met.W.TellWrite.trace_none g.met.W.TellWrite.trace_joins _ before.exchanges true m
+    before.talked c.in_err-turn.field-0.0 t (turn_failed_so _ _ _ _ _ _ _ before.exchanges m t c.in_err-turn.field-0.0 failed))

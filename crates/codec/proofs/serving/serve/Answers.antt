@@ -8,5 +8,5 @@ returns-in-Ok-clause-served g c =
 
 pub returns-in-Err-clause-failed : goal.returns-in-Err-clause-failed
 returns-in-Err-clause-failed g c =
-    Ends-failed _ _ _ _ _ _ _ g.met.W.TellWrite.trace_none g.met.W.TellWrite.trace_joins _ _ c.in_ok-ended.ensures.ended _
+    Ends-failed _ _ _ _ _ _ _ g.met.W.TellWrite.trace_none g.met.W.TellWrite.trace_joins _ _ _ c.in_ok-ended.ensures.ended _
     c.in-Err.e c.in-Err.ensures.flushed

@@ -11,7 +11,7 @@ pub returns-then-is_lost : goal.returns-then-is_lost
 returns-then-is_lost g c =
     let m = c.args.request.now in
     let values = held c.args.store.now in
-    AnswersBy-answered _ _ _ _ (λ reply more t. RepliesWhole m values reply more t.waiting t.values)
+    AnswersBy-answered _ _ _ _ (λ reply more t. RepliesWhole m values reply more t.waiting t.values) _
     (codes "-ERR out of memory\r\n") true (session c.clear.new.self values)
     (lost_whole m values values c.clear.new.self (codes "-ERR out of memory\r\n") true c.clear.ensures
     (sym c.is_lost.ensures ∙ c.if-is_lost.true) refl refl refl) c.write_answer.result c.write_answer.ensures
