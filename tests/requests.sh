@@ -206,6 +206,14 @@ row "GET / HTTP/1.0\r\n\r\n$G" '200:0'
 row "GET / HTTP/1.0\r\nConnection: keep-alive\r\n\r\n$G" '200:0 200:0'
 row "${P}Expect: 100-continue\r\nContent-Length: 5\r\n\r\nhello$G" '100 200:5 200:0'
 row "${P}Expect: 100-continue\r\n\r\n$G" '200:0 200:0'
+row "${P}Expect:\r\n\r\n$G" '200:0 200:0'
+for other in x '100-continue=1' '100-continue, 101-continue'; do
+    row "${P}Expect: $other\r\n\r\n$G" '417 200:0'
+done
+row "${P}Expect: x\r\nContent-Length: 5\r\n\r\nhello$G" '417 200:0'
+row "${P}Expect: 100-Continue\r\nexpect: x\r\n$C\r\n3\r\nabc\r\n0\r\n\r\n$G" '100 417 200:0'
+row "${P}Expect: x\r\nConnection: close\r\n\r\n$G" '417'
+row "FOO / HTTP/1.1\r\n${H}Expect: x\r\n\r\n$G" '501 200:0'
 
 # Cut at each byte: what comes before the cut is answered as far as it is whole.
 printf '%b' "${P}Content-Length: 5\r\n\r\nhello${P}$C\r\n3\r\nabc\r\n0\r\n\r\n$G" > "$scratch/all"

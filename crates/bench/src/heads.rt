@@ -3,7 +3,7 @@
 use crate::cases::Case;
 use buffer_redux::tell::{TellRead, Told};
 use codec::PieceReader;
-use messages::Heads;
+use messages::{Heads, Limits};
 use std::alloc::{AllocError, Global};
 use std::io;
 use std::io::ErrorKind;
@@ -45,7 +45,11 @@ pub fn heads_text(alloc: Global, length: usize, total: usize) -> Result<Vec<u8>,
 }
 
 pub fn heads(alloc: Global, case: &Case, bytes: &[u8]) -> io::Result<u64> {
-    match PieceReader::new(alloc, Told::new(case.packets(bytes)), Heads) {
+    match PieceReader::new(
+        alloc,
+        Told::new(case.packets(bytes)),
+        Heads(Limits::default()),
+    ) {
         Ok(reader) => heads_to_end(reader),
         Err(_) => Err(failed()),
     }

@@ -1,3 +1,4 @@
 pub mod AsIo
 pub mod Going
 pub mod HeadsRead
+pub mod Spans

@@ -1,5 +1,5 @@
 -- Why a text whose lines end as those of a head is none.
-use Rattle.std.specs.Prelude.{◌≡◌, ◌⊎◌, ℕ, ◌≤◌, ◌==◌, ◌&&◌, nat_lt, if◌then◌else◌, Bool, true, false, List, [], count_by, length, Result, Ok, Err}
+use Rattle.std.specs.Prelude.{◌≡◌, ◌⊎◌, ℕ, ◌+◌, ◌≤◌, ◌==◌, ◌&&◌, nat_lt, if◌then◌else◌, Bool, true, false, List, [], count_by, length, Result, Ok, Err}
 use Rattle.http1.specs.declared.fields.KnownFields.{KnownFields}
 use Rattle.http1.specs.declared.framing.Framing.{Framing}
 use Rattle.http1.specs.declared.framing.Framing.TheVariants.{NoBody, Length, Chunked, UntilClose}
@@ -9,21 +9,23 @@ use Rattle.http1.specs.declared.framing.MethodKind.TheVariants.{Head, Connect, O
 use Rattle.http1.specs.Framing.{method_kind, request_framing}
 use Rattle.http1.specs.Message.{known_of}
 use Rattle.httparse.specs.Grammar.{ReadsRequest, RequestHead}
+use Rattle.messages.specs.Limits.{fields_of}
 use Rattle.messages.specs.Versions.{behind_blank, first_line, has_other_version}
 use Rattle.messages.specs.declared.bad_head.BadHead.{BadHead}
 use Rattle.messages.specs.declared.bad_head.BadHead.TheVariants.{ManyFields, Version, Tunnel, Coding, Refused}
+use Rattle.messages.specs.declared.limits.Limits.{Limits}
 
--- between the first line and the empty one that ends a head stand more than 64
-abbrev pub has_many_lines : List ℕ → Bool
-has_many_lines text = nat_lt 66 (count_by (λ b. b == 10) text)
+-- between the first line and the empty one that ends a head stand more than it may have fields
+abbrev pub has_many_lines : Limits → List ℕ → Bool
+has_many_lines limits text = nat_lt (fields_of limits + 2) (count_by (λ b. b == 10) text)
 
 -- what is wrong with a text that is no head of a request with so few fields
-abbrev pub lines_fault : List ℕ → BadHead
-lines_fault text =
-    if has_many_lines text then ManyFields else (if has_other_version (first_line text) then Version else Refused)
+abbrev pub lines_fault : Limits → List ℕ → BadHead
+lines_fault limits text =
+    if has_many_lines limits text then ManyFields else (if has_other_version (first_line text) then Version else Refused)
 
-abbrev pub text_fault : List ℕ → BadHead
-text_fault bytes = lines_fault (behind_blank bytes)
+abbrev pub text_fault : Limits → List ℕ → BadHead
+text_fault limits bytes = lines_fault limits (behind_blank bytes)
 
 abbrev pub is_connect : MethodKind → Bool
 is_connect Connect = true
@@ -47,10 +49,10 @@ abbrev pub head_fault : RequestHead → BadHead
 head_fault h = said_fault (method_kind h.method) h.minor (known_of h.fields)
 
 -- these bytes are just this head of a request, which has few fields
-abbrev pub IsFew : List ℕ → RequestHead → Type 0
-IsFew bytes h = ReadsRequest bytes h [] × (length h.fields ≤ 64)
+abbrev pub IsFew : Limits → List ℕ → RequestHead → Type 0
+IsFew limits bytes h = ReadsRequest bytes h [] × (length h.fields ≤ fields_of limits)
 
 -- if they are none that counts here, this says why: by the head that they are, and else by what they are
-abbrev pub IsFault : List ℕ → BadHead → Type 0
-IsFault bytes e = ((h : RequestHead) × IsFew bytes h × (e ≡ head_fault h))
-    ⊎ (((h : RequestHead) → ¬ (IsFew bytes h)) × (e ≡ text_fault bytes))
+abbrev pub IsFault : Limits → List ℕ → BadHead → Type 0
+IsFault limits bytes e = ((h : RequestHead) × IsFew limits bytes h × (e ≡ head_fault h))
+    ⊎ (((h : RequestHead) → ¬ (IsFew limits bytes h)) × (e ≡ text_fault limits bytes))

@@ -1,5 +1,5 @@
 -- Heads of requests, and what they say of the body.
-use Rattle.std.specs.Prelude.{◌≡◌, ◌⊎◌, ◌≢◌, ℕ, ◌<◌, ◌≤◌, ◌↔◌, ◌&&◌, ◌||◌, not, nat_lt, Bool, false, List, [], length, map, All, IsTrue, Option, None, Some, Result, Ok}
+use Rattle.std.specs.Prelude.{◌≡◌, ◌⊎◌, ◌≢◌, ℕ, ◌<◌, ◌≤◌, ◌==◌, ◌↔◌, ◌&&◌, ◌||◌, not, nat_lt, Bool, false, List, [], codes, length, map, All, IsTrue, Option, None, Some, Result, Ok}
 use Rattle.codec.specs.declared.HeaderError.{HeaderError}
 use Rattle.codec.specs.Grammar.{Begins, Grammar}
 use Rattle.http1.specs.declared.framing.Framing.{Framing}
@@ -7,11 +7,14 @@ use Rattle.http1.specs.declared.framing.Framing.TheVariants as framing
 use Rattle.http1.specs.declared.framing.FramingError.{FramingError}
 use Rattle.http1.specs.declared.framing.MethodKind.TheVariants as kind
 use Rattle.http1.specs.declared.fields.KnownFields.{KnownFields}
+use Rattle.http1.specs.Fields.{is_named}
 use Rattle.http1.specs.Framing.{method_kind, request_framing}
 use Rattle.http1.specs.Message.{has_one_host, known_of}
+use Rattle.http1.specs.Text.{eq_ignore_case}
 use Rattle.httparse.specs.Grammar.{ReadsRequest, RequestHead}
 use Rattle.httparse.specs.Spans.{name_and_value}
 use Rattle.messages.specs.Faults.{IsFault}
+use Rattle.messages.specs.Limits.{fields_of}
 use Rattle.messages.specs.Lines.{line_fault, texts}
 use Rattle.messages.specs.Target.{is_plain_field, is_target}
 use Rattle.messages.specs.Versions.{as_known}
@@ -20,6 +23,7 @@ use Rattle.messages.specs.declared.bad_head.BadHead.TheVariants.{CutShort, LongH
 use Rattle.messages.specs.declared.head.Extent.{Extent}
 use Rattle.messages.specs.declared.head.Extent.TheVariants as extent
 use Rattle.messages.specs.declared.head.ParsedHead.{ParsedHead}
+use Rattle.messages.specs.declared.limits.Limits.{Limits}
 
 -- where the body ends, if that is said plainly
 abbrev pub extent_of : Result Framing FramingError → Option Extent
@@ -36,13 +40,17 @@ keeps minor known = not known.close && (nat_lt 0 minor || known.keep_alive)
 abbrev pub expects : ℕ → KnownFields → Bool
 expects minor known = nat_lt 0 minor && known.expect_continue
 
+-- the field is no `Expect`, or one of just `100-continue`, or of nothing: else a server may answer 417 (the same)
+abbrev pub is_met : List ℕ × List ℕ → Bool
+is_met h = not (is_named (codes "expect") h) || ((length h.1 == 0) || eq_ignore_case h.1 (codes "100-continue"))
+
 -- these bytes are just the head of a request of HTTP/1.0 or 1.1, which says so (RFC 9112, section 6): at most one field says where the body ends, with
 -- no coding but `chunked`, no tunnel begins behind it, its target is one, and it has one `Host`, which HTTP/1.0 may leave out, and
 -- which names a host. An answer to `HEAD` has no body
-pub record IsKnownHead (bytes : List ℕ) (said : ParsedHead) : Type 0 where
+pub record IsKnownHead (limits : Limits) (bytes : List ℕ) (said : ParsedHead) : Type 0 where
   pub head : RequestHead
   pub reads : ReadsRequest bytes head []
-  pub few : length head.fields ≤ 64
+  pub few : length head.fields ≤ fields_of limits
   pub host : IsTrue (has_one_host head.minor (known_of head.fields))
   pub single : (known_of head.fields).framing_fields ≤ 1
   pub open' : method_kind head.method ≢ kind.Connect
@@ -53,34 +61,35 @@ pub record IsKnownHead (bytes : List ℕ) (said : ParsedHead) : Type 0 where
   pub bare : IsTrue said.bare ↔ (method_kind head.method ≡ kind.Head)
   pub keeps : said.keeps ≡ keeps head.minor (known_of head.fields)
   pub expects : said.expects ≡ expects head.minor (known_of head.fields)
+  pub met : IsTrue said.met ↔ All (λ h. IsTrue (is_met h)) (map name_and_value head.fields)
 
 -- the same of a later version of HTTP/1, which is read as if it were 1.1; no head has more bytes
-pub record IsHead (bytes : List ℕ) (said : ParsedHead) : Type 0 where
+pub record IsHead (limits : Limits) (bytes : List ℕ) (said : ParsedHead) : Type 0 where
   pub few : length bytes ≤ 16384
-  pub known : IsKnownHead (as_known bytes) said
+  pub known : IsKnownHead limits (as_known bytes) said
 
 -- a head as a piece, lent whole
-pub record IsHeadPiece (bytes payload : List ℕ) : Type 0 where
+pub record IsHeadPiece (limits : Limits) (bytes payload : List ℕ) : Type 0 where
   pub same : payload ≡ bytes
   pub none : List ℕ
   pub text : texts.piece bytes none
   pub said : ParsedHead
-  pub is : IsHead bytes said
+  pub is : IsHead limits bytes said
 
 -- why a text is no head
-abbrev pub IsRefused : List ℕ → BadHead → Type 0
-IsRefused bytes e = ((16384 < length bytes) × (e ≡ LongHead)) ⊎ IsFault (as_known bytes) e
+abbrev pub IsRefused : Limits → List ℕ → BadHead → Type 0
+IsRefused limits bytes e = ((16384 < length bytes) × (e ≡ LongHead)) ⊎ IsFault limits (as_known bytes) e
 
 -- these are no lines, or lines in front are no such head, for this reason
-abbrev pub IsNoHead : List ℕ → BadHead → Type 0
-IsNoHead bytes e = ((why : HeaderError) × texts.wrong bytes why × (e ≡ line_fault bytes))
-    ⊎ ((text : Begins texts bytes) × ((said : ParsedHead) → ¬ (IsHead text.piece said)) × IsFault (as_known text.piece) e)
+abbrev pub IsNoHead : Limits → List ℕ → BadHead → Type 0
+IsNoHead limits bytes e = ((why : HeaderError) × texts.wrong bytes why × (e ≡ line_fault bytes))
+    ⊎ ((text : Begins texts bytes) × ((said : ParsedHead) → ¬ (IsHead limits text.piece said)) × IsFault limits (as_known text.piece) e)
 
-abbrev pub heads : Grammar BadHead
-heads = record {
+abbrev pub heads : Limits → Grammar BadHead
+heads limits = record {
   most = 16384;
-  piece = IsHeadPiece;
-  wrong = IsNoHead;
+  piece = IsHeadPiece limits;
+  wrong = IsNoHead limits;
   last = λ bytes payload. ⊥;
   cut = λ bytes e. e ≡ CutShort (length bytes);
 }

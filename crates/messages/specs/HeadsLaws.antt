@@ -17,6 +17,7 @@ use Rattle.httparse.specs.Grammar.{RequestHead}
 use Rattle.messages.specs.declared.bad_head.BadHead.{BadHead}
 use Rattle.messages.specs.declared.bad_head.BadHead.TheVariants.{BareEnd, LongLine, LongHead, ManyFields, CutShort, Version, Tunnel, Coding, Refused}
 use Rattle.messages.specs.declared.head.ParsedHead.{ParsedHead}
+use Rattle.messages.specs.declared.limits.Limits.{Limits}
 use Rattle.messages.specs.declared.lines.Before.{Before}
 use Rattle.messages.specs.declared.lines.Before.TheVariants.{Start, StartReturn, First, FirstReturn, Feed, Text, Return, EmptyReturn}
 use Rattle.messages.specs.Faults.{IsFault, IsFew, ends_chunked, has_many_lines, head_fault, is_connect, lines_fault, said_fault, text_fault}
@@ -36,34 +37,34 @@ clash : (bytes : List ℕ) (e : HeaderError) (b : Begins texts bytes) → ¬ (te
 clash bytes e b bad = texts_lawful.apart b.piece b.payload b.more e b.is (subst (λ l. texts.wrong l e) b.equal bad)
 
 -- a text has one name
-one_fault : (bytes : List ℕ) (e e' : BadHead) → IsFault bytes e → IsFault bytes e' → e ≡ e'
-one_fault bytes e e' (inl (h, few, is)) (inl (h', few', is')) =
+one_fault : (limits : Limits) (bytes : List ℕ) (e e' : BadHead) → IsFault limits bytes e → IsFault limits bytes e' → e ≡ e'
+one_fault limits bytes e e' (inl (h, few, is)) (inl (h', few', is')) =
     is ∙ ap head_fault (request_unique bytes h h' [] [] few.0 few'.0).0 ∙ sym is'
-one_fault bytes e e' (inl (h, few, is)) (inr (none, is')) = absurd (none h few)
-one_fault bytes e e' (inr (none, is)) (inl (h, few, is')) = absurd (none h few)
-one_fault bytes e e' (inr (none, is)) (inr (none', is')) = is ∙ sym is'
+one_fault limits bytes e e' (inl (h, few, is)) (inr (none, is')) = absurd (none h few)
+one_fault limits bytes e e' (inr (none, is)) (inl (h, few, is')) = absurd (none h few)
+one_fault limits bytes e e' (inr (none, is)) (inr (none', is')) = is ∙ sym is'
 
-reason : (bytes : List ℕ) (e e' : BadHead) → IsNoHead bytes e → IsNoHead bytes e' → e ≡ e'
-reason bytes e e' (inl (why, bad, is)) (inl (why', bad', is')) = is ∙ sym is'
-reason bytes e e' (inl (why, bad, is)) (inr (b, none, is')) = absurd (clash bytes why b bad)
-reason bytes e e' (inr (b, none, is)) (inl (why, bad, is')) = absurd (clash bytes why b bad)
-reason bytes e e' (inr (b, none, is)) (inr (b', none', is')) =
+reason : (limits : Limits) (bytes : List ℕ) (e e' : BadHead) → IsNoHead limits bytes e → IsNoHead limits bytes e' → e ≡ e'
+reason limits bytes e e' (inl (why, bad, is)) (inl (why', bad', is')) = is ∙ sym is'
+reason limits bytes e e' (inl (why, bad, is)) (inr (b, none, is')) = absurd (clash bytes why b bad)
+reason limits bytes e e' (inr (b, none, is)) (inl (why, bad, is')) = absurd (clash bytes why b bad)
+reason limits bytes e e' (inr (b, none, is)) (inr (b', none', is')) =
     let same = (texts_lawful.one b.piece b'.piece b.more b'.more b.payload b'.payload b.is b'.is (sym b.equal ∙ b'.equal)).0 in
-    one_fault (as_known b.piece) e e' is (subst (λ l. IsFault (as_known l) e') (sym same) is')
+    one_fault limits (as_known b.piece) e e' is (subst (λ l. IsFault limits (as_known l) e') (sym same) is')
 
-stays : (bytes more : List ℕ) (e : BadHead) → IsNoHead bytes e → IsNoHead (bytes ++ more) e
-stays bytes more e (inl (why, bad, is)) =
+stays : (limits : Limits) (bytes more : List ℕ) (e : BadHead) → IsNoHead limits bytes e → IsNoHead limits (bytes ++ more) e
+stays limits bytes more e (inl (why, bad, is)) =
     inl (why, texts_lawful.stays bytes more why bad, is ∙ sym (line_fault_stays bytes more why bad))
-stays bytes more e (inr (b, none, is)) =
+stays limits bytes more e (inr (b, none, is)) =
     let equal = ap (λ l. l ++ more) b.equal ∙ append_assoc b.piece b.more more in inr (
       record { piece = b.piece; payload = b.payload; more = b.more ++ more; is = b.is; equal = equal },
       none,
       is,
     )
 
-nothing : (e : BadHead) → ¬ (IsNoHead [] e)
-nothing e (inl (why, bad, is)) = texts_lawful.nothing why bad
-nothing e (inr (b, none, is)) =
+nothing : (limits : Limits) (e : BadHead) → ¬ (IsNoHead limits [] e)
+nothing limits e (inl (why, bad, is)) = texts_lawful.nothing why bad
+nothing limits e (inr (b, none, is)) =
     absurd (omega (arith, texts_lawful.some b.piece b.payload b.is, ap length b.equal, length-append b.piece b.more))
 
 -- where the stream ended in a head, the bytes alone aren't wrong
@@ -108,38 +109,38 @@ whole_said method minor known =
     let coded = known.other_coding && ends_chunked (request_framing method minor known) in
     whole_if (is_connect method) Tunnel (if coded then Coding else Refused) refl (whole_if coded Coding Refused refl refl)
 
-whole_text : (text : List ℕ) → is_cut (lines_fault text) ≡ false
-whole_text text =
+whole_text : (limits : Limits) (text : List ℕ) → is_cut (lines_fault limits text) ≡ false
+whole_text limits text =
     let other = has_other_version (first_line text) in
-    whole_if (has_many_lines text) ManyFields (if other then Version else Refused) refl (whole_if other Version Refused refl refl)
+    whole_if (has_many_lines limits text) ManyFields (if other then Version else Refused) refl (whole_if other Version Refused refl refl)
 
-whole_fault : (bytes : List ℕ) (e : BadHead) → IsFault bytes e → is_cut e ≡ false
-whole_fault bytes e (inl (h, few, is)) = ap is_cut is ∙ whole_said (method_kind h.method) h.minor (known_of h.fields)
-whole_fault bytes e (inr (none, is)) = ap is_cut is ∙ whole_text (behind_blank bytes)
+whole_fault : (limits : Limits) (bytes : List ℕ) (e : BadHead) → IsFault limits bytes e → is_cut e ≡ false
+whole_fault limits bytes e (inl (h, few, is)) = ap is_cut is ∙ whole_said (method_kind h.method) h.minor (known_of h.fields)
+whole_fault limits bytes e (inr (none, is)) = ap is_cut is ∙ whole_text limits (behind_blank bytes)
 
-pub never_cut : (bytes : List ℕ) (have : ℕ) → ¬ (IsNoHead bytes (CutShort have))
-never_cut bytes have (inl (why, bad, is)) = absurd (true≢false (ap is_cut is ∙ whole_lines Start (take 16384 bytes)))
-never_cut bytes have (inr (b, none, is)) = absurd (true≢false (whole_fault (as_known b.piece) (CutShort have) is))
+pub never_cut : (limits : Limits) (bytes : List ℕ) (have : ℕ) → ¬ (IsNoHead limits bytes (CutShort have))
+never_cut limits bytes have (inl (why, bad, is)) = absurd (true≢false (ap is_cut is ∙ whole_lines Start (take 16384 bytes)))
+never_cut limits bytes have (inr (b, none, is)) = absurd (true≢false (whole_fault limits (as_known b.piece) (CutShort have) is))
 
 -- what settles nothing of heads settles nothing of lines
-pub open_texts : (bytes : List ℕ) → IsOpen heads bytes → IsOpen texts bytes
-open_texts bytes o = record {
+pub open_texts : (limits : Limits) (bytes : List ℕ) → IsOpen (heads limits) bytes → IsOpen texts bytes
+open_texts limits bytes o = record {
   no_piece = λ b.
-      let no_head : (said : ParsedHead) → ¬ (IsHead b.piece said) = λ said is. o.no_piece (record {
+      let no_head : (said : ParsedHead) → ¬ (IsHead limits b.piece said) = λ said is. o.no_piece (record {
         piece = b.piece;
         payload = b.piece;
         more = b.more;
         is = record { same = refl; none = b.payload; text = b.is; said = said; is = is };
         equal = b.equal;
       }) in
-      let none : (h : RequestHead) → ¬ (IsFew (as_known b.piece) h) = λ h few.
+      let none : (h : RequestHead) → ¬ (IsFew limits (as_known b.piece) h) = λ h few.
       o.not_wrong (head_fault h) (inr (b, no_head, inl (h, few, refl))) in
-      o.not_wrong (text_fault (as_known b.piece)) (inr (b, no_head, inr (none, refl)));
+      o.not_wrong (text_fault limits (as_known b.piece)) (inr (b, no_head, inr (none, refl)));
   not_wrong = λ why wrong. o.not_wrong (line_fault bytes) (inl (why, wrong, refl));
 }
 
-pub heads_lawful : IsLawful heads
-heads_lawful = record {
+pub heads_lawful : (limits : Limits) → IsLawful (heads limits)
+heads_lawful limits = record {
   one = λ p q xs ys a b is is' same.
       let parts = texts_lawful.one p q xs ys is.none is'.none is.text is'.text same in
       (parts.0, is.same ∙ parts.0 ∙ sym is'.same);
@@ -150,11 +151,11 @@ heads_lawful = record {
     | inr refused ↦
         (let b = refused.0 in
         let parts = texts_lawful.one p b.piece more b.more is.none b.payload is.text b.is b.equal in
-        refused.1 is.said (subst (λ l. IsHead l is.said) parts.0 is.is))
+        refused.1 is.said (subst (λ l. IsHead limits l is.said) parts.0 is.is))
   ];
-  reason = reason;
-  stays = stays;
-  nothing = nothing;
+  reason = reason limits;
+  stays = stays limits;
+  nothing = nothing limits;
   one_last = λ bytes a b is. absurd is;
   end_apart = λ bytes a e is. absurd is;
 }

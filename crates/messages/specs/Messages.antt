@@ -25,7 +25,7 @@ use Rattle.chunked.specs.Coding.{chunked}
 use Rattle.chunked.specs.Coding as chunks
 use Rattle.chunked.specs.declared.coding.Chunked.{Chunked as InChunks}
 use Rattle.chunked.specs.declared.error.Malformed.{Malformed}
-use Rattle.chunked.specs.declared.limits.Limits.{Limits}
+use Rattle.chunked.specs.declared.limits.Limits.{Limits as ChunkLimits}
 use Rattle.chunked.specs.declared.place.Place.{Place}
 use Rattle.chunked.specs.declared.place.Place.TheVariants.{Line, Done}
 use Rattle.chunked.specs.Place.{Completes, IsSettled}
@@ -39,14 +39,16 @@ use Rattle.messages.specs.declared.head.Extent.TheVariants.{Sized, Chunked}
 use Rattle.messages.specs.declared.bad_head.BadHead.{BadHead}
 use Rattle.messages.specs.declared.head.Heads.{Heads}
 use Rattle.messages.specs.declared.head.ParsedHead.{ParsedHead}
+use Rattle.messages.specs.declared.limits.Limits.{Limits}
 use Rattle.messages.specs.declared.requests.Stop.{Stop}
 use Rattle.messages.specs.declared.requests.Stop.TheVariants.{Ended, Bad, Io}
 use Rattle.messages.specs.Heads.{IsHead, IsHeadPiece, heads}
+use Rattle.messages.specs.Limits.{chunks_of}
 
 -- what is left of a body: so many bytes, or what completes a chunked one from here
 pub data Rest : Type 0 where
   Bytes : ℕ → Rest
-  Chunks : Limits → Place → Rest
+  Chunks : ChunkLimits → Place → Rest
 
 -- these bytes are just that, with this payload
 abbrev pub IsRest : Rest → List ℕ → List ℕ → Type 0
@@ -81,17 +83,17 @@ pub record AskedIn (r : Rest) (room offer : ℕ) (bytes : List ℕ) : Type 0 whe
 abbrev pub Unended : Rest → List ℕ → Type 0
 Unended r bytes = (handed : List ℕ) × GoesOn r handed bytes
 
--- the whole body
-abbrev pub body_of : Extent → Rest
-body_of (Sized len) = Bytes len
-body_of Chunked = Chunks (record { line = 256; trailers = 4096 }) Line
+-- the whole body, under such limits
+abbrev pub body_of : Limits → Extent → Rest
+body_of limits (Sized len) = Bytes len
+body_of limits Chunked = Chunks (chunks_of limits) Line
 
--- a message: a head, and the body that it says, with this payload
-pub record IsMessage (bytes head payload : List ℕ) : Type 0 where
+-- a message: a head, and the body that it says, with this payload, each under the limits
+pub record IsMessage (limits : Limits) (bytes head payload : List ℕ) : Type 0 where
   pub wire : List ℕ
   pub equal : bytes ≡ head ++ wire
-  pub text : IsHeadPiece head head
-  pub body : IsRest (body_of text.said.extent) wire payload
+  pub text : IsHeadPiece limits head head
+  pub body : IsRest (body_of limits text.said.extent) wire payload
 
 -- how much a buffer takes: its capacity, and how far that may grow
 pub record Room : Type 0 where
@@ -102,36 +104,39 @@ abbrev pub room_of : Block → Room
 room_of b = record { capacity = b.capacity; limit = b.limit }
 
 -- a reader in a body: what the stream has left, how much its buffer takes, what was handed out of the body, as a stream tells
--- it, the head and what that says, what is left of the body, and what was taken of it
+-- it, the limits, the head and what that says, what is left of the body, and what was taken of it
 pub record InBody (S : Type 0) : Type 0 where
   pub stream : Unbuffered S
   pub room : Room
   pub calls : StreamLog
+  pub limits : Limits
   pub head : List ℕ
   pub said : ParsedHead
   pub rest : Rest
   pub taken : List ℕ
 
-abbrev pub begun : {S : Type 0} → Buffered S StdPolicy → List ℕ → ParsedHead → InBody S
-begun reader head said = record {
+abbrev pub begun : {S : Type 0} → Buffered S StdPolicy → Limits → List ℕ → ParsedHead → InBody S
+begun reader limits head said = record {
   stream = unbuffered reader;
   room = room_of reader.block;
   calls = no_calls;
+  limits = limits;
   head = head;
   said = said;
-  rest = body_of said.extent;
+  rest = body_of limits said.extent;
   taken = [];
 }
 
 -- the reader stands in front of a body, behind its head, which was the next piece
 pub record Begun {S : Type 0} (remaining : S → Option (List ℕ)) (s : ReaderState S Heads) (b : InBody S) : Type 0 where
   pub behind : ReaderState S Heads
-  pub next : NextPiece remaining heads s (Ok (Some b.head)) behind
+  pub next : NextPiece remaining (heads s.decoder.0) s (Ok (Some b.head)) behind
   pub stream : b.stream ≡ left_of behind
   pub room : b.room ≡ room_of s.reader.block
   pub fresh : b.calls ≡ no_calls
-  pub is : IsHead b.head b.said
-  pub rest : b.rest ≡ body_of b.said.extent
+  pub limits : b.limits ≡ s.decoder.0
+  pub is : IsHead b.limits b.head b.said
+  pub rest : b.rest ≡ body_of b.limits b.said.extent
   pub taken : b.taken ≡ []
 
 -- the reader went on behind a head, into the body that it says
@@ -140,8 +145,9 @@ pub record Enters {S : Type 0} (s : ReaderState S Heads) (bytes : List ℕ) (b :
   pub stream : b.stream ≡ left_of s
   pub room : b.room ≡ room_of s.reader.block
   pub fresh : b.calls ≡ no_calls
-  pub is : IsHead b.head b.said
-  pub rest : b.rest ≡ body_of b.said.extent
+  pub limits : b.limits ≡ s.decoder.0
+  pub is : IsHead b.limits b.head b.said
+  pub rest : b.rest ≡ body_of b.limits b.said.extent
   pub taken : b.taken ≡ []
 
 -- why there is no message is the answer of a reader of pieces
@@ -190,7 +196,7 @@ Fails s (Wrong name) t r = EachGave s t × IsWrongNext r t.left name
 Fails s (Truncated due) t r =
     (t.log.reads.faults ≡ s.log.reads.faults) × (t.log.reads.zero_reads ≡ s.log.reads.zero_reads + 1) × (t.left ≡ [])
     × ((payload : List ℕ) → ¬ (IsRest r [] payload))
-    × MatchOption due ((limits : Limits) × (place : Place) × (r ≡ Chunks limits place)) (λ n. r ≡ Bytes n)
+    × MatchOption due ((limits : ChunkLimits) × (place : Place) × (r ≡ Chunks limits place)) (λ n. r ≡ Bytes n)
 Fails s (Fault e) t r =
     (t.log.reads.faults ≡ s.log.reads.faults ++ e ∷ []) × (t.log.reads.zero_reads ≡ s.log.reads.zero_reads)
 
@@ -220,13 +226,14 @@ pub record Ends {S : Type 0} (remaining : S → Option (List ℕ)) (s : Unbuffer
   pub is : IsRest r wire payload
   pub gave : EachGave s t
 
--- a call of a reader in a body, which keeps the head and what that says, and how much its buffer takes, did so
+-- a call of a reader in a body, which keeps the limits, the head and what that says, and how much its buffer takes, did so
 pub record InsideGoes {S : Type 0} (remaining : S → Option (List ℕ)) (s : InBody S) (handed : List ℕ) (t : InBody S)
     : Type 0 where
   pub takes : Takes remaining s.stream s.rest handed t.stream t.rest
   pub taken : t.taken ≡ s.taken ++ takes.wire
   pub room : t.room ≡ s.room
   pub told : t.calls.reads.given ≡ s.calls.reads.given ++ handed
+  pub limits : t.limits ≡ s.limits
   pub head : t.head ≡ s.head
   pub said : t.said ≡ s.said
 
@@ -259,15 +266,15 @@ InTurn Is [] bytes = bytes ≡ []
 InTurn Is (m ∷ later) bytes =
     (first : List ℕ) × (more : List ℕ) × Is m first × InTurn Is later more × (bytes ≡ first ++ more)
 
-abbrev pub AreMessages : List Message → List ℕ → Type 0
-AreMessages messages bytes = InTurn (λ m first. IsMessage first m.0 m.1) messages bytes
+abbrev pub AreMessages : Limits → List Message → List ℕ → Type 0
+AreMessages limits messages bytes = InTurn (λ m first. IsMessage limits first m.0 m.1) messages bytes
 
 -- these messages went, one after another: all of their bytes, and no other, were taken of what was left, so each begins where the
 -- one before it ended
-pub record MessagesWent {S : Type 0} (remaining : S → Option (List ℕ)) (s : Unbuffered S) (messages : List Message)
+pub record MessagesWent {S : Type 0} (remaining : S → Option (List ℕ)) (limits : Limits) (s : Unbuffered S) (messages : List Message)
     (t : Unbuffered S) : Type 0 where
   pub bytes : List ℕ
-  pub are : AreMessages messages bytes
+  pub are : AreMessages limits messages bytes
   pub went : StreamWent remaining s bytes t
 
 -- the coding of a body, and what it says

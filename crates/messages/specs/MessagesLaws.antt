@@ -15,50 +15,51 @@ use Rattle.http1.specs.Message.{known_of}
 use Rattle.messages.specs.declared.head.Extent.{Extent}
 use Rattle.messages.specs.declared.head.Extent.TheVariants.{Sized, Chunked}
 use Rattle.messages.specs.declared.head.Heads as head
+use Rattle.messages.specs.declared.limits.Limits.{Limits}
 use Rattle.messages.specs.Heads.{IsHead, IsHeadPiece, extent_of, heads}
 use Rattle.messages.specs.HeadsLaws.{heads_lawful}
 use Rattle.messages.specs.Versions.{as_known}
 use Rattle.messages.specs.Messages.{AreMessages, Backward, Begun, EachGave, Enters, InBody, InTurn, InsideGoes, IsMessage, IsRest, Message, MessagesWent, Onward, Rest, Takes, body_of, room_of}
 
 -- a body ends in one place
-one_body : (e : Extent) (a b p q xs ys : List ℕ) → IsRest (body_of e) a p → IsRest (body_of e) b q → a ++ xs ≡ b ++ ys
+one_body : (limits : Limits) (e : Extent) (a b p q xs ys : List ℕ) → IsRest (body_of limits e) a p → IsRest (body_of limits e) b q → a ++ xs ≡ b ++ ys
     → (a ≡ b) × (p ≡ q) × (xs ≡ ys)
-one_body (Sized n) a b p q xs ys is is' same =
+one_body limits (Sized n) a b p q xs ys is is' same =
     let parts = front_same a b xs ys (is.0 ∙ sym is'.0) same in
     (parts.0, is.1 ∙ parts.0 ∙ sym is'.1, parts.1)
-one_body Chunked a b p q xs ys is is' same = IsBody-same _ _ a b p q xs ys is is' same
+one_body limits Chunked a b p q xs ys is is' same = IsBody-same _ _ a b p q xs ys is is' same
 
 -- no message begins another
-pub one_message : (a b xs ys h k p q : List ℕ) → IsMessage a h p → IsMessage b k q → a ++ xs ≡ b ++ ys
+pub one_message : (limits : Limits) (a b xs ys h k p q : List ℕ) → IsMessage limits a h p → IsMessage limits b k q → a ++ xs ≡ b ++ ys
     → (a ≡ b) × (h ≡ k) × (p ≡ q) × (xs ≡ ys)
-one_message a b xs ys h k p q m n same =
+one_message limits a b xs ys h k p q m n same =
     let cut : h ++ (m.wire ++ xs) ≡ k ++ (n.wire ++ ys) =
     simp append_assoc at (ap (λ l. l ++ xs) (sym m.equal) ∙ same ∙ ap (λ l. l ++ ys) n.equal) in
-    let head = (heads_lawful.one h k (m.wire ++ xs) (n.wire ++ ys) h k m.text n.text cut).0 in
+    let head = ((heads_lawful limits).one h k (m.wire ++ xs) (n.wire ++ ys) h k m.text n.text cut).0 in
     let behind : m.wire ++ xs ≡ n.wire ++ ys =
     append_cancel_left h (m.wire ++ xs) (n.wire ++ ys) (cut ∙ ap (λ l. l ++ (n.wire ++ ys)) (sym head)) in
-    let is = subst (λ l. IsHead l n.text.said) (sym head) n.text.is in
+    let is = subst (λ l. IsHead limits l n.text.said) (sym head) n.text.is in
     let here = m.text.is.known in
     let says = request_unique (as_known h) here.head is.known.head [] [] here.reads is.known.reads in
     let both = sym here.framed
     ∙ ap (λ h. extent_of (request_framing (method_kind h.method) h.minor (known_of h.fields))) says.0 ∙ is.known.framed in
     let extent : m.text.said.extent ≡ n.text.said.extent = cc in
-    let body = one_body m.text.said.extent m.wire n.wire p q xs ys m.body
-    (subst (λ e. IsRest (body_of e) n.wire q) (sym extent) n.body) behind in
+    let body = one_body limits m.text.said.extent m.wire n.wire p q xs ys m.body
+    (subst (λ e. IsRest (body_of limits e) n.wire q) (sym extent) n.body) behind in
     (m.equal ∙ ap (λ l. l ++ m.wire) head ∙ ap (λ l. k ++ l) body.0 ∙ sym n.equal, head, body.1, body.2)
 
 -- a text is cut into a number of messages in one way
-pub one_cut : (ms ns : List Message) (a b xs ys : List ℕ) → length ms ≡ length ns → AreMessages ms a → AreMessages ns b
+pub one_cut : (limits : Limits) (ms ns : List Message) (a b xs ys : List ℕ) → length ms ≡ length ns → AreMessages limits ms a → AreMessages limits ns b
     → a ++ xs ≡ b ++ ys → (ms ≡ ns) × (xs ≡ ys)
-one_cut [] [] a b xs ys many is is' same =
+one_cut limits [] [] a b xs ys many is is' same =
     (refl, sym (ap (λ l. l ++ xs) is) ∙ same ∙ ap (λ l. l ++ ys) is')
-one_cut [] (n ∷ ns) a b xs ys many is is' same = absurd (omega (arith, many))
-one_cut (m ∷ ms) [] a b xs ys many is is' same = absurd (omega (arith, many))
-one_cut (m ∷ ms) (n ∷ ns) a b xs ys many (f, x, is, are, equal) (k, y, is', are', equal') same =
+one_cut limits [] (n ∷ ns) a b xs ys many is is' same = absurd (omega (arith, many))
+one_cut limits (m ∷ ms) [] a b xs ys many is is' same = absurd (omega (arith, many))
+one_cut limits (m ∷ ms) (n ∷ ns) a b xs ys many (f, x, is, are, equal) (k, y, is', are', equal') same =
     let cut : f ++ (x ++ xs) ≡ k ++ (y ++ ys) =
     simp append_assoc at (ap (λ l. l ++ xs) (sym equal) ∙ same ∙ ap (λ l. l ++ ys) equal') in
-    let first = one_message f k (x ++ xs) (y ++ ys) m.0 n.0 m.1 n.1 is is' cut in
-    let later = one_cut ms ns x y xs ys (omega (arith, many)) are are' first.3 in
+    let first = one_message limits f k (x ++ xs) (y ++ ys) m.0 n.0 m.1 n.1 is is' cut in
+    let later = one_cut limits ms ns x y xs ys (omega (arith, many)) are are' first.3 in
     let pair : m ≡ n = ap (λ l. (l, m.1)) first.1 ∙ ap (λ l. (n.0, l)) first.2 in
     (ap (λ l. l ∷ ms) pair ∙ ap (λ l. n ∷ l) later.0, later.1)
 
@@ -93,20 +94,27 @@ Backward-joins r q u a b h k first second later whole is =
 
 module _ {S : Type 0} (remaining : S → Option (List ℕ)) where
   -- a head that was handed out
-  pub lent : (s t : ReaderState S head.Heads) (bytes : List ℕ) (next : NextPiece remaining heads s (Ok (Some bytes)) t)
-      → (next.bytes ≡ bytes) × IsHeadPiece bytes bytes
+  pub lent : (s t : ReaderState S head.Heads) (bytes : List ℕ)
+      (next : NextPiece remaining (heads s.decoder.0) s (Ok (Some bytes)) t) → (next.bytes ≡ bytes) × IsHeadPiece s.decoder.0 bytes bytes
   lent s t bytes next =
-      let piece : IsHeadPiece next.bytes bytes = elim next.answers.1 [ inl is ↦ is.0 | inr last ↦ absurd last.0 ] in
-      (sym piece.same, subst (λ l. IsHeadPiece l bytes) (sym piece.same) piece)
+      let piece : IsHeadPiece s.decoder.0 next.bytes bytes = elim next.answers.1 [ inl is ↦ is.0 | inr last ↦ absurd last.0 ] in
+      (sym piece.same, subst (λ l. IsHeadPiece s.decoder.0 l bytes) (sym piece.same) piece)
+
+  -- under the limits that the reader has still
+  pub lent_still : (s t : ReaderState S head.Heads) (bytes : List ℕ)
+      → NextPiece remaining (heads s.decoder.0) s (Ok (Some bytes)) t → IsHeadPiece t.decoder.0 bytes bytes
+  lent_still s t bytes next =
+      subst (λ d. IsHeadPiece d.0 bytes bytes) (sym next.went.decoder) (lent s t bytes next).1
 
   pub Enters-begun : (s t : ReaderState S head.Heads) (bytes : List ℕ) (b : InBody S)
-      → NextPiece remaining heads s (Ok (Some bytes)) t → Enters t bytes b → Begun remaining s b
+      → NextPiece remaining (heads s.decoder.0) s (Ok (Some bytes)) t → Enters t bytes b → Begun remaining s b
   Enters-begun s t bytes b next enters = record {
     behind = t;
-    next = subst (λ l. NextPiece remaining heads s (Ok (Some l)) t) (sym enters.head) next;
+    next = subst (λ l. NextPiece remaining (heads s.decoder.0) s (Ok (Some l)) t) (sym enters.head) next;
     stream = enters.stream;
     room = enters.room ∙ same_room t.reader.block s.reader.block next.went.capacity next.went.limit;
     fresh = enters.fresh;
+    limits = enters.limits ∙ ap (λ d. d.0) next.went.decoder;
     is = enters.is;
     rest = enters.rest;
     taken = enters.taken;
@@ -116,7 +124,7 @@ module _ {S : Type 0} (remaining : S → Option (List ℕ)) where
       → StreamWent remaining (left_of s) b.head b.stream
   Begun-went s b begun =
       rw (begun.stream, ← (lent s begun.behind b.head begun.next).0)
-      (PiecesWent-stream remaining heads.most s begun.behind begun.next.bytes begun.next.went)
+      (PiecesWent-stream remaining (heads s.decoder.0).most s begun.behind begun.next.bytes begun.next.went)
 
   -- and no read for it failed, or gave nothing
   pub Begun-gave : (s : ReaderState S head.Heads) (b : InBody S) → Begun remaining s b → EachGave (left_of s) b.stream
@@ -128,13 +136,13 @@ module _ {S : Type 0} (remaining : S → Option (List ℕ)) where
 
   -- with what completes its body it is a message
   pub Begun-message : (s : ReaderState S head.Heads) (b : InBody S) (wire payload : List ℕ) → Begun remaining s b
-      → IsRest (body_of b.said.extent) wire payload
-      → (m : IsMessage (b.head ++ wire) b.head payload) × (m.wire ≡ wire) × (m.text.said ≡ b.said)
+      → IsRest (body_of b.limits b.said.extent) wire payload
+      → (m : IsMessage b.limits (b.head ++ wire) b.head payload) × (m.wire ≡ wire) × (m.text.said ≡ b.said)
   Begun-message s b wire payload begun body = (
     record {
       wire = wire;
       equal = refl;
-      text = record (lent s begun.behind b.head begun.next).1 { said = b.said; is = begun.is };
+      text = record (subst (λ l. IsHeadPiece l b.head b.head) (sym begun.limits) (lent s begun.behind b.head begun.next).1) { said = b.said; is = begun.is };
       body = body;
     },
     refl,
@@ -165,6 +173,7 @@ module _ {S : Type 0} (remaining : S → Option (List ℕ)) where
     takes = Takes-none b.stream b.rest;
     taken = sym (append-nil b.taken);
     room = refl;
+    limits = refl;
     told = sym (append-nil b.calls.reads.given);
     head = refl;
     said = refl;
@@ -178,6 +187,7 @@ module _ {S : Type 0} (remaining : S → Option (List ℕ)) where
     taken = b.taken ∙ ap (λ l. l ++ b.takes.wire) a.taken ∙ append_assoc s.taken a.takes.wire b.takes.wire;
     room = b.room ∙ a.room;
     told = b.told ∙ ap (λ l. l ++ k) a.told ∙ append_assoc s.calls.reads.given h k;
+    limits = b.limits ∙ a.limits;
     head = b.head ∙ a.head;
     said = b.said ∙ a.said;
   }
@@ -185,21 +195,22 @@ module _ {S : Type 0} (remaining : S → Option (List ℕ)) where
   -- whatever was read of it, a message that is begun and ended went whole
   pub MessagesWent-one : (s : ReaderState S head.Heads) (b m : InBody S) (handed wire payload : List ℕ) (t : Unbuffered S)
       → Begun remaining s b → Takes remaining b.stream b.rest handed m.stream m.rest → StreamWent remaining m.stream wire t
-      → IsRest m.rest wire payload → MessagesWent remaining (left_of s) ((b.head, handed ++ payload) ∷ []) t
+      → IsRest m.rest wire payload → MessagesWent remaining s.decoder.0 (left_of s) ((b.head, handed ++ payload) ∷ []) t
   MessagesWent-one s b m handed wire payload t begun takes went is = record {
     bytes = b.head ++ (takes.wire ++ wire);
     went = StreamWent-joins remaining (left_of s) b.stream t b.head (takes.wire ++ wire)
         (Begun-went s b begun)
         (StreamWent-joins remaining b.stream m.stream t takes.wire wire takes.went went);
-    are = InTurn-one (λ m first. IsMessage first m.0 m.1) (b.head, handed ++ payload) (b.head ++ (takes.wire ++ wire))
+    are = InTurn-one (λ m first. IsMessage s.decoder.0 first m.0 m.1) (b.head, handed ++ payload) (b.head ++ (takes.wire ++ wire))
+        (subst (λ l. IsMessage l (b.head ++ (takes.wire ++ wire)) b.head (handed ++ payload)) begun.limits
         (Begun-message s b (takes.wire ++ wire) (handed ++ payload) begun
-        (subst (λ r. IsRest r (takes.wire ++ wire) (handed ++ payload)) begun.rest (takes.onward wire payload is))).0;
+        (subst (λ r. IsRest r (takes.wire ++ wire) (handed ++ payload)) begun.rest (takes.onward wire payload is))).0);
   }
 
-  pub MessagesWent-joins : (s m t : Unbuffered S) (ms ns : List Message) → MessagesWent remaining s ms m
-      → MessagesWent remaining m ns t → MessagesWent remaining s (ms ++ ns) t
-  MessagesWent-joins s m t ms ns before one = record {
+  pub MessagesWent-joins : (limits : Limits) (s m t : Unbuffered S) (ms ns : List Message) → MessagesWent remaining limits s ms m
+      → MessagesWent remaining limits m ns t → MessagesWent remaining limits s (ms ++ ns) t
+  MessagesWent-joins limits s m t ms ns before one = record {
     bytes = before.bytes ++ one.bytes;
-    are = InTurn-joins (λ m first. IsMessage first m.0 m.1) ms ns before.bytes one.bytes before.are one.are;
+    are = InTurn-joins (λ m first. IsMessage limits first m.0 m.1) ms ns before.bytes one.bytes before.are one.are;
     went = StreamWent-joins remaining s m t before.bytes one.bytes before.went one.went;
   }

@@ -10,7 +10,7 @@ use Rattle.messages.specs.Messages.{Begun, FinishFails, InBody, InsideGoes, answ
 
 -- the reader stands before the head of the next, of which nothing is gone, or in its body, which wasn't finished
 abbrev pub StopsIn : {S : Type 0} → (S → Option (List ℕ)) → ReaderState S Heads → Stopped S → Type 0
-StopsIn remaining s (Before next stop) = NextPiece remaining heads s (answer_of stop) next
+StopsIn remaining s (Before next stop) = NextPiece remaining (heads s.decoder.0) s (answer_of stop) next
 StopsIn {S} remaining s (Inside body e) =
     (first : InBody S) × (handed : List ℕ) × Begun remaining s first × InsideGoes remaining first handed body
     × FinishFails first.stream handed e body.stream body.rest

@@ -14,20 +14,15 @@ mod tells;
 
 use crate::error::{BodyError, unread};
 use crate::head::{Extent, Heads, ParsedHead};
+use crate::limits::{Limits, chunks_of};
 use crate::requests::Requests;
 use body_reader::{BodyReader, Either, Sized};
 use buffer_redux::tell::{Tell, TellRead};
 use buffer_redux::{BufReader, Buffer};
-use chunked::{Chunked, Limits};
+use chunked::Chunked;
 use codec::PieceReader;
 use std::alloc::Global;
 use std::marker::Model;
-
-/// How much of a chunked body may be no payload.
-pub const LIMITS: Limits = Limits {
-    line: 256,
-    trailers: 4096,
-};
 
 /// Bodies of a length, and bodies in chunks.
 pub type BodyCoding = Either<Sized, Chunked>;
@@ -37,6 +32,7 @@ pub type BodyCoding = Either<Sized, Chunked>;
 pub struct Body<R: Tell> {
     alloc: Global,
     reader: BodyReader<R, BodyCoding>,
+    limits: Limits,
     head: Buffer,
     said: ParsedHead,
 }
@@ -52,26 +48,34 @@ impl<R: Tell> Model for Body<R> {
       stream = stream_of b.reader;
       room = room_of b.reader.reader.block;
       calls = b.reader.calls;
+      limits = b.limits;
       head = b.head.bytes;
       said = b.said;
       rest = left_in b.reader;
       taken = b.reader.taken;
     } };
 
-    ghost invariant = { λ b. (b.head.capacity ≡ 16384) × IsHead b.head.bytes b.said × HasRoom b.reader };
+    ghost invariant = { λ b. (b.head.capacity ≡ 16384) × IsHead b.limits b.head.bytes b.said × HasRoom b.reader };
 }
 
 impl<R: Tell> Body<R> {
     /// The body of a message with this head, of which the reader has the beginning.
-    pub(crate) fn new(alloc: Global, reader: BufReader<R>, head: Buffer, said: ParsedHead) -> Self
+    pub(crate) fn new(
+        alloc: Global,
+        reader: BufReader<R>,
+        limits: Limits,
+        head: Buffer,
+        said: ParsedHead,
+    ) -> Self
         requires room { head.capacity ≡ 16384 }
-        requires is { IsHead head.bytes said }
+        requires is { IsHead limits head.bytes said }
         requires roomy { IsRoomy reader.block }
-        ensures { result ≡ begun reader head.bytes said }
+        ensures { result ≡ begun reader limits head.bytes said }
     {
         Body {
             alloc,
-            reader: BodyReader::new(reader, coding_of(said.extent)),
+            reader: BodyReader::new(reader, coding_of(said.extent, limits)),
+            limits,
             head,
             said,
         }
@@ -87,7 +91,7 @@ impl<R: Tell> Body<R> {
     /// What the head says.
     pub fn said(&self) -> ParsedHead
         ensures value { result ≡ self.now.said }
-        ensures is { IsHead self.now.head result }
+        ensures is { IsHead self.now.limits self.now.head result }
     {
         self.said
     }
@@ -136,6 +140,7 @@ impl<R: Tell> Body<R> {
         let Body {
             alloc: _,
             reader,
+            limits: _,
             head,
             said: _,
         } = self;
@@ -189,19 +194,21 @@ impl<R: TellRead> Body<R> {
             (λ e. (handed : List ℕ) × InsideGoes R.remaining self handed e.0
             × FinishFails self.stream handed e.1 e.0.stream e.0.rest) }
         ensures room { IfOk result (λ next. room_of next.reader.block ≡ self.room) }
+        ensures limits { IfOk result (λ next. next.decoder ≡ record { 0 = self.limits }) }
         ensures asked { MatchResult result (λ next. AskedWhere (Unended self.rest) self.stream (left_of next))
             (λ e. AskedWhere (Unended self.rest) self.stream e.0.stream) }
     {
         let Body {
             alloc,
             reader,
+            limits,
             head,
             said,
         } = self;
         match finish(reader) {
             Ok(reader) => {
                 let (inner, buffer) = reader.into_inner_with_buffer();
-                match PieceReader::with_buffer(alloc, buffer, inner, Heads) {
+                match PieceReader::with_buffer(alloc, buffer, inner, Heads(limits)) {
                     Ok(pieces) => Ok(Requests::before(alloc, pieces, head)),
                     Err(_) => unreachable!(),
                 }
@@ -210,6 +217,7 @@ impl<R: TellRead> Body<R> {
                 Body {
                     alloc,
                     reader,
+                    limits,
                     head,
                     said,
                 },
@@ -220,14 +228,14 @@ impl<R: TellRead> Body<R> {
 }
 
 // The coding of the body that a head says.
-fn coding_of(extent: Extent) -> BodyCoding
-    ensures rest { rest_of result (grammar_of result).first ≡ body_of extent }
+fn coding_of(extent: Extent, limits: Limits) -> BodyCoding
+    ensures rest { rest_of result (grammar_of result).first ≡ body_of limits extent }
     ensures line { has_line result }
     ensures ahead { (grammar_of result).ahead ≡ 1 }
 {
     match extent {
         Extent::Sized(len) => Either::First(Sized(len)),
-        Extent::Chunked => Either::Second(Chunked(LIMITS)),
+        Extent::Chunked => Either::Second(Chunked(chunks_of(limits))),
     }
 }
 

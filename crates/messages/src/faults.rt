@@ -4,6 +4,7 @@ ghost use Rattle.messages.specs.Faults.{IsFault, ends_chunked, has_many_lines, l
 
 use crate::bad_head::BadHead;
 use crate::head::MAX_FIELDS;
+use crate::limits::{Limits, fields_of};
 use crate::version::{blank_len, first_len, has_other_version};
 use http1::fields::KnownFields;
 use http1::framing::{Framing, FramingError, MethodKind, request_framing};
@@ -11,15 +12,18 @@ use httparse::Status;
 use httparse::spans::{EMPTY_HEADER_SPAN, parse_request};
 
 /// If these bytes are no head that counts here, this is why. The first line is read once more for it.
-pub(crate) fn fault(head: &[u8]) -> BadHead
-    ensures { IsFault head.now result }
+pub(crate) fn fault(head: &[u8], limits: Limits) -> BadHead
+    ensures { IsFault limits head.now result }
 {
     let mut fields = [EMPTY_HEADER_SPAN; MAX_FIELDS];
     let Ok(Status::Complete(spans)) = parse_request(head, &mut fields) else {
-        return text_fault(head);
+        return text_fault(head, limits);
     };
     if spans.len < head.len() {
-        return text_fault(head);
+        return text_fault(head, limits);
+    }
+    if spans.headers > fields_of(limits) {
+        return text_fault(head, limits);
     }
     let known = KnownFields::from_spans(head, &fields[..spans.headers]);
     let name = spans.method.of(head);
@@ -49,16 +53,16 @@ fn ends_chunked(framing: Result<Framing, FramingError>) -> bool
     }
 }
 
-fn text_fault(bytes: &[u8]) -> BadHead
-    ensures { result ≡ text_fault bytes.now }
+fn text_fault(bytes: &[u8], limits: Limits) -> BadHead
+    ensures { result ≡ text_fault limits bytes.now }
 {
-    lines_fault(&bytes[blank_len(bytes)..])
+    lines_fault(&bytes[blank_len(bytes)..], limits)
 }
 
-fn lines_fault(text: &[u8]) -> BadHead
-    ensures { result ≡ lines_fault text.now }
+fn lines_fault(text: &[u8], limits: Limits) -> BadHead
+    ensures { result ≡ lines_fault limits text.now }
 {
-    if has_many_lines(text) {
+    if has_many_lines(text, limits) {
         return BadHead::ManyFields;
     }
     if has_other_version(&text[..first_len(text)]) {
@@ -68,8 +72,8 @@ fn lines_fault(text: &[u8]) -> BadHead
     }
 }
 
-fn has_many_lines(text: &[u8]) -> bool
-    ensures { result ≡ has_many_lines text.now }
+fn has_many_lines(text: &[u8], limits: Limits) -> bool
+    ensures { result ≡ has_many_lines limits text.now }
 {
-    text.iter().filter(|b| **b == b'\n').count() > MAX_FIELDS + 2
+    text.iter().filter(|b| **b == b'\n').count() > fields_of(limits) + 2
 }

@@ -3,10 +3,13 @@ ghost use Rattle.std.specs.Prelude.{◌≡◌, ◌<◌, ◌≤◌, ◌↔◌, If
 ghost use Rattle.http1.specs.Message.{has_one_host};
 ghost use Rattle.messages.specs.declared.head.ParsedHead.{ParsedHead};
 ghost use Rattle.messages.specs.Faults.{IsFault};
+ghost use Rattle.messages.specs.Limits.{usual};
 ghost use Rattle.messages.specs.Heads.{IsHead, IsKnownHead, IsRefused, expects, extent_of, keeps};
 
 use crate::bad_head::BadHead;
+use crate::expect::are_met;
 use crate::faults::fault;
+use crate::limits::{Limits, fields_of};
 use crate::lines::{Before, Lines, line_fault};
 use crate::target::{are_hosts_plain, is_target};
 use crate::version::later_at;
@@ -19,7 +22,7 @@ use httparse::spans::{EMPTY_HEADER_SPAN, parse_request};
 /// No head has more bytes.
 pub const MAX_HEAD: usize = 16384;
 
-/// No head has more fields.
+/// No head has more fields, since each look at one writes a table of so many.
 pub const MAX_FIELDS: usize = 64;
 
 /// Where a body ends.
@@ -42,11 +45,13 @@ pub struct ParsedHead {
     pub keeps: bool,
     /// Whether the client waits for a `100 Continue` before it sends the body.
     pub expects: bool,
+    /// Whether it expects nothing else. If it does, a server may answer 417, or go on.
+    pub met: bool,
 }
 
 /// Heads as pieces, each lent whole.
 #[derive(Clone, Copy, Debug, Drop)]
-pub struct Heads;
+pub struct Heads(pub Limits);
 
 impl Decoder for Heads {
     ghost use Rattle.codec.specs.Scanning.{scan_notes};
@@ -58,7 +63,7 @@ impl Decoder for Heads {
 
     type Note = ScanNote<Before>;
 
-    ghost grammar = { λ _. heads };
+    ghost grammar = { λ d. heads d.0 };
 
     ghost notes = { λ _. scan_notes lines };
 
@@ -72,7 +77,7 @@ impl Decoder for Heads {
 
     fn decode(&self, bytes: &[u8], seen: usize, note: &mut ScanNote<Before>) -> Found<BadHead> {
         match ByHeader(ByScan(Lines)).decode(bytes, seen, note) {
-            Found::Piece(_, used) => match read_head(&bytes[..used]) {
+            Found::Piece(_, used) => match read_head_within(&bytes[..used], self.0) {
                 Ok(_) => Found::Piece(Span { from: 0, len: used }, used),
                 Err(e) => Found::Wrong(e),
             },
@@ -85,63 +90,75 @@ impl Decoder for Heads {
         End::Wrong(BadHead::CutShort(bytes.len()))
     }
 
-    ghost lawful = { λ _. heads_lawful };
+    ghost lawful = { λ d. heads_lawful d.0 };
 }
 
 /// What a head says: these bytes are just a head, of HTTP/1.0, or of 1.1 and later ones, which are read as 1.1, whose target is one, with one `Host`, which 1.0 may leave
 /// out and which names a host, and at most one field that says where the body ends, as RFC 9112, section 6 has it, with no coding
 /// but `chunked`. `CONNECT` is refused: a tunnel begins behind it. An `Err` says why they are none.
 pub fn read_head(head: &[u8]) -> Result<ParsedHead, BadHead>
-    ensures head { IfOk result (λ said. IsHead head.now said) }
-    ensures none { OnErr result ((said : ParsedHead) → ¬ (IsHead head.now said)) }
-    ensures fault { IfErr result (IsRefused head.now) }
+    ensures head { IfOk result (λ said. IsHead usual head.now said) }
+    ensures none { OnErr result ((said : ParsedHead) → ¬ (IsHead usual head.now said)) }
+    ensures fault { IfErr result (IsRefused usual head.now) }
+{
+    read_head_within(head, Limits::default())
+}
+
+/// The same under limits of yours.
+pub fn read_head_within(head: &[u8], limits: Limits) -> Result<ParsedHead, BadHead>
+    ensures head { IfOk result (λ said. IsHead limits head.now said) }
+    ensures none { OnErr result ((said : ParsedHead) → ¬ (IsHead limits head.now said)) }
+    ensures fault { IfErr result (IsRefused limits head.now) }
 {
     if head.len() > MAX_HEAD {
         return Err(BadHead::LongHead);
     }
     match later_at(head) {
-        Some(at) => read_later(head, at),
-        None => read_known(head),
+        Some(at) => read_later(head, at, limits),
+        None => read_known(head, limits),
     }
 }
 
 // Reads a head of a later version as if it were of 1.1: this byte says that it isn't.
-fn read_later(head: &[u8], at: usize) -> Result<ParsedHead, BadHead>
+fn read_later(head: &[u8], at: usize, limits: Limits) -> Result<ParsedHead, BadHead>
     requires few { length head.now ≤ 16384 }
     requires within { at < length head.now }
-    ensures head { IfOk result (λ said. IsKnownHead (slice_set head.now at 49) said) }
-    ensures none { OnErr result ((said : ParsedHead) → ¬ (IsKnownHead (slice_set head.now at 49) said)) }
-    ensures fault { IfErr result (IsFault (slice_set head.now at 49)) }
+    ensures head { IfOk result (λ said. IsKnownHead limits (slice_set head.now at 49) said) }
+    ensures none { OnErr result ((said : ParsedHead) → ¬ (IsKnownHead limits (slice_set head.now at 49) said)) }
+    ensures fault { IfErr result (IsFault limits (slice_set head.now at 49)) }
 {
     let mut room = [0; MAX_HEAD];
     let copy = &mut room[..head.len()];
     copy.copy_from_slice(head);
     copy[at] = b'1';
-    read_known(copy)
+    read_known(copy, limits)
 }
 
 // Reads a head of HTTP/1.0 or 1.1.
-fn read_known(head: &[u8]) -> Result<ParsedHead, BadHead>
-    ensures head { IfOk result (λ said. IsKnownHead head.now said) }
-    ensures none { OnErr result ((said : ParsedHead) → ¬ (IsKnownHead head.now said)) }
-    ensures fault { IfErr result (IsFault head.now) }
+fn read_known(head: &[u8], limits: Limits) -> Result<ParsedHead, BadHead>
+    ensures head { IfOk result (λ said. IsKnownHead limits head.now said) }
+    ensures none { OnErr result ((said : ParsedHead) → ¬ (IsKnownHead limits head.now said)) }
+    ensures fault { IfErr result (IsFault limits head.now) }
 {
-    match said_of(head) {
+    match said_of(head, limits) {
         Some(said) => Ok(said),
-        None => Err(fault(head)),
+        None => Err(fault(head, limits)),
     }
 }
 
 // The same, where nobody asks why.
-fn said_of(head: &[u8]) -> Option<ParsedHead>
-    ensures some { IfSome result (λ said. IsKnownHead head.now said) }
-    ensures none { IfNone result ((said : ParsedHead) → ¬ (IsKnownHead head.now said)) }
+fn said_of(head: &[u8], limits: Limits) -> Option<ParsedHead>
+    ensures some { IfSome result (λ said. IsKnownHead limits head.now said) }
+    ensures none { IfNone result ((said : ParsedHead) → ¬ (IsKnownHead limits head.now said)) }
 {
     let mut fields = [EMPTY_HEADER_SPAN; MAX_FIELDS];
     let Ok(Status::Complete(spans)) = parse_request(head, &mut fields) else {
         return None;
     };
     if spans.len < head.len() {
+        return None;
+    }
+    if spans.headers > fields_of(limits) {
         return None;
     }
     let known = KnownFields::from_spans(head, &fields[..spans.headers]);
@@ -169,6 +186,7 @@ fn said_of(head: &[u8]) -> Option<ParsedHead>
             bare: is_bare(method),
             keeps: keeps(spans.version, &known),
             expects: expects(spans.version, &known),
+            met: are_met(head, &fields[..spans.headers]),
         }),
         None => None,
     }

@@ -4,6 +4,7 @@ ghost use Rattle.buffer_redux.specs.Unbuffer.{Unbuffered, unbuffer_remaining};
 ghost use Rattle.codec.specs.PieceReader.{ReaderState, left_of};
 ghost use Rattle.messages.specs.declared.head.Heads as head;
 ghost use Rattle.messages.specs.Messages.{AreMessages, Begun, EachGave, Ends, InBody, Message, MessagesWent, Takes, room_of};
+ghost use Rattle.messages.specs.declared.limits.Limits.{Limits};
 ghost use Rattle.messages.specs.Passing.{StopsIn};
 
 use crate::body::Body;
@@ -13,8 +14,9 @@ use buffer_redux::tell::{Tell, TellRead};
 
 /// No message begins another: a text is cut into so many messages in one way.
 pub fn one_cut()
-    ensures { (messages others : List Message) (text text' behind behind' : List ℕ) → length messages ≡ length others
-        → AreMessages messages text → AreMessages others text' → text ++ behind ≡ text' ++ behind'
+    ensures { (limits : Limits) (messages others : List Message) (text text' behind behind' : List ℕ)
+        → length messages ≡ length others → AreMessages limits messages text → AreMessages limits others text'
+        → text ++ behind ≡ text' ++ behind'
         → (messages ≡ others) × (behind ≡ behind') }
 {}
 
@@ -26,13 +28,13 @@ pub fn no_byte_between<R: TellRead>(requests: &Requests<R>)
     ensures one { (s : ReaderState R head.Heads) (b m : InBody R) (handed : List ℕ) → Begun R.remaining s b
         → Takes R.remaining b.stream b.rest handed m.stream m.rest
         → (ends : Ends R.remaining m.stream m.rest (left_of requests.now))
-        → MessagesWent R.remaining (left_of s) ((b.head, handed ++ ends.payload) ∷ []) (left_of requests.now) }
-    ensures many { (s m : Unbuffered R) (messages more : List Message) → MessagesWent R.remaining s messages m
-        → MessagesWent R.remaining m more (left_of requests.now)
-        → MessagesWent R.remaining s (messages ++ more) (left_of requests.now) }
-    ensures known { (s : Unbuffered R) (messages others : List Message) (text behind : List ℕ)
-        → MessagesWent R.remaining s messages (left_of requests.now)
-        → unbuffer_remaining R.remaining s ≡ Some (text ++ behind) → AreMessages others text
+        → MessagesWent R.remaining s.decoder.0 (left_of s) ((b.head, handed ++ ends.payload) ∷ []) (left_of requests.now) }
+    ensures many { (limits : Limits) (s m : Unbuffered R) (messages more : List Message)
+        → MessagesWent R.remaining limits s messages m → MessagesWent R.remaining limits m more (left_of requests.now)
+        → MessagesWent R.remaining limits s (messages ++ more) (left_of requests.now) }
+    ensures known { (limits : Limits) (s : Unbuffered R) (messages others : List Message) (text behind : List ℕ)
+        → MessagesWent R.remaining limits s messages (left_of requests.now)
+        → unbuffer_remaining R.remaining s ≡ Some (text ++ behind) → AreMessages limits others text
         → length messages ≡ length others
         → (messages ≡ others) × (unbuffer_remaining R.remaining (left_of requests.now) ≡ Some behind) }
 {}
@@ -49,13 +51,13 @@ pub enum Stopped<R: Tell> {
 /// no read failed, or gave nothing. However many there are, the buffer takes what it took at first.
 pub fn pass<R: TellRead>(requests: Requests<R>, count: usize) -> Result<Requests<R>, Stopped<R>>
     ensures passed { IfOk result (λ next. (messages : List Message) × (length messages ≡ count)
-        × MessagesWent R.remaining (left_of requests) messages (left_of next)
+        × MessagesWent R.remaining requests.decoder.0 (left_of requests) messages (left_of next)
         × EachGave (left_of requests) (left_of next)
-        × (room_of next.reader.block ≡ room_of requests.reader.block)) }
+        × (room_of next.reader.block ≡ room_of requests.reader.block) × (next.decoder ≡ requests.decoder)) }
     ensures stopped { IfErr result (λ stopped. (messages : List Message) × (between : ReaderState R head.Heads)
-        × (length messages < count) × MessagesWent R.remaining (left_of requests) messages (left_of between)
+        × (length messages < count) × MessagesWent R.remaining requests.decoder.0 (left_of requests) messages (left_of between)
         × EachGave (left_of requests) (left_of between) × (room_of between.reader.block ≡ room_of requests.reader.block)
-        × (between.ended ≡ false) × StopsIn R.remaining between stopped) }
+        × (between.decoder ≡ requests.decoder) × (between.ended ≡ false) × StopsIn R.remaining between stopped) }
 {
     let mut next = requests;
     for _ in 0..count {
@@ -72,9 +74,9 @@ pub fn pass<R: TellRead>(requests: Requests<R>, count: usize) -> Result<Requests
 // Passes one.
 fn pass_one<R: TellRead>(requests: Requests<R>) -> Result<Requests<R>, Stopped<R>>
     ensures passed { IfOk result (λ next. (head : List ℕ) × (payload : List ℕ)
-        × MessagesWent R.remaining (left_of requests) ((head, payload) ∷ []) (left_of next)
+        × MessagesWent R.remaining requests.decoder.0 (left_of requests) ((head, payload) ∷ []) (left_of next)
         × EachGave (left_of requests) (left_of next)
-        × (room_of next.reader.block ≡ room_of requests.reader.block)) }
+        × (room_of next.reader.block ≡ room_of requests.reader.block) × (next.decoder ≡ requests.decoder)) }
     ensures stopped { IfErr result (StopsIn R.remaining requests) }
     ensures told { requests.ended ≡ false }
 {

@@ -9,11 +9,13 @@ ghost use Rattle.codec.specs.NextPiece.{NextPiece, StaysLeft};
 ghost use Rattle.codec.specs.PieceReader.{IsFresh, IsOver, IsSettled, TakenApart, rest};
 ghost use Rattle.messages.specs.contracts.requests.Requests.{the_row};
 ghost use Rattle.messages.specs.Heads.{IsHeadPiece, heads};
+ghost use Rattle.messages.specs.Limits.{usual};
 ghost use Rattle.messages.specs.Messages.{Begun, Enters, answer_of};
 
 use crate::bad_head::BadHead;
 use crate::body::Body;
-use crate::head::{Heads, MAX_HEAD, read_head};
+use crate::head::{Heads, MAX_HEAD, read_head_within};
+use crate::limits::Limits;
 use buffer_redux::tell::{Tell, TellRead};
 use buffer_redux::{BufReader, Buffer, GrowError, MakeError};
 use codec::{NextError, PieceReader, Span};
@@ -56,7 +58,16 @@ impl<R: Tell> Model for Requests<R> {
 impl<R: Tell> Requests<R> {
     /// The requests of `inner`. A refusal hands it back.
     pub fn new(alloc: Global, inner: R) -> Result<Self, MakeError<R>>
-        ensures made { IfOk result (IsFresh R.log 8192 16384 inner (record {})) }
+        ensures made { IfOk result (IsFresh R.log 8192 16384 inner (record { 0 = usual })) }
+        ensures handed_back { IfErr result (λ e. e.0 ≡ inner) }
+        ensures refused { IfErr result (λ e. e.1 ≡ GrowError.Memory) }
+    {
+        Requests::with_limits(alloc, inner, Limits::default())
+    }
+
+    /// The same under limits of yours.
+    pub fn with_limits(alloc: Global, inner: R, limits: Limits) -> Result<Self, MakeError<R>>
+        ensures made { IfOk result (IsFresh R.log 8192 16384 inner (record { 0 = limits })) }
         ensures handed_back { IfErr result (λ e. e.0 ≡ inner) }
         ensures refused { IfErr result (λ e. e.1 ≡ GrowError.Memory) }
     {
@@ -64,7 +75,7 @@ impl<R: Tell> Requests<R> {
             Ok(head) => head,
             Err(e) => return Err(MakeError(inner, e)),
         };
-        match PieceReader::new(alloc, inner, Heads) {
+        match PieceReader::new(alloc, inner, Heads(limits)) {
             Ok(pieces) => Ok(Requests {
                 alloc,
                 pieces,
@@ -85,19 +96,35 @@ impl<R: Tell> Requests<R> {
         head: Buffer,
         inner: R,
     ) -> Result<Self, MakeError<(Buffer, Buffer, R)>>
-        ensures made { IfOk result (IsOver R.log 16384 buffer inner (record {})) }
+        ensures made { IfOk result (IsOver R.log 16384 buffer inner (record { 0 = usual })) }
+        ensures handed_back { IfErr result (λ e. (e.0.0 ≡ buffer) × (e.0.1 ≡ head) × (e.0.2 ≡ inner)) }
+        ensures refused { IfErr result (λ e. e.1 ≡ GrowError.Memory) }
+        ensures kept { buffer.kind ≡ Plain → 3 * 16384 ≤ buffer.capacity → head.capacity ≡ 16384 → IsOk result }
+    {
+        Requests::with_buffers_and_limits(alloc, buffer, head, inner, Limits::default())
+    }
+
+    /// The same under limits of yours.
+    pub fn with_buffers_and_limits(
+        alloc: Global,
+        buffer: Buffer,
+        head: Buffer,
+        inner: R,
+        limits: Limits,
+    ) -> Result<Self, MakeError<(Buffer, Buffer, R)>>
+        ensures made { IfOk result (IsOver R.log 16384 buffer inner (record { 0 = limits })) }
         ensures handed_back { IfErr result (λ e. (e.0.0 ≡ buffer) × (e.0.1 ≡ head) × (e.0.2 ≡ inner)) }
         ensures refused { IfErr result (λ e. e.1 ≡ GrowError.Memory) }
         ensures kept { buffer.kind ≡ Plain → 3 * 16384 ≤ buffer.capacity → head.capacity ≡ 16384 → IsOk result }
     {
         if head.capacity() == MAX_HEAD {
-            return Requests::over(alloc, buffer, head, inner);
+            return Requests::over(alloc, buffer, head, inner, limits);
         }
         let room = match Buffer::with_capacity(alloc, MAX_HEAD) {
             Ok(room) => room,
             Err(e) => return Err(MakeError((buffer, head, inner), e)),
         };
-        match Requests::over(alloc, buffer, room, inner) {
+        match Requests::over(alloc, buffer, room, inner, limits) {
             Ok(requests) => Ok(requests),
             Err(MakeError(back, e)) => Err(MakeError((back.0, head, back.2), e)),
         }
@@ -109,14 +136,15 @@ impl<R: Tell> Requests<R> {
         buffer: Buffer,
         head: Buffer,
         inner: R,
+        limits: Limits,
     ) -> Result<Self, MakeError<(Buffer, Buffer, R)>>
         requires room { head.capacity ≡ 16384 }
-        ensures made { IfOk result (IsOver R.log 16384 buffer inner (record {})) }
+        ensures made { IfOk result (IsOver R.log 16384 buffer inner (record { 0 = limits })) }
         ensures handed_back { IfErr result (λ e. (e.0.0 ≡ buffer) × (e.0.1 ≡ head) × (e.0.2 ≡ inner)) }
         ensures refused { IfErr result (λ e. e.1 ≡ GrowError.Memory) }
         ensures kept { buffer.kind ≡ Plain → 3 * 16384 ≤ buffer.capacity → IsOk result }
     {
-        match PieceReader::with_buffer(alloc, buffer, inner, Heads) {
+        match PieceReader::with_buffer(alloc, buffer, inner, Heads(limits)) {
             Ok(pieces) => Ok(Requests {
                 alloc,
                 pieces,
@@ -167,12 +195,14 @@ impl<R: Tell> Requests<R> {
 
     // Goes on behind the head that was handed out last, which is there.
     fn enter(mut self, span: Span) -> Body<R>
-        requires lends { IsLent heads self.handed self.reader.block.bytes span }
-        requires head { IsHeadPiece (bytes_at span self.reader.block.bytes) (bytes_at span self.reader.block.bytes) }
+        requires lends { IsLent (heads self.decoder.0) self.handed self.reader.block.bytes span }
+        requires head { IsHeadPiece self.decoder.0 (bytes_at span self.reader.block.bytes)
+            (bytes_at span self.reader.block.bytes) }
         ensures { Enters self (bytes_at span self.reader.block.bytes) result }
     {
+        let Heads(limits) = *self.pieces.decoder();
         let lent = self.pieces.lent(span);
-        let Ok(said) = read_head(lent) else {
+        let Ok(said) = read_head_within(lent, limits) else {
             unreachable!()
         };
         self.head.clear();
@@ -183,7 +213,13 @@ impl<R: Tell> Requests<R> {
             head,
         } = self;
         let (inner, buffer, _ended) = pieces.into_inner_with_buffer();
-        Body::new(alloc, BufReader::with_buffer(buffer, inner), head, said)
+        Body::new(
+            alloc,
+            BufReader::with_buffer(buffer, inner),
+            limits,
+            head,
+            said,
+        )
     }
 
     /// The stream, the buffer with what comes next of it, and the room for a head.
@@ -207,7 +243,7 @@ impl<R: TellRead> Requests<R> {
     pub fn next(mut self) -> Result<Body<R>, (Self, Stop)>
         ensures told { self.ended ≡ false }
         ensures next { MatchResult result (Begun R.remaining self)
-            (λ e. NextPiece R.remaining heads self (answer_of e.1) e.0) }
+            (λ e. NextPiece R.remaining (heads self.decoder.0) self (answer_of e.1) e.0) }
     {
         match self.pieces.step() {
             Ok(Some(span)) => Ok(self.enter(span)),
@@ -222,8 +258,8 @@ impl<R: TellRead> Requests<R> {
     pub fn next_buffered(mut self) -> Result<Body<R>, Self>
         ensures unasked { IfOk result (λ body. body.stream.log ≡ self.reader.log) }
         ensures begun { IfOk result (Begun R.remaining self) }
-        ensures stays { IfErr result (StaysLeft heads self) }
-        ensures none { IfErr result (λ next. ¬ (Begins heads (rest next))) }
+        ensures stays { IfErr result (StaysLeft (heads self.decoder.0) self) }
+        ensures none { IfErr result (λ next. ¬ (Begins (heads self.decoder.0) (rest next))) }
     {
         match self.pieces.step_buffered() {
             Some(span) => Ok(self.enter(span)),
@@ -235,7 +271,7 @@ impl<R: TellRead> Requests<R> {
     ///
     /// Who answers requests holds no answer back while the stream is waited for: where this is false, flush, and then call `next`.
     pub fn is_settled(&self) -> bool
-        ensures { IsTrue result ↔ IsSettled heads self.now }
+        ensures { IsTrue result ↔ IsSettled (heads self.now.decoder.0) self.now }
     {
         self.pieces.is_settled()
     }

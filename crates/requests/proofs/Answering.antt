@@ -12,7 +12,9 @@ use Rattle.codec.specs.PieceReader.{ReaderState, left_of}
 use Rattle.messages.specs.declared.error.BodyError.TheVariants.{Wrong, Truncated, Io}
 use Rattle.messages.specs.declared.head.Heads.{Heads}
 use Rattle.messages.specs.declared.head.ParsedHead.{ParsedHead}
-use Rattle.messages.specs.Messages.{Begun, InBody, InsideGoes, IsRest, Message}
+use Rattle.messages.specs.Heads.{IsHead}
+use Rattle.messages.specs.Limits.{usual}
+use Rattle.messages.specs.Messages.{Begun, InBody, InsideGoes, IsMessage, IsRest, Message}
 use Rattle.messages.specs.MessagesLaws.{Begun-message, Begun-went, InTurn-joins, InTurn-one}
 use Rattle.programs.specs.Streams.{EndsOnce}
 use Rattle.requests.specs.declared.Ending.{Ending}
@@ -125,7 +127,7 @@ module _ {W : Type 0} {tells : W → StreamLog} {trace : W → W → Type 0} whe
 
     module _ (joins : (u v x : W) → trace u v → trace v x → trace u x) where
       -- one did in part, and this is why
-      module _ {s : ReaderState R Heads} {b t : InBody R} {handed : List ℕ} (begun : Begun remaining s b)
+      module _ {s : ReaderState R Heads} {b t : InBody R} {handed : List ℕ} (begun : Begun remaining s b) (limits : b.limits ≡ usual)
           (goes : InsideGoes remaining b handed t) {w u : Buffered W StdPolicy}
           (call : Writes tells trace (left_of s, w) (called (waits b.said)) (Ok tt) (b.stream, u)) where
         refused_torn : {v w' : Buffered W StdPolicy} (why : Refusal) (answer : Result (Unit {0}) Error)
@@ -140,7 +142,7 @@ module _ {W : Type 0} {tells : W → StreamLog} {trace : W → W → Type 0} whe
             subst (λ l. Writes tells trace (left_of s, w) l (Ok tt) (t.stream, v))
             (append-nil (called (waits b.said)) ∙ sym at)
             (Writes-after joins (left_of s, w) (b.stream, u) (t.stream, v) (called (waits b.said)) [] (Ok tt) call on) in
-            Runs-ended handed (Inside t) (is_part begun goes) (begun_once begun t.stream once) (Some why) answer
+            Runs-ended handed (Inside t) (is_part begun limits goes) (begun_once begun t.stream once) (Some why) answer
             (part_answered begun goes
             (Writes-after joins (left_of s, w) (t.stream, v) (t.stream, w') (call_at (Inside t)) (refusal why) answer first
             (Writes-put t.stream puts unflushed))
@@ -173,7 +175,7 @@ module _ {W : Type 0} {tells : W → StreamLog} {trace : W → W → Type 0} whe
         torn_answered {v} {w'} (Body (Io e)) ending (once, fails, all) on (is, same) =
             subst (λ x. Runs remaining tells trace (left_of s) w (Inside t) x w') (sym is)
             (subst (Runs remaining tells trace (left_of s) w (Inside t) (Unread e)) (sym same)
-            (Runs-stopped handed (Inside t) (is_part begun goes) (begun_once begun t.stream once) (Unread e)
+            (Runs-stopped handed (Inside t) (is_part begun limits goes) (begun_once begun t.stream once) (Unread e)
             (unrefused (Ok tt) (IsLast [] (b.head ++ goes.takes.wire) None (Inside t)) on)
             (ReadFails-still (begun_steady begun) e t.stream fails, all)))
         torn_answered {v} {w'} Large ending (reads, large) on (answer, is, puts, unflushed) =
@@ -182,13 +184,13 @@ module _ {W : Type 0} {tells : W → StreamLog} {trace : W → W → Type 0} whe
         torn_answered {v} {w'} (Unsent e) ending reads on (is, same) =
             subst (λ x. Runs remaining tells trace (left_of s) w (Inside t) x w') (sym is)
             (subst (Runs remaining tells trace (left_of s) w (Inside t) (stop.Unsent e)) (sym same)
-            (Runs-stopped handed (Inside t) (is_part begun goes)
+            (Runs-stopped handed (Inside t) (is_part begun limits goes)
             (begun_once begun t.stream (omega (arith, reads.ends))) (stop.Unsent e)
             (unrefused (Err e) (IsLast [] (b.head ++ goes.takes.wire) None (Inside t)) on) tt))
         torn_answered {v} {w'} Many ending (reads, many) on (is, same) =
             subst (λ x. Runs remaining tells trace (left_of s) w (Inside t) x w') (sym is)
             (subst (Runs remaining tells trace (left_of s) w (Inside t) stop.Many) (sym same)
-            (Runs-stopped handed (Inside t) (is_part begun goes)
+            (Runs-stopped handed (Inside t) (is_part begun limits goes)
             (begun_once begun t.stream (omega (arith, reads.ends))) stop.Many
             (unrefused (Ok tt) (IsLast [] (b.head ++ goes.takes.wire) None (Inside t)) on) (
               joined (begun_steady begun) t.stream reads.faults,
@@ -197,17 +199,19 @@ module _ {W : Type 0} {tells : W → StreamLog} {trace : W → W → Type 0} whe
 
       -- one did, whole, and its payload was counted
       pub one_answered : {s : ReaderState R Heads} {b : InBody R} {t : Unbuffered R} {len : ℕ} {known : Bool} {said : ParsedHead}
-          {w u v w' : Buffered W StdPolicy} {sending : Result (Unit {0}) Error} → Begun remaining s b
+          {w u v w' : Buffered W StdPolicy} {sending : Result (Unit {0}) Error} → Begun remaining s b → b.limits ≡ usual
           → (whole : TakesWhole remaining b t len) → said ≡ b.said → known ≡ is_known b.head
           → Writes tells trace (left_of s, w) (called (waits b.said)) (Ok tt) (b.stream, u)
           → Writes tells trace (b.stream, u) [] (Ok tt) (t, v)
           → Puts tells trace v (answered known said len) sending w' → IsUnflushed v w'
           → Answers remaining tells trace ((b.head, whole.1) ∷ []) (left_of s) w [] [] (IsLastAnswer ((b.head, whole.1) ∷ [])) t
           sending w'
-      one_answered {s} {b} {t} {len} {known} {said} {w} {u} {v} {w'} {sending} begun (wire, payload, went, is, many, small) same
+      one_answered {s} {b} {t} {len} {known} {said} {w} {u} {v} {w'} {sending} begun limits (wire, payload, went, is, many, small) same
           method call on puts unflushed =
           let bytes = b.head ++ wire in
-          let message = Begun-message remaining s b wire payload begun (subst (λ r. IsRest r wire payload) begun.rest is) in
+          let message = subst (λ l. (m : IsMessage l (b.head ++ wire) b.head payload) × (m.wire ≡ wire) × (m.text.said ≡ b.said)) limits
+          (Begun-message remaining s b wire payload begun (subst (λ r. IsRest r wire payload) begun.rest is)) in
+          let head = subst (λ l. IsHead l b.head b.said) limits begun.is in
           let taken : is_large message.0.text.said.extent (length message.0.wire) (length payload) ≡ false =
           subst (λ x. is_large x.extent (length message.0.wire) (length payload) ≡ false) (sym message.2)
           (subst (λ l. is_large b.said.extent (length l) (length payload) ≡ false) (sym message.1)
@@ -230,10 +234,10 @@ module _ {W : Type 0} {tells : W → StreamLog} {trace : W → W → Type 0} whe
             went = subst (λ l. StreamWent remaining (left_of s) l t) (sym (append-nil bytes))
                 (StreamWent-joins remaining (left_of s) b.stream t b.head wire (Begun-went remaining s b begun) went);
             text = text;
-            answers = InTurn-one IsAnswer (b.head, payload) text (b.said, begun.is, refl);
+            answers = InTurn-one IsAnswer (b.head, payload) text (b.said, head, refl);
             writes = subst (λ l. Writes tells trace (left_of s, w) l sending (t, w')) (sym (append-nil text)) both;
             fails = FailsLast-of (IsLastAnswer ((b.head, payload) ∷ [])) sending (append-nil text)
-                (inr ([], (b.head, payload), b.said, refl, begun.is, refl)) first.puts says;
+                (inr ([], (b.head, payload), b.said, refl, head, refl)) first.puts says;
           }
 
       -- some did, and then more

@@ -1,5 +1,5 @@
 -- What was sent before a further head was asked for.
-use Rattle.std.proofs.Common.{◌≡◌, ◌⊎◌, ◌<◌, ℕ, List, [], length, Option, Result, Ok, inl, inr, ap, arith}
+use Rattle.std.proofs.Common.{◌≡◌, ◌⊎◌, ◌<◌, ℕ, List, [], length, Option, Result, Ok, inl, inr, ap, subst, arith}
 use Rattle.std.proofs.lemmas.List.{nil_from_length}
 use Rattle.std.specs.declared.io.Error.{Error}
 use Rattle.buffer_redux.specs.Buffered.{Buffered}
@@ -16,14 +16,20 @@ use Rattle.messages.specs.declared.bad_head.BadHead.{BadHead}
 use Rattle.messages.specs.declared.head.Heads.{Heads}
 use Rattle.messages.specs.Heads.{heads}
 use Rattle.messages.specs.HeadsLaws.{heads_lawful}
+use Rattle.messages.specs.Limits.{usual}
 use Rattle.messages.specs.Messages.{AskedIn, GoesOn, InBody, IsRest, RunsShort}
 use Rattle.programs.specs.Streams.{AllSent}
 use Rattle.requests.specs.Sending.{Comes, SendsUnless, Writes}
 use Rattle.requests.proofs.Sending.{Writes-after, Writes-read, Writes-sent, open_empty, sent_then}
 use Rattle.requests.proofs.Reading.{wrong_unasked}
 
+-- under the usual limits heads are the usual ones
+pub usually : {R : Type 0} {remaining : R → Option (List ℕ)} {s t : ReaderState R Heads} {answer : NextAnswer BadHead}
+    → s.decoder.0 ≡ usual → NextPiece remaining (heads s.decoder.0) s answer t → NextPiece remaining (heads usual) s answer t
+usually {R} {remaining} {s} {t} {answer} same next = subst (λ l. NextPiece remaining (heads l) s answer t) same next
+
 -- what isn't settled is open
-pub open_where : {R : Type 0} (s : ReaderState R Heads) → (¬ (IsSettled heads s)) → IsOpen heads (rest s)
+pub open_where : {R : Type 0} (s : ReaderState R Heads) → (¬ (IsSettled (heads usual) s)) → IsOpen (heads usual) (rest s)
 open_where s unsettled = record {
   no_piece = λ b. unsettled (inr (inl b));
   not_wrong = λ e bad. unsettled (inr (inr (e, bad)));
@@ -54,12 +60,12 @@ body_asked {slice = slice} count out m t w v sends zero some goes_on short asked
 module _ {R W : Type 0} {remaining : R → Option (List ℕ)} {tells : W → StreamLog} {trace : W → W → Type 0}
     (none : (u : W) → trace u u) (joins : (u v x : W) → trace u v → trace v x → trace u x) where
   -- what was held was sent, where the stream was asked then
-  pub comes : (s : ReaderState R Heads) (w v : Buffered W StdPolicy) → SendsUnless tells trace (IsSettled heads s) w (Ok tt) v
-      → (answer : NextAnswer BadHead) (t : ReaderState R Heads) → NextPiece remaining heads s answer t
+  pub comes : (s : ReaderState R Heads) (w v : Buffered W StdPolicy) → SendsUnless tells trace (IsSettled (heads usual) s) w (Ok tt) v
+      → (answer : NextAnswer BadHead) (t : ReaderState R Heads) → NextPiece remaining (heads usual) s answer t
       → Comes tells trace (left_of s, w) (left_of t, v)
   comes s w v sends answer t next =
       let asked : (t.reader.log ≡ s.reader.log) ⊎ AllSent v = elim (sent_then w v sends) [
-        | inl settled ↦ inl (AsksNone-settled remaining heads heads_lawful s settled answer t next)
+        | inl settled ↦ inl (AsksNone-settled remaining (heads usual) (heads_lawful usual) s settled answer t next)
         | inr all ↦ inr all
       ] in
       record {

@@ -21,6 +21,7 @@ use Rattle.messages.specs.declared.error.BodyError.TheVariants.{Wrong, Truncated
 use Rattle.messages.specs.declared.bad_head.BadHead.{BadHead}
 use Rattle.messages.specs.declared.head.Heads.{Heads}
 use Rattle.messages.specs.Heads.{IsHead, heads}
+use Rattle.messages.specs.Limits.{usual}
 use Rattle.messages.specs.Messages.{Begun, Bytes, Chunks, EachGave, Ends, Fails, FinishFails, GoesOn, InBody, InsideGoes, IsRest, IsWrongNext, Message, Onward, Rest, Unended, body_of}
 use Rattle.messages.specs.MessagesLaws.{Begun-gave}
 use Rattle.programs.specs.Streams.{EndsOnce}
@@ -146,10 +147,10 @@ module _ {S : Type 0} {s m : Unbuffered S} (steady : ReadsSteadily s m) where
 
 -- a call that goes into no message takes nothing
 pub nothing_went : {R : Type 0} {remaining : R → Option (List ℕ)} {s t : ReaderState R Heads} {answer : NextAnswer BadHead}
-    (next : NextPiece remaining heads s answer t) → next.bytes ≡ [] → StreamWent remaining (left_of s) [] (left_of t)
+    (next : NextPiece remaining (heads usual) s answer t) → next.bytes ≡ [] → StreamWent remaining (left_of s) [] (left_of t)
 nothing_went {R} {remaining} {s} {t} next none =
     subst (λ l. StreamWent remaining (left_of s) l (left_of t)) none
-    (PiecesWent-stream remaining heads.most s t next.bytes next.went)
+    (PiecesWent-stream remaining (heads usual).most s t next.bytes next.went)
 
 -- the head of a message went without a fault, and no end was met
 module _ {R : Type 0} {remaining : R → Option (List ℕ)} {s : ReaderState R Heads} {b : InBody R}
@@ -161,15 +162,17 @@ module _ {R : Type 0} {remaining : R → Option (List ℕ)} {s : ReaderState R H
   begun_once t once = omega (arith, once, begun_steady.ends)
 
   -- a part of it was taken
-  pub is_part : {t : InBody R} {handed : List ℕ} (goes : InsideGoes remaining b handed t)
+  pub is_part : {t : InBody R} {handed : List ℕ} → b.limits ≡ usual → (goes : InsideGoes remaining b handed t)
       → IsPart (Inside t) (b.head ++ goes.takes.wire) handed
-  is_part {t} {handed} goes =
+  is_part {t} {handed} same goes =
       let taken : goes.takes.wire ≡ t.taken = sym (goes.taken ∙ ap (λ l. l ++ goes.takes.wire) begun.taken) in (
         ap (λ l. l ++ goes.takes.wire) (sym goes.head) ∙ ap (λ l. t.head ++ l) taken,
-        subst (λ h. IsHead h t.said) (sym goes.head) (subst (λ x. IsHead b.head x) (sym goes.said) begun.is),
-        subst (λ x. Onward (body_of x.extent) t.taken handed t.rest) (sym goes.said)
-            (subst (λ l. Onward (body_of b.said.extent) l handed t.rest) taken
-            (subst (λ r. Onward r goes.takes.wire handed t.rest) begun.rest goes.takes.onward)),
+        subst (λ h. IsHead usual h t.said) (sym goes.head) (subst (λ x. IsHead usual b.head x) (sym goes.said)
+            (subst (λ l. IsHead l b.head b.said) same begun.is)),
+        subst (λ x. Onward (body_of usual x.extent) t.taken handed t.rest) (sym goes.said)
+            (subst (λ l. Onward (body_of usual b.said.extent) l handed t.rest) taken
+            (subst (λ l. Onward (body_of l b.said.extent) goes.takes.wire handed t.rest) same
+            (subst (λ r. Onward r goes.takes.wire handed t.rest) begun.rest goes.takes.onward))),
       )
 
 -- nothing is left where none is

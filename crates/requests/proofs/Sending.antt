@@ -17,19 +17,20 @@ use Rattle.buffer_redux.specs.declared.policy.StdPolicy.{StdPolicy}
 use Rattle.codec.specs.Grammar.{IsOpen}
 use Rattle.messages.specs.Heads.{heads}
 use Rattle.messages.specs.HeadsLaws.{heads_lawful}
+use Rattle.messages.specs.Limits.{usual}
 use Rattle.programs.specs.Streams.{AllSent}
 use Rattle.requests.specs.Sending.{Both, IsHeld, IsStep, IsUnflushed, Prompt, PutStops, Puts, SendsHeld, SendsUnless, Steps, Writes}
 
 -- nothing settles nothing
-pub open_empty : (bytes : List ℕ) → bytes ≡ [] → IsOpen heads bytes
-open_empty bytes none = subst (IsOpen heads) (sym none) (record {
+pub open_empty : (bytes : List ℕ) → bytes ≡ [] → IsOpen (heads usual) bytes
+open_empty bytes none = subst (IsOpen (heads usual)) (sym none) (record {
   no_piece = λ b. absurd (omega (
     arith,
-    heads_lawful.some b.piece b.payload b.is,
+    (heads_lawful usual).some b.piece b.payload b.is,
     ap length b.equal,
     length-append b.piece b.more,
   ));
-  not_wrong = heads_lawful.nothing;
+  not_wrong = (heads_lawful usual).nothing;
 })
 
 pub on_ok : {P : Type 0} (answer : Result (Unit {0}) Error) → P → OnOk answer P
@@ -180,7 +181,7 @@ module _ {W : Type 0} {tells : W → StreamLog} {trace : W → W → Type 0} whe
 
       -- what was held was sent, where the stream is to be asked
       pub Writes-sent : {P : Type 0} (s : Unbuffered R) (w v : Buffered W StdPolicy) (answer : Result (Unit {0}) Error)
-          → SendsUnless tells trace P w answer v → ((¬ P) → IsOpen heads s.left)
+          → SendsUnless tells trace P w answer v → ((¬ P) → IsOpen (heads usual) s.left)
           → Writes tells trace (s, w) [] answer (s, v)
       Writes-sent s w v answer (inl (settled, well, same)) asks =
           subst (λ r. Writes tells trace (s, w) [] r (s, v)) (sym well)

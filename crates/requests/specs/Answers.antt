@@ -22,6 +22,7 @@ use Rattle.messages.specs.declared.head.Extent.TheVariants.{Sized, Chunked}
 use Rattle.messages.specs.declared.head.ParsedHead.{ParsedHead}
 use Rattle.messages.specs.Heads.{IsHead, heads}
 use Rattle.messages.specs.declared.head.Heads.{Heads}
+use Rattle.messages.specs.Limits.{usual}
 use Rattle.messages.specs.Messages.{EachGave, Fails, InBody, InTurn, IsMessage, IsRest, IsWrongNext, Message, Onward, body_of}
 use Rattle.programs.specs.Streams.{AllSent, EndsOnce}
 use Rattle.requests.specs.declared.writing.Refusal.{Refusal}
@@ -93,6 +94,11 @@ abbrev pub declined : Bool → List ℕ
 declined true = codes "HTTP/1.1 501 Not Implemented\r\nContent-Length: 0\r\nConnection: keep-alive\r\n\r\n"
 declined false = codes "HTTP/1.1 501 Not Implemented\r\nContent-Length: 0\r\nConnection: close\r\n\r\n"
 
+-- 417, to one that expects what nobody here does (RFC 9110, section 10.1.1)
+abbrev pub disappointed : Bool → List ℕ
+disappointed true = codes "HTTP/1.1 417 Expectation Failed\r\nContent-Length: 0\r\nConnection: keep-alive\r\n\r\n"
+disappointed false = codes "HTTP/1.1 417 Expectation Failed\r\nContent-Length: 0\r\nConnection: close\r\n\r\n"
+
 -- an end of a line
 abbrev pub is_end : ℕ → Bool
 is_end b = (b == 13) || (b == 10)
@@ -115,16 +121,17 @@ abbrev pub is_known : List ℕ → Bool
 is_known head = begins_known (drop (prefix_len is_end head) head)
 
 abbrev pub answered : Bool → ParsedHead → ℕ → List ℕ
-answered known said len = if known then accepted said len else declined said.keeps
+answered known said len =
+    if known then (if said.met then accepted said len else disappointed said.keeps) else declined said.keeps
 
--- the answer to a message: 200, and how much payload all of its body has; or 501
+-- the answer to a message: 200, and how much payload all of its body has; or 501, or 417
 abbrev pub IsAnswer : Message → List ℕ → Type 0
-IsAnswer m text = (said : ParsedHead) × IsHead m.0 said
+IsAnswer m text = (said : ParsedHead) × IsHead usual m.0 said
     × (text ≡ called (waits said) ++ answered (is_known m.0) said (length m.1))
 
 -- a message is these bytes, and its body isn't too large
 abbrev pub IsTaken : Message → List ℕ → Type 0
-IsTaken m first = (is : IsMessage first m.0 m.1)
+IsTaken m first = (is : IsMessage usual first m.0 m.1)
     × (is_large is.text.said.extent (length is.wire) (length m.1) ≡ false)
 
 -- the whole body was taken, which isn't too large, with so much payload
@@ -162,9 +169,9 @@ is_blank bytes = prefix_len is_end bytes == length bytes
 -- what comes is to be refused so: no head begins what is left, for that reason, or the stream ended in one; or the next byte of
 -- the body is wrong, or the stream ended before that was complete, or what was taken of it is too large, with this payload
 abbrev pub IsWrong : {S : Type 0} → Unbuffered S → Place S → List ℕ → Refusal → Type 0
-IsWrong s (Before requests) handed why = ((e : BadHead) × heads.wrong (rest requests) e × (why ≡ refusal_of e))
+IsWrong s (Before requests) handed why = ((e : BadHead) × (heads usual).wrong (rest requests) e × (why ≡ refusal_of e))
     ⊎ ((why ≡ BadRequest) × (ends_of s < ends_of (left_of requests)) × (is_blank (rest requests) ≡ false)
-    × IsOpen heads (rest requests))
+    × IsOpen (heads usual) (rest requests))
 IsWrong s (Inside body) handed why = ((why ≡ BadRequest)
     × (((name : Malformed) × IsWrongNext body.rest body.stream.left name)
     ⊎ ((ends_of s < ends_of body.stream) × (body.stream.left ≡ [])
@@ -178,7 +185,7 @@ HasEnded s (Inside body) = ⊥
 
 -- whether another message may follow this one, as its head says
 abbrev pub Keeps : Bool → Message → Type 0
-Keeps keeps m = (said : ParsedHead) × IsHead m.0 said × (said.keeps ≡ keeps)
+Keeps keeps m = (said : ParsedHead) × IsHead usual m.0 said × (said.keeps ≡ keeps)
 
 -- none may follow the last of these, and one each other
 pub record Closes (messages : List Message) : Type 0 where
@@ -198,8 +205,8 @@ IsOver messages taken refuses s place =
 -- these bytes behind whole messages are none, or a head, and of the body that it says some with this payload
 abbrev pub IsPart : {S : Type 0} → Place S → List ℕ → List ℕ → Type 0
 IsPart (Before requests) taken handed = (taken ≡ []) × (handed ≡ [])
-IsPart (Inside body) taken handed = (taken ≡ body.head ++ body.taken) × IsHead body.head body.said
-    × Onward (body_of body.said.extent) body.taken handed body.rest
+IsPart (Inside body) taken handed = (taken ≡ body.head ++ body.taken) × IsHead usual body.head body.said
+    × Onward (body_of usual body.said.extent) body.taken handed body.rest
 
 -- behind interruptions a read failed so
 abbrev pub ReadFails : {S : Type 0} → Unbuffered S → Error → Unbuffered S → Type 0
@@ -242,10 +249,10 @@ abbrev pub sent_with : {A : Type 0} → Result A Untaken → Result (Unit {0}) E
 sent_with (Ok a) = Ok tt
 sent_with (Err e) = sent_till e
 
--- this is the 200, or the 501, of the last of these messages
+-- this is the 200, the 501 or the 417 of the last of these messages
 abbrev pub IsLastAnswer : List Message → List ℕ → Type 0
 IsLastAnswer messages text = (before : List Message) × (m : Message) × (said : ParsedHead) × (messages ≡ before ++ m ∷ [])
-    × IsHead m.0 said × (text ≡ answered (is_known m.0) said (length m.1))
+    × IsHead usual m.0 said × (text ≡ answered (is_known m.0) said (length m.1))
 
 -- this is sent last, where the reader stands there: a refusal, or such an answer, or the call for a body of which nothing was
 -- taken

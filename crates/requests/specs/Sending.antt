@@ -11,6 +11,7 @@ use Rattle.buffer_redux.specs.Unbuffer.{Unbuffered}
 use Rattle.buffer_redux.specs.declared.policy.StdPolicy.{StdPolicy}
 use Rattle.codec.specs.Grammar.{IsOpen}
 use Rattle.messages.specs.Heads.{heads}
+use Rattle.messages.specs.Limits.{usual}
 use Rattle.programs.specs.Streams.{AllSent}
 
 -- what the writer has buffered is all that wasn't sent
@@ -56,7 +57,7 @@ module _ {R W : Type 0} (tells : W → StreamLog) (trace : W → W → Type 0) w
   abbrev pub IsStep : Both R W → Both R W → Type 0
   IsStep (s, w) (t, v) = ((t.log ≡ s.log) × IsUnflushed w v)
       ⊎ (AllSent w × (v ≡ w))
-      ⊎ ((t ≡ s) × IsOpen heads s.left × (0 < length w.block.bytes)
+      ⊎ ((t ≡ s) × IsOpen (heads usual) s.left × (0 < length w.block.bytes)
       × ((sending : Result (Unit {0}) Error) × WasFlushed tells trace w sending v))
 
   -- such steps, by way of these, of which the last is first

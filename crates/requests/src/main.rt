@@ -1,17 +1,18 @@
 //! Answers each request on standard input by how many bytes of payload its body has.
 //!
-//! 200 and that number, where all of the body came, or 501 to a method that it doesn't know; 100 before it, where the client
-//! waits for that. What comes and is no request is refused by the status that RFC 9112 has for it (`refusal_of`); 400 is for a
-//! body that is none, or ends early, and 413 for one that is too large (`is_large`); and then no more comes. It ends behind a
-//! request after which none may follow, and where the stream does. It asks the stream only where all that it answered was sent,
-//! and sends only there and at the end (`Prompt`); where sending fails, nothing was taken behind what failed (`IsLast`).
+//! 200 and that number, where all of the body came, or 501 to a method that it doesn't know, or 417 to who expects something but
+//! `100-continue`; 100 before it, where the client waits for that. What comes and is no request is refused by the status that RFC
+//! 9112 has for it (`refusal_of`); 400 is for a body that is none, or ends early, and 413 for one that is too large (`is_large`);
+//! and then no more comes. It ends behind a request after which none may follow, and where the stream does. It asks the stream
+//! only where all that it answered was sent, and sends only there and at the end (`Prompt`); where sending fails, nothing was
+//! taken behind what failed (`IsLast`).
 #![tactic(auto)]
 
 mod limits;
 mod taking;
 mod writing;
 
-ghost use Rattle.std.specs.Prelude.{◌≡◌, ℕ, true, false, [], IsTrue, Ok, OnOk};
+ghost use Rattle.std.specs.Prelude.{◌≡◌, ℕ, true, false, [], IsTrue, IfOk, Ok, OnOk};
 ghost use Rattle.std.specs.IoError.{error_kind};
 ghost use Rattle.std.specs.declared.io.Error.{Error};
 ghost use Rattle.redux_buffer.specs.Faults.{IsInterrupt};
@@ -21,6 +22,7 @@ ghost use Rattle.codec.specs.NextPiece.{NextPiece};
 ghost use Rattle.codec.specs.PieceReader.{IsSettled, ReaderState, left_of};
 ghost use Rattle.messages.specs.declared.head.Heads.{Heads};
 ghost use Rattle.messages.specs.Heads.{heads};
+ghost use Rattle.messages.specs.Limits.{usual};
 ghost use Rattle.messages.specs.Messages.{Begun, answer_of};
 ghost use Rattle.requests.specs.Sending.{Comes, IsHeld, SendsUnless, Writes};
 ghost use Rattle.requests.specs.Answers.{EndsBody, EndsSent, Serves, Turns, called, ending_of, is_blank, sending_of, waits};
@@ -57,6 +59,7 @@ fn serve<R: TellRead, W: TellWrite>(
     writer: &mut BufWriter<W>,
 ) -> (Place<R>, io::Result<()>)
     requires held { IsHeld writer.old }
+    requires limits { requests.decoder.0 ≡ usual }
     ensures { Serves R.remaining W.log W.trace (left_of requests) writer.old result.0 result.1 writer.new }
 {
     let mut next = requests;
@@ -110,7 +113,9 @@ fn answer<R: TellRead, W: TellWrite>(
     writer: &mut BufWriter<W>,
 ) -> Result<Requests<R>, (Place<R>, Ending)>
     requires held { IsHeld writer.old }
-    ensures { Turns R.remaining W.log W.trace (left_of requests) writer.old result writer.new }
+    requires limits { requests.decoder.0 ≡ usual }
+    ensures turns { Turns R.remaining W.log W.trace (left_of requests) writer.old result writer.new }
+    ensures limits { IfOk result (λ next. next.decoder.0 ≡ usual) }
 {
     match requests.next_buffered() {
         Ok(body) => answer_body(body, writer),
@@ -124,7 +129,9 @@ fn answer_next<R: TellRead, W: TellWrite>(
     writer: &mut BufWriter<W>,
 ) -> Result<Requests<R>, (Place<R>, Ending)>
     requires held { IsHeld writer.old }
-    ensures { Turns R.remaining W.log W.trace (left_of requests) writer.old result writer.new }
+    requires limits { requests.decoder.0 ≡ usual }
+    ensures turns { Turns R.remaining W.log W.trace (left_of requests) writer.old result writer.new }
+    ensures limits { IfOk result (λ next. next.decoder.0 ≡ usual) }
 {
     match send_to_ask(&requests, writer) {
         Ok(()) => match requests.next() {
@@ -141,7 +148,8 @@ fn send_to_ask<R: TellRead, W: TellWrite>(
     writer: &mut BufWriter<W>,
 ) -> io::Result<()>
     requires held { IsHeld writer.old }
-    ensures { SendsUnless W.log W.trace (IsSettled heads requests.now) writer.old result writer.new }
+    requires limits { requests.now.decoder.0 ≡ usual }
+    ensures { SendsUnless W.log W.trace (IsSettled (heads usual) requests.now) writer.old result writer.new }
 {
     if requests.is_settled() {
         return Ok(());
@@ -155,8 +163,10 @@ fn stopped<R: TellRead, W: TellWrite>(
     stop: Stop,
     writer: &mut BufWriter<W>,
 ) -> Result<Requests<R>, (Place<R>, Ending)>
-    ensures { (s : ReaderState R Heads) (w : Buffered W StdPolicy) → s.ended ≡ false
-        → NextPiece R.remaining heads s (answer_of stop) requests
+    requires limits { requests.decoder.0 ≡ usual }
+    ensures limits { IfOk result (λ next. next.decoder.0 ≡ usual) }
+    ensures turns { (s : ReaderState R Heads) (w : Buffered W StdPolicy) → s.ended ≡ false
+        → NextPiece R.remaining (heads usual) s (answer_of stop) requests
         → Comes W.log W.trace (left_of s, w) (left_of requests, writer.old)
         → Turns R.remaining W.log W.trace (left_of s) w result writer.new }
 {
@@ -220,7 +230,9 @@ fn answer_body<R: TellRead, W: TellWrite>(
 ) -> Result<Requests<R>, (Place<R>, Ending)>
     requires held { IsHeld writer.old }
     requires first { body.taken ≡ [] }
-    ensures { (s : ReaderState R Heads) (w : Buffered W StdPolicy) → Begun R.remaining s body
+    requires limits { body.limits ≡ usual }
+    ensures limits { IfOk result (λ next. next.decoder.0 ≡ usual) }
+    ensures turns { (s : ReaderState R Heads) (w : Buffered W StdPolicy) → Begun R.remaining s body
         → Writes W.log W.trace (left_of s, w) [] (Ok tt) (body.stream, writer.old)
         → Turns R.remaining W.log W.trace (left_of s) w result writer.new }
 {
@@ -237,7 +249,9 @@ fn answer_called<R: TellRead, W: TellWrite>(
 ) -> Result<Requests<R>, (Place<R>, Ending)>
     requires held { IsHeld writer.old }
     requires first { body.taken ≡ [] }
-    ensures { (s : ReaderState R Heads) (w : Buffered W StdPolicy) → Begun R.remaining s body
+    requires limits { body.limits ≡ usual }
+    ensures limits { IfOk result (λ next. next.decoder.0 ≡ usual) }
+    ensures turns { (s : ReaderState R Heads) (w : Buffered W StdPolicy) → Begun R.remaining s body
         → Writes W.log W.trace (left_of s, w) (called (waits body.said)) (Ok tt) (body.stream, writer.old)
         → Turns R.remaining W.log W.trace (left_of s) w result writer.new }
 {

@@ -4,6 +4,7 @@ ghost use Rattle.std.specs.declared.io.Error.{Error};
 ghost use Rattle.redux_buffer.specs.Faults.{IsInterrupt};
 ghost use Rattle.body_reader.specs.Between.{handed_out};
 ghost use Rattle.codec.specs.PieceReader.{left_of};
+ghost use Rattle.messages.specs.Limits.{usual};
 ghost use Rattle.messages.specs.Messages.{EachGave, InsideGoes, IsRest};
 ghost use Rattle.requests.specs.Answers.{FailsOn, ReadsSteadily, TakeFails, TakesWhole, sent_till, sent_with, unfinished};
 ghost use Rattle.requests.specs.Large.{is_large};
@@ -37,6 +38,8 @@ pub fn take_whole<R: TellRead, W: TellWrite>(
 ) -> Result<(u64, Requests<R>), (Body<R>, Untaken)>
     requires held { IsHeld writer.old }
     requires first { body.taken ≡ [] }
+    requires limits { body.limits ≡ usual }
+    ensures limits { IfOk result (λ r. r.1.decoder.0 ≡ usual) }
     ensures whole { IfOk result (λ r. TakesWhole R.remaining body (left_of r.1) r.0) }
     ensures steady { IfOk result (λ r. ReadsSteadily body.stream (left_of r.1)) }
     ensures part { IfErr result (λ e. (handed : List ℕ) × InsideGoes R.remaining body handed e.0

@@ -2,7 +2,7 @@
 ghost use Rattle.std.specs.Prelude.{◌≡◌, ◌≤◌, if◌then◌else◌, [], ◌++◌, codes, length, map};
 ghost use Rattle.std.specs.List.{concat, prefix_len};
 ghost use Rattle.requests.specs.Sending.{IsHeld, IsUnflushed, Puts, SendsHeld};
-ghost use Rattle.requests.specs.Answers.{accepted, answered, begins_known, begins_often, called, declined, has_body, is_end, is_known, length_line, refusal, refusal_of, waits};
+ghost use Rattle.requests.specs.Answers.{accepted, answered, begins_known, begins_often, called, declined, disappointed, has_body, is_end, is_known, length_line, refusal, refusal_of, waits};
 
 use crate::limits::is_large;
 use buffer_redux::BufWriter;
@@ -70,10 +70,32 @@ pub(crate) fn answer_whole<W: TellWrite>(
     ensures puts { Puts W.log W.trace writer.old (answered known said len) result writer.new }
     ensures unflushed { IsUnflushed writer.old writer.new }
 {
-    if known {
+    if !known {
+        return decline(said.keeps, writer);
+    }
+    if said.met {
         accept(len, said, writer)
     } else {
-        decline(said.keeps, writer)
+        disappoint(said.keeps, writer)
+    }
+}
+
+fn disappoint<W: TellWrite>(keeps: bool, writer: &mut BufWriter<W>) -> io::Result<()>
+    ensures puts { Puts W.log W.trace writer.old (disappointed keeps) result writer.new }
+    ensures unflushed { IsUnflushed writer.old writer.new }
+{
+    if keeps {
+        put(
+            writer,
+            &[
+                b"HTTP/1.1 417 Expectation Failed\r\nContent-Length: 0\r\nConnection: keep-alive\r\n\r\n",
+            ],
+        )
+    } else {
+        put(
+            writer,
+            &[b"HTTP/1.1 417 Expectation Failed\r\nContent-Length: 0\r\nConnection: close\r\n\r\n"],
+        )
     }
 }
 

@@ -4,7 +4,10 @@ use Went::{Before, Inside, Passed};
 use buffer_redux::Buffer;
 use buffer_redux::tell::TellRead;
 use messages::laws::{Stopped, pass};
-use messages::{BadHead, Body, BodyError, Extent, ParsedHead, Requests, Stop, read_head};
+use messages::{
+    BadHead, Body, BodyError, Extent, Limits, ParsedHead, Requests, Stop, read_head,
+    read_head_within,
+};
 use std::alloc::Global;
 use std::io;
 use std::test::Fail;
@@ -16,6 +19,7 @@ const PLAIN: ParsedHead = ParsedHead {
     bare: false,
     keeps: true,
     expects: false,
+    met: true,
 };
 
 // What one says behind which none comes.
@@ -24,10 +28,11 @@ const LAST: ParsedHead = ParsedHead {
     bare: false,
     keeps: false,
     expects: false,
+    met: true,
 };
 
 // Heads, and what they say by RFC 9112, sections 3, 6 and 9.3, and RFC 9110, section 10.1.1, or why they are none.
-static HEADS: [(&'static [u8], Result<ParsedHead, BadHead>); 14] = [
+static HEADS: [(&'static [u8], Result<ParsedHead, BadHead>); 15] = [
     (b"GET / HTTP/1.1\r\nHost: a\r\n\r\n", Ok(PLAIN)),
     (
         b"HEAD / HTTP/1.1\r\nHost: a\r\nConnection: close\r\n\r\n",
@@ -36,6 +41,7 @@ static HEADS: [(&'static [u8], Result<ParsedHead, BadHead>); 14] = [
             bare: true,
             keeps: false,
             expects: false,
+            met: true,
         }),
     ),
     (
@@ -45,6 +51,7 @@ static HEADS: [(&'static [u8], Result<ParsedHead, BadHead>); 14] = [
             bare: false,
             keeps: true,
             expects: true,
+            met: true,
         }),
     ),
     (
@@ -54,6 +61,17 @@ static HEADS: [(&'static [u8], Result<ParsedHead, BadHead>); 14] = [
             bare: false,
             keeps: true,
             expects: false,
+            met: true,
+        }),
+    ),
+    (
+        b"GET /a HTTP/1.1\r\nHost: a\r\nExpect: 101-continue\r\n\r\n",
+        Ok(ParsedHead {
+            extent: Extent::Sized(0),
+            bare: false,
+            keeps: true,
+            expects: false,
+            met: false,
         }),
     ),
     (b"GET / HTTP/1.0\r\n\r\n", Ok(LAST)),
@@ -128,7 +146,9 @@ fn over(alloc: Global, bytes: &[u8]) -> io::Result<Requests<Source>> {
     let at = bytes.len().min(8);
     let stream = source(alloc, bytes.get(at..).unwrap_or(b""), &[])?;
     let buffer = holding(alloc, 8, bytes)?;
-    Ok(Requests::with_buffers(alloc, buffer, Buffer::with_capacity(alloc, 0)?, stream)?)
+    let head = Buffer::with_capacity(alloc, 0)?;
+    let limits = Limits::default();
+    Ok(Requests::with_buffers_and_limits(alloc, buffer, head, stream, limits)?)
 }
 
 // The same reader, made again of its parts.
@@ -168,6 +188,49 @@ fn passes_messages(rt: HostRuntime) -> Result<(), Fail> {
             "row {row}"
         );
     }
+    Ok(())
+}
+
+// Few fields, and short lines.
+const FEW: Limits = Limits {
+    fields: 2,
+    line: 2,
+    trailers: 3,
+};
+
+const MANY: &[u8] = b"GET / HTTP/1.1\r\nHost: a\r\nB: b\r\nC: c\r\n\r\n";
+
+// Two messages, and whether they pass under those limits.
+static LIMITED: [(&'static [u8], bool); 4] = [
+    (
+        b"GET / HTTP/1.1\r\nHost: a\r\nB: b\r\n\r\nPOST / HTTP/1.1\r\nHost: a\r\nTransfer-Encoding: chunked\r\n\r\n03\r\nabc\r\n0\r\nT:v\r\n\r\n",
+        true,
+    ),
+    (
+        b"GET / HTTP/1.1\r\nHost: a\r\nB: b\r\n\r\nPOST / HTTP/1.1\r\nHost: a\r\nTransfer-Encoding: chunked\r\n\r\n003\r\nabc\r\n0\r\nT:v\r\n\r\n",
+        false,
+    ),
+    (
+        b"GET / HTTP/1.1\r\nHost: a\r\nB: b\r\n\r\nPOST / HTTP/1.1\r\nHost: a\r\nTransfer-Encoding: chunked\r\n\r\n3\r\nabc\r\n0\r\nT: v\r\n\r\n",
+        false,
+    ),
+    (
+        b"GET / HTTP/1.1\r\nHost: a\r\n\r\nGET / HTTP/1.1\r\nHost: a\r\nB: b\r\nC: c\r\n\r\n",
+        false,
+    ),
+];
+
+fn limited(alloc: Global, bytes: &[u8]) -> io::Result<bool> {
+    let requests = Requests::with_limits(alloc, source(alloc, bytes, &[])?, FEW)?;
+    Ok(pass(requests, 2).is_ok())
+}
+
+#[test]
+fn keeps_to_limits(rt: HostRuntime) -> Result<(), Fail> {
+    for (row, &(bytes, passes)) in LIMITED.iter().enumerate() {
+        assert!(rt; limited(rt.alloc(), bytes)? == passes, "row {row}");
+    }
+    assert!(rt; read_head_within(MANY, FEW) == Err(BadHead::ManyFields));
     Ok(())
 }
 

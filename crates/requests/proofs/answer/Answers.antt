@@ -4,12 +4,12 @@ use Rattle.requests.specs.Answers.{Turns}
 use Rattle.requests.proofs.Sending.{Writes-read}
 use Rattle.requests.proofs.answer.Goals as goal
 
-pub returns-in-Ok : goal.returns-in-Ok
-returns-in-Ok g c =
-    c.answer_body.ensures c.args.requests c.args.writer.now c.in-Ok.ensures.begun
+pub returns-in-Ok-clause-turns : goal.returns-in-Ok-clause-turns
+returns-in-Ok-clause-turns g c =
+    c.answer_body.ensures.turns c.args.requests c.args.writer.now c.in-Ok.ensures.begun
     (Writes-read g.met.W.TellWrite.trace_none c.args.writer.now (inl c.in-Ok.ensures.unasked))
 
-pub returns-in-Err : goal.returns-in-Err
-returns-in-Err g c =
+pub returns-in-Err-clause-turns : goal.returns-in-Err-clause-turns
+returns-in-Err-clause-turns g c =
     subst (λ x. Turns g.R.TellRead.remaining g.W.Tell.log g.W.TellWrite.trace x c.args.writer.now c.answer_next.result
-    c.answer_next.new.writer) (ap left_of c.in-Err.ensures.stays.same) c.answer_next.ensures
+    c.answer_next.new.writer) (ap left_of c.in-Err.ensures.stays.same) c.answer_next.ensures.turns

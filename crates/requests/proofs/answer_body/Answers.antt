@@ -10,18 +10,22 @@ use Rattle.requests.proofs.Sending.{Puts-more, Writes-after, Writes-put}
 use Rattle.requests.proofs.answer_body.Goals as goal
 
 pub answer_called-requires : goal.answer_called-requires
-answer_called-requires g c = record { held = c.in-Ok.ensures.puts.held c.requires.held; first = c.requires.first }
+answer_called-requires g c = record {
+  held = c.in-Ok.ensures.puts.held c.requires.held;
+  first = c.requires.first;
+  limits = c.requires.limits;
+}
 
-pub returns-in-Ok : goal.returns-in-Ok
-returns-in-Ok g c = λ s w begun writes.
+pub returns-in-Ok-clause-turns : goal.returns-in-Ok-clause-turns
+returns-in-Ok-clause-turns g c = λ s w begun writes.
     let b = c.args.body in
     let call = rw c.said.ensures.value at c.in-Ok.ensures in
-    c.answer_called.ensures s w begun
+    c.answer_called.ensures.turns s w begun
     (Writes-after g.met.W.TellWrite.trace_joins (_, w) (b.stream, c.args.writer.now) (b.stream, c.call_for_body.new.writer) []
     (called (waits b.said)) (Ok tt) writes (Writes-put b.stream call.puts call.unflushed))
 
-pub returns-in-Err : goal.returns-in-Err
-returns-in-Err g c = λ s w begun writes.
+pub returns-in-Err-clause-turns : goal.returns-in-Err-clause-turns
+returns-in-Err-clause-turns g c = λ s w begun writes.
     let b = c.args.body in
     let none : InsideGoes g.R.TellRead.remaining b [] b = record {
       takes = record {
@@ -32,13 +36,14 @@ returns-in-Err g c = λ s w begun writes.
       };
       taken = sym (append-nil b.taken);
       room = refl;
+      limits = refl;
       told = sym (append-nil b.calls.reads.given);
       head = refl;
       said = refl;
     } in
     let call = rw c.said.ensures.value at c.in-Err.ensures in
     let more = Puts-more [] call.puts in
-    Runs-stopped [] (Inside b) (is_part begun none) (omega (arith, (begun_steady begun).ends)) (Unsent c.in-Err.e)
+    Runs-stopped [] (Inside b) (is_part begun c.requires.limits none) (omega (arith, (begun_steady begun).ends)) (Unsent c.in-Err.e)
     (part_answered begun none
     (Writes-after g.met.W.TellWrite.trace_joins (_, w) (b.stream, c.args.writer.now) (b.stream, c.call_for_body.new.writer) []
     (called (waits b.said) ++ []) (Err c.in-Err.e) writes (Writes-put b.stream more call.unflushed))

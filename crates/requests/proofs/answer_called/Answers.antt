@@ -1,5 +1,6 @@
-use Rattle.std.proofs.Common.{[], ◌∷◌, true, ap, sym, ◌∙◌, refl, inl, arith}
+use Rattle.std.proofs.Common.{[], ◌∷◌, true, ap, sym, subst, ◌∙◌, refl, inl, arith}
 use Rattle.std.proofs.lemmas.List.Elements.{All-cons, All-nil}
+use Rattle.messages.specs.Heads.{IsHead}
 use Rattle.requests.specs.declared.Ending.TheVariants.{Over, Unsent}
 use Rattle.requests.specs.declared.Place.TheVariants.{Before}
 use Rattle.requests.specs.Answers.{Keeps, is_known}
@@ -7,30 +8,32 @@ use Rattle.requests.proofs.Answering.{Runs-stopped, one_answered, torn_answered}
 use Rattle.requests.proofs.Reading.{begun_steady, no_shorter, steadily}
 use Rattle.requests.proofs.answer_called.Goals as goal
 
-pub returns-then-said : goal.returns-then-said
-returns-then-said g c = λ s w begun call.
+pub returns-then-said-clause-turns : goal.returns-then-said-clause-turns
+returns-then-said-clause-turns g c = λ s w begun call.
     let b = c.args.body in
+    let head = subst (λ l. IsHead l b.head b.said) c.requires.limits begun.is in
     let whole = c.in-Ok.ensures.whole in
     let reads = steadily (begun_steady begun) c.in-Ok.ensures.steady in
     let keeps = sym (ap (λ x. x.keeps) c.said-said.ensures.value) ∙ c.if-said.true in (
       record {
         messages = (b.head, whole.1) ∷ [];
-        answers = one_answered g.met.W.TellWrite.trace_joins begun whole c.said-said.ensures.value
+        answers = one_answered g.met.W.TellWrite.trace_joins begun c.requires.limits whole c.said-said.ensures.value
             (c.is_known-known.ensures ∙ ap is_known c.head.ensures) call c.in-Ok.ensures.writes
             c.in-Ok-answer_whole.ensures.puts c.in-Ok-answer_whole.ensures.unflushed;
-        keep = All-cons (Keeps true) (b.head, whole.1) [] (b.said, begun.is, keeps) (All-nil (Keeps true));
+        keep = All-cons (Keeps true) (b.head, whole.1) [] (b.said, head, keeps) (All-nil (Keeps true));
         reads = reads;
       },
       omega (arith, no_shorter reads.faults),
     )
 
-pub returns-else-said : goal.returns-else-said
-returns-else-said g c = λ s w begun call.
+pub returns-else-said-clause-turns : goal.returns-else-said-clause-turns
+returns-else-said-clause-turns g c = λ s w begun call.
     let b = c.args.body in
+    let head = subst (λ l. IsHead l b.head b.said) c.requires.limits begun.is in
     let whole = c.in-Ok.ensures.whole in
     let reads = steadily (begun_steady begun) c.in-Ok.ensures.steady in
     Runs-stopped [] (Before c.in-Ok.requests) (refl, refl) (omega (arith, reads.ends)) Over
-    (one_answered g.met.W.TellWrite.trace_joins begun whole c.said-said.ensures.value
+    (one_answered g.met.W.TellWrite.trace_joins begun c.requires.limits whole c.said-said.ensures.value
     (c.is_known-known.ensures ∙ ap is_known c.head.ensures) call c.in-Ok.ensures.writes
     c.in-Ok-answer_whole.ensures.puts c.in-Ok-answer_whole.ensures.unflushed) (
       reads.faults,
@@ -40,7 +43,7 @@ returns-else-said g c = λ s w begun call.
           last = (b.head, whole.1);
           all = refl;
           keep = All-nil (Keeps true);
-          close = (b.said, begun.is, sym (ap (λ x. x.keeps) c.said-said.ensures.value) ∙ c.if-said.false);
+          close = (b.said, head, sym (ap (λ x. x.keeps) c.said-said.ensures.value) ∙ c.if-said.false);
         },
         refl,
         refl,
@@ -48,16 +51,16 @@ returns-else-said g c = λ s w begun call.
       ),
     )
 
-pub returns-in-Err-answer_whole : goal.returns-in-Err-answer_whole
-returns-in-Err-answer_whole g c = λ s w begun call.
+pub returns-in-Err-answer_whole-clause-turns : goal.returns-in-Err-answer_whole-clause-turns
+returns-in-Err-answer_whole-clause-turns g c = λ s w begun call.
     Runs-stopped [] (Before c.in-Ok.requests) (refl, refl)
     (omega (arith, (steadily (begun_steady begun) c.in-Ok.ensures.steady).ends)) (Unsent c.in-Err-answer_whole.e)
-    (one_answered g.met.W.TellWrite.trace_joins begun c.in-Ok.ensures.whole c.said-said.ensures.value
+    (one_answered g.met.W.TellWrite.trace_joins begun c.requires.limits c.in-Ok.ensures.whole c.said-said.ensures.value
     (c.is_known-known.ensures ∙ ap is_known c.head.ensures) call c.in-Ok.ensures.writes
     c.in-Err-answer_whole.ensures.puts c.in-Err-answer_whole.ensures.unflushed) tt
 
-pub returns-in-Err : goal.returns-in-Err
-returns-in-Err g c = λ s w begun call.
+pub returns-in-Err-clause-turns : goal.returns-in-Err-clause-turns
+returns-in-Err-clause-turns g c = λ s w begun call.
     let part = c.in-Err.ensures.part in
-    torn_answered g.met.W.TellWrite.trace_joins begun part.1 call c.in-Err.why c.unended-ending.result
+    torn_answered g.met.W.TellWrite.trace_joins begun c.requires.limits part.1 call c.in-Err.why c.unended-ending.result
     part.2 c.in-Err.ensures.writes c.unended-ending.ensures

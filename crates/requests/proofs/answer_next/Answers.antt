@@ -1,4 +1,4 @@
-use Rattle.std.proofs.Common.{[], Ok, Err, None, sym, subst, inl, refl, arith}
+use Rattle.std.proofs.Common.{[], Ok, Err, None, sym, subst, ◌∙◌, inl, refl, arith}
 use Rattle.buffer_redux.specs.UnbufferLaws.{StreamWent-none}
 use Rattle.codec.specs.PieceReader.{left_of}
 use Rattle.requests.specs.declared.Ending.TheVariants.{Unsent}
@@ -6,34 +6,39 @@ use Rattle.requests.specs.declared.Place.TheVariants.{Before}
 use Rattle.requests.specs.Answers.{IsLast}
 use Rattle.requests.specs.Sending.{Writes}
 use Rattle.requests.proofs.Answering.{FailsLast-of, Runs-stopped, none_answered}
-use Rattle.requests.proofs.Coming.{comes, open_where}
+use Rattle.requests.proofs.Coming.{comes, open_where, usually}
 use Rattle.requests.proofs.Sending.{Puts-none, Writes-sent}
 use Rattle.requests.proofs.answer_next.Goals as goal
 
 pub answer_body-requires : goal.answer_body-requires
 answer_body-requires g c =
     let came = comes g.met.W.TellWrite.trace_none g.met.W.TellWrite.trace_joins c.args.requests c.args.writer.now
-    c.send_to_ask.new.writer c.in-Ok.ensures _ c.in-Ok-next.ensures.next.behind c.in-Ok-next.ensures.next.next in
-    record { held = came.writes.puts.held c.requires.held; first = c.in-Ok-next.ensures.next.taken }
+    c.send_to_ask.new.writer c.in-Ok.ensures _ c.in-Ok-next.ensures.next.behind
+    (usually c.requires.limits c.in-Ok-next.ensures.next.next) in
+    record {
+      held = came.writes.puts.held c.requires.held;
+      first = c.in-Ok-next.ensures.next.taken;
+      limits = c.in-Ok-next.ensures.next.limits ∙ c.requires.limits;
+    }
 
-pub returns-in-Ok-next : goal.returns-in-Ok-next
-returns-in-Ok-next g c =
+pub returns-in-Ok-next-clause-turns : goal.returns-in-Ok-next-clause-turns
+returns-in-Ok-next-clause-turns g c =
     let begun = c.in-Ok-next.ensures.next in
     let came = comes g.met.W.TellWrite.trace_none g.met.W.TellWrite.trace_joins c.args.requests c.args.writer.now
-    c.send_to_ask.new.writer c.in-Ok.ensures _ begun.behind begun.next in
-    c.answer_body.ensures c.args.requests c.args.writer.now begun
+    c.send_to_ask.new.writer c.in-Ok.ensures _ begun.behind (usually c.requires.limits begun.next) in
+    c.answer_body.ensures.turns c.args.requests c.args.writer.now begun
     (subst (λ u. Writes g.W.Tell.log g.W.TellWrite.trace (left_of c.args.requests, c.args.writer.now) [] (Ok tt)
     (u, c.send_to_ask.new.writer)) (sym begun.stream) came.writes)
 
-pub returns-in-Err-next : goal.returns-in-Err-next
-returns-in-Err-next g c =
-    let next = c.in-Err-next.ensures.next in
-    c.stopped.ensures c.args.requests c.args.writer.now c.in-Err-next.ensures.told next
+pub returns-in-Err-next-clause-turns : goal.returns-in-Err-next-clause-turns
+returns-in-Err-next-clause-turns g c =
+    let next = usually c.requires.limits c.in-Err-next.ensures.next in
+    c.stopped.ensures.turns c.args.requests c.args.writer.now c.in-Err-next.ensures.told next
     (comes g.met.W.TellWrite.trace_none g.met.W.TellWrite.trace_joins c.args.requests c.args.writer.now
     c.send_to_ask.new.writer c.in-Ok.ensures _ c.in-Err-next.requests next)
 
-pub returns-in-Err : goal.returns-in-Err
-returns-in-Err g c =
+pub returns-in-Err-clause-turns : goal.returns-in-Err-clause-turns
+returns-in-Err-clause-turns g c =
     let s = left_of c.args.requests in
     let sent = Writes-sent g.met.W.TellWrite.trace_none s c.args.writer.now c.send_to_ask.new.writer (Err c.in-Err.e)
     c.in-Err.ensures (open_where c.args.requests) in

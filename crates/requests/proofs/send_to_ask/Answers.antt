@@ -1,11 +1,16 @@
-use Rattle.std.proofs.Common.{inl, inr, refl}
+use Rattle.std.proofs.Common.{◌↔◌, IsTrue, inl, inr, refl, subst}
+use Rattle.codec.specs.PieceReader.{IsSettled}
+use Rattle.messages.specs.Heads.{heads}
 use Rattle.requests.proofs.send_to_ask.Goals as goal
 
 pub returns-then-is_settled : goal.returns-then-is_settled
-returns-then-is_settled g c = inl (c.is_settled.ensures.0 c.if-is_settled.true, refl, refl)
+returns-then-is_settled g c =
+    let settles = subst (λ l. IsTrue c.is_settled.result ↔ IsSettled (heads l) c.args.requests.now) c.requires.limits
+    c.is_settled.ensures in
+    inl (settles.0 c.if-is_settled.true, refl, refl)
 
 pub returns : goal.returns
-returns g c = inr (
-  (λ settled. let odd = c.is_settled.ensures.1 settled in absurd (cc)),
-  c.send_held.ensures,
-)
+returns g c =
+    let settles = subst (λ l. IsTrue c.is_settled.result ↔ IsSettled (heads l) c.args.requests.now) c.requires.limits
+    c.is_settled.ensures in
+    inr ((λ settled. let odd = settles.1 settled in absurd (cc)), c.send_held.ensures)

@@ -21,13 +21,14 @@ loop-message-init g c = record {
   };
   turns = omega arith;
   held = c.requires.held;
+  limits = c.requires.limits;
 }
 
 pub loop-message-preserved : goal.loop-message-preserved
 loop-message-preserved g c =
     let before = c.loop-message.invariant in
     let a = before.goes in
-    let b = c.in-Ok.ensures.0 in
+    let b = c.in-Ok.ensures.turns.0 in
     record {
       goes = record {
         messages = a.messages ++ b.messages;
@@ -35,15 +36,16 @@ loop-message-preserved g c =
         keep = All-append (Keeps true) a.messages b.messages a.keep b.keep;
         reads = steadily a.reads b.reads;
       };
-      turns = omega (arith, before.turns, c.in-Ok.ensures.1, length-append a.messages b.messages);
+      turns = omega (arith, before.turns, c.in-Ok.ensures.turns.1, length-append a.messages b.messages);
       held = b.answers.writes.puts.held before.held;
+      limits = c.in-Ok.ensures.limits;
     }
 
 pub returns-in-Err : goal.returns-in-Err
 returns-in-Err g c = record {
   ending = c.in-Err.ending;
   held = c.answer.new.writer;
-  runs = Runs-after g.met.W.TellWrite.trace_joins c.loop-message.invariant.goes c.in-Err.ending c.in-Err.ensures;
+  runs = Runs-after g.met.W.TellWrite.trace_joins c.loop-message.invariant.goes c.in-Err.ending c.in-Err.ensures.turns;
   last = c.send_last-answer.ensures;
 }
 

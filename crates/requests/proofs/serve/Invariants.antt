@@ -1,5 +1,6 @@
-use Rattle.std.proofs.Common.{◌+◌, ◌≤◌, length}
+use Rattle.std.proofs.Common.{◌≡◌, ◌+◌, ◌≤◌, length}
 use Rattle.codec.specs.PieceReader.{left_of}
+use Rattle.messages.specs.Limits.{usual}
 use Rattle.requests.specs.Answers.{Continues, faults_of}
 use Rattle.requests.specs.Sending.{IsHeld}
 use Rattle.requests.proofs.serve.Given as goal
@@ -11,4 +12,5 @@ invariant-loop-message g l = record {
       (left_of l.next) l.writer;
   turns : l._message + length (faults_of (left_of l.fn.requests)) ≤ length goes.messages + length (faults_of (left_of l.next));
   held : IsHeld l.writer;
+  limits : l.next.decoder.0 ≡ usual;
 }

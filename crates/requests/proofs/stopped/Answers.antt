@@ -18,8 +18,8 @@ use Rattle.requests.proofs.stopped.Goals as goal
 met_end : {R : Type 0} (s t : ReaderState R Heads) → s.ended ≡ false → MetEnd s t → ends_of (left_of t) ≡ ends_of (left_of s) + 1
 met_end s t told met = subst (λ b. MatchBool b (NoEnd s t) (empties t.reader ≡ empties s.reader + 1)) told met
 
-pub returns-then-is_interrupt : goal.returns-then-is_interrupt
-returns-then-is_interrupt g c = λ s w told next comes.
+pub returns-then-is_interrupt-clause-turns : goal.returns-then-is_interrupt-clause-turns
+returns-then-is_interrupt-clause-turns g c = λ s w told next comes.
     let was = c.is_interrupt.ensures.yes c.if-is_interrupt.true in
     let fault = rw was.1 at next in
     let answers = fault.answers in (
@@ -35,8 +35,8 @@ returns-then-is_interrupt g c = λ s w told next comes.
       omega (arith, ap length answers.2, length-append (faults_of (left_of s)) (was.0 ∷ [])),
     )
 
-pub returns-in-Ended : goal.returns-in-Ended
-returns-in-Ended g c = λ s w told next comes.
+pub returns-in-Ended-clause-turns : goal.returns-in-Ended-clause-turns
+returns-in-Ended-clause-turns g c = λ s w told next comes.
     let ended = rw c.in-Ended.is at next in
     let met = met_end s c.args.requests told ended.answers.4 in
     Runs-stopped [] (Before c.args.requests) (refl, refl) (omega (arith, met)) Over
@@ -45,12 +45,12 @@ returns-in-Ended g c = λ s w told next comes.
       inr (All-nil (Keeps true), inr (omega (arith, met), subst (λ l. IsTrue (is_blank l)) (sym ended.answers.1) refl)),
     )
 
-pub returns-then-is_blank_end : goal.returns-then-is_blank_end
-returns-then-is_blank_end g c = λ s w told next comes.
+pub returns-then-is_blank_end-clause-turns : goal.returns-then-is_blank_end-clause-turns
+returns-then-is_blank_end-clause-turns g c = λ s w told next comes.
     let was = c.is_blank_end.ensures.yes c.if-is_blank_end.true in
     let cut = rw was.1 at next in
     elim cut.answers.3 [
-      | inl wrong ↦ absurd (never_cut _ _ wrong.0)
+      | inl wrong ↦ absurd (never_cut _ _ _ wrong.0)
       | inr end ↦
           (let met = met_end s c.args.requests told end.3 in
           Runs-stopped [] (Before c.args.requests) (refl, refl) (omega (arith, met)) Over
@@ -63,8 +63,8 @@ returns-then-is_blank_end g c = λ s w told next comes.
           ))
     ]
 
-pub returns-in-Bad : goal.returns-in-Bad
-returns-in-Bad g c = λ s w told next comes.
+pub returns-in-Bad-clause-turns : goal.returns-in-Bad-clause-turns
+returns-in-Bad-clause-turns g c = λ s w told next comes.
     let bad = rw c.in-Bad.is at next in
     let sending = c.refuse.result in
     let why = c.refusal_of.result in
@@ -92,8 +92,8 @@ returns-in-Bad g c = λ s w told next comes.
     ])
     (on_ok sending (none_met bad.answers.1, inr (All-nil (Keeps true), inl refl))))
 
-pub returns-in-Io : goal.returns-in-Io
-returns-in-Io g c = λ s w told next comes.
+pub returns-in-Io-clause-turns : goal.returns-in-Io-clause-turns
+returns-in-Io-clause-turns g c = λ s w told next comes.
     let fault = rw c.in-Io.is at next in
     let answers = fault.answers in
     Runs-stopped [] (Before c.args.requests) (refl, refl) (omega (arith, answers.4)) (Unread c.in-Io.e)

@@ -1,12 +1,35 @@
-use Rattle.std.proofs.Common.{◌≡◌, ◌∙◌, inl, length, take, drop, ap, subst, arith, rules}
+use Rattle.std.proofs.Common.{◌≡◌, ◌∙◌, [], inl, inr, length, take, drop, ap, subst, arith}
 use Rattle.std.proofs.lemmas.List.{length-drop, length-map, length-take-le, nil_from_length}
 use Rattle.http1.specs.Fields.{known_fields}
 use Rattle.http1.specs.Framing.{method_kind}
 use Rattle.http1.specs.Message.{known_of}
+use Rattle.httparse.proofs.GrammarLemmas.{request_unique}
 use Rattle.httparse.specs.Grammar.{ReadsRequest}
 use Rattle.httparse.specs.Spans.{header_bytes, name_and_value}
 use Rattle.messages.specs.Faults.{said_fault}
 use Rattle.messages.proofs.faults.fault.Goals as goal
+
+pub returns-then-spans-fields_of : goal.returns-then-spans-fields_of
+returns-then-spans-fields_of c =
+    let bytes = c.args.head.now in
+    let spans = c.in-Ok-Complete.spans in
+    let headers = c.parse_request.new.headers in
+    let found = rw c.in-Ok-Complete.field-0-is at c.in-Ok-Complete.ensures.complete in
+    let within = rw c.in-Ok-Complete.field-0-is at c.in-Ok-Complete.ensures.within in
+    inr (
+      (λ h few. absurd (omega (
+        arith,
+        c.fields_of.ensures,
+        c.if-spans-fields_of.true,
+        few.1,
+        ap (λ h. length h.fields) (request_unique bytes found.0 h _ [] found.1.reads few.0).0,
+        ap length found.1.fields,
+        length-map (take spans.headers headers) (header_bytes bytes),
+        length-map found.0.fields name_and_value,
+        length-take-le spans.headers headers within.section.count_fits,
+      ))),
+      c.text_fault-then-spans-fields_of.ensures,
+    )
 
 pub returns : goal.returns
 returns c =
@@ -15,7 +38,6 @@ returns c =
     let headers = c.parse_request.new.headers in
     let found = rw c.in-Ok-Complete.field-0-is at c.in-Ok-Complete.ensures.complete in
     let within = rw c.in-Ok-Complete.field-0-is at c.in-Ok-Complete.ensures.within in
-    let room : length headers ≡ 64 = search rules in
     let h = found.0 in
     let known = c.from_spans-known.result in
     let fields : known ≡ known_of h.fields = c.from_spans-known.ensures ∙ ap known_fields found.1.fields in
@@ -30,7 +52,8 @@ returns c =
             found.1.reads,
         omega (
           arith,
-          room,
+          c.fields_of.ensures,
+          c.if-spans-fields_of.false,
           within.section.count_fits,
           ap length found.1.fields,
           length-map (take spans.headers headers) (header_bytes bytes),

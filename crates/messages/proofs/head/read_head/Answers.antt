@@ -1,17 +1,9 @@
-use Rattle.std.proofs.Common.{◌∙◌, ap, subst, sym}
-use Rattle.messages.specs.Heads.{IsKnownHead}
-use Rattle.messages.specs.Versions.{with_one}
-use Rattle.messages.proofs.HeadsRead.{on_err}
+use Rattle.std.proofs.Common.{OnErr, subst}
+use Rattle.messages.specs.declared.head.ParsedHead.{ParsedHead}
+use Rattle.messages.specs.Heads.{IsHead}
 use Rattle.messages.proofs.head.read_head.Goals as goal
 
-pub returns-in-Some-clause-none : goal.returns-in-Some-clause-none
-returns-in-Some-clause-none c =
-    let same = ap (with_one c.args.head.now) (sym c.later_at.ensures.value ∙ c.in-Some.is) in
-    on_err c.read_later.result (λ none said is. none said (subst (λ l. IsKnownHead l said) same is.known))
-    c.read_later.ensures.none
-
-pub returns-in-None-clause-none : goal.returns-in-None-clause-none
-returns-in-None-clause-none c =
-    let same = ap (with_one c.args.head.now) (sym c.later_at.ensures.value ∙ c.in-None.is) in
-    on_err c.read_known.result (λ none said is. none said (subst (λ l. IsKnownHead l said) same is.known))
-    c.read_known.ensures.none
+pub returns-clause-none : goal.returns-clause-none
+returns-clause-none c =
+    subst (λ l. OnErr c.read_head_within.result ((said : ParsedHead) → ¬ (IsHead l c.args.head.now said))) c.default.ensures
+    c.read_head_within.ensures.none

@@ -1,13 +1,76 @@
-use Rattle.std.proofs.Common.{◌≡◌, ◌∙◌, length, take, drop, All, IsTrue, sym, ap, subst, arith, rules}
+use Rattle.std.proofs.Common.{◌≡◌, ◌↔◌, ◌∙◌, ℕ, List, [], length, map, take, drop, All, IsTrue, Option, None, Some, sym, ap, subst, arith, rules}
+use Rattle.std.proofs.lemmas.Bool.{false≢true}
 use Rattle.std.proofs.lemmas.List.{length-drop, length-map, length-take-le, nil_from_length}
 use Rattle.http1.specs.Fields.{known_fields}
-use Rattle.http1.specs.Framing.{method_kind}
+use Rattle.http1.specs.Framing.{method_kind, request_framing}
 use Rattle.http1.specs.Message.{has_one_host, known_of}
-use Rattle.httparse.specs.Grammar.{ReadsRequest}
+use Rattle.httparse.proofs.GrammarLemmas.{request_unique}
+use Rattle.httparse.specs.Grammar.{ReadsRequest, RequestHead}
 use Rattle.httparse.specs.Spans.{header_bytes, name_and_value}
 use Rattle.messages.specs.Target.{is_plain_field, is_target}
-use Rattle.messages.specs.Heads.{expects, extent_of, keeps}
+use Rattle.messages.specs.declared.head.Extent.{Extent}
+use Rattle.messages.specs.declared.head.ParsedHead.{ParsedHead}
+use Rattle.messages.specs.declared.limits.Limits.{Limits}
+use Rattle.messages.specs.Heads.{IsKnownHead, expects, extent_of, is_met, keeps}
 use Rattle.messages.proofs.head.said_of.Goals as goal
+
+-- a text is one head
+only : (limits : Limits) (bytes rest : List ℕ) (h : RequestHead) (said : ParsedHead) → ReadsRequest bytes h rest
+    → (is : IsKnownHead limits bytes said) → h ≡ is.head
+only limits bytes rest h said reads is = (request_unique bytes h is.head rest [] reads is.reads).0
+
+pub returns-then-spans-fields_of-clause-none : goal.returns-then-spans-fields_of-clause-none
+returns-then-spans-fields_of-clause-none c = λ said is.
+    let bytes = c.args.head.now in
+    let spans = c.in-Ok-Complete.spans in
+    let headers = c.parse_request.new.headers in
+    let found = rw c.in-Ok-Complete.field-0-is at c.in-Ok-Complete.ensures.complete in
+    let within = rw c.in-Ok-Complete.field-0-is at c.in-Ok-Complete.ensures.within in
+    absurd (omega (
+      arith,
+      c.fields_of.ensures,
+      c.if-spans-fields_of.true,
+      is.few,
+      ap (λ h. length h.fields) (only c.args.limits bytes _ found.0 said found.1.reads is),
+      ap length found.1.fields,
+      length-map (take spans.headers headers) (header_bytes bytes),
+      length-map found.0.fields name_and_value,
+      length-take-le spans.headers headers within.section.count_fits,
+    ))
+
+pub returns-then-not-are_hosts_plain-clause-none : goal.returns-then-not-are_hosts_plain-clause-none
+returns-then-not-are_hosts_plain-clause-none c = λ said is.
+    let found = rw c.in-Ok-Complete.field-0-is at c.in-Ok-Complete.ensures.complete in
+    let same = only c.args.limits c.args.head.now _ found.0 said found.1.reads is in
+    absurd (false≢true (sym c.if-not-are_hosts_plain.true ∙ c.are_hosts_plain.ensures.1
+    (subst (All (λ h. IsTrue (is_plain_field h)))
+    (ap (λ h. map name_and_value h.fields) (sym same) ∙ sym found.1.fields) is.hosts)))
+
+pub returns-then-not-is_target-clause-none : goal.returns-then-not-is_target-clause-none
+returns-then-not-is_target-clause-none c = λ said is.
+    let found = rw c.in-Ok-Complete.field-0-is at c.in-Ok-Complete.ensures.complete in
+    let same = only c.args.limits c.args.head.now _ found.0 said found.1.reads is in
+    absurd (false≢true (sym c.if-not-is_target.true ∙ c.is_target.ensures
+    ∙ ap (λ m. is_target m c.of-target.result.now) (c.of-name.ensures ∙ found.1.method)
+    ∙ ap (is_target found.0.method) (c.of-target.ensures ∙ found.1.path)
+    ∙ ap (λ h. is_target h.method h.target) same ∙ is.target))
+
+pub returns-in-None-clause-none : goal.returns-in-None-clause-none
+returns-in-None-clause-none c = λ said is.
+    let spans = c.in-Ok-Complete.spans in
+    let found = rw c.in-Ok-Complete.field-0-is at c.in-Ok-Complete.ensures.complete in
+    let same = only c.args.limits c.args.head.now _ found.0 said found.1.reads is in
+    let h = found.0 in
+    let known = c.from_spans-known.result in
+    let fields : known ≡ known_of h.fields = c.from_spans-known.ensures ∙ ap known_fields found.1.fields in
+    let kind : c.of-method.result ≡ method_kind h.method =
+    c.of-method.ensures ∙ ap method_kind (c.of-name.ensures ∙ found.1.method) in
+    let odd : ◌≡◌ {A = Option Extent} None (Some said.extent) = sym c.in-None.is ∙ c.extent_of.ensures
+    ∙ ap extent_of c.request_framing.ensures ∙ ap (λ k. extent_of (request_framing k spans.version known)) kind
+    ∙ ap (λ n. extent_of (request_framing (method_kind h.method) n known)) found.1.version
+    ∙ ap (λ k. extent_of (request_framing (method_kind h.method) h.minor k)) fields
+    ∙ ap (λ h. extent_of (request_framing (method_kind h.method) h.minor (known_of h.fields))) same ∙ is.framed in
+    cc
 
 pub returns-in-Some-clause-some : goal.returns-in-Some-clause-some
 returns-in-Some-clause-some c =
@@ -16,7 +79,6 @@ returns-in-Some-clause-some c =
     let headers = c.parse_request.new.headers in
     let found = rw c.in-Ok-Complete.field-0-is at c.in-Ok-Complete.ensures.complete in
     let within = rw c.in-Ok-Complete.field-0-is at c.in-Ok-Complete.ensures.within in
-    let room : length headers ≡ 64 = search rules in
     let h = found.0 in
     let known = c.from_spans-known.result in
     let fields : known ≡ known_of h.fields = c.from_spans-known.ensures ∙ ap known_fields found.1.fields in
@@ -31,7 +93,8 @@ returns-in-Some-clause-some c =
           found.1.reads;
       few = omega (
         arith,
-        room,
+        c.fields_of.ensures,
+        c.if-spans-fields_of.false,
         within.section.count_fits,
         ap length found.1.fields,
         length-map (take spans.headers headers) (header_bytes bytes),
@@ -52,4 +115,5 @@ returns-in-Some-clause-some c =
       bare = (λ yes. sym kind ∙ c.is_bare.ensures.0 yes, λ is. c.is_bare.ensures.1 (kind ∙ is));
       keeps = c.keeps.ensures ∙ ap (λ n. keeps n known) minor ∙ ap (keeps h.minor) fields;
       expects = c.expects.ensures ∙ ap (λ n. expects n known) minor ∙ ap (expects h.minor) fields;
+      met = subst (λ l. IsTrue c.are_met.result ↔ All (λ h. IsTrue (is_met h)) l) found.1.fields c.are_met.ensures;
     }

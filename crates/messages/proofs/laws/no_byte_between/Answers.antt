@@ -10,12 +10,12 @@ returns-clause-one g c = λ s b m handed begun takes ends.
     ends.went ends.is
 
 pub returns-clause-many : goal.returns-clause-many
-returns-clause-many g c = λ s m messages more.
-    MessagesWent-joins g.R.TellRead.remaining s m (left_of c.args.requests.now) messages more
+returns-clause-many g c = λ limits s m messages more.
+    MessagesWent-joins g.R.TellRead.remaining limits s m (left_of c.args.requests.now) messages more
 
 pub returns-clause-known : goal.returns-clause-known
-returns-clause-known g c = λ s messages others text behind went known are many.
+returns-clause-known g c = λ limits s messages others text behind went known are many.
     let end = left_of c.args.requests.now in
     let left = StreamWent-front g.R.TellRead.remaining s end went.bytes (text ++ behind) went.went known in
-    let same = one_cut messages others went.bytes text left.0 behind many went.are are (sym left.2) in
+    let same = one_cut limits messages others went.bytes text left.0 behind many went.are are (sym left.2) in
     (same.0, left.1 ∙ ap (λ l. Some l) same.1)

@@ -1,6 +1,7 @@
-use Rattle.std.proofs.Common.{[], ◌∷◌, ◌++◌, ◌∙◌, arith, length-append, refl}
+use Rattle.std.proofs.Common.{[], ◌∷◌, ◌++◌, ◌∙◌, arith, length-append, refl, subst}
 use Rattle.buffer_redux.specs.UnbufferLaws.{StreamWent-none}
 use Rattle.codec.specs.PieceReader.{left_of}
+use Rattle.messages.specs.Messages.{MessagesWent}
 use Rattle.messages.specs.MessagesLaws.{EachGave-joins, MessagesWent-joins}
 use Rattle.messages.proofs.laws.pass.Goals as goal
 
@@ -10,6 +11,7 @@ loop-init g c = record {
   many = refl;
   went = record { bytes = []; are = refl; went = StreamWent-none g.R.TellRead.remaining (left_of c.args.requests) };
   gave = (refl, refl);
+  limits = refl;
   room = refl;
 }
 
@@ -20,9 +22,12 @@ loop-preserved g c =
     record {
       messages = before.messages ++ (one.0, one.1) ∷ [];
       many = omega (arith, before.many, length-append before.messages ((one.0, one.1) ∷ []));
-      went = MessagesWent-joins g.R.TellRead.remaining (left_of c.args.requests) (left_of c.loop.next) (left_of c.in-Ok.behind)
-          before.messages ((one.0, one.1) ∷ []) before.went one.2;
+      went = MessagesWent-joins g.R.TellRead.remaining c.args.requests.decoder.0 (left_of c.args.requests) (left_of c.loop.next) (left_of c.in-Ok.behind)
+          before.messages ((one.0, one.1) ∷ []) before.went
+          (subst (λ d. MessagesWent g.R.TellRead.remaining d.0 (left_of c.loop.next) ((one.0, one.1) ∷ []) (left_of c.in-Ok.behind))
+          before.limits one.2);
       gave = EachGave-joins (left_of c.args.requests) (left_of c.loop.next) (left_of c.in-Ok.behind) before.gave one.3;
+      limits = one.5 ∙ before.limits;
       room = one.4 ∙ before.room;
     }
 
@@ -35,6 +40,7 @@ returns-in-Err-clause-stopped g c =
       before.went,
       before.gave,
       before.room,
+      before.limits,
       c.in-Err.ensures.told,
       c.in-Err.ensures.stopped,
     )

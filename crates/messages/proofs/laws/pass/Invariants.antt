@@ -8,7 +8,8 @@ abbrev pub invariant-loop : goal.invariant-loop
 invariant-loop g l = record {
   messages : List Message;
   many : length messages ≡ l.counter;
-  went : MessagesWent g.R.TellRead.remaining (left_of l.fn.requests) messages (left_of l.next);
+  went : MessagesWent g.R.TellRead.remaining l.fn.requests.decoder.0 (left_of l.fn.requests) messages (left_of l.next);
   gave : EachGave (left_of l.fn.requests) (left_of l.next);
+  limits : l.next.decoder ≡ l.fn.requests.decoder;
   room : room_of l.next.reader.block ≡ room_of l.fn.requests.reader.block;
 }

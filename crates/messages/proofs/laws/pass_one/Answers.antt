@@ -1,4 +1,4 @@
-use Rattle.std.proofs.Common.{[], ◌++◌, ◌∙◌}
+use Rattle.std.proofs.Common.{[], ◌++◌, ◌∙◌, ap}
 use Rattle.codec.specs.PieceReader.{left_of}
 use Rattle.messages.specs.MessagesLaws.{Begun-gave, EachGave-joins, MessagesWent-one, Takes-none}
 use Rattle.messages.proofs.laws.pass_one.Goals as goal
@@ -14,6 +14,7 @@ returns-in-Ok-finish-clause-passed g c =
       EachGave-joins (left_of c.args.requests) body.stream (left_of c.in-Ok-finish.next)
           (Begun-gave g.R.TellRead.remaining c.args.requests body c.in-Ok.ensures.next) ends.gave,
       c.in-Ok-finish.ensures.room ∙ c.in-Ok.ensures.next.room,
+      c.in-Ok-finish.ensures.limits ∙ ap (λ l. record { 0 = l }) c.in-Ok.ensures.next.limits,
     )
 
 pub returns-in-Err-finish-clause-stopped : goal.returns-in-Err-finish-clause-stopped

@@ -1,18 +1,10 @@
-use Rattle.std.proofs.Common.{◌≤◌, List, [], ◌∷◌, map, length, All, IsTrue, take_all, sym, refl, ◌∙◌, subst, arith}
+use Rattle.std.proofs.Common.{◌≤◌, length, All, IsTrue, take_all, sym, refl, ◌∙◌, subst, arith}
 use Rattle.std.proofs.lemmas.Bool.{false≢true}
-use Rattle.std.proofs.lemmas.List.Elements.{All-nil, All-cons, All-head, All-tail, All-map, All-get_or, All-more}
+use Rattle.std.proofs.lemmas.List.Elements.{All-nil, All-map, All-get_or, All-more}
 use Rattle.httparse.specs.Spans.{header_bytes}
-use Rattle.httparse.specs.declared.spans.HeaderSpan.{HeaderSpan}
 use Rattle.messages.specs.Target.{is_plain_field}
+use Rattle.messages.proofs.Spans.{all_of_map, no_span}
 use Rattle.messages.proofs.target.are_hosts_plain.Goals as goal
-
-all_of_map : {X Y : Type 0} (P : Y → Type 0) (f : X → Y) (xs : List X) → All P (map f xs) → All (λ x. P (f x)) xs
-all_of_map P f [] h = All-nil (λ x. P (f x))
-all_of_map P f (x ∷ xs) h =
-    All-cons (λ x. P (f x)) x xs (All-head P (f x) (map f xs) h) (all_of_map P f xs (All-tail P (f x) (map f xs) h))
-
-abbrev no_span : HeaderSpan
-no_span = record { name = record { start = 0; end = 0 }; value = record { start = 0; end = 0 } }
 
 pub loop-span-init : goal.loop-span-init
 loop-span-init c = All-nil _

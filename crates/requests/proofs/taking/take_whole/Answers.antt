@@ -1,9 +1,13 @@
-use Rattle.std.proofs.Common.{[], ◌++◌, Ok, inl}
+use Rattle.std.proofs.Common.{[], ◌++◌, ◌∙◌, Ok, ap, inl}
 use Rattle.codec.specs.PieceReader.{left_of}
 use Rattle.messages.specs.MessagesLaws.{InsideGoes-joins}
 use Rattle.requests.proofs.Reading.{TakeFails-behind, steadily, steady_none, unasked, unasked_log, unfinished_sent, whole_taken}
 use Rattle.requests.proofs.Sending.{Writes-after, Writes-read}
 use Rattle.requests.proofs.taking.take_whole.Goals as goal
+
+pub returns-in-Ok-finish-clause-limits : goal.returns-in-Ok-finish-clause-limits
+returns-in-Ok-finish-clause-limits g c =
+    ap (λ d. d.0) c.in-Ok-finish.ensures.limits ∙ c.in-Ok.ensures.goes.1.limits ∙ c.requires.limits
 
 pub returns-in-Ok-finish-clause-whole : goal.returns-in-Ok-finish-clause-whole
 returns-in-Ok-finish-clause-whole g c =

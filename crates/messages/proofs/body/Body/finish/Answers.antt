@@ -12,11 +12,13 @@ returns-in-Err g c =
           taken = failed.1.1;
           room = c.in-Err.ensures.kept;
           told = failed.3;
+          limits = refl;
           head = refl;
           said = refl;
         },
         failed.2,
       );
       room = tt;
+      limits = tt;
       asked = c.in-Err.ensures.asked;
     })

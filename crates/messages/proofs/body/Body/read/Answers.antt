@@ -9,6 +9,19 @@ returns-clause-goes g c =
       taken = c.read.ensures.takes.1;
       room = c.read.ensures.kept;
       told = c.read.ensures.told;
+      limits = refl;
       head = refl;
       said = refl;
     })
+
+pub returns-clause-gave : goal.returns-clause-gave
+returns-clause-gave g c = rw (← c.self.view_is) c.read.ensures.gave
+
+pub returns-clause-fails : goal.returns-clause-fails
+returns-clause-fails g c = rw (← c.self.view_is) c.read.ensures.fails
+
+pub returns-clause-idle : goal.returns-clause-idle
+returns-clause-idle g c = rw (← c.self.view_is) c.read.ensures.idle
+
+pub returns-clause-none : goal.returns-clause-none
+returns-clause-none g c = rw (← c.self.view_is) c.read.ensures.none

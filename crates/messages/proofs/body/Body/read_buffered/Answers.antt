@@ -9,6 +9,7 @@ returns-clause-goes g c =
       taken = c.read_buffered.ensures.takes.1;
       room = c.read_buffered.ensures.kept;
       told = c.read_buffered.ensures.told;
+      limits = refl;
       head = refl;
       said = refl;
     })

@@ -6,12 +6,13 @@ use Rattle.messages.specs.Faults.{IsFault}
 use Rattle.messages.specs.Heads.{heads}
 use Rattle.messages.specs.HeadsLaws.{open_texts, text_few}
 use Rattle.messages.specs.Lines.{texts}
+use Rattle.messages.specs.declared.limits.Limits.{Limits}
 use Rattle.messages.specs.Versions.{as_known}
 use Rattle.messages.proofs.head.HeadsDecoder.decode.Goals as goal
 
 -- what settles nothing of lines settles nothing of heads
-lacks_head : (n : ℕ) (bytes : List ℕ) → Lacks texts n bytes → Lacks heads n bytes
-lacks_head n bytes lacks more few = let still = lacks more few in record {
+lacks_head : (limits : Limits) (n : ℕ) (bytes : List ℕ) → Lacks texts n bytes → Lacks (heads limits) n bytes
+lacks_head limits n bytes lacks more few = let still = lacks more few in record {
   no_piece = λ b. still.no_piece
       (record { piece = b.piece; payload = b.is.none; more = b.more; is = b.is.text; equal = b.equal });
   not_wrong = λ e no. elim no as (λ _. ⊥) [
@@ -32,7 +33,7 @@ returns-in-Err-clause-finds c =
         equal = sym (take-append-drop c.in-Piece.used c.args.bytes.now);
       },
       c.in-Err.ensures.none,
-      elim c.in-Err.ensures.fault as (λ _. IsFault (as_known piece) c.in-Err.e) [
+      elim c.in-Err.ensures.fault as (λ _. IsFault c.args.self.now.0 (as_known piece) c.in-Err.e) [
         | inl long ↦ absurd (omega (arith, long.0, text_few piece _ is))
         | inr why ↦ why
       ],
@@ -41,10 +42,10 @@ returns-in-Err-clause-finds c =
 pub returns-in-More-clause-finds : goal.returns-in-More-clause-finds
 returns-in-More-clause-finds c =
     let wants = c.in-More.ensures.finds in
-    (wants.0, wants.1, lacks_head c.in-More.need c.args.bytes.now wants.2)
+    (wants.0, wants.1, lacks_head c.args.self.now.0 c.in-More.need c.args.bytes.now wants.2)
 
 pub returns-in-Wrong-clause-finds : goal.returns-in-Wrong-clause-finds
 returns-in-Wrong-clause-finds c = inl (c.in-Wrong.field-0, c.in-Wrong.ensures.finds, c.line_fault.ensures)
 
 pub decode-requires-clause-open : goal.decode-requires-clause-open
-decode-requires-clause-open c = open_texts (take c.args.seen c.args.bytes.now) c.requires.open
+decode-requires-clause-open c = open_texts c.args.self.now.0 (take c.args.seen c.args.bytes.now) c.requires.open

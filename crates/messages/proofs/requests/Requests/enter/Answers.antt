@@ -10,13 +10,14 @@ use Rattle.messages.proofs.requests.Requests.enter.Goals as goal
 
 pub unreachable-requires : goal.unreachable-requires
 unreachable-requires g c =
-    let head = subst (λ x. IsHeadPiece (bytes_at c.args.span x.reader.block.bytes) (bytes_at c.args.span x.reader.block.bytes))
+    let head = subst (λ x. IsHeadPiece x.decoder.0 (bytes_at c.args.span x.reader.block.bytes) (bytes_at c.args.span x.reader.block.bytes))
     (sym c.self.view_is) c.requires.head in
-    c.in_default.ensures.none head.said (subst (λ l. IsHead l head.said) (sym c.lent-lent.ensures) head.is)
+    c.in_default.ensures.none head.said (subst (λ d. IsHead d.0 c.lent-lent.result.now head.said) (sym c.decoder.ensures)
+    (subst (λ l. IsHead c.self.inside.pieces.decoder.0 l head.said) (sym c.lent-lent.ensures) head.is))
 
 pub append-requires : goal.append-requires
 append-requires g c =
-    let head = subst (λ x. IsHeadPiece (bytes_at c.args.span x.reader.block.bytes) (bytes_at c.args.span x.reader.block.bytes))
+    let head = subst (λ x. IsHeadPiece x.decoder.0 (bytes_at c.args.span x.reader.block.bytes) (bytes_at c.args.span x.reader.block.bytes))
     (sym c.self.view_is) c.requires.head in
     record {
       fits = omega (
@@ -32,19 +33,21 @@ pub returns : goal.returns
 returns g c =
     let t = c.self.inside.pieces in
     let said = c.in-Ok.said in
+    let limits = c.decoder.result.now.0 in
     let head = c.append.new.self.bytes in
     let apart = c.into_inner_with_buffer-inner.ensures.apart in
     let u : Unbuffered g.row.R.Denot = unbuffered c.with_buffer.result in
     let stands : u ≡ left_of t = rw (c.with_buffer.ensures, apart.bytes, apart.log, apart.inner) refl in
     let lent : head ≡ c.lent-lent.result.now =
     c.append.ensures.bytes.bytes ∙ ap (λ l. l ++ c.lent-lent.result.now) c.clear.ensures.bytes.bytes in
-    let enters : Enters t (bytes_at c.args.span t.reader.block.bytes) (begun c.with_buffer.result head said) = record {
+    let enters : Enters t (bytes_at c.args.span t.reader.block.bytes) (begun c.with_buffer.result limits head said) = record {
       head = lent ∙ c.lent-lent.ensures;
       stream = stands;
       room = rw c.with_buffer.ensures (same_room c.into_inner_with_buffer-inner.result.1 t.reader.block apart.capacity apart.limit);
       fresh = refl;
-      is = subst (λ l. IsHead l said) (sym lent) c.in-Ok.ensures.head;
+      limits = ap (λ d. d.0) c.decoder.ensures;
+      is = subst (λ l. IsHead limits l said) (sym lent) c.in-Ok.ensures.head;
       rest = refl;
       taken = refl;
     } in
-    rw c.new.ensures (subst (λ x. Enters x (bytes_at c.args.span x.reader.block.bytes) (begun c.with_buffer.result head said)) c.self.view_is enters)
+    rw c.new.ensures (subst (λ x. Enters x (bytes_at c.args.span x.reader.block.bytes) (begun c.with_buffer.result limits head said)) c.self.view_is enters)

@@ -4,4 +4,4 @@ use Rattle.messages.specs.Heads.{heads}
 use Rattle.messages.proofs.requests.Requests.is_settled.Goals as goal
 
 pub returns : goal.returns
-returns g c = subst (λ x. IsTrue c.is_settled.result ↔ IsSettled heads x) c.self.view_is c.is_settled.ensures.settled
+returns g c = subst (λ x. IsTrue c.is_settled.result ↔ IsSettled (heads x.decoder.0) x) c.self.view_is c.is_settled.ensures.settled

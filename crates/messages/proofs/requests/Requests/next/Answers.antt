@@ -1,6 +1,6 @@
 use Rattle.std.proofs.Common.{◌≡◌, false, inl, inr, subst}
 use Rattle.messages.specs.Messages.{Begun}
-use Rattle.messages.specs.MessagesLaws.{Enters-begun, lent}
+use Rattle.messages.specs.MessagesLaws.{Enters-begun, lent_still}
 use Rattle.messages.proofs.requests.Requests.next.Goals as goal
 
 pub enter-requires : goal.enter-requires
@@ -8,7 +8,7 @@ enter-requires g c =
     let next = rw c.in-Ok-Some.field-0-is at c.in-Ok-Some.ensures.next in
     record {
       lends = rw c.in-Ok-Some.field-0-is at c.in-Ok-Some.ensures.lends;
-      head = (lent g.R.TellRead.remaining c.self.inside.pieces c.step.new.self _ next).1;
+      head = lent_still g.R.TellRead.remaining c.self.inside.pieces c.step.new.self _ next;
     }
 
 pub returns-in-Ok-Some-clause-next : goal.returns-in-Ok-Some-clause-next

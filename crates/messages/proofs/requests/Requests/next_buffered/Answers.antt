@@ -1,15 +1,15 @@
-use Rattle.std.proofs.Common.{ap, subst}
+use Rattle.std.proofs.Common.{ap, subst, sym}
 use Rattle.codec.specs.Grammar.{Begins}
 use Rattle.codec.specs.PieceReader.{rest}
 use Rattle.messages.specs.Heads.{heads}
 use Rattle.messages.specs.Messages.{Begun}
-use Rattle.messages.specs.MessagesLaws.{Enters-begun, lent}
+use Rattle.messages.specs.MessagesLaws.{Enters-begun, lent_still}
 use Rattle.messages.proofs.requests.Requests.next_buffered.Goals as goal
 
 pub enter-requires : goal.enter-requires
 enter-requires g c = record {
   lends = c.in-Some.ensures.lends;
-  head = (lent g.R.TellRead.remaining c.self.inside.pieces c.step_buffered.new.self _ c.in-Some.ensures.next.0).1;
+  head = lent_still g.R.TellRead.remaining c.self.inside.pieces c.step_buffered.new.self _ c.in-Some.ensures.next.0;
 }
 
 pub returns-in-Some-clause-begun : goal.returns-in-Some-clause-begun
@@ -20,4 +20,5 @@ returns-in-Some-clause-begun g c =
 
 pub returns-in-None-clause-none : goal.returns-in-None-clause-none
 returns-in-None-clause-none g c = λ begins.
-    c.in-None.ensures.next.1 (subst (Begins heads) (ap rest c.in-None.ensures.next.0.same) begins)
+    c.in-None.ensures.next.1 (subst (Begins (heads c.self.inside.pieces.decoder.0)) (ap rest c.in-None.ensures.next.0.same)
+    (subst (λ x. Begins (heads x.decoder.0) (rest c.step_buffered.new.self)) (sym c.self.view_is) begins))

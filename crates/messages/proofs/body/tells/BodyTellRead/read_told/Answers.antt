@@ -19,6 +19,7 @@ returns-clause-read g c =
         taken = reads.takes.1;
         room = reads.kept;
         told = told c.self.inside.reader.calls c.read_told.new.reader.calls c.read_told.new.out c.read_told.result reads.told;
+        limits = refl;
         head = refl;
         said = refl;
       };
