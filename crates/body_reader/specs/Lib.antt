@@ -15,3 +15,5 @@ pub mod Either
 pub mod EitherLaws
 pub mod JustOrUntil
 pub mod JustOrUntilLaws
+pub mod ByByte
+pub mod ByByteLaws

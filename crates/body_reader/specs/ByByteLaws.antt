@@ -1,0 +1,186 @@
+-- Laws of bodies in which a byte and its place say what it is.
+use Rattle.std.proofs.Common.{◌≡◌, ℕ, zero, suc, ◌<◌, ◌≤◌, ◌==◌, List, [], ◌∷◌, ◌++◌, length, take, drop, true, false, inl, inr, refl, sym, ap, subst, ◌∙◌, arith, append_assoc, append-nil, length-append, length-take-le, slice_index, take-append-drop}
+use Rattle.std.proofs.lemmas.List.{nil_from_length}
+use Rattle.body_reader.specs.declared.coding.Look.TheVariants as look
+use Rattle.body_reader.specs.declared.by_byte.Turn.TheVariants.{Payload, Passed, Wrong}
+use Rattle.body_reader.specs.Coding.{Agree, Carries, IsDone, IsLawful, Leads, Looks}
+use Rattle.body_reader.specs.CodingLaws.{Leads-joins, Leads-none, overlaps}
+use Rattle.body_reader.specs.ByByte.{AreLawful, Completes, IsWrong, Keeps, Ran, Stops, Turns, by_byte}
+
+module _ {P W : Type 0} (t : Turns P W) where
+  not_done : (p : P) → t.is_end p ≡ false → ¬ IsDone (by_byte t) p
+  not_done p open' done = let odd : false ≡ true = sym open' ∙ done.0 in cc
+
+  -- where a body goes on, no byte goes past its end
+  one_within : (p : P) (byte : ℕ) (rest payload past : List ℕ) → t.is_end p ≡ false → Completes t p rest payload
+      → byte ∷ [] ≡ rest ++ past → past ≡ []
+  one_within p byte [] payload past open' c same = absurd (not_done p open' (c.0, refl))
+  one_within p byte (x ∷ rest) payload past open' c same =
+      let tail : rest ++ past ≡ [] = cc in nil_from_length past (omega (arith, ap length tail, length-append rest past))
+
+  kept_back : (p q : P) (byte : ℕ) (rest whole : List ℕ) → t.turn p byte ≡ Payload q → Completes t p (byte ∷ rest) whole
+      → (payload : List ℕ) × (whole ≡ byte ∷ payload) × Completes t q rest payload
+  kept_back p q byte rest whole is (_, inl c) =
+      let same : c.0 ≡ q = (let both : Payload c.0 ≡ Payload q = sym c.2 ∙ is in cc) in
+      (c.1, c.3, subst (λ r. Completes t r rest c.1) same c.4)
+  kept_back p q byte rest whole is (_, inr c) = let odd : Passed c.0 ≡ Payload q = sym c.1 ∙ is in cc
+
+  passed_back : (p q : P) (byte : ℕ) (rest whole : List ℕ) → t.turn p byte ≡ Passed q → Completes t p (byte ∷ rest) whole
+      → Completes t q rest whole
+  passed_back p q byte rest whole is (_, inl c) = let odd : Payload c.0 ≡ Passed q = sym c.2 ∙ is in cc
+  passed_back p q byte rest whole is (_, inr c) =
+      let same : c.0 ≡ q = (let both : Passed c.0 ≡ Passed q = sym c.1 ∙ is in cc) in
+      subst (λ r. Completes t r rest whole) same c.2
+
+  -- a byte of payload leads on
+  kept_leads : (p q : P) (byte : ℕ) (follow : List ℕ) → t.is_end p ≡ false → t.turn p byte ≡ Payload q
+      → Leads (by_byte t) p (byte ∷ []) (byte ∷ []) q follow
+  kept_leads p q byte follow open' is = record {
+    onward = λ rest payload agree c. (open', inl (q, payload, is, refl, c));
+    back = λ rest whole agree c. kept_back p q byte rest whole is c;
+    within = λ rest payload past c same. one_within p byte rest payload past open' c same;
+  }
+
+  -- payload leads on
+  pub keeps_leads : (p : P) (bytes : List ℕ) (q : P) (follow : List ℕ) → Keeps t p bytes q
+      → Leads (by_byte t) p bytes bytes q follow
+  keeps_leads p [] q follow k = subst (λ r. Leads (by_byte t) p [] [] r follow) k (Leads-none (by_byte t) p follow)
+  keeps_leads p (byte ∷ bytes) q follow k =
+      Leads-joins (by_byte t) p k.1 q (byte ∷ []) bytes (byte ∷ []) bytes follow
+      (kept_leads p k.1 byte (bytes ++ follow) k.0 k.2) (keeps_leads k.1 bytes q follow k.3)
+
+  pub keeps_split : (p : P) (a b : List ℕ) (q : P) → Keeps t p (a ++ b) q → (m : P) × Keeps t p a m × Keeps t m b q
+  keeps_split p [] b q k = (p, refl, k)
+  keeps_split p (x ∷ a) b q k = let rest = keeps_split k.1 a b q k.3 in (rest.0, (k.0, k.1, k.2, rest.1), rest.2)
+
+  -- where one byte more is payload
+  pub keeps_more : (p : P) (a : List ℕ) (m : P) (byte : ℕ) (q : P) → Keeps t p a m → t.is_end m ≡ false
+      → t.turn m byte ≡ Payload q → Keeps t p (a ++ byte ∷ []) q
+  keeps_more p [] m byte q k open' is = subst (λ r. Keeps t r (byte ∷ []) q) (sym k) (open', q, is, refl)
+  keeps_more p (x ∷ a) m byte q k open' is = (k.0, k.1, k.2, keeps_more k.1 a m byte q k.3 open' is)
+
+  keeps_one : (p : P) (a : List ℕ) (q r : P) → Keeps t p a q → Keeps t p a r → q ≡ r
+  keeps_one p [] q r k l = sym k ∙ l
+  keeps_one p (x ∷ a) q r k l =
+      let same : k.1 ≡ l.1 = (let both : Payload k.1 ≡ Payload l.1 = sym k.2 ∙ l.2 in cc) in
+      keeps_one l.1 a q r (subst (λ m. Keeps t m a q) same k.3) l.3
+
+  stops_none : (p : P) (bytes : List ℕ) (q : P) → Stops t p bytes → Keeps t p bytes q → p ≡ q
+  stops_none p [] q s k = k
+  stops_none p (x ∷ bytes) q (inl done) k = let odd : false ≡ true = sym k.0 ∙ done in cc
+  stops_none p (x ∷ bytes) q (inr none) k = absurd (none k.1 k.2)
+
+  -- where all of the bytes are payload, a run of payload goes as far
+  pub ran_all : (p : P) (bytes : List ℕ) (q : P) (n : ℕ) (r : P) → Ran t p bytes n r → Keeps t p bytes q → r ≡ q
+  ran_all p bytes q n r ran k =
+      let parts = keeps_split p (take n bytes) (drop n bytes) q
+      (subst (λ l. Keeps t p l q) (sym (take-append-drop n bytes)) k) in
+      let here = keeps_one p (take n bytes) parts.0 r parts.1 ran.keeps in
+      stops_none r (drop n bytes) q ran.stops (subst (λ m. Keeps t m (drop n bytes) q) here parts.2)
+
+  -- and where what follows is payload too, that is from there
+  pub ran_still : (p : P) (bytes more : List ℕ) (q : P) (n : ℕ) (r : P) → Ran t p bytes n r → Keeps t p (bytes ++ more) q
+      → ((q : P) × Keeps t r more q) × (0 < length more → ¬ IsDone (by_byte t) r)
+  ran_still p bytes more q n r ran k =
+      let parts = keeps_split p bytes more q k in
+      let same = ran_all p bytes parts.0 n r ran parts.1 in
+      let later : Keeps t r more q = subst (λ m. Keeps t m more q) (sym same) parts.2 in
+      ((q, later), goes_on more later)
+    where
+      goes_on : (more : List ℕ) → Keeps t r more q → 0 < length more → ¬ IsDone (by_byte t) r
+      goes_on [] k some = absurd (omega (arith, some))
+      goes_on (x ∷ more) k some = not_done r k.0
+
+  pub ran_leads : (p : P) (bytes : List ℕ) (q : P) (n : ℕ) (r : P) (follow : List ℕ) → Ran t p bytes n r → Keeps t p bytes q
+      → Leads (by_byte t) p bytes bytes r follow
+  ran_leads p bytes q n r follow ran k =
+      subst (λ m. Leads (by_byte t) p bytes bytes m follow) (sym (ran_all p bytes q n r ran k))
+      (keeps_leads p bytes q follow k)
+
+  -- what a look answers
+  ran_some : (p : P) (shown : List ℕ) (n : ℕ) (r q : P) → (length shown == 0) ≡ false → t.is_end p ≡ false
+      → t.turn p (slice_index shown 0) ≡ Payload q → Ran t p shown n r → 0 < n
+  ran_some p [] n r q more open' is ran = let odd : true ≡ false = more in cc
+  ran_some p (byte ∷ rest) zero r q more open' is ran = absurd (stopped ran.stops)
+    where
+      stopped : ¬ Stops t r (byte ∷ rest)
+      stopped (inl done) = let odd : false ≡ true = sym open' ∙ ap (λ m. t.is_end m) ran.keeps ∙ done in cc
+      stopped (inr none) = none q (subst (λ m. t.turn m byte ≡ Payload q) ran.keeps is)
+  ran_some p (byte ∷ rest) (suc n) r q more open' is ran = omega arith
+
+  prefix_keeps : (p : P) (a b c d : List ℕ) (r : P) → Keeps t p a r → length b ≤ length a → b ++ c ≡ a ++ d
+      → (q : P) × Keeps t p b q
+  prefix_keeps p a b c d r k few same = elim (overlaps b c a d same) [
+    | inl found ↦ let parts = keeps_split p b found.0 r (subst (λ l. Keeps t p l r) found.1 k) in (parts.0, parts.1)
+    | inr found ↦
+        let none : found.0 ≡ [] =
+        nil_from_length found.0 (omega (arith, few, ap length found.1, length-append a found.0)) in
+        (r, subst (λ l. Keeps t p l r) (sym (found.1 ∙ ap (λ l. a ++ l) none ∙ append-nil a)) k)
+  ]
+
+  pub looks_payload : (p : P) (shown : List ℕ) (n : ℕ) (r q : P) → (length shown == 0) ≡ false → t.is_end p ≡ false
+      → t.turn p (slice_index shown 0) ≡ Payload q → Ran t p shown n r → Looks (by_byte t) p shown (look.Payload n)
+  looks_payload p shown n r q more open' is ran = (
+    record {
+      some = ran_some p shown n r q more open' is ran;
+      goes_on = not_done p open';
+      carries = λ bytes follow later few same.
+          prefix_keeps p (take n shown) bytes follow (drop n shown ++ later) r ran.keeps
+          (omega (arith, few, length-take-le n shown ran.within))
+          (same ∙ ap (λ l. l ++ later) (sym (take-append-drop n shown)) ∙ append_assoc (take n shown) (drop n shown) later);
+    },
+    omega arith,
+  )
+
+  -- what can't stand there completes no body
+  never : (p : P) (shown : List ℕ) (why : W) (rest payload : List ℕ) → IsWrong t p shown why → Completes t p rest payload
+      → ¬ Agree shown rest
+  never p [] why rest payload wrong c agree = wrong
+  never p (x ∷ shown) why [] payload wrong c agree = let odd : false ≡ true = sym wrong.0 ∙ c.0 in cc
+  never p (x ∷ shown) why (y ∷ rest) payload wrong (_, inl c) agree =
+      let head : x ≡ y = (let same = agree.2 in cc) in
+      let odd : Wrong why ≡ Payload c.0 = sym wrong.1 ∙ ap (λ b. t.turn p b) head ∙ c.2 in cc
+  never p (x ∷ shown) why (y ∷ rest) payload wrong (_, inr c) agree =
+      let head : x ≡ y = (let same = agree.2 in cc) in
+      let odd : Wrong why ≡ Passed c.0 = sym wrong.1 ∙ ap (λ b. t.turn p b) head ∙ c.1 in cc
+
+  none_wrong : (p : P) (why : W) → ¬ IsWrong t p [] why
+  none_wrong p why wrong = wrong
+
+  -- no bytes begin with two bodies
+  only_one : (p : P) (a b x y xs ys : List ℕ) → Completes t p a x → Completes t p b y → a ++ xs ≡ b ++ ys → (a ≡ b) × (x ≡ y)
+  only_one p [] [] x y xs ys c d same = (refl, c.1 ∙ sym d.1)
+  only_one p [] (k ∷ b) x y xs ys c d same = let odd : false ≡ true = sym d.0 ∙ c.0 in cc
+  only_one p (h ∷ a) [] x y xs ys c d same = let odd : false ≡ true = sym c.0 ∙ d.0 in cc
+  only_one p (h ∷ a) (k ∷ b) x y xs ys (open', inl c) d same =
+      let head : h ≡ k = cc in
+      let tail : a ++ xs ≡ b ++ ys = cc in
+      let other = kept_back p c.0 h b y c.2 (subst (λ z. Completes t p (z ∷ b) y) (sym head) d) in
+      let found = only_one c.0 a b c.1 other.0 xs ys c.4 other.2 tail in (
+        ap (λ l. h ∷ l) found.0 ∙ ap (λ z. z ∷ b) head,
+        c.3 ∙ ap (λ l. h ∷ l) found.1 ∙ sym other.1,
+      )
+  only_one p (h ∷ a) (k ∷ b) x y xs ys (open', inr c) d same =
+      let head : h ≡ k = cc in
+      let tail : a ++ xs ≡ b ++ ys = cc in
+      let other = passed_back p c.0 h b y c.1 (subst (λ z. Completes t p (z ∷ b) y) (sym head) d) in
+      let found = only_one c.0 a b x y xs ys c.2 other tail in
+      (ap (λ l. h ∷ l) found.0 ∙ ap (λ z. z ∷ b) head, found.1)
+
+  -- nothing is payload whatever it is
+  none_sure : AreLawful t → (p : P) (n : ℕ) → ¬ Carries (by_byte t) p n []
+  none_sure lawful p n sure =
+      let other = lawful.other p in
+      let kept = sure.carries (other.0 ∷ []) [] (other.0 ∷ []) (omega (arith, sure.some)) refl in
+      other.1 kept.1.1 kept.1.2
+
+  pub by_byte_lawful : AreLawful t → IsLawful (by_byte t)
+  by_byte_lawful lawful = record {
+    some = omega arith;
+    begins = tt;
+    nothing = λ p payload is c. c.1;
+    none_wrong = λ p why is. none_wrong p why;
+    never = λ p shown why rest payload is. never p shown why rest payload;
+    sure = λ p n is carries. absurd (none_sure lawful p n carries);
+    one = only_one t.first;
+  }
