@@ -1,0 +1,22 @@
+-- Laws of the coding of texts of mails.
+use Rattle.std.proofs.Common.{◌≡◌, ◌≢◌, ℕ, ◌<◌, arith}
+use Rattle.body_reader.specs.ByByte.{AreLawful}
+use Rattle.body_reader.specs.declared.by_byte.Turn.TheVariants.{Payload, Passed}
+use Rattle.tests_bodies.specs.declared.dot_stuffed.Place.{Place}
+use Rattle.tests_bodies.specs.declared.dot_stuffed.Place.TheVariants as at
+use Rattle.tests_bodies.specs.DotStuffed.{dot_stuffed, to_go, turn}
+
+-- what is no payload leads on
+nearer : (p q : Place) (byte : ℕ) → turn p byte ≡ Passed q → to_go q < to_go p
+nearer at.Line q byte is = grind arith
+nearer at.Dot q byte is = grind arith
+nearer p q byte is = grind arith
+
+-- no byte is payload whatever it is: a line feed is none but behind a CR, and there no other byte is
+other : (p : Place) → (byte : ℕ) × ((q : Place) → turn p byte ≢ Payload q)
+other at.Return = (0, λ q is. grind arith)
+other at.LastReturn = (0, λ q is. grind arith)
+other p = (10, λ q is. grind arith)
+
+pub dot_stuffed_lawful : AreLawful dot_stuffed
+dot_stuffed_lawful = record { nearer = nearer; other = other }

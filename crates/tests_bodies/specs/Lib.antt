@@ -1,0 +1,3 @@
+pub mod DotStuffed
+pub mod DotStuffedLaws
+pub mod Lines
