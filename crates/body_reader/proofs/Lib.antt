@@ -2,6 +2,7 @@ pub mod Skipping
 pub mod Handing
 pub mod Past
 pub mod Payload
+pub mod Taking
 pub mod Draining
 pub mod Collecting
 pub mod Filling

@@ -1,5 +1,5 @@
 -- What contracts see of a reader of a body, and what its calls promise.
-use Rattle.std.specs.Prelude.{◌≡◌, ℕ, ◌+◌, ◌-◌, ◌^◌, ◌<◌, ◌≤◌, ◌⊎◌, List, [], ◌++◌, length, min, take, Bool, MatchBool, Option, Result, Ok, Err, IfOk, MatchResult}
+use Rattle.std.specs.Prelude.{◌≡◌, ℕ, zero, suc, ◌+◌, ◌-◌, ◌^◌, ◌<◌, ◌≤◌, ◌⊎◌, List, [], ◌++◌, length, min, take, Bool, MatchBool, Option, Result, Ok, Err, IfOk, MatchResult}
 use Rattle.std.specs.Borrow.{Bor}
 use Rattle.std.specs.IoError.{error_kind}
 use Rattle.std.specs.declared.io.Error.{Error}
@@ -95,9 +95,42 @@ module _ {S Q C P W : Type 0} (remaining : S → Option (List ℕ)) (rules : Rea
     pub noted : MatchResult answer (λ n. t.calls ≡ after_read s.calls out (Ok n)) (λ _. t.calls ≡ s.calls)
     pub whole : IsBodyReader g t
 
+  -- payload is buffered, how much the answer says: none only where the body ended, and else all that a look says is. The stream is
+  -- asked only where nothing was settled, and no payload left; where some was known, or the body ended, nothing is done
+  pub record FillsPayload (s : BodyState S Q C P) (answer : Result ℕ (BodyError W)) (t : BodyState S Q C P) : Type 0 where
+    pub went : BodyWent s [] t
+    pub answers : MatchResult answer (λ n. (n ≡ t.known) × EachGave s.reader t.reader × (n ≡ 0 → IsWhole g t))
+        (λ e. NoPayload g s e t)
+    pub all : IfOk answer (λ n. 0 < n → s.known ≡ 0 → AllShown g t.place n t.reader.block.bytes)
+    pub asked : AsksOpen remaining rules g s.reader s.place t.reader
+    pub still : (0 < s.known ⊎ IsWhole g s) → t ≡ s
+    pub whole : IsBodyReader g t
+
+  -- a piece of payload was taken: all that a fill showed
+  pub record TakesPiece (s t : BodyState S Q C P) : Type 0 where
+    pub shown : ℕ
+    pub filled : BodyState S Q C P
+    pub some : 0 < shown
+    pub fills : FillsPayload s (Ok shown) filled
+    pub went : BodyWent filled (take filled.known filled.reader.block.bytes) t
+    pub told : t.reader.log ≡ filled.reader.log
+    pub none_left : t.known ≡ 0
+
+  -- so many pieces, one after another
+  abbrev pub TakesPieces : ℕ → BodyState S Q C P → BodyState S Q C P → Type 0
+  TakesPieces zero s t = s ≡ t
+  TakesPieces (suc count) s t = (m : BodyState S Q C P) × TakesPieces count s m × TakesPiece m t
+
+  -- pieces, and then at most a fill
+  pub record InPieces (s t : BodyState S Q C P) : Type 0 where
+    pub count : ℕ
+    pub last : BodyState S Q C P
+    pub pieces : TakesPieces count s last
+    pub end : (last ≡ t) ⊎ ((answer : Result ℕ (BodyError W)) × FillsPayload last answer t)
+
   -- the rest of the body was taken, and its payload dropped, or why not: as a read of payload answers, or by `Other` where more
-  -- pieces were dropped than are counted. The stream is asked only where nothing was settled. Once the body ended the buffered
-  -- reader isn't called
+  -- pieces were dropped than are counted. The stream is asked only where nothing was settled, and no piece is cut. Once the body
+  -- ended the buffered reader isn't called
   pub record Drains (s : BodyState S Q C P) (answer : Result (Unit {0}) (BodyError W)) (t : BodyState S Q C P) : Type 0 where
     pub payload : List ℕ
     pub went : BodyWent s payload t
@@ -105,6 +138,7 @@ module _ {S Q C P W : Type 0} (remaining : S → Option (List ℕ)) (rules : Rea
         (λ why. NoPayload g s why t
         ⊎ ((e : Error) × (why ≡ Io e) × (error_kind e ≡ Other) × (2 ^ 64 - 1 ≤ length payload)
         × EachGave s.reader t.reader))
+    pub pieces : InPieces s t
     pub asked : AskedWhere (λ bytes. (dropped : List ℕ) × LeadsOpen g s.place dropped bytes) (unbuffered s.reader)
         (unbuffered t.reader)
     pub ended : IsWhole g s → t.reader ≡ s.reader
@@ -118,28 +152,18 @@ module _ {S Q C P W : Type 0} (remaining : S → Option (List ℕ)) (rules : Rea
   NotCollected most s all collect.Memory t = EachGave s.reader t.reader × (0 < t.known)
 
   -- the rest of the body was taken, and its payload appended, or why not: of no more bytes than fit so many. The stream is asked
-  -- only where nothing was settled. Once the body ended nothing is done
+  -- only where nothing was settled, and no piece is cut. Once the body ended nothing is done
   pub record Collects (most : ℕ) (s : BodyState S Q C P) (before : List ℕ) (answer : Result (Unit {0}) (CollectError W))
       (t : BodyState S Q C P) (after : List ℕ) : Type 0 where
     pub payload : List ℕ
     pub went : BodyWent s payload t
     pub collected : after ≡ before ++ payload
     pub few : 0 < length payload → length after ≤ most
+    pub pieces : InPieces s t
     pub asked : AskedWhere (λ bytes. (dropped : List ℕ) × LeadsOpen g s.place dropped bytes) (unbuffered s.reader)
         (unbuffered t.reader)
     pub answers : MatchResult answer (λ _. EachGave s.reader t.reader × IsWhole g t) (λ e. NotCollected most s after e t)
     pub ended : IsWhole g s → t ≡ s
-    pub whole : IsBodyReader g t
-
-  -- payload is buffered, how much the answer says: none only where the body ended, and else all that a look says is. The stream is
-  -- asked only where nothing was settled, and no payload left; where some was known, or the body ended, nothing is done
-  pub record FillsPayload (s : BodyState S Q C P) (answer : Result ℕ (BodyError W)) (t : BodyState S Q C P) : Type 0 where
-    pub went : BodyWent s [] t
-    pub answers : MatchResult answer (λ n. (n ≡ t.known) × EachGave s.reader t.reader × (n ≡ 0 → IsWhole g t))
-        (λ e. NoPayload g s e t)
-    pub all : IfOk answer (λ n. 0 < n → s.known ≡ 0 → AllShown g t.place n t.reader.block.bytes)
-    pub asked : AsksOpen remaining rules g s.reader s.place t.reader
-    pub still : (0 < s.known ⊎ IsWhole g s) → t ≡ s
     pub whole : IsBodyReader g t
 
   -- what `read_buffered` does, which left the slice as out: payload that is buffered is handed out, as much as the slice takes.

@@ -62,5 +62,5 @@ loop-came-preserved g c =
     let piece = ap (λ l. vec_items c.loop-came.out ++ l) c.piece.ensures in
     subst (Collected remaining rules' (grammar s.coding) c.args.most s (vec_items c.args.out.now) t) (sym (same ∙ piece))
     (collected_more grammar c.loop-came.invariant fills (omega (arith, c.if-came-eq0.false)) (g.met.C.Coding.lawful s.coding) t
-    went c.consume_payload.ensures.told c.consume_payload.ensures.whole
+    went c.consume_payload.ensures.told c.consume_payload.ensures.left c.consume_payload.ensures.whole
     (omega (arith, fills.answers.0, c.if-came-eq0.false, c.if-came-saturating_sub.false, c.saturating_sub.ensures, c.len.ensures)))
