@@ -37,9 +37,13 @@ use messages::{BadHead, Body, BodyError, Requests, Stop};
 use std::io;
 use std::io::{ErrorKind, Write};
 
+// How many bytes of answers are held. On a socket where nobody set `nodelay` a write that is smaller than what the kernel sends at
+// once waits until the last is acknowledged; one of this size doesn't.
+const HELD: usize = 1 << 16;
+
 fn main(rt: HostRuntime) -> io::Result<()> {
     let alloc = rt.alloc();
-    let mut writer = BufWriter::new(alloc, Told::new(rt.stdout()))?;
+    let mut writer = BufWriter::with_capacity(alloc, HELD, Told::new(rt.stdout()))?;
     match Requests::new(alloc, Told::new(rt.stdin())) {
         Ok(requests) => serve(requests, &mut writer).1,
         Err(_) => Err(io::Error::from(ErrorKind::OutOfMemory)),
