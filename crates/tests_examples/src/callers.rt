@@ -5,6 +5,7 @@ mod echo;
 mod filter;
 mod full_log;
 mod int_lines;
+mod keeper;
 mod line_count;
 mod own_policy;
 mod packed;
