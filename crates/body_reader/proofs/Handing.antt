@@ -1,22 +1,18 @@
 -- Payload is handed out, and how that ends.
 use Rattle.std.proofs.Common.{◌≡◌, ◌==◌, false, ℕ, zero, suc, ◌-◌, ◌<◌, ◌≤◌, List, [], ◌++◌, length, min, take, drop, Option, Result, Ok, Err, sym, ap, subst, ◌∙◌, arith, inl, inr, refl, append_assoc, append-nil, length-append}
 use Rattle.std.proofs.lemmas.Bool.{cases_lt}
-use Rattle.std.proofs.lemmas.List.{length-drop, length-take-le, nil_from_length, take-append-drop, take-append-le}
-use Rattle.std.specs.declared.io.Error.{Error}
-use Rattle.buffer_redux.specs.Buffered.{Buffered, GoesDirect, GoesPast}
-use Rattle.buffer_redux.specs.BufReader.{ReaderConsumes, ReaderKeeps, ReadsAlong, ReadsInOrder}
+use Rattle.std.proofs.lemmas.List.{length-drop, length-take-le, nil_from_length, take-append-drop}
+use Rattle.buffer_redux.specs.Buffered.{Buffered}
+use Rattle.buffer_redux.specs.BufReader.{ReaderConsumes, ReaderKeeps, ReadsInOrder}
 use Rattle.buffer_redux.specs.Policy.{ReadRules}
-use Rattle.buffer_redux.specs.ReaderLaws.{ReaderKeeps-along}
-use Rattle.buffer_redux.specs.StreamLog.{after_read, zero_of_none, zero_of_some}
 use Rattle.body_reader.specs.declared.coding.Look.{Look}
 use Rattle.body_reader.specs.declared.coding.Look.TheVariants.{Payload}
 use Rattle.body_reader.specs.declared.error.BodyError.{BodyError}
-use Rattle.body_reader.specs.declared.error.BodyError.TheVariants.{Truncated, Io}
 use Rattle.body_reader.specs.declared.progress.Progress.{Progress}
-use Rattle.body_reader.specs.Between.{AllShown, AsksFor, EachGave, FillsOn, HandsAll, PassesOn, Proceeds, HandsOn, KeepsBuffer, SkipsOn, Stretch, Takes, TakesFront, handed_out}
-use Rattle.body_reader.specs.BetweenLaws.{AsksFor-then, EachGave-none, EachGave-same, Proceeds-after, Takes-none}
-use Rattle.body_reader.specs.Coding.{Carries, Grammar, IsDone, IsKnown, IsLawful, IsOpen, Leads, Looks, heeded}
-use Rattle.body_reader.specs.CodingLaws.{Leads-none, Leads-then, open_at}
+use Rattle.body_reader.specs.Between.{AllShown, AsksFor, EachGave, FillsOn, HandsAll, PassesOn, Proceeds, HandsOn, SkipsOn, Stretch, Takes, TakesFront, handed_out}
+use Rattle.body_reader.specs.BetweenLaws.{EachGave-none, EachGave-same, Proceeds-after, Takes-none}
+use Rattle.body_reader.specs.Coding.{Carries, Grammar, IsDone, IsKnown, Leads, Looks, heeded}
+use Rattle.body_reader.specs.CodingLaws.{Leads-none, Leads-then}
 use Rattle.body_reader.proofs.Filling.{Carries-less, Proceeds-err, Proceeds-of, ended_here, payload_here}
 use Rattle.body_reader.proofs.Skipping.{Notes, consumes_left, takes_front}
 

@@ -15,7 +15,7 @@ use Rattle.body_reader.specs.declared.error.BodyError.{BodyError}
 use Rattle.body_reader.specs.declared.error.BodyError.TheVariants.{Wrong, Truncated, Io}
 use Rattle.body_reader.specs.declared.progress.Progress.{Progress}
 use Rattle.body_reader.specs.Asking.{AskedWhere}
-use Rattle.body_reader.specs.Coding.{AskedFor, Carries, Grammar, IsDone, IsKnown, IsOpen, Leads, LeadsOpen, Looks, heeded}
+use Rattle.body_reader.specs.Coding.{AskedFor, Grammar, IsDone, IsKnown, IsOpen, Leads, LeadsOpen, Looks, heeded}
 
 -- each read that was made gave bytes
 pub record EachGave {S Q : Type 0} (s t : Buffered S Q) : Type 0 where

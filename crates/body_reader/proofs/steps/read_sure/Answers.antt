@@ -1,4 +1,4 @@
-use Rattle.std.proofs.Common.{Ok, ◌<◌, ◌≤◌, length, arith}
+use Rattle.std.proofs.Common.{◌<◌, ◌≤◌, length, arith}
 use Rattle.std.proofs.lemmas.Result.{err_from_is_err_and}
 use Rattle.body_reader.specs.Coding.{IsKnown}
 use Rattle.body_reader.proofs.Filling.{Carries-fewer, all_shown, show_some}

@@ -1,5 +1,5 @@
 -- Each piece that comes is appended, until the body ends, or why it doesn't.
-use Rattle.std.proofs.Common.{◌≡◌, ◌++◌, ◌<◌, ℕ, List, Result, Ok, Err, true, false, if◌then◌else◌, is_ok, is_err, ap, arith, length, min, take, subst, sym, vec_items, ◌∙◌}
+use Rattle.std.proofs.Common.{◌≡◌, ◌++◌, ℕ, List, Result, Ok, Err, true, false, if◌then◌else◌, is_ok, is_err, ap, arith, min, take, subst, sym, vec_items, ◌∙◌}
 use Rattle.std.proofs.lemmas.Result.{err_from_is_err_and}
 use Rattle.body_reader.specs.declared.error.CollectError.TheVariants as why
 use Rattle.body_reader.specs.BodyReader.{BodyWent, Collects}
