@@ -118,17 +118,25 @@ row "${P}$C\r\n3;a\nb\r\nabc\r\n0\r\n\r\n$G" '400'
 row "${P}$C\r\nfffffffffffffffff\r\nabc" '400'
 row "${P}$C\r\n0\r\nT v\r\n\r\n$G" '400'
 
-# What is asked for isn't named plainly, or coded.
-for host in 'a b' 'a, b' 'a/b' 'a:bad' 'a:80:80' '\0377' '[::1' '[g]' ':80' 'a@b'; do
+# What is asked for isn't named plainly, or coded: an escape has two hexadecimal digits, and brackets hold an address of IPv6, or
+# of a later version (RFC 3986, sections 2.1 and 3.2.2).
+for host in 'a b' 'a, b' 'a/b' 'a:bad' 'a:80:80' '\0377' '[::1' '[g]' ':80' 'a@b' '%' 'a%zz' 'a%2' '[:]' '[....]' '[1]' '[]' \
+    '[1::2::3]' '[1:2:3:4:5:6:7]' '[12345::]' '[::1.2.3]' '[::%31]' '[v1.]' '[v.a]' '[v1.%61]' '[v1.a]b'; do
     row "GET / HTTP/1.1\r\nHost: $host\r\n\r\n$G" '400'
 done
-for host in '' 'a' 'a:' 'a:80' 'A-b.c_d~1' '127.0.0.1:8080' '[::1]' '[::ffff:1.2.3.4]:80' 'a%20b'; do
+for host in '' 'a' 'a:' 'a:80' 'A-b.c_d~1' '127.0.0.1:8080' '[::1]' '[::ffff:1.2.3.4]:80' 'a%20b' 'a%2F%fF' '[::]' \
+    '[1:2:3:4:5:6:7:8]' '[v1.a]' '[VF.a:b]:80'; do
     row "GET / HTTP/1.1\r\nHost: $host\r\n\r\n$G" '200:0 200:0'
 done
-for target in 'x' '/#x' '*' '/\0042<>' '/a\0134b' '/\0377' 'http:/a' 'http://' '://a' 'a:80'; do
+# A scheme begins with a letter (section 3.1), and a host of http isn't empty, and has no user before it (RFC 9110, sections 4.2.1
+# and 4.2.4).
+for target in 'x' '/#x' '*' '/\0042<>' '/a\0134b' '/\0377' 'http:/a' 'http://' '://a' 'a:80' '/%zz' '/%' '/a?%4' '1a://x' \
+    '+://a' 'http:///x' 'http://?x' 'HTTPS:///x' 'http://:80/' 'http://a:bad/' 'http://a]b/' 'http://[/' 'http://[1]/' \
+    'http://a%zz/' 'http://u@a/' 'ftp://u@v@a/' 'ftp://a/[' 'ftp://a:b@c:d/'; do
     row "GET $target HTTP/1.1\r\n$H\r\n$G" '400'
 done
-for target in '/' '/a/b;c=d?e=%20f&g' 'http://a/b?c' 'http://[::1]:80/'; do
+for target in '/' '/a/b;c=d?e=%20f&g' 'http://a/b?c' 'http://[::1]:80/' 'http://a' 'http://a?/' 'Http://%61:/%62' \
+    'https://[v1.a]/' 'a1+-.://b' 'file:///x' 'ftp://u:p@a:21/x'; do
     row "GET $target HTTP/1.1\r\n$H\r\n$G" '200:0 200:0'
 done
 row "OPTIONS * HTTP/1.1\r\n$H\r\n$G" '200:0 200:0'

@@ -1,4 +1,5 @@
 pub mod AsIo
 pub mod Going
 pub mod HeadsRead
+mod Rest
 pub mod Spans

@@ -16,7 +16,7 @@ use Rattle.httparse.specs.Spans.{name_and_value}
 use Rattle.messages.specs.Faults.{IsFault}
 use Rattle.messages.specs.Limits.{fields_of}
 use Rattle.messages.specs.Lines.{line_fault, texts}
-use Rattle.messages.specs.Target.{is_plain_field, is_target}
+use Rattle.messages.specs.Target.{IsPlainField, IsTarget}
 use Rattle.messages.specs.Versions.{as_known}
 use Rattle.messages.specs.declared.bad_head.BadHead.{BadHead}
 use Rattle.messages.specs.declared.bad_head.BadHead.TheVariants.{CutShort, LongHead}
@@ -55,8 +55,8 @@ pub record IsKnownHead (limits : Limits) (bytes : List ℕ) (said : ParsedHead) 
   pub single : (known_of head.fields).framing_fields ≤ 1
   pub open' : method_kind head.method ≢ kind.Connect
   pub uncoded : (known_of head.fields).other_coding ≡ false
-  pub hosts : All (λ h. IsTrue (is_plain_field h)) (map name_and_value head.fields)
-  pub target : IsTrue (is_target head.method head.target)
+  pub hosts : All IsPlainField (map name_and_value head.fields)
+  pub target : IsTarget head.method head.target
   pub framed : extent_of (request_framing (method_kind head.method) head.minor (known_of head.fields)) ≡ Some said.extent
   pub bare : IsTrue said.bare ↔ (method_kind head.method ≡ kind.Head)
   pub keeps : said.keeps ≡ keeps head.minor (known_of head.fields)

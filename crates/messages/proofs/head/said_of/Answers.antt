@@ -7,7 +7,7 @@ use Rattle.http1.specs.Message.{has_one_host, known_of}
 use Rattle.httparse.proofs.GrammarLemmas.{request_unique}
 use Rattle.httparse.specs.Grammar.{ReadsRequest, RequestHead}
 use Rattle.httparse.specs.Spans.{header_bytes, name_and_value}
-use Rattle.messages.specs.Target.{is_plain_field, is_target}
+use Rattle.messages.specs.Target.{IsPlainField, IsTarget}
 use Rattle.messages.specs.declared.head.Extent.{Extent}
 use Rattle.messages.specs.declared.head.ParsedHead.{ParsedHead}
 use Rattle.messages.specs.declared.limits.Limits.{Limits}
@@ -43,17 +43,17 @@ returns-then-not-are_hosts_plain-clause-none c = λ said is.
     let found = rw c.in-Ok-Complete.field-0-is at c.in-Ok-Complete.ensures.complete in
     let same = only c.args.limits c.args.head.now _ found.0 said found.1.reads is in
     absurd (false≢true (sym c.if-not-are_hosts_plain.true ∙ c.are_hosts_plain.ensures.1
-    (subst (All (λ h. IsTrue (is_plain_field h)))
+    (subst (All IsPlainField)
     (ap (λ h. map name_and_value h.fields) (sym same) ∙ sym found.1.fields) is.hosts)))
 
 pub returns-then-not-is_target-clause-none : goal.returns-then-not-is_target-clause-none
 returns-then-not-is_target-clause-none c = λ said is.
     let found = rw c.in-Ok-Complete.field-0-is at c.in-Ok-Complete.ensures.complete in
     let same = only c.args.limits c.args.head.now _ found.0 said found.1.reads is in
-    absurd (false≢true (sym c.if-not-is_target.true ∙ c.is_target.ensures
-    ∙ ap (λ m. is_target m c.of-target.result.now) (c.of-name.ensures ∙ found.1.method)
-    ∙ ap (is_target found.0.method) (c.of-target.ensures ∙ found.1.path)
-    ∙ ap (λ h. is_target h.method h.target) same ∙ is.target))
+    absurd (false≢true (sym c.if-not-is_target.true ∙ c.is_target.ensures.1
+    (subst (λ m. IsTarget m c.of-target.result.now) (sym (c.of-name.ensures ∙ found.1.method))
+    (subst (IsTarget found.0.method) (sym (c.of-target.ensures ∙ found.1.path))
+    (subst (λ h. IsTarget h.method h.target) (sym same) is.target)))))
 
 pub returns-in-None-clause-none : goal.returns-in-None-clause-none
 returns-in-None-clause-none c = λ said is.
@@ -105,11 +105,11 @@ returns-in-Some-clause-some c =
       single = omega (arith, c.if-known-gt1.false, ap (λ k. k.framing_fields) fields);
       open' = λ is. (let odd = c.is_connect.ensures.1 (kind ∙ is) in cc);
       uncoded = sym (ap (λ k. k.other_coding) fields) ∙ c.if-known.false;
-      hosts = subst (All (λ h. IsTrue (is_plain_field h))) found.1.fields
+      hosts = subst (All IsPlainField) found.1.fields
           (c.are_hosts_plain.ensures.0 c.if-not-are_hosts_plain.false);
-      target = ap (λ m. is_target m h.target) (sym (c.of-name.ensures ∙ found.1.method))
-          ∙ ap (is_target c.of-name.result.now) (sym (c.of-target.ensures ∙ found.1.path)) ∙ sym c.is_target.ensures
-          ∙ c.if-not-is_target.false;
+      target = subst (λ m. IsTarget m h.target) (c.of-name.ensures ∙ found.1.method)
+          (subst (IsTarget c.of-name.result.now) (c.of-target.ensures ∙ found.1.path)
+          (c.is_target.ensures.0 c.if-not-is_target.false));
       framed = rw (← fields, ← minor, ← kind)
           (sym (c.extent_of.ensures ∙ ap extent_of c.request_framing.ensures) ∙ c.in-Some.is);
       bare = (λ yes. sym kind ∙ c.is_bare.ensures.0 yes, λ is. c.is_bare.ensures.1 (kind ∙ is));

@@ -1,8 +1,8 @@
-use Rattle.std.proofs.Common.{◌≤◌, length, All, IsTrue, take_all, sym, refl, ◌∙◌, subst, arith}
+use Rattle.std.proofs.Common.{◌≤◌, length, All, take_all, sym, refl, ◌∙◌, subst, arith}
 use Rattle.std.proofs.lemmas.Bool.{false≢true}
 use Rattle.std.proofs.lemmas.List.Elements.{All-nil, All-map, All-get_or, All-more}
 use Rattle.httparse.specs.Spans.{header_bytes}
-use Rattle.messages.specs.Target.{is_plain_field}
+use Rattle.messages.specs.Target.{IsPlainField}
 use Rattle.messages.proofs.Spans.{all_of_map, no_span}
 use Rattle.messages.proofs.target.are_hosts_plain.Goals as goal
 
@@ -11,24 +11,24 @@ loop-span-init c = All-nil _
 
 pub loop-span-preserved : goal.loop-span-preserved
 loop-span-preserved c =
-    All-more (λ s. IsTrue (is_plain_field (header_bytes c.args.head.now s))) c.args.spans.now c.loop-span.span-index no_span
-    c.loop-span-test.true c.loop-span.invariant (sym c.is_plain.ensures ∙ c.if-not-is_plain.false)
+    All-more (λ s. IsPlainField (header_bytes c.args.head.now s)) c.args.spans.now c.loop-span.span-index no_span
+    c.loop-span-test.true c.loop-span.invariant (c.is_plain.ensures.0 c.if-not-is_plain.false)
 
 pub returns-then-not-is_plain : goal.returns-then-not-is_plain
 returns-then-not-is_plain c = (
   λ wrong. absurd (let odd = wrong in cc),
   λ all.
-      let each = all_of_map (λ h. IsTrue (is_plain_field h)) (header_bytes c.args.head.now) c.args.spans.now all in
-      let here = All-get_or (λ s. IsTrue (is_plain_field (header_bytes c.args.head.now s))) c.args.spans.now
+      let each = all_of_map IsPlainField (header_bytes c.args.head.now) c.args.spans.now all in
+      let here = All-get_or (λ s. IsPlainField (header_bytes c.args.head.now s)) c.args.spans.now
       c.loop-span.span-index no_span c.loop-span-test.true each in
-      absurd (false≢true (sym c.if-not-is_plain.true ∙ c.is_plain.ensures ∙ here)),
+      absurd (false≢true (sym c.if-not-is_plain.true ∙ c.is_plain.ensures.1 here)),
 )
 
 pub returns : goal.returns
 returns c =
     let finished : length c.args.spans.now ≤ c.loop-span.span-index = omega (arith, c.loop-span-test.false) in (
-      λ _. All-map (λ h. IsTrue (is_plain_field h)) (header_bytes c.args.head.now) c.args.spans.now
-          (subst (All (λ s. IsTrue (is_plain_field (header_bytes c.args.head.now s))))
+      λ _. All-map IsPlainField (header_bytes c.args.head.now) c.args.spans.now
+          (subst (All (λ s. IsPlainField (header_bytes c.args.head.now s)))
           (take_all c.loop-span.span-index c.args.spans.now finished) c.loop-span.invariant),
       λ _. refl,
     )

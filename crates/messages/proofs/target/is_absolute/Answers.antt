@@ -1,0 +1,27 @@
+use Rattle.std.proofs.Common.{◌+◌, ◌↔◌, ◌∙◌, IsTrue, codes, drop, nat_eq, rules, subst, sym, take}
+use Rattle.std.proofs.lemmas.Bool.{false≢true}
+use Rattle.std.specs.List.{starts_with}
+use Rattle.messages.specs.Target.{IsBehindScheme, begins_with_letter, is_web}
+use Rattle.messages.proofs.Rest.{take-drop}
+use Rattle.messages.proofs.target.is_absolute.Goals.{then-begins_with_letter, else-begins_with_letter}
+use Rattle.messages.proofs.target.is_absolute.Goals as goal
+
+pub returns-then-starts_with : goal.returns-then-starts_with
+returns-then-starts_with c =
+    let text = c.args.text.now in
+    let len = c.scheme_len-len.result in
+    let begins : IsTrue (begins_with_letter text) × IsTrue (starts_with nat_eq (drop len text) (codes "://")) =
+    elim c.if-begins_with_letter.branch [
+      | then-begins_with_letter w ↦ (
+        sym c.begins_with_letter.ensures ∙ w.if-begins_with_letter.true,
+        (let e = sym w.value-is ∙ c.if-starts_with.true in search rules),
+      )
+      | else-begins_with_letter w ↦ absurd (false≢true (sym w.if-begins_with_letter.false ∙ sym w.value-is ∙ c.if-starts_with.true))
+    ] in
+    let rest = subst (λ t. IsTrue c.is_behind_scheme.result ↔ IsBehindScheme c.is_web.result t) (take-drop (len + 3) text)
+    c.is_behind_scheme.ensures in
+    let web = subst (λ w. IsTrue c.is_behind_scheme.result ↔ IsBehindScheme w (drop (len + 3) text)) c.is_web.ensures rest in
+    subst (λ n. IsTrue c.is_behind_scheme.result
+    ↔ (IsTrue (begins_with_letter text) × IsTrue (starts_with nat_eq (drop n text) (codes "://"))
+    × IsBehindScheme (is_web (take n text)) (drop (n + 3) text))) c.scheme_len-len.ensures.value
+    (λ yes. (begins.0, begins.1, web.0 yes), λ is. web.1 is.2)

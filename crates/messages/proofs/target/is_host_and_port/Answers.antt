@@ -1,0 +1,16 @@
+use Rattle.std.proofs.Common.{◌↔◌, IsTrue, inl, inr, subst, sym, ◌∙◌}
+use Rattle.std.proofs.lemmas.Bool.{false≢true}
+use Rattle.messages.specs.Target.{IsBracketed}
+use Rattle.messages.proofs.Rest.{take-drop}
+use Rattle.messages.proofs.target.is_host_and_port.Goals as goal
+
+pub returns-then-has_at : goal.returns-then-has_at
+returns-then-has_at c =
+    let text = c.args.text.now in
+    let is = subst (λ t. IsTrue c.is_bracketed.result ↔ IsBracketed t) (take-drop 1 text) c.is_bracketed.ensures in (
+      λ yes. inr (sym c.has_at.ensures ∙ c.if-has_at.true, is.0 yes),
+      λ host. elim host [
+        | inl name ↦ absurd (false≢true (sym c.if-is_name.false ∙ c.is_name.ensures ∙ name))
+        | inr bracketed ↦ is.1 bracketed.1
+      ],
+    )
