@@ -1,6 +1,6 @@
 //! Heads of requests, and messages one after another.
 use crate::by_hand::gives;
-use Went::{Before, Inside, Passed};
+use Went::{Before, Inside, Passed, Refused};
 use buffer_redux::Buffer;
 use buffer_redux::tell::TellRead;
 use messages::laws::{Stopped, pass};
@@ -121,6 +121,8 @@ enum Went {
     Before,
     // It ended within a body, before so many bytes of it where its length is known.
     Inside(Option<u64>),
+    // What comes is no head, for this reason.
+    Refused(BadHead),
 }
 
 const TWO: &[u8] =
@@ -165,7 +167,11 @@ fn buffered<R: TellRead + Drop>(requests: &Requests<R>) -> usize {
 // Where it stopped, if that is what a stream that ended makes of it.
 fn stopped_at<R: TellRead + Drop>(stopped: Stopped<R>) -> Option<Went> {
     match stopped {
-        Stopped::Before(_requests, stop) => matches!(stop, Stop::Ended).then_some(Before),
+        Stopped::Before(_requests, stop) => match &stop {
+            Stop::Ended => Some(Before),
+            Stop::Bad(why) => Some(Refused(*why)),
+            Stop::Io(_) => None,
+        },
         Stopped::Inside(_body, e) => match &e {
             BodyError::Truncated(due) => Some(Inside(*due)),
             _ => None,
@@ -185,6 +191,79 @@ fn passes_messages(rt: HostRuntime) -> Result<(), Fail> {
     for (row, &(bytes, count, went)) in PASSED.iter().enumerate() {
         assert!(rt;
             passes(rt.alloc(), bytes, count)? == Some(went),
+            "row {row}"
+        );
+    }
+    Ok(())
+}
+
+// What comes in place of a head, and the name of what is wrong: so often a text between two others.
+static NO_HEADS: [(&'static [u8], usize, &'static [u8], &'static [u8], BadHead); 6] = [
+    (
+        b"GET / HTTP/1.1\n",
+        1,
+        b"Host: a\r\n",
+        b"\r\n",
+        BadHead::BareEnd,
+    ),
+    (
+        b"GET / HTTP/1.1\r\nHost: a\r",
+        1,
+        b"b",
+        b"\r\n\r\n",
+        BadHead::BareEnd,
+    ),
+    (
+        b"GET /",
+        16384,
+        b"a",
+        b" HTTP/1.1\r\n\r\n",
+        BadHead::LongLine,
+    ),
+    (
+        b"GET / HTTP/1.1\r\nHost: ",
+        16384,
+        b"a",
+        b"\r\n\r\n",
+        BadHead::LongHead,
+    ),
+    (
+        b"GET / HTTP/1.1\r\n",
+        65,
+        b"Host: a\r\n",
+        b"\r\n",
+        BadHead::ManyFields,
+    ),
+    (
+        b"GET / HTTP/1.1\r\n",
+        2,
+        b"Host: a\r\n",
+        b"",
+        BadHead::CutShort(34),
+    ),
+];
+
+fn comes(
+    alloc: Global,
+    front: &[u8],
+    count: usize,
+    many: &[u8],
+    behind: &[u8],
+) -> io::Result<Option<Went>> {
+    let mut text = Vec::new(alloc);
+    text.extend_from_slice(front)?;
+    for _ in 0..count {
+        text.extend_from_slice(many)?;
+    }
+    text.extend_from_slice(behind)?;
+    passes(alloc, &text, 1)
+}
+
+#[test]
+fn names_what_is_no_head(rt: HostRuntime) -> Result<(), Fail> {
+    for (row, &(front, count, many, behind, why)) in NO_HEADS.iter().enumerate() {
+        assert!(rt;
+            comes(rt.alloc(), front, count, many, behind)? == Some(Refused(why)),
             "row {row}"
         );
     }
