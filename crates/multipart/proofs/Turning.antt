@@ -8,9 +8,8 @@ use Rattle.body_reader.specs.declared.just_or_until.JustOrUntil.{JustOrUntil}
 use Rattle.body_reader.specs.BodyReader.{BodyState, Collects, Drains, IsWhole, begun, handed_of}
 use Rattle.body_reader.specs.Coding.{IsBody}
 use Rattle.multipart.specs.declared.error.PartError.{PartError}
-use Rattle.multipart.specs.declared.reader.Stand.{Stand}
-use Rattle.multipart.specs.declared.reader.Stand.TheVariants.{Preamble, Head, Part, Ended}
-use Rattle.multipart.specs.Multipart.{AreCodings, CollectsHead, EndsHead, FormState, GoesOn, HasHead, IsForm, LeavesText, NextPart, PassesText, codes, head_error, part_error, turned}
+use Rattle.multipart.specs.declared.reader.Stand.TheVariants.{Preamble, Head, Part}
+use Rattle.multipart.specs.Multipart.{AreCodings, CollectsHead, EndsHead, FormState, GoesOn, HasHead, IsForm, LeavesText, NextPart, PassesText, codes, head_error, part_error}
 
 -- a part begins behind a head
 pub begins_part : {S Q : Type 0} (d s : FormState S Q) → d ≡ s → IsForm d → s.stand ≡ Head
@@ -27,6 +26,21 @@ begins_part d s same form stand whole b heads next before =
             (subst (λ c. IsBody (codes c) d.body.taken (handed_of d.body)) (sym before) all),
       ),
     )
+
+-- where the rest of a text wasn't dropped it stands in it still
+pub stays_in : {S Q : Type 0} (d s : FormState S Q) → d ≡ s → IsForm d → ((s.stand ≡ Preamble) ⊎ (s.stand ≡ Part))
+    → (b : BodyState S Q JustOrUntil JustOr) → b.coding ≡ d.body.coding → IsForm (record d { body = b })
+stays_in d s same form text b still =
+    let stands = ap (λ x. x.stand) same in elim text [
+      | inl first ↦
+          let here : HasHead Preamble d = subst (λ x. HasHead x d) (stands ∙ first) form in
+          subst (λ x. HasHead x (record d { body = b })) (sym (stands ∙ first))
+          (subst (λ c. AreCodings c d.other) (sym still) here)
+      | inr later ↦
+          let here : HasHead Part d = subst (λ x. HasHead x d) (stands ∙ later) form in
+          subst (λ x. HasHead x (record d { body = b })) (sym (stands ∙ later))
+          (subst (λ c. AreCodings c d.other) (sym still) here.0, here.1)
+    ]
 
 module _ {S Q : Type 0} (remaining : S → Option (List ℕ)) (rules : ReadRules Q) where
   pub leaves_not : (s d : FormState S Q) (b : BodyState S Q JustOrUntil JustOr) (w : BodyError (Unit {0})) → d ≡ s
