@@ -77,9 +77,9 @@ impl Decoder for Heads {
 
     fn decode(&self, bytes: &[u8], seen: usize, note: &mut ScanNote<Before>) -> Found<BadHead> {
         match ByHeader(ByScan(Lines)).decode(bytes, seen, note) {
-            Found::Piece(_, used) => match read_head_within(&bytes[..used], self.0) {
-                Ok(_) => Found::Piece(Span { from: 0, len: used }, used),
-                Err(e) => Found::Wrong(e),
+            Found::Piece(_, used) => match refused(&bytes[..used], self.0) {
+                None => Found::Piece(Span { from: 0, len: used }, used),
+                Some(e) => Found::Wrong(e),
             },
             Found::More(need) => Found::More(need),
             Found::Wrong(_) => Found::Wrong(line_fault(bytes)),
@@ -93,9 +93,22 @@ impl Decoder for Heads {
     ghost lawful = { λ d. heads_lawful d.0 };
 }
 
-/// What a head says: these bytes are just a head, of HTTP/1.0, or of 1.1 and later ones, which are read as 1.1, whose target is one, with one `Host`, which 1.0 may leave
-/// out and which names a host, and at most one field that says where the body ends, as RFC 9112, section 6 has it, with no coding
-/// but `chunked`. `CONNECT` is refused: a tunnel begins behind it. An `Err` says why they are none.
+// Why a text is no head. Apart, so that a look at one that isn't whole clears no room for what a head says.
+#[inline(never)]
+fn refused(text: &[u8], limits: Limits) -> Option<BadHead>
+    ensures none { IfNone result ((said : ParsedHead) × IsHead limits text.now said) }
+    ensures some { IfSome result (λ e. ((said : ParsedHead) → ¬ (IsHead limits text.now said)) × IsRefused limits text.now e) }
+{
+    match read_head_within(text, limits) {
+        Ok(_) => None,
+        Err(e) => Some(e),
+    }
+}
+
+/// What a head says: these bytes are just a head, of HTTP/1.0, or of 1.1 and later ones, which are read as 1.1, whose target is
+/// one, with one `Host`, which 1.0 may leave out and which names a host, and at most one field that says where the body ends, as
+/// RFC 9112, section 6 has it, with no coding but `chunked`. `CONNECT` is refused: a tunnel begins behind it. An `Err` says why
+/// they are none.
 pub fn read_head(head: &[u8]) -> Result<ParsedHead, BadHead>
     ensures head { IfOk result (λ said. IsHead usual head.now said) }
     ensures none { OnErr result ((said : ParsedHead) → ¬ (IsHead usual head.now said)) }

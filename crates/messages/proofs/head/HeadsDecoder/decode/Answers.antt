@@ -21,8 +21,8 @@ lacks_head limits n bytes lacks more few = let still = lacks more few in record 
   ];
 }
 
-pub returns-in-Err-clause-finds : goal.returns-in-Err-clause-finds
-returns-in-Err-clause-finds c =
+pub returns-in-Some-clause-finds : goal.returns-in-Some-clause-finds
+returns-in-Some-clause-finds c =
     let piece = take c.in-Piece.used c.args.bytes.now in
     let is = c.in-Piece.ensures.finds.is in inr (
       record {
@@ -32,8 +32,8 @@ returns-in-Err-clause-finds c =
         is = is;
         equal = sym (take-append-drop c.in-Piece.used c.args.bytes.now);
       },
-      c.in-Err.ensures.none,
-      elim c.in-Err.ensures.fault as (λ _. IsFault c.args.self.now.0 (as_known piece) c.in-Err.e) [
+      c.in-Some.ensures.some.0,
+      elim c.in-Some.ensures.some.1 as (λ _. IsFault c.args.self.now.0 (as_known piece) c.in-Some.e) [
         | inl long ↦ absurd (omega (arith, long.0, text_few piece _ is))
         | inr why ↦ why
       ],
