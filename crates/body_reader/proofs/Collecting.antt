@@ -1,11 +1,12 @@
 -- The rest of a body is taken, and its payload appended.
-use Rattle.std.proofs.Common.{◌≡◌, ℕ, ◌-◌, ◌+◌, ◌<◌, ◌≤◌, List, [], ◌++◌, length, take, Option, Result, Ok, Err, sym, ap, ◌∙◌, arith, append_assoc, append-nil, length-append}
+use Rattle.std.proofs.Common.{◌≡◌, ℕ, ◌-◌, ◌+◌, ◌<◌, ◌≤◌, List, [], ◌++◌, length, take, Option, Result, MatchResult, Ok, Err, sym, ap, ◌∙◌, arith, append_assoc, append-nil, length-append}
 use Rattle.std.proofs.lemmas.List.{length-take-le}
 use Rattle.buffer_redux.specs.Policy.{ReadRules}
 use Rattle.body_reader.specs.declared.error.BodyError.{BodyError}
 use Rattle.body_reader.specs.declared.error.CollectError.{CollectError}
 use Rattle.body_reader.specs.declared.error.CollectError.TheVariants.{Body, TooLong, Memory}
-use Rattle.body_reader.specs.BodyReader.{BodyState, BodyWent, Collects, FillsPayload, IsBodyReader, NotCollected}
+use Rattle.body_reader.specs.Between.{EachGave}
+use Rattle.body_reader.specs.BodyReader.{BodyState, BodyWent, Collects, FillsPayload, IsBodyReader, IsWhole, NotCollected}
 use Rattle.body_reader.specs.Coding.{Grammar, IsLawful}
 use Rattle.body_reader.proofs.Taking.{Taken, filled_asked, filled_ended, filled_gave, filled_pieces, filled_went, fills_here, stops_after, taken_more, taken_none}
 
@@ -29,17 +30,20 @@ collected_none remaining rules g most s before is = record {
 module _ {S Q C P W : Type 0} {remaining : S → Option (List ℕ)} {rules : ReadRules Q} (grammar : C → Grammar P W) {most : ℕ}
     {s : BodyState S Q C P} {before : List ℕ} {m : BodyState S Q C P} {all : List ℕ}
     (so : Collected remaining rules (grammar s.coding) most s before m all) where
-  stops : {answer : Result ℕ (BodyError W)} {f : BodyState S Q C P} → FillsPayload remaining rules (grammar m.coding) m answer f
-      → (why : CollectError W) → NotCollected remaining rules (grammar s.coding) most s all why f
-      → Collects remaining rules (grammar s.coding) most s before (Err why) f all
-  stops fills why none = record {
+  -- a last fill ends it, for whatever reason
+  ends : {answer : Result ℕ (BodyError W)} {f : BodyState S Q C P} → FillsPayload remaining rules (grammar m.coding) m answer f
+      → (result : Result (Unit {0}) (CollectError W)) → MatchResult result
+      (λ _. EachGave s.reader f.reader × IsWhole (grammar s.coding) f)
+      (λ why. NotCollected remaining rules (grammar s.coding) most s all why f)
+      → Collects remaining rules (grammar s.coding) most s before result f all
+  ends fills result answers = record {
     payload = so.payload;
     went = filled_went grammar so.taken fills;
     collected = so.collected;
     few = so.few;
     pieces = filled_pieces grammar so.taken fills;
     asked = filled_asked grammar so.taken fills;
-    answers = none;
+    answers = answers;
     ended = filled_ended grammar so.taken fills;
     whole = (fills_here grammar so.taken fills).whole;
   }
@@ -48,26 +52,17 @@ module _ {S Q C P W : Type 0} {remaining : S → Option (List ℕ)} {rules : Rea
   pub collects_none : {w : BodyError W} {f : BodyState S Q C P} → FillsPayload remaining rules (grammar m.coding) m (Err w) f
       → Collects remaining rules (grammar s.coding) most s before (Err (Body w)) f all
   collects_none {w} {f} fills =
-      stops fills (Body w) (stops_after grammar so.taken w f (fills_here grammar so.taken fills).answers)
+      ends fills (Err (Body w)) (stops_after grammar so.taken w f (fills_here grammar so.taken fills).answers)
 
   module _ {n : ℕ} {f : BodyState S Q C P} (fills : FillsPayload remaining rules (grammar m.coding) m (Ok n) f) where
     -- the body ended
     pub collects_all : n ≡ 0 → Collects remaining rules (grammar s.coding) most s before (Ok tt) f all
-    collects_all none = record {
-      payload = so.payload;
-      went = filled_went grammar so.taken fills;
-      collected = so.collected;
-      few = so.few;
-      pieces = filled_pieces grammar so.taken fills;
-      asked = filled_asked grammar so.taken fills;
-      answers = (filled_gave grammar so.taken fills, (fills_here grammar so.taken fills).answers.2 none);
-      ended = filled_ended grammar so.taken fills;
-      whole = (fills_here grammar so.taken fills).whole;
-    }
+    collects_all none =
+        ends fills (Ok tt) (filled_gave grammar so.taken fills, (fills_here grammar so.taken fills).answers.2 none)
 
     -- or there is too much of it, or no room
     pub collects_long : 0 < n → most < length all + n → Collects remaining rules (grammar s.coding) most s before (Err TooLong) f all
-    collects_long some long = stops fills TooLong (
+    collects_long some long = ends fills (Err TooLong) (
       filled_gave grammar so.taken fills,
       omega (arith, some, fills.answers.0),
       omega (arith, long, fills.answers.0),
@@ -75,7 +70,7 @@ module _ {S Q C P W : Type 0} {remaining : S → Option (List ℕ)} {rules : Rea
 
     pub collects_no_room : 0 < n → Collects remaining rules (grammar s.coding) most s before (Err Memory) f all
     collects_no_room some =
-        stops fills Memory (filled_gave grammar so.taken fills, omega (arith, some, fills.answers.0))
+        ends fills (Err Memory) (filled_gave grammar so.taken fills, omega (arith, some, fills.answers.0))
 
     -- or it goes on, one piece more
     pub collected_more : 0 < n → IsLawful (grammar s.coding) → (t : BodyState S Q C P)

@@ -123,6 +123,20 @@ fn text_of<P: ReaderPolicy + Drop>(
     Ok((Failed, 0))
 }
 
+// Whether the text comes so: so much of it where no more is settled, else all, however often it is asked for.
+fn reads<P: ReaderPolicy + Drop>(
+    mail: &mut Mail<P>,
+    lent: bool,
+    row: Row<'_>,
+    text: &mut Vec<u8>,
+) -> Result<bool, AllocError> {
+    let most = match row.2 {
+        Open => row.1.len(),
+        _ => 1000,
+    };
+    Ok(text_of(mail, lent, most, text)? == (row.2, row.3) && text.as_slice() == row.1)
+}
+
 // Whether the text comes so, and the rest stays; and the end is told twice.
 fn comes<P: ReaderPolicy + Drop>(
     alloc: Global,
@@ -135,18 +149,11 @@ fn comes<P: ReaderPolicy + Drop>(
     }
     let mut mail = BodyReader::new(inner, ByByte(DotStuffed));
     let mut text = Vec::new(alloc);
-    let most = match row.2 {
-        Open => row.1.len(),
-        _ => 1000,
-    };
-    if text_of(&mut mail, lent, most, &mut text)? != (row.2, row.3) {
-        return Ok(false);
-    }
-    let again = row.2 == Open || text_of(&mut mail, lent, 1000, &mut text)? == (row.2, row.3);
+    let twice = reads(&mut mail, lent, row, &mut text)? && reads(&mut mail, lent, row, &mut text)?;
     let whole = mail.is_done() == (row.2 == Ended);
     let rest = mail.into_inner_torn();
     let behind = row.0.get(row.3 as usize..).unwrap_or(b"");
-    Ok(again && whole && text.as_slice() == row.1 && behind.starts_with(rest.buffer()))
+    Ok(twice && whole && behind.starts_with(rest.buffer()))
 }
 
 // The same over such a buffer, and a stream that answers by this script.
@@ -204,12 +211,8 @@ fn settles<P: ReaderPolicy + Drop>(
     }
     let mut mail = BodyReader::new(inner, ByByte(DotStuffed));
     let mut text = Vec::new(alloc);
-    let most = match row.2 {
-        Open => row.1.len(),
-        _ => 1000,
-    };
-    let ended = text_of(&mut mail, lent, most, &mut text)? == (row.2, row.3);
-    Ok(ended && text.as_slice() == row.1 && asked(mail.get_ref()).len() == 1)
+    let comes = reads(&mut mail, lent, row, &mut text)?;
+    Ok(comes && asked(mail.get_ref()).len() == 1)
 }
 
 #[test]
