@@ -1,7 +1,10 @@
 -- The turns and the ends of reads ahead.
-use Rattle.std.proofs.Common.{◌≡◌, ℕ, ◌+◌, ◌-◌, ◌<◌, ◌≤◌, List, [], ◌++◌, append_assoc, length, Result, Ok, Err, Option, inl, inr, refl, sym, ap, subst, ◌∙◌, arith, length-append, length-take-le}
+use Rattle.std.proofs.Common.{◌≡◌, ℕ, ◌+◌, ◌-◌, ◌<◌, ◌≤◌, List, [], ◌++◌, append_assoc, drop, length, min, take, Result, Ok, Err, Option, inl, inr, refl, sym, ap, subst, ◌∙◌, arith, length-append, length-take-le}
 use Rattle.std.specs.Prelude.{◌⊎◌, MatchResult}
+use Rattle.std.specs.Io.{StartsWith}
 use Rattle.std.proofs.lemmas.Bool.{cases_lt}
+use Rattle.std.proofs.lemmas.List.{length-take, take-append-drop, take-append-le, take-take}
+use lib.Seq.{take-length}
 use Rattle.std.specs.declared.io.Error.{Error}
 use Rattle.redux_buffer.specs.Block.{IsBlock, MakesRoom, usable}
 use Rattle.redux_buffer.specs.BlockLaws.{OnlyRingMoves-none}
@@ -329,3 +332,14 @@ module _ {S P : Type 0} (remaining : S → Option (List ℕ)) (rules : ReadRules
         noted = a.reads.noted ∙ ap (λ x. x.own_calls) a.room.others ∙ a.turns.noted;
         sparing = spared_now s m r (Ok k) t a;
       }
+
+-- what is shown then begins with what was buffered, as far as it was asked for
+pub ahead_begins : (held got bytes : List ℕ) (n capacity : ℕ) → length held ≤ capacity → bytes ≡ held ++ got
+    → StartsWith (take (min n capacity) bytes) (take n held)
+ahead_begins held got bytes n capacity fits is =
+    let count = length (take n held) in
+    let least : count ≡ min n (length held) = length-take n held in
+    take-take count (min n capacity) bytes (omega (arith, least, fits))
+    ∙ ap (take count) is ∙ take-append-le count held got (omega (arith, least))
+    ∙ ap (take count) (sym (take-append-drop n held))
+    ∙ take-append-le count (take n held) (drop n held) (omega arith) ∙ take-length (take n held)

@@ -1,6 +1,7 @@
 -- What is known of the bytes ahead of a buffered reader, call after call.
-use Rattle.std.proofs.Common.{◌≡◌, ℕ, ◌<◌, ◌≤◌, cond, List, [], Bool, true, false, length, Result, Ok, Err, Option, None, Some, IfSome, IfOk, le_of_eq, refl, sym, ap, subst, ◌∙◌, arith}
-use Rattle.std.proofs.lemmas.List.{nil_from_length}
+use Rattle.std.proofs.Common.{◌≡◌, ℕ, ◌<◌, ◌≤◌, cond, List, [], Bool, true, false, length, take, Result, Ok, Err, Option, None, Some, IfSome, IfOk, le_of_eq, le_refl, refl, sym, ap, subst, ◌∙◌, arith}
+use Rattle.std.proofs.lemmas.List.{nil_from_length, take-append-le}
+use lib.Seq.{take-length}
 use Rattle.std.proofs.KnownBytes.{prepend_known-front, prepend_known-end}
 use Rattle.std.specs.Io.{StartsWith}
 use Rattle.std.specs.Io.KnownBytes.{Keeps, IsAtEnd, prepend_known}
@@ -57,6 +58,11 @@ module _ {S P : Type 0} (remaining : S → Option (List ℕ)) (rules : ReadRules
       pub fill_front : IfSome (reader_remaining remaining rules s) (λ xs. StartsWith xs shown)
       fill_front = IfSome-unless (may_stop rules s) (ahead remaining s) (λ xs. StartsWith xs shown)
           (λ _. prepend_known-front (ahead remaining s) (remaining t.inner) shown lent)
+
+      -- and goes on what was buffered
+      pub fill_begins : StartsWith shown s.block.bytes
+      fill_begins = ap (take (length s.block.bytes)) (same ∙ order.equal)
+          ∙ take-append-le (length s.block.bytes) s.block.bytes order.got (le_refl _) ∙ take-length s.block.bytes
 
       -- nothing is ahead where a fill shows nothing
       pub fill_end : (WantsBytes (rules.claims s.policy) → 0 < s.block.capacity → length t.block.bytes ≡ 0

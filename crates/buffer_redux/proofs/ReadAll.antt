@@ -250,9 +250,9 @@ module _ {S P : Type 0} (remaining : S → Option (List ℕ)) (rules : ReadRules
     beginning r = (r.count, r.within, r.front.in_order)
 
     pub exact_says : (answer : Result (Unit {0}) Error) → ReadsExactly remaining rules s answer out t → record {
-      bytes : OnOk answer (Consumes (reader_remaining remaining rules s) (reader_remaining remaining rules t) out);
       in_order : OnOk answer (ReadsInOrder s out t);
       beginning : (count : ℕ) × (count ≤ length out) × ReadsInOrder s (take count out) t;
+      bytes : OnOk answer (Consumes (reader_remaining remaining rules s) (reader_remaining remaining rules t) out);
       retried : IfErr answer (λ e. error_kind e ≢ Interrupted);
       whole : IsBlock t.block;
       steps : ReadsExactly remaining rules s answer out t;
@@ -262,17 +262,17 @@ module _ {S P : Type 0} (remaining : S → Option (List ℕ)) (rules : ReadRules
         let in_order : ReadsInOrder s out t =
         subst (λ l. ReadsInOrder s l t) (take_all r.count out (omega (arith, r.ended.0))) r.front.in_order in
         record {
-          bytes = remaining_gives remaining rules s t out in_order keeps.known keeps.claims keeps.capacity;
           in_order = in_order;
           beginning = beginning r;
+          bytes = remaining_gives remaining rules s t out in_order keeps.known keeps.claims keeps.capacity;
           retried = tt;
           whole = keeps.whole;
           steps = r;
         }
     exact_says (Err e) r = record {
-      bytes = tt;
       in_order = tt;
       beginning = beginning r;
+      bytes = tt;
       retried = elim r.ended [
         | inl failed ↦ not_interrupted UnexpectedEof (λ odd. cc) failed.3 e failed.5
         | inr late ↦ λ odd. (let two = sym late.0.timed_out ∙ odd in cc)

@@ -9,7 +9,7 @@ use Rattle.redux_buffer.specs.LogGrows.{WritesGoOn}
 use Rattle.redux_buffer.specs.StreamLog.{StreamLog}
 use Rattle.buffer_redux.specs.Policy.{WriteRules}
 use Rattle.buffer_redux.specs.Buffered.{Buffered}
-use Rattle.buffer_redux.specs.BufWriter.{AllAlong, StoppedAlong, WritesAlong}
+use Rattle.buffer_redux.specs.BufWriter.{AllAlong, WritesAlong}
 use Rattle.buffer_redux.specs.LineWriter.{SendsLines, ThenSendsLines}
 use Rattle.buffer_redux.specs.ReadUntil.{Lacks}
 use Rattle.buffer_redux.specs.WriteFmt.{WritesText}

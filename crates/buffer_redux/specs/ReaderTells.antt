@@ -1,16 +1,15 @@
 -- What a buffered reader tells of its own calls, and what any of them, one after another, may do to it.
-use Rattle.std.specs.Prelude.{◌≡◌, ℕ, ◌+◌, ◌<◌, ◌≤◌, ◌⊎◌, List, [], ◌∷◌, ◌++◌, Option, Result, Ok, Err, true}
+use Rattle.std.specs.Prelude.{◌≡◌, ℕ, ◌+◌, ◌<◌, ◌≤◌, ◌⊎◌, List, [], ◌∷◌, ◌++◌, Option, Ok, Err, true}
 use Rattle.std.proofs.Common.{inl, inr, refl, sym, ap, subst, ◌∙◌, arith, le_refl, le_trans, append-nil, append_assoc}
-use Rattle.std.specs.Borrow.{Bor}
 use Rattle.std.specs.declared.io.Error.{Error}
 use Rattle.std.proofs.lemmas.List.{append_cancel_left}
 use Rattle.redux_buffer.specs.Block.{IsBlock}
 use Rattle.redux_buffer.specs.Faults.{OnlyInterrupts, FaultAfterInterrupts}
-use Rattle.redux_buffer.specs.StreamLog.{StreamLog, FillTells, Readies, with_shown}
+use Rattle.redux_buffer.specs.StreamLog.{StreamLog, Readies, with_shown}
 use Rattle.redux_buffer.specs.LogGrows.{ReadLogGrows, ReadLogGrows-none, ReadLogGrows-joins, FillLogGrows, FillLogGrows-none, FillLogGrows-joins, FillsGoOn, FillsGoOn-of}
 use Rattle.buffer_redux.specs.Policy.{ReadRules, ClaimsToSpare}
 use Rattle.buffer_redux.specs.Buffered.{Buffered}
-use Rattle.buffer_redux.specs.BufReader.{Fills, ReadsInOrder, InnerGives}
+use Rattle.buffer_redux.specs.BufReader.{ReadsInOrder, InnerGives}
 use Rattle.buffer_redux.specs.Sparing.{SparesClaimed, Spared-none, Spared-joins}
 use Rattle.buffer_redux.specs.EmptyReads.{ReadsWhenEmpty, ReadsWhole}
 use Rattle.buffer_redux.specs.ReaderLaws.{ReadsInOrder-none, ReadsInOrder-joins, InnerGives-none, InnerGives-joins, WantsBytes}

@@ -6,7 +6,7 @@ use Rattle.std.specs.declared.io.Error.{Error}
 use Rattle.redux_buffer.specs.Block.{Reserves, usable}
 use Rattle.redux_buffer.specs.Faults.{MetInterrupts, MetInterrupts-none}
 use Rattle.redux_buffer.specs.GrowError.{GrowthFailed}
-use Rattle.redux_buffer.specs.StreamLog.{StreamLog, WriteLog}
+use Rattle.redux_buffer.specs.StreamLog.{StreamLog}
 use Rattle.buffer_redux.specs.Buffered.{Buffered, with_block}
 use Rattle.buffer_redux.specs.BufWriter.{WasSent, WritesInOrder}
 use Rattle.buffer_redux.specs.WriteParts.{Appends, MakesPlace, PutsIn, SendsFirst, WritesParts}

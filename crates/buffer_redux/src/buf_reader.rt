@@ -78,6 +78,7 @@ impl<R: Tell, P> Model for BufReader<R, P> {
 impl<R: Tell> BufReader<R, StdPolicy> {
     /// A reader over a plain buffer of [`DEFAULT_BUF_SIZE`] bytes. A refusal hands `inner` back.
     pub fn new(alloc: Global, inner: R) -> Result<Self, MakeError<R>>
+        ensures over { IfOk result (λ r. (r.inner ≡ inner) × (r.block.bytes ≡ [])) }
         ensures made { Makes R.log Plain 8192 (2 ^ 62) inner result }
     {
         BufReader::with_capacity(alloc, DEFAULT_BUF_SIZE, inner)
@@ -85,6 +86,7 @@ impl<R: Tell> BufReader<R, StdPolicy> {
 
     /// A reader over a plain buffer of `cap` bytes. A refusal hands `inner` back.
     pub fn with_capacity(alloc: Global, cap: usize, inner: R) -> Result<Self, MakeError<R>>
+        ensures over { IfOk result (λ r. (r.inner ≡ inner) × (r.block.bytes ≡ [])) }
         ensures made { Makes R.log Plain cap (2 ^ 62) inner result }
         ensures succeeds { cap ≡ 0 → IsOk result }
     {
@@ -96,6 +98,7 @@ impl<R: Tell> BufReader<R, StdPolicy> {
 
     /// A reader over a ring of [`DEFAULT_BUF_SIZE`] bytes. A refusal hands `inner` back.
     pub fn new_ringbuf(alloc: Global, inner: R) -> Result<Self, MakeError<R>>
+        ensures over { IfOk result (λ r. (r.inner ≡ inner) × (r.block.bytes ≡ [])) }
         ensures made { Makes R.log Ring 8192 (2 ^ 61) inner result }
     {
         BufReader::with_capacity_ringbuf(alloc, DEFAULT_BUF_SIZE, inner)
@@ -104,6 +107,7 @@ impl<R: Tell> BufReader<R, StdPolicy> {
     /// A reader over a ring whose capacity in bytes is the least multiple of [`RING_UNIT`](crate::RING_UNIT) that is at least
     /// `cap`. A refusal hands `inner` back.
     pub fn with_capacity_ringbuf(alloc: Global, cap: usize, inner: R) -> Result<Self, MakeError<R>>
+        ensures over { IfOk result (λ r. (r.inner ≡ inner) × (r.block.bytes ≡ [])) }
         ensures made { Makes R.log Ring (round cap) (2 ^ 61) inner result }
         ensures succeeds { cap ≡ 0 → IsOk result }
     {
@@ -311,10 +315,10 @@ impl<R: TellRead, P: ReaderPolicy> Read for BufReader<R, P> {
     /// After an `Err` the bytes that were handed out stand at the front of the slice, and the reader no longer has them.
     #[inline(always)]
     fn read_exact(&mut self, out: &mut [u8]) -> io::Result<()>
-        ensures bytes { OnOk result (Consumes (reader_remaining R.remaining P.rules self.old)
-            (reader_remaining R.remaining P.rules self.new) out.new) }
         ensures in_order { OnOk result (ReadsInOrder self.old out.new self.new) }
         ensures beginning { (count : ℕ) × (count ≤ length out.new) × ReadsInOrder self.old (take count out.new) self.new }
+        ensures bytes { OnOk result (Consumes (reader_remaining R.remaining P.rules self.old)
+            (reader_remaining R.remaining P.rules self.new) out.new) }
         ensures retried { IfErr result (λ e. error_kind e ≢ ErrorKind.Interrupted) }
         ensures whole { IsBlock self.new.block }
         ensures steps { ReadsExactly R.remaining P.rules self.old result out.new self.new }
@@ -345,6 +349,7 @@ impl<R: TellRead, P: ReaderPolicy> BufRead for BufReader<R, P> {
     /// A fault of the reader, `Interrupted` among them, or an `Err` of the policy is returned at once. The bytes that
     /// came before it stay buffered.
     fn fill_buf(&mut self) -> io::Result<&[u8]>
+        ensures buffered { IfOk result (λ bytes. StartsWith bytes.now self.old.block.bytes) }
         ensures front { IfSome (reader_remaining R.remaining P.rules self.old)
             (λ xs. IfOk result (λ bytes. StartsWith xs bytes.now)) }
         ensures end { IfSome (reader_remaining R.remaining P.rules self.old)

@@ -1,5 +1,5 @@
 //! The buffered writer.
-ghost use Rattle.std.specs.Prelude.{None, ◌≡◌, ◌≢◌, ◌<◌, ◌≤◌, ◌^◌, [], length, Ok, IfErr, true, OnOk, OnErr, IsOk};
+ghost use Rattle.std.specs.Prelude.{None, ◌≡◌, ◌≢◌, ◌<◌, ◌≤◌, ◌^◌, [], length, Ok, IfErr, true, OnOk, OnErr, IfOk, IsOk};
 ghost use Rattle.std.specs.Borrow.{sem, Lends};
 ghost use Rattle.std.specs.Io.{WritesAtMost};
 ghost use Rattle.std.specs.Io.KnownBytes.{Appends, Keeps, WriteAppends};
@@ -75,6 +75,7 @@ impl<W: TellWrite, P> Model for BufWriter<W, P> {
 impl<W: TellWrite> BufWriter<W, StdPolicy> {
     /// A writer over a plain buffer of [`DEFAULT_BUF_SIZE`] bytes. A refusal hands `inner` back.
     pub fn new(alloc: Global, inner: W) -> Result<Self, MakeError<W>>
+        ensures over { IfOk result (λ w. (w.inner ≡ inner) × (w.block.bytes ≡ [])) }
         ensures made { Makes W.log Plain 8192 (2 ^ 62) inner result }
     {
         BufWriter::with_capacity(alloc, DEFAULT_BUF_SIZE, inner)
@@ -82,6 +83,7 @@ impl<W: TellWrite> BufWriter<W, StdPolicy> {
 
     /// A writer over a plain buffer of `cap` bytes. A refusal hands `inner` back.
     pub fn with_capacity(alloc: Global, cap: usize, inner: W) -> Result<Self, MakeError<W>>
+        ensures over { IfOk result (λ w. (w.inner ≡ inner) × (w.block.bytes ≡ [])) }
         ensures made { Makes W.log Plain cap (2 ^ 62) inner result }
         ensures succeeds { cap ≡ 0 → IsOk result }
     {
@@ -93,6 +95,7 @@ impl<W: TellWrite> BufWriter<W, StdPolicy> {
 
     /// A writer over a ring of [`DEFAULT_BUF_SIZE`] bytes. A refusal hands `inner` back.
     pub fn new_ringbuf(alloc: Global, inner: W) -> Result<Self, MakeError<W>>
+        ensures over { IfOk result (λ w. (w.inner ≡ inner) × (w.block.bytes ≡ [])) }
         ensures made { Makes W.log Ring 8192 (2 ^ 61) inner result }
     {
         BufWriter::with_capacity_ringbuf(alloc, DEFAULT_BUF_SIZE, inner)
@@ -101,6 +104,7 @@ impl<W: TellWrite> BufWriter<W, StdPolicy> {
     /// A writer over a ring whose capacity in bytes is the least multiple of [`RING_UNIT`](crate::RING_UNIT) that is at
     /// least `cap`. A refusal hands `inner` back.
     pub fn with_capacity_ringbuf(alloc: Global, cap: usize, inner: W) -> Result<Self, MakeError<W>>
+        ensures over { IfOk result (λ w. (w.inner ≡ inner) × (w.block.bytes ≡ [])) }
         ensures made { Makes W.log Ring (round cap) (2 ^ 61) inner result }
         ensures succeeds { cap ≡ 0 → IsOk result }
     {
@@ -212,6 +216,7 @@ impl<W: TellWrite, P> BufWriter<W, P> {
     ///
     /// The original has no such call: it sends all only where it flushes too.
     pub fn send(&mut self) -> io::Result<()>
+        ensures empty { OnOk result (self.new.block.bytes ≡ []) }
         ensures sent { WasSent W.log W.trace self.old result self.new }
     {
         self.buf.write_all(&mut self.inner)

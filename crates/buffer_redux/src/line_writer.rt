@@ -1,5 +1,5 @@
 //! A buffered writer that flushes lines.
-ghost use Rattle.std.specs.Prelude.{◌≡◌, ◌≢◌, ◌<◌, ◌≤◌, ◌^◌, [], length, Ok, Err, IfErr, true, OnOk, OnErr, IsOk, IfSome, MatchResult, MatchOption};
+ghost use Rattle.std.specs.Prelude.{◌≡◌, ◌≢◌, ◌++◌, ◌<◌, ◌≤◌, ◌^◌, [], length, Ok, Err, IfErr, true, OnOk, OnErr, IsOk, IfNone, IfOk, IfSome, MatchResult, MatchOption};
 ghost use Rattle.std.specs.Borrow.{sem, Lends};
 ghost use Rattle.std.specs.Io.{WritesAtMost};
 ghost use Rattle.std.specs.Io.KnownBytes.{Appends, Keeps, WriteAppends};
@@ -59,6 +59,7 @@ impl<W: TellWrite> Model for LineWriter<W> {
 impl<W: TellWrite> LineWriter<W> {
     /// A writer over a plain buffer of [`DEFAULT_BUF_SIZE`] bytes. A refusal hands `inner` back.
     pub fn new(alloc: Global, inner: W) -> Result<Self, MakeError<W>>
+        ensures over { IfOk result (λ w. (w.inner ≡ inner) × (w.block.bytes ≡ [])) }
         ensures made { Makes W.log Plain 8192 (2 ^ 62) inner result }
     {
         LineWriter::with_capacity(alloc, DEFAULT_BUF_SIZE, inner)
@@ -66,6 +67,7 @@ impl<W: TellWrite> LineWriter<W> {
 
     /// A writer over a plain buffer of `cap` bytes. A refusal hands `inner` back.
     pub fn with_capacity(alloc: Global, cap: usize, inner: W) -> Result<Self, MakeError<W>>
+        ensures over { IfOk result (λ w. (w.inner ≡ inner) × (w.block.bytes ≡ [])) }
         ensures made { Makes W.log Plain cap (2 ^ 62) inner result }
         ensures succeeds { cap ≡ 0 → IsOk result }
     {
@@ -77,6 +79,7 @@ impl<W: TellWrite> LineWriter<W> {
 
     /// A writer over a ring of [`DEFAULT_BUF_SIZE`] bytes. A refusal hands `inner` back.
     pub fn new_ringbuf(alloc: Global, inner: W) -> Result<Self, MakeError<W>>
+        ensures over { IfOk result (λ w. (w.inner ≡ inner) × (w.block.bytes ≡ [])) }
         ensures made { Makes W.log Ring 8192 (2 ^ 61) inner result }
     {
         LineWriter::with_capacity_ringbuf(alloc, DEFAULT_BUF_SIZE, inner)
@@ -85,6 +88,7 @@ impl<W: TellWrite> LineWriter<W> {
     /// A writer over a ring whose capacity in bytes is the least multiple of [`RING_UNIT`](crate::RING_UNIT) that is at least
     /// `cap`. A refusal hands `inner` back.
     pub fn with_capacity_ringbuf(alloc: Global, cap: usize, inner: W) -> Result<Self, MakeError<W>>
+        ensures over { IfOk result (λ w. (w.inner ≡ inner) × (w.block.bytes ≡ [])) }
         ensures made { Makes W.log Ring (round cap) (2 ^ 61) inner result }
         ensures succeeds { cap ≡ 0 → IsOk result }
     {
@@ -162,6 +166,7 @@ impl<W: TellWrite> LineWriter<W> {
     /// Sends all that is buffered, without a flush of the inner writer. Where that fails, just what the inner writer took is
     /// no longer buffered, so the call can be made again.
     pub fn send(&mut self) -> io::Result<()>
+        ensures empty { OnOk result (self.new.block.bytes ≡ []) }
         ensures sent { WasSent W.log W.trace self.old result self.new }
     {
         self.writer.send()
@@ -189,7 +194,8 @@ impl<W: TellWrite> LineWriter<W> {
     /// Flushes, and hands the inner writer back; where that fails, the line writer with the bytes that were not sent, and
     /// the fault.
     pub fn into_inner(self) -> Result<W, IntoInnerError<Self>>
-        ensures { MatchResult result
+        ensures all { IfOk result (λ inner. (W.log inner).writes.received ≡ self.log.writes.received ++ self.block.bytes) }
+        ensures flushed { MatchResult result
             (InnerOfFlushed W.log W.trace self (Ok tt)) (λ e. WasFlushed W.log W.trace self (Err e.1) e.0) }
     {
         let LineWriter { writer } = self;
@@ -202,7 +208,8 @@ impl<W: TellWrite> LineWriter<W> {
     /// Flushes, and hands the inner writer back, with the fault where that fails. The bytes that were not sent then are
     /// gone.
     pub fn into_inner_with_err(self) -> (W, Option<io::Error>)
-        ensures { MatchOption result.1
+        ensures all { IfNone result.1 ((W.log result.0).writes.received ≡ self.log.writes.received ++ self.block.bytes) }
+        ensures flushed { MatchOption result.1
             (InnerOfFlushed W.log W.trace self (Ok tt) result.0)
             (λ e. InnerOfFlushed W.log W.trace self (Err e) result.0) }
     {
@@ -225,7 +232,8 @@ impl<W: TellWrite> LineWriter<W> {
     pub fn finish<F: FnOnce(&mut W, &mut Buffer, io::Error)>(self, handler: F) -> (W, Buffer)
     where
         requires { F.IsAlwaysCallable handler }
-        ensures { SendsOrHandles W.log W.trace (λ w b e w' b'. F.post handler w b e tt w' b') self result.0 result.1 }
+        ensures idle { self.block.bytes ≡ [] → (result.0 ≡ self.inner) × (result.1 ≡ self.block) }
+        ensures sent { SendsOrHandles W.log W.trace (λ w b e w' b'. F.post handler w b e tt w' b') self result.0 result.1 }
     {
         let LineWriter { writer } = self;
         writer.finish(handler)

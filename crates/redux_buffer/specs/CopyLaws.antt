@@ -1,5 +1,5 @@
 -- Laws of copying turn by turn, for the proofs of those who make the turns.
-use Rattle.std.proofs.Common.{◌≡◌, ℕ, ◌+◌, List, Result, Ok, Err, inl, inr, subst, le_trans, arith, refl, sym, [], append-nil, ◌∙◌, ◌++◌, ap, append_assoc, length-append, le_refl}
+use Rattle.std.proofs.Common.{◌≡◌, ℕ, ◌+◌, Result, Ok, Err, inl, inr, subst, le_trans, arith, refl, sym, [], append-nil, ◌∙◌, ◌++◌, ap, append_assoc, length-append, le_refl}
 use Rattle.std.specs.declared.io.Error.{Error}
 use Rattle.redux_buffer.specs.StreamLog.{StreamLog, FillLog, WriteLog}
 use Rattle.redux_buffer.specs.Faults.{OnlyInterrupts-none, OnlyInterrupts-joins, FaultAfterInterrupts-after, MetInterrupts-joins, MetInterrupts-none}

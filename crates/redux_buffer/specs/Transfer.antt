@@ -4,7 +4,7 @@ use Rattle.std.specs.Io.{ReadsAtMost, WritesAtMost}
 use Rattle.std.specs.List.{All}
 use Rattle.std.specs.declared.io.Error.{Error}
 use Rattle.redux_buffer.specs.Block.{Block, Extends, ConsumesFirst, OnlyRingMoves, usable}
-use Rattle.redux_buffer.specs.StreamLog.{StreamLog, WriteLog, portion, with_zero, with_short, with_fault, after_read, after_write}
+use Rattle.redux_buffer.specs.StreamLog.{StreamLog, portion, with_zero, with_short, with_fault, after_read, after_write}
 use Rattle.redux_buffer.specs.Faults.{IsInterrupt, OnlyInterrupted, interrupt_limit, SendFailed}
 
 -- one read into the whole tail, which left it as out; what was given stands behind the bytes

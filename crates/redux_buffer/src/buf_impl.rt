@@ -1,5 +1,5 @@
 //! Either kind of buffer.
-ghost use Rattle.std.specs.Prelude.{◌≡◌, ⊤, true, false, ◌+◌, ◌-◌, ◌^◌, ◌≤◌, ◌<◌, ◌↔◌, ◌++◌, ◌&&◌, length, min, take, drop, nat_le, nat_lt, IsTrue, IfOk, IsOk, OnOk, OnErr};
+ghost use Rattle.std.specs.Prelude.{◌≡◌, ⊤, [], true, false, ◌+◌, ◌-◌, ◌^◌, ◌≤◌, ◌<◌, ◌↔◌, ◌++◌, ◌&&◌, length, min, take, drop, nat_le, nat_lt, IsTrue, IfOk, IsOk, OnOk, OnErr};
 ghost use Rattle.std.specs.Borrow.{Lends, Array, sem, u8};
 ghost use Rattle.redux_buffer.specs.GrowError.{FitsWithin};
 ghost use Rattle.redux_buffer.specs.Block.{IsInFront, Plain, Ring, IsPlaced, IsNew, BytesWritten, OnKind, ConsumesFirst, Extends, Reserves, MakesRoom, CountsShift, usable, capacity_for, with_tail, with_bytes, compact, round};
@@ -69,6 +69,7 @@ fn copy_ends<const N: usize>(out: &mut [u8], src: &[u8])
 impl BufImpl {
     /// An empty plain buffer of capacity `cap` in bytes.
     pub fn with_capacity(alloc: Global, cap: usize) -> Result<Self, GrowError>
+        ensures empty { IfOk result (λ b. ((as_placed b).block.bytes ≡ []) × ((as_placed b).block.capacity ≡ cap)) }
         ensures made { IfOk result (λ b. IsNew Plain cap (as_placed b).block × IsPlaced (as_placed b)) }
         ensures limit { FitsWithin result cap (2 ^ 62) }
         ensures succeeds { cap ≡ 0 → IsOk result }
@@ -78,6 +79,7 @@ impl BufImpl {
 
     /// An empty ring of at least `cap` bytes.
     pub fn with_capacity_ringbuf(alloc: Global, cap: usize) -> Result<Self, GrowError>
+        ensures empty { IfOk result (λ b. ((as_placed b).block.bytes ≡ []) × ((as_placed b).block.capacity ≡ round cap)) }
         ensures made { IfOk result (λ b. IsNew Ring (round cap) (as_placed b).block × IsPlaced (as_placed b)) }
         ensures limit { FitsWithin result (round cap) (2 ^ 61) }
         ensures succeeds { cap ≡ 0 → IsOk result }

@@ -1,5 +1,5 @@
 //! The buffer that readers and writers hold.
-ghost use Rattle.std.specs.Prelude.{◌≡◌, true, false, ◌+◌, ◌-◌, ◌*◌, ◌^◌, ◌≤◌, ◌<◌, ◌↔◌, ◌++◌, ◌&&◌, length, min, take, drop, nat_lt, IsTrue, IfOk, IsOk, IsOkUnless, OnOk, OnErr};
+ghost use Rattle.std.specs.Prelude.{◌≡◌, [], true, false, ◌+◌, ◌-◌, ◌*◌, ◌^◌, ◌≤◌, ◌<◌, ◌↔◌, ◌++◌, ◌&&◌, length, min, take, drop, nat_lt, IsTrue, IfOk, IsOk, IsOkUnless, OnOk, OnErr};
 ghost use Rattle.std.specs.Borrow.{Lends, Array, sem, u8};
 ghost use Rattle.redux_buffer.specs.GrowError.{FitsWithin};
 ghost use Rattle.redux_buffer.specs.contracts.buffer.Buffer.{the_row};
@@ -48,6 +48,7 @@ impl Model for Buffer {
 impl Buffer {
     /// An empty plain buffer of [`DEFAULT_BUF_SIZE`] bytes, or `Memory` where that was refused.
     pub fn new(alloc: Global) -> Result<Self, GrowError>
+        ensures empty { IfOk result (λ b. (b.bytes ≡ []) × (b.capacity ≡ 8192)) }
         ensures made { IfOk result (λ b. IsNew Plain 8192 b × IsBlock b) }
         ensures refused { IsOkUnless result GrowError.Memory }
     {
@@ -56,6 +57,7 @@ impl Buffer {
 
     /// An empty ring of [`DEFAULT_BUF_SIZE`] bytes, or `Memory` where that was refused.
     pub fn new_ringbuf(alloc: Global) -> Result<Self, GrowError>
+        ensures empty { IfOk result (λ b. (b.bytes ≡ []) × (b.capacity ≡ 8192)) }
         ensures made { IfOk result (λ b. IsNew Ring 8192 b × IsBlock b) }
         ensures refused { IsOkUnless result GrowError.Memory }
     {
@@ -65,6 +67,7 @@ impl Buffer {
     /// An empty plain buffer of capacity `cap` in bytes; `TooLarge` past [`MAX_CAPACITY`](crate::MAX_CAPACITY), and `Memory`
     /// where that was refused.
     pub fn with_capacity(alloc: Global, cap: usize) -> Result<Self, GrowError>
+        ensures empty { IfOk result (λ b. (b.bytes ≡ []) × (b.capacity ≡ cap)) }
         ensures made { IfOk result (λ b. IsNew Plain cap b × IsBlock b) }
         ensures limit { FitsWithin result cap (2 ^ 62) }
         ensures succeeds { cap ≡ 0 → IsOk result }
@@ -78,6 +81,7 @@ impl Buffer {
     /// An empty ring whose capacity in bytes is the least multiple of [`RING_UNIT`](crate::RING_UNIT) that is at least `cap`;
     /// `TooLarge` where that passes [`MAX_RING`](crate::MAX_RING), and `Memory` where memory was refused.
     pub fn with_capacity_ringbuf(alloc: Global, cap: usize) -> Result<Self, GrowError>
+        ensures empty { IfOk result (λ b. (b.bytes ≡ []) × (b.capacity ≡ round cap)) }
         ensures made { IfOk result (λ b. IsNew Ring (round cap) b × IsBlock b) }
         ensures limit { FitsWithin result (round cap) (2 ^ 61) }
         ensures succeeds { cap ≡ 0 → IsOk result }

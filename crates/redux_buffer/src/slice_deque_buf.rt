@@ -1,5 +1,5 @@
 //! The ring.
-ghost use Rattle.std.specs.Prelude.{◌≡◌, ◌+◌, ◌-◌, ◌^◌, ◌≤◌, ◌<◌, ◌↔◌, ◌++◌, length, min, take, drop, nat_le, IsTrue, IfOk, IsOk, OnOk, OnErr};
+ghost use Rattle.std.specs.Prelude.{◌≡◌, [], ◌+◌, ◌-◌, ◌^◌, ◌≤◌, ◌<◌, ◌↔◌, ◌++◌, length, min, take, drop, nat_le, IsTrue, IfOk, IsOk, OnOk, OnErr};
 ghost use Rattle.std.specs.Borrow.{Lends, Array, sem, u8};
 ghost use Rattle.redux_buffer.specs.GrowError.{FitsWithin};
 ghost use Rattle.redux_buffer.specs.Block.{Ring, IsPlaced, IsNew, BytesWritten, ConsumesFirst, Reserves, MakesRoom, CountsShift, usable, capacity_for, with_tail, with_bytes, compact, round};
@@ -72,6 +72,7 @@ impl SliceDequeBuf {
     /// An empty ring whose capacity in bytes is the least multiple of [`RING_UNIT`] that is at least `cap`, or `TooLarge` past
     /// [`MAX_RING`].
     pub fn with_capacity(alloc: Global, cap: usize) -> Result<Self, GrowError>
+        ensures empty { IfOk result (λ b. (b.block.bytes ≡ []) × (b.block.capacity ≡ round cap)) }
         ensures made { IfOk result (λ b. IsNew Ring (round cap) b.block × IsPlaced b) }
         ensures limit { FitsWithin result (round cap) (2 ^ 61) }
         ensures succeeds { cap ≡ 0 → IsOk result }

@@ -1,5 +1,5 @@
 //! The plain buffer.
-ghost use Rattle.std.specs.Prelude.{◌≡◌, true, false, ◌+◌, ◌-◌, ◌^◌, ◌≤◌, ◌<◌, ◌↔◌, ◌++◌, length, min, take, drop, nat_le, IsTrue, IfOk, IsOk, OnOk, OnErr};
+ghost use Rattle.std.specs.Prelude.{◌≡◌, true, false, [], ◌+◌, ◌-◌, ◌^◌, ◌≤◌, ◌<◌, ◌↔◌, ◌++◌, length, min, take, drop, nat_le, IsTrue, IfOk, IsOk, OnOk, OnErr};
 ghost use Rattle.std.specs.Borrow.{Lends, Array, sem, u8};
 ghost use Rattle.redux_buffer.specs.GrowError.{FitsWithin};
 ghost use Rattle.redux_buffer.specs.Block.{Plain, IsPlaced, IsNew, BytesWritten, ConsumesFirst, Reserves, MakesRoom, CountsShift, usable, capacity_for, with_tail, with_bytes};
@@ -57,6 +57,7 @@ impl Model for StdBuf {
 impl StdBuf {
     /// An empty buffer of capacity `cap` in bytes, or `TooLarge` past [`MAX_CAPACITY`](crate::MAX_CAPACITY).
     pub fn with_capacity(alloc: Global, cap: usize) -> Result<Self, GrowError>
+        ensures empty { IfOk result (λ b. (b.block.bytes ≡ []) × (b.block.capacity ≡ cap)) }
         ensures made { IfOk result (λ b. IsNew Plain cap b.block × IsPlaced b) }
         ensures limit { FitsWithin result cap (2 ^ 62) }
         ensures succeeds { cap ≡ 0 → IsOk result }

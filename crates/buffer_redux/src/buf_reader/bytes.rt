@@ -1,13 +1,14 @@
 //! Calls for one byte, and for a look at bytes ahead.
 ghost use Rattle.std.specs.Prelude.{◌≡◌, ◌+◌, ◌<◌, ◌≤◌, [], length, min, take, IfOk};
 ghost use Rattle.std.specs.Borrow.{sem};
+ghost use Rattle.std.specs.Io.{StartsWith};
 ghost use Rattle.std.specs.Io.BufRead.{Rests};
 ghost use Rattle.redux_buffer.specs.Block.{MakesRoom, usable};
 ghost use Rattle.buffer_redux.specs.BufReader.{ReadsInOrder};
 ghost use Rattle.buffer_redux.specs.Buffered.{with_block};
 ghost use Rattle.buffer_redux.specs.contracts.buf_reader.BufReader.{the_row};
 ghost use Rattle.buffer_redux.specs.Peek.{ReadsAhead};
-ghost use Rattle.buffer_redux.specs.ReadByte.{FillsAndTakes, ReadsByte, TakesFirst};
+ghost use Rattle.buffer_redux.specs.ReadByte.{FillsAndTakes, handed_byte, ReadsByte, TakesFirst};
 
 use crate::buf_reader::BufReader;
 use crate::policy::ReaderPolicy;
@@ -22,6 +23,7 @@ impl<R: TellRead, P: ReaderPolicy> BufReader<R, P> {
     /// A fill that was interrupted is made again, 64 times in a row; any other fault is returned, and hands out nothing.
     #[inline(always)]
     pub fn read_byte(&mut self) -> io::Result<Option<u8>>
+        ensures in_order { ReadsInOrder self.old (handed_byte result) self.new }
         ensures byte { ReadsByte R.remaining P.rules self.old result self.new }
     {
         // The last one that is buffered is taken apart, since the buffer is emptied there.
@@ -80,6 +82,7 @@ impl<R: TellRead, P: ReaderPolicy> BufReader<R, P> {
     /// before it stays buffered.
     #[inline(always)]
     pub fn peek(&mut self, n: usize) -> io::Result<&[u8]>
+        ensures buffered { IfOk result (λ bytes. StartsWith bytes.now (take n self.old.block.bytes)) }
         ensures* after_borrow { sem 𝓛 (Rests (the_row R.row P.row R.Tell) self.entry
             (λ t. ReadsAhead R.remaining P.rules (min n self.entry.now.block.capacity) self.entry.now result t
             × IfOk result (λ bytes. bytes.now ≡ take (min n self.entry.now.block.capacity) t.block.bytes))) }

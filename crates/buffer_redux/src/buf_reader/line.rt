@@ -6,7 +6,7 @@ ghost use Rattle.std.specs.IoError.{error_kind};
 ghost use Rattle.std.specs.declared.io.ErrorKind.TheVariants.{InvalidData};
 ghost use Rattle.redux_buffer.specs.Block.{IsBlock, capacity_for, usable};
 ghost use Rattle.redux_buffer.specs.GrowError.{GrowthRefused};
-ghost use Rattle.buffer_redux.specs.BufReader.{MovesFor, RanDry};
+ghost use Rattle.buffer_redux.specs.BufReader.{MovesFor, RanDry, ReadsInOrder};
 ghost use Rattle.buffer_redux.specs.Buffered.{with_block};
 ghost use Rattle.buffer_redux.specs.ReadAll.{HandedFront};
 ghost use Rattle.buffer_redux.specs.ReadBehind.{FillsOn, FillsOrReads, ReadsBehind};
@@ -39,13 +39,15 @@ impl<R: TellRead, P: ReaderPolicy> BufReader<R, P> {
     /// fewer than 6 bytes then, the buffer grows; `InvalidInput` says that its limit forbids that, and the part stays buffered.
     #[inline(always)]
     pub fn read_line<A: Allocator>(&mut self, out: &mut String<A>) -> io::Result<usize>
-        ensures line { ReadsLine R.remaining P.rules self.old (string_bytes out.old) result (string_bytes out.new) self.new }
+        ensures appended { (handed : List ℕ) × (string_bytes out.new ≡ string_bytes out.old ++ handed)
+            × ReadsInOrder self.old handed self.new × IfOk result (λ n. n ≡ length handed) }
         ensures bytes { OnOk result (IfSome (reader_remaining R.remaining P.rules self.old)
             (λ xs. string_bytes out.new ≡ string_bytes out.old ++ take_through 10 xs)) }
         // Such is the last fill's or read's, so the stream's or the policy's; or the line is no UTF-8, where std knows it.
         ensures invalid { IfErr result (λ e. error_kind e ≡ InvalidData → ((handed : List ℕ) × PassesAndFills R.remaining
             P.rules (FillsOn IsPart R.remaining P.rules) 10 self.old handed (Err e) self.new)
             ⊎ IfSome (reader_remaining R.remaining P.rules self.old) (λ xs. ¬ (IsUtf8 (take_through 10 xs)))) }
+        ensures line { ReadsLine R.remaining P.rules self.old (string_bytes out.old) result (string_bytes out.new) self.new }
     {
         match first_of(b'\n', self.buf.buf()) {
             Some(at) => {

@@ -1,6 +1,7 @@
 //! A buffered reader as a stream that tells of its own calls.
-ghost use Rattle.std.specs.Prelude.{◌≡◌, length};
+ghost use Rattle.std.specs.Prelude.{◌≡◌, drop, length, IfOk};
 ghost use Rattle.std.specs.Borrow.{sem};
+ghost use Rattle.std.specs.Io.{StartsWith};
 ghost use Rattle.std.specs.Io.BufRead.{Rests};
 ghost use Rattle.std.specs.Io.KnownBytes.{Keeps};
 ghost use Rattle.std.specs.Io.Seek.{SeekMoves};
@@ -44,6 +45,7 @@ impl<R: TellRead, P: ReaderPolicy> TellBufRead for BufReader<R, P> {
     ghost trace = { ReaderWent R.remaining P.rules };
 
     fn fill_told(&mut self) -> io::Result<&[u8]>
+        ensures buffered { IfOk result (λ bytes. StartsWith bytes.now self.old.block.bytes) }
         ensures* after_borrow { sem 𝓛 (Rests (the_row R.row P.row R.Tell) self.entry
             (λ t. FillTells (reader_log self.entry.now) result (reader_log t)
             × ReaderWent R.remaining P.rules self.entry.now t × Fills P.rules self.entry.now result t)) }
@@ -53,6 +55,7 @@ impl<R: TellRead, P: ReaderPolicy> TellBufRead for BufReader<R, P> {
     }
 
     fn consume_told(&mut self, amount: usize)
+        ensures left { self.new.block.bytes ≡ drop amount self.old.block.bytes }
         ensures told { reader_log self.new ≡ after_consume (reader_log self.old) amount }
         ensures trace { ReaderWent R.remaining P.rules self.old self.new }
         ensures consumed { ReaderConsumes P.rules amount self.old self.new }
@@ -77,10 +80,10 @@ impl<R: TellSeek, P> TellSeek for BufReader<R, P> {
     ghost readies = { drops_shown };
 
     fn seek_told(&mut self, to: SeekFrom) -> io::Result<u64>
-        ensures told { SeekTells drops_shown (reader_log self.old) to result (reader_log self.new) }
         ensures moves { SeekMoves (reader_position R.stream_position self.old)
             (reader_position R.stream_position self.new) (R.stream_bytes self.old.inner) to result }
         ensures bytes { Keeps (R.stream_bytes self.old.inner) (R.stream_bytes self.new.inner) }
+        ensures told { SeekTells drops_shown (reader_log self.old) to result (reader_log self.new) }
         ensures seeks { Seeks R.readies (plan_for to (length self.old.block.bytes)) self.old result
             (with_calls self.new self.old.own_calls) }
     {

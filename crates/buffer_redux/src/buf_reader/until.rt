@@ -1,6 +1,7 @@
 //! Calls that go on up to a byte.
-ghost use Rattle.std.specs.Prelude.{◌≡◌, ◌+◌, ◌<◌, ◌≤◌, ◌++◌, length, take, drop, IfNone, IfOk, IfSome, OnOk, ⊤};
+ghost use Rattle.std.specs.Prelude.{◌≡◌, ℕ, List, ◌+◌, ◌<◌, ◌≤◌, ◌++◌, length, take, drop, IfNone, IfOk, IfSome, OnOk, ⊤};
 ghost use Rattle.std.specs.Io.BufRead.{take_through};
+ghost use Rattle.buffer_redux.specs.BufReader.{ReadsInOrder};
 ghost use Rattle.buffer_redux.specs.FillRetried.{FillRetried, OneFill};
 ghost use Rattle.buffer_redux.specs.ReadAll.{HandedFront};
 ghost use Rattle.buffer_redux.specs.ReadUntil.{AppendsFirst, DropsFirst, FirstAt, Lacks, ReadsUntil, SkipsUntil};
@@ -24,9 +25,11 @@ impl<R: TellRead, P: ReaderPolicy> BufReader<R, P> {
     /// was appended is what was handed out: where memory is refused, the bytes that it was for stay buffered.
     #[inline(always)]
     pub fn read_until<A: Allocator>(&mut self, byte: u8, out: &mut Vec<u8, A>) -> io::Result<usize>
-        ensures until { ReadsUntil R.remaining P.rules byte self.old out.old.items result out.new.items self.new }
+        ensures appended { (handed : List ℕ) × (out.new.items ≡ out.old.items ++ handed)
+            × ReadsInOrder self.old handed self.new × IfOk result (λ n. n ≡ length handed) }
         ensures bytes { OnOk result (IfSome (reader_remaining R.remaining P.rules self.old)
             (λ xs. out.new.items ≡ out.old.items ++ take_through byte xs)) }
+        ensures until { ReadsUntil R.remaining P.rules byte self.old out.old.items result out.new.items self.new }
     {
         match first_of(byte, self.buf.buf()) {
             Some(at) => {
@@ -73,9 +76,10 @@ impl<R: TellRead, P: ReaderPolicy> BufReader<R, P> {
     /// bytes that a `usize` doesn't count, which stay buffered. After an `Err` the bytes before it are gone.
     #[inline(always)]
     pub fn skip_until(&mut self, byte: u8) -> io::Result<usize>
-        ensures until { SkipsUntil R.remaining P.rules byte self.old result self.new }
+        ensures dropped { (handed : List ℕ) × ReadsInOrder self.old handed self.new × IfOk result (λ n. n ≡ length handed) }
         ensures count { IfOk result (λ n. IfSome (reader_remaining R.remaining P.rules self.old)
             (λ xs. n ≡ length (take_through byte xs))) }
+        ensures until { SkipsUntil R.remaining P.rules byte self.old result self.new }
     {
         match first_of(byte, self.buf.buf()) {
             Some(at) => {

@@ -1,7 +1,8 @@
 //! Parts that are taken in together.
-ghost use Rattle.std.specs.Prelude.{◌≡◌, ◌≤◌, length, map, min};
+ghost use Rattle.std.specs.Prelude.{◌≡◌, ◌≤◌, [], length, map, min, OnErr, OnOk};
 ghost use Rattle.std.specs.List.{concat};
 ghost use Rattle.redux_buffer.specs.Block.{Extends, IsBlock, usable};
+ghost use Rattle.buffer_redux.specs.BufWriter.{WritesInOrder};
 ghost use Rattle.buffer_redux.specs.WriteParts.{MakesPlace, PutsIn, WritesParts};
 
 use crate::buf_writer::BufWriter;
@@ -23,7 +24,9 @@ impl<W: TellWrite> BufWriter<W, StdPolicy> {
     /// assert!(rt; writer.buffer() == b"$2\r\nhi".as_slice());
     /// ```
     pub fn write_parts(&mut self, parts: &[&[u8]]) -> io::Result<()>
-        ensures { WritesParts W.log W.trace self.old (concat (map (λ part. part.now) parts.now)) result self.new }
+        ensures in_order { OnOk result (WritesInOrder self.old (concat (map (λ part. part.now) parts.now)) self.new) }
+        ensures none { OnErr result (WritesInOrder self.old [] self.new) }
+        ensures parts { WritesParts W.log W.trace self.old (concat (map (λ part. part.now) parts.now)) result self.new }
     {
         let len = total(parts);
         if self.buf.usable_space() >= len {

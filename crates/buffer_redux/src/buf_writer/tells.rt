@@ -1,5 +1,5 @@
 //! A buffered writer as a stream that tells of its own calls.
-ghost use Rattle.std.specs.Prelude.{◌≡◌, None};
+ghost use Rattle.std.specs.Prelude.{◌≡◌, [], None, OnOk};
 ghost use Rattle.std.specs.Io.{WritesAtMost};
 ghost use Rattle.std.specs.Io.KnownBytes.{Keeps};
 ghost use Rattle.std.specs.Io.Seek.{SeekMoves};
@@ -38,6 +38,7 @@ impl<W: TellWrite, P: WriterPolicy> TellWrite for BufWriter<W, P> {
     }
 
     fn flush_told(&mut self) -> io::Result<()>
+        ensures empty { OnOk result (self.new.block.bytes ≡ []) }
         ensures told { writer_log self.new ≡ after_flush (writer_log self.old) result }
         ensures trace { WriterWent W.trace P.rules self.old self.new }
         ensures call { WriterCalled P.rules self.old self.new }
@@ -61,9 +62,9 @@ impl<W: TellWrite + TellSeek, P: WriterPolicy> TellSeek for BufWriter<W, P> {
     ghost readies = { flushes_received };
 
     fn seek_told(&mut self, to: SeekFrom) -> io::Result<u64>
-        ensures told { SeekTells flushes_received (writer_log self.old) to result (writer_log self.new) }
         ensures moves { SeekMoves None None None to result }
         ensures bytes { Keeps None None }
+        ensures told { SeekTells flushes_received (writer_log self.old) to result (writer_log self.new) }
         ensures sought { WasSought W.log W.trace W.readies self.old to result
             (with_calls self.new self.old.own_calls) }
     {

@@ -1,6 +1,6 @@
 //! The calls that take a buffered writer apart. A pattern that names each field runs no drop, so the writer that was taken
 //! apart sends nothing more.
-ghost use Rattle.std.specs.Prelude.{◌≡◌, Ok, Err, MatchResult, MatchOption};
+ghost use Rattle.std.specs.Prelude.{◌≡◌, ◌++◌, [], Ok, Err, IfNone, IfOk, MatchResult, MatchOption};
 ghost use Rattle.buffer_redux.specs.Buffered.{with_policy};
 ghost use Rattle.buffer_redux.specs.BufWriter.{WasFlushed};
 ghost use Rattle.buffer_redux.specs.Unwrapping.{InnerOfFlushed, SendsOrHandles};
@@ -61,7 +61,8 @@ impl<W: TellWrite, P> BufWriter<W, P> {
     where
         P: Drop,
         requires { F.IsAlwaysCallable handler }
-        ensures { SendsOrHandles W.log W.trace (λ w b e w' b'. F.post handler w b e tt w' b') self result.0 result.1 }
+        ensures idle { self.block.bytes ≡ [] → (result.0 ≡ self.inner) × (result.1 ≡ self.block) }
+        ensures sent { SendsOrHandles W.log W.trace (λ w b e w' b'. F.post handler w b e tt w' b') self result.0 result.1 }
     {
         let (mut inner, mut unsent) = self.into_inner_with_buffer();
         if let Err(e) = unsent.write_all(&mut inner) {
@@ -75,7 +76,8 @@ impl<W: TellWrite, P: WriterPolicy + Drop> BufWriter<W, P> {
     /// Flushes, and hands the inner writer back; where that fails, the buffered writer with the bytes that were not sent,
     /// and the fault.
     pub fn into_inner(mut self) -> Result<W, IntoInnerError<Self>>
-        ensures { MatchResult result
+        ensures all { IfOk result (λ inner. (W.log inner).writes.received ≡ self.log.writes.received ++ self.block.bytes) }
+        ensures flushed { MatchResult result
             (InnerOfFlushed W.log W.trace self (Ok tt)) (λ e. WasFlushed W.log W.trace self (Err e.1) e.0) }
     {
         match self.flush() {
@@ -95,7 +97,8 @@ impl<W: TellWrite, P: WriterPolicy + Drop> BufWriter<W, P> {
     /// Flushes, and hands the inner writer back, with the fault where that fails. The bytes that were not sent then are
     /// gone.
     pub fn into_inner_with_err(mut self) -> (W, Option<io::Error>)
-        ensures { MatchOption result.1
+        ensures all { IfNone result.1 ((W.log result.0).writes.received ≡ self.log.writes.received ++ self.block.bytes) }
+        ensures flushed { MatchOption result.1
             (InnerOfFlushed W.log W.trace self (Ok tt) result.0)
             (λ e. InnerOfFlushed W.log W.trace self (Err e) result.0) }
     {

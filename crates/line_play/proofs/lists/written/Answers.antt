@@ -15,4 +15,4 @@ pub returns-in_err-into_inner-clause-memory : goal.returns-in_err-into_inner-cla
 returns-in_err-into_inner-clause-memory c =
     let r = c.from_residual-in_err-into_inner in
     let p = err_from_is_err_and r.result r.ensures.1 in
-    rw (p.1, p.2) (WasFlushed-memory _ _ _ _ c.in_err-into_inner.ensures)
+    rw (p.1, p.2) (WasFlushed-memory _ _ _ _ c.in_err-into_inner.ensures.flushed)

@@ -16,7 +16,7 @@ returns g c =
     let bytes = c.args.first.now ++ c.args.second.now in
     let parts : WritesParts g.W.Tell.log g.W.TellWrite.trace m bytes c.write_parts.result t =
     subst (λ l. WritesParts g.W.Tell.log g.W.TellWrite.trace m (c.args.first.now ++ l) c.write_parts.result t)
-    (append-nil c.args.second.now) c.write_parts.ensures in
+    (append-nil c.args.second.now) c.write_parts.ensures.parts in
     let made = c.make_room.ensures in
     elim c.if-lacks_room.branch [
       | then-lacks_room+in_default w ↦

@@ -4,9 +4,9 @@ use Rattle.requests.proofs.writing.put.Goals as goal
 
 pub returns-clause-puts : goal.returns-clause-puts
 returns-clause-puts g c =
-    Puts-parts c.args.writer.now c.write_parts.new.self _ c.write_parts.result c.write_parts.ensures
+    Puts-parts c.args.writer.now c.write_parts.new.self _ c.write_parts.result c.write_parts.ensures.parts
 
 pub returns-clause-unflushed : goal.returns-clause-unflushed
 returns-clause-unflushed g c =
     (WritesParts-unflushed g.W.Tell.log g.W.TellWrite.trace c.args.writer.now c.write_parts.new.self _ c.write_parts.result
-    c.write_parts.ensures).0
+    c.write_parts.ensures.parts).0

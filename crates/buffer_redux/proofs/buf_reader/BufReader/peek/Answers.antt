@@ -1,7 +1,9 @@
-use Rattle.std.proofs.Common.{◌≡◌, ◌∙◌, Ok, ap, min, refl, subst, sym, take}
+use Rattle.std.proofs.Common.{◌≡◌, ◌∙◌, arith, Ok, ap, min, refl, subst, sym, take}
+use Rattle.std.specs.Io.{StartsWith}
 use Rattle.std.proofs.lemmas.List.{take_min}
+use Rattle.redux_buffer.specs.Block.{IsBlock}
 use Rattle.buffer_redux.specs.Peek.{ReadsAhead}
-use Rattle.buffer_redux.proofs.AheadSteps.{ahead_as}
+use Rattle.buffer_redux.proofs.AheadSteps.{ahead_as, ahead_begins}
 use Rattle.buffer_redux.proofs.buf_reader.BufReader.peek.Goals as goal
 
 pub returns : goal.returns
@@ -17,4 +19,9 @@ returns g c =
     c.in_ok-read_ahead.ensures.ahead) in
     let shown = ap (λ n. take n c.buf-shown.result.now) c.min.ensures ∙ take_min c.min-n.result c.buf-shown.result.now
     ∙ ap (take c.min-n.result) c.buf-shown.ensures ∙ ap (λ n. take n c.self-2.inside.buf.bytes) most in
-    ((refl, (λ _. tt), (ahead_as remaining rules s tt _ _ ahead, shown)), record { after_borrow = tt })
+    let held = s.block.bytes in
+    let order = ahead.along.in_order in
+    let fits = (subst (λ x. IsBlock x.block) c.self.view_is c.self.invariant).fits in
+    let begins = subst (λ l. StartsWith l (take c.args.n held)) (sym shown)
+    (ahead_begins held order.got _ c.args.n s.block.capacity (omega (arith, fits)) order.equal) in
+    ((refl, (λ _. tt), (ahead_as remaining rules s tt _ _ ahead, shown)), record { buffered = begins; after_borrow = tt })

@@ -21,6 +21,7 @@ returns-in_err-append_first-in-Some g c =
     c.in-Some.at _ c.append_first.new.self first a.1
     (a.3, omega (arith, through_length c.args.byte c.in-Some.at s.block.bytes first)) in
     rw (p.1, p.2) (record {
+      appended = ([], a.0 ∙ sym (append-nil _), ends.0.in_order, tt);
       until = record {
         handed = [];
         appended = a.0 ∙ sym (append-nil _);
@@ -51,11 +52,16 @@ returns-in_ok-append_first-in-Some g c =
       count = sym (through_length c.args.byte c.in-Some.at s.block.bytes first);
       buffered = λ some. (c.in-Some.at, first, a);
     } in
-    record { until = until; bytes = ReadsUntil-known remaining rules c.args.byte s _ _ _ _ until }
+    record {
+      appended = (until.handed, until.appended, until.front.in_order, until.count);
+      until = until;
+      bytes = ReadsUntil-known remaining rules c.args.byte s _ _ _ _ until;
+    }
 
 pub returns-in-None : goal.returns-in-None
 returns-in-None g c =
     let until = c.read_until_outlined.ensures.until in record {
+      appended = (until.handed, until.appended, until.front.in_order, until.count);
       until = until;
       bytes = ReadsUntil-known g.R.TellRead.remaining g.P.ReaderPolicy.rules c.args.byte c.args.self.now _ _ _ _ until;
     }

@@ -25,11 +25,16 @@ returns-in-Some g c =
       count = sym (through_length c.args.byte c.in-Some.at s.block.bytes first);
       buffered = λ some. (c.in-Some.at, first, (refl, gone.consumed));
     } in
-    record { until = until; count = SkipsUntil-known remaining rules c.args.byte s _ _ until }
+    record {
+      dropped = (until.handed, until.front.in_order, until.count);
+      until = until;
+      count = SkipsUntil-known remaining rules c.args.byte s _ _ until;
+    }
 
 pub returns-in-None : goal.returns-in-None
 returns-in-None g c =
     let until = c.skip_until_outlined.ensures.until in record {
+      dropped = (until.handed, until.front.in_order, until.count);
       until = until;
       count = SkipsUntil-known g.R.TellRead.remaining g.P.ReaderPolicy.rules c.args.byte c.args.self.now _ _ until;
     }

@@ -5,7 +5,7 @@ use Rattle.buffer_redux.specs.ReaderLaws.{Fills-empty, IfSome-any}
 use Rattle.buffer_redux.specs.Remaining.{reader_remaining}
 use Rattle.buffer_redux.specs.FillLaws.{Filled-ok, Filled-err}
 use Rattle.buffer_redux.proofs.FillClaims.{fills}
-use Rattle.buffer_redux.proofs.KnownAhead.{fill_front, fill_end}
+use Rattle.buffer_redux.proofs.KnownAhead.{fill_front, fill_begins, fill_end}
 use Rattle.buffer_redux.proofs.buf_reader.BufReaderBufRead.fill_buf.Goals as goal
 
 pub returns-in_err-fill : goal.returns-in_err-fill
@@ -26,7 +26,12 @@ returns-in_err-fill g c =
           noted = f.noted;
         },
       ),
-      record { front = IfSome-any known _ (λ _. tt); end = IfSome-any known _ (λ _. tt); after_borrow = tt },
+      record {
+        buffered = tt;
+        front = IfSome-any known _ (λ _. tt);
+        end = IfSome-any known _ (λ _. tt);
+        after_borrow = tt;
+      },
     )
 
 pub returns : goal.returns
@@ -49,6 +54,7 @@ returns g c =
         },
       ),
       record {
+        buffered = fill_begins remaining rules s t done.in_order f.known c.buf.result.now shown;
         front = fill_front remaining rules s t done.in_order f.known c.buf.result.now shown;
         end = fill_end remaining rules s t done.in_order f.known c.buf.result.now shown
             (λ wants room none. f.end (Fills-empty rules s c.buf.result t done wants room none));

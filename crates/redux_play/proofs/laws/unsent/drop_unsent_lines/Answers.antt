@@ -5,4 +5,4 @@ use Rattle.redux_play.proofs.laws.unsent.drop_unsent_lines.Goals as goal
 pub returns-clause-dropped : goal.returns-clause-dropped
 returns-clause-dropped g c =
     drops_unsent g.W.Tell.log g.W.TellWrite.trace _ c.args.lines (λ w w' b b' e called. search rules)
-    _ _ c.finish.ensures
+    _ _ c.finish.ensures.sent

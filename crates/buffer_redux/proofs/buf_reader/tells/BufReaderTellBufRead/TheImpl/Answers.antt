@@ -1,12 +1,13 @@
-use Rattle.std.specs.Prelude.{[]}
+use Rattle.std.specs.Prelude.{[], IfOk}
+use Rattle.std.specs.Io.{StartsWith}
 use Rattle.redux_buffer.specs.StreamLog.{FillTells}
 use Rattle.buffer_redux.specs.BufReader.{Fills}
 use Rattle.buffer_redux.specs.ReaderTells.{reader_log, ReaderWent}
 use Rattle.buffer_redux.specs.contracts.buf_reader.BufReader.{the_row}
 use Rattle.buffer_redux.proofs.Resting.{rests_widens}
-use base.Logic.{id⊢}
+use base.Logic.{id⊢, snd∗, via}
 use borrow.Fn.Refines.{by_parts}
-use contract.Monad.{fact_i}
+use contract.Monad.{fact, fact_i}
 use denote.Param.{param}
 use Rattle.buffer_redux.proofs.buf_reader.tells.BufReaderTellBufRead.TheImpl.Goals as goal
 
@@ -20,9 +21,10 @@ fill_told-meets g c =
     (fact_i 𝓤 (Unit {0}) _ tt)
     (λ _. id⊢ 𝓤 _)
     (λ r e. fact_i 𝓤 (Unit {0}) _ tt)
-    (λ r e _. rests_widens g.world.𝓛 (the_row (param 0 g.row.R) (param 1 g.row.P) g.R.Tell) c.args.self
+    (λ r e _. via 𝓤 _ (snd∗ 𝓤 (fact 𝓤 (IfOk r (λ bytes. StartsWith bytes.now s.block.bytes))) _)
+    (rests_widens g.world.𝓛 (the_row (param 0 g.row.R) (param 1 g.row.P) g.R.Tell) c.args.self
     (λ new. FillTells (reader_log s) r (reader_log new) × ReaderWent remaining rules s new × Fills rules s r new)
     (λ new. FillTells (reader_log s) r (reader_log new) × ReaderWent remaining rules s new)
-    (λ new f. (f.0, f.1)))
+    (λ new f. (f.0, f.1))))
     (λ _. tt)
     (λ _ r e _. tt)

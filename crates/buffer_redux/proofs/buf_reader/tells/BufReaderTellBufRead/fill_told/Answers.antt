@@ -6,6 +6,7 @@ use Rattle.buffer_redux.specs.BufReader.{Fills}
 use Rattle.buffer_redux.specs.ReaderTells.{reader_log, ReaderWent}
 use Rattle.buffer_redux.specs.FillLaws.{Filled-ok, Filled-err}
 use Rattle.buffer_redux.proofs.FillClaims.{fills}
+use Rattle.buffer_redux.proofs.KnownAhead.{fill_begins}
 use Rattle.buffer_redux.proofs.buf_reader.tells.BufReaderTellBufRead.fill_told.Goals as goal
 
 pub returns-in_err-fill_noted : goal.returns-in_err-fill_noted
@@ -23,7 +24,7 @@ returns-in_err-fill_noted g c =
         (λ _. tt),
         ((bytes, ap (λ l. with_shown l bytes) f.noted, shows), f.went, done),
       ),
-      record { after_borrow = tt },
+      record { buffered = tt; after_borrow = tt },
     )
 
 pub returns : goal.returns
@@ -50,5 +51,8 @@ returns g c =
           subst (Fills rules s (Ok c.buf.result)) (sym c.self.view_is) done,
         ),
       ),
-      record { after_borrow = tt },
+      record {
+        buffered = fill_begins g.R.TellRead.remaining rules s t done.in_order f.went.known c.buf.result.now (sym shown);
+        after_borrow = tt;
+      },
     )

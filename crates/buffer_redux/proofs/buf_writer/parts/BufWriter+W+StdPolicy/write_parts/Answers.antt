@@ -19,14 +19,16 @@ append_parts-requires-in-Ok-clause-room g c =
     ))
 
 pub returns-then-usable_space-len : goal.returns-then-usable_space-len
-returns-then-usable_space-len g c = parts_fit _ _ g.met.W.TellWrite.trace_none c.args.self.now _ (all_of c.args.parts.now)
+returns-then-usable_space-len g c =
+    let parts = parts_fit _ _ g.met.W.TellWrite.trace_none c.args.self.now _ (all_of c.args.parts.now)
     (rw (← c.self.view_is) (fits_of c.self.inside.buf c.usable_space.ensures.whole (length (all_of c.args.parts.now))
     c.total-len.result c.total-len.ensures (omega (arith, c.if-usable_space-len.true, c.usable_space.ensures.value))))
     (rw (← c.self.view_is) (record {
       others = refl;
       added = c.append_parts.ensures.added;
       whole = c.append_parts.ensures.whole;
-    }))
+    })) in
+    record { in_order = parts.along.in_order; none = tt; parts = parts }
 
 pub returns-in-Ok : goal.returns-in-Ok
 returns-in-Ok g c =
@@ -37,14 +39,15 @@ returns-in-Ok g c =
       c.total-len.ensures,
       ap (λ x. usable x.block) c.self.view_is,
     ) in
-    parts_moved _ _ g.met.W.TellWrite.trace_none g.met.W.TellWrite.trace_joins g.met.W.TellWrite.trace_grows c.args.self.now
+    let parts = parts_moved _ _ g.met.W.TellWrite.trace_none g.met.W.TellWrite.trace_joins g.met.W.TellWrite.trace_grows c.args.self.now
     c.make_place.new.self _ _ few (subst (λ n. MakesPlace g.W.Tell.log g.W.TellWrite.trace n c.args.self.now (Ok tt)
     c.make_place.new.self) c.total-len.ensures c.in-Ok.ensures)
     (rw (← c.self-2.view_is) (record {
       others = refl;
       added = c.append_parts-in-Ok.ensures.added;
       whole = c.append_parts-in-Ok.ensures.whole;
-    }))
+    })) in
+    record { in_order = parts.along.in_order; none = tt; parts = parts }
 
 pub returns-in-Err : goal.returns-in-Err
 returns-in-Err g c =
@@ -55,6 +58,7 @@ returns-in-Err g c =
       c.total-len.ensures,
       ap (λ x. usable x.block) c.self.view_is,
     ) in
-    parts_failed _ _ g.met.W.TellWrite.trace_none g.met.W.TellWrite.trace_joins g.met.W.TellWrite.trace_grows
+    let parts = parts_failed _ _ g.met.W.TellWrite.trace_none g.met.W.TellWrite.trace_joins g.met.W.TellWrite.trace_grows
     c.args.self.now c.make_place.new.self _ c.in-Err.e few (subst (λ n. MakesPlace g.W.Tell.log g.W.TellWrite.trace n
-    c.args.self.now (Err c.in-Err.e) c.make_place.new.self) c.total-len.ensures c.in-Err.ensures)
+    c.args.self.now (Err c.in-Err.e) c.make_place.new.self) c.total-len.ensures c.in-Err.ensures) in
+    record { in_order = tt; none = parts.along.in_order; parts = parts }
