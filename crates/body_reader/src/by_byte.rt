@@ -43,7 +43,8 @@ pub trait ByteCoding: Drop {
     ghost lawful: { (c : Self) → AreLawful (turns c) };
 }
 
-/// The coding that says of each byte what it is.
+/// The coding that says of each byte what it is. It looks at each byte of payload twice: to find where payload ends, and to say
+/// where it leads.
 #[derive(Clone, Copy, Debug, Drop)]
 pub struct ByByte<C: ByteCoding>(pub C);
 

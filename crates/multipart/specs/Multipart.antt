@@ -1,5 +1,5 @@
 -- What contracts see of a reader of parts, and what its calls promise.
-use Rattle.std.specs.Prelude.{◌≡◌, ◌≢◌, ℕ, ◌+◌, ◌<◌, ◌≤◌, ◌⊎◌, ⊤, List, [], ◌∷◌, length, Bool, true, false, Option, Result, Ok, Err, IsTrue}
+use Rattle.std.specs.Prelude.{◌≡◌, ◌≢◌, ℕ, ◌+◌, ◌<◌, ◌≤◌, ◌⊎◌, List, [], ◌∷◌, length, Bool, true, false, Option, Result, Ok, Err, IsTrue}
 use Rattle.buffer_redux.specs.Buffered.{Buffered}
 use Rattle.buffer_redux.specs.Policy.{ReadRules}
 use Rattle.body_reader.specs.declared.error.BodyError.{BodyError}
@@ -69,7 +69,8 @@ pub record IsBegun {S Q : Type 0} (reader : Buffered S Q) (boundary : List ℕ) 
 abbrev pub IsRefused : {S Q : Type 0} → Buffered S Q → List ℕ → NewError → Type 0
 IsRefused reader boundary new.Boundary = (length boundary ≡ 0) ⊎ (70 < length boundary)
 IsRefused reader boundary new.Room = reader.block.capacity < length boundary + 4
-IsRefused reader boundary new.Memory = ⊤
+IsRefused reader boundary new.Memory =
+    (0 < length boundary) × (length boundary ≤ 70) × (length boundary + 4 ≤ reader.block.capacity)
 
 -- the next section begins, where the last one left the buffered reader
 abbrev pub turned : {S Q : Type 0} → FormState S Q → Stand → FormState S Q

@@ -82,9 +82,10 @@ module _ {W : Type 0} {tells : W → StreamLog} {trace : W → W → Type 0} whe
           → Answers remaining tells trace messages s w taken (call_at place ++ refused refuses)
           (IsLast messages taken refuses place) (stream_at place) sending w'
           → IfSome refuses (IsWrong s place handed)
-          → OnOk sending (OnlyInterrupts (faults_of s) (faults_of (stream_at place)) × IsOver messages taken refuses s place)
+          → OnlyInterrupts (faults_of s) (faults_of (stream_at place))
+          → OnOk sending (IsOver messages taken refuses s place)
           → Runs remaining tells trace s w place (ending_of sending) w'
-      Runs-ended refuses (Ok x) answers wrong over = record {
+      Runs-ended refuses (Ok x) answers wrong met over = record {
         messages = messages;
         taken = taken;
         handed = handed;
@@ -93,9 +94,9 @@ module _ {W : Type 0} {tells : W → StreamLog} {trace : W → W → Type 0} whe
         answers = answers;
         once = once;
         wrong = wrong;
-        ends = over;
+        ends = (met, over);
       }
-      Runs-ended refuses (Err e) answers wrong over = record {
+      Runs-ended refuses (Err e) answers wrong met over = record {
         messages = messages;
         taken = taken;
         handed = handed;
@@ -104,7 +105,7 @@ module _ {W : Type 0} {tells : W → StreamLog} {trace : W → W → Type 0} whe
         answers = answers;
         once = once;
         wrong = wrong;
-        ends = tt;
+        ends = met;
       }
 
       -- nothing is refused, and this is why no more is read
@@ -148,7 +149,7 @@ module _ {W : Type 0} {tells : W → StreamLog} {trace : W → W → Type 0} whe
             (Writes-put t.stream puts unflushed))
             (FailsLast-of Last answer refl (inr refl) first.puts puts))
             (IsWrong-still (begun_steady begun) (Inside t) handed why torn)
-            (on_ok answer (joined (begun_steady begun) t.stream reads, inr (All-nil (Keeps true), inl refl)))
+            (joined (begun_steady begun) t.stream reads) (on_ok answer (inr (All-nil (Keeps true), inl refl)))
 
         -- where nothing is refused
         unrefused : {v : Buffered W StdPolicy} (sending : Result (Unit {0}) Error) (Last : List ℕ → Type 0)
@@ -186,7 +187,8 @@ module _ {W : Type 0} {tells : W → StreamLog} {trace : W → W → Type 0} whe
             (subst (Runs remaining tells trace (left_of s) w (Inside t) (stop.Unsent e)) (sym same)
             (Runs-stopped handed (Inside t) (is_part begun limits goes)
             (begun_once begun t.stream (omega (arith, reads.ends))) (stop.Unsent e)
-            (unrefused (Err e) (IsLast [] (b.head ++ goes.takes.wire) None (Inside t)) on) tt))
+            (unrefused (Err e) (IsLast [] (b.head ++ goes.takes.wire) None (Inside t)) on)
+            (joined (begun_steady begun) t.stream reads.faults)))
         torn_answered {v} {w'} Many ending (reads, many) on (is, same) =
             subst (λ x. Runs remaining tells trace (left_of s) w (Inside t) x w') (sym is)
             (subst (Runs remaining tells trace (left_of s) w (Inside t) stop.Many) (sym same)
@@ -301,4 +303,4 @@ module _ {W : Type 0} {tells : W → StreamLog} {trace : W → W → Type 0} whe
                   (IsMany-still a.reads (length a.messages) (length b.messages + length b.handed) (stream_at place) met many)),
             )
             ends (Unread e) (fails, all) = (ReadFails-still a.reads e (stream_at place) fails, all)
-            ends (stop.Unsent e) x = tt
+            ends (stop.Unsent e) met = joined a.reads (stream_at place) met

@@ -322,7 +322,8 @@ module _ {R W : Type 0} (remaining : R → Option (List ℕ)) (tells : W → Str
     pub keep : All (Keeps true) messages
     pub reads : ReadsSteadily s t
 
-  -- why a run ends: it is over; or these are more than are counted; or a read failed, and all had been sent
+  -- why a run ends: a read failed, and all had been sent; or reads were at most interrupted, and it is over, or these are more
+  -- than are counted, or sending failed
   abbrev pub EndsBy : Unbuffered R → List Message → List ℕ → List ℕ → Option Refusal → Place R → Buffered W StdPolicy
       → Ending → Type 0
   EndsBy s messages taken handed refuses place w' Over =
@@ -330,7 +331,8 @@ module _ {R W : Type 0} (remaining : R → Option (List ℕ)) (tells : W → Str
   EndsBy s messages taken handed refuses place w' stop.Many = OnlyInterrupts (faults_of s) (faults_of (stream_at place))
       × IsMany (length messages + length handed) s (stream_at place)
   EndsBy s messages taken handed refuses place w' (Unread e) = ReadFails s e (stream_at place) × AllSent w'
-  EndsBy s messages taken handed refuses place w' (stop.Unsent e) = ⊤
+  EndsBy s messages taken handed refuses place w' (stop.Unsent e) =
+      OnlyInterrupts (faults_of s) (faults_of (stream_at place))
 
   -- a run, but for what is sent last: behind the answers were written the call for a body that the client waits for, and a
   -- refusal of what is wrong, by its status; so there is no 200 but for a whole message. The end is asked for once

@@ -48,4 +48,4 @@ returns-in-Err-clause-turns g c = λ s w begun writes.
     (Writes-after g.met.W.TellWrite.trace_joins (_, w) (b.stream, c.args.writer.now) (b.stream, c.call_for_body.new.writer) []
     (called (waits b.said) ++ []) (Err c.in-Err.e) writes (Writes-put b.stream more call.unflushed))
     (FailsLast-of (IsLast [] (b.head ++ none.takes.wire) None (Inside b)) (Err c.in-Err.e) refl
-    (inr (append-nil _, append-nil b.head)) writes.puts more)) tt
+    (inr (append-nil _, append-nil b.head)) writes.puts more)) (begun_steady begun).faults

@@ -53,11 +53,11 @@ returns-else-said-clause-turns g c = λ s w begun call.
 
 pub returns-in-Err-answer_whole-clause-turns : goal.returns-in-Err-answer_whole-clause-turns
 returns-in-Err-answer_whole-clause-turns g c = λ s w begun call.
-    Runs-stopped [] (Before c.in-Ok.requests) (refl, refl)
-    (omega (arith, (steadily (begun_steady begun) c.in-Ok.ensures.steady).ends)) (Unsent c.in-Err-answer_whole.e)
+    let reads = steadily (begun_steady begun) c.in-Ok.ensures.steady in
+    Runs-stopped [] (Before c.in-Ok.requests) (refl, refl) (omega (arith, reads.ends)) (Unsent c.in-Err-answer_whole.e)
     (one_answered g.met.W.TellWrite.trace_joins begun c.requires.limits c.in-Ok.ensures.whole c.said-said.ensures.value
     (c.is_known-known.ensures ∙ ap is_known c.head.ensures) call c.in-Ok.ensures.writes
-    c.in-Err-answer_whole.ensures.puts c.in-Err-answer_whole.ensures.unflushed) tt
+    c.in-Err-answer_whole.ensures.puts c.in-Err-answer_whole.ensures.unflushed) reads.faults
 
 pub returns-in-Err-clause-turns : goal.returns-in-Err-clause-turns
 returns-in-Err-clause-turns g c = λ s w begun call.

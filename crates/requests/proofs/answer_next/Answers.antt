@@ -7,6 +7,7 @@ use Rattle.requests.specs.Answers.{IsLast}
 use Rattle.requests.specs.Sending.{Writes}
 use Rattle.requests.proofs.Answering.{FailsLast-of, Runs-stopped, none_answered}
 use Rattle.requests.proofs.Coming.{comes, open_where, usually}
+use Rattle.requests.proofs.Reading.{none_met}
 use Rattle.requests.proofs.Sending.{Puts-none, Writes-sent}
 use Rattle.requests.proofs.answer_next.Goals as goal
 
@@ -45,4 +46,4 @@ returns-in-Err-clause-turns g c =
     Runs-stopped [] (Before c.args.requests) (refl, refl) (omega arith) (Unsent c.in-Err.e)
     (none_answered (StreamWent-none g.R.TellRead.remaining s) sent
     (FailsLast-of (IsLast [] [] None (Before c.args.requests)) (Err c.in-Err.e) refl (inl refl)
-    (Puts-none g.met.W.TellWrite.trace_none c.args.writer.now) sent.puts)) tt
+    (Puts-none g.met.W.TellWrite.trace_none c.args.writer.now) sent.puts)) (none_met refl)

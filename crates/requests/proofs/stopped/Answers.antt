@@ -90,7 +90,7 @@ returns-in-Bad-clause-turns g c = λ s w told next comes.
         cut.1,
       )
     ])
-    (on_ok sending (none_met bad.answers.1, inr (All-nil (Keeps true), inl refl))))
+    (none_met bad.answers.1) (on_ok sending (inr (All-nil (Keeps true), inl refl))))
 
 pub returns-in-Io-clause-turns : goal.returns-in-Io-clause-turns
 returns-in-Io-clause-turns g c = λ s w told next comes.
