@@ -1,5 +1,5 @@
 -- What one ask of the stream does where nothing is left.
-use Rattle.std.proofs.Common.{◌≡◌, ℕ, ◌<◌, List, [], ◌∷◌, ◌++◌, length, Bool, true, false, Option, Ok, Err, refl, sym, ap, subst, ◌∙◌, arith, inl, inr}
+use Rattle.std.proofs.Common.{◌≡◌, ◌↔◌, ℕ, ◌<◌, List, [], ◌∷◌, ◌++◌, length, Bool, true, false, Option, Result, Ok, Err, refl, sym, ap, subst, ◌∙◌, arith, inl, inr}
 use Rattle.std.proofs.lemmas.List.{nil_from_length}
 use Rattle.std.specs.declared.io.Error.{Error}
 use Rattle.piece_reader.specs.Grammar.{Grammar}
@@ -9,6 +9,15 @@ use Rattle.piece_reader.specs.PiecesWentLaws.{PiecesWent-inside, PiecesWent-join
 use Rattle.piece_reader.specs.PieceReader.{IsPieceReader, ReaderState, rest}
 use Rattle.piece_reader.specs.Steps.{AsksFor}
 use Rattle.piece_reader.proofs.Headers.{HeaderBytes, HeaderBytes-none, HeaderBytes-told}
+
+-- something is left then just where the answer says so
+pub came_left : {S D W : Type 0} (remaining : S → Option (List ℕ)) (g : Grammar W) (s t : ReaderState S D)
+    (answer : Result Bool Error) → Refills remaining g s answer t → (answer ≡ Ok true) ↔ (0 < length (rest t))
+came_left remaining g s t (Ok true) r = (λ _. (r.more refl).0, λ _. refl)
+came_left remaining g s t (Ok false) r =
+    (λ odd. cc, λ some. absurd (omega (arith, some, ap length (r.end refl).0)))
+came_left remaining g s t (Err e) r =
+    (λ odd. cc, λ some. absurd (omega (arith, some, ap length (r.failed e refl).0)))
 
 -- what was handed out was dropped, and nothing is left
 module _ {S D W : Type 0} (remaining : S → Option (List ℕ)) (g : Grammar W) (s m : ReaderState S D)

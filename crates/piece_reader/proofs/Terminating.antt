@@ -1,12 +1,12 @@
 -- What the search for several bytes comes to.
-use Rattle.std.proofs.Common.{◌≡◌, ℕ, ◌+◌, ◌-◌, ◌<◌, ◌≤◌, List, ◌++◌, length, take, drop, min, sym, ap, subst, ◌∙◌, arith, refl, inl, inr, length-take-le, length-drop}
+use Rattle.std.proofs.Common.{◌≡◌, ℕ, ◌+◌, ◌-◌, ◌<◌, ◌≤◌, List, ◌++◌, length, take, drop, min, sym, subst, arith, refl, inl, inr, length-take-le, length-drop}
 use Rattle.std.proofs.lemmas.Bool.{cases_lt}
 use Rattle.std.proofs.lemmas.List.{take-append-drop, take_all}
 use Rattle.memchr.specs.Find.{FindsNeedle, Nowhere, OccursAt}
 use Rattle.std.specs.Prelude.{None, Some}
 use Rattle.buffer_redux.specs.OccursLaws.{OccursAt-behind, OccursAt-fewer, OccursAt-later, OccursAt-more, OccursAt-take}
 use Rattle.piece_reader.specs.Decoding.{IsPiece}
-use Rattle.piece_reader.specs.Grammar.{IsOpen, Lacks}
+use Rattle.piece_reader.specs.Grammar.{Lacks}
 use Rattle.piece_reader.specs.GrammarLaws.{lacks_one}
 use Rattle.piece_reader.specs.Terminated.{IsSearched, terminated}
 use Rattle.piece_reader.specs.TerminatedLaws.{terminated_open}

@@ -1,7 +1,9 @@
 -- Laws of one call of `next`, for the proofs of those who call it.
-use Rattle.std.specs.Prelude.{◌≡◌, ℕ, ◌+◌, ◌<◌, ◌≤◌, List, [], ◌++◌, length, Bool, true, false, MatchBool, Option, None, Some, Ok, Err}
+use Rattle.std.specs.Prelude.{◌≡◌, ℕ, ◌+◌, ◌<◌, ◌≤◌, List, [], ◌++◌, length, take, Bool, true, false, MatchBool, Option, None, Some, Ok, Err}
 use Rattle.std.proofs.Common.{sym, ap, subst, ◌∙◌, refl, arith, le_refl, inl, inr, length-append, length-drop, append_assoc, append-nil}
-use Rattle.std.proofs.lemmas.List.{append_cancel_left}
+use Rattle.std.proofs.Math.Seq.{take-append_seam}
+use Rattle.std.proofs.lemmas.Bool.{cases_lt}
+use Rattle.std.proofs.lemmas.List.{append_cancel_left, take_all, take-append-le}
 use Rattle.piece_reader.specs.declared.error.NextError.TheVariants.{Wrong, Io}
 use Rattle.piece_reader.specs.Grammar.{Begins, Grammar, IsLawful, IsOpen}
 use Rattle.piece_reader.specs.GrammarLaws.{open_not}
@@ -167,3 +169,44 @@ NextPiece-refused remaining g s whole some e wrong =
       };
       whole = whole;
     }
+
+-- two beginnings of the same bytes agree as far as both go
+pub fronts_agree : (front more left got : List ℕ) → front ++ more ≡ left ++ got
+    → take (length front) left ≡ take (length left) front
+fronts_agree front more left got same =
+    let n = length front in
+    let m = length left in
+    elim (cases_lt m n) [
+      | inl few ↦
+          take_all n left (omega (arith, few)) ∙ sym (take-append_seam left got) ∙ ap (take m) (sym same)
+          ∙ take-append-le m front more (omega (arith, few))
+      | inr many ↦
+          sym (take-append-le n left got many) ∙ ap (take n) (sym same) ∙ take-append_seam front more
+          ∙ sym (take_all m front many)
+    ]
+
+-- what is handed out stands in front in what was left, then what was given, where a payload stands in front in its piece
+pub NextPiece-front : {S D W : Type 0} (remaining : S → Option (List ℕ)) (g : Grammar W)
+    → ((bytes payload : List ℕ) → g.piece bytes payload → (more : List ℕ) × (bytes ≡ payload ++ more))
+    → ((bytes payload : List ℕ) → g.last bytes payload → payload ≡ bytes)
+    → (s t : ReaderState S D) (payload : List ℕ) → NextPiece remaining g s (Ok (Some payload)) t
+    → (more got : List ℕ) × (payload ++ more ≡ rest s ++ got)
+NextPiece-front remaining g piece last s t payload next =
+    let front : (more : List ℕ) × (next.bytes ≡ payload ++ more) = elim next.answers.1 [
+      | inl (is, going, none) ↦ piece next.bytes payload is
+      | inr (is, part, some, none, ended, met) ↦ ([], sym (last next.bytes payload is) ∙ sym (append-nil payload))
+    ] in (
+      front.0 ++ rest t,
+      next.went.hands.got,
+      sym (append_assoc payload front.0 (rest t)) ∙ ap (λ l. l ++ rest t) (sym front.1) ∙ next.went.hands.equal,
+    )
+
+-- so it begins as what was left does
+pub NextPiece-begins : {S D W : Type 0} (remaining : S → Option (List ℕ)) (g : Grammar W)
+    → ((bytes payload : List ℕ) → g.piece bytes payload → (more : List ℕ) × (bytes ≡ payload ++ more))
+    → ((bytes payload : List ℕ) → g.last bytes payload → payload ≡ bytes)
+    → (s t : ReaderState S D) (payload : List ℕ) → NextPiece remaining g s (Ok (Some payload)) t
+    → take (length payload) (rest s) ≡ take (length (rest s)) payload
+NextPiece-begins remaining g piece last s t payload next =
+    let front = NextPiece-front remaining g piece last s t payload next in
+    fronts_agree payload front.0 (rest s) front.1 front.2

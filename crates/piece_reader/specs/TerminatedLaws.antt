@@ -1,11 +1,11 @@
 -- Laws of pieces that several bytes end.
-use Rattle.std.specs.Prelude.{◌≡◌, ℕ, ◌+◌, ◌<◌, ◌≤◌, List, [], ◌++◌, length, take}
-use Rattle.std.proofs.Common.{sym, ap, subst, ◌∙◌, arith, refl, inl, inr, length-append, append_assoc}
+use Rattle.std.specs.Prelude.{◌≡◌, ℕ, ◌+◌, ◌<◌, ◌≤◌, List, ◌++◌, length, take}
+use Rattle.std.proofs.Common.{sym, ap, subst, ◌∙◌, arith, refl, inl, inr, length-append}
 use Rattle.std.proofs.lemmas.Bool.{cases_lt}
 use Rattle.std.proofs.lemmas.List.{take_at}
-use Rattle.memchr.specs.Find.{Nowhere, OccursAt}
+use Rattle.memchr.specs.Find.{OccursAt}
 use Rattle.buffer_redux.specs.OccursLaws.{OccursAt-fewer, OccursAt-last, OccursAt-more}
-use Rattle.piece_reader.specs.Grammar.{Begins, IsLawful, IsOpen}
+use Rattle.piece_reader.specs.Grammar.{IsLawful, IsOpen}
 use Rattle.piece_reader.specs.Terminated.{terminated}
 
 module _ (end : List ℕ) (max : ℕ) where

@@ -1,6 +1,6 @@
 -- Laws of pieces whose payloads are shown without a carriage return.
 use Rattle.std.specs.Prelude.{◌≡◌, ℕ, List, [], ◌∷◌, ◌++◌, length}
-use Rattle.std.proofs.Common.{sym, ap, ◌∙◌, arith, inl, inr, refl, length-append, subst}
+use Rattle.std.proofs.Common.{sym, ap, ◌∙◌, arith, inl, inr, refl, append_assoc, append-nil, length-append, subst}
 use Rattle.std.proofs.lemmas.Bool.{cases_lt}
 use Rattle.std.proofs.lemmas.List.{append_cancel_right}
 use Rattle.piece_reader.specs.Grammar.{Grammar, Begins, IsLawful, IsOpen}
@@ -12,6 +12,11 @@ trimmed_same bytes a b (inl is) (inl is') = append_cancel_right a b (13 ∷ []) 
 trimmed_same bytes a b (inl is) (inr other) = absurd (other.1 a is)
 trimmed_same bytes a b (inr other) (inl is) = absurd (other.1 b is)
 trimmed_same bytes a b (inr is) (inr is') = sym is.0 ∙ is'.0
+
+-- what is shown stands in front in the bytes
+pub trimmed_front : (bytes shown : List ℕ) → IsTrimmed bytes shown → (more : List ℕ) × (bytes ≡ shown ++ more)
+trimmed_front bytes shown (inl is) = (13 ∷ [], is)
+trimmed_front bytes shown (inr whole) = ([], whole.0 ∙ sym (append-nil shown))
 
 -- one byte is a carriage return, or is not
 trimmed_one : (byte : ℕ) → (shown : List ℕ) × IsTrimmed (byte ∷ []) shown
@@ -78,3 +83,11 @@ module _ {W : Type 0} (g : Grammar W) where
     one_last = law.one_last;
     end_apart = law.end_apart;
   }
+
+  -- what is shown stands in front in the piece
+  pub trimming_front : ((bytes payload : List ℕ) → g.piece bytes payload → (more : List ℕ) × (bytes ≡ payload ++ more))
+      → (bytes shown : List ℕ) → (trimming g).piece bytes shown → (more : List ℕ) × (bytes ≡ shown ++ more)
+  trimming_front front bytes shown (payload, is, trims) =
+      let whole = front bytes payload is in
+      let rest = trimmed_front payload shown trims in
+      (rest.0 ++ whole.0, whole.1 ∙ ap (λ l. l ++ whole.0) rest.1 ∙ append_assoc shown rest.0 whole.0)

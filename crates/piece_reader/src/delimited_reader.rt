@@ -1,4 +1,5 @@
 //! The reader of pieces that a byte ends.
+ghost use Rattle.std.specs.Prelude.{◌≡◌, length, take, IfOk, IfSome};
 ghost use Rattle.std.specs.Borrow.{sem, unit};
 ghost use Rattle.std.specs.Io.BufRead.{Rests};
 ghost use Rattle.piece_reader.specs.contracts.delimited.Delimited.{the_row as delimited_row};
@@ -6,6 +7,7 @@ ghost use Rattle.piece_reader.specs.contracts.delimited.TooLong.{the_row as too_
 ghost use Rattle.piece_reader.specs.contracts.reader.PieceReader.{the_row};
 ghost use Rattle.piece_reader.specs.Delimited.{delimited};
 ghost use Rattle.piece_reader.specs.NextPiece.{NextPiece, answer_of};
+ghost use Rattle.piece_reader.specs.PieceReader.{rest};
 
 use crate::decoder::Decoder;
 use crate::delimited::{Delimited, TooLong};
@@ -17,6 +19,8 @@ impl<R: TellRead> PieceReader<R, Delimited> {
     /// [`step`](PieceReader::step) and [`lent`](PieceReader::lent) in one.
     #[inline(always)]
     pub fn next(&mut self) -> Result<Option<&[u8]>, NextError<TooLong>>
+        ensures begins { IfOk result (λ found. IfSome found (λ payload.
+            take (length payload.now) (rest self.old) ≡ take (length (rest self.old)) payload.now)) }
         ensures* after_borrow { sem 𝓛 (Rests
             (the_row R.row delimited_row too_long_row unit R.Tell ⟦<Delimited as Decoder>⟧) self.entry
             (NextPiece R.remaining (delimited self.entry.now.decoder.end self.entry.now.decoder.max) self.entry.now

@@ -1,4 +1,5 @@
 //! The reader of pieces that have a header.
+ghost use Rattle.std.specs.Prelude.{◌≤◌, length, IfOk, IfSome};
 ghost use Rattle.std.specs.Borrow.{sem};
 ghost use Rattle.std.specs.Io.BufRead.{Rests};
 ghost use Rattle.piece_reader.specs.contracts.by_header.ByHeader.{the_row as by_header_row};
@@ -19,6 +20,8 @@ impl<R: TellRead, H: LengthPrefixed> PieceReader<R, ByHeader<H>> {
     /// Lends the payload of the next piece, as [`step`](PieceReader::step) and [`lent`](PieceReader::lent) do in two calls.
     #[inline(always)]
     pub fn next(&mut self) -> Result<Option<&[u8]>, NextError<HeaderError>>
+        ensures fits { IfOk result (λ found. IfSome found (λ payload.
+            length payload.now ≤ (H.header_format self.old.decoder.0).max)) }
         ensures* after_borrow { sem 𝓛 (Rests
             (the_row R.row (by_header_row H.row H.Note.row) error_row H.Note.row R.Tell ⟦<ByHeader<H> as Decoder>⟧) self.entry
             (NextPiece R.remaining (length_prefixed (H.header_format self.entry.now.decoder.0)) self.entry.now

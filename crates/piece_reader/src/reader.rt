@@ -1,5 +1,5 @@
 //! The reader of pieces.
-ghost use Rattle.std.specs.Prelude.{◌≡◌, ℕ, ◌+◌, ◌*◌, ◌<◌, ◌≤◌, ◌^◌, List, [], ◌++◌, length, take, Ok, Err, Some, None, ◌↔◌, IfOk, IfErr, IfSome, IsOk, IsTrue, true};
+ghost use Rattle.std.specs.Prelude.{◌≡◌, ℕ, ◌+◌, ◌*◌, ◌<◌, ◌≤◌, ◌^◌, List, [], ◌++◌, drop, length, take, Ok, Err, Some, None, ◌↔◌, IfOk, IfErr, IfSome, IsOk, IsTrue, true};
 ghost use Rattle.std.specs.Borrow.{Lends, sem};
 ghost use Rattle.buffer_redux.specs.Block.{Plain};
 ghost use Rattle.buffer_redux.specs.Buffered.{with_inner, with_policy};
@@ -80,6 +80,7 @@ impl<R: Tell, D: Decoder> PieceReader<R, D> {
     /// A reader of the pieces that `decoder` finds, over a buffer of [`DEFAULT_BUF_SIZE`] bytes, or of what three pieces take
     /// where that is more. A refusal hands `inner` and `decoder` back.
     pub fn new(alloc: Global, inner: R, decoder: D) -> Result<Self, MakeError<(R, D)>>
+        ensures over { IfOk result (λ f. (f.reader.inner ≡ inner) × (f.reader.block.bytes ≡ []) × (f.decoder ≡ decoder)) }
         ensures made { IfOk result (IsFresh R.log 8192 (D.grammar decoder).most inner decoder) }
         ensures whole { IfOk result (IsPieceReader (D.grammar decoder)) }
         ensures handed_back { IfErr result (λ e. (e.0.0 ≡ inner) × (e.0.1 ≡ decoder)) }
@@ -96,6 +97,7 @@ impl<R: Tell, D: Decoder> PieceReader<R, D> {
         inner: R,
         decoder: D,
     ) -> Result<Self, MakeError<(R, D)>>
+        ensures over { IfOk result (λ f. (f.reader.inner ≡ inner) × (f.reader.block.bytes ≡ []) × (f.decoder ≡ decoder)) }
         ensures made { IfOk result (IsFresh R.log capacity (D.grammar decoder).most inner decoder) }
         ensures whole { IfOk result (IsPieceReader (D.grammar decoder)) }
         ensures handed_back { IfErr result (λ e. (e.0.0 ≡ inner) × (e.0.1 ≡ decoder)) }
@@ -124,6 +126,7 @@ impl<R: Tell, D: Decoder> PieceReader<R, D> {
         inner: R,
         decoder: D,
     ) -> Result<Self, MakeError<(Buffer, R, D)>>
+        ensures over { IfOk result (λ f. (f.reader.inner ≡ inner) × (rest f ≡ buffer.bytes) × (f.decoder ≡ decoder)) }
         ensures made { IfOk result (IsOver R.log (D.grammar decoder).most buffer inner decoder) }
         ensures whole { IfOk result (IsPieceReader (D.grammar decoder)) }
         ensures handed_back { IfErr result (λ e. (e.0.0 ≡ buffer) × (e.0.1 ≡ inner) × (e.0.2 ≡ decoder)) }
@@ -278,6 +281,7 @@ impl<R: Tell, D: Decoder> PieceReader<R, D> {
     #[inline(always)]
     pub fn skip(&mut self, count: usize)
         requires within { count ≤ length (rest self.old) }
+        ensures left { rest self.new ≡ drop count (rest self.old) }
         ensures skips { Skips (D.grammar self.old.decoder) self.old count self.new }
     {
         self.handed += count;
@@ -337,7 +341,8 @@ impl<R: TellRead, D: Decoder> PieceReader<R, D> {
 
     /// Whether a whole piece is buffered: then the next [`step`](PieceReader::step) hands it out, and reads nothing.
     pub fn has_piece(&self) -> bool
-        ensures buffered { IsTrue result ↔ Begins (D.grammar self.now.decoder) (rest self.now) }
+        ensures buffered { IsTrue result
+            ↔ Begins (D.grammar self.now.decoder) (drop self.now.handed self.now.reader.block.bytes) }
     {
         let mut note = self.note;
         matches!(
@@ -349,6 +354,7 @@ impl<R: TellRead, D: Decoder> PieceReader<R, D> {
     /// Whether the next [`step`](PieceReader::step) answers without the stream: a whole piece is buffered, or the beginning of
     /// none, or the stream ended, which no call has told yet.
     pub fn is_settled(&self) -> bool
+        ensures none { rest self.now ≡ [] → result ≡ self.now.ended }
         ensures settled { IsTrue result ↔ IsSettled (D.grammar self.now.decoder) self.now }
     {
         if self.ended {
@@ -366,7 +372,8 @@ impl<R: TellRead, D: Decoder> PieceReader<R, D> {
     /// the next [`step`](PieceReader::step) tells. An `Err` leaves nothing, too.
     pub fn refill(&mut self) -> io::Result<bool>
         requires none { rest self.old ≡ [] }
-        ensures { Refills R.remaining (D.grammar self.old.decoder) self.old result self.new }
+        ensures came { result ≡ Ok true ↔ (0 < length (rest self.new)) }
+        ensures refills { Refills R.remaining (D.grammar self.old.decoder) self.old result self.new }
     {
         self.drop_handed();
         let came = self.read_to(1)?;

@@ -1,4 +1,5 @@
 //! The reader of pieces that are shown without a carriage return.
+ghost use Rattle.std.specs.Prelude.{◌≡◌, length, take, IfOk, IfSome};
 ghost use Rattle.std.specs.Borrow.{sem, unit};
 ghost use Rattle.std.specs.Io.BufRead.{Rests};
 ghost use Rattle.piece_reader.specs.contracts.delimited.Delimited.{the_row as delimited_row};
@@ -7,6 +8,7 @@ ghost use Rattle.piece_reader.specs.contracts.trimmed.Trimmed.{the_row as trimme
 ghost use Rattle.piece_reader.specs.contracts.reader.PieceReader.{the_row};
 ghost use Rattle.piece_reader.specs.Delimited.{delimited};
 ghost use Rattle.piece_reader.specs.NextPiece.{NextPiece, answer_of};
+ghost use Rattle.piece_reader.specs.PieceReader.{rest};
 ghost use Rattle.piece_reader.specs.Trimming.{trimming};
 
 use crate::decoder::Decoder;
@@ -20,6 +22,8 @@ impl<R: TellRead> PieceReader<R, Trimmed<Delimited>> {
     /// Lends the next piece without a carriage return at its end.
     #[inline(always)]
     pub fn next(&mut self) -> Result<Option<&[u8]>, NextError<TooLong>>
+        ensures begins { IfOk result (λ found. IfSome found (λ payload.
+            take (length payload.now) (rest self.old) ≡ take (length (rest self.old)) payload.now)) }
         ensures* after_borrow { sem 𝓛 (Rests
             (the_row R.row (trimmed_row delimited_row too_long_row unit) too_long_row unit R.Tell ⟦<Trimmed<Delimited> as Decoder>⟧)
             self.entry

@@ -30,7 +30,7 @@ returns-in_err-refill g c =
     let t = c.refill.new.self in
     let e = c.in_err-refill.field-0.0 in
     let asked = subst (λ x. Refills remaining (lined x.pieces.decoder.max) x.pieces (Err e) t) c.self.view_is
-    c.in_err-refill.ensures in
+    c.in_err-refill.ensures.refills in
     let p = err_from_is_err_and c.from_residual.result c.from_residual.ensures.1 in
     rw (p.1, p.2)
     (skip_fails remaining _ _ _ (skip_all remaining _ _ _ head _ _ _ drops c.if-found.false)
@@ -43,7 +43,7 @@ returns-then-not-branch g c =
     let head = c.turns.invariant.head in
     let t = c.refill.new.self in
     let asked = subst (λ x. Refills remaining (lined x.pieces.decoder.max) x.pieces (Ok c.in_ok-refill.field-0) t)
-    c.self.view_is c.in_ok-refill.ensures in
+    c.self.view_is c.in_ok-refill.ensures.refills in
     skip_ends remaining _ _ _ (skip_all remaining _ _ _ head _ _ _ drops c.if-found.false)
     (none_left remaining _ _ _ head _ _ _ drops c.if-found.false) _ t asked (ap (λ b. Ok b) c.if-not-branch.true)
 
@@ -54,7 +54,7 @@ turns-preserved g c =
     let head = c.turns.invariant.head in
     let t = c.refill.new.self in
     let asked = subst (λ x. Refills remaining (lined x.pieces.decoder.max) x.pieces (Ok c.in_ok-refill.field-0) t)
-    c.self.view_is c.in_ok-refill.ensures in
+    c.self.view_is c.in_ok-refill.ensures.refills in
     record {
       head = skip_more remaining _ _ _ (skip_all remaining _ _ _ head _ _ _ drops c.if-found.false)
           (none_left remaining _ _ _ head _ _ _ drops c.if-found.false) _ t asked (ap (λ b. Ok b) c.if-not-branch.false);

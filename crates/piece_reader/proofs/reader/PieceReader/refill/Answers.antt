@@ -3,7 +3,7 @@ use Rattle.std.proofs.lemmas.Result.{err_from_is_err_and}
 use Rattle.piece_reader.specs.NextPiece.{Refills}
 use Rattle.piece_reader.specs.PieceReader.{ReaderState}
 use Rattle.piece_reader.specs.Steps.{AsksFor}
-use Rattle.piece_reader.proofs.Refilling.{ends, fails, refilled}
+use Rattle.piece_reader.proofs.Refilling.{came_left, ends, fails, refilled}
 use Rattle.piece_reader.proofs.reader.PieceReader.refill.Goals as goal
 
 pub read_to-requires-clause-most : goal.read_to-requires-clause-most
@@ -21,7 +21,8 @@ returns-in_err-came g c =
     let e = c.in_err-came.field-0.0 in
     let p = err_from_is_err_and c.from_residual.result c.from_residual.ensures.1 in
     let asked = subst (λ x. AsksFor remaining (grammar x) 1 m (Err e) t) d.went.decoder c.in_err-came.ensures in
-    rw (p.1, p.2) (fails remaining (grammar s.decoder) s m d.went d.rest d.ended d.told c.requires.none t e asked)
+    let failed = fails remaining (grammar s.decoder) s m d.went d.rest d.ended d.told c.requires.none t e asked in
+    rw (p.1, p.2) (record { came = came_left remaining (grammar s.decoder) s t (Err e) failed; refills = failed })
 
 pub returns : goal.returns
 returns g c =
@@ -36,8 +37,9 @@ returns g c =
     let asked = subst (λ x. AsksFor remaining (grammar x) 1 m (Ok c.in_ok-came.came) c.read_to.new.self) d.went.decoder
     c.in_ok-came.ensures in
     let here = subst (AsksFor remaining (grammar s.decoder) 1 m (Ok c.in_ok-came.came)) (sym c.self.view_is) asked in
-    elim c.in_ok-came.came as (λ b. AsksFor remaining (grammar s.decoder) 1 m (Ok b) t
+    let refills = elim c.in_ok-came.came as (λ b. AsksFor remaining (grammar s.decoder) 1 m (Ok b) t
     → Refills remaining (grammar s.decoder) s (Ok b) (record t { ended = not b })) [
       | true ↦ refilled remaining (grammar s.decoder) s m d.went d.rest d.ended d.told c.requires.none t true false refl refl
       | false ↦ ends remaining (grammar s.decoder) s m d.went d.rest d.ended d.told c.requires.none t false true refl refl
-    ] here
+    ] here in
+    record { came = came_left remaining (grammar s.decoder) s _ _ refills; refills = refills }

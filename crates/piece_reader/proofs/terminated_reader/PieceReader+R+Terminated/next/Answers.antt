@@ -1,0 +1,23 @@
+use Rattle.std.proofs.Common.{Ok, Some, refl, subst, sym}
+use Rattle.piece_reader.specs.Terminated.{terminated}
+use Rattle.piece_reader.specs.NextPiece.{NextPiece, load_answer}
+use Rattle.piece_reader.specs.NextPieceLaws.{NextPiece-begins}
+use Rattle.piece_reader.proofs.terminated_reader.PieceReader+R+Terminated.next.Goals as goal
+
+pub returns-in-Some : goal.returns-in-Some
+returns-in-Some g c =
+    let remaining = g.R.TellRead.remaining in
+    let s = c.args.self.now in
+    let t = c.step.new.self in
+    let found = c.lent.result.now in
+    let grammar = terminated s.decoder.end.items s.decoder.max in
+    let lends : NextPiece remaining grammar s (Ok (Some found)) t =
+    subst (λ l. NextPiece remaining grammar s (Ok (Some l)) t) (sym c.lent.ensures)
+    (subst (λ o. NextPiece remaining grammar s (load_answer (Ok o) t) t) c.in-Some.is c.in_ok-span.ensures.next) in (
+      (refl, (λ _. tt), lends),
+      record {
+        begins = NextPiece-begins remaining grammar (λ bytes payload is. (s.decoder.end.items, is.0))
+            (λ bytes payload is. is) s t found lends;
+        after_borrow = tt;
+      },
+    )
