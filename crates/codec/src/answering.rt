@@ -1,6 +1,7 @@
 //! The answer to a piece, as it is written.
-ghost use Rattle.std.specs.Prelude.{map};
+ghost use Rattle.std.specs.Prelude.{[], map, OnErr, OnOk};
 ghost use Rattle.std.specs.List.{concat};
+ghost use Rattle.buffer_redux.specs.BufWriter.{WritesInOrder};
 ghost use Rattle.codec.specs.Answering.{AnswersBy};
 
 use buffer_redux::BufWriter;
@@ -23,7 +24,9 @@ pub fn write_answer<W: TellWrite, F>(
     parts: &[&[u8]],
     more: bool,
 ) -> Result<bool, AnswerError<F>>
-    ensures { AnswersBy W.log W.trace (concat (map (λ part. part.now) parts.now)) more writer.old result writer.new }
+    ensures taken { OnOk result (WritesInOrder writer.old (concat (map (λ part. part.now) parts.now)) writer.new) }
+    ensures none { OnErr result (WritesInOrder writer.old [] writer.new) }
+    ensures answers { AnswersBy W.log W.trace (concat (map (λ part. part.now) parts.now)) more writer.old result writer.new }
 {
     match writer.write_parts(parts) {
         Ok(()) => Ok(more),

@@ -1,5 +1,6 @@
 //! What pieces say beside their payloads, as it is written.
-ghost use Rattle.std.specs.Prelude.{◌≡◌, ℕ, ◌≤◌, ◌++◌, List, length, take};
+ghost use Rattle.std.specs.Prelude.{◌≡◌, ℕ, ◌≤◌, ◌++◌, List, [], length, take, OnErr, OnOk};
+ghost use Rattle.buffer_redux.specs.BufWriter.{WritesInOrder};
 ghost use Rattle.codec.specs.Answering.{AnswersBy};
 ghost use Rattle.codec.specs.HeadersOut.{HeadersOut, IsItemRead};
 
@@ -38,7 +39,10 @@ pub fn write_item<D: ItemsOut, W: TellWrite, F>(
     more: bool,
 ) -> Result<bool, AnswerError<F>>
     requires { length payload.now ≤ (D.headers_out protocol.now item).max }
-    ensures { AnswersBy W.log W.trace ((D.headers_out protocol.now item).header (length payload.now) ++ payload.now) more
+    ensures taken { OnOk result (WritesInOrder writer.old
+        ((D.headers_out protocol.now item).header (length payload.now) ++ payload.now) writer.new) }
+    ensures none { OnErr result (WritesInOrder writer.old [] writer.new) }
+    ensures answers { AnswersBy W.log W.trace ((D.headers_out protocol.now item).header (length payload.now) ++ payload.now) more
         writer.old result writer.new }
 {
     let header = protocol.header_of(item, payload.len());

@@ -87,6 +87,7 @@ pub fn handed_over<R: TellRead, D: Decoder, E: Decoder>(
     reader: PieceReader<R, D>,
     decoder: E,
 ) -> Result<PieceReader<R, E>, MakeError<(Buffer, R, E)>>
+    ensures rest { IfOk result (λ next. (rest next ≡ rest reader) × (next.reader.inner ≡ reader.reader.inner)) }
     ensures left { IfOk result (λ next. left_of next ≡ left_of reader) }
     ensures decoder { IfOk result (λ next. next.decoder ≡ decoder) }
     ensures told { IfOk result (λ next. next.ended ≡ false) }

@@ -1,5 +1,5 @@
 //! Pieces are answered, one after another.
-ghost use Rattle.std.specs.Prelude.{ℕ, List, Bool, IfOk, IfErr};
+ghost use Rattle.std.specs.Prelude.{◌≡◌, ℕ, List, [], Bool, IfOk, IfErr, OnOk};
 ghost use Rattle.codec.specs.Answering.{Answered, IsPieceRead};
 ghost use Rattle.codec.specs.ServingAll.{ServesAll, StopsAll};
 ghost use Rattle.codec.specs.Serving.{Ends, Serves, Stops, Turns, server};
@@ -82,6 +82,7 @@ pub fn serve<R: TellRead, D: Items, W: TellWrite, S: Service<D>>(
     reader: &mut PieceReader<R, D>,
     writer: &mut BufWriter<W>,
 ) -> Result<Served, ServeError<D::Wrong, S::Failure>>
+    ensures flushed { OnOk result (writer.new.block.bytes ≡ []) }
     ensures served { IfOk result (λ ended. Serves R.remaining W.log W.trace (D.grammar reader.old.decoder)
         (D.item_of reader.old.decoder) S.answers (server reader.old service.old writer.old) ended
         (server reader.new service.new writer.new)) }
@@ -102,6 +103,7 @@ pub fn serve_all<R: TellRead, D: Items, W: TellWrite, S: Service<D>>(
     reader: &mut PieceReader<R, D>,
     writer: &mut BufWriter<W>,
 ) -> Result<Served, ServeError<D::Wrong, S::Failure>>
+    ensures flushed { OnOk result (writer.new.block.bytes ≡ []) }
     ensures served { IfOk result (λ ended. ServesAll R.remaining W.log W.trace (D.grammar reader.old.decoder)
         (D.item_of reader.old.decoder) S.answers S.fails (server reader.old service.old writer.old) ended
         (server reader.new service.new writer.new)) }

@@ -1,8 +1,8 @@
 //! The writer of pieces.
-ghost use Rattle.std.specs.Prelude.{◌≡◌, ◌↔◌, IsTrue, ◌-◌, ◌*◌, ◌<◌, ◌≤◌, ◌^◌, ◌++◌, [], length, take, Ok, Err, IfOk, IfErr, IsOk, MatchResult};
+ghost use Rattle.std.specs.Prelude.{◌≡◌, ◌≢◌, ◌↔◌, IsTrue, ◌-◌, ◌*◌, ◌<◌, ◌≤◌, ◌^◌, ◌++◌, [], length, take, Ok, Err, IfOk, IfErr, IsOk, OnOk, OnErr, MatchResult, true};
 ghost use Rattle.std.specs.Borrow.{Lends, sem};
 ghost use Rattle.buffer_redux.specs.Block.{Plain, usable};
-ghost use Rattle.buffer_redux.specs.BufWriter.{WasFlushed, WasSent};
+ghost use Rattle.buffer_redux.specs.BufWriter.{WasFlushed, WasSent, WritesInOrder};
 ghost use Rattle.buffer_redux.specs.WriteParts.{PutsIn, room};
 ghost use Rattle.buffer_redux.specs.Unwrapping.{InnerOfFlushed};
 ghost use Rattle.buffer_redux.specs.GrowError.{FitsWithin};
@@ -56,6 +56,7 @@ impl<W: TellWrite, E: Encoder> PieceWriter<W, E> {
     /// A writer of the pieces that `encoder` says, over a buffer of [`DEFAULT_BUF_SIZE`] bytes, or of what three pieces take
     /// where that is more. A refusal hands `inner` and `encoder` back.
     pub fn new(alloc: Global, inner: W, encoder: E) -> Result<Self, MakeError<(W, E)>>
+        ensures over { IfOk result (λ f. (f.writer.inner ≡ inner) × (f.writer.block.bytes ≡ []) × (f.encoder ≡ encoder)) }
         ensures made { IfOk result (IsUnused W.log 8192 (E.encoding encoder).most inner encoder) }
         ensures whole { IfOk result (IsPieceWriter (E.encoding encoder).most) }
         ensures handed_back { IfErr result (λ e. (e.0.0 ≡ inner) × (e.0.1 ≡ encoder)) }
@@ -72,6 +73,7 @@ impl<W: TellWrite, E: Encoder> PieceWriter<W, E> {
         inner: W,
         encoder: E,
     ) -> Result<Self, MakeError<(W, E)>>
+        ensures over { IfOk result (λ f. (f.writer.inner ≡ inner) × (f.writer.block.bytes ≡ []) × (f.encoder ≡ encoder)) }
         ensures made { IfOk result (IsUnused W.log capacity (E.encoding encoder).most inner encoder) }
         ensures whole { IfOk result (IsPieceWriter (E.encoding encoder).most) }
         ensures handed_back { IfErr result (λ e. (e.0.0 ≡ inner) × (e.0.1 ≡ encoder)) }
@@ -97,6 +99,8 @@ impl<W: TellWrite, E: Encoder> PieceWriter<W, E> {
         inner: W,
         encoder: E,
     ) -> Result<Self, MakeError<(Buffer, W, E)>>
+        ensures over { IfOk result (λ f. (f.writer.inner ≡ inner) × (f.writer.block.bytes ≡ buffer.bytes)
+            × (f.encoder ≡ encoder)) }
         ensures made { IfOk result (IsOver W.log (E.encoding encoder).most buffer inner encoder) }
         ensures whole { IfOk result (IsPieceWriter (E.encoding encoder).most) }
         ensures handed_back { IfErr result (λ e. (e.0.0 ≡ buffer) × (e.0.1 ≡ inner) × (e.0.2 ≡ encoder)) }
@@ -124,9 +128,9 @@ impl<W: TellWrite, E: Encoder> PieceWriter<W, E> {
     /// within one where a send failed, of which just a beginning may have gone out. So nothing is to be written then before a
     /// [`send`](PieceWriter::send) is Ok.
     pub fn get_mut(&mut self) -> &mut W
+        ensures inner { result.now ≡ self.old.writer.inner }
         ensures* writes_back { sem 𝓛 (Lends (the_row W.row E.row E.Refusal.row W.TellWrite.own W.Tell.own E.Encoder) W.row
             self.entry result (with_stream W.log self.old)) }
-        ensures inner { result.now ≡ self.old.writer.inner }
         ensures log { W.log result.now ≡ self.old.writer.log }
     {
         self.writer.get_mut()
@@ -139,7 +143,11 @@ impl<W: TellWrite, E: Encoder> PieceWriter<W, E> {
     /// comes only where the piece found no room, and then just what the inner writer took is gone from the buffer.
     #[inline(always)]
     pub fn write_piece(&mut self, payload: &[u8]) -> Result<(), WritePieceError<E::Refusal>>
-        ensures { WritesPiece W.trace (E.encoding self.old.encoder) self.old payload.now result self.new }
+        ensures taken { OnOk result (self.new.writer.log.writes.received ++ self.new.writer.block.bytes
+            ≡ (self.old.writer.log.writes.received ++ self.old.writer.block.bytes)
+            ++ coded (E.encoding self.old.encoder) payload.now) }
+        ensures none { OnErr result (WritesInOrder self.old.writer [] self.new.writer) }
+        ensures writes { WritesPiece W.trace (E.encoding self.old.encoder) self.old payload.now result self.new }
     {
         match self.encoder.header(payload) {
             Ok(header) => {
@@ -160,7 +168,10 @@ impl<W: TellWrite, E: Encoder> PieceWriter<W, E> {
     /// sends what is buffered before.
     #[inline(always)]
     pub fn write_buffered(&mut self, payload: &[u8]) -> Result<bool, E::Refusal>
-        ensures { WritesBuffered W.trace (E.encoding self.old.encoder) self.old payload.now result self.new }
+        ensures taken { result ≡ Ok true → self.new.writer.block.bytes
+            ≡ self.old.writer.block.bytes ++ coded (E.encoding self.old.encoder) payload.now }
+        ensures none { result ≢ Ok true → self.new ≡ self.old }
+        ensures writes { WritesBuffered W.trace (E.encoding self.old.encoder) self.old payload.now result self.new }
     {
         match self.encoder.header(payload) {
             Ok(header) => {
@@ -221,6 +232,7 @@ impl<W: TellWrite, E: Encoder> PieceWriter<W, E> {
     /// Sends all pieces, without a flush of the inner writer. Where that fails, just what the inner writer took is no longer
     /// buffered.
     pub fn send(&mut self) -> io::Result<()>
+        ensures empty { OnOk result (self.new.writer.block.bytes ≡ []) }
         ensures sent { WasSent W.log W.trace self.old.writer result self.new.writer }
         ensures went { PiecesTaken W.trace (E.encoding self.old.encoder) self.old [] self.new }
         ensures whole { IsPieceWriter (E.encoding self.old.encoder).most self.new }
@@ -230,6 +242,7 @@ impl<W: TellWrite, E: Encoder> PieceWriter<W, E> {
 
     /// Sends all pieces, and flushes the inner writer.
     pub fn flush(&mut self) -> io::Result<()>
+        ensures empty { OnOk result (self.new.writer.block.bytes ≡ []) }
         ensures flushed { WasFlushed W.log W.trace self.old.writer result self.new.writer }
         ensures went { PiecesTaken W.trace (E.encoding self.old.encoder) self.old [] self.new }
         ensures whole { IsPieceWriter (E.encoding self.old.encoder).most self.new }
@@ -240,7 +253,9 @@ impl<W: TellWrite, E: Encoder> PieceWriter<W, E> {
     /// Flushes, and hands the inner writer back; where that fails, the writer with the bytes that were not sent, and the
     /// fault.
     pub fn into_inner(mut self) -> Result<W, IntoInnerError<Self>>
-        ensures { MatchResult result (InnerOfFlushed W.log W.trace self.writer (Ok tt))
+        ensures all { IfOk result (λ inner. (W.log inner).writes.received
+            ≡ self.writer.log.writes.received ++ self.writer.block.bytes) }
+        ensures flushed { MatchResult result (InnerOfFlushed W.log W.trace self.writer (Ok tt))
             (λ e. WasFlushed W.log W.trace self.writer (Err e.1) e.0.writer
             × PiecesTaken W.trace (E.encoding self.encoder) self [] e.0) }
     {

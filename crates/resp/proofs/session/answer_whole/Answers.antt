@@ -14,7 +14,7 @@ returns-then-is_lost g c =
     AnswersBy-answered _ _ _ _ (λ reply more t. RepliesWhole m values reply more t.waiting t.values) _
     (codes "-ERR out of memory\r\n") true (session c.clear.new.self values)
     (lost_whole m values values c.clear.new.self (codes "-ERR out of memory\r\n") true c.clear.ensures
-    (sym c.is_lost.ensures ∙ c.if-is_lost.true) refl refl refl) c.write_answer.result c.write_answer.ensures
+    (sym c.is_lost.ensures ∙ c.if-is_lost.true) refl refl refl) c.write_answer.result c.write_answer.ensures.answers
 
 pub returns-in-Ok : goal.returns-in-Ok
 returns-in-Ok g c =

@@ -27,7 +27,7 @@ returns-in-Err-clause-reason g c =
 
 pub returns-in-Err-into_inner-clause-refused : goal.returns-in-Err-into_inner-clause-refused
 returns-in-Err-into_inner-clause-refused g c =
-    inl (subst IsMemory (sym c.into_error.ensures) (WasFlushed-memory _ _ _ _ c.in-Err-into_inner.ensures.0))
+    inl (subst IsMemory (sym c.into_error.ensures) (WasFlushed-memory _ _ _ _ c.in-Err-into_inner.ensures.flushed.0))
 
 pub returns-in-Ok-into_inner-clause-fit : goal.returns-in-Ok-into_inner-clause-fit
 returns-in-Ok-into_inner-clause-fit g c =

@@ -16,4 +16,4 @@ returns g c =
     (subst (λ d. WritesBuffered g.W.TellWrite.trace (framed_out d.max) m c.args.payload.now c.write_buffered.result t)
     sent.went.encoder
     (subst (λ x. WritesBuffered g.W.TellWrite.trace (framed_out x.encoder.max) x c.args.payload.now c.write_buffered.result t)
-    c.self.view_is c.write_buffered.ensures))
+    c.self.view_is c.write_buffered.ensures.writes))

@@ -17,4 +17,4 @@ returns-in-Bad g c =
     let values = held s.store in
     AnswersBy-answered _ _ _ _ (RepliesBy s c.args.item c.args.payload.now) _ _ false _
     (Bad c.in-Bad.refusal, c.take.new.self, c.in-Bad.ensures, (append-nil _ ∙ c.refusal_text.ensures, refl, refl, same_of values values refl))
-    c.write_answer.result c.write_answer.ensures
+    c.write_answer.result c.write_answer.ensures.answers

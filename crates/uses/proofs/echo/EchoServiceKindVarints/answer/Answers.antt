@@ -10,7 +10,7 @@ returns-then-kind-eq0 g c =
     let kind = c.args.kind in
     let s = c.args.self.now in
     AnswersBy-answered _ _ _ _ (echoes s kind c.args.payload.now) _ (0 ∷ 0 ∷ []) false s
-    (rw (eq-eqb kind 0 c.if-kind-eq0.true) (refl, refl)) c.write_answer.result c.write_answer.ensures
+    (rw (eq-eqb kind 0 c.if-kind-eq0.true) (refl, refl)) c.write_answer.result c.write_answer.ensures.answers
 
 pub returns : goal.returns
 returns g c =
@@ -18,4 +18,4 @@ returns g c =
     let payload = c.args.payload.now in
     let s = c.args.self.now in
     AnswersBy-answered _ _ _ _ (echoes s kind payload) _ ((kind ∷ varint_bytes (length payload)) ++ payload) true s
-    (rw (ne_eqb kind 0 c.if-kind-eq0.false) (refl, refl)) c.write_item.result c.write_item.ensures
+    (rw (ne_eqb kind 0 c.if-kind-eq0.false) (refl, refl)) c.write_item.result c.write_item.ensures.answers

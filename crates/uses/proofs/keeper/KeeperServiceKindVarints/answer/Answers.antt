@@ -7,4 +7,5 @@ pub returns-in-Ok : goal.returns-in-Ok
 returns-in-Ok g c =
     let kind = c.args.kind in
     AnswersBy-answered _ _ _ _ (Keeps c.args.self.now kind c.args.payload.now) _ (kind ∷ 0 ∷ []) true _
-    (omega (arith, c.if-payload-saturating_sub.false, c.saturating_sub.ensures, c.len.ensures), c.in-Ok.ensures.items, refl, refl, refl) c.write_answer.result c.write_answer.ensures
+    (omega (arith, c.if-payload-saturating_sub.false, c.saturating_sub.ensures, c.len.ensures), c.in-Ok.ensures.items, refl, refl, refl)
+    c.write_answer.result c.write_answer.ensures.answers
