@@ -1,3 +1,4 @@
+pub mod Fronts
 pub mod Going
 pub mod Skipping
 pub mod Trimming

@@ -1,5 +1,5 @@
 //! The reader of lines.
-ghost use Rattle.std.specs.Prelude.{◌≡◌, ℕ, ◌+◌, ◌*◌, ◌<◌, ◌≤◌, ◌^◌, ◌↔◌, List, ◌∷◌, ◌++◌, length, Ok, Err, Some, None, IfOk, IfErr, IfSome, IsOk, IsTrue, true, false, option_copied};
+ghost use Rattle.std.specs.Prelude.{◌≡◌, ℕ, ◌+◌, ◌*◌, ◌<◌, ◌≤◌, ◌^◌, ◌↔◌, List, [], ◌∷◌, ◌++◌, drop, length, take, Ok, Err, Some, None, IfOk, IfErr, IfSome, IsOk, IsTrue, true, false, option_copied};
 ghost use Rattle.std.specs.Borrow.{Lends, sem};
 ghost use Rattle.std.specs.Io.BufRead.{Rests};
 ghost use Rattle.buffer_redux.specs.Block.{Plain};
@@ -59,6 +59,7 @@ impl<R: Tell> LineReader<R> {
     /// A reader of lines of at most `max` bytes, over a buffer of [`DEFAULT_BUF_SIZE`] bytes, or of what three lines take
     /// where that is more. A refusal hands `inner` back.
     pub fn new(alloc: Global, inner: R, max: usize) -> Result<Self, MakeError<R>>
+        ensures over { IfOk result (λ f. (f.pieces.reader.inner ≡ inner) × (f.pieces.reader.block.bytes ≡ [])) }
         ensures made { IfOk result (λ f. IsFresh R.log 8192 (1 + max) inner f.pieces.decoder f.pieces) }
         ensures max { IfOk result (λ f. f.pieces.decoder.max ≡ max) }
         ensures going { IfOk result (λ f. f.skipping ≡ false) }
@@ -76,6 +77,7 @@ impl<R: Tell> LineReader<R> {
         inner: R,
         max: usize,
     ) -> Result<Self, MakeError<R>>
+        ensures over { IfOk result (λ f. (f.pieces.reader.inner ≡ inner) × (f.pieces.reader.block.bytes ≡ [])) }
         ensures made { IfOk result (λ f. IsFresh R.log capacity (1 + max) inner f.pieces.decoder f.pieces) }
         ensures max { IfOk result (λ f. f.pieces.decoder.max ≡ max) }
         ensures going { IfOk result (λ f. f.skipping ≡ false) }
@@ -103,6 +105,7 @@ impl<R: Tell> LineReader<R> {
         inner: R,
         max: usize,
     ) -> Result<Self, MakeError<(Buffer, R)>>
+        ensures over { IfOk result (λ f. (f.pieces.reader.inner ≡ inner) × (rest f.pieces ≡ buffer.bytes)) }
         ensures made { IfOk result (λ f. IsOver R.log (1 + max) buffer inner f.pieces.decoder f.pieces) }
         ensures max { IfOk result (λ f. f.pieces.decoder.max ≡ max) }
         ensures going { IfOk result (λ f. f.skipping ≡ false) }
@@ -229,7 +232,8 @@ impl<R: TellRead> LineReader<R> {
     /// the beginning of one that is too long, or the stream ended, which no call has told yet. It changes nothing, so what it
     /// searches that call searches again.
     pub fn has_line(&self) -> bool
-        ensures { IsTrue result ↔ HasLine self.now }
+        ensures none { rest self.now.pieces ≡ [] → result ≡ self.now.pieces.ended }
+        ensures settled { IsTrue result ↔ HasLine self.now }
     {
         self.pieces.is_settled()
     }
@@ -283,6 +287,7 @@ impl<R: TellRead> LineReader<R> {
     /// nothing. `None` where it doesn't; what was searched then isn't searched again.
     #[inline(always)]
     pub fn next_buffered(&mut self) -> Option<&[u8]>
+        ensures front { IfSome result (λ line. (more : List ℕ) × (rest self.old.pieces ≡ line.now ++ 10 ∷ more)) }
         ensures* after_borrow { sem 𝓛 (Rests (the_row R.row R.Tell) self.entry
             (NextBuffered R.remaining self.entry.now (option_copied result))) }
     {
@@ -296,6 +301,8 @@ impl<R: TellRead> LineReader<R> {
     /// the line where the length counts. That of a last line without an end stays.
     #[inline(always)]
     pub fn next_trimmed(&mut self) -> Result<Option<&[u8]>, LineError>
+        ensures begins { IfOk result (λ found. IfSome found (λ line.
+            take (length line.now) (rest self.old.pieces) ≡ take (length (rest self.old.pieces)) line.now)) }
         ensures* after_borrow { sem 𝓛 (Rests (the_row R.row R.Tell) self.entry
             (NextTrimmed R.remaining self.entry.now (answer_of result))) }
     {
@@ -315,7 +322,10 @@ impl<R: TellRead> LineReader<R> {
     /// call of this drops what comes of it, through its end, and so does one of `next` before it looks for its line. A line
     /// of more than `2^63` bytes ends the call too, by `Other`.
     pub fn skip_line(&mut self) -> io::Result<u64>
-        ensures { SkipsLine R.remaining self.old result self.new }
+        ensures left { IfOk result (λ n. (got : List ℕ)
+            × (self.new.pieces.reader.log.reads.given ≡ self.old.pieces.reader.log.reads.given ++ got)
+            × (rest self.new.pieces ≡ drop n (rest self.old.pieces ++ got))) }
+        ensures skips { SkipsLine R.remaining self.old result self.new }
     {
         self.skipping = false;
         let dropped = self.drop_through();
