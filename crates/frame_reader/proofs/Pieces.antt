@@ -1,11 +1,11 @@
 -- What a call of a reader of pieces leaves, in the words of frames.
-use Rattle.std.proofs.Common.{◌≡◌, ℕ, ◌+◌, ◌<◌, ◌≤◌, ◌⊎◌, List, [], ◌∷◌, length, true, false, sym, ap, subst, ◌∙◌, arith, inl, inr, refl, Option, None, Ok, Err, Some}
+use Rattle.std.proofs.Common.{◌≡◌, ℕ, ◌+◌, ◌<◌, ◌≤◌, ◌⊎◌, List, [], ◌∷◌, length, true, false, sym, ap, subst, ◌∙◌, arith, inl, inr, refl, Option, None, Ok, Err, Some, IfSome, drop, length-drop, length-take-le}
 use Rattle.std.proofs.lemmas.Bool.{cases_lt}
 use Rattle.std.specs.Int.{w16, from_be_bytes}
 use Rattle.codec.specs.declared.Found.{Found}
 use Rattle.codec.specs.declared.Found.TheVariants.{More}
 use Rattle.codec.specs.declared.Span.{Span}
-use Rattle.codec.specs.Decoding.{Decodes}
+use Rattle.codec.specs.Decoding.{Decodes, IsLent}
 use Rattle.codec.specs.Grammar.{IsOpen}
 use Rattle.codec.specs.GrammarLaws.{begins_of, open_of}
 use Rattle.codec.specs.NextPiece.{NextAnswers, NextPiece, load_answer}
@@ -86,3 +86,17 @@ pub decoded : {S : Type 0} (f : ReaderState S Frames) (d : Frames) (bytes : List
     → (found : Found FrameFault) → Decodes (framed d.max) bytes found → Decodes (framed f.decoder.max) (rest f) found
 decoded f d bytes same shown found is = subst (λ x. Decodes (framed x.max) (rest f) found) same
     (subst (λ l. Decodes (framed d.max) l found) shown is)
+
+-- a place that is said is that of a payload, which fits
+pub lent_fits : {S : Type 0} (s t : ReaderState S Frames) (found : Option Span) → t.decoder ≡ s.decoder
+    → IfSome found (IsLent (framed t.decoder.max) t.handed t.reader.block.bytes)
+    → IfSome found (λ span. span.len ≤ s.decoder.max)
+lent_fits s t (Some span) same lent =
+    let bytes = t.reader.block.bytes in
+    let len = length-take-le span.len (drop span.from bytes)
+    (omega (arith, lent.within, lent.inside, length-drop span.from bytes)) in
+    elim lent.is [
+      | inl is ↦ omega (arith, is.fits, len, ap (λ d. d.max) same)
+      | inr last ↦ absurd last.3
+    ]
+lent_fits s t None same lent = tt

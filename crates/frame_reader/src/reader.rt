@@ -1,5 +1,5 @@
 //! The reader of frames.
-ghost use Rattle.std.specs.Prelude.{◌≡◌, ℕ, ◌+◌, ◌*◌, ◌^◌, ◌<◌, ◌≤◌, ◌↔◌, List, ◌++◌, length, Ok, Err, Some, IfOk, IfErr, IfSome, IsOk, IsTrue, option_copied};
+ghost use Rattle.std.specs.Prelude.{◌≡◌, ℕ, ◌+◌, ◌*◌, ◌^◌, ◌<◌, ◌≤◌, ◌↔◌, List, [], ◌++◌, length, Ok, Err, Some, IfOk, IfErr, IfSome, IsOk, IsTrue, false, option_copied};
 ghost use Rattle.std.specs.Borrow.{sem};
 ghost use Rattle.std.specs.Io.BufRead.{Rests};
 ghost use Rattle.buffer_redux.specs.Block.{Plain};
@@ -54,6 +54,7 @@ impl<R: Tell> FrameReader<R> {
     /// A reader of frames whose payload has at most `max` bytes, over a buffer of [`DEFAULT_BUF_SIZE`] bytes, or of
     /// `3 * (2 + max)` where that is more. A refusal hands `inner` back.
     pub fn new(alloc: Global, inner: R, max: u16) -> Result<Self, MakeError<R>>
+        ensures over { IfOk result (λ f. (f.reader.inner ≡ inner) × (f.reader.block.bytes ≡ [])) }
         ensures made { IfOk result (λ f. IsFresh R.log 8192 (2 + max) inner f.decoder f) }
         ensures takes { IfOk result (λ f. f.decoder.max ≡ max) }
         ensures whole { IfOk result ReadsFrames }
@@ -72,6 +73,7 @@ impl<R: Tell> FrameReader<R> {
         inner: R,
         max: u16,
     ) -> Result<Self, MakeError<R>>
+        ensures over { IfOk result (λ f. (f.reader.inner ≡ inner) × (f.reader.block.bytes ≡ [])) }
         ensures made { IfOk result (λ f. IsFresh R.log capacity (2 + max) inner f.decoder f) }
         ensures takes { IfOk result (λ f. f.decoder.max ≡ max) }
         ensures whole { IfOk result ReadsFrames }
@@ -92,6 +94,7 @@ impl<R: Tell> FrameReader<R> {
         inner: R,
         max: u16,
     ) -> Result<Self, MakeError<(Buffer, R)>>
+        ensures over { IfOk result (λ f. (f.reader.inner ≡ inner) × (rest f ≡ buffer.bytes)) }
         ensures made { IfOk result (λ f. IsOver R.log (2 + max) buffer inner f.decoder f) }
         ensures takes { IfOk result (λ f. f.decoder.max ≡ max) }
         ensures whole { IfOk result ReadsFrames }
@@ -126,7 +129,8 @@ impl<R: Tell> FrameReader<R> {
     /// The inner reader, and the buffer with the bytes behind the frame that was lent last, of which
     /// [`with_buffer`](FrameReader::with_buffer) makes a reader again, of this layer or another.
     pub fn into_inner_with_buffer(self) -> (R, Buffer)
-        ensures { TakenApart R.log self result.0 result.1 }
+        ensures left { (result.0 ≡ self.reader.inner) × (result.1.bytes ≡ rest self) }
+        ensures apart { TakenApart R.log self result.0 result.1 }
     {
         let FrameReader { pieces } = self;
         // No frame is one only since the stream ends, so no end is left to tell.
@@ -147,6 +151,7 @@ impl<R: Tell> FrameReader<R> {
     /// [`next`](FrameReader::next) doesn't read the stream.
     #[inline(always)]
     pub fn has_frame(&self) -> bool
+        ensures none { rest self.now ≡ [] → result ≡ false }
         ensures settled { IsTrue result ↔ IsSettled (framed self.now.decoder.max) self.now }
         ensures whole { ReadsFrames self.now }
     {
@@ -221,6 +226,7 @@ impl<R: TellRead> FrameReader<R> {
     /// [`lent`](FrameReader::lent) shows it until the next call.
     #[inline(always)]
     pub fn step(&mut self) -> Result<Option<Span>, FrameError>
+        ensures fits { IfOk result (λ found. IfSome found (λ span. span.len ≤ self.old.decoder.max)) }
         ensures next { Next R.remaining self.old (load_answer result self.new) self.new }
         ensures lends { IfOk result (λ found. IfSome found
             (IsLent (framed self.new.decoder.max) self.new.handed self.new.reader.block.bytes)) }

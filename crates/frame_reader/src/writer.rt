@@ -1,7 +1,7 @@
 //! The writer of frames.
-ghost use Rattle.std.specs.Prelude.{◌≡◌, ◌+◌, ◌*◌, ◌<◌, ◌≤◌, ◌^◌, [], length, false, Ok, Err, IfOk, IfErr, IsOk, MatchResult};
+ghost use Rattle.std.specs.Prelude.{◌≡◌, ◌+◌, ◌*◌, ◌<◌, ◌≤◌, ◌^◌, ◌++◌, [], length, false, Ok, Err, IfOk, IfErr, IsOk, OnOk, OnErr, MatchResult};
 ghost use Rattle.buffer_redux.specs.Block.{Plain};
-ghost use Rattle.buffer_redux.specs.BufWriter.{WasFlushed, WasSent};
+ghost use Rattle.buffer_redux.specs.BufWriter.{WasFlushed, WasSent, WritesInOrder};
 ghost use Rattle.buffer_redux.specs.Unwrapping.{InnerOfFlushed};
 ghost use Rattle.buffer_redux.specs.GrowError.{FitsWithin};
 ghost use Rattle.buffer_redux.specs.MakeError.{growth};
@@ -9,6 +9,7 @@ ghost use Rattle.codec.specs.PieceWriter.{IsPieceWriter, IsOver, IsUnused};
 ghost use Rattle.codec.specs.PieceReader.{room_for};
 ghost use Rattle.codec.specs.WritePiece.{PiecesTaken, WritesBuffered};
 ghost use Rattle.frame_reader.specs.Framed.{framed_out};
+ghost use Rattle.frame_reader.specs.Frames.{frame};
 ghost use Rattle.frame_reader.specs.WriteFrame.{WritesFrame};
 
 use crate::error::WriteFrameError;
@@ -52,6 +53,7 @@ impl<W: TellWrite> FrameWriter<W> {
     /// A writer of frames whose payload has at most `max` bytes, over a buffer of [`DEFAULT_BUF_SIZE`] bytes, or of
     /// `3 * (2 + max)` where that is more. A refusal hands `inner` back.
     pub fn new(alloc: Global, inner: W, max: u16) -> Result<Self, MakeError<W>>
+        ensures over { IfOk result (λ f. (f.writer.inner ≡ inner) × (f.writer.block.bytes ≡ [])) }
         ensures made { IfOk result (λ f. IsUnused W.log 8192 (2 + max) inner f.encoder f) }
         ensures takes { IfOk result (λ f. f.encoder.max ≡ max) }
         ensures whole { IfOk result (IsPieceWriter (2 + max)) }
@@ -70,6 +72,7 @@ impl<W: TellWrite> FrameWriter<W> {
         inner: W,
         max: u16,
     ) -> Result<Self, MakeError<W>>
+        ensures over { IfOk result (λ f. (f.writer.inner ≡ inner) × (f.writer.block.bytes ≡ [])) }
         ensures made { IfOk result (λ f. IsUnused W.log capacity (2 + max) inner f.encoder f) }
         ensures takes { IfOk result (λ f. f.encoder.max ≡ max) }
         ensures whole { IfOk result (IsPieceWriter (2 + max)) }
@@ -90,6 +93,7 @@ impl<W: TellWrite> FrameWriter<W> {
         inner: W,
         max: u16,
     ) -> Result<Self, MakeError<(Buffer, W)>>
+        ensures over { IfOk result (λ f. (f.writer.inner ≡ inner) × (f.writer.block.bytes ≡ buffer.bytes)) }
         ensures made { IfOk result (λ f. IsOver W.log (2 + max) buffer inner f.encoder f) }
         ensures takes { IfOk result (λ f. f.encoder.max ≡ max) }
         ensures whole { IfOk result (IsPieceWriter (2 + max)) }
@@ -119,7 +123,10 @@ impl<W: TellWrite> FrameWriter<W> {
     /// `Io` comes only where the frame found no room, and then just what the inner writer took is gone from the buffer.
     #[inline(always)]
     pub fn write_frame(&mut self, payload: &[u8]) -> Result<(), WriteFrameError>
-        ensures { WritesFrame W.trace self.old payload.now result self.new }
+        ensures taken { OnOk result (self.new.writer.log.writes.received ++ self.new.writer.block.bytes
+            ≡ (self.old.writer.log.writes.received ++ self.old.writer.block.bytes) ++ frame payload.now) }
+        ensures none { OnErr result (WritesInOrder self.old.writer [] self.new.writer) }
+        ensures writes { WritesFrame W.trace self.old payload.now result self.new }
     {
         match self.pieces.write_buffered(payload) {
             Ok(true) => Ok(()),
@@ -131,6 +138,7 @@ impl<W: TellWrite> FrameWriter<W> {
     /// Sends all frames, without a flush of the inner writer. Where that fails, just what the inner writer took is no longer
     /// buffered.
     pub fn send(&mut self) -> io::Result<()>
+        ensures empty { OnOk result (self.new.writer.block.bytes ≡ []) }
         ensures sent { WasSent W.log W.trace self.old.writer result self.new.writer }
         ensures went { PiecesTaken W.trace (framed_out self.old.encoder.max) self.old [] self.new }
         ensures whole { IsPieceWriter (2 + self.old.encoder.max) self.new }
@@ -140,6 +148,7 @@ impl<W: TellWrite> FrameWriter<W> {
 
     /// Sends all frames, and flushes the inner writer.
     pub fn flush(&mut self) -> io::Result<()>
+        ensures empty { OnOk result (self.new.writer.block.bytes ≡ []) }
         ensures flushed { WasFlushed W.log W.trace self.old.writer result self.new.writer }
         ensures went { PiecesTaken W.trace (framed_out self.old.encoder.max) self.old [] self.new }
         ensures whole { IsPieceWriter (2 + self.old.encoder.max) self.new }
@@ -150,7 +159,9 @@ impl<W: TellWrite> FrameWriter<W> {
     /// Flushes, and hands the inner writer back; where that fails, the writer with the bytes that were not sent, and the
     /// fault.
     pub fn into_inner(self) -> Result<W, IntoInnerError<Self>>
-        ensures { MatchResult result (InnerOfFlushed W.log W.trace self.writer (Ok tt))
+        ensures all { IfOk result (λ inner. (W.log inner).writes.received
+            ≡ self.writer.log.writes.received ++ self.writer.block.bytes) }
+        ensures flushed { MatchResult result (InnerOfFlushed W.log W.trace self.writer (Ok tt))
             (λ e. WasFlushed W.log W.trace self.writer (Err e.1) e.0.writer
             × PiecesTaken W.trace (framed_out self.encoder.max) self [] e.0) }
     {
