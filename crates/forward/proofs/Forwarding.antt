@@ -1,11 +1,11 @@
 -- What is done for one payload, behind those that went over before.
-use Rattle.std.proofs.Common.{inl, inr, length, ◌≡◌, ◌⊎◌, ℕ, ◌+◌, ◌≤◌, List, [], ◌∷◌, ◌++◌, Bool, true, false, Result, Ok, Err, refl, sym, ap, subst, ◌∙◌, arith, append_assoc, length-append}
+use Rattle.std.proofs.Common.{inl, inr, length, ◌≡◌, ◌⊎◌, ℕ, ◌+◌, ◌≤◌, [], ◌∷◌, Bool, true, false, Result, Ok, Err, refl, sym, ap, subst, ◌∙◌, arith, length-append}
 use Rattle.std.specs.Option.{option_map_or}
 use Rattle.std.specs.Result.{result_err}
 use Rattle.std.specs.declared.io.Error.{Error}
 use Rattle.redux_buffer.specs.Faults.{MetInterrupts, OnlyInterrupts, OnlyInterrupts-joins, OnlyInterrupts-same}
 use Rattle.forward.specs.Filter.{AsksOnce, FilterRules, FlushesOnce, IsLawful, Moves, StaysOpen, WasAsked, Wrote}
-use Rattle.forward.specs.Forward.{Forwarded, ForwardedFirst, NoneFailed, flushed_last}
+use Rattle.forward.specs.Forward.{NoneFailed, flushed_last}
 use Rattle.forward.specs.Link.{Ask, Goes, LinkFlushes, LinkPasses, Linked, NotAsked}
 use Rattle.forward.specs.Prompt.{WritesOn}
 use Rattle.forward.specs.Steps.{AlsoAsked, AskedFrom, AskedTo, ForwardsNext, GivesUp, GoesAhead, IsQuiet, NextAnswers, OnTrue, OnlyInterrupted, TakesTurn}

@@ -4,3 +4,4 @@ pub mod Moving
 pub mod Turning
 pub mod Forwarding
 pub mod Forwarded
+pub mod Said

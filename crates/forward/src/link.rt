@@ -1,5 +1,5 @@
 //! A filter whose asks are noted.
-ghost use Rattle.std.specs.Prelude.{◌≡◌, []};
+ghost use Rattle.std.specs.Prelude.{◌≡◌, ℕ, List, [], ◌∷◌, ◌++◌, length, if◌then◌else◌, IfOk, OnOk};
 ghost use Rattle.forward.specs.Link.{LinkAsks, LinkFlushes, LinkPasses};
 
 use crate::error::AskError;
@@ -48,7 +48,9 @@ impl<F: Filter> Link<F> {
     #[inline(always)]
     pub fn pass(&mut self) -> io::Result<bool>
         requires { F.rules.ready self.old.filter }
-        ensures { LinkPasses F.rules self.old result self.new }
+        ensures moved { IfOk result (λ one. (payloads : List (List ℕ)) × (length payloads ≡ (if one then 1 else 0))
+            × F.rules.hands self.old.filter payloads self.new.filter × F.rules.takes self.old.filter payloads self.new.filter) }
+        ensures passes { LinkPasses F.rules self.old result self.new }
     {
         self.filter.pass()
     }
@@ -57,7 +59,8 @@ impl<F: Filter> Link<F> {
     #[inline(always)]
     pub fn flush(&mut self) -> io::Result<()>
         requires { F.rules.ready self.old.filter }
-        ensures { LinkFlushes F.rules self.old result self.new }
+        ensures sent { OnOk result (F.rules.sent self.new.filter) }
+        ensures flushes { LinkFlushes F.rules self.old result self.new }
     {
         self.filter.flush()
     }
@@ -67,7 +70,8 @@ impl<F: Filter> Link<F> {
     pub fn ask(&mut self) -> Result<bool, AskError<F::Wrong>>
         requires ready { F.rules.ready self.old.filter }
         requires lacks { F.rules.lacks self.old.filter }
-        ensures { LinkAsks F.rules self.old result self.new }
+        ensures noted { self.new.states ≡ self.old.states ++ (self.old.filter ∷ self.new.filter ∷ []) }
+        ensures asks { LinkAsks F.rules self.old result self.new }
     {
         self.history = self.history.with(&self.filter);
         let answer = self.filter.ask();

@@ -29,7 +29,7 @@ returns g c =
     let a = c.args in
     let first = start a.limits a.source a.target a.piece in
     let t = c.forward-answer.new.link.filter in
-    let over = rw (c.new-link.ensures, c.new.ensures.begun) at c.forward-answer.ensures in
+    let over = rw (c.new-link.ensures, c.new.ensures.begun) at c.forward-answer.ensures.forwards in
     rw (c.into_inner_torn.ensures, c.into_inner-body.ensures) (record {
       ran = elim c.match-answer.branch [
         | in-Ok w ↦ subst (DecodeRan a.limits a.source.log t.source.reader.log a.target.log t.target.log) (sym w.answer-is)

@@ -11,7 +11,7 @@ returns-in-Ok g c =
     let rules = encoding_rules g.R.TellRead.remaining g.W.TellWrite.trace in
     let first = start c.args.source c.args.target in
     let t = c.forward-answer.new.link in
-    let over = rw (c.new-link.ensures, c.new.ensures.begun) at c.in-Ok.ensures in
+    let over = rw (c.new-link.ensures, c.new.ensures.begun) at c.in-Ok.ensures.forwards in
     let answers = over.answers in
     let end = rw c.into_inner-source.ensures at c.end-answer.ensures in
     let before = Goes-per_ask rules _ t over.goes (λ s t asked. asked.1) in
@@ -30,7 +30,7 @@ pub returns-in-Err : goal.returns-in-Err
 returns-in-Err g c =
     let rules = encoding_rules g.R.TellRead.remaining g.W.TellWrite.trace in
     let first = start c.args.source c.args.target in
-    let over = rw (c.new-link.ensures, c.new.ensures.begun) at c.in-Err.ensures in
+    let over = rw (c.new-link.ensures, c.new.ensures.begun) at c.in-Err.ensures.forwards in
     let before = Goes-per_ask rules _ c.forward-answer.new.link over.goes (λ s t asked. asked.1) in
     rw (c.into_inner.ensures, c.into_inner-source.ensures) (record {
       ran = stopped g.R.TellRead.remaining g.W.TellWrite.trace c.args.source c.args.target c.requires.source.bytes

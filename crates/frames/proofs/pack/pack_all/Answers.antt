@@ -14,7 +14,7 @@ returns g c =
     let first : Packing g.row.R.Denot g.row.W.Denot =
     record { source = c.args.source; target = c.args.target; held = None } in
     let t = c.forward-answer.new.link in
-    let over = subst (λ k. Forwards rules k c.forward-answer.result t) c.new-link.ensures c.forward-answer.ensures in
+    let over = subst (λ k. Forwards rules k c.forward-answer.result t) c.new-link.ensures c.forward-answer.ensures.forwards in
     rw c.into_inner-source.ensures (record {
       ran = packed g.R.TellRead.remaining first t.filter (c.requires.empty, refl) c.requires.nothing c.requires.going
           over.ready c.forward-answer.result c.outcome.result c.outcome.ensures over.answers;
