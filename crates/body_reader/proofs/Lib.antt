@@ -10,3 +10,4 @@ pub mod Consuming
 pub mod Resting
 pub mod Behind
 pub mod Showing
+pub mod Said

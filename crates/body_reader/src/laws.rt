@@ -33,7 +33,10 @@ pub fn since_new<R: TellRead, C: Coding, P: ReaderPolicy>(reader: &BodyReader<R,
 /// nothing is answered as wrong, nor as missing where the body is there, and once it ended all of its payload was handed out, and
 /// what is buffered, and then those bytes, follow it.
 pub fn given_body<R: TellRead, C: Coding, P: ReaderPolicy>(reader: &BodyReader<R, C, P>)
-    ensures { (body payload behind rest : List ℕ) → IsBody (C.grammar reader.now.coding) body payload
+    ensures front { (body payload behind rest : List ℕ) → IsBody (C.grammar reader.now.coding) body payload
+        → body ++ behind ≡ reader.now.taken ++ (reader.now.reader.block.bytes ++ rest)
+        → (later : List ℕ) × (payload ≡ reader.now.calls.reads.given ++ later) }
+    ensures given { (body payload behind rest : List ℕ) → IsBody (C.grammar reader.now.coding) body payload
         → body ++ behind ≡ reader.now.taken ++ (reader.now.reader.block.bytes ++ rest)
         → HandsGiven (C.grammar reader.now.coding) payload behind rest reader.now }
 {

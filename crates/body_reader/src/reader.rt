@@ -1,13 +1,14 @@
 //! The reader of a body.
-ghost use Rattle.std.specs.Prelude.{◌≡◌, ◌-◌, ◌<◌, ◌≤◌, ◌↔◌, length, min, take, vec_items, Err, IfErr, IfOk, IsOkAnd, IsTrue, MatchResult, Ok};
+ghost use Rattle.std.specs.Prelude.{◌≡◌, ℕ, List, [], ◌-◌, ◌<◌, ◌≤◌, ◌↔◌, ◌++◌, length, min, take, vec_items, Err, IfErr, IfOk, IsOkAnd, IsTrue, MatchResult, Ok, OnOk};
 ghost use Rattle.std.specs.Borrow.{Lends, sem};
 ghost use Rattle.body_reader.specs.contracts.reader.BodyReader.{the_row};
 ghost use Rattle.buffer_redux.specs.Block.{capacity_for};
 ghost use Rattle.buffer_redux.specs.Buffered.{over_buffer, with_inner};
+ghost use Rattle.buffer_redux.specs.BufReader.{ReadsInOrder};
 ghost use Rattle.buffer_redux.specs.GrowError.{FitsWithin};
 ghost use Rattle.buffer_redux.specs.MakeError.{growth};
 ghost use Rattle.body_reader.specs.Coding.{IsBody};
-ghost use Rattle.body_reader.specs.BodyReader.{BodyState, BodyWent, Collects, Drains, FillsPayload, IsBodyReader, IsWhole, LooksBehind, ReadsBuffered, ReadsPayload, begun, taken_count};
+ghost use Rattle.body_reader.specs.BodyReader.{BodyState, BodyWent, Collects, Drains, FillsPayload, IsBodyReader, LooksBehind, ReadsBuffered, ReadsPayload, begun, taken_count};
 
 mod streams;
 
@@ -71,9 +72,9 @@ impl<R: Tell, C: Coding> BodyReader<R, C> {
         inner: R,
         coding: C,
     ) -> Result<Self, MakeError<(Buffer, R, C)>>
+        ensures over { IfOk result (λ b. (b.reader.inner ≡ inner) × (b.reader.block.bytes ≡ buffer.bytes) × (b.taken ≡ [])) }
         ensures made { IfOk result (λ b. b ≡ begun (C.grammar coding)
             (over_buffer R.log (record {}) b.reader.block inner) coding) }
-        ensures bytes { IfOk result (λ b. b.reader.block.bytes ≡ buffer.bytes) }
         ensures whole { IfOk result (IsBodyReader (C.grammar coding)) }
         ensures handed_back { IfErr result (λ e. e.0 ≡ (buffer, inner, coding)) }
         ensures kept { (C.grammar coding).ahead ≤ buffer.capacity
@@ -96,6 +97,7 @@ impl<R: Tell, C: Coding, P> BodyReader<R, C, P> {
     /// A reader of the body that comes next of `reader`, whose buffer holds as many bytes as a look at them needs.
     pub fn new(reader: BufReader<R, P>, coding: C) -> Self
         requires room { (C.grammar coding).ahead ≤ reader.block.capacity }
+        ensures over { (result.reader ≡ reader) × (result.taken ≡ []) }
         ensures begun { result ≡ begun (C.grammar coding) reader coding }
         ensures whole { IsBodyReader (C.grammar coding) result }
     {
@@ -179,7 +181,7 @@ impl<R: Tell, C: Coding, P> BodyReader<R, C, P> {
 
     /// Whether the body ended.
     pub fn is_done(&self) -> bool
-        ensures { IsTrue result ↔ IsWhole (C.grammar self.now.coding) self.now }
+        ensures { IsTrue result ↔ IsBody (C.grammar self.now.coding) self.now.taken self.now.calls.reads.given }
     {
         matches!(self.coding.look(self.progress.place, &[]), Look::Ended)
     }
@@ -210,7 +212,9 @@ impl<R: TellRead, C: Coding, P: ReaderPolicy> BodyReader<R, C, P> {
     /// How many bytes of payload are buffered, which [`piece`](BodyReader::piece) lends; none only where the body ended. Where some
     /// are known nobody is asked.
     pub fn fill_payload(&mut self) -> Result<usize, BodyError<C::Wrong>>
-        ensures { FillsPayload R.remaining P.rules (C.grammar self.old.coding) self.old result self.new }
+        ensures count { IfOk result (λ n. (n ≡ self.new.known)
+            × (n ≡ 0 → IsBody (C.grammar self.old.coding) self.new.taken self.new.calls.reads.given)) }
+        ensures fills { FillsPayload R.remaining P.rules (C.grammar self.old.coding) self.old result self.new }
     {
         if self.known > 0 {
             return Ok(self.known);
@@ -251,7 +255,9 @@ impl<R: TellRead, C: Coding, P: ReaderPolicy> BodyReader<R, C, P> {
     /// more is buffered: the body ended, what is buffered settles nothing, or is wrong, which the next
     /// [`read_payload`](BodyReader::read_payload) tells.
     pub fn read_buffered(&mut self, out: &mut [u8]) -> usize
-        ensures { ReadsBuffered R.remaining P.rules (C.grammar self.old.coding) self.old out.new result self.new }
+        ensures taken { (wire : List ℕ) × (wire ++ self.new.reader.block.bytes ≡ self.old.reader.block.bytes)
+            × (self.new.taken ≡ self.old.taken ++ wire) }
+        ensures reads { ReadsBuffered R.remaining P.rules (C.grammar self.old.coding) self.old out.new result self.new }
     {
         let count = hand_buffered(
             &mut self.reader,
@@ -270,7 +276,9 @@ impl<R: TellRead, C: Coding, P: ReaderPolicy> BodyReader<R, C, P> {
     /// An `Err` says why the body didn't end, as one of [`read_payload`](BodyReader::read_payload), and hands the reader back,
     /// which has taken what was right. A body whose rest is read in 2^64 pieces ends the call too, by `Other`.
     pub fn finish(mut self) -> Result<BufReader<R, P>, (Self, BodyError<C::Wrong>)>
-        ensures { MatchResult result
+        ensures behind { IfOk result (λ rest. (wire : List ℕ) × (dropped : List ℕ) × ReadsInOrder self.reader wire rest
+            × IsBody (C.grammar self.coding) (self.taken ++ wire) (self.calls.reads.given ++ dropped)) }
+        ensures drains { MatchResult result
             (λ rest. (body : BodyState R P C C.Place) × Drains R.remaining P.rules (C.grammar self.coding) self (Ok tt) body
             × (rest ≡ body.reader))
             (λ e. Drains R.remaining P.rules (C.grammar self.coding) self (Err e.1) e.0) }
@@ -283,7 +291,10 @@ impl<R: TellRead, C: Coding, P: ReaderPolicy> BodyReader<R, C, P> {
 
     /// Takes the rest of the body, and drops its payload, as [`finish`](BodyReader::finish) does.
     pub fn drain(&mut self) -> Result<(), BodyError<C::Wrong>>
-        ensures { Drains R.remaining P.rules (C.grammar self.old.coding) self.old result self.new }
+        ensures ended { OnOk result (IsBody (C.grammar self.old.coding) self.new.taken self.new.calls.reads.given) }
+        ensures in_order { (wire : List ℕ) × ReadsInOrder self.old.reader wire self.new.reader
+            × (self.new.taken ≡ self.old.taken ++ wire) }
+        ensures drains { Drains R.remaining P.rules (C.grammar self.old.coding) self.old result self.new }
     {
         let _ = self.get_ref();
         for _piece in 0..u64::MAX {
@@ -298,8 +309,11 @@ impl<R: TellRead, C: Coding, P: ReaderPolicy> BodyReader<R, C, P> {
 
     /// Takes the rest of the body, and appends its payload to `out`, which has at most `most` bytes then.
     pub fn collect(&mut self, most: usize, out: &mut Vec<u8>) -> Result<(), CollectError<C::Wrong>>
-        ensures { Collects R.remaining P.rules (C.grammar self.old.coding) most self.old (vec_items out.old) result self.new
-            (vec_items out.new) }
+        ensures appended { (payload : List ℕ) × (vec_items out.new ≡ vec_items out.old ++ payload)
+            × (self.new.calls.reads.given ≡ self.old.calls.reads.given ++ payload) }
+        ensures ended { OnOk result (IsBody (C.grammar self.old.coding) self.new.taken self.new.calls.reads.given) }
+        ensures collects { Collects R.remaining P.rules (C.grammar self.old.coding) most self.old (vec_items out.old) result
+            self.new (vec_items out.new) }
     {
         // Says that the reader is whole, also where nothing comes.
         let _ = self.get_ref();
@@ -321,7 +335,8 @@ impl<R: TellRead, C: Coding, P: ReaderPolicy> BodyReader<R, C, P> {
     /// Whether nothing follows what was taken: reads a byte ahead, unless one is buffered, and leaves what comes. Behind the end
     /// of the body this tells whether the stream ended too.
     pub fn is_at_end(&mut self) -> io::Result<bool>
-        ensures { LooksBehind R.remaining P.rules (C.grammar self.old.coding) self.old result self.new }
+        ensures buffered { IfOk result (λ none. IsTrue none ↔ self.new.reader.block.bytes ≡ []) }
+        ensures looks { LooksBehind R.remaining P.rules (C.grammar self.old.coding) self.old result self.new }
     {
         Ok(self.reader.peek(1)?.is_empty())
     }

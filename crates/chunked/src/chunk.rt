@@ -69,9 +69,9 @@ pub fn make_space<W: TellWrite>(writer: &mut BufWriter<W>, bytes: usize) -> io::
 #[inline(always)]
 pub fn put<W: TellWrite>(writer: &mut BufWriter<W>, wire: &mut CallLog, bytes: &[u8])
     requires { length bytes.now ≤ usable writer.old.block }
+    ensures wire { wire.new.log.writes.received ≡ wire.old.log.writes.received ++ bytes.now }
     ensures put { PutsIn writer.old bytes.now writer.new }
     ensures usable { usable writer.new.block ≡ usable writer.old.block - length bytes.now }
-    ensures wire { wire.new.log.writes.received ≡ wire.old.log.writes.received ++ bytes.now }
 {
     writer.put(bytes);
     wire.note(&Call::Write(bytes, &Ok(bytes.len())));
@@ -83,8 +83,8 @@ pub fn put_chunk<W: TellWrite>(writer: &mut BufWriter<W>, wire: &mut CallLog, pa
     requires some { 0 < length payload.now }
     requires small { length payload.now < 2 ^ 62 }
     requires room { around + length payload.now ≤ room writer.old }
-    ensures put { PutsIn writer.old (chunk payload.now) writer.new }
     ensures wire { wire.new.log.writes.received ≡ wire.old.log.writes.received ++ chunk payload.now }
+    ensures put { PutsIn writer.old (chunk payload.now) writer.new }
 {
     let line = SizeLine::new(payload.len() as u64);
     writer.make_room();
@@ -97,8 +97,8 @@ pub fn put_chunk<W: TellWrite>(writer: &mut BufWriter<W>, wire: &mut CallLog, pa
 pub fn put_line<W: TellWrite>(writer: &mut BufWriter<W>, wire: &mut CallLog, size: u64)
     requires small { size < 2 ^ 62 }
     requires room { around ≤ room writer.old }
-    ensures put { PutsIn writer.old (chunk_begun size []) writer.new }
     ensures wire { wire.new.log.writes.received ≡ wire.old.log.writes.received ++ chunk_begun size [] }
+    ensures put { PutsIn writer.old (chunk_begun size []) writer.new }
 {
     let line = SizeLine::new(size);
     writer.make_room();
@@ -142,8 +142,8 @@ pub fn take_part<W: TellWrite>(
 /// Copies the end of the line behind a payload in, for which there is room, where no byte of it is due.
 pub fn end_chunk<W: TellWrite>(writer: &mut BufWriter<W>, wire: &mut CallLog, due: usize)
     requires room { 2 ≤ room writer.old }
-    ensures put { PutsIn writer.old (chunk_end due) writer.new }
     ensures wire { wire.new.log.writes.received ≡ wire.old.log.writes.received ++ chunk_end due }
+    ensures put { PutsIn writer.old (chunk_end due) writer.new }
 {
     let _ = writer.capacity();
     if due == 0 {

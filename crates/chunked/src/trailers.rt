@@ -68,8 +68,8 @@ pub fn end_len(fields: &[&[u8]], capacity: usize) -> Result<usize, TrailersError
 /// Copies the end of a body with these trailers in, for which there is room, and notes it.
 pub fn put_end<W: TellWrite>(writer: &mut BufWriter<W>, wire: &mut CallLog, fields: &[&[u8]])
     requires room { length (body_end (lines_of fields.now)) ≤ room writer.old }
-    ensures put { PutsIn writer.old (body_end (lines_of fields.now)) writer.new }
     ensures wire { wire.new.log.writes.received ≡ wire.old.log.writes.received ++ body_end (lines_of fields.now) }
+    ensures put { PutsIn writer.old (body_end (lines_of fields.now)) writer.new }
 {
     writer.make_room();
     put(writer, wire, b"0\r\n");

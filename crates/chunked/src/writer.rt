@@ -1,5 +1,5 @@
 //! The writer of a body.
-ghost use Rattle.std.specs.Prelude.{◌≡◌, ◌<◌, ◌≤◌, ◌⊎◌, [], length, MatchResult, Some};
+ghost use Rattle.std.specs.Prelude.{◌≡◌, ◌<◌, ◌≤◌, ◌⊎◌, [], ◌++◌, length, IfOk, MatchResult, Some};
 ghost use Rattle.std.specs.IoError.{error_kind};
 ghost use Rattle.std.specs.declared.io.Error.{Error};
 ghost use Rattle.std.specs.declared.io.ErrorKind.TheVariants.{InvalidInput};
@@ -77,6 +77,7 @@ impl<W: TellWrite> ChunkedWriter<W> {
     /// may stand around the payload of a chunk.
     pub fn new(writer: BufWriter<W>) -> Self
         requires room { around < writer.block.capacity }
+        ensures over { (result.writer ≡ writer) × (result.wire ≡ []) × (result.due ≡ 0) }
         ensures begun { result ≡ unbegun writer }
         ensures whole { IsChunkedWriter result }
     {
@@ -93,6 +94,7 @@ impl<W: TellWrite> ChunkedWriter<W> {
     /// chunks goes on: its next chunk stands behind those of the other.
     pub fn with_buffer(buffer: Buffer, inner: W) -> Self
         requires room { around < buffer.capacity }
+        ensures over { (result.writer.inner ≡ inner) × (result.writer.block ≡ buffer) × (result.wire ≡ []) }
         ensures begun { result ≡ unbegun (over_buffer W.log (record {}) buffer inner) }
         ensures whole { IsChunkedWriter result }
     {
@@ -146,7 +148,9 @@ impl<W: TellWrite> ChunkedWriter<W> {
     /// Where payload is [`due`](ChunkedWriter::due) the body can't be ended: the writer comes back as it was, with
     /// `InvalidInput`.
     pub fn finish(self) -> Result<BufWriter<W>, IntoInnerError<Self>>
-        ensures { MatchResult result (Finishes W.log W.trace self [])
+        ensures ended { IfOk result (λ w. w.log.writes.received ++ w.block.bytes
+            ≡ (self.writer.log.writes.received ++ self.writer.block.bytes) ++ body_end []) }
+        ensures finishes { MatchResult result (Finishes W.log W.trace self [])
             (λ e. (LacksPayload self e.0 × (error_kind e.1 ≡ InvalidInput)) ⊎ NotFinished W.log W.trace self [] e.1 e.0) }
     {
         if self.due > 0 {
@@ -175,7 +179,9 @@ impl<W: TellWrite> ChunkedWriter<W> {
     /// );
     /// ```
     pub fn finish_with_trailers(self, fields: &[&[u8]]) -> Result<BufWriter<W>, FinishError<Self>>
-        ensures { MatchResult result (Finishes W.log W.trace self (lines_of fields.now))
+        ensures ended { IfOk result (λ w. w.log.writes.received ++ w.block.bytes
+            ≡ (self.writer.log.writes.received ++ self.writer.block.bytes) ++ body_end (lines_of fields.now)) }
+        ensures finishes { MatchResult result (Finishes W.log W.trace self (lines_of fields.now))
             (λ e. (CannotEnd self.due (lines_of fields.now) self.writer.block.capacity e.1 × (e.0 ≡ self) × IsChunkedWriter e.0)
             ⊎ ((fault : Error) × (e.1 ≡ TrailersError.Io fault)
             × NotFinished W.log W.trace self (lines_of fields.now) fault e.0)) }

@@ -6,7 +6,7 @@ use Rattle.bodies.proofs.decoding.read_held.Goals as goal
 
 pub returns : goal.returns
 returns g c =
-    let hands = c.read_buffered.ensures in
+    let hands = c.read_buffered.ensures.reads in
     let out = c.read_buffered.new.out in
     let more = drop 8191 c.args.piece.now in
     record {

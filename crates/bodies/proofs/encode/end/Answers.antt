@@ -5,7 +5,7 @@ use Rattle.bodies.proofs.encode.end.Goals as goal
 
 pub returns-in-Ok-flush : goal.returns-in-Ok-flush
 returns-in-Ok-flush g c =
-    let end = c.in-Ok.ensures in
+    let end = c.in-Ok.ensures.finishes in
     ends_well g.W.Tell.log g.W.TellWrite.trace c.args.body.writer c.in-Ok.target c.flush.new.self end.in_order
     (put_quietly g.W.Tell.log g.W.TellWrite.trace c.args.body.writer c.in-Ok.target (body_end []) (body_end []) _ end.fits
     end.full)
@@ -13,7 +13,7 @@ returns-in-Ok-flush g c =
 
 pub returns-in-Err-flush : goal.returns-in-Err-flush
 returns-in-Err-flush g c =
-    let end = c.in-Ok.ensures in
+    let end = c.in-Ok.ensures.finishes in
     ends_badly g.W.Tell.log g.W.TellWrite.trace c.args.body.writer c.in-Ok.target c.flush.new.self end.in_order
     (put_quietly g.W.Tell.log g.W.TellWrite.trace c.args.body.writer c.in-Ok.target (body_end []) (body_end []) _ end.fits
     end.full)
@@ -23,4 +23,4 @@ pub returns-in-Err : goal.returns-in-Err
 returns-in-Err g c =
     rw c.into_inner.ensures
     (ends_not g.W.Tell.log g.W.TellWrite.trace c.args.body c.in-Err.field-0.0 c.requires.between c.in-Err.field-0.1
-    c.in-Err.ensures)
+    c.in-Err.ensures.finishes)

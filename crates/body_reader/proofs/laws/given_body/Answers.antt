@@ -1,8 +1,14 @@
 use Rattle.body_reader.specs.BodyReaderLaws.{given_all, given_front, given_right, given_there}
 use Rattle.body_reader.proofs.laws.given_body.Goals as goal
 
-pub returns : goal.returns
-returns g c body payload behind rest is same =
+pub returns-clause-front : goal.returns-clause-front
+returns-clause-front g c body payload behind rest is same =
+    let t = c.args.reader.now in
+    given_front (g.C.Coding.grammar t.coding) (g.met.C.Coding.lawful t.coding) t c.get_ref.ensures.whole body payload behind
+    rest is same
+
+pub returns-clause-given : goal.returns-clause-given
+returns-clause-given g c body payload behind rest is same =
     let t = c.args.reader.now in
     let grammar = g.C.Coding.grammar t.coding in
     let lawful = g.met.C.Coding.lawful t.coding in

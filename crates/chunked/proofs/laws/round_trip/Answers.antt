@@ -3,6 +3,6 @@ use Rattle.chunked.proofs.laws.round_trip.Goals as goal
 
 pub returns : goal.returns
 returns g c = λ first last payload fields wrote h behind rest lets given.
-    c.given_body.ensures wrote payload behind rest
+    c.given_body.ensures.given wrote payload behind rest
     (written_body g.W.Tell.log g.W.TellWrite.trace first payload fields c.args.writer.now last wrote h
     c.args.reader.now.coding.0 lets) given

@@ -4,6 +4,7 @@ use Rattle.std.proofs.lemmas.Result.{err_from_is_err_and}
 use Rattle.body_reader.specs.declared.error.CollectError.TheVariants as why
 use Rattle.body_reader.specs.BodyReader.{BodyWent, Collects}
 use Rattle.body_reader.proofs.Collecting.{Collected, collected_more, collected_none, collects_all, collects_long, collects_no_room, collects_none}
+use Rattle.body_reader.proofs.Said.{collect_says}
 use Rattle.body_reader.proofs.reader.BodyReader.collect.Goals as goal
 
 -- what was refused leaves a vector as it was
@@ -23,16 +24,18 @@ loop-came-init g c = collected_none _ _ _ _ _ _ c.get_ref.ensures.whole
 pub returns-in_err-came : goal.returns-in_err-came
 returns-in_err-came g c =
     let p = err_from_is_err_and c.from_residual.result c.from_residual.ensures.1 in
-    rw (p.1, p.2) (collects_none g.C.Coding.grammar c.loop-came.invariant c.in_err-came.ensures)
+    rw (p.1, p.2) (collect_says _ _ _ _ (collects_none g.C.Coding.grammar c.loop-came.invariant c.in_err-came.ensures.fills))
 
 pub returns-then-came-eq0 : goal.returns-then-came-eq0
 returns-then-came-eq0 g c =
-    collects_all g.C.Coding.grammar c.loop-came.invariant c.in_ok-came.ensures c.if-came-eq0.true
+    collect_says _ _ _ _
+    (collects_all g.C.Coding.grammar c.loop-came.invariant c.in_ok-came.ensures.fills c.if-came-eq0.true)
 
 pub returns-then-came-saturating_sub : goal.returns-then-came-saturating_sub
 returns-then-came-saturating_sub g c =
-    collects_long g.C.Coding.grammar c.loop-came.invariant c.in_ok-came.ensures (omega (arith, c.if-came-eq0.false))
-    (omega (arith, c.if-came-saturating_sub.true, c.saturating_sub.ensures, c.len.ensures))
+    collect_says _ _ _ _
+    (collects_long g.C.Coding.grammar c.loop-came.invariant c.in_ok-came.ensures.fills (omega (arith, c.if-came-eq0.false))
+    (omega (arith, c.if-came-saturating_sub.true, c.saturating_sub.ensures, c.len.ensures)))
 
 pub returns-then-is_err : goal.returns-then-is_err
 returns-then-is_err g c =
@@ -40,9 +43,10 @@ returns-then-is_err g c =
     let same = not_added c.extend_from_slice.result (vec_items c.loop-came.out) c.piece.result.now
     (vec_items c.extend_from_slice.new.self) c.extend_from_slice.ensures.items
     (sym c.is_err.ensures.value ∙ c.if-is_err.true) in
-    subst (Collects g.R.TellRead.remaining g.P.ReaderPolicy.rules (g.C.Coding.grammar s.coding) c.args.most s
+    collect_says _ _ _ _
+    (subst (Collects g.R.TellRead.remaining g.P.ReaderPolicy.rules (g.C.Coding.grammar s.coding) c.args.most s
     (vec_items c.args.out.now) (Err why.Memory) c.fill_payload.new.self) (sym same)
-    (collects_no_room g.C.Coding.grammar c.loop-came.invariant c.in_ok-came.ensures (omega (arith, c.if-came-eq0.false)))
+    (collects_no_room g.C.Coding.grammar c.loop-came.invariant c.in_ok-came.ensures.fills (omega (arith, c.if-came-eq0.false))))
 
 pub loop-came-preserved : goal.loop-came-preserved
 loop-came-preserved g c =
@@ -52,7 +56,7 @@ loop-came-preserved g c =
     let s = c.args.self.now in
     let f = c.fill_payload.new.self in
     let t = c.consume_payload.new.self in
-    let fills = c.in_ok-came.ensures in
+    let fills = c.in_ok-came.ensures.fills in
     let all : min c.in_ok-came.came f.known ≡ f.known = omega (arith, fills.answers.0) in
     let went : BodyWent remaining rules' (grammar f.coding) f (take f.known f.reader.block.bytes) t =
     subst (λ k. BodyWent remaining rules' (grammar f.coding) f (take k f.reader.block.bytes) t) all c.consume_payload.ensures.went in

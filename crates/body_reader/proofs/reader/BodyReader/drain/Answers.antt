@@ -3,6 +3,7 @@ use Rattle.std.proofs.Common.{◌≡◌, min, take, arith, subst}
 use Rattle.std.proofs.lemmas.Result.{err_from_is_err_and}
 use Rattle.body_reader.specs.BodyReader.{BodyWent}
 use Rattle.body_reader.proofs.Draining.{dropped_more, dropped_none, drained, not_drained, too_many}
+use Rattle.body_reader.proofs.Said.{drain_says}
 use Rattle.body_reader.proofs.reader.BodyReader.drain.Goals as goal
 
 pub loop-piece-init : goal.loop-piece-init
@@ -11,17 +12,17 @@ loop-piece-init g c = dropped_none _ _ _ _ c.get_ref.ensures.whole
 pub returns-in_err-count : goal.returns-in_err-count
 returns-in_err-count g c =
     let p = err_from_is_err_and c.from_residual.result c.from_residual.ensures.1 in
-    rw (p.1, p.2) (not_drained g.C.Coding.grammar c.loop-piece.invariant c.in_err-count.ensures)
+    rw (p.1, p.2) (drain_says _ (not_drained g.C.Coding.grammar c.loop-piece.invariant c.in_err-count.ensures.fills))
 
 pub returns-then-count-eq0 : goal.returns-then-count-eq0
 returns-then-count-eq0 g c =
-    drained g.C.Coding.grammar c.loop-piece.invariant (rw c.if-count-eq0.true at c.in_ok-count.ensures)
+    drain_says _ (drained g.C.Coding.grammar c.loop-piece.invariant (rw c.if-count-eq0.true at c.in_ok-count.ensures.fills))
 
 pub loop-piece-preserved : goal.loop-piece-preserved
 loop-piece-preserved g c =
     let f = c.fill_payload.new.self in
     let t = c.consume_payload.new.self in
-    let fills = c.in_ok-count.ensures in
+    let fills = c.in_ok-count.ensures.fills in
     let all : min c.in_ok-count.count f.known ≡ f.known = omega (arith, fills.answers.0) in
     let went : BodyWent g.R.TellRead.remaining g.P.ReaderPolicy.rules (g.C.Coding.grammar f.coding) f
     (take f.known f.reader.block.bytes) t =
@@ -33,4 +34,4 @@ loop-piece-preserved g c =
 
 pub returns : goal.returns
 returns g c =
-    too_many g.C.Coding.grammar c.loop-piece.invariant c.from.ensures (omega (arith, c.loop-piece-test.false))
+    drain_says _ (too_many g.C.Coding.grammar c.loop-piece.invariant c.from.ensures (omega (arith, c.loop-piece-test.false)))

@@ -1,12 +1,13 @@
 use Rattle.std.proofs.Common.{◌≡◌, arith}
 use Rattle.body_reader.proofs.Payload.{fill_known, filled, filled_is, fills_seen, known_seen, not_filled, not_filled_is}
+use Rattle.body_reader.proofs.Said.{fill_says}
 use Rattle.body_reader.proofs.reader.BodyReader.fill_payload.Goals as goal
 
 pub returns-then-self-gt0 : goal.returns-then-self-gt0
 returns-then-self-gt0 g c =
-    known_seen g.R.TellRead.remaining g.P.ReaderPolicy.rules g.C.Coding.grammar _ c.args.self.now _ c.self.view_is
+    fill_says _ (known_seen g.R.TellRead.remaining g.P.ReaderPolicy.rules g.C.Coding.grammar _ c.args.self.now _ c.self.view_is
     (fill_known g.R.TellRead.remaining g.P.ReaderPolicy.rules (g.C.Coding.grammar c.self.inside.coding) _ c.self.invariant
-    c.if-self-gt0.true)
+    c.if-self-gt0.true))
 
 pub invariant_of-self : goal.invariant_of-self
 invariant_of-self g c =
@@ -27,17 +28,17 @@ invariant_of-self-in-Err g c =
 pub returns-in-Ok : goal.returns-in-Ok
 returns-in-Ok g c =
     let none : c.self.inside.known ≡ 0 = omega (arith, c.if-self-gt0.false) in
-    fills_seen g.R.TellRead.remaining g.P.ReaderPolicy.rules g.C.Coding.grammar _ c.args.self.now _ _ c.self.view_is
+    fill_says _ (fills_seen g.R.TellRead.remaining g.P.ReaderPolicy.rules g.C.Coding.grammar _ c.args.self.now _ _ c.self.view_is
     (filled g.R.TellRead.remaining g.P.ReaderPolicy.rules (g.C.Coding.grammar c.self.inside.coding)
     (g.met.C.Coding.lawful c.self.inside.coding) c.self.inside.reader c.self.inside.coding c.self.inside.progress
     c.self.inside.calls.log c.self.inside.known c.self.invariant c.fill_on.new.reader c.fill_on.new.progress none c.in-Ok.known
-    c.in-Ok.ensures)
+    c.in-Ok.ensures))
 
 pub returns-in-Err : goal.returns-in-Err
 returns-in-Err g c =
     let none : c.self.inside.known ≡ 0 = omega (arith, c.if-self-gt0.false) in
-    fills_seen g.R.TellRead.remaining g.P.ReaderPolicy.rules g.C.Coding.grammar _ c.args.self.now _ _ c.self.view_is
+    fill_says _ (fills_seen g.R.TellRead.remaining g.P.ReaderPolicy.rules g.C.Coding.grammar _ c.args.self.now _ _ c.self.view_is
     (not_filled g.R.TellRead.remaining g.P.ReaderPolicy.rules (g.C.Coding.grammar c.self.inside.coding)
     (g.met.C.Coding.lawful c.self.inside.coding) c.self.inside.reader c.self.inside.coding c.self.inside.progress
     c.self.inside.calls.log c.self.inside.known c.self.invariant c.fill_on.new.reader c.fill_on.new.progress none c.in-Err.e
-    c.in-Err.ensures)
+    c.in-Err.ensures))

@@ -1,4 +1,5 @@
 use Rattle.body_reader.proofs.Showing.{buffered_seen, shown_is, shown_reads}
+use Rattle.body_reader.proofs.Said.{buffered_says}
 use Rattle.body_reader.proofs.reader.BodyReader.read_buffered.Goals as goal
 
 pub invariant_of-self : goal.invariant_of-self
@@ -13,9 +14,9 @@ invariant_of-self g c =
 pub returns : goal.returns
 returns g c =
     let i = c.self.inside in
-    buffered_seen g.R.TellRead.remaining g.P.ReaderPolicy.rules g.C.Coding.grammar _ c.args.self.now _ _ _ c.self.view_is
+    buffered_says _ _ (buffered_seen g.R.TellRead.remaining g.P.ReaderPolicy.rules g.C.Coding.grammar _ c.args.self.now _ _ _ c.self.view_is
     (shown_reads g.R.TellRead.remaining g.P.ReaderPolicy.rules (g.C.Coding.grammar i.coding)
     (g.met.C.Coding.lawful i.coding) i.reader i.coding i.progress i.calls.log i.known c.self.invariant
     c.hand_buffered-count.new.out c.hand_buffered-count.result c.hand_buffered-count.new.reader
     c.hand_buffered-count.new.progress c.hand_buffered-count.new.known c.hand_buffered-count.ensures c.note.new.self.log
-    c.note.ensures)
+    c.note.ensures))

@@ -5,4 +5,4 @@ use Rattle.multipart.proofs.reader.Multipart.fill.Goals as goal
 
 pub returns-clause-fills : goal.returns-clause-fills
 returns-clause-fills g c = λ _. subst (λ d. FillsPayload g.R.TellRead.remaining g.P.ReaderPolicy.rules (codes d.body.coding)
-    d.body c.fill_payload.result c.fill_payload.new.self) c.self.view_is c.fill_payload.ensures
+    d.body c.fill_payload.result c.fill_payload.new.self) c.self.view_is c.fill_payload.ensures.fills
