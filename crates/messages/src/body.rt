@@ -1,5 +1,5 @@
 //! The reader of requests, in a body.
-ghost use Rattle.std.specs.Prelude.{◌≡◌, ◌-◌, ◌^◌, ◌<◌, ◌≤◌, ◌↔◌, ℕ, List, [], ◌++◌, length, min, take, IfErr, IfOk, IsTrue, MatchResult, Ok, OnOk};
+ghost use Rattle.std.specs.Prelude.{◌≡◌, ◌-◌, ◌^◌, ◌<◌, ◌≤◌, ◌↔◌, ℕ, List, [], ◌++◌, drop, length, min, take, IfErr, IfOk, IsTrue, MatchResult, Ok, OnOk};
 ghost use Rattle.std.specs.Borrow.{Lends, sem};
 ghost use Rattle.body_reader.specs.Asking.{AskedWhere};
 ghost use Rattle.body_reader.specs.Between.{HandsAll, handed_out};
@@ -8,7 +8,7 @@ ghost use Rattle.buffer_redux.specs.Unbuffer.{unbuffered};
 ghost use Rattle.codec.specs.PieceReader.{left_of};
 ghost use Rattle.messages.specs.contracts.body.Body.{the_row};
 ghost use Rattle.messages.specs.Heads.{IsHead};
-ghost use Rattle.messages.specs.Messages.{AskedIn, EachGave, Ends, Fails, FinishFails, HasRoom, InsideGoes, IsReady, IsRest, IsRoomy, ReaderTakes, RunsShort, Unended, begun, body_of, grammar_of, has_line, left_in, rest_of, room_of, stream_of, with_stream};
+ghost use Rattle.messages.specs.Messages.{AskedIn, Bytes, EachGave, Ends, Fails, FinishFails, HasRoom, InsideGoes, IsReady, IsRest, IsRoomy, ReaderTakes, RunsShort, Unended, begun, body_of, grammar_of, has_line, left_in, rest_of, room_of, stream_of, with_stream};
 
 mod tells;
 
@@ -149,7 +149,8 @@ impl<R: Tell> Body<R> {
 
     /// Whether the body ended.
     pub fn is_done(&self) -> bool
-        ensures { IsTrue result ↔ IsRest self.now.rest [] [] }
+        ensures sized { (n : ℕ) → self.now.rest ≡ Bytes n → (IsTrue result ↔ n ≡ 0) }
+        ensures ended { IsTrue result ↔ IsRest self.now.rest [] [] }
     {
         is_done(&self.reader)
     }
@@ -190,6 +191,9 @@ impl<R: TellRead> Body<R> {
     /// Goes on to the next head: takes what is left of the body, and drops its payload. The stream is asked for no byte behind
     /// it. An `Err` hands the reader back, in the body still. The buffer is kept, and takes no memory.
     pub fn finish(self) -> Result<Requests<R>, (Self, BodyError)>
+        ensures in_order { IfOk result (λ next. (wire : List ℕ) × (got : List ℕ)
+            × (next.reader.log.reads.given ≡ self.stream.log.reads.given ++ got)
+            × (wire ++ drop next.handed next.reader.block.bytes ≡ self.stream.left ++ got)) }
         ensures ends { MatchResult result (λ next. Ends R.remaining self.stream self.rest (left_of next))
             (λ e. (handed : List ℕ) × InsideGoes R.remaining self handed e.0
             × FinishFails self.stream handed e.1 e.0.stream e.0.rest) }

@@ -110,6 +110,7 @@ fn refused(text: &[u8], limits: Limits) -> Option<BadHead>
 /// RFC 9112, section 6 has it, with no coding but `chunked`. `CONNECT` is refused: a tunnel begins behind it. An `Err` says why
 /// they are none.
 pub fn read_head(head: &[u8]) -> Result<ParsedHead, BadHead>
+    ensures few { IfOk result (λ _. length head.now ≤ 16384) }
     ensures head { IfOk result (λ said. IsHead usual head.now said) }
     ensures none { OnErr result ((said : ParsedHead) → ¬ (IsHead usual head.now said)) }
     ensures fault { IfErr result (IsRefused usual head.now) }
@@ -119,6 +120,7 @@ pub fn read_head(head: &[u8]) -> Result<ParsedHead, BadHead>
 
 /// The same under limits of yours.
 pub fn read_head_within(head: &[u8], limits: Limits) -> Result<ParsedHead, BadHead>
+    ensures few { IfOk result (λ _. length head.now ≤ 16384) }
     ensures head { IfOk result (λ said. IsHead limits head.now said) }
     ensures none { OnErr result ((said : ParsedHead) → ¬ (IsHead limits head.now said)) }
     ensures fault { IfErr result (IsRefused limits head.now) }

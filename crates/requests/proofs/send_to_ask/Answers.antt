@@ -6,11 +6,11 @@ use Rattle.requests.proofs.send_to_ask.Goals as goal
 pub returns-then-is_settled : goal.returns-then-is_settled
 returns-then-is_settled g c =
     let settles = subst (λ l. IsTrue c.is_settled.result ↔ IsSettled (heads l) c.args.requests.now) c.requires.limits
-    c.is_settled.ensures in
+    c.is_settled.ensures.settled in
     inl (settles.0 c.if-is_settled.true, refl, refl)
 
 pub returns : goal.returns
 returns g c =
     let settles = subst (λ l. IsTrue c.is_settled.result ↔ IsSettled (heads l) c.args.requests.now) c.requires.limits
-    c.is_settled.ensures in
+    c.is_settled.ensures.settled in
     inr ((λ settled. let odd = settles.1 settled in absurd (cc)), c.send_held.ensures)

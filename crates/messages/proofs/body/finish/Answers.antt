@@ -5,26 +5,26 @@ use Rattle.messages.proofs.body.finish.Goals as goal
 
 pub returns-in-Ok-clause-room : goal.returns-in-Ok-clause-room
 returns-in-Ok-clause-room g c =
-    let left = c.in-Ok.ensures in
+    let left = c.in-Ok.ensures.drains in
     rw left.2 (body_room c.get_ref.ensures.whole left.1.whole left.1.went c.requires).0
 
 pub returns-in-Ok-clause-kept : goal.returns-in-Ok-clause-kept
 returns-in-Ok-clause-kept g c =
-    let left = c.in-Ok.ensures in
+    let left = c.in-Ok.ensures.drains in
     rw left.2 (body_kept c.get_ref.ensures.whole left.1.whole left.1.went)
 
 pub returns-in-Ok-clause-ends : goal.returns-in-Ok-clause-ends
 returns-in-Ok-clause-ends g c =
-    let left = c.in-Ok.ensures in
+    let left = c.in-Ok.ensures.drains in
     rw left.2 (body_end c.get_ref.ensures.whole left.1.whole left.1.went left.1.answers.1 left.1.answers.0)
 
 pub returns-in-Ok-clause-asked : goal.returns-in-Ok-clause-asked
 returns-in-Ok-clause-asked g c =
-    rw c.in-Ok.ensures.2 (drain_asked c.get_ref.ensures.whole c.requires.1 c.in-Ok.ensures.1)
+    rw c.in-Ok.ensures.drains.2 (drain_asked c.get_ref.ensures.whole c.requires.1 c.in-Ok.ensures.drains.1)
 
 pub unread-requires : goal.unread-requires
 unread-requires g c =
-    let drains = c.in-Err.ensures in
+    let drains = c.in-Err.ensures.drains in
     elim drains.answers [
       | inl fails ↦ body_named c.get_ref.ensures.whole drains.whole drains.went c.in-Err.e fails
       | inr many ↦ subst IsNamed (sym many.1) tt
@@ -32,17 +32,17 @@ unread-requires g c =
 
 pub returns-in-Err-clause-room : goal.returns-in-Err-clause-room
 returns-in-Err-clause-room g c =
-    let drains = c.in-Err.ensures in
+    let drains = c.in-Err.ensures.drains in
     body_room c.get_ref.ensures.whole drains.whole drains.went c.requires
 
 pub returns-in-Err-clause-kept : goal.returns-in-Err-clause-kept
 returns-in-Err-clause-kept g c =
-    let drains = c.in-Err.ensures in
+    let drains = c.in-Err.ensures.drains in
     body_kept c.get_ref.ensures.whole drains.whole drains.went
 
 pub returns-in-Err-clause-ends : goal.returns-in-Err-clause-ends
 returns-in-Err-clause-ends g c =
-    let drains = c.in-Err.ensures in
+    let drains = c.in-Err.ensures.drains in
     rw (c.unread.ensures, c.place-place.ensures) (
       drains.payload,
       body_take c.get_ref.ensures.whole drains.whole drains.went,
@@ -51,4 +51,4 @@ returns-in-Err-clause-ends g c =
     )
 
 pub returns-in-Err-clause-asked : goal.returns-in-Err-clause-asked
-returns-in-Err-clause-asked g c = drain_asked c.get_ref.ensures.whole c.requires.1 c.in-Err.ensures
+returns-in-Err-clause-asked g c = drain_asked c.get_ref.ensures.whole c.requires.1 c.in-Err.ensures.drains

@@ -3,23 +3,23 @@ use Rattle.messages.proofs.body.read_buffered.Goals as goal
 
 pub returns-clause-room : goal.returns-clause-room
 returns-clause-room g c =
-    let reads = c.read_buffered.ensures in
+    let reads = c.read_buffered.ensures.reads in
     body_room c.get_ref.ensures.whole reads.whole reads.went c.requires
 
 pub returns-clause-kept : goal.returns-clause-kept
 returns-clause-kept g c =
-    let reads = c.read_buffered.ensures in
+    let reads = c.read_buffered.ensures.reads in
     body_kept c.get_ref.ensures.whole reads.whole reads.went
 
 pub returns-clause-told : goal.returns-clause-told
-returns-clause-told g c = c.read_buffered.ensures.went.handed
+returns-clause-told g c = c.read_buffered.ensures.reads.went.handed
 
 pub returns-clause-takes : goal.returns-clause-takes
 returns-clause-takes g c =
-    let reads = c.read_buffered.ensures in
+    let reads = c.read_buffered.ensures.reads in
     body_take c.get_ref.ensures.whole reads.whole reads.went
 
 pub returns-clause-all : goal.returns-clause-all
 returns-clause-all g c =
-    let reads = c.read_buffered.ensures in
+    let reads = c.read_buffered.ensures.reads in
     body_short c.get_ref.ensures.whole reads.whole reads.went c.read_buffered.new.out c.read_buffered.result reads.all

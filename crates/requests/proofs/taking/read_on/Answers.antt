@@ -50,7 +50,7 @@ returns-in-Ok-read-clause-writes g c =
     c.read_buffered-count.ensures.unasked c.in-Ok.ensures) (Writes-read g.met.W.TellWrite.trace_none v
     (body_asked c.read_buffered-count.result c.read_buffered-count.new.out c.read_buffered-count.new.self c.read.new.self
     c.args.writer.now c.send_unless_shown.new.writer c.in-Ok.ensures (omega (arith, c.if-count-gt0.false)) (search rules)
-    (λ done. let odd = c.is_done.ensures.1 done in absurd (cc)) c.read_buffered-count.ensures.all c.read.ensures.asked))
+    (λ done. let odd = c.is_done.ensures.ended.1 done in absurd (cc)) c.read_buffered-count.ensures.all c.read.ensures.asked))
 
 pub returns-in-Err-read-clause-writes : goal.returns-in-Err-read-clause-writes
 returns-in-Err-read-clause-writes g c =
@@ -62,7 +62,7 @@ returns-in-Err-read-clause-writes g c =
     c.read_buffered-count.ensures.unasked c.in-Ok.ensures) (Writes-read g.met.W.TellWrite.trace_none v
     (body_asked c.read_buffered-count.result c.read_buffered-count.new.out c.read_buffered-count.new.self c.read.new.self
     c.args.writer.now c.send_unless_shown.new.writer c.in-Ok.ensures (omega (arith, c.if-count-gt0.false)) (search rules)
-    (λ done. let odd = c.is_done.ensures.1 done in absurd (cc)) c.read_buffered-count.ensures.all c.read.ensures.asked))
+    (λ done. let odd = c.is_done.ensures.ended.1 done in absurd (cc)) c.read_buffered-count.ensures.all c.read.ensures.asked))
 
 pub returns-in-Err-read-clause-fails : goal.returns-in-Err-read-clause-fails
 returns-in-Err-read-clause-fails g c =
@@ -71,7 +71,7 @@ returns-in-Err-read-clause-fails g c =
     ⊎ AllSent c.send_unless_shown.new.writer =
     body_asked c.read_buffered-count.result c.read_buffered-count.new.out c.read_buffered-count.new.self c.read.new.self
     c.args.writer.now c.send_unless_shown.new.writer c.in-Ok.ensures (omega (arith, c.if-count-gt0.false)) (search rules)
-    (λ done. let odd = c.is_done.ensures.1 done in absurd (cc)) c.read_buffered-count.ensures.all c.read.ensures.asked in (
+    (λ done. let odd = c.is_done.ensures.ended.1 done in absurd (cc)) c.read_buffered-count.ensures.all c.read.ensures.asked in (
       Fails-asked c.args.body.now.stream c.read_buffered-count.new.self.stream c.in-Err-read.e c.read.new.self.stream
           c.read.new.self.rest same c.in-Err-read.ensures.fails,
       elim asked [ inl still ↦ inl (still ∙ same) | inr all ↦ inr all ],

@@ -1,6 +1,9 @@
 use Rattle.std.proofs.Common.{◌↔◌, [], IsTrue, subst}
 use Rattle.messages.specs.Messages.{IsRest}
+use Rattle.messages.proofs.Said.{sized_ended}
 use Rattle.messages.proofs.body.Body.is_done.Goals as goal
 
 pub returns : goal.returns
-returns g c = subst (λ x. IsTrue c.is_done.result ↔ IsRest x.rest [] []) c.self.view_is c.is_done.ensures
+returns g c =
+    let ended = subst (λ x. IsTrue c.is_done.result ↔ IsRest x.rest [] []) c.self.view_is c.is_done.ensures in
+    record { sized = sized_ended _ _ ended; ended = ended }

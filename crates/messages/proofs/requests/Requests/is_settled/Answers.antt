@@ -1,7 +1,13 @@
 use Rattle.std.proofs.Common.{◌↔◌, IsTrue, subst}
 use Rattle.codec.specs.PieceReader.{IsSettled}
 use Rattle.messages.specs.Heads.{heads}
+use Rattle.messages.proofs.Said.{settled_some}
 use Rattle.messages.proofs.requests.Requests.is_settled.Goals as goal
 
-pub returns : goal.returns
-returns g c = subst (λ x. IsTrue c.is_settled.result ↔ IsSettled (heads x.decoder.0) x) c.self.view_is c.is_settled.ensures.settled
+pub returns-clause-some : goal.returns-clause-some
+returns-clause-some g c = λ yes.
+    rw (← c.self.view_is) (settled_some c.self.inside.pieces c.self.invariant.1 (c.is_settled.ensures.settled.0 yes))
+
+pub returns-clause-settled : goal.returns-clause-settled
+returns-clause-settled g c =
+    subst (λ x. IsTrue c.is_settled.result ↔ IsSettled (heads x.decoder.0) x) c.self.view_is c.is_settled.ensures.settled
