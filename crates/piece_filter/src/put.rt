@@ -1,6 +1,7 @@
 //! Bytes that are taken in, all of them or none.
-ghost use Rattle.std.specs.Prelude.{◌+◌, ◌<◌, ◌≤◌, ◌++◌, length};
+ghost use Rattle.std.specs.Prelude.{◌+◌, ◌<◌, ◌≤◌, [], ◌++◌, length, OnErr, OnOk};
 ghost use Rattle.std.specs.Bool.{OnFalse, OnTrue};
+ghost use Rattle.buffer_redux.specs.BufWriter.{WritesInOrder};
 ghost use Rattle.piece_filter.specs.Puts.{Puts};
 
 use buffer_redux::BufWriter;
@@ -16,7 +17,9 @@ pub fn put_both<W: TellWrite>(
     first: &[u8],
     second: &[u8],
 ) -> io::Result<()>
-    ensures { Puts writer.old (first.now ++ second.now) result writer.new }
+    ensures in_order { OnOk result (WritesInOrder writer.old (first.now ++ second.now) writer.new) }
+    ensures none { OnErr result (WritesInOrder writer.old [] writer.new) }
+    ensures puts { Puts writer.old (first.now ++ second.now) result writer.new }
 {
     if lacks_room(writer, first.len(), second.len()) {
         if let Err(e) = writer.send() {

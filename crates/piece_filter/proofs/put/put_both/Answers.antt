@@ -3,7 +3,7 @@ use Rattle.buffer_redux.specs.Block.{MakesRoom}
 use Rattle.buffer_redux.specs.BufWriter.{WasSent, WritesInOrder}
 use Rattle.buffer_redux.specs.Buffered.{with_block}
 use Rattle.buffer_redux.specs.WriteParts.{WritesParts}
-use Rattle.piece_filter.proofs.Putting.{puts_fitting, puts_sent}
+use Rattle.piece_filter.proofs.Putting.{puts_fitting, puts_say, puts_sent}
 use Rattle.piece_filter.proofs.put.put_both.Goals as goal
 use Rattle.piece_filter.proofs.put.put_both.Goals.{then-lacks_room+in_default, else-lacks_room}
 
@@ -20,16 +20,16 @@ returns g c =
     let made = c.make_room.ensures in
     elim c.if-lacks_room.branch [
       | then-lacks_room+in_default w ↦
-          puts_sent g.W.Tell.log g.W.TellWrite.trace s t bytes u m
+          puts_say _ (puts_sent g.W.Tell.log g.W.TellWrite.trace s t bytes u m
           (subst (WasSent g.W.Tell.log g.W.TellWrite.trace s (Ok tt)) (sym w.writer-is) w.in_default.ensures.sent)
           made.in_order made.others made.room
           (omega (arith, rw w.if-lacks_room.true at c.lacks_room.ensures.full, length-append c.args.first.now c.args.second.now))
-          c.write_parts.result parts
+          c.write_parts.result parts)
       | else-lacks_room w ↦
-          puts_fitting g.W.Tell.log g.W.TellWrite.trace s t bytes m
+          puts_say _ (puts_fitting g.W.Tell.log g.W.TellWrite.trace s t bytes m
           (subst (λ u. WritesInOrder u [] m) w.writer-is made.in_order)
           (subst (λ u. m ≡ with_block u m.block) w.writer-is made.others)
           (subst (λ u. MakesRoom u.block m.block) w.writer-is made.room)
           (omega (arith, rw w.if-lacks_room.false at c.lacks_room.ensures.fits, length-append c.args.first.now c.args.second.now))
-          c.write_parts.result parts
+          c.write_parts.result parts)
     ]
