@@ -4,7 +4,11 @@
 A line of a list that begins with calls and, in brackets, clauses, names clauses that each of these calls has: functions of the
 files that the nearest line 'In `FILE`' above it names. A word in code letters with a capital or an underscore is one of the
 sources, or the name of a crate. So is each lemma that a table of docs/PROOFS.md names, which begins with 'To say' or 'Of'.
+
+And no two crates define one word, a `record`, `data` or `abbrev` of specs/: tests/homonyms.txt has those that mean the same of
+each crate's own things, with the crates and the reason. Crates of tests don't count.
 """
+import collections
 import pathlib
 import re
 import sys
@@ -13,6 +17,8 @@ top = pathlib.Path(__file__).resolve().parent.parent
 pages = [top / "docs" / it for it in ("CONTRACTS.md", "DESIGN.md")]
 NAMES = r"`\w+`(?:, `\w+`)*"
 CALLS = re.compile(rf"- ({NAMES}) \(({NAMES})\):")
+# A line that begins with `record s {` makes a value.
+WORD = re.compile(r"(?m)^ *(?:abbrev pub|(?:pub )?(?:abbrev|record|data)) ([A-Za-z_][\w'-]*)(?! *\{(?: *$|.* = ))")
 crates = {it.name for it in top.glob("crates/*")}
 sources = {it: it.read_text(encoding="utf-8") for part in ("src", "specs") for it in top.glob(f"crates/*/{part}/**/*.*")}
 
@@ -62,11 +68,28 @@ def lost_lemmas(page, every):
     return wrong
 
 
+def shared_words():
+    """The words that several crates define, or that tests/homonyms.txt names wrongly, a line each."""
+    crates_of = collections.defaultdict(set)
+    for path, text in sources.items():
+        crate = path.relative_to(top / "crates").parts[0]
+        if path.suffix == ".antt" and not crate.startswith("tests_"):
+            for word in WORD.findall(text):
+                crates_of[word].add(crate)
+    lines = (top / "tests" / "homonyms.txt").read_text(encoding="utf-8").splitlines()
+    may = {it.split(":")[0] for it in lines if it.partition(": ")[2]}
+    do = {" ".join([word, *sorted(those)]) for word, those in crates_of.items() if len(those) > 1}
+    wrong = [f"several crates define one word: {it}" for it in sorted(do - may)]
+    return wrong + [f"tests/homonyms.txt: no such crates define that word: {it}" for it in sorted(may - do)]
+
+
 def main():
     every = "\n".join(sources.values())
     wrong = [it for page in pages for it in wrong_in(page, every)]
     wrong += lost_lemmas(top / "docs" / "PROOFS.md", every)
-    print("\n".join(wrong) or "each clause, word, file and lemma that CONTRACTS, DESIGN and PROOFS name stands in the sources")
+    wrong += shared_words()
+    named = "each clause, word, file and lemma that CONTRACTS, DESIGN and PROOFS name stands in the sources"
+    print("\n".join(wrong) or f"{named}, and a word means one thing")
     return 1 if wrong else 0
 
 

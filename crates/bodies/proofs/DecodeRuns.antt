@@ -5,15 +5,15 @@ use Rattle.std.specs.Global.{Vec}
 use Rattle.buffer_redux.specs.ReaderLaws.{ReadsInOrder-fresh}
 use Rattle.buffer_redux.specs.WriterLaws.{WritesInOrder-fresh}
 use Rattle.chunked.specs.CodingLaws.{leads_of}
-use Rattle.chunked.specs.Place.{Leads}
-use Rattle.chunked.specs.PlaceLaws.{Leads-none}
+use Rattle.chunked.specs.Place.{LeadsAlong}
+use Rattle.chunked.specs.PlaceLaws.{LeadsAlong-none}
 use Rattle.chunked.specs.declared.place.Place.TheVariants.{Line}
 use Rattle.forward.specs.Forward.{ForwardAnswers, Forwarded, StopsBy}
 use Rattle.forward.specs.declared.error.Cause.{Cause}
 use Rattle.forward.specs.declared.error.Cause.TheVariants as cause
-use Rattle.bodies.specs.Words.{Error, Buffered, StreamLog, StdPolicy, IsBody, BreaksAt, IsWhole, begun, chunked, handed_of, Limits, FilterRules, Moves, AllSent, BufferRefused, MetNoFault, RunError}
-use Rattle.bodies.specs.Decode.{DecodeRan, Decodes, Moved, MovedAll}
-use Rattle.bodies.specs.Decoding.{IsReady, PiecesEnd, decoding_rules, held_of}
+use Rattle.bodies.specs.Words.{Error, Buffered, StreamLog, StdPolicy, IsBodyOfChunks, BreaksAt, TookWholeBody, begun, chunked, handed_of, Limits, FilterRules, Moves, AllSent, RefusedBeforeCalls, MetNoFault, RunError}
+use Rattle.bodies.specs.Decode.{DecodeRan, DecodesBody, Moved, MovedAll}
+use Rattle.bodies.specs.Decoding.{MayDecode, PayloadEnds, decoding_rules, held_payload}
 use Rattle.bodies.specs.DecodingLaws.{none_held}
 use Rattle.bodies.specs.Filters.{IsErrorOf, joined}
 use Rattle.bodies.specs.FiltersLaws.{each_some}
@@ -28,7 +28,7 @@ start limits first u piece =
 -- from empty buffers on
 module _ {R W : Type 0} (remaining : R → Option (List ℕ)) (limits : Limits) (first : Buffered R StdPolicy)
     (u : Buffered W StdPolicy) (piece : Vec ℕ) (none : first.block.bytes ≡ []) (none' : u.block.bytes ≡ [])
-    (t : Decoding R W) (ready : IsReady t) where
+    (t : Decoding R W) (ready : MayDecode t) where
   abbrev rules : FilterRules (Decoding R W) RunError
   rules = decoding_rules remaining
 
@@ -40,22 +40,22 @@ module _ {R W : Type 0} (remaining : R → Option (List ℕ)) (limits : Limits) 
 
   -- these pieces went over, and some may be lost
   module _ (p lost handed : List (List ℕ)) (all : handed ≡ p ++ lost) (moves : Moves rules begin handed p t) where
-    parted : moves.hands.payload ≡ joined p ++ (joined lost ++ held_of t)
+    parted : moves.hands.payload ≡ joined p ++ (joined lost ++ held_payload t)
     parted = sym (ap (λ l. l ++ moves.hands.payload) (none_held remaining begin refl)) ∙ moves.hands.order
-        ∙ ap (λ l. l ++ held_of t) (ap (λ l. joined l) all ∙ flat_map-append (λ x. x) p lost)
-        ∙ append_assoc (joined p) (joined lost) (held_of t)
+        ∙ ap (λ l. l ++ held_payload t) (ap (λ l. joined l) all ∙ flat_map-append (λ x. x) p lost)
+        ∙ append_assoc (joined p) (joined lost) (held_payload t)
 
     abbrev moved : Moved limits first.log t.source.reader.log u.log t.target.log
     moved =
         let went = moves.hands.went in
-        let left = joined lost ++ held_of t in
+        let left = joined lost ++ held_payload t in
         record {
           wire = t.source.taken;
           payload = moves.hands.payload;
           place = t.source.place;
           part = record {
-            leads = subst (λ c. Leads c.0 Line t.source.taken moves.hands.payload t.source.place) went.coding
-                (subst (λ l. Leads t.source.coding.0 Line t.source.taken l t.source.place) went.handed
+            leads = subst (λ c. LeadsAlong c.0 Line t.source.taken moves.hands.payload t.source.place) went.coding
+                (subst (λ l. LeadsAlong t.source.coding.0 Line t.source.taken l t.source.place) went.handed
                 (leads_of t.source.coding.0 Line t.source.taken (handed_of t.source) t.source.place ready.whole.leads));
             is_place = ready.whole.place;
           };
@@ -81,7 +81,7 @@ module _ {R W : Type 0} (remaining : R → Option (List ℕ)) (limits : Limits) 
       over.all,
       each_some over.payloads over.moves.hands.some,
       ap length (parted over.payloads [] over.payloads (sym (append-nil over.payloads)) over.moves),
-      length-append (joined over.payloads) (held_of t),
+      length-append (joined over.payloads) (held_payload t),
     )
 
     -- what went over was sent
@@ -89,16 +89,16 @@ module _ {R W : Type 0} (remaining : R → Option (List ℕ)) (limits : Limits) 
       abbrev moved_all : MovedAll limits first.log t.source.reader.log u.log t.target.log
       moved_all = record {
         moved = moved_over;
-        all = ap (λ l. l ++ held_of t) sent.empty ∙ none_held remaining t held;
+        all = ap (λ l. l ++ held_payload t) sent.empty ∙ none_held remaining t held;
         flushed = sent.flushed;
       }
 
-      is_body : IsWhole (chunked t.source.coding.0) t.source → IsBody limits t.source.taken over.moves.hands.payload
-      is_body whole = subst (λ c. IsBody c.0 t.source.taken over.moves.hands.payload) over.moves.hands.went.coding
-          (subst (IsBody t.source.coding.0 t.source.taken) over.moves.hands.went.handed whole)
+      is_body : TookWholeBody (chunked t.source.coding.0) t.source → IsBodyOfChunks limits t.source.taken over.moves.hands.payload
+      is_body whole = subst (λ c. IsBodyOfChunks c.0 t.source.taken over.moves.hands.payload) over.moves.hands.went.coding
+          (subst (IsBodyOfChunks t.source.coding.0 t.source.taken) over.moves.hands.went.handed whole)
 
       -- what comes next is wrong, or missing, or more than the body
-      wrong : (why : RunError) → PiecesEnd begin.source (Err why) t.source
+      wrong : (why : RunError) → PayloadEnds begin.source (Err why) t.source
           → MetNoFault first.log t.source.reader.log u.log t.target.log → Ran (Err why)
       wrong (NotChunked why right) (breaks, count) met = (
         moved_all,
@@ -109,7 +109,7 @@ module _ {R W : Type 0} (remaining : R → Option (List ℕ)) (limits : Limits) 
       )
       wrong (Truncated right) (none, left, dry, count) met = (
         moved_all,
-        subst (λ c. (whole : List ℕ) → ¬ IsBody c.0 t.source.taken whole) over.moves.hands.went.coding none,
+        subst (λ c. (whole : List ℕ) → ¬ IsBodyOfChunks c.0 t.source.taken whole) over.moves.hands.went.coding none,
         left,
         dry,
         count,
@@ -140,14 +140,14 @@ module _ {R W : Type 0} (remaining : R → Option (List ℕ)) (limits : Limits) 
 
 -- a buffer was refused
 pub refused : (limits : Limits) (read read' written written' : StreamLog) (e : Error)
-    → BufferRefused e read read' written written' → Decodes limits read read' written written' (Err (Io e))
+    → RefusedBeforeCalls e read read' written written' → DecodesBody limits read read' written written' (Err (Io e))
 refused limits read read' written written' e p = record {
   ran = (
     record {
       wire = [];
       payload = [];
       place = Line;
-      part = record { leads = Leads-none limits Line; is_place = tt };
+      part = record { leads = LeadsAlong-none limits Line; is_place = tt };
       rest = [];
       given = ap (λ l. l.reads.given) p.read_same ∙ sym (append-nil read.reads.given);
       unsent = [];

@@ -15,16 +15,16 @@ use Rattle.body_reader.specs.declared.error.BodyError.{BodyError}
 use Rattle.body_reader.specs.declared.error.BodyError.TheVariants as body
 use Rattle.chunked.specs.Coding.{IsWrongNext}
 use Rattle.chunked.specs.CodingLaws.{breaks_at, leads_of}
-use Rattle.chunked.specs.Place.{Leads}
-use Rattle.chunked.specs.PlaceLaws.{Leads-joins}
+use Rattle.chunked.specs.Place.{LeadsAlong}
+use Rattle.chunked.specs.PlaceLaws.{LeadsAlong-joins}
 use Rattle.chunked.specs.declared.error.Malformed.{Malformed}
 use Rattle.chunked.specs.declared.place.Place.TheVariants.{Line}
 use Rattle.forward.specs.declared.error.AskError.{AskError}
-use Rattle.programs.specs.FlushesLaws.{FlushesOnce-flush}
+use Rattle.programs.specs.FlushesLaws.{SendsByOneFlush-flush}
 use Rattle.programs.specs.PromptLaws.{WritesOn-grows, WritesOn-unflushed}
-use Rattle.bodies.specs.Words.{Error, WasFlushed, WritesInOrder, Buffered, std_read_rules, StreamLog, StdPolicy, BodyWent, IsBody, IsBodyReader, IsWhole, LooksBehind, ReadsPayload, chunked, handed_of, taken_count, AskAnswers, Asks, FlushAnswers, Flushes, FilterRules, Gives, Passes, taken_more, RunError}
+use Rattle.bodies.specs.Words.{Error, WasFlushed, WritesInOrder, Buffered, std_read_rules, StreamLog, StdPolicy, BodyWent, IsBodyOfChunks, IsBodyReader, TookWholeBody, LooksBehind, ReadsPayload, chunked, handed_of, taken_count, AskAnswers, FilterAsks, FlushAnswers, FilterFlushes, FilterRules, NeverGaveNothing, FilterPasses, taken_more, RunError}
 use Rattle.bodies.specs.Decode.{IsDue}
-use Rattle.bodies.specs.Decoding.{ChunkedState, HandsPieces, Holds, IsPieceTarget, IsReady, NoneBuffered, WritesPiece, ask_error, decoding_rules, end_answer, held_of}
+use Rattle.bodies.specs.Decoding.{ChunkedState, HandsPayloadPieces, HoldsPiece, IsPieceTarget, MayDecode, NoneBuffered, WritesPayload, ask_error, decoding_rules, end_answer, held_payload}
 use Rattle.bodies.specs.Decoding as Source
 use Rattle.bodies.specs.DecodingLaws.{hands_held, hands_none, none_held}
 use Rattle.bodies.specs.FiltersLaws.{fault_gives}
@@ -44,17 +44,17 @@ due_on d is bytes on =
     record {
       place = on.place;
       part = record {
-        leads = subst (λ l. Leads limits Line (d.taken ++ bytes) l on.place) (append-nil (handed_of d))
-            (Leads-joins limits Line d.place on.place d.taken bytes (handed_of d) []
+        leads = subst (λ l. LeadsAlong limits Line (d.taken ++ bytes) l on.place) (append-nil (handed_of d))
+            (LeadsAlong-joins limits Line d.place on.place d.taken bytes (handed_of d) []
             (leads_of limits Line d.taken (handed_of d) d.place is.leads)
-            (subst (λ l. Leads limits d.place l [] on.place) all (leads_of limits d.place on.wire [] on.place on.leads)));
+            (subst (λ l. LeadsAlong limits d.place l [] on.place) all (leads_of limits d.place on.wire [] on.place on.leads)));
         is_place = on.is_place;
       };
     }
 
 -- where nothing was settled no body was taken, and nothing is buffered
 early_none : {R : Type 0} (d : ChunkedState R) → EndsEarly (chunked d.coding.0) d
-    → ((payload : List ℕ) → ¬ IsBody d.coding.0 d.taken payload) × (d.reader.block.bytes ≡ [])
+    → ((payload : List ℕ) → ¬ IsBodyOfChunks d.coding.0 d.taken payload) × (d.reader.block.bytes ≡ [])
 early_none d early = (
   λ payload whole. early.none d.taken payload d.reader.block.bytes whole refl,
   open_none d d.reader.block.bytes early.settles_nothing,
@@ -62,10 +62,10 @@ early_none d early = (
 
 -- where less was handed out than could be, no payload is buffered
 pub shown_none : {R : Type 0} (s d : ChunkedState R) → d.coding ≡ s.coding → IsBodyReader (chunked s.coding.0) d
-    → IsWhole (chunked s.coding.0) d ⊎ (EndsEarly (chunked s.coding.0) d
+    → TookWholeBody (chunked s.coding.0) d ⊎ (EndsEarly (chunked s.coding.0) d
     ⊎ ((why : Malformed) × Breaks (chunked s.coding.0) why d))
     → NoneBuffered d
-shown_none s d same is (inl whole) = inl (subst (λ c. IsWhole (chunked c.0) d) (sym same) whole)
+shown_none s d same is (inl whole) = inl (subst (λ c. TookWholeBody (chunked c.0) d) (sym same) whole)
 shown_none s d same is (inr (inl early)) =
     inr (inl (early_none d (subst (λ c. EndsEarly (chunked c.0) d) (sym same) early)).1)
 shown_none s d same is (inr (inr (why, breaks))) =
@@ -75,11 +75,11 @@ shown_none s d same is (inr (inr (why, breaks))) =
           (subst (λ c. IsWrongNext c.0 d.place d.reader.block.bytes why) (sym same) breaks.name),
     ))
 
-module _ {R W : Type 0} (remaining : R → Option (List ℕ)) (s : Decoding R W) (ready : IsReady s) where
+module _ {R W : Type 0} (remaining : R → Option (List ℕ)) (s : Decoding R W) (ready : MayDecode s) where
   abbrev rules : FilterRules (Decoding R W) RunError
   rules = decoding_rules remaining
 
-  pub held_still : 0 < s.held → Holds remaining s s
+  pub held_still : 0 < s.held → HoldsPiece remaining s s
   held_still some = record {
     hands = hands_none remaining s s refl refl;
     told = refl;
@@ -99,11 +99,11 @@ module _ {R W : Type 0} (remaining : R → Option (List ℕ)) (s : Decoding R W)
 
     module _ (t : ChunkedState R) (n : ℕ)
         (went : BodyWent remaining std_read_rules (chunked s.source.coding.0) s.source (take n out) t) where
-      read_hands : HandsPieces remaining s [] (read t n)
+      read_hands : HandsPayloadPieces remaining s [] (read t n)
       read_hands = hands_held remaining s (read t n) (take n out) went
           (ap (λ l. l ++ take n out) (none_held remaining s none) ∙ sym (ap (λ l. take n l) refilled))
 
-      read_ready : n ≤ 16384 → IsBodyReader (chunked t.coding.0) t → IsReady (read t n)
+      read_ready : n ≤ 16384 → IsBodyReader (chunked t.coding.0) t → MayDecode (read t n)
       read_ready most whole = record {
         capacity = omega (arith, ready.capacity, went.along.capacity);
         whole = whole;
@@ -114,7 +114,7 @@ module _ {R W : Type 0} (remaining : R → Option (List ℕ)) (s : Decoding R W)
 
     pub held_on : (n : ℕ) → BodyWent remaining std_read_rules (chunked s.source.coding.0) s.source (take n out) m
         → m.reader.log ≡ s.source.reader.log → n ≤ length out → IsBodyReader (chunked m.coding.0) m
-        → (n ≡ 0 → NoneBuffered m) → Holds remaining s (read m n)
+        → (n ≡ 0 → NoneBuffered m) → HoldsPiece remaining s (read m n)
     held_on n went told bound whole all = record {
       hands = read_hands m n went;
       told = told;
@@ -125,8 +125,8 @@ module _ {R W : Type 0} (remaining : R → Option (List ℕ)) (s : Decoding R W)
     }
 
   -- a piece is held
-  module _ (u : Decoding R W) (held : Holds remaining s u) (v : Buffered W StdPolicy) where
-    ready_with : (n : ℕ) → n ≤ 16384 → IsPieceTarget v → IsReady (record u { target = v; held = n })
+  module _ (u : Decoding R W) (held : HoldsPiece remaining s u) (v : Buffered W StdPolicy) where
+    ready_with : (n : ℕ) → n ≤ 16384 → IsPieceTarget v → MayDecode (record u { target = v; held = n })
     ready_with n most target = record {
       capacity = held.ready.capacity;
       whole = held.ready.whole;
@@ -136,10 +136,10 @@ module _ {R W : Type 0} (remaining : R → Option (List ℕ)) (s : Decoding R W)
     }
 
     -- a piece that is held could not be written, or was
-    pub not_written : (e : Error) → WritesPiece u.target (held_of u) (Err e) v
-        → Passes rules s (Err e) (record u { target = v })
+    pub not_written : (e : Error) → WritesPayload u.target (held_payload u) (Err e) v
+        → FilterPasses rules s (Err e) (record u { target = v })
     not_written e wrote =
-        let wrote = subst (λ x. WritesPiece x (held_of u) (Err e) v) held.still wrote in record {
+        let wrote = subst (λ x. WritesPayload x (held_payload u) (Err e) v) held.still wrote in record {
           told = held.told;
           ready = ready_with u.held held.ready.held wrote.target;
           closed = λ closed. closed;
@@ -156,11 +156,11 @@ module _ {R W : Type 0} (remaining : R → Option (List ℕ)) (s : Decoding R W)
           );
         }
 
-    pub written : 0 < u.held → WritesPiece u.target (held_of u) (Ok tt) v
-        → Passes rules s (Ok true) (record u { target = v; held = 0 })
+    pub written : 0 < u.held → WritesPayload u.target (held_payload u) (Ok tt) v
+        → FilterPasses rules s (Ok true) (record u { target = v; held = 0 })
     written some wrote =
-        let wrote = subst (λ x. WritesPiece x (held_of u) (Ok tt) v) held.still wrote in
-        let piece = held_of u in
+        let wrote = subst (λ x. WritesPayload x (held_payload u) (Ok tt) v) held.still wrote in
+        let piece = held_payload u in
         let long : 0 < length piece =
         omega (arith, some, length-take-le u.held u.piece.items (omega (arith, held.ready.held, held.ready.room))) in
         record {
@@ -197,7 +197,7 @@ module _ {R W : Type 0} (remaining : R → Option (List ℕ)) (s : Decoding R W)
     flush_answers (Err e) f = f.caused
 
     pub flushes_all : (answer : Result (Unit {0}) Error) → WasFlushed tells trace s.target answer v
-        → Flushes rules s answer (record s { target = v })
+        → FilterFlushes rules s answer (record s { target = v })
     flushes_all answer f = record {
       told = refl;
       ready = record {
@@ -209,7 +209,7 @@ module _ {R W : Type 0} (remaining : R → Option (List ℕ)) (s : Decoding R W)
       };
       closed = λ closed. closed;
       writes = WritesOn-grows s.target.log.writes v.log.writes f.grows;
-      flushes = FlushesOnce-flush s.target v answer f.steps;
+      flushes = SendsByOneFlush-flush s.target v answer f.steps;
       quiet = λ drops. absurd drops;
       moves = record { hands = hands_none remaining s (record s { target = v }) refl refl; takes = f.in_order };
       lacks = λ lacks. lacks;
@@ -223,9 +223,10 @@ module _ {R W : Type 0} (remaining : R → Option (List ℕ)) (s : Decoding R W)
 
     asks_so : (t : ChunkedState R) (n : ℕ) → n ≤ 16384
         → BodyWent remaining std_read_rules (chunked s.source.coding.0) s.source (take n out) t
-        → IsBodyReader (chunked t.coding.0) t → Source.Asks s.source t
+        → IsBodyReader (chunked t.coding.0) t → Source.AsksPromptly s.source t
         → t.reader.log.reads.zero_reads ≤ s.source.reader.log.reads.zero_reads + 1
-        → (answer : Result Bool (AskError RunError)) → AskAnswers rules s answer (asked t n) → Asks rules s answer (asked t n)
+        → (answer : Result Bool (AskError RunError)) → AskAnswers rules s answer (asked t n)
+        → FilterAsks rules s answer (asked t n)
     asks_so t n most went whole over once answer answers = record {
       told = refl;
       ready = read_ready none m out len t n went most whole;
@@ -241,10 +242,10 @@ module _ {R W : Type 0} (remaining : R → Option (List ℕ)) (s : Decoding R W)
 
     -- nothing was handed out
     asks_none : (t : ChunkedState R) → BodyWent remaining std_read_rules (chunked s.source.coding.0) s.source [] t
-        → IsBodyReader (chunked t.coding.0) t → Source.Asks s.source t
+        → IsBodyReader (chunked t.coding.0) t → Source.AsksPromptly s.source t
         → t.reader.log.reads.zero_reads ≤ s.source.reader.log.reads.zero_reads + 1
         → (answer : Result Bool (AskError RunError)) → AskAnswers rules s answer (asked t s.held)
-        → Asks rules s answer (asked t s.held)
+        → FilterAsks rules s answer (asked t s.held)
     asks_none t went whole over once answer answers =
         asks_so t s.held (omega (arith, none))
         (subst (λ n. BodyWent remaining std_read_rules (chunked s.source.coding.0) s.source (take n out) t) (sym none) went)
@@ -254,13 +255,13 @@ module _ {R W : Type 0} (remaining : R → Option (List ℕ)) (s : Decoding R W)
     Such bytes = IsDue s.source.coding.0 (s.source.taken ++ bytes) (handed_of s.source)
 
     -- each ask gave a byte, as far as faults are counted
-    gives_on : (t : ChunkedState R) (n : ℕ) → EachGave s.source.reader t.reader → Gives rules s (asked t n)
+    gives_on : (t : ChunkedState R) (n : ℕ) → EachGave s.source.reader t.reader → NeverGaveNothing rules s (asked t n)
     gives_on t n gave =
         record { zero_reads = gave.zero_reads; give = omega (arith, gave.asks, ap length gave.faults) }
 
     module _ (answer : Result ℕ (BodyError Malformed))
         (p : ReadsPayload remaining std_read_rules (chunked s.source.coding.0) s.source out answer m) where
-      over : Source.Asks s.source m
+      over : Source.AsksPromptly s.source m
       over = record {
         asked = AskedWhere-of
             (AskedFor (chunked s.source.coding.0) s.source.place (length out) m.reader.log.reads.offer) Such
@@ -273,7 +274,7 @@ module _ {R W : Type 0} (remaining : R → Option (List ℕ)) (s : Decoding R W)
       here = subst (λ c. IsBodyReader (chunked c.0) m) (sym p.went.coding) p.whole
 
     pub asked_more : (n : ℕ) → ReadsPayload remaining std_read_rules (chunked s.source.coding.0) s.source out (Ok n) m → 0 < n
-        → Asks rules s (Ok true) (asked m n)
+        → FilterAsks rules s (Ok true) (asked m n)
     asked_more n p some =
         let gave = p.answers.1 in
         asks_so m n (omega (arith, p.answers.0, len, ready.room)) p.went (here (Ok n) p) (over (Ok n) p)
@@ -282,7 +283,7 @@ module _ {R W : Type 0} (remaining : R → Option (List ℕ)) (s : Decoding R W)
     -- the ask for a piece failed
     pub asked_failed : (e : BodyError Malformed)
         → ReadsPayload remaining std_read_rules (chunked s.source.coding.0) s.source out (Err e) m
-        → Asks rules s (Err (ask_error e)) (asked m s.held)
+        → FilterAsks rules s (Err (ask_error e)) (asked m s.held)
     asked_failed (body.Wrong why right) p =
         let answer = Err (body.Wrong why right) in
         let gave = p.answers.1 in
@@ -332,12 +333,12 @@ module _ {R W : Type 0} (remaining : R → Option (List ℕ)) (s : Decoding R W)
           })))
 
       module _ (end : Result Bool Error) (looks : LooksBehind remaining std_read_rules (chunked m.coding.0) m end t) where
-        done : IsWhole (chunked t.coding.0) t
-        done = subst (λ d. IsWhole (chunked d.coding.0) d) (sym looks.still)
-            (subst (λ c. IsWhole (chunked c.0) m) (sym p.went.coding)
+        done : TookWholeBody (chunked t.coding.0) t
+        done = subst (λ d. TookWholeBody (chunked d.coding.0) d) (sym looks.still)
+            (subst (λ c. TookWholeBody (chunked c.0) m) (sym p.went.coding)
             (p.answers.2 nothing (omega (arith, len, ready.room))))
 
-        over_on : Source.Asks s.source t
+        over_on : Source.AsksPromptly s.source t
         over_on = record {
           asked = AskedWhere-on Such (λ bytes. bytes ≡ []) s.source.reader m.reader t.reader first.wire first.along.in_order gave
               (λ more none. subst Such (sym (append-nil first.wire) ∙ ap (λ l. first.wire ++ l) (sym none)) due)
@@ -348,7 +349,7 @@ module _ {R W : Type 0} (remaining : R → Option (List ℕ)) (s : Decoding R W)
 
         asks_behind : (answer : Result Bool (AskError RunError))
             → t.reader.log.reads.zero_reads ≤ m.reader.log.reads.zero_reads + 1
-            → AskAnswers rules s answer (asked t s.held) → Asks rules s answer (asked t s.held)
+            → AskAnswers rules s answer (asked t s.held) → FilterAsks rules s answer (asked t s.held)
         asks_behind answer once answers =
             asks_none t (BodyWent-joins remaining std_read_rules (chunked s.source.coding.0) s.source m t [] [] first
             (subst (λ x. BodyWent remaining std_read_rules (chunked x.0) m [] t) first.coding looks.went))
@@ -357,7 +358,7 @@ module _ {R W : Type 0} (remaining : R → Option (List ℕ)) (s : Decoding R W)
 
       -- none does, or some, or that can't be told
       pub asked_behind : (end : Result Bool Error) → LooksBehind remaining std_read_rules (chunked m.coding.0) m end t
-          → Asks rules s (end_answer end (taken_count t)) (asked t s.held)
+          → FilterAsks rules s (end_answer end (taken_count t)) (asked t s.held)
       asked_behind (Ok true) looks =
           let left = looks.answers.0 in
           let met = looks.answers.1 in

@@ -5,14 +5,14 @@ use Rattle.std.proofs.lemmas.List.Elements.{All-weaker}
 use Rattle.std.specs.List.{flat_map}
 use Rattle.buffer_redux.specs.ReaderLaws.{ReadsInOrder-fresh}
 use Rattle.buffer_redux.specs.WriterLaws.{WritesInOrder-joins, WritesInOrder-none}
-use Rattle.chunked.specs.BodyLaws.{IsBody-same}
+use Rattle.chunked.specs.BodyLaws.{IsBodyOfChunks-same}
 use Rattle.chunked.specs.ChunkLaws.{IsChunks-body, IsChunks-none}
 use Rattle.forward.specs.Forward.{Forwarded, NoneFailed, StopsBy}
 use Rattle.forward.specs.declared.error.Cause.{Cause}
 use Rattle.forward.specs.declared.error.Cause.TheVariants as cause
-use Rattle.programs.specs.StreamsLaws.{MetNoFault-joins, SendFailed-after}
-use Rattle.bodies.specs.Words.{Error, WritesInOrder, Buffered, OnlyInterrupts-none, StreamLog, StdPolicy, IsBody, IsCarried, IsChunks, body_end, unbegun, Limits, FilterRules, Moves, AllSent, BufferRefused, RunError, chunk}
-use Rattle.bodies.specs.Encode.{EncodeRan, Encodes, EndsBody, IsCut, IsUnended, IsWritten, Moved, MovedAll, IsBeginning}
+use Rattle.programs.specs.StreamsLaws.{MetNoFault-joins, WriterFailed-after}
+use Rattle.bodies.specs.Words.{Error, WritesInOrder, Buffered, OnlyInterrupts-none, StreamLog, StdPolicy, IsBodyOfChunks, IsCarried, IsChunks, body_end, unbegun, Limits, FilterRules, Moves, AllSent, RefusedBeforeCalls, RunError, chunk}
+use Rattle.bodies.specs.Encode.{EncodeRan, Encodes, EndsBody, IsCut, IsUnended, IsEncodedBody, Moved, MovedAll, IsBodyBeginning}
 use Rattle.bodies.specs.Encoding.{encoding_rules}
 use Rattle.bodies.specs.Filters.{IsErrorOf, joined}
 use Rattle.bodies.specs.FiltersLaws.{each_some}
@@ -23,9 +23,9 @@ abbrev least : Limits
 least = record { line = 16; trailers = 0 }
 
 -- what begins a body and is not all of it begins with none
-cut_short : (sent behind payload : List ℕ) → IsBody least (sent ++ behind) payload → 0 < length behind → IsCut sent
+cut_short : (sent behind payload : List ℕ) → IsBodyOfChunks least (sent ++ behind) payload → 0 < length behind → IsCut sent
 cut_short sent behind payload whole some limits body payload' more is begins =
-    let same = IsBody-same limits least body (sent ++ behind) payload' payload (more ++ behind) [] is whole
+    let same = IsBodyOfChunks-same limits least body (sent ++ behind) payload' payload (more ++ behind) [] is whole
     (sym (append_assoc body more behind) ∙ ap (λ l. l ++ behind) (sym begins) ∙ sym (append-nil (sent ++ behind))) in
     absurd (omega (
       arith,
@@ -37,7 +37,7 @@ cut_short sent behind payload whole some limits body payload' more is begins =
     ))
 
 -- chunks are no body, and with its end they are one
-written : (bytes payload : List ℕ) → IsChunks bytes payload → IsWritten (bytes ++ body_end []) payload
+written : (bytes payload : List ℕ) → IsChunks bytes payload → IsEncodedBody (bytes ++ body_end []) payload
 written bytes payload is limits line = IsChunks-body limits line [] tt (omega arith) bytes payload is
 
 module _ {read read' written' written'' : StreamLog} (m : Moved read read' written' written'') where
@@ -45,12 +45,12 @@ module _ {read read' written' written'' : StreamLog} (m : Moved read read' writt
   unended is = record {
     chunks = is;
     cut = cut_short m.sent (m.unsent ++ body_end []) m.payload
-        (subst (λ l. IsBody least l m.payload) (append_assoc m.sent m.unsent (body_end []))
+        (subst (λ l. IsBodyOfChunks least l m.payload) (append_assoc m.sent m.unsent (body_end []))
         (written (m.sent ++ m.unsent) m.payload is least (omega arith)))
         (omega (arith, length-append m.unsent (body_end [])));
   }
 
-  unflushed : IsWritten (m.sent ++ m.unsent) m.payload → m.rest ≡ [] → IsBeginning m
+  unflushed : IsEncodedBody (m.sent ++ m.unsent) m.payload → m.rest ≡ [] → IsBodyBeginning m
   unflushed is left =
       inr (record { is_body = is; cut = cut_short m.sent m.unsent m.payload (is least (omega arith)); all = left })
 
@@ -97,8 +97,8 @@ module _ {R W : Type 0} (remaining : R → Option (List ℕ)) (trace : W → W �
         unended moved (subst (λ l. IsChunks l (joined p))
         (sym (part ∙ ap (λ l. flat_map chunk p ++ l) nothing ∙ append-nil (flat_map chunk p))) is_chunks)
 
-    is_written : end ≡ body_end [] → IsWritten (order.sent ++ v.block.bytes) (joined p)
-    is_written all = subst (λ l. IsWritten l (joined p)) (sym (part ∙ ap (λ l. flat_map chunk p ++ l) all))
+    is_written : end ≡ body_end [] → IsEncodedBody (order.sent ++ v.block.bytes) (joined p)
+    is_written all = subst (λ l. IsEncodedBody l (joined p)) (sym (part ∙ ap (λ l. flat_map chunk p ++ l) all))
         (written (flat_map chunk p) (joined p) is_chunks)
 
   -- all that was handed out went over
@@ -122,7 +122,7 @@ module _ {R W : Type 0} (remaining : R → Option (List ℕ)) (trace : W → W �
       ended once (Ok _) end = (
         moved_all end.end v end.taken left end.answers.1,
         (let sent = (order over.payloads [] none_lost end.end v end.taken).sent in
-            subst (λ l. IsWritten l (joined over.payloads)) (ap (λ l. sent ++ l) end.answers.1.empty ∙ append-nil sent)
+            subst (λ l. IsEncodedBody l (joined over.payloads)) (ap (λ l. sent ++ l) end.answers.1.empty ∙ append-nil sent)
             (is_written over.payloads [] none_lost end.end v end.taken end.answers.0)),
         once,
         MetNoFault-joins first.log t.source.log t.source.log u.log t.target.writer.log v.log met
@@ -137,7 +137,7 @@ module _ {R W : Type 0} (remaining : R → Option (List ℕ)) (trace : W → W �
                   (is_written over.payloads [] none_lost end.end v end.taken all) left
               | inr nothing ↦ inl (not_ended over.payloads [] none_lost end.end v end.taken nothing)
             ],
-            SendFailed-after e first.log t.source.log t.source.log u.log t.target.writer.log v.log met
+            WriterFailed-after e first.log t.source.log t.source.log u.log t.target.writer.log v.log met
                 (record { reader = OnlyInterrupts-none t.source.log.reads.faults; writer = end.answers.1.2 }),
           )
 
@@ -178,7 +178,7 @@ module _ {R W : Type 0} (remaining : R → Option (List ℕ)) (trace : W → W �
   )
 
 -- a buffer was refused
-pub refused : (read read' written written' : StreamLog) (e : Error) → BufferRefused e read read' written written'
+pub refused : (read read' written written' : StreamLog) (e : Error) → RefusedBeforeCalls e read read' written written'
     → Encodes read read' written written' (Err (Io e))
 refused read read' written written' e p =
     let moved : Moved read read' written written' = record {

@@ -13,12 +13,12 @@ use Rattle.chunked.specs.ChunkedWriter.{LacksPayload, NotFinished}
 use Rattle.chunked.specs.ChunkedWriterLaws.{ChunksWent-none}
 use Rattle.forward.specs.declared.error.AskError.TheVariants.{Io}
 use Rattle.forward.specs.declared.error.AskError.{AskError}
-use Rattle.programs.specs.FlushesLaws.{flushed_once, FlushesOnce-flush}
+use Rattle.programs.specs.FlushesLaws.{flushed_once, SendsByOneFlush-flush}
 use Rattle.programs.specs.PromptLaws.{WritesOn-grows, WritesOn-joins, WritesOn-unflushed}
 use Rattle.programs.specs.StreamsLaws.{MetInterrupts-none}
-use Rattle.bodies.specs.Words.{around, AskAnswers, Asks, body_end, Buffered, chunk, ChunkedWriterState, ChunksWent, Error, Fills, FilterRules, FlushAnswers, Flushes, IsChunkedWriter, IsStill, line_end, MetInterrupts, MetInterrupts-joins, Passes, PutsIn, ReadsAlong, room, RunError, SendErrorCaused-after, SendsFirst, size_digits, std_read_rules, StdPolicy, StreamLog, taken_more, WasFlushed, WritesChunk, WritesInOrder, AllSent, SendErrorCaused}
+use Rattle.bodies.specs.Words.{around, AskAnswers, FilterAsks, body_end, Buffered, chunk, ChunkedWriterState, ChunksWent, Error, Fills, FilterRules, FlushAnswers, FilterFlushes, IsChunkedWriter, IsStill, line_end, MetInterrupts, MetInterrupts-joins, FilterPasses, PutsIn, ReadsAlong, room, RunError, SendErrorCaused-after, SendsFirst, size_digits, std_read_rules, StdPolicy, StreamLog, taken_more, WasFlushed, WritesChunk, WritesInOrder, AllSent, SendErrorCaused}
 use Rattle.bodies.specs.Encode.{EndsBody}
-use Rattle.bodies.specs.Encoding.{encoding_rules, IsReady}
+use Rattle.bodies.specs.Encoding.{encoding_rules, MayEncode}
 use Rattle.bodies.specs.Filters.{Asked}
 use Rattle.bodies.specs.FillLaws.{fill_leaves, some_came}
 use Rattle.bodies.specs.FiltersLaws.{ended, fault_gives, fill_asked, fill_capacity, some_of, std_fault}
@@ -138,7 +138,7 @@ module _ {W : Type 0} (tells : W → StreamLog) (trace : W → W → Type 0) whe
           answers = answers;
           writes = writes;
           once = omega (arith, flushed_once m v answer f.steps, quiet.flushes);
-          flushes = elim (FlushesOnce-flush m v answer f.steps) [
+          flushes = elim (SendsByOneFlush-flush m v answer f.steps) [
             | inl same ↦ omega (
               arith,
               same,
@@ -163,7 +163,7 @@ module _ {W : Type 0} (tells : W → StreamLog) (trace : W → W → Type 0) whe
 
 module _ {R W : Type 0} (remaining : R → Option (List ℕ)) (tells : W → StreamLog) (trace : W → W → Type 0)
     (none : (x : W) → trace x x) (joins : (a b c : W) → trace a b → trace b c → trace a c) (s : Encoding R W)
-    (ready : IsReady s) where
+    (ready : MayEncode s) where
   abbrev rules : FilterRules (Encoding R W) RunError
   rules = encoding_rules remaining trace
 
@@ -173,7 +173,7 @@ module _ {R W : Type 0} (remaining : R → Option (List ℕ)) (tells : W → Str
     small = omega (arith, held.fits, ready.fits)
 
     pub not_passed : (e : Error) → WritesChunk tells trace s.target s.source.block.bytes (Err e) c
-        → Passes rules s (Err e) (record s { target = c })
+        → FilterPasses rules s (Err e) (record s { target = c })
     not_passed e p =
         let failed = chunk_not_sent tells trace s.target c s.source.block.bytes some ready.between small e p in
         let chunks = p.chunks ready.between small in
@@ -199,7 +199,7 @@ module _ {R W : Type 0} (remaining : R → Option (List ℕ)) (tells : W → Str
     pub passed : (n : ℕ) → n ≤ length s.source.block.bytes → WritesChunk tells trace s.target s.source.block.bytes (Ok n) c
         → (t : Buffered R StdPolicy) → ReadsAlong remaining std_read_rules s.source (take n s.source.block.bytes) t
         → t.log ≡ s.source.log → t.block.capacity ≡ s.source.block.capacity
-        → Passes rules s (Ok true) (record s { source = t; target = c })
+        → FilterPasses rules s (Ok true) (record s { source = t; target = c })
     passed zero within p t gone told same =
         absurd (omega (arith, chunk_some tells trace s.target c s.source.block.bytes some ready.between small 0 p))
     passed (suc n) within p t gone told same =
@@ -248,7 +248,7 @@ module _ {R W : Type 0} (remaining : R → Option (List ℕ)) (tells : W → Str
     flush_answers (Err e) f = f.caused
 
     pub flushes_all : (answer : Result (Unit {0}) Error) → WasFlushed tells trace s.target.writer answer c.writer
-        → Flushes rules s answer (record s { target = c })
+        → FilterFlushes rules s answer (record s { target = c })
     flushes_all answer f = record {
       told = refl;
       ready = record {
@@ -259,7 +259,7 @@ module _ {R W : Type 0} (remaining : R → Option (List ℕ)) (tells : W → Str
       };
       closed = λ closed. closed;
       writes = WritesOn-grows s.target.writer.log.writes c.writer.log.writes f.grows;
-      flushes = FlushesOnce-flush s.target.writer c.writer answer f.steps;
+      flushes = SendsByOneFlush-flush s.target.writer c.writer answer f.steps;
       quiet = λ drops. absurd drops;
       moves = record { hands = ReadsAlong-none remaining std_read_rules s.source; takes = went };
       lacks = λ lacks. lacks;
@@ -274,7 +274,7 @@ module _ {R W : Type 0} (remaining : R → Option (List ℕ)) (tells : W → Str
 
     empty_asked : t.block.capacity ≡ s.source.block.capacity → Asked (λ bytes. bytes ≡ []) s.source t → ¬ (t.log ≡ s.source.log)
         → t.log.reads.zero_reads ≤ s.source.log.reads.zero_reads + 1
-        → (answer : Result Bool (AskError RunError)) → AskAnswers rules s answer after → Asks rules s answer after
+        → (answer : Result Bool (AskError RunError)) → AskAnswers rules s answer after → FilterAsks rules s answer after
     empty_asked same asked told quiet answer answers = record {
       told = refl;
       ready = record {
@@ -292,7 +292,7 @@ module _ {R W : Type 0} (remaining : R → Option (List ℕ)) (tells : W → Str
 
     -- something came, or nothing will
     pub asked : {A : Type 0} (a : A) → Fills std_read_rules s.source (Ok a) t → (empty : Bool)
-        → empty ≡ (length t.block.bytes == 0) → Asks rules s (Ok (not empty)) after
+        → empty ≡ (length t.block.bytes == 0) → FilterAsks rules s (Ok (not empty)) after
     asked a fills true is =
         let end = ended s.source t a fills is ready.capacity in
         empty_asked (fill_capacity s.source t (Ok a) fills) (fill_asked s.source t (Ok a) fills)
@@ -329,7 +329,7 @@ module _ {R W : Type 0} (remaining : R → Option (List ℕ)) (tells : W → Str
 
     -- a read failed
     pub not_asked : {A : Type 0} (e : Error) → Fills {A = A} std_read_rules s.source (Err e) t
-        → Asks rules s (Err (Io e)) after
+        → FilterAsks rules s (Err (Io e)) after
     not_asked e fills =
         let quiet = none_before_fault std_read_rules ReadsWhenEmpty-std s.source t e fills.filled in
         let fault = std_fault s.source t e fills in

@@ -4,7 +4,7 @@ use Rattle.programs.specs.declared.ending.Ending.TheVariants.{Usage}
 use Rattle.bodies.specs.Words.{StreamLog, RunError}
 use Rattle.bodies.specs.declared.ending.Ending.{Ending}
 use Rattle.bodies.specs.declared.ending.Ending.TheVariants.{Usual}
-use Rattle.bodies.specs.Decode.{Decodes}
+use Rattle.bodies.specs.Decode.{DecodesBody}
 use Rattle.bodies.specs.Encode.{Encodes}
 use Rattle.bodies.specs.Ending.{EndsAs}
 
@@ -12,7 +12,7 @@ use Rattle.bodies.specs.Ending.{EndsAs}
 -- the trailers; other words call no stream
 pub record RunDid (words : List (List ℕ)) (ending : Ending) (read read' written written' : StreamLog) : Type 0 where
   pub decode : words ≡ codes "decode" ∷ [] → (answer : Result (Unit {0}) RunError)
-      × Decodes (record { line = 8192; trailers = 65536 }) read read' written written' answer × EndsAs answer ending
+      × DecodesBody (record { line = 8192; trailers = 65536 }) read read' written written' answer × EndsAs answer ending
   pub encode : words ≡ codes "encode" ∷ [] → (answer : Result (Unit {0}) RunError)
       × Encodes read read' written written' answer × EndsAs answer ending
   pub usage : ¬ (words ≡ codes "decode" ∷ []) → ¬ (words ≡ codes "encode" ∷ [])

@@ -10,7 +10,7 @@ use Rattle.chunked.specs.declared.place.Place.{Place}
 use Rattle.forward.specs.declared.error.AskError.{AskError}
 use Rattle.forward.specs.declared.error.AskError.TheVariants.{Wrong}
 use Rattle.forward.specs.declared.error.AskError.TheVariants as ask
-use Rattle.bodies.specs.Words.{Error, RanDry, WritesInOrder, Buffered, MetInterrupts, SendErrorCaused, std_read_rules, StdPolicy, BodyState, BodyWent, BreaksAt, IsBody, IsBodyReader, IsWhole, LooksBehind, chunked, handed_of, taken_count, FilterRules, AllSent, IsStill, taken_in, RunError}
+use Rattle.bodies.specs.Words.{Error, RanDry, WritesInOrder, Buffered, MetInterrupts, SendErrorCaused, std_read_rules, StdPolicy, BodyState, BodyWent, BreaksAt, IsBodyOfChunks, IsBodyReader, TookWholeBody, LooksBehind, chunked, handed_of, taken_count, FilterRules, AllSent, IsStill, taken_in, RunError}
 use Rattle.bodies.specs.Decode.{IsDue}
 use Rattle.bodies.specs.Filters.{Asked, joined}
 use Rattle.bodies.specs.declared.decoding.Decoding.{Decoding}
@@ -26,15 +26,15 @@ abbrev pub ChunkedState : Type 0 → Type 0
 ChunkedState R = BodyState R StdPolicy Chunked Place
 
 -- the reader inside was asked only where the payload in all that had come was handed out before
-abbrev pub Asks : {R : Type 0} → ChunkedState R → ChunkedState R → Type 0
-Asks s t = Asked (λ bytes. IsDue s.coding.0 (s.taken ++ bytes) (handed_of s)) s.reader t.reader
+abbrev pub AsksPromptly : {R : Type 0} → ChunkedState R → ChunkedState R → Type 0
+AsksPromptly s t = Asked (λ bytes. IsDue s.coding.0 (s.taken ++ bytes) (handed_of s)) s.reader t.reader
 
 -- the payload that was read and not passed on
-abbrev pub held_of : {R W : Type 0} → Decoding R W → List ℕ
-held_of s = take s.held s.piece.items
+abbrev pub held_payload : {R W : Type 0} → Decoding R W → List ℕ
+held_payload s = take s.held s.piece.items
 
 -- what each call of the filter wants
-pub record IsReady {R W : Type 0} (s : Decoding R W) : Type 0 where
+pub record MayDecode {R W : Type 0} (s : Decoding R W) : Type 0 where
   pub capacity : 0 < s.source.reader.block.capacity
   pub whole : IsBodyReader (chunked s.source.coding.0) s.source
   pub target : IsPieceTarget s.target
@@ -42,29 +42,29 @@ pub record IsReady {R W : Type 0} (s : Decoding R W) : Type 0 where
   pub held : s.held ≤ 16384
 
 -- these pieces are what was held, then what was handed out, but for what is held still; and none is empty
-pub record HandsPieces {R W : Type 0} (remaining : R → Option (List ℕ)) (s : Decoding R W) (pieces : List (List ℕ))
+pub record HandsPayloadPieces {R W : Type 0} (remaining : R → Option (List ℕ)) (s : Decoding R W) (pieces : List (List ℕ))
     (t : Decoding R W) : Type 0 where
   pub payload : List ℕ
   pub went : BodyWent remaining std_read_rules (chunked s.source.coding.0) s.source payload t.source
-  pub order : held_of s ++ payload ≡ joined pieces ++ held_of t
+  pub order : held_payload s ++ payload ≡ joined pieces ++ held_payload t
   pub some : All (λ piece. 0 < length piece) pieces
 
 -- no payload can be handed out of what is buffered: the body ended, or there is none, or the next byte is wrong
 abbrev pub NoneBuffered : {R : Type 0} → ChunkedState R → Type 0
-NoneBuffered d = IsWhole (chunked d.coding.0) d
+NoneBuffered d = TookWholeBody (chunked d.coding.0) d
     ⊎ ((d.reader.block.bytes ≡ []) ⊎ ((why : Malformed) × BreaksAt d.coding.0 d.place d.taken d.reader.block.bytes why))
 
 -- where none was held, a piece of what is buffered is, or there is none; and the reader inside wasn't asked
-pub record Holds {R W : Type 0} (remaining : R → Option (List ℕ)) (s t : Decoding R W) : Type 0 where
-  pub hands : HandsPieces remaining s [] t
+pub record HoldsPiece {R W : Type 0} (remaining : R → Option (List ℕ)) (s t : Decoding R W) : Type 0 where
+  pub hands : HandsPayloadPieces remaining s [] t
   pub told : t.source.reader.log ≡ s.source.reader.log
   pub still : t.target ≡ s.target
   pub kept : 0 < s.held → 0 < t.held
   pub none : t.held ≡ 0 → NoneBuffered t.source
-  pub ready : IsReady t
+  pub ready : MayDecode t
 
 -- the piece was taken in, or nothing of it, and nothing was flushed. Where it fits behind what is buffered no call is made
-pub record WritesPiece {W : Type 0} (u : Buffered W StdPolicy) (piece : List ℕ) (answer : Result (Unit {0}) Error)
+pub record WritesPayload {W : Type 0} (u : Buffered W StdPolicy) (piece : List ℕ) (answer : Result (Unit {0}) Error)
     (v : Buffered W StdPolicy) : Type 0 where
   pub answers : MatchResult answer (λ _. WritesInOrder u piece v × MetInterrupts u.log.writes v.log.writes)
       (λ e. WritesInOrder u [] v × SendErrorCaused u.log.writes v.log.writes e)
@@ -92,22 +92,23 @@ pub record LooksOn {R : Type 0} (remaining : R → Option (List ℕ)) (s : Chunk
   pub equal : answer ≡ end_answer end (taken_count t)
 
 -- the body ended, and the stream behind it, which gave nothing; or what comes next is wrong, or missing, or more than the body
-abbrev pub PiecesEnd : {R : Type 0} → ChunkedState R → Result (Unit {0}) RunError → ChunkedState R → Type 0
-PiecesEnd s (Ok _) t = IsWhole (chunked t.coding.0) t × (t.reader.block.bytes ≡ []) × RanDry s.reader t.reader
-PiecesEnd s (Err (NotChunked why right)) t =
+abbrev pub PayloadEnds : {R : Type 0} → ChunkedState R → Result (Unit {0}) RunError → ChunkedState R → Type 0
+PayloadEnds s (Ok _) t = TookWholeBody (chunked t.coding.0) t × (t.reader.block.bytes ≡ []) × RanDry s.reader t.reader
+PayloadEnds s (Err (NotChunked why right)) t =
     BreaksAt t.coding.0 t.place t.taken t.reader.block.bytes why × (right ≡ taken_count t)
-PiecesEnd s (Err (Truncated right)) t =
-    ((payload : List ℕ) → ¬ IsBody t.coding.0 t.taken payload) × (t.reader.block.bytes ≡ []) × RanDry s.reader t.reader
+PayloadEnds s (Err (Truncated right)) t =
+    ((payload : List ℕ) → ¬ IsBodyOfChunks t.coding.0 t.taken payload) × (t.reader.block.bytes ≡ []) × RanDry s.reader t.reader
     × (right ≡ taken_count t)
-PiecesEnd s (Err (Behind right)) t = IsWhole (chunked t.coding.0) t × (0 < length t.reader.block.bytes) × (right ≡ taken_count t)
-PiecesEnd s (Err other) t = ⊥
+PayloadEnds s (Err (Behind right)) t =
+    TookWholeBody (chunked t.coding.0) t × (0 < length t.reader.block.bytes) × (right ≡ taken_count t)
+PayloadEnds s (Err other) t = ⊥
 
 abbrev pub decoding_rules : {R W : Type 0} → (R → Option (List ℕ)) → FilterRules (Decoding R W) RunError
 decoding_rules remaining = record {
   read = λ s. s.source.reader.log;
   written = λ s. s.target.log;
-  ready = λ s. IsReady s;
-  hands = HandsPieces remaining;
+  ready = λ s. MayDecode s;
+  hands = HandsPayloadPieces remaining;
   takes = λ s pieces t. WritesInOrder s.target (joined pieces) t.target;
   has = λ s. 0 < s.held;
   lacks = λ s. (s.held ≡ 0) × NoneBuffered s.source;
@@ -118,9 +119,9 @@ decoding_rules remaining = record {
   taken = λ s. taken_in s.target;
   still = λ s t. IsStill s.target t.target;
   room = λ s. s.target.block.capacity - length s.target.block.bytes;
-  asks = λ s t. Asks s.source t.source;
+  asks = λ s t. AsksPromptly s.source t.source;
   wants = λ s. 0;
-  ends = λ s how t. (t.held ≡ 0) × PiecesEnd s.source how t.source;
+  ends = λ s how t. (t.held ≡ 0) × PayloadEnds s.source how t.source;
   closed = λ s. ⊥;
   fresh = λ s. record {
     buffered : s.source.reader.block.bytes ≡ [];

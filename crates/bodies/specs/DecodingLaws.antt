@@ -4,42 +4,44 @@ use Rattle.std.proofs.lemmas.Grind.{flat_map-append}
 use Rattle.std.proofs.lemmas.List.Elements.{All-append, All-nil}
 use Rattle.buffer_redux.specs.WriterLaws.{WritesInOrder-joins, WritesInOrder-none}
 use Rattle.body_reader.specs.BodyReaderLaws.{BodyWent-joins, BodyWent-none}
-use Rattle.bodies.specs.Words.{WritesInOrder, std_read_rules, BodyWent, chunked, handed_of, AsksSent, FilterRules, Gives, IsLawful, Moves, StaysOpen, AllSent, sent_all, taken_more, RunError}
+use Rattle.bodies.specs.Words.{WritesInOrder, std_read_rules, BodyWent, chunked, handed_of, AsksSent, FilterRules, NeverGaveNothing, IsLawful, Moves, StaysOpen, AllSent, sent_all, taken_more, RunError}
 use Rattle.bodies.specs.Decode.{IsDue}
-use Rattle.bodies.specs.Decoding.{Asks, HandsPieces, PiecesEnd, decoding_rules, held_of}
+use Rattle.bodies.specs.Decoding.{AsksPromptly, HandsPayloadPieces, PayloadEnds, decoding_rules, held_payload}
 use Rattle.bodies.specs.Filters.{joined}
 use Rattle.bodies.specs.FiltersLaws.{asked_after}
 use Rattle.bodies.specs.declared.decoding.Decoding.{Decoding}
 use Rattle.bodies.specs.declared.error.RunError.TheVariants.{NotChunked, Truncated, Behind}
 
 module _ {R W : Type 0} (remaining : R → Option (List ℕ)) where
-  abbrev rules : FilterRules (Decoding R W) RunError
-  rules = decoding_rules remaining
+  abbrev filter_rules : FilterRules (Decoding R W) RunError
+  filter_rules = decoding_rules remaining
 
   -- what was handed out is held, behind what was
   pub hands_held : (s t : Decoding R W) (payload : List ℕ)
       → BodyWent remaining std_read_rules (chunked s.source.coding.0) s.source payload t.source
-      → held_of s ++ payload ≡ held_of t → HandsPieces remaining s [] t
+      → held_payload s ++ payload ≡ held_payload t → HandsPayloadPieces remaining s [] t
   hands_held s t payload went order =
       record { payload = payload; went = went; order = order; some = All-nil (λ piece. 0 < length piece) }
 
-  pub hands_none : (s t : Decoding R W) → t.source ≡ s.source → held_of s ≡ held_of t → HandsPieces remaining s [] t
+  pub hands_none : (s t : Decoding R W) → t.source ≡ s.source → held_payload s ≡ held_payload t
+      → HandsPayloadPieces remaining s [] t
   hands_none s t same held = hands_held s t []
       (subst (BodyWent remaining std_read_rules (chunked s.source.coding.0) s.source []) (sym same)
       (BodyWent-none remaining std_read_rules (chunked s.source.coding.0) s.source))
-      (append-nil (held_of s) ∙ held)
+      (append-nil (held_payload s) ∙ held)
 
-  hands_joins : (a b c : Decoding R W) (p q : List (List ℕ)) → HandsPieces remaining a p b → HandsPieces remaining b q c
-      → HandsPieces remaining a (p ++ q) c
+  hands_joins : (a b c : Decoding R W) (p q : List (List ℕ)) → HandsPayloadPieces remaining a p b
+      → HandsPayloadPieces remaining b q c
+      → HandsPayloadPieces remaining a (p ++ q) c
   hands_joins a b c p q f g = record {
     payload = f.payload ++ g.payload;
     went = BodyWent-joins remaining std_read_rules (chunked a.source.coding.0) a.source b.source c.source f.payload g.payload
         f.went (subst (λ x. BodyWent remaining std_read_rules (chunked x.0) b.source g.payload c.source) f.went.coding g.went);
     order =
-        sym (append_assoc (held_of a) f.payload g.payload)
-        ∙ ap (λ l. l ++ g.payload) f.order ∙ append_assoc (joined p) (held_of b) g.payload
-        ∙ ap (λ l. joined p ++ l) g.order ∙ sym (append_assoc (joined p) (joined q) (held_of c))
-        ∙ ap (λ l. l ++ held_of c) (sym (flat_map-append (λ piece. piece) p q));
+        sym (append_assoc (held_payload a) f.payload g.payload)
+        ∙ ap (λ l. l ++ g.payload) f.order ∙ append_assoc (joined p) (held_payload b) g.payload
+        ∙ ap (λ l. joined p ++ l) g.order ∙ sym (append_assoc (joined p) (joined q) (held_payload c))
+        ∙ ap (λ l. l ++ held_payload c) (sym (flat_map-append (λ piece. piece) p q));
     some = All-append (λ piece. 0 < length piece) p q f.some g.some;
   }
 
@@ -48,31 +50,34 @@ module _ {R W : Type 0} (remaining : R → Option (List ℕ)) where
   takes_joins a b c p q f g = subst (λ l. WritesInOrder a.target l c.target) (sym (flat_map-append (λ piece. piece) p q))
       (WritesInOrder-joins a.target b.target c.target (joined p) (joined q) f g)
 
-  ends_after : (a b c : Decoding R W) (how : Result (Unit {0}) RunError) → Gives rules a b → PiecesEnd b.source how c.source
-      → PiecesEnd a.source how c.source
+  ends_after : (a b c : Decoding R W) (how : Result (Unit {0}) RunError) → NeverGaveNothing filter_rules a b
+      → PayloadEnds b.source how c.source
+      → PayloadEnds a.source how c.source
   ends_after a b c (Ok _) gives end = (end.0, end.1, omega (arith, gives.zero_reads, end.2))
   ends_after a b c (Err (NotChunked why right)) gives end = end
   ends_after a b c (Err (Truncated right)) gives end = (end.0, end.1, omega (arith, gives.zero_reads, end.2), end.3)
   ends_after a b c (Err (Behind right)) gives end = end
   ends_after a b c (Err other) gives end = absurd end
 
-  still_open : (a b : Decoding R W) → StaysOpen rules a b → Gives rules a b
+  still_open : (a b : Decoding R W) → StaysOpen filter_rules a b → NeverGaveNothing filter_rules a b
   still_open a b (inl gives) = gives
   still_open a b (inr closed) = absurd closed
 
   -- nothing is held where the count is 0
-  pub none_held : (s : Decoding R W) → s.held ≡ 0 → held_of s ≡ []
+  pub none_held : (s : Decoding R W) → s.held ≡ 0 → held_payload s ≡ []
   none_held s none = ap (λ n. take n s.piece.items) none
 
   -- what was handed out went over
-  pub handed_joined : (s t : Decoding R W) (p : List (List ℕ)) (hands : HandsPieces remaining s p t) → s.held ≡ 0 → t.held ≡ 0
+  pub handed_joined : (s t : Decoding R W) (p : List (List ℕ)) (hands : HandsPayloadPieces remaining s p t) → s.held ≡ 0
+      → t.held ≡ 0
       → hands.payload ≡ joined p
   handed_joined s t p hands none none' =
       sym (ap (λ l. l ++ hands.payload) (none_held s none)) ∙ hands.order ∙ ap (λ l. joined p ++ l) (none_held t none')
       ∙ append-nil (joined p)
 
-  asks_sent : (first s t : Decoding R W) (p : List (List ℕ)) → rules.fresh first → Moves rules first p p s → Gives rules first s
-      → s.held ≡ 0 → AllSent s.target → Asks s.source t.source → AsksSent rules first s t
+  asks_sent : (first s t : Decoding R W) (p : List (List ℕ)) → filter_rules.fresh first → Moves filter_rules first p p s
+      → NeverGaveNothing filter_rules first s
+      → s.held ≡ 0 → AllSent s.target → AsksPromptly s.source t.source → AsksSent filter_rules first s t
   asks_sent first s t p fresh moves gives lacks sent asks =
       let went = moves.hands.went in
       let m = s.source in

@@ -2,7 +2,7 @@
 use Rattle.std.specs.Prelude.{◌≡◌, ℕ, ◌+◌, ◌<◌, ◌≤◌, ◌⊎◌, List, [], ◌++◌, length, Result, Ok, Err, MatchResult}
 use Rattle.std.specs.declared.io.Error.{Error}
 use Rattle.programs.specs.Flushes.{FlushesSend}
-use Rattle.bodies.specs.Words.{Buffered, WritesInOrder, MetInterrupts, SendErrorCaused, StreamLog, StdPolicy, IsBody, IsChunks, body_end, Limits, HoldsNothingBack, WritesOn, AllFlushed, AllSent, EndsOnce, MetNoFault, ReadFailed, SendFailed, OverCount, BufferRefused, RunError}
+use Rattle.bodies.specs.Words.{Buffered, WritesInOrder, MetInterrupts, SendErrorCaused, StreamLog, StdPolicy, IsBodyOfChunks, IsChunks, body_end, Limits, HoldsNothingBack, WritesOn, ReceivedFlushed, AllSent, EndsOnce, MetNoFault, ReadFailed, WriterFailed, OverCount, RefusedBeforeCalls, RunError}
 use Rattle.bodies.specs.declared.error.RunError.TheVariants.{Read, Write, Io}
 
 -- what is due of these bytes: chunks with all of them
@@ -22,12 +22,12 @@ pub record EndsBody {W : Type 0} (u : Buffered W StdPolicy) (answer : Result (Un
   pub once : v.log.writes.flushes ≤ u.log.writes.flushes + 1
 
 -- these bytes are a body with this payload, for each reader that lets the line of a size have 16 bytes
-abbrev pub IsWritten : List ℕ → List ℕ → Type 0
-IsWritten body payload = (limits : Limits) → 16 ≤ limits.line → IsBody limits body payload
+abbrev pub IsEncodedBody : List ℕ → List ℕ → Type 0
+IsEncodedBody body payload = (limits : Limits) → 16 ≤ limits.line → IsBodyOfChunks limits body payload
 
 -- no body begins these bytes, so who reads them knows that more was to come
 abbrev pub IsCut : List ℕ → Type 0
-IsCut bytes = (limits : Limits) (body payload more : List ℕ) → IsBody limits body payload → ¬ (bytes ≡ body ++ more)
+IsCut bytes = (limits : Limits) (body payload more : List ℕ) → IsBodyOfChunks limits body payload → ¬ (bytes ≡ body ++ more)
 
 -- what was given is this payload, and then the rest; what became of the payload was received, but for what was left unsent
 pub record Moved (read read' written written' : StreamLog) : Type 0 where
@@ -43,7 +43,7 @@ pub record MovedAll (read read' written written' : StreamLog) : Type 0 where
   pub moved : Moved read read' written written'
   pub all : moved.rest ≡ []
   pub none_left : moved.unsent ≡ []
-  pub flushed : AllFlushed written'
+  pub flushed : ReceivedFlushed written'
 
 -- the payload became chunks, which no last one follows
 pub record IsUnended {read read' written written' : StreamLog} (m : Moved read read' written written') : Type 0 where
@@ -52,23 +52,24 @@ pub record IsUnended {read read' written written' : StreamLog} (m : Moved read r
 
 -- what became of a beginning of what was given: that; or a body with it, all of which was received, or the beginning, and
 -- nothing else was given
-abbrev pub IsBeginning : {read read' written written' : StreamLog} → Moved read read' written written' → Type 0
-IsBeginning m = IsUnended m
-    ⊎ record { is_body : IsWritten (m.sent ++ m.unsent) m.payload; cut : 0 < length m.unsent → IsCut m.sent; all : m.rest ≡ [] }
+abbrev pub IsBodyBeginning : {read read' written written' : StreamLog} → Moved read read' written written' → Type 0
+IsBodyBeginning m = IsUnended m
+    ⊎ record { is_body : IsEncodedBody (m.sent ++ m.unsent) m.payload; cut : 0 < length m.unsent → IsCut m.sent;
+        all : m.rest ≡ [] }
 
 -- what a run of `encode` did: at Ok a body was received, and the reader gave nothing, once. Where a read failed no byte that came
 -- is lost. Any other fault is a writer's, or a buffer was refused before the run began, or it ended at its count
 abbrev pub EncodeRan : StreamLog → StreamLog → StreamLog → StreamLog → Result (Unit {0}) RunError → Type 0
 EncodeRan read read' written written' (Ok _) =
-    (m : MovedAll read read' written written') × IsWritten m.moved.sent m.moved.payload
+    (m : MovedAll read read' written written') × IsEncodedBody m.moved.sent m.moved.payload
     × (read'.reads.zero_reads ≡ read.reads.zero_reads + 1) × MetNoFault read read' written written'
 EncodeRan read read' written written' (Err (Read e)) =
     (m : MovedAll read read' written written') × IsUnended m.moved × ReadFailed e read read' written written'
 EncodeRan read read' written written' (Err (Write e)) =
-    (m : Moved read read' written written') × IsBeginning m × SendFailed e read read' written written'
+    (m : Moved read read' written written') × IsBodyBeginning m × WriterFailed e read read' written written'
 EncodeRan read read' written written' (Err (Io e)) =
-    (m : Moved read read' written written') × IsBeginning m
-    × (OverCount e (length m.payload) read read' written written' ⊎ BufferRefused e read read' written written')
+    (m : Moved read read' written written') × IsBodyBeginning m
+    × (OverCount e (length m.payload) read read' written written' ⊎ RefusedBeforeCalls e read read' written written')
 EncodeRan read read' written written' (Err other) = ⊥
 
 -- all that a run of `encode` promises: the writer was flushed once for each ask of the reader at most, and once more

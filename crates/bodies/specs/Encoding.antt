@@ -6,7 +6,7 @@ use Rattle.bodies.specs.Filters.{Asked, joined}
 use Rattle.bodies.specs.declared.encoding.Encoding.{Encoding}
 
 -- what each call of the filter wants
-pub record IsReady {R W : Type 0} (s : Encoding R W) : Type 0 where
+pub record MayEncode {R W : Type 0} (s : Encoding R W) : Type 0 where
   pub capacity : 0 < s.source.block.capacity
   -- no chunk of what one read may give is begun that doesn't fit
   pub fits : around + s.source.block.capacity ≤ s.target.writer.block.capacity
@@ -18,7 +18,7 @@ abbrev pub encoding_rules : {R W : Type 0} → (R → Option (List ℕ)) → (W 
 encoding_rules remaining trace = record {
   read = λ s. s.source.log;
   written = λ s. s.target.writer.log;
-  ready = λ s. IsReady s;
+  ready = λ s. MayEncode s;
   hands = λ s payloads t. ReadsAlong remaining std_read_rules s.source (joined payloads) t.source;
   takes = λ s payloads t. ChunksWent trace s.target payloads t.target;
   has = λ s. 0 < length s.source.block.bytes;

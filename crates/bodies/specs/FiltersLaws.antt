@@ -9,7 +9,7 @@ use Rattle.buffer_redux.specs.Policy.{no_read, read_now}
 use Rattle.buffer_redux.specs.ReaderLaws.{Fills-empty, ReadsInOrder-fresh, WantsBytes-std}
 use Rattle.buffer_redux.specs.declared.policy.DoRead.{DoRead}
 use Rattle.programs.specs.PromptLaws.{AskedLast-after}
-use Rattle.bodies.specs.Words.{Error, Fills, ReadsInOrder, Buffered, std_read_rules, StdPolicy, AskedLast, AsksGive}
+use Rattle.bodies.specs.Words.{Error, Fills, ReadsInOrder, Buffered, std_read_rules, StdPolicy, AskedLast, AsksGiveOrFail}
 use Rattle.bodies.specs.FillLaws.{fill_asks}
 use Rattle.bodies.specs.Filters.{Asked, joined}
 
@@ -25,7 +25,7 @@ each_some (payload ∷ payloads) some = omega (
 
 module _ {R : Type 0} (Such : List ℕ → Type 0) (s t : Buffered R StdPolicy) (asked : Asked Such s t) where
   -- where a read failed, each other ask gave a byte
-  pub fault_gives : (e : Error) → t.log.reads.faults ≡ s.log.reads.faults ++ e ∷ [] → AsksGive s.log t.log
+  pub fault_gives : (e : Error) → t.log.reads.faults ≡ s.log.reads.faults ++ e ∷ [] → AsksGiveOrFail s.log t.log
   fault_gives e fault =
       let more = ap length fault ∙ length-append s.log.reads.faults (e ∷ []) in
       elim asked.asked [
@@ -42,7 +42,7 @@ module _ {R : Type 0} (Such : List ℕ → Type 0) (s t : Buffered R StdPolicy) 
 
   -- bytes had been taken, where each ask gave a byte or failed
   pub asked_after : (first : Buffered R StdPolicy) (wire : List ℕ) → first.block.bytes ≡ [] → ReadsInOrder first wire s
-      → AsksGive first.log s.log
+      → AsksGiveOrFail first.log s.log
       → (t.log ≡ s.log) ⊎ ((bytes : List ℕ) × Such bytes × AskedLast (wire ++ bytes) first.log t.log)
   asked_after first wire none order gives = elim asked.asked [
     | inl same ↦ inl same

@@ -1,6 +1,6 @@
 -- Words of std and of the crates below that contracts and proofs here are made of.
 pub use Rattle.bodies.specs.declared.error.RunError.{RunError}
-pub use Rattle.body_reader.specs.BodyReader.{BodyState, BodyWent, IsBodyReader, IsWhole, LooksBehind, ReadsPayload, begun, handed_of, taken_count}
+pub use Rattle.body_reader.specs.BodyReader.{BodyState, BodyWent, IsBodyReader, LooksBehind, ReadsPayload, TookWholeBody, begun, handed_of, taken_count}
 pub use Rattle.buffer_redux.specs.BufReader.{Fills, RanDry, ReadsAlong, ReadsInOrder}
 pub use Rattle.buffer_redux.specs.BufWriter.{WasFlushed, WritesInOrder}
 pub use Rattle.buffer_redux.specs.Buffered.{Buffered}
@@ -9,13 +9,13 @@ pub use Rattle.buffer_redux.specs.Policy.{std_read_rules}
 pub use Rattle.buffer_redux.specs.StreamLog.{StreamLog}
 pub use Rattle.buffer_redux.specs.WriteParts.{PutsIn, SendsFirst, room}
 pub use Rattle.buffer_redux.specs.declared.policy.StdPolicy.{StdPolicy}
-pub use Rattle.chunked.specs.Body.{IsBody, line_end}
+pub use Rattle.chunked.specs.Body.{IsBodyOfChunks, line_end}
 pub use Rattle.chunked.specs.Chunk.{IsCarried, IsChunks, body_end, chunk, size_digits}
 pub use Rattle.chunked.specs.Coding.{BreaksAt, chunked}
 pub use Rattle.chunked.specs.ChunkedWriter.{ChunkedWriterState, ChunksWent, IsChunkedWriter, WritesChunk, around, unbegun}
 pub use Rattle.chunked.specs.declared.limits.Limits.{Limits}
-pub use Rattle.forward.specs.Filter.{AskAnswers, Asks, AsksSent, FilterRules, FlushAnswers, Flushes, Gives, IsLawful, Moves, Passes, StaysOpen}
-pub use Rattle.programs.specs.Prompt.{AskedLast, AsksGive, HoldsNothingBack, WritesOn}
-pub use Rattle.programs.specs.Streams.{AllFlushed, AllSent, BufferRefused, EndsOnce, GaveNothing, MetNoFault, OverCount, ReadFailed, SendFailed}
+pub use Rattle.forward.specs.Filter.{AskAnswers, AsksSent, FilterAsks, FilterFlushes, FilterPasses, FilterRules, FlushAnswers, IsLawful, Moves, NeverGaveNothing, StaysOpen}
+pub use Rattle.programs.specs.Prompt.{AskedLast, AsksGiveOrFail, HoldsNothingBack, WritesOn}
+pub use Rattle.programs.specs.Streams.{AllSent, EndsOnce, GaveNothing, MetNoFault, OverCount, ReadFailed, ReceivedFlushed, RefusedBeforeCalls, WriterFailed}
 pub use Rattle.programs.specs.TakenIn.{IsStill, IsStill-same, sent_all, taken_in, taken_more}
 pub use Rattle.std.specs.declared.io.Error.{Error}

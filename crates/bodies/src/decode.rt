@@ -1,6 +1,6 @@
 //! The payload of a body copied, over any two streams that tell.
 ghost use Rattle.std.specs.Prelude.{◌≡◌, ◌<◌, [], vec_len};
-ghost use Rattle.bodies.specs.Decode.{Decodes};
+ghost use Rattle.bodies.specs.Decode.{DecodesBody};
 ghost use Rattle.bodies.specs.Decoding.{IsPieceTarget};
 
 use crate::decoding::{Decoding, PIECE};
@@ -24,7 +24,7 @@ pub fn decode<R: TellRead, W: TellWrite>(
     reader: R,
     writer: W,
 ) -> (Result<(), RunError>, R, W)
-    ensures { Decodes limits (R.log reader) (R.log result.1) (W.log writer) (W.log result.2) result.0 }
+    ensures { DecodesBody limits (R.log reader) (R.log result.1) (W.log writer) (W.log result.2) result.0 }
 {
     let piece = match vec![in alloc; 0; PIECE] {
         Ok(piece) => piece,
@@ -51,7 +51,7 @@ fn decode_all<R: TellRead, W: TellWrite>(
     requires target { IsPieceTarget target }
     requires empty { target.block.bytes ≡ [] }
     requires room { vec_len piece ≡ PIECE }
-    ensures { Decodes limits source.log result.1.log target.log result.2.log result.0 }
+    ensures { DecodesBody limits source.log result.1.log target.log result.2.log result.0 }
 {
     let mut link = Link::new(Decoding {
         source: ChunkedReader::new(source, Chunked(limits)),

@@ -3,7 +3,7 @@ ghost use Rattle.std.specs.Prelude.{◌≡◌, ◌≤◌, length, take};
 ghost use Rattle.buffer_redux.specs.Policy.{std_read_rules};
 ghost use Rattle.body_reader.specs.BodyReader.{BodyWent, IsBodyReader};
 ghost use Rattle.chunked.specs.Coding.{chunked};
-ghost use Rattle.bodies.specs.Decoding.{Holds, IsPieceTarget, IsReady, LooksOn, NoneBuffered, WritesPiece, ask_error, decoding_rules};
+ghost use Rattle.bodies.specs.Decoding.{HoldsPiece, IsPieceTarget, LooksOn, MayDecode, NoneBuffered, WritesPayload, ask_error, decoding_rules};
 ghost use Rattle.bodies.specs.DecodingLaws.{decoding_lawful};
 
 use crate::error::RunError;
@@ -69,8 +69,8 @@ impl<R: TellRead, W: TellWrite> Filter for Decoding<R, W> {
 // Holds a piece of what is buffered, where none is held.
 #[inline(always)]
 fn hold<R: TellRead, W: TellWrite>(filter: &mut Decoding<R, W>)
-    requires { IsReady filter.old }
-    ensures { Holds R.remaining filter.old filter.new }
+    requires { MayDecode filter.old }
+    ensures { HoldsPiece R.remaining filter.old filter.new }
 {
     if filter.held == 0 {
         filter.held = read_held(&mut filter.source, filter.piece.as_mut_slice());
@@ -95,7 +95,7 @@ fn read_held<R: TellRead>(source: &mut ChunkedReader<R>, piece: &mut [u8]) -> us
 fn write_piece<W: TellWrite>(target: &mut BufWriter<W>, piece: &[u8]) -> io::Result<()>
     requires target { IsPieceTarget target.old }
     requires fits { length piece.now ≤ PIECE }
-    ensures { WritesPiece target.old piece.now result target.new }
+    ensures { WritesPayload target.old piece.now result target.new }
 {
     make_room(target, piece.len())?;
     put(target, piece);

@@ -1,7 +1,7 @@
 //! What is given made the payload of a body, over any two streams that tell.
 ghost use Rattle.std.specs.Prelude.{◌≡◌, ◌+◌, ◌≤◌};
 ghost use Rattle.chunked.specs.ChunkedWriter.{around};
-ghost use Rattle.programs.specs.Streams.{IsFresh};
+ghost use Rattle.programs.specs.Streams.{IsEmptyBuffer};
 ghost use Rattle.bodies.specs.Encode.{Encodes, EndsBody};
 
 use crate::encoding::Encoding;
@@ -44,8 +44,8 @@ fn encode_all<R: TellRead, W: TellWrite>(
     source: BufReader<R>,
     target: BufWriter<W>,
 ) -> (Result<(), RunError>, BufReader<R>, BufWriter<W>)
-    requires source { IsFresh 1 source.block }
-    requires target { IsFresh (around + 1) target.block }
+    requires source { IsEmptyBuffer 1 source.block }
+    requires target { IsEmptyBuffer (around + 1) target.block }
     requires fits { around + source.block.capacity ≤ target.block.capacity }
     ensures { Encodes source.log result.1.log target.log result.2.log result.0 }
 {

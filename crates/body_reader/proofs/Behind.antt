@@ -11,8 +11,8 @@ use Rattle.buffer_redux.specs.Unbuffer.{unbuffered}
 use Rattle.body_reader.specs.declared.progress.Progress.{Progress}
 use Rattle.body_reader.specs.Asking.{AskedWhere}
 use Rattle.body_reader.specs.AskingLaws.{AskedWhere-of}
-use Rattle.body_reader.specs.Between.{Takes}
-use Rattle.body_reader.specs.BetweenLaws.{ReadsAhead-asked, ReadsAhead-ended, ReadsAhead-failed, ReadsAhead-gave, ReadsAhead-keeps, Takes-none, Takes-still}
+use Rattle.body_reader.specs.Between.{TakesBytes}
+use Rattle.body_reader.specs.BetweenLaws.{ReadsAhead-asked, ReadsAhead-ended, ReadsAhead-failed, ReadsAhead-gave, ReadsAhead-keeps, TakesBytes-none, TakesBytes-still}
 use Rattle.body_reader.specs.BodyReader.{BodyState, BodyWent, IsBodyReader, LooksBehind}
 use Rattle.body_reader.specs.Coding.{Carries, Grammar, IsKnown, IsLawful}
 use Rattle.body_reader.proofs.Filling.{Carries-less, one_ahead}
@@ -34,8 +34,8 @@ module _ {S Q C P W A : Type 0} (remaining : S → Option (List ℕ)) (rules : R
     ahead : ReadsAhead remaining rules 1 r answer r'
     ahead = one_ahead remaining rules r answer r' (omega (arith, is.room, lawful.some)) ahead'
 
-    takes : Takes remaining rules g r p [] [] r' p
-    takes = Takes-still remaining rules g r p r p r' [] [] (Takes-none remaining rules g r p is.place) ahead.along
+    takes : TakesBytes remaining rules g r p [] [] r' p
+    takes = TakesBytes-still remaining rules g r p r p r' [] [] (TakesBytes-none remaining rules g r p is.place) ahead.along
         (ReadsAhead-keeps remaining rules 1 r answer r' ahead g.ahead lawful.some)
 
     pub behind_is : IsBodyReader g (seen r' c p calls k)

@@ -6,7 +6,7 @@ use Rattle.body_reader.specs.declared.error.BodyError.{BodyError}
 use Rattle.body_reader.specs.declared.error.CollectError.{CollectError}
 use Rattle.body_reader.specs.declared.error.CollectError.TheVariants.{Body, TooLong, Memory}
 use Rattle.body_reader.specs.Between.{EachGave}
-use Rattle.body_reader.specs.BodyReader.{BodyState, BodyWent, Collects, FillsPayload, IsBodyReader, IsWhole, NotCollected}
+use Rattle.body_reader.specs.BodyReader.{BodyState, BodyWent, Collects, FillsPayload, IsBodyReader, NotCollected, TookWholeBody}
 use Rattle.body_reader.specs.Coding.{Grammar, IsLawful}
 use Rattle.body_reader.proofs.Taking.{Taken, filled_asked, filled_ended, filled_gave, filled_pieces, filled_went, fills_here, stops_after, taken_more, taken_none}
 
@@ -33,7 +33,7 @@ module _ {S Q C P W : Type 0} {remaining : S → Option (List ℕ)} {rules : Rea
   -- a last fill ends it, for whatever reason
   ends : {answer : Result ℕ (BodyError W)} {f : BodyState S Q C P} → FillsPayload remaining rules (grammar m.coding) m answer f
       → (result : Result (Unit {0}) (CollectError W)) → MatchResult result
-      (λ _. EachGave s.reader f.reader × IsWhole (grammar s.coding) f)
+      (λ _. EachGave s.reader f.reader × TookWholeBody (grammar s.coding) f)
       (λ why. NotCollected remaining rules (grammar s.coding) most s all why f)
       → Collects remaining rules (grammar s.coding) most s before result f all
   ends fills result answers = record {

@@ -14,8 +14,8 @@ use Rattle.body_reader.specs.declared.coding.Look.TheVariants.{Payload}
 use Rattle.body_reader.specs.declared.error.BodyError.{BodyError}
 use Rattle.body_reader.specs.declared.error.BodyError.TheVariants.{Truncated, Io}
 use Rattle.body_reader.specs.declared.progress.Progress.{Progress}
-use Rattle.body_reader.specs.Between.{AllShown, AsksFor, FillsOn, Proceeds, Settles, SkipsOn, Takes}
-use Rattle.body_reader.specs.BetweenLaws.{AsksFor-then, EachGave-none, Proceeds-after, Takes-none, Takes-still}
+use Rattle.body_reader.specs.Between.{AllShown, AsksWithRoom, Proceeds, Settles, ShowsOn, SkipsOn, TakesBytes}
+use Rattle.body_reader.specs.BetweenLaws.{AsksWithRoom-then, EachGave-none, Proceeds-after, TakesBytes-none, TakesBytes-still}
 use Rattle.body_reader.specs.Coding.{Carries, Grammar, IsDone, IsLawful, IsOpen, Looks}
 use Rattle.body_reader.specs.CodingLaws.{open_at}
 
@@ -97,20 +97,20 @@ module _ {S Q P W : Type 0} (remaining : S → Option (List ℕ)) (rules : ReadR
 
   -- where payload comes next some is known
   pub show_some : (slice : ℕ) (s : Buffered S Q) (p : Progress P) (sure : ℕ) → Carries g p.place sure s.block.bytes
-      → (t : Buffered S Q) (n : ℕ) → FillsOn remaining rules g slice s p (Ok n) t p → 0 < n
+      → (t : Buffered S Q) (n : ℕ) → ShowsOn remaining rules g slice s p (Ok n) t p → 0 < n
   show_some slice s p sure carries t zero shows = absurd (carries.goes_on (shows.ends.1.1 refl))
   show_some slice s p sure carries t (suc n) shows = omega arith
 
   -- payload is buffered
   pub show_held : (slice : ℕ) (s : Buffered S Q) (p : Progress P) → g.is_place p.place → (sure : ℕ)
       → Looks g p.place s.block.bytes (Payload sure) → 0 < length s.block.bytes → (n : ℕ)
-      → n ≡ min sure (length s.block.bytes) → FillsOn remaining rules g slice s p (Ok n) s p
+      → n ≡ min sure (length s.block.bytes) → ShowsOn remaining rules g slice s p (Ok n) s p
   show_held slice s p place sure looks held n is =
       let carries = looks.0 in
       let some : 0 < n = omega (arith, is, held, carries.some) in
       record {
         wire = [];
-        takes = Takes-none remaining rules g s p place;
+        takes = TakesBytes-none remaining rules g s p place;
         asked = inl refl;
         ends = (
           EachGave-none s,
@@ -138,10 +138,11 @@ module _ {S Q P W : Type 0} (remaining : S → Option (List ℕ)) (rules : ReadR
     is_open bytes none = open_at g lawful p.place place carries.goes_on bytes (omega (arith, ap length none))
 
     module _ (answer : Result ℕ Error) (reads : ReadsIntoBuf remaining s answer t) where
-      asks : AsksFor remaining rules g slice s p.place t
+      asks : AsksWithRoom remaining rules g slice s p.place t
       asks =
           let once = reads.read.read room in
-          AsksFor-then remaining rules g slice s p s p t [] (Takes-none remaining rules g s p place) (EachGave-none s) (inl refl)
+          AsksWithRoom-then remaining rules g slice s p s p t [] (TakesBytes-none remaining rules g s p place) (EachGave-none s)
+              (inl refl)
           (omega (arith, fits, looks.1, once.offered, ap (λ l. l.reads.offer) once.told))
           (inr (record {
             came = [];
@@ -151,10 +152,10 @@ module _ {S Q P W : Type 0} (remaining : S → Option (List ℕ)) (rules : ReadR
             asks = omega (arith, ap (λ l. l.reads.asks) once.told);
           }))
 
-      still : Takes remaining rules g s p [] [] t p
+      still : TakesBytes remaining rules g s p [] [] t p
       still =
           let once = reads.read.read room in
-          Takes-still remaining rules g s p s p t [] [] (Takes-none remaining rules g s p place) (record {
+          TakesBytes-still remaining rules g s p s p t [] [] (TakesBytes-none remaining rules g s p place) (record {
             in_order = order;
             known = reads.known;
             grows = reads.grows;
@@ -166,7 +167,7 @@ module _ {S Q P W : Type 0} (remaining : S → Option (List ℕ)) (rules : ReadR
             spared = λ keep high claims. spared keep;
           })
 
-    pub show_fails : (e : Error) → ReadsIntoBuf remaining s (Err e) t → FillsOn remaining rules g slice s p (Err (Io e)) t p
+    pub show_fails : (e : Error) → ReadsIntoBuf remaining s (Err e) t → ShowsOn remaining rules g slice s p (Err (Io e)) t p
     show_fails e reads =
         let o = reads.read.read room in
         record {
@@ -180,7 +181,7 @@ module _ {S Q P W : Type 0} (remaining : S → Option (List ℕ)) (rules : ReadR
           idle = λ done. absurd (carries.goes_on done);
         }
 
-    pub show_dry : ReadsIntoBuf remaining s (Ok 0) t → FillsOn remaining rules g slice s p (Err (Truncated p.count)) t p
+    pub show_dry : ReadsIntoBuf remaining s (Ok 0) t → ShowsOn remaining rules g slice s p (Err (Truncated p.count)) t p
     show_dry reads =
         let o = reads.read.read room in
         record {
@@ -200,7 +201,7 @@ module _ {S Q P W : Type 0} (remaining : S → Option (List ℕ)) (rules : ReadR
         }
 
     pub show_well : (came : ℕ) → ReadsIntoBuf remaining s (Ok came) t → 0 < came → (n : ℕ) → n ≡ min sure came
-        → FillsOn remaining rules g slice s p (Ok n) t p
+        → ShowsOn remaining rules g slice s p (Ok n) t p
     show_well came reads more n is =
         let o = reads.read.read room in
         let some : 0 < n = omega (arith, is, more, carries.some) in
@@ -243,7 +244,7 @@ module _ {S Q P W : Type 0} (remaining : S → Option (List ℕ)) (rules : ReadR
 
   module _ (slice : ℕ) (s : Buffered S Q) (p : Progress P) (m : Buffered S Q) (q : Progress P) where
     -- the body ended
-    pub fill_ended : SkipsOn remaining rules g slice s p (Ok 0) m q → FillsOn remaining rules g slice s p (Ok 0) m q
+    pub fill_ended : SkipsOn remaining rules g slice s p (Ok 0) m q → ShowsOn remaining rules g slice s p (Ok 0) m q
     fill_ended skips = record {
       wire = skips.wire;
       takes = skips.takes;

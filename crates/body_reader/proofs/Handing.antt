@@ -9,8 +9,8 @@ use Rattle.body_reader.specs.declared.coding.Look.{Look}
 use Rattle.body_reader.specs.declared.coding.Look.TheVariants.{Payload}
 use Rattle.body_reader.specs.declared.error.BodyError.{BodyError}
 use Rattle.body_reader.specs.declared.progress.Progress.{Progress}
-use Rattle.body_reader.specs.Between.{AllShown, AsksFor, EachGave, FillsOn, HandsAll, PassesOn, Proceeds, HandsOn, SkipsOn, Stretch, Takes, TakesFront, handed_out}
-use Rattle.body_reader.specs.BetweenLaws.{EachGave-none, EachGave-same, Proceeds-after, Takes-none}
+use Rattle.body_reader.specs.Between.{AllShown, AsksWithRoom, EachGave, ShowsOn, HandsAll, PassesOn, Proceeds, HandsOn, SkipsOn, Stretch, TakesBytes, TakesFront, handed_out}
+use Rattle.body_reader.specs.BetweenLaws.{EachGave-none, EachGave-same, Proceeds-after, TakesBytes-none}
 use Rattle.body_reader.specs.Coding.{Carries, Grammar, IsDone, IsKnown, Leads, Looks, heeded}
 use Rattle.body_reader.specs.CodingLaws.{Leads-none, Leads-then}
 use Rattle.body_reader.proofs.Filling.{Carries-less, Proceeds-err, Proceeds-of, ended_here, payload_here}
@@ -94,7 +94,7 @@ module _ {S Q P W : Type 0} (remaining : S → Option (List ℕ)) (rules : ReadR
   hands_none known s p out place none = (
     record {
       wire = [];
-      takes = Takes-none remaining rules g s p place;
+      takes = TakesBytes-none remaining rules g s p place;
       asked = inl refl;
       ends = (
         EachGave-none s,
@@ -114,7 +114,7 @@ module _ {S Q P W : Type 0} (remaining : S → Option (List ℕ)) (rules : ReadR
     hands_these before all = (
       record {
         wire = take n s.block.bytes;
-        takes = subst (λ l. Takes remaining rules g s p (take n s.block.bytes) l t q) (sym same) taken.takes;
+        takes = subst (λ l. TakesBytes remaining rules g s p (take n s.block.bytes) l t q) (sym same) taken.takes;
         asked = inl taken.told;
         ends = (
           EachGave-same s t taken.told,
@@ -197,7 +197,7 @@ module _ {S Q P W : Type 0} (remaining : S → Option (List ℕ)) (rules : ReadR
     hands_failed e M goes =
         (Proceeds-err remaining rules g (length out) s p [] e M (Handed s p m q) m q goes, never)
 
-    all_behind : (wire : List ℕ) → Takes remaining rules g s p wire [] m q → (n : ℕ) (rest : List ℕ)
+    all_behind : (wire : List ℕ) → TakesBytes remaining rules g s p wire [] m q → (n : ℕ) (rest : List ℕ)
         → HandsAll g q.place m.block.bytes known out n rest → HandsAll g p.place s.block.bytes known out n rest
     all_behind wire takes n rest (inl full) = inl full
     all_behind wire takes n rest (inr (inl none)) = inr (inl none)
@@ -218,8 +218,8 @@ module _ {S Q P W : Type 0} (remaining : S → Option (List ℕ)) (rules : ReadR
         })))
 
     -- behind calls that took bytes without payload, and of which each read gave some
-    hands_after : (wire : List ℕ) → Takes remaining rules g s p wire [] m q → EachGave s m
-        → AsksFor remaining rules g (length out) s p.place m → (answer : Result ℕ (BodyError W)) (t : Buffered S Q)
+    hands_after : (wire : List ℕ) → TakesBytes remaining rules g s p wire [] m q → EachGave s m
+        → AsksWithRoom remaining rules g (length out) s p.place m → (answer : Result ℕ (BodyError W)) (t : Buffered S Q)
         (r : Progress P) → HandsOn remaining rules g known m q out answer t r
         → (IsDone g p.place → (t ≡ s) × (r ≡ p)) → HandsOn remaining rules g known s p out answer t r
     hands_after wire takes gave asked answer t r hands idle = (
@@ -270,7 +270,7 @@ module _ {S Q P W : Type 0} (remaining : S → Option (List ℕ)) (rules : ReadR
         (subst (λ x. IsDone g x.place) (sym (skips.idle done).1) done)))
 
     -- and behind a fill
-    pub hands_filled : (k : ℕ) → 0 < k → FillsOn remaining rules g (length out) s p (Ok k) m q
+    pub hands_filled : (k : ℕ) → 0 < k → ShowsOn remaining rules g (length out) s p (Ok k) m q
         → (answer : Result ℕ (BodyError W)) → (t : Buffered S Q) (r : Progress P)
         → HandsOn remaining rules g known m q out answer t r → HandsOn remaining rules g known s p out answer t r
     hands_filled k some fills answer t r hands =

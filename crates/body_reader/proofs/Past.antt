@@ -9,8 +9,8 @@ use Rattle.buffer_redux.specs.ReaderLaws.{ReaderKeeps-along}
 use Rattle.buffer_redux.specs.StreamLog.{after_read, zero_of_none, zero_of_some}
 use Rattle.body_reader.specs.declared.error.BodyError.TheVariants.{Truncated, Io}
 use Rattle.body_reader.specs.declared.progress.Progress.{Progress}
-use Rattle.body_reader.specs.Between.{AsksFor, HandsOn, KeepsBuffer, Takes}
-use Rattle.body_reader.specs.BetweenLaws.{AsksFor-then, EachGave-none, Takes-none}
+use Rattle.body_reader.specs.Between.{AsksWithRoom, HandsOn, KeepsBuffer, TakesBytes}
+use Rattle.body_reader.specs.BetweenLaws.{AsksWithRoom-then, EachGave-none, TakesBytes-none}
 use Rattle.body_reader.specs.Coding.{Carries, Grammar, IsLawful, IsOpen, Leads, heeded}
 use Rattle.body_reader.specs.CodingLaws.{open_at}
 use Rattle.body_reader.proofs.Skipping.{Notes}
@@ -43,8 +43,9 @@ module _ {S Q P W : Type 0} (remaining : S → Option (List ℕ)) (rules : ReadR
 
     module _ (offers : min (length out) (g.sure p.place) ≤ most) (known : ℕ) where
       asked : (answer : Result ℕ Error) → GoesDirect after_read s lent answer t
-          → AsksFor remaining rules g (length out) s p.place t
-      asked answer direct = AsksFor-then remaining rules g (length out) s p s p t [] (Takes-none remaining rules g s p place)
+          → AsksWithRoom remaining rules g (length out) s p.place t
+      asked answer direct =
+          AsksWithRoom-then remaining rules g (length out) s p s p t [] (TakesBytes-none remaining rules g s p place)
           (EachGave-none s) (inl refl) (omega (arith, offers, size, ap (λ l. l.reads.offer) direct.told))
           (inr (record {
             came = [];
@@ -55,11 +56,11 @@ module _ {S Q P W : Type 0} (remaining : S → Option (List ℕ)) (rules : ReadR
           }))
 
       still : (answer : Result ℕ Error) → GoesDirect after_read s lent answer t → ReadsInOrder s [] t
-          → Takes remaining rules g s p [] [] t p
+          → TakesBytes remaining rules g s p [] [] t p
       still answer direct order = record {
         along = ReaderKeeps-along remaining rules s [] t order keeps;
         leads = subst (Leads g p.place [] [] p.place) (ap (λ b. heeded g b.bytes) (sym direct.block))
-            (Takes-none remaining rules g s p place).leads;
+            (TakesBytes-none remaining rules g s p place).leads;
         taken = sym (append-nil p.taken.log.fills.consumed);
         place = place;
         keeps = buffer_kept answer direct;

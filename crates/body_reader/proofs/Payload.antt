@@ -6,10 +6,10 @@ use Rattle.buffer_redux.specs.StreamLog.{StreamLog, after_read}
 use Rattle.body_reader.specs.declared.error.BodyError.{BodyError}
 use Rattle.body_reader.specs.declared.error.BodyError.TheVariants.{Wrong, Truncated, Io}
 use Rattle.body_reader.specs.declared.progress.Progress.{Progress}
-use Rattle.body_reader.specs.Between.{EachGave, FailsSo, FillsOn, HandsAll, HandsOn, Takes, handed_out}
-use Rattle.body_reader.specs.BodyReader.{BodyState, BodyWent, Breaks, EndsEarly, FillsPayload, IsBodyReader, IsWhole, ReadsPayload, NoPayload}
+use Rattle.body_reader.specs.Between.{EachGave, HandsAll, HandsOn, PayloadFails, ShowsOn, TakesBytes, handed_out}
+use Rattle.body_reader.specs.BodyReader.{BodyState, BodyWent, Breaks, EndsEarly, FillsPayload, IsBodyReader, TookWholeBody, ReadsPayload, NoPayload}
 use Rattle.body_reader.specs.BodyReaderLaws.{BodyWent-none}
-use Rattle.body_reader.specs.BetweenLaws.{AsksFor-open, EachGave-none}
+use Rattle.body_reader.specs.BetweenLaws.{AsksWithRoom-open, EachGave-none}
 use Rattle.body_reader.specs.Coding.{Grammar, IsDone, IsKnown, IsLawful, IsOpen, Leads, heeded}
 use Rattle.body_reader.specs.CodingLaws.{Leads-done, Leads-left, Leads-then, Leads-whole}
 
@@ -53,7 +53,7 @@ noted_some calls later out answer n is noted = noted ∙ ap (after_payload calls
 module _ {S Q C P W : Type 0} (remaining : S → Option (List ℕ)) (rules : ReadRules Q) (g : Grammar P W)
     (r : Buffered S Q) (c : C) (p : Progress P) (calls : StreamLog) (k : ℕ) (r' : Buffered S Q) (q : Progress P)
     (calls' : StreamLog) (k' : ℕ) where
-  module _ (wire handed : List ℕ) (takes : Takes remaining rules g r p wire handed r' q)
+  module _ (wire handed : List ℕ) (takes : TakesBytes remaining rules g r p wire handed r' q)
       (given : calls'.reads.given ≡ calls.reads.given ++ handed) where
     pub state_is : IsBodyReader g (seen r c p calls k) → IsKnown g q.place k' r'.block.bytes
         → IsBodyReader g (seen r' c q calls' k')
@@ -106,7 +106,7 @@ module _ {S Q C P W : Type 0} (remaining : S → Option (List ℕ)) (rules : Rea
         lawful.never q.place r'.block.bytes why left.rest left.later now.place wrong left.completes (rest, xs, left.behind);
   }
 
-  pub stops : IsLawful g → IsBodyReader g (seen r' c q calls' k') → (e : BodyError W) → FailsSo remaining rules g r e r' q
+  pub stops : IsLawful g → IsBodyReader g (seen r' c q calls' k') → (e : BodyError W) → PayloadFails remaining rules g r e r' q
       → NoPayload g (seen r c p calls k) e (seen r' c q calls' k')
   stops lawful now (Wrong why count) (well, right, wrong) = (right ∙ q.counted, well, breaks_so lawful now why wrong)
   stops lawful now (Truncated count) (met, right, is) = (right ∙ q.counted, met, early now is)
@@ -126,10 +126,10 @@ module _ {S Q C P W : Type 0} (remaining : S → Option (List ℕ)) (rules : Rea
 
   abbrev Ends : Result ℕ (BodyError W) → Type 0
   Ends a = MatchResult a (λ n. EachGave r r' × ((n ≤ length out) × (n ≡ 0 → 0 < length out → IsDone g q.place)
-      × (0 < n → HandsAll g p.place r.block.bytes k out n r'.block.bytes))) (λ e. FailsSo remaining rules g r e r' q)
+      × (0 < n → HandsAll g p.place r.block.bytes k out n r'.block.bytes))) (λ e. PayloadFails remaining rules g r e r' q)
 
   answered : (a : Result ℕ (BodyError W)) → Ends a
-      → MatchResult a (λ n. (n ≤ length out) × EachGave r r' × (n ≡ 0 → 0 < length out → IsWhole g after))
+      → MatchResult a (λ n. (n ≤ length out) × EachGave r r' × (n ≡ 0 → 0 < length out → TookWholeBody g after))
       (λ e. NoPayload g (seen r c p calls k) e after)
   answered (Ok n) ends = (
     ends.1.0,
@@ -144,7 +144,7 @@ module _ {S Q C P W : Type 0} (remaining : S → Option (List ℕ)) (rules : Rea
   all_handed (Ok n) ends = ends.1.2
   all_handed (Err e) ends = tt
 
-  idle : (IsWhole g (seen r c p calls k) ⊎ (length out ≡ 0)) → r' ≡ r
+  idle : (TookWholeBody g (seen r c p calls k) ⊎ (length out ≡ 0)) → r' ≡ r
   idle (inl whole) = (hands.0.idle (Leads-done g lawful p.taken.log.fills.consumed calls.reads.given p.place (heeded g r.block.bytes)
       is.leads is.place whole)).0
   idle (inr none) = (hands.1 none).1
@@ -183,21 +183,21 @@ module _ {S Q C P W : Type 0} (remaining : S → Option (List ℕ)) (rules : Rea
 module _ {S Q C P W : Type 0} (remaining : S → Option (List ℕ)) (rules : ReadRules Q) (g : Grammar P W) (lawful : IsLawful g)
     (r : Buffered S Q) (c : C) (p : Progress P) (calls : StreamLog) (k : ℕ) (is : IsBodyReader g (seen r c p calls k))
     (r' : Buffered S Q) (q : Progress P) (none : k ≡ 0) where
-  filled_state : (answer : Result ℕ (BodyError W)) → FillsOn remaining rules g 0 r p answer r' q → (n : ℕ)
+  filled_state : (answer : Result ℕ (BodyError W)) → ShowsOn remaining rules g 0 r p answer r' q → (n : ℕ)
       → IsKnown g q.place n r'.block.bytes → IsBodyReader g (seen r' c q calls n)
   filled_state answer fills n known = state_is remaining rules g r c p calls k r' q calls n fills.wire [] fills.takes
       (sym (append-nil calls.reads.given)) is known
 
-  filled_went : (answer : Result ℕ (BodyError W)) → FillsOn remaining rules g 0 r p answer r' q → (n : ℕ)
+  filled_went : (answer : Result ℕ (BodyError W)) → ShowsOn remaining rules g 0 r p answer r' q → (n : ℕ)
       → BodyWent remaining rules g (seen r c p calls k) [] (seen r' c q calls n)
   filled_went answer fills n = state_went remaining rules g r c p calls k r' q calls n fills.wire [] fills.takes
       (sym (append-nil calls.reads.given))
 
-  done : IsWhole g (seen r c p calls k) → IsDone g p.place
+  done : TookWholeBody g (seen r c p calls k) → IsDone g p.place
   done whole = Leads-done g lawful p.taken.log.fills.consumed calls.reads.given p.place (heeded g r.block.bytes) is.leads is.place whole
 
   -- where the body ended nothing is done
-  none_known : (n : ℕ) → FillsOn remaining rules g 0 r p (Ok n) r' q → IsDone g p.place → n ≡ k
+  none_known : (n : ℕ) → ShowsOn remaining rules g 0 r p (Ok n) r' q → IsDone g p.place → n ≡ k
   none_known zero fills at = sym none
   none_known (suc n) fills at = absurd ((fills.ends.1.0.1 (omega arith)).goes_on
       (subst (λ x. IsDone g x.place) (sym (fills.idle at).1) at))
@@ -205,10 +205,10 @@ module _ {S Q C P W : Type 0} (remaining : S → Option (List ℕ)) (rules : Rea
   same : (n : ℕ) → (r' ≡ r) × (q ≡ p) → n ≡ k → seen r' c q calls n ≡ seen r c p calls k
   same n both known = cc
 
-  pub filled_is : (n : ℕ) → FillsOn remaining rules g 0 r p (Ok n) r' q → IsBodyReader g (seen r' c q calls n)
+  pub filled_is : (n : ℕ) → ShowsOn remaining rules g 0 r p (Ok n) r' q → IsBodyReader g (seen r' c q calls n)
   filled_is n fills = filled_state (Ok n) fills n fills.ends.1.0
 
-  pub filled : (n : ℕ) → FillsOn remaining rules g 0 r p (Ok n) r' q
+  pub filled : (n : ℕ) → ShowsOn remaining rules g 0 r p (Ok n) r' q
       → FillsPayload remaining rules g (seen r c p calls k) (Ok n) (seen r' c q calls n)
   filled n fills = record {
     went = filled_went (Ok n) fills n;
@@ -219,7 +219,7 @@ module _ {S Q C P W : Type 0} (remaining : S → Option (List ℕ)) (rules : Rea
           (fills.ends.1.1 zero)),
     );
     all = λ some _. fills.ends.1.2 some;
-    asked = AsksFor-open remaining rules g 0 r p.place r' fills.asked;
+    asked = AsksWithRoom-open remaining rules g 0 r p.place r' fills.asked;
     still = λ either. elim either [
       | inl some ↦ absurd (omega (arith, some, none))
       | inr whole ↦ same n (fills.idle (done whole)) (none_known n fills (done whole))
@@ -227,17 +227,17 @@ module _ {S Q C P W : Type 0} (remaining : S → Option (List ℕ)) (rules : Rea
     whole = filled_is n fills;
   }
 
-  pub not_filled_is : (e : BodyError W) → FillsOn remaining rules g 0 r p (Err e) r' q → IsBodyReader g (seen r' c q calls k)
+  pub not_filled_is : (e : BodyError W) → ShowsOn remaining rules g 0 r p (Err e) r' q → IsBodyReader g (seen r' c q calls k)
   not_filled_is e fills =
       filled_state (Err e) fills k (omega (arith, none), λ some. absurd (omega (arith, some, none)))
 
-  pub not_filled : (e : BodyError W) → FillsOn remaining rules g 0 r p (Err e) r' q
+  pub not_filled : (e : BodyError W) → ShowsOn remaining rules g 0 r p (Err e) r' q
       → FillsPayload remaining rules g (seen r c p calls k) (Err e) (seen r' c q calls k)
   not_filled e fills = record {
     went = filled_went (Err e) fills k;
     answers = stops remaining rules g r c p calls k r' q calls k lawful (not_filled_is e fills) e fills.ends;
     all = tt;
-    asked = AsksFor-open remaining rules g 0 r p.place r' fills.asked;
+    asked = AsksWithRoom-open remaining rules g 0 r p.place r' fills.asked;
     still = λ either. elim either [
       | inl some ↦ absurd (omega (arith, some, none))
       | inr whole ↦ same k (fills.idle (done whole)) refl

@@ -7,7 +7,7 @@ use Rattle.buffer_redux.specs.BufReader.{ReadsInOrder}
 use Rattle.buffer_redux.specs.Policy.{ReadRules}
 use Rattle.body_reader.specs.declared.error.BodyError.{BodyError}
 use Rattle.body_reader.specs.declared.error.CollectError.{CollectError}
-use Rattle.body_reader.specs.BodyReader.{BodyState, Collects, Drains, FillsPayload, LooksBehind, ReadsBuffered, handed_of}
+use Rattle.body_reader.specs.BodyReader.{BodyState, Collects, Drains, FillsPayload, HandsBuffered, LooksBehind, handed_of}
 use Rattle.body_reader.specs.Coding.{Grammar, IsBody}
 
 module _ {S Q C P W : Type 0} {remaining : S → Option (List ℕ)} {rules : ReadRules Q} {g : Grammar P W}
@@ -20,9 +20,9 @@ module _ {S Q C P W : Type 0} {remaining : S → Option (List ℕ)} {rules : Rea
   fill_says (Err e) fills = record { count = tt; fills = fills }
 
   -- what is buffered was buffered, as nothing was asked for
-  pub buffered_says : (out : List ℕ) (handed : ℕ) → ReadsBuffered remaining rules g s out handed t → record {
+  pub buffered_says : (out : List ℕ) (handed : ℕ) → HandsBuffered remaining rules g s out handed t → record {
     taken : (wire : List ℕ) × (wire ++ t.reader.block.bytes ≡ s.reader.block.bytes) × (t.taken ≡ s.taken ++ wire);
-    reads : ReadsBuffered remaining rules g s out handed t;
+    reads : HandsBuffered remaining rules g s out handed t;
   }
   buffered_says out handed reads =
       let order = reads.went.along.in_order in

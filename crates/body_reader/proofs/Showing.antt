@@ -8,11 +8,11 @@ use Rattle.buffer_redux.specs.StreamLog.{StreamLog, after_read}
 use Rattle.body_reader.specs.declared.coding.Look.{Look}
 use Rattle.body_reader.specs.declared.coding.Look.TheVariants as look
 use Rattle.body_reader.specs.declared.progress.Progress.{Progress}
-use Rattle.body_reader.specs.Between.{FindsKnown, HandsShown, NoneShown, PassesOn, Takes, TakesFront}
-use Rattle.body_reader.specs.BetweenLaws.{Takes-joins, Takes-none}
-use Rattle.body_reader.specs.BodyReader.{BodyState, Breaks, EndsEarly, IsBodyReader, IsWhole, ReadsBuffered}
+use Rattle.body_reader.specs.Between.{FindsKnown, HandsShown, NoneShown, PassesOn, TakesBytes, TakesFront}
+use Rattle.body_reader.specs.BetweenLaws.{TakesBytes-joins, TakesBytes-none}
+use Rattle.body_reader.specs.BodyReader.{BodyState, Breaks, EndsEarly, HandsBuffered, IsBodyReader, TookWholeBody}
 use Rattle.body_reader.specs.Coding.{Grammar, IsKnown, IsLawful, Looks, heeded}
-use Rattle.body_reader.specs.CodingLaws.{Lacks-open, Leads-whole, open_at}
+use Rattle.body_reader.specs.CodingLaws.{IsOpenBelow-open, Leads-whole, open_at}
 use Rattle.body_reader.proofs.Filling.{Carries-fewer}
 use Rattle.body_reader.proofs.Payload.{breaks_so, early, seen, state_is, state_went}
 use borrow.Rule.Slice.PartMut.{put_mid}
@@ -29,7 +29,7 @@ module _ {S Q P W : Type 0} (remaining : S → Option (List ℕ)) (rules : ReadR
       → FindsKnown remaining rules g s p s p k
   known_found s p k place known some = record {
     wire = [];
-    takes = Takes-none remaining rules g s p place;
+    takes = TakesBytes-none remaining rules g s p place;
     told = refl;
     known = known;
     none = λ none. absurd (omega (arith, none, some));
@@ -59,7 +59,7 @@ module _ {S Q P W : Type 0} (remaining : S → Option (List ℕ)) (rules : ReadR
         → ((n : ℕ) → m ≢ look.Payload n) → NoneShown remaining rules g q.place t.block.bytes
     none_so (look.Payload n) looks no_more never = absurd (never n refl)
     none_so (look.Passed n r) looks no_more never = absurd (no_more n r refl)
-    none_so (look.More n) looks no_more never = inr (inl (Lacks-open g q.place n t.block.bytes looks.0))
+    none_so (look.More n) looks no_more never = inr (inl (IsOpenBelow-open g q.place n t.block.bytes looks.0))
     none_so (look.Wrong why) looks no_more never = inr (inr (why, looks.0))
     none_so look.Ended looks no_more never = inl looks
 
@@ -71,7 +71,7 @@ module _ {S Q P W : Type 0} (remaining : S → Option (List ℕ)) (rules : ReadR
   pub record Shown (s : Buffered S Q) (p : Progress P) (out : List ℕ) (handed : ℕ) (m : Buffered S Q) (q : Progress P) (k : ℕ)
       : Type 0 where
     pub wire : List ℕ
-    pub takes : Takes remaining rules g s p wire (take handed out) m q
+    pub takes : TakesBytes remaining rules g s p wire (take handed out) m q
     pub told : m.log ≡ s.log
     pub within : handed ≤ length out
     pub known : IsKnown g q.place k m.block.bytes
@@ -80,7 +80,7 @@ module _ {S Q P W : Type 0} (remaining : S → Option (List ℕ)) (rules : ReadR
       → IsKnown g p.place k s.block.bytes → Shown s p out 0 s p k
   shown_none s p out k place known = record {
     wire = [];
-    takes = Takes-none remaining rules g s p place;
+    takes = TakesBytes-none remaining rules g s p place;
     told = refl;
     within = omega arith;
     known = known;
@@ -99,9 +99,9 @@ module _ {S Q P W : Type 0} (remaining : S → Option (List ℕ)) (rules : ReadR
     }
 
     module _ (f : Buffered S Q) (r : Progress P) (k' : ℕ) (finds : FindsKnown remaining rules g m q f r k') where
-      found_on : Takes remaining rules g s p (so.wire ++ finds.wire) (take handed out) f r
-      found_on = subst (λ l. Takes remaining rules g s p (so.wire ++ finds.wire) l f r) (append-nil (take handed out))
-          (Takes-joins remaining rules g s p m q f r so.wire (take handed out) finds.wire [] so.takes finds.takes)
+      found_on : TakesBytes remaining rules g s p (so.wire ++ finds.wire) (take handed out) f r
+      found_on = subst (λ l. TakesBytes remaining rules g s p (so.wire ++ finds.wire) l f r) (append-nil (take handed out))
+          (TakesBytes-joins remaining rules g s p m q f r so.wire (take handed out) finds.wire [] so.takes finds.takes)
 
       pub none_shown : k' ≡ 0 → HandsShown remaining rules g s p out handed f r k'
       none_shown none = record {
@@ -123,8 +123,9 @@ module _ {S Q P W : Type 0} (remaining : S → Option (List ℕ)) (rules : ReadR
           ∙ ap (λ l. take handed out ++ l) same in
           record {
             wire = (so.wire ++ finds.wire) ++ take n f.block.bytes;
-            takes = subst (λ l. Takes remaining rules g s p ((so.wire ++ finds.wire) ++ take n f.block.bytes) l t u) (sym joined)
-                (Takes-joins remaining rules g s p f r t u (so.wire ++ finds.wire) (take handed out) (take n f.block.bytes)
+            takes = subst (λ l. TakesBytes remaining rules g s p ((so.wire ++ finds.wire) ++ take n f.block.bytes) l t u)
+                (sym joined)
+                (TakesBytes-joins remaining rules g s p f r t u (so.wire ++ finds.wire) (take handed out) (take n f.block.bytes)
                 (take n f.block.bytes) found_on front.takes);
             told = front.told ∙ finds.told ∙ so.told;
             within = omega (arith, within, long, length-append (take handed out) rest);
@@ -150,7 +151,7 @@ module _ {S Q C P W : Type 0} (remaining : S → Option (List ℕ)) (rules : Rea
   shown_is = state_is remaining rules g r c p calls k r' q calls' k' hands.wire (take handed out) hands.takes given is hands.known
 
   none_left : NoneShown remaining rules g q.place r'.block.bytes
-      → IsWhole g (seen r' c q calls' k') ⊎ (EndsEarly g (seen r' c q calls' k')
+      → TookWholeBody g (seen r' c q calls' k') ⊎ (EndsEarly g (seen r' c q calls' k')
       ⊎ ((why : W) × Breaks g why (seen r' c q calls' k')))
   none_left (inl done) = inl (Leads-whole g q.taken.log.fills.consumed calls'.reads.given q.place (heeded g r'.block.bytes)
       shown_is.leads done)
@@ -158,7 +159,7 @@ module _ {S Q C P W : Type 0} (remaining : S → Option (List ℕ)) (rules : Rea
   none_left (inr (inr (why, wrong))) =
       inr (inr (why, breaks_so remaining rules g r c p calls k r' q calls' k' lawful shown_is why wrong))
 
-  pub shown_reads : ReadsBuffered remaining rules g (seen r c p calls k) out handed (seen r' c q calls' k')
+  pub shown_reads : HandsBuffered remaining rules g (seen r c p calls k) out handed (seen r' c q calls' k')
   shown_reads = record {
     went = state_went remaining rules g r c p calls k r' q calls' k' hands.wire (take handed out) hands.takes given;
     told = hands.told;
@@ -171,7 +172,7 @@ module _ {S Q C P W : Type 0} (remaining : S → Option (List ℕ)) (rules : Rea
 -- as the reader is seen
 pub buffered_seen : {S Q C P W : Type 0} (remaining : S → Option (List ℕ)) (rules : ReadRules Q) (grammar : C → Grammar P W)
     (s d : BodyState S Q C P) (out : List ℕ) (handed : ℕ) (t : BodyState S Q C P) → s ≡ d
-    → ReadsBuffered remaining rules (grammar s.coding) s out handed t
-    → ReadsBuffered remaining rules (grammar d.coding) d out handed t
+    → HandsBuffered remaining rules (grammar s.coding) s out handed t
+    → HandsBuffered remaining rules (grammar d.coding) d out handed t
 buffered_seen remaining rules grammar s d out handed t same reads =
-    subst (λ x. ReadsBuffered remaining rules (grammar x.coding) x out handed t) same reads
+    subst (λ x. HandsBuffered remaining rules (grammar x.coding) x out handed t) same reads

@@ -11,10 +11,10 @@ use Rattle.body_reader.specs.declared.coding.Look.{Look}
 use Rattle.body_reader.specs.declared.coding.Look.TheVariants as look
 use Rattle.body_reader.specs.declared.error.BodyError.TheVariants.{Wrong, Truncated, Io}
 use Rattle.body_reader.specs.declared.progress.Progress.{Progress}
-use Rattle.body_reader.specs.Between.{AsksFor, EachGave, KeepsBuffer, PassesOn, SkipsOn, Takes, spend}
-use Rattle.body_reader.specs.BetweenLaws.{AsksFor-same, AsksFor-then, EachGave-joins, EachGave-none, EachGave-same, Faulted-after, MetEnd-after, ReadsAhead-asks, ReadsAhead-ended, ReadsAhead-failed, ReadsAhead-gave, ReadsAhead-keeps, ReadsAhead-open, Takes-joins, Takes-none, Takes-still}
-use Rattle.body_reader.specs.Coding.{Grammar, IsDone, Lacks, Leads, Looks, heeded}
-use Rattle.body_reader.specs.CodingLaws.{Lacks-open}
+use Rattle.body_reader.specs.Between.{AsksWithRoom, EachGave, KeepsBuffer, PassesOn, SkipsOn, TakesBytes, spend}
+use Rattle.body_reader.specs.BetweenLaws.{AsksWithRoom-same, AsksWithRoom-then, EachGave-joins, EachGave-none, EachGave-same, FaultedOnce-after, GaveNothingOnce-after, ReadsAhead-asks, ReadsAhead-ended, ReadsAhead-failed, ReadsAhead-gave, ReadsAhead-keeps, ReadsAhead-open, TakesBytes-joins, TakesBytes-none, TakesBytes-still}
+use Rattle.body_reader.specs.Coding.{Grammar, IsDone, IsOpenBelow, Leads, Looks, heeded}
+use Rattle.body_reader.specs.CodingLaws.{IsOpenBelow-open}
 
 -- these bytes were noted, which lead there
 pub record Notes {P : Type 0} (p : Progress P) (there : P) (bytes : List ℕ) (q : Progress P) : Type 0 where
@@ -44,7 +44,7 @@ module _ {S Q P W : Type 0} (remaining : S → Option (List ℕ)) (rules : ReadR
   pub takes_front : n ≤ length s.block.bytes → t.inner ≡ s.inner → ReaderConsumes rules n s t
       → ReaderKeeps remaining rules s t → (there : P) → Notes p there (take n s.block.bytes) q
       → Leads g p.place (take n s.block.bytes) handed there (heeded g (drop n s.block.bytes)) → g.is_place there
-      → Takes remaining rules g s p (take n s.block.bytes) handed t q
+      → TakesBytes remaining rules g s p (take n s.block.bytes) handed t q
   takes_front held inner gone keeps there notes leads place = record {
     along = ReaderConsumes-along remaining rules s n t inner gone;
     leads = subst (λ l. Leads g p.place (take n s.block.bytes) handed q.place (heeded g l))
@@ -59,7 +59,7 @@ module _ {S Q P W : Type 0} (remaining : S → Option (List ℕ)) (rules : ReadR
 pub record Passed {S Q P W : Type 0} (remaining : S → Option (List ℕ)) (rules : ReadRules Q) (g : Grammar P W)
     (s : Buffered S Q) (p : Progress P) (m : Buffered S Q) (q : Progress P) : Type 0 where
   pub wire : List ℕ
-  pub takes : Takes remaining rules g s p wire [] m q
+  pub takes : TakesBytes remaining rules g s p wire [] m q
   pub told : m.log ≡ s.log
   pub spends : spend g q.place m.block.bytes ≤ spend g p.place s.block.bytes
   pub idle : IsDone g p.place → (m ≡ s) × (q ≡ p)
@@ -68,9 +68,9 @@ pub record Passed {S Q P W : Type 0} (remaining : S → Option (List ℕ)) (rule
 pub record Skipped {S Q P W : Type 0} (remaining : S → Option (List ℕ)) (rules : ReadRules Q) (g : Grammar P W)
     (s : Buffered S Q) (p : Progress P) (m : Buffered S Q) (q : Progress P) : Type 0 where
   pub wire : List ℕ
-  pub takes : Takes remaining rules g s p wire [] m q
+  pub takes : TakesBytes remaining rules g s p wire [] m q
   pub gave : EachGave s m
-  pub asked : (slice : ℕ) → AsksFor remaining rules g slice s p.place m
+  pub asked : (slice : ℕ) → AsksWithRoom remaining rules g slice s p.place m
   pub room : g.ahead ≤ m.block.capacity
   pub still : IsDone g p.place → (m ≡ s) × (q ≡ p)
 
@@ -78,7 +78,7 @@ module _ {S Q P W : Type 0} (remaining : S → Option (List ℕ)) (rules : ReadR
   pub passed_none : (s : Buffered S Q) (p : Progress P) → g.is_place p.place → Passed remaining rules g s p s p
   passed_none s p place = record {
     wire = [];
-    takes = Takes-none remaining rules g s p place;
+    takes = TakesBytes-none remaining rules g s p place;
     told = refl;
     spends = omega arith;
     idle = λ _. (refl, refl);
@@ -106,7 +106,7 @@ module _ {S Q P W : Type 0} (remaining : S → Option (List ℕ)) (rules : ReadR
           let front = takes_front remaining rules g n m q t q' [] looks.1 inner gone kept next notes looks.2.leads looks.3 in
           record {
             wire = so.wire ++ take n m.block.bytes;
-            takes = Takes-joins remaining rules g s p m q t q' so.wire [] (take n m.block.bytes) [] so.takes front;
+            takes = TakesBytes-joins remaining rules g s p m q t q' so.wire [] (take n m.block.bytes) [] so.takes front;
             told = gone.told ∙ so.told;
             spends = omega (
               arith,
@@ -134,7 +134,7 @@ module _ {S Q P W : Type 0} (remaining : S → Option (List ℕ)) (rules : ReadR
       → Skipped remaining rules g s p s p
   skipped_none s p place room = record {
     wire = [];
-    takes = Takes-none remaining rules g s p place;
+    takes = TakesBytes-none remaining rules g s p place;
     gave = EachGave-none s;
     asked = λ slice. inl refl;
     room = room;
@@ -147,9 +147,9 @@ module _ {S Q P W : Type 0} (remaining : S → Option (List ℕ)) (rules : ReadR
     skipped_there : Skipped remaining rules g s p t r
     skipped_there = record {
       wire = so.wire ++ passes.wire;
-      takes = Takes-joins remaining rules g s p m q t r so.wire [] passes.wire [] so.takes passes.takes;
+      takes = TakesBytes-joins remaining rules g s p m q t r so.wire [] passes.wire [] so.takes passes.takes;
       gave = EachGave-joins s m t so.gave (EachGave-same m t passes.told);
-      asked = λ slice. AsksFor-same remaining rules g slice s p.place m t passes.told (so.asked slice);
+      asked = λ slice. AsksWithRoom-same remaining rules g slice s p.place m t passes.told (so.asked slice);
       room = omega (arith, so.room, passes.takes.along.capacity);
       still = λ done. (
           let first = so.still done in
@@ -197,7 +197,7 @@ module _ {S Q P W : Type 0} (remaining : S → Option (List ℕ)) (rules : ReadR
       looks : Looks g r.place t.block.bytes (look.More n)
       looks = subst (Looks g r.place t.block.bytes) is passes.looks
 
-      lacks : Lacks g r.place n t.block.bytes
+      lacks : IsOpenBelow g r.place n t.block.bytes
       lacks = looks.0
 
       pub fits : min n t.block.capacity ≡ n
@@ -206,17 +206,17 @@ module _ {S Q P W : Type 0} (remaining : S → Option (List ℕ)) (rules : ReadR
       ahead : ReadsAhead remaining rules n t answer u
       ahead = subst (λ k. ReadsAhead remaining rules k t answer u) fits ahead'
 
-      takes_still : Takes remaining rules g s p skipped_there.wire [] u r
-      takes_still = Takes-still remaining rules g s p t r u skipped_there.wire [] skipped_there.takes ahead.along
+      takes_still : TakesBytes remaining rules g s p skipped_there.wire [] u r
+      takes_still = TakesBytes-still remaining rules g s p t r u skipped_there.wire [] skipped_there.takes ahead.along
           (ReadsAhead-keeps remaining rules n t answer u ahead g.ahead lacks.most)
 
-      asks_then : (slice : ℕ) → AsksFor remaining rules g slice s p.place u
-      asks_then slice = AsksFor-then remaining rules g slice s p t r u skipped_there.wire skipped_there.takes
+      asks_then : (slice : ℕ) → AsksWithRoom remaining rules g slice s p.place u
+      asks_then slice = AsksWithRoom-then remaining rules g slice s p t r u skipped_there.wire skipped_there.takes
           skipped_there.gave (skipped_there.asked slice) (omega (arith, looks.1))
           (ReadsAhead-asks remaining rules g r.place n t answer u lacks ahead)
 
       never_done : IsDone g p.place → (u ≡ s) × (r ≡ p)
-      never_done done = absurd ((Lacks-open g r.place n t.block.bytes lacks).goes_on
+      never_done done = absurd ((IsOpenBelow-open g r.place n t.block.bytes lacks).goes_on
           (subst (λ x. IsDone g x.place) (sym (skipped_there.still done).1) done))
 
     module _ (n : ℕ) (is : l ≡ look.More n) {A : Type 0} (u : Buffered S Q) where
@@ -229,7 +229,7 @@ module _ {S Q P W : Type 0} (remaining : S → Option (List ℕ)) (rules : ReadR
             takes = takes_still n is (Err e) u ahead';
             asked = asks_then n is (Err e) u ahead' slice;
             ends = (
-              Faulted-after s t u skipped_there.gave e (ReadsAhead-failed {A = A} remaining rules n t u e a),
+              FaultedOnce-after s t u skipped_there.gave e (ReadsAhead-failed {A = A} remaining rules n t u e a),
               ReadsAhead-open remaining rules g r.place n t (Err e) u (lacks n is (Err e) u ahead') a a.ended.0,
             );
             idle = never_done n is (Err e) u ahead';
@@ -244,7 +244,7 @@ module _ {S Q P W : Type 0} (remaining : S → Option (List ℕ)) (rules : ReadR
             takes = takes_still n is (Ok a) u ahead';
             asked = asks_then n is (Ok a) u ahead' slice;
             ends = (
-              MetEnd-after s t u skipped_there.gave (ReadsAhead-ended remaining rules n t u a so' few),
+              GaveNothingOnce-after s t u skipped_there.gave (ReadsAhead-ended remaining rules n t u a so' few),
               refl,
               ReadsAhead-open remaining rules g r.place n t (Ok a) u (lacks n is (Ok a) u ahead') so' few,
             );

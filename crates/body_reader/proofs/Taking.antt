@@ -7,8 +7,8 @@ use Rattle.body_reader.specs.declared.error.BodyError.TheVariants.{Wrong, Trunca
 use Rattle.body_reader.specs.Asking.{AskedWhere}
 use Rattle.body_reader.specs.AskingLaws.{AskedWhere-on, AskedWhere-same}
 use Rattle.body_reader.specs.Between.{EachGave}
-use Rattle.body_reader.specs.BetweenLaws.{EachGave-joins, EachGave-none, EachGave-same, Faulted-after, MetEnd-after}
-use Rattle.body_reader.specs.BodyReader.{BodyState, BodyWent, FillsPayload, InPieces, IsBodyReader, IsWhole, NoPayload, TakesPieces, handed_of}
+use Rattle.body_reader.specs.BetweenLaws.{EachGave-joins, EachGave-none, EachGave-same, FaultedOnce-after, GaveNothingOnce-after}
+use Rattle.body_reader.specs.BodyReader.{BodyState, BodyWent, FillsPayload, InPieces, IsBodyReader, NoPayload, TakesManyPieces, TookWholeBody, handed_of}
 use Rattle.body_reader.specs.BodyReaderLaws.{BodyWent-joins, BodyWent-leads, BodyWent-none}
 use Rattle.body_reader.specs.Coding.{Grammar, IsLawful, LeadsOpen, heeded}
 use Rattle.body_reader.specs.CodingLaws.{Leads-done, LeadsOpen-behind}
@@ -23,9 +23,9 @@ pub record Taken {S Q C P W : Type 0} (remaining : S → Option (List ℕ)) (rul
   pub went : BodyWent remaining rules g s payload m
   pub gave : EachGave s.reader m.reader
   pub count : ℕ
-  pub pieces : TakesPieces remaining rules g count s m
+  pub pieces : TakesManyPieces remaining rules g count s m
   pub asked : AskedWhere (Unsettled g s) (unbuffered s.reader) (unbuffered m.reader)
-  pub ended : IsWhole g s → m ≡ s
+  pub ended : TookWholeBody g s → m ≡ s
   pub first : IsBodyReader g s
   pub whole : IsBodyReader g m
 
@@ -43,7 +43,7 @@ module _ {S Q C P W : Type 0} (remaining : S → Option (List ℕ)) (rules : Rea
   }
 
   -- where payload is known the body goes on
-  not_whole : IsLawful g → (d : BodyState S Q C P) → IsBodyReader g d → 0 < d.known → ¬ IsWhole g d
+  not_whole : IsLawful g → (d : BodyState S Q C P) → IsBodyReader g d → 0 < d.known → ¬ TookWholeBody g d
   not_whole lawful d is some whole =
       (is.known.1 some).goes_on
       (Leads-done g lawful d.taken (handed_of d) d.place (heeded g d.reader.block.bytes) is.leads is.place whole)
@@ -74,17 +74,17 @@ module _ {S Q C P W : Type 0} {remaining : S → Option (List ℕ)} {rules : Rea
               (BodyWent-leads remaining rules g s m payload so.first so.whole so.went) is,
         )) so.asked fills_here.asked
 
-    pub filled_ended : IsWhole g s → f ≡ s
+    pub filled_ended : TookWholeBody g s → f ≡ s
     filled_ended whole =
-        let first = so.ended whole in fills_here.still (inr (subst (IsWhole g) (sym first) whole)) ∙ first
+        let first = so.ended whole in fills_here.still (inr (subst (TookWholeBody g) (sym first) whole)) ∙ first
 
     pub filled_pieces : InPieces remaining rules g s f
     filled_pieces = record { count = so.count; last = m; pieces = so.pieces; end = inr (answer, fills_here) }
 
   pub stops_after : (e : BodyError W) (f : BodyState S Q C P) → NoPayload g m e f → NoPayload g s e f
   stops_after (Wrong why right) f stops = (stops.0, EachGave-joins s.reader m.reader f.reader so.gave stops.1, stops.2)
-  stops_after (Truncated right) f stops = (stops.0, MetEnd-after s.reader m.reader f.reader so.gave stops.1, stops.2)
-  stops_after (Io e) f stops = (Faulted-after s.reader m.reader f.reader so.gave e stops.0, stops.1)
+  stops_after (Truncated right) f stops = (stops.0, GaveNothingOnce-after s.reader m.reader f.reader so.gave stops.1, stops.2)
+  stops_after (Io e) f stops = (FaultedOnce-after s.reader m.reader f.reader so.gave e stops.0, stops.1)
 
   module _ {n : ℕ} {f : BodyState S Q C P} (fills' : FillsPayload remaining rules (grammar m.coding) m (Ok n) f) where
     pub filled_gave : EachGave s.reader f.reader
@@ -120,7 +120,7 @@ module _ {S Q C P W : Type 0} {remaining : S → Option (List ℕ)} {rules : Rea
           asked = AskedWhere-same (Unsettled g s) (unbuffered s.reader) (unbuffered f.reader) (unbuffered t.reader) told
               (filled_asked fills');
           ended = λ whole. absurd (not_whole remaining rules g lawful f (fills_here fills').whole
-              (omega (arith, some, fills'.answers.0)) (subst (IsWhole g) (sym (filled_ended fills' whole)) whole));
+              (omega (arith, some, fills'.answers.0)) (subst (TookWholeBody g) (sym (filled_ended fills' whole)) whole));
           first = so.first;
           whole = subst (λ c. IsBodyReader (grammar c) t) (goes'.coding ∙ here) is;
         }

@@ -24,12 +24,12 @@ pub record EachGave {S Q : Type 0} (s t : Buffered S Q) : Type 0 where
   pub asks : t.log.reads.asks + length s.log.reads.given ≤ s.log.reads.asks + length t.log.reads.given
 
 -- no read failed, and one gave nothing though it was asked for something
-abbrev pub MetEnd : {S Q : Type 0} → Buffered S Q → Buffered S Q → Type 0
-MetEnd s t = (t.log.reads.faults ≡ s.log.reads.faults) × (t.log.reads.zero_reads ≡ s.log.reads.zero_reads + 1)
+abbrev pub GaveNothingOnce : {S Q : Type 0} → Buffered S Q → Buffered S Q → Type 0
+GaveNothingOnce s t = (t.log.reads.faults ≡ s.log.reads.faults) × (t.log.reads.zero_reads ≡ s.log.reads.zero_reads + 1)
 
 -- this error is the one fault that the stream met, and no read gave nothing
-abbrev pub Faulted : {S Q : Type 0} → Buffered S Q → Error → Buffered S Q → Type 0
-Faulted s e t =
+abbrev pub FaultedOnce : {S Q : Type 0} → Buffered S Q → Error → Buffered S Q → Type 0
+FaultedOnce s e t =
     (t.log.reads.faults ≡ s.log.reads.faults ++ e ∷ []) × (t.log.reads.zero_reads ≡ s.log.reads.zero_reads)
 
 -- such a policy leaves capacity and limit as they are, where it is told of a drop
@@ -83,7 +83,7 @@ module _ {P W : Type 0} (g : Grammar P W) where
 
 module _ {S Q P W : Type 0} (remaining : S → Option (List ℕ)) (rules : ReadRules Q) (g : Grammar P W) where
   -- what any calls do that take these bytes of a body, in which there is this payload
-  pub record Takes (s : Buffered S Q) (p : Progress P) (wire handed : List ℕ) (t : Buffered S Q) (q : Progress P)
+  pub record TakesBytes (s : Buffered S Q) (p : Progress P) (wire handed : List ℕ) (t : Buffered S Q) (q : Progress P)
       : Type 0 where
     pub along : ReadsAlong remaining rules s wire t
     pub leads : Leads g p.place wire handed q.place (heeded g t.block.bytes)
@@ -96,14 +96,14 @@ module _ {S Q P W : Type 0} (remaining : S → Option (List ℕ)) (rules : ReadR
   AsksOpen s p t = AskedWhere (LeadsOpen g p []) (unbuffered s) (unbuffered t)
 
   -- and where nothing was buffered it was offered as much of a slice that takes so many as surely is payload
-  abbrev pub AsksFor : ℕ → Buffered S Q → P → Buffered S Q → Type 0
-  AsksFor room s p t = AskedWhere (AskedFor g p room t.log.reads.offer) (unbuffered s) (unbuffered t)
+  abbrev pub AsksWithRoom : ℕ → Buffered S Q → P → Buffered S Q → Type 0
+  AsksWithRoom room s p t = AskedWhere (AskedFor g p room t.log.reads.offer) (unbuffered s) (unbuffered t)
 
   -- all that is buffered and is no payload was taken, and then a look says so; nobody is asked. What is spent by that can't be
   -- spent again
   pub record PassesOn (s : Buffered S Q) (p : Progress P) (look : Look P W) (t : Buffered S Q) (q : Progress P) : Type 0 where
     pub wire : List ℕ
-    pub takes : Takes s p wire [] t q
+    pub takes : TakesBytes s p wire [] t q
     pub told : t.log ≡ s.log
     pub looks : Looks g q.place t.block.bytes look
     pub no_more : (n : ℕ) (r : P) → look ≢ Passed n r
@@ -111,10 +111,10 @@ module _ {S Q P W : Type 0} (remaining : S → Option (List ℕ)) (rules : ReadR
     pub idle : IsDone g p.place → (t ≡ s) × (q ≡ p)
 
   -- why there is no further payload
-  abbrev pub FailsSo : Buffered S Q → BodyError W → Buffered S Q → Progress P → Type 0
-  FailsSo s (Wrong why count) t q = EachGave s t × (count ≡ q.count) × g.wrong q.place t.block.bytes why
-  FailsSo s (Truncated count) t q = MetEnd s t × (count ≡ q.count) × IsOpen g q.place t.block.bytes
-  FailsSo s (Io e) t q = Faulted s e t × IsOpen g q.place t.block.bytes
+  abbrev pub PayloadFails : Buffered S Q → BodyError W → Buffered S Q → Progress P → Type 0
+  PayloadFails s (Wrong why count) t q = EachGave s t × (count ≡ q.count) × g.wrong q.place t.block.bytes why
+  PayloadFails s (Truncated count) t q = GaveNothingOnce s t × (count ≡ q.count) × IsOpen g q.place t.block.bytes
+  PayloadFails s (Io e) t q = FaultedOnce s e t × IsOpen g q.place t.block.bytes
 
   -- payload comes next, surely so many bytes, or none since the body ended
   abbrev pub Settles : P → List ℕ → ℕ → Type 0
@@ -124,9 +124,9 @@ module _ {S Q P W : Type 0} (remaining : S → Option (List ℕ)) (rules : ReadR
   pub record Proceeds {A : Type 0} (room : ℕ) (s : Buffered S Q) (p : Progress P) (handed : List ℕ)
       (answer : Result A (BodyError W)) (Means : A → Type 0) (t : Buffered S Q) (q : Progress P) : Type 0 where
     pub wire : List ℕ
-    pub takes : Takes s p wire handed t q
-    pub asked : AsksFor room s p.place t
-    pub ends : MatchResult answer (λ a. EachGave s t × Means a) (λ e. FailsSo s e t q)
+    pub takes : TakesBytes s p wire handed t q
+    pub asked : AsksWithRoom room s p.place t
+    pub ends : MatchResult answer (λ a. EachGave s t × Means a) (λ e. PayloadFails s e t q)
     pub idle : IsDone g p.place → (t ≡ s) × (q ≡ p)
 
   -- taking all that is no payload: how many bytes of payload surely come next
@@ -134,14 +134,14 @@ module _ {S Q P W : Type 0} (remaining : S → Option (List ℕ)) (rules : ReadR
   SkipsOn room s p answer t q = Proceeds room s p [] answer (Settles q.place t.block.bytes) t q
 
   -- and having some buffered: how many bytes of it are
-  abbrev pub FillsOn : ℕ → Buffered S Q → Progress P → Result ℕ (BodyError W) → Buffered S Q → Progress P → Type 0
-  FillsOn room s p answer t q = Proceeds room s p [] answer
+  abbrev pub ShowsOn : ℕ → Buffered S Q → Progress P → Result ℕ (BodyError W) → Buffered S Q → Progress P → Type 0
+  ShowsOn room s p answer t q = Proceeds room s p [] answer
       (λ n. IsKnown g q.place n t.block.bytes × (n ≡ 0 → IsDone g q.place) × (0 < n → AllShown g q.place n t.block.bytes)) t q
 
   -- taking the first bytes, of those that are known to be payload
   pub record TakesFront (n : ℕ) (s : Buffered S Q) (p : Progress P) (before : ℕ) (t : Buffered S Q) (q : Progress P) (after : ℕ)
       : Type 0 where
-    pub takes : Takes s p (take n s.block.bytes) (take n s.block.bytes) t q
+    pub takes : TakesBytes s p (take n s.block.bytes) (take n s.block.bytes) t q
     pub told : t.log ≡ s.log
     pub left : after ≡ before - n
     pub known : IsKnown g q.place after t.block.bytes
@@ -153,7 +153,7 @@ module _ {S Q P W : Type 0} (remaining : S → Option (List ℕ)) (rules : ReadR
   -- taking what is buffered and no payload, up to payload that is known, or none is shown; nobody is asked
   pub record FindsKnown (s : Buffered S Q) (p : Progress P) (t : Buffered S Q) (q : Progress P) (after : ℕ) : Type 0 where
     pub wire : List ℕ
-    pub takes : Takes s p wire [] t q
+    pub takes : TakesBytes s p wire [] t q
     pub told : t.log ≡ s.log
     pub known : IsKnown g q.place after t.block.bytes
     pub none : after ≡ 0 → NoneShown q.place t.block.bytes
@@ -162,7 +162,7 @@ module _ {S Q P W : Type 0} (remaining : S → Option (List ℕ)) (rules : ReadR
   pub record HandsShown (s : Buffered S Q) (p : Progress P) (out : List ℕ) (handed : ℕ) (t : Buffered S Q) (q : Progress P)
       (after : ℕ) : Type 0 where
     pub wire : List ℕ
-    pub takes : Takes s p wire (take handed out) t q
+    pub takes : TakesBytes s p wire (take handed out) t q
     pub told : t.log ≡ s.log
     pub within : handed ≤ length out
     pub known : IsKnown g q.place after t.block.bytes

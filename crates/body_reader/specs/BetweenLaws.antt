@@ -13,8 +13,8 @@ use Rattle.body_reader.specs.declared.error.BodyError.TheVariants.{Wrong, Trunca
 use Rattle.body_reader.specs.declared.progress.Progress.{Progress}
 use Rattle.body_reader.specs.Asking.{AskedWhere}
 use Rattle.body_reader.specs.AskingLaws.{AskedOver-on, AskedWhere-of, AskedWhere-same}
-use Rattle.body_reader.specs.Between.{AsksFor, AsksOpen, EachGave, FailsSo, Faulted, Proceeds, KeepsBuffer, MetEnd, Takes}
-use Rattle.body_reader.specs.Coding.{AskedFor, Grammar, IsDone, IsOpen, Lacks, LeadsOpen, heeded}
+use Rattle.body_reader.specs.Between.{AsksWithRoom, AsksOpen, EachGave, PayloadFails, FaultedOnce, Proceeds, KeepsBuffer, GaveNothingOnce, TakesBytes}
+use Rattle.body_reader.specs.Coding.{AskedFor, Grammar, IsDone, IsOpen, IsOpenBelow, LeadsOpen, heeded}
 use Rattle.body_reader.specs.CodingLaws.{AskedFor-behind, AskedFor-here, Leads-none, Leads-still, Leads-then}
 
 pub EachGave-none : {S Q : Type 0} (s : Buffered S Q) → EachGave s s
@@ -35,11 +35,11 @@ EachGave-same s t same = record {
   asks = omega (arith, ap (λ l. l.reads.asks) same, ap (λ l. length l.reads.given) same);
 }
 
-pub MetEnd-after : {S Q : Type 0} (s m t : Buffered S Q) → EachGave s m → MetEnd m t → MetEnd s t
-MetEnd-after s m t gave met = (met.0 ∙ gave.faults, omega (arith, met.1, gave.zero_reads))
+pub GaveNothingOnce-after : {S Q : Type 0} (s m t : Buffered S Q) → EachGave s m → GaveNothingOnce m t → GaveNothingOnce s t
+GaveNothingOnce-after s m t gave met = (met.0 ∙ gave.faults, omega (arith, met.1, gave.zero_reads))
 
-pub Faulted-after : {S Q : Type 0} (s m t : Buffered S Q) → EachGave s m → (e : Error) → Faulted m e t → Faulted s e t
-Faulted-after s m t gave e fault = (fault.0 ∙ ap (λ l. l ++ e ∷ []) gave.faults, fault.1 ∙ gave.zero_reads)
+pub FaultedOnce-after : {S Q : Type 0} (s m t : Buffered S Q) → EachGave s m → (e : Error) → FaultedOnce m e t → FaultedOnce s e t
+FaultedOnce-after s m t gave e fault = (fault.0 ∙ ap (λ l. l ++ e ∷ []) gave.faults, fault.1 ∙ gave.zero_reads)
 
 module _ {S Q : Type 0} (rules : ReadRules Q) (least : ℕ) where
   pub KeepsBuffer-none : (s : Buffered S Q) → KeepsBuffer rules least s s
@@ -98,18 +98,18 @@ module _ {S Q A : Type 0} (remaining : S → Option (List ℕ)) (rules : ReadRul
         length-append over.came t.log.reads.latest,
       )
 
-  pub ReadsAhead-ended : (a : A) → ReadsAhead remaining rules n s (Ok a) t → length t.block.bytes < n → MetEnd s t
+  pub ReadsAhead-ended : (a : A) → ReadsAhead remaining rules n s (Ok a) t → length t.block.bytes < n → GaveNothingOnce s t
   ReadsAhead-ended a ahead few = elim ahead.ended [
     | inl some ↦ absurd (omega (arith, some.0, few))
     | inr less ↦ (ahead.caused, less.1)
   ]
 
-  pub ReadsAhead-failed : (e : Error) → ReadsAhead {A = A} remaining rules n s (Err e) t → Faulted s e t
+  pub ReadsAhead-failed : (e : Error) → ReadsAhead {A = A} remaining rules n s (Err e) t → FaultedOnce s e t
   ReadsAhead-failed e ahead = (ahead.caused, ahead.ended.1)
 
 -- where fewer settle nothing
 module _ {S Q A P W : Type 0} (remaining : S → Option (List ℕ)) (rules : ReadRules Q) (g : Grammar P W) (p : P) (n : ℕ)
-    (s : Buffered S Q) (answer : Result A Error) (t : Buffered S Q) (lacks : Lacks g p n s.block.bytes)
+    (s : Buffered S Q) (answer : Result A Error) (t : Buffered S Q) (lacks : IsOpenBelow g p n s.block.bytes)
     (ahead : ReadsAhead remaining rules n s answer t) where
   pub ReadsAhead-asks : AskedWhere (IsOpen g p) (unbuffered s) (unbuffered t)
   ReadsAhead-asks = AskedWhere-of (λ bytes. length bytes < n) (IsOpen g p) (unbuffered s) (unbuffered t) lacks.is_open
@@ -122,8 +122,8 @@ module _ {S Q A P W : Type 0} (remaining : S → Option (List ℕ)) (rules : Rea
 
 module _ {S Q P W : Type 0} (remaining : S → Option (List ℕ)) (rules : ReadRules Q) (g : Grammar P W) where
   -- no call takes nothing, and two traces of calls join
-  pub Takes-none : (s : Buffered S Q) (p : Progress P) → g.is_place p.place → Takes remaining rules g s p [] [] s p
-  Takes-none s p place = record {
+  pub TakesBytes-none : (s : Buffered S Q) (p : Progress P) → g.is_place p.place → TakesBytes remaining rules g s p [] [] s p
+  TakesBytes-none s p place = record {
     along = ReadsAlong-none remaining rules s;
     leads = Leads-none g p.place (heeded g s.block.bytes);
     taken = sym (append-nil p.taken.log.fills.consumed);
@@ -131,10 +131,11 @@ module _ {S Q P W : Type 0} (remaining : S → Option (List ℕ)) (rules : ReadR
     keeps = KeepsBuffer-none rules g.ahead s;
   }
 
-  pub Takes-joins : (s : Buffered S Q) (p : Progress P) (m : Buffered S Q) (q : Progress P) (t : Buffered S Q) (r : Progress P)
-      (a h b k : List ℕ) → Takes remaining rules g s p a h m q → Takes remaining rules g m q b k t r
-      → Takes remaining rules g s p (a ++ b) (h ++ k) t r
-  Takes-joins s p m q t r a h b k x y = record {
+  pub TakesBytes-joins : (s : Buffered S Q) (p : Progress P) (m : Buffered S Q) (q : Progress P) (t : Buffered S Q)
+      (r : Progress P)
+      (a h b k : List ℕ) → TakesBytes remaining rules g s p a h m q → TakesBytes remaining rules g m q b k t r
+      → TakesBytes remaining rules g s p (a ++ b) (h ++ k) t r
+  TakesBytes-joins s p m q t r a h b k x y = record {
     along = ReadsAlong-joins remaining rules s m t a b x.along y.along;
     leads = Leads-then g p.place q.place r.place a b h k m.block.bytes y.along.in_order.got t.block.bytes
         y.along.in_order.equal x.leads y.leads;
@@ -144,10 +145,10 @@ module _ {S Q P W : Type 0} (remaining : S → Option (List ℕ)) (rules : ReadR
   }
 
   -- calls of the buffered reader that hand out nothing take nothing
-  pub Takes-still : (s : Buffered S Q) (p : Progress P) (m : Buffered S Q) (q : Progress P) (t : Buffered S Q) (a h : List ℕ)
-      → Takes remaining rules g s p a h m q → ReadsAlong remaining rules m [] t → KeepsBuffer rules g.ahead m t
-      → Takes remaining rules g s p a h t q
-  Takes-still s p m q t a h x still keeps = record {
+  pub TakesBytes-still : (s : Buffered S Q) (p : Progress P) (m : Buffered S Q) (q : Progress P) (t : Buffered S Q) (a h : List ℕ)
+      → TakesBytes remaining rules g s p a h m q → ReadsAlong remaining rules m [] t → KeepsBuffer rules g.ahead m t
+      → TakesBytes remaining rules g s p a h t q
+  TakesBytes-still s p m q t a h x still keeps = record {
     along = ReadsAlong-then remaining rules s m t a x.along still;
     leads = Leads-still g p.place q.place a h m.block.bytes still.in_order.got t.block.bytes still.in_order.equal x.leads;
     taken = x.taken;
@@ -156,37 +157,38 @@ module _ {S Q P W : Type 0} (remaining : S → Option (List ℕ)) (rules : ReadR
   }
 
   -- a failure behind reads that gave
-  pub FailsSo-after : (s m t : Buffered S Q) (q : Progress P) → EachGave s m → (e : BodyError W)
-      → FailsSo remaining rules g m e t q → FailsSo remaining rules g s e t q
-  FailsSo-after s m t q gave (Wrong why count) (well, right, wrong) = (EachGave-joins s m t gave well, right, wrong)
-  FailsSo-after s m t q gave (Truncated count) (met, right, is) = (MetEnd-after s m t gave met, right, is)
-  FailsSo-after s m t q gave (Io e) (fault, is) = (Faulted-after s m t gave e fault, is)
+  pub PayloadFails-after : (s m t : Buffered S Q) (q : Progress P) → EachGave s m → (e : BodyError W)
+      → PayloadFails remaining rules g m e t q → PayloadFails remaining rules g s e t q
+  PayloadFails-after s m t q gave (Wrong why count) (well, right, wrong) = (EachGave-joins s m t gave well, right, wrong)
+  PayloadFails-after s m t q gave (Truncated count) (met, right, is) = (GaveNothingOnce-after s m t gave met, right, is)
+  PayloadFails-after s m t q gave (Io e) (fault, is) = (FaultedOnce-after s m t gave e fault, is)
 
-  pub AsksFor-open : (room : ℕ) (s : Buffered S Q) (p : P) (t : Buffered S Q) → AsksFor remaining rules g room s p t
+  pub AsksWithRoom-open : (room : ℕ) (s : Buffered S Q) (p : P) (t : Buffered S Q) → AsksWithRoom remaining rules g room s p t
       → AsksOpen remaining rules g s p t
-  AsksFor-open room s p t =
+  AsksWithRoom-open room s p t =
       AskedWhere-of (AskedFor g p room t.log.reads.offer) (LeadsOpen g p []) (unbuffered s) (unbuffered t) (λ more asked. asked.leads)
 
-  pub AsksFor-same : (room : ℕ) (s : Buffered S Q) (p : P) (m t : Buffered S Q) → t.log ≡ m.log
-      → AsksFor remaining rules g room s p m → AsksFor remaining rules g room s p t
-  AsksFor-same room s p m t same asks =
+  pub AsksWithRoom-same : (room : ℕ) (s : Buffered S Q) (p : P) (m t : Buffered S Q) → t.log ≡ m.log
+      → AsksWithRoom remaining rules g room s p m → AsksWithRoom remaining rules g room s p t
+  AsksWithRoom-same room s p m t same asks =
       AskedWhere-same (AskedFor g p room t.log.reads.offer) (unbuffered s) (unbuffered m) (unbuffered t) same
       (subst (λ l. AskedWhere (AskedFor g p room l.reads.offer) (unbuffered s) (unbuffered m)) (sym same) asks)
 
   -- calls behind some that took bytes without payload, of which each gave some, ask where nothing was settled
   module _ (room : ℕ) (s : Buffered S Q) (p : Progress P) (m : Buffered S Q) (q : Progress P) (t : Buffered S Q) (wire : List ℕ)
-      (takes : Takes remaining rules g s p wire [] m q) (gave : EachGave s m)
-      (before : AsksFor remaining rules g room s p.place m) where
-    pub AsksFor-joins : AsksFor remaining rules g room m q.place t → AsksFor remaining rules g room s p.place t
-    AsksFor-joins (inl same) = AsksFor-same room s p.place m t same before
-    AsksFor-joins (inr over) = inr (AskedOver-on (AskedFor g p.place room m.log.reads.offer)
+      (takes : TakesBytes remaining rules g s p wire [] m q) (gave : EachGave s m)
+      (before : AsksWithRoom remaining rules g room s p.place m) where
+    pub AsksWithRoom-joins : AsksWithRoom remaining rules g room m q.place t → AsksWithRoom remaining rules g room s p.place t
+    AsksWithRoom-joins (inl same) = AsksWithRoom-same room s p.place m t same before
+    AsksWithRoom-joins (inr over) = inr (AskedOver-on (AskedFor g p.place room m.log.reads.offer)
         (AskedFor g p.place room t.log.reads.offer) (AskedFor g q.place room t.log.reads.offer) s m t wire takes.along.in_order
         gave (λ more asked. AskedFor-behind g p.place q.place room t.log.reads.offer wire m.block.bytes more takes.leads asked)
         before over)
 
-    pub AsksFor-then : min room (g.sure q.place) ≤ t.log.reads.offer
-        → AskedWhere (IsOpen g q.place) (unbuffered m) (unbuffered t) → AsksFor remaining rules g room s p.place t
-    AsksFor-then enough asks = AsksFor-joins (AskedWhere-of (IsOpen g q.place) (AskedFor g q.place room t.log.reads.offer)
+    pub AsksWithRoom-then : min room (g.sure q.place) ≤ t.log.reads.offer
+        → AskedWhere (IsOpen g q.place) (unbuffered m) (unbuffered t) → AsksWithRoom remaining rules g room s p.place t
+    AsksWithRoom-then enough asks =
+        AsksWithRoom-joins (AskedWhere-of (IsOpen g q.place) (AskedFor g q.place room t.log.reads.offer)
         (unbuffered m) (unbuffered t)
         (λ more is. AskedFor-here g q.place room t.log.reads.offer (m.block.bytes ++ more) takes.place is enough) asks)
 
@@ -194,16 +196,16 @@ module _ {S Q P W : Type 0} (remaining : S → Option (List ℕ)) (rules : ReadR
     module _ {A : Type 0} (handed : List ℕ) (answer : Result A (BodyError W)) (Means : A → Type 0) (r : Progress P)
         (goes : Proceeds remaining rules g room m q handed answer Means t r) (idle : IsDone g p.place → (t ≡ s) × (r ≡ p)) where
       ends_after : (a : Result A (BodyError W))
-          → MatchResult a (λ x. EachGave m t × Means x) (λ e. FailsSo remaining rules g m e t r)
-          → MatchResult a (λ x. EachGave s t × Means x) (λ e. FailsSo remaining rules g s e t r)
+          → MatchResult a (λ x. EachGave m t × Means x) (λ e. PayloadFails remaining rules g m e t r)
+          → MatchResult a (λ x. EachGave s t × Means x) (λ e. PayloadFails remaining rules g s e t r)
       ends_after (Ok x) ends = (EachGave-joins s m t gave ends.0, ends.1)
-      ends_after (Err e) ends = FailsSo-after s m t r gave e ends
+      ends_after (Err e) ends = PayloadFails-after s m t r gave e ends
 
       pub Proceeds-after : Proceeds remaining rules g room s p handed answer Means t r
       Proceeds-after = record {
         wire = wire ++ goes.wire;
-        takes = Takes-joins s p m q t r wire [] goes.wire handed takes goes.takes;
-        asked = AsksFor-joins goes.asked;
+        takes = TakesBytes-joins s p m q t r wire [] goes.wire handed takes goes.takes;
+        asked = AsksWithRoom-joins goes.asked;
         ends = ends_after answer goes.ends;
         idle = idle;
       }

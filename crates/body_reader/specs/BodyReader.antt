@@ -14,7 +14,7 @@ use Rattle.body_reader.specs.declared.error.BodyError.TheVariants.{Wrong, Trunca
 use Rattle.body_reader.specs.declared.error.CollectError.{CollectError}
 use Rattle.body_reader.specs.declared.error.CollectError.TheVariants as collect
 use Rattle.body_reader.specs.Asking.{AskedWhere}
-use Rattle.body_reader.specs.Between.{AllShown, AsksFor, AsksOpen, BecomesIo, EachGave, Faulted, HandsAll, KeepsBuffer, MetEnd, handed_out}
+use Rattle.body_reader.specs.Between.{AllShown, AsksOpen, AsksWithRoom, BecomesIo, EachGave, FaultedOnce, GaveNothingOnce, HandsAll, KeepsBuffer, handed_out}
 use Rattle.body_reader.specs.Coding.{Grammar, IsBody, IsKnown, IsOpen, Leads, LeadsOpen, heeded}
 
 -- the buffered reader; the coding; where in the body the reader stands; the bytes of it that were taken so far; what it handed
@@ -49,8 +49,8 @@ module _ {S Q C P W : Type 0} (g : Grammar P W) where
   begun reader coding = record { reader = reader; coding = coding; place = g.first; taken = []; calls = no_calls; known = 0 }
 
   -- what was taken is a body, and what was handed out its payload
-  abbrev pub IsWhole : BodyState S Q C P → Type 0
-  IsWhole d = IsBody g d.taken (handed_of d)
+  abbrev pub TookWholeBody : BodyState S Q C P → Type 0
+  TookWholeBody d = IsBody g d.taken (handed_of d)
 
   -- what is buffered is wrong, and bytes that begin with what was taken and then that begin with no body
   pub record Breaks (why : W) (t : BodyState S Q C P) : Type 0 where
@@ -66,8 +66,8 @@ module _ {S Q C P W : Type 0} (g : Grammar P W) where
   -- why there is no further payload: the next bytes are wrong; or the stream gave nothing, or failed, where it was asked
   abbrev pub NoPayload : BodyState S Q C P → BodyError W → BodyState S Q C P → Type 0
   NoPayload s (Wrong why right) t = (right ≡ taken_count t) × EachGave s.reader t.reader × Breaks why t
-  NoPayload s (Truncated right) t = (right ≡ taken_count t) × MetEnd s.reader t.reader × EndsEarly t
-  NoPayload s (Io e) t = Faulted s.reader e t.reader × EndsEarly t
+  NoPayload s (Truncated right) t = (right ≡ taken_count t) × GaveNothingOnce s.reader t.reader × EndsEarly t
+  NoPayload s (Io e) t = FaultedOnce s.reader e t.reader × EndsEarly t
 
 module _ {S Q C P W : Type 0} (remaining : S → Option (List ℕ)) (rules : ReadRules Q) (g : Grammar P W) where
   -- what any calls do, one after another, that handed out this payload: some bytes were taken out of the buffered reader, in
@@ -87,10 +87,11 @@ module _ {S Q C P W : Type 0} (remaining : S → Option (List ℕ)) (rules : Rea
       : Type 0 where
     pub went : BodyWent s (handed_out out answer) t
     pub answers : MatchResult answer
-        (λ n. (n ≤ length out) × EachGave s.reader t.reader × (n ≡ 0 → 0 < length out → IsWhole g t)) (λ e. NoPayload g s e t)
-    pub asked : AsksFor remaining rules g (length out) s.reader s.place t.reader
+        (λ n. (n ≤ length out) × EachGave s.reader t.reader × (n ≡ 0 → 0 < length out → TookWholeBody g t))
+        (λ e. NoPayload g s e t)
+    pub asked : AsksWithRoom remaining rules g (length out) s.reader s.place t.reader
     pub all : IfOk answer (λ n. 0 < n → HandsAll g s.place s.reader.block.bytes s.known out n t.reader.block.bytes)
-    pub idle : (IsWhole g s ⊎ (length out ≡ 0)) → t.reader ≡ s.reader
+    pub idle : (TookWholeBody g s ⊎ (length out ≡ 0)) → t.reader ≡ s.reader
     pub empty : length out ≡ 0 → answer ≡ Ok 0
     pub noted : MatchResult answer (λ n. t.calls ≡ after_read s.calls out (Ok n)) (λ _. t.calls ≡ s.calls)
     pub whole : IsBodyReader g t
@@ -99,11 +100,11 @@ module _ {S Q C P W : Type 0} (remaining : S → Option (List ℕ)) (rules : Rea
   -- asked only where nothing was settled, and no payload left; where some was known, or the body ended, nothing is done
   pub record FillsPayload (s : BodyState S Q C P) (answer : Result ℕ (BodyError W)) (t : BodyState S Q C P) : Type 0 where
     pub went : BodyWent s [] t
-    pub answers : MatchResult answer (λ n. (n ≡ t.known) × EachGave s.reader t.reader × (n ≡ 0 → IsWhole g t))
+    pub answers : MatchResult answer (λ n. (n ≡ t.known) × EachGave s.reader t.reader × (n ≡ 0 → TookWholeBody g t))
         (λ e. NoPayload g s e t)
     pub all : IfOk answer (λ n. 0 < n → s.known ≡ 0 → AllShown g t.place n t.reader.block.bytes)
     pub asked : AsksOpen remaining rules g s.reader s.place t.reader
-    pub still : (0 < s.known ⊎ IsWhole g s) → t ≡ s
+    pub still : (0 < s.known ⊎ TookWholeBody g s) → t ≡ s
     pub whole : IsBodyReader g t
 
   -- a piece of payload was taken: all that a fill showed
@@ -117,15 +118,15 @@ module _ {S Q C P W : Type 0} (remaining : S → Option (List ℕ)) (rules : Rea
     pub none_left : t.known ≡ 0
 
   -- so many pieces, one after another
-  abbrev pub TakesPieces : ℕ → BodyState S Q C P → BodyState S Q C P → Type 0
-  TakesPieces zero s t = s ≡ t
-  TakesPieces (suc count) s t = (m : BodyState S Q C P) × TakesPieces count s m × TakesPiece m t
+  abbrev pub TakesManyPieces : ℕ → BodyState S Q C P → BodyState S Q C P → Type 0
+  TakesManyPieces zero s t = s ≡ t
+  TakesManyPieces (suc count) s t = (m : BodyState S Q C P) × TakesManyPieces count s m × TakesPiece m t
 
   -- pieces, and then at most a fill
   pub record InPieces (s t : BodyState S Q C P) : Type 0 where
     pub count : ℕ
     pub last : BodyState S Q C P
-    pub pieces : TakesPieces count s last
+    pub pieces : TakesManyPieces count s last
     pub end : (last ≡ t) ⊎ ((answer : Result ℕ (BodyError W)) × FillsPayload last answer t)
 
   -- the rest of the body was taken, and its payload dropped, or why not: as a read of payload answers, or by `Other` where more
@@ -134,14 +135,14 @@ module _ {S Q C P W : Type 0} (remaining : S → Option (List ℕ)) (rules : Rea
   pub record Drains (s : BodyState S Q C P) (answer : Result (Unit {0}) (BodyError W)) (t : BodyState S Q C P) : Type 0 where
     pub payload : List ℕ
     pub went : BodyWent s payload t
-    pub answers : MatchResult answer (λ _. EachGave s.reader t.reader × IsWhole g t)
+    pub answers : MatchResult answer (λ _. EachGave s.reader t.reader × TookWholeBody g t)
         (λ why. NoPayload g s why t
         ⊎ ((e : Error) × (why ≡ Io e) × (error_kind e ≡ Other) × (2 ^ 64 - 1 ≤ length payload)
         × EachGave s.reader t.reader))
     pub pieces : InPieces s t
     pub asked : AskedWhere (λ bytes. (dropped : List ℕ) × LeadsOpen g s.place dropped bytes) (unbuffered s.reader)
         (unbuffered t.reader)
-    pub ended : IsWhole g s → t.reader ≡ s.reader
+    pub ended : TookWholeBody g s → t.reader ≡ s.reader
     pub whole : IsBodyReader g t
 
   -- why no more payload was collected, of which so much is there: none comes; or some is buffered, with which it would be more than
@@ -162,17 +163,17 @@ module _ {S Q C P W : Type 0} (remaining : S → Option (List ℕ)) (rules : Rea
     pub pieces : InPieces s t
     pub asked : AskedWhere (λ bytes. (dropped : List ℕ) × LeadsOpen g s.place dropped bytes) (unbuffered s.reader)
         (unbuffered t.reader)
-    pub answers : MatchResult answer (λ _. EachGave s.reader t.reader × IsWhole g t) (λ e. NotCollected most s after e t)
-    pub ended : IsWhole g s → t ≡ s
+    pub answers : MatchResult answer (λ _. EachGave s.reader t.reader × TookWholeBody g t) (λ e. NotCollected most s after e t)
+    pub ended : TookWholeBody g s → t ≡ s
     pub whole : IsBodyReader g t
 
   -- what `read_buffered` does, which left the slice as out: payload that is buffered is handed out, as much as the slice takes.
   -- Less comes only where the body ended, or what is buffered settles nothing, or is wrong. The stream isn't asked
-  pub record ReadsBuffered (s : BodyState S Q C P) (out : List ℕ) (handed : ℕ) (t : BodyState S Q C P) : Type 0 where
+  pub record HandsBuffered (s : BodyState S Q C P) (out : List ℕ) (handed : ℕ) (t : BodyState S Q C P) : Type 0 where
     pub went : BodyWent s (take handed out) t
     pub told : t.reader.log ≡ s.reader.log
     pub bound : handed ≤ length out
-    pub all : (handed ≡ length out) ⊎ (IsWhole g t ⊎ (EndsEarly g t ⊎ ((why : W) × Breaks g why t)))
+    pub all : (handed ≡ length out) ⊎ (TookWholeBody g t ⊎ (EndsEarly g t ⊎ ((why : W) × Breaks g why t)))
     pub noted : t.calls ≡ after_read s.calls out (Ok handed)
     pub whole : IsBodyReader g t
 
@@ -180,9 +181,9 @@ module _ {S Q C P W : Type 0} (remaining : S → Option (List ℕ)) (rules : Rea
   pub record LooksBehind (s : BodyState S Q C P) (answer : Result Bool Error) (t : BodyState S Q C P) : Type 0 where
     pub went : BodyWent s [] t
     pub answers : MatchResult answer
-        (λ none. MatchBool none ((t.reader.block.bytes ≡ []) × MetEnd s.reader t.reader)
+        (λ none. MatchBool none ((t.reader.block.bytes ≡ []) × GaveNothingOnce s.reader t.reader)
         ((0 < length t.reader.block.bytes) × EachGave s.reader t.reader))
-        (λ e. (t.reader.block.bytes ≡ []) × Faulted s.reader e t.reader)
+        (λ e. (t.reader.block.bytes ≡ []) × FaultedOnce s.reader e t.reader)
     pub asked : AskedWhere (λ bytes. bytes ≡ []) (unbuffered s.reader) (unbuffered t.reader)
     pub still : t ≡ record s { reader = t.reader }
     pub whole : IsBodyReader g t

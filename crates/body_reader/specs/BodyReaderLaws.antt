@@ -7,7 +7,7 @@ use Rattle.buffer_redux.specs.Policy.{ReadRules}
 use Rattle.buffer_redux.specs.ReaderLaws.{ReadsAlong-none, ReadsAlong-joins, ReadsInOrder-ahead}
 use Rattle.buffer_redux.specs.Remaining.{ahead}
 use Rattle.body_reader.specs.BetweenLaws.{KeepsBuffer-joins, KeepsBuffer-none}
-use Rattle.body_reader.specs.BodyReader.{BodyState, BodyWent, Breaks, EndsEarly, IsBodyReader, IsWhole, begun, handed_of}
+use Rattle.body_reader.specs.BodyReader.{BodyState, BodyWent, Breaks, EndsEarly, IsBodyReader, TookWholeBody, begun, handed_of}
 use Rattle.body_reader.specs.Coding.{Agree, Grammar, IsBody, IsLawful, Leads, heeded}
 use Rattle.body_reader.specs.CodingLaws.{Agree-front, Agree-less, Leads-left, Leads-none, heeded_on}
 
@@ -47,7 +47,7 @@ module _ {S Q C P W : Type 0} (remaining : S → Option (List ℕ)) (rules : Rea
   -- where the bytes that are known to be left begin with a body, once it ended just what follows it is left
   pub BodyWent-behind : IsLawful g → (first : Buffered S Q) (coding : C)
       (body payload behind handed : List ℕ) (t : BodyState S Q C P) → ahead remaining first ≡ Some (body ++ behind)
-      → IsBody g body payload → BodyWent remaining rules g (begun g first coding) handed t → IsWhole g t
+      → IsBody g body payload → BodyWent remaining rules g (begun g first coding) handed t → TookWholeBody g t
       → (handed ≡ payload) × (ahead remaining t.reader ≡ Some behind)
   BodyWent-behind lawful first coding body payload behind handed t known is went whole =
       let left = left_then (ahead remaining first) (ahead remaining t.reader) (body ++ behind) went.wire known
@@ -85,7 +85,7 @@ module _ {S Q C P W : Type 0} (g : Grammar P W) (lawful : IsLawful g) (t : BodyS
       (same ∙ ap (λ l. t.taken ++ (t.reader.block.bytes ++ l)) none
       ∙ ap (λ l. t.taken ++ l) (append-nil t.reader.block.bytes))
 
-  pub given_all : IsWhole g t → (handed_of t ≡ payload) × (t.reader.block.bytes ++ rest ≡ behind)
+  pub given_all : TookWholeBody g t → (handed_of t ≡ payload) × (t.reader.block.bytes ++ rest ≡ behind)
   given_all whole =
       let left = t.reader.block.bytes ++ rest in
       let all = lawful.one t.taken body (handed_of t) payload left behind whole is_body (sym same) in

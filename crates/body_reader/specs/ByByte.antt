@@ -6,54 +6,55 @@ use Rattle.body_reader.specs.Coding.{Grammar}
 
 -- the place before a body; in which places one ends; what a byte is in a place; and how many bytes there may be at most, from
 -- a place to the next of payload or to the end
-pub record Turns (P W : Type 0) : Type 0 where
+pub record TurnRules (P W : Type 0) : Type 0 where
   pub first : P
   pub is_end : P → Bool
   pub turn : P → ℕ → Turn P W
   pub between : P → ℕ
 
-module _ {P W : Type 0} (t : Turns P W) where
+module _ {P W : Type 0} (t : TurnRules P W) where
   -- a byte that is no payload leads on; and in each place some byte is none
   pub record AreLawful : Type 0 where
     pub nearer : (p q : P) (byte : ℕ) → t.turn p byte ≡ Passed q → t.between q < t.between p
     pub other : (p : P) → (byte : ℕ) × ((q : P) → t.turn p byte ≢ Payload q)
 
   -- each byte leads on, and its payload are those that are payload
-  abbrev pub Completes : P → List ℕ → List ℕ → Type 0
-  Completes p [] payload = (t.is_end p ≡ true) × (payload ≡ [])
-  Completes p (byte ∷ rest) payload = (t.is_end p ≡ false)
-      × (((q : P) × (later : List ℕ) × (t.turn p byte ≡ Payload q) × (payload ≡ byte ∷ later) × Completes q rest later)
-      ⊎ ((q : P) × (t.turn p byte ≡ Passed q) × Completes q rest payload))
+  abbrev pub CompletesByTurns : P → List ℕ → List ℕ → Type 0
+  CompletesByTurns p [] payload = (t.is_end p ≡ true) × (payload ≡ [])
+  CompletesByTurns p (byte ∷ rest) payload = (t.is_end p ≡ false)
+      × (((q : P) × (later : List ℕ) × (t.turn p byte ≡ Payload q) × (payload ≡ byte ∷ later) × CompletesByTurns q rest later)
+      ⊎ ((q : P) × (t.turn p byte ≡ Passed q) × CompletesByTurns q rest payload))
 
   -- each of these bytes is payload, and they lead from the one place to the other
-  abbrev pub Keeps : P → List ℕ → P → Type 0
-  Keeps p [] q = p ≡ q
-  Keeps p (byte ∷ bytes) q = (t.is_end p ≡ false) × (next : P) × (t.turn p byte ≡ Payload next) × Keeps next bytes q
+  abbrev pub LeadsByPayload : P → List ℕ → P → Type 0
+  LeadsByPayload p [] q = p ≡ q
+  LeadsByPayload p (byte ∷ bytes) q =
+      (t.is_end p ≡ false) × (next : P) × (t.turn p byte ≡ Payload next) × LeadsByPayload next bytes q
 
   -- the next of these bytes is no payload
-  abbrev pub Stops : P → List ℕ → Type 0
-  Stops p [] = ⊤
-  Stops p (byte ∷ bytes) = (t.is_end p ≡ true) ⊎ ((q : P) → t.turn p byte ≢ Payload q)
+  abbrev pub NoPayloadNext : P → List ℕ → Type 0
+  NoPayloadNext p [] = ⊤
+  NoPayloadNext p (byte ∷ bytes) = (t.is_end p ≡ true) ⊎ ((q : P) → t.turn p byte ≢ Payload q)
 
   -- the next of these bytes can't stand there
-  abbrev pub IsWrong : P → List ℕ → W → Type 0
-  IsWrong p [] why = ⊥
-  IsWrong p (byte ∷ bytes) why = (t.is_end p ≡ false) × (t.turn p byte ≡ Wrong why)
+  abbrev pub IsWrongTurn : P → List ℕ → W → Type 0
+  IsWrongTurn p [] why = ⊥
+  IsWrongTurn p (byte ∷ bytes) why = (t.is_end p ≡ false) × (t.turn p byte ≡ Wrong why)
 
   -- the first n of these bytes are payload and lead there, and the next is none
   pub record Ran (p : P) (bytes : List ℕ) (n : ℕ) (q : P) : Type 0 where
     pub within : n ≤ length bytes
-    pub keeps : Keeps p (take n bytes) q
-    pub stops : Stops q (drop n bytes)
+    pub keeps : LeadsByPayload p (take n bytes) q
+    pub stops : NoPayloadNext q (drop n bytes)
 
-abbrev pub by_byte : {P W : Type 0} → Turns P W → Grammar P W
+abbrev pub by_byte : {P W : Type 0} → TurnRules P W → Grammar P W
 by_byte t = record {
   first = t.first;
   ahead = 1;
   is_place = λ p. ⊤;
-  completes = Completes t;
-  carries = λ p bytes follow. (q : _) × Keeps t p bytes q;
-  wrong = IsWrong t;
+  completes = CompletesByTurns t;
+  carries = λ p bytes follow. (q : _) × LeadsByPayload t p bytes q;
+  wrong = IsWrongTurn t;
   between = t.between;
   sure = λ p. 0;
   heeds = false;

@@ -5,32 +5,32 @@ use Rattle.body_reader.specs.declared.coding.Look.TheVariants as look
 use Rattle.body_reader.specs.declared.by_byte.Turn.TheVariants.{Payload, Passed, Wrong}
 use Rattle.body_reader.specs.Coding.{Agree, Carries, IsDone, IsLawful, Leads, Looks}
 use Rattle.body_reader.specs.CodingLaws.{Leads-joins, Leads-none, overlaps}
-use Rattle.body_reader.specs.ByByte.{AreLawful, Completes, IsWrong, Keeps, Ran, Stops, Turns, by_byte}
+use Rattle.body_reader.specs.ByByte.{AreLawful, CompletesByTurns, IsWrongTurn, LeadsByPayload, NoPayloadNext, Ran, TurnRules, by_byte}
 
-module _ {P W : Type 0} (t : Turns P W) where
+module _ {P W : Type 0} (t : TurnRules P W) where
   not_done : (p : P) → t.is_end p ≡ false → ¬ IsDone (by_byte t) p
   not_done p open' done = let odd : false ≡ true = sym open' ∙ done.0 in cc
 
   -- where a body goes on, no byte goes past its end
-  one_within : (p : P) (byte : ℕ) (rest payload past : List ℕ) → t.is_end p ≡ false → Completes t p rest payload
+  one_within : (p : P) (byte : ℕ) (rest payload past : List ℕ) → t.is_end p ≡ false → CompletesByTurns t p rest payload
       → byte ∷ [] ≡ rest ++ past → past ≡ []
   one_within p byte [] payload past open' c same = absurd (not_done p open' (c.0, refl))
   one_within p byte (x ∷ rest) payload past open' c same =
       let tail : rest ++ past ≡ [] = cc in nil_from_length past (omega (arith, ap length tail, length-append rest past))
 
-  kept_back : (p q : P) (byte : ℕ) (rest whole : List ℕ) → t.turn p byte ≡ Payload q → Completes t p (byte ∷ rest) whole
-      → (payload : List ℕ) × (whole ≡ byte ∷ payload) × Completes t q rest payload
+  kept_back : (p q : P) (byte : ℕ) (rest whole : List ℕ) → t.turn p byte ≡ Payload q → CompletesByTurns t p (byte ∷ rest) whole
+      → (payload : List ℕ) × (whole ≡ byte ∷ payload) × CompletesByTurns t q rest payload
   kept_back p q byte rest whole is (_, inl c) =
       let same : c.0 ≡ q = (let both : Payload c.0 ≡ Payload q = sym c.2 ∙ is in cc) in
-      (c.1, c.3, subst (λ r. Completes t r rest c.1) same c.4)
+      (c.1, c.3, subst (λ r. CompletesByTurns t r rest c.1) same c.4)
   kept_back p q byte rest whole is (_, inr c) = let odd : Passed c.0 ≡ Payload q = sym c.1 ∙ is in cc
 
-  passed_back : (p q : P) (byte : ℕ) (rest whole : List ℕ) → t.turn p byte ≡ Passed q → Completes t p (byte ∷ rest) whole
-      → Completes t q rest whole
+  passed_back : (p q : P) (byte : ℕ) (rest whole : List ℕ) → t.turn p byte ≡ Passed q → CompletesByTurns t p (byte ∷ rest) whole
+      → CompletesByTurns t q rest whole
   passed_back p q byte rest whole is (_, inl c) = let odd : Payload c.0 ≡ Passed q = sym c.2 ∙ is in cc
   passed_back p q byte rest whole is (_, inr c) =
       let same : c.0 ≡ q = (let both : Passed c.0 ≡ Passed q = sym c.1 ∙ is in cc) in
-      subst (λ r. Completes t r rest whole) same c.2
+      subst (λ r. CompletesByTurns t r rest whole) same c.2
 
   -- a byte of payload leads on
   kept_leads : (p q : P) (byte : ℕ) (follow : List ℕ) → t.is_end p ≡ false → t.turn p byte ≡ Payload q
@@ -42,56 +42,58 @@ module _ {P W : Type 0} (t : Turns P W) where
   }
 
   -- payload leads on
-  pub keeps_leads : (p : P) (bytes : List ℕ) (q : P) (follow : List ℕ) → Keeps t p bytes q
+  pub keeps_leads : (p : P) (bytes : List ℕ) (q : P) (follow : List ℕ) → LeadsByPayload t p bytes q
       → Leads (by_byte t) p bytes bytes q follow
   keeps_leads p [] q follow k = subst (λ r. Leads (by_byte t) p [] [] r follow) k (Leads-none (by_byte t) p follow)
   keeps_leads p (byte ∷ bytes) q follow k =
       Leads-joins (by_byte t) p k.1 q (byte ∷ []) bytes (byte ∷ []) bytes follow
       (kept_leads p k.1 byte (bytes ++ follow) k.0 k.2) (keeps_leads k.1 bytes q follow k.3)
 
-  pub keeps_split : (p : P) (a b : List ℕ) (q : P) → Keeps t p (a ++ b) q → (m : P) × Keeps t p a m × Keeps t m b q
+  pub keeps_split : (p : P) (a b : List ℕ) (q : P) → LeadsByPayload t p (a ++ b) q
+      → (m : P) × LeadsByPayload t p a m × LeadsByPayload t m b q
   keeps_split p [] b q k = (p, refl, k)
   keeps_split p (x ∷ a) b q k = let rest = keeps_split k.1 a b q k.3 in (rest.0, (k.0, k.1, k.2, rest.1), rest.2)
 
   -- where one byte more is payload
-  pub keeps_more : (p : P) (a : List ℕ) (m : P) (byte : ℕ) (q : P) → Keeps t p a m → t.is_end m ≡ false
-      → t.turn m byte ≡ Payload q → Keeps t p (a ++ byte ∷ []) q
-  keeps_more p [] m byte q k open' is = subst (λ r. Keeps t r (byte ∷ []) q) (sym k) (open', q, is, refl)
+  pub keeps_more : (p : P) (a : List ℕ) (m : P) (byte : ℕ) (q : P) → LeadsByPayload t p a m → t.is_end m ≡ false
+      → t.turn m byte ≡ Payload q → LeadsByPayload t p (a ++ byte ∷ []) q
+  keeps_more p [] m byte q k open' is = subst (λ r. LeadsByPayload t r (byte ∷ []) q) (sym k) (open', q, is, refl)
   keeps_more p (x ∷ a) m byte q k open' is = (k.0, k.1, k.2, keeps_more k.1 a m byte q k.3 open' is)
 
-  keeps_one : (p : P) (a : List ℕ) (q r : P) → Keeps t p a q → Keeps t p a r → q ≡ r
+  keeps_one : (p : P) (a : List ℕ) (q r : P) → LeadsByPayload t p a q → LeadsByPayload t p a r → q ≡ r
   keeps_one p [] q r k l = sym k ∙ l
   keeps_one p (x ∷ a) q r k l =
       let same : k.1 ≡ l.1 = (let both : Payload k.1 ≡ Payload l.1 = sym k.2 ∙ l.2 in cc) in
-      keeps_one l.1 a q r (subst (λ m. Keeps t m a q) same k.3) l.3
+      keeps_one l.1 a q r (subst (λ m. LeadsByPayload t m a q) same k.3) l.3
 
-  stops_none : (p : P) (bytes : List ℕ) (q : P) → Stops t p bytes → Keeps t p bytes q → p ≡ q
+  stops_none : (p : P) (bytes : List ℕ) (q : P) → NoPayloadNext t p bytes → LeadsByPayload t p bytes q → p ≡ q
   stops_none p [] q s k = k
   stops_none p (x ∷ bytes) q (inl done) k = let odd : false ≡ true = sym k.0 ∙ done in cc
   stops_none p (x ∷ bytes) q (inr none) k = absurd (none k.1 k.2)
 
   -- where all of the bytes are payload, a run of payload goes as far
-  pub ran_all : (p : P) (bytes : List ℕ) (q : P) (n : ℕ) (r : P) → Ran t p bytes n r → Keeps t p bytes q → r ≡ q
+  pub ran_all : (p : P) (bytes : List ℕ) (q : P) (n : ℕ) (r : P) → Ran t p bytes n r → LeadsByPayload t p bytes q → r ≡ q
   ran_all p bytes q n r ran k =
       let parts = keeps_split p (take n bytes) (drop n bytes) q
-      (subst (λ l. Keeps t p l q) (sym (take-append-drop n bytes)) k) in
+      (subst (λ l. LeadsByPayload t p l q) (sym (take-append-drop n bytes)) k) in
       let here = keeps_one p (take n bytes) parts.0 r parts.1 ran.keeps in
-      stops_none r (drop n bytes) q ran.stops (subst (λ m. Keeps t m (drop n bytes) q) here parts.2)
+      stops_none r (drop n bytes) q ran.stops (subst (λ m. LeadsByPayload t m (drop n bytes) q) here parts.2)
 
   -- and where what follows is payload too, that is from there
-  pub ran_still : (p : P) (bytes more : List ℕ) (q : P) (n : ℕ) (r : P) → Ran t p bytes n r → Keeps t p (bytes ++ more) q
-      → ((q : P) × Keeps t r more q) × (0 < length more → ¬ IsDone (by_byte t) r)
+  pub ran_still : (p : P) (bytes more : List ℕ) (q : P) (n : ℕ) (r : P) → Ran t p bytes n r → LeadsByPayload t p (bytes ++ more) q
+      → ((q : P) × LeadsByPayload t r more q) × (0 < length more → ¬ IsDone (by_byte t) r)
   ran_still p bytes more q n r ran k =
       let parts = keeps_split p bytes more q k in
       let same = ran_all p bytes parts.0 n r ran parts.1 in
-      let later : Keeps t r more q = subst (λ m. Keeps t m more q) (sym same) parts.2 in
+      let later : LeadsByPayload t r more q = subst (λ m. LeadsByPayload t m more q) (sym same) parts.2 in
       ((q, later), goes_on more later)
     where
-      goes_on : (more : List ℕ) → Keeps t r more q → 0 < length more → ¬ IsDone (by_byte t) r
+      goes_on : (more : List ℕ) → LeadsByPayload t r more q → 0 < length more → ¬ IsDone (by_byte t) r
       goes_on [] k some = absurd (omega (arith, some))
       goes_on (x ∷ more) k some = not_done r k.0
 
-  pub ran_leads : (p : P) (bytes : List ℕ) (q : P) (n : ℕ) (r : P) (follow : List ℕ) → Ran t p bytes n r → Keeps t p bytes q
+  pub ran_leads : (p : P) (bytes : List ℕ) (q : P) (n : ℕ) (r : P) (follow : List ℕ) → Ran t p bytes n r
+      → LeadsByPayload t p bytes q
       → Leads (by_byte t) p bytes bytes r follow
   ran_leads p bytes q n r follow ran k =
       subst (λ m. Leads (by_byte t) p bytes bytes m follow) (sym (ran_all p bytes q n r ran k))
@@ -103,19 +105,19 @@ module _ {P W : Type 0} (t : Turns P W) where
   ran_some p [] n r q more open' is ran = let odd : true ≡ false = more in cc
   ran_some p (byte ∷ rest) zero r q more open' is ran = absurd (stopped ran.stops)
     where
-      stopped : ¬ Stops t r (byte ∷ rest)
+      stopped : ¬ NoPayloadNext t r (byte ∷ rest)
       stopped (inl done) = let odd : false ≡ true = sym open' ∙ ap (λ m. t.is_end m) ran.keeps ∙ done in cc
       stopped (inr none) = none q (subst (λ m. t.turn m byte ≡ Payload q) ran.keeps is)
   ran_some p (byte ∷ rest) (suc n) r q more open' is ran = omega arith
 
-  prefix_keeps : (p : P) (a b c d : List ℕ) (r : P) → Keeps t p a r → length b ≤ length a → b ++ c ≡ a ++ d
-      → (q : P) × Keeps t p b q
+  prefix_keeps : (p : P) (a b c d : List ℕ) (r : P) → LeadsByPayload t p a r → length b ≤ length a → b ++ c ≡ a ++ d
+      → (q : P) × LeadsByPayload t p b q
   prefix_keeps p a b c d r k few same = elim (overlaps b c a d same) [
-    | inl found ↦ let parts = keeps_split p b found.0 r (subst (λ l. Keeps t p l r) found.1 k) in (parts.0, parts.1)
+    | inl found ↦ let parts = keeps_split p b found.0 r (subst (λ l. LeadsByPayload t p l r) found.1 k) in (parts.0, parts.1)
     | inr found ↦
         let none : found.0 ≡ [] =
         nil_from_length found.0 (omega (arith, few, ap length found.1, length-append a found.0)) in
-        (r, subst (λ l. Keeps t p l r) (sym (found.1 ∙ ap (λ l. a ++ l) none ∙ append-nil a)) k)
+        (r, subst (λ l. LeadsByPayload t p l r) (sym (found.1 ∙ ap (λ l. a ++ l) none ∙ append-nil a)) k)
   ]
 
   pub looks_payload : (p : P) (shown : List ℕ) (n : ℕ) (r q : P) → (length shown == 0) ≡ false → t.is_end p ≡ false
@@ -133,7 +135,8 @@ module _ {P W : Type 0} (t : Turns P W) where
   )
 
   -- what can't stand there completes no body
-  never : (p : P) (shown : List ℕ) (why : W) (rest payload : List ℕ) → IsWrong t p shown why → Completes t p rest payload
+  never : (p : P) (shown : List ℕ) (why : W) (rest payload : List ℕ) → IsWrongTurn t p shown why
+      → CompletesByTurns t p rest payload
       → ¬ Agree shown rest
   never p [] why rest payload wrong c agree = wrong
   never p (x ∷ shown) why [] payload wrong c agree = let odd : false ≡ true = sym wrong.0 ∙ c.0 in cc
@@ -144,18 +147,19 @@ module _ {P W : Type 0} (t : Turns P W) where
       let head : x ≡ y = (let same = agree.2 in cc) in
       let odd : Wrong why ≡ Passed c.0 = sym wrong.1 ∙ ap (λ b. t.turn p b) head ∙ c.1 in cc
 
-  none_wrong : (p : P) (why : W) → ¬ IsWrong t p [] why
+  none_wrong : (p : P) (why : W) → ¬ IsWrongTurn t p [] why
   none_wrong p why wrong = wrong
 
   -- no bytes begin with two bodies
-  only_one : (p : P) (a b x y xs ys : List ℕ) → Completes t p a x → Completes t p b y → a ++ xs ≡ b ++ ys → (a ≡ b) × (x ≡ y)
+  only_one : (p : P) (a b x y xs ys : List ℕ) → CompletesByTurns t p a x → CompletesByTurns t p b y → a ++ xs ≡ b ++ ys
+      → (a ≡ b) × (x ≡ y)
   only_one p [] [] x y xs ys c d same = (refl, c.1 ∙ sym d.1)
   only_one p [] (k ∷ b) x y xs ys c d same = let odd : false ≡ true = sym d.0 ∙ c.0 in cc
   only_one p (h ∷ a) [] x y xs ys c d same = let odd : false ≡ true = sym c.0 ∙ d.0 in cc
   only_one p (h ∷ a) (k ∷ b) x y xs ys (open', inl c) d same =
       let head : h ≡ k = cc in
       let tail : a ++ xs ≡ b ++ ys = cc in
-      let other = kept_back p c.0 h b y c.2 (subst (λ z. Completes t p (z ∷ b) y) (sym head) d) in
+      let other = kept_back p c.0 h b y c.2 (subst (λ z. CompletesByTurns t p (z ∷ b) y) (sym head) d) in
       let found = only_one c.0 a b c.1 other.0 xs ys c.4 other.2 tail in (
         ap (λ l. h ∷ l) found.0 ∙ ap (λ z. z ∷ b) head,
         c.3 ∙ ap (λ l. h ∷ l) found.1 ∙ sym other.1,
@@ -163,7 +167,7 @@ module _ {P W : Type 0} (t : Turns P W) where
   only_one p (h ∷ a) (k ∷ b) x y xs ys (open', inr c) d same =
       let head : h ≡ k = cc in
       let tail : a ++ xs ≡ b ++ ys = cc in
-      let other = passed_back p c.0 h b y c.1 (subst (λ z. Completes t p (z ∷ b) y) (sym head) d) in
+      let other = passed_back p c.0 h b y c.1 (subst (λ z. CompletesByTurns t p (z ∷ b) y) (sym head) d) in
       let found = only_one c.0 a b x y xs ys c.2 other tail in
       (ap (λ l. h ∷ l) found.0 ∙ ap (λ z. z ∷ b) head, found.1)
 

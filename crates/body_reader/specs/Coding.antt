@@ -45,7 +45,7 @@ module _ {P W : Type 0} (g : Grammar P W) where
     pub within : (rest payload past : List ℕ) → g.completes p rest payload → wire ≡ rest ++ past → past ≡ []
 
   -- these bytes, which are no payload, lead from one place to the other
-  pub record Passes (p : P) (wire : List ℕ) (q : P) (follow : List ℕ) : Type 0 where
+  pub record PassesOver (p : P) (wire : List ℕ) (q : P) (follow : List ℕ) : Type 0 where
     pub leads : Leads p wire [] q follow
     pub few : g.between q + length wire ≤ g.between p
 
@@ -59,7 +59,7 @@ module _ {P W : Type 0} (g : Grammar P W) where
     pub further : (rest payload : List ℕ) → g.completes p rest payload → Agree bytes rest → length bytes < length rest
 
   -- however they go on, fewer than n bytes settle nothing
-  pub record Lacks (p : P) (n : ℕ) (bytes : List ℕ) : Type 0 where
+  pub record IsOpenBelow (p : P) (n : ℕ) (bytes : List ℕ) : Type 0 where
     pub few : length bytes < n
     pub most : n ≤ g.ahead
     pub is_open : (more : List ℕ) → length (bytes ++ more) < n → IsOpen p (bytes ++ more)
@@ -95,8 +95,8 @@ module _ {P W : Type 0} (g : Grammar P W) where
   abbrev pub Looks : P → List ℕ → Look P W → Type 0
   Looks p shown (Payload n) = Carries p n shown × (g.sure p ≤ n)
   Looks p shown (Passed n q) =
-      (0 < n) × (n ≤ length shown) × Passes p (take n shown) q (heeded g (drop n shown)) × g.is_place q × ¬ IsDone p
-  Looks p shown (More n) = Lacks p n shown × (g.sure p ≡ 0)
+      (0 < n) × (n ≤ length shown) × PassesOver p (take n shown) q (heeded g (drop n shown)) × g.is_place q × ¬ IsDone p
+  Looks p shown (More n) = IsOpenBelow p n shown × (g.sure p ≡ 0)
   Looks p shown (Wrong why) = g.wrong p shown why × ¬ IsDone p
   Looks p shown Ended = IsDone p
 

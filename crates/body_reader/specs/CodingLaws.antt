@@ -2,7 +2,7 @@
 use Rattle.std.proofs.Common.{◌≡◌, ◌⊎◌, ℕ, ◌<◌, ◌≤◌, Bool, true, false, if◌then◌else◌, List, [], ◌∷◌, ◌++◌, length, min, arith, inl, inr, sym, ap, subst, ◌∙◌, refl, append_assoc, append-nil}
 use Rattle.body_reader.specs.declared.coding.Look.{Look}
 use Rattle.body_reader.specs.declared.coding.Look.TheVariants.{Payload, Passed, More, Wrong, Ended}
-use Rattle.body_reader.specs.Coding.{Agree, AskedFor, Grammar, IsBody, IsDone, IsLawful, IsOpen, Lacks, Leads, LeadsOpen, Looks, heeded}
+use Rattle.body_reader.specs.Coding.{Agree, AskedFor, Grammar, IsBody, IsDone, IsLawful, IsOpen, IsOpenBelow, Leads, LeadsOpen, Looks, heeded}
 
 -- of two texts that begin the same bytes one begins the other
 pub overlaps : (a x b y : List ℕ) → a ++ x ≡ b ++ y
@@ -217,8 +217,8 @@ module _ {P W : Type 0} (g : Grammar P W) where
   }
 
   -- bytes of which fewer than n settle nothing settle nothing
-  pub Lacks-open : (p : P) (n : ℕ) (bytes : List ℕ) → Lacks g p n bytes → IsOpen g p bytes
-  Lacks-open p n bytes lacks =
+  pub IsOpenBelow-open : (p : P) (n : ℕ) (bytes : List ℕ) → IsOpenBelow g p n bytes → IsOpen g p bytes
+  IsOpenBelow-open p n bytes lacks =
       subst (IsOpen g p) (append-nil bytes) (lacks.is_open [] (omega (arith, lacks.few, ap length (append-nil bytes))))
 
   -- where the body goes on, no byte settles nothing
@@ -237,9 +237,9 @@ module _ {P W : Type 0} (g : Grammar P W) where
       some (x ∷ rest) payload c = omega arith
   open_at lawful p place goes_on (x ∷ bytes) few = absurd (omega (arith, few))
 
-  pub Lacks-one : IsLawful g → (p : P) → g.is_place p → ¬ IsDone g p → (bytes : List ℕ) → length bytes < 1
-      → Lacks g p 1 bytes
-  Lacks-one lawful p place goes_on bytes few = record {
+  pub IsOpenBelow-one : IsLawful g → (p : P) → g.is_place p → ¬ IsDone g p → (bytes : List ℕ) → length bytes < 1
+      → IsOpenBelow g p 1 bytes
+  IsOpenBelow-one lawful p place goes_on bytes few = record {
     few = few;
     most = lawful.some;
     is_open = λ more short. open_at lawful p place goes_on (bytes ++ more) short;
@@ -249,6 +249,6 @@ module _ {P W : Type 0} (g : Grammar P W) where
   pub looks_done : (p : P) (shown : List ℕ) (l : Look P W) → IsDone g p → Looks g p shown l → l ≡ Ended
   looks_done p shown (Payload n) done looks = absurd (looks.0.goes_on done)
   looks_done p shown (Passed n q) done looks = absurd (looks.4 done)
-  looks_done p shown (More n) done looks = absurd ((Lacks-open p n shown looks.0).goes_on done)
+  looks_done p shown (More n) done looks = absurd ((IsOpenBelow-open p n shown looks.0).goes_on done)
   looks_done p shown (Wrong why) done looks = absurd (looks.1 done)
   looks_done p shown Ended done looks = refl

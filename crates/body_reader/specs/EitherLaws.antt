@@ -7,7 +7,7 @@ use Rattle.body_reader.specs.declared.either.Either.TheVariants as which
 use Rattle.body_reader.specs.declared.either.Side.{Side}
 use Rattle.body_reader.specs.declared.either.Side.TheVariants.{First, Second}
 use Rattle.body_reader.specs.Coding.{Agree, Carries, Grammar, IsLawful, IsOpen, Leads, Looks}
-use Rattle.body_reader.specs.Either.{either, first_of, of_first, of_second, second_of}
+use Rattle.body_reader.specs.Either.{first_of, of_either, of_first, of_second, second_of}
 
 module _ {P V : Type 0} (Q W : Type 0) (g : Grammar P V) where
   pub first_leads : (p : P) (wire handed : List ℕ) (q : P) (follow : List ℕ) → Leads g p wire handed q follow
@@ -162,6 +162,6 @@ module _ {Q W : Type 0} (P V : Type 0) (g : Grammar Q W) where
   }
 
 pub either_lawful : {P Q V W A B : Type 0} (g : A → Grammar P V) (h : B → Grammar Q W) → ((a : A) → IsLawful (g a))
-    → ((b : B) → IsLawful (h b)) → (c : Either A B) → IsLawful (either g h c)
+    → ((b : B) → IsLawful (h b)) → (c : Either A B) → IsLawful (of_either g h c)
 either_lawful g h first second (which.First a) = first_lawful _ _ (g a) (first a)
 either_lawful g h first second (which.Second b) = second_lawful _ _ (h b) (second b)

@@ -1,6 +1,6 @@
 -- A reader of a body that was given one.
 use Rattle.std.specs.Prelude.{◌≡◌, ℕ, List, [], ◌++◌}
-use Rattle.body_reader.specs.BodyReader.{BodyState, Breaks, EndsEarly, IsWhole, handed_of}
+use Rattle.body_reader.specs.BodyReader.{BodyState, Breaks, EndsEarly, TookWholeBody, handed_of}
 use Rattle.body_reader.specs.Coding.{Grammar}
 
 -- what was handed out begins this payload; nothing is answered as wrong, nor, where no more is needed than is buffered, as missing;
@@ -10,4 +10,4 @@ pub record HandsGiven {S Q C P W : Type 0} (g : Grammar P W) (payload behind res
   pub front : (later : List ℕ) × (payload ≡ handed_of t ++ later)
   pub right : (why : W) → ¬ (Breaks g why t)
   pub there : rest ≡ [] → ¬ (EndsEarly g t)
-  pub all : IsWhole g t → (handed_of t ≡ payload) × (t.reader.block.bytes ++ rest ≡ behind)
+  pub all : TookWholeBody g t → (handed_of t ≡ payload) × (t.reader.block.bytes ++ rest ≡ behind)

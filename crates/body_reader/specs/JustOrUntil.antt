@@ -17,15 +17,15 @@ EndsJust just needle (at.Until part) rest payload = EndsPart needle part rest pa
 EndsJust just needle at.Just rest payload = (rest ≡ []) × (payload ≡ [])
 
 -- these bytes are its payload, whatever goes on as what follows
-abbrev pub IsText : List ℕ → List ℕ → JustOr → List ℕ → List ℕ → Type 0
-IsText just needle at.Start bytes follow = (¬ Agree just (bytes ++ follow)) × IsClear needle Inside bytes follow
-IsText just needle (at.Until part) bytes follow = IsClear needle part bytes follow
-IsText just needle at.Just bytes follow = ⊥
+abbrev pub IsSurePayload : List ℕ → List ℕ → JustOr → List ℕ → List ℕ → Type 0
+IsSurePayload just needle at.Start bytes follow = (¬ Agree just (bytes ++ follow)) × IsClear needle Inside bytes follow
+IsSurePayload just needle (at.Until part) bytes follow = IsClear needle part bytes follow
+IsSurePayload just needle at.Just bytes follow = ⊥
 
-abbrev pub most_between : List ℕ → JustOr → ℕ
-most_between needle at.Start = length needle
-most_between needle (at.Until part) = most_left needle part
-most_between needle at.Just = 0
+abbrev pub most_passed : List ℕ → JustOr → ℕ
+most_passed needle at.Start = length needle
+most_passed needle (at.Until part) = most_left needle part
+most_passed needle at.Just = 0
 
 abbrev pub just_or_until : List ℕ → List ℕ → ℕ → Grammar JustOr (Unit {0})
 just_or_until just needle room = record {
@@ -33,9 +33,9 @@ just_or_until just needle room = record {
   ahead = room;
   is_place = λ place. ⊤;
   completes = EndsJust just needle;
-  carries = IsText just needle;
+  carries = IsSurePayload just needle;
   wrong = λ place shown why. ⊥;
-  between = most_between needle;
+  between = most_passed needle;
   sure = λ place. 0;
   heeds = true;
 }

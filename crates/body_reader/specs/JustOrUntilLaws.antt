@@ -5,13 +5,13 @@ use Rattle.body_reader.specs.declared.coding.Look.{Look}
 use Rattle.body_reader.specs.declared.coding.Look.TheVariants as look
 use Rattle.body_reader.specs.declared.until.Part.{Part}
 use Rattle.body_reader.specs.declared.until.Part.TheVariants.{Inside}
-use Rattle.body_reader.specs.Coding.{Agree, Carries, IsDone, IsLawful, IsOpen, Lacks, Leads, Looks, Passes}
+use Rattle.body_reader.specs.Coding.{Agree, Carries, IsDone, IsLawful, IsOpen, IsOpenBelow, Leads, Looks, PassesOver}
 use Rattle.body_reader.specs.CodingLaws.{Agree-front, Agree-less, Agree-nothing, overlaps}
 use Rattle.body_reader.specs.Until.{EndsPart, IsClear, most_left, until}
 use Rattle.body_reader.specs.UntilLaws.{clear_leads, clear_still, clear_unsure, until_lawful}
 use Rattle.body_reader.specs.declared.just_or_until.JustOr.{JustOr}
 use Rattle.body_reader.specs.declared.just_or_until.JustOr.TheVariants as at
-use Rattle.body_reader.specs.JustOrUntil.{EndsJust, IsText, just_or_until, most_between, until_of}
+use Rattle.body_reader.specs.JustOrUntil.{EndsJust, IsSurePayload, just_or_until, most_passed, until_of}
 
 module _ (just needle : List ℕ) (room : ℕ) (some : 0 < length just) (shorter : length just < length needle)
     (fits : length needle ≤ room) where
@@ -22,9 +22,9 @@ module _ (just needle : List ℕ) (room : ℕ) (some : 0 < length just) (shorter
     pub back : (rest payload : List ℕ) → Agree shown rest → EndsJust just needle place rest payload
         → EndsPart needle part rest payload
     pub carried : (bytes follow more : List ℕ) → bytes ++ follow ≡ shown ++ more → IsClear needle part bytes follow
-        → IsText just needle place bytes follow
-    pub clear : (bytes follow : List ℕ) → IsText just needle place bytes follow → IsClear needle part bytes follow
-    pub between : most_between needle place ≡ most_left needle part
+        → IsSurePayload just needle place bytes follow
+    pub clear : (bytes follow : List ℕ) → IsSurePayload just needle place bytes follow → IsClear needle part bytes follow
+    pub between : most_passed needle place ≡ most_left needle part
 
   pub alike_until : (part : Part) (shown : List ℕ) → Alike (at.Until part) part shown
   alike_until part shown = record {
@@ -130,7 +130,7 @@ module _ (just needle : List ℕ) (room : ℕ) (some : 0 < length just) (shorter
   alike_looks place part shown like look.Ended looks = like.there [] [] (Agree-nothing shown) looks
 
   -- what begins with just the bytes is these
-  just_passes : (follow : List ℕ) → Passes (just_or_until just needle room) at.Start just at.Just follow
+  just_passes : (follow : List ℕ) → PassesOver (just_or_until just needle room) at.Start just at.Just follow
   just_passes follow = record {
     leads = record {
       onward = λ rest payload agree c.
@@ -167,7 +167,7 @@ module _ (just needle : List ℕ) (room : ℕ) (some : 0 < length just) (shorter
   looks_just shown more same = (
     some,
     omega (arith, ap length same, length-append just more),
-    subst (λ l. Passes (just_or_until just needle room) at.Start l at.Just (drop (length just) shown))
+    subst (λ l. PassesOver (just_or_until just needle room) at.Start l at.Just (drop (length just) shown))
         (sym (ap (take (length just)) same ∙ take_at just more (length just) refl))
         (just_passes (drop (length just) shown)),
     tt,
@@ -190,7 +190,7 @@ module _ (just needle : List ℕ) (room : ℕ) (some : 0 < length just) (shorter
   }
 
   pub looks_begun : (shown rest : List ℕ) → just ≡ shown ++ rest → length shown < length just
-      → Lacks (just_or_until just needle room) at.Start (length shown + 1) shown
+      → IsOpenBelow (just_or_until just needle room) at.Start (length shown + 1) shown
   looks_begun shown rest is few = record {
     few = omega arith;
     most = omega (arith, few, shorter, fits);
@@ -209,7 +209,7 @@ module _ (just needle : List ℕ) (room : ℕ) (some : 0 < length just) (shorter
   ]
 
   -- payload leads on, and what stands behind it is payload still
-  pub text_leads : (place : JustOr) (bytes follow : List ℕ) → IsText just needle place bytes follow
+  pub text_leads : (place : JustOr) (bytes follow : List ℕ) → IsSurePayload just needle place bytes follow
       → Leads (just_or_until just needle room) place bytes bytes (at.Until Inside) follow
   text_leads at.Start bytes follow text = alike_leads at.Start Inside Inside bytes bytes follow
       (alike_start (bytes ++ follow) text.0) (clear_leads needle (omega (arith, shorter)) Inside bytes follow text.1)
@@ -217,7 +217,7 @@ module _ (just needle : List ℕ) (room : ℕ) (some : 0 < length just) (shorter
       (alike_until part (bytes ++ follow)) (clear_leads needle (omega (arith, shorter)) part bytes follow text)
   text_leads at.Just bytes follow text = absurd text
 
-  pub text_still : (place : JustOr) (bytes more follow : List ℕ) → IsText just needle place (bytes ++ more) follow
+  pub text_still : (place : JustOr) (bytes more follow : List ℕ) → IsSurePayload just needle place (bytes ++ more) follow
       → IsClear needle Inside more follow × (0 < length more → ¬ IsDone (just_or_until just needle room) (at.Until Inside))
   text_still at.Start bytes more follow text = clear_still needle (omega (arith, shorter)) Inside bytes more follow text.1
   text_still (at.Until part) bytes more follow text = clear_still needle (omega (arith, shorter)) part bytes more follow text

@@ -8,7 +8,7 @@ use Rattle.buffer_redux.specs.OccursLaws.{OccursAt-behind, OccursAt-fewer, Occur
 use Rattle.body_reader.specs.declared.coding.Look.TheVariants as look
 use Rattle.body_reader.specs.declared.until.Part.{Part}
 use Rattle.body_reader.specs.declared.until.Part.TheVariants.{Inside, Behind}
-use Rattle.body_reader.specs.Coding.{Agree, Carries, IsDone, IsLawful, IsOpen, Lacks, Leads, Looks, Passes}
+use Rattle.body_reader.specs.Coding.{Agree, Carries, IsDone, IsLawful, IsOpen, IsOpenBelow, Leads, Looks, PassesOver}
 use Rattle.body_reader.specs.CodingLaws.{Agree-nothing, overlaps}
 use Rattle.body_reader.specs.Until.{EndsPart, IsClear, MayBegin, until}
 
@@ -96,7 +96,7 @@ module _ (needle : List ℕ) (some : 0 < length needle) where
   end_back rest (x ∷ whole) c =
       absurd (c.1 0 (omega arith) (omega arith) (OccursAt-more needle rest needle 0 (OccursAt-self needle)))
 
-  end_passes : (follow : List ℕ) → Passes (until needle) Inside needle Behind follow
+  end_passes : (follow : List ℕ) → PassesOver (until needle) Inside needle Behind follow
   end_passes follow = record {
     leads = record {
       onward = λ rest payload agree c. (
@@ -116,7 +116,7 @@ module _ (needle : List ℕ) (some : 0 < length needle) where
   looks_end shown here = (
     some,
     omega (arith, here.fits),
-    subst (λ l. Passes (until needle) Inside l Behind (drop (length needle) shown)) (sym (OccursAt-front shown needle here))
+    subst (λ l. PassesOver (until needle) Inside l Behind (drop (length needle) shown)) (sym (OccursAt-front shown needle here))
         (end_passes (drop (length needle) shown)),
     tt,
     inside_open,
@@ -191,7 +191,7 @@ module _ (needle : List ℕ) (some : 0 < length needle) where
       sym (append-nil shown) ∙ ap (λ l. shown ++ l) (sym (nil_from_length more (omega (arith, few, length-append shown more))))
 
   pub looks_short : (shown : List ℕ) → length shown < length needle → MayBegin needle shown 0
-      → Lacks (until needle) Inside (length shown + 1) shown
+      → IsOpenBelow (until needle) Inside (length shown + 1) shown
   looks_short shown few begins = record {
     few = omega arith;
     most = omega (arith, few);

@@ -1,6 +1,6 @@
 //! Codings that say of each byte, in its place, what it is.
 ghost use Rattle.std.specs.Prelude.{◌≡◌};
-ghost use Rattle.body_reader.specs.ByByte.{AreLawful, Turns, Ran};
+ghost use Rattle.body_reader.specs.ByByte.{AreLawful, TurnRules, Ran};
 
 use crate::coding::{Coding, Look};
 
@@ -25,7 +25,7 @@ pub trait ByteCoding: Drop {
     type Wrong: Copy;
 
     // What each byte is.
-    ghost turns: { Self → Turns Self.Place Self.Wrong };
+    ghost turns: { Self → TurnRules Self.Place Self.Wrong };
 
     /// Before a body.
     fn first(&self) -> Self::Place

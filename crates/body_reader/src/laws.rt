@@ -3,7 +3,7 @@ ghost use Rattle.std.specs.Prelude.{◌≡◌, ℕ, List, ◌++◌, Some};
 ghost use Rattle.buffer_redux.specs.Buffered.{Buffered};
 ghost use Rattle.buffer_redux.specs.BufReader.{ReadsAlong};
 ghost use Rattle.buffer_redux.specs.Remaining.{ahead};
-ghost use Rattle.body_reader.specs.BodyReader.{BodyState, BodyWent, IsBodyReader, IsWhole, begun, handed_of};
+ghost use Rattle.body_reader.specs.BodyReader.{BodyState, BodyWent, IsBodyReader, TookWholeBody, begun, handed_of};
 ghost use Rattle.body_reader.specs.Coding.{IsBody, Leads, heeded};
 ghost use Rattle.body_reader.specs.Given.{HandsGiven};
 
@@ -50,7 +50,7 @@ pub fn behind_body<R: TellRead, C: Coding, P: ReaderPolicy>(reader: &BodyReader<
         → ahead R.remaining first ≡ Some (body ++ behind) → IsBody (C.grammar reader.now.coding) body payload
         → BodyWent R.remaining P.rules (C.grammar reader.now.coding) (begun (C.grammar reader.now.coding) first
         reader.now.coding) handed reader.now
-        → IsWhole (C.grammar reader.now.coding) reader.now
+        → TookWholeBody (C.grammar reader.now.coding) reader.now
         → (handed ≡ payload) × (ahead R.remaining reader.now.reader ≡ Some behind) }
 {}
 

@@ -8,7 +8,7 @@ ghost use Rattle.buffer_redux.specs.BufReader.{ReadsInOrder};
 ghost use Rattle.buffer_redux.specs.GrowError.{FitsWithin};
 ghost use Rattle.buffer_redux.specs.MakeError.{growth};
 ghost use Rattle.body_reader.specs.Coding.{IsBody};
-ghost use Rattle.body_reader.specs.BodyReader.{BodyState, BodyWent, Collects, Drains, FillsPayload, IsBodyReader, LooksBehind, ReadsBuffered, ReadsPayload, begun, taken_count};
+ghost use Rattle.body_reader.specs.BodyReader.{BodyState, BodyWent, Collects, Drains, FillsPayload, HandsBuffered, IsBodyReader, LooksBehind, ReadsPayload, begun, taken_count};
 
 mod streams;
 
@@ -257,7 +257,7 @@ impl<R: TellRead, C: Coding, P: ReaderPolicy> BodyReader<R, C, P> {
     pub fn read_buffered(&mut self, out: &mut [u8]) -> usize
         ensures taken { (wire : List ℕ) × (wire ++ self.new.reader.block.bytes ≡ self.old.reader.block.bytes)
             × (self.new.taken ≡ self.old.taken ++ wire) }
-        ensures reads { ReadsBuffered R.remaining P.rules (C.grammar self.old.coding) self.old out.new result self.new }
+        ensures reads { HandsBuffered R.remaining P.rules (C.grammar self.old.coding) self.old out.new result self.new }
     {
         let count = hand_buffered(
             &mut self.reader,

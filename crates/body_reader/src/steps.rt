@@ -2,7 +2,7 @@
 ghost use Rattle.std.specs.Prelude.{[], ◌≡◌, ℕ, ◌-◌, ◌<◌, ◌≤◌, length, min, take, drop};
 ghost use Rattle.buffer_redux.specs.Buffered.{GoesPast};
 ghost use Rattle.body_reader.specs.Coding.{Carries, IsKnown, Looks};
-ghost use Rattle.body_reader.specs.Between.{BeginsRead, FillsOn, FindsKnown, HandsOn, HandsShown, PassesOn, SkipsOn, TakesFront};
+ghost use Rattle.body_reader.specs.Between.{BeginsRead, FindsKnown, HandsOn, HandsShown, PassesOn, ShowsOn, SkipsOn, TakesFront};
 
 use crate::coding::{Coding, Look};
 use crate::error::BodyError;
@@ -72,7 +72,7 @@ pub fn show<R: TellRead, P: ReaderPolicy, C: Coding>(
     requires place { (C.grammar coding.now).is_place progress.now.place }
     requires room { (C.grammar coding.now).ahead ≤ reader.old.block.capacity }
     requires sure { Looks (C.grammar coding.now) progress.now.place reader.old.block.bytes (Look.Payload sure) }
-    ensures { (slice : ℕ) → min sure slice ≤ reader.old.block.capacity → FillsOn R.remaining P.rules (C.grammar coding.now) slice
+    ensures { (slice : ℕ) → min sure slice ≤ reader.old.block.capacity → ShowsOn R.remaining P.rules (C.grammar coding.now) slice
         reader.old progress.now result reader.new progress.now }
 {
     let held = reader.buf_len();
@@ -94,7 +94,7 @@ pub fn fill_on<R: TellRead, P: ReaderPolicy, C: Coding>(
 ) -> Result<usize, BodyError<C::Wrong>>
     requires place { (C.grammar coding.now).is_place progress.old.place }
     requires room { (C.grammar coding.now).ahead ≤ reader.old.block.capacity }
-    ensures { FillsOn R.remaining P.rules (C.grammar coding.now) 0 reader.old progress.old result reader.new progress.new }
+    ensures { ShowsOn R.remaining P.rules (C.grammar coding.now) 0 reader.old progress.old result reader.new progress.new }
 {
     let sure = skip(reader, coding, progress)?;
     if sure == 0 {

@@ -4,7 +4,7 @@ use Rattle.std.proofs.lemmas.List.{length-replicate}
 use Rattle.chunked.specs.declared.limits.Limits.{Limits}
 use Rattle.chunked.specs.declared.place.Place.{Place}
 use Rattle.chunked.specs.declared.place.Place.TheVariants.{Line, Size, Extension, SizeFeed, Data, DataFeed, Fields, FieldName, FieldValue, FieldFeed, LastFeed, Done}
-use Rattle.chunked.specs.Body.{line_end, IsBody, IsTrailers}
+use Rattle.chunked.specs.Body.{line_end, IsBodyOfChunks, IsTrailers}
 use Rattle.chunked.specs.ChunkLaws.{zero_line}
 use Rattle.chunked.specs.FieldLaws.{IsField-valued}
 use Rattle.chunked.specs.Place.{BehindSize, Completes, CompletesData, IsPlace}
@@ -13,7 +13,7 @@ module _ (limits : Limits) where
   no_trailers : (room : ℕ) → IsTrailers room (line_end [])
   no_trailers room = record { fields = []; equal = refl; lines = tt; few = omega arith }
 
-  least_body : 0 < limits.line → IsBody limits (48 ∷ line_end (line_end [])) []
+  least_body : 0 < limits.line → IsBodyOfChunks limits (48 ∷ line_end (line_end [])) []
   least_body some = record {
     payloads = [];
     chunks = (

@@ -8,10 +8,10 @@ use Rattle.chunked.specs.declared.extension.Within.TheVariants.{Behind}
 use Rattle.chunked.specs.declared.limits.Limits.{Limits}
 use Rattle.chunked.specs.declared.place.Place.{Place}
 use Rattle.chunked.specs.declared.place.Place.TheVariants.{Line, Size, SizeFeed, Data, DataFeed}
-use Rattle.chunked.specs.Body.{IsBody}
+use Rattle.chunked.specs.Body.{IsBodyOfChunks}
 use Rattle.chunked.specs.CodingLaws.{within_none, within_on}
-use Rattle.chunked.specs.Place.{Comes, CompletesData, IsPlace, IsSettled, Passes}
-use Rattle.chunked.specs.PlaceLaws.{Passes-joins, Passes-none}
+use Rattle.chunked.specs.Place.{Comes, CompletesData, IsDataOrDone, IsPlace, PassesAlong}
+use Rattle.chunked.specs.PlaceLaws.{PassesAlong-joins, PassesAlong-none}
 use Rattle.chunked.proofs.Extending.{extension_return}
 use Rattle.chunked.proofs.Passing.{line_digit, quiet, size_as_extension, size_digit}
 use Rattle.chunked.proofs.PassingOn.{data_return}
@@ -28,26 +28,26 @@ more_digits size digit at begins order small few =
 
 module _ (limits : Limits) where
   pub comes_none : (p : Place) → IsPlace p → Comes limits p [] p
-  comes_none p place = record { passes = Passes-none limits p; place = place; short = within_none limits p }
+  comes_none p place = record { passes = PassesAlong-none limits p; place = place; short = within_none limits p }
 
   -- a byte more
   comes_more : (p q r : Place) (shown : List ℕ) (at b : ℕ) → at < length shown → slice_index shown at ≡ b
-      → Comes limits p (take at shown) q → ¬ IsSettled q → Passes limits q (b ∷ []) r → IsPlace r
+      → Comes limits p (take at shown) q → ¬ IsDataOrDone q → PassesAlong limits q (b ∷ []) r → IsPlace r
       → Comes limits p (take (at + 1) shown) r
   comes_more p q r shown at b held is comes goes_on passes place =
       let byte = slice_index shown at in
-      let step : Passes limits q (byte ∷ []) r = subst (λ x. Passes limits q (x ∷ []) r) (sym is) passes in
+      let step : PassesAlong limits q (byte ∷ []) r = subst (λ x. PassesAlong limits q (x ∷ []) r) (sym is) passes in
       subst (λ l. Comes limits p l r) (sym (take_more shown at 0 held)) (record {
-        passes = Passes-joins limits p q r (take at shown) (byte ∷ []) comes.passes step;
+        passes = PassesAlong-joins limits p q r (take at shown) (byte ∷ []) comes.passes step;
         place = place;
         short = within_on limits p q (take at shown) byte comes.passes.leads goes_on comes.short;
       })
 
   -- the end of a chunk
-  data_feed : Passes limits DataFeed (10 ∷ []) Line
+  data_feed : PassesAlong limits DataFeed (10 ∷ []) Line
   data_feed = record {
     leads = quiet limits DataFeed Line (10 ∷ []) (λ rest payload c. (rest, refl, c))
-        (λ rest payload c. let same : c.0 ≡ rest = cc in subst (λ l. IsBody limits l payload) same c.2);
+        (λ rest payload c. let same : c.0 ≡ rest = cc in subst (λ l. IsBodyOfChunks limits l payload) same c.2);
     few = omega arith;
   }
 
@@ -91,7 +91,7 @@ module _ (limits : Limits) where
       (omega (arith, small, digits))))
 
   -- the end of the line
-  feed_data : (size : ℕ) → size < 2 ^ 62 → 0 < size → Passes limits (SizeFeed size) (10 ∷ []) (Data size)
+  feed_data : (size : ℕ) → size < 2 ^ 62 → 0 < size → PassesAlong limits (SizeFeed size) (10 ∷ []) (Data size)
   feed_data zero small some = absurd (omega (arith, some))
   feed_data (suc n) small some = record {
     leads = quiet limits (SizeFeed (suc n)) (Data (suc n)) (10 ∷ []) (λ rest payload c. ((rest, refl, c), small))

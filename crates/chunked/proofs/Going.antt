@@ -13,7 +13,7 @@ use Rattle.buffer_redux.specs.declared.policy.StdPolicy.{StdPolicy}
 use Rattle.chunked.specs.Body.{line_end}
 use Rattle.chunked.specs.Chunk.{HasBegun, IsChunks, chunk_begun, chunk_end}
 use Rattle.chunked.specs.ChunkLaws.{HasBegun-begins, HasBegun-ends, HasBegun-more, size_digits-few}
-use Rattle.chunked.specs.ChunkedWriter.{Begins, BeginsChunk, ChunkedWriterState, GoesOn, IsChunkedWriter, IsNoted, MakesSpace, PayloadWent, TakesPart, WentOn, WritesChunk, accepted_of, around, greatest}
+use Rattle.chunked.specs.ChunkedWriter.{BeginsChunk, ChunkedWriterState, ContinuesChunk, CopiesSizeLine, IsChunkedWriter, IsNoted, MakesSpace, PayloadWent, TakesSome, WentOn, WritesChunk, accepted_of, around, greatest}
 use Rattle.chunked.specs.ChunkedWriterLaws.{PayloadWent-joins}
 use Rattle.chunked.proofs.Writing.{WentIn, nothing_went, payload_went, puts_went, space_went, went_on}
 
@@ -85,7 +85,7 @@ module _ {S : Type 0} (tells : S → StreamLog) (trace : S → S → Type 0) (no
     ]
 
     pub goes_past : room m < length part + 2 → (answer : Result ℕ Error) → GoesDirect after_write m part answer t
-        → trace m.inner t.inner → TakesPart tells trace s part answer t
+        → trace m.inner t.inner → TakesSome tells trace s part answer t
     goes_past none answer direct calls = record {
       sending = Ok tt;
       spaced = m;
@@ -95,7 +95,7 @@ module _ {S : Type 0} (tells : S → StreamLog) (trace : S → S → Type 0) (no
       failed = λ e is. absurd (let odd : ◌≡◌ {A = Result (Unit {0}) Error} (Ok tt) (Err e) = is in cc);
     }
 
-    pub goes_inside : length part + 2 ≤ room m → PutsIn m part t → TakesPart tells trace s part (Ok (length part)) t
+    pub goes_inside : length part + 2 ≤ room m → PutsIn m part t → TakesSome tells trace s part (Ok (length part)) t
     goes_inside there puts = record {
       sending = Ok tt;
       spaced = m;
@@ -106,7 +106,7 @@ module _ {S : Type 0} (tells : S → StreamLog) (trace : S → S → Type 0) (no
     }
 
   pub takes_nothing : (s m : Buffered S StdPolicy) (part : List ℕ) (e : Error)
-      → MakesSpace tells trace (length part + 2) s (Err e) m → TakesPart tells trace s part (Err e) m
+      → MakesSpace tells trace (length part + 2) s (Err e) m → TakesSome tells trace s part (Err e) m
   takes_nothing s m part e made = record {
     sending = Err e;
     spaced = m;
@@ -125,8 +125,8 @@ module _ {S : Type 0} (tells : S → StreamLog) (trace : S → S → Type 0) (no
   same_on v s t payload answer same h = subst (λ c. WentOn tells trace c payload answer t) same h
 
   pub same_begins : (v s t : ChunkedWriterState S) (size : ℕ) (answer : Result (Unit {0}) Error) → v ≡ s
-      → Begins tells trace size v answer t → Begins tells trace size s answer t
-  same_begins v s t size answer same h = subst (λ c. Begins tells trace size c answer t) same h
+      → CopiesSizeLine tells trace size v answer t → CopiesSizeLine tells trace size s answer t
+  same_begins v s t size answer same h = subst (λ c. CopiesSizeLine tells trace size c answer t) same h
 
   -- past an empty buffer
   past_went : (s t : Buffered S StdPolicy) (part : List ℕ) (answer : Result ℕ Error) → IsBlock s.block → s.block.bytes ≡ []
@@ -188,7 +188,7 @@ module _ {S : Type 0} (tells : S → StreamLog) (trace : S → S → Type 0) (no
         roomy some (Err e) = tt
 
   pub part_went : (s t : Buffered S StdPolicy) (part : List ℕ) (answer : Result ℕ Error) → IsBlock s.block
-      → TakesPart tells trace s part answer t → PartWent s part answer t
+      → TakesSome tells trace s part answer t → PartWent s part answer t
   part_went s t part answer whole takes = by_sending takes.sending refl takes.makes_space
     where
       by_sending : (sending : Result (Unit {0}) Error) → takes.sending ≡ sending
@@ -269,7 +269,7 @@ module _ {S : Type 0} (tells : S → StreamLog) (trace : S → S → Type 0) (no
     }
 
     module _ (part : List ℕ) (same : part ≡ take s.due payload) (m : Buffered S StdPolicy) where
-      pub goes_on : (n : ℕ) → n ≤ length part → TakesPart tells trace s.writer part (Ok n) m → (wire : List ℕ)
+      pub goes_on : (n : ℕ) → n ≤ length part → TakesSome tells trace s.writer part (Ok n) m → (wire : List ℕ)
           → wire ≡ s.wire ++ take n part → (t : ChunkedWriterState S) → t.due ≡ s.due - n
           → PutsIn m (chunk_end t.due) t.writer → t.wire ≡ wire ++ chunk_end t.due
           → t.calls ≡ after_write s.calls payload (Ok n) → WentOn tells trace s payload (Ok n) t
@@ -277,8 +277,8 @@ module _ {S : Type 0} (tells : S → StreamLog) (trace : S → S → Type 0) (no
           let long : length part ≡ min s.due (length payload) = ap length same ∙ length-take s.due payload in
           let count : n ≤ length payload = omega (arith, within', long) in
           let below : n ≤ s.due = omega (arith, within', long) in
-          let takes : TakesPart tells trace s.writer (take s.due payload) (Ok n) m =
-          subst (λ l. TakesPart tells trace s.writer l (Ok n) m) same takes in
+          let takes : TakesSome tells trace s.writer (take s.due payload) (Ok n) m =
+          subst (λ l. TakesSome tells trace s.writer l (Ok n) m) same takes in
           let all : t.wire ≡ s.wire ++ (take n payload ++ chunk_end t.due) =
           wired ∙ ap (λ l. l ++ chunk_end t.due) so_far ∙ append_assoc s.wire (take n part) (chunk_end t.due)
           ∙ ap (λ l. s.wire ++ (l ++ chunk_end t.due)) (ap (take n) same ∙ take_due n s.due payload below) in
@@ -289,11 +289,11 @@ module _ {S : Type 0} (tells : S → StreamLog) (trace : S → S → Type 0) (no
             whole = goes_whole n count below m part t left ends all noted;
           }
 
-      pub stops : (e : Error) → TakesPart tells trace s.writer part (Err e) m → (wire : List ℕ) → wire ≡ s.wire ++ []
+      pub stops : (e : Error) → TakesSome tells trace s.writer part (Err e) m → (wire : List ℕ) → wire ≡ s.wire ++ []
           → WentOn tells trace s payload (Err e) (record s { writer = m; wire = wire })
       stops e takes wire so_far =
-          let takes : TakesPart tells trace s.writer (take s.due payload) (Err e) m =
-          subst (λ l. TakesPart tells trace s.writer l (Err e) m) same takes in
+          let takes : TakesSome tells trace s.writer (take s.due payload) (Err e) m =
+          subst (λ l. TakesSome tells trace s.writer l (Err e) m) same takes in
           let still : wire ≡ s.wire = so_far ∙ append-nil s.wire in
           let part = (part_went s.writer m (take s.due payload) (Err e) is.block takes).went in
           let t : ChunkedWriterState S = record s { writer = m; wire = wire } in record {
@@ -322,7 +322,7 @@ module _ {S : Type 0} (tells : S → StreamLog) (trace : S → S → Type 0) (no
         );
       }
 
-      begun_went : (t : ChunkedWriterState S) → Begins tells trace size s (Ok tt) t
+      begun_went : (t : ChunkedWriterState S) → CopiesSizeLine tells trace size s (Ok tt) t
           → PayloadWent trace s (chunk_begun size []) [] t
       begun_went t b =
           payload_went tells trace none joins s t (chunk_begun size []) []
@@ -331,7 +331,8 @@ module _ {S : Type 0} (tells : S → StreamLog) (trace : S → S → Type 0) (no
           (puts_went tells trace none joins b.spaced t.writer (chunk_begun size []) b.ended.0)) b.ended.1
           (ap (λ l. l.writes.received) b.calls ∙ sym (append-nil (accepted_of s)))
 
-      not_begun_went : (e : Error) (t : ChunkedWriterState S) → Begins tells trace size s (Err e) t → PayloadWent trace s [] [] t
+      not_begun_went : (e : Error) (t : ChunkedWriterState S) → CopiesSizeLine tells trace size s (Err e) t
+          → PayloadWent trace s [] [] t
       not_begun_went e t b =
           nothing_went tells trace none joins s t
           (subst (λ w. WentIn trace s.writer [] w) (sym b.ended.0)
@@ -365,7 +366,7 @@ module _ {S : Type 0} (tells : S → StreamLog) (trace : S → S → Type 0) (no
       small : size < 2 ^ 62
       small = omega arith
 
-      pub wrote_begun : (b : ChunkedWriterState S) → Begins tells trace size s (Ok tt) b → (answer : Result ℕ Error)
+      pub wrote_begun : (b : ChunkedWriterState S) → CopiesSizeLine tells trace size s (Ok tt) b → (answer : Result ℕ Error)
           (t : ChunkedWriterState S) → WentOn tells trace b payload answer t → WritesChunk tells trace s payload answer t
       wrote_begun b begins answer t went = record {
         went = (
@@ -383,7 +384,7 @@ module _ {S : Type 0} (tells : S → StreamLog) (trace : S → S → Type 0) (no
         whole = went.whole;
       }
 
-      pub not_begun : (e : Error) (t : ChunkedWriterState S) → Begins tells trace size s (Err e) t → IsChunkedWriter t
+      pub not_begun : (e : Error) (t : ChunkedWriterState S) → CopiesSizeLine tells trace size s (Err e) t → IsChunkedWriter t
           → WritesChunk tells trace s payload (Err e) t
       not_begun e t begins whole = record {
         went = ([], not_begun_went s is between size small e t begins);

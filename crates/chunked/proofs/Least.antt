@@ -1,6 +1,6 @@
 -- The fewest bytes that complete an extension from each place in one.
 use Rattle.std.proofs.Common.{◌≡◌, ℕ, ◌≤◌, ◌⊎◌, List, [], ◌∷◌, length, inl, inr, refl, arith}
-use Rattle.chunked.specs.Within.{Extends}
+use Rattle.chunked.specs.Within.{CompletesExtension}
 use Rattle.chunked.specs.Extension.{Assigned, InQuotes, One, Parameter, Parameters}
 use Rattle.chunked.specs.Token.{IsValueByte}
 use Rattle.chunked.specs.declared.extension.Within.{Within}
@@ -8,20 +8,20 @@ use Rattle.chunked.specs.declared.extension.Within.TheVariants.{Blank, BeforeNam
 
 -- no fewer bytes than these complete one, and so many do
 abbrev pub IsLeast : Within → ℕ → Type 0
-IsLeast within least = ((text : List ℕ) × Extends within text × (length text ≡ least))
-    × ((other : List ℕ) → Extends within other → least ≤ length other)
+IsLeast within least = ((text : List ℕ) × CompletesExtension within text × (length text ≡ least))
+    × ((other : List ℕ) → CompletesExtension within other → least ≤ length other)
 
 pub before_name : IsLeast BeforeName 1
 before_name = ((97 ∷ [], (0, inl (inl refl, inl refl)), refl), some)
   where
-    some : (other : List ℕ) → Extends BeforeName other → 1 ≤ length other
+    some : (other : List ℕ) → CompletesExtension BeforeName other → 1 ≤ length other
     some [] e = absurd e.1
     some (x ∷ other) e = omega arith
 
 pub before_value : IsLeast BeforeValue 1
 before_value = ((97 ∷ [], (0, inl (inl (inl refl, refl))), refl), some)
   where
-    some : (other : List ℕ) → Extends BeforeValue other → 1 ≤ length other
+    some : (other : List ℕ) → CompletesExtension BeforeValue other → 1 ≤ length other
     some [] (count, inl odd) = absurd odd
     some [] (count, inr odd) = absurd odd
     some (x ∷ other) e = omega arith
@@ -29,7 +29,7 @@ before_value = ((97 ∷ [], (0, inl (inl (inl refl, refl))), refl), some)
 pub quoted : IsLeast Quoted 1
 quoted = ((34 ∷ [], (0, (refl, refl)), refl), some)
   where
-    some : (other : List ℕ) → Extends Quoted other → 1 ≤ length other
+    some : (other : List ℕ) → CompletesExtension Quoted other → 1 ≤ length other
     some [] e = absurd e.1
     some (x ∷ other) e = omega arith
 

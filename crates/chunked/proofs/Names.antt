@@ -8,7 +8,7 @@ use Rattle.chunked.specs.declared.place.Place.{Place}
 use Rattle.chunked.specs.declared.place.Place.TheVariants.{Line, Size, Extension, SizeFeed, Data, DataFeed, Fields, FieldName, FieldValue, FieldFeed, LastFeed}
 use Rattle.chunked.specs.declared.extension.Within.{Within}
 use Rattle.chunked.specs.declared.extension.Within.TheVariants.{Behind}
-use Rattle.chunked.specs.WithinLaws.{Extends-text}
+use Rattle.chunked.specs.WithinLaws.{CompletesExtension-text}
 use Rattle.chunked.specs.BodyLaws.{digit_is_text, extension_no_digit}
 use Rattle.chunked.specs.FieldLaws.{token_is_text, value_is_text}
 use Rattle.chunked.specs.Within.{RunsOver}
@@ -16,7 +16,7 @@ use Rattle.chunked.specs.Place.{IsWrong}
 
 module _ (l : Limits) (b : ℕ) where
   over_no_feed : (within : Within) (room : ℕ) → RunsOver within room b → b ≡ 10 → ⊥
-  over_no_feed within room over feed = (Extends-text within (b ∷ over.text) over.extends).0.1 feed
+  over_no_feed within room over feed = (CompletesExtension-text within (b ∷ over.text) over.extends).0.1 feed
 
   over_no_digit : (room : ℕ) → RunsOver Behind room b → digit_value b < 16 → ⊥
   over_no_digit room over digit = extension_no_digit b over.text over.extends digit

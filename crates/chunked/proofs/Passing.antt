@@ -11,7 +11,7 @@ use Rattle.chunked.specs.Extension.{IsExtension}
 use Rattle.chunked.specs.declared.extension.Within.TheVariants.{Behind}
 use Rattle.chunked.specs.Body.{line_end}
 use Rattle.chunked.specs.BodyLaws.{extension_no_digit}
-use Rattle.chunked.specs.Place.{BehindSize, Completes, CompletesSize, EndsLine, Feeds, Leads, Passes, IsSettled, StepsOver}
+use Rattle.chunked.specs.Place.{BehindSize, Completes, CompletesSize, EndsLine, LineFeedThen, LeadsAlong, PassesAlong, IsDataOrDone, StepsOver}
 use Rattle.chunked.specs.LineLaws.{first_digit, digit_first}
 
 -- in a line, of whatever kind its rest is and what stands behind it
@@ -50,7 +50,7 @@ module _ (IsRest IsNext : List ℕ → Type 0) (GoesOn : ℕ → List ℕ → Ty
 
 -- a CR ends it
 module _ (IsRest : List ℕ → Type 0) (GoesOn : ℕ → List ℕ → Type 0) (b room : ℕ) (rest : List ℕ) (is : b ≡ 13) where
-  pub return_on : IsRest [] → Feeds (GoesOn room) rest → EndsLine IsRest GoesOn room (b ∷ rest)
+  pub return_on : IsRest [] → LineFeedThen (GoesOn room) rest → EndsLine IsRest GoesOn room (b ∷ rest)
   return_on none (behind, same, goes_on) = record {
     text = [];
     behind = behind;
@@ -62,7 +62,7 @@ module _ (IsRest : List ℕ → Type 0) (GoesOn : ℕ → List ℕ → Type 0) (
   }
 
   pub return_back : (text : List ℕ) → ((x : ℕ) (more : List ℕ) → IsRest (x ∷ more) → x ≢ 13)
-      → (c : EndsLine IsRest GoesOn room (b ∷ rest)) → c.text ≡ text → Feeds (GoesOn room) rest
+      → (c : EndsLine IsRest GoesOn room (b ∷ rest)) → c.text ≡ text → LineFeedThen (GoesOn room) rest
   return_back [] differs c same =
       let all : b ∷ rest ≡ line_end c.behind = c.equal ∙ ap (λ l. l ++ line_end c.behind) same in
       let left : c.left ≡ room = omega (arith, c.fits, ap length same) in
@@ -77,12 +77,12 @@ module _ (limits : Limits) where
   pub quiet : (p q : Place) (wire : List ℕ)
       → ((rest payload : List ℕ) → Completes limits q rest payload → Completes limits p (wire ++ rest) payload)
       → ((rest payload : List ℕ) → Completes limits p (wire ++ rest) payload → Completes limits q rest payload)
-      → Leads limits p wire [] q
+      → LeadsAlong limits p wire [] q
   quiet p q wire on off = record { onward = on; back = λ rest whole c. (whole, refl, off rest whole c) }
 
   -- a digit begins a size, and goes on with it
   pub line_digit : (b : ℕ) → digit_value b < 16 → 0 < limits.line
-      → Passes limits Line (b ∷ []) (Size (digit_value b) (limits.line - 1))
+      → PassesAlong limits Line (b ∷ []) (Size (digit_value b) (limits.line - 1))
   line_digit b digit some = record {
     leads = quiet Line (Size (digit_value b) (limits.line - 1)) (b ∷ [])
         (λ rest payload c. first_digit limits b rest payload digit some c)
@@ -124,7 +124,7 @@ module _ (limits : Limits) where
   }
 
   pub size_digit : (b number room : ℕ) → digit_value b < 16 → 0 < room
-      → Passes limits (Size number room) (b ∷ []) (Size (number * 16 + digit_value b) (room - 1))
+      → PassesAlong limits (Size number room) (b ∷ []) (Size (number * 16 + digit_value b) (room - 1))
   size_digit b number room digit some = record {
     leads = quiet (Size number room) (Size (number * 16 + digit_value b) (room - 1)) (b ∷ [])
         (λ rest payload c. record {
@@ -184,7 +184,7 @@ module _ (limits : Limits) where
   }
 
   pub size_as_extension : (b number room : ℕ) (q : Place) → ¬ (digit_value b < 16)
-      → Passes limits (Extension Behind number room) (b ∷ []) q → Passes limits (Size number room) (b ∷ []) q
+      → PassesAlong limits (Extension Behind number room) (b ∷ []) q → PassesAlong limits (Size number room) (b ∷ []) q
   size_as_extension b number room q no_digit goes = record {
     leads = record {
       onward = λ rest payload c. of_extension number room (b ∷ rest) payload (goes.leads.onward rest payload c);
@@ -203,6 +203,6 @@ module _ (limits : Limits) where
   StepsOver-size b number room (Err why) no_digit wrong = absurd wrong
 
 -- a chunk whose bytes are all there isn't settled
-pub open_data : (left : ℕ) → ¬ IsSettled (Data left) → left ≡ 0
+pub open_data : (left : ℕ) → ¬ IsDataOrDone (Data left) → left ≡ 0
 open_data zero h = refl
 open_data (suc left) h = absurd (h tt)

@@ -6,13 +6,13 @@ use Rattle.chunked.specs.declared.place.Place.TheVariants.{Data, DataFeed, Field
 use Rattle.chunked.specs.Token.{IsTokenByte, IsValueByte}
 use Rattle.chunked.specs.Body.{line_end, IsTrailers, IsField, fields_bytes}
 use Rattle.chunked.specs.FieldLaws.{IsField-longer, IsField-none, IsField-shorter, IsField-text, IsField-value, IsField-valued, other_first, token_is_text, value_is_text}
-use Rattle.chunked.specs.Place.{Completes, CompletesData, EndsLine, Leads, Passes}
+use Rattle.chunked.specs.Place.{Completes, CompletesData, EndsLine, LeadsAlong, PassesAlong}
 use Rattle.chunked.specs.LineLaws.{longer_front}
 use Rattle.chunked.proofs.Passing.{line_back, line_on, quiet, return_back, return_on}
 
 module _ (limits : Limits) where
   -- bytes of a payload
-  pub data_payload : (xs : List ℕ) (left : ℕ) → length xs ≤ left → Leads limits (Data left) xs xs (Data (left - length xs))
+  pub data_payload : (xs : List ℕ) (left : ℕ) → length xs ≤ left → LeadsAlong limits (Data left) xs xs (Data (left - length xs))
   data_payload xs left fits = record {
     onward = λ rest payload c. record {
       front = xs ++ c.front;
@@ -53,7 +53,7 @@ module _ (limits : Limits) where
   )
   data_return_back b rest payload (x ∷ front) c is = absurd (omega (arith, c.many, ap length is))
 
-  pub data_return : (b : ℕ) → b ≡ 13 → Passes limits (Data 0) (b ∷ []) DataFeed
+  pub data_return : (b : ℕ) → b ≡ 13 → PassesAlong limits (Data 0) (b ∷ []) DataFeed
   data_return b is = record {
     leads = quiet limits (Data 0) DataFeed (b ∷ [])
         (λ rest payload c. record {
@@ -81,7 +81,7 @@ module _ (limits : Limits) where
       let head : x ≡ b = cc in
       absurd ((IsField-text (x ∷ f) (subst (λ fs. AllByRecursion IsField fs) same t.lines).0).0.0 (head ∙ is))
 
-  pub fields_return : (b room : ℕ) → b ≡ 13 → Passes limits (Fields room) (b ∷ []) LastFeed
+  pub fields_return : (b room : ℕ) → b ≡ 13 → PassesAlong limits (Fields room) (b ∷ []) LastFeed
   fields_return b room is = record {
     leads = quiet limits (Fields room) LastFeed (b ∷ [])
         (λ rest payload c. (
@@ -123,7 +123,7 @@ module _ (limits : Limits) where
         goes_on = record { fields = fields; equal = refl; lines = lines.1; few = omega (arith, few, sum) };
       }
 
-  pub fields_first : (b room : ℕ) → IsTokenByte b → 2 ≤ room → Passes limits (Fields room) (b ∷ []) (FieldName (room - 1))
+  pub fields_first : (b room : ℕ) → IsTokenByte b → 2 ≤ room → PassesAlong limits (Fields room) (b ∷ []) (FieldName (room - 1))
   fields_first b room byte fits = record {
     leads = quiet limits (Fields room) (FieldName (room - 1)) (b ∷ [])
         (λ rest payload c. let f = c.1 in (
@@ -152,7 +152,7 @@ module _ (limits : Limits) where
   abbrev Valued : List ℕ → Type 0
   Valued text = IsField (codes "a:" ++ text)
 
-  pub name_on : (b room : ℕ) → IsTokenByte b → 2 ≤ room → Passes limits (FieldName room) (b ∷ []) (FieldName (room - 1))
+  pub name_on : (b room : ℕ) → IsTokenByte b → 2 ≤ room → PassesAlong limits (FieldName room) (b ∷ []) (FieldName (room - 1))
   name_on b room byte fits = record {
     leads = quiet limits (FieldName room) (FieldName (room - 1)) (b ∷ [])
         (λ rest payload c. (
@@ -167,7 +167,7 @@ module _ (limits : Limits) where
     few = omega (arith, fits);
   }
 
-  pub name_colon : (b room : ℕ) → b ≡ 58 → 0 < room → Passes limits (FieldName room) (b ∷ []) (FieldValue (room - 1))
+  pub name_colon : (b room : ℕ) → b ≡ 58 → 0 < room → PassesAlong limits (FieldName room) (b ∷ []) (FieldValue (room - 1))
   name_colon b room is some = record {
     leads = quiet limits (FieldName room) (FieldValue (room - 1)) (b ∷ [])
         (λ rest payload c. (
@@ -183,7 +183,7 @@ module _ (limits : Limits) where
     few = omega (arith, some);
   }
 
-  pub value_on : (b room : ℕ) → IsValueByte b → 0 < room → Passes limits (FieldValue room) (b ∷ []) (FieldValue (room - 1))
+  pub value_on : (b room : ℕ) → IsValueByte b → 0 < room → PassesAlong limits (FieldValue room) (b ∷ []) (FieldValue (room - 1))
   value_on b room byte some = record {
     leads = quiet limits (FieldValue room) (FieldValue (room - 1)) (b ∷ [])
         (λ rest payload c. (
@@ -200,7 +200,7 @@ module _ (limits : Limits) where
   }
 
   -- a CR ends the value of a line
-  pub value_return : (b room : ℕ) → b ≡ 13 → Passes limits (FieldValue room) (b ∷ []) (FieldFeed room)
+  pub value_return : (b room : ℕ) → b ≡ 13 → PassesAlong limits (FieldValue room) (b ∷ []) (FieldFeed room)
   value_return b room is = record {
     leads = quiet limits (FieldValue room) (FieldFeed room) (b ∷ [])
         (λ rest payload c. (c.0, return_on Valued IsTrailers b room rest is (IsField-valued 97 [] (inl refl) tt) c.1))

@@ -6,7 +6,7 @@ use Rattle.buffer_redux.specs.StreamLog.{StreamLog}
 use Rattle.buffer_redux.specs.WriterLaws.{WritesInOrder-contents, WritesInOrder-joins}
 use Rattle.buffer_redux.specs.declared.policy.StdPolicy.{StdPolicy}
 use Rattle.chunked.specs.declared.limits.Limits.{Limits}
-use Rattle.chunked.specs.Body.{IsBody}
+use Rattle.chunked.specs.Body.{IsBodyOfChunks}
 use Rattle.chunked.specs.Chunk.{body_end}
 use Rattle.chunked.specs.ChunkedWriter.{ChunkedWriterState, LetsThrough, accepted_of}
 use Rattle.chunked.specs.RoundTrip.{WroteBody}
@@ -22,7 +22,7 @@ module _ {S : Type 0} (tells : S → StreamLog) (trace : S → S → Type 0) (fi
       (sym h.gained ∙ WritesInOrder-contents first last (h.taken ++ body_end fields) whole
       ∙ (λ i. held ++ (sym h.went.wire i ++ body_end fields)))
 
-  pub written_body : (limits : Limits) → LetsThrough fields limits → IsBody limits wrote payload
+  pub written_body : (limits : Limits) → LetsThrough fields limits → IsBodyOfChunks limits wrote payload
   written_body limits lets =
-      subst (λ p. IsBody limits wrote p) h.went.accepted
-      (subst (λ l. IsBody limits l (accepted_of w)) (sym the_bytes) (h.finishes.body limits lets))
+      subst (λ p. IsBodyOfChunks limits wrote p) h.went.accepted
+      (subst (λ l. IsBodyOfChunks limits l (accepted_of w)) (sym the_bytes) (h.finishes.body limits lets))

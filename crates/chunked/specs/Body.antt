@@ -59,7 +59,7 @@ HasChunks limits (payload ∷ later) bytes =
     × HasChunks limits later behind
 
 -- these bytes are a body with this payload, which is that of its chunks
-pub record IsBody (limits : Limits) (bytes payload : List ℕ) : Type 0 where
+pub record IsBodyOfChunks (limits : Limits) (bytes payload : List ℕ) : Type 0 where
   pub payloads : List (List ℕ)
   pub chunks : HasChunks limits payloads bytes
   pub equal : payload ≡ flat_map (λ p. p) payloads

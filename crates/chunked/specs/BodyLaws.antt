@@ -7,9 +7,9 @@ use Rattle.std.specs.List.{AllByRecursion}
 use Rattle.std.specs.Str.Parse.{AllDigits, digits_value}
 use Rattle.chunked.specs.declared.limits.Limits.{Limits}
 use Rattle.chunked.specs.Extension.{IsExtension}
-use Rattle.chunked.specs.Body.{line_end, IsTextByte, IsSizeLine, IsField, fields_bytes, IsTrailers, HasChunks, IsBody}
+use Rattle.chunked.specs.Body.{line_end, IsTextByte, IsSizeLine, IsField, fields_bytes, IsTrailers, HasChunks, IsBodyOfChunks}
 use Rattle.chunked.specs.FieldLaws.{IsField-none, IsField-text}
-use Rattle.chunked.specs.WithinLaws.{Extends-text, IsExtension-first}
+use Rattle.chunked.specs.WithinLaws.{CompletesExtension-text, IsExtension-first}
 use Rattle.chunked.specs.declared.extension.Within.TheVariants.{Behind}
 
 -- a digit is no byte of these
@@ -34,7 +34,7 @@ digits_text (d ∷ digits) text all h = (digit_is_text d all.0, digits_text digi
 pub IsSizeLine-text : (limit size : ℕ) (text : List ℕ) → IsSizeLine limit size text → AllByRecursion IsTextByte text
 IsSizeLine-text limit size text h =
     subst (AllByRecursion IsTextByte) (sym h.equal)
-    (digits_text h.digits h.extension h.numeral.1 (Extends-text Behind h.extension h.follows))
+    (digits_text h.digits h.extension h.numeral.1 (CompletesExtension-text Behind h.extension h.follows))
 
 -- two texts that end at a CR are one
 pub text_same : (a b xs ys : List ℕ) → AllByRecursion IsTextByte a → AllByRecursion IsTextByte b
@@ -143,8 +143,9 @@ chunks_same l m (p ∷ ps) (q ∷ qs) a b xs ys (u, c, some, h) (v, d, some', k)
       others.2,
     )
 
-pub IsBody-same : (l m : Limits) (a b p q xs ys : List ℕ) → IsBody l a p → IsBody m b q → a ++ xs ≡ b ++ ys
+pub IsBodyOfChunks-same : (l m : Limits) (a b p q xs ys : List ℕ) → IsBodyOfChunks l a p → IsBodyOfChunks m b q
+    → a ++ xs ≡ b ++ ys
     → (a ≡ b) × (p ≡ q) × (xs ≡ ys)
-IsBody-same l m a b p q xs ys h k same =
+IsBodyOfChunks-same l m a b p q xs ys h k same =
     let found = chunks_same l m h.payloads k.payloads a b xs ys h.chunks k.chunks same in
     (found.0, h.equal ∙ ap (λ ps. flat_map (λ x. x) ps) found.1 ∙ sym k.equal, found.2)

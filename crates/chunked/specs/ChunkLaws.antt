@@ -11,7 +11,7 @@ use Rattle.std.specs.Int.Digits.{digits_of, AllBelowBase, number_from_digits}
 use Rattle.std.specs.List.{All, AllByRecursion}
 use Rattle.std.specs.Str.Parse.{AllDigits}
 use Rattle.chunked.specs.declared.limits.Limits.{Limits}
-use Rattle.chunked.specs.Body.{line_end, IsField, IsSizeLine, HasChunks, IsBody, fields_bytes}
+use Rattle.chunked.specs.Body.{line_end, IsField, IsSizeLine, HasChunks, IsBodyOfChunks, fields_bytes}
 use Rattle.chunked.specs.Chunk.{HasBegun, IsCarried, IsChunks, body_end, chunk, chunk_begun, size_digits}
 
 -- a digit that is written is read as what it was
@@ -173,7 +173,7 @@ module _ (limits : Limits) (line : 16 ≤ limits.line) (fields : List (List ℕ)
       )
 
   -- chunks, and then the end of a body, are a body, and the payload in it is theirs
-  pub IsChunks-body : (bytes payload : List ℕ) → IsChunks bytes payload → IsBody limits (bytes ++ body_end fields) payload
+  pub IsChunks-body : (bytes payload : List ℕ) → IsChunks bytes payload → IsBodyOfChunks limits (bytes ++ body_end fields) payload
   IsChunks-body bytes payload h = record {
     payloads = h.payloads;
     chunks = subst (λ l. HasChunks limits h.payloads (l ++ body_end fields)) (sym h.equal) (has_chunks h.payloads h.carried);

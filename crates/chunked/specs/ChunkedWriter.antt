@@ -10,7 +10,7 @@ use Rattle.buffer_redux.specs.StreamLog.{StreamLog, after_write, no_calls, porti
 use Rattle.buffer_redux.specs.WriteParts.{PutsIn, SendsFirst, room}
 use Rattle.buffer_redux.specs.declared.policy.StdPolicy.{StdPolicy}
 use Rattle.chunked.specs.declared.limits.Limits.{Limits}
-use Rattle.chunked.specs.Body.{IsBody}
+use Rattle.chunked.specs.Body.{IsBodyOfChunks}
 use Rattle.chunked.specs.Chunk.{HasBegun, IsCarried, IsChunks, body_end, chunk, chunk_begun, chunk_end}
 use Rattle.chunked.specs.Trailers.{IsTrailer}
 
@@ -85,7 +85,7 @@ module _ {S : Type 0} (tells : S → StreamLog) (trace : S → S → Type 0) whe
 
   -- the chunk of so many bytes is begun: its line is copied in behind what is buffered, which is sent first if there is no room.
   -- Where sending fails it isn't
-  pub record Begins (size : ℕ) (s : ChunkedWriterState S) (answer : Result (Unit {0}) Error) (t : ChunkedWriterState S)
+  pub record CopiesSizeLine (size : ℕ) (s : ChunkedWriterState S) (answer : Result (Unit {0}) Error) (t : ChunkedWriterState S)
       : Type 0 where
     pub spaced : Buffered S StdPolicy
     pub makes_space : MakesSpace around s.writer answer spaced
@@ -97,7 +97,7 @@ module _ {S : Type 0} (tells : S → StreamLog) (trace : S → S → Type 0) whe
   -- some payload is taken in: where the capacity has room for it and the end of a line it is copied in, and else it goes past the
   -- buffer, by one write of the inner writer. If it doesn't fit behind what is buffered that is sent first, and where sending
   -- fails nothing else is done
-  pub record TakesPart (s : Buffered S StdPolicy) (part : List ℕ) (answer : Result ℕ Error) (t : Buffered S StdPolicy)
+  pub record TakesSome (s : Buffered S StdPolicy) (part : List ℕ) (answer : Result ℕ Error) (t : Buffered S StdPolicy)
       : Type 0 where
     pub sending : Result (Unit {0}) Error
     pub spaced : Buffered S StdPolicy
@@ -109,10 +109,10 @@ module _ {S : Type 0} (tells : S → StreamLog) (trace : S → S → Type 0) whe
 
   -- payload goes on in the chunk that was begun, as much as is due of it at most, and behind its last byte the end of the line
   -- follows. At an Err no byte was taken in
-  pub record GoesOn (s : ChunkedWriterState S) (payload : List ℕ) (answer : Result ℕ Error) (t : ChunkedWriterState S)
+  pub record ContinuesChunk (s : ChunkedWriterState S) (payload : List ℕ) (answer : Result ℕ Error) (t : ChunkedWriterState S)
       : Type 0 where
     pub taken : Buffered S StdPolicy
-    pub takes : TakesPart s.writer (take s.due payload) answer taken
+    pub takes : TakesSome s.writer (take s.due payload) answer taken
     pub ended : MatchResult answer
         (λ n. (n ≤ s.due) × (t.due ≡ s.due - n) × PutsIn taken (chunk_end t.due) t.writer
         × (t.wire ≡ s.wire ++ (take n payload ++ chunk_end t.due)))
@@ -121,7 +121,7 @@ module _ {S : Type 0} (tells : S → StreamLog) (trace : S → S → Type 0) whe
   -- all that is promised of payload that goes on in a chunk
   pub record WentOn (s : ChunkedWriterState S) (payload : List ℕ) (answer : Result ℕ Error) (t : ChunkedWriterState S)
       : Type 0 where
-    pub goes : GoesOn s payload answer t
+    pub goes : ContinuesChunk s payload answer t
     pub went : (bytes : List ℕ) × PayloadWent trace s bytes (portion payload answer) t
     pub noted : IsNoted s payload answer t
     pub whole : IsChunkedWriter t
@@ -131,8 +131,8 @@ module _ {S : Type 0} (tells : S → StreamLog) (trace : S → S → Type 0) whe
       : Type 0 where
     pub beginning : Result (Unit {0}) Error
     pub begun : ChunkedWriterState S
-    pub begins : Begins (min (length payload) greatest) s beginning begun
-    pub ended : MatchResult beginning (λ _. GoesOn begun payload answer t) (λ e. (answer ≡ Err e) × (t ≡ begun))
+    pub begins : CopiesSizeLine (min (length payload) greatest) s beginning begun
+    pub ended : MatchResult beginning (λ _. ContinuesChunk begun payload answer t) (λ e. (answer ≡ Err e) × (t ≡ begun))
 
   -- what one write does. Between chunks the payload becomes one: if that fits behind what is buffered it stands there, and the
   -- inner writer isn't called; if the capacity has room for it, all that was buffered is sent first, and where that fails no byte
@@ -150,7 +150,7 @@ module _ {S : Type 0} (tells : S → StreamLog) (trace : S → S → Type 0) whe
         (λ n. (n ≡ length payload) × SendsFirst tells trace s.writer (chunk payload) t.writer)
         (λ e. WasSent tells trace s.writer (Err e) t.writer)
     pub begins : s.due ≡ 0 → s.writer.block.capacity < around + length payload → BeginsChunk s payload answer t
-    pub goes_on : 0 < length payload → 0 < s.due → GoesOn s payload answer t
+    pub goes_on : 0 < length payload → 0 < s.due → ContinuesChunk s payload answer t
     pub noted : IsNoted s payload answer t
     pub whole : IsChunkedWriter t
 
@@ -167,7 +167,7 @@ pub record Finishes {S : Type 0} (tells : S → StreamLog) (trace : S → S → 
   pub between : s.due ≡ 0
   pub lines : AllByRecursion IsTrailer fields
   pub in_order : WritesInOrder s.writer (body_end fields) t
-  pub body : (limits : Limits) → LetsThrough fields limits → IsBody limits (s.wire ++ body_end fields) (accepted_of s)
+  pub body : (limits : Limits) → LetsThrough fields limits → IsBodyOfChunks limits (s.wire ++ body_end fields) (accepted_of s)
   pub fits : length (body_end fields) ≤ room s.writer → PutsIn s.writer (body_end fields) t
   pub full : room s.writer < length (body_end fields) → SendsFirst tells trace s.writer (body_end fields) t
 

@@ -11,7 +11,7 @@ use Rattle.buffer_redux.specs.WriterLaws.{WritesInOrder-none, WritesInOrder-join
 use Rattle.buffer_redux.specs.Buffered.{Buffered}
 use Rattle.buffer_redux.specs.declared.policy.StdPolicy.{StdPolicy}
 use Rattle.chunked.specs.declared.limits.Limits.{Limits}
-use Rattle.chunked.specs.Body.{IsBody}
+use Rattle.chunked.specs.Body.{IsBodyOfChunks}
 use Rattle.chunked.specs.Chunk.{IsCarried, body_end, chunk}
 use Rattle.chunked.specs.ChunkLaws.{IsChunks-behind, IsChunks-body}
 use Rattle.chunked.specs.TrailersLaws.{trailers_are_fields}
@@ -92,7 +92,7 @@ NotFinished-went tells trace s fields e t n = record {
 pub Finishes-behind : {S : Type 0} (tells : S → StreamLog) (trace : S → S → Type 0) (first s : ChunkedWriterState S)
     (fields : List (List ℕ)) (t : Buffered S StdPolicy) → IsChunkedWriter first → first.due ≡ 0 → IsChunkedWriter s
     → Finishes tells trace s fields t → (limits : Limits) → LetsThrough fields limits
-    → IsBody limits ((first.wire ++ s.wire) ++ body_end fields) (accepted_of first ++ accepted_of s)
+    → IsBodyOfChunks limits ((first.wire ++ s.wire) ++ body_end fields) (accepted_of first ++ accepted_of s)
 Finishes-behind tells trace first s fields t before between whole ends limits through =
     IsChunks-body limits through.0 fields (trailers_are_fields fields ends.lines) through.1 (first.wire ++ s.wire)
     (accepted_of first ++ accepted_of s)

@@ -5,7 +5,7 @@ use Rattle.chunked.specs.declared.error.Malformed.{Malformed}
 use Rattle.chunked.specs.declared.limits.Limits.{Limits}
 use Rattle.chunked.specs.declared.place.Place.{Place}
 use Rattle.chunked.specs.declared.place.Place.TheVariants.{Line, Data}
-use Rattle.chunked.specs.Body.{IsBody}
+use Rattle.chunked.specs.Body.{IsBodyOfChunks}
 use Rattle.chunked.specs.Place.{Completes, IsPlace, IsWrong, most_between}
 
 -- bytes of a chunk
@@ -28,7 +28,7 @@ pub record BreaksAt (limits : Limits) (p : Place) (taken bytes : List ℕ) (why 
   pub later : List ℕ
   pub next : bytes ≡ byte ∷ later
   pub name : IsWrong limits p byte why
-  pub none : (rest payload : List ℕ) → ¬ IsBody limits (taken ++ byte ∷ rest) payload
+  pub none : (rest payload : List ℕ) → ¬ IsBodyOfChunks limits (taken ++ byte ∷ rest) payload
 
 abbrev pub chunked : Limits → Grammar Place Malformed
 chunked limits = record {

@@ -4,7 +4,7 @@ use Rattle.std.proofs.lemmas.List.{drop_more, length-replicate, nil_from_length}
 use Rattle.body_reader.specs.declared.Look.TheVariants as look
 use Rattle.body_reader.specs.BodyReader.{BodyState, IsBodyReader, handed_of}
 use Rattle.body_reader.specs.Coding as body
-use Rattle.body_reader.specs.CodingLaws.{Lacks-one, overlaps}
+use Rattle.body_reader.specs.CodingLaws.{IsOpenBelow-one, overlaps}
 use Rattle.chunked.specs.declared.coding.Chunked.{Chunked}
 use Rattle.chunked.specs.declared.error.Malformed.{Malformed}
 use Rattle.chunked.specs.declared.limits.Limits.{Limits}
@@ -12,15 +12,15 @@ use Rattle.chunked.specs.declared.place.Place.{Place}
 use Rattle.chunked.specs.declared.place.Place.TheVariants.{Line, Data, Done}
 use Rattle.chunked.specs.declared.step.Reached.{Reached}
 use Rattle.chunked.specs.Body.{line_end}
-use Rattle.chunked.specs.BodyLaws.{IsBody-same}
+use Rattle.chunked.specs.BodyLaws.{IsBodyOfChunks-same}
 use Rattle.chunked.specs.Coding.{BreaksAt, IsWrongNext, chunked, chunk_left}
-use Rattle.chunked.specs.Place.{Advances, Comes, Completes, IsPlace, IsSettled, IsWrong, Leads, Within}
+use Rattle.chunked.specs.Place.{Advances, Comes, Completes, IsDataOrDone, IsPlace, IsWrong, LeadsAlong, Within}
 use Rattle.chunked.specs.PlaceLaws.{Completes-nothing, IsWrong-done}
 use Rattle.chunked.specs.WrongLaws.{IsWrong-none}
 
 module _ (limits : Limits) where
   -- bytes that lead on, and don't go past the end, do so whatever follows
-  pub leads_on : (p : Place) (wire handed : List ℕ) (q : Place) (follow : List ℕ) → Leads limits p wire handed q
+  pub leads_on : (p : Place) (wire handed : List ℕ) (q : Place) (follow : List ℕ) → LeadsAlong limits p wire handed q
       → Within limits p wire → body.Leads (chunked limits) p wire handed q follow
   leads_on p wire handed q follow leads within = record {
     onward = λ rest payload agree c. leads.onward rest payload c;
@@ -33,7 +33,7 @@ module _ (limits : Limits) where
   follows rest = (rest, [], sym (append-nil rest))
 
   pub leads_of : (p : Place) (wire handed : List ℕ) (q : Place) → body.Leads (chunked limits) p wire handed q []
-      → Leads limits p wire handed q
+      → LeadsAlong limits p wire handed q
   leads_of p wire handed q leads = record {
     onward = λ rest payload c. leads.onward rest payload (follows rest) c;
     back = λ rest whole c. leads.back rest whole (follows rest) c;
@@ -62,10 +62,10 @@ module _ (limits : Limits) where
   no_more p n c = absurd (c.carries [] [] [] (omega arith) refl)
 
   -- nor any where none is
-  pub none_left : (p : Place) → ¬ IsSettled p → chunk_left p ≡ 0
+  pub none_left : (p : Place) → ¬ IsDataOrDone p → chunk_left p ≡ 0
   none_left (Data left) open' = size left open'
     where
-      size : (k : ℕ) → ¬ IsSettled (Data k) → k ≡ 0
+      size : (k : ℕ) → ¬ IsDataOrDone (Data k) → k ≡ 0
       size zero not = refl
       size (suc k) not = absurd (not tt)
   none_left p open' = refl
@@ -80,7 +80,7 @@ module _ (limits : Limits) where
         never p wrong.0 why rest payload wrong.1 agree.0 agree.1 wrong.3 c
         (ap (λ l. l ++ agree.0) (sym wrong.2) ∙ agree.2);
     sure = λ p n is c. no_more p n c;
-    one = λ a b x y xs ys p q same. let found = IsBody-same limits limits a b x y xs ys p q same in (found.0, found.1);
+    one = λ a b x y xs ys p q same. let found = IsBodyOfChunks-same limits limits a b x y xs ys p q same in (found.0, found.1);
   }
 
   not_done : (p : Place) → p ≢ Done → ¬ (Completes limits p [] [])
@@ -98,13 +98,13 @@ module _ (limits : Limits) where
   tail_none [] past same = same
   tail_none (x ∷ m) past same = cc
 
-  one_more : (q : Place) (b : ℕ) (m payload past : List ℕ) → ¬ IsSettled q → Completes limits q m payload
+  one_more : (q : Place) (b : ℕ) (m payload past : List ℕ) → ¬ IsDataOrDone q → Completes limits q m payload
       → b ∷ [] ≡ m ++ past → past ≡ []
   one_more q b [] payload past goes_on c same =
-      absurd (goes_on (subst IsSettled (sym (Completes-nothing limits q payload c)) tt))
+      absurd (goes_on (subst IsDataOrDone (sym (Completes-nothing limits q payload c)) tt))
   one_more q b (x ∷ m) payload past goes_on c same = tail_none m past (let rest : m ++ past ≡ [] = cc in rest)
 
-  pub within_on : (p q : Place) (a : List ℕ) (b : ℕ) → Leads limits p a [] q → ¬ IsSettled q → Within limits p a
+  pub within_on : (p q : Place) (a : List ℕ) (b : ℕ) → LeadsAlong limits p a [] q → ¬ IsDataOrDone q → Within limits p a
       → Within limits p (a ++ b ∷ [])
   within_on p q a b leads goes_on within rest payload past c same = elim (overlaps a (b ∷ []) rest past same) [
     | inl found ↦
@@ -114,7 +114,7 @@ module _ (limits : Limits) where
         let none = within rest payload found.0 c found.1 in
         let all : a ≡ rest = found.1 ∙ ap (λ l. rest ++ l) none ∙ append-nil rest in
         let goes = leads.back [] payload (subst (λ l. Completes limits p l payload) (sym all ∙ sym (append-nil a)) c) in
-        absurd (goes_on (subst IsSettled (sym (Completes-nothing limits q goes.0 goes.2)) tt))
+        absurd (goes_on (subst IsDataOrDone (sym (Completes-nothing limits q goes.0 goes.2)) tt))
   ]
 
   -- the bytes of a chunk stand before its end
@@ -131,17 +131,17 @@ module _ (limits : Limits) where
       ))
 
   -- where a payload or nothing comes next
-  pub settled_some : (left : ℕ) → IsSettled (Data left) → 0 < left
+  pub settled_some : (left : ℕ) → IsDataOrDone (Data left) → 0 < left
   settled_some zero settled = absurd settled
   settled_some (suc left) settled = omega arith
 
-  pub settled_done : (p : Place) → IsSettled p → ((left : ℕ) → p ≢ Data left) → p ≡ Done
+  pub settled_done : (p : Place) → IsDataOrDone p → ((left : ℕ) → p ≢ Data left) → p ≡ Done
   settled_done (Data left) settled no_data = absurd (no_data left refl)
   settled_done Done settled no_data = refl
   settled_done p settled no_data = absurd settled
 
-  pub open_of : (p : Place) → ¬ IsSettled p → p ≢ Done
-  open_of p goes_on is = goes_on (subst IsSettled (sym is) tt)
+  pub open_of : (p : Place) → ¬ IsDataOrDone p → p ≢ Done
+  open_of p goes_on is = goes_on (subst IsDataOrDone (sym is) tt)
 
   -- what a look answers
   pub looks_data : (left : ℕ) (shown : List ℕ) → 0 < left
@@ -155,10 +155,10 @@ module _ (limits : Limits) where
     omega arith,
   )
 
-  pub looks_none : (p : Place) (shown : List ℕ) → IsPlace p → ¬ IsSettled p → shown ≡ []
+  pub looks_none : (p : Place) (shown : List ℕ) → IsPlace p → ¬ IsDataOrDone p → shown ≡ []
       → body.Looks (chunked limits) p shown (look.More 1)
   looks_none p shown place open' none = (
-    Lacks-one (chunked limits) chunked_lawful p place (not_done p (open_of p open')) shown (omega (arith, ap length none)),
+    IsOpenBelow-one (chunked limits) chunked_lawful p place (not_done p (open_of p open')) shown (omega (arith, ap length none)),
     none_left p open',
   )
 

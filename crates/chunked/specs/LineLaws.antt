@@ -4,7 +4,7 @@ use Rattle.std.specs.Char.{digit_value}
 use Rattle.std.specs.List.{flat_map, AllByRecursion}
 use Rattle.std.specs.Str.Parse.{AllDigits, digits_value_after}
 use Rattle.chunked.specs.declared.limits.Limits.{Limits}
-use Rattle.chunked.specs.Body.{line_end, IsSizeLine, HasChunks, IsBody, IsTextByte}
+use Rattle.chunked.specs.Body.{line_end, IsSizeLine, HasChunks, IsBodyOfChunks, IsTextByte}
 use Rattle.chunked.specs.Place.{BehindSize, CompletesSize}
 
 -- a front that is no longer than another's is its beginning
@@ -36,7 +36,8 @@ pub record BeginsLine (limits : Limits) (bytes payload : List ℕ) : Type 0 wher
   pub goes_on : BehindSize limits size behind payload
 
 module _ (limits : Limits) where
-  begins_chunk : (p : List ℕ) (behind later payload : List ℕ) → 0 < length p → payload ≡ p ++ later → IsBody limits behind later
+  begins_chunk : (p : List ℕ) (behind later payload : List ℕ) → 0 < length p → payload ≡ p ++ later
+      → IsBodyOfChunks limits behind later
       → BehindSize limits (length p) (p ++ line_end behind) payload
   begins_chunk [] behind later payload some both body = absurd (omega (arith, some))
   begins_chunk (x ∷ p) behind later payload some both body =
@@ -62,11 +63,11 @@ module _ (limits : Limits) where
         (record { payloads = ps; chunks = more; equal = refl });
   }
 
-  pub line_of : (bytes payload : List ℕ) → IsBody limits bytes payload → BeginsLine limits bytes payload
+  pub line_of : (bytes payload : List ℕ) → IsBodyOfChunks limits bytes payload → BeginsLine limits bytes payload
   line_of bytes payload h = begins bytes payload h.payloads h.chunks h.equal
 
   pub body_of : (size : ℕ) (bytes payload text behind : List ℕ) → IsSizeLine limits.line size text
-      → bytes ≡ text ++ line_end behind → BehindSize limits size behind payload → IsBody limits bytes payload
+      → bytes ≡ text ++ line_end behind → BehindSize limits size behind payload → IsBodyOfChunks limits bytes payload
   body_of zero bytes payload text behind size_line is (none, trailers) = record {
     payloads = [];
     chunks = (behind, record { text = text; size_line = size_line; equal = is }, trailers);
@@ -89,7 +90,7 @@ module _ (limits : Limits) where
 
   -- the first digit of a size
   pub first_digit : (b : ℕ) (rest payload : List ℕ) → digit_value b < 16 → 0 < limits.line
-      → CompletesSize limits (digit_value b) (limits.line - 1) rest payload → IsBody limits (b ∷ rest) payload
+      → CompletesSize limits (digit_value b) (limits.line - 1) rest payload → IsBodyOfChunks limits (b ∷ rest) payload
   first_digit b rest payload digit some c =
       body_of c.size (b ∷ rest) payload (b ∷ (c.digits ++ c.extension)) c.behind (record {
         digits = b ∷ c.digits;
@@ -128,7 +129,7 @@ module _ (limits : Limits) where
         goes_on = goes_on;
       }
 
-  pub digit_first : (b : ℕ) (rest payload : List ℕ) → IsBody limits (b ∷ rest) payload
+  pub digit_first : (b : ℕ) (rest payload : List ℕ) → IsBodyOfChunks limits (b ∷ rest) payload
       → CompletesSize limits (digit_value b) (limits.line - 1) rest payload
   digit_first b rest payload h =
       let line = line_of (b ∷ rest) payload h in

@@ -4,8 +4,8 @@ use Rattle.std.specs.Char.{digit_value}
 use Rattle.std.specs.Str.Parse.{AllDigits, digits_value_after}
 use Rattle.chunked.specs.Token.{IsTokenByte, IsValueByte}
 use Rattle.chunked.specs.Extension.{IsExtension}
-use Rattle.chunked.specs.Within.{EndsNoExtension, Extends, RunsOver}
-use Rattle.chunked.specs.Body.{line_end, IsTextByte, IsField, IsTrailers, IsBody}
+use Rattle.chunked.specs.Within.{CompletesExtension, EndsNoExtension, RunsOver}
+use Rattle.chunked.specs.Body.{line_end, IsTextByte, IsField, IsTrailers, IsBodyOfChunks}
 use Rattle.chunked.specs.declared.error.Malformed.{Malformed}
 use Rattle.chunked.specs.declared.error.Malformed.TheVariants.{NoSize, BadSize, BadField, SizeTooLarge, LineTooLong, TrailersTooLong, BareReturn, BareFeed, ChunkTooLong}
 use Rattle.chunked.specs.declared.limits.Limits.{Limits}
@@ -15,8 +15,8 @@ use Rattle.chunked.specs.declared.extension.Within.TheVariants.{Behind}
 use Rattle.chunked.specs.declared.step.Reached.{Reached}
 
 -- an LF, and then bytes of which this is true
-abbrev pub Feeds : (List ℕ → Type 0) → List ℕ → Type 0
-Feeds P rest = (behind : List ℕ) × (rest ≡ 10 ∷ behind) × P behind
+abbrev pub LineFeedThen : (List ℕ → Type 0) → List ℕ → Type 0
+LineFeedThen P rest = (behind : List ℕ) × (rest ≡ 10 ∷ behind) × P behind
 
 -- `left` bytes of payload, the end of a line, and then a body
 pub record CompletesData (limits : Limits) (left : ℕ) (rest payload : List ℕ) : Type 0 where
@@ -26,7 +26,7 @@ pub record CompletesData (limits : Limits) (left : ℕ) (rest payload : List ℕ
   pub many : length front ≡ left
   pub equal : rest ≡ front ++ line_end behind
   pub both : payload ≡ front ++ later
-  pub body : IsBody limits behind later
+  pub body : IsBodyOfChunks limits behind later
 
 -- what stands behind the line of this size
 abbrev pub BehindSize : Limits → ℕ → List ℕ → List ℕ → Type 0
@@ -59,26 +59,26 @@ pub record EndsLine (IsRest : List ℕ → Type 0) (GoesOn : ℕ → List ℕ �
 
 -- these bytes complete the body from here, and this is the payload in them
 abbrev pub Completes : Limits → Place → List ℕ → List ℕ → Type 0
-Completes limits Line rest payload = IsBody limits rest payload
+Completes limits Line rest payload = IsBodyOfChunks limits rest payload
 Completes limits (Size number room) rest payload = CompletesSize limits number room rest payload
 Completes limits (Extension within size room) rest payload =
-    EndsLine (Extends within) (λ left behind. BehindSize limits size behind payload) room rest × (size < 2 ^ 62)
+    EndsLine (CompletesExtension within) (λ left behind. BehindSize limits size behind payload) room rest × (size < 2 ^ 62)
 Completes limits (SizeFeed size) rest payload =
-    Feeds (λ behind. BehindSize limits size behind payload) rest × (size < 2 ^ 62)
+    LineFeedThen (λ behind. BehindSize limits size behind payload) rest × (size < 2 ^ 62)
 Completes limits (Data left) rest payload = CompletesData limits left rest payload
-Completes limits DataFeed rest payload = Feeds (λ behind. IsBody limits behind payload) rest
+Completes limits DataFeed rest payload = LineFeedThen (λ behind. IsBodyOfChunks limits behind payload) rest
 Completes limits (Fields room) rest payload = (payload ≡ []) × IsTrailers room rest
 Completes limits (FieldName room) rest payload =
     (payload ≡ []) × EndsLine (λ text. IsField (codes "a" ++ text)) IsTrailers room rest
 Completes limits (FieldValue room) rest payload =
     (payload ≡ []) × EndsLine (λ text. IsField (codes "a:" ++ text)) IsTrailers room rest
-Completes limits (FieldFeed room) rest payload = (payload ≡ []) × Feeds (IsTrailers room) rest
+Completes limits (FieldFeed room) rest payload = (payload ≡ []) × LineFeedThen (IsTrailers room) rest
 Completes limits LastFeed rest payload = (payload ≡ []) × (rest ≡ 10 ∷ [])
 Completes limits Done rest payload = (payload ≡ []) × (rest ≡ [])
 
 -- these bytes, in which there is this payload, lead from one place to the other: with them in front, just what completes the
 -- body there completes it here
-pub record Leads (limits : Limits) (p : Place) (wire handed : List ℕ) (q : Place) : Type 0 where
+pub record LeadsAlong (limits : Limits) (p : Place) (wire handed : List ℕ) (q : Place) : Type 0 where
   pub onward : (rest payload : List ℕ) → Completes limits q rest payload
       → Completes limits p (wire ++ rest) (handed ++ payload)
   pub back : (rest whole : List ℕ) → Completes limits p (wire ++ rest) whole
@@ -129,28 +129,28 @@ most_between limits LastFeed = 1
 most_between limits Done = 0
 
 -- a payload or nothing comes next
-abbrev pub IsSettled : Place → Type 0
-IsSettled (Data (suc left)) = ⊤
-IsSettled Done = ⊤
-IsSettled p = ⊥
+abbrev pub IsDataOrDone : Place → Type 0
+IsDataOrDone (Data (suc left)) = ⊤
+IsDataOrDone Done = ⊤
+IsDataOrDone p = ⊥
 
 -- these bytes, which are no payload, lead from one place to the other
-pub record Passes (limits : Limits) (p : Place) (wire : List ℕ) (q : Place) : Type 0 where
-  pub leads : Leads limits p wire [] q
+pub record PassesAlong (limits : Limits) (p : Place) (wire : List ℕ) (q : Place) : Type 0 where
+  pub leads : LeadsAlong limits p wire [] q
   pub few : most_between limits q + length wire ≤ most_between limits p
 
 -- the size that is kept is one of a chunk, and `room` bytes are enough to end what was begun
 abbrev pub IsPlace : Place → Type 0
 IsPlace (Size number room) = number < 2 ^ 62
 IsPlace (Extension within size room) =
-    (size < 2 ^ 62) × ((text : List ℕ) × Extends within text × (length text ≤ room))
+    (size < 2 ^ 62) × ((text : List ℕ) × CompletesExtension within text × (length text ≤ room))
 IsPlace (SizeFeed size) = size < 2 ^ 62
 IsPlace (FieldName room) = 0 < room
 IsPlace p = ⊤
 
 -- one byte leads on, or what is wrong with it has this name
 abbrev pub StepsOver : Limits → Place → ℕ → Result Place Malformed → Type 0
-StepsOver limits p b (Ok q) = Passes limits p (b ∷ []) q × IsPlace q
+StepsOver limits p b (Ok q) = PassesAlong limits p (b ∷ []) q × IsPlace q
 StepsOver limits p b (Err why) = IsWrong limits p b why
 
 -- these bytes don't go past what completes the body from here
@@ -159,7 +159,7 @@ Within limits p wire = (rest payload past : List ℕ) → Completes limits p res
 
 -- these bytes, which are no payload and don't go past the end, lead from one place to the other
 pub record Comes (limits : Limits) (p : Place) (wire : List ℕ) (q : Place) : Type 0 where
-  pub passes : Passes limits p wire q
+  pub passes : PassesAlong limits p wire q
   pub place : IsPlace q
   pub short : Within limits p wire
 
@@ -167,10 +167,10 @@ pub record Comes (limits : Limits) (p : Place) (wire : List ℕ) (q : Place) : T
 -- all were taken
 pub record Advances (limits : Limits) (p : Place) (shown : List ℕ) (r : Reached) : Type 0 where
   pub within : r.taken ≤ length shown
-  pub passes : Passes limits p (take r.taken shown) r.place
+  pub passes : PassesAlong limits p (take r.taken shown) r.place
   pub place : IsPlace r.place
   pub wrong : IfSome r.wrong (λ why. (r.taken < length shown) × IsWrong limits r.place (slice_index shown r.taken) why)
-  pub all : r.wrong ≡ None → IsSettled r.place ⊎ (r.taken ≡ length shown)
-  pub some : ¬ IsSettled p → 0 < length shown → r.wrong ≡ None → 0 < r.taken
+  pub all : r.wrong ≡ None → IsDataOrDone r.place ⊎ (r.taken ≡ length shown)
+  pub some : ¬ IsDataOrDone p → 0 < length shown → r.wrong ≡ None → 0 < r.taken
   pub begun : (0 < r.taken) ⊎ (r.place ≡ p)
   pub short : Within limits p (take r.taken shown)

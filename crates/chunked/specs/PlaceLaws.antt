@@ -6,17 +6,17 @@ use Rattle.chunked.specs.declared.error.Malformed.TheVariants.{NoSize, BadSize, 
 use Rattle.chunked.specs.declared.limits.Limits.{Limits}
 use Rattle.chunked.specs.declared.place.Place.{Place}
 use Rattle.chunked.specs.declared.place.Place.TheVariants.{Line, Size, Extension, SizeFeed, Data, DataFeed, Fields, FieldName, FieldValue, FieldFeed, LastFeed, Done}
-use Rattle.chunked.specs.Body.{HasChunks, IsBody, fields_bytes, line_end}
-use Rattle.chunked.specs.Place.{Completes, IsWrong, Leads, Passes}
+use Rattle.chunked.specs.Body.{HasChunks, IsBodyOfChunks, fields_bytes, line_end}
+use Rattle.chunked.specs.Place.{Completes, IsWrong, LeadsAlong, PassesAlong}
 
 module _ (limits : Limits) where
   -- no byte leads nowhere, and two traces of bytes join
-  pub Leads-none : (p : Place) → Leads limits p [] [] p
-  Leads-none p = record { onward = λ rest payload c. c; back = λ rest whole c. (whole, refl, c) }
+  pub LeadsAlong-none : (p : Place) → LeadsAlong limits p [] [] p
+  LeadsAlong-none p = record { onward = λ rest payload c. c; back = λ rest whole c. (whole, refl, c) }
 
-  pub Leads-joins : (p q r : Place) (a b h k : List ℕ) → Leads limits p a h q → Leads limits q b k r
-      → Leads limits p (a ++ b) (h ++ k) r
-  Leads-joins p q r a b h k x y = record {
+  pub LeadsAlong-joins : (p q r : Place) (a b h k : List ℕ) → LeadsAlong limits p a h q → LeadsAlong limits q b k r
+      → LeadsAlong limits p (a ++ b) (h ++ k) r
+  LeadsAlong-joins p q r a b h k x y = record {
     onward = λ rest payload c.
         subst (λ l. Completes limits p l ((h ++ k) ++ payload)) (sym (append_assoc a b rest))
         (subst (λ l. Completes limits p (a ++ (b ++ rest)) l) (sym (append_assoc h k payload))
@@ -27,20 +27,22 @@ module _ (limits : Limits) where
         (second.0, first.1 ∙ ap (λ l. h ++ l) second.1 ∙ sym (append_assoc h k second.0), second.2);
   }
 
-  pub Passes-none : (p : Place) → Passes limits p [] p
-  Passes-none p = record { leads = Leads-none p; few = omega arith }
+  pub PassesAlong-none : (p : Place) → PassesAlong limits p [] p
+  PassesAlong-none p = record { leads = LeadsAlong-none p; few = omega arith }
 
-  pub Passes-joins : (p q r : Place) (a b : List ℕ) → Passes limits p a q → Passes limits q b r → Passes limits p (a ++ b) r
-  Passes-joins p q r a b x y = record {
-    leads = Leads-joins p q r a b [] [] x.leads y.leads;
+  pub PassesAlong-joins : (p q r : Place) (a b : List ℕ) → PassesAlong limits p a q → PassesAlong limits q b r
+      → PassesAlong limits p (a ++ b) r
+  PassesAlong-joins p q r a b x y = record {
+    leads = LeadsAlong-joins p q r a b [] [] x.leads y.leads;
     few = omega (arith, x.few, y.few, length-append a b);
   }
 
   -- what leads from the beginning of a body to its end is a body
-  pub Leads-whole : (bytes payload : List ℕ) → Leads limits Line bytes payload Done → IsBody limits bytes payload
-  Leads-whole bytes payload leads =
-      subst (λ l. IsBody limits bytes l) (append-nil payload)
-      (subst (λ l. IsBody limits l (payload ++ [])) (append-nil bytes) (leads.onward [] [] (refl, refl)))
+  pub LeadsAlong-whole : (bytes payload : List ℕ) → LeadsAlong limits Line bytes payload Done
+      → IsBodyOfChunks limits bytes payload
+  LeadsAlong-whole bytes payload leads =
+      subst (λ l. IsBodyOfChunks limits bytes l) (append-nil payload)
+      (subst (λ l. IsBodyOfChunks limits l (payload ++ [])) (append-nil bytes) (leads.onward [] [] (refl, refl)))
 
 -- behind a body nothing is wrong
 pub IsWrong-done : (limits : Limits) (b : ℕ) (why : Malformed) → IsWrong limits Done b why → ⊥

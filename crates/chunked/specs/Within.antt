@@ -6,26 +6,26 @@ use Rattle.chunked.specs.declared.extension.Within.{Within}
 use Rattle.chunked.specs.declared.extension.Within.TheVariants.{Blank, BeforeName, InName, BehindName, BeforeValue, InValue, Quoted, Escaped, Behind}
 
 -- a text that completes an extension from there, with so many parameters behind the one that has begun
-abbrev pub Extends : Within → List ℕ → Type 0
-Extends Behind text = (count : ℕ) × Parameters count text
-Extends Blank text = (count : ℕ) × Parameter (Parameters count) text
-Extends BeforeName text = (count : ℕ) × Many IsBlank (Name (Parameters count)) text
-Extends InName text =
+abbrev pub CompletesExtension : Within → List ℕ → Type 0
+CompletesExtension Behind text = (count : ℕ) × Parameters count text
+CompletesExtension Blank text = (count : ℕ) × Parameter (Parameters count) text
+CompletesExtension BeforeName text = (count : ℕ) × Many IsBlank (Name (Parameters count)) text
+CompletesExtension InName text =
     (count : ℕ) × Many IsTokenByte (λ rest. Parameters count rest ⊎ Assigned (Parameters count) rest) text
-Extends BehindName text = (count : ℕ) × (Parameter (Parameters count) text ⊎ Assigned (Parameters count) text)
-Extends BeforeValue text = (count : ℕ) × Many IsBlank (Value (Parameters count)) text
-Extends InValue text = (count : ℕ) × Many IsTokenByte (Parameters count) text
-Extends Quoted text = (count : ℕ) × InQuotes (Parameters count) text
-Extends Escaped text = (count : ℕ) × One IsValueByte (InQuotes (Parameters count)) text
+CompletesExtension BehindName text = (count : ℕ) × (Parameter (Parameters count) text ⊎ Assigned (Parameters count) text)
+CompletesExtension BeforeValue text = (count : ℕ) × Many IsBlank (Value (Parameters count)) text
+CompletesExtension InValue text = (count : ℕ) × Many IsTokenByte (Parameters count) text
+CompletesExtension Quoted text = (count : ℕ) × InQuotes (Parameters count) text
+CompletesExtension Escaped text = (count : ℕ) × One IsValueByte (InQuotes (Parameters count)) text
 
 -- one can go on with this byte, but isn't completed in so many then
 pub record RunsOver (within : Within) (room b : ℕ) : Type 0 where
   pub text : List ℕ
-  pub extends : Extends within (b ∷ text)
-  pub over : (other : List ℕ) → Extends within (b ∷ other) → room < length (b ∷ other)
+  pub extends : CompletesExtension within (b ∷ text)
+  pub over : (other : List ℕ) → CompletesExtension within (b ∷ other) → room < length (b ∷ other)
 
 -- none can go on with this byte, nor end at it
 pub record EndsNoExtension (within : Within) (b : ℕ) : Type 0 where
-  pub none : (text : List ℕ) → ¬ Extends within (b ∷ text)
-  pub no_return : b ≡ 13 → ¬ Extends within []
+  pub none : (text : List ℕ) → ¬ CompletesExtension within (b ∷ text)
+  pub no_return : b ≡ 13 → ¬ CompletesExtension within []
   pub no_feed : b ≢ 10

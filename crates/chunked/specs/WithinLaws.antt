@@ -3,7 +3,7 @@ use Rattle.std.proofs.Common.{◌≡◌, ◌≢◌, ℕ, zero, suc, ◌<◌, ◌
 use Rattle.std.specs.List.{AllByRecursion}
 use Rattle.chunked.specs.Token.{IsBlank, IsTokenByte, IsValueByte}
 use Rattle.chunked.specs.Extension.{Assigned, IsExtension, Parameter, Parameters}
-use Rattle.chunked.specs.Within.{Extends}
+use Rattle.chunked.specs.Within.{CompletesExtension}
 use Rattle.chunked.specs.Body.{IsTextByte}
 use Rattle.chunked.specs.FieldLaws.{token_is_text, token_plain, value_is_text}
 use Rattle.chunked.specs.declared.extension.Within.{Within}
@@ -39,62 +39,67 @@ module _ (IsToken : ℕ → Type 0) (plain : (b : ℕ) → IsToken b → (33 ≤
     one_way_by Escaped b v v' s t = cc
 
 -- where each byte leads
-abbrev pub Steps : Within → ℕ → Within → Type 0
-Steps w b v = StepsBy IsTokenByte token_plain w b v
+abbrev pub LeadsOnBy : Within → ℕ → Within → Type 0
+LeadsOnBy w b v = StepsBy IsTokenByte token_plain w b v
 
-one_way : (w : Within) (b : ℕ) (v v' : Within) → Steps w b v → Steps w b v' → v ≡ v'
+one_way : (w : Within) (b : ℕ) (v v' : Within) → LeadsOnBy w b v → LeadsOnBy w b v' → v ≡ v'
 one_way w b v v' s t = one_way_by IsTokenByte token_plain w b v v' s t
 
 -- with it in front, what is left there is left here
-on : (w : Within) (b : ℕ) (v : Within) (text : List ℕ) → Steps w b v → Extends v text → Extends w (b ∷ text)
-on Behind b v text (inl (blank, is)) e = let k = subst (λ x. Extends x text) is e in (suc k.0, inr (blank, k.1))
-on Behind b v text (inr (sign, is)) e = let k = subst (λ x. Extends x text) is e in (suc k.0, inl (sign, k.1))
-on Blank b v text (inl (blank, is)) e = let k = subst (λ x. Extends x text) is e in (k.0, inr (blank, k.1))
-on Blank b v text (inr (sign, is)) e = let k = subst (λ x. Extends x text) is e in (k.0, inl (sign, k.1))
-on BeforeName b v text (inl (blank, is)) e = let k = subst (λ x. Extends x text) is e in (k.0, inr (blank, k.1))
-on BeforeName b v text (inr (token, is)) e = let k = subst (λ x. Extends x text) is e in (k.0, inl (token, k.1))
-on InName b v text (inl (blank, is)) e = let k = subst (λ x. Extends x text) is e in elim k.1 [
+on : (w : Within) (b : ℕ) (v : Within) (text : List ℕ) → LeadsOnBy w b v → CompletesExtension v text
+    → CompletesExtension w (b ∷ text)
+on Behind b v text (inl (blank, is)) e = let k = subst (λ x. CompletesExtension x text) is e in (suc k.0, inr (blank, k.1))
+on Behind b v text (inr (sign, is)) e = let k = subst (λ x. CompletesExtension x text) is e in (suc k.0, inl (sign, k.1))
+on Blank b v text (inl (blank, is)) e = let k = subst (λ x. CompletesExtension x text) is e in (k.0, inr (blank, k.1))
+on Blank b v text (inr (sign, is)) e = let k = subst (λ x. CompletesExtension x text) is e in (k.0, inl (sign, k.1))
+on BeforeName b v text (inl (blank, is)) e = let k = subst (λ x. CompletesExtension x text) is e in (k.0, inr (blank, k.1))
+on BeforeName b v text (inr (token, is)) e = let k = subst (λ x. CompletesExtension x text) is e in (k.0, inl (token, k.1))
+on InName b v text (inl (blank, is)) e = let k = subst (λ x. CompletesExtension x text) is e in elim k.1 [
   | inl left ↦ (suc k.0, inl (inl (inr (blank, left))))
   | inr left ↦ (k.0, inl (inr (inr (blank, left))))
 ]
-on InName b v text (inr (inl (token, is))) e = let k = subst (λ x. Extends x text) is e in (k.0, inr (token, k.1))
+on InName b v text (inr (inl (token, is))) e = let k = subst (λ x. CompletesExtension x text) is e in (k.0, inr (token, k.1))
 on InName b v text (inr (inr (inl (sign, is)))) e =
-    let k = subst (λ x. Extends x text) is e in (k.0, inl (inr (inl (sign, k.1))))
+    let k = subst (λ x. CompletesExtension x text) is e in (k.0, inl (inr (inl (sign, k.1))))
 on InName b v text (inr (inr (inr (sign, is)))) e =
-    let k = subst (λ x. Extends x text) is e in (suc k.0, inl (inl (inl (sign, k.1))))
-on BehindName b v text (inl (blank, is)) e = let k = subst (λ x. Extends x text) is e in elim k.1 [
+    let k = subst (λ x. CompletesExtension x text) is e in (suc k.0, inl (inl (inl (sign, k.1))))
+on BehindName b v text (inl (blank, is)) e = let k = subst (λ x. CompletesExtension x text) is e in elim k.1 [
   | inl left ↦ (k.0, inl (inr (blank, left)))
   | inr left ↦ (k.0, inr (inr (blank, left)))
 ]
-on BehindName b v text (inr (inl (sign, is))) e = let k = subst (λ x. Extends x text) is e in (k.0, inr (inl (sign, k.1)))
-on BehindName b v text (inr (inr (sign, is))) e = let k = subst (λ x. Extends x text) is e in (k.0, inl (inl (sign, k.1)))
-on BeforeValue b v text (inl (blank, is)) e = let k = subst (λ x. Extends x text) is e in (k.0, inr (blank, k.1))
+on BehindName b v text (inr (inl (sign, is))) e =
+    let k = subst (λ x. CompletesExtension x text) is e in (k.0, inr (inl (sign, k.1)))
+on BehindName b v text (inr (inr (sign, is))) e =
+    let k = subst (λ x. CompletesExtension x text) is e in (k.0, inl (inl (sign, k.1)))
+on BeforeValue b v text (inl (blank, is)) e = let k = subst (λ x. CompletesExtension x text) is e in (k.0, inr (blank, k.1))
 on BeforeValue b v text (inr (inl (token, is))) e =
-    let k = subst (λ x. Extends x text) is e in (k.0, inl (inl (token, k.1)))
-on BeforeValue b v text (inr (inr (sign, is))) e = let k = subst (λ x. Extends x text) is e in (k.0, inl (inr (sign, k.1)))
-on InValue b v text (inl (blank, is)) e = let k = subst (λ x. Extends x text) is e in (suc k.0, inl (inr (blank, k.1)))
-on InValue b v text (inr (inl (token, is))) e = let k = subst (λ x. Extends x text) is e in (k.0, inr (token, k.1))
-on InValue b v text (inr (inr (sign, is))) e = let k = subst (λ x. Extends x text) is e in (suc k.0, inl (inl (sign, k.1)))
-on Quoted b v [] (inl (quoted, is)) e = absurd (subst (λ x. Extends x []) is e).1
+    let k = subst (λ x. CompletesExtension x text) is e in (k.0, inl (inl (token, k.1)))
+on BeforeValue b v text (inr (inr (sign, is))) e =
+    let k = subst (λ x. CompletesExtension x text) is e in (k.0, inl (inr (sign, k.1)))
+on InValue b v text (inl (blank, is)) e = let k = subst (λ x. CompletesExtension x text) is e in (suc k.0, inl (inr (blank, k.1)))
+on InValue b v text (inr (inl (token, is))) e = let k = subst (λ x. CompletesExtension x text) is e in (k.0, inr (token, k.1))
+on InValue b v text (inr (inr (sign, is))) e =
+    let k = subst (λ x. CompletesExtension x text) is e in (suc k.0, inl (inl (sign, k.1)))
+on Quoted b v [] (inl (quoted, is)) e = absurd (subst (λ x. CompletesExtension x []) is e).1
 on Quoted b v (c ∷ text) (inl (quoted, is)) e =
-    let k = subst (λ x. Extends x (c ∷ text)) is e in (k.0, inr (inl (quoted, k.1)))
-on Quoted b v [] (inr (inl (sign, is))) e = absurd (subst (λ x. Extends x []) is e).1
+    let k = subst (λ x. CompletesExtension x (c ∷ text)) is e in (k.0, inr (inl (quoted, k.1)))
+on Quoted b v [] (inr (inl (sign, is))) e = absurd (subst (λ x. CompletesExtension x []) is e).1
 on Quoted b v (c ∷ text) (inr (inl (sign, is))) e =
-    let k = subst (λ x. Extends x (c ∷ text)) is e in (k.0, inr (inr (sign, k.1.0, k.1.1)))
-on Quoted b v [] (inr (inr (sign, is))) e = let k = subst (λ x. Extends x []) is e in (k.0, (sign, k.1))
+    let k = subst (λ x. CompletesExtension x (c ∷ text)) is e in (k.0, inr (inr (sign, k.1.0, k.1.1)))
+on Quoted b v [] (inr (inr (sign, is))) e = let k = subst (λ x. CompletesExtension x []) is e in (k.0, (sign, k.1))
 on Quoted b v (c ∷ text) (inr (inr (sign, is))) e =
-    let k = subst (λ x. Extends x (c ∷ text)) is e in (k.0, inl (sign, k.1))
-on Escaped b v text (byte, is) e = let k = subst (λ x. Extends x text) is e in (k.0, (byte, k.1))
+    let k = subst (λ x. CompletesExtension x (c ∷ text)) is e in (k.0, inl (sign, k.1))
+on Escaped b v text (byte, is) e = let k = subst (λ x. CompletesExtension x text) is e in (k.0, (byte, k.1))
 
 -- a byte leads to a place, from where the text completes an extension
 pub record StepsOn (w : Within) (b : ℕ) (text : List ℕ) : Type 0 where
   pub next : Within
-  pub steps : Steps w b next
-  pub left : Extends next text
+  pub steps : LeadsOnBy w b next
+  pub left : CompletesExtension next text
 
 -- what a parameter begins with
 abbrev BeginsParameter : ℕ → List ℕ → Type 0
-BeginsParameter b text = (IsBlank b × Extends Blank text) ⊎ ((b ≡ 59) × Extends BeforeName text)
+BeginsParameter b text = (IsBlank b × CompletesExtension Blank text) ⊎ ((b ≡ 59) × CompletesExtension BeforeName text)
 
 parameter_first : (b count : ℕ) (text : List ℕ) → Parameter (Parameters count) (b ∷ text) → BeginsParameter b text
 parameter_first b count text (inl (sign, left)) = inr (sign, (count, left))
@@ -105,26 +110,26 @@ parameters_first b zero text odd = cc
 parameters_first b (suc count) text left = parameter_first b count text left
 
 -- where this leads where a value may have ended
-step_on : (w : Within) (b : ℕ) (text : List ℕ) → (IsBlank b → Steps w b Blank) → ((b ≡ 59) → Steps w b BeforeName)
+step_on : (w : Within) (b : ℕ) (text : List ℕ) → (IsBlank b → LeadsOnBy w b Blank) → ((b ≡ 59) → LeadsOnBy w b BeforeName)
     → BeginsParameter b text → StepsOn w b text
 step_on w b text blanks signs (inl (blank, left)) = record { next = Blank; steps = blanks blank; left = left }
 step_on w b text blanks signs (inr (sign, left)) = record { next = BeforeName; steps = signs sign; left = left }
 
 -- where a byte leads behind a name
-name_on : (w : Within) (b : ℕ) (text : List ℕ) → (IsBlank b → Steps w b BehindName) → ((b ≡ 59) → Steps w b BeforeName)
+name_on : (w : Within) (b : ℕ) (text : List ℕ) → (IsBlank b → LeadsOnBy w b BehindName) → ((b ≡ 59) → LeadsOnBy w b BeforeName)
     → BeginsParameter b text → StepsOn w b text
 name_on w b text blanks signs (inl (blank, left)) =
     record { next = BehindName; steps = blanks blank; left = (left.0, inl left.1) }
 name_on w b text blanks signs (inr (sign, left)) = record { next = BeforeName; steps = signs sign; left = left }
 
-assigned_on : (w : Within) (b count : ℕ) (text : List ℕ) → (IsBlank b → Steps w b BehindName)
-    → ((b ≡ 61) → Steps w b BeforeValue) → Assigned (Parameters count) (b ∷ text) → StepsOn w b text
+assigned_on : (w : Within) (b count : ℕ) (text : List ℕ) → (IsBlank b → LeadsOnBy w b BehindName)
+    → ((b ≡ 61) → LeadsOnBy w b BeforeValue) → Assigned (Parameters count) (b ∷ text) → StepsOn w b text
 assigned_on w b count text blanks signs (inl (sign, left)) =
     record { next = BeforeValue; steps = signs sign; left = (count, left) }
 assigned_on w b count text blanks signs (inr (blank, left)) =
     record { next = BehindName; steps = blanks blank; left = (count, inr left) }
 
-pub first : (w : Within) (b : ℕ) (text : List ℕ) → Extends w (b ∷ text) → StepsOn w b text
+pub first : (w : Within) (b : ℕ) (text : List ℕ) → CompletesExtension w (b ∷ text) → StepsOn w b text
 first Behind b text (count, left) =
     step_on Behind b text (λ is. inl (is, refl)) (λ is. inr (is, refl)) (parameters_first b count text left)
 first Blank b text (count, left) =
@@ -169,7 +174,7 @@ blank_is_text b is = value_is_text b (inl is)
 sign_is_text : (b sign : ℕ) → 32 < sign → b ≡ sign → IsTextByte b
 sign_is_text b sign high is = (λ odd. omega (arith, high, is, odd), λ odd. omega (arith, high, is, odd))
 
-steps_text : (w : Within) (b : ℕ) (v : Within) → Steps w b v → IsTextByte b
+steps_text : (w : Within) (b : ℕ) (v : Within) → LeadsOnBy w b v → IsTextByte b
 steps_text Behind b v (inl (blank, is)) = blank_is_text b blank
 steps_text Behind b v (inr (sign, is)) = sign_is_text b 59 (omega arith) sign
 steps_text Blank b v (inl (blank, is)) = blank_is_text b blank
@@ -194,21 +199,22 @@ steps_text Quoted b v (inr (inl (sign, is))) = sign_is_text b 92 (omega arith) s
 steps_text Quoted b v (inr (inr (sign, is))) = sign_is_text b 34 (omega arith) sign
 steps_text Escaped b v (byte, is) = value_is_text b byte
 
-pub Extends-text : (w : Within) (text : List ℕ) → Extends w text → AllByRecursion IsTextByte text
-Extends-text w [] e = tt
-Extends-text w (b ∷ text) e = let f = first w b text e in (steps_text w b f.next f.steps, Extends-text f.next text f.left)
+pub CompletesExtension-text : (w : Within) (text : List ℕ) → CompletesExtension w text → AllByRecursion IsTextByte text
+CompletesExtension-text w [] e = tt
+CompletesExtension-text w (b ∷ text) e =
+    let f = first w b text e in (steps_text w b f.next f.steps, CompletesExtension-text f.next text f.left)
 
 -- one begins with a blank or a `;`
 pub IsExtension-first : (b : ℕ) (text : List ℕ) → IsExtension (b ∷ text) → IsBlank b ⊎ (b ≡ 59)
 IsExtension-first b text e = elim (parameters_first b e.0 text e.1) [ inl blank ↦ inl blank.0 | inr sign ↦ inr sign.0 ]
 
 -- a byte leads on as the steps say, or nowhere
-pub leads : (w : Within) (b : ℕ) (v : Within) → Steps w b v
-    → (text : List ℕ) → Extends w (b ∷ text) ↔ Extends v text
+pub leads : (w : Within) (b : ℕ) (v : Within) → LeadsOnBy w b v
+    → (text : List ℕ) → CompletesExtension w (b ∷ text) ↔ CompletesExtension v text
 leads w b v s = λ text. (
-  (λ e. let f = first w b text e in subst (λ x. Extends x text) (one_way w b f.next v f.steps s) f.left),
+  (λ e. let f = first w b text e in subst (λ x. CompletesExtension x text) (one_way w b f.next v f.steps s) f.left),
   λ e. on w b v text s e,
 )
 
-pub none : (w : Within) (b : ℕ) → ((v : Within) → Steps w b v → ⊥) → (text : List ℕ) → ¬ Extends w (b ∷ text)
+pub none : (w : Within) (b : ℕ) → ((v : Within) → LeadsOnBy w b v → ⊥) → (text : List ℕ) → ¬ CompletesExtension w (b ∷ text)
 none w b never = λ text e. let f = first w b text e in never f.next f.steps

@@ -9,14 +9,14 @@ use Rattle.chunked.specs.declared.limits.Limits.{Limits}
 use Rattle.chunked.specs.declared.place.Place.{Place}
 use Rattle.chunked.specs.declared.place.Place.TheVariants.{Line, Size, Extension, SizeFeed, Data, DataFeed, Fields, FieldName, FieldValue, FieldFeed, LastFeed}
 use Rattle.chunked.specs.Token.{IsTokenByte, IsValueByte}
-use Rattle.chunked.specs.Within.{Extends}
-use Rattle.chunked.specs.WithinLaws.{Extends-text}
+use Rattle.chunked.specs.Within.{CompletesExtension}
+use Rattle.chunked.specs.WithinLaws.{CompletesExtension-text}
 use Rattle.chunked.specs.declared.extension.Within.{Within}
 use Rattle.chunked.specs.declared.extension.Within.TheVariants.{Behind}
-use Rattle.chunked.specs.Body.{line_end, IsSizeLine, IsTrailers, IsField, IsBody, fields_bytes}
+use Rattle.chunked.specs.Body.{line_end, IsSizeLine, IsTrailers, IsField, IsBodyOfChunks, fields_bytes}
 use Rattle.chunked.specs.BodyLaws.{digit_is_text, extension_no_digit}
 use Rattle.chunked.specs.FieldLaws.{IsField-first, IsField-next, IsField-none, IsField-value, token_is_text, token_plain, value_is_text}
-use Rattle.chunked.specs.Place.{Completes, CompletesData, CompletesSize, EndsLine, Feeds, IsWrong}
+use Rattle.chunked.specs.Place.{Completes, CompletesData, CompletesSize, EndsLine, IsWrong, LineFeedThen}
 use Rattle.chunked.specs.LineLaws.{line_of}
 
 value_grows : (n : ℕ) (digits : List ℕ) → n ≤ digits_value_after 16 n digits
@@ -26,7 +26,8 @@ value_grows n (d ∷ digits) = omega (arith, value_grows (n * 16 + digit_value d
 -- what may stand first in an extension: what goes on with it, or the end of the line
 abbrev OfExtension : Within → ℕ → ℕ → Type 0
 OfExtension within b room =
-    ((b ≡ 13) × Extends within []) ⊎ ((text : List ℕ) × Extends within (b ∷ text) × (length (b ∷ text) ≤ room))
+    ((b ≡ 13) × CompletesExtension within []) ⊎ ((text : List ℕ) × CompletesExtension within (b ∷ text)
+    × (length (b ∷ text) ≤ room))
 
 -- what may stand behind digits of a size: a further one, or what may stand first in an extension
 abbrev OfSize : ℕ → ℕ → ℕ → Type 0
@@ -45,16 +46,17 @@ module _ (limits : Limits) where
         omega (arith, h.fits, ap length h.equal, length-append h.digits h.extension, ap length is),
       )
 
-  line_first : (b : ℕ) (rest payload : List ℕ) → IsBody limits (b ∷ rest) payload → (digit_value b < 16) × (0 < limits.line)
+  line_first : (b : ℕ) (rest payload : List ℕ) → IsBodyOfChunks limits (b ∷ rest) payload
+      → (digit_value b < 16) × (0 < limits.line)
   line_first b rest payload body =
       let line = line_of limits (b ∷ rest) payload body in
       first_of_line b rest line.text line.behind line.size_line.digits line.size line.size_line refl line.equal
 
   extension_first : (within : Within) (b room : ℕ) (rest text behind : List ℕ) → b ∷ rest ≡ text ++ line_end behind
-      → Extends within text → length text ≤ room → OfExtension within b room
+      → CompletesExtension within text → length text ≤ room → OfExtension within b room
   extension_first within b room rest [] behind same e fits = inl (cc, e)
   extension_first within b room rest (x ∷ text) behind same e fits =
-      let head : x ≡ b = cc in inr (text, subst (λ y. Extends within (y ∷ text)) head e, omega (arith, fits))
+      let head : x ≡ b = cc in inr (text, subst (λ y. CompletesExtension within (y ∷ text)) head e, omega (arith, fits))
 
   size_first : (b number room : ℕ) (rest payload digits : List ℕ) → (c : CompletesSize limits number room (b ∷ rest) payload)
       → c.digits ≡ digits → OfSize number b room
@@ -129,16 +131,16 @@ module _ (limits : Limits) where
       let same : b ∷ rest ≡ line_end c.behind = c.equal ∙ ap (λ l. l ++ line_end c.behind) is in cc
   data_first b rest payload (x ∷ front) c is = absurd (omega (arith, c.many, ap length is))
 
-  feed_first : (P : List ℕ → Type 0) (b : ℕ) (rest : List ℕ) → Feeds P (b ∷ rest) → b ≡ 10
+  feed_first : (P : List ℕ → Type 0) (b : ℕ) (rest : List ℕ) → LineFeedThen P (b ∷ rest) → b ≡ 10
   feed_first P b rest f = let same = f.1 in cc
 
   wrong_extension : (within : Within) (size room b : ℕ) (why : Malformed) → IsWrong limits (Extension within size room) b why
       → OfExtension within b room → ⊥
   wrong_extension within size room b LineTooLong wrong (inl ends) =
-      (Extends-text within (b ∷ wrong.text) wrong.extends).0.0 ends.0
+      (CompletesExtension-text within (b ∷ wrong.text) wrong.extends).0.0 ends.0
   wrong_extension within size room b LineTooLong wrong (inr goes) = omega (arith, wrong.over goes.0 goes.1, goes.2)
   wrong_extension within size room b BareFeed wrong (inl ends) = omega (arith, wrong, ends.0)
-  wrong_extension within size room b BareFeed wrong (inr goes) = (Extends-text within (b ∷ goes.0) goes.1).0.1 wrong
+  wrong_extension within size room b BareFeed wrong (inr goes) = (CompletesExtension-text within (b ∷ goes.0) goes.1).0.1 wrong
   wrong_extension within size room b BadSize wrong (inl ends) = wrong.no_return ends.0 ends.1
   wrong_extension within size room b BadSize wrong (inr goes) = wrong.none goes.0 goes.1
   wrong_extension within size room b why wrong first = absurd wrong

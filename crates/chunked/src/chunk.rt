@@ -6,7 +6,7 @@ ghost use Rattle.buffer_redux.specs.StreamLog.{portion};
 ghost use Rattle.buffer_redux.specs.WriteParts.{PutsIn, room};
 ghost use Rattle.chunked.specs.Body.{line_end};
 ghost use Rattle.chunked.specs.Chunk.{chunk, chunk_begun, chunk_end, size_digits};
-ghost use Rattle.chunked.specs.ChunkedWriter.{MakesSpace, TakesPart, around};
+ghost use Rattle.chunked.specs.ChunkedWriter.{MakesSpace, TakesSome, around};
 
 use buffer_redux::BufWriter;
 use buffer_redux::tell::{Call, CallLog, TellWrite};
@@ -109,7 +109,7 @@ pub fn put_line<W: TellWrite>(writer: &mut BufWriter<W>, wire: &mut CallLog, siz
 // they don't fit behind that; and else past it, by one write.
 fn take<W: TellWrite>(writer: &mut BufWriter<W>, part: &[u8]) -> io::Result<usize>
     ensures bound { WritesAtMost result part.now }
-    ensures takes { TakesPart W.log W.trace writer.old part.now result writer.new }
+    ensures takes { TakesSome W.log W.trace writer.old part.now result writer.new }
 {
     match make_space(writer, part.len() + 2) {
         Ok(()) => {
@@ -131,7 +131,7 @@ pub fn take_part<W: TellWrite>(
     part: &[u8],
 ) -> io::Result<usize>
     ensures bound { WritesAtMost result part.now }
-    ensures takes { TakesPart W.log W.trace writer.old part.now result writer.new }
+    ensures takes { TakesSome W.log W.trace writer.old part.now result writer.new }
     ensures wire { wire.new.log.writes.received ≡ wire.old.log.writes.received ++ portion part.now result }
 {
     let answer = take(writer, part);

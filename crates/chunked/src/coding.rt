@@ -2,7 +2,7 @@
 ghost use Rattle.std.specs.Prelude.{◌≡◌};
 ghost use Rattle.body_reader.specs.Coding.{Looks};
 ghost use Rattle.chunked.specs.Coding.{chunked};
-ghost use Rattle.chunked.specs.Place.{IsPlace, IsSettled};
+ghost use Rattle.chunked.specs.Place.{IsDataOrDone, IsPlace};
 
 use crate::error::Malformed;
 use crate::frame::frame;
@@ -112,7 +112,7 @@ impl Coding for Chunked {
 #[inline(never)]
 fn look_on(limits: &Limits, place: Place, shown: &[u8]) -> Look<Place, Malformed>
     requires place { IsPlace place }
-    requires open { ¬ IsSettled place }
+    requires open { ¬ IsDataOrDone place }
     ensures { Looks (chunked limits.now) place shown.now result }
 {
     if shown.is_empty() {

@@ -1,6 +1,6 @@
 //! Where in an extension of the line of a size a reader stands, and where a byte leads from there.
 ghost use Rattle.std.specs.Prelude.{◌≡◌, ℕ, ◌≤◌, ◌↔◌, List, [], ◌∷◌, length, MatchOption, IsTrue};
-ghost use Rattle.chunked.specs.Within.{Extends};
+ghost use Rattle.chunked.specs.Within.{CompletesExtension};
 
 use crate::token::{is_token_byte, is_value_byte};
 
@@ -30,8 +30,8 @@ pub enum Within {
 impl Within {
     /// Where a byte leads: just what completes an extension from there completes it here, with the byte in front. Or none does.
     pub fn next(self, byte: u8) -> Option<Within>
-        ensures { MatchOption result ((text : List ℕ) → ¬ Extends self (byte ∷ text))
-            (λ next. (text : List ℕ) → Extends self (byte ∷ text) ↔ Extends next text) }
+        ensures { MatchOption result ((text : List ℕ) → ¬ CompletesExtension self (byte ∷ text))
+            (λ next. (text : List ℕ) → CompletesExtension self (byte ∷ text) ↔ CompletesExtension next text) }
     {
         match self {
             Within::Blank | Within::Behind => match byte {
@@ -82,7 +82,7 @@ impl Within {
 
     /// Whether an extension may end there.
     pub fn may_end(self) -> bool
-        ensures { IsTrue result ↔ Extends self [] }
+        ensures { IsTrue result ↔ CompletesExtension self [] }
     {
         match self {
             Within::Behind | Within::InName | Within::InValue => true,
@@ -92,8 +92,8 @@ impl Within {
 
     /// How many bytes complete an extension from there, at least.
     pub fn least(self) -> usize
-        ensures so_many { (text : List ℕ) × Extends self text × (length text ≡ result) }
-        ensures none_less { (other : List ℕ) → Extends self other → result ≤ length other }
+        ensures so_many { (text : List ℕ) × CompletesExtension self text × (length text ≡ result) }
+        ensures none_less { (other : List ℕ) → CompletesExtension self other → result ≤ length other }
     {
         match self {
             Within::InName | Within::InValue | Within::Behind => 0,

@@ -5,7 +5,7 @@ ghost use Rattle.buffer_redux.specs.Buffered.{Buffered};
 ghost use Rattle.buffer_redux.specs.declared.policy.StdPolicy.{StdPolicy};
 ghost use Rattle.body_reader.specs.BodyReader.{handed_of};
 ghost use Rattle.body_reader.specs.Given.{HandsGiven};
-ghost use Rattle.chunked.specs.Body.{IsBody, IsField, fields_bytes};
+ghost use Rattle.chunked.specs.Body.{IsBodyOfChunks, IsField, fields_bytes};
 ghost use Rattle.chunked.specs.ChunkedWriter.{LetsThrough};
 ghost use Rattle.chunked.specs.Coding.{chunked};
 ghost use Rattle.chunked.specs.Place.{IsWrong};
@@ -22,7 +22,7 @@ use buffer_redux::tell::{TellRead, TellWrite};
 
 /// No body begins another: what bytes begin with a body settles where it ends, and its payload, whatever the limits are.
 pub fn one_body()
-    ensures { (l m : Limits) (a b p q xs ys : List ℕ) → IsBody l a p → IsBody m b q → a ++ xs ≡ b ++ ys
+    ensures { (l m : Limits) (a b p q xs ys : List ℕ) → IsBodyOfChunks l a p → IsBodyOfChunks m b q → a ++ xs ≡ b ++ ys
         → (a ≡ b) × (p ≡ q) × (xs ≡ ys) }
 {}
 
@@ -42,8 +42,8 @@ pub fn one_name()
 /// what was handed out.
 pub fn taken_begins<R: TellRead, P: ReaderPolicy>(reader: &ChunkedReader<R, P>)
     ensures right { 0 < reader.now.coding.0.line → (rest payload : List ℕ)
-        × IsBody reader.now.coding.0 (reader.now.taken ++ rest) (handed_of reader.now ++ payload) }
-    ensures payload { (rest whole : List ℕ) → IsBody reader.now.coding.0 (reader.now.taken ++ rest) whole
+        × IsBodyOfChunks reader.now.coding.0 (reader.now.taken ++ rest) (handed_of reader.now ++ payload) }
+    ensures payload { (rest whole : List ℕ) → IsBodyOfChunks reader.now.coding.0 (reader.now.taken ++ rest) whole
         → (payload : List ℕ) × (whole ≡ handed_of reader.now ++ payload) }
 {
     let _ = reader.get_ref();
@@ -54,7 +54,7 @@ pub fn taken_begins<R: TellRead, P: ReaderPolicy>(reader: &ChunkedReader<R, P>)
 pub fn written_body<W: TellWrite>(writer: &ChunkedWriter<W>)
     ensures { (first last : Buffered W StdPolicy) (payload : List ℕ) (fields : List (List ℕ)) (wrote : List ℕ) (limits : Limits)
         → WroteBody W.log W.trace first payload fields writer.now last wrote → LetsThrough fields limits
-        → IsBody limits wrote payload }
+        → IsBodyOfChunks limits wrote payload }
 {}
 
 /// What was written and finished so is what a reader hands out that it is given to, and then what follows, however both streams

@@ -2,7 +2,7 @@
 ghost use Rattle.std.specs.Prelude.{◌≡◌, ◌≢◌, ◌^◌, ◌<◌, ◌≤◌, ◌↔◌, length, take, Ok, IfOk, IfErr, IsTrue};
 ghost use Rattle.std.specs.Char.{digit_value};
 ghost use Rattle.std.specs.Option.{SomeIff};
-ghost use Rattle.chunked.specs.Place.{Advances, IsPlace, IsSettled, Passes, StepsOver};
+ghost use Rattle.chunked.specs.Place.{Advances, IsDataOrDone, IsPlace, PassesAlong, StepsOver};
 
 use crate::error::Malformed;
 use crate::extension::Within;
@@ -158,7 +158,7 @@ fn feed(byte: u8, behind: Place) -> Result<Place, Malformed>
 // Goes on by one byte.
 fn step(limits: &Limits, place: Place, byte: u8) -> Result<Place, Malformed>
     requires place { IsPlace place }
-    requires open { ¬ IsSettled place }
+    requires open { ¬ IsDataOrDone place }
     ensures { StepsOver limits.now place byte result }
 {
     match place {
@@ -179,7 +179,7 @@ fn step(limits: &Limits, place: Place, byte: u8) -> Result<Place, Malformed>
 
 // Whether a payload or nothing comes next.
 pub fn is_settled(place: Place) -> bool
-    ensures { IsTrue result ↔ IsSettled place }
+    ensures { IsTrue result ↔ IsDataOrDone place }
 {
     match place {
         Place::Data(left) => left > 0,

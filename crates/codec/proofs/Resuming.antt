@@ -5,9 +5,9 @@ use Rattle.std.specs.declared.io.Error.{Error}
 use Rattle.buffer_redux.specs.Faults.{IsInterrupt}
 use Rattle.buffer_redux.specs.StreamLog.{StreamLog}
 use Rattle.piece_reader.specs.Grammar.{Grammar}
-use Rattle.codec.specs.Serving.{Server, Serves, Stops}
+use Rattle.codec.specs.Serving.{Server, Serves, ServingFails}
 use Rattle.codec.specs.ServingAll.{Resumes, ServesAll}
-use Rattle.codec.specs.ServingAllLaws.{Exchanged-joins, Exchanged-none, FlushedAlong-all, Stops-read}
+use Rattle.codec.specs.ServingAllLaws.{Exchanged-joins, Exchanged-none, FlushedAlong-all, ServingFails-read}
 use Rattle.codec.specs.declared.serving.ServeError.{ServeError}
 use Rattle.codec.specs.declared.serving.ServeError.TheVariants.{Read}
 use Rattle.codec.specs.declared.serving.Served.{Served}
@@ -26,12 +26,12 @@ module _ {S D W I A F T P : Type 0} (remaining : S → Option (List ℕ)) (tells
   module _ (joins : (u v w : T) → trace u v → trace v w → trace u w) (count : ℕ) (s m : Server S D A T P)
       (r : Resumes remaining tells trace g item_of Answers Fails count s m) (t : Server S D A T P) where
     -- one more was
-    pub resumes_more : (e : Error) → IsInterrupt e → Stops remaining tells trace g item_of Answers Fails m (Read e) t
+    pub resumes_more : (e : Error) → IsInterrupt e → ServingFails remaining tells trace g item_of Answers Fails m (Read e) t
         → Resumes remaining tells trace g item_of Answers Fails (count + 1) s t
     resumes_more e is f = record {
       exchanges = f.exchanges ++ r.exchanges;
       exchanged = Exchanged-joins remaining tells trace g item_of Answers joins s m t r.exchanges f.exchanges true r.exchanged
-          (Stops-read remaining tells trace g item_of Answers Fails joins m e t f).0;
+          (ServingFails-read remaining tells trace g item_of Answers Fails joins m e t f).0;
       interrupted = rw add-one (m, r.interrupted, e, is, f);
     }
 
@@ -55,8 +55,8 @@ module _ {S D W I A F T P : Type 0} (remaining : S → Option (List ℕ)) (tells
 pub stops_so : {S D W I A F T P : Type 0} (remaining : S → Option (List ℕ)) (tells : T → StreamLog) (trace : T → T → Type 0)
     (g : D → Grammar W) (item_of : D → List ℕ → I) (Answers : A → I → List ℕ → List ℕ → Bool → A → Type 0)
     (Fails : A → I → List ℕ → F → A → Type 0) (d d' : D) (m t : Server S D A T P) (e e' : ServeError W F) → d' ≡ d → e ≡ e'
-    → Stops remaining tells trace (g d') (item_of d') Answers Fails m e t
-    → Stops remaining tells trace (g d) (item_of d) Answers Fails m e' t
+    → ServingFails remaining tells trace (g d') (item_of d') Answers Fails m e t
+    → ServingFails remaining tells trace (g d) (item_of d) Answers Fails m e' t
 stops_so remaining tells trace g item_of Answers Fails d d' m t e e' same is f =
-    subst (λ x. Stops remaining tells trace (g d) (item_of d) Answers Fails m x t) is
-    (subst (λ x. Stops remaining tells trace (g x) (item_of x) Answers Fails m e t) same f)
+    subst (λ x. ServingFails remaining tells trace (g d) (item_of d) Answers Fails m x t) is
+    (subst (λ x. ServingFails remaining tells trace (g x) (item_of x) Answers Fails m e t) same f)

@@ -3,7 +3,7 @@ use Rattle.std.proofs.Common.{◌≡◌, ◌⊎◌, ℕ, List, Bool, Option, Res
 use Rattle.std.specs.declared.io.Error.{Error}
 use Rattle.buffer_redux.specs.Buffered.{Buffered}
 use Rattle.buffer_redux.specs.StreamLog.{StreamLog}
-use Rattle.codec.specs.Answering.{Answered}
+use Rattle.codec.specs.Answering.{WasAnswered}
 use Rattle.codec.specs.declared.answering.AnswerError.{AnswerError}
 use Rattle.codec.specs.declared.answering.AnswerError.TheVariants.{Failed, Write}
 use Rattle.piece_reader.specs.declared.decoder.Span.{Span}
@@ -40,7 +40,7 @@ module _ {S D W I A F T P : Type 0} (remaining : S → Option (List ℕ)) (tells
       (subst (λ l. Answers s.service said.0 l reply more after) lent a)
 
   -- the piece was answered
-  pub took_piece : (b more : Bool) → b ≡ more → Answered tells trace (Answers s.service said.0 shown)
+  pub took_piece : (b more : Bool) → b ≡ more → WasAnswered tells trace (Answers s.service said.0 shown)
       (Fails s.service said.0 shown) ready (Ok b) after last
       → (x : Exchange) × TookPiece remaining tells trace g item_of Answers s x more (server t after last)
   took_piece b more same (reply, a, written) = (
@@ -56,11 +56,11 @@ module _ {S D W I A F T P : Type 0} (remaining : S → Option (List ℕ)) (tells
 
   -- the piece couldn't be answered
   pub answer_failed : (r : AnswerError F) (e : Error) → r ≡ Write e
-      → Answered tells trace (Answers s.service said.0 shown) (Fails s.service said.0 shown) ready (Err r) after last
+      → WasAnswered tells trace (Answers s.service said.0 shown) (Fails s.service said.0 shown) ready (Err r) after last
       → FlushFailed remaining tells trace g item_of Answers s e (server t after last)
       ⊎ ((x : Exchange) × AnswerFailed remaining tells trace g item_of Answers s x e (server t after last))
   answer_failed r e why answered =
-      let failed = subst (λ r. Answered tells trace (Answers s.service said.0 shown) (Fails s.service said.0 shown) ready
+      let failed = subst (λ r. WasAnswered tells trace (Answers s.service said.0 shown) (Fails s.service said.0 shown) ready
       (Err r) after last) why answered in inr (
         exchange failed.0,
         record {
@@ -74,10 +74,10 @@ module _ {S D W I A F T P : Type 0} (remaining : S → Option (List ℕ)) (tells
 
   -- the service failed
   pub service_failed : (r : AnswerError F) (why : F) → r ≡ Failed why
-      → Answered tells trace (Answers s.service said.0 shown) (Fails s.service said.0 shown) ready (Err r) after last
+      → WasAnswered tells trace (Answers s.service said.0 shown) (Fails s.service said.0 shown) ready (Err r) after last
       → ServiceFailed remaining tells trace g item_of Answers Fails s why (server t after last)
   service_failed r why same answered =
-      let failed = subst (λ r. Answered tells trace (Answers s.service said.0 shown) (Fails s.service said.0 shown) ready
+      let failed = subst (λ r. WasAnswered tells trace (Answers s.service said.0 shown) (Fails s.service said.0 shown) ready
       (Err r) after last) same answered in
       subst (λ v. ServiceFailed remaining tells trace g item_of Answers Fails s why (server t after v)) (sym failed.1) (record {
         payload = bytes_at said.1 t.reader.block.bytes;

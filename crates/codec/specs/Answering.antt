@@ -22,13 +22,13 @@ WritesOnce tells trace w bytes v = WritesParts tells trace w bytes (Ok tt) v ⊎
 
 -- at Ok such an answer was written, and it says whether a further piece is taken; at `Write` there was one, which one write of
 -- parts refused; at `Failed` there was such a failure. Nothing else was done to the writer
-abbrev pub Answered : {A T P F : Type 0} → (T → StreamLog) → (T → T → Type 0) → (List ℕ → Bool → A → Type 0)
+abbrev pub WasAnswered : {A T P F : Type 0} → (T → StreamLog) → (T → T → Type 0) → (List ℕ → Bool → A → Type 0)
     → (F → A → Type 0) → Buffered T P → Result Bool (AnswerError F) → A → Buffered T P → Type 0
-Answered tells trace Answers Fails w (Ok more) t v =
+WasAnswered tells trace Answers Fails w (Ok more) t v =
     (answer : List ℕ) × Answers answer more t × WritesOnce tells trace w answer v
-Answered tells trace Answers Fails w (Err (Write e)) t v =
+WasAnswered tells trace Answers Fails w (Err (Write e)) t v =
     (answer : List ℕ) × (more : Bool) × Answers answer more t × WritesParts tells trace w answer (Err e) v
-Answered tells trace Answers Fails w (Err (Failed why)) t v = Fails why t × (v ≡ w)
+WasAnswered tells trace Answers Fails w (Err (Failed why)) t v = Fails why t × (v ≡ w)
 
 -- what a service fails by that can't fail
 abbrev pub NeverFails : {A I : Type 0} → A → I → List ℕ → Infallible → A → Type 0

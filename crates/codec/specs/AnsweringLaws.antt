@@ -6,7 +6,7 @@ use Rattle.buffer_redux.specs.BufWriter.{WritesAlong}
 use Rattle.buffer_redux.specs.Policy.{std_write_rules}
 use Rattle.buffer_redux.specs.StreamLog.{StreamLog}
 use Rattle.buffer_redux.specs.WritesAlongLaws.{WritesAlong-none}
-use Rattle.codec.specs.Answering.{Answered, AnswersBy, WritesOnce}
+use Rattle.codec.specs.Answering.{AnswersBy, WasAnswered, WritesOnce}
 use Rattle.codec.specs.declared.answering.AnswerError.{AnswerError}
 use Rattle.codec.specs.declared.answering.AnswerError.TheVariants.{Write, Failed}
 
@@ -14,7 +14,7 @@ module _ {T P : Type 0} (tells : T → StreamLog) (trace : T → T → Type 0) (
   -- an answer that was written, or refused, and is one to the piece
   pub AnswersBy-answered : {A F : Type 0} (Answers : List ℕ → Bool → A → Type 0) (Fails : F → A → Type 0) (answer : List ℕ)
       (more : Bool) (t : A) → Answers answer more t → (result : Result Bool (AnswerError F))
-      → AnswersBy tells trace answer more w result v → Answered tells trace Answers Fails w result t v
+      → AnswersBy tells trace answer more w result v → WasAnswered tells trace Answers Fails w result t v
   AnswersBy-answered Answers Fails answer more t says (Ok further) (is, written) =
       (answer, subst (λ b. Answers answer b t) (sym is) says, inl written)
   AnswersBy-answered Answers Fails answer more t says (Err (Write e)) written = (answer, more, says, written)

@@ -8,7 +8,7 @@ use Rattle.piece_reader.specs.declared.decoder.End.{End}
 use Rattle.piece_reader.specs.declared.decoder.End.TheVariants as end
 use Rattle.piece_reader.specs.declared.decoder.Found.{Found}
 use Rattle.piece_reader.specs.declared.decoder.Found.TheVariants as found
-use Rattle.piece_reader.specs.Decoding.{Decodes, Ends, OnMore, bytes_at}
+use Rattle.piece_reader.specs.Decoding.{Decodes, DecodesAtEnd, OnMore, bytes_at}
 use Rattle.codec.specs.FirstByte.{OnFirst, by_first, either, either_notes, end_as, found_as, renamed}
 use Rattle.piece_reader.specs.Grammar.{Grammar, IsLawful, IsOpen}
 use Rattle.piece_reader.specs.GrammarLaws.{open_none}
@@ -47,7 +47,7 @@ module _ {V W : Type 0} (f : V → W) (g : Grammar V) where
       (few, most, λ more short. open_renamed (bytes ++ more) (lacks more short))
   renamed_decodes bytes (found.Wrong e) is = (e, is, refl)
 
-  pub renamed_ends : (bytes : List ℕ) (is : End V) → Ends g bytes is → Ends (renamed f g) bytes (end_as f is)
+  pub renamed_ends : (bytes : List ℕ) (is : End V) → DecodesAtEnd g bytes is → DecodesAtEnd (renamed f g) bytes (end_as f is)
   renamed_ends bytes (end.Last span) is = is
   renamed_ends bytes (end.Wrong e) is = (e, is, refl)
 
@@ -158,8 +158,8 @@ module _ {W : Type 0} (most : ℕ) (of_byte : ℕ → Grammar W) (room : 0 < mos
         (few, omega (arith, room_for, fits), λ more short. open_first (bytes ++ more) (lacks more short))
     first_decodes fits bytes (found.Wrong e) is = is
 
-    pub first_ends : (bytes : List ℕ) (is : End W) → Ends (of_byte byte) (byte ∷ bytes) is
-        → Ends (by_first most of_byte) (byte ∷ bytes) is
+    pub first_ends : (bytes : List ℕ) (is : End W) → DecodesAtEnd (of_byte byte) (byte ∷ bytes) is
+        → DecodesAtEnd (by_first most of_byte) (byte ∷ bytes) is
     first_ends bytes (end.Last span) is = is
     first_ends bytes (end.Wrong e) is = is
 
@@ -235,11 +235,11 @@ module _ {V W : Type 0} (byte : ℕ) (g : Grammar V) (h : Grammar W) (one_law : 
         (subst (λ x. Decodes (side g h x) (first ∷ bytes) found) (sym is) decodes)
 
     pub side_ends : (bytes : List ℕ) → 0 < length bytes → (slice_index bytes 0 == byte) ≡ b
-        → (is : End (EitherWrong V W)) → Ends (side g h b) bytes is → Ends (either byte g h) bytes is
+        → (is : End (EitherWrong V W)) → DecodesAtEnd (side g h b) bytes is → DecodesAtEnd (either byte g h) bytes is
     side_ends [] some is end ends = absurd (omega (arith, some))
     side_ends (first ∷ bytes) some is end ends =
         first_ends (max g.most h.most) (one_or byte g h) room laws first bytes end
-        (subst (λ x. Ends (side g h x) (first ∷ bytes) end) (sym is) ends)
+        (subst (λ x. DecodesAtEnd (side g h x) (first ∷ bytes) end) (sym is) ends)
 
   -- a piece of either has a first byte
   pub either_some : (bytes : List ℕ) → IsWhole (either byte g h) bytes → 0 < length bytes

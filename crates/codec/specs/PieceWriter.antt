@@ -35,7 +35,7 @@ pub record IsUnused {S E : Type 0} (tells : S → StreamLog) (least most : ℕ) 
 
 -- made over this buffer and stream: just what the buffer has is not sent yet. A plain buffer in which three pieces fit is the
 -- writer's
-pub record IsOver {S E : Type 0} (tells : S → StreamLog) (most : ℕ) (buffer : Block) (stream : S) (maker : E)
+pub record IsMadeOver {S E : Type 0} (tells : S → StreamLog) (most : ℕ) (buffer : Block) (stream : S) (maker : E)
     (f : WriterState S E) : Type 0 where
   pub left : unbuffered f.writer ≡ record { left = buffer.bytes; inner = stream; log = tells stream }
   pub encoder : f.encoder ≡ maker

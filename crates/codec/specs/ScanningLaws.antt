@@ -26,7 +26,7 @@ module _ {S : Type 0} (go : S → ℕ → ScanStep S) where
       (λ next is'. stays left next (used + 1) bs more x isnt is') is
 
   -- where a header ends
-  record Ends (left : ℕ) (s : S) (before : ℕ) (bytes : List ℕ) (len used : ℕ) : Type 0 where
+  record EndsHeader (left : ℕ) (s : S) (before : ℕ) (bytes : List ℕ) (len used : ℕ) : Type 0 where
     pub count : ℕ
     pub all : used ≡ before + suc count
     pub inside : suc count ≤ length bytes
@@ -34,9 +34,9 @@ module _ {S : Type 0} (go : S → ℕ → ScanStep S) where
     pub again : scan_on go left s before (take (suc count) bytes) ≡ Sized len used
 
   ends_more : (t : ScanStep S) (left : ℕ) (s : S) (before : ℕ) (b : ℕ) (bs : List ℕ) (len used : ℕ) → go s b ≡ t
-      → ((next : S) → scan_on go left next (before + 1) bs ≡ Sized len used → Ends left next (before + 1) bs len used)
+      → ((next : S) → scan_on go left next (before + 1) bs ≡ Sized len used → EndsHeader left next (before + 1) bs len used)
       → says t (before + 1) (λ next. scan_on go left next (before + 1) bs) ≡ Sized len used
-      → Ends (suc left) s before (b ∷ bs) len used
+      → EndsHeader (suc left) s before (b ∷ bs) len used
   ends_more (turn.More next) left s before b bs len used turns later is =
       let e = later next is in record {
         count = suc e.count;
@@ -58,7 +58,7 @@ module _ {S : Type 0} (go : S → ℕ → ScanStep S) where
       (let odd : ◌≡◌ {A = Header} Bad (Sized len used) = is in cc)
 
   ends : (left : ℕ) (s : S) (before : ℕ) (bytes : List ℕ) (len used : ℕ) → scan_on go left s before bytes ≡ Sized len used
-      → Ends left s before bytes len used
+      → EndsHeader left s before bytes len used
   ends zero s before bytes len used is = (let odd : ◌≡◌ {A = Header} Bad (Sized len used) = is in cc)
   ends (suc left) s before [] len used is = (let odd : ◌≡◌ {A = Header} Short (Sized len used) = is in cc)
   ends (suc left) s before (b ∷ bs) len used is =

@@ -35,9 +35,9 @@ pub record Exchange : Type 0 where
   pub reply : List ℕ
 
 -- a part of each exchange, joined; the latest is first
-abbrev pub joined : (Exchange → List ℕ) → List Exchange → List ℕ
-joined part [] = []
-joined part (x ∷ earlier) = joined part earlier ++ part x
+abbrev pub joined_parts : (Exchange → List ℕ) → List Exchange → List ℕ
+joined_parts part [] = []
+joined_parts part (x ∷ earlier) = joined_parts part earlier ++ part x
 
 -- each piece was answered, one after another: by its item, its payload, what is written for it, and whether a further one is
 -- taken behind it
@@ -104,7 +104,7 @@ module _ {S D W I A T P : Type 0} (remaining : S → Option (List ℕ)) (tells :
   EndedBy served.End exchanges more s t = (more ≡ true) × TookNone s (Ok None) t
   EndedBy served.Many exchanges more s t = (more ≡ true) × (2 ^ 64 ≤ length exchanges + 1) × (s ≡ t)
 
-  pub record Ends (s : Server S D A T P) (ended : Served) (t : Server S D A T P) : Type 0 where
+  pub record ServingEnds (s : Server S D A T P) (ended : Served) (t : Server S D A T P) : Type 0 where
     pub exchanges : List Exchange
     pub more : Bool
     pub last : Server S D A T P
@@ -115,11 +115,11 @@ module _ {S D W I A T P : Type 0} (remaining : S → Option (List ℕ)) (tells :
   -- all answers were received and flushed
   pub record Serves (s : Server S D A T P) (ended : Served) (t : Server S D A T P) : Type 0 where
     pub answers : Buffered T P
-    pub ends : Ends s ended (server t.pieces t.service answers)
+    pub ends : ServingEnds s ended (server t.pieces t.service answers)
     pub last : WasFlushed tells trace answers (Ok tt) t.answers
-    pub taken : PiecesWent remaining g.most s.pieces (joined (λ x. x.bytes) ends.exchanges) t.pieces
+    pub taken : PiecesWent remaining g.most s.pieces (joined_parts (λ x. x.bytes) ends.exchanges) t.pieces
     pub service : Converses item_of Answers s.service ends.exchanges ends.more t.service
-    pub all : FlushedAlong tells trace std_write_rules s.answers (joined (λ x. x.reply) ends.exchanges) t.answers
+    pub all : FlushedAlong tells trace std_write_rules s.answers (joined_parts (λ x. x.reply) ends.exchanges) t.answers
 
   module _ {F : Type 0} (Fails : A → I → List ℕ → F → A → Type 0) where
     -- a piece was taken, and the service failed at it; nothing was written for it
@@ -129,29 +129,29 @@ module _ {S D W I A T P : Type 0} (remaining : S → Option (List ℕ)) (tells :
       pub fails : Fails s.service (item_of fetched.next.bytes) payload why t.service
 
     -- what one turn does
-    abbrev pub Turns : Server S D A T P → Result Step (ServeError W F) → Server S D A T P → Type 0
-    Turns s (Ok step.Went) t = (x : Exchange) × TookPiece s x true t
-    Turns s (Ok step.Closed) t = (x : Exchange) × TookPiece s x false t
-    Turns s (Ok step.End) t = TookNone s (Ok None) t
-    Turns s (Err (Read e)) t = TookNone s (Err (next.Io e)) t
-    Turns s (Err (Wrong e)) t = TookNone s (Err (next.Wrong e)) t
-    Turns s (Err (Write e)) t = FlushFailed s e t ⊎ ((x : Exchange) × AnswerFailed s x e t)
-    Turns s (Err (Failed why)) t = ServiceFailed s why t
-    Turns s (Err (Flush ended e)) t = ⊥
+    abbrev pub ServesTurn : Server S D A T P → Result Step (ServeError W F) → Server S D A T P → Type 0
+    ServesTurn s (Ok step.Went) t = (x : Exchange) × TookPiece s x true t
+    ServesTurn s (Ok step.Closed) t = (x : Exchange) × TookPiece s x false t
+    ServesTurn s (Ok step.End) t = TookNone s (Ok None) t
+    ServesTurn s (Err (Read e)) t = TookNone s (Err (next.Io e)) t
+    ServesTurn s (Err (Wrong e)) t = TookNone s (Err (next.Wrong e)) t
+    ServesTurn s (Err (Write e)) t = FlushFailed s e t ⊎ ((x : Exchange) × AnswerFailed s x e t)
+    ServesTurn s (Err (Failed why)) t = ServiceFailed s why t
+    ServesTurn s (Err (Flush ended e)) t = ⊥
 
     -- how they failed: the flush behind an end did, or a turn
     abbrev pub FailedBy : ServeError W F → List Exchange → Bool → Server S D A T P → Server S D A T P → Type 0
     FailedBy (Flush ended e) exchanges more s t = (m : Server S D A T P) × EndedBy ended exchanges more s m
         × (t.pieces ≡ m.pieces) × (t.service ≡ m.service) × WasFlushed tells trace m.answers (Err e) t.answers
-    FailedBy e exchanges more s t = (more ≡ true) × Turns s (Err e) t
+    FailedBy e exchanges more s t = (more ≡ true) × ServesTurn s (Err e) t
 
     -- serving failed: exchanges, and then that
-    pub record Stops (s : Server S D A T P) (e : ServeError W F) (t : Server S D A T P) : Type 0 where
+    pub record ServingFails (s : Server S D A T P) (e : ServeError W F) (t : Server S D A T P) : Type 0 where
       pub exchanges : List Exchange
       pub more : Bool
       pub last : Server S D A T P
       pub talked : Talked s exchanges more last
       pub fails : FailedBy e exchanges more last t
-      pub taken : PiecesWent remaining g.most s.pieces (joined (λ x. x.bytes) exchanges) last.pieces
+      pub taken : PiecesWent remaining g.most s.pieces (joined_parts (λ x. x.bytes) exchanges) last.pieces
       pub service : Converses item_of Answers s.service exchanges more last.service
-      pub along : WritesAlong tells trace std_write_rules s.answers (joined (λ x. x.reply) exchanges) last.answers
+      pub along : WritesAlong tells trace std_write_rules s.answers (joined_parts (λ x. x.reply) exchanges) last.answers

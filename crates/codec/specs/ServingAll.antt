@@ -9,7 +9,7 @@ use Rattle.buffer_redux.specs.Retried.{InterruptedSteps, Step}
 use Rattle.buffer_redux.specs.StreamLog.{StreamLog}
 use Rattle.piece_reader.specs.Grammar.{Grammar}
 use Rattle.piece_reader.specs.NextPiece.{PiecesWent}
-use Rattle.codec.specs.Serving.{Converses, Exchange, FailedBy, Server, Serves, Stops, joined}
+use Rattle.codec.specs.Serving.{Converses, Exchange, FailedBy, Server, Serves, ServingFails, joined_parts}
 use Rattle.codec.specs.declared.serving.ServeError.{ServeError}
 use Rattle.codec.specs.declared.serving.ServeError.TheVariants.{Read}
 use Rattle.codec.specs.declared.serving.Served.{Served}
@@ -28,14 +28,14 @@ module _ {S D W I A T P : Type 0} (remaining : S → Option (List ℕ)) (tells :
     (g : Grammar W) (item_of : List ℕ → I) (Answers : A → I → List ℕ → List ℕ → Bool → A → Type 0) where
   -- just these pieces were taken, each was answered, and just the answers were written; the latest is first
   pub record Exchanged (s : Server S D A T P) (exchanges : List Exchange) (more : Bool) (t : Server S D A T P) : Type 0 where
-    pub taken : PiecesWent remaining g.most s.pieces (joined (λ x. x.bytes) exchanges) t.pieces
+    pub taken : PiecesWent remaining g.most s.pieces (joined_parts (λ x. x.bytes) exchanges) t.pieces
     pub service : Converses item_of Answers s.service exchanges more t.service
-    pub along : WritesAlong tells trace std_write_rules s.answers (joined (λ x. x.reply) exchanges) t.answers
+    pub along : WritesAlong tells trace std_write_rules s.answers (joined_parts (λ x. x.reply) exchanges) t.answers
 
   module _ {F : Type 0} (Fails : A → I → List ℕ → F → A → Type 0) where
     -- serving stopped since a read failed
     abbrev pub ReadStops : Step (Server S D A T P) Served
-    ReadStops s answer t = IfErr answer (λ e. Stops remaining tells trace g item_of Answers Fails s (Read e) t)
+    ReadStops s answer t = IfErr answer (λ e. ServingFails remaining tells trace g item_of Answers Fails s (Read e) t)
 
     -- so many reads were interrupted, and each time serving went on
     pub record Resumes (count : ℕ) (s t : Server S D A T P) : Type 0 where
@@ -48,7 +48,7 @@ module _ {S D W I A T P : Type 0} (remaining : S → Option (List ℕ)) (tells :
       pub exchanges : List Exchange
       pub more : Bool
       pub exchanged : Exchanged s exchanges more t
-      pub flushed : FlushedAlong tells trace std_write_rules s.answers (joined (λ x. x.reply) exchanges) t.answers
+      pub flushed : FlushedAlong tells trace std_write_rules s.answers (joined_parts (λ x. x.reply) exchanges) t.answers
       pub count : ℕ
       pub between : Server S D A T P
       pub resumes : Resumes count s between
@@ -59,7 +59,7 @@ module _ {S D W I A T P : Type 0} (remaining : S → Option (List ℕ)) (tells :
       pub count : ℕ
       pub between : Server S D A T P
       pub resumes : Resumes count s between
-      pub last : (Stops remaining tells trace g item_of Answers Fails between e t × NotInterrupted e)
+      pub last : (ServingFails remaining tells trace g item_of Answers Fails between e t × NotInterrupted e)
           ⊎ ((between ≡ t) × (2 ^ 64 ≤ count + 1) × IsTimeout e)
 
     -- the exchanges of all calls, and what failed behind them: serving did, behind the latest of these; or it gave up

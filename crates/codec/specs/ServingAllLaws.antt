@@ -11,16 +11,16 @@ use Rattle.buffer_redux.specs.WritesAlongLaws.{WasFlushed-along, WritesAlong-joi
 use Rattle.piece_reader.specs.Grammar.{Grammar}
 use Rattle.piece_reader.specs.NextPiece.{PiecesWent}
 use Rattle.piece_reader.specs.PiecesWentLaws.{PiecesWent-joins, PiecesWent-none}
-use Rattle.codec.specs.Serving.{Converses, Exchange, Opens, Server, Stops, joined}
+use Rattle.codec.specs.Serving.{Converses, Exchange, Opens, Server, ServingFails, joined_parts}
 use Rattle.codec.specs.ServingAll.{Exchanged, FailsBehind, StopsAll}
 use Rattle.codec.specs.declared.serving.ServeError.{ServeError}
 use Rattle.codec.specs.declared.serving.ServeError.TheVariants.{Read}
 
-pub joined-joins : (part : Exchange → List ℕ) (earlier later : List Exchange)
-    → joined part (later ++ earlier) ≡ joined part earlier ++ joined part later
-joined-joins part earlier [] = sym (append-nil (joined part earlier))
-joined-joins part earlier (x ∷ later) = ap (λ l. l ++ part x) (joined-joins part earlier later)
-    ∙ append_assoc (joined part earlier) (joined part later) (part x)
+pub joined_parts-joins : (part : Exchange → List ℕ) (earlier later : List Exchange)
+    → joined_parts part (later ++ earlier) ≡ joined_parts part earlier ++ joined_parts part later
+joined_parts-joins part earlier [] = sym (append-nil (joined_parts part earlier))
+joined_parts-joins part earlier (x ∷ later) = ap (λ l. l ++ part x) (joined_parts-joins part earlier later)
+    ∙ append_assoc (joined_parts part earlier) (joined_parts part later) (part x)
 
 module _ {A I : Type 0} (item_of : List ℕ → I) (Answers : A → I → List ℕ → List ℕ → Bool → A → Type 0) where
   -- one conversation behind another
@@ -42,7 +42,7 @@ module _ {A I : Type 0} (item_of : List ℕ → I) (Answers : A → I → List �
       keeps between x more b says (Converses-keeps Holds keeps a between earlier true talked h)
 
   -- the first of these exchanges, of which the latest is first, and what it made
-  pub record BeginsWith (a : A) (exchanges : List Exchange) (more : Bool) : Type 0 where
+  pub record FirstMade (a : A) (exchanges : List Exchange) (more : Bool) : Type 0 where
     pub later : List Exchange
     pub first : Exchange
     pub all : exchanges ≡ later ++ first ∷ []
@@ -52,7 +52,7 @@ module _ {A I : Type 0} (item_of : List ℕ → I) (Answers : A → I → List �
     pub ends : ((later ≡ []) × (further ≡ more)) ⊎ (further ≡ true)
 
   pub Converses-begins : (a b : A) (x : Exchange) (earlier : List Exchange) (more : Bool)
-      → Converses item_of Answers a (x ∷ earlier) more b → BeginsWith a (x ∷ earlier) more
+      → Converses item_of Answers a (x ∷ earlier) more b → FirstMade a (x ∷ earlier) more
   Converses-begins a b x [] more (between, (same, is), says) = record {
     later = [];
     first = x;
@@ -121,21 +121,22 @@ module _ {S D W I A T P : Type 0} (remaining : S → Option (List ℕ)) (tells :
       → Exchanged remaining tells trace g item_of Answers m later more t
       → Exchanged remaining tells trace g item_of Answers s (later ++ earlier) more t
   Exchanged-joins joins s m t earlier later more a b = record {
-    taken = subst (λ l. PiecesWent remaining g.most s.pieces l t.pieces) (sym (joined-joins (λ x. x.bytes) earlier later))
+    taken = subst (λ l. PiecesWent remaining g.most s.pieces l t.pieces) (sym (joined_parts-joins (λ x. x.bytes) earlier later))
         (PiecesWent-joins remaining g.most s.pieces m.pieces t.pieces _ _ a.taken b.taken);
     service = Converses-joins item_of Answers s.service m.service t.service earlier later more a.service b.service;
     along = subst (λ l. WritesAlong tells trace std_write_rules s.answers l t.answers)
-        (sym (joined-joins (λ x. x.reply) earlier later))
+        (sym (joined_parts-joins (λ x. x.reply) earlier later))
         (WritesAlong-joins tells trace std_write_rules joins s.answers m.answers t.answers _ _ a.along b.along);
   }
 
   -- where a read failed all that was taken was answered, and all answers were flushed
-  pub Stops-read : {F : Type 0} (Fails : A → I → List ℕ → F → A → Type 0) → ((u v w : T) → trace u v → trace v w → trace u w)
+  pub ServingFails-read : {F : Type 0} (Fails : A → I → List ℕ → F → A → Type 0)
+      → ((u v w : T) → trace u v → trace v w → trace u w)
       → (s : Server S D A T P) (e : Error) (t : Server S D A T P)
-      (f : Stops remaining tells trace g item_of Answers Fails s (Read e) t)
+      (f : ServingFails remaining tells trace g item_of Answers Fails s (Read e) t)
       → Exchanged remaining tells trace g item_of Answers s f.exchanges true t
-      × FlushedAlong tells trace std_write_rules s.answers (joined (λ x. x.reply) f.exchanges) t.answers
-  Stops-read Fails joins s e t f =
+      × FlushedAlong tells trace std_write_rules s.answers (joined_parts (λ x. x.reply) f.exchanges) t.answers
+  ServingFails-read Fails joins s e t f =
       let none = f.fails.1 in
       let next = none.fetched.next in
       let flushed : WasFlushed tells trace f.last.answers (Ok tt) t.answers = elim none.fetched.first [
@@ -146,21 +147,21 @@ module _ {S D W I A T P : Type 0} (remaining : S → Option (List ℕ)) (tells :
             omega (arith, more_faults, as_many, length-append f.last.pieces.reader.log.reads.faults (e ∷ [])))
         | inr asked ↦ asked.1
       ] in
-      let along : WritesAlong tells trace std_write_rules s.answers (joined (λ x. x.reply) f.exchanges) t.answers =
+      let along : WritesAlong tells trace std_write_rules s.answers (joined_parts (λ x. x.reply) f.exchanges) t.answers =
       WritesAlong-then tells trace std_write_rules joins s.answers f.last.answers t.answers
-      (joined (λ x. x.reply) f.exchanges) f.along
+      (joined_parts (λ x. x.reply) f.exchanges) f.along
       (WasFlushed-along tells trace std_write_rules f.last.answers (Ok tt) t.answers flushed) in (
         record {
           taken = subst (λ l. PiecesWent remaining g.most s.pieces l t.pieces)
-              (ap (λ l. joined (λ x. x.bytes) f.exchanges ++ l) next.answers.0
-              ∙ append-nil (joined (λ x. x.bytes) f.exchanges))
-              (PiecesWent-joins remaining g.most s.pieces f.last.pieces t.pieces (joined (λ x. x.bytes) f.exchanges)
+              (ap (λ l. joined_parts (λ x. x.bytes) f.exchanges ++ l) next.answers.0
+              ∙ append-nil (joined_parts (λ x. x.bytes) f.exchanges))
+              (PiecesWent-joins remaining g.most s.pieces f.last.pieces t.pieces (joined_parts (λ x. x.bytes) f.exchanges)
               next.bytes f.taken next.went);
           service = subst (λ b. Converses item_of Answers s.service f.exchanges b t.service) f.fails.0
               (subst (λ x. Converses item_of Answers s.service f.exchanges f.more x) (sym none.service) f.service);
           along = along;
         },
-        FlushedAlong-all tells trace s.answers t.answers (joined (λ x. x.reply) f.exchanges) along flushed.ok.empty
+        FlushedAlong-all tells trace s.answers t.answers (joined_parts (λ x. x.reply) f.exchanges) along flushed.ok.empty
             flushed.ok.flushed,
       )
 

@@ -14,7 +14,7 @@ use Rattle.piece_reader.specs.NextPiece.{PiecesWent}
 use Rattle.piece_reader.specs.PiecesWentLaws.{PiecesWent-joins, PiecesWent-none}
 use Rattle.piece_reader.specs.PieceReader.{ReaderState}
 use Rattle.piece_reader.specs.StaysLeftLaws.{StaysLeft-went}
-use Rattle.codec.specs.Serving.{Converses, EndedBy, Ends, Exchange, FailedBy, Server, Serves, Stops, Talked, Turns, joined, server}
+use Rattle.codec.specs.Serving.{Converses, EndedBy, Exchange, FailedBy, Server, Serves, ServesTurn, ServingEnds, ServingFails, Talked, joined_parts, server}
 use Rattle.codec.specs.declared.serving.ServeError.{ServeError}
 use Rattle.codec.specs.declared.serving.ServeError.TheVariants.{Failed, Flush, Read, Write, Wrong}
 use Rattle.codec.specs.declared.serving.Served.{Served}
@@ -25,7 +25,7 @@ module _ {S D W I A F T P : Type 0} (remaining : S → Option (List ℕ)) (tells
     (Fails : A → I → List ℕ → F → A → Type 0) where
   -- a turn that failed is a failure behind those before
   pub turn_failed_so : (exchanges : List Exchange) (s t : Server S D A T P) (e : ServeError W F)
-      → Turns remaining tells trace g item_of Answers Fails s (Err e) t
+      → ServesTurn remaining tells trace g item_of Answers Fails s (Err e) t
       → FailedBy remaining tells trace g item_of Answers Fails e exchanges true s t
   turn_failed_so exchanges s t (Read e) turn = (refl, turn)
   turn_failed_so exchanges s t (Wrong e) turn = (refl, turn)
@@ -39,11 +39,11 @@ module _ {S D W I A T P : Type 0} (remaining : S → Option (List ℕ)) (tells :
   -- what was talked took whole pieces
   pub Talked-taken : (exchanges : List Exchange) (more : Bool) (t : Server S D A T P)
       → Talked remaining tells trace g item_of Answers s exchanges more t
-      → PiecesWent remaining g.most s.pieces (joined (λ x. x.bytes) exchanges) t.pieces
+      → PiecesWent remaining g.most s.pieces (joined_parts (λ x. x.bytes) exchanges) t.pieces
   Talked-taken [] more t (same, is) = subst (λ t. PiecesWent remaining g.most s.pieces [] t.pieces) same
       (PiecesWent-none remaining g.most s.pieces)
   Talked-taken (x ∷ earlier) more t (m, talked, took) =
-      PiecesWent-joins remaining g.most s.pieces m.pieces t.pieces (joined (λ x. x.bytes) earlier) x.bytes
+      PiecesWent-joins remaining g.most s.pieces m.pieces t.pieces (joined_parts (λ x. x.bytes) earlier) x.bytes
       (Talked-taken earlier true m talked)
       (subst (λ l. PiecesWent remaining g.most m.pieces l t.pieces) took.all took.fetched.next.went)
 
@@ -68,13 +68,13 @@ module _ {S D W I A T P : Type 0} (remaining : S → Option (List ℕ)) (tells :
     -- exchanges wrote just their answers
     pub Talked-along : ((u v w : T) → trace u v → trace v w → trace u w) → (exchanges : List Exchange) (more : Bool)
         (t : Server S D A T P) → Talked remaining tells trace g item_of Answers s exchanges more t
-        → WritesAlong tells trace std_write_rules s.answers (joined (λ x. x.reply) exchanges) t.answers
+        → WritesAlong tells trace std_write_rules s.answers (joined_parts (λ x. x.reply) exchanges) t.answers
     Talked-along joins [] more t (same, is) = subst (λ t. WritesAlong tells trace std_write_rules s.answers [] t.answers) same
         (WritesAlong-none tells trace std_write_rules none s.answers)
     Talked-along joins (x ∷ earlier) more t (m, talked, took) =
-        WritesAlong-joins tells trace std_write_rules joins s.answers took.ready t.answers (joined (λ x. x.reply) earlier)
+        WritesAlong-joins tells trace std_write_rules joins s.answers took.ready t.answers (joined_parts (λ x. x.reply) earlier)
         x.reply (WritesAlong-then tells trace std_write_rules joins s.answers m.answers took.ready
-        (joined (λ x. x.reply) earlier) (Talked-along joins earlier true m talked)
+        (joined_parts (λ x. x.reply) earlier) (Talked-along joins earlier true m talked)
         (first_along m.pieces m.answers t.pieces took.ready took.fetched.first))
         (WritesOnce-along tells trace took.ready t.answers none x.reply took.written)
 
@@ -102,26 +102,29 @@ module _ {S D W I A T P : Type 0} (remaining : S → Option (List ℕ)) (tells :
       ends_so served.Many exchanges more m t (is, many, same) = still m t same
 
       -- up to an end, and then a flush
-      module _ (by : Served) (t : Server S D A T P) (ends : Ends remaining tells trace g item_of Answers s by t)
+      module _ (by : Served) (t : Server S D A T P) (ends : ServingEnds remaining tells trace g item_of Answers s by t)
           (v : Buffered T P) where
         so : PiecesWent remaining g.most ends.last.pieces [] t.pieces × (t.service ≡ ends.last.service)
             × WritesAlong tells trace std_write_rules ends.last.answers [] t.answers
         so = ends_so by ends.exchanges ends.more ends.last t ends.ends
 
-        pub Ends-served : WasFlushed tells trace t.answers (Ok tt) v
+        pub ServingEnds-served : WasFlushed tells trace t.answers (Ok tt) v
             → Serves remaining tells trace g item_of Answers s by (server t.pieces t.service v)
-        Ends-served flushed = record {
+        ServingEnds-served flushed = record {
           answers = t.answers;
           ends = ends;
           last = flushed;
           taken = subst (λ l. PiecesWent remaining g.most s.pieces l t.pieces) (append-nil _)
-              (PiecesWent-joins remaining g.most s.pieces ends.last.pieces t.pieces (joined (λ x. x.bytes) ends.exchanges) []
+              (PiecesWent-joins remaining g.most s.pieces ends.last.pieces t.pieces
+              (joined_parts (λ x. x.bytes) ends.exchanges) []
               (Talked-taken ends.exchanges ends.more ends.last ends.talked) so.0);
           service = subst (λ b. Converses item_of Answers s.service ends.exchanges ends.more b) (sym so.1)
               (Talked-answers ends.exchanges ends.more ends.last ends.talked);
-          all = FlushedAlong-of tells trace std_write_rules joins s.answers t.answers v (joined (λ x. x.reply) ends.exchanges)
+          all = FlushedAlong-of tells trace std_write_rules joins s.answers t.answers v
+              (joined_parts (λ x. x.reply) ends.exchanges)
               tt (WritesAlong-then tells trace std_write_rules joins s.answers ends.last.answers t.answers
-              (joined (λ x. x.reply) ends.exchanges) (Talked-along joins ends.exchanges ends.more ends.last ends.talked) so.2)
+              (joined_parts (λ x. x.reply) ends.exchanges)
+              (Talked-along joins ends.exchanges ends.more ends.last ends.talked) so.2)
               flushed;
         }
 
@@ -130,7 +133,7 @@ module _ {S D W I A T P : Type 0} (remaining : S → Option (List ℕ)) (tells :
         pub stops : (exchanges : List Exchange) (more : Bool) (m : Server S D A T P)
             → Talked remaining tells trace g item_of Answers s exchanges more m → (e : ServeError W F) (t : Server S D A T P)
             → FailedBy remaining tells trace g item_of Answers Fails e exchanges more m t
-            → Stops remaining tells trace g item_of Answers Fails s e t
+            → ServingFails remaining tells trace g item_of Answers Fails s e t
         stops exchanges more m talked e t fails = record {
           exchanges = exchanges;
           more = more;
@@ -144,7 +147,7 @@ module _ {S D W I A T P : Type 0} (remaining : S → Option (List ℕ)) (tells :
 
         -- what a turn that failed took: a piece that wasn't answered, or nothing; and nothing was written
         turn_failed : (m t : Server S D A T P) (e : ServeError W F)
-            → Turns remaining tells trace g item_of Answers Fails m (Err e) t
+            → ServesTurn remaining tells trace g item_of Answers Fails m (Err e) t
             → (unanswered : List ℕ) × PiecesWent remaining g.most m.pieces unanswered t.pieces
             × WritesAlong tells trace std_write_rules m.answers [] t.answers
         turn_failed m t (Read e) took = (
@@ -176,17 +179,17 @@ module _ {S D W I A T P : Type 0} (remaining : S → Option (List ℕ)) (tells :
         turn_failed m t (Flush ended e) turn = absurd turn
 
         -- whatever failed, of all that was taken at most the last piece wasn't answered, and just the answers were written
-        pub Stops-went : (e : ServeError W F) (t : Server S D A T P)
-            (f : Stops remaining tells trace g item_of Answers Fails s e t) → (unanswered : List ℕ)
-            × PiecesWent remaining g.most s.pieces (joined (λ x. x.bytes) f.exchanges ++ unanswered) t.pieces
-            × WritesAlong tells trace std_write_rules s.answers (joined (λ x. x.reply) f.exchanges) t.answers
-        Stops-went e t f =
+        pub ServingFails-went : (e : ServeError W F) (t : Server S D A T P)
+            (f : ServingFails remaining tells trace g item_of Answers Fails s e t) → (unanswered : List ℕ)
+            × PiecesWent remaining g.most s.pieces (joined_parts (λ x. x.bytes) f.exchanges ++ unanswered) t.pieces
+            × WritesAlong tells trace std_write_rules s.answers (joined_parts (λ x. x.reply) f.exchanges) t.answers
+        ServingFails-went e t f =
             let last = behind e f.exchanges f.more f.last t f.fails in (
               last.0,
-              PiecesWent-joins remaining g.most s.pieces f.last.pieces t.pieces (joined (λ x. x.bytes) f.exchanges) last.0
+              PiecesWent-joins remaining g.most s.pieces f.last.pieces t.pieces (joined_parts (λ x. x.bytes) f.exchanges) last.0
                   f.taken last.1,
               WritesAlong-then tells trace std_write_rules joins s.answers f.last.answers t.answers
-                  (joined (λ x. x.reply) f.exchanges) f.along last.2,
+                  (joined_parts (λ x. x.reply) f.exchanges) f.along last.2,
             )
           where
             behind : (e : ServeError W F) (exchanges : List Exchange) (more : Bool) (m t : Server S D A T P)
@@ -206,9 +209,10 @@ module _ {S D W I A T P : Type 0} (remaining : S → Option (List ℕ)) (tells :
                 )
 
         -- up to an end, behind which the flush failed
-        pub Ends-failed : (by : Served) (t : Server S D A T P) (ends : Ends remaining tells trace g item_of Answers s by t)
+        pub ServingEnds-failed : (by : Served) (t : Server S D A T P)
+            (ends : ServingEnds remaining tells trace g item_of Answers s by t)
             (v : Buffered T P) (why : Error) → WasFlushed tells trace t.answers (Err why) v
-            → Stops remaining tells trace g item_of Answers Fails s (Flush by why) (server t.pieces t.service v)
-        Ends-failed by t ends v why flushed =
+            → ServingFails remaining tells trace g item_of Answers Fails s (Flush by why) (server t.pieces t.service v)
+        ServingEnds-failed by t ends v why flushed =
             stops ends.exchanges ends.more ends.last ends.talked (Flush by why) (server t.pieces t.service v)
             (t, ends.ends, refl, refl, flushed)

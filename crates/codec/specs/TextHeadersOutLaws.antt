@@ -53,18 +53,19 @@ with_byte_other number byte (inr above) =
 
 module _ (w : Words) where
   -- these bytes lead from one place to another
-  abbrev Leads : TextHeaderState → List ℕ → TextHeaderState → Type 0
-  Leads s [] t = s ≡ t
-  Leads s (b ∷ bs) t = (m : TextHeaderState) × (text_turn w s b ≡ More m) × Leads m bs t
+  abbrev LeadsByTurns : TextHeaderState → List ℕ → TextHeaderState → Type 0
+  LeadsByTurns s [] t = s ≡ t
+  LeadsByTurns s (b ∷ bs) t = (m : TextHeaderState) × (text_turn w s b ≡ More m) × LeadsByTurns m bs t
 
-  joined : (s : TextHeaderState) (bs : List ℕ) (m : TextHeaderState) (cs : List ℕ) (t : TextHeaderState) → Leads s bs m
-      → Leads m cs t
-      → Leads s (bs ++ cs) t
-  joined s [] m cs t is on = subst (λ x. Leads x cs t) (sym is) on
+  joined : (s : TextHeaderState) (bs : List ℕ) (m : TextHeaderState) (cs : List ℕ) (t : TextHeaderState) → LeadsByTurns s bs m
+      → LeadsByTurns m cs t
+      → LeadsByTurns s (bs ++ cs) t
+  joined s [] m cs t is on = subst (λ x. LeadsByTurns x cs t) (sym is) on
   joined s (b ∷ bs) m cs t first on = (first.0, first.1, joined first.0 bs m cs t first.2 on)
 
   -- a scan reads bytes that lead from one place to another, and goes on there
-  led : (left : ℕ) (s : TextHeaderState) (used : ℕ) (bs more : List ℕ) (t : TextHeaderState) → length bs ≤ left → Leads s bs t
+  led : (left : ℕ) (s : TextHeaderState) (used : ℕ) (bs more : List ℕ) (t : TextHeaderState) → length bs ≤ left
+      → LeadsByTurns s bs t
       → (less : ℕ) × (less + length bs ≡ left)
       × (scan_on (text_turn w) left s used (bs ++ more) ≡ scan_on (text_turn w) less t (used + length bs) more)
   led left s used [] more t few is =
@@ -84,25 +85,25 @@ module _ (w : Words) where
       )
 
   -- what stands before a length leads to it
-  first : (done todo : List ℕ) → w.before ≡ done ++ todo → Leads (enters w (length done)) todo (Length Empty)
+  first : (done todo : List ℕ) → w.before ≡ done ++ todo → LeadsByTurns (enters w (length done)) todo (Length Empty)
   first done [] is =
       ap (λ b. if b then Length Empty else Before (length done))
       (eq-eqb (length done) (length w.before) (omega (arith, ap length is, length-append done [])))
   first done (b ∷ todo) is =
       let at = length done in
       let count : length (done ++ b ∷ []) ≡ at + 1 = omega (arith, length-append done (b ∷ [])) in
-      subst (λ s. Leads s (b ∷ todo) (Length Empty))
+      subst (λ s. LeadsByTurns s (b ∷ todo) (Length Empty))
       (sym (ap (λ b. if b then Length Empty else Before at)
       (ne_eqb at (length w.before) (λ same. omega (arith, same, ap length is, length-append done (b ∷ todo)))))) (
         enters w (at + 1),
         ap (λ b. if b then More (enters w (at + 1)) else Bad) (stands_there w.before done todo b is),
-        subst (λ n. Leads (enters w n) todo (Length Empty)) count
+        subst (λ n. LeadsByTurns (enters w n) todo (Length Empty)) count
             (first (done ++ b ∷ []) todo (is ∙ sym (append_assoc done (b ∷ []) todo))),
       )
 
   -- a length in decimal leads to itself
-  counted : (n : ℕ) → n < 1000000000000000000 → Leads (Length Empty) (decimal n) (Length (Is n))
-  counted n few = decimal_by_steps (λ n ds. n < 1000000000000000000 → Leads (Length Empty) ds (Length (Is n)))
+  counted : (n : ℕ) → n < 1000000000000000000 → LeadsByTurns (Length Empty) (decimal n) (Length (Is n))
+  counted n few = decimal_by_steps (λ n ds. n < 1000000000000000000 → LeadsByTurns (Length Empty) ds (Length (Is n)))
       (λ n small few. (Length (Is n), ap (λ o. counts w o Empty (48 + n)) (with_byte_digit Empty n small), refl))
       (λ n ds big later few.
       let whole : 10 * (n / 10) + n % 10 ≡ n = div-add-mod n 10 in

@@ -45,12 +45,12 @@ SendsAll s (Ok _) t =
 SendsAll s (Err x) t = Sends (length (unsent s)) s.writer.block s.writer.log (Err x) t.writer.block t.writer.log
 
 -- all that was buffered is sent first, and then the piece is taken in
-abbrev pub SendsFirst : {S E W : Type 0} → Encoding W → WriterState S E → List ℕ → WriteAnswer W → WriterState S E → Type 0
-SendsFirst e s payload (Ok _) t =
+abbrev pub SendsThenTakes : {S E W : Type 0} → Encoding W → WriterState S E → List ℕ → WriteAnswer W → WriterState S E → Type 0
+SendsThenTakes e s payload (Ok _) t =
     SendsAll s (Ok tt) t × (t.writer.log.writes.received ≡ s.writer.log.writes.received ++ unsent s)
     × (unsent t ≡ coded e payload)
-SendsFirst e s payload (Err (Io x)) t = SendsAll s (Err x) t
-SendsFirst e s payload (Err (Refused w)) t = ⊥
+SendsThenTakes e s payload (Err (Io x)) t = SendsAll s (Err x) t
+SendsThenTakes e s payload (Err (Refused w)) t = ⊥
 
 -- what one call of `write_piece` does. Where the piece fits behind what is buffered, it stands there, and the inner writer isn't
 -- called; else all that is buffered is sent first. The inner writer isn't flushed
@@ -60,7 +60,7 @@ pub record WritesPiece {S E W : Type 0} (trace : S → S → Type 0) (e : Encodi
   pub answers : WriteAnswers e s payload answer t
   pub fits : e.takes payload → length (coded e payload) ≤ room s.writer
       → (answer ≡ Ok tt) × (t.writer.log ≡ s.writer.log) × (unsent t ≡ unsent s ++ coded e payload)
-  pub full : e.takes payload → room s.writer < length (coded e payload) → SendsFirst e s payload answer t
+  pub full : e.takes payload → room s.writer < length (coded e payload) → SendsThenTakes e s payload answer t
   pub not_flushed : t.writer.log.writes.flushed ≡ s.writer.log.writes.flushed
   pub whole : IsPieceWriter e.most t
 

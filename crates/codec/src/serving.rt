@@ -1,8 +1,8 @@
 //! Pieces are answered, one after another.
 ghost use Rattle.std.specs.Prelude.{◌≡◌, ℕ, List, [], Bool, IfOk, IfErr, OnOk};
-ghost use Rattle.codec.specs.Answering.{Answered, IsPieceRead};
+ghost use Rattle.codec.specs.Answering.{IsPieceRead, WasAnswered};
 ghost use Rattle.codec.specs.ServingAll.{ServesAll, StopsAll};
-ghost use Rattle.codec.specs.Serving.{Ends, Serves, Stops, Turns, server};
+ghost use Rattle.codec.specs.Serving.{Serves, ServesTurn, ServingEnds, ServingFails, server};
 
 use crate::answering::AnswerError;
 use crate::fetching::fetch_item;
@@ -33,7 +33,8 @@ pub trait Service<D: Items> {
         writer: &mut BufWriter<W>,
     ) -> Result<bool, AnswerError<Self::Failure>>
         requires { IsPieceRead D.grammar D.item_of item payload.now }
-        ensures { Answered W.log W.trace (answers self.old item payload.now) (fails self.old item payload.now) writer.old result
+        ensures { WasAnswered W.log W.trace (answers self.old item payload.now)
+            (fails self.old item payload.now) writer.old result
             self.new writer.new };
 }
 
@@ -86,7 +87,7 @@ pub fn serve<R: TellRead, D: Items, W: TellWrite, S: Service<D>>(
     ensures served { IfOk result (λ ended. Serves R.remaining W.log W.trace (D.grammar reader.old.decoder)
         (D.item_of reader.old.decoder) S.answers (server reader.old service.old writer.old) ended
         (server reader.new service.new writer.new)) }
-    ensures failed { IfErr result (λ e. Stops R.remaining W.log W.trace (D.grammar reader.old.decoder)
+    ensures failed { IfErr result (λ e. ServingFails R.remaining W.log W.trace (D.grammar reader.old.decoder)
         (D.item_of reader.old.decoder) S.answers S.fails (server reader.old service.old writer.old) e
         (server reader.new service.new writer.new)) }
 {
@@ -134,10 +135,10 @@ fn answer_pieces<R: TellRead, D: Items, W: TellWrite, S: Service<D>>(
     reader: &mut PieceReader<R, D>,
     writer: &mut BufWriter<W>,
 ) -> Result<Served, ServeError<D::Wrong, S::Failure>>
-    ensures ended { IfOk result (λ ended. Ends R.remaining W.log W.trace (D.grammar reader.old.decoder)
+    ensures ended { IfOk result (λ ended. ServingEnds R.remaining W.log W.trace (D.grammar reader.old.decoder)
         (D.item_of reader.old.decoder) S.answers (server reader.old service.old writer.old) ended
         (server reader.new service.new writer.new)) }
-    ensures failed { IfErr result (λ e. Stops R.remaining W.log W.trace (D.grammar reader.old.decoder)
+    ensures failed { IfErr result (λ e. ServingFails R.remaining W.log W.trace (D.grammar reader.old.decoder)
         (D.item_of reader.old.decoder) S.answers S.fails (server reader.old service.old writer.old) e
         (server reader.new service.new writer.new)) }
 {
@@ -157,7 +158,7 @@ fn turn<R: TellRead, D: Items, W: TellWrite, S: Service<D>>(
     reader: &mut PieceReader<R, D>,
     writer: &mut BufWriter<W>,
 ) -> Result<Step, ServeError<D::Wrong, S::Failure>>
-    ensures { Turns R.remaining W.log W.trace (D.grammar reader.old.decoder) (D.item_of reader.old.decoder) S.answers S.fails
+    ensures { ServesTurn R.remaining W.log W.trace (D.grammar reader.old.decoder) (D.item_of reader.old.decoder) S.answers S.fails
         (server reader.old service.old writer.old) result (server reader.new service.new writer.new) }
 {
     match fetch_item(reader, writer) {

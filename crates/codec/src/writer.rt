@@ -9,7 +9,7 @@ ghost use Rattle.buffer_redux.specs.GrowError.{FitsWithin};
 ghost use Rattle.buffer_redux.specs.MakeError.{growth};
 ghost use Rattle.codec.specs.contracts.writer.PieceWriter.{the_row};
 ghost use Rattle.codec.specs.Encoding.{IsHeaderBytes, coded};
-ghost use Rattle.codec.specs.PieceWriter.{IsPieceWriter, IsOver, IsUnused, with_stream};
+ghost use Rattle.codec.specs.PieceWriter.{IsPieceWriter, IsMadeOver, IsUnused, with_stream};
 ghost use Rattle.piece_reader.specs.PieceReader.{room_for};
 ghost use Rattle.codec.specs.WritePiece.{PiecesTaken, WritesBuffered, WritesPiece};
 
@@ -101,7 +101,7 @@ impl<W: TellWrite, E: Encoder> PieceWriter<W, E> {
     ) -> Result<Self, MakeError<(Buffer, W, E)>>
         ensures over { IfOk result (λ f. (f.writer.inner ≡ inner) × (f.writer.block.bytes ≡ buffer.bytes)
             × (f.encoder ≡ encoder)) }
-        ensures made { IfOk result (IsOver W.log (E.encoding encoder).most buffer inner encoder) }
+        ensures made { IfOk result (IsMadeOver W.log (E.encoding encoder).most buffer inner encoder) }
         ensures whole { IfOk result (IsPieceWriter (E.encoding encoder).most) }
         ensures handed_back { IfErr result (λ e. (e.0.0 ≡ buffer) × (e.0.1 ≡ inner) × (e.0.2 ≡ encoder)) }
         ensures within { FitsWithin (growth result) (room_for buffer.capacity (E.encoding encoder).most) (2 ^ 62) }

@@ -13,7 +13,7 @@ use Rattle.buffer_redux.specs.ReaderTells.{ReaderWent, reader_log}
 use Rattle.buffer_redux.specs.StreamLog.{StreamLog}
 use Rattle.buffer_redux.specs.WriterTells.{WriterCalled, WriterWent, writer_log}
 use Rattle.buffer_redux.specs.declared.policy.StdPolicy.{StdPolicy}
-use Rattle.programs.specs.Streams.{AllFlushed, BufferRefused, GaveNothing, MetNoFault, SendFailed, capacity_asked, kind_asked}
+use Rattle.programs.specs.Streams.{GaveNothing, MetNoFault, ReceivedFlushed, RefusedBeforeCalls, WriterFailed, capacity_asked, kind_asked}
 use Rattle.programs.specs.declared.ending.Ending.{Ending}
 use Rattle.programs.specs.declared.ending.Ending.TheVariants.{Done, Failed, Usage, Memory}
 
@@ -30,7 +30,7 @@ pub record Copied (total : ℕ) (read read' written written' : StreamLog) : Type
   pub count : length bytes ≡ total
   pub given : read'.reads.given ≡ read.reads.given ++ bytes
   pub received : written'.writes.received ≡ written.writes.received ++ bytes
-  pub flushed : AllFlushed written'
+  pub flushed : ReceivedFlushed written'
   pub ended : GaveNothing read read'
   pub met : MetNoFault read read' written written'
 
@@ -38,7 +38,7 @@ pub record Copied (total : ℕ) (read read' written written' : StreamLog) : Type
 abbrev pub EitherFailed : Error → StreamLog → StreamLog → StreamLog → StreamLog → Type 0
 EitherFailed e read read' written written' =
     SourceFailed e read.reads.faults read'.reads.faults written.writes written'.writes
-    ⊎ SendFailed e read read' written written'
+    ⊎ WriterFailed e read read' written written'
 
 -- more bytes were given than a `u64` counts, and both streams were at most interrupted
 pub record OverTotal (e : Error) (read read' written written' : StreamLog) : Type 0 where
@@ -75,7 +75,7 @@ RunFlushes (Err e) read read' written written' =
 abbrev pub RunFailed : Error → StreamLog → StreamLog → StreamLog → StreamLog → Type 0
 RunFailed e read read' written written' =
     EitherFailed e read read' written written'
-    ⊎ (BufferRefused e read read' written written' ⊎ OverTotal e read read' written written')
+    ⊎ (RefusedBeforeCalls e read read' written written' ⊎ OverTotal e read read' written written')
 
 -- a run failed with this error, and flushed nothing
 pub record RunStopped (e : Error) (read read' written written' : StreamLog) : Type 0 where

@@ -3,7 +3,7 @@ ghost use Rattle.std.specs.Prelude.{◌≡◌, ◌≤◌, ◌⊎◌, ◌↔◌, 
 ghost use Rattle.std.specs.declared.io.Error.{Error};
 ghost use Rattle.buffer_redux.specs.Block.{IsBlock};
 ghost use Rattle.programs.specs.Ending.{EndsAs};
-ghost use Rattle.programs.specs.Streams.{BufferRefused, EndsOnce, IsFresh};
+ghost use Rattle.programs.specs.Streams.{EndsOnce, IsEmptyBuffer, RefusedBeforeCalls};
 ghost use Rattle.copier.specs.Settings.{AskFor};
 ghost use Rattle.copier.specs.Copy.{CopiesAll, EitherFailed, OffersBuffer, OverTotal, Copied, InterruptedOften, IsBeginning, RunEnded, RunFailed, RunFlushes, RunsThrough};
 
@@ -36,7 +36,7 @@ pub fn run<R: TellRead, W: TellWrite>(
     ensures a_beginning { IsBeginning (R.log reader) (R.log result.1) (W.log writer) (W.log result.2) }
     ensures once { EndsOnce (R.log reader).reads (R.log result.1).reads }
     ensures through { RunsThrough R.log W.log R.remaining W.trace ring cap result.0 reader result.1 writer result.2
-        ⊎ IsErrAnd result.0 (λ e. BufferRefused e (R.log reader) (R.log result.1) (W.log writer) (W.log result.2)) }
+        ⊎ IsErrAnd result.0 (λ e. RefusedBeforeCalls e (R.log reader) (R.log result.1) (W.log writer) (W.log result.2)) }
     ensures offers { OffersBuffer ring cap (R.log reader) (R.log result.1) }
     ensures not_flushed { OnErr result.0 ((W.log result.2).writes.flushed ≡ (W.log writer).writes.flushed) }
     ensures flushes { RunFlushes result.0 (R.log reader) (R.log result.1) (W.log writer) (W.log result.2) }
@@ -56,8 +56,8 @@ fn copy_all<R: TellRead, W: TellWrite>(
     source: &mut BufReader<R>,
     target: &mut BufWriter<W>,
 ) -> io::Result<u64>
-    requires source { IsFresh 1 source.old.block }
-    requires target { IsFresh 1 target.old.block }
+    requires source { IsEmptyBuffer 1 source.old.block }
+    requires target { IsEmptyBuffer 1 target.old.block }
     requires whole { IsBlock source.old.block }
     ensures copied { IfOk result (λ total.
         Copied total source.old.log source.new.log target.old.log target.new.log) }
@@ -98,7 +98,7 @@ pub fn run_asked<R: TellRead, W: TellWrite>(
     ensures through { (ring : Bool) (cap : ℕ) → AskFor (map string_bytes words.now) ring cap
         → (answer : Result ℕ Error) × EndsAs answer result.0
         × (RunsThrough R.log W.log R.remaining W.trace ring cap answer reader result.1 writer result.2
-        ⊎ IsErrAnd answer (λ e. BufferRefused e (R.log reader) (R.log result.1) (W.log writer) (W.log result.2))) }
+        ⊎ IsErrAnd answer (λ e. RefusedBeforeCalls e (R.log reader) (R.log result.1) (W.log writer) (W.log result.2))) }
     ensures offers { (ring : Bool) (cap : ℕ) → AskFor (map string_bytes words.now) ring cap
         → OffersBuffer ring cap (R.log reader) (R.log result.1) }
 {

@@ -6,25 +6,25 @@ use Rattle.std.proofs.lemmas.List.{take-append-le, take_all}
 use Rattle.codec.specs.HeaderFormat.{IsHeaderFormat}
 use Rattle.codec.specs.declared.Header.{Header}
 use Rattle.codec.specs.declared.Header.TheVariants.{Short, Sized, Bad}
-use Rattle.decoders.specs.Lengths.{lengths, number_of, size_of}
+use Rattle.decoders.specs.Lengths.{lengths, number_in_bytes, size_of}
 use Rattle.decoders.specs.declared.lengths.Order.{Order}
 use Rattle.decoders.specs.declared.lengths.Width.{Width}
 use Rattle.decoders.specs.declared.lengths.Width.TheVariants.{One, Two, Four, Eight}
 
 -- what bytes say of which the first `size` are a number
 module _ (size : ℕ) (number : List ℕ → ℕ) where
-  abbrev header : List ℕ → Header
-  header bytes = if nat_lt (length bytes) size then Short else Sized (number (take size bytes)) size
+  abbrev read_header : List ℕ → Header
+  read_header bytes = if nat_lt (length bytes) size then Short else Sized (number (take size bytes)) size
 
-  few : (bytes : List ℕ) → length bytes < size → header bytes ≡ Short
+  few : (bytes : List ℕ) → length bytes < size → read_header bytes ≡ Short
   few bytes less = ap (λ b. if b then Short else Sized (number (take size bytes)) size)
       (lt-ltb (length bytes) size less)
 
-  pub enough : (bytes : List ℕ) → size ≤ length bytes → header bytes ≡ Sized (number (take size bytes)) size
+  pub enough : (bytes : List ℕ) → size ≤ length bytes → read_header bytes ≡ Sized (number (take size bytes)) size
   enough bytes many = ap (λ b. if b then Short else Sized (number (take size bytes)) size)
       (le-ltb (length bytes) size many)
 
-  said : (bytes : List ℕ) (len used : ℕ) → header bytes ≡ Sized len used
+  said : (bytes : List ℕ) (len used : ℕ) → read_header bytes ≡ Sized len used
       → (size ≤ length bytes) × (len ≡ number (take size bytes)) × (used ≡ size)
   said bytes len used is = go (nat_lt (length bytes) size) refl is
     where
@@ -39,14 +39,14 @@ module _ (size : ℕ) (number : List ℕ → ℕ) where
             (let e : used ≡ size = cc in e),
           )
 
-  not_bad : (bytes : List ℕ) → ¬ (header bytes ≡ Bad)
+  not_bad : (bytes : List ℕ) → ¬ (read_header bytes ≡ Bad)
   not_bad bytes is = go (nat_lt (length bytes) size) is
     where
       go : (b : Bool) → ¬ ((if b then Short else Sized (number (take size bytes)) size) ≡ Bad)
       go true is' = (let odd : Short ≡ Bad = is' in cc)
       go false is' = (let odd : Sized (number (take size bytes)) size ≡ Bad = is' in cc)
 
-  short : (bytes : List ℕ) → header bytes ≡ Short → length bytes < size
+  short : (bytes : List ℕ) → read_header bytes ≡ Short → length bytes < size
   short bytes is = go (nat_lt (length bytes) size) refl is
     where
       go : (b : Bool) → nat_lt (length bytes) size ≡ b
@@ -54,18 +54,18 @@ module _ (size : ℕ) (number : List ℕ → ℕ) where
       go true less is' = ltb-true (length bytes) size less
       go false many is' = (let odd : ◌≡◌ {A = Header} (Sized (number (take size bytes)) size) Short = is' in cc)
 
-  sized : (bytes more : List ℕ) (len used : ℕ) → header bytes ≡ Sized len used → header (bytes ++ more) ≡ Sized len used
+  sized : (bytes more : List ℕ) (len used : ℕ) → read_header bytes ≡ Sized len used → read_header (bytes ++ more) ≡ Sized len used
   sized bytes more len used is =
       let s = said bytes len used is in
       enough (bytes ++ more) (omega (arith, s.0, length-append bytes more))
       ∙ ap (λ l. Sized (number l) size) (take-append-le size bytes more s.0)
       ∙ ap (λ n. Sized n size) (sym s.1) ∙ ap (λ n. Sized len n) (sym s.2)
 
-  front : (bytes : List ℕ) (len used : ℕ) → header bytes ≡ Sized len used → header (take used bytes) ≡ Sized len used
+  front : (bytes : List ℕ) (len used : ℕ) → read_header bytes ≡ Sized len used → read_header (take used bytes) ≡ Sized len used
   front bytes len used is =
       let s = said bytes len used is in
       let long : length (take size bytes) ≡ size = length-take-le size bytes s.0 in
-      subst (λ n. header (take n bytes) ≡ Sized len n) (sym s.2)
+      subst (λ n. read_header (take n bytes) ≡ Sized len n) (sym s.2)
       (enough (take size bytes) (omega (arith, long))
       ∙ ap (λ l. Sized (number l) size) (take_all size (take size bytes) (omega (arith, long)))
       ∙ ap (λ n. Sized n size) (sym s.1))
@@ -79,7 +79,7 @@ has_some Eight = (omega arith, omega arith)
 pub lengths_headers : (width : Width) (order : Order) (max : ℕ) → max < 2 ^ 62 → IsHeaderFormat (lengths width order max)
 lengths_headers width order max fits =
     let size = size_of width in
-    let number = number_of width order in
+    let number = number_in_bytes width order in
     let some = has_some width in
     record {
       sized = sized size number;

@@ -7,15 +7,15 @@ use Rattle.decoders.specs.declared.lengths.Width.{Width}
 use Rattle.decoders.specs.declared.lengths.Width.TheVariants.{One, Two, Four, Eight}
 
 -- the bytes of a length
-abbrev pub bytes_of : Width → Order → ℕ → List ℕ
-bytes_of One BigEndian len = to_be_bytes w8 len
-bytes_of Two BigEndian len = to_be_bytes w16 len
-bytes_of Four BigEndian len = to_be_bytes w32 len
-bytes_of Eight BigEndian len = to_be_bytes w64 len
-bytes_of One LittleEndian len = to_le_bytes w8 len
-bytes_of Two LittleEndian len = to_le_bytes w16 len
-bytes_of Four LittleEndian len = to_le_bytes w32 len
-bytes_of Eight LittleEndian len = to_le_bytes w64 len
+abbrev pub length_in_bytes : Width → Order → ℕ → List ℕ
+length_in_bytes One BigEndian len = to_be_bytes w8 len
+length_in_bytes Two BigEndian len = to_be_bytes w16 len
+length_in_bytes Four BigEndian len = to_be_bytes w32 len
+length_in_bytes Eight BigEndian len = to_be_bytes w64 len
+length_in_bytes One LittleEndian len = to_le_bytes w8 len
+length_in_bytes Two LittleEndian len = to_le_bytes w16 len
+length_in_bytes Four LittleEndian len = to_le_bytes w32 len
+length_in_bytes Eight LittleEndian len = to_le_bytes w64 len
 
 -- the greatest length that so many bytes say
 abbrev pub most_of : Width → ℕ

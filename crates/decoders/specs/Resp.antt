@@ -28,12 +28,12 @@ behind_kind [] = []
 behind_kind (byte ∷ line) = if (byte == 42) || (byte == 43) || (byte == 45) || (byte == 58) then line else byte ∷ line
 
 -- lines without that byte, and without the CR that they may end with
-abbrev pub lines : ℕ → Grammar TooLong
-lines max = showing behind_kind (trimming (delimited 10 max))
+abbrev pub resp_lines : ℕ → Grammar TooLong
+resp_lines max = showing behind_kind (trimming (delimited 10 max))
 
 -- what a dollar sign begins is a bulk string, or the null one; each other piece is a line, with its end
 abbrev pub resp : ℕ → Grammar (EitherWrong HeaderError (Unended TooLong))
-resp max = either 36 (length_prefixed (scanned (nullable max))) (ended (lines max))
+resp max = either 36 (length_prefixed (scanned (nullable max))) (ended (resp_lines max))
 
 -- what a look leaves for the next one: of a bulk string where its header stands, of a line nothing
 abbrev pub resp_notes : ℕ → List ℕ → ScanNote StringState × Unit {0} → Type 0

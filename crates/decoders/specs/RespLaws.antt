@@ -15,13 +15,13 @@ use Rattle.codec.specs.Trimming.{trimming}
 use Rattle.codec.specs.TrimmingLaws.{trimming_lawful}
 use Rattle.decoders.specs.Nullable.{nullable}
 use Rattle.decoders.specs.NullableLaws.{nullable_small}
-use Rattle.decoders.specs.Resp.{behind_kind, lines, resp}
+use Rattle.decoders.specs.Resp.{behind_kind, resp, resp_lines}
 
-pub lines_lawful : (max : ℕ) → IsLawful (lines max)
+pub lines_lawful : (max : ℕ) → IsLawful (resp_lines max)
 lines_lawful max = showing_lawful behind_kind (trimming (delimited 10 max))
     (trimming_lawful (delimited 10 max) (delimited_lawful 10 max))
 
 pub resp_lawful : (max : ℕ) → max < 2 ^ 62 → IsLawful (resp max)
-resp_lawful max fits = either_lawful 36 (length_prefixed (scanned (nullable max))) (ended (lines max))
+resp_lawful max fits = either_lawful 36 (length_prefixed (scanned (nullable max))) (ended (resp_lines max))
     (length_prefixed_lawful (scanned (nullable max)) (scanned_headers (nullable max) (nullable_small max fits)))
-    (ended_lawful (lines max) (lines_lawful max))
+    (ended_lawful (resp_lines max) (lines_lawful max))

@@ -35,10 +35,10 @@ Past (Length Empty) = ⊥
 Past (Length (Is n)) = Unit {0}
 Past (After at n) = Unit {0}
 
-abbrev GoesPast : ScanStep TextHeaderState → Type 0
-GoesPast (More place) = Past place
-GoesPast (Sized len) = Unit {0}
-GoesPast Bad = Unit {0}
+abbrev LeadsPast : ScanStep TextHeaderState → Type 0
+LeadsPast (More place) = Past place
+LeadsPast (Sized len) = Unit {0}
+LeadsPast Bad = Unit {0}
 
 -- a number with a digit more isn't empty
 is_number : (number more : Number) (byte : ℕ) → with_byte number byte ≡ Some more → (n : ℕ) × (more ≡ Is n)
@@ -58,30 +58,30 @@ is_number number more byte is = go (nat_lt byte 48 || nat_lt 57 byte) number is
     go false number same = digit number (byte - 48) same
 
 module _ (max : ℕ) where
-  ends_past : (at n : ℕ) → GoesPast (ends (bulk_strings max) at n)
+  ends_past : (at n : ℕ) → LeadsPast (ends (bulk_strings max) at n)
   ends_past at n = go (at == 2)
     where
-      go : (x : Bool) → GoesPast (if x then Sized n else More (After at n))
+      go : (x : Bool) → LeadsPast (if x then Sized n else More (After at n))
       go true = tt
       go false = tt
 
-  turns_past : (place : TextHeaderState) (byte : ℕ) → Past place → GoesPast (text_turn (bulk_strings max) place byte)
+  turns_past : (place : TextHeaderState) (byte : ℕ) → Past place → LeadsPast (text_turn (bulk_strings max) place byte)
   turns_past (Before at) byte past = absurd past
   turns_past (Length Empty) byte past = absurd past
   turns_past (Length (Is n)) byte past = go (with_byte (Is n) byte) refl
     where
-      last : (x : Bool) → GoesPast (if x then ends (bulk_strings max) 1 n else Bad)
+      last : (x : Bool) → LeadsPast (if x then ends (bulk_strings max) 1 n else Bad)
       last true = ends_past 1 n
       last false = tt
 
-      go : (o : Option Number) → with_byte (Is n) byte ≡ o → GoesPast (counts (bulk_strings max) o (Is n) byte)
+      go : (o : Option Number) → with_byte (Is n) byte ≡ o → LeadsPast (counts (bulk_strings max) o (Is n) byte)
       go None is = last (stands (13 ∷ 10 ∷ []) 0 byte)
       go (Some more) is =
           let m = is_number (Is n) more byte is in
           subst (λ k. Past (Length k)) (sym m.1) tt
   turns_past (After at n) byte past = go (stands (13 ∷ 10 ∷ []) at byte)
     where
-      go : (x : Bool) → GoesPast (if x then ends (bulk_strings max) (at + 1) n else Bad)
+      go : (x : Bool) → LeadsPast (if x then ends (bulk_strings max) (at + 1) n else Bad)
       go true = ends_past (at + 1) n
       go false = tt
 
@@ -108,7 +108,7 @@ module _ (max : ℕ) where
       no_minus (After at n) past true = refl
       no_minus (After at n) past false = refl
 
-      on : (turn : ScanStep TextHeaderState) → GoesPast turn
+      on : (turn : ScanStep TextHeaderState) → LeadsPast turn
           → ((next : TextHeaderState) → Past next → goes_on (Text next)
           ≡ scan_on (text_turn (bulk_strings max)) left next (used + 1) bytes)
           → says (in_text turn) (used + 1) goes_on

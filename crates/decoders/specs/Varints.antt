@@ -31,9 +31,9 @@ abbrev pub kind_pieces : ℕ → Grammar HeaderError
 kind_pieces max = length_prefixed (scanned (kind_varints max))
 
 -- the kind of a piece
-abbrev pub kind_of : List ℕ → ℕ
-kind_of [] = 0
-kind_of (kind ∷ more) = kind
+abbrev pub piece_kind : List ℕ → ℕ
+piece_kind [] = 0
+piece_kind (kind ∷ more) = kind
 
 -- a length as it is written: seven bits a byte, the lowest first, and 128 more in each but the last
 abbrev pub varint_bytes : ℕ → List ℕ

@@ -11,7 +11,7 @@ use Rattle.codec.specs.ScanningLaws.{scanned_headers}
 use Rattle.codec.specs.declared.Header.{Header}
 use Rattle.codec.specs.declared.Header.TheVariants as header
 use Rattle.codec.specs.declared.scan.ScanStep.TheVariants.{More, Sized, Bad}
-use Rattle.decoders.specs.Varints.{kind_headers, kind_of, kind_pieces, kind_varints, varint_bytes, varint_turn, varints}
+use Rattle.decoders.specs.Varints.{kind_headers, kind_pieces, kind_varints, piece_kind, varint_bytes, varint_turn, varints}
 use Rattle.decoders.specs.declared.varints.VarintPlace.TheVariants as at
 
 pub varints_small : (max : ℕ) → max < 2 ^ 28 → IsSmall (varints max)
@@ -88,27 +88,27 @@ module _ (used : ℕ) where
       ∙ ap (λ t. says (if t then Sized (a + 128 * b + 16384 * c + 2097152 * d) else Bad) (used + 1 + 1 + 1 + 1)
       (λ next. scan_on varint_turn 0 next (used + 1 + 1 + 1 + 1) [])) (lt-ltb d 128 less)
 
-  abbrev Reads : ℕ → List ℕ → Type 0
-  Reads n bytes = scan bytes ≡ header.Sized n (used + length bytes)
+  abbrev ScansAs : ℕ → List ℕ → Type 0
+  ScansAs n bytes = scan bytes ≡ header.Sized n (used + length bytes)
 
   said : {n len at' : ℕ} (bytes : List ℕ) → scan bytes ≡ header.Sized len at' → len ≡ n → at' ≡ used + length bytes
-      → Reads n bytes
+      → ScansAs n bytes
   said {n = n} {at' = at'} bytes is same place = is ∙ ap (λ n. header.Sized n at') same ∙ ap (header.Sized n) place
 
-  pub varint_back : (n : ℕ) → n < 2 ^ 28 → Reads n (varint_bytes n)
+  pub varint_back : (n : ℕ) → n < 2 ^ 28 → ScansAs n (varint_bytes n)
   varint_back n fits = by_one (nat_lt n 128) refl
     where
-      by_three : (b : Bool) → nat_lt n 2097152 ≡ b → Reads n (three_or_four n b)
+      by_three : (b : Bool) → nat_lt n 2097152 ≡ b → ScansAs n (three_or_four n b)
       by_three true less = said ((128 + n % 128) ∷ (128 + n / 128 % 128) ∷ (n / 16384) ∷ []) (three (n % 128) (n / 128 % 128) (n / 16384) (omega (arith, ltb-true n 2097152 less)))
           (omega arith) (omega arith)
       by_three false more = said ((128 + n % 128) ∷ (128 + n / 128 % 128) ∷ (128 + n / 16384 % 128) ∷ (n / 2097152) ∷ []) (four (n % 128) (n / 128 % 128) (n / 16384 % 128) (n / 2097152) (omega (arith, fits)))
           (omega arith) (omega arith)
 
-      by_two : (b : Bool) → nat_lt n 16384 ≡ b → Reads n (two_or_more n b)
+      by_two : (b : Bool) → nat_lt n 16384 ≡ b → ScansAs n (two_or_more n b)
       by_two true less = said ((128 + n % 128) ∷ (n / 128) ∷ []) (two (n % 128) (n / 128) (omega (arith, ltb-true n 16384 less))) (omega arith) (omega arith)
       by_two false more = by_three (nat_lt n 2097152) refl
 
-      by_one : (b : Bool) → nat_lt n 128 ≡ b → Reads n (if b then n ∷ [] else two_or_more n (nat_lt n 16384))
+      by_one : (b : Bool) → nat_lt n 128 ≡ b → ScansAs n (if b then n ∷ [] else two_or_more n (nat_lt n 16384))
       by_one true less = one n (ltb-true n 128 less)
       by_one false more = by_two (nat_lt n 16384) refl
 
@@ -121,7 +121,7 @@ varints_read_back max fits = record {
 
 -- a piece of any kind is read as it was written
 pub kind_pieces_back : (max : ℕ) → max < 2 ^ 28 → (kind : ℕ) (payload : List ℕ) → length payload ≤ max
-    → IsItemRead (kind_pieces max) kind_of kind payload ((kind ∷ varint_bytes (length payload)) ++ payload)
+    → IsItemRead (kind_pieces max) piece_kind kind payload ((kind ∷ varint_bytes (length payload)) ++ payload)
 kind_pieces_back max fits kind payload short =
     let h = scanned (kind_varints max) in
     let o = kind_headers max kind in

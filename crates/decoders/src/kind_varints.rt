@@ -98,11 +98,11 @@ impl Decoder for KindVarints {
 }
 
 impl Items for KindVarints {
-    ghost use Rattle.decoders.specs.Varints.{kind_of};
+    ghost use Rattle.decoders.specs.Varints.{piece_kind};
 
     type Item = u8;
 
-    ghost item_of = { λ _. kind_of };
+    ghost item_of = { λ _. piece_kind };
 
     #[inline(always)]
     fn item(&self, piece: &[u8]) -> u8 {

@@ -1,6 +1,6 @@
 //! Pieces whose payload has its length in front, in bytes.
 ghost use Rattle.std.specs.Prelude.{◌≡◌, ◌^◌, ◌<◌, ◌≤◌, length, take};
-ghost use Rattle.decoders.specs.Lengths.{number_of, size_of};
+ghost use Rattle.decoders.specs.Lengths.{number_in_bytes, size_of};
 ghost use Rattle.decoders.specs.declared.lengths.Order.TheVariants as Order;
 
 use codec::{Header, LengthPrefixed};
@@ -108,7 +108,7 @@ impl Width {
 #[inline(always)]
 fn highest_first(width: Width, bytes: &[u8]) -> usize
     requires { size_of width ≤ length bytes.now }
-    ensures { result ≡ number_of width Order.BigEndian (take (size_of width) bytes.now) }
+    ensures { result ≡ number_in_bytes width Order.BigEndian (take (size_of width) bytes.now) }
 {
     match width {
         Width::One => usize::from(u8::from_be_bytes([bytes[0]])),
@@ -126,7 +126,7 @@ fn highest_first(width: Width, bytes: &[u8]) -> usize
 #[inline(always)]
 fn lowest_first(width: Width, bytes: &[u8]) -> usize
     requires { size_of width ≤ length bytes.now }
-    ensures { result ≡ number_of width Order.LittleEndian (take (size_of width) bytes.now) }
+    ensures { result ≡ number_in_bytes width Order.LittleEndian (take (size_of width) bytes.now) }
 {
     match width {
         Width::One => usize::from(u8::from_le_bytes([bytes[0]])),

@@ -1,6 +1,6 @@
 //! Lengths in bytes, as they are written.
 ghost use Rattle.std.specs.Prelude.{◌≡◌, ◌≤◌, min, take};
-ghost use Rattle.decoders.specs.LengthsOut.{bytes_of, most_of};
+ghost use Rattle.decoders.specs.LengthsOut.{length_in_bytes, most_of};
 ghost use Rattle.decoders.specs.declared.lengths.Order.TheVariants as Order;
 
 use crate::lengths::{Lengths, Order, Width};
@@ -10,7 +10,7 @@ use codec::{HeaderBytes, LengthPrefixedOut};
 impl LengthPrefixedOut for Lengths {
     ghost use Rattle.decoders.specs.LengthsOutLaws.{lengths_read_back};
 
-    ghost headers_out = { λ d. record { header = bytes_of d.width d.order; max = min d.max (most_of d.width) } };
+    ghost headers_out = { λ d. record { header = length_in_bytes d.width d.order; max = min d.max (most_of d.width) } };
 
     #[inline(always)]
     fn header_of(&self, len: usize) -> HeaderBytes {
@@ -47,7 +47,7 @@ impl Width {
 #[inline(always)]
 fn highest_first(width: Width, len: usize) -> HeaderBytes
     requires { len ≤ most_of width }
-    ensures { take result.len result.bytes ≡ bytes_of width Order.BigEndian len }
+    ensures { take result.len result.bytes ≡ length_in_bytes width Order.BigEndian len }
 {
     match width {
         Width::One => HeaderBytes::new(&(len as u8).to_be_bytes()),
@@ -61,7 +61,7 @@ fn highest_first(width: Width, len: usize) -> HeaderBytes
 #[inline(always)]
 fn lowest_first(width: Width, len: usize) -> HeaderBytes
     requires { len ≤ most_of width }
-    ensures { take result.len result.bytes ≡ bytes_of width Order.LittleEndian len }
+    ensures { take result.len result.bytes ≡ length_in_bytes width Order.LittleEndian len }
 {
     match width {
         Width::One => HeaderBytes::new(&(len as u8).to_le_bytes()),

@@ -213,14 +213,14 @@ struct Lines {
 }
 
 impl Decoder for Lines {
-    ghost use Rattle.decoders.specs.Resp.{lines};
+    ghost use Rattle.decoders.specs.Resp.{resp_lines};
     ghost use Rattle.decoders.specs.RespLaws.{lines_lawful};
 
     type Wrong = TooLong;
 
     type Note = ();
 
-    ghost grammar = { λ d. lines d.max };
+    ghost grammar = { λ d. resp_lines d.max };
 
     fn most(&self) -> usize {
         1 + self.max

@@ -6,7 +6,7 @@ use Rattle.forward.specs.Filter.{AsksOnce, FilterRules, IsLawful}
 use Rattle.forward.specs.Flushes.{FlushesSend}
 use Rattle.forward.specs.Forward.{Forwards, flushed_last}
 use Rattle.forward.specs.Link.{Ask, Goes, IsPrompt, Linked}
-use Rattle.forward.specs.Steps.{AlsoAsked, AskedFrom, AskedTo, ForwardsNext, NextAnswers}
+use Rattle.forward.specs.Steps.{AlsoAsked, AskedFrom, AskedTo, ForwardsNext, StepAnswers}
 use Rattle.forward.specs.StreamsLaws.{MetNoFault-none}
 use Rattle.forward.specs.declared.error.Cause.{Cause}
 use Rattle.forward.specs.declared.error.Cause.TheVariants.{Count}
@@ -93,7 +93,7 @@ module _ {T W : Type 0} (rules : FilterRules T W) (lawful : IsLawful rules) wher
         all_once : AsksOnce rules first.filter t.filter
         all_once = once_on rules lawful Prompt count first s t before prompt_of answer next
 
-        all_answers : NextAnswers rules count first.filter answer t.filter
+        all_answers : StepAnswers rules count first.filter answer t.filter
         all_answers = answers_on rules lawful Prompt count first s t before prompt_of answer next
 
       pub so_far_more : ForwardsNext rules s (Ok true) t → SoFar rules Prompt (count + 1) first t

@@ -4,13 +4,13 @@ use Rattle.std.specs.Option.{option_map_or}
 use Rattle.std.specs.Result.{result_err}
 use Rattle.std.specs.declared.io.Error.{Error}
 use Rattle.redux_buffer.specs.Faults.{MetInterrupts, OnlyInterrupts, OnlyInterrupts-joins, OnlyInterrupts-same}
-use Rattle.forward.specs.Filter.{AsksOnce, FilterRules, FlushesOnce, IsLawful, Moves, StaysOpen, WasAsked, Wrote}
+use Rattle.forward.specs.Filter.{AsksOnce, FilterRules, FlushesOnce, IsLawful, Moves, StaysOpen, WasAsked, WritesOnlyInterrupted}
 use Rattle.forward.specs.Forward.{NoneFailed, flushed_last}
 use Rattle.forward.specs.Link.{Ask, Goes, LinkFlushes, LinkPasses, Linked, NotAsked}
 use Rattle.forward.specs.Prompt.{WritesOn}
-use Rattle.forward.specs.Steps.{AlsoAsked, AskedFrom, AskedTo, ForwardsNext, GivesUp, GoesAhead, IsQuiet, NextAnswers, OnTrue, OnlyInterrupted, TakesTurn}
+use Rattle.forward.specs.Steps.{AlsoAsked, AskedFrom, AskedTo, ForwardsNext, GivesUp, GoesAhead, IsQuiet, OnTrue, ReadsOnlyInterrupted, StepAnswers, TakesTurn}
 use Rattle.forward.specs.Streams.{ReadGaveUp}
-use Rattle.forward.specs.StreamsLaws.{MetNoFault-joins, ReadFailed-after, SendFailed-after}
+use Rattle.forward.specs.StreamsLaws.{MetNoFault-joins, ReadFailed-after, WriterFailed-after}
 use Rattle.forward.specs.declared.error.AskError.{AskError}
 use Rattle.forward.specs.declared.error.AskError.TheVariants as asked
 use Rattle.forward.specs.declared.error.Cause.{Cause}
@@ -47,7 +47,7 @@ module _ {T W : Type 0} (rules : FilterRules T W) where
   also_asked Such (Ok false) ask is = is
   also_asked Such (Err e) ask is = is
 
-  met_writes : (s t : T) → rules.read t ≡ rules.read s → Wrote rules s t → NoneFailed rules s t
+  met_writes : (s t : T) → rules.read t ≡ rules.read s → WritesOnlyInterrupted rules s t → NoneFailed rules s t
   met_writes s t told met = record {
     reader = OnlyInterrupts-same (rules.read s).reads.faults (rules.read t).reads.faults (ap (λ l. l.reads.faults) told);
     writer = met;
@@ -62,7 +62,7 @@ module _ {T W : Type 0} (rules : FilterRules T W) where
           (rules.written first.filter) (rules.written s.filter) (rules.written t.filter) before.met
 
       behind : (answer : Result Bool (Cause W)) → AsksOnce rules s.filter t.filter
-          → NextAnswers rules 0 s.filter answer t.filter → NextAnswers rules count first.filter answer t.filter
+          → StepAnswers rules 0 s.filter answer t.filter → StepAnswers rules count first.filter answer t.filter
       behind (Ok true) once next = (
         forwarded_joins rules lawful first.filter s.filter t.filter count 1 before.forwarded next.0,
         met_on next.1,
@@ -93,7 +93,7 @@ module _ {T W : Type 0} (rules : FilterRules T W) where
       behind (Err (Write e)) once next = (
         first_joins rules lawful first.filter s.filter t.filter count before.forwarded next.0,
         elim next.1 [
-          | inl failed ↦ inl (SendFailed-after e (rules.read first.filter) (rules.read s.filter) (rules.read t.filter)
+          | inl failed ↦ inl (WriterFailed-after e (rules.read first.filter) (rules.read s.filter) (rules.read t.filter)
               (rules.written first.filter) (rules.written s.filter) (rules.written t.filter) before.met failed)
           | inr (only, refused) ↦ inr (
             OnlyInterrupts-joins (rules.read first.filter).reads.faults (rules.read s.filter).reads.faults
@@ -115,7 +115,7 @@ module _ {T W : Type 0} (rules : FilterRules T W) where
         pub once_on : AsksOnce rules first.filter t.filter
         once_on = AsksOnce-joins rules first.filter s.filter t.filter before.once before.still next.once
 
-        pub answers_on : NextAnswers rules count first.filter answer t.filter
+        pub answers_on : StepAnswers rules count first.filter answer t.filter
         answers_on = behind answer next.once next.answers
 
     asked_after : (a b : T) → Moves rules a [] [] b → AsksOnce rules a b → StaysOpen rules a b → (ask : Ask T)
@@ -145,7 +145,7 @@ module _ {T W : Type 0} (rules : FilterRules T W) where
 
     -- a payload was there; or none was, and it was asked for; or sending failed
     module _ (s m : Linked T) where
-      unread : rules.read m.filter ≡ rules.read s.filter → OnlyInterrupted rules s.filter m.filter
+      unread : rules.read m.filter ≡ rules.read s.filter → ReadsOnlyInterrupted rules s.filter m.filter
       unread told = OnlyInterrupts-same (rules.read s.filter).reads.faults (rules.read m.filter).reads.faults
           (ap (λ l. l.reads.faults) told)
 
@@ -267,10 +267,10 @@ module _ {T W : Type 0} (rules : FilterRules T W) where
       once = AsksOnce-joins rules s.filter m.filter t.filter (flush_once s m (Ok tt) p)
           (StaysOpen-none rules s.filter m.filter p.flushes.told) turn.once
 
-      wrote : Wrote rules s.filter t.filter
+      wrote : WritesOnlyInterrupted rules s.filter t.filter
       wrote = subst (λ l. MetInterrupts (rules.written s.filter).writes l.writes) (sym turn.told) p.flushes.answers.1
 
-      met : OnlyInterrupted rules m.filter t.filter → NoneFailed rules s.filter t.filter
+      met : ReadsOnlyInterrupted rules m.filter t.filter → NoneFailed rules s.filter t.filter
       met only = record {
         reader = subst (λ l. OnlyInterrupts l.reads.faults (rules.read t.filter).reads.faults) p.flushes.told only;
         writer = wrote;
@@ -295,7 +295,7 @@ module _ {T W : Type 0} (rules : FilterRules T W) where
       ended : (next : Result Bool (Cause W))
           → ((ask : Ask T) → AskedTo rules answer (AskedFrom rules s.filter) ask
           → AskedTo rules next (AskedFrom rules s.filter) ask) → OnTrue rules next (GoesAhead rules s.filter t.filter)
-          → NextAnswers rules 0 s.filter next t.filter → ForwardsNext rules s next t
+          → StepAnswers rules 0 s.filter next t.filter → ForwardsNext rules s next t
       ended next so more answers = record {
         goes = Goes-weaker rules (AskedTo rules answer (AskedFrom rules s.filter))
             (AskedTo rules next (AskedFrom rules s.filter)) so (option_map_or flushed_last (result_err next) 0) s t

@@ -5,8 +5,8 @@ use Rattle.std.proofs.lemmas.List.Elements.{All-append, All-cons, All-head, All-
 use Rattle.forward.specs.Filter.{AsksOnce, FilterRules, IsLawful, Moves, StaysOpen, WasAsked}
 use Rattle.forward.specs.Forward.{Forwarded, ForwardedFirst}
 use Rattle.forward.specs.Link.{Ask, AreTurns, AskedBefore, AsksAlong, Goes, IsAsk, IsTurn, Linked, NotAsked, states_of}
-use Rattle.forward.specs.Prompt.{AsksGive}
-use Rattle.forward.specs.PromptLaws.{AsksGive-joins, AsksGive-none, WritesOn-none, WritesOn-joins}
+use Rattle.forward.specs.Prompt.{AsksGiveOrFail}
+use Rattle.forward.specs.PromptLaws.{AsksGiveOrFail-joins, AsksGiveOrFail-none, WritesOn-none, WritesOn-joins}
 
 module _ {T W : Type 0} (rules : FilterRules T W) where
   module _ (lawful : IsLawful rules) where
@@ -67,7 +67,7 @@ module _ {T W : Type 0} (rules : FilterRules T W) where
   pub StaysOpen-none : (s t : T) → rules.read t ≡ rules.read s → StaysOpen rules s t
   StaysOpen-none s t same = inl (record {
     zero_reads = ap (λ l. l.reads.zero_reads) same;
-    give = subst (AsksGive (rules.read s)) (sym same) (AsksGive-none (rules.read s));
+    give = subst (AsksGiveOrFail (rules.read s)) (sym same) (AsksGiveOrFail-none (rules.read s));
   })
 
   pub AsksOnce-joins : (a b c : T) → AsksOnce rules a b → StaysOpen rules a b → AsksOnce rules b c → AsksOnce rules a c
@@ -83,7 +83,7 @@ module _ {T W : Type 0} (rules : FilterRules T W) where
   pub StaysOpen-joins : (a b c : T) → StaysOpen rules a b → AsksOnce rules b c → StaysOpen rules b c → StaysOpen rules a c
   StaysOpen-joins a b c (inl first) once (inl second) = inl (record {
     zero_reads = second.zero_reads ∙ first.zero_reads;
-    give = AsksGive-joins (rules.read a) (rules.read b) (rules.read c) first.give second.give;
+    give = AsksGiveOrFail-joins (rules.read a) (rules.read b) (rules.read c) first.give second.give;
   })
   StaysOpen-joins a b c (inl first) once (inr closed) = inr closed
   StaysOpen-joins a b c (inr closed) once second = inr (once.closed closed)

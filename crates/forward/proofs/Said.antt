@@ -1,12 +1,12 @@
 -- What a call says first.
 use Rattle.std.proofs.Common.{◌≡◌, ℕ, List, [], ◌∷◌, length, Bool, true, false, if◌then◌else◌, Result, Ok, Err, IfOk, OnOk, refl}
 use Rattle.std.specs.declared.io.Error.{Error}
-use Rattle.forward.specs.Filter.{FilterRules, Flushes, Passes}
+use Rattle.forward.specs.Filter.{FilterFlushes, FilterPasses, FilterRules}
 use Rattle.forward.specs.Forward.{Forwards}
 use Rattle.forward.specs.Link.{Linked}
 
 module _ {T W : Type 0} (rules : FilterRules T W) where
-  pub pass_says : (s t : T) (answer : Result Bool Error) → Passes rules s answer t
+  pub pass_says : (s t : T) (answer : Result Bool Error) → FilterPasses rules s answer t
       → IfOk answer (λ one. (payloads : List (List ℕ)) × (length payloads ≡ (if one then 1 else 0))
       × rules.hands s payloads t × rules.takes s payloads t)
   pass_says s t (Ok true) passes =
@@ -17,7 +17,7 @@ module _ {T W : Type 0} (rules : FilterRules T W) where
       ([], refl, moves.hands, moves.takes)
   pass_says s t (Err e) passes = tt
 
-  pub flush_says : (s t : T) (answer : Result (Unit {0}) Error) → Flushes rules s answer t → OnOk answer (rules.sent t)
+  pub flush_says : (s t : T) (answer : Result (Unit {0}) Error) → FilterFlushes rules s answer t → OnOk answer (rules.sent t)
   flush_says s t (Ok _) flushes = flushes.answers.0
   flush_says s t (Err e) flushes = tt
 

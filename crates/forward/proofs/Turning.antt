@@ -6,7 +6,7 @@ use Rattle.std.specs.declared.io.Error.{Error}
 use Rattle.redux_buffer.specs.Faults.{IsInterrupt, interrupt_limit, OnlyInterrupts, OnlyInterrupts-none}
 use Rattle.forward.specs.Filter.{AsksOnce, FailedToRead, FilterRules, IsLawful, Moves, StaysOpen, WasAsked}
 use Rattle.forward.specs.Link.{Ask, AskedBefore, AsksAlong, Gave, IsIdle, IsInterrupted, IsTurn, IsTurnBehind, LinkAsks, Linked, states_of}
-use Rattle.forward.specs.Steps.{AlsoAsked, AskedFrom, AskedTo, OnlyInterrupted, RowGoes, TakesTurn, TurnAnswers}
+use Rattle.forward.specs.Steps.{AlsoAsked, AskTurnAnswers, AskedFrom, AskedTo, ReadsOnlyInterrupted, RowGoes, TakesTurn}
 use Rattle.forward.specs.StreamsLaws.{gave_up, one_more, only_more}
 use Rattle.forward.specs.declared.error.AskError.{AskError}
 use Rattle.forward.specs.declared.error.AskError.TheVariants.{Wrong, Io, IoBehind}
@@ -27,7 +27,7 @@ module _ {T W : Type 0} (rules : FilterRules T W) where
     pub moves : Moves rules s.filter [] [] t.filter
     pub once : AsksOnce rules s.filter t.filter
     pub still : StaysOpen rules s.filter t.filter
-    pub met : OnlyInterrupted rules s.filter t.filter
+    pub met : ReadsOnlyInterrupted rules s.filter t.filter
     pub often : length (rules.read s.filter).reads.faults + count ≤ length (rules.read t.filter).reads.faults
 
   module _ (lawful : IsLawful rules) (s : Linked T) where
@@ -95,7 +95,8 @@ module _ {T W : Type 0} (rules : FilterRules T W) where
       moves : Moves rules s.filter [] [] u.filter
       moves = Moves-on rules lawful s.filter t.filter u.filter [] [] before.moves next.asks.moves
 
-      only : (rules.read u.filter).reads.faults ≡ (rules.read t.filter).reads.faults → OnlyInterrupted rules s.filter u.filter
+      only : (rules.read u.filter).reads.faults ≡ (rules.read t.filter).reads.faults
+          → ReadsOnlyInterrupted rules s.filter u.filter
       only same = subst (OnlyInterrupts (rules.read s.filter).reads.faults) (sym same) before.met
 
     -- one that failed asked the stream
@@ -192,7 +193,7 @@ module _ {T W : Type 0} (rules : FilterRules T W) where
           absurd (ends (subst IsInterrupt (sym (same_fault _ _ e is.error next.asks.answers.1 is.failed)) is.interrupt))
 
       failed : (e : Error) (answer : Result Bool (AskError W)) (next : LinkAsks rules t answer u) → (IsInterrupt e → count ≡ interrupt_limit)
-          → rules.waits u.filter × FailedToRead rules e t.filter u.filter → TurnAnswers rules s.filter (Err (Io e)) u.filter
+          → rules.waits u.filter × FailedToRead rules e t.filter u.filter → AskTurnAnswers rules s.filter (Err (Io e)) u.filter
       failed e answer next few a =
           let first = (rules.read s.filter).reads.faults in
           let old = (rules.read t.filter).reads.faults in
@@ -203,7 +204,7 @@ module _ {T W : Type 0} (rules : FilterRules T W) where
           )
 
       answers : (answer : Result Bool (AskError W)) → LinkAsks rules t answer u → RowGoes answer count None
-          → TurnAnswers rules s.filter answer u.filter
+          → AskTurnAnswers rules s.filter answer u.filter
       answers (Ok true) next ends =
           let a = next.asks.answers in
           (a.0, only count t u before (Ok true) next a.1, still count t u before (Ok true) next a.2)

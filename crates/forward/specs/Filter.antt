@@ -3,7 +3,7 @@ use Rattle.std.specs.Prelude.{◌≡◌, ℕ, ◌+◌, ◌<◌, ◌≤◌, ◌�
 use Rattle.std.specs.declared.io.Error.{Error}
 use Rattle.redux_buffer.specs.Faults.{MetInterrupts, SendErrorCaused}
 use Rattle.redux_buffer.specs.StreamLog.{StreamLog}
-use Rattle.forward.specs.Prompt.{AsksGive, SentBeforeAsking, WritesOn}
+use Rattle.forward.specs.Prompt.{AsksGiveOrFail, SentBeforeAsking, WritesOn}
 use Rattle.forward.specs.declared.error.AskError.{AskError}
 use Rattle.forward.specs.declared.error.AskError.TheVariants.{Wrong, Io, IoBehind}
 
@@ -52,8 +52,8 @@ module _ {T W : Type 0} (rules : FilterRules T W) where
     pub takes : rules.takes s taken t
 
   -- writes were at most interrupted; or one failed with this error
-  abbrev pub Wrote : T → T → Type 0
-  Wrote s t = MetInterrupts (rules.written s).writes (rules.written t).writes
+  abbrev pub WritesOnlyInterrupted : T → T → Type 0
+  WritesOnlyInterrupted s t = MetInterrupts (rules.written s).writes (rules.written t).writes
 
   abbrev pub FailedToWrite : Error → T → T → Type 0
   FailedToWrite e s t = SendErrorCaused (rules.written s).writes (rules.written t).writes e
@@ -74,16 +74,17 @@ module _ {T W : Type 0} (rules : FilterRules T W) where
   -- may be lost
   abbrev pub PassAnswers : T → Result Bool Error → T → Type 0
   PassAnswers s (Ok true) t =
-      (payload : List ℕ) × Moves s (payload ∷ []) (payload ∷ []) t × Wrote s t
+      (payload : List ℕ) × Moves s (payload ∷ []) (payload ∷ []) t × WritesOnlyInterrupted s t
       × ((rules.taken s < rules.taken t) ⊎ (rules.drops × StaysSent s t))
       × (rules.taken t ≤ rules.taken s + rules.room s → rules.still s t)
   PassAnswers s (Ok false) t =
-      Moves s [] [] t × Wrote s t × rules.lacks t × (¬ rules.has s) × (rules.drops → StaysSent s t) × rules.still s t
+      Moves s [] [] t × WritesOnlyInterrupted s t × rules.lacks t × (¬ rules.has s) × (rules.drops → StaysSent s t)
+      × rules.still s t
   PassAnswers s (Err e) t =
       (lost : List (List ℕ)) × Moves s lost [] t × (FailedToWrite e s t ⊎ rules.refused e t) × (length lost ≤ 1)
 
   -- what `pass` does: the stream that is read from isn't asked
-  pub record Passes (s : T) (answer : Result Bool Error) (t : T) : Type 0 where
+  pub record FilterPasses (s : T) (answer : Result Bool Error) (t : T) : Type 0 where
     pub told : rules.read t ≡ rules.read s
     pub ready : rules.ready t
     pub closed : rules.closed s → rules.closed t
@@ -92,12 +93,12 @@ module _ {T W : Type 0} (rules : FilterRules T W) where
     pub answers : PassAnswers s answer t
 
   abbrev pub FlushAnswers : T → Result (Unit {0}) Error → T → Type 0
-  FlushAnswers s (Ok _) t = rules.sent t × Wrote s t
+  FlushAnswers s (Ok _) t = rules.sent t × WritesOnlyInterrupted s t
   FlushAnswers s (Err e) t = FailedToWrite e s t
 
   -- what `flush` does: the stream that is read from isn't asked; and where payloads may be dropped, and all had been sent, no
   -- call is made
-  pub record Flushes (s : T) (answer : Result (Unit {0}) Error) (t : T) : Type 0 where
+  pub record FilterFlushes (s : T) (answer : Result (Unit {0}) Error) (t : T) : Type 0 where
     pub told : rules.read t ≡ rules.read s
     pub ready : rules.ready t
     pub closed : rules.closed s → rules.closed t
@@ -122,13 +123,13 @@ module _ {T W : Type 0} (rules : FilterRules T W) where
     pub closed : rules.closed s → rules.closed t
 
   -- the stream never gave nothing: each ask gave a byte, or failed
-  pub record Gives (s t : T) : Type 0 where
+  pub record NeverGaveNothing (s t : T) : Type 0 where
     pub zero_reads : (rules.read t).reads.zero_reads ≡ (rules.read s).reads.zero_reads
-    pub give : AsksGive (rules.read s) (rules.read t)
+    pub give : AsksGiveOrFail (rules.read s) (rules.read t)
 
   -- the stream never gave nothing, or its end is known
   abbrev pub StaysOpen : T → T → Type 0
-  StaysOpen s t = Gives s t ⊎ rules.closed t
+  StaysOpen s t = NeverGaveNothing s t ⊎ rules.closed t
 
   -- the stream was asked, as its log tells, unless it needn't be for a payload
   abbrev pub WasAsked : T → T → Type 0
@@ -142,7 +143,7 @@ module _ {T W : Type 0} (rules : FilterRules T W) where
   AskAnswers s (Err (IoBehind e)) t = rules.waits t × FailedToRead e s t × StaysOpen s t × (rules.wants t < rules.wants s)
 
   -- what `ask` does: nothing is written
-  pub record Asks (s : T) (answer : Result Bool (AskError W)) (t : T) : Type 0 where
+  pub record FilterAsks (s : T) (answer : Result Bool (AskError W)) (t : T) : Type 0 where
     pub told : rules.written t ≡ rules.written s
     pub ready : rules.ready t
     pub moves : Moves s [] [] t

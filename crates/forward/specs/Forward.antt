@@ -7,7 +7,7 @@ use Rattle.redux_buffer.specs.Faults.{OnlyInterrupts}
 use Rattle.forward.specs.Filter.{FilterRules, Moves}
 use Rattle.forward.specs.Flushes.{FlushesSend}
 use Rattle.forward.specs.Link.{Goes, IsPrompt, Linked}
-use Rattle.forward.specs.Streams.{EndsOnce, MetNoFault, ReadFailed, SendFailed}
+use Rattle.forward.specs.Streams.{EndsOnce, MetNoFault, ReadFailed, WriterFailed}
 use Rattle.forward.specs.declared.error.Cause.{Cause}
 use Rattle.forward.specs.declared.error.Cause.TheVariants.{Wrong, Read, Write, Count}
 use Rattle.forward.specs.declared.error.Stopped.{Stopped}
@@ -41,7 +41,7 @@ module _ {T W : Type 0} (rules : FilterRules T W) where
   -- sending failed; or a payload was refused. Reads were at most interrupted
   abbrev pub NotWritten : Error → T → T → Type 0
   NotWritten e s t =
-      SendFailed e (rules.read s) (rules.read t) (rules.written s) (rules.written t)
+      WriterFailed e (rules.read s) (rules.read t) (rules.written s) (rules.written t)
       ⊎ (OnlyInterrupts (rules.read s).reads.faults (rules.read t).reads.faults × rules.refused e t)
 
   -- what each cause says, behind which so many payloads went over. Where a read failed, it may be forwarded on

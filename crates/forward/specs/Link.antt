@@ -3,7 +3,7 @@ use Rattle.std.specs.Prelude.{◌≡◌, ℕ, ◌+◌, ◌<◌, ◌≤◌, ◌�
 use Rattle.std.specs.List.{All, flat_map}
 use Rattle.std.specs.declared.io.Error.{Error}
 use Rattle.redux_buffer.specs.Faults.{IsInterrupt, interrupt_limit}
-use Rattle.forward.specs.Filter.{Asks, AsksSent, FailedToRead, FilterRules, Flushes, Passes, WasAsked}
+use Rattle.forward.specs.Filter.{AsksSent, FailedToRead, FilterAsks, FilterFlushes, FilterPasses, FilterRules, WasAsked}
 use Rattle.forward.specs.Prompt.{WritesOn}
 use Rattle.forward.specs.declared.error.AskError.{AskError}
 
@@ -92,13 +92,13 @@ module _ {T W : Type 0} (rules : FilterRules T W) where
 
   -- a call of the filter's, and whether it is noted
   pub record LinkPasses (s : Linked T) (answer : Result Bool Error) (t : Linked T) : Type 0 where
-    pub passes : Passes rules s.filter answer t.filter
+    pub passes : FilterPasses rules s.filter answer t.filter
     pub noted : t.states ≡ s.states
 
   pub record LinkFlushes (s : Linked T) (answer : Result (Unit {0}) Error) (t : Linked T) : Type 0 where
-    pub flushes : Flushes rules s.filter answer t.filter
+    pub flushes : FilterFlushes rules s.filter answer t.filter
     pub noted : t.states ≡ s.states
 
   pub record LinkAsks (s : Linked T) (answer : Result Bool (AskError W)) (t : Linked T) : Type 0 where
-    pub asks : Asks rules s.filter answer t.filter
+    pub asks : FilterAsks rules s.filter answer t.filter
     pub noted : t.states ≡ s.states ++ (s.filter ∷ t.filter ∷ [])

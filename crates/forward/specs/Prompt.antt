@@ -10,7 +10,7 @@ pub record AskedLast (before : List ℕ) (read read' : StreamLog) : Type 0 where
       ≤ read.reads.asks + length before + length read'.reads.faults + 1
 
 -- what was received, and what was flushed, begins with these bytes
-pub record WasSent (bytes : List ℕ) (written : WriteLog) : Type 0 where
+pub record WasDelivered (bytes : List ℕ) (written : WriteLog) : Type 0 where
   pub received : GoesOn bytes written.received
   pub flushed : GoesOn bytes written.flushed
 
@@ -20,7 +20,7 @@ pub record SentBeforeAsking (IsDue : List ℕ → List ℕ → Type 0) (read rea
   pub asked : AskedLast before read read'
   pub due : List ℕ
   pub is_due : IsDue before due
-  pub sent : WasSent (written.writes.received ++ due) written'.writes
+  pub sent : WasDelivered (written.writes.received ++ due) written'.writes
 
 -- the reader was not asked, or what is due of what came before the last ask was sent and flushed
 abbrev pub HoldsNothingBack : (List ℕ → List ℕ → Type 0) → StreamLog → StreamLog → StreamLog → StreamLog → Type 0
@@ -28,8 +28,8 @@ HoldsNothingBack IsDue read read' written written' =
     (read' ≡ read) ⊎ SentBeforeAsking IsDue read read' written written'
 
 -- each ask gave a byte, or failed
-abbrev pub AsksGive : StreamLog → StreamLog → Type 0
-AsksGive read read' =
+abbrev pub AsksGiveOrFail : StreamLog → StreamLog → Type 0
+AsksGiveOrFail read read' =
     read'.reads.asks + length read.reads.given + length read.reads.faults
     ≤ read.reads.asks + length read'.reads.given + length read'.reads.faults
 

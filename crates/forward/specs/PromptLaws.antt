@@ -3,7 +3,7 @@ use Rattle.std.proofs.Common.{◌≡◌, ℕ, ◌⊎◌, inl, inr, List, ◌++�
 use Rattle.redux_buffer.specs.GoesOn.{GoesOn, GoesOn-none, GoesOn-joins}
 use Rattle.redux_buffer.specs.LogGrows.{WriteLogGrows}
 use Rattle.redux_buffer.specs.StreamLog.{StreamLog, WriteLog}
-use Rattle.forward.specs.Prompt.{AskedLast, AsksGive, HoldsNothingBack, WasSent, WritesOn}
+use Rattle.forward.specs.Prompt.{AskedLast, AsksGiveOrFail, HoldsNothingBack, WasDelivered, WritesOn}
 
 pub WritesOn-none : (l : WriteLog) → WritesOn l l
 WritesOn-none l = record { received = GoesOn-none l.received; flushed = inl refl }
@@ -25,8 +25,8 @@ WritesOn-grows old new grows = record {
 }
 
 -- what was sent stays so
-pub WasSent-on : (bytes : List ℕ) (old new : WriteLog) → WasSent bytes old → WritesOn old new → WasSent bytes new
-WasSent-on bytes old new sent more = record {
+pub WasDelivered-on : (bytes : List ℕ) (old new : WriteLog) → WasDelivered bytes old → WritesOn old new → WasDelivered bytes new
+WasDelivered-on bytes old new sent more = record {
   received = GoesOn-joins bytes old.received new.received sent.received more.received;
   flushed = elim more.flushed [
     | inl same ↦ subst (λ l. GoesOn bytes l) (sym same) sent.flushed
@@ -44,12 +44,12 @@ HoldsNothingBack-on IsDue a b c k l m held same more = elim held [
     asked = sent.asked;
     due = sent.due;
     is_due = sent.is_due;
-    sent = WasSent-on (k.writes.received ++ sent.due) l.writes m.writes sent.sent more;
+    sent = WasDelivered-on (k.writes.received ++ sent.due) l.writes m.writes sent.sent more;
   }))
 ]
 
 -- bytes had come, each ask gave a byte or failed, and then it was asked again
-pub AskedLast-after : (a b c : StreamLog) (had came : List ℕ) → b.reads.given ≡ a.reads.given ++ had → AsksGive a b
+pub AskedLast-after : (a b c : StreamLog) (had came : List ℕ) → b.reads.given ≡ a.reads.given ++ had → AsksGiveOrFail a b
     → AskedLast came b c → AskedLast (had ++ came) a c
 AskedLast-after a b c had came given give asked =
     let last = c.reads.latest in
@@ -67,11 +67,11 @@ AskedLast-after a b c had came given give asked =
     }
 
 -- each ask gave a byte, or failed, and so on
-pub AsksGive-none : (a : StreamLog) → AsksGive a a
-AsksGive-none a = omega arith
+pub AsksGiveOrFail-none : (a : StreamLog) → AsksGiveOrFail a a
+AsksGiveOrFail-none a = omega arith
 
-pub AsksGive-joins : (a b c : StreamLog) → AsksGive a b → AsksGive b c → AsksGive a c
-AsksGive-joins a b c first second = omega (arith, first, second)
+pub AsksGiveOrFail-joins : (a b c : StreamLog) → AsksGiveOrFail a b → AsksGiveOrFail b c → AsksGiveOrFail a c
+AsksGiveOrFail-joins a b c first second = omega (arith, first, second)
 
 -- where what is due is also such
 pub HoldsNothingBack-such : (P Q : List ℕ → List ℕ → Type 0) (a b k l : StreamLog)

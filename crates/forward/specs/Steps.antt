@@ -43,19 +43,19 @@ module _ {T W : Type 0} (rules : FilterRules T W) where
   AskedTo (Err e) Such = Such
 
   -- reads were at most interrupted
-  abbrev pub OnlyInterrupted : T → T → Type 0
-  OnlyInterrupted s t = OnlyInterrupts (rules.read s).reads.faults (rules.read t).reads.faults
+  abbrev pub ReadsOnlyInterrupted : T → T → Type 0
+  ReadsOnlyInterrupted s t = OnlyInterrupts (rules.read s).reads.faults (rules.read t).reads.faults
 
   -- where reads failed so that they aren't tried again, none is there yet
   abbrev pub GivesUp : T → Error → T → Type 0
   GivesUp s e t = rules.waits t × ReadGaveUp e (rules.read s).reads.faults (rules.read t).reads.faults
 
-  abbrev pub TurnAnswers : T → Result Bool (AskError W) → T → Type 0
-  TurnAnswers s (Ok true) t = rules.has t × OnlyInterrupted s t × StaysOpen rules s t
-  TurnAnswers s (Ok false) t = rules.ends s (Ok tt) t × OnlyInterrupted s t
-  TurnAnswers s (Err (Wrong why)) t = rules.ends s (Err why) t × OnlyInterrupted s t
-  TurnAnswers s (Err (Io e)) t = GivesUp s e t
-  TurnAnswers s (Err (IoBehind e)) t = GivesUp s e t
+  abbrev pub AskTurnAnswers : T → Result Bool (AskError W) → T → Type 0
+  AskTurnAnswers s (Ok true) t = rules.has t × ReadsOnlyInterrupted s t × StaysOpen rules s t
+  AskTurnAnswers s (Ok false) t = rules.ends s (Ok tt) t × ReadsOnlyInterrupted s t
+  AskTurnAnswers s (Err (Wrong why)) t = rules.ends s (Err why) t × ReadsOnlyInterrupted s t
+  AskTurnAnswers s (Err (Io e)) t = GivesUp s e t
+  AskTurnAnswers s (Err (IoBehind e)) t = GivesUp s e t
 
   -- what one turn of asks does
   pub record TakesTurn (s : Linked T) (answer : Result Bool (AskError W)) (t : Linked T) : Type 0 where
@@ -70,13 +70,13 @@ module _ {T W : Type 0} (rules : FilterRules T W) where
     pub moves : Moves rules s.filter [] [] t.filter
     pub sent : rules.sent t.filter
     pub once : AsksOnce rules s.filter t.filter
-    pub answers : TurnAnswers s.filter answer t.filter
+    pub answers : AskTurnAnswers s.filter answer t.filter
 
   -- what the next payload's answer says, behind so many that went over
-  abbrev pub NextAnswers : ℕ → T → Result Bool (Cause W) → T → Type 0
-  NextAnswers count s (Ok true) t = Forwarded rules (count + 1) s t × NoneFailed rules s t × StaysOpen rules s t
-  NextAnswers count s (Ok false) t = Forwarded rules count s t × rules.ends s (Ok tt) t × rules.sent t × NoneFailed rules s t
-  NextAnswers count s (Err cause) t = StopsBy rules count s cause t
+  abbrev pub StepAnswers : ℕ → T → Result Bool (Cause W) → T → Type 0
+  StepAnswers count s (Ok true) t = Forwarded rules (count + 1) s t × NoneFailed rules s t × StaysOpen rules s t
+  StepAnswers count s (Ok false) t = Forwarded rules count s t × rules.ends s (Ok tt) t × rules.sent t × NoneFailed rules s t
+  StepAnswers count s (Err cause) t = StopsBy rules count s cause t
 
   -- the fact holds where a payload went over
   abbrev pub OnTrue : Result Bool (Cause W) → Type 0 → Type 0
@@ -102,4 +102,4 @@ module _ {T W : Type 0} (rules : FilterRules T W) where
     pub more : OnTrue answer (GoesAhead s.filter t.filter)
     pub received : length (rules.written s.filter).writes.received ≤ length (rules.written t.filter).writes.received
     pub ready : rules.ready t.filter
-    pub answers : NextAnswers 0 s.filter answer t.filter
+    pub answers : StepAnswers 0 s.filter answer t.filter

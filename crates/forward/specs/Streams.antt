@@ -20,7 +20,7 @@ pub record ReadFailed (e : Error) (read read' written written' : StreamLog) : Ty
   pub writer : MetInterrupts written.writes written'.writes
 
 -- sending to the writer failed with this error, and reads were at most interrupted
-pub record SendFailed (e : Error) (read read' written written' : StreamLog) : Type 0 where
+pub record WriterFailed (e : Error) (read read' written written' : StreamLog) : Type 0 where
   pub reader : OnlyInterrupts read.reads.faults read'.reads.faults
   pub writer : SendErrorCaused written.writes written'.writes e
 

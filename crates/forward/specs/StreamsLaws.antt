@@ -4,7 +4,7 @@ use Rattle.std.proofs.lemmas.List.Elements.{All-push}
 use Rattle.std.specs.declared.io.Error.{Error}
 use Rattle.redux_buffer.specs.Faults.{IsInterrupt, interrupt_limit, OnlyInterrupts, OnlyInterrupts-none, OnlyInterrupts-joins, FaultAfterInterrupts-after, MetInterrupts-joins, MetInterrupts-none, SendErrorCaused-after}
 use Rattle.redux_buffer.specs.StreamLog.{StreamLog}
-use Rattle.forward.specs.Streams.{MetNoFault, ReadFailed, ReadGaveUp, SendFailed}
+use Rattle.forward.specs.Streams.{MetNoFault, ReadFailed, ReadGaveUp, WriterFailed}
 
 pub MetNoFault-none : (read written : StreamLog) → MetNoFault read read written written
 MetNoFault-none read written =
@@ -52,9 +52,9 @@ ReadFailed-after e a b c k l m p q = record {
   writer = MetInterrupts-joins k.writes l.writes m.writes p.writer q.writer;
 }
 
-pub SendFailed-after : (e : Error) (a b c k l m : StreamLog) → MetNoFault a b k l → SendFailed e b c l m
-    → SendFailed e a c k m
-SendFailed-after e a b c k l m p q = record {
+pub WriterFailed-after : (e : Error) (a b c k l m : StreamLog) → MetNoFault a b k l → WriterFailed e b c l m
+    → WriterFailed e a c k m
+WriterFailed-after e a b c k l m p q = record {
   reader = OnlyInterrupts-joins a.reads.faults b.reads.faults c.reads.faults p.reader q.reader;
   writer = SendErrorCaused-after k.writes l.writes m.writes e p.writer q.writer;
 }

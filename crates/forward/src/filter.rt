@@ -1,5 +1,5 @@
 //! How one payload goes over.
-ghost use Rattle.forward.specs.Filter.{Asks, FilterRules, Flushes, IsLawful, Passes};
+ghost use Rattle.forward.specs.Filter.{FilterAsks, FilterFlushes, FilterPasses, FilterRules, IsLawful};
 
 use crate::error::AskError;
 use std::io;
@@ -16,18 +16,18 @@ pub trait Filter {
     /// Moves the next payload that is there, and returns whether there was one. The stream isn't asked.
     fn pass(&mut self) -> io::Result<bool>
         requires { rules.ready self.old }
-        ensures { Passes rules self.old result self.new };
+        ensures { FilterPasses rules self.old result self.new };
 
     /// Sends and flushes all that was taken in.
     fn flush(&mut self) -> io::Result<()>
         requires { rules.ready self.old }
-        ensures { Flushes rules self.old result self.new };
+        ensures { FilterFlushes rules self.old result self.new };
 
     /// Asks the stream until a payload is there, and returns whether one is: else there are no more.
     fn ask(&mut self) -> Result<bool, AskError<Self::Wrong>>
         requires ready { rules.ready self.old }
         requires lacks { rules.lacks self.old }
-        ensures { Asks rules self.old result self.new };
+        ensures { FilterAsks rules self.old result self.new };
 
     // Payloads stay in order, and what is due is sent with what was taken in.
     ghost lawful: { IsLawful rules };

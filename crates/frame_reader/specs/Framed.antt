@@ -3,7 +3,7 @@ use Rattle.std.specs.Prelude.{◌≡◌, ℕ, ◌+◌, ◌<◌, List, [], ◌++�
 use Rattle.std.specs.List.{All}
 use Rattle.codec.specs.Encoding.{Encoding}
 use Rattle.codec.specs.Grammar.{Begins, Grammar}
-use Rattle.frame_reader.specs.Frames.{BeginsTooLong, Fits, frame, frames, header}
+use Rattle.frame_reader.specs.Frames.{BeginsAbove, Fits, frame, frames, header}
 use Rattle.frame_reader.specs.declared.frame.FrameFault.{FrameFault}
 use Rattle.frame_reader.specs.declared.frame.FrameFault.TheVariants.{Truncated, TooLong}
 
@@ -12,7 +12,7 @@ abbrev pub framed : ℕ → Grammar FrameFault
 framed max = record {
   most = 2 + max;
   piece = λ bytes payload. record { fits : Fits max payload; equal : bytes ≡ frame payload };
-  wrong = λ bytes e. (long : BeginsTooLong max bytes) × (e ≡ TooLong long.len);
+  wrong = λ bytes e. (long : BeginsAbove max bytes) × (e ≡ TooLong long.len);
   last = λ bytes payload. ⊥;
   cut = λ bytes e. e ≡ Truncated (length bytes);
 }
@@ -28,7 +28,7 @@ framed_out max = record {
 }
 
 -- a stream is the frames of these payloads, and then bytes that don't begin with a whole one
-pub record Splits (max : ℕ) (stream : List ℕ) (payloads : List (List ℕ)) (left : List ℕ) : Type 0 where
+pub record SplitsIntoFrames (max : ℕ) (stream : List ℕ) (payloads : List (List ℕ)) (left : List ℕ) : Type 0 where
   pub equal : stream ≡ frames payloads ++ left
   pub fit : All (Fits max) payloads
   pub no_more : ¬ (Begins (framed max) left)

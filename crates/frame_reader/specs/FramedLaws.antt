@@ -9,7 +9,7 @@ use Rattle.codec.specs.Grammar.{IsLawful}
 use Rattle.codec.specs.TextLaws as pieces
 use Rattle.codec.specs.Texts.{HasPieces, IsPieces}
 use Rattle.frame_reader.specs.declared.frame.FrameFault.TheVariants.{TooLong}
-use Rattle.frame_reader.specs.Framed.{Splits, framed, framed_out}
+use Rattle.frame_reader.specs.Framed.{SplitsIntoFrames, framed, framed_out}
 use Rattle.frame_reader.specs.Frames.{BeginsWith, Fits, frame, frames, header}
 use Rattle.frame_reader.specs.FramesLaws.{frame-same, header-same}
 
@@ -89,9 +89,9 @@ module _ (max : ℕ) (word : max < 2 ^ 16) where
   }
 
   -- two readings of a stream are one
-  pub Splits-same : (stream : List ℕ) (ps qs : List (List ℕ)) (xs ys : List ℕ) → Splits max stream ps xs
-      → Splits max stream qs ys → (ps ≡ qs) × (xs ≡ ys)
-  Splits-same stream ps qs xs ys a b = pieces.Splits-same (framed max) framed_lawful stream ps qs xs ys
+  pub SplitsIntoFrames-same : (stream : List ℕ) (ps qs : List (List ℕ)) (xs ys : List ℕ) → SplitsIntoFrames max stream ps xs
+      → SplitsIntoFrames max stream qs ys → (ps ≡ qs) × (xs ≡ ys)
+  SplitsIntoFrames-same stream ps qs xs ys a b = pieces.Splits-same (framed max) framed_lawful stream ps qs xs ys
       (record { equal = pieces_of max stream ps xs a.fit a.equal; no_more = a.no_more })
       (record { equal = pieces_of max stream qs ys b.fit b.equal; no_more = b.no_more })
     where

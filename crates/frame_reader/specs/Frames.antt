@@ -30,7 +30,7 @@ pub record BeginsWith (len : ℕ) (bytes : List ℕ) : Type 0 where
   pub equal : bytes ≡ header len ++ more
 
 -- the bytes begin with a length above max
-pub record BeginsTooLong (max : ℕ) (bytes : List ℕ) : Type 0 where
+pub record BeginsAbove (max : ℕ) (bytes : List ℕ) : Type 0 where
   pub len : ℕ
   pub above : max < len
   pub begins : BeginsWith len bytes

@@ -26,8 +26,8 @@ pub record FramesWent {S : Type 0} (remaining : S → Option (List ℕ)) (s : Re
   pub went : PiecesWent remaining (2 + s.decoder.max) s (frames payloads) t
 
 -- what a call of `next` answers: a payload, `None` at the end, or why there is no frame
-abbrev pub NextAnswer : Type 0
-NextAnswer = Result (Option (List ℕ)) FrameError
+abbrev pub FrameAnswer : Type 0
+FrameAnswer = Result (Option (List ℕ)) FrameError
 
 -- the error, and the answer, of the reader of pieces that it is
 abbrev pub piece_error : FrameError → NextError FrameFault
@@ -35,9 +35,9 @@ piece_error (Truncated have) = piece.Wrong (Fault.Truncated have)
 piece_error (TooLong len) = piece.Wrong (Fault.TooLong len)
 piece_error (Io e) = piece.Io e
 
-abbrev pub piece_answer : NextAnswer → pieces.NextAnswer FrameFault
-piece_answer (Ok found) = Ok found
-piece_answer (Err e) = Err (piece_error e)
+abbrev pub as_piece_answer : FrameAnswer → pieces.NextAnswer FrameFault
+as_piece_answer (Ok found) = Ok found
+as_piece_answer (Err e) = Err (piece_error e)
 
 -- what is left where there is no frame: less than one, or a length that is too large
 abbrev pub ErrorLeaves : ℕ → FrameError → List ℕ → Type 0
@@ -46,7 +46,7 @@ ErrorLeaves max (TooLong len) bytes = (max < len) × BeginsWith len bytes
 ErrorLeaves max (Io e) bytes = (bytes ≡ []) ⊎ IsCutShort max bytes
 
 -- what one call of `next` does
-pub record Next {S : Type 0} (remaining : S → Option (List ℕ)) (s : ReaderState S Frames) (answer : NextAnswer)
+pub record Next {S : Type 0} (remaining : S → Option (List ℕ)) (s : ReaderState S Frames) (answer : FrameAnswer)
     (t : ReaderState S Frames) : Type 0 where
-  pub piece : NextPiece remaining (framed s.decoder.max) s (piece_answer answer) t
+  pub piece : NextPiece remaining (framed s.decoder.max) s (as_piece_answer answer) t
   pub leaves : IfErr answer (λ e. ErrorLeaves s.decoder.max e (rest t))

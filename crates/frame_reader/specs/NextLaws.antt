@@ -23,17 +23,17 @@ use Rattle.frame_reader.specs.declared.frame.Frames.{Frames}
 use Rattle.frame_reader.specs.Framed.{framed}
 use Rattle.frame_reader.specs.FramedLaws.{framed_lawful}
 use Rattle.frame_reader.specs.Frames.{BeginsWith, Fits, frame, frames}
-use Rattle.frame_reader.specs.Next.{FramesWent, Next, NextAnswer, ReadsFrames, piece_answer}
+use Rattle.frame_reader.specs.Next.{FrameAnswer, FramesWent, Next, ReadsFrames, as_piece_answer}
 
 -- an answer of a reader of pieces is of one answer
-same_some : (answer : NextAnswer) (payload : List ℕ) → piece_answer answer ≡ Ok (Some payload)
+same_some : (answer : FrameAnswer) (payload : List ℕ) → as_piece_answer answer ≡ Ok (Some payload)
     → answer ≡ Ok (Some payload)
 same_some (Ok found) payload is = (let same : found ≡ Some payload = cc in ap (λ x. Ok x) same)
 same_some (Err (Truncated n)) payload is = cc
 same_some (Err (TooLong n)) payload is = cc
 same_some (Err (Io e)) payload is = cc
 
-same_wrong : (answer : NextAnswer) (len : ℕ) → piece_answer answer ≡ Err (Wrong (Fault.TooLong len))
+same_wrong : (answer : FrameAnswer) (len : ℕ) → as_piece_answer answer ≡ Err (Wrong (Fault.TooLong len))
     → answer ≡ Err (TooLong len)
 same_wrong (Ok found) len is = cc
 same_wrong (Err (Truncated n)) len is = cc
@@ -95,12 +95,12 @@ module _ {S : Type 0} (remaining : S → Option (List ℕ)) where
       whole = subst (λ d. IsPieceReader (framed d.max) t) (sym next.went.decoder) next.whole;
     }
 
-    module _ (answer : NextAnswer) (next : Next remaining s answer t) where
+    module _ (answer : FrameAnswer) (next : Next remaining s answer t) where
       -- what it handed out
       pub Next-went : FramesWent remaining s (handed_payload answer) t
-      Next-went = subst (λ l. FramesWent remaining s l t) (same answer) (NextPiece-frames (piece_answer answer) next.piece)
+      Next-went = subst (λ l. FramesWent remaining s l t) (same answer) (NextPiece-frames (as_piece_answer answer) next.piece)
         where
-          same : (answer : NextAnswer) → handed_payload (piece_answer answer) ≡ handed_payload answer
+          same : (answer : FrameAnswer) → handed_payload (as_piece_answer answer) ≡ handed_payload answer
           same (Ok found) = refl
           same (Err e) = refl
 
@@ -109,7 +109,7 @@ module _ {S : Type 0} (remaining : S → Option (List ℕ)) where
           → (answer ≡ Ok (Some payload)) × (rest t ≡ more) × (t.reader.log ≡ s.reader.log)
       Next-ready payload more fits front =
           let is = NextPiece-ready remaining (framed s.decoder.max) (framed_lawful s.decoder.max s.decoder.fits) s
-          (piece_answer answer) t next.piece (frame payload) payload more (record { fits = fits; equal = refl }) front in
+          (as_piece_answer answer) t next.piece (frame payload) payload more (record { fits = fits; equal = refl }) front in
           (same_some answer payload is.0, is.1, is.2)
 
       -- a length that is too large is refused each time, and the stream isn't asked
@@ -117,12 +117,12 @@ module _ {S : Type 0} (remaining : S → Option (List ℕ)) where
           → (answer ≡ Err (TooLong len)) × (rest t ≡ rest s) × (t.reader.log ≡ s.reader.log)
       Next-too_long len above front =
           let is = NextPiece-wrong remaining (framed s.decoder.max) (framed_lawful s.decoder.max s.decoder.fits) s
-          (piece_answer answer) t next.piece (Fault.TooLong len)
+          (as_piece_answer answer) t next.piece (Fault.TooLong len)
           (record { len = len; above = above; begins = front }, refl) in
           (same_wrong answer len is.0, is.1, is.2)
 
   -- what any calls of `next` come to
-  pub NextRuns-went : (s : ReaderState S Frames) (answers : List NextAnswer) (t : ReaderState S Frames)
+  pub NextRuns-went : (s : ReaderState S Frames) (answers : List FrameAnswer) (t : ReaderState S Frames)
       → AnswerRuns (Next remaining) s answers t → FramesWent remaining s (all_handed answers) t
   NextRuns-went s [] t e = subst (FramesWent remaining s []) e (FramesWent-none s)
   NextRuns-went s (answer ∷ answers) t run =
@@ -130,13 +130,13 @@ module _ {S : Type 0} (remaining : S → Option (List ℕ)) where
       (NextRuns-went run.0 answers t run.2)
 
   -- what a call answers where it is known which payloads are left, as of any reader of payloads
-  abbrev Left : ReaderState S Frames → List (List ℕ) → Type 0
-  Left s payloads = HasLeft remaining (framed s.decoder.max) s payloads
+  abbrev PayloadsLeft : ReaderState S Frames → List (List ℕ) → Type 0
+  PayloadsLeft s payloads = HasLeft remaining (framed s.decoder.max) s payloads
 
   module _ (s t : ReaderState S Frames) where
-    answers_of : (answer : NextAnswer) (payloads : List (List ℕ))
-        → AnswersKnown Left (λ f. f.reader.log.reads.faults) piece.Io s (piece_answer answer) payloads t
-        → AnswersKnown Left (λ f. f.reader.log.reads.faults) Io s answer payloads t
+    answers_of : (answer : FrameAnswer) (payloads : List (List ℕ))
+        → AnswersKnown PayloadsLeft (λ f. f.reader.log.reads.faults) piece.Io s (as_piece_answer answer) payloads t
+        → AnswersKnown PayloadsLeft (λ f. f.reader.log.reads.faults) Io s answer payloads t
     answers_of (Ok (Some found)) [] known = known
     answers_of (Ok (Some found)) (payload ∷ later) known = known
     answers_of (Ok None) [] known = known
@@ -148,9 +148,9 @@ module _ {S : Type 0} (remaining : S → Option (List ℕ)) where
     answers_of (Err (Io e)) payloads known =
         ((e, refl), known.1, λ why is. known.2 why (let same : e ≡ why = cc in ap (λ x. piece.Io x) same))
 
-  pub Next-answers : (s : ReaderState S Frames) (answer : NextAnswer) (payloads : List (List ℕ)) (t : ReaderState S Frames)
-      → Left s payloads → Next remaining s answer t
-      → AnswersKnown Left (λ f. f.reader.log.reads.faults) Io s answer payloads t
+  pub Next-answers : (s : ReaderState S Frames) (answer : FrameAnswer) (payloads : List (List ℕ)) (t : ReaderState S Frames)
+      → PayloadsLeft s payloads → Next remaining s answer t
+      → AnswersKnown PayloadsLeft (λ f. f.reader.log.reads.faults) Io s answer payloads t
   Next-answers s answer payloads t has next = answers_of s t answer payloads
-      (NextPiece-answers remaining (λ (d : Frames). framed d.max) (λ d. framed_lawful d.max d.fits) s (piece_answer answer)
+      (NextPiece-answers remaining (λ (d : Frames). framed d.max) (λ d. framed_lawful d.max d.fits) s (as_piece_answer answer)
       payloads t has next.piece)

@@ -6,9 +6,9 @@ ghost use Rattle.codec.specs.PieceWriter.{WriterState, IsUnused, unsent};
 ghost use Rattle.codec.specs.PieceReader.{ReaderState, IsFresh, rest};
 ghost use Rattle.codec.specs.WritePiece.{PiecesTaken};
 ghost use Rattle.frame_reader.specs.declared.frame.Frames.{Frames};
-ghost use Rattle.frame_reader.specs.Framed.{Splits, framed, framed_out};
+ghost use Rattle.frame_reader.specs.Framed.{SplitsIntoFrames, framed, framed_out};
 ghost use Rattle.frame_reader.specs.Frames.{frame, frames};
-ghost use Rattle.frame_reader.specs.Next.{FramesWent, Next, NextAnswer, piece_answer};
+ghost use Rattle.frame_reader.specs.Next.{FrameAnswer, FramesWent, Next, as_piece_answer};
 
 mod lists;
 mod runs;
@@ -31,7 +31,7 @@ pub fn one_frame()
 /// However a stream is cut, it is the frames of one list of payloads alone, up to where no whole frame follows.
 pub fn one_reading(max: u16)
     ensures { (stream : List ℕ) (ps qs : List (List ℕ)) (xs ys : List ℕ)
-        → Splits max stream ps xs → Splits max stream qs ys → (ps ≡ qs) × (xs ≡ ys) }
+        → SplitsIntoFrames max stream ps xs → SplitsIntoFrames max stream qs ys → (ps ≡ qs) × (xs ≡ ys) }
 {
     let _ = max;
 }
@@ -63,7 +63,7 @@ pub fn written_since_new<W: TellWrite>(writer: &FrameWriter<W>)
 /// Where just the frames of some payloads are left of a stream that is known, `next` hands out the first, or answers
 /// `None` where there is none; it has no other `Err` than the stream's own.
 pub fn next_known<R: TellRead>(reader: &FrameReader<R>)
-    ensures { (s : ReaderState R Frames) (payloads : List (List ℕ)) (answer : NextAnswer)
+    ensures { (s : ReaderState R Frames) (payloads : List (List ℕ)) (answer : FrameAnswer)
         → Next R.remaining s answer reader.now → HasLeft R.remaining (framed s.decoder.max) s payloads
-        → NextKnown R.remaining (framed s.decoder.max) (piece_answer answer) payloads reader.now }
+        → NextKnown R.remaining (framed s.decoder.max) (as_piece_answer answer) payloads reader.now }
 {}

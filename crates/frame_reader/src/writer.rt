@@ -5,7 +5,7 @@ ghost use Rattle.buffer_redux.specs.BufWriter.{WasFlushed, WasSent, WritesInOrde
 ghost use Rattle.buffer_redux.specs.Unwrapping.{InnerOfFlushed};
 ghost use Rattle.buffer_redux.specs.GrowError.{FitsWithin};
 ghost use Rattle.buffer_redux.specs.MakeError.{growth};
-ghost use Rattle.codec.specs.PieceWriter.{IsPieceWriter, IsOver, IsUnused};
+ghost use Rattle.codec.specs.PieceWriter.{IsPieceWriter, IsMadeOver, IsUnused};
 ghost use Rattle.codec.specs.PieceReader.{room_for};
 ghost use Rattle.codec.specs.WritePiece.{PiecesTaken, WritesBuffered};
 ghost use Rattle.frame_reader.specs.Framed.{framed_out};
@@ -94,7 +94,7 @@ impl<W: TellWrite> FrameWriter<W> {
         max: u16,
     ) -> Result<Self, MakeError<(Buffer, W)>>
         ensures over { IfOk result (λ f. (f.writer.inner ≡ inner) × (f.writer.block.bytes ≡ buffer.bytes)) }
-        ensures made { IfOk result (λ f. IsOver W.log (2 + max) buffer inner f.encoder f) }
+        ensures made { IfOk result (λ f. IsMadeOver W.log (2 + max) buffer inner f.encoder f) }
         ensures takes { IfOk result (λ f. f.encoder.max ≡ max) }
         ensures whole { IfOk result (IsPieceWriter (2 + max)) }
         ensures handed_back { IfErr result (λ e. (e.0.0 ≡ buffer) × (e.0.1 ≡ inner)) }

@@ -9,7 +9,7 @@ use Rattle.redux_buffer.specs.declared.grow_error.GrowError.{GrowError}
 use Rattle.buffer_redux.specs.GrowError.{FitsWithin, kind_of}
 use Rattle.forward.specs.declared.error.AskError.TheVariants as ask
 use Rattle.line_reader.specs.Lines.{BeginsTooLong}
-use Rattle.line_reader.specs.NextLine.{NextAnswer, NextLine}
+use Rattle.line_reader.specs.NextLine.{LineAnswer, NextLine}
 use Rattle.line_reader.specs.NextLineLaws.{IsHanded-fits, NextLine-open, NextOpen, NextPiece-long, open_unended}
 use Rattle.line_reader.specs.TextLaws.{lines_of}
 use Rattle.line_reader.specs.declared.error.LineError.TheVariants as error
@@ -17,7 +17,7 @@ use Rattle.piece_filter.specs.PieceRuns.{Over, all_received}
 use Rattle.piece_filter.specs.Pieces.{HasEnded, IsReady, Keeps, PiecesEnd, piece_rules}
 use Rattle.piece_filter.specs.PiecesCalls as pieces
 use Rattle.piece_filter.specs.PiecesLaws.{coded_all, whole_text}
-use Rattle.frames.specs.Words.{All, AllSent, Asks, Begins, bytes_at, Error, error_kind, Fits, FitsLine, ForwardAnswers, frame, frames, GaveNothing, Grammar, HasLines, HasPieces, IsLent, IsLine, IsOpen, IsPieces, lined, LineState, MetNoFault, OverCount, RanDry, rest, room_for, RunError, Span, Stopped, StreamLog, with_ends}
+use Rattle.frames.specs.Words.{All, AllSent, FilterAsks, Begins, bytes_at, Error, error_kind, Fits, FitsLine, ForwardAnswers, frame, frames, GaveNothing, Grammar, HasLines, HasPieces, IsLent, IsLine, IsOpen, IsPieces, lined, LineState, MetNoFault, OverCount, RanDry, rest, room_for, RunError, Span, Stopped, StreamLog, with_newlines}
 use Rattle.frames.specs.Ending.{IsErrorOf}
 use Rattle.frames.specs.Pack.{PackedFirst, PackedLines, PackRan, Packs}
 use Rattle.frames.specs.Packing.{packing}
@@ -52,10 +52,10 @@ module _ {R W : Type 0} (remaining : R → Option (List ℕ)) {s : Packing R W} 
   abbrev kept : (h : Option Span) → Keeps packing s (after h)
   kept h = record { target = refl; service = refl; sent = λ sent. sent }
 
-  opened : (answer : NextAnswer) → NextLine remaining s.source answer m → NextOpen remaining s.source answer m
+  opened : (answer : LineAnswer) → NextLine remaining s.source answer m → NextOpen remaining s.source answer m
   opened answer = NextLine-open remaining s.source m answer ready.also.open'
 
-  lines : (answer : NextAnswer) → NextLine remaining s.source answer m → (h : Option Span) → Fit m h
+  lines : (answer : LineAnswer) → NextLine remaining s.source answer m → (h : Option Span) → Fit m h
       → (packing {R = R} {W = W}).also (after h)
   lines answer line h fits =
       let next = opened answer line in lines_on s (after h) ready.also next.0.went.decoder refl next.1 fits
@@ -63,7 +63,7 @@ module _ {R W : Type 0} (remaining : R → Option (List ℕ)) {s : Packing R W} 
   pub asked_more : (span : Span) → IsLent (lined m.pieces.decoder.max) m.pieces.handed m.pieces.reader.block.bytes span
       → ¬ (Begins (lined s.source.pieces.decoder.max) (rest s.source.pieces))
       → NextLine remaining s.source (Ok (Some (bytes_at span m.pieces.reader.block.bytes))) m
-      → Asks (piece_rules remaining packing) s (Ok true) (after (Some span))
+      → FilterAsks (piece_rules remaining packing) s (Ok true) (after (Some span))
   asked_more span lent no_piece line =
       let payload = bytes_at span m.pieces.reader.block.bytes in
       let next = (opened (Ok (Some payload)) line).0 in
@@ -73,16 +73,16 @@ module _ {R W : Type 0} (remaining : R → Option (List ℕ)) {s : Packing R W} 
       going span refl lent no_piece next
 
   -- none came
-  lines_none : (answer : NextAnswer) → NextLine remaining s.source answer m → (packing {R = R} {W = W}).also (after s.held)
+  lines_none : (answer : LineAnswer) → NextLine remaining s.source answer m → (packing {R = R} {W = W}).also (after s.held)
   lines_none answer line = lines answer line s.held (none_fits m s.held lacks)
 
   pub asked_none : NextLine remaining s.source (Ok None) m
-      → Asks (piece_rules remaining packing) s (Ok false) (after s.held)
+      → FilterAsks (piece_rules remaining packing) s (Ok false) (after s.held)
   asked_none line = pieces.asked_none remaining packing ready (after s.held) lacks (kept s.held)
       (lines_none (Ok None) line) going lacks (opened (Ok None) line).0
 
   pub asked_long : (n : ℕ) → NextLine remaining s.source (Err (error.TooLong n)) m
-      → Asks (piece_rules remaining packing) s (Err (ask.Wrong TooLong)) (after s.held)
+      → FilterAsks (piece_rules remaining packing) s (Err (ask.Wrong TooLong)) (after s.held)
   asked_long n line =
       let next = (opened (Err (error.TooLong n)) line).0 in
       let long = NextPiece-long remaining s.source.pieces.decoder.max s.source.pieces m.pieces (record { 0 = n }) next in
@@ -93,12 +93,12 @@ module _ {R W : Type 0} (remaining : R → Option (List ℕ)) {s : Packing R W} 
   -- a read failed
   module _ (e : Error) (line : NextLine remaining s.source (Err (error.Io e)) m) where
     pub asked_idle : length (rest m.pieces) ≤ length (rest s.source.pieces)
-        → Asks (piece_rules remaining packing) s (Err (ask.Io e)) (after s.held)
+        → FilterAsks (piece_rules remaining packing) s (Err (ask.Io e)) (after s.held)
     asked_idle = pieces.asked_idle remaining packing ready (after s.held) lacks (kept s.held)
         (lines_none (Err (error.Io e)) line) going lacks e (opened (Err (error.Io e)) line).0
 
     pub asked_behind : length (rest s.source.pieces) < length (rest m.pieces)
-        → Asks (piece_rules remaining packing) s (Err (ask.IoBehind e)) (after s.held)
+        → FilterAsks (piece_rules remaining packing) s (Err (ask.IoBehind e)) (after s.held)
     asked_behind came =
         let next = (opened (Err (error.Io e)) line).0 in
         let fits = (open_unended s.source.pieces.decoder.max (rest m.pieces) next.answers.1).fits in
@@ -106,11 +106,11 @@ module _ {R W : Type 0} (remaining : R → Option (List ℕ)) {s : Packing R W} 
         (lines_none (Err (error.Io e)) line) going lacks e next came (omega (arith, fits))
 
 -- lines, each with its end, are a text
-abbrev with_ends_of : (lines : List (List ℕ)) → All IsLine lines → HasLines (with_ends lines) lines
+abbrev with_ends_of : (lines : List (List ℕ)) → All IsLine lines → HasLines (with_newlines lines) lines
 with_ends_of lines plain = record {
   whole = lines;
   last = [];
-  bytes = sym (append-nil (with_ends lines));
+  bytes = sym (append-nil (with_newlines lines));
   all = sym (append-nil lines);
   plain = plain;
 }
@@ -236,7 +236,7 @@ module _ {R W : Type 0} (remaining : R → Option (List ℕ)) (s t : Packing R W
         → (ran : First) × (ran.lines ≡ p)
     whole_lines front more equal whole =
         let all = all_ended max front p whole in
-        first_of (with_ends p) more (equal ∙ ap (λ l. l ++ more) all.0) (with_ends_of p all.1) all.2 (inl refl)
+        first_of (with_newlines p) more (equal ∙ ap (λ l. l ++ more) all.0) (with_ends_of p all.1) all.2 (inl refl)
 
     all_lines : p ++ lost ≡ p → (ran : First) × (ran.lines ≡ p)
     all_lines none = elim over.text [

@@ -5,14 +5,14 @@ use Rattle.std.specs.Prelude.{IsErrAnd, IsOk, MatchResult}
 use Rattle.forward.specs.declared.error.Cause.{Cause}
 use Rattle.forward.specs.declared.error.Cause.TheVariants as cause
 use Rattle.piece_filter.specs.PieceRuns.{Over, all_over, over_held, over_lost}
-use Rattle.piece_filter.specs.Pieces.{IsSound, PiecesEnd, Piecewise, grammar_of, held_of, piece_rules}
-use Rattle.frames.specs.Words.{Error, IsOpen, rest, FilterRules, ForwardAnswers, NoneFailed, StopsBy, Stopped, AllSent, OverCount, ReadFailed, SendFailed, RunError}
+use Rattle.piece_filter.specs.Pieces.{IsCoherent, PiecesEnd, Piecewise, grammar_of, held_of, piece_rules}
+use Rattle.frames.specs.Words.{Error, IsOpen, rest, FilterRules, ForwardAnswers, NoneFailed, StopsBy, Stopped, AllSent, OverCount, ReadFailed, WriterFailed, RunError}
 use Rattle.frames.specs.Ending.{IsErrorOf}
 use Rattle.frames.specs.declared.error.RunError.TheVariants.{Read, Write, Io}
 
 -- a run from empty buffers on that says so of each way to end says so of its outcome
 module _ {T R D X A W : Type 0} (remaining : R → Option (List ℕ)) (f : Piecewise T R D X A W RunError) (s t : T)
-    (fresh : (piece_rules remaining f).fresh s) (unread : (f.source s).reader.block.bytes ≡ []) (sound : IsSound f) (never : (e : Error) → ¬ (f.refused e t)) where
+    (fresh : (piece_rules remaining f).fresh s) (unread : (f.source s).reader.block.bytes ≡ []) (sound : IsCoherent f) (never : (e : Error) → ¬ (f.refused e t)) where
   abbrev rules : FilterRules T RunError
   rules = piece_rules remaining f
 
@@ -28,7 +28,7 @@ module _ {T R D X A W : Type 0} (remaining : R → Option (List ℕ)) (f : Piece
       → AllSent (f.target t) → (e : Error)
       → ReadFailed e (rules.read s) (rules.read t) (rules.written s) (rules.written t) → Ran (Err (Read e)))
       (write : (p lost : List (List ℕ)) → Went (p ++ lost) p → (e : Error)
-      → SendFailed e (rules.read s) (rules.read t) (rules.written s) (rules.written t) → Ran (Err (Write e)))
+      → WriterFailed e (rules.read s) (rules.read t) (rules.written s) (rules.written t) → Ran (Err (Write e)))
       (full : (p lost : List (List ℕ)) → Went (p ++ lost) p → (e : Error)
       → OverCount e (length p) (rules.read s) (rules.read t) (rules.written s) (rules.written t) → Ran (Err (Io e))) where
     stopped : (count : ℕ) (why : Cause RunError) (e : RunError) → StopsBy rules count s why t → IsErrorOf why e → Ran (Err e)

@@ -8,8 +8,8 @@ use Rattle.buffer_redux.specs.Buffered.{Buffered}
 use Rattle.buffer_redux.specs.declared.policy.StdPolicy.{StdPolicy}
 use Rattle.codec.specs.NextPieceLaws.{MetEnd-once}
 use Rattle.forward.specs.declared.error.AskError.TheVariants as ask
-use Rattle.frame_reader.specs.Frames.{BeginsTooLong}
-use Rattle.frame_reader.specs.Next.{Next, NextAnswer, piece_answer}
+use Rattle.frame_reader.specs.Frames.{BeginsAbove}
+use Rattle.frame_reader.specs.Next.{FrameAnswer, Next, as_piece_answer}
 use Rattle.frame_reader.specs.NextLaws.{NextPiece-reads}
 use Rattle.frame_reader.specs.declared.error.FrameError.TheVariants as error
 use Rattle.frame_reader.specs.declared.frame.FrameFault.TheVariants as Fault
@@ -18,7 +18,7 @@ use Rattle.piece_filter.specs.PieceRuns.{Over, all_received}
 use Rattle.piece_filter.specs.Pieces.{HasEnded, IsReady, Keeps, piece_rules}
 use Rattle.piece_filter.specs.PiecesCalls as pieces
 use Rattle.piece_filter.specs.PiecesLaws.{coded_all}
-use Rattle.frames.specs.Words.{All, AllSent, Asks, Begins, bytes_at, Error, error_kind, Fits, ForwardAnswers, framed, frames, GaveNothing, IsCutShort, IsLent, IsOpen, IsStill, MetNoFault, newline, RanDry, ReaderState, rest, room, RunError, Span, Stopped, StreamLog, with_end, with_ends}
+use Rattle.frames.specs.Words.{All, AllSent, FilterAsks, Begins, bytes_at, Error, error_kind, Fits, ForwardAnswers, framed, frames, GaveNothing, IsCutShort, IsLent, IsOpen, IsStill, MetNoFault, newline, RanDry, ReaderState, rest, room, RunError, Span, Stopped, StreamLog, with_newline, with_newlines}
 use Rattle.frames.specs.Ending.{IsErrorOf}
 use Rattle.frames.specs.Unpack.{Unpacked, UnpackedFirst, UnpackRan, Unpacks}
 use Rattle.frames.specs.Unpacking.{unpacking}
@@ -42,7 +42,7 @@ frames_on s t takes decoder told kind capacity = record {
 -- a line for which there is room is copied in
 pub still_line : {W : Type 0} (u v : Buffered W StdPolicy) (payload : List ℕ)
     → (length u.block.bytes + (length payload + 1) ≤ u.block.capacity → v.log ≡ u.log) → v.block.capacity ≡ u.block.capacity
-    → length (with_end payload) ≤ room u → IsStill u v
+    → length (with_newline payload) ≤ room u → IsStill u v
 still_line u v payload told capacity fits = record {
   told = told (omega (arith, fits, length-append payload (newline ∷ [])));
   capacity = capacity;
@@ -63,36 +63,36 @@ module _ {R W : Type 0} (remaining : R → Option (List ℕ)) {s : Unpacking R W
   abbrev kept : (h : Option Span) → Keeps unpacking s (after h)
   kept h = record { target = refl; service = refl; sent = λ sent. sent }
 
-  takes_then : (answer : NextAnswer) → Next remaining s.source answer m → (h : Option Span)
+  takes_then : (answer : FrameAnswer) → Next remaining s.source answer m → (h : Option Span)
       → (unpacking {R = R} {W = W}).also (after h)
   takes_then answer next h = frames_on s (after h) ready.also next.piece.went.decoder
-      (NextPiece-reads remaining s.source m (piece_answer answer) next.piece).told refl refl
+      (NextPiece-reads remaining s.source m (as_piece_answer answer) next.piece).told refl refl
 
   pub asked_more : (span : Span) → IsLent (framed m.decoder.max) m.handed m.reader.block.bytes span
       → ¬ (Begins (framed s.source.decoder.max) (rest s.source)) → Next remaining s.source (Ok (Some (bytes_at span m.reader.block.bytes))) m
-      → Asks (piece_rules remaining unpacking) s (Ok true) (after (Some span))
+      → FilterAsks (piece_rules remaining unpacking) s (Ok true) (after (Some span))
   asked_more span lent no_piece next =
       pieces.asked_more remaining unpacking ready (after (Some span)) lacks (kept (Some span))
       (takes_then (Ok (Some (bytes_at span m.reader.block.bytes))) next (Some span)) ready.also.told span refl lent no_piece
       next.piece
 
   -- none came
-  pub asked_none : Next remaining s.source (Ok None) m → Asks (piece_rules remaining unpacking) s (Ok false) (after s.held)
+  pub asked_none : Next remaining s.source (Ok None) m → FilterAsks (piece_rules remaining unpacking) s (Ok false) (after s.held)
   asked_none next = pieces.asked_none remaining unpacking ready (after s.held) lacks (kept s.held)
       (takes_then (Ok None) next s.held) ready.also.told lacks next.piece
 
   pub asked_long : (len : ℕ) → Next remaining s.source (Err (error.TooLong len)) m
-      → Asks (piece_rules remaining unpacking) s (Err (ask.Wrong TooLong)) (after s.held)
+      → FilterAsks (piece_rules remaining unpacking) s (Err (ask.Wrong TooLong)) (after s.held)
   asked_long len next = pieces.asked_wrong remaining unpacking ready (after s.held) lacks (kept s.held)
       (takes_then (Err (error.TooLong len)) next s.held) ready.also.told lacks (Fault.TooLong len) next.piece TooLong
       (inl (
         refl,
-        subst (λ d. BeginsTooLong d.max (rest m)) (sym next.piece.went.decoder)
+        subst (λ d. BeginsAbove d.max (rest m)) (sym next.piece.went.decoder)
             (record { len = len; above = next.leaves.0; begins = next.leaves.1 }),
       ))
 
   pub asked_cut : (have : ℕ) → Next remaining s.source (Err (error.Truncated have)) m
-      → Asks (piece_rules remaining unpacking) s (Err (ask.Wrong Truncated)) (after s.held)
+      → FilterAsks (piece_rules remaining unpacking) s (Err (ask.Wrong Truncated)) (after s.held)
   asked_cut have next =
       let once : m.reader.log.reads.zero_reads ≡ s.source.reader.log.reads.zero_reads + 1 = elim next.piece.answers.3 [
         | inl wrong ↦ (let odd : Fault.Truncated have ≡ Fault.TooLong wrong.0.0.len = wrong.0.1 in cc)
@@ -109,12 +109,12 @@ module _ {R W : Type 0} (remaining : R → Option (List ℕ)) {s : Unpacking R W
   -- a read failed
   module _ (e : Error) (next : Next remaining s.source (Err (error.Io e)) m) where
     pub asked_idle : length (rest m) ≤ length (rest s.source)
-        → Asks (piece_rules remaining unpacking) s (Err (ask.Io e)) (after s.held)
+        → FilterAsks (piece_rules remaining unpacking) s (Err (ask.Io e)) (after s.held)
     asked_idle = pieces.asked_idle remaining unpacking ready (after s.held) lacks (kept s.held)
         (takes_then (Err (error.Io e)) next s.held) ready.also.told lacks e next.piece
 
     pub asked_behind : length (rest s.source) < length (rest m)
-        → Asks (piece_rules remaining unpacking) s (Err (ask.IoBehind e)) (after s.held)
+        → FilterAsks (piece_rules remaining unpacking) s (Err (ask.IoBehind e)) (after s.held)
     asked_behind came = pieces.asked_behind remaining unpacking ready (after s.held) lacks (kept s.held)
         (takes_then (Err (error.Io e)) next s.held) ready.also.told lacks e next.piece came
         (few s.source.decoder.max (rest m) next.leaves)
@@ -133,9 +133,9 @@ module _ {R W : Type 0} (remaining : R → Option (List ℕ)) (s t : Unpacking R
   Ran = UnpackRan max s.source.reader.log t.source.reader.log s.target.log t.target.log
 
   replied : (handed p : List (List ℕ)) (over : Went handed p)
-      → s.target.log.writes.received ++ over.reply ≡ s.target.log.writes.received ++ with_ends p
+      → s.target.log.writes.received ++ over.reply ≡ s.target.log.writes.received ++ with_newlines p
   replied handed p over =
-      ap (λ l. s.target.log.writes.received ++ l) (coded_all with_end tt tt p over.reply over.answers)
+      ap (λ l. s.target.log.writes.received ++ l) (coded_all with_newline tt tt p over.reply over.answers)
 
   -- no end is left to tell, so the pieces are whole
   whole : (handed p : List (List ℕ)) (over : Went handed p) → (over.bytes ≡ frames handed) × All (Fits max) handed
@@ -157,7 +157,7 @@ module _ {R W : Type 0} (remaining : R → Option (List ℕ)) (s t : Unpacking R
   wrong_ran : (p : List (List ℕ)) → Went p p → (why : RunError) → (unpacking {R = R} {W = W}).wrong s why t → AllSent t.target
       → MetNoFault s.source.reader.log t.source.reader.log s.target.log t.target.log → Ran (Err why)
   wrong_ran p over why (inl (is, long)) sent met = subst (λ e. Ran (Err e)) (sym is)
-      (rest t.source, unpacked p over sent, subst (λ d. BeginsTooLong d.max (rest t.source)) over.decoder long, met)
+      (rest t.source, unpacked p over sent, subst (λ d. BeginsAbove d.max (rest t.source)) over.decoder long, met)
   wrong_ran p over why (inr (is, cut, dry)) sent met = subst (λ e. Ran (Err e)) (sym is) (
     rest t.source,
     unpacked p over sent,

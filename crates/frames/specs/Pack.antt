@@ -1,7 +1,7 @@
 -- What a run of `pack` moves from a reader to a writer.
 use Rattle.std.specs.Prelude.{◌≡◌, ℕ, ◌⊎◌, List, [], ◌++◌, length, Result, Ok, Err}
 use Rattle.line_reader.specs.Lines.{BeginsTooLong}
-use Rattle.frames.specs.Words.{All, StreamLog, Fits, frames, FitsLine, IsLine, HasLines, with_ends, RunError, HoldsNothingBack, EndsOnce, MetNoFault, ReadFailed as AReadFailed, SendFailed, OverCount, BufferRefused, GaveNothing, AllFlushed}
+use Rattle.frames.specs.Words.{All, StreamLog, Fits, frames, FitsLine, IsLine, HasLines, with_newlines, RunError, HoldsNothingBack, EndsOnce, MetNoFault, ReadFailed as AReadFailed, WriterFailed, OverCount, RefusedBeforeCalls, GaveNothing, ReceivedFlushed}
 use Rattle.frames.specs.declared.error.RunError.TheVariants.{TooLong, Truncated, Read, Write, Io}
 use Rattle.programs.specs.Flushes.{FlushesSend}
 
@@ -9,7 +9,7 @@ use Rattle.programs.specs.Flushes.{FlushesSend}
 pub record IsDue (most : ℕ) (bytes due : List ℕ) : Type 0 where
   pub lines : List (List ℕ)
   pub left : List ℕ
-  pub equal : bytes ≡ with_ends lines ++ left
+  pub equal : bytes ≡ with_newlines lines ++ left
   pub plain : All IsLine lines
   pub fit : All (Fits most) lines
   pub no_more : FitsLine most left
@@ -23,9 +23,9 @@ pub record PackedLines (Such : List ℕ → Type 0) (most : ℕ) (read read' wri
   pub plain : All IsLine lines
   pub fit : All (Fits most) lines
   pub such : Such more
-  pub given : read'.reads.given ≡ read.reads.given ++ (with_ends lines ++ more)
+  pub given : read'.reads.given ≡ read.reads.given ++ (with_newlines lines ++ more)
   pub received : written'.writes.received ≡ written.writes.received ++ frames lines
-  pub flushed : AllFlushed written'
+  pub flushed : ReceivedFlushed written'
 
 -- what was received is a beginning of the frames of lines that were given and fit. One without its end is among them only
 -- where the reader had no more to give
@@ -46,17 +46,17 @@ pub record PackedFirst (most : ℕ) (read read' written written' : StreamLog) : 
 abbrev pub PackRan : ℕ → StreamLog → StreamLog → StreamLog → StreamLog → Result (Unit {0}) RunError → Type 0
 PackRan most read read' written written' (Ok _) =
     (all : PackedFirst most read read' written written') × (all.more ≡ []) × (all.unsent ≡ []) × GaveNothing read read'
-    × AllFlushed written' × MetNoFault read read' written written'
+    × ReceivedFlushed written' × MetNoFault read read' written written'
 PackRan most read read' written written' (Err TooLong) =
     PackedLines (BeginsTooLong most) most read read' written written' × MetNoFault read read' written written'
 PackRan most read read' written written' (Err Truncated) = ⊥
 PackRan most read read' written written' (Err (Read e)) =
     PackedLines (FitsLine most) most read read' written written' × AReadFailed e read read' written written'
 PackRan most read read' written written' (Err (Write e)) =
-    PackedFirst most read read' written written' × SendFailed e read read' written written'
+    PackedFirst most read read' written written' × WriterFailed e read read' written written'
 PackRan most read read' written written' (Err (Io e)) =
     (first : PackedFirst most read read' written written')
-    × (OverCount e (length first.lines) read read' written written' ⊎ BufferRefused e read read' written written')
+    × (OverCount e (length first.lines) read read' written written' ⊎ RefusedBeforeCalls e read read' written written')
 
 -- all that a run of `pack` promises
 pub record Packs (most : ℕ) (read read' written written' : StreamLog) (answer : Result (Unit {0}) RunError) : Type 0 where

@@ -1,7 +1,7 @@
 -- What a run of `unpack` moves from a reader to a writer.
 use Rattle.std.specs.Prelude.{◌≡◌, ℕ, List, [], ◌++◌, length, ◌⊎◌, Result, Ok, Err}
-use Rattle.frame_reader.specs.Frames.{BeginsTooLong}
-use Rattle.frames.specs.Words.{All, StreamLog, IsOpen, Splits, framed, Fits, IsCutShort, frames, RunError, with_ends, HoldsNothingBack, EndsOnce, MetNoFault, ReadFailed as AReadFailed, SendFailed, OverCount, BufferRefused, GaveNothing, AllFlushed}
+use Rattle.frame_reader.specs.Frames.{BeginsAbove}
+use Rattle.frames.specs.Words.{All, StreamLog, IsOpen, SplitsIntoFrames, framed, Fits, IsCutShort, frames, RunError, with_newlines, HoldsNothingBack, EndsOnce, MetNoFault, ReadFailed as AReadFailed, WriterFailed, OverCount, RefusedBeforeCalls, GaveNothing, ReceivedFlushed}
 use Rattle.frames.specs.declared.error.RunError.TheVariants.{TooLong, Truncated, Read, Write, Io}
 use Rattle.programs.specs.Flushes.{FlushesSend}
 
@@ -9,8 +9,8 @@ use Rattle.programs.specs.Flushes.{FlushesSend}
 pub record IsDue (most : ℕ) (bytes due : List ℕ) : Type 0 where
   pub payloads : List (List ℕ)
   pub left : List ℕ
-  pub splits : Splits most bytes payloads left
-  pub lines : due ≡ with_ends payloads
+  pub splits : SplitsIntoFrames most bytes payloads left
+  pub lines : due ≡ with_newlines payloads
 
 -- what was given is the frames of payloads, and then these bytes; what was received is the payloads as lines, which the
 -- writer has flushed
@@ -18,8 +18,8 @@ pub record Unpacked (most : ℕ) (read read' written written' : StreamLog) (more
   pub payloads : List (List ℕ)
   pub fit : All (Fits most) payloads
   pub given : read'.reads.given ≡ read.reads.given ++ (frames payloads ++ more)
-  pub received : written'.writes.received ≡ written.writes.received ++ with_ends payloads
-  pub flushed : AllFlushed written'
+  pub received : written'.writes.received ≡ written.writes.received ++ with_newlines payloads
+  pub flushed : ReceivedFlushed written'
 
 -- what was received is a beginning of the lines of payloads whose frames were given
 pub record UnpackedFirst (most : ℕ) (read read' written written' : StreamLog) : Type 0 where
@@ -29,7 +29,7 @@ pub record UnpackedFirst (most : ℕ) (read read' written written' : StreamLog) 
   pub unsent : List ℕ
   pub fit : All (Fits most) (lines ++ lost)
   pub given : read'.reads.given ≡ read.reads.given ++ (frames (lines ++ lost) ++ more)
-  pub received : written'.writes.received ++ unsent ≡ written.writes.received ++ with_ends lines
+  pub received : written'.writes.received ++ unsent ≡ written.writes.received ++ with_newlines lines
 
 -- what a run of `unpack` did: at Ok all that was given is frames, and else some bytes behind them aren't. Where a read failed
 -- no payload that came is lost. Any other fault is a writer's, or a buffer was refused before the run began, or it ended at its
@@ -38,7 +38,7 @@ abbrev pub UnpackRan : ℕ → StreamLog → StreamLog → StreamLog → StreamL
 UnpackRan most read read' written written' (Ok _) =
     Unpacked most read read' written written' [] × GaveNothing read read' × MetNoFault read read' written written'
 UnpackRan most read read' written written' (Err TooLong) =
-    (more : List ℕ) × Unpacked most read read' written written' more × BeginsTooLong most more
+    (more : List ℕ) × Unpacked most read read' written written' more × BeginsAbove most more
     × MetNoFault read read' written written'
 UnpackRan most read read' written written' (Err Truncated) =
     (more : List ℕ) × Unpacked most read read' written written' more × IsCutShort most more × GaveNothing read read'
@@ -47,10 +47,10 @@ UnpackRan most read read' written written' (Err (Read e)) =
     (more : List ℕ) × Unpacked most read read' written written' more × IsOpen (framed most) more
     × AReadFailed e read read' written written'
 UnpackRan most read read' written written' (Err (Write e)) =
-    UnpackedFirst most read read' written written' × SendFailed e read read' written written'
+    UnpackedFirst most read read' written written' × WriterFailed e read read' written written'
 UnpackRan most read read' written written' (Err (Io e)) =
     (first : UnpackedFirst most read read' written written')
-    × (OverCount e (length first.lines) read read' written written' ⊎ BufferRefused e read read' written written')
+    × (OverCount e (length first.lines) read read' written written' ⊎ RefusedBeforeCalls e read read' written written')
 
 -- all that a run of `unpack` promises
 pub record Unpacks (most : ℕ) (read read' written written' : StreamLog) (answer : Result (Unit {0}) RunError) : Type 0 where

@@ -3,10 +3,10 @@ use Rattle.std.specs.Prelude.{◌≡◌, ℕ, ◌+◌, ◌<◌, ◌⊎◌, false
 use Rattle.buffer_redux.specs.Block.{Plain}
 use Rattle.buffer_redux.specs.Buffered.{Buffered}
 use Rattle.buffer_redux.specs.declared.policy.StdPolicy.{StdPolicy}
-use Rattle.frame_reader.specs.Frames.{BeginsTooLong}
+use Rattle.frame_reader.specs.Frames.{BeginsAbove}
 use Rattle.frame_reader.specs.declared.frame.FrameFault.{FrameFault}
 use Rattle.frame_reader.specs.declared.frame.Frames.{Frames}
-use Rattle.frames.specs.Words.{RanDry, rest, AllSent, framed, IsCutShort, with_end, RunError}
+use Rattle.frames.specs.Words.{RanDry, rest, AllSent, framed, IsCutShort, with_newline, RunError}
 use Rattle.piece_filter.specs.Pieces.{Piecewise}
 use Rattle.frames.specs.Unpack.{IsDue}
 use Rattle.frames.specs.declared.error.RunError.TheVariants.{TooLong, Truncated}
@@ -27,9 +27,9 @@ unpacking = record {
   service = λ s. tt;
   also = λ s. record { target : IsLineTarget s.source.decoder.max s.target; told : s.source.ended ≡ false };
   grammar = λ d. framed d.max;
-  answers = λ _ payload reply _. reply ≡ with_end payload;
+  answers = λ _ payload reply _. reply ≡ with_newline payload;
   due = λ d a. IsDue d.max;
-  wrong = λ s why t. ((why ≡ TooLong) × BeginsTooLong t.source.decoder.max (rest t.source))
+  wrong = λ s why t. ((why ≡ TooLong) × BeginsAbove t.source.decoder.max (rest t.source))
       ⊎ ((why ≡ Truncated) × IsCutShort t.source.decoder.max (rest t.source) × RanDry s.source.reader t.source.reader);
   drops = ⊥;
   sent = λ s. AllSent s.target;

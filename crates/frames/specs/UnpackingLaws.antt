@@ -1,8 +1,8 @@
 -- Payloads are taken in as lines, and what is due of whole frames is those of their payloads.
 use Rattle.std.proofs.Common.{◌≡◌, ℕ, ◌<◌, List, [], ◌∷◌, ◌++◌, length, Option, inl, inr, ap, ◌∙◌, arith, length-append}
 use Rattle.std.proofs.lemmas.List.Elements.{All-cons, All-nil}
-use Rattle.frames.specs.Words.{All, IsPieces, IsLawful, framed, Fits, frame, frames, newline, with_end}
-use Rattle.piece_filter.specs.Pieces.{IsSound, piece_rules}
+use Rattle.frames.specs.Words.{All, IsPieces, IsLawful, framed, Fits, frame, frames, newline, with_newline}
+use Rattle.piece_filter.specs.Pieces.{IsCoherent, piece_rules}
 use Rattle.piece_filter.specs.PiecesLaws.{coded_all, piece_lawful}
 use Rattle.frames.specs.Unpacking.{unpacking}
 
@@ -17,10 +17,10 @@ all_frames max bytes (payload ∷ payloads) (more, starts, is) =
     )
 
 -- a line has a byte
-pub some_line : (payload : List ℕ) → 0 < length (with_end payload)
+pub some_line : (payload : List ℕ) → 0 < length (with_newline payload)
 some_line payload = omega (arith, length-append payload (newline ∷ []))
 
-pub unpacking_sound : {R W : Type 0} → IsSound (unpacking {R = R} {W = W})
+pub unpacking_sound : {R W : Type 0} → IsCoherent (unpacking {R = R} {W = W})
 unpacking_sound = record {
   wrong_after = λ a b c why less wrong.
       elim wrong [ inl long ↦ inl long | inr (is, cut, dry) ↦ inr (is, cut, omega (arith, less, dry)) ];
@@ -30,7 +30,7 @@ unpacking_sound = record {
         payloads = payloads;
         left = left;
         splits = record { equal = ap (λ l. l ++ left) all.0; fit = all.1; no_more = open'.no_piece };
-        lines = coded_all with_end a b payloads reply answers;
+        lines = coded_all with_newline a b payloads reply answers;
       };
   all_sent = λ s sent. sent;
 }

@@ -4,22 +4,22 @@ pub use Rattle.buffer_redux.specs.BufWriter.{WritesInOrder}
 pub use Rattle.buffer_redux.specs.StreamLog.{StreamLog}
 pub use Rattle.codec.specs.Decoding.{IsLent, bytes_at}
 pub use Rattle.codec.specs.Grammar.{Begins, Grammar, IsOpen}
-pub use Rattle.codec.specs.NextPiece.{NextAnswer, NextBuffered, NextPiece, empties, load_answer}
+pub use Rattle.codec.specs.NextPiece.{NextAnswer, NextBuffered, NextPiece, empty_reads, load_answer}
 pub use Rattle.codec.specs.PieceReader.{ReaderState, rest, room_for}
 pub use Rattle.codec.specs.Texts.{HasPieces, IsPieces}
 pub use Rattle.codec.specs.declared.Span.{Span}
-pub use Rattle.forward.specs.Filter.{Asks, FilterRules, Flushes, IsLawful, Passes}
+pub use Rattle.forward.specs.Filter.{FilterAsks, FilterFlushes, FilterPasses, FilterRules, IsLawful}
 pub use Rattle.forward.specs.Forward.{ForwardAnswers, NoneFailed, StopsBy}
 pub use Rattle.forward.specs.declared.error.Stopped.{Stopped}
-pub use Rattle.frame_reader.specs.Framed.{Splits, framed}
+pub use Rattle.frame_reader.specs.Framed.{SplitsIntoFrames, framed}
 pub use Rattle.frame_reader.specs.Frames.{Fits, IsCutShort, frame, frames, header}
 pub use Rattle.frames.specs.declared.error.RunError.{RunError}
 pub use Rattle.line_reader.specs.LineReader.{LineState, lined}
-pub use Rattle.line_reader.specs.Lines.{FitsLine, HasLines, IsLine, newline, with_end, with_ends}
+pub use Rattle.line_reader.specs.Lines.{FitsLine, HasLines, IsLine, newline, with_newline, with_newlines}
 pub use Rattle.programs.specs.Prompt.{HoldsNothingBack}
 pub use Rattle.buffer_redux.specs.WriteParts.{room}
 pub use Rattle.programs.specs.TakenIn.{IsStill}
-pub use Rattle.programs.specs.Streams.{AllFlushed, AllSent, BufferRefused, EndsOnce, GaveNothing, MetNoFault, OverCount, ReadFailed, SendFailed}
+pub use Rattle.programs.specs.Streams.{AllSent, EndsOnce, GaveNothing, MetNoFault, OverCount, ReadFailed, ReceivedFlushed, RefusedBeforeCalls, WriterFailed}
 pub use Rattle.std.specs.IoError.{error_kind}
 pub use Rattle.std.specs.List.{All}
 pub use Rattle.std.specs.declared.io.Error.{Error}

@@ -2,7 +2,7 @@
 ghost use Rattle.std.specs.Prelude.{◌≡◌, ◌≤◌, [], ◌∷◌, length, Some, IfErr, OnErr, OnOk};
 ghost use Rattle.buffer_redux.specs.Faults.{MetInterrupts, SendErrorCaused};
 ghost use Rattle.codec.specs.WritePiece.{PiecesTaken};
-ghost use Rattle.forward.specs.Filter.{Passes};
+ghost use Rattle.forward.specs.Filter.{FilterPasses};
 ghost use Rattle.frame_reader.specs.Framed.{framed_out};
 ghost use Rattle.frames.specs.Packing.{packing};
 ghost use Rattle.frames.specs.PackingLaws.{packing_lawful};
@@ -79,7 +79,7 @@ impl<R: TellRead, W: TellWrite> Filter for Packing<R, W> {
 fn pass_held<R: TellRead, W: TellWrite>(filter: &mut Packing<R, W>, span: Span) -> io::Result<bool>
     requires ready { IsReady packing filter.old }
     requires held { filter.old.held ≡ Some span }
-    ensures { Passes (piece_rules R.remaining packing) filter.old result filter.new }
+    ensures { FilterPasses (piece_rules R.remaining packing) filter.old result filter.new }
 {
     write_line(&mut filter.target, filter.source.lent(span))?;
     filter.held = None;

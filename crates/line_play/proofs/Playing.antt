@@ -5,7 +5,7 @@ use Rattle.line_reader.specs.Calls.{Call, CallGoes, call_lines}
 use Rattle.piece_reader.specs.Runs.{AnswerRuns}
 use Rattle.piece_reader.specs.RunsLaws.{AnswerRuns-more}
 use Rattle.line_reader.specs.LineReader.{LineState}
-use Rattle.line_play.specs.Played.{CallMade, CallsStopped, asked}
+use Rattle.line_play.specs.Played.{AsksStopped, CallMade, asked}
 use Rattle.line_play.specs.declared.calls.Ask.{Ask}
 
 -- the next of the calls that were asked for stands behind those that were made
@@ -19,7 +19,7 @@ parted_asks asks i other inside calls so_far =
 pub none_begun : {S : Type 0} (remaining : S → Option (List ℕ)) (s m : LineState S) (asks : List Ask) (i : ℕ) (other : Ask)
     → i < length asks → (calls : List Call) → map asked calls ≡ take i asks → AnswerRuns (CallGoes remaining) s calls m
     → (room : ℕ)
-    (old new : List Call) → new ≡ old ++ calls → room ≤ length new → CallsStopped remaining s asks room old new m
+    (old new : List Call) → new ≡ old ++ calls → room ≤ length new → AsksStopped remaining s asks room old new m
 none_begun remaining s m asks i other inside calls so_far run room old new gained full = record {
   calls = calls;
   gained = gained;
@@ -42,7 +42,7 @@ module _ {S : Type 0} (remaining : S → Option (List ℕ)) (s m t : LineState S
   run_more = AnswerRuns-more (CallGoes remaining) s calls m call t run made.goes
 
   pub line_lost : (room : ℕ) (old new : List Call) → new ≡ old ++ calls → 0 < length (call_lines call)
-      → CallsStopped remaining s asks room old new t
+      → AsksStopped remaining s asks room old new t
   line_lost room old new gained some = record {
     calls = calls;
     gained = gained;

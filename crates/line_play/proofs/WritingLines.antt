@@ -7,14 +7,14 @@ use Rattle.buffer_redux.specs.BufWriter.{WritesInOrder}
 use Rattle.buffer_redux.specs.Buffered.{Buffered}
 use Rattle.buffer_redux.specs.WriteAll.{TookBeginning}
 use Rattle.buffer_redux.specs.WriterLaws.{WritesInOrder-none, WritesInOrder-joins}
-use Rattle.line_reader.specs.Lines.{newline, with_end, with_ends}
+use Rattle.line_reader.specs.Lines.{newline, with_newline, with_newlines}
 use Rattle.line_play.specs.WrittenLines.{StopsInLine}
 use Rattle.codec.specs.PayloadsLaws.{before, parted}
 
 -- these lines were taken in, one after another
 pub record WroteLines {S P : Type 0} (trace : S → S → Type 0) (s : Buffered S P) (lines : List (List ℕ)) (t : Buffered S P)
     : Type 0 where
-  pub in_order : WritesInOrder s (with_ends lines) t
+  pub in_order : WritesInOrder s (with_newlines lines) t
   pub went : trace s.inner t.inner
 
 -- a beginning of what comes behind what was taken in is a beginning of all
@@ -46,37 +46,37 @@ begins_all s t all wrote = record {
 
 -- a beginning of the line, or the line and a beginning of its end, is one of both
 module _ {S P : Type 0} (line : List ℕ) (s t : Buffered S P) where
-  pub line_begins : TookBeginning line s t → TookBeginning (with_end line) s t
-  line_begins took = begins_after s s t [] line (newline ∷ []) (with_end line) refl (WritesInOrder-none s) took
+  pub line_begins : TookBeginning line s t → TookBeginning (with_newline line) s t
+  line_begins took = begins_after s s t [] line (newline ∷ []) (with_newline line) refl (WritesInOrder-none s) took
 
   pub end_begins : (m : Buffered S P) → WritesInOrder s line m → TookBeginning (newline ∷ []) m t
-      → TookBeginning (with_end line) s t
-  end_begins m wrote took = begins_after s m t line (newline ∷ []) [] (with_end line) refl wrote took
+      → TookBeginning (with_newline line) s t
+  end_begins m wrote took = begins_after s m t line (newline ∷ []) [] (with_newline line) refl wrote took
 
 module _ {V : Type 0} (f : V → List ℕ) (vs : List V) (i : ℕ) (x : V) (inside : i < length vs)
     (is : x ≡ get_or vs i x) {S P : Type 0} (trace : S → S → Type 0)
     (joins : (a b c : S) → trace a b → trace b c → trace a c) (s m t : Buffered S P)
     (so_far : WroteLines trace s (map f (take i vs)) m) where
   -- the next line was not taken in whole
-  pub stops_in : (taken : ℕ) → taken ≡ i → TookBeginning (with_end (f x)) m t → StopsInLine (map f vs) taken s t
+  pub stops_in : (taken : ℕ) → taken ≡ i → TookBeginning (with_newline (f x)) m t → StopsInLine (map f vs) taken s t
   stops_in taken count part =
       let same : take taken (map f vs) ≡ map f (take i vs) = ap (λ n. take n (map f vs)) count ∙ take-map f i vs in record {
         line = f x;
         later = map f (drop (i + 1) vs);
         all = parted f vs i x inside is ∙ ap (λ l. l ++ f x ∷ map f (drop (i + 1) vs)) (sym same);
         between = m;
-        whole = subst (λ l. WritesInOrder s (with_ends l) m) (sym same) so_far.in_order;
+        whole = subst (λ l. WritesInOrder s (with_newlines l) m) (sym same) so_far.in_order;
         part = part;
       }
 
   -- the next line was taken in whole
-  pub line_written : WritesInOrder m (with_end (f x)) t → trace m.inner t.inner
+  pub line_written : WritesInOrder m (with_newline (f x)) t → trace m.inner t.inner
       → WroteLines trace s (map f (take (i + 1) vs)) t
   line_written one went =
-      let all = WritesInOrder-joins s m t (with_ends (map f (take i vs))) (with_end (f x)) so_far.in_order one in
-      let same : with_ends (map f (take (i + 1) vs)) ≡ with_ends (map f (take i vs)) ++ with_end (f x) =
-      ap with_ends (before f vs i x inside is) ∙ flat_map-append with_end (map f (take i vs)) (f x ∷ [])
-      ∙ ap (λ l. with_ends (map f (take i vs)) ++ l) (append-nil (with_end (f x))) in
+      let all = WritesInOrder-joins s m t (with_newlines (map f (take i vs))) (with_newline (f x)) so_far.in_order one in
+      let same : with_newlines (map f (take (i + 1) vs)) ≡ with_newlines (map f (take i vs)) ++ with_newline (f x) =
+      ap with_newlines (before f vs i x inside is) ∙ flat_map-append with_newline (map f (take i vs)) (f x ∷ [])
+      ∙ ap (λ l. with_newlines (map f (take i vs)) ++ l) (append-nil (with_newline (f x))) in
       record {
         in_order = subst (λ l. WritesInOrder s l t) (sym same) all;
         went = joins s.inner m.inner t.inner so_far.went went;

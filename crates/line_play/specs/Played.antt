@@ -29,7 +29,7 @@ pub record CallMade {S : Type 0} (remaining : S → Option (List ℕ)) (s : Line
   pub goes : CallGoes remaining s call t
 
 -- just these calls were made, and the record gained them
-pub record CallsPlayed {S : Type 0} (remaining : S → Option (List ℕ)) (s : LineState S) (asks : List Ask)
+pub record AsksPlayed {S : Type 0} (remaining : S → Option (List ℕ)) (s : LineState S) (asks : List Ask)
     (old new : List Call) (t : LineState S) : Type 0 where
   pub calls : List Call
   pub gained : new ≡ old ++ calls
@@ -38,7 +38,7 @@ pub record CallsPlayed {S : Type 0} (remaining : S → Option (List ℕ)) (s : L
 
 -- the first of these calls were made, and the record gained them. It had room for so many, and was full, so no further call was
 -- begun; or one more was made, and the line that it handed out is lost
-pub record CallsStopped {S : Type 0} (remaining : S → Option (List ℕ)) (s : LineState S) (asks : List Ask) (room : ℕ)
+pub record AsksStopped {S : Type 0} (remaining : S → Option (List ℕ)) (s : LineState S) (asks : List Ask) (room : ℕ)
     (old new : List Call) (t : LineState S) : Type 0 where
   pub calls : List Call
   pub gained : new ≡ old ++ calls

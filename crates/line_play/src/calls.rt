@@ -1,9 +1,9 @@
 //! Calls of all kinds, one after another, each with its answer.
 ghost use Rattle.std.specs.Prelude.{◌<◌, List, length, map, IfOk, OnOk, OnErr, Some, option_map, vec_capacity, ℕ};
 ghost use Rattle.line_reader.specs.Calls.{Call, call_lines};
-ghost use Rattle.line_play.specs.Played.{CallMade, CallsPlayed, CallsStopped, kept_call};
+ghost use Rattle.line_play.specs.Played.{AsksPlayed, AsksStopped, CallMade, kept_call};
 ghost use Rattle.piece_reader.specs.Runs.{NextLost, kept_answer};
-ghost use Rattle.line_reader.specs.NextLine.{NextBuffered, NextTrimmed};
+ghost use Rattle.line_reader.specs.NextLine.{NextBufferedLine, NextTrimmed};
 
 use buffer_redux::tell::TellRead;
 use line_reader::{LineError, LineReader};
@@ -40,9 +40,9 @@ pub fn play_calls<R: TellRead>(
     asks: &[Ask],
     played: &mut Vec<Played>,
 ) -> Result<(), AllocError>
-    ensures played { OnOk result (CallsPlayed R.remaining reader.old asks.now
+    ensures played { OnOk result (AsksPlayed R.remaining reader.old asks.now
         (map kept_call played.old.items) (map kept_call played.new.items) reader.new) }
-    ensures stopped { OnErr result (CallsStopped R.remaining reader.old asks.now (vec_capacity played.old)
+    ensures stopped { OnErr result (AsksStopped R.remaining reader.old asks.now (vec_capacity played.old)
         (map kept_call played.old.items) (map kept_call played.new.items) reader.new) }
 {
     for ask in asks {
@@ -75,9 +75,9 @@ fn buffered_copied<R: TellRead>(
     alloc: Global,
     reader: &mut LineReader<R>,
 ) -> Result<Option<Vec<u8>>, AllocError>
-    ensures next { IfOk result (λ found. NextBuffered R.remaining reader.old (option_map (λ line. line.items) found)
+    ensures next { IfOk result (λ found. NextBufferedLine R.remaining reader.old (option_map (λ line. line.items) found)
         reader.new) }
-    ensures lost { OnErr result ((line : List ℕ) × NextBuffered R.remaining reader.old (Some line) reader.new) }
+    ensures lost { OnErr result ((line : List ℕ) × NextBufferedLine R.remaining reader.old (Some line) reader.new) }
 {
     match reader.next_buffered() {
         Some(line) => Ok(Some(Vec::from_slice(alloc, line)?)),

@@ -12,10 +12,10 @@ ghost use Rattle.piece_reader.specs.PieceReader.{IsFresh, rest};
 ghost use Rattle.piece_reader.specs.Runs.{AnswerRuns, Cuts, NoneTold, all_handed};
 ghost use Rattle.piece_reader.specs.Texts.{HasPieces};
 ghost use Rattle.line_reader.specs.Calls.{Call, CallGoes, CallsWent, call_asks, call_lines};
-ghost use Rattle.line_reader.specs.KnownCalls.{LeavesBehind, TookFront};
+ghost use Rattle.line_reader.specs.KnownCalls.{LeavesBehind, TookFirstLines};
 ghost use Rattle.line_reader.specs.Lines.{FitsLine, HasLines, IsLine};
 ghost use Rattle.line_reader.specs.LineReader.{HasLine, LineState, IsLineReader, lined};
-ghost use Rattle.line_reader.specs.NextLine.{NextAnswer, NextLine, NextTrimmed, piece_answer};
+ghost use Rattle.line_reader.specs.NextLine.{LineAnswer, NextLine, NextTrimmed, piece_answer};
 ghost use Rattle.line_reader.specs.SkipLine.{SkipsLine};
 
 mod calls;
@@ -61,7 +61,7 @@ pub fn whole_lines<R: TellRead>(reader: &LineReader<R>)
 pub fn known_lines<R: TellRead>(reader: &LineReader<R>)
     ensures took { (s : LineState R) (before : List ℕ) (lines : List (List ℕ)) (calls : List Call)
         → LeavesBehind R.remaining before s lines → AnswerRuns (CallGoes R.remaining) s calls reader.now
-        → TookFront R.remaining lines (flat_map call_lines calls) reader.now }
+        → TookFirstLines R.remaining lines (flat_map call_lines calls) reader.now }
     ensures fresh { (least most : ℕ) (stream : R) (first : LineState R) (text : List ℕ) (lines : List (List ℕ))
         → IsFresh R.log least most stream first.pieces.decoder first.pieces → R.remaining stream ≡ Some text
         → HasLines text lines → LeavesBehind R.remaining [] first lines }
@@ -70,9 +70,9 @@ pub fn known_lines<R: TellRead>(reader: &LineReader<R>)
 /// Where `has_line` is true a call of `next` or `next_trimmed` asks nobody, and so does one of `skip_line` where an end of a
 /// line is buffered, or the stream ended, which no call has told.
 pub fn asks_nobody<R: TellRead>(reader: &LineReader<R>)
-    ensures next { (s : LineState R) (answer : NextAnswer) → HasLine s → NextLine R.remaining s answer reader.now
+    ensures next { (s : LineState R) (answer : LineAnswer) → HasLine s → NextLine R.remaining s answer reader.now
         → reader.now.pieces.reader.log ≡ s.pieces.reader.log }
-    ensures trimmed { (s : LineState R) (answer : NextAnswer) → HasLine s → NextTrimmed R.remaining s answer reader.now
+    ensures trimmed { (s : LineState R) (answer : LineAnswer) → HasLine s → NextTrimmed R.remaining s answer reader.now
         → reader.now.pieces.reader.log ≡ s.pieces.reader.log }
     ensures skips { (s : LineState R) (answer : Result ℕ Error)
         → (s.pieces.ended ≡ true) ⊎ (¬ (IsLine (rest s.pieces)))
@@ -82,7 +82,7 @@ pub fn asks_nobody<R: TellRead>(reader: &LineReader<R>)
 /// What a run of calls handed out, up to the one that told the end, is a text, and the lines that were handed out are its
 /// lines. A text of lines that fit is one of these lines as pieces.
 pub fn lines_of_text()
-    ensures lines { (max : ℕ) (answers : List NextAnswer) (bytes : List ℕ) → NoneTold answers
+    ensures lines { (max : ℕ) (answers : List LineAnswer) (bytes : List ℕ) → NoneTold answers
         → Cuts (lined max) (map piece_answer (answers ++ Ok None ∷ [])) bytes → HasLines bytes (all_handed answers) }
     ensures pieces { (max : ℕ) (text : List ℕ) (lines : List (List ℕ))
         → (HasLines text lines × All (FitsLine max) lines) ↔ HasPieces (lined max) text lines }
@@ -91,9 +91,9 @@ pub fn lines_of_text()
 /// Where just some lines are left of a stream that is known, `next` hands out the first, or answers `None` where there is
 /// none; it has no other `Err` than the stream's own.
 pub fn next_known<R: TellRead>(reader: &LineReader<R>)
-    ensures known { (s : LineState R) (lines : List (List ℕ)) (answer : NextAnswer) → s.skipping ≡ false
+    ensures known { (s : LineState R) (lines : List (List ℕ)) (answer : LineAnswer) → s.skipping ≡ false
         → NextLine R.remaining s answer reader.now → HasLeft R.remaining (lined s.pieces.decoder.max) s.pieces lines
         → NextKnown R.remaining (lined s.pieces.decoder.max) (piece_answer answer) lines reader.now.pieces }
-    ensures going { (s : LineState R) (answer : NextAnswer) → s.skipping ≡ false → NextLine R.remaining s answer reader.now
+    ensures going { (s : LineState R) (answer : LineAnswer) → s.skipping ≡ false → NextLine R.remaining s answer reader.now
         → reader.now.skipping ≡ false }
 {}

@@ -6,7 +6,7 @@ ghost use Rattle.buffer_redux.specs.Faults.{IsMemory};
 ghost use Rattle.buffer_redux.specs.LogGrows.{WriteLogGrows};
 ghost use Rattle.buffer_redux.specs.WriteAll.{TookBeginning};
 ghost use Rattle.piece_reader.specs.KnownPieces.{BufferRefused};
-ghost use Rattle.line_reader.specs.Lines.{FitsLine, with_end, with_ends};
+ghost use Rattle.line_reader.specs.Lines.{FitsLine, with_newline, with_newlines};
 ghost use Rattle.line_play.specs.WrittenLines.{StopsInLine};
 
 use buffer_redux::LineWriter;
@@ -24,7 +24,7 @@ pub fn write_each<W: TellWrite>(
     writer: &mut LineWriter<W>,
     lines: &[Vec<u8>],
 ) -> Result<(), WriteEachError<io::Error>>
-    ensures written { OnOk result (WritesInOrder writer.old (with_ends (map (λ v. v.items) lines.now)) writer.new) }
+    ensures written { OnOk result (WritesInOrder writer.old (with_newlines (map (λ v. v.items) lines.now)) writer.new) }
     ensures stopped { IfErr result (λ e.
         StopsInLine (map (λ v. v.items) lines.now) e.taken writer.old writer.new) }
     ensures caused { IfErr result (λ e. WriterStopped writer.old.log.writes writer.new.log.writes e.error) }
@@ -45,8 +45,8 @@ pub fn write_each<W: TellWrite>(
 
 // Writes one, and its end.
 fn write_line<W: TellWrite>(writer: &mut LineWriter<W>, line: &[u8]) -> io::Result<()>
-    ensures written { OnOk result (WritesInOrder writer.old (with_end line.now) writer.new) }
-    ensures beginning { TookBeginning (with_end line.now) writer.old writer.new }
+    ensures written { OnOk result (WritesInOrder writer.old (with_newline line.now) writer.new) }
+    ensures beginning { TookBeginning (with_newline line.now) writer.old writer.new }
     ensures caused { IfErr result (WriterStopped writer.old.log.writes writer.new.log.writes) }
     ensures grows { WriteLogGrows writer.old.log.writes writer.new.log.writes }
     ensures not_flushed { writer.new.log.writes.flushed ≡ writer.old.log.writes.flushed }
@@ -70,7 +70,7 @@ pub fn round_trip(alloc: Global, lines: &[Vec<u8>], max: usize) -> io::Result<Ve
 
 // The lines, each with its end.
 fn written(alloc: Global, lines: &[Vec<u8>]) -> io::Result<Vec<u8>>
-    ensures bytes { IfOk result (λ bytes. bytes.items ≡ with_ends (map (λ v. v.items) lines.now)) }
+    ensures bytes { IfOk result (λ bytes. bytes.items ≡ with_newlines (map (λ v. v.items) lines.now)) }
     ensures memory { IfErr result IsMemory }
 {
     let mut writer = LineWriter::new(alloc, MemoryWriter::new(alloc))?;
@@ -87,7 +87,7 @@ fn written(alloc: Global, lines: &[Vec<u8>]) -> io::Result<Vec<u8>>
 // The lines of the text, which are known to be these.
 fn read_back(alloc: Global, text: &[u8], lines: &[Vec<u8>], max: usize) -> io::Result<Vec<Vec<u8>>>
     requires fit { All (FitsLine max) (map (λ v. v.items) lines.now) }
-    requires text { text.now ≡ with_ends (map (λ v. v.items) lines.now) }
+    requires text { text.now ≡ with_newlines (map (λ v. v.items) lines.now) }
     ensures same { IfOk result (λ kept. map (λ v. v.items) kept.items ≡ map (λ v. v.items) lines.now) }
     ensures refused { IfErr result (BufferRefused (1 + max)) }
 {

@@ -11,7 +11,7 @@ use Rattle.piece_reader.specs.TrimmingLaws.{trimmed_front}
 use Rattle.line_reader.specs.declared.error.LineError.TheVariants.{Io}
 use Rattle.line_reader.specs.Lines.{newline}
 use Rattle.line_reader.specs.LineReader.{IsLineReader, LineState, lined}
-use Rattle.line_reader.specs.NextLine.{NextAnswer, NextBuffered, NextLine, NextTrimmed, Trims}
+use Rattle.line_reader.specs.NextLine.{LineAnswer, NextBufferedLine, NextLine, NextTrimmed, Trims}
 use Rattle.line_reader.specs.NextLineLaws.{IsHanded-end, by_skipping}
 use Rattle.line_reader.specs.SkipLine.{SkipsLine}
 
@@ -32,7 +32,7 @@ module _ {S : Type 0} (remaining : S → Option (List ℕ)) (s t : LineState S) 
       (λ e is skips fails. let odd : Ok (Some line) ≡ Err (Io e) = fails in cc)
 
   -- what is shown of it begins as what was left does
-  trimmed_begins : (shown : List ℕ) → IsLineReader s → (answer : NextAnswer) → NextLine remaining s answer t
+  trimmed_begins : (shown : List ℕ) → IsLineReader s → (answer : LineAnswer) → NextLine remaining s answer t
       → Trims answer (Ok (Some shown)) t.pieces.ended
       → take (length shown) (rest s.pieces) ≡ take (length (rest s.pieces)) shown
   trimmed_begins shown whole (Ok (Some line)) next trims =
@@ -48,9 +48,9 @@ module _ {S : Type 0} (remaining : S → Option (List ℕ)) (s t : LineState S) 
   NextTrimmed-begins shown whole n = trimmed_begins shown whole n.whole n.next n.trims
 
   -- a line that was buffered stood there with its end
-  pub NextBuffered-there : (line : List ℕ) → t.pieces.ended ≡ false → NextBuffered remaining s (Some line) t
+  pub NextBufferedLine-there : (line : List ℕ) → t.pieces.ended ≡ false → NextBufferedLine remaining s (Some line) t
       → (more : List ℕ) × (rest s.pieces ≡ line ++ newline ∷ more)
-  NextBuffered-there line going n =
+  NextBufferedLine-there line going n =
       let next = n.piece.0 in
       let all = PiecesWent-unasked remaining _ s.pieces t.pieces next.bytes next.went (ap (λ r. r.log) n.piece.1) in
       let end = IsHanded-end s.pieces.decoder.max s.pieces t.pieces line next.bytes next.answers.1 going in (

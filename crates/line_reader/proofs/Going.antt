@@ -5,17 +5,17 @@ use Rattle.piece_reader.specs.Decoding.{bytes_at}
 use Rattle.piece_reader.specs.DelimitedLaws.{delimited_lawful}
 use Rattle.piece_reader.specs.Grammar.{Begins}
 use Rattle.piece_reader.specs.NextPiece as pieces
-use Rattle.piece_reader.specs.NextPiece.{NextPiece, StaysLeft, buffered_answer, empties, load_answer}
+use Rattle.piece_reader.specs.NextPiece.{NextPiece, StaysLeft, buffered_answer, empty_reads, load_answer}
 use Rattle.piece_reader.specs.NextPieceLaws.{MetEnd-once, NextPiece-ready, NextPiece-refused, NextPiece-wrong}
 use Rattle.piece_reader.specs.PiecesWentLaws.{PiecesWent-unasked}
 use Rattle.piece_reader.specs.PieceReader.{IsPieceReader, IsSettled, ReaderState, rest}
 use Rattle.piece_reader.specs.StaysLeftLaws.{StaysLeft-next}
 use Rattle.line_reader.specs.declared.error.LineError.TheVariants.{TooLong, Io}
 use Rattle.line_reader.specs.declared.line.Lines.{Lines}
-use Rattle.line_reader.specs.Lines.{BeginsTooLong, IsLine, newline, with_end}
+use Rattle.line_reader.specs.Lines.{BeginsTooLong, IsLine, newline, with_newline}
 use Rattle.line_reader.specs.LinesLaws.{line_or_end, line_or_long, take_plain}
 use Rattle.line_reader.specs.LineReader.{IsLineReader, LineState, lined}
-use Rattle.line_reader.specs.NextLine.{NextAnswer, NextBuffered, NextLine, piece_answer}
+use Rattle.line_reader.specs.NextLine.{LineAnswer, NextBufferedLine, NextLine, piece_answer}
 use Rattle.line_reader.specs.NextLineLaws.{IsHanded-fits, NextLine-of, NextLine-open, NextOpen, by_skipping, same_long, same_none, same_some}
 
 -- where no line that fits stands there, the bytes are a part of one, or too long
@@ -81,7 +81,7 @@ module _ {S : Type 0} (remaining : S → Option (List ℕ)) where
         | inl (is, going, none) ↦ going
         | inr (last, part, some, none, ended, met) ↦ absurd (elim s.pieces.ended as (λ b. b ≡ s.pieces.ended → ⊥) [
           | true ↦ λ before. (let odd : Ok (Some line) ≡ Ok None = same_none (Ok (Some line)) (next.told (sym before)) in cc)
-          | false ↦ λ before. omega (arith, MetEnd-once s.pieces t (sym before) met, ap (λ r. empties r) same)
+          | false ↦ λ before. omega (arith, MetEnd-once s.pieces t (sym before) met, ap (λ r. empty_reads r) same)
         ] refl)
       ]
 
@@ -89,12 +89,12 @@ module _ {S : Type 0} (remaining : S → Option (List ℕ)) where
     after = record { pieces = t; skipping = s.skipping }
 
     -- by what `step_buffered` answers
-    pub NextBuffered-of : (found : Option Span)
+    pub NextBufferedLine-of : (found : Option Span)
         → pieces.NextBuffered remaining (lined s.pieces.decoder.max) s.pieces (buffered_answer found t) t
-        → NextBuffered remaining s (buffered_answer found t) after
-    NextBuffered-of (Some span) (next, same) =
+        → NextBufferedLine remaining s (buffered_answer found t) after
+    NextBufferedLine-of (Some span) (next, same) =
         record { piece = (next, same); open' = open_found (bytes_at span t.reader.block.bytes) next same; skipping = refl }
-    NextBuffered-of None (stays, none) = record { piece = (stays, none); open' = tt; skipping = refl }
+    NextBufferedLine-of None (stays, none) = record { piece = (stays, none); open' = tt; skipping = refl }
 
     pub going_buffered : (found : Option Span)
         → pieces.NextBuffered remaining (lined s.pieces.decoder.max) s.pieces (buffered_answer found t) t
@@ -110,7 +110,7 @@ module _ {S : Type 0} (remaining : S → Option (List ℕ)) where
   piece_loaded s t None next = next
 
   -- a line that was buffered was handed out
-  pub NextLine-found : (s t : LineState S) (line : List ℕ) → NextBuffered remaining s (Some line) t
+  pub NextLine-found : (s t : LineState S) (line : List ℕ) → NextBufferedLine remaining s (Some line) t
       → NextLine remaining s (Ok (Some line)) t
   NextLine-found s t line found =
       NextLine-of remaining s t (Ok (Some line)) found.open' (found.piece.0, found.skipping ∙ found.open')
@@ -132,7 +132,7 @@ module _ {S : Type 0} (remaining : S → Option (List ℕ)) where
       stays.same ∙ ap (λ n. record s { seen = n }) same
 
   -- behind a look that found no line a call is what it would have been before
-  pub NextLine-looked : (s m t : LineState S) (answer : NextAnswer) → IsLineReader s → NextBuffered remaining s None m
+  pub NextLine-looked : (s m t : LineState S) (answer : LineAnswer) → IsLineReader s → NextBufferedLine remaining s None m
       → NextLine remaining m answer t → NextLine remaining s answer t
   NextLine-looked s m t answer whole looked next = elim s.skipping as (λ b. b ≡ s.skipping → NextLine remaining s answer t) [
     | true ↦ λ is.
@@ -151,7 +151,7 @@ module _ {S : Type 0} (remaining : S → Option (List ℕ)) where
   ] refl
 
   -- what each answer of `next` says
-  module _ (s t : LineState S) (answer : NextAnswer) (whole : IsLineReader s) (next : NextLine remaining s answer t) where
+  module _ (s t : LineState S) (answer : LineAnswer) (whole : IsLineReader s) (next : NextLine remaining s answer t) where
     abbrev max : ℕ
     max = s.pieces.decoder.max
 
@@ -165,7 +165,7 @@ module _ {S : Type 0} (remaining : S → Option (List ℕ)) where
         by_open (answer ≡ Ok (Some line))
         (λ step. same_some answer line
         (NextPiece-ready remaining (lined max) (delimited_lawful newline max) s.pieces (piece_answer answer) t.pieces step.0
-        (with_end line) line more (plain, fits, refl)
+        (with_newline line) line more (plain, fits, refl)
         (front ∙ sym (append_assoc line (newline ∷ []) more))).0)
         (open_left s whole (omega (arith, ap length front, length-append line (newline ∷ more))))
 

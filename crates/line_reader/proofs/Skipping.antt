@@ -12,7 +12,7 @@ use Rattle.piece_reader.specs.PiecesWentLaws.{PiecesWent-inside, PiecesWent-join
 use Rattle.piece_reader.specs.PieceReader.{ReaderState, rest}
 use Rattle.line_reader.specs.declared.line.Lines.{Lines}
 use Rattle.line_reader.specs.CallsLaws.{lines_join}
-use Rattle.line_reader.specs.Lines.{newline, IsLine, with_end}
+use Rattle.line_reader.specs.Lines.{newline, IsLine, with_newline}
 use Rattle.line_reader.specs.LineReader.{lined}
 use Rattle.line_reader.specs.NextLineLaws.{IsPieceReader-same}
 use Rattle.line_reader.specs.SkipLine.{DropsLine, DropsThrough}
@@ -75,18 +75,18 @@ module _ {S : Type 0} (remaining : S → Option (List ℕ)) (s m : ReaderState S
         let inside : at.0 < length (rest m) = omega (arith, drops.inside, at.1) in
         let size = length-take-le at.0 (rest m) (omega (arith, inside)) in
         let left : rest t ≡ drop (1 + at.0) (rest m) = drops.skips.left ∙ ap (λ n. drop n (rest m)) at.1 in
-        let split : with_end front ++ rest t ≡ rest m =
+        let split : with_newline front ++ rest t ≡ rest m =
         append_assoc front (newline ∷ []) (rest t) ∙ ap (λ l. front ++ newline ∷ l) left ∙ at.2.equal in
         record {
-          bytes = h.bytes ++ with_end front;
-          went = went_on (with_end front) split;
+          bytes = h.bytes ++ with_newline front;
+          went = went_on (with_newline front) split;
           answers = (
             omega (
               arith,
               h.count,
               size,
               at.1,
-              length-append h.bytes (with_end front),
+              length-append h.bytes (with_newline front),
               length-append front (newline ∷ []),
             ),
             faults_still,

@@ -7,9 +7,9 @@ use Rattle.piece_reader.specs.NextPiece.{PiecesWent}
 use Rattle.piece_reader.specs.Runs.{handed_payload}
 use Rattle.piece_reader.specs.Trimming.{IsTrimmed}
 use Rattle.line_reader.specs.declared.error.LineError.{LineError}
-use Rattle.line_reader.specs.Lines.{IsLine, with_end}
+use Rattle.line_reader.specs.Lines.{IsLine, with_newline}
 use Rattle.line_reader.specs.LineReader.{LineState}
-use Rattle.line_reader.specs.NextLine.{NextAnswer, NextBuffered, NextLine, NextTrimmed}
+use Rattle.line_reader.specs.NextLine.{LineAnswer, NextBufferedLine, NextLine, NextTrimmed}
 use Rattle.line_reader.specs.SkipLine.{SkipsLine}
 
 -- what calls come to: `next` or `next_buffered` handed a line out; `next_trimmed` did, and showed this of it; a line was
@@ -37,15 +37,15 @@ WithoutEnd ended events line bytes more = (bytes ≡ line ++ more) × (0 < lengt
 abbrev pub CutsInto : Bool → List Event → List ℕ → List ℕ → Type 0
 CutsInto ended [] after bytes = IsLine bytes × (bytes ≡ after)
 CutsInto ended (Handed line ∷ events) after bytes =
-    (more : List ℕ) × IsLine line × ((bytes ≡ with_end line ++ more) ⊎ WithoutEnd ended events line bytes more)
+    (more : List ℕ) × IsLine line × ((bytes ≡ with_newline line ++ more) ⊎ WithoutEnd ended events line bytes more)
     × CutsInto ended events after more
 CutsInto ended (Trimmed shown ∷ events) after bytes =
     (line : List ℕ) × (more : List ℕ) × IsLine line
-    × (((bytes ≡ with_end line ++ more) × IsTrimmed line shown)
+    × (((bytes ≡ with_newline line ++ more) × IsTrimmed line shown)
     ⊎ (WithoutEnd ended events line bytes more × (shown ≡ line)))
     × CutsInto ended events after more
 CutsInto ended (Skipped line ∷ events) after bytes =
-    (more : List ℕ) × IsLine line × ((bytes ≡ with_end line ++ more) ⊎ WithoutEnd ended events line bytes more)
+    (more : List ℕ) × IsLine line × ((bytes ≡ with_newline line ++ more) ⊎ WithoutEnd ended events line bytes more)
     × CutsInto ended events after more
 CutsInto ended (Ended ∷ events) after bytes = CutsInto ended events after bytes
 
@@ -61,15 +61,15 @@ pub record LinesAlong {S : Type 0} (remaining : S → Option (List ℕ)) (before
   pub told : s.pieces.ended ≡ true → EndNext t.pieces.ended events
 
 -- what an answer that hands lines out as such events comes to where no line is being skipped
-abbrev pub events_of : (List ℕ → Event) → NextAnswer → List Event
+abbrev pub events_of : (List ℕ → Event) → LineAnswer → List Event
 events_of handed (Ok (Some line)) = handed line ∷ []
 events_of handed (Ok None) = Ended ∷ []
 events_of handed (Err e) = []
 
 -- a call, with its answer
 pub data Call : Type 0 where
-  Nexts : NextAnswer → Call
-  NextsTrimmed : NextAnswer → Call
+  Nexts : LineAnswer → Call
+  NextsTrimmed : LineAnswer → Call
   NextsBuffered : Option (List ℕ) → Call
   Skips : Result ℕ Error → Call
 
@@ -77,7 +77,7 @@ pub data Call : Type 0 where
 abbrev pub CallGoes : {S : Type 0} → (S → Option (List ℕ)) → LineState S → Call → LineState S → Type 0
 CallGoes remaining s (Nexts answer) t = NextLine remaining s answer t
 CallGoes remaining s (NextsTrimmed answer) t = NextTrimmed remaining s answer t
-CallGoes remaining s (NextsBuffered found) t = NextBuffered remaining s found t
+CallGoes remaining s (NextsBuffered found) t = NextBufferedLine remaining s found t
 CallGoes remaining s (Skips answer) t = SkipsLine remaining s answer t
 
 -- the lines that they hand out

@@ -12,9 +12,9 @@ use Rattle.piece_reader.specs.Trimming.{IsTrimmed}
 use Rattle.line_reader.specs.declared.error.LineError.TheVariants.{TooLong, Io}
 use Rattle.line_reader.specs.Calls.{Handed, Trimmed, Skipped, Ended, Event, LinesAlong, CutsInto, EndNext, events_of}
 use Rattle.line_reader.specs.declared.line.Lines.{Lines}
-use Rattle.line_reader.specs.Lines.{IsLine, newline, with_end}
+use Rattle.line_reader.specs.Lines.{IsLine, newline, with_newline}
 use Rattle.line_reader.specs.LineReader.{LineState, lined}
-use Rattle.line_reader.specs.NextLine.{NextAnswer, NextBuffered, Trims}
+use Rattle.line_reader.specs.NextLine.{LineAnswer, NextBufferedLine, Trims}
 use Rattle.line_reader.specs.NextLineLaws.{IsHanded-fits, NextOpen, same_none}
 use Rattle.line_reader.specs.SkipLine.{SkipsLine}
 
@@ -47,9 +47,9 @@ module _ (was is : Bool) (later : List Event) (told : was ≡ true → EndNext i
   end_joins (Ended ∷ events) ended = tt
 
   module _ (mid after more : List ℕ) (then : CutsInto is later after (mid ++ more)) where
-    with_joins : (line bytes rest : List ℕ) → bytes ≡ with_end line ++ rest
-        → bytes ++ more ≡ with_end line ++ (rest ++ more)
-    with_joins line bytes rest is = ap (λ l. l ++ more) is ∙ append_assoc (with_end line) rest more
+    with_joins : (line bytes rest : List ℕ) → bytes ≡ with_newline line ++ rest
+        → bytes ++ more ≡ with_newline line ++ (rest ++ more)
+    with_joins line bytes rest is = ap (λ l. l ++ more) is ∙ append_assoc (with_newline line) rest more
 
     without_joins : (events : List Event) (line bytes rest : List ℕ)
         → (bytes ≡ line ++ rest) × (0 < length line) × EndNext was events
@@ -105,7 +105,7 @@ module _ {S : Type 0} (remaining : S → Option (List ℕ)) where
 
 -- a call of `next` where no line is being skipped
 module _ {S : Type 0} (remaining : S → Option (List ℕ)) (s t : LineState S) where
-  nothing : (answer : NextAnswer) (n : NextOpen remaining s answer t) → n.0.bytes ≡ [] → ¬ (answer ≡ Ok None)
+  nothing : (answer : LineAnswer) (n : NextOpen remaining s answer t) → n.0.bytes ≡ [] → ¬ (answer ≡ Ok None)
       → LinesAlong remaining [] s [] [] t
   nothing answer n none isnt = record {
     bytes = n.0.bytes;
@@ -115,7 +115,7 @@ module _ {S : Type 0} (remaining : S → Option (List ℕ)) (s t : LineState S) 
     told = λ ended. absurd (isnt (same_none answer (n.0.told ended)));
   }
 
-  pub NextLine-along : (answer : NextAnswer) → NextOpen remaining s answer t
+  pub NextLine-along : (answer : LineAnswer) → NextOpen remaining s answer t
       → LinesAlong remaining [] s (events_of (λ l. Handed l) answer) [] t
   NextLine-along (Ok (Some line)) n = record {
     bytes = n.0.bytes;
@@ -124,7 +124,7 @@ module _ {S : Type 0} (remaining : S → Option (List ℕ)) (s t : LineState S) 
       [],
       (IsHanded-fits s.pieces.decoder.max s.pieces t.pieces line n.0.bytes n.0.answers.1).plain,
       elim n.0.answers.1 [
-        | inl (is, going, none) ↦ inl (is.2 ∙ sym (append-nil (with_end line)))
+        | inl (is, going, none) ↦ inl (is.2 ∙ sym (append-nil (with_newline line)))
         | inr (is, part, some, none, ended, met) ↦
             inr (sym is ∙ sym (append-nil line), omega (arith, some, ap length is), ended)
       ],
@@ -146,13 +146,13 @@ module _ {S : Type 0} (remaining : S → Option (List ℕ)) (s t : LineState S) 
       nothing (Err (Io e)) n n.0.answers.0 (λ is. (let odd : Err (Io e) ≡ Ok None = is in cc))
 
   -- a call of `next_buffered`; where it finds none nothing is done, also of a line that is being skipped
-  pub NextBuffered-along : (line : List ℕ) → NextBuffered remaining s (Some line) t
+  pub NextBufferedLine-along : (line : List ℕ) → NextBufferedLine remaining s (Some line) t
       → LinesAlong remaining [] s (Handed line ∷ []) [] t
-  NextBuffered-along line n = NextLine-along (Ok (Some line)) (n.piece.0, n.skipping ∙ n.open')
+  NextBufferedLine-along line n = NextLine-along (Ok (Some line)) (n.piece.0, n.skipping ∙ n.open')
 
-  pub NextBuffered-stays : (before : List ℕ) → IsLine before → (s.skipping ≡ false → before ≡ [])
-      → NextBuffered remaining s None t → LinesAlong remaining before s [] before t
-  NextBuffered-stays before plain closed n = record {
+  pub NextBufferedLine-stays : (before : List ℕ) → IsLine before → (s.skipping ≡ false → before ≡ [])
+      → NextBufferedLine remaining s None t → LinesAlong remaining before s [] before t
+  NextBufferedLine-stays before plain closed n = record {
     bytes = [];
     went = StaysLeft-went remaining (lined s.pieces.decoder.max) s.pieces t.pieces n.piece.0;
     cut = (subst IsLine (sym (append-nil before)) plain, append-nil before);
@@ -161,7 +161,7 @@ module _ {S : Type 0} (remaining : S → Option (List ℕ)) (s t : LineState S) 
   }
 
   -- a call of `next_trimmed` where no line is being skipped
-  pub Trims-along : (whole answer : NextAnswer) → NextOpen remaining s whole t → Trims whole answer t.pieces.ended
+  pub Trims-along : (whole answer : LineAnswer) → NextOpen remaining s whole t → Trims whole answer t.pieces.ended
       → LinesAlong remaining [] s (events_of (λ l. Trimmed l) answer) [] t
   Trims-along (Ok (Some line)) (Ok (Some shown)) n trims =
       let Shows : Bool → Type 0 = λ b. MatchBool b (shown ≡ line) (IsTrimmed line shown) in
@@ -173,7 +173,7 @@ module _ {S : Type 0} (remaining : S → Option (List ℕ)) (s t : LineState S) 
           [],
           (IsHanded-fits s.pieces.decoder.max s.pieces t.pieces line n.0.bytes n.0.answers.1).plain,
           elim n.0.answers.1 [
-            | inl (is, going, none) ↦ inl (is.2 ∙ sym (append-nil (with_end line)), subst Shows going trims)
+            | inl (is, going, none) ↦ inl (is.2 ∙ sym (append-nil (with_newline line)), subst Shows going trims)
             | inr (is, part, some, none, ended, met) ↦
                 inr ((sym is ∙ sym (append-nil line), omega (arith, some, ap length is), ended), subst Shows ended trims)
           ],
@@ -217,11 +217,11 @@ module _ {S : Type 0} (remaining : S → Option (List ℕ)) (s t : LineState S) 
 
   -- through the end of the line
   pub skip_whole : (count : ℕ) (k : SkipsLine remaining s (Ok count) t) (line : List ℕ) → IsLine line
-      → k.drops.bytes ≡ with_end line → LinesAlong remaining before s (Skipped (before ++ line) ∷ []) [] t
+      → k.drops.bytes ≡ with_newline line → LinesAlong remaining before s (Skipped (before ++ line) ∷ []) [] t
   skip_whole count k line is_line equal =
-      let all : before ++ k.drops.bytes ≡ with_end (before ++ line) ++ [] =
+      let all : before ++ k.drops.bytes ≡ with_newline (before ++ line) ++ [] =
       ap (λ l. before ++ l) equal ∙ sym (append_assoc before line (newline ∷ []))
-      ∙ sym (append-nil (with_end (before ++ line))) in
+      ∙ sym (append-nil (with_newline (before ++ line))) in
       record {
         bytes = k.drops.bytes;
         went = k.drops.went;

@@ -10,11 +10,11 @@ use Rattle.piece_reader.specs.PieceReader.{rest}
 use Rattle.piece_reader.specs.Runs.{AnswerRuns, handed_payload}
 use Rattle.line_reader.specs.declared.error.LineError.TheVariants.{Io}
 use Rattle.line_reader.specs.Calls.{Handed, Trimmed, Skipped, Ended, Nexts, NextsBuffered, NextsTrimmed, Skips, Call, CallGoes, CallsWent, Event, call_asks, call_lines, event_lines, events_of, pending, skipped_count}
-use Rattle.line_reader.specs.CallsLaws.{CutsInto-after, LinesAlong-joins, NextBuffered-stays, NextLine-along, Trims-along, skip_fails, skip_last, skip_none, skip_whole}
+use Rattle.line_reader.specs.CallsLaws.{CutsInto-after, LinesAlong-joins, NextBufferedLine-stays, NextLine-along, Trims-along, skip_fails, skip_last, skip_none, skip_whole}
 use Rattle.line_reader.specs.Lines.{IsLine}
 use Rattle.line_reader.specs.LineReader.{LineState, IsLineReader}
-use Rattle.line_reader.specs.NextLine.{NextAnswer, NextLine, Trims}
-use Rattle.line_reader.specs.NextLineLaws.{NextBuffered-whole, NextLine-whole, NextOpen, SkipsLine-whole, by_skipping}
+use Rattle.line_reader.specs.NextLine.{LineAnswer, NextLine, Trims}
+use Rattle.line_reader.specs.NextLineLaws.{NextBufferedLine-whole, NextLine-whole, NextOpen, SkipsLine-whole, by_skipping}
 use Rattle.line_reader.specs.SkipLine.{SkipsLine}
 
 -- lines that were skipped are counted in any part
@@ -25,13 +25,13 @@ skipped_append (Trimmed shown ∷ first) later = skipped_append first later
 skipped_append (Skipped line ∷ first) later = omega (arith, skipped_append first later)
 skipped_append (Ended ∷ first) later = skipped_append first later
 
-next_lines : (answer : NextAnswer) → (flat_map event_lines (events_of (λ l. Handed l) answer) ≡ handed_payload answer)
+next_lines : (answer : LineAnswer) → (flat_map event_lines (events_of (λ l. Handed l) answer) ≡ handed_payload answer)
     × (skipped_count (events_of (λ l. Handed l) answer) ≡ 0)
 next_lines (Ok (Some line)) = (refl, refl)
 next_lines (Ok None) = (refl, refl)
 next_lines (Err e) = (refl, refl)
 
-trimmed_lines : (answer : NextAnswer) → (flat_map event_lines (events_of (λ l. Trimmed l) answer) ≡ handed_payload answer)
+trimmed_lines : (answer : LineAnswer) → (flat_map event_lines (events_of (λ l. Trimmed l) answer) ≡ handed_payload answer)
     × (skipped_count (events_of (λ l. Trimmed l) answer) ≡ 0)
 trimmed_lines (Ok (Some shown)) = (refl, refl)
 trimmed_lines (Ok None) = (refl, refl)
@@ -79,7 +79,7 @@ module _ {S : Type 0} (remaining : S → Option (List ℕ)) where
   }
 
   -- one call of `next`, or of `next_trimmed`, where no line is being skipped
-  next_plain : (s t : LineState S) (answer : NextAnswer) → NextOpen remaining s answer t
+  next_plain : (s t : LineState S) (answer : LineAnswer) → NextOpen remaining s answer t
       → CallsWent remaining [] s (handed_payload answer) 0 t
   next_plain s t answer n = record {
     events = events_of (λ l. Handed l) answer;
@@ -89,7 +89,7 @@ module _ {S : Type 0} (remaining : S → Option (List ℕ)) where
     few = omega (arith, (next_lines answer).1, ap pending n.1);
   }
 
-  trimmed_plain : (s t : LineState S) (whole answer : NextAnswer) → NextOpen remaining s whole t
+  trimmed_plain : (s t : LineState S) (whole answer : LineAnswer) → NextOpen remaining s whole t
       → Trims whole answer t.pieces.ended
       → CallsWent remaining [] s (handed_payload answer) 0 t
   trimmed_plain s t whole answer n trims = record {
@@ -146,7 +146,7 @@ module _ {S : Type 0} (remaining : S → Option (List ℕ)) where
 
   -- a call that goes on skipping first
   skips_first : (s t : LineState S) (before : List ℕ) → IsLine before → (s.skipping ≡ false → before ≡ []) → IsLineReader s
-      → (answer : NextAnswer) (lines : List (List ℕ))
+      → (answer : LineAnswer) (lines : List (List ℕ))
       → ((m : LineState S) → NextOpen remaining m answer t → CallsWent remaining [] m lines 0 t)
       → ((e : Error) → answer ≡ Err (Io e) → lines ≡ []) → NextLine remaining s answer t
       → CallsWent remaining before s lines 0 t
@@ -177,7 +177,7 @@ module _ {S : Type 0} (remaining : S → Option (List ℕ)) where
   CallGoes-went s (NextsBuffered None) t n before plain closed whole = record {
     events = [];
     after = before;
-    along = NextBuffered-stays remaining s t before plain closed n;
+    along = NextBufferedLine-stays remaining s t before plain closed n;
     handed = refl;
     few = omega (arith, ap pending n.skipping);
   }
@@ -190,7 +190,7 @@ module _ {S : Type 0} (remaining : S → Option (List ℕ)) where
       → IsLineReader t
   call_whole s (Nexts answer) t goes whole = NextLine-whole remaining s t answer goes
   call_whole s (NextsTrimmed answer) t n whole = NextLine-whole remaining s t n.whole n.next
-  call_whole s (NextsBuffered found) t n whole = NextBuffered-whole remaining s t found whole n
+  call_whole s (NextsBuffered found) t n whole = NextBufferedLine-whole remaining s t found whole n
   call_whole s (Skips answer) t k whole = SkipsLine-whole remaining s t answer k
 
   -- what any come to

@@ -31,7 +31,7 @@ TakesLines lines (Skipped line ∷ events) later =
 TakesLines lines (Ended ∷ events) later = (lines ≡ []) × TakesLines [] events later
 
 -- calls that handed these out took the first of the lines, whole and in order, and the others are left
-pub record TookFront {S : Type 0} (remaining : S → Option (List ℕ)) (lines handed : List (List ℕ)) (t : LineState S)
+pub record TookFirstLines {S : Type 0} (remaining : S → Option (List ℕ)) (lines handed : List (List ℕ)) (t : LineState S)
     : Type 0 where
   pub events : List Event
   pub later : List (List ℕ)

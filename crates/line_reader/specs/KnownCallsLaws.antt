@@ -19,10 +19,10 @@ use Rattle.piece_reader.specs.Trimming.{IsTrimmed}
 use Rattle.line_reader.specs.declared.error.LineError.TheVariants.{TooLong, Io}
 use Rattle.line_reader.specs.Calls.{Handed, Trimmed, Skipped, Ended, Nexts, NextsBuffered, NextsTrimmed, Skips, Call, CallGoes, Event, call_lines, event_lines}
 use Rattle.line_reader.specs.CallsLaws.{no_line}
-use Rattle.line_reader.specs.KnownCalls.{LeavesBehind, TakesLines, TookFront}
-use Rattle.line_reader.specs.Lines.{HasLines, IsLine, newline, with_end}
+use Rattle.line_reader.specs.KnownCalls.{LeavesBehind, TakesLines, TookFirstLines}
+use Rattle.line_reader.specs.Lines.{HasLines, IsLine, newline, with_newline}
 use Rattle.line_reader.specs.LineReader.{LineState, lined}
-use Rattle.line_reader.specs.NextLine.{NextAnswer, NextLine, Trims}
+use Rattle.line_reader.specs.NextLine.{LineAnswer, NextLine, Trims}
 use Rattle.line_reader.specs.NextLineLaws.{IsHanded-fits, NextOpen, by_skipping}
 use Rattle.line_reader.specs.SkipLine.{SkipsLine}
 use Rattle.line_reader.specs.TextLaws.{Lines-first, Lines-last, Lines-none, Lines-same, lines-last, lines-none, lines_of}
@@ -77,13 +77,13 @@ module _ {S : Type 0} (remaining : S → Option (List ℕ)) where
   -- the front of the lines went by these events
   front : (lines : List (List ℕ)) (t : LineState S) (events : List Event) (later : List (List ℕ)) (after : List ℕ)
       → TakesLines lines events later → LeavesBehind remaining after t later
-      → TookFront remaining lines (flat_map event_lines events) t
+      → TookFirstLines remaining lines (flat_map event_lines events) t
   front lines t events later after takes left =
       record { events = events; later = later; takes = takes; same = refl; before = after; left = left }
 
-  TookFront-joins : (m t : LineState S) (lines handed then : List (List ℕ)) (f : TookFront remaining lines handed m)
-      → TookFront remaining f.later then t → TookFront remaining lines (handed ++ then) t
-  TookFront-joins m t lines handed then f g = record {
+  TookFirstLines-joins : (m t : LineState S) (lines handed then : List (List ℕ)) (f : TookFirstLines remaining lines handed m)
+      → TookFirstLines remaining f.later then t → TookFirstLines remaining lines (handed ++ then) t
+  TookFirstLines-joins m t lines handed then f g = record {
     events = f.events ++ g.events;
     later = g.later;
     takes = TakesLines-joins f.events lines f.later g.events g.later f.takes g.takes;
@@ -139,11 +139,11 @@ module _ {S : Type 0} (remaining : S → Option (List ℕ)) (s t : LineState S) 
 
   -- a line went, with its end or as the last one
   took_line : (line : List ℕ) → IsLine line
-      → (all ≡ with_end line ++ after) ⊎ ((all ≡ line ++ after) × (0 < length line) × (t.pieces.ended ≡ true))
+      → (all ≡ with_newline line ++ after) ⊎ ((all ≡ line ++ after) × (0 < length line) × (t.pieces.ended ≡ true))
       → (later : List (List ℕ)) × (lines ≡ line ∷ later) × LeavesBehind remaining after t later
   took_line line is_line (inl is) =
       let front : all ++ behind.0 ≡ line ++ newline ∷ (after ++ behind.0) =
-      ap (λ l. l ++ behind.0) is ∙ append_assoc (with_end line) after behind.0
+      ap (λ l. l ++ behind.0) is ∙ append_assoc (with_newline line) after behind.0
       ∙ append_assoc line (newline ∷ []) (after ++ behind.0) in
       let first = Lines-first line (after ++ behind.0) (all ++ behind.0) lines is_line front has in
       (first.0, first.1, leaves first.0 first.2)
@@ -172,7 +172,7 @@ module _ {S : Type 0} (remaining : S → Option (List ℕ)) (s t : LineState S) 
 -- one call of `next` where no line is being skipped
 module _ {S : Type 0} (remaining : S → Option (List ℕ)) (s t : LineState S) (lines : List (List ℕ))
     (b : LeavesBehind remaining [] s lines) where
-  next_quiet : (answer : NextAnswer) → NextOpen remaining s answer t → Quiet s [] t
+  next_quiet : (answer : LineAnswer) → NextOpen remaining s answer t → Quiet s [] t
   next_quiet (Ok (Some line)) (next, open') ended = elim next.answers.1 [
     | inl (is, going, none) ↦ absurd (true≢false (sym ended ∙ going))
     | inr (is, part, some, none, told, met) ↦ (refl, none, met)
@@ -188,17 +188,17 @@ module _ {S : Type 0} (remaining : S → Option (List ℕ)) (s t : LineState S) 
       let fits = IsHanded-fits s.pieces.decoder.max s.pieces t.pieces line next.bytes next.answers.1 in
       took_line remaining s t [] lines b next.bytes next.went [] no_line (λ _. refl) (next_quiet (Ok (Some line)) n) line
       fits.plain (elim next.answers.1 [
-        | inl (is, going, none) ↦ inl (is.2 ∙ sym (append-nil (with_end line)))
+        | inl (is, going, none) ↦ inl (is.2 ∙ sym (append-nil (with_newline line)))
         | inr (is, part, some, none, ended, met) ↦
             inr (sym is ∙ sym (append-nil line), omega (arith, some, ap length is), ended)
       ])
 
-  stays : (answer : NextAnswer) (n : NextOpen remaining s answer t) → n.0.bytes ≡ [] → TookFront remaining lines [] t
+  stays : (answer : LineAnswer) (n : NextOpen remaining s answer t) → n.0.bytes ≡ [] → TookFirstLines remaining lines [] t
   stays answer n none =
       front remaining lines t [] lines [] refl
       (took_none remaining s t [] lines b n.0.bytes n.0.went [] no_line (λ _. refl) (next_quiet answer n) none)
 
-  next_takes : (answer : NextAnswer) → NextOpen remaining s answer t → TookFront remaining lines (handed_payload answer) t
+  next_takes : (answer : LineAnswer) → NextOpen remaining s answer t → TookFirstLines remaining lines (handed_payload answer) t
   next_takes (Ok (Some line)) n =
       let one = takes_one line n in
       front remaining lines t (Handed line ∷ []) one.0 [] (one.0, one.1, refl) one.2
@@ -215,8 +215,8 @@ module _ {S : Type 0} (remaining : S → Option (List ℕ)) (s t : LineState S) 
   either_shown true line shown same = inr same
   either_shown false line shown trims = inl trims
 
-  trimmed_takes : (whole answer : NextAnswer) → NextOpen remaining s whole t → Trims whole answer t.pieces.ended
-      → TookFront remaining lines (handed_payload answer) t
+  trimmed_takes : (whole answer : LineAnswer) → NextOpen remaining s whole t → Trims whole answer t.pieces.ended
+      → TookFirstLines remaining lines (handed_payload answer) t
   trimmed_takes (Ok (Some line)) (Ok (Some shown)) n trims =
       let one = takes_one line n in
       front remaining lines t (Trimmed shown ∷ []) one.0 []
@@ -224,21 +224,22 @@ module _ {S : Type 0} (remaining : S → Option (List ℕ)) (s t : LineState S) 
   trimmed_takes (Ok (Some line)) (Ok None) n trims = absurd trims
   trimmed_takes (Ok (Some line)) (Err e) n trims = absurd trims
   trimmed_takes (Ok None) answer n trims =
-      subst (λ a. TookFront remaining lines (handed_payload a) t) (sym trims) (next_takes (Ok None) n)
+      subst (λ a. TookFirstLines remaining lines (handed_payload a) t) (sym trims) (next_takes (Ok None) n)
   trimmed_takes (Err e) answer n trims =
-      subst (λ a. TookFront remaining lines (handed_payload a) t) (sym trims) (next_takes (Err e) n)
+      subst (λ a. TookFirstLines remaining lines (handed_payload a) t) (sym trims) (next_takes (Err e) n)
 
 -- a skip, or the part of a call that goes on skipping
 module _ {S : Type 0} (remaining : S → Option (List ℕ)) (s t : LineState S) (before : List ℕ) (lines : List (List ℕ))
     (b : LeavesBehind remaining before s lines) where
-  skip_takes : (count : ℕ) → SkipsLine remaining s (Ok count) t → TookFront remaining lines [] t
+  skip_takes : (count : ℕ) → SkipsLine remaining s (Ok count) t → TookFirstLines remaining lines [] t
   skip_takes count k =
       let bytes = k.drops.bytes in
       elim k.drops.answers.2 [
         | inl (w, going, met) ↦
             (let line = before ++ w.line in
-            let is : before ++ bytes ≡ with_end line ++ [] =
-            ap (λ l. before ++ l) w.equal ∙ sym (append_assoc before w.line (newline ∷ [])) ∙ sym (append-nil (with_end line)) in
+            let is : before ++ bytes ≡ with_newline line ++ [] =
+            ap (λ l. before ++ l) w.equal ∙ sym (append_assoc before w.line (newline ∷ []))
+            ∙ sym (append-nil (with_newline line)) in
             let quiet : Quiet s [] t = λ ended. absurd (true≢false (sym ended ∙ going)) in
             let one = took_line remaining s t before lines b bytes k.drops.went [] no_line (λ _. refl) quiet line
             (All-append (isnt_end newline) before w.line b.plain w.plain) (inl is) in
@@ -249,7 +250,7 @@ module _ {S : Type 0} (remaining : S → Option (List ℕ)) (s t : LineState S) 
     where
       -- to the end of the stream
       through : (all : List ℕ) → all ≡ before ++ k.drops.bytes → IsLine all → rest t.pieces ≡ [] → t.pieces.ended ≡ true
-          → MetEnd s.pieces t.pieces → TookFront remaining lines [] t
+          → MetEnd s.pieces t.pieces → TookFirstLines remaining lines [] t
       through [] is plain none ended met =
           front remaining lines t [] lines [] refl
           (took_none remaining s t before lines b k.drops.bytes k.drops.went [] no_line (λ _. refl) (λ _. (refl, none, met))
@@ -260,7 +261,7 @@ module _ {S : Type 0} (remaining : S → Option (List ℕ)) (s t : LineState S) 
           (λ _. (refl, none, met)) line plain (inr (sym is ∙ sym (append-nil line), omega arith, ended)) in
           front remaining lines t (Skipped line ∷ []) one.0 [] (one.0, one.1, refl) one.2
 
-  skip_failed_takes : (e : Error) → SkipsLine remaining s (Err e) t → TookFront remaining lines [] t
+  skip_failed_takes : (e : Error) → SkipsLine remaining s (Err e) t → TookFirstLines remaining lines [] t
   skip_failed_takes e k =
       let bytes = k.drops.bytes in
       let plain = All-append (isnt_end newline) before bytes b.plain k.drops.answers.0 in
@@ -271,23 +272,23 @@ module _ {S : Type 0} (remaining : S → Option (List ℕ)) (s t : LineState S) 
 module _ {S : Type 0} (remaining : S → Option (List ℕ)) where
   -- a call that goes on skipping first
   goes_takes : (s t : LineState S) (before : List ℕ) (lines handed : List (List ℕ)) → LeavesBehind remaining before s lines
-      → (answer : NextAnswer)
+      → (answer : LineAnswer)
       → ((m : LineState S) (some : List (List ℕ)) → LeavesBehind remaining [] m some → NextOpen remaining m answer t
-      → TookFront remaining some handed t)
+      → TookFirstLines remaining some handed t)
       → ((e : Error) → answer ≡ Err (Io e) → handed ≡ []) → NextLine remaining s answer t
-      → TookFront remaining lines handed t
+      → TookFirstLines remaining lines handed t
   goes_takes s t before lines handed b answer then still =
-      by_skipping remaining s t answer (TookFront remaining lines handed t)
+      by_skipping remaining s t answer (TookFirstLines remaining lines handed t)
       (λ open' next. then s lines (none_before remaining s before lines open' b) next)
       (λ m count is skips next.
       let first = skip_takes remaining s m before lines b count skips in
-      TookFront-joins remaining m t lines [] handed first
+      TookFirstLines-joins remaining m t lines [] handed first
       (then m first.later (none_before remaining m first.before first.later skips.skipping first.left) next))
-      (λ e is skips fails. subst (λ l. TookFront remaining lines l t) (sym (still e fails))
+      (λ e is skips fails. subst (λ l. TookFirstLines remaining lines l t) (sym (still e fails))
       (skip_failed_takes remaining s t before lines b e skips))
 
   call_takes : (s : LineState S) (call : Call) (t : LineState S) → CallGoes remaining s call t → (before : List ℕ)
-      (lines : List (List ℕ)) → LeavesBehind remaining before s lines → TookFront remaining lines (call_lines call) t
+      (lines : List (List ℕ)) → LeavesBehind remaining before s lines → TookFirstLines remaining lines (call_lines call) t
   call_takes s (Nexts answer) t goes before lines b =
       goes_takes s t before lines (handed_payload answer) b answer (λ m some has n. next_takes remaining m t some has answer n)
       (λ e is. ap handed_payload is) goes
@@ -314,7 +315,7 @@ module _ {S : Type 0} (remaining : S → Option (List ℕ)) where
   -- any calls, one after another
   pub Calls-takes : (s : LineState S) (calls : List Call) (t : LineState S) → AnswerRuns (CallGoes remaining) s calls t
       → (before : List ℕ) (lines : List (List ℕ)) → LeavesBehind remaining before s lines
-      → TookFront remaining lines (flat_map call_lines calls) t
+      → TookFirstLines remaining lines (flat_map call_lines calls) t
   Calls-takes s [] t same before lines b = record {
     events = [];
     later = lines;
@@ -325,5 +326,5 @@ module _ {S : Type 0} (remaining : S → Option (List ℕ)) where
   }
   Calls-takes s (call ∷ calls) t (m, goes, run) before lines b =
       let first = call_takes s call m goes before lines b in
-      TookFront-joins remaining m t lines (call_lines call) (flat_map call_lines calls) first
+      TookFirstLines-joins remaining m t lines (call_lines call) (flat_map call_lines calls) first
       (Calls-takes m calls t run first.before first.later first.left)

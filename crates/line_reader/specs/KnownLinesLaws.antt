@@ -10,7 +10,7 @@ use Rattle.line_reader.specs.declared.error.LineError.TheVariants.{TooLong, Io}
 use Rattle.line_reader.specs.declared.line.Lines.{Lines}
 use Rattle.line_reader.specs.Lines.{newline}
 use Rattle.line_reader.specs.LineReader.{LineState, lined}
-use Rattle.line_reader.specs.NextLine.{NextAnswer, NextLine, piece_answer}
+use Rattle.line_reader.specs.NextLine.{LineAnswer, NextLine, piece_answer}
 use Rattle.line_reader.specs.NextLineLaws.{NextLine-open}
 
 module _ {S : Type 0} (remaining : S → Option (List ℕ)) (s : LineState S) where
@@ -18,12 +18,12 @@ module _ {S : Type 0} (remaining : S → Option (List ℕ)) (s : LineState S) wh
   abbrev Left : LineState S → List (List ℕ) → Type 0
   Left f lines = HasLeft remaining (lined f.pieces.decoder.max) f.pieces lines × (f.skipping ≡ false)
 
-  abbrev KnownAs : (answer : NextAnswer) → List (List ℕ) → LineState S → Type 0
+  abbrev KnownAs : (answer : LineAnswer) → List (List ℕ) → LineState S → Type 0
   KnownAs answer lines t =
       AnswersKnown (λ f. HasLeft remaining (lined f.decoder.max) f) (λ f. f.reader.log.reads.faults) why.Io s.pieces
       (piece_answer answer) lines t.pieces
 
-  lines_known : (answer : NextAnswer) (lines : List (List ℕ)) (t : LineState S) → KnownAs answer lines t → t.skipping ≡ false
+  lines_known : (answer : LineAnswer) (lines : List (List ℕ)) (t : LineState S) → KnownAs answer lines t → t.skipping ≡ false
       → AnswersKnown Left (λ f. f.pieces.reader.log.reads.faults) Io s answer lines t
   lines_known (Ok (Some found)) [] t a open' = a
   lines_known (Ok (Some found)) (line ∷ later) t a open' = (a.0, (a.1, open'), a.2)
@@ -36,7 +36,7 @@ module _ {S : Type 0} (remaining : S → Option (List ℕ)) (s : LineState S) wh
     λ x is. a.2 x (let same : e ≡ x = cc in ap (λ y. why.Io y) same),
   )
 
-  pub NextLine-answers : (answer : NextAnswer) (lines : List (List ℕ)) (t : LineState S) → Left s lines
+  pub NextLine-answers : (answer : LineAnswer) (lines : List (List ℕ)) (t : LineState S) → Left s lines
       → NextLine remaining s answer t
       → AnswersKnown Left (λ f. f.pieces.reader.log.reads.faults) Io s answer lines t
   NextLine-answers answer lines t left line =

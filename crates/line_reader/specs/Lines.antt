@@ -11,12 +11,12 @@ abbrev pub IsLine : List ℕ → Type 0
 IsLine bytes = All (λ byte. ¬ (byte ≡ newline)) bytes
 
 -- the line and its end
-abbrev pub with_end : List ℕ → List ℕ
-with_end line = line ++ newline ∷ []
+abbrev pub with_newline : List ℕ → List ℕ
+with_newline line = line ++ newline ∷ []
 
 -- these lines, each with its end
-abbrev pub with_ends : List (List ℕ) → List ℕ
-with_ends lines = flat_map with_end lines
+abbrev pub with_newlines : List (List ℕ) → List ℕ
+with_newlines lines = flat_map with_newline lines
 
 -- what stands behind the last end is a line too, where it is something
 abbrev pub last_line : List ℕ → List (List ℕ)
@@ -27,7 +27,7 @@ last_line (byte ∷ more) = (byte ∷ more) ∷ []
 pub record HasLines (text : List ℕ) (lines : List (List ℕ)) : Type 0 where
   pub whole : List (List ℕ)
   pub last : List ℕ
-  pub bytes : text ≡ with_ends whole ++ last
+  pub bytes : text ≡ with_newlines whole ++ last
   pub all : lines ≡ whole ++ last_line last
   pub plain : All IsLine lines
 

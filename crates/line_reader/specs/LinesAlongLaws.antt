@@ -17,10 +17,10 @@ use Rattle.line_reader.specs.declared.error.LineError.TheVariants.{TooLong, Io}
 use Rattle.line_reader.specs.Calls.{Event, LinesAlong, Skipped, Trimmed, events_of}
 use Rattle.line_reader.specs.CallsLaws.{LinesAlong-joins, NextLine-along, Trims-along, no_line, skip_last, skip_none, skip_whole}
 use Rattle.line_reader.specs.CallsWentLaws.{ended_empty}
-use Rattle.line_reader.specs.Lines.{BeginsTooLong, IsLine, newline, with_end}
+use Rattle.line_reader.specs.Lines.{BeginsTooLong, IsLine, newline, with_newline}
 use Rattle.line_reader.specs.LinesLaws.{front_plain, line_or_end, line_or_long, no-end-within, too_long-append}
 use Rattle.line_reader.specs.LineReader.{HasLine, IsLineReader, LineState, lined}
-use Rattle.line_reader.specs.NextLine.{NextAnswer, NextBuffered, NextLine, NextTrimmed, Trims, piece_answer}
+use Rattle.line_reader.specs.NextLine.{LineAnswer, NextBufferedLine, NextLine, NextTrimmed, Trims, piece_answer}
 use Rattle.line_reader.specs.NextLineLaws.{NextLine-open, NextOpen, NextPiece-long, by_skipping}
 use Rattle.line_reader.specs.SkipLine.{SkipsLine}
 
@@ -61,22 +61,22 @@ module _ {S : Type 0} (remaining : S → Option (List ℕ)) (s t : LineState S) 
       subst (λ r. NextTrimmed remaining s (answer_of r) t) (is ∙ ap (λ x. Err x) error_is)
 
   -- the arms of `match reader.next_buffered()`
-  pub NextBuffered-some : (r : Option (Bor (List ℕ))) (line : Bor (List ℕ)) → r ≡ Some line
-      → NextBuffered remaining s (option_copied r) t
+  pub NextBufferedLine-some : (r : Option (Bor (List ℕ))) (line : Bor (List ℕ)) → r ≡ Some line
+      → NextBufferedLine remaining s (option_copied r) t
       → NextOpen remaining s (Ok (Some line.now)) t × (t.pieces.reader ≡ s.pieces.reader)
-  NextBuffered-some r line is n =
-      let found = subst (λ r. NextBuffered remaining s (option_copied r) t) is n in
+  NextBufferedLine-some r line is n =
+      let found = subst (λ r. NextBufferedLine remaining s (option_copied r) t) is n in
       ((found.piece.0, found.skipping ∙ found.open'), found.piece.1)
 
-  pub NextBuffered-none : (r : Option (Bor (List ℕ))) → r ≡ None → NextBuffered remaining s (option_copied r) t
+  pub NextBufferedLine-none : (r : Option (Bor (List ℕ))) → r ≡ None → NextBufferedLine remaining s (option_copied r) t
       → StaysLeft (lined s.pieces.decoder.max) s.pieces t.pieces × ¬ (Begins (lined s.pieces.decoder.max) (rest s.pieces))
       × (t.skipping ≡ s.skipping)
-  NextBuffered-none r is n =
-      let none = subst (λ r. NextBuffered remaining s (option_copied r) t) is n in
+  NextBufferedLine-none r is n =
+      let none = subst (λ r. NextBufferedLine remaining s (option_copied r) t) is n in
       (none.piece.0, none.piece.1, none.skipping)
 
   -- an `Err` of `next_trimmed` is one of `next`
-  trimmed_err : (whole : NextAnswer) (e : LineError) → NextLine remaining s whole t → Trims whole (Err e) t.pieces.ended
+  trimmed_err : (whole : LineAnswer) (e : LineError) → NextLine remaining s whole t → Trims whole (Err e) t.pieces.ended
       → NextLine remaining s (Err e) t
   trimmed_err (Ok (Some line)) e next trims = absurd trims
   trimmed_err (Ok None) e next trims = (let odd : Err e ≡ Ok None = trims in cc)
@@ -86,12 +86,12 @@ module _ {S : Type 0} (remaining : S → Option (List ℕ)) (s t : LineState S) 
   NextTrimmed-fails e n = trimmed_err n.whole e n.next n.trims
 
   -- where no line is being skipped none is then
-  pub NextTrimmed-open : (answer : NextAnswer) → s.skipping ≡ false → NextTrimmed remaining s answer t
+  pub NextTrimmed-open : (answer : LineAnswer) → s.skipping ≡ false → NextTrimmed remaining s answer t
       → t.skipping ≡ false
   NextTrimmed-open answer open' n = (NextLine-open remaining s t n.whole open' n.next).1
 
   -- what was taken by one call
-  pub NextTrimmed-along : (answer : NextAnswer) → s.skipping ≡ false → NextTrimmed remaining s answer t
+  pub NextTrimmed-along : (answer : LineAnswer) → s.skipping ≡ false → NextTrimmed remaining s answer t
       → LinesAlong remaining [] s (events_of (λ l. Trimmed l) answer) [] t
   NextTrimmed-along answer open' n =
       Trims-along remaining s t n.whole answer (NextLine-open remaining s t n.whole open' n.next) n.trims
@@ -130,14 +130,14 @@ HasLine-end s open' isnt =
 
 module _ {S : Type 0} (remaining : S → Option (List ℕ)) (s t : LineState S) where
   -- where the next call answers without the stream, it does
-  pub NextLine-quiet : (answer : NextAnswer) → HasLine s → NextLine remaining s answer t
+  pub NextLine-quiet : (answer : LineAnswer) → HasLine s → NextLine remaining s answer t
       → t.pieces.reader.log ≡ s.pieces.reader.log
   NextLine-quiet answer has line =
       let max = s.pieces.decoder.max in
       AsksNone-settled remaining (lined max) (delimited_lawful newline max) s.pieces has.settled (piece_answer answer) t.pieces
       (NextLine-open remaining s t answer has.open' line).0
 
-  pub NextTrimmed-quiet : (answer : NextAnswer) → HasLine s → NextTrimmed remaining s answer t
+  pub NextTrimmed-quiet : (answer : LineAnswer) → HasLine s → NextTrimmed remaining s answer t
       → t.pieces.reader.log ≡ s.pieces.reader.log
   NextTrimmed-quiet answer has n = NextLine-quiet n.whole has n.next
 
@@ -198,7 +198,7 @@ module _ {S : Type 0} (remaining : S → Option (List ℕ)) (s m t : LineState S
         let long = (NextPiece-long remaining most s.pieces m.pieces (record { 0 = max }) refused.0).0 in
         subst (BeginsTooLong most) (sym hands.equal) (too_long-append most (rest m.pieces) hands.got long)
 
-    whole_long : (line : List ℕ) → k.drops.bytes ≡ with_end line → most < length line
+    whole_long : (line : List ℕ) → k.drops.bytes ≡ with_newline line → most < length line
     whole_long line equal = elim (cases_lt most (length line)) [
       | inl long ↦ long
       | inr fits ↦ absurd (no-end-within line (rest t.pieces) most fits (subst (λ l. IsLine (take (1 + most) l))

@@ -6,7 +6,7 @@ use Rattle.std.proofs.lemmas.List.{take-append-le}
 use Rattle.std.proofs.lemmas.List.Elements.{All-nil, All-cons, All-head, All-tail, All-take}
 use Rattle.piece_reader.specs.DelimitedLaws.{end-within, first_end, isnt_end}
 use Rattle.piece_reader.specs.Grammar.{Begins}
-use Rattle.line_reader.specs.Lines.{newline, BeginsTooLong, IsLine, with_end}
+use Rattle.line_reader.specs.Lines.{newline, BeginsTooLong, IsLine, with_newline}
 use Rattle.line_reader.specs.LineReader.{lined}
 
 -- the end of a line of at most max bytes is one of the first max + 1
@@ -34,7 +34,7 @@ line_or_long max bytes line more plain equal = elim (cases_lt max (length line))
         (take_plain (1 + max) line plain);
   })
   | inr fits ↦ inl (record {
-    piece = with_end line;
+    piece = with_newline line;
     payload = line;
     more = more;
     is = (plain, fits, refl);

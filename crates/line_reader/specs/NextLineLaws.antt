@@ -11,23 +11,23 @@ use Rattle.piece_reader.specs.NextPiece.{IsHanded, NextPiece, NoEnd}
 use Rattle.piece_reader.specs.PieceReader.{IsPieceReader, ReaderState, rest}
 use Rattle.line_reader.specs.declared.error.LineError.TheVariants.{TooLong, Io}
 use Rattle.line_reader.specs.declared.line.Lines.{Lines}
-use Rattle.line_reader.specs.Lines.{BeginsTooLong, FitsLine, IsLine, newline, with_end}
+use Rattle.line_reader.specs.Lines.{BeginsTooLong, FitsLine, IsLine, newline, with_newline}
 use Rattle.line_reader.specs.LineReader.{IsLineReader, LineState, lined}
-use Rattle.line_reader.specs.NextLine.{NextAnswer, NextBuffered, NextLine, piece_answer}
+use Rattle.line_reader.specs.NextLine.{LineAnswer, NextBufferedLine, NextLine, piece_answer}
 use Rattle.line_reader.specs.SkipLine.{SkipsLine}
 
 -- what one answer of a reader of pieces is of a reader of lines
-pub same_some : (answer : NextAnswer) (line : List ℕ) → piece_answer answer ≡ Ok (Some line) → answer ≡ Ok (Some line)
+pub same_some : (answer : LineAnswer) (line : List ℕ) → piece_answer answer ≡ Ok (Some line) → answer ≡ Ok (Some line)
 same_some (Ok found) line is = (let same : found ≡ Some line = cc in ap (λ x. Ok x) same)
 same_some (Err (TooLong n)) line is = cc
 same_some (Err (Io e)) line is = cc
 
-pub same_none : (answer : NextAnswer) → piece_answer answer ≡ Ok None → answer ≡ Ok None
+pub same_none : (answer : LineAnswer) → piece_answer answer ≡ Ok None → answer ≡ Ok None
 same_none (Ok found) is = (let same : found ≡ None = cc in ap (λ x. Ok x) same)
 same_none (Err (TooLong n)) is = cc
 same_none (Err (Io e)) is = cc
 
-pub same_long : (answer : NextAnswer) (e : piece.TooLong) → piece_answer answer ≡ Err (Wrong e) → answer ≡ Err (TooLong e.0)
+pub same_long : (answer : LineAnswer) (e : piece.TooLong) → piece_answer answer ≡ Err (Wrong e) → answer ≡ Err (TooLong e.0)
 same_long (Ok found) e is = cc
 same_long (Err (TooLong n)) e is = (let same : e ≡ record { 0 = n } = cc in ap (λ x. Err (TooLong x.0)) (sym same))
 same_long (Err (Io x)) e is = cc
@@ -43,7 +43,7 @@ IsHanded-fits max s t line bytes (inr (is, open', some, none, ended, met)) =
 -- a line that was handed out had its end where the stream didn't end behind it, and else it had none
 module _ {S D : Type 0} (max : ℕ) (s t : ReaderState S D) (line bytes : List ℕ)
     (handed : IsHanded (lined max) s line bytes t) where
-  pub IsHanded-end : t.ended ≡ false → bytes ≡ with_end line
+  pub IsHanded-end : t.ended ≡ false → bytes ≡ with_newline line
   IsHanded-end going = elim handed [
     | inl whole ↦ whole.0.2
     | inr last ↦ (let odd : true ≡ false = sym last.4 ∙ going in cc)
@@ -92,11 +92,11 @@ module _ {S : Type 0} where
 
 -- what one call comes to
 module _ {S : Type 0} (remaining : S → Option (List ℕ)) where
-  abbrev pub NextOpen : LineState S → NextAnswer → LineState S → Type 0
+  abbrev pub NextOpen : LineState S → LineAnswer → LineState S → Type 0
   NextOpen s answer t =
       NextPiece remaining (lined s.pieces.decoder.max) s.pieces (piece_answer answer) t.pieces × (t.skipping ≡ false)
 
-  module _ (s t : LineState S) (answer : NextAnswer) where
+  module _ (s t : LineState S) (answer : LineAnswer) where
     -- where no line is being skipped it is one of a reader of pieces
     pub NextLine-of : s.skipping ≡ false → NextOpen s answer t → NextLine remaining s answer t
     NextLine-of open' (next, after) = inl (s, inl (open', refl), next, after)
@@ -124,14 +124,15 @@ module _ {S : Type 0} (remaining : S → Option (List ℕ)) where
     NextOpen-whole (next, after) =
         IsLineReader-open t (IsPieceReader-same s.pieces t.pieces next.went.decoder next.whole) after
 
-  pub NextLine-whole : (s t : LineState S) (answer : NextAnswer) → NextLine remaining s answer t → IsLineReader t
+  pub NextLine-whole : (s t : LineState S) (answer : LineAnswer) → NextLine remaining s answer t → IsLineReader t
   NextLine-whole s t answer = by_skipping s t answer (IsLineReader t) (λ _. NextOpen-whole s t answer)
       (λ m count is skips. NextOpen-whole m t answer) (λ e is skips fails. SkipsLine-whole remaining s t (Err e) skips)
 
-  pub NextBuffered-whole : (s t : LineState S) (found : Option (List ℕ)) → IsLineReader s → NextBuffered remaining s found t
+  pub NextBufferedLine-whole : (s t : LineState S) (found : Option (List ℕ)) → IsLineReader s
+      → NextBufferedLine remaining s found t
       → IsLineReader t
-  NextBuffered-whole s t (Some line) whole n = NextOpen-whole s t (Ok (Some line)) (n.piece.0, n.skipping ∙ n.open')
-  NextBuffered-whole s t None whole n =
+  NextBufferedLine-whole s t (Some line) whole n = NextOpen-whole s t (Ok (Some line)) (n.piece.0, n.skipping ∙ n.open')
+  NextBufferedLine-whole s t None whole n =
       let stays = n.piece.0 in
       record {
         whole = IsPieceReader-same s.pieces t.pieces (ap (λ x. x.decoder) stays.same) stays.whole;

@@ -7,7 +7,7 @@ use Rattle.piece_reader.specs.NextPiece.{AskedWhere, Faulted, MetEnd, NoEnd, NoF
 use Rattle.piece_reader.specs.PieceReader.{IsPieceReader, ReaderState, Skips, rest}
 use Rattle.piece_reader.specs.Plain.{EndsAt}
 use Rattle.line_reader.specs.declared.line.Lines.{Lines}
-use Rattle.line_reader.specs.Lines.{IsLine, newline, with_end}
+use Rattle.line_reader.specs.Lines.{IsLine, newline, with_newline}
 use Rattle.line_reader.specs.LineReader.{LineState, lined}
 
 -- the first bytes that are left were dropped: through the first end of a line, or all
@@ -27,7 +27,7 @@ pub record DropsThrough {S : Type 0} (remaining : S → Option (List ℕ)) (s : 
   pub went : PiecesWent remaining (1 + s.decoder.max) s bytes t
   pub answers : MatchResult answer
       (λ n. (n ≡ length bytes) × NoFault s t
-      × ((record { line : List ℕ; plain : IsLine line; equal : bytes ≡ with_end line } × (t.ended ≡ false) × NoEnd s t)
+      × ((record { line : List ℕ; plain : IsLine line; equal : bytes ≡ with_newline line } × (t.ended ≡ false) × NoEnd s t)
       ⊎ (IsLine bytes × (rest t ≡ []) × (t.ended ≡ true) × MetEnd s t)))
       (λ e. IsLine bytes × (rest t ≡ []) × (t.ended ≡ false) × NoEnd s t
       × (Faulted s e t ⊎ (NoFault s t × (error_kind e ≡ Other) × (2 ^ 63 < length bytes))))

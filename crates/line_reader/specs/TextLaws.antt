@@ -7,7 +7,7 @@ use Rattle.piece_reader.specs.DelimitedLaws.{delimited_lawful, open_plain, plain
 use Rattle.piece_reader.specs.Grammar.{IsLawful}
 use Rattle.piece_reader.specs.TextLaws.{Pieces-first, Pieces-last, Pieces-none, Pieces-same}
 use Rattle.piece_reader.specs.Texts.{HasPieces}
-use Rattle.line_reader.specs.Lines.{FitsLine, HasLines, IsLine, last_line, newline, with_end, with_ends}
+use Rattle.line_reader.specs.Lines.{FitsLine, HasLines, IsLine, last_line, newline, with_newline, with_newlines}
 use Rattle.line_reader.specs.LineReader.{lined}
 
 -- a text of no line, and of one that has no end
@@ -26,11 +26,11 @@ lines-last (byte ∷ line) plain some = record {
 
 -- one line more in front
 pub lines-ended : (line text : List ℕ) (lines : List (List ℕ)) → IsLine line → HasLines text lines
-    → HasLines (with_end line ++ text) (line ∷ lines)
+    → HasLines (with_newline line ++ text) (line ∷ lines)
 lines-ended line text lines plain has = record {
   whole = line ∷ has.whole;
   last = has.last;
-  bytes = ap (λ l. with_end line ++ l) has.bytes ∙ sym (append_assoc (with_end line) (with_ends has.whole) has.last);
+  bytes = ap (λ l. with_newline line ++ l) has.bytes ∙ sym (append_assoc (with_newline line) (with_newlines has.whole) has.last);
   all = ap (λ l. line ∷ l) has.all;
   plain = All-cons IsLine line lines plain has.plain;
 }
@@ -63,11 +63,11 @@ pub pieces_of : (max : ℕ) (text : List ℕ) (lines : List (List ℕ)) → HasL
     → HasPieces (lined max) text lines
 pieces_of max text lines has fit =
     subst (λ l. HasPieces (lined max) l lines) (sym has.bytes)
-    (subst (HasPieces (lined max) (with_ends has.whole ++ has.last)) (sym has.all)
+    (subst (HasPieces (lined max) (with_newlines has.whole ++ has.last)) (sym has.all)
     (pieces has.whole has.last (subst (All (FitsLine max)) has.all fit)))
   where
     pieces : (whole : List (List ℕ)) (last : List ℕ) → All (FitsLine max) (whole ++ last_line last)
-        → HasPieces (lined max) (with_ends whole ++ last) (whole ++ last_line last)
+        → HasPieces (lined max) (with_newlines whole ++ last) (whole ++ last_line last)
     pieces [] [] fit = refl
     pieces [] (byte ∷ last) fit =
         let line = All-head (FitsLine max) (byte ∷ last) [] fit in
@@ -78,17 +78,17 @@ pieces_of max text lines has fit =
     pieces (line ∷ whole) last fit =
         let first = All-head (FitsLine max) line (whole ++ last_line last) fit in
         inl (
-          with_ends whole ++ last,
+          with_newlines whole ++ last,
           record {
-            piece = with_end line;
+            piece = with_newline line;
             is = (first.plain, first.fits, refl);
-            equal = append_assoc (with_end line) (with_ends whole) last;
+            equal = append_assoc (with_newline line) (with_newlines whole) last;
           },
           pieces whole last (All-tail (FitsLine max) line (whole ++ last_line last) fit),
         )
 
 -- no line is longer than the text
-all_fit : (max : ℕ) (whole : List (List ℕ)) (last : List ℕ) → length (with_ends whole ++ last) ≤ max
+all_fit : (max : ℕ) (whole : List (List ℕ)) (last : List ℕ) → length (with_newlines whole ++ last) ≤ max
     → All IsLine (whole ++ last_line last) → All (FitsLine max) (whole ++ last_line last)
 all_fit max [] [] few plain = All-nil (FitsLine max)
 all_fit max [] (byte ∷ last) few plain =
@@ -96,9 +96,9 @@ all_fit max [] (byte ∷ last) few plain =
     All-cons (FitsLine max) (byte ∷ last) [] line (All-nil (FitsLine max))
 all_fit max (line ∷ whole) last few plain =
     let more = whole ++ last_line last in
-    let all = length-append (with_end line ++ with_ends whole) last in
-    let ended = length-append (with_end line) (with_ends whole) in
-    let behind = length-append (with_ends whole) last in
+    let all = length-append (with_newline line ++ with_newlines whole) last in
+    let ended = length-append (with_newline line) (with_newlines whole) in
+    let behind = length-append (with_newlines whole) last in
     let fits : length line ≤ max = omega (arith, few, all, ended, length-append line (newline ∷ [])) in
     All-cons (FitsLine max) line more (record { plain = All-head IsLine line more plain; fits = fits })
     (all_fit max whole last (omega (arith, few, all, ended, behind)) (All-tail IsLine line more plain))
@@ -106,7 +106,7 @@ all_fit max (line ∷ whole) last few plain =
 -- the lines of a text are pieces, of which the laws hold
 text_pieces : (text : List ℕ) (lines : List (List ℕ)) → HasLines text lines → HasPieces (lined (length text)) text lines
 text_pieces text lines has =
-    let few : length (with_ends has.whole ++ has.last) ≤ length text = omega (arith, ap length has.bytes) in
+    let few : length (with_newlines has.whole ++ has.last) ≤ length text = omega (arith, ap length has.bytes) in
     pieces_of (length text) text lines has (subst (All (FitsLine (length text))) (sym has.all)
     (all_fit (length text) has.whole has.last few (subst (All IsLine) has.all has.plain)))
 
@@ -124,7 +124,7 @@ Lines-first line more text lines plain front has =
     let max = length text in
     let fits : length line ≤ max = omega (arith, ap length front, length-append line (newline ∷ more)) in
     let first = Pieces-first (lined max) (law text) text line more lines (record {
-      piece = with_end line;
+      piece = with_newline line;
       is = (plain, fits, refl);
       equal = front ∙ sym (append_assoc line (newline ∷ []) more);
     }) (text_pieces text lines has) in
@@ -146,11 +146,11 @@ Lines-same text lines others has has' =
     Pieces-same (lined (length text)) (law text) text lines others (text_pieces text lines has) (text_pieces text others has')
 
 -- lines, each with its end, are a text of these lines
-pub Lines-with_ends : (lines : List (List ℕ)) → All IsLine lines → HasLines (with_ends lines) lines
+pub Lines-with_ends : (lines : List (List ℕ)) → All IsLine lines → HasLines (with_newlines lines) lines
 Lines-with_ends lines plain = record {
   whole = lines;
   last = [];
-  bytes = sym (append-nil (with_ends lines));
+  bytes = sym (append-nil (with_newlines lines));
   all = sym (append-nil lines);
   plain = plain;
 }

@@ -6,8 +6,8 @@ ghost use Rattle.piece_reader.specs.RunsLaws.{AnswerPlays-more, AnswerPlays-none
 ghost use Rattle.line_reader.specs.declared.error.LineError.TheVariants.{Io};
 ghost use Rattle.line_reader.specs.KnownLinesLaws.{NextLine-answers};
 ghost use Rattle.line_reader.specs.LineReader.{lined};
-ghost use Rattle.line_reader.specs.Runs.{RunWent};
-ghost use Rattle.line_reader.specs.RunsLaws.{NextRuns-went};
+ghost use Rattle.line_reader.specs.Runs.{LineRunWent};
+ghost use Rattle.line_reader.specs.RunsLaws.{LineRuns-went};
 ghost use Rattle.line_reader.specs.NextLine.{NextLine};
 
 use crate::error::LineError;
@@ -23,7 +23,7 @@ impl<R: TellRead> PayloadReader for LineReader<R> {
 
     ghost goes = { NextLine R.remaining };
 
-    ghost plays = { AnswerPlays (NextLine R.remaining) (RunWent R.remaining) };
+    ghost plays = { AnswerPlays (NextLine R.remaining) (LineRunWent R.remaining) };
 
     fn next_copied(
         &mut self,
@@ -36,9 +36,9 @@ impl<R: TellRead> PayloadReader for LineReader<R> {
         }
     }
 
-    ghost plays_none = { AnswerPlays-none (NextLine R.remaining) (RunWent R.remaining) (NextRuns-went R.remaining) };
+    ghost plays_none = { AnswerPlays-none (NextLine R.remaining) (LineRunWent R.remaining) (LineRuns-went R.remaining) };
 
-    ghost plays_more = { AnswerPlays-more (NextLine R.remaining) (RunWent R.remaining) (NextRuns-went R.remaining) };
+    ghost plays_more = { AnswerPlays-more (NextLine R.remaining) (LineRunWent R.remaining) (LineRuns-went R.remaining) };
 }
 
 impl<R: TellRead> KnownReader for LineReader<R> {

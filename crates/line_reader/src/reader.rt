@@ -12,7 +12,7 @@ ghost use Rattle.piece_reader.specs.Decoding.{IsLent, bytes_at};
 ghost use Rattle.piece_reader.specs.NextPiece.{answer_of, load_answer};
 ghost use Rattle.piece_reader.specs.PieceReader.{IsFresh, IsOver, TakenApart, rest, room_for};
 ghost use Rattle.line_reader.specs.LineReader.{HasLine, IsLineReader, lined};
-ghost use Rattle.line_reader.specs.NextLine.{NextBuffered, NextLine, NextTrimmed};
+ghost use Rattle.line_reader.specs.NextLine.{NextBufferedLine, NextLine, NextTrimmed};
 ghost use Rattle.line_reader.specs.SkipLine.{SkipsLine};
 
 mod steps;
@@ -289,7 +289,7 @@ impl<R: TellRead> LineReader<R> {
     pub fn next_buffered(&mut self) -> Option<&[u8]>
         ensures front { IfSome result (λ line. (more : List ℕ) × (rest self.old.pieces ≡ line.now ++ 10 ∷ more)) }
         ensures* after_borrow { sem 𝓛 (Rests (the_row R.row R.Tell) self.entry
-            (NextBuffered R.remaining self.entry.now (option_copied result))) }
+            (NextBufferedLine R.remaining self.entry.now (option_copied result))) }
     {
         match self.step_buffered() {
             Some(span) => Some(self.lent(span)),

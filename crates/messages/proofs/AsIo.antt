@@ -12,11 +12,11 @@ use Rattle.buffer_redux.specs.Policy.{std_read_rules}
 use Rattle.chunked.specs.declared.error.Malformed.{Malformed}
 use Rattle.chunked.specs.declared.place.Place.{Place}
 use Rattle.messages.specs.declared.error.BodyError.{BodyError}
-use Rattle.messages.specs.Messages.{AskedIn, BecomesIo, EachGave, Fails, HasRoom, IsNamed, IsRest, Reader, ReaderTakes, body_error, grammar_of, has_line, left_in, room_of, stream_of}
+use Rattle.messages.specs.Messages.{AskedIn, BecomesIo, EachReadGave, Fails, HasRoom, IsNamed, IsRest, Reader, ReaderTakes, body_error, body_rules, has_line, left_in, room_of, stream_of}
 use Rattle.messages.proofs.Going.{body_asked, body_done, body_fails, body_kept, body_named, body_room, body_take}
 
 abbrev Reads : {R : Type 0} → (R → Option (List ℕ)) → Reader R → List ℕ → Result ℕ Error → Reader R → Type 0
-Reads remaining s out answer t = ReadsAsIo remaining std_read_rules (grammar_of s.coding) s out answer t
+Reads remaining s out answer t = ReadsAsIo remaining std_read_rules (body_rules s.coding) s out answer t
 
 becomes_is : (place : Side ℕ Place) (why : Unread (Side (Unit {0}) Malformed)) (e : Error) → IsNamed why
     → between.BecomesIo why e → BecomesIo (body_error place why) e
@@ -26,7 +26,7 @@ becomes_is (side.First due) (unread.Truncated right) e named becomes = becomes
 becomes_is (side.Second q) (unread.Truncated right) e named becomes = becomes
 becomes_is place (unread.Io same) e named becomes = becomes
 
-module _ {R : Type 0} (remaining : R → Option (List ℕ)) (s t : Reader R) (is : IsBodyReader (grammar_of s.coding) s)
+module _ {R : Type 0} (remaining : R → Option (List ℕ)) (s t : Reader R) (is : IsBodyReader (body_rules s.coding) s)
     (out : List ℕ) where
   pub io_room : (answer : Result ℕ Error) → Reads remaining s out answer t → HasRoom s
       → HasRoom t × (room_of t.reader.block ≡ room_of s.reader.block)
@@ -45,7 +45,8 @@ module _ {R : Type 0} (remaining : R → Option (List ℕ)) (s t : Reader R) (is
       body_done is reads.whole reads.went (reads.answers.2 (let zero : n ≡ 0 = cc in zero) some)
   io_ended (Err e) reads none some = absurd (subst (λ r. OnOk r ⊥) none tt)
 
-  pub io_gave : (answer : Result ℕ Error) → Reads remaining s out answer t → OnOk answer (EachGave (stream_of s) (stream_of t))
+  pub io_gave : (answer : Result ℕ Error) → Reads remaining s out answer t
+      → OnOk answer (EachReadGave (stream_of s) (stream_of t))
   io_gave (Ok n) reads = (reads.answers.1.faults, reads.answers.1.zero_reads)
   io_gave (Err e) reads = tt
 

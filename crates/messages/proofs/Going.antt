@@ -5,7 +5,7 @@ use Rattle.body_reader.specs.Asking.{AskedWhere}
 use Rattle.body_reader.specs.AskingLaws.{AskedWhere-of}
 use Rattle.body_reader.specs.Between as between
 use Rattle.body_reader.specs.Between.{LeavesRoom}
-use Rattle.body_reader.specs.BodyReader.{BodyWent, Breaks, Drains, EndsEarly, IsBodyReader, IsWhole, NoPayload, ReadsPayload, handed_of}
+use Rattle.body_reader.specs.BodyReader.{BodyWent, Breaks, Drains, EndsEarly, IsBodyReader, NoPayload, ReadsPayload, TookWholeBody, handed_of}
 use Rattle.body_reader.specs.BodyReaderLaws.{BodyWent-leads}
 use Rattle.body_reader.specs.Coding.{Agree, AskedFor, IsDone, IsLawful, IsOpen, Leads, LeadsOpen, heeded}
 use Rattle.body_reader.specs.CodingLaws.{Agree-nothing, Leads-done, Leads-whole}
@@ -24,7 +24,7 @@ use Rattle.buffer_redux.specs.Unbuffer.{Unbuffered, unbuffered}
 use Rattle.buffer_redux.specs.UnbufferLaws.{ReadsAlong-stream}
 use Rattle.chunked.specs.Coding.{chunked}
 use Rattle.chunked.specs.CodingLaws.{chunked_lawful}
-use Rattle.chunked.specs.Place.{Completes, CompletesData, IsSettled}
+use Rattle.chunked.specs.Place.{Completes, CompletesData, IsDataOrDone}
 use Rattle.chunked.specs.Body.{line_end}
 use Rattle.chunked.specs.declared.coding.Chunked.{Chunked as InChunks}
 use Rattle.chunked.specs.declared.error.Malformed.{Malformed}
@@ -33,42 +33,42 @@ use Rattle.chunked.specs.declared.place.Place.{Place}
 use Rattle.chunked.specs.declared.place.Place.TheVariants.{Data, Done}
 use Rattle.chunked.proofs.Alive.{Completes-some}
 use Rattle.messages.specs.MessagesLaws.{same_room}
-use Rattle.messages.specs.Messages.{AskedIn, Backward, BodyCoding, Bytes, Chunks, Ends, Fails, FinishFails, GoesOn, HasRoom, IsNamed, IsReady, IsRest, IsWrongNext, Onward, Reader, ReaderTakes, Rest, RunsShort, Unended, body_error, grammar_of, has_line, left_in, rest_of, room_of, stream_of, sure_of}
+use Rattle.messages.specs.Messages.{AskedIn, Backward, BeginsRest, BodyCoding, Bytes, Chunks, Fails, FinishFails, GoesWrong, HasNextPayload, HasRoom, IsNamed, IsRest, Onward, Reader, ReaderTakes, Rest, RunsShort, TakesWholeRest, Unended, body_error, body_rules, has_line, left_in, rest_of, room_of, stream_of, sure_of}
 use Rattle.messages.specs.declared.error.BodyError.TheVariants.{Wrong, Io as Fault}
 use Rattle.std.specs.declared.io.Error.{Error}
 
 -- what is left of a body is what completes it
-pub rest_is : (c : BodyCoding) (p : Side ℕ Place) → (grammar_of c).is_place p → (wire payload : List ℕ)
-    → (grammar_of c).completes p wire payload → IsRest (rest_of c p) wire payload
+pub rest_is : (c : BodyCoding) (p : Side ℕ Place) → (body_rules c).is_place p → (wire payload : List ℕ)
+    → (body_rules c).completes p wire payload → IsRest (rest_of c p) wire payload
 rest_is (coding.First c) (side.First left) is wire payload it = it
 rest_is (coding.First c) (side.Second place) is wire payload it = absurd is
 rest_is (coding.Second c) (side.Second place) is wire payload it = it
 rest_is (coding.Second c) (side.First left) is wire payload it = absurd is
 
-pub completes_is : (c : BodyCoding) (p : Side ℕ Place) → (grammar_of c).is_place p → (wire payload : List ℕ)
-    → IsRest (rest_of c p) wire payload → (grammar_of c).completes p wire payload
+pub completes_is : (c : BodyCoding) (p : Side ℕ Place) → (body_rules c).is_place p → (wire payload : List ℕ)
+    → IsRest (rest_of c p) wire payload → (body_rules c).completes p wire payload
 completes_is (coding.First c) (side.First left) is wire payload it = it
 completes_is (coding.First c) (side.Second place) is wire payload it = absurd is
 completes_is (coding.Second c) (side.Second place) is wire payload it = it
 completes_is (coding.Second c) (side.First left) is wire payload it = absurd is
 
-lawful : (c : BodyCoding) → IsLawful (grammar_of c)
+lawful : (c : BodyCoding) → IsLawful (body_rules c)
 lawful = either_lawful (λ c. sized c.0) (λ c. chunked c.0) (λ c. sized_lawful c.0) (λ c. chunked_lawful c.0)
 
 -- what follows isn't heeded, and a byte is looked at
-unheeded : (c : BodyCoding) (bytes rest : List ℕ) → Agree (heeded (grammar_of c) bytes) rest
+unheeded : (c : BodyCoding) (bytes rest : List ℕ) → Agree (heeded (body_rules c) bytes) rest
 unheeded (coding.First c) bytes rest = (rest, [], sym (append-nil rest))
 unheeded (coding.Second c) bytes rest = (rest, [], sym (append-nil rest))
 
-one_ahead : (c : BodyCoding) → (grammar_of c).ahead ≡ 1
+one_ahead : (c : BodyCoding) → (body_rules c).ahead ≡ 1
 one_ahead (coding.First c) = refl
 one_ahead (coding.Second c) = refl
 
-no_byte : (c : BodyCoding) (p : Side ℕ Place) (bytes : List ℕ) → IsOpen (grammar_of c) p bytes → bytes ≡ []
+no_byte : (c : BodyCoding) (p : Side ℕ Place) (bytes : List ℕ) → IsOpen (body_rules c) p bytes → bytes ≡ []
 no_byte c p bytes is = nil_from_length bytes (omega (arith, is.few, one_ahead c))
 
-module _ (c : BodyCoding) (p q : Side ℕ Place) (wire handed bytes : List ℕ) (is : (grammar_of c).is_place p)
-    (is' : (grammar_of c).is_place q) (leads : Leads (grammar_of c) p wire handed q (heeded (grammar_of c) bytes)) where
+module _ (c : BodyCoding) (p q : Side ℕ Place) (wire handed bytes : List ℕ) (is : (body_rules c).is_place p)
+    (is' : (body_rules c).is_place q) (leads : Leads (body_rules c) p wire handed q (heeded (body_rules c) bytes)) where
   onward_is : Onward (rest_of c p) wire handed (rest_of c q)
   onward_is later payload it = rest_is c p is (wire ++ later) (handed ++ payload)
       (leads.onward later payload (unheeded c bytes later) (completes_is c q is' later payload it))
@@ -79,8 +79,8 @@ module _ (c : BodyCoding) (p q : Side ℕ Place) (wire handed bytes : List ℕ) 
       (back.0, back.1, rest_is c q is' later back.0 back.2)
 
 -- from each place a body can be completed
-some_rest : (c : BodyCoding) → has_line c → (p : Side ℕ Place) → (grammar_of c).is_place p
-    → (rest : List ℕ) × (payload : List ℕ) × (grammar_of c).completes p rest payload
+some_rest : (c : BodyCoding) → has_line c → (p : Side ℕ Place) → (body_rules c).is_place p
+    → (rest : List ℕ) × (payload : List ℕ) × (body_rules c).completes p rest payload
 some_rest (coding.First c) line (side.First left) is =
     (replicate left 0, replicate left 0, (length-replicate left 0, refl))
 some_rest (coding.First c) line (side.Second place) is = absurd is
@@ -89,8 +89,8 @@ some_rest (coding.Second c) line (side.Second place) is =
 some_rest (coding.Second c) line (side.First left) is = absurd is
 
 -- where bytes settle nothing the body goes on behind them
-module _ (c : BodyCoding) (line : has_line c) (p : Side ℕ Place) (is : (grammar_of c).is_place p) (handed bytes : List ℕ)
-    (o : LeadsOpen (grammar_of c) p handed bytes) where
+module _ (c : BodyCoding) (line : has_line c) (p : Side ℕ Place) (is : (body_rules c).is_place p) (handed bytes : List ℕ)
+    (o : LeadsOpen (body_rules c) p handed bytes) where
   none_shown : o.shown ≡ []
   none_shown = no_byte c o.place o.shown o.settles_nothing
 
@@ -104,22 +104,22 @@ module _ (c : BodyCoding) (line : has_line c) (p : Side ℕ Place) (is : (gramma
       let further = o.settles_nothing.further end.0 end.1 end.2 agree in
       (end.0, end.1, omega (arith, further), rest_is c o.place o.is_place end.0 end.1 end.2)
 
-  goes_on : GoesOn (rest_of c p) handed bytes
-  goes_on = subst (GoesOn (rest_of c p) handed) (sym all_wire) (record {
+  goes_on : BeginsRest (rest_of c p) handed bytes
+  goes_on = subst (BeginsRest (rest_of c p) handed) (sym all_wire) (record {
     rest = rest_of c o.place;
     onward = onward_is c p o.place o.wire handed o.shown is o.is_place o.leads;
     more = more_behind;
   })
 
 -- as much is offered as surely is payload
-sure_is : (c : BodyCoding) (p : Side ℕ Place) → (grammar_of c).is_place p → sure_of (rest_of c p) ≡ (grammar_of c).sure p
+sure_is : (c : BodyCoding) (p : Side ℕ Place) → (body_rules c).is_place p → sure_of (rest_of c p) ≡ (body_rules c).sure p
 sure_is (coding.First c) (side.First left) is = refl
 sure_is (coding.First c) (side.Second q) is = absurd is
 sure_is (coding.Second c) (side.First left) is = absurd is
 sure_is (coding.Second c) (side.Second q) is = refl
 
-asked_in : (c : BodyCoding) → has_line c → (p : Side ℕ Place) → (grammar_of c).is_place p → (slice offer : ℕ)
-    (bytes : List ℕ) → AskedFor (grammar_of c) p slice offer bytes → AskedIn (rest_of c p) slice offer bytes
+asked_in : (c : BodyCoding) → has_line c → (p : Side ℕ Place) → (body_rules c).is_place p → (slice offer : ℕ)
+    (bytes : List ℕ) → AskedFor (body_rules c) p slice offer bytes → AskedIn (rest_of c p) slice offer bytes
 asked_in c line p is slice offer bytes asked =
     let o = asked.leads in
     subst (AskedIn (rest_of c p) slice offer) (sym (all_wire c line p is [] bytes o)) (record {
@@ -132,8 +132,8 @@ asked_in c line p is slice offer bytes asked =
     })
 
 -- bytes of a body of a length hold payload
-none_of_length : (c : OfLength) (n : ℕ) (p : Side ℕ Place) (wire bytes : List ℕ) → (grammar_of (coding.First c)).is_place p
-    → Leads (grammar_of (coding.First c)) (side.First n) wire [] p (heeded (grammar_of (coding.First c)) bytes)
+none_of_length : (c : OfLength) (n : ℕ) (p : Side ℕ Place) (wire bytes : List ℕ) → (body_rules (coding.First c)).is_place p
+    → Leads (body_rules (coding.First c)) (side.First n) wire [] p (heeded (body_rules (coding.First c)) bytes)
     → length wire ≡ 0
 none_of_length c n (side.First m) wire bytes is leads =
     let rest = replicate {A = ℕ} m 0 in
@@ -150,7 +150,7 @@ front_byte limits left b rest payload (x ∷ front) c is =
     let head : x ≡ b = cc in
     (front ++ c.later, c.both ∙ ap (λ l. l ++ c.later) is ∙ ap (λ z. z ∷ (front ++ c.later)) head)
 
-first_byte : (limits : Limits) (place : Place) → IsSettled place → (b : ℕ) (rest payload : List ℕ)
+first_byte : (limits : Limits) (place : Place) → IsDataOrDone place → (b : ℕ) (rest payload : List ℕ)
     → Completes limits place (b ∷ rest) payload → (more : List ℕ) × (payload ≡ b ∷ more)
 first_byte limits (Data (suc left)) settled b rest payload c = front_byte limits left b rest payload c.front c refl
 first_byte limits Done settled b rest payload c = absurd (let odd : b ∷ rest ≡ [] = c.1 in cc)
@@ -164,9 +164,9 @@ other_byte b payload more is (inr other) =
     let head : b ≡ suc b = cc in
     omega (arith, head)
 
-none_of_chunks : (c : InChunks) → 0 < c.0.line → (place : Place) → IsSettled place → (p : Side ℕ Place)
-    (wire bytes : List ℕ) → (grammar_of (coding.Second c)).is_place p
-    → Leads (grammar_of (coding.Second c)) (side.Second place) wire [] p (heeded (grammar_of (coding.Second c)) bytes)
+none_of_chunks : (c : InChunks) → 0 < c.0.line → (place : Place) → IsDataOrDone place → (p : Side ℕ Place)
+    (wire bytes : List ℕ) → (body_rules (coding.Second c)).is_place p
+    → Leads (body_rules (coding.Second c)) (side.Second place) wire [] p (heeded (body_rules (coding.Second c)) bytes)
     → length wire ≡ 0
 none_of_chunks c line place settled (side.First m) wire bytes is leads = absurd is
 none_of_chunks c line place settled (side.Second q) [] bytes is leads = refl
@@ -179,9 +179,9 @@ none_of_chunks c line place settled (side.Second q) (b ∷ wire) bytes is leads 
 -- so bytes of which the next is payload, or behind which none is, settle something
 module _ {S : Type 0} (u : Unbuffered S) where
   abbrev Settle : BodyCoding → Side ℕ Place → Type 0
-  Settle c p = (more : List ℕ) → LeadsOpen (grammar_of c) p [] (u.left ++ more) → ⊥
+  Settle c p = (more : List ℕ) → LeadsOpen (body_rules c) p [] (u.left ++ more) → ⊥
 
-  no_taken : (c : BodyCoding) (p : Side ℕ Place) (more : List ℕ) (o : LeadsOpen (grammar_of c) p [] (u.left ++ more))
+  no_taken : (c : BodyCoding) (p : Side ℕ Place) (more : List ℕ) (o : LeadsOpen (body_rules c) p [] (u.left ++ more))
       → length o.wire ≡ 0 → 0 < length u.left → ⊥
   no_taken c p more o none some = omega (
     arith,
@@ -193,8 +193,8 @@ module _ {S : Type 0} (u : Unbuffered S) where
     ap length (no_byte c o.place o.shown o.settles_nothing),
   )
 
-  ready_is : (c : BodyCoding) → has_line c → (p : Side ℕ Place) → (grammar_of c).is_place p → IsReady u (rest_of c p)
-      → IsDone (grammar_of c) p ⊎ Settle c p
+  ready_is : (c : BodyCoding) → has_line c → (p : Side ℕ Place) → (body_rules c).is_place p → HasNextPayload u (rest_of c p)
+      → IsDone (body_rules c) p ⊎ Settle c p
   ready_is (coding.First c) line (side.First n) is (inl none) = inl (sym none, refl)
   ready_is (coding.First c) line (side.First n) is (inr some) = inr (λ more o.
       no_taken (coding.First c) (side.First n) more o (none_of_length c n o.place o.wire o.shown o.is_place o.leads) some)
@@ -207,8 +207,8 @@ module _ {S : Type 0} (u : Unbuffered S) where
   ready_is (coding.Second c) line (side.First n) is ready = absurd is
 
 -- what is wrong
-wrong_is : (c : BodyCoding) (p : Side ℕ Place) → (grammar_of c).is_place p → (bytes : List ℕ) (name : Malformed)
-    → (grammar_of c).wrong p bytes (side.Second name) → IsWrongNext (rest_of c p) bytes name
+wrong_is : (c : BodyCoding) (p : Side ℕ Place) → (body_rules c).is_place p → (bytes : List ℕ) (name : Malformed)
+    → (body_rules c).wrong p bytes (side.Second name) → GoesWrong (rest_of c p) bytes name
 wrong_is (coding.Second c) (side.Second q) is bytes name wrong = (
   wrong,
   λ later wire behind payload same it.
@@ -219,7 +219,7 @@ wrong_is (coding.First c) (side.First n) is bytes name wrong = absurd wrong
 wrong_is (coding.First c) (side.Second q) is bytes name wrong = absurd is
 
 none_wrong : (c : BodyCoding) (p : Side ℕ Place) (bytes : List ℕ) (none : Unit {0})
-    → (grammar_of c).wrong p bytes (side.First none) → ⊥
+    → (body_rules c).wrong p bytes (side.First none) → ⊥
 none_wrong (coding.First c) (side.First n) bytes none wrong = wrong
 none_wrong (coding.First c) (side.Second q) bytes none wrong = wrong
 none_wrong (coding.Second c) (side.First n) bytes none wrong = wrong
@@ -227,7 +227,7 @@ none_wrong (coding.Second c) (side.Second q) bytes none wrong = wrong
 
 -- why no payload comes
 module _ {S : Type 0} (s t : Unbuffered S) where
-  cut_is : (c : BodyCoding) (p : Side ℕ Place) → (grammar_of c).is_place p → IsOpen (grammar_of c) p t.left
+  cut_is : (c : BodyCoding) (p : Side ℕ Place) → (body_rules c).is_place p → IsOpen (body_rules c) p t.left
       → (t.log.reads.faults ≡ s.log.reads.faults) × (t.log.reads.zero_reads ≡ s.log.reads.zero_reads + 1) → (right : ℕ)
       → Fails s (body_error p (unread.Truncated right)) t (rest_of c p)
   cut_is (coding.First c) (side.First n) is opened met right =
@@ -243,9 +243,9 @@ module _ {S : Type 0} (s t : Unbuffered S) where
   cut_is (coding.First c) (side.Second q) is opened met right = absurd is
   cut_is (coding.Second c) (side.First n) is opened met right = absurd is
 
-short_is : (c : BodyCoding) (p : Side ℕ Place) → (grammar_of c).is_place p → (bytes : List ℕ)
-    → IsOpen (grammar_of c) p bytes ⊎ ((why : Side (Unit {0}) Malformed) × (grammar_of c).wrong p bytes why)
-    → (bytes ≡ []) ⊎ ((name : Malformed) × IsWrongNext (rest_of c p) bytes name)
+short_is : (c : BodyCoding) (p : Side ℕ Place) → (body_rules c).is_place p → (bytes : List ℕ)
+    → IsOpen (body_rules c) p bytes ⊎ ((why : Side (Unit {0}) Malformed) × (body_rules c).wrong p bytes why)
+    → (bytes ≡ []) ⊎ ((name : Malformed) × GoesWrong (rest_of c p) bytes name)
 short_is c p is bytes (inl opened) = inl (no_byte c p bytes opened)
 short_is c p is bytes (inr (side.First none, wrong)) = absurd (none_wrong c p bytes none wrong)
 short_is c p is bytes (inr (side.Second name, wrong)) = inr (name, wrong_is c p is bytes name wrong)
@@ -255,17 +255,17 @@ std_leaves : LeavesRoom {Q = StdPolicy} std_read_rules
 std_leaves p b n p' b' left = (ap (λ b. b.capacity) left.1, ap (λ b. b.limit) left.1)
 
 -- calls of the reader
-module _ {R : Type 0} {remaining : R → Option (List ℕ)} {s t : Reader R} (is : IsBodyReader (grammar_of s.coding) s)
-    (is' : IsBodyReader (grammar_of s.coding) t) {handed : List ℕ}
-    (went : BodyWent remaining std_read_rules (grammar_of s.coding) s handed t) where
+module _ {R : Type 0} {remaining : R → Option (List ℕ)} {s t : Reader R} (is : IsBodyReader (body_rules s.coding) s)
+    (is' : IsBodyReader (body_rules s.coding) t) {handed : List ℕ}
+    (went : BodyWent remaining std_read_rules (body_rules s.coding) s handed t) where
   abbrev kept : (Rest → Type 0) → Type 0
   kept P = P (rest_of s.coding t.place) → P (left_in t)
 
   keep : (P : Rest → Type 0) → kept P
   keep P = subst (λ c. P (rest_of c t.place)) (sym went.coding)
 
-  leads : Leads (grammar_of s.coding) s.place went.wire handed t.place (heeded (grammar_of s.coding) t.reader.block.bytes)
-  leads = BodyWent-leads remaining std_read_rules (grammar_of s.coding) s t handed is is' went
+  leads : Leads (body_rules s.coding) s.place went.wire handed t.place (heeded (body_rules s.coding) t.reader.block.bytes)
+  leads = BodyWent-leads remaining std_read_rules (body_rules s.coding) s t handed is is' went
 
   pub body_take : ReaderTakes remaining s handed t
   body_take = (
@@ -294,15 +294,15 @@ module _ {R : Type 0} {remaining : R → Option (List ℕ)} {s t : Reader R} (is
   pub body_kept : room_of t.reader.block ≡ room_of s.reader.block
   body_kept = let kept = went.keeps.room std_leaves in same_room t.reader.block s.reader.block kept.0 kept.1
 
-  done : IsWhole (grammar_of s.coding) t → IsDone (grammar_of s.coding) t.place
-  done = Leads-done (grammar_of s.coding) (lawful s.coding) t.taken (handed_of t) t.place
-      (heeded (grammar_of s.coding) t.reader.block.bytes) is'.leads is'.place
+  done : TookWholeBody (body_rules s.coding) t → IsDone (body_rules s.coding) t.place
+  done = Leads-done (body_rules s.coding) (lawful s.coding) t.taken (handed_of t) t.place
+      (heeded (body_rules s.coding) t.reader.block.bytes) is'.leads is'.place
 
-  pub body_done : IsWhole (grammar_of s.coding) t → IsRest (left_in t) [] []
+  pub body_done : TookWholeBody (body_rules s.coding) t → IsRest (left_in t) [] []
   body_done whole = keep (λ r. IsRest r [] []) (rest_is s.coding t.place is'.place [] [] (done whole))
 
-  pub body_end : IsWhole (grammar_of s.coding) t → between.EachGave s.reader t.reader
-      → Ends remaining (stream_of s) (left_in s) (unbuffered t.reader)
+  pub body_end : TookWholeBody (body_rules s.coding) t → between.EachGave s.reader t.reader
+      → TakesWholeRest remaining (stream_of s) (left_in s) (unbuffered t.reader)
   body_end whole gave = record {
     wire = went.wire;
     payload = handed ++ [];
@@ -313,7 +313,7 @@ module _ {R : Type 0} {remaining : R → Option (List ℕ)} {s t : Reader R} (is
     gave = (gave.faults, gave.zero_reads);
   }
 
-  pub body_fails : (e : Unread (Side (Unit {0}) Malformed)) → NoPayload (grammar_of s.coding) s e t
+  pub body_fails : (e : Unread (Side (Unit {0}) Malformed)) → NoPayload (body_rules s.coding) s e t
       → Fails (stream_of s) (body_error t.place e) (stream_of t) (left_in t)
   body_fails (unread.Wrong (side.Second name) right) fails = keep (Fails (stream_of s) (Wrong name) (stream_of t)) (
     (fails.1.faults, fails.1.zero_reads),
@@ -326,7 +326,7 @@ module _ {R : Type 0} {remaining : R → Option (List ℕ)} {s t : Reader R} (is
       (cut_is (stream_of s) (stream_of t) s.coding t.place is'.place fails.2.settles_nothing fails.1 right)
   body_fails (unread.Io e) fails = fails.0
 
-  pub body_named : (e : Unread (Side (Unit {0}) Malformed)) → NoPayload (grammar_of s.coding) s e t → IsNamed e
+  pub body_named : (e : Unread (Side (Unit {0}) Malformed)) → NoPayload (body_rules s.coding) s e t → IsNamed e
   body_named (unread.Wrong (side.Second name) right) fails = tt
   body_named (unread.Wrong (side.First none) right) fails =
       none_wrong s.coding t.place t.reader.block.bytes none fails.2.name
@@ -334,8 +334,8 @@ module _ {R : Type 0} {remaining : R → Option (List ℕ)} {s t : Reader R} (is
   body_named (unread.Io e) fails = tt
 
   pub body_short : (out : List ℕ) (count : ℕ) → (count ≡ length out)
-      ⊎ (IsWhole (grammar_of s.coding) t ⊎ (EndsEarly (grammar_of s.coding) t
-      ⊎ ((why : Side (Unit {0}) Malformed) × Breaks (grammar_of s.coding) why t)))
+      ⊎ (TookWholeBody (body_rules s.coding) t ⊎ (EndsEarly (body_rules s.coding) t
+      ⊎ ((why : Side (Unit {0}) Malformed) × Breaks (body_rules s.coding) why t)))
       → RunsShort (length out) count (left_in t) (stream_of t).left
   body_short out count (inl all) = inl all
   body_short out count (inr (inl whole)) = inr (inl (body_done whole))
@@ -346,19 +346,19 @@ module _ {R : Type 0} {remaining : R → Option (List ℕ)} {s t : Reader R} (is
       (inr (inr (short_is s.coding t.place is'.place t.reader.block.bytes (inr (breaks.0, breaks.1.name)))))
 
 -- whether a body ended
-module _ {R : Type 0} {d : Reader R} (is : IsBodyReader (grammar_of d.coding) d) where
-  pub ended_is : IsWhole (grammar_of d.coding) d → IsRest (left_in d) [] []
+module _ {R : Type 0} {d : Reader R} (is : IsBodyReader (body_rules d.coding) d) where
+  pub ended_is : TookWholeBody (body_rules d.coding) d → IsRest (left_in d) [] []
   ended_is whole = rest_is d.coding d.place is.place [] []
-      (Leads-done (grammar_of d.coding) (lawful d.coding) d.taken (handed_of d) d.place
-      (heeded (grammar_of d.coding) d.reader.block.bytes) is.leads is.place whole)
+      (Leads-done (body_rules d.coding) (lawful d.coding) d.taken (handed_of d) d.place
+      (heeded (body_rules d.coding) d.reader.block.bytes) is.leads is.place whole)
 
-  pub is_ended : IsRest (left_in d) [] [] → IsWhole (grammar_of d.coding) d
-  is_ended rest = Leads-whole (grammar_of d.coding) d.taken (handed_of d) d.place
-      (heeded (grammar_of d.coding) d.reader.block.bytes) is.leads (completes_is d.coding d.place is.place [] [] rest)
+  pub is_ended : IsRest (left_in d) [] [] → TookWholeBody (body_rules d.coding) d
+  is_ended rest = Leads-whole (body_rules d.coding) d.taken (handed_of d) d.place
+      (heeded (body_rules d.coding) d.reader.block.bytes) is.leads (completes_is d.coding d.place is.place [] [] rest)
 
 -- why the rest of one can't be dropped
-module _ {R : Type 0} {remaining : R → Option (List ℕ)} {s t : Reader R} (is : IsBodyReader (grammar_of s.coding) s)
-    {e : Unread (Side (Unit {0}) Malformed)} (drains : Drains remaining std_read_rules (grammar_of s.coding) s (Err e) t) where
+module _ {R : Type 0} {remaining : R → Option (List ℕ)} {s t : Reader R} (is : IsBodyReader (body_rules s.coding) s)
+    {e : Unread (Side (Unit {0}) Malformed)} (drains : Drains remaining std_read_rules (body_rules s.coding) s (Err e) t) where
   many_is : (why : Error) → e ≡ unread.Io why → body_error t.place e ≡ Fault why
   many_is why same = ap (body_error t.place) same
 
@@ -369,29 +369,29 @@ module _ {R : Type 0} {remaining : R → Option (List ℕ)} {s t : Reader R} (is
   ]
 
 -- where the stream is asked
-module _ {R : Type 0} {s : Reader R} (is : IsBodyReader (grammar_of s.coding) s) (line : has_line s.coding) where
+module _ {R : Type 0} {s : Reader R} (is : IsBodyReader (body_rules s.coding) s) (line : has_line s.coding) where
   pub body_asked : (slice : ℕ) (t : Reader R)
-      → AskedWhere (AskedFor (grammar_of s.coding) s.place slice (stream_of t).log.reads.offer) (stream_of s) (stream_of t)
+      → AskedWhere (AskedFor (body_rules s.coding) s.place slice (stream_of t).log.reads.offer) (stream_of s) (stream_of t)
       → AskedWhere (AskedIn (left_in s) slice (stream_of t).log.reads.offer) (stream_of s) (stream_of t)
   body_asked slice t =
       let offer = (stream_of t).log.reads.offer in
-      AskedWhere-of (AskedFor (grammar_of s.coding) s.place slice offer) (AskedIn (left_in s) slice offer) (stream_of s)
+      AskedWhere-of (AskedFor (body_rules s.coding) s.place slice offer) (AskedIn (left_in s) slice offer) (stream_of s)
       (stream_of t) (λ more asked. asked_in s.coding line s.place is.place slice offer (s.reader.block.bytes ++ more) asked)
 
   pub drain_asked : {remaining : R → Option (List ℕ)} {answer : Result (Unit {0}) (Unread (Side (Unit {0}) Malformed))} {t : Reader R}
-      → Drains remaining std_read_rules (grammar_of s.coding) s answer t
+      → Drains remaining std_read_rules (body_rules s.coding) s answer t
       → AskedWhere (Unended (left_in s)) (stream_of s) (unbuffered t.reader)
   drain_asked {remaining} {answer} {t} drains =
-      AskedWhere-of (λ bytes. (dropped : List ℕ) × LeadsOpen (grammar_of s.coding) s.place dropped bytes)
+      AskedWhere-of (λ bytes. (dropped : List ℕ) × LeadsOpen (body_rules s.coding) s.place dropped bytes)
       (Unended (left_in s)) (stream_of s) (unbuffered t.reader)
       (λ more o. (o.0, goes_on s.coding line s.place is.place o.0 (s.reader.block.bytes ++ more) o.1)) drains.asked
 
   pub body_idle : {remaining : R → Option (List ℕ)} {out : List ℕ} {answer : Result ℕ (Unread (Side (Unit {0}) Malformed))} {t : Reader R}
-      → ReadsPayload remaining std_read_rules (grammar_of s.coding) s out answer t → IsReady (stream_of s) (left_in s)
+      → ReadsPayload remaining std_read_rules (body_rules s.coding) s out answer t → HasNextPayload (stream_of s) (left_in s)
       → (stream_of t).log ≡ (stream_of s).log
   body_idle {remaining} {out} {answer} {t} reads ready = elim (ready_is (stream_of s) s.coding line s.place is.place ready) [
-    | inl done ↦ ap (λ b. b.log) (reads.idle (inl (Leads-whole (grammar_of s.coding) s.taken (handed_of s) s.place
-        (heeded (grammar_of s.coding) s.reader.block.bytes) is.leads done)))
+    | inl done ↦ ap (λ b. b.log) (reads.idle (inl (Leads-whole (body_rules s.coding) s.taken (handed_of s) s.place
+        (heeded (body_rules s.coding) s.reader.block.bytes) is.leads done)))
     | inr settles ↦ elim reads.asked [
       | inl same ↦ same
       | inr over ↦ absurd (settles over.came over.such.leads)

@@ -8,7 +8,7 @@ use Rattle.messages.specs.declared.head.Heads.{Heads}
 use Rattle.messages.specs.declared.limits.Limits.{Limits}
 use Rattle.messages.specs.Heads.{heads}
 use Rattle.messages.specs.HeadsLaws.{heads_lawful}
-use Rattle.messages.specs.Messages.{Bytes, Ends, IsRest, Rest}
+use Rattle.messages.specs.Messages.{Bytes, IsRest, Rest, TakesWholeRest}
 
 -- no piece begins no byte
 begins_some : {W : Type 0} (g : Grammar W) → IsLawful g → (bytes : List ℕ) → Begins g bytes → 0 < length bytes
@@ -43,7 +43,7 @@ sized_ended r answer ended n is = (
 
 -- no byte was lost behind a body that ended
 pub ends_in_order : {S : Type 0} (remaining : S → Option (List ℕ)) (s : Unbuffered S) (r : Rest) (f : ReaderState S Heads)
-    → Ends remaining s r (left_of f)
+    → TakesWholeRest remaining s r (left_of f)
     → (wire : List ℕ) × (got : List ℕ) × (f.reader.log.reads.given ≡ s.log.reads.given ++ got)
     × (wire ++ drop f.handed f.reader.block.bytes ≡ s.left ++ got)
 ends_in_order remaining s r f ends =

@@ -53,6 +53,6 @@ abbrev pub IsFew : Limits → List ℕ → RequestHead → Type 0
 IsFew limits bytes h = ReadsRequest bytes h [] × (length h.fields ≤ fields_of limits)
 
 -- if they are none that counts here, this says why: by the head that they are, and else by what they are
-abbrev pub IsFault : Limits → List ℕ → BadHead → Type 0
-IsFault limits bytes e = ((h : RequestHead) × IsFew limits bytes h × (e ≡ head_fault h))
+abbrev pub IsHeadFault : Limits → List ℕ → BadHead → Type 0
+IsHeadFault limits bytes e = ((h : RequestHead) × IsFew limits bytes h × (e ≡ head_fault h))
     ⊎ (((h : RequestHead) → ¬ (IsFew limits bytes h)) × (e ≡ text_fault limits bytes))

@@ -13,7 +13,7 @@ use Rattle.http1.specs.Message.{has_one_host, known_of}
 use Rattle.http1.specs.Text.{eq_ignore_case}
 use Rattle.httparse.specs.Grammar.{ReadsRequest, RequestHead}
 use Rattle.httparse.specs.Spans.{name_and_value}
-use Rattle.messages.specs.Faults.{IsFault}
+use Rattle.messages.specs.Faults.{IsHeadFault}
 use Rattle.messages.specs.Limits.{fields_of}
 use Rattle.messages.specs.Lines.{line_fault, texts}
 use Rattle.messages.specs.Target.{IsPlainField, IsTarget}
@@ -78,12 +78,12 @@ pub record IsHeadPiece (limits : Limits) (bytes payload : List ℕ) : Type 0 whe
 
 -- why a text is no head
 abbrev pub IsRefused : Limits → List ℕ → BadHead → Type 0
-IsRefused limits bytes e = ((16384 < length bytes) × (e ≡ LongHead)) ⊎ IsFault limits (as_known bytes) e
+IsRefused limits bytes e = ((16384 < length bytes) × (e ≡ LongHead)) ⊎ IsHeadFault limits (as_known bytes) e
 
 -- these are no lines, or lines in front are no such head, for this reason
 abbrev pub IsNoHead : Limits → List ℕ → BadHead → Type 0
 IsNoHead limits bytes e = ((why : HeaderError) × texts.wrong bytes why × (e ≡ line_fault bytes))
-    ⊎ ((text : Begins texts bytes) × ((said : ParsedHead) → ¬ (IsHead limits text.piece said)) × IsFault limits (as_known text.piece) e)
+    ⊎ ((text : Begins texts bytes) × ((said : ParsedHead) → ¬ (IsHead limits text.piece said)) × IsHeadFault limits (as_known text.piece) e)
 
 abbrev pub heads : Limits → Grammar BadHead
 heads limits = record {

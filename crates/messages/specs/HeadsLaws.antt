@@ -20,7 +20,7 @@ use Rattle.messages.specs.declared.head.ParsedHead.{ParsedHead}
 use Rattle.messages.specs.declared.limits.Limits.{Limits}
 use Rattle.messages.specs.declared.lines.Before.{Before}
 use Rattle.messages.specs.declared.lines.Before.TheVariants.{Start, StartReturn, First, FirstReturn, Feed, Text, Return, EmptyReturn}
-use Rattle.messages.specs.Faults.{IsFault, IsFew, ends_chunked, has_many_lines, head_fault, is_connect, lines_fault, said_fault, text_fault}
+use Rattle.messages.specs.Faults.{IsFew, IsHeadFault, ends_chunked, has_many_lines, head_fault, is_connect, lines_fault, said_fault, text_fault}
 use Rattle.messages.specs.Heads.{IsHead, IsNoHead, heads}
 use Rattle.messages.specs.Lines.{fault_on, fault_then, line_fault, lines, texts, too_long, turn}
 use Rattle.messages.specs.LinesLaws.{line_fault_stays, lines_small, texts_lawful}
@@ -37,7 +37,8 @@ clash : (bytes : List ℕ) (e : HeaderError) (b : Begins texts bytes) → ¬ (te
 clash bytes e b bad = texts_lawful.apart b.piece b.payload b.more e b.is (subst (λ l. texts.wrong l e) b.equal bad)
 
 -- a text has one name
-one_fault : (limits : Limits) (bytes : List ℕ) (e e' : BadHead) → IsFault limits bytes e → IsFault limits bytes e' → e ≡ e'
+one_fault : (limits : Limits) (bytes : List ℕ) (e e' : BadHead) → IsHeadFault limits bytes e → IsHeadFault limits bytes e'
+    → e ≡ e'
 one_fault limits bytes e e' (inl (h, few, is)) (inl (h', few', is')) =
     is ∙ ap head_fault (request_unique bytes h h' [] [] few.0 few'.0).0 ∙ sym is'
 one_fault limits bytes e e' (inl (h, few, is)) (inr (none, is')) = absurd (none h few)
@@ -50,7 +51,7 @@ reason limits bytes e e' (inl (why, bad, is)) (inr (b, none, is')) = absurd (cla
 reason limits bytes e e' (inr (b, none, is)) (inl (why, bad, is')) = absurd (clash bytes why b bad)
 reason limits bytes e e' (inr (b, none, is)) (inr (b', none', is')) =
     let same = (texts_lawful.one b.piece b'.piece b.more b'.more b.payload b'.payload b.is b'.is (sym b.equal ∙ b'.equal)).0 in
-    one_fault limits (as_known b.piece) e e' is (subst (λ l. IsFault limits (as_known l) e') (sym same) is')
+    one_fault limits (as_known b.piece) e e' is (subst (λ l. IsHeadFault limits (as_known l) e') (sym same) is')
 
 stays : (limits : Limits) (bytes more : List ℕ) (e : BadHead) → IsNoHead limits bytes e → IsNoHead limits (bytes ++ more) e
 stays limits bytes more e (inl (why, bad, is)) =
@@ -114,7 +115,7 @@ whole_text limits text =
     let other = has_other_version (first_line text) in
     whole_if (has_many_lines limits text) ManyFields (if other then Version else Refused) refl (whole_if other Version Refused refl refl)
 
-whole_fault : (limits : Limits) (bytes : List ℕ) (e : BadHead) → IsFault limits bytes e → is_cut e ≡ false
+whole_fault : (limits : Limits) (bytes : List ℕ) (e : BadHead) → IsHeadFault limits bytes e → is_cut e ≡ false
 whole_fault limits bytes e (inl (h, few, is)) = ap is_cut is ∙ whole_said (method_kind h.method) h.minor (known_of h.fields)
 whole_fault limits bytes e (inr (none, is)) = ap is_cut is ∙ whole_text limits (behind_blank bytes)
 

@@ -11,7 +11,7 @@ use Rattle.body_reader.specs.Asking.{AskedWhere}
 use Rattle.body_reader.specs.Between.{handed_out}
 use Rattle.body_reader.specs.BodyReader.{BodyState}
 use Rattle.body_reader.specs.Coding.{Grammar}
-use Rattle.body_reader.specs.Either.{either}
+use Rattle.body_reader.specs.Either.{of_either}
 use Rattle.body_reader.specs.Sized.{sized}
 use Rattle.body_reader.specs.declared.error.BodyError.{BodyError as Unread}
 use Rattle.body_reader.specs.declared.error.BodyError.TheVariants as unread
@@ -28,7 +28,7 @@ use Rattle.chunked.specs.declared.error.Malformed.{Malformed}
 use Rattle.chunked.specs.declared.limits.Limits.{Limits as ChunkLimits}
 use Rattle.chunked.specs.declared.place.Place.{Place}
 use Rattle.chunked.specs.declared.place.Place.TheVariants.{Line, Done}
-use Rattle.chunked.specs.Place.{Completes, IsSettled}
+use Rattle.chunked.specs.Place.{Completes, IsDataOrDone}
 use Rattle.codec.specs.declared.NextError.TheVariants as why
 use Rattle.codec.specs.NextPiece.{NextAnswer, NextPiece}
 use Rattle.codec.specs.PieceReader.{ReaderState, left_of}
@@ -65,7 +65,7 @@ Backward r wire handed r' = (later whole : List ℕ) → IsRest r (wire ++ later
     → (payload : List ℕ) × (whole ≡ handed ++ payload) × IsRest r' later payload
 
 -- these bytes begin that, with this payload in them, and it goes on behind them
-pub record GoesOn (r : Rest) (handed bytes : List ℕ) : Type 0 where
+pub record BeginsRest (r : Rest) (handed bytes : List ℕ) : Type 0 where
   pub rest : Rest
   pub onward : Onward r bytes handed rest
   pub more : (later : List ℕ) × (payload : List ℕ) × (0 < length later) × IsRest rest later payload
@@ -77,11 +77,11 @@ sure_of (Chunks limits place) = chunks.chunk_left place
 
 -- an ask for a slice that takes so many, where these bytes begin that without payload: as much of it was offered as surely is payload
 pub record AskedIn (r : Rest) (room offer : ℕ) (bytes : List ℕ) : Type 0 where
-  pub goes_on : GoesOn r [] bytes
+  pub goes_on : BeginsRest r [] bytes
   pub enough : min room (sure_of goes_on.rest) ≤ offer
 
 abbrev pub Unended : Rest → List ℕ → Type 0
-Unended r bytes = (handed : List ℕ) × GoesOn r handed bytes
+Unended r bytes = (handed : List ℕ) × BeginsRest r handed bytes
 
 -- the whole body, under such limits
 abbrev pub body_of : Limits → Extent → Rest
@@ -115,8 +115,8 @@ pub record InBody (S : Type 0) : Type 0 where
   pub rest : Rest
   pub taken : List ℕ
 
-abbrev pub begun : {S : Type 0} → Buffered S StdPolicy → Limits → List ℕ → ParsedHead → InBody S
-begun reader limits head said = record {
+abbrev pub entering : {S : Type 0} → Buffered S StdPolicy → Limits → List ℕ → ParsedHead → InBody S
+entering reader limits head said = record {
   stream = unbuffered reader;
   room = room_of reader.block;
   calls = no_calls;
@@ -151,14 +151,14 @@ pub record Enters {S : Type 0} (s : ReaderState S Heads) (bytes : List ℕ) (b :
   pub taken : b.taken ≡ []
 
 -- why there is no message is the answer of a reader of pieces
-abbrev pub answer_of : Stop → NextAnswer BadHead
-answer_of Ended = Ok None
-answer_of (Bad e) = Err (why.Wrong e)
-answer_of (Io e) = Err (why.Io e)
+abbrev pub stop_answer : Stop → NextAnswer BadHead
+stop_answer Ended = Ok None
+stop_answer (Bad e) = Err (why.Wrong e)
+stop_answer (Io e) = Err (why.Io e)
 
 -- in a stream of which that is left of a body, these bytes of the body were taken, in which there is this payload: just what
 -- completes the body behind them completes it before
-pub record Takes {S : Type 0} (remaining : S → Option (List ℕ)) (s : Unbuffered S) (r : Rest) (handed : List ℕ)
+pub record TakesFromRest {S : Type 0} (remaining : S → Option (List ℕ)) (s : Unbuffered S) (r : Rest) (handed : List ℕ)
     (t : Unbuffered S) (r' : Rest) : Type 0 where
   pub wire : List ℕ
   pub went : StreamWent remaining s wire t
@@ -166,33 +166,33 @@ pub record Takes {S : Type 0} (remaining : S → Option (List ℕ)) (s : Unbuffe
   pub backward : Backward r wire handed r'
 
 -- the next byte of payload is left of a buffer, or none is to come
-abbrev pub IsReady : {S : Type 0} → Unbuffered S → Rest → Type 0
-IsReady s (Bytes n) = (n ≡ 0) ⊎ (0 < length s.left)
-IsReady s (Chunks limits place) = (place ≡ Done) ⊎ (IsSettled place × (0 < length s.left))
+abbrev pub HasNextPayload : {S : Type 0} → Unbuffered S → Rest → Type 0
+HasNextPayload s (Bytes n) = (n ≡ 0) ⊎ (0 < length s.left)
+HasNextPayload s (Chunks limits place) = (place ≡ Done) ⊎ (IsDataOrDone place × (0 < length s.left))
 
 -- no read of the stream failed, or gave nothing though it was asked for something
-abbrev pub EachGave : {S : Type 0} → Unbuffered S → Unbuffered S → Type 0
-EachGave s t = (t.log.reads.faults ≡ s.log.reads.faults) × (t.log.reads.zero_reads ≡ s.log.reads.zero_reads)
+abbrev pub EachReadGave : {S : Type 0} → Unbuffered S → Unbuffered S → Type 0
+EachReadGave s t = (t.log.reads.faults ≡ s.log.reads.faults) × (t.log.reads.zero_reads ≡ s.log.reads.zero_reads)
 
 -- no beginning of these bytes is that, however they go on
-abbrev pub BeginsNone : Rest → List ℕ → Type 0
-BeginsNone r bytes = (later wire behind payload : List ℕ) → bytes ++ later ≡ wire ++ behind → ¬ (IsRest r wire payload)
+abbrev pub NeverBecomes : Rest → List ℕ → Type 0
+NeverBecomes r bytes = (later wire behind payload : List ℕ) → bytes ++ later ≡ wire ++ behind → ¬ (IsRest r wire payload)
 
 -- the next of these bytes is wrong so, and no beginning of them is that; in a body of a length no byte is wrong
-abbrev pub IsWrongNext : Rest → List ℕ → Malformed → Type 0
-IsWrongNext (Bytes n) bytes name = ⊥
-IsWrongNext (Chunks limits place) bytes name = chunks.IsWrongNext limits place bytes name × BeginsNone (Chunks limits place) bytes
+abbrev pub GoesWrong : Rest → List ℕ → Malformed → Type 0
+GoesWrong (Bytes n) bytes name = ⊥
+GoesWrong (Chunks limits place) bytes name = chunks.IsWrongNext limits place bytes name × NeverBecomes (Chunks limits place) bytes
 
 -- so much payload is as much as was asked for, or there is none behind it in what is buffered: the body ended, nothing is left of
 -- the buffer, or what comes next is wrong
 abbrev pub RunsShort : ℕ → ℕ → Rest → List ℕ → Type 0
 RunsShort asked count r left =
-    (count ≡ asked) ⊎ IsRest r [] [] ⊎ (left ≡ []) ⊎ ((name : Malformed) × IsWrongNext r left name)
+    (count ≡ asked) ⊎ IsRest r [] [] ⊎ (left ≡ []) ⊎ ((name : Malformed) × GoesWrong r left name)
 
 -- why no payload comes: the next byte is wrong; or the stream gave nothing, once, where nothing was left, and the body isn't
 -- complete, of which so much is due if it has a length; or the stream failed, once
 abbrev pub Fails : {S : Type 0} → Unbuffered S → BodyError → Unbuffered S → Rest → Type 0
-Fails s (Wrong name) t r = EachGave s t × IsWrongNext r t.left name
+Fails s (Wrong name) t r = EachReadGave s t × GoesWrong r t.left name
 Fails s (Truncated due) t r =
     (t.log.reads.faults ≡ s.log.reads.faults) × (t.log.reads.zero_reads ≡ s.log.reads.zero_reads + 1) × (t.left ≡ [])
     × ((payload : List ℕ) → ¬ (IsRest r [] payload))
@@ -218,18 +218,18 @@ FinishFails s handed why t r =
     Fails s why t r ⊎ ((e : Error) × (why ≡ Fault e) × (error_kind e ≡ Other) × (2 ^ 64 - 1 ≤ length handed))
 
 -- all of that was taken, and what stands behind the body is left
-pub record Ends {S : Type 0} (remaining : S → Option (List ℕ)) (s : Unbuffered S) (r : Rest) (t : Unbuffered S)
+pub record TakesWholeRest {S : Type 0} (remaining : S → Option (List ℕ)) (s : Unbuffered S) (r : Rest) (t : Unbuffered S)
     : Type 0 where
   pub wire : List ℕ
   pub payload : List ℕ
   pub went : StreamWent remaining s wire t
   pub is : IsRest r wire payload
-  pub gave : EachGave s t
+  pub gave : EachReadGave s t
 
 -- a call of a reader in a body, which keeps the limits, the head and what that says, and how much its buffer takes, did so
 pub record InsideGoes {S : Type 0} (remaining : S → Option (List ℕ)) (s : InBody S) (handed : List ℕ) (t : InBody S)
     : Type 0 where
-  pub takes : Takes remaining s.stream s.rest handed t.stream t.rest
+  pub takes : TakesFromRest remaining s.stream s.rest handed t.stream t.rest
   pub taken : t.taken ≡ s.taken ++ takes.wire
   pub room : t.room ≡ s.room
   pub told : t.calls.reads.given ≡ s.calls.reads.given ++ handed
@@ -251,7 +251,7 @@ BecomesIo (Fault same) e = e ≡ same
 pub record ReadsAsIo {S : Type 0} (remaining : S → Option (List ℕ)) (s : InBody S) (out : List ℕ) (answer : Result ℕ Error)
     (t : InBody S) : Type 0 where
   pub goes : InsideGoes remaining s (handed_out out answer) t
-  pub gave : OnOk answer (EachGave s.stream t.stream)
+  pub gave : OnOk answer (EachReadGave s.stream t.stream)
   pub ended : answer ≡ Ok 0 → 0 < length out → IsRest t.rest [] []
   pub fails : IfErr answer (λ e. (why : BodyError) × Fails s.stream why t.stream t.rest × BecomesIo why e)
   pub asked : AskedWhere (AskedIn s.rest (length out) t.stream.log.reads.offer) s.stream t.stream
@@ -281,8 +281,8 @@ pub record MessagesWent {S : Type 0} (remaining : S → Option (List ℕ)) (limi
 abbrev pub BodyCoding : Type 0
 BodyCoding = Either OfLength InChunks
 
-abbrev pub grammar_of : BodyCoding → Grammar (Side ℕ Place) (Side (Unit {0}) Malformed)
-grammar_of = either (λ c. sized c.0) (λ c. chunked c.0)
+abbrev pub body_rules : BodyCoding → Grammar (Side ℕ Place) (Side (Unit {0}) Malformed)
+body_rules = of_either (λ c. sized c.0) (λ c. chunked c.0)
 
 -- what is left of a body in a place
 abbrev pub rest_of : BodyCoding → Side ℕ Place → Rest
@@ -303,7 +303,7 @@ left_in d = rest_of d.coding d.place
 -- it took these bytes so
 abbrev pub ReaderTakes : {S : Type 0} → (S → Option (List ℕ)) → Reader S → List ℕ → Reader S → Type 0
 ReaderTakes remaining d handed d' =
-    (takes : Takes remaining (stream_of d) (left_in d) handed (stream_of d') (left_in d'))
+    (takes : TakesFromRest remaining (stream_of d) (left_in d) handed (stream_of d') (left_in d'))
     × (d'.taken ≡ d.taken ++ takes.wire)
 
 -- a plain buffer in which three heads fit, and which grows no further: a reader of heads keeps it, and takes no memory

@@ -5,7 +5,7 @@ use Rattle.std.proofs.lemmas.List.{append_cancel_left}
 use Rattle.buffer_redux.specs.Block.{Block}
 use Rattle.buffer_redux.specs.Unbuffer.{StreamWent, Unbuffered}
 use Rattle.buffer_redux.specs.UnbufferLaws.{StreamWent-joins, StreamWent-none}
-use Rattle.chunked.specs.BodyLaws.{IsBody-same, front_same}
+use Rattle.chunked.specs.BodyLaws.{IsBodyOfChunks-same, front_same}
 use Rattle.codec.specs.NextPiece.{NextPiece}
 use Rattle.codec.specs.PiecesWentLaws.{PiecesWent-stream}
 use Rattle.codec.specs.PieceReader.{ReaderState, left_of}
@@ -19,7 +19,7 @@ use Rattle.messages.specs.declared.limits.Limits.{Limits}
 use Rattle.messages.specs.Heads.{IsHead, IsHeadPiece, extent_of, heads}
 use Rattle.messages.specs.HeadsLaws.{heads_lawful}
 use Rattle.messages.specs.Versions.{as_known}
-use Rattle.messages.specs.Messages.{AreMessages, Backward, Begun, EachGave, Enters, InBody, InTurn, InsideGoes, IsMessage, IsRest, Message, MessagesWent, Onward, Rest, Takes, body_of, room_of}
+use Rattle.messages.specs.Messages.{AreMessages, Backward, Begun, EachReadGave, Enters, InBody, InTurn, InsideGoes, IsMessage, IsRest, Message, MessagesWent, Onward, Rest, TakesFromRest, body_of, room_of}
 
 -- a body ends in one place
 one_body : (limits : Limits) (e : Extent) (a b p q xs ys : List ℕ) → IsRest (body_of limits e) a p → IsRest (body_of limits e) b q → a ++ xs ≡ b ++ ys
@@ -27,7 +27,7 @@ one_body : (limits : Limits) (e : Extent) (a b p q xs ys : List ℕ) → IsRest 
 one_body limits (Sized n) a b p q xs ys is is' same =
     let parts = front_same a b xs ys (is.0 ∙ sym is'.0) same in
     (parts.0, is.1 ∙ parts.0 ∙ sym is'.1, parts.1)
-one_body limits Chunked a b p q xs ys is is' same = IsBody-same _ _ a b p q xs ys is is' same
+one_body limits Chunked a b p q xs ys is is' same = IsBodyOfChunks-same _ _ a b p q xs ys is is' same
 
 -- no message begins another
 pub one_message : (limits : Limits) (a b xs ys h k p q : List ℕ) → IsMessage limits a h p → IsMessage limits b k q → a ++ xs ≡ b ++ ys
@@ -78,8 +78,8 @@ same_room b c capacity limit =
     ap (λ n. record { capacity = n; limit = b.limit }) capacity ∙ ap (λ n. record { capacity = c.capacity; limit = n }) limit
 
 -- reads that each gave some, and then more such
-pub EachGave-joins : {S : Type 0} (s m t : Unbuffered S) → EachGave s m → EachGave m t → EachGave s t
-EachGave-joins s m t before more = (more.0 ∙ before.0, more.1 ∙ before.1)
+pub EachReadGave-joins : {S : Type 0} (s m t : Unbuffered S) → EachReadGave s m → EachReadGave m t → EachReadGave s t
+EachReadGave-joins s m t before more = (more.0 ∙ before.0, more.1 ∙ before.1)
 
 -- what goes on behind what was taken
 pub Onward-joins : (r q u : Rest) (a b h k : List ℕ) → Onward r a h q → Onward q b k u → Onward r (a ++ b) (h ++ k) u
@@ -127,7 +127,7 @@ module _ {S : Type 0} (remaining : S → Option (List ℕ)) where
       (PiecesWent-stream remaining (heads s.decoder.0).most s begun.behind begun.next.bytes begun.next.went)
 
   -- and no read for it failed, or gave nothing
-  pub Begun-gave : (s : ReaderState S head.Heads) (b : InBody S) → Begun remaining s b → EachGave (left_of s) b.stream
+  pub Begun-gave : (s : ReaderState S head.Heads) (b : InBody S) → Begun remaining s b → EachReadGave (left_of s) b.stream
   Begun-gave s b begun = (
     ap (λ u. u.log.reads.faults) begun.stream ∙ begun.next.answers.0,
     ap (λ u. u.log.reads.zero_reads) begun.stream
@@ -150,17 +150,17 @@ module _ {S : Type 0} (remaining : S → Option (List ℕ)) where
   )
 
   -- calls in a body go on
-  pub Takes-none : (s : Unbuffered S) (r : Rest) → Takes remaining s r [] s r
-  Takes-none s r = record {
+  pub TakesFromRest-none : (s : Unbuffered S) (r : Rest) → TakesFromRest remaining s r [] s r
+  TakesFromRest-none s r = record {
     wire = [];
     went = StreamWent-none remaining s;
     onward = λ later payload is. is;
     backward = λ later whole is. (whole, refl, is);
   }
 
-  pub Takes-joins : (s m t : Unbuffered S) (r q u : Rest) (h k : List ℕ) → Takes remaining s r h m q
-      → Takes remaining m q k t u → Takes remaining s r (h ++ k) t u
-  Takes-joins s m t r q u h k a b = record {
+  pub TakesFromRest-joins : (s m t : Unbuffered S) (r q u : Rest) (h k : List ℕ) → TakesFromRest remaining s r h m q
+      → TakesFromRest remaining m q k t u → TakesFromRest remaining s r (h ++ k) t u
+  TakesFromRest-joins s m t r q u h k a b = record {
     wire = a.wire ++ b.wire;
     went = StreamWent-joins remaining s m t a.wire b.wire a.went b.went;
     onward = Onward-joins r q u a.wire b.wire h k a.onward b.onward;
@@ -168,9 +168,9 @@ module _ {S : Type 0} (remaining : S → Option (List ℕ)) where
   }
 
   pub InsideGoes-none : (b : InBody S) → InsideGoes remaining b [] b
-  unfolding Takes-none
+  unfolding TakesFromRest-none
   InsideGoes-none b = record {
-    takes = Takes-none b.stream b.rest;
+    takes = TakesFromRest-none b.stream b.rest;
     taken = sym (append-nil b.taken);
     room = refl;
     limits = refl;
@@ -181,9 +181,9 @@ module _ {S : Type 0} (remaining : S → Option (List ℕ)) where
 
   pub InsideGoes-joins : (s m t : InBody S) (h k : List ℕ) → InsideGoes remaining s h m → InsideGoes remaining m k t
       → InsideGoes remaining s (h ++ k) t
-  unfolding Takes-joins
+  unfolding TakesFromRest-joins
   InsideGoes-joins s m t h k a b = record {
-    takes = Takes-joins s.stream m.stream t.stream s.rest m.rest t.rest h k a.takes b.takes;
+    takes = TakesFromRest-joins s.stream m.stream t.stream s.rest m.rest t.rest h k a.takes b.takes;
     taken = b.taken ∙ ap (λ l. l ++ b.takes.wire) a.taken ∙ append_assoc s.taken a.takes.wire b.takes.wire;
     room = b.room ∙ a.room;
     told = b.told ∙ ap (λ l. l ++ k) a.told ∙ append_assoc s.calls.reads.given h k;
@@ -194,7 +194,8 @@ module _ {S : Type 0} (remaining : S → Option (List ℕ)) where
 
   -- whatever was read of it, a message that is begun and ended went whole
   pub MessagesWent-one : (s : ReaderState S head.Heads) (b m : InBody S) (handed wire payload : List ℕ) (t : Unbuffered S)
-      → Begun remaining s b → Takes remaining b.stream b.rest handed m.stream m.rest → StreamWent remaining m.stream wire t
+      → Begun remaining s b → TakesFromRest remaining b.stream b.rest handed m.stream m.rest
+      → StreamWent remaining m.stream wire t
       → IsRest m.rest wire payload → MessagesWent remaining s.decoder.0 (left_of s) ((b.head, handed ++ payload) ∷ []) t
   MessagesWent-one s b m handed wire payload t begun takes went is = record {
     bytes = b.head ++ (takes.wire ++ wire);

@@ -8,7 +8,7 @@ ghost use Rattle.buffer_redux.specs.Unbuffer.{unbuffered};
 ghost use Rattle.codec.specs.PieceReader.{left_of};
 ghost use Rattle.messages.specs.contracts.body.Body.{the_row};
 ghost use Rattle.messages.specs.Heads.{IsHead};
-ghost use Rattle.messages.specs.Messages.{AskedIn, Bytes, EachGave, Ends, Fails, FinishFails, HasRoom, InsideGoes, IsReady, IsRest, IsRoomy, ReaderTakes, RunsShort, Unended, begun, body_of, grammar_of, has_line, left_in, rest_of, room_of, stream_of, with_stream};
+ghost use Rattle.messages.specs.Messages.{AskedIn, Bytes, EachReadGave, Fails, FinishFails, HasNextPayload, HasRoom, InsideGoes, IsRest, IsRoomy, ReaderTakes, RunsShort, TakesWholeRest, Unended, body_of, body_rules, entering, has_line, left_in, rest_of, room_of, stream_of, with_stream};
 
 mod tells;
 
@@ -70,7 +70,7 @@ impl<R: Tell> Body<R> {
         requires room { head.capacity ≡ 16384 }
         requires is { IsHead limits head.bytes said }
         requires roomy { IsRoomy reader.block }
-        ensures { result ≡ begun reader limits head.bytes said }
+        ensures { result ≡ entering reader limits head.bytes said }
     {
         Body {
             alloc,
@@ -167,11 +167,11 @@ impl<R: TellRead> Body<R> {
         ensures bound { IfOk result (λ n. n ≤ length out.new) }
         ensures goes { InsideGoes R.remaining self.old (handed_out out.new result) self.new }
         ensures ended { result ≡ Ok 0 → 0 < length out.new → IsRest self.new.rest [] [] }
-        ensures gave { OnOk result (EachGave self.old.stream self.new.stream) }
+        ensures gave { OnOk result (EachReadGave self.old.stream self.new.stream) }
         ensures fails { IfErr result (λ e. Fails self.old.stream e self.new.stream self.new.rest) }
         ensures asked { AskedWhere (AskedIn self.old.rest (length out.new) self.new.stream.log.reads.offer) self.old.stream
             self.new.stream }
-        ensures idle { IsReady self.old.stream self.old.rest → self.new.stream.log ≡ self.old.stream.log }
+        ensures idle { HasNextPayload self.old.stream self.old.rest → self.new.stream.log ≡ self.old.stream.log }
         ensures none { length out.new ≡ 0 → (result ≡ Ok 0) × (self.new.stream ≡ self.old.stream) }
     {
         read(&mut self.reader, out)
@@ -194,7 +194,7 @@ impl<R: TellRead> Body<R> {
         ensures in_order { IfOk result (λ next. (wire : List ℕ) × (got : List ℕ)
             × (next.reader.log.reads.given ≡ self.stream.log.reads.given ++ got)
             × (wire ++ drop next.handed next.reader.block.bytes ≡ self.stream.left ++ got)) }
-        ensures ends { MatchResult result (λ next. Ends R.remaining self.stream self.rest (left_of next))
+        ensures ends { MatchResult result (λ next. TakesWholeRest R.remaining self.stream self.rest (left_of next))
             (λ e. (handed : List ℕ) × InsideGoes R.remaining self handed e.0
             × FinishFails self.stream handed e.1 e.0.stream e.0.rest) }
         ensures room { IfOk result (λ next. room_of next.reader.block ≡ self.room) }
@@ -233,9 +233,9 @@ impl<R: TellRead> Body<R> {
 
 // The coding of the body that a head says.
 fn coding_of(extent: Extent, limits: Limits) -> BodyCoding
-    ensures rest { rest_of result (grammar_of result).first ≡ body_of limits extent }
+    ensures rest { rest_of result (body_rules result).first ≡ body_of limits extent }
     ensures line { has_line result }
-    ensures ahead { (grammar_of result).ahead ≡ 1 }
+    ensures ahead { (body_rules result).ahead ≡ 1 }
 {
     match extent {
         Extent::Sized(len) => Either::First(Sized(len)),
@@ -263,13 +263,13 @@ fn read<R: TellRead>(
     ensures told { handed_of reader.new ≡ handed_of reader.old ++ handed_out out.new result }
     ensures takes { ReaderTakes R.remaining reader.old (handed_out out.new result) reader.new }
     ensures ended { result ≡ Ok 0 → 0 < length out.new → IsRest (left_in reader.new) [] [] }
-    ensures gave { OnOk result (EachGave (stream_of reader.old) (stream_of reader.new)) }
+    ensures gave { OnOk result (EachReadGave (stream_of reader.old) (stream_of reader.new)) }
     ensures fails { IfErr result (λ e. Fails (stream_of reader.old) e (stream_of reader.new) (left_in reader.new)) }
     ensures asked { AskedWhere (AskedIn (left_in reader.old) (length out.new) (stream_of reader.new).log.reads.offer)
         (stream_of reader.old) (stream_of reader.new) }
-    ensures all { IfOk result (λ n. 0 < n → HandsAll (grammar_of reader.old.coding) reader.old.place reader.old.reader.block.bytes
+    ensures all { IfOk result (λ n. 0 < n → HandsAll (body_rules reader.old.coding) reader.old.place reader.old.reader.block.bytes
         reader.old.known out.new n reader.new.reader.block.bytes) }
-    ensures idle { IsReady (stream_of reader.old) (left_in reader.old)
+    ensures idle { HasNextPayload (stream_of reader.old) (left_in reader.old)
         → (stream_of reader.new).log ≡ (stream_of reader.old).log }
     ensures none { length out.new ≡ 0 → (result ≡ Ok 0) × (stream_of reader.new ≡ stream_of reader.old) }
 {
@@ -303,7 +303,7 @@ fn finish<R: TellRead>(
     ensures room { MatchResult result (λ rest. IsRoomy rest.block) (λ e. HasRoom e.0) }
     ensures kept { MatchResult result (λ rest. room_of rest.block ≡ room_of reader.reader.block)
         (λ e. room_of e.0.reader.block ≡ room_of reader.reader.block) }
-    ensures ends { MatchResult result (λ rest. Ends R.remaining (stream_of reader) (left_in reader) (unbuffered rest))
+    ensures ends { MatchResult result (λ rest. TakesWholeRest R.remaining (stream_of reader) (left_in reader) (unbuffered rest))
         (λ e. (handed : List ℕ)
         × ReaderTakes R.remaining reader handed e.0
         × FinishFails (stream_of reader) handed e.1 (stream_of e.0) (left_in e.0)

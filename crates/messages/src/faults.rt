@@ -1,6 +1,6 @@
 //! Why a text whose lines end as those of a head is none.
 ghost use Rattle.std.specs.Prelude.{◌≡◌};
-ghost use Rattle.messages.specs.Faults.{IsFault, ends_chunked, has_many_lines, lines_fault, said_fault, text_fault};
+ghost use Rattle.messages.specs.Faults.{IsHeadFault, ends_chunked, has_many_lines, lines_fault, said_fault, text_fault};
 
 use crate::bad_head::BadHead;
 use crate::head::MAX_FIELDS;
@@ -13,7 +13,7 @@ use httparse::spans::{EMPTY_HEADER_SPAN, parse_request};
 
 /// If these bytes are no head that counts here, this is why. The first line is read once more for it.
 pub(crate) fn fault(head: &[u8], limits: Limits) -> BadHead
-    ensures { IsFault limits head.now result }
+    ensures { IsHeadFault limits head.now result }
 {
     let mut fields = [EMPTY_HEADER_SPAN; MAX_FIELDS];
     let Ok(Status::Complete(spans)) = parse_request(head, &mut fields) else {

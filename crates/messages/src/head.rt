@@ -2,7 +2,7 @@
 ghost use Rattle.std.specs.Prelude.{◌≡◌, ◌<◌, ◌≤◌, ◌↔◌, IfErr, IfNone, IfOk, IfSome, IsTrue, OnErr, length, slice_set};
 ghost use Rattle.http1.specs.Message.{has_one_host};
 ghost use Rattle.messages.specs.declared.head.ParsedHead.{ParsedHead};
-ghost use Rattle.messages.specs.Faults.{IsFault};
+ghost use Rattle.messages.specs.Faults.{IsHeadFault};
 ghost use Rattle.messages.specs.Limits.{usual};
 ghost use Rattle.messages.specs.Heads.{IsHead, IsKnownHead, IsRefused, expects, extent_of, keeps};
 
@@ -140,7 +140,7 @@ fn read_later(head: &[u8], at: usize, limits: Limits) -> Result<ParsedHead, BadH
     requires within { at < length head.now }
     ensures head { IfOk result (λ said. IsKnownHead limits (slice_set head.now at 49) said) }
     ensures none { OnErr result ((said : ParsedHead) → ¬ (IsKnownHead limits (slice_set head.now at 49) said)) }
-    ensures fault { IfErr result (IsFault limits (slice_set head.now at 49)) }
+    ensures fault { IfErr result (IsHeadFault limits (slice_set head.now at 49)) }
 {
     let mut room = [0; MAX_HEAD];
     let copy = &mut room[..head.len()];
@@ -153,7 +153,7 @@ fn read_later(head: &[u8], at: usize, limits: Limits) -> Result<ParsedHead, BadH
 fn read_known(head: &[u8], limits: Limits) -> Result<ParsedHead, BadHead>
     ensures head { IfOk result (λ said. IsKnownHead limits head.now said) }
     ensures none { OnErr result ((said : ParsedHead) → ¬ (IsKnownHead limits head.now said)) }
-    ensures fault { IfErr result (IsFault limits head.now) }
+    ensures fault { IfErr result (IsHeadFault limits head.now) }
 {
     match said_of(head, limits) {
         Some(said) => Ok(said),

@@ -3,7 +3,7 @@ ghost use Rattle.std.specs.Prelude.{◌≡◌, ℕ, ◌<◌, List, ◌∷◌, []
 ghost use Rattle.buffer_redux.specs.Unbuffer.{Unbuffered, unbuffer_remaining};
 ghost use Rattle.codec.specs.PieceReader.{ReaderState, left_of};
 ghost use Rattle.messages.specs.declared.head.Heads as head;
-ghost use Rattle.messages.specs.Messages.{AreMessages, Begun, EachGave, Ends, InBody, Message, MessagesWent, Takes, room_of};
+ghost use Rattle.messages.specs.Messages.{AreMessages, Begun, EachReadGave, InBody, Message, MessagesWent, TakesFromRest, TakesWholeRest, room_of};
 ghost use Rattle.messages.specs.declared.limits.Limits.{Limits};
 ghost use Rattle.messages.specs.Passing.{StopsIn};
 
@@ -26,8 +26,8 @@ pub fn one_cut()
 /// stands before the same head, or in the same body, of which what was taken is gone (`next`, `read` and `finish` say so).
 pub fn no_byte_between<R: TellRead>(requests: &Requests<R>)
     ensures one { (s : ReaderState R head.Heads) (b m : InBody R) (handed : List ℕ) → Begun R.remaining s b
-        → Takes R.remaining b.stream b.rest handed m.stream m.rest
-        → (ends : Ends R.remaining m.stream m.rest (left_of requests.now))
+        → TakesFromRest R.remaining b.stream b.rest handed m.stream m.rest
+        → (ends : TakesWholeRest R.remaining m.stream m.rest (left_of requests.now))
         → MessagesWent R.remaining s.decoder.0 (left_of s) ((b.head, handed ++ ends.payload) ∷ []) (left_of requests.now) }
     ensures many { (limits : Limits) (s m : Unbuffered R) (messages more : List Message)
         → MessagesWent R.remaining limits s messages m → MessagesWent R.remaining limits m more (left_of requests.now)
@@ -52,11 +52,11 @@ pub enum Stopped<R: Tell> {
 pub fn pass<R: TellRead>(requests: Requests<R>, count: usize) -> Result<Requests<R>, Stopped<R>>
     ensures passed { IfOk result (λ next. (messages : List Message) × (length messages ≡ count)
         × MessagesWent R.remaining requests.decoder.0 (left_of requests) messages (left_of next)
-        × EachGave (left_of requests) (left_of next)
+        × EachReadGave (left_of requests) (left_of next)
         × (room_of next.reader.block ≡ room_of requests.reader.block) × (next.decoder ≡ requests.decoder)) }
     ensures stopped { IfErr result (λ stopped. (messages : List Message) × (between : ReaderState R head.Heads)
         × (length messages < count) × MessagesWent R.remaining requests.decoder.0 (left_of requests) messages (left_of between)
-        × EachGave (left_of requests) (left_of between) × (room_of between.reader.block ≡ room_of requests.reader.block)
+        × EachReadGave (left_of requests) (left_of between) × (room_of between.reader.block ≡ room_of requests.reader.block)
         × (between.decoder ≡ requests.decoder) × (between.ended ≡ false) × StopsIn R.remaining between stopped) }
 {
     let mut next = requests;
@@ -75,7 +75,7 @@ pub fn pass<R: TellRead>(requests: Requests<R>, count: usize) -> Result<Requests
 fn pass_one<R: TellRead>(requests: Requests<R>) -> Result<Requests<R>, Stopped<R>>
     ensures passed { IfOk result (λ next. (head : List ℕ) × (payload : List ℕ)
         × MessagesWent R.remaining requests.decoder.0 (left_of requests) ((head, payload) ∷ []) (left_of next)
-        × EachGave (left_of requests) (left_of next)
+        × EachReadGave (left_of requests) (left_of next)
         × (room_of next.reader.block ≡ room_of requests.reader.block) × (next.decoder ≡ requests.decoder)) }
     ensures stopped { IfErr result (StopsIn R.remaining requests) }
     ensures told { requests.ended ≡ false }

@@ -10,7 +10,7 @@ ghost use Rattle.codec.specs.PieceReader.{IsFresh, IsOver, IsSettled, TakenApart
 ghost use Rattle.messages.specs.contracts.requests.Requests.{the_row};
 ghost use Rattle.messages.specs.Heads.{IsHeadPiece, heads};
 ghost use Rattle.messages.specs.Limits.{usual};
-ghost use Rattle.messages.specs.Messages.{Begun, Enters, answer_of};
+ghost use Rattle.messages.specs.Messages.{Begun, Enters, stop_answer};
 
 use crate::bad_head::BadHead;
 use crate::body::Body;
@@ -248,7 +248,7 @@ impl<R: TellRead> Requests<R> {
     pub fn next(mut self) -> Result<Body<R>, (Self, Stop)>
         ensures told { self.ended ≡ false }
         ensures next { MatchResult result (Begun R.remaining self)
-            (λ e. NextPiece R.remaining (heads self.decoder.0) self (answer_of e.1) e.0) }
+            (λ e. NextPiece R.remaining (heads self.decoder.0) self (stop_answer e.1) e.0) }
     {
         match self.pieces.step() {
             Ok(Some(span)) => Ok(self.enter(span)),

@@ -5,20 +5,21 @@ use Rattle.body_reader.specs.declared.error.BodyError.{BodyError}
 use Rattle.body_reader.specs.declared.error.CollectError.{CollectError}
 use Rattle.body_reader.specs.declared.just_or_until.JustOr.{JustOr}
 use Rattle.body_reader.specs.declared.just_or_until.JustOrUntil.{JustOrUntil}
-use Rattle.body_reader.specs.BodyReader.{BodyState, Collects, Drains, IsWhole, begun, handed_of}
+use Rattle.body_reader.specs.BodyReader.{BodyState, Collects, Drains, TookWholeBody, begun, handed_of}
 use Rattle.body_reader.specs.Coding.{IsBody}
 use Rattle.multipart.specs.declared.error.PartError.{PartError}
 use Rattle.multipart.specs.declared.reader.Stand.TheVariants.{Preamble, Head, Part}
-use Rattle.multipart.specs.Multipart.{AreCodings, CollectsHead, EndsHead, FormState, GoesOn, HasHead, IsForm, LeavesText, NextPart, PassesText, codes, head_error, part_error}
+use Rattle.multipart.specs.Multipart.{AreCodings, CollectsHead, EndsHead, FormState, GoesOnFromHead, HasHead, IsForm, LeavesText, NextPart, PassesText, codes, head_error, part_error}
 
 -- a part begins behind a head
 pub begins_part : {S Q : Type 0} (d s : FormState S Q) → d ≡ s → IsForm d → s.stand ≡ Head
-    → IsWhole (codes s.body.coding) s.body → (b : BodyState S Q JustOrUntil JustOr) (heads : JustOrUntil)
+    → TookWholeBody (codes s.body.coding) s.body → (b : BodyState S Q JustOrUntil JustOr) (heads : JustOrUntil)
     → b ≡ begun (codes d.other) d.body.reader d.other → heads ≡ d.body.coding
     → AreCodings b.coding heads × ((bytes : List ℕ) × IsBody (codes heads) bytes d.head)
 begins_part d s same form stand whole b heads next before =
     let here : HasHead Head d = subst (λ x. HasHead x d) (ap (λ x. x.stand) same ∙ stand) form in
-    let all : IsWhole (codes d.body.coding) d.body = subst (λ x. IsWhole (codes x.body.coding) x.body) (sym same) whole in (
+    let all : TookWholeBody (codes d.body.coding) d.body =
+        subst (λ x. TookWholeBody (codes x.body.coding) x.body) (sym same) whole in (
       subst (λ c. AreCodings c heads) (sym (ap (λ x. x.coding) next)) (subst (AreCodings d.other) (sym before) here.0),
       (
         d.body.taken,
@@ -80,12 +81,12 @@ module _ {S Q : Type 0} (remaining : S → Option (List ℕ)) (rules : ReadRules
 
   pub goes_not : (s m : FormState S Q) (e : PartError)
       → CollectsHead remaining rules s.limits.head s.body s.head (Err e) m.body m.head
-      → m ≡ record s { body = m.body; head = m.head } → GoesOn remaining rules s (Err e) m
+      → m ≡ record s { body = m.body; head = m.head } → GoesOnFromHead remaining rules s (Err e) m
   goes_not s m e collects within = (m.body, m.head, inr (e, refl, collects, within))
 
   pub goes : (s m t : FormState S Q) (answer : Result Bool PartError)
       → CollectsHead remaining rules s.limits.head s.body s.head (Ok tt) m.body m.head
-      → m ≡ record s { body = m.body; head = m.head } → EndsHead m answer t → GoesOn remaining rules s answer t
+      → m ≡ record s { body = m.body; head = m.head } → EndsHead m answer t → GoesOnFromHead remaining rules s answer t
   goes s m t answer collects within ends =
       (m.body, m.head, inl (collects, subst (λ x. EndsHead x answer t) within ends))
 

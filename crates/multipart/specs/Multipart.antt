@@ -66,10 +66,10 @@ pub record IsBegun {S Q : Type 0} (reader : Buffered S Q) (boundary : List ℕ) 
   pub limited : t.limits ≡ limits
 
 -- why no reader can be made
-abbrev pub IsRefused : {S Q : Type 0} → Buffered S Q → List ℕ → NewError → Type 0
-IsRefused reader boundary new.Boundary = (length boundary ≡ 0) ⊎ (70 < length boundary)
-IsRefused reader boundary new.Room = reader.block.capacity < length boundary + 4
-IsRefused reader boundary new.Memory =
+abbrev pub NoReaderMade : {S Q : Type 0} → Buffered S Q → List ℕ → NewError → Type 0
+NoReaderMade reader boundary new.Boundary = (length boundary ≡ 0) ⊎ (70 < length boundary)
+NoReaderMade reader boundary new.Room = reader.block.capacity < length boundary + 4
+NoReaderMade reader boundary new.Memory =
     (0 < length boundary) × (length boundary ≤ 70) × (length boundary + 4 ≤ reader.block.capacity)
 
 -- the next section begins, where the last one left the buffered reader
@@ -115,20 +115,20 @@ module _ {S Q : Type 0} (remaining : S → Option (List ℕ)) (rules : ReadRules
       × Collects remaining rules (codes s.coding) most s before (Err w) t after × (e ≡ head_error w)
 
   -- from a head on
-  abbrev pub GoesOn : FormState S Q → Result Bool PartError → FormState S Q → Type 0
-  GoesOn s answer t = (b : BodyState S Q JustOrUntil JustOr) × (head : List ℕ)
+  abbrev pub GoesOnFromHead : FormState S Q → Result Bool PartError → FormState S Q → Type 0
+  GoesOnFromHead s answer t = (b : BodyState S Q JustOrUntil JustOr) × (head : List ℕ)
       × ((CollectsHead s.limits.head s.body s.head (Ok tt) b head × EndsHead (record s { body = b; head = head }) answer t)
       ⊎ ((e : PartError) × (answer ≡ Err e) × CollectsHead s.limits.head s.body s.head (Err e) b head
       × (t ≡ record s { body = b; head = head })))
 
   -- from a text on: also what is left of it is passed
   abbrev pub PassesText : FormState S Q → Result Bool PartError → FormState S Q → Type 0
-  PassesText s answer t = ((m : FormState S Q) × LeavesText s (Ok tt) m × GoesOn m answer t)
+  PassesText s answer t = ((m : FormState S Q) × LeavesText s (Ok tt) m × GoesOnFromHead m answer t)
       ⊎ ((e : PartError) × (answer ≡ Err e) × LeavesText s (Err e) t)
 
   -- going on to the next part: behind the last one nothing is done
   abbrev pub NextPart : Stand → FormState S Q → Result Bool PartError → FormState S Q → Type 0
   NextPart Ended s answer t = (answer ≡ Ok false) × (t ≡ s)
-  NextPart Head s answer t = GoesOn s answer t
+  NextPart Head s answer t = GoesOnFromHead s answer t
   NextPart Preamble s answer t = PassesText s answer t
   NextPart Part s answer t = PassesText s answer t

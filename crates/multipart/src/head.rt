@@ -1,7 +1,7 @@
 //! Fields in the head of a part, and what their parameters say.
 ghost use Rattle.std.specs.Prelude.{◌≡◌, ◌≤◌, length};
 ghost use Rattle.std.specs.List.{prefix_len};
-ghost use Rattle.multipart.specs.Head.{has_at, is_blank, is_opening};
+ghost use Rattle.multipart.specs.Head.{has_byte_at, is_blank, is_opening};
 
 // Whether a byte is a space or a tab.
 fn is_blank(byte: u8) -> bool
@@ -19,7 +19,7 @@ fn blanks_len(text: &[u8]) -> usize
 }
 
 fn has_at(text: &[u8], at: usize, byte: u8) -> bool
-    ensures { result ≡ has_at text.now at byte }
+    ensures { result ≡ has_byte_at text.now at byte }
 {
     at < text.len() && text[at] == byte
 }

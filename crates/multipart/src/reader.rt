@@ -1,7 +1,7 @@
 //! The reader of parts.
 ghost use Rattle.std.specs.Prelude.{◌≡◌, ◌≢◌, ◌<◌, ◌≤◌, ◌+◌, ◌-◌, ◌⊎◌, ◌∷◌, ◌++◌, length, min, take, vec_items, Ok, IfErr, IfOk, IfSome};
-ghost use Rattle.body_reader.specs.BodyReader.{BodyWent, FillsPayload, IsBodyReader, IsWhole, ReadsPayload};
-ghost use Rattle.multipart.specs.Multipart.{AreCodings, CollectsHead, EndsHead, GoesOn, IsBegun, IsForm, IsRefused, LeavesText, NextPart, codes};
+ghost use Rattle.body_reader.specs.BodyReader.{BodyWent, FillsPayload, IsBodyReader, ReadsPayload, TookWholeBody};
+ghost use Rattle.multipart.specs.Multipart.{AreCodings, CollectsHead, EndsHead, GoesOnFromHead, IsBegun, IsForm, LeavesText, NextPart, NoReaderMade, codes};
 
 use crate::error::{NewError, PartError};
 use crate::head::is_opening;
@@ -85,7 +85,7 @@ impl<R: Tell, P> Multipart<R, P> {
         ensures begun { IfOk result (IsBegun reader boundary.now limits) }
         ensures whole { IfOk result IsForm }
         ensures handed_back { IfErr result (λ e. e.0 ≡ reader) }
-        ensures refused { IfErr result (λ e. IsRefused reader boundary.now e.1) }
+        ensures refused { IfErr result (λ e. NoReaderMade reader boundary.now e.1) }
     {
         if boundary.is_empty() || boundary.len() > 70 {
             return Err((reader, NewError::Boundary));
@@ -259,7 +259,7 @@ impl<R: TellRead, P: ReaderPolicy> Multipart<R, P> {
     // Goes on into the part behind this head.
     fn go_on(&mut self) -> Result<bool, PartError>
         requires head { self.old.stand ≡ Stand.Head }
-        ensures { GoesOn R.remaining P.rules self.old result self.new }
+        ensures { GoesOnFromHead R.remaining P.rules self.old result self.new }
     {
         self.collect()?;
         self.end_head()
@@ -291,7 +291,7 @@ impl<R: TellRead, P: ReaderPolicy> Multipart<R, P> {
     // Goes on into the part behind this head, or says that there is none.
     fn end_head(&mut self) -> Result<bool, PartError>
         requires head { self.old.stand ≡ Stand.Head }
-        requires whole { IsWhole (codes self.old.body.coding) self.old.body }
+        requires whole { TookWholeBody (codes self.old.body.coding) self.old.body }
         requires reader { IsBodyReader (codes self.old.body.coding) self.old.body }
         ensures { EndsHead self.old result self.new }
     {

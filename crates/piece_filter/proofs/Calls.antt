@@ -15,12 +15,12 @@ use Rattle.piece_reader.specs.NextPieceLaws.{MetEnd-once}
 use Rattle.piece_reader.specs.PieceReader.{ReaderState, rest}
 use Rattle.piece_reader.specs.declared.decoder.Span.{Span}
 use Rattle.piece_reader.specs.declared.error.NextError.TheVariants as Why
-use Rattle.forward.specs.Filter.{Asks, FilterRules, Flushes, Moves, PassAnswers, Passes}
+use Rattle.forward.specs.Filter.{FilterAsks, FilterFlushes, FilterPasses, FilterRules, Moves, PassAnswers}
 use Rattle.forward.specs.PromptLaws.{WritesOn-none}
 use Rattle.forward.specs.declared.error.AskError.TheVariants.{Wrong, Io, IoBehind}
 use Rattle.programs.specs.Streams.{AllSent}
 use Rattle.programs.specs.TakenIn.{IsStill-same}
-use Rattle.piece_filter.specs.Answering.{Answered, IsWrong, answering}
+use Rattle.piece_filter.specs.Answering.{AnswersOne, IsWrongPiece, answering}
 use Rattle.piece_filter.specs.AnsweringLaws.{answering_lawful}
 use Rattle.piece_filter.specs.Pieces.{IsReady, Keeps, Piecewise, held_at, piece_rules}
 use Rattle.piece_filter.specs.PiecesCalls as pieces
@@ -44,7 +44,7 @@ module _ {R D X A W N : Type 0} (remaining : R → Option (List ℕ)) (grammar :
     abbrev answered : Bool → Answering R D W A X N
     answered sent = record s { target = v; service = b; held = None; sent = sent }
 
-    pub passes : Answered Answers s.service payload s.target (Ok true) b v → Passes rules s (Ok true) (answered false)
+    pub passes : AnswersOne Answers s.service payload s.target (Ok true) b v → FilterPasses rules s (Ok true) (answered false)
     passes (reply, is, some, puts) =
         pieces.passed remaining f ready (answered false) puts.not_flushed puts.flushes payload reply
         (pieces.took_held remaining f ready (answered false) refl (λ sent. absurd (true≢false (sym sent))) span held refl)
@@ -52,7 +52,7 @@ module _ {R D X A W N : Type 0} (remaining : R → Option (List ℕ)) (grammar :
         let fits : length s.target.block.bytes + length reply ≤ s.target.block.capacity = omega (arith, room, some) in
         record { told = (puts.fits fits).1; capacity = puts.kept (omega (arith, fits)) })
 
-    pub drops : Answered Answers s.service payload s.target (Ok false) b v → Passes rules s (Ok true) (answered s.sent)
+    pub drops : AnswersOne Answers s.service payload s.target (Ok false) b v → FilterPasses rules s (Ok true) (answered s.sent)
     drops (is, same) =
         let still : AllSent s.target → AllSent v = subst AllSent (sym same) in
         pieces.passed remaining f ready (answered s.sent) (ap (λ x. x.log.writes.flushed) same)
@@ -62,8 +62,8 @@ module _ {R D X A W N : Type 0} (remaining : R → Option (List ℕ)) (grammar :
         (subst (λ x. MetInterrupts s.target.log.writes x.log.writes) (sym same) (MetInterrupts-none s.target.log.writes))
         (inr (tt, λ sent. (sent.0, still sent.1))) (λ room. IsStill-same s.target v same)
 
-    pub refused : (e : Error) → Answered Answers s.service payload s.target (Err e) b v
-        → Passes rules s (Err e) (record s { target = v; service = b; sent = false })
+    pub refused : (e : Error) → AnswersOne Answers s.service payload s.target (Err e) b v
+        → FilterPasses rules s (Err e) (record s { target = v; service = b; sent = false })
     refused e (reply, after, is, same, puts) =
         let t : Answering R D W A X N = record s { target = v; service = b; sent = false } in
         let holds = ap (λ h. held_at s.source h) held in
@@ -102,8 +102,8 @@ module _ {R D X A W N : Type 0} (remaining : R → Option (List ℕ)) (grammar :
           (joins t [] [] moves, met, none, λ has. has lacks, sent, still)
       answers_behind t (Err e) (lost, moves, caused, few) = (lost, joins t lost [] moves, caused, few)
 
-      pub passes_behind : (t : Answering R D W A X N) (answer : Result Bool Error) → Passes rules (holding span) answer t
-          → Passes rules s answer t
+      pub passes_behind : (t : Answering R D W A X N) (answer : Result Bool Error) → FilterPasses rules (holding span) answer t
+          → FilterPasses rules s answer t
       passes_behind t answer p = record {
         told = p.told ∙ took.told;
         ready = p.ready;
@@ -114,7 +114,7 @@ module _ {R D X A W N : Type 0} (remaining : R → Option (List ℕ)) (grammar :
       }
 
     pub none_passes : StaysLeft (grammar s.source.decoder) s.source m → ¬ (Begins (grammar s.source.decoder) (rest s.source))
-        → Passes rules s (Ok false) (record s { source = m })
+        → FilterPasses rules s (Ok false) (record s { source = m })
     none_passes stays no_piece = pieces.none_passed remaining f ready (record s { source = m }) lacks
         (record { target = refl; service = refl; sent = λ sent. sent }) ready.also lacks stays no_piece
 
@@ -131,37 +131,37 @@ module _ {R D X A W N : Type 0} (remaining : R → Option (List ℕ)) (grammar :
 
       pub asked_more : (span : Span) → IsLent (grammar m.decoder) m.handed m.reader.block.bytes span
           → ¬ (Begins (grammar s.source.decoder) (rest s.source))
-          → Next (Ok (Some (bytes_at span m.reader.block.bytes))) → Asks rules s (Ok true) (asked (Some span))
+          → Next (Ok (Some (bytes_at span m.reader.block.bytes))) → FilterAsks rules s (Ok true) (asked (Some span))
       asked_more span lent no_piece next =
           pieces.asked_more remaining f ready (asked (Some span)) lacks (kept (Some span)) ready.also going
           span refl lent no_piece next
 
-      pub asked_none : Next (Ok None) → Asks rules s (Ok false) (asked s.held)
+      pub asked_none : Next (Ok None) → FilterAsks rules s (Ok false) (asked s.held)
       asked_none next = pieces.asked_none remaining f ready (asked s.held) lacks (kept s.held) ready.also going lacks next
 
-      pub asked_wrong : (why : X) → Next (Err (Why.Wrong why)) → Asks rules s (Err (Wrong why)) (asked s.held)
+      pub asked_wrong : (why : X) → Next (Err (Why.Wrong why)) → FilterAsks rules s (Err (Wrong why)) (asked s.held)
       asked_wrong why next = pieces.asked_wrong remaining f ready (asked s.held) lacks (kept s.held) ready.also going lacks why
-          next why (subst (λ d. IsWrong (grammar d) s.source why m) (sym next.went.decoder) (elim next.answers.3 [
+          next why (subst (λ d. IsWrongPiece (grammar d) s.source why m) (sym next.went.decoder) (elim next.answers.3 [
             | inl begins ↦ inl begins.0
             | inr (cut, is_open, some, met) ↦ inr (cut, is_open, some, omega (arith, MetEnd-once s.source m going met))
           ]))
 
       module _ (e : Error) (next : Next (Err (Why.Io e))) where
-        pub asked_idle : length (rest m) ≤ length (rest s.source) → Asks rules s (Err (Io e)) (asked s.held)
+        pub asked_idle : length (rest m) ≤ length (rest s.source) → FilterAsks rules s (Err (Io e)) (asked s.held)
         asked_idle = pieces.asked_idle remaining f ready (asked s.held) lacks (kept s.held) ready.also going lacks e next
 
-        pub asked_behind : length (rest s.source) < length (rest m) → Asks rules s (Err (IoBehind e)) (asked s.held)
+        pub asked_behind : length (rest s.source) < length (rest m) → FilterAsks rules s (Err (IoBehind e)) (asked s.held)
         asked_behind came =
             let shown = next.looked.shows next.answers.1 in
             pieces.asked_behind remaining f ready (asked s.held) lacks (kept s.held) ready.also going lacks e next came
             (omega (arith, shown.few, shown.most))
 
   -- the stream had ended
-  pub asked_ended : s.held ≡ None → s.source.ended ≡ true → Asks rules s (Ok false) s
+  pub asked_ended : s.held ≡ None → s.source.ended ≡ true → FilterAsks rules s (Ok false) s
   asked_ended = pieces.asked_ended remaining f ready
 
   -- all had been sent
-  pub unflushed : s.sent ≡ true → Flushes rules s (Ok tt) s
+  pub unflushed : s.sent ≡ true → FilterFlushes rules s (Ok tt) s
   unflushed sent = record {
     told = refl;
     ready = ready;
@@ -182,13 +182,14 @@ module _ {R D X A W N : Type 0} (remaining : R → Option (List ℕ)) (grammar :
     not_sent : f.drops → ¬ (f.sent s)
     not_sent _ sent = true≢false (sym sent.0 ∙ unsent)
 
-    pub flushed : WasFlushed tells trace s.target (Ok tt) v → Flushes rules s (Ok tt) (record s { target = v; sent = true })
+    pub flushed : WasFlushed tells trace s.target (Ok tt) v → FilterFlushes rules s (Ok tt) (record s { target = v; sent = true })
     flushed w =
         let t : Answering R D W A X N = record s { target = v; sent = true } in
         pieces.flushed remaining f ready t refl (λ sent. record { empty = w.ok.empty; flushed = w.ok.flushed }) refl refl
         tells trace not_sent (Ok tt) w (λ x is all. (refl, all))
 
-    pub not_flushed : (e : Error) → WasFlushed tells trace s.target (Err e) v → Flushes rules s (Err e) (record s { target = v })
+    pub not_flushed : (e : Error) → WasFlushed tells trace s.target (Err e) v
+        → FilterFlushes rules s (Err e) (record s { target = v })
     not_flushed e w =
         let t : Answering R D W A X N = record s { target = v } in
         pieces.flushed remaining f ready t refl (λ sent. absurd (true≢false (sym sent ∙ unsent))) refl refl tells trace

@@ -14,7 +14,7 @@ use Rattle.buffer_redux.specs.WriteParts.{Appends, MakesPlace, PartsRefused, Wri
 use Rattle.buffer_redux.specs.WritePartsLaws.{WritesParts-limit, WritesParts-sent}
 use Rattle.buffer_redux.specs.WriterLaws.{WritesInOrder-joins}
 use Rattle.buffer_redux.specs.declared.policy.StdPolicy.{StdPolicy}
-use Rattle.piece_filter.specs.Puts.{IsRefused, Puts}
+use Rattle.piece_filter.specs.Puts.{IsRoomRefused, Puts}
 
 -- the inner writer isn't called where parts fit, which goes well, nor where nothing is buffered
 module _ {W : Type 0} (tells : W → StreamLog) (trace : W → W → Type 0) (m : Buffered W StdPolicy) (bytes : List ℕ)
@@ -94,7 +94,7 @@ module _ {W : Type 0} (tells : W → StreamLog) (trace : W → W → Type 0) (s 
     met_still = subst (λ l. MetInterrupts s.log.writes l.writes) (sym told) met
 
     refused : (e : Error) → t.block.bytes ≡ [] → PartsRefused (length bytes) m e t
-        → SendErrorCaused s.log.writes t.log.writes e ⊎ IsRefused (length bytes) e t
+        → SendErrorCaused s.log.writes t.log.writes e ⊎ IsRoomRefused (length bytes) e t
     refused e empty (inl caused) = inl (SendErrorCaused-after s.log.writes m.log.writes t.log.writes e met caused)
     refused e empty (inr (more, few, failed)) = inr (more, few, empty, failed)
 

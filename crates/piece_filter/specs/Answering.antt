@@ -9,17 +9,17 @@ use Rattle.piece_reader.specs.PieceReader.{ReaderState, rest}
 use Rattle.piece_reader.specs.Texts.{IsPieces}
 use Rattle.programs.specs.Streams.{AllSent}
 use Rattle.piece_filter.specs.Pieces.{AnswersAll, Piecewise, held_at}
-use Rattle.piece_filter.specs.Puts.{IsRefused, Puts}
+use Rattle.piece_filter.specs.Puts.{IsRoomRefused, Puts}
 use Rattle.piece_filter.specs.declared.answering.Answering.{Answering}
 
 -- what one answer does: some bytes were taken in; or none were, and the writer is as it was; or the writer refused those that
 -- would be written for this payload, and what answers is as it was
-abbrev pub Answered : {A W : Type 0} → (A → List ℕ → List ℕ → A → Type 0) → A → List ℕ → Buffered W StdPolicy
+abbrev pub AnswersOne : {A W : Type 0} → (A → List ℕ → List ℕ → A → Type 0) → A → List ℕ → Buffered W StdPolicy
     → Result Bool Error → A → Buffered W StdPolicy → Type 0
-Answered Answers a payload w (Ok true) b v =
+AnswersOne Answers a payload w (Ok true) b v =
     (reply : List ℕ) × Answers a payload reply b × (0 < length reply) × Puts w reply (Ok tt) v
-Answered Answers a payload w (Ok false) b v = Answers a payload [] b × (v ≡ w)
-Answered {A} Answers a payload w (Err e) b v =
+AnswersOne Answers a payload w (Ok false) b v = Answers a payload [] b × (v ≡ w)
+AnswersOne {A} Answers a payload w (Err e) b v =
     (reply : List ℕ) × (after : A) × Answers a payload reply after × (b ≡ a) × Puts w reply (Err e) v
 
 -- what is due of these bytes: what is written for the payloads of all whole pieces in them
@@ -35,15 +35,15 @@ pub record IsDue {A X : Type 0} (g : Grammar X) (Answers : A → List ℕ → Li
   pub answers : AnswersAll Answers a payloads due after
 
 -- what is left begins with no piece; or the reader gave no more behind it, and it is none
-abbrev pub IsWrong : {R D X : Type 0} → Grammar X → ReaderState R D → X → ReaderState R D → Type 0
-IsWrong g s why t =
+abbrev pub IsWrongPiece : {R D X : Type 0} → Grammar X → ReaderState R D → X → ReaderState R D → Type 0
+IsWrongPiece g s why t =
     g.wrong (rest t) why ⊎ (g.cut (rest t) why × IsOpen g (rest t) × (0 < length (rest t)) × RanDry s.reader t.reader)
 
 -- the payload that is held wasn't answered, since room for its reply was refused
 abbrev pub HoldsRefused : {A R D W X N : Type 0} → (A → List ℕ → List ℕ → A → Type 0) → Error → Answering R D W A X N → Type 0
 HoldsRefused {A} Answers e t =
     (payload : List ℕ) × (reply : List ℕ) × (after : A) × (held_at t.source t.held ≡ payload ∷ [])
-    × Answers t.service payload reply after × IsRefused (length reply) e t.target
+    × Answers t.service payload reply after × IsRoomRefused (length reply) e t.target
 
 abbrev pub answering : {R D X A W N : Type 0} → (D → Grammar X) → (A → List ℕ → List ℕ → A → Type 0)
     → Piecewise (Answering R D W A X N) R D X A W X
@@ -56,7 +56,7 @@ answering grammar Answers = record {
   grammar = grammar;
   answers = Answers;
   due = λ d. IsDue (grammar d) Answers;
-  wrong = λ s why t. IsWrong (grammar t.source.decoder) s.source why t.source;
+  wrong = λ s why t. IsWrongPiece (grammar t.source.decoder) s.source why t.source;
   drops = Unit {0};
   sent = λ s. (s.sent ≡ true) × AllSent s.target;
   refused = HoldsRefused Answers;

@@ -8,7 +8,7 @@ use Rattle.buffer_redux.specs.LogGrows.{ReadLogGrows}
 use Rattle.buffer_redux.specs.declared.policy.StdPolicy.{StdPolicy}
 use Rattle.piece_reader.specs.Decoding.{IsLent, bytes_at}
 use Rattle.piece_reader.specs.Grammar.{Begins, Grammar, IsOpen}
-use Rattle.piece_reader.specs.NextPiece.{AskedWhere, PiecesWent, empties}
+use Rattle.piece_reader.specs.NextPiece.{AskedWhere, PiecesWent, empty_reads}
 use Rattle.piece_reader.specs.PieceReader.{IsPieceReader, ReaderState, rest}
 use Rattle.piece_reader.specs.Texts.{HasPieces, IsPieces}
 use Rattle.piece_reader.specs.declared.decoder.Span.{Span}
@@ -78,19 +78,19 @@ module _ {T R D X A W E : Type 0} (f : Piecewise T R D X A W E) where
   abbrev pub PiecesEnd : T → Result (Unit {0}) E → T → Type 0
   PiecesEnd s (Ok _) t =
       (rest (f.source t) ≡ []) × (HasEnded s ⊎ RanDry (f.source s).reader (f.source t).reader)
-      × (empties (f.source s).reader ≤ empties (f.source t).reader)
+      × (empty_reads (f.source s).reader ≤ empty_reads (f.source t).reader)
   PiecesEnd s (Err why) t = f.wrong s why t
 
   -- what is wrong stays so; what is due of whole pieces is what becomes of them; and what is known to be sent was
-  pub record IsSound : Type 0 where
-    pub wrong_after : (a b c : T) (why : E) → empties (f.source a).reader ≤ empties (f.source b).reader → f.wrong b why c
+  pub record IsCoherent : Type 0 where
+    pub wrong_after : (a b c : T) (why : E) → empty_reads (f.source a).reader ≤ empty_reads (f.source b).reader → f.wrong b why c
         → f.wrong a why c
     pub is_due : (d : D) (a b : A) (bytes left reply : List ℕ) (p : List (List ℕ)) → IsPieces (f.grammar d) bytes p []
         → IsOpen (f.grammar d) left → AnswersAll f.answers a p reply b → f.due d a (bytes ++ left) reply
     pub all_sent : (s : T) → f.sent s → AllSent (f.target s)
 
   -- what becomes of these payloads was taken in
-  pub record TakesPieces (s : T) (payloads : List (List ℕ)) (t : T) : Type 0 where
+  pub record TakesReplies (s : T) (payloads : List (List ℕ)) (t : T) : Type 0 where
     pub reply : List ℕ
     pub answers : AnswersAll f.answers (f.service s) payloads reply (f.service t)
     pub in_order : WritesInOrder (f.target s) reply (f.target t)
@@ -118,7 +118,7 @@ module _ {T R D X A W E : Type 0} (remaining : R → Option (List ℕ)) (f : Pie
     written = λ s. (f.target s).log;
     ready = λ s. IsReady f s;
     hands = HandsPieces;
-    takes = TakesPieces f;
+    takes = TakesReplies f;
     has = λ s. ¬ (f.held s ≡ None);
     lacks = λ s. (f.held s ≡ None) × ¬ (Begins (grammar_of f s) (rest (f.source s)));
     waits = λ s.

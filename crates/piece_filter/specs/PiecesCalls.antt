@@ -10,23 +10,23 @@ use Rattle.buffer_redux.specs.StreamLog.{StreamLog}
 use Rattle.buffer_redux.specs.WriterLaws.{WritesInOrder-none}
 use Rattle.piece_reader.specs.Decoding.{IsLent, bytes_at}
 use Rattle.piece_reader.specs.Grammar.{Begins, IsOpen}
-use Rattle.piece_reader.specs.NextPiece.{Faulted, NextAnswer, NextPiece, PiecesWent, StaysLeft, empties}
+use Rattle.piece_reader.specs.NextPiece.{Faulted, NextAnswer, NextPiece, PiecesWent, StaysLeft, empty_reads}
 use Rattle.piece_reader.specs.NextPieceLaws.{MetEnd-once}
 use Rattle.piece_reader.specs.PieceReader.{IsPieceReader, rest}
 use Rattle.piece_reader.specs.PiecesWentLaws.{PiecesWent-none}
 use Rattle.piece_reader.specs.StaysLeftLaws.{StaysLeft-went}
 use Rattle.piece_reader.specs.declared.decoder.Span.{Span}
 use Rattle.piece_reader.specs.declared.error.NextError.TheVariants as Why
-use Rattle.forward.specs.Filter.{AskAnswers, Asks, FilterRules, FlushAnswers, Flushes, Passes, StaysOpen}
+use Rattle.forward.specs.Filter.{AskAnswers, FilterAsks, FilterFlushes, FilterPasses, FilterRules, FlushAnswers, StaysOpen}
 use Rattle.forward.specs.Prompt.{WritesOn}
 use Rattle.forward.specs.PromptLaws.{WritesOn-grows, WritesOn-none}
 use Rattle.forward.specs.declared.error.AskError.TheVariants.{Wrong, Io, IoBehind}
 use Rattle.forward.specs.declared.error.AskError.{AskError}
-use Rattle.programs.specs.FlushesLaws.{FlushesOnce-flush}
+use Rattle.programs.specs.FlushesLaws.{SendsByOneFlush-flush}
 use Rattle.programs.specs.PromptLaws.{WritesOn-unflushed}
 use Rattle.programs.specs.Streams.{AllSent}
 use Rattle.programs.specs.TakenIn.{IsStill, IsStill-same, taken_more}
-use Rattle.piece_filter.specs.Pieces.{CanShow, HandsPieces, HasEnded, IsReady, Keeps, Piecewise, TakesPieces, grammar_of, held_at, held_of, piece_rules}
+use Rattle.piece_filter.specs.Pieces.{CanShow, HandsPieces, HasEnded, IsReady, Keeps, Piecewise, TakesReplies, grammar_of, held_at, held_of, piece_rules}
 use Rattle.piece_filter.specs.PiecesLaws.{answers_one, gave_but_failed, hands_nothing, hands_one, none_held, takes_nothing}
 
 -- there is no place
@@ -45,8 +45,8 @@ module _ {T R D X A W E : Type 0} (remaining : R → Option (List ℕ)) (f : Pie
   abbrev pub rules : FilterRules T E
   rules = piece_rules remaining f
 
-  abbrev Next : NextAnswer X → Type 0
-  Next answer = NextPiece remaining (grammar_of f s) (f.source s) answer (f.source t)
+  abbrev NextGives : NextAnswer X → Type 0
+  NextGives answer = NextPiece remaining (grammar_of f s) (f.source s) answer (f.source t)
 
   -- these payloads were taken out, and the stream wasn't asked
   pub record Took (p : List (List ℕ)) : Type 0 where
@@ -89,7 +89,7 @@ module _ {T R D X A W E : Type 0} (remaining : R → Option (List ℕ)) (f : Pie
   none_shown none = subst (CanShow (grammar_of f t) (f.source t)) (sym none) tt
 
   -- a call of the reader leaves one
-  ready_then : (answer : NextAnswer X) → Next answer → CanShow (grammar_of f t) (f.source t) (f.held t) → f.also t
+  ready_then : (answer : NextAnswer X) → NextGives answer → CanShow (grammar_of f t) (f.source t) (f.held t) → f.also t
       → IsReady f t
   ready_then answer next shows also = record {
     whole = subst (λ d. IsPieceReader (f.grammar d) (f.source t)) (sym next.went.decoder) next.whole;
@@ -97,11 +97,11 @@ module _ {T R D X A W E : Type 0} (remaining : R → Option (List ℕ)) (f : Pie
     also = also;
   }
 
-  open_behind : (payload : List ℕ) → Next (Ok (Some payload)) → (f.source s).ended ≡ false
+  open_behind : (payload : List ℕ) → NextGives (Ok (Some payload)) → (f.source s).ended ≡ false
   open_behind payload next = open_piece (Ok None) (f.source s).ended payload refl next.told
 
   -- the next was taken out that was buffered
-  pub took_next : f.held s ≡ None → f.held t ≡ None → f.also t → (payload : List ℕ) → Next (Ok (Some payload))
+  pub took_next : f.held s ≡ None → f.held t ≡ None → f.also t → (payload : List ℕ) → NextGives (Ok (Some payload))
       → (f.source t).reader ≡ (f.source s).reader → Took (payload ∷ [])
   took_next lacks none also payload next same =
       let going = open_behind payload next in
@@ -117,7 +117,8 @@ module _ {T R D X A W E : Type 0} (remaining : R → Option (List ℕ)) (f : Pie
   -- the next one that was buffered is held
   pub took_hold : f.held s ≡ None → (span : Span) → f.held t ≡ Some span → f.also t
       → IsLent (grammar_of f t) (f.source t).handed (f.source t).reader.block.bytes span
-      → Next (Ok (Some (bytes_at span (f.source t).reader.block.bytes))) → (f.source t).reader ≡ (f.source s).reader → Took []
+      → NextGives (Ok (Some (bytes_at span (f.source t).reader.block.bytes))) → (f.source t).reader ≡ (f.source s).reader
+      → Took []
   took_hold lacks span is also lent next same =
       let payload = bytes_at span (f.source t).reader.block.bytes in
       let going = open_behind payload next in
@@ -135,7 +136,7 @@ module _ {T R D X A W E : Type 0} (remaining : R → Option (List ℕ)) (f : Pie
     pub passed : (payload reply : List ℕ) → Took (payload ∷ []) → f.answers (f.service s) payload reply (f.service t)
         → WritesInOrder (f.target s) reply (f.target t) → MetInterrupts (f.target s).log.writes (f.target t).log.writes
         → (0 < length reply) ⊎ (f.drops × (f.sent s → f.sent t))
-        → (length reply ≤ rules.room s → IsStill (f.target s) (f.target t)) → Passes rules s (Ok true) t
+        → (length reply ≤ rules.room s → IsStill (f.target s) (f.target t)) → FilterPasses rules s (Ok true) t
     passed payload reply took is taken met some still = record {
       told = took.told;
       ready = took.leaves;
@@ -163,7 +164,7 @@ module _ {T R D X A W E : Type 0} (remaining : R → Option (List ℕ)) (f : Pie
 
     pub lost : (p : List (List ℕ)) → length p ≤ 1 → Took p → f.service t ≡ f.service s
         → WritesInOrder (f.target s) [] (f.target t) → (e : Error)
-        → SendErrorCaused (f.target s).log.writes (f.target t).log.writes e ⊎ f.refused e t → Passes rules s (Err e) t
+        → SendErrorCaused (f.target s).log.writes (f.target t).log.writes e ⊎ f.refused e t → FilterPasses rules s (Err e) t
     lost p few took same taken e caused = record {
       told = took.told;
       ready = took.leaves;
@@ -186,13 +187,13 @@ module _ {T R D X A W E : Type 0} (remaining : R → Option (List ℕ)) (f : Pie
 
     pub flushed : (f.drops → ¬ (f.sent s)) → (answer : Result (Unit {0}) Error)
         → WasFlushed tells trace (f.target s) answer (f.target t)
-        → ((x : Unit {0}) → answer ≡ Ok x → AllSent (f.target t) → f.sent t) → Flushes rules s answer t
+        → ((x : Unit {0}) → answer ≡ Ok x → AllSent (f.target t) → f.sent t) → FilterFlushes rules s answer t
     flushed unsent answer w sends = record {
       told = took.told;
       ready = took.leaves;
       closed = took.closed;
       writes = WritesOn-grows (f.target s).log.writes (f.target t).log.writes w.grows;
-      flushes = FlushesOnce-flush (f.target s) (f.target t) answer w.steps;
+      flushes = SendsByOneFlush-flush (f.target s) (f.target t) answer w.steps;
       quiet = λ drops sent. absurd (unsent drops sent);
       moves = record { hands = took.hands; takes = takes_nothing remaining f s t same w.in_order };
       lacks = λ lacks. (held ∙ lacks.0, subst (λ m. ¬ (Begins (f.grammar m.decoder) (rest m))) (sym still) lacks.1);
@@ -204,13 +205,13 @@ module _ {T R D X A W E : Type 0} (remaining : R → Option (List ℕ)) (f : Pie
     same : f.target t ≡ f.target s
     same = keeps.target
 
-    taken : TakesPieces f s [] t
+    taken : TakesReplies f s [] t
     taken = takes_nothing remaining f s t keeps.service
         (subst (WritesInOrder (f.target s) []) (sym same) (WritesInOrder-none (f.target s)))
 
     -- none was there
     pub none_passed : f.held t ≡ None → StaysLeft (grammar_of f s) (f.source s) (f.source t)
-        → ¬ (Begins (grammar_of f s) (rest (f.source s))) → Passes rules s (Ok false) t
+        → ¬ (Begins (grammar_of f s) (rest (f.source s))) → FilterPasses rules s (Ok false) t
     none_passed none stays no_piece = record {
       told = ap (λ m. m.reader.log) stays.same;
       ready = record {
@@ -239,9 +240,9 @@ module _ {T R D X A W E : Type 0} (remaining : R → Option (List ℕ)) (f : Pie
 
     -- the reader was asked for the next
     module _ (going : (f.source s).ended ≡ false) where
-      asked : (found : NextAnswer X) → Next found → CanShow (grammar_of f t) (f.source t) (f.held t)
-          → HandsPieces remaining f s [] t → empties (f.source t).reader ≤ empties (f.source s).reader + 1
-          → (answer : Result Bool (AskError E)) → AskAnswers rules s answer t → Asks rules s answer t
+      asked : (found : NextAnswer X) → NextGives found → CanShow (grammar_of f t) (f.source t) (f.held t)
+          → HandsPieces remaining f s [] t → empty_reads (f.source t).reader ≤ empty_reads (f.source s).reader + 1
+          → (answer : Result Bool (AskError E)) → AskAnswers rules s answer t → FilterAsks rules s answer t
       asked found next shows hands once answer answers = record {
         told = ap (λ v. v.log) same;
         ready = ready_then found next shows also;
@@ -257,7 +258,7 @@ module _ {T R D X A W E : Type 0} (remaining : R → Option (List ℕ)) (f : Pie
       }
 
       -- what wasn't buffered was asked for
-      more_asked : ¬ (Begins (grammar_of f s) (rest (f.source s))) → (payload : List ℕ) → Next (Ok (Some payload))
+      more_asked : ¬ (Begins (grammar_of f s) (rest (f.source s))) → (payload : List ℕ) → NextGives (Ok (Some payload))
           → ¬ ((f.source t).reader.log ≡ (f.source s).reader.log)
       more_asked no_piece payload next told =
           let hands = next.went.hands in
@@ -284,7 +285,7 @@ module _ {T R D X A W E : Type 0} (remaining : R → Option (List ℕ)) (f : Pie
       pub asked_more : (span : Span) → f.held t ≡ Some span
           → IsLent (grammar_of f t) (f.source t).handed (f.source t).reader.block.bytes span
           → ¬ (Begins (grammar_of f s) (rest (f.source s)))
-          → Next (Ok (Some (bytes_at span (f.source t).reader.block.bytes))) → Asks rules s (Ok true) t
+          → NextGives (Ok (Some (bytes_at span (f.source t).reader.block.bytes))) → FilterAsks rules s (Ok true) t
       asked_more span is lent no_piece next =
           let payload = bytes_at span (f.source t).reader.block.bytes in
           asked (Ok (Some payload)) next (subst (CanShow (grammar_of f t) (f.source t)) (sym is) lent)
@@ -309,23 +310,24 @@ module _ {T R D X A W E : Type 0} (remaining : R → Option (List ℕ)) (f : Pie
 
       -- no payload came
       module _ (none : f.held t ≡ None) where
-        asked_nothing : (found : NextAnswer X) (next : Next found) → next.bytes ≡ [] → (f.source t).ended ≡ false
-            → empties (f.source t).reader ≤ empties (f.source s).reader + 1
-            → (answer : Result Bool (AskError E)) → AskAnswers rules s answer t → Asks rules s answer t
+        asked_nothing : (found : NextAnswer X) (next : NextGives found) → next.bytes ≡ [] → (f.source t).ended ≡ false
+            → empty_reads (f.source t).reader ≤ empty_reads (f.source s).reader + 1
+            → (answer : Result Bool (AskError E)) → AskAnswers rules s answer t → FilterAsks rules s answer t
         asked_nothing found next is open' once answer answers = asked found next (none_shown none)
             (hands_nothing remaining f s t []
             (subst (λ l. PiecesWent remaining (grammar_of f s).most (f.source s) l (f.source t)) is next.went)
             (none_held remaining f s lacks ∙ sym (none_held remaining f t none)) (open' ∙ sym going))
             once answer answers
 
-        pub asked_none : Next (Ok None) → Asks rules s (Ok false) t
+        pub asked_none : NextGives (Ok None) → FilterAsks rules s (Ok false) t
         asked_none next =
             let a = next.answers in
             let met = MetEnd-once (f.source s) (f.source t) going a.4 in
             asked_nothing (Ok None) next a.0 a.3 (omega (arith, met)) (Ok false)
             ((none, (a.1, inr (omega (arith, met)), omega (arith, met))), a.2)
 
-        pub asked_wrong : (e : X) → Next (Err (Why.Wrong e)) → (why : E) → f.wrong s why t → Asks rules s (Err (Wrong why)) t
+        pub asked_wrong : (e : X) → NextGives (Err (Why.Wrong e)) → (why : E) → f.wrong s why t
+            → FilterAsks rules s (Err (Wrong why)) t
         asked_wrong e next why wrong =
             let a = next.answers in
             asked_nothing (Err (Why.Wrong e)) next a.0 a.2 (elim a.3 [
@@ -334,10 +336,10 @@ module _ {T R D X A W E : Type 0} (remaining : R → Option (List ℕ)) (f : Pie
             ]) (Err (Wrong why)) ((none, wrong), a.1)
 
         -- a read failed, behind bytes that came or none
-        module _ (e : Error) (next : Next (Err (Why.Io e))) where
+        module _ (e : Error) (next : NextGives (Err (Why.Io e))) where
           failed : (answer : Result Bool (AskError E))
               → (rules.waits t → Faulted (f.source s) e (f.source t) → StaysOpen rules s t → AskAnswers rules s answer t)
-              → Asks rules s answer t
+              → FilterAsks rules s answer t
           failed answer answers =
               let a = next.answers in
               asked_nothing (Err (Why.Io e)) next a.0 a.3 (omega (arith, a.4)) answer (answers
@@ -361,17 +363,17 @@ module _ {T R D X A W E : Type 0} (remaining : R → Option (List ℕ)) (f : Pie
                 length-append (rest (f.source s)) hands.got,
               )
 
-          pub asked_idle : length (rest (f.source t)) ≤ length (rest (f.source s)) → Asks rules s (Err (Io e)) t
+          pub asked_idle : length (rest (f.source t)) ≤ length (rest (f.source s)) → FilterAsks rules s (Err (Io e)) t
           asked_idle idle = failed (Err (Io e)) (λ waits fault still. (waits, fault, still, omega (arith, idle, grew, most)))
 
           pub asked_behind : length (rest (f.source s)) < length (rest (f.source t))
-              → length (rest (f.source t)) < (grammar_of f s).most → Asks rules s (Err (IoBehind e)) t
+              → length (rest (f.source t)) < (grammar_of f s).most → FilterAsks rules s (Err (IoBehind e)) t
           asked_behind came few =
               failed (Err (IoBehind e)) (λ waits fault still. (waits, fault, still, omega (arith, came, few, most)))
 
 -- the end is known, and the reader isn't asked
 pub asked_ended : {T R D X A W E : Type 0} (remaining : R → Option (List ℕ)) (f : Piecewise T R D X A W E)
-    {s : T} → IsReady f s → f.held s ≡ None → HasEnded f s → Asks (piece_rules remaining f) s (Ok false) s
+    {s : T} → IsReady f s → f.held s ≡ None → HasEnded f s → FilterAsks (piece_rules remaining f) s (Ok false) s
 asked_ended remaining f {s} ready lacks ended = record {
   told = refl;
   ready = ready;

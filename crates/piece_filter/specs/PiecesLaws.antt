@@ -12,10 +12,10 @@ use Rattle.piece_reader.specs.PieceReader.{ReaderState, rest}
 use Rattle.piece_reader.specs.PiecesWentLaws.{PiecesWent-joins, PiecesWent-none, drop_none}
 use Rattle.piece_reader.specs.Texts.{HasPieces, IsPieces, StartsWith}
 use Rattle.forward.specs.Filter.{AsksSent, FilterRules, IsLawful, Moves, StaysOpen}
-use Rattle.forward.specs.Prompt.{AskedLast, AsksGive}
+use Rattle.forward.specs.Prompt.{AskedLast, AsksGiveOrFail}
 use Rattle.forward.specs.PromptLaws.{AskedLast-after}
 use Rattle.programs.specs.TakenIn.{sent_all, taken_more}
-use Rattle.piece_filter.specs.Pieces.{AnswersAll, HandsPieces, IsSound, IsText, PiecesEnd, Piecewise, TakesPieces, grammar_of, held_at, held_of, piece_rules}
+use Rattle.piece_filter.specs.Pieces.{AnswersAll, HandsPieces, IsCoherent, IsText, PiecesEnd, Piecewise, TakesReplies, grammar_of, held_at, held_of, piece_rules}
 
 -- from an empty buffer on, what was given is what was handed out, and what is left
 pub given_since : {S D : Type 0} (s t : ReaderState S D) (bytes : List ℕ) → s.reader.block.bytes ≡ [] → HandsBytes s bytes t
@@ -25,7 +25,7 @@ given_since s t bytes none hands = hands.given ∙ ap (λ l. s.reader.log.reads.
 
 -- each ask gave a byte, but for the one that failed
 pub gave_but_failed : {S D : Type 0} (Such : List ℕ → Type 0) (s m : ReaderState S D) (e : Error) → AskedWhere Such s m
-    → Faulted s e m → AsksGive s.reader.log m.reader.log
+    → Faulted s e m → AsksGiveOrFail s.reader.log m.reader.log
 gave_but_failed Such s m e (inl same) fault = omega (
   arith,
   ap (λ l. l.reads.asks) same,
@@ -196,20 +196,20 @@ module _ {T R D X A W E : Type 0} (remaining : R → Option (List ℕ)) (f : Pie
     }
 
   -- nothing was taken in
-  pub takes_nothing : (s t : T) → f.service t ≡ f.service s → WritesInOrder (f.target s) [] (f.target t) → TakesPieces f s [] t
+  pub takes_nothing : (s t : T) → f.service t ≡ f.service s → WritesInOrder (f.target s) [] (f.target t) → TakesReplies f s [] t
   takes_nothing s t same order = record { reply = []; answers = (refl, same); in_order = order }
 
-  takes_none : (s : T) → TakesPieces f s [] s
+  takes_none : (s : T) → TakesReplies f s [] s
   takes_none s = takes_nothing s s refl (WritesInOrder-none (f.target s))
 
-  takes_joins : (a b c : T) (p q : List (List ℕ)) → TakesPieces f a p b → TakesPieces f b q c → TakesPieces f a (p ++ q) c
+  takes_joins : (a b c : T) (p q : List (List ℕ)) → TakesReplies f a p b → TakesReplies f b q c → TakesReplies f a (p ++ q) c
   takes_joins a b c p q h k = record {
     reply = h.reply ++ k.reply;
     answers = answers_join f.answers (f.service a) (f.service b) (f.service c) p q h.reply k.reply h.answers k.answers;
     in_order = WritesInOrder-joins (f.target a) (f.target b) (f.target c) h.reply k.reply h.in_order k.in_order;
   }
 
-  module _ (sound : IsSound f) where
+  module _ (sound : IsCoherent f) where
     ends_after : (a b c : T) (p : List (List ℕ)) (how : Result (Unit {0}) E) → HandsPieces remaining f a p b
         → PiecesEnd f b how c → PiecesEnd f a how c
     ends_after a b c p (Ok _) h end = (

@@ -8,8 +8,8 @@ use Rattle.buffer_redux.specs.GrowError.{GrowthFailed}
 use Rattle.buffer_redux.specs.declared.policy.StdPolicy.{StdPolicy}
 
 -- room for so many bytes, or for some of them, was refused where nothing was buffered any more
-abbrev pub IsRefused : {W P : Type 0} → ℕ → Error → Buffered W P → Type 0
-IsRefused count e t = (more : ℕ) × (more ≤ count) × (t.block.bytes ≡ []) × GrowthFailed more t.block e
+abbrev pub IsRoomRefused : {W P : Type 0} → ℕ → Error → Buffered W P → Type 0
+IsRoomRefused count e t = (more : ℕ) × (more ≤ count) × (t.block.bytes ≡ []) × GrowthFailed more t.block e
 
 -- all of these bytes were taken in, or nothing, and nothing was flushed. Where they fit the inner writer isn't called, and else
 -- what was buffered is sent first. The buffer grows only where they are more than its capacity, and then by so many at most, but
@@ -20,7 +20,7 @@ pub record Puts {W : Type 0} (s : Buffered W StdPolicy) (bytes : List ℕ) (answ
   pub met : OnOk answer (MetInterrupts s.log.writes t.log.writes)
   pub fits : length s.block.bytes + length bytes ≤ s.block.capacity → IsOk answer × (t.log ≡ s.log)
   pub full : s.block.capacity < length s.block.bytes + length bytes → OnOk answer (t.block.bytes ≡ bytes)
-  pub caused : IfErr answer (λ e. SendErrorCaused s.log.writes t.log.writes e ⊎ IsRefused (length bytes) e t)
+  pub caused : IfErr answer (λ e. SendErrorCaused s.log.writes t.log.writes e ⊎ IsRoomRefused (length bytes) e t)
   pub kept : length bytes ≤ s.block.capacity → t.block.capacity ≡ s.block.capacity
   pub grown : t.block.capacity ≤ s.block.capacity + length bytes + 4095
   pub limit : t.block.limit ≡ s.block.limit

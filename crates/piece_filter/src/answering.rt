@@ -1,8 +1,8 @@
 //! A filter that answers payloads.
 ghost use Rattle.std.specs.Prelude.{◌≡◌, [], ℕ, List, Some};
-ghost use Rattle.forward.specs.Filter.{Passes};
+ghost use Rattle.forward.specs.Filter.{FilterPasses};
 ghost use Rattle.piece_reader.specs.PieceReader.{IsPieceReader, rest};
-ghost use Rattle.piece_filter.specs.Answering.{Answered, answering};
+ghost use Rattle.piece_filter.specs.Answering.{AnswersOne, answering};
 ghost use Rattle.piece_filter.specs.AnsweringLaws.{answering_lawful};
 ghost use Rattle.piece_filter.specs.Pieces.{IsReady, piece_rules};
 
@@ -26,7 +26,7 @@ pub trait Answer: Drop {
         payload: &[u8],
         writer: &mut BufWriter<W>,
     ) -> io::Result<bool>
-        ensures { Answered answers self.old payload.now writer.old result self.new writer.new };
+        ensures { AnswersOne answers self.old payload.now writer.old result self.new writer.new };
 }
 
 /// A reader of pieces, what answers their payloads, and the writer of what it says: a filter for
@@ -128,7 +128,7 @@ fn pass_held<R: TellRead, D: Decoder, W: TellWrite, S: Answer>(
 ) -> io::Result<bool>
     requires ready { IsReady (answering D.grammar S.answers) filter.old }
     requires held { filter.old.held ≡ Some span }
-    ensures { Passes (piece_rules R.remaining (answering D.grammar S.answers)) filter.old result filter.new }
+    ensures { FilterPasses (piece_rules R.remaining (answering D.grammar S.answers)) filter.old result filter.new }
 {
     let payload = filter.source.lent(span);
     match filter.service.answer(payload, &mut filter.target) {

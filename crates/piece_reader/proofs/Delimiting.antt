@@ -5,7 +5,7 @@ use Rattle.std.proofs.lemmas.List.{take_all}
 use Rattle.piece_reader.specs.Decoding.{IsPiece}
 use Rattle.piece_reader.specs.Delimited.{delimited}
 use Rattle.piece_reader.specs.DelimitedLaws.{open_plain, plain_open}
-use Rattle.piece_reader.specs.Grammar.{IsOpen, Lacks}
+use Rattle.piece_reader.specs.Grammar.{IsOpen, IsOpenBelow}
 use Rattle.piece_reader.specs.GrammarLaws.{lacks_one}
 use Rattle.piece_reader.specs.Plain.{EndsAt, IsPlain}
 
@@ -39,7 +39,7 @@ module _ (end max : ℕ) (bytes : List ℕ) where
         (above, subst (λ n. IsPlain end (take n bytes)) count plain, refl)
 
     pub wants_one : length bytes ≤ max → (length bytes < 1 + length bytes) × (1 + length bytes ≤ 1 + max)
-        × Lacks (delimited end max) (1 + length bytes) bytes
+        × IsOpenBelow (delimited end max) (1 + length bytes) bytes
     wants_one few =
         let whole : IsPlain end bytes = subst (IsPlain end) (take_all to bytes (omega (arith, is, few))) plain in
         (omega arith, omega (arith, few), lacks_one (delimited end max) bytes (plain_open end max bytes whole few))

@@ -1,7 +1,7 @@
 -- What a call of a reader of pieces has done so far, turn by turn.
 use Rattle.std.proofs.Common.{◌≡◌, ℕ, ◌<◌, List, [], ◌++◌, length, Bool, true, refl, sym, ap, ◌∙◌, arith, inl, inr, append_assoc, length-append, Option, Result, Ok}
 use Rattle.std.specs.declared.io.Error.{Error}
-use Rattle.piece_reader.specs.Grammar.{Grammar, IsOpen, Lacks}
+use Rattle.piece_reader.specs.Grammar.{Grammar, IsOpen, IsOpenBelow}
 use Rattle.piece_reader.specs.GrammarLaws.{open_with}
 use Rattle.piece_reader.specs.NextPiece.{AsksGive, PiecesWent, AskedWhere, NoFault, NoEnd}
 use Rattle.piece_reader.specs.NextPieceLaws.{AskedWhere-told}
@@ -49,7 +49,7 @@ module _ {S D W : Type 0} (remaining : S → Option (List ℕ)) (g : Grammar W) 
     }
 
     -- behind a header the stream was asked until so many bytes are there
-    module _ (n : ℕ) (lacks : Lacks g n (rest m)) (answer : Result Bool Error) (t : ReaderState S D)
+    module _ (n : ℕ) (lacks : IsOpenBelow g n (rest m)) (answer : Result Bool Error) (t : ReaderState S D)
         (a : AsksFor remaining g n m answer t) where
       pub went_on : PiecesWent remaining g.most s [] t
       went_on = PiecesWent-joins remaining g.most s m t [] [] h.went a.went
@@ -88,7 +88,7 @@ module _ {S D W : Type 0} (remaining : S → Option (List ℕ)) (g : Grammar W) 
       pub still_open : length (rest t) < n → IsOpen g (rest t)
       still_open few = open_with g n (rest m) a.went.hands.got (rest t) a.went.hands.equal few lacks
 
-    pub HeaderBytes-more : (n : ℕ) → Lacks g n (rest m) → (t : ReaderState S D) → AsksFor remaining g n m (Ok true) t
+    pub HeaderBytes-more : (n : ℕ) → IsOpenBelow g n (rest m) → (t : ReaderState S D) → AsksFor remaining g n m (Ok true) t
         → HeaderBytes remaining g s t
     HeaderBytes-more n lacks t a = record {
       went = went_on n lacks (Ok true) t a;

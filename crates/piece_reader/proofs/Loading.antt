@@ -9,7 +9,7 @@ use Rattle.piece_reader.specs.declared.decoder.Span.{Span}
 use Rattle.piece_reader.specs.declared.error.NextError.{NextError}
 use Rattle.piece_reader.specs.declared.error.NextError.TheVariants.{Wrong, Io}
 use Rattle.piece_reader.specs.Decoding.{bytes_at}
-use Rattle.piece_reader.specs.Grammar.{Grammar, IsLawful, IsOpen, Lacks}
+use Rattle.piece_reader.specs.Grammar.{Grammar, IsLawful, IsOpen, IsOpenBelow}
 use Rattle.piece_reader.specs.NextPiece.{load_answer, AsksGive, AskedWhere, NextAnswer, NextPiece, MetEnd, NoEnd, PiecesWent, StaysLooked}
 use Rattle.piece_reader.specs.NextPieceLaws.{AskedWhere-told, MetEnd-joins, MetEnd-once, seen_inside, still_going}
 use Rattle.piece_reader.specs.PiecesWentLaws.{PiecesWent-joins, PiecesWent-inside}
@@ -34,7 +34,7 @@ pub record LoadHead {S D W : Type 0} (remaining : S → Option (List ℕ)) (g : 
   pub handed : m.handed ≡ 0
   pub few : length (rest m) < need
   pub most : need ≤ g.most
-  pub lacks : Lacks g need (rest m)
+  pub lacks : IsOpenBelow g need (rest m)
   pub start : s.seen ≡ length (rest s)
   pub seen : m.seen ≡ length (rest m)
   pub whole : IsPieceReader g m
@@ -151,7 +151,7 @@ module _ {S D W : Type 0} (remaining : S → Option (List ℕ)) (g : Grammar W) 
             need = need;
             most = h.most;
             few = few;
-            lacks = subst (Lacks g need)
+            lacks = subst (IsOpenBelow g need)
                 (sym (ap (λ n. take n (rest t)) (a.seen ∙ h.seen)
                 ∙ ap (take (length (rest m))) a.went.hands.equal ∙ take-append_seam (rest m) a.went.hands.got)) h.lacks;
           };

@@ -6,7 +6,7 @@ use Rattle.memchr.specs.Find.{FindsNeedle, Nowhere, OccursAt}
 use Rattle.std.specs.Prelude.{None, Some}
 use Rattle.buffer_redux.specs.OccursLaws.{OccursAt-behind, OccursAt-fewer, OccursAt-later, OccursAt-more, OccursAt-take}
 use Rattle.piece_reader.specs.Decoding.{IsPiece}
-use Rattle.piece_reader.specs.Grammar.{Lacks}
+use Rattle.piece_reader.specs.Grammar.{IsOpenBelow}
 use Rattle.piece_reader.specs.GrammarLaws.{lacks_one}
 use Rattle.piece_reader.specs.Terminated.{IsSearched, terminated}
 use Rattle.piece_reader.specs.TerminatedLaws.{terminated_open}
@@ -102,7 +102,7 @@ module _ (end : List ℕ) where
       too_many many = (many, λ k low high occurs. nowhere k (omega (arith, high, is, many)) occurs, refl)
 
       pub wants_byte : length bytes < max + length end → (length bytes < 1 + length bytes) × (1 + length bytes ≤ max + length end)
-          × Lacks (terminated end max) (1 + length bytes) bytes
+          × IsOpenBelow (terminated end max) (1 + length bytes) bytes
       wants_byte few = (
         omega arith,
         omega (arith, few),

@@ -5,7 +5,7 @@ use Rattle.piece_reader.specs.declared.decoder.End.TheVariants as end
 use Rattle.piece_reader.specs.declared.decoder.Found.{Found}
 use Rattle.piece_reader.specs.declared.decoder.Found.TheVariants.{Piece, More, Wrong}
 use Rattle.piece_reader.specs.declared.decoder.Span.{Span}
-use Rattle.piece_reader.specs.Grammar.{Grammar, IsOpen, Lacks}
+use Rattle.piece_reader.specs.Grammar.{Grammar, IsOpen, IsOpenBelow}
 
 -- the bytes there
 abbrev pub bytes_at : Span → List ℕ → List ℕ
@@ -31,7 +31,7 @@ pub record IsLent {W : Type 0} (g : Grammar W) (handed : ℕ) (bytes : List ℕ)
 -- what each answer of `decode` means
 abbrev pub Decodes : {W : Type 0} → Grammar W → List ℕ → Found W → Type 0
 Decodes g bytes (Piece span used) = IsPiece g bytes span used
-Decodes g bytes (More n) = (length bytes < n) × (n ≤ g.most) × Lacks g n bytes
+Decodes g bytes (More n) = (length bytes < n) × (n ≤ g.most) × IsOpenBelow g n bytes
 Decodes g bytes (Wrong e) = g.wrong bytes e
 
 -- a fact where the answer settles nothing
@@ -41,6 +41,6 @@ OnMore (More n) P = P
 OnMore (Wrong e) P = Unit {0}
 
 -- what each answer of `at_end` means
-abbrev pub Ends : {W : Type 0} → Grammar W → List ℕ → End W → Type 0
-Ends g bytes (end.Last span) = (span.from + span.len ≤ length bytes) × g.last bytes (bytes_at span bytes)
-Ends g bytes (end.Wrong e) = g.cut bytes e
+abbrev pub DecodesAtEnd : {W : Type 0} → Grammar W → List ℕ → End W → Type 0
+DecodesAtEnd g bytes (end.Last span) = (span.from + span.len ≤ length bytes) × g.last bytes (bytes_at span bytes)
+DecodesAtEnd g bytes (end.Wrong e) = g.cut bytes e

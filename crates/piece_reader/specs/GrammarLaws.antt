@@ -4,7 +4,7 @@ use Rattle.std.proofs.Common.{sym, ap, subst, ◌∙◌, arith, refl, length-app
 use Rattle.std.proofs.lemmas.List.{nil_from_length, take-append-drop}
 use Rattle.piece_reader.specs.declared.decoder.Span.{Span}
 use Rattle.piece_reader.specs.Decoding.{IsPiece, bytes_at}
-use Rattle.piece_reader.specs.Grammar.{Grammar, Begins, IsLawful, IsOpen, Lacks}
+use Rattle.piece_reader.specs.Grammar.{Grammar, Begins, IsLawful, IsOpen, IsOpenBelow}
 
 take_zero : (bytes : List ℕ) → take 0 bytes ≡ []
 take_zero [] = refl
@@ -32,18 +32,18 @@ module _ {W : Type 0} (g : Grammar W) where
   open_take law bytes = subst (IsOpen g) (sym (take_zero bytes)) (open_none law)
 
   -- what lacks bytes is open
-  pub open_of : (n : ℕ) (bytes : List ℕ) → length bytes < n → Lacks g n bytes → IsOpen g bytes
+  pub open_of : (n : ℕ) (bytes : List ℕ) → length bytes < n → IsOpenBelow g n bytes → IsOpen g bytes
   open_of n bytes few lacks =
       let same = append-nil bytes in
       subst (IsOpen g) same (lacks [] (omega (arith, few, ap length same)))
 
   -- what comes of what lacks bytes is open, while it is too short
-  pub open_with : (n : ℕ) (bytes more all : List ℕ) → all ≡ bytes ++ more → length all < n → Lacks g n bytes → IsOpen g all
+  pub open_with : (n : ℕ) (bytes more all : List ℕ) → all ≡ bytes ++ more → length all < n → IsOpenBelow g n bytes → IsOpen g all
   open_with n bytes more all is few lacks =
       subst (IsOpen g) (sym is) (lacks more (omega (arith, few, ap length is)))
 
   -- what is open lacks a byte
-  pub lacks_one : (bytes : List ℕ) → IsOpen g bytes → Lacks g (1 + length bytes) bytes
+  pub lacks_one : (bytes : List ℕ) → IsOpen g bytes → IsOpenBelow g (1 + length bytes) bytes
   lacks_one bytes is more few =
       let none : more ≡ [] = nil_from_length more (omega (arith, few, length-append bytes more)) in
       subst (IsOpen g) (sym (ap (λ l. bytes ++ l) none ∙ append-nil bytes)) is

@@ -8,7 +8,7 @@ use Rattle.piece_reader.specs.declared.header.Header.TheVariants.{Short, Sized, 
 use Rattle.piece_reader.specs.declared.header_error.HeaderError.{HeaderError}
 use Rattle.piece_reader.specs.declared.header_error.HeaderError.TheVariants.{NoHeader, NoTail, TooLong, Truncated}
 use Rattle.piece_reader.specs.Decoding.{IsPiece}
-use Rattle.piece_reader.specs.Grammar.{IsLawful, Lacks}
+use Rattle.piece_reader.specs.Grammar.{IsLawful, IsOpenBelow}
 use Rattle.piece_reader.specs.HeaderFormat.{BeginsNone, HeaderFormat, IsHeaderFormat, length_prefixed}
 
 sized_same : (n u n' u' : ℕ) (x : Header) → x ≡ Sized n u → x ≡ Sized n' u' → (n ≡ n') × (u ≡ u')
@@ -122,7 +122,7 @@ module _ (h : HeaderFormat) (law : IsHeaderFormat h) where
 
   -- where the rest isn't
   pub sized_lacks : (bytes : List ℕ) (len used : ℕ) → h.header bytes ≡ Sized len used → len ≤ h.max
-      → Lacks (length_prefixed h) (used + len + length h.tail) bytes
+      → IsOpenBelow (length_prefixed h) (used + len + length h.tail) bytes
   sized_lacks bytes len used is fits more few = record {
     no_piece = λ b.
         let says = ap h.header b.equal ∙ said b.piece b.payload b.more b.is in

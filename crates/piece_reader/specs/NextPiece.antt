@@ -10,7 +10,7 @@ use Rattle.piece_reader.specs.declared.decoder.Span.{Span}
 use Rattle.piece_reader.specs.declared.error.NextError.{NextError}
 use Rattle.piece_reader.specs.declared.error.NextError.TheVariants.{Wrong, Io}
 use Rattle.piece_reader.specs.Decoding.{bytes_at}
-use Rattle.piece_reader.specs.Grammar.{Begins, Grammar, IsOpen, Lacks}
+use Rattle.piece_reader.specs.Grammar.{Begins, Grammar, IsOpen, IsOpenBelow}
 use Rattle.piece_reader.specs.PieceReader.{ReaderState, IsPieceReader, rest}
 
 -- these bytes, then what is left, are what was left, then what was given since
@@ -56,8 +56,8 @@ abbrev pub Faulted : {S D : Type 0} → ReaderState S D → Error → ReaderStat
 Faulted s e t = t.reader.log.reads.faults ≡ s.reader.log.reads.faults ++ e ∷ []
 
 -- how often the reader gave nothing so far though it was asked for something
-abbrev pub empties : {S P : Type 0} → Buffered S P → ℕ
-empties s = s.log.reads.zero_reads
+abbrev pub empty_reads : {S P : Type 0} → Buffered S P → ℕ
+empty_reads s = s.log.reads.zero_reads
 
 -- each ask of the reader since gave a byte
 abbrev pub AsksGive : {S D : Type 0} → ReaderState S D → ReaderState S D → Type 0
@@ -67,11 +67,11 @@ AsksGive s t =
 
 -- the reader never gave nothing
 abbrev pub NoEnd : {S D : Type 0} → ReaderState S D → ReaderState S D → Type 0
-NoEnd s t = empties t.reader ≡ empties s.reader
+NoEnd s t = empty_reads t.reader ≡ empty_reads s.reader
 
 -- the reader gave nothing once, and wasn't asked again; or it had before, which no call had told yet, and wasn't asked
 abbrev pub MetEnd : {S D : Type 0} → ReaderState S D → ReaderState S D → Type 0
-MetEnd s t = MatchBool s.ended (NoEnd s t) (empties t.reader ≡ empties s.reader + 1)
+MetEnd s t = MatchBool s.ended (NoEnd s t) (empty_reads t.reader ≡ empty_reads s.reader + 1)
 
 -- what a call of `next` answers: a payload, `None` at the end, or why there is no piece
 abbrev pub NextAnswer : Type 0 → Type 0
@@ -103,7 +103,7 @@ pub record ShowsOpen {W : Type 0} (g : Grammar W) (seen : ℕ) (bytes : List ℕ
   pub need : ℕ
   pub most : need ≤ g.most
   pub few : length bytes < need
-  pub lacks : Lacks g need (take seen bytes)
+  pub lacks : IsOpenBelow g need (take seen bytes)
 
 -- what was looked at stays so; all that was left was looked at where it settled nothing; and where what is left settles nothing,
 -- what was looked at of it shows that. So none of it is looked at again before more comes

@@ -7,7 +7,7 @@ use Rattle.std.proofs.lemmas.List.{append_cancel_left, take_all, take-append-le}
 use Rattle.piece_reader.specs.declared.error.NextError.TheVariants.{Wrong, Io}
 use Rattle.piece_reader.specs.Grammar.{Begins, Grammar, IsLawful, IsOpen}
 use Rattle.piece_reader.specs.GrammarLaws.{open_not}
-use Rattle.piece_reader.specs.NextPiece.{AskedWhere, AsksNone, MetEnd, NextAnswer, NextAnswers, NextPiece, NoEnd, empties}
+use Rattle.piece_reader.specs.NextPiece.{AskedWhere, AsksNone, MetEnd, NextAnswer, NextAnswers, NextPiece, NoEnd, empty_reads}
 use Rattle.piece_reader.specs.PiecesWentLaws.{PiecesWent-none, PiecesWent-unasked}
 use Rattle.piece_reader.specs.PieceReader.{ReaderState, IsPieceReader, IsSettled, rest}
 
@@ -121,18 +121,18 @@ AskedWhere-told Such s m t told (inr over) = inr (record {
 -- an end of the stream that was met: before, which no call had told yet, or now
 module _ {S D : Type 0} (s t : ReaderState S D) where
   abbrev End : Bool → Type 0
-  End before = MatchBool before (NoEnd s t) (empties t.reader ≡ empties s.reader + 1)
+  End before = MatchBool before (NoEnd s t) (empty_reads t.reader ≡ empty_reads s.reader + 1)
 
   pub MetEnd-before : s.ended ≡ true → NoEnd s t → MetEnd s t
   MetEnd-before is = subst End (sym is)
 
-  pub MetEnd-now : s.ended ≡ false → empties t.reader ≡ empties s.reader + 1 → MetEnd s t
+  pub MetEnd-now : s.ended ≡ false → empty_reads t.reader ≡ empty_reads s.reader + 1 → MetEnd s t
   MetEnd-now is = subst End (sym is)
 
   pub MetEnd-told : s.ended ≡ true → MetEnd s t → NoEnd s t
   MetEnd-told is = subst End is
 
-  pub MetEnd-once : s.ended ≡ false → MetEnd s t → empties t.reader ≡ empties s.reader + 1
+  pub MetEnd-once : s.ended ≡ false → MetEnd s t → empty_reads t.reader ≡ empty_reads s.reader + 1
   MetEnd-once is = subst End is
 
 -- one that was met by the last of some calls, where the others met none, was met by them all

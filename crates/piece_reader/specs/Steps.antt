@@ -7,7 +7,7 @@ use Rattle.piece_reader.specs.declared.decoder.Span.{Span}
 use Rattle.piece_reader.specs.declared.error.NextError.{NextError}
 use Rattle.piece_reader.specs.declared.error.NextError.TheVariants.{Wrong, Io}
 use Rattle.piece_reader.specs.Decoding.{IsPiece, bytes_at}
-use Rattle.piece_reader.specs.Grammar.{Grammar, Lacks}
+use Rattle.piece_reader.specs.Grammar.{Grammar, IsOpenBelow}
 use Rattle.piece_reader.specs.NextPiece.{AsksGive, PiecesWent, AskedWhere, NoFault, Faulted, NoEnd, MetEnd}
 use Rattle.piece_reader.specs.PieceReader.{ReaderState, IsPieceReader, rest}
 
@@ -15,7 +15,7 @@ use Rattle.piece_reader.specs.PieceReader.{ReaderState, IsPieceReader, rest}
 abbrev pub Takes : {S D W : Type 0} → Grammar W → ReaderState S D → Found W → ReaderState S D → Type 0
 Takes g s (found.Piece span used) t = IsPiece g (rest s) span used × (t ≡ record s { handed = s.handed + used; seen = 0 })
 Takes g s (found.More need) t =
-    (length (rest s) < need) × (need ≤ g.most) × Lacks g need (rest s) × (t ≡ record s { seen = length (rest s) })
+    (length (rest s) < need) × (need ≤ g.most) × IsOpenBelow g need (rest s) × (t ≡ record s { seen = length (rest s) })
 Takes g s (found.Wrong e) t = g.wrong (rest s) e × (t ≡ s)
 
 -- the stream was asked until n bytes are left, unless it has ended; nothing else was done

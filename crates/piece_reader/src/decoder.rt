@@ -1,7 +1,7 @@
 //! What a protocol says.
 ghost use Rattle.std.specs.Prelude.{◌≡◌, ℕ, ◌<◌, ◌≤◌, List, [], length, take};
 ghost use Rattle.piece_reader.specs.Grammar.{Grammar, IsLawful, IsOpen};
-ghost use Rattle.piece_reader.specs.Decoding.{Decodes, Ends, OnMore};
+ghost use Rattle.piece_reader.specs.Decoding.{Decodes, DecodesAtEnd, OnMore};
 
 /// A place in bytes, and how many bytes stand from it on.
 #[derive(Clone, Copy, Debug, Drop)]
@@ -67,7 +67,7 @@ pub trait Decoder: Drop {
     fn at_end(&self, bytes: &[u8]) -> End<Self::Wrong>
         requires some { 0 < length bytes.now }
         requires open { IsOpen (grammar self.now) bytes.now }
-        ensures { Ends (grammar self.now) bytes.now result };
+        ensures { DecodesAtEnd (grammar self.now) bytes.now result };
 
     // No piece begins another, and the beginning of none begins no piece.
     ghost lawful: { (d : Self) → IsLawful (grammar d) };

@@ -8,7 +8,7 @@ ghost use Rattle.buffer_redux.specs.MakeError.{growth};
 ghost use Rattle.piece_reader.specs.contracts.reader.PieceReader.{the_row};
 ghost use Rattle.piece_reader.specs.declared.error.NextError.TheVariants.{Wrong};
 ghost use Rattle.piece_reader.specs.Decoding.{IsLent, bytes_at};
-ghost use Rattle.piece_reader.specs.Grammar.{Begins, Lacks};
+ghost use Rattle.piece_reader.specs.Grammar.{Begins, IsOpenBelow};
 ghost use Rattle.piece_reader.specs.PieceReader.{IsOver, IsPieceReader, IsFresh, IsSettled, Skips, TakenApart, rest, room_for};
 ghost use Rattle.piece_reader.specs.NextPiece.{HandsBytes, NextBuffered, NextPiece, Refills, buffered_answer, load_answer};
 
@@ -388,7 +388,7 @@ impl<R: TellRead, D: Decoder> PieceReader<R, D> {
     pub fn step_on(&mut self, need: usize) -> Result<Option<Span>, NextError<D::Wrong>>
         requires few { length (rest self.old) < need }
         requires most { need ≤ (D.grammar self.old.decoder).most }
-        requires lacks { Lacks (D.grammar self.old.decoder) need (rest self.old) }
+        requires lacks { IsOpenBelow (D.grammar self.old.decoder) need (rest self.old) }
         requires looked { self.old.seen ≡ length (rest self.old) }
         ensures lends { IfOk result (λ found. IfSome found
             (IsLent (D.grammar self.new.decoder) self.new.handed self.new.reader.block.bytes)) }

@@ -4,8 +4,8 @@ use Rattle.buffer_redux.specs.Buffered.{Buffered}
 pub use Rattle.forward.specs.Flushes.{FlushesSend}
 
 -- the writer was flushed once at most, and all that was buffered had been received then
-abbrev pub FlushesOnce : {W P : Type 0} → Buffered W P → Buffered W P → Type 0
-FlushesOnce u v =
+abbrev pub SendsByOneFlush : {W P : Type 0} → Buffered W P → Buffered W P → Type 0
+SendsByOneFlush u v =
     (v.log.writes.flushes ≡ u.log.writes.flushes)
     ⊎ ((v.log.writes.flushes ≡ u.log.writes.flushes + 1)
     × (length u.log.writes.received + length u.block.bytes ≤ length v.log.writes.received))

@@ -5,18 +5,18 @@ use Rattle.buffer_redux.specs.BufWriter.{Flushes}
 use Rattle.buffer_redux.specs.Buffered.{Buffered}
 use Rattle.buffer_redux.specs.StreamLog.{after_flush}
 use Rattle.buffer_redux.specs.Transfer.{Sends}
-use Rattle.programs.specs.Flushes.{FlushesOnce}
+use Rattle.programs.specs.Flushes.{SendsByOneFlush}
 
 module _ {W P : Type 0} where
   -- one flush
-  pub FlushesOnce-flush : (u v : Buffered W P) (answer : Result (Unit {0}) Error) → Flushes u answer v → FlushesOnce u v
-  FlushesOnce-flush u v answer flushes = once flushes.sending flushes.sends flushes.ended
+  pub SendsByOneFlush-flush : (u v : Buffered W P) (answer : Result (Unit {0}) Error) → Flushes u answer v → SendsByOneFlush u v
+  SendsByOneFlush-flush u v answer flushes = once flushes.sending flushes.sends flushes.ended
     where
       once : (sending : Result (Unit {0}) Error)
           → Sends (length u.block.bytes) u.block u.log sending v.block flushes.sent_log
           → MatchResult sending (λ _. v.log ≡ after_flush flushes.sent_log answer)
           (λ e. (answer ≡ Err e) × (v.log ≡ flushes.sent_log))
-          → FlushesOnce u v
+          → SendsByOneFlush u v
       once (Ok _) sends told = inr (
         omega (arith, sends.sent.flushes, ap (λ l. l.writes.flushes) told),
         omega (
@@ -33,7 +33,7 @@ module _ {W P : Type 0} where
 -- a flush is one at most
 pub flushed_once : {W P : Type 0} (u v : Buffered W P) (answer : Result (Unit {0}) Error) → Flushes u answer v
     → v.log.writes.flushes ≤ u.log.writes.flushes + 1
-flushed_once u v answer flushes = elim (FlushesOnce-flush u v answer flushes) [
+flushed_once u v answer flushes = elim (SendsByOneFlush-flush u v answer flushes) [
   | inl same ↦ omega (arith, same)
   | inr once ↦ omega (arith, once.0)
 ]

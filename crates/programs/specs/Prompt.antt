@@ -1,2 +1,2 @@
 -- Runs that hold nothing back, in the words of `forward`.
-pub use Rattle.forward.specs.Prompt.{AskedLast, WasSent, SentBeforeAsking, HoldsNothingBack, AsksGive, WritesOn}
+pub use Rattle.forward.specs.Prompt.{AskedLast, WasDelivered, SentBeforeAsking, HoldsNothingBack, AsksGiveOrFail, WritesOn}

@@ -6,7 +6,7 @@ use Rattle.std.specs.declared.io.ErrorKind.TheVariants.{Other, OutOfMemory}
 use Rattle.buffer_redux.specs.Block.{Block, Kind, Plain, Ring, round}
 use Rattle.buffer_redux.specs.Buffered.{Buffered}
 use Rattle.buffer_redux.specs.StreamLog.{StreamLog}
-pub use Rattle.forward.specs.Streams.{MetNoFault, ReadGaveUp, ReadFailed, SendFailed, EndsOnce}
+pub use Rattle.forward.specs.Streams.{MetNoFault, ReadGaveUp, ReadFailed, WriterFailed, EndsOnce}
 
 -- as many pieces went over as the run counts
 pub record OverCount (e : Error) (count : ℕ) (read read' written written' : StreamLog) : Type 0 where
@@ -23,12 +23,12 @@ abbrev pub capacity_asked : Bool → ℕ → ℕ
 capacity_asked ring cap = if ring then round cap else cap
 
 -- an empty buffer, of this capacity at least
-pub record IsFresh (cap : ℕ) (b : Block) : Type 0 where
+pub record IsEmptyBuffer (cap : ℕ) (b : Block) : Type 0 where
   pub bytes : b.bytes ≡ []
   pub capacity : cap ≤ b.capacity
 
 -- a buffer was refused before either stream was called
-pub record BufferRefused (e : Error) (read read' written written' : StreamLog) : Type 0 where
+pub record RefusedBeforeCalls (e : Error) (read read' written written' : StreamLog) : Type 0 where
   pub memory : error_kind e ≡ OutOfMemory
   pub read_same : read' ≡ read
   pub written_same : written' ≡ written
@@ -38,10 +38,10 @@ abbrev pub GaveNothing : StreamLog → StreamLog → Type 0
 GaveNothing read read' = read.reads.zero_reads < read'.reads.zero_reads
 
 -- what was received has been flushed
-abbrev pub AllFlushed : StreamLog → Type 0
-AllFlushed written = written.writes.flushed ≡ written.writes.received
+abbrev pub ReceivedFlushed : StreamLog → Type 0
+ReceivedFlushed written = written.writes.flushed ≡ written.writes.received
 
 -- all that was taken in was received and flushed
 pub record AllSent {W P : Type 0} (v : Buffered W P) : Type 0 where
   pub empty : v.block.bytes ≡ []
-  pub flushed : AllFlushed v.log
+  pub flushed : ReceivedFlushed v.log

@@ -4,7 +4,7 @@ use Rattle.buffer_redux.specs.BufWriter.{WritesInOrder}
 use Rattle.buffer_redux.specs.Buffered.{Buffered}
 use Rattle.buffer_redux.specs.GoesOn.{GoesOn, GoesOn-none}
 use Rattle.buffer_redux.specs.WriterLaws.{WritesInOrder-fresh}
-use Rattle.programs.specs.Prompt.{WasSent}
+use Rattle.programs.specs.Prompt.{WasDelivered}
 use Rattle.programs.specs.Streams.{AllSent}
 
 -- how many bytes it is
@@ -27,8 +27,8 @@ module _ {W P : Type 0} (u v : Buffered W P) (accepted : List ℕ) (taken : Writ
         sym (append-nil v.log.writes.received) ∙ ap (λ l. v.log.writes.received ++ l) (sym sent.empty)
         ∙ WritesInOrder-fresh u v accepted none taken
 
-    pub sent_all : WasSent (u.log.writes.received ++ accepted) v.log.writes
-    sent_all = subst (λ l. WasSent l v.log.writes) received_all (record {
+    pub sent_all : WasDelivered (u.log.writes.received ++ accepted) v.log.writes
+    sent_all = subst (λ l. WasDelivered l v.log.writes) received_all (record {
       received = GoesOn-none v.log.writes.received;
       flushed = subst (λ l. GoesOn l v.log.writes.flushed) sent.flushed (GoesOn-none v.log.writes.flushed);
     })

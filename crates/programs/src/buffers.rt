@@ -3,7 +3,7 @@ ghost use Rattle.std.specs.Prelude.{◌≡◌, ◌+◌, ◌<◌, ◌≤◌, [], 
 ghost use Rattle.buffer_redux.specs.Block.{IsNew, Plain, usable};
 ghost use Rattle.buffer_redux.specs.BufWriter.{WritesInOrder};
 ghost use Rattle.buffer_redux.specs.Faults.{IsInterrupt, MetInterrupts, SendErrorCaused, interrupt_limit};
-ghost use Rattle.programs.specs.Streams.{BufferRefused, capacity_asked, kind_asked};
+ghost use Rattle.programs.specs.Streams.{RefusedBeforeCalls, capacity_asked, kind_asked};
 
 use buffer_redux::tell::{TellRead, TellWrite};
 use buffer_redux::{BufReader, BufWriter, GrowError, MakeError};
@@ -31,7 +31,7 @@ pub fn buffered<R: TellRead, W: TellWrite>(
     ensures writer { IfOk result (λ b. b.1.inner ≡ writer) }
     ensures read { IfOk result (λ b. b.0.log ≡ R.log reader) }
     ensures written { IfOk result (λ b. b.1.log ≡ W.log writer) }
-    ensures refused { IfErr result (λ e. BufferRefused e.0 (R.log reader) (R.log e.1) (W.log writer) (W.log e.2)) }
+    ensures refused { IfErr result (λ e. RefusedBeforeCalls e.0 (R.log reader) (R.log e.1) (W.log writer) (W.log e.2)) }
 {
     let source = match buffered_reader(alloc, ring, capacities.0, reader) {
         Ok(source) => source,

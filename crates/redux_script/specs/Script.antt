@@ -24,11 +24,11 @@ pub record Plan : Type 0 where
   pub answers : List Answer
 
 -- the next answer, and what is left after it
-pub record Step : Type 0 where
+pub record NextReply : Type 0 where
   pub reply : Reply
   pub left : Plan
 
-abbrev pub step_from : ℕ → ℕ → List Answer → Step
+abbrev pub step_from : ℕ → ℕ → List Answer → NextReply
 step_from (suc k) most answers = record
     { reply = Fails Interrupted; left = record { interrupts = k; most = most; answers = answers } }
 step_from zero most [] = record { reply = Serves most; left = record { interrupts = 0; most = most; answers = [] } }
@@ -73,8 +73,8 @@ reader_progress r = progress_of r.script
 abbrev pub served_count : ScriptReader → ℕ
 served_count r = r.served
 
-abbrev pub bytes_left : ScriptReader → List ℕ
-bytes_left r = drop r.served r.bytes.items
+abbrev pub unserved_bytes : ScriptReader → List ℕ
+unserved_bytes r = drop r.served r.bytes.items
 
 -- what contracts see of a `ScriptWriter`: its progress, the bytes that it took, and how often it was flushed
 abbrev pub writer_progress : ScriptWriter → Progress

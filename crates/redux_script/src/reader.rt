@@ -30,11 +30,11 @@ pub struct ScriptReader {
 }
 
 impl ScriptReader {
-    ghost use Rattle.redux_script.specs.Script.{reader_progress, served_count, bytes_left};
+    ghost use Rattle.redux_script.specs.Script.{reader_progress, served_count, unserved_bytes};
 
     /// A reader of `bytes` that answers by `answers`. Fails where memory is refused.
     pub fn new(alloc: Global, bytes: &[u8], answers: &[Answer]) -> Result<Self, AllocError>
-        ensures bytes { IfOk result (λ r. bytes_left r ≡ bytes.now) }
+        ensures bytes { IfOk result (λ r. unserved_bytes r ≡ bytes.now) }
         ensures served { IfOk result (λ r. served_count r ≡ 0) }
         ensures offers { IfOk result (λ r. (reader_progress r).offers ≡ []) }
         ensures plan { IfOk result (λ r. (reader_progress r).plan
@@ -64,18 +64,18 @@ impl ScriptReader {
 
 // The bytes that are left are not told as `remaining`, since an answer `Ok(0)` need not be the end.
 impl Read for ScriptReader {
-    ghost use Rattle.redux_script.specs.Script.{Answers, RunsOut, reader_progress, served_count, bytes_left};
+    ghost use Rattle.redux_script.specs.Script.{Answers, RunsOut, reader_progress, served_count, unserved_bytes};
 
     fn read(&mut self, buf: &mut [u8]) -> io::Result<usize>
         ensures bound { ReadsAtMost result buf.new }
         ensures bytes { ReadConsumes None None result buf.new }
         ensures called { Answers (reader_progress self.old) (length buf.old)
-            (min (length (bytes_left self.old)) (length buf.old)) result (reader_progress self.new)
+            (min (length (unserved_bytes self.old)) (length buf.old)) result (reader_progress self.new)
             ⊎ RunsOut (reader_progress self.old) result (reader_progress self.new) }
-        ensures given { IfOk result (λ n. buf.new ≡ take n (bytes_left self.old) ++ drop n buf.old) }
-        ensures left { IfOk result (λ n. bytes_left self.new ≡ drop n (bytes_left self.old)) }
+        ensures given { IfOk result (λ n. buf.new ≡ take n (unserved_bytes self.old) ++ drop n buf.old) }
+        ensures left { IfOk result (λ n. unserved_bytes self.new ≡ drop n (unserved_bytes self.old)) }
         ensures served { IfOk result (λ n. served_count self.new ≡ served_count self.old + n) }
-        ensures err { OnErr result ((buf.new ≡ buf.old) × (bytes_left self.new ≡ bytes_left self.old)
+        ensures err { OnErr result ((buf.new ≡ buf.old) × (unserved_bytes self.new ≡ unserved_bytes self.old)
             × (served_count self.new ≡ served_count self.old)) }
     {
         let left = &self.bytes.as_slice()[self.served..];

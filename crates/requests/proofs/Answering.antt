@@ -26,11 +26,11 @@ use Rattle.requests.specs.declared.taking.Untaken.{Untaken}
 use Rattle.requests.specs.declared.writing.Refusal.{Refusal}
 use Rattle.requests.specs.declared.writing.Refusal.TheVariants.{BadRequest, LargeBody}
 use Rattle.requests.specs.declared.taking.Untaken.TheVariants.{Body, Large, Unsent, Many}
-use Rattle.requests.specs.Answers.{Answers, EndsBody, EndsBy, Continues, FailsLast, IsLast, IsLastAnswer, IsAnswer, IsMany, IsOver, IsPart, IsTaken, IsWrong, Keeps, Runs, TakeFails, TakesWhole, answered, call_at, called, ending_of, faults_of, is_known, refusal, refused, sending_of, sent_till, stream_at, waits}
+use Rattle.requests.specs.Answers.{AnswersMessages, EndsUntaken, RunEndsBy, Continues, FailsLast, IsSentLast, IsLastAnswer, IsAnswer, IsMany, NoMoreAnswered, IsPartTaken, IsTaken, IsToBeRefused, MayFollow, RunsToLast, TakeFails, TakesWhole, answered, call_at, called, ending_of, faults_of, is_known, refusal, refused, sending_of, sent_till, stream_at, waits}
 use Rattle.requests.specs.Large.{is_large}
-use Rattle.requests.specs.Sending.{IsUnflushed, Puts, Writes}
-use Rattle.requests.proofs.Reading.{IsMany-still, IsOver-still, IsWrong-still, each_wrong, ReadFails-still, begun_once, begun_steady, is_part, joined}
-use Rattle.requests.proofs.Sending.{Puts-after, Writes-after, Writes-put, on_ok}
+use Rattle.requests.specs.Sending.{IsUnflushed, PutsText, WritesPromptly}
+use Rattle.requests.proofs.Reading.{IsMany-still, NoMoreAnswered-still, IsToBeRefused-still, each_wrong, FailsInRead-still, begun_once, begun_steady, is_part, joined}
+use Rattle.requests.proofs.Sending.{PutsText-after, WritesPromptly-after, WritesPromptly-put, on_ok}
 
 regroup : (a b more : List ℕ) → (a ++ []) ++ (b ++ more) ≡ (a ++ b) ++ more
 regroup a b more = ap (λ l. l ++ (b ++ more)) (append-nil a) ∙ sym (append_assoc a b more)
@@ -40,16 +40,18 @@ pub IsLastAnswer-after : (ms ns : List Message) (text : List ℕ) → IsLastAnsw
 IsLastAnswer-after ms ns text (before, m, said, all, is, same) =
     (ms ++ before, m, said, ap (λ l. ms ++ l) all ∙ sym (append_assoc ms before (m ∷ [])), is, same)
 
-IsLast-after : {S : Type 0} (ms ns : List Message) (taken : List ℕ) (refuses : Option Refusal) (place : Place S) (text : List ℕ)
-    → IsLast ns taken refuses place text → IsLast (ms ++ ns) taken refuses place text
-IsLast-after ms ns taken (Some why) place text last = last
-IsLast-after ms ns taken None (Before requests) text last = IsLastAnswer-after ms ns text last
-IsLast-after ms ns taken None (Inside body) text last = last
+IsSentLast-after : {S : Type 0} (ms ns : List Message) (taken : List ℕ) (refuses : Option Refusal) (place : Place S)
+    (text : List ℕ)
+    → IsSentLast ns taken refuses place text → IsSentLast (ms ++ ns) taken refuses place text
+IsSentLast-after ms ns taken (Some why) place text last = last
+IsSentLast-after ms ns taken None (Before requests) text last = IsLastAnswer-after ms ns text last
+IsSentLast-after ms ns taken None (Inside body) text last = last
 
 module _ {W : Type 0} {tells : W → StreamLog} {trace : W → W → Type 0} where
   pub FailsLast-of : {w v w' : Buffered W StdPolicy} {text front part : List ℕ} (Last : List ℕ → Type 0)
-      (sending : Result (Unit {0}) Error) → text ≡ front ++ part → (part ≡ []) ⊎ Last part → Puts tells trace w front (Ok tt) v
-      → Puts tells trace v part sending w' → IfErr sending (λ e. FailsLast tells trace Last w text e w')
+      (sending : Result (Unit {0}) Error) → text ≡ front ++ part → (part ≡ []) ⊎ Last part
+      → PutsText tells trace w front (Ok tt) v
+      → PutsText tells trace v part sending w' → IfErr sending (λ e. FailsLast tells trace Last w text e w')
   FailsLast-of Last (Ok x) equal last put puts = tt
   FailsLast-of {w} {v} {w'} {text} {front} {part} Last (Err e) equal last put puts =
       record { front = front; part = part; equal = equal; last = last; before = v; put = put; fails = puts }
@@ -58,8 +60,8 @@ module _ {W : Type 0} {tells : W → StreamLog} {trace : W → W → Type 0} whe
     -- no message went
     pub none_answered : {s t : Unbuffered R} {w w' : Buffered W StdPolicy} {taken last : List ℕ} {Last : List ℕ → Type 0}
         {sending : Result (Unit {0}) Error} → StreamWent remaining s taken t
-        → Writes tells trace (s, w) last sending (t, w') → IfErr sending (λ e. FailsLast tells trace Last w last e w')
-        → Answers remaining tells trace [] s w taken last Last t sending w'
+        → WritesPromptly tells trace (s, w) last sending (t, w') → IfErr sending (λ e. FailsLast tells trace Last w last e w')
+        → AnswersMessages remaining tells trace [] s w taken last Last t sending w'
     none_answered went writes fails =
         record { bytes = []; are = refl; went = went; text = []; answers = refl; writes = writes; fails = fails }
 
@@ -67,25 +69,25 @@ module _ {W : Type 0} {tells : W → StreamLog} {trace : W → W → Type 0} whe
     module _ {s : ReaderState R Heads} {b t : InBody R} {handed : List ℕ} (begun : Begun remaining s b)
         (goes : InsideGoes remaining b handed t) where
       pub part_answered : {last : List ℕ} {w w' : Buffered W StdPolicy} {Last : List ℕ → Type 0}
-          {sending : Result (Unit {0}) Error} → Writes tells trace (left_of s, w) last sending (t.stream, w')
+          {sending : Result (Unit {0}) Error} → WritesPromptly tells trace (left_of s, w) last sending (t.stream, w')
           → IfErr sending (λ e. FailsLast tells trace Last w last e w')
-          → Answers remaining tells trace [] (left_of s) w (b.head ++ goes.takes.wire) last Last t.stream sending w'
+          → AnswersMessages remaining tells trace [] (left_of s) w (b.head ++ goes.takes.wire) last Last t.stream sending w'
       part_answered writes fails =
           none_answered (StreamWent-joins remaining (left_of s) b.stream t.stream b.head goes.takes.wire
           (Begun-went remaining s b begun) goes.takes.went) writes fails
 
     module _ {messages : List Message} {s : Unbuffered R} {w w' : Buffered W StdPolicy} {taken : List ℕ}
-        (handed : List ℕ) (place : Place R) (part : IsPart place taken handed)
+        (handed : List ℕ) (place : Place R) (part : IsPartTaken place taken handed)
         (once : EndsOnce s.log.reads (stream_at place).log.reads) where
       -- a run that is over behind this, unless that wasn't taken in
-      pub Runs-ended : (refuses : Option Refusal) (sending : Result (Unit {0}) Error)
-          → Answers remaining tells trace messages s w taken (call_at place ++ refused refuses)
-          (IsLast messages taken refuses place) (stream_at place) sending w'
-          → IfSome refuses (IsWrong s place handed)
+      pub RunsToLast-ended : (refuses : Option Refusal) (sending : Result (Unit {0}) Error)
+          → AnswersMessages remaining tells trace messages s w taken (call_at place ++ refused refuses)
+          (IsSentLast messages taken refuses place) (stream_at place) sending w'
+          → IfSome refuses (IsToBeRefused s place handed)
           → OnlyInterrupts (faults_of s) (faults_of (stream_at place))
-          → OnOk sending (IsOver messages taken refuses s place)
-          → Runs remaining tells trace s w place (ending_of sending) w'
-      Runs-ended refuses (Ok x) answers wrong met over = record {
+          → OnOk sending (NoMoreAnswered messages taken refuses s place)
+          → RunsToLast remaining tells trace s w place (ending_of sending) w'
+      RunsToLast-ended refuses (Ok x) answers wrong met over = record {
         messages = messages;
         taken = taken;
         handed = handed;
@@ -96,7 +98,7 @@ module _ {W : Type 0} {tells : W → StreamLog} {trace : W → W → Type 0} whe
         wrong = wrong;
         ends = (met, over);
       }
-      Runs-ended refuses (Err e) answers wrong met over = record {
+      RunsToLast-ended refuses (Err e) answers wrong met over = record {
         messages = messages;
         taken = taken;
         handed = handed;
@@ -109,12 +111,12 @@ module _ {W : Type 0} {tells : W → StreamLog} {trace : W → W → Type 0} whe
       }
 
       -- nothing is refused, and this is why no more is read
-      pub Runs-stopped : (ending : Ending)
-          → Answers remaining tells trace messages s w taken (call_at place ++ []) (IsLast messages taken None place)
+      pub RunsToLast-stopped : (ending : Ending)
+          → AnswersMessages remaining tells trace messages s w taken (call_at place ++ []) (IsSentLast messages taken None place)
           (stream_at place) (sending_of ending) w'
-          → EndsBy remaining tells trace s messages taken handed None place w' ending
-          → Runs remaining tells trace s w place ending w'
-      Runs-stopped ending answers ends = record {
+          → RunEndsBy remaining tells trace s messages taken handed None place w' ending
+          → RunsToLast remaining tells trace s w place ending w'
+      RunsToLast-stopped ending answers ends = record {
         messages = messages;
         taken = taken;
         handed = handed;
@@ -130,71 +132,72 @@ module _ {W : Type 0} {tells : W → StreamLog} {trace : W → W → Type 0} whe
       -- one did in part, and this is why
       module _ {s : ReaderState R Heads} {b t : InBody R} {handed : List ℕ} (begun : Begun remaining s b) (limits : b.limits ≡ usual)
           (goes : InsideGoes remaining b handed t) {w u : Buffered W StdPolicy}
-          (call : Writes tells trace (left_of s, w) (called (waits b.said)) (Ok tt) (b.stream, u)) where
+          (call : WritesPromptly tells trace (left_of s, w) (called (waits b.said)) (Ok tt) (b.stream, u)) where
         refused_torn : {v w' : Buffered W StdPolicy} (why : Refusal) (answer : Result (Unit {0}) Error)
             → EndsOnce b.stream.log.reads t.stream.log.reads → OnlyInterrupts (faults_of b.stream) (faults_of t.stream)
-            → IsWrong b.stream (Inside t) handed why → Writes tells trace (b.stream, u) [] (Ok tt) (t.stream, v)
-            → Puts tells trace v (refusal why) answer w' → IsUnflushed v w'
-            → Runs remaining tells trace (left_of s) w (Inside t) (ending_of answer) w'
+            → IsToBeRefused b.stream (Inside t) handed why → WritesPromptly tells trace (b.stream, u) [] (Ok tt) (t.stream, v)
+            → PutsText tells trace v (refusal why) answer w' → IsUnflushed v w'
+            → RunsToLast remaining tells trace (left_of s) w (Inside t) (ending_of answer) w'
         refused_torn {v} {w'} why answer once reads torn on puts unflushed =
             let at : call_at (Inside t) ≡ called (waits b.said) = ap (λ x. called (waits x)) goes.said in
-            let Last = IsLast [] (b.head ++ goes.takes.wire) (Some why) (Inside t) in
-            let first : Writes tells trace (left_of s, w) (call_at (Inside t)) (Ok tt) (t.stream, v) =
-            subst (λ l. Writes tells trace (left_of s, w) l (Ok tt) (t.stream, v))
+            let Last = IsSentLast [] (b.head ++ goes.takes.wire) (Some why) (Inside t) in
+            let first : WritesPromptly tells trace (left_of s, w) (call_at (Inside t)) (Ok tt) (t.stream, v) =
+            subst (λ l. WritesPromptly tells trace (left_of s, w) l (Ok tt) (t.stream, v))
             (append-nil (called (waits b.said)) ∙ sym at)
-            (Writes-after joins (left_of s, w) (b.stream, u) (t.stream, v) (called (waits b.said)) [] (Ok tt) call on) in
-            Runs-ended handed (Inside t) (is_part begun limits goes) (begun_once begun t.stream once) (Some why) answer
+            (WritesPromptly-after joins (left_of s, w) (b.stream, u) (t.stream, v) (called (waits b.said)) [] (Ok tt) call on) in
+            RunsToLast-ended handed (Inside t) (is_part begun limits goes) (begun_once begun t.stream once) (Some why) answer
             (part_answered begun goes
-            (Writes-after joins (left_of s, w) (t.stream, v) (t.stream, w') (call_at (Inside t)) (refusal why) answer first
-            (Writes-put t.stream puts unflushed))
+            (WritesPromptly-after joins (left_of s, w) (t.stream, v) (t.stream, w') (call_at (Inside t))
+            (refusal why) answer first
+            (WritesPromptly-put t.stream puts unflushed))
             (FailsLast-of Last answer refl (inr refl) first.puts puts))
-            (IsWrong-still (begun_steady begun) (Inside t) handed why torn)
-            (joined (begun_steady begun) t.stream reads) (on_ok answer (inr (All-nil (Keeps true), inl refl)))
+            (IsToBeRefused-still (begun_steady begun) (Inside t) handed why torn)
+            (joined (begun_steady begun) t.stream reads) (on_ok answer (inr (All-nil (MayFollow true), inl refl)))
 
         -- where nothing is refused
         unrefused : {v : Buffered W StdPolicy} (sending : Result (Unit {0}) Error) (Last : List ℕ → Type 0)
-            → Writes tells trace (b.stream, u) [] sending (t.stream, v)
-            → Answers remaining tells trace [] (left_of s) w (b.head ++ goes.takes.wire) (call_at (Inside t) ++ []) Last
+            → WritesPromptly tells trace (b.stream, u) [] sending (t.stream, v)
+            → AnswersMessages remaining tells trace [] (left_of s) w (b.head ++ goes.takes.wire) (call_at (Inside t) ++ []) Last
             t.stream sending v
         unrefused {v} sending Last on =
             let at : call_at (Inside t) ≡ called (waits b.said) = ap (λ x. called (waits x)) goes.said in
-            let first : Writes tells trace (left_of s, w) (call_at (Inside t)) (Ok tt) (b.stream, u) =
-            subst (λ l. Writes tells trace (left_of s, w) l (Ok tt) (b.stream, u)) (sym at) call in
+            let first : WritesPromptly tells trace (left_of s, w) (call_at (Inside t)) (Ok tt) (b.stream, u) =
+            subst (λ l. WritesPromptly tells trace (left_of s, w) l (Ok tt) (b.stream, u)) (sym at) call in
             part_answered begun goes
-            (Writes-after joins (left_of s, w) (b.stream, u) (t.stream, v) (call_at (Inside t)) [] sending first on)
+            (WritesPromptly-after joins (left_of s, w) (b.stream, u) (t.stream, v) (call_at (Inside t)) [] sending first on)
             (FailsLast-of Last sending refl (inl refl) first.puts on.puts)
 
         pub torn_answered : {v w' : Buffered W StdPolicy} (why : Untaken) (ending : Ending) → TakeFails b.stream handed why t v
-            → Writes tells trace (b.stream, u) [] (sent_till why) (t.stream, v) → EndsBody tells trace v why ending w'
-            → Runs remaining tells trace (left_of s) w (Inside t) ending w'
+            → WritesPromptly tells trace (b.stream, u) [] (sent_till why) (t.stream, v) → EndsUntaken tells trace v why ending w'
+            → RunsToLast remaining tells trace (left_of s) w (Inside t) ending w'
         torn_answered {v} {w'} (Body (Wrong why)) ending (once, reads, torn) on (answer, is, puts, unflushed) =
-            subst (λ x. Runs remaining tells trace (left_of s) w (Inside t) x w') (sym is)
+            subst (λ x. RunsToLast remaining tells trace (left_of s) w (Inside t) x w') (sym is)
             (refused_torn BadRequest answer once reads torn on puts unflushed)
         torn_answered {v} {w'} (Body (Truncated due)) ending (once, reads, torn) on (answer, is, puts, unflushed) =
-            subst (λ x. Runs remaining tells trace (left_of s) w (Inside t) x w') (sym is)
+            subst (λ x. RunsToLast remaining tells trace (left_of s) w (Inside t) x w') (sym is)
             (refused_torn BadRequest answer once reads torn on puts unflushed)
         torn_answered {v} {w'} (Body (Io e)) ending (once, fails, all) on (is, same) =
-            subst (λ x. Runs remaining tells trace (left_of s) w (Inside t) x w') (sym is)
-            (subst (Runs remaining tells trace (left_of s) w (Inside t) (Unread e)) (sym same)
-            (Runs-stopped handed (Inside t) (is_part begun limits goes) (begun_once begun t.stream once) (Unread e)
-            (unrefused (Ok tt) (IsLast [] (b.head ++ goes.takes.wire) None (Inside t)) on)
-            (ReadFails-still (begun_steady begun) e t.stream fails, all)))
+            subst (λ x. RunsToLast remaining tells trace (left_of s) w (Inside t) x w') (sym is)
+            (subst (RunsToLast remaining tells trace (left_of s) w (Inside t) (Unread e)) (sym same)
+            (RunsToLast-stopped handed (Inside t) (is_part begun limits goes) (begun_once begun t.stream once) (Unread e)
+            (unrefused (Ok tt) (IsSentLast [] (b.head ++ goes.takes.wire) None (Inside t)) on)
+            (FailsInRead-still (begun_steady begun) e t.stream fails, all)))
         torn_answered {v} {w'} Large ending (reads, large) on (answer, is, puts, unflushed) =
-            subst (λ x. Runs remaining tells trace (left_of s) w (Inside t) x w') (sym is)
+            subst (λ x. RunsToLast remaining tells trace (left_of s) w (Inside t) x w') (sym is)
             (refused_torn LargeBody answer (omega (arith, reads.ends)) reads.faults (inr (refl, large)) on puts unflushed)
         torn_answered {v} {w'} (Unsent e) ending reads on (is, same) =
-            subst (λ x. Runs remaining tells trace (left_of s) w (Inside t) x w') (sym is)
-            (subst (Runs remaining tells trace (left_of s) w (Inside t) (stop.Unsent e)) (sym same)
-            (Runs-stopped handed (Inside t) (is_part begun limits goes)
+            subst (λ x. RunsToLast remaining tells trace (left_of s) w (Inside t) x w') (sym is)
+            (subst (RunsToLast remaining tells trace (left_of s) w (Inside t) (stop.Unsent e)) (sym same)
+            (RunsToLast-stopped handed (Inside t) (is_part begun limits goes)
             (begun_once begun t.stream (omega (arith, reads.ends))) (stop.Unsent e)
-            (unrefused (Err e) (IsLast [] (b.head ++ goes.takes.wire) None (Inside t)) on)
+            (unrefused (Err e) (IsSentLast [] (b.head ++ goes.takes.wire) None (Inside t)) on)
             (joined (begun_steady begun) t.stream reads.faults)))
         torn_answered {v} {w'} Many ending (reads, many) on (is, same) =
-            subst (λ x. Runs remaining tells trace (left_of s) w (Inside t) x w') (sym is)
-            (subst (Runs remaining tells trace (left_of s) w (Inside t) stop.Many) (sym same)
-            (Runs-stopped handed (Inside t) (is_part begun limits goes)
+            subst (λ x. RunsToLast remaining tells trace (left_of s) w (Inside t) x w') (sym is)
+            (subst (RunsToLast remaining tells trace (left_of s) w (Inside t) stop.Many) (sym same)
+            (RunsToLast-stopped handed (Inside t) (is_part begun limits goes)
             (begun_once begun t.stream (omega (arith, reads.ends))) stop.Many
-            (unrefused (Ok tt) (IsLast [] (b.head ++ goes.takes.wire) None (Inside t)) on) (
+            (unrefused (Ok tt) (IsSentLast [] (b.head ++ goes.takes.wire) None (Inside t)) on) (
               joined (begun_steady begun) t.stream reads.faults,
               IsMany-still (begun_steady begun) 0 (length handed) t.stream reads.faults many,
             )))
@@ -203,10 +206,11 @@ module _ {W : Type 0} {tells : W → StreamLog} {trace : W → W → Type 0} whe
       pub one_answered : {s : ReaderState R Heads} {b : InBody R} {t : Unbuffered R} {len : ℕ} {known : Bool} {said : ParsedHead}
           {w u v w' : Buffered W StdPolicy} {sending : Result (Unit {0}) Error} → Begun remaining s b → b.limits ≡ usual
           → (whole : TakesWhole remaining b t len) → said ≡ b.said → known ≡ is_known b.head
-          → Writes tells trace (left_of s, w) (called (waits b.said)) (Ok tt) (b.stream, u)
-          → Writes tells trace (b.stream, u) [] (Ok tt) (t, v)
-          → Puts tells trace v (answered known said len) sending w' → IsUnflushed v w'
-          → Answers remaining tells trace ((b.head, whole.1) ∷ []) (left_of s) w [] [] (IsLastAnswer ((b.head, whole.1) ∷ [])) t
+          → WritesPromptly tells trace (left_of s, w) (called (waits b.said)) (Ok tt) (b.stream, u)
+          → WritesPromptly tells trace (b.stream, u) [] (Ok tt) (t, v)
+          → PutsText tells trace v (answered known said len) sending w' → IsUnflushed v w'
+          → AnswersMessages remaining tells trace ((b.head, whole.1) ∷ []) (left_of s) w [] []
+              (IsLastAnswer ((b.head, whole.1) ∷ [])) t
           sending w'
       one_answered {s} {b} {t} {len} {known} {said} {w} {u} {v} {w'} {sending} begun limits (wire, payload, went, is, many, small) same
           method call on puts unflushed =
@@ -222,14 +226,14 @@ module _ {W : Type 0} {tells : W → StreamLog} {trace : W → W → Type 0} whe
           let answer : answered known said len ≡ answered (is_known b.head) b.said (length payload) =
           ap (λ x. answered known x len) same ∙ ap (answered known b.said) many
           ∙ ap (λ k. answered k b.said (length payload)) method in
-          let first : Writes tells trace (left_of s, w) (called (waits b.said)) (Ok tt) (t, v) =
-          subst (λ l. Writes tells trace (left_of s, w) l (Ok tt) (t, v)) (append-nil (called (waits b.said)))
-          (Writes-after joins (left_of s, w) (b.stream, u) (t, v) (called (waits b.said)) [] (Ok tt) call on) in
-          let says : Puts tells trace v (answered (is_known b.head) b.said (length payload)) sending w' =
-          subst (λ l. Puts tells trace v l sending w') answer puts in
-          let both : Writes tells trace (left_of s, w) text sending (t, w') =
-          Writes-after joins (left_of s, w) (t, v) (t, w') (called (waits b.said))
-          (answered (is_known b.head) b.said (length payload)) sending first (Writes-put t says unflushed) in
+          let first : WritesPromptly tells trace (left_of s, w) (called (waits b.said)) (Ok tt) (t, v) =
+          subst (λ l. WritesPromptly tells trace (left_of s, w) l (Ok tt) (t, v)) (append-nil (called (waits b.said)))
+          (WritesPromptly-after joins (left_of s, w) (b.stream, u) (t, v) (called (waits b.said)) [] (Ok tt) call on) in
+          let says : PutsText tells trace v (answered (is_known b.head) b.said (length payload)) sending w' =
+          subst (λ l. PutsText tells trace v l sending w') answer puts in
+          let both : WritesPromptly tells trace (left_of s, w) text sending (t, w') =
+          WritesPromptly-after joins (left_of s, w) (t, v) (t, w') (called (waits b.said))
+          (answered (is_known b.head) b.said (length payload)) sending first (WritesPromptly-put t says unflushed) in
           record {
             bytes = bytes;
             are = InTurn-one IsTaken (b.head, payload) bytes (message.0, taken);
@@ -237,26 +241,27 @@ module _ {W : Type 0} {tells : W → StreamLog} {trace : W → W → Type 0} whe
                 (StreamWent-joins remaining (left_of s) b.stream t b.head wire (Begun-went remaining s b begun) went);
             text = text;
             answers = InTurn-one IsAnswer (b.head, payload) text (b.said, head, refl);
-            writes = subst (λ l. Writes tells trace (left_of s, w) l sending (t, w')) (sym (append-nil text)) both;
+            writes = subst (λ l. WritesPromptly tells trace (left_of s, w) l sending (t, w')) (sym (append-nil text)) both;
             fails = FailsLast-of (IsLastAnswer ((b.head, payload) ∷ [])) sending (append-nil text)
                 (inr ([], (b.head, payload), b.said, refl, head, refl)) first.puts says;
           }
 
       -- some did, and then more
-      pub Answers-joins : {ms ns : List Message} {s m t : Unbuffered R} {w v w' : Buffered W StdPolicy} {taken last : List ℕ}
+      pub AnswersMessages-joins : {ms ns : List Message} {s m t : Unbuffered R} {w v w' : Buffered W StdPolicy}
+          {taken last : List ℕ}
           {Last Then : List ℕ → Type 0} {sending : Result (Unit {0}) Error}
-          → Answers remaining tells trace ms s w [] [] (IsLastAnswer ms) m (Ok tt) v
-          → Answers remaining tells trace ns m v taken last Last t sending w' → ((text : List ℕ) → Last text → Then text)
-          → Answers remaining tells trace (ms ++ ns) s w taken last Then t sending w'
-      Answers-joins {ms} {ns} {s} {m} {t} {w} {v} {w'} {taken} {last} {Last} {Then} {sending} a b so = record {
+          → AnswersMessages remaining tells trace ms s w [] [] (IsLastAnswer ms) m (Ok tt) v
+          → AnswersMessages remaining tells trace ns m v taken last Last t sending w' → ((text : List ℕ) → Last text → Then text)
+          → AnswersMessages remaining tells trace (ms ++ ns) s w taken last Then t sending w'
+      AnswersMessages-joins {ms} {ns} {s} {m} {t} {w} {v} {w'} {taken} {last} {Last} {Then} {sending} a b so = record {
         bytes = a.bytes ++ b.bytes;
         are = InTurn-joins IsTaken ms ns a.bytes b.bytes a.are b.are;
         went = subst (λ l. StreamWent remaining s l t) (regroup a.bytes b.bytes taken)
             (StreamWent-joins remaining s m t (a.bytes ++ []) (b.bytes ++ taken) a.went b.went);
         text = a.text ++ b.text;
         answers = InTurn-joins IsAnswer ms ns a.text b.text a.answers b.answers;
-        writes = subst (λ l. Writes tells trace (s, w) l sending (t, w')) (regroup a.text b.text last)
-            (Writes-after joins (s, w) (m, v) (t, w') (a.text ++ []) (b.text ++ last) sending a.writes b.writes);
+        writes = subst (λ l. WritesPromptly tells trace (s, w) l sending (t, w')) (regroup a.text b.text last)
+            (WritesPromptly-after joins (s, w) (m, v) (t, w') (a.text ++ []) (b.text ++ last) sending a.writes b.writes);
         fails = fails sending b.fails;
       }
         where
@@ -270,30 +275,30 @@ module _ {W : Type 0} {tells : W → StreamLog} {trace : W → W → Type 0} whe
                 ∙ ap (λ l. (l ++ f.front) ++ f.part) (sym (append-nil a.text));
             last = elim f.last [ inl none ↦ inl none | inr is ↦ inr (so f.part is) ];
             before = f.before;
-            put = Puts-after joins w v f.before (a.text ++ []) f.front (Ok tt) a.writes.puts f.put;
+            put = PutsText-after joins w v f.before (a.text ++ []) f.front (Ok tt) a.writes.puts f.put;
             fails = f.fails;
           }
 
       module _ {s m : Unbuffered R} {w v : Buffered W StdPolicy} (a : Continues remaining tells trace s w m v) where
-        pub Runs-after : {place : Place R} {w' : Buffered W StdPolicy} (ending : Ending)
-            → Runs remaining tells trace m v place ending w' → Runs remaining tells trace s w place ending w'
-        Runs-after {place} {w'} ending b = record {
+        pub RunsToLast-after : {place : Place R} {w' : Buffered W StdPolicy} (ending : Ending)
+            → RunsToLast remaining tells trace m v place ending w' → RunsToLast remaining tells trace s w place ending w'
+        RunsToLast-after {place} {w'} ending b = record {
           messages = a.messages ++ b.messages;
           taken = b.taken;
           handed = b.handed;
           part = b.part;
           refuses = b.refuses;
-          answers = Answers-joins a.answers b.answers (IsLast-after a.messages b.messages b.taken b.refuses place);
+          answers = AnswersMessages-joins a.answers b.answers (IsSentLast-after a.messages b.messages b.taken b.refuses place);
           once = omega (arith, b.once, a.reads.ends);
           wrong = each_wrong a.reads place b.handed b.refuses b.wrong;
           ends = ends ending b.ends;
         }
           where
-            ends : (ending : Ending) → EndsBy remaining tells trace m b.messages b.taken b.handed b.refuses place w' ending
-                → EndsBy remaining tells trace s (a.messages ++ b.messages) b.taken b.handed b.refuses place w' ending
+            ends : (ending : Ending) → RunEndsBy remaining tells trace m b.messages b.taken b.handed b.refuses place w' ending
+                → RunEndsBy remaining tells trace s (a.messages ++ b.messages) b.taken b.handed b.refuses place w' ending
             ends Over (met, is) = (
               joined a.reads (stream_at place) met,
-              IsOver-still a.reads a.messages b.messages b.taken b.refuses place a.keep is,
+              NoMoreAnswered-still a.reads a.messages b.messages b.taken b.refuses place a.keep is,
             )
             ends stop.Many (met, many) = (
               joined a.reads (stream_at place) met,
@@ -302,5 +307,5 @@ module _ {W : Type 0} {tells : W → StreamLog} {trace : W → W → Type 0} whe
                   subst (λ n. IsMany n s (stream_at place)) both
                   (IsMany-still a.reads (length a.messages) (length b.messages + length b.handed) (stream_at place) met many)),
             )
-            ends (Unread e) (fails, all) = (ReadFails-still a.reads e (stream_at place) fails, all)
+            ends (Unread e) (fails, all) = (FailsInRead-still a.reads e (stream_at place) fails, all)
             ends (stop.Unsent e) met = joined a.reads (stream_at place) met

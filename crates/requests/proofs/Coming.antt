@@ -17,10 +17,10 @@ use Rattle.messages.specs.declared.head.Heads.{Heads}
 use Rattle.messages.specs.Heads.{heads}
 use Rattle.messages.specs.HeadsLaws.{heads_lawful}
 use Rattle.messages.specs.Limits.{usual}
-use Rattle.messages.specs.Messages.{AskedIn, GoesOn, InBody, IsRest, RunsShort}
+use Rattle.messages.specs.Messages.{AskedIn, BeginsRest, InBody, IsRest, RunsShort}
 use Rattle.programs.specs.Streams.{AllSent}
-use Rattle.requests.specs.Sending.{Comes, SendsUnless, Writes}
-use Rattle.requests.proofs.Sending.{Writes-after, Writes-read, Writes-sent, open_empty, sent_then}
+use Rattle.requests.specs.Sending.{SendsUnless, WritesOnlyHeld, WritesPromptly}
+use Rattle.requests.proofs.Sending.{WritesPromptly-after, WritesPromptly-read, WritesPromptly-sent, open_empty, sent_then}
 use Rattle.requests.proofs.Reading.{wrong_unasked}
 
 -- under the usual limits heads are the usual ones
@@ -49,7 +49,7 @@ body_asked {slice = slice} count out m t w v sends zero some goes_on short asked
       | inr left ↦ elim left [
         | inl empty ↦ absurd (omega (arith, shown, ap length empty))
         | inr wrong ↦ inl (wrong_unasked m.stream t.stream m.rest wrong.0 wrong.1
-            (AskedWhere-of (AskedIn m.rest slice t.stream.log.reads.offer) (GoesOn m.rest []) m.stream t.stream
+            (AskedWhere-of (AskedIn m.rest slice t.stream.log.reads.offer) (BeginsRest m.rest []) m.stream t.stream
             (λ more ask. ask.goes_on) asked))
       ]
     ]
@@ -62,15 +62,15 @@ module _ {R W : Type 0} {remaining : R → Option (List ℕ)} {tells : W → Str
   -- what was held was sent, where the stream was asked then
   pub comes : (s : ReaderState R Heads) (w v : Buffered W StdPolicy) → SendsUnless tells trace (IsSettled (heads usual) s) w (Ok tt) v
       → (answer : NextAnswer BadHead) (t : ReaderState R Heads) → NextPiece remaining (heads usual) s answer t
-      → Comes tells trace (left_of s, w) (left_of t, v)
+      → WritesOnlyHeld tells trace (left_of s, w) (left_of t, v)
   comes s w v sends answer t next =
       let asked : (t.reader.log ≡ s.reader.log) ⊎ AllSent v = elim (sent_then w v sends) [
         | inl settled ↦ inl (AsksNone-settled remaining (heads usual) (heads_lawful usual) s settled answer t next)
         | inr all ↦ inr all
       ] in
       record {
-        writes = Writes-after joins (left_of s, w) (left_of s, v) (left_of t, v) [] [] (Ok tt)
-            (Writes-sent none (left_of s) w v (Ok tt) sends (open_where s)) (Writes-read none v asked);
+        writes = WritesPromptly-after joins (left_of s, w) (left_of s, v) (left_of t, v) [] [] (Ok tt)
+            (WritesPromptly-sent none (left_of s) w v (Ok tt) sends (open_where s)) (WritesPromptly-read none v asked);
         asked = asked;
       }
 
@@ -78,7 +78,7 @@ module _ {R W : Type 0} {tells : W → StreamLog} {trace : W → W → Type 0} (
     (joins : (u v x : W) → trace u v → trace v x → trace u x) where
   -- what was held was sent where no more of a body is buffered
   pub sends_empty : {answer : Result (Unit {0}) Error} (s m : Unbuffered R) (w v : Buffered W StdPolicy) → m.log ≡ s.log
-      → SendsUnless tells trace (0 < length m.left) w answer v → Writes tells trace (s, w) [] answer (m, v)
+      → SendsUnless tells trace (0 < length m.left) w answer v → WritesPromptly tells trace (s, w) [] answer (m, v)
   sends_empty {answer} s m w v same sends =
-      Writes-after joins (s, w) (m, w) (m, v) [] [] answer (Writes-read none w (inl same))
-      (Writes-sent none m w v answer sends (λ no. open_empty m.left (nil_from_length m.left (omega (arith, no)))))
+      WritesPromptly-after joins (s, w) (m, w) (m, v) [] [] answer (WritesPromptly-read none w (inl same))
+      (WritesPromptly-sent none m w v answer sends (λ no. open_empty m.left (nil_from_length m.left (omega (arith, no)))))

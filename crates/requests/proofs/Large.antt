@@ -4,7 +4,7 @@ use Rattle.std.proofs.lemmas.Bool.{cases_lt, le-ltb, lt-ltb, ltb-false}
 use Rattle.messages.specs.declared.head.Extent.{Extent}
 use Rattle.messages.specs.declared.head.Extent.TheVariants.{Sized, Chunked}
 use Rattle.messages.specs.Messages.{InBody, InsideGoes}
-use Rattle.requests.specs.Large.{IsFresh, is_large, max_payload}
+use Rattle.requests.specs.Large.{IsNewlyLarge, is_large, max_payload}
 
 first_false : (a b : Bool) → a || b ≡ false → a ≡ false
 first_false false b none = refl
@@ -41,6 +41,6 @@ tested e e' m q taken payload b is same count len = sym (is ∙ ap (λ x. is_lar
 -- what was read is no older than the last read, where it wasn't too large before that
 pub fresh_behind : {S : Type 0} {remaining : S → Option (List ℕ)} {m t : InBody S} (extent : Extent) (most : ℕ)
     (payload last : List ℕ) → is_large extent (length m.taken) (length payload) ≡ false → InsideGoes remaining m last t
-    → length last ≤ most → IsFresh extent most t.taken (payload ++ last)
+    → length last ≤ most → IsNewlyLarge extent most t.taken (payload ++ last)
 fresh_behind {S} {remaining} {m} extent most payload last small goes few =
     inr (m.taken, goes.takes.wire, payload, last, goes.taken, refl, few, small)

@@ -22,7 +22,7 @@ use Rattle.messages.specs.declared.bad_head.BadHead.{BadHead}
 use Rattle.messages.specs.declared.head.Heads.{Heads}
 use Rattle.messages.specs.Heads.{IsHead, heads}
 use Rattle.messages.specs.Limits.{usual}
-use Rattle.messages.specs.Messages.{Begun, Bytes, Chunks, EachGave, Ends, Fails, FinishFails, GoesOn, InBody, InsideGoes, IsRest, IsWrongNext, Message, Onward, Rest, Unended, body_of}
+use Rattle.messages.specs.Messages.{BeginsRest, Begun, Bytes, Chunks, EachReadGave, Fails, FinishFails, GoesWrong, InBody, InsideGoes, IsRest, Message, Onward, Rest, TakesWholeRest, Unended, body_of}
 use Rattle.messages.specs.MessagesLaws.{Begun-gave}
 use Rattle.programs.specs.Streams.{EndsOnce}
 use Rattle.requests.specs.declared.Place.{Place}
@@ -31,7 +31,7 @@ use Rattle.requests.specs.declared.Place.TheVariants.{Before, Inside}
 use Rattle.requests.specs.declared.taking.Untaken.{Untaken}
 use Rattle.requests.specs.declared.taking.Untaken.TheVariants.{Body, Large, Unsent, Many}
 use Rattle.requests.specs.Large.{is_large}
-use Rattle.requests.specs.Answers.{FailsOn, HasEnded, IsMany, IsOver, IsPart, IsWrong, Keeps, ReadFails, ReadsSteadily, TakeFails, TakesWhole, faults_of, sent_till, unfinished}
+use Rattle.requests.specs.Answers.{EndedBeforeHead, FailsInRead, FailsOn, IsMany, IsPartTaken, IsToBeRefused, MayFollow, NoMoreAnswered, ReadsSteadily, TakeFails, TakesWhole, faults_of, sent_till, unfinished}
 
 -- no fault was met, or one
 pub none_met : {a b : List Error} → b ≡ a → OnlyInterrupts a b
@@ -51,7 +51,7 @@ failed_behind a b c e reads faults = record {
   faults = faults ∙ ap (λ l. l ++ e ∷ []) reads.faults;
 }
 
-pub steady_none : {S : Type 0} {s t : Unbuffered S} → EachGave s t → ReadsSteadily s t
+pub steady_none : {S : Type 0} {s t : Unbuffered S} → EachReadGave s t → ReadsSteadily s t
 steady_none gave = record { faults = none_met gave.0; ends = gave.1 }
 
 pub no_shorter : {a b : List Error} → OnlyInterrupts a b → length a ≤ length b
@@ -65,45 +65,47 @@ module _ {S : Type 0} {s m : Unbuffered S} (steady : ReadsSteadily s m) where
   pub steadily : {t : Unbuffered S} → ReadsSteadily m t → ReadsSteadily s t
   steadily {t} more = record { faults = joined t more.faults; ends = more.ends ∙ steady.ends }
 
-  pub IsWrong-still : (place : Place S) (handed : List ℕ) (why : Refusal) → IsWrong m place handed why
-      → IsWrong s place handed why
-  IsWrong-still (Before requests) handed why (inl none) = inl none
-  IsWrong-still (Before requests) handed why (inr (is, more, some, cut)) =
+  pub IsToBeRefused-still : (place : Place S) (handed : List ℕ) (why : Refusal) → IsToBeRefused m place handed why
+      → IsToBeRefused s place handed why
+  IsToBeRefused-still (Before requests) handed why (inl none) = inl none
+  IsToBeRefused-still (Before requests) handed why (inr (is, more, some, cut)) =
       inr (is, omega (arith, steady.ends, more), some, cut)
-  IsWrong-still (Inside body) handed why (inl (is, inl torn)) = inl (is, inl torn)
-  IsWrong-still (Inside body) handed why (inl (is, inr (more, none, cut))) =
+  IsToBeRefused-still (Inside body) handed why (inl (is, inl torn)) = inl (is, inl torn)
+  IsToBeRefused-still (Inside body) handed why (inl (is, inr (more, none, cut))) =
       inl (is, inr (omega (arith, steady.ends, more), none, cut))
-  IsWrong-still (Inside body) handed why (inr large) = inr large
+  IsToBeRefused-still (Inside body) handed why (inr large) = inr large
 
-  pub each_wrong : (place : Place S) (handed : List ℕ) (refuses : Option Refusal) → IfSome refuses (IsWrong m place handed)
-      → IfSome refuses (IsWrong s place handed)
-  each_wrong place handed (Some why) wrong = IsWrong-still place handed why wrong
+  pub each_wrong : (place : Place S) (handed : List ℕ) (refuses : Option Refusal) → IfSome refuses (IsToBeRefused m place handed)
+      → IfSome refuses (IsToBeRefused s place handed)
+  each_wrong place handed (Some why) wrong = IsToBeRefused-still place handed why wrong
   each_wrong place handed None none = tt
 
-  HasEnded-still : (place : Place S) → HasEnded m place → HasEnded s place
-  HasEnded-still (Before requests) (more, none) = (omega (arith, steady.ends, more), none)
-  HasEnded-still (Inside body) odd = odd
+  EndedBeforeHead-still : (place : Place S) → EndedBeforeHead m place → EndedBeforeHead s place
+  EndedBeforeHead-still (Before requests) (more, none) = (omega (arith, steady.ends, more), none)
+  EndedBeforeHead-still (Inside body) odd = odd
 
-  pub IsOver-still : (ms ns : List Message) (taken : List ℕ) (refuses : Option Refusal) (place : Place S) → All (Keeps true) ms
-      → IsOver ns taken refuses m place → IsOver (ms ++ ns) taken refuses s place
-  IsOver-still ms ns taken refuses place keep (inl (closes, none, not, ends)) = inl (
+  pub NoMoreAnswered-still : (ms ns : List Message) (taken : List ℕ) (refuses : Option Refusal) (place : Place S)
+      → All (MayFollow true) ms
+      → NoMoreAnswered ns taken refuses m place → NoMoreAnswered (ms ++ ns) taken refuses s place
+  NoMoreAnswered-still ms ns taken refuses place keep (inl (closes, none, not, ends)) = inl (
     record {
       before = ms ++ closes.before;
       last = closes.last;
       all = ap (λ l. ms ++ l) closes.all ∙ sym (append_assoc ms closes.before (closes.last ∷ []));
-      keep = All-append (Keeps true) ms closes.before keep closes.keep;
+      keep = All-append (MayFollow true) ms closes.before keep closes.keep;
       close = closes.close;
     },
     none,
     not,
     ends ∙ steady.ends,
   )
-  IsOver-still ms ns taken refuses place keep (inr (more, inl is)) = inr (All-append (Keeps true) ms ns keep more, inl is)
-  IsOver-still ms ns taken refuses place keep (inr (more, inr ended)) =
-      inr (All-append (Keeps true) ms ns keep more, inr (HasEnded-still place ended))
+  NoMoreAnswered-still ms ns taken refuses place keep (inr (more, inl is)) =
+      inr (All-append (MayFollow true) ms ns keep more, inl is)
+  NoMoreAnswered-still ms ns taken refuses place keep (inr (more, inr ended)) =
+      inr (All-append (MayFollow true) ms ns keep more, inr (EndedBeforeHead-still place ended))
 
-  pub ReadFails-still : (e : Error) (t : Unbuffered S) → ReadFails m e t → ReadFails s e t
-  ReadFails-still e t (fault, hard) =
+  pub FailsInRead-still : (e : Error) (t : Unbuffered S) → FailsInRead m e t → FailsInRead s e t
+  FailsInRead-still e t (fault, hard) =
       (FaultAfterInterrupts-after (faults_of s) (faults_of m) (faults_of t) e steady.faults fault, hard)
 
   pub IsMany-still : (more count : ℕ) (t : Unbuffered S) → OnlyInterrupts (faults_of m) (faults_of t) → IsMany count m t
@@ -135,7 +137,7 @@ module _ {S : Type 0} {s m : Unbuffered S} (steady : ReadsSteadily s m) where
   TakeFails-of handed b w Many hard odd = elim odd [ ]
 
   pub TakeFails-behind : {W : Type 0} (handed more : List ℕ) (b : InBody S) (w : Buffered W StdPolicy) (why : BodyError)
-      → FinishFails m more why b.stream b.rest → EachGave m b.stream → TakeFails s (handed ++ more) (unfinished why) b w
+      → FinishFails m more why b.stream b.rest → EachReadGave m b.stream → TakeFails s (handed ++ more) (unfinished why) b w
   TakeFails-behind handed more b w (Wrong why) (inl (gave, torn)) same =
       (omega (arith, steady.ends, gave.1), joined b.stream (none_met gave.0), inl (refl, inl (why, torn)))
   TakeFails-behind handed more b w (Truncated due) (inl (none, end, left, cut, many)) same = absurd (omega (arith, end, same.1))
@@ -163,7 +165,7 @@ module _ {R : Type 0} {remaining : R → Option (List ℕ)} {s : ReaderState R H
 
   -- a part of it was taken
   pub is_part : {t : InBody R} {handed : List ℕ} → b.limits ≡ usual → (goes : InsideGoes remaining b handed t)
-      → IsPart (Inside t) (b.head ++ goes.takes.wire) handed
+      → IsPartTaken (Inside t) (b.head ++ goes.takes.wire) handed
   is_part {t} {handed} same goes =
       let taken : goes.takes.wire ≡ t.taken = sym (goes.taken ∙ ap (λ l. l ++ goes.takes.wire) begun.taken) in (
         ap (λ l. l ++ goes.takes.wire) (sym goes.head) ∙ ap (λ l. t.head ++ l) taken,
@@ -198,7 +200,7 @@ none_asked : (r : Rest) (bytes : List ℕ) → IsRest r [] [] → ¬ (Unended r 
 none_asked r bytes none (handed, on) = none_follows r on.rest bytes handed none on.onward on.more
 
 pub unasked : {S : Type 0} (s t : Unbuffered S) (r : Rest) → IsRest r [] [] → AskedWhere (Unended r) s t
-    → EachGave s t
+    → EachReadGave s t
 unasked s t r none (inl same) = (ap (λ l. l.reads.faults) same, ap (λ l. l.reads.zero_reads) same)
 unasked s t r none (inr over) = absurd (none_asked r (s.left ++ over.came) none over.such)
 
@@ -208,8 +210,8 @@ unasked_log s t r none (inl same) = same
 unasked_log s t r none (inr over) = absurd (none_asked r (s.left ++ over.came) none over.such)
 
 -- nor where what comes next is wrong
-pub wrong_unasked : {S : Type 0} (s t : Unbuffered S) (r : Rest) (name : Malformed) → IsWrongNext r s.left name
-    → AskedWhere (GoesOn r []) s t → t.log ≡ s.log
+pub wrong_unasked : {S : Type 0} (s t : Unbuffered S) (r : Rest) (name : Malformed) → GoesWrong r s.left name
+    → AskedWhere (BeginsRest r []) s t → t.log ≡ s.log
 wrong_unasked s t (Bytes n) name wrong asked = elim wrong [ ]
 wrong_unasked s t (Chunks limits place) name wrong (inl same) = same
 wrong_unasked s t (Chunks limits place) name wrong (inr over) =
@@ -243,7 +245,8 @@ unfinished_sent (Io e) = refl
 -- what was read, and what ended it, is the whole body
 pub whole_taken : {R : Type 0} (remaining : R → Option (List ℕ)) (b m : InBody R) (payload : List ℕ) (t : Unbuffered R) (len : ℕ)
     → InsideGoes remaining b payload m → len ≡ length payload → IsRest m.rest [] []
-    → is_large m.said.extent (length m.taken) len ≡ false → Ends remaining m.stream m.rest t → TakesWhole remaining b t len
+    → is_large m.said.extent (length m.taken) len ≡ false → TakesWholeRest remaining m.stream m.rest t
+    → TakesWhole remaining b t len
 whole_taken remaining b m payload t len goes many none small ends =
     let nothing = nothing_more m.rest ends.wire ends.payload none ends.is in
     let all : len ≡ length (payload ++ ends.payload) =

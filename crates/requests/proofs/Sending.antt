@@ -19,7 +19,7 @@ use Rattle.messages.specs.Heads.{heads}
 use Rattle.messages.specs.HeadsLaws.{heads_lawful}
 use Rattle.messages.specs.Limits.{usual}
 use Rattle.programs.specs.Streams.{AllSent}
-use Rattle.requests.specs.Sending.{Both, IsHeld, IsStep, IsUnflushed, Prompt, PutStops, Puts, SendsHeld, SendsUnless, Steps, Writes}
+use Rattle.requests.specs.Sending.{Both, IsHeld, IsStep, IsUnflushed, Prompt, PutStops, PutsText, SendsHeld, SendsUnless, StepsAlong, WritesPromptly}
 
 -- nothing settles nothing
 pub open_empty : (bytes : List ℕ) → bytes ≡ [] → IsOpen (heads usual) bytes
@@ -38,17 +38,18 @@ on_ok (Ok x) p = p
 on_ok (Err e) p = tt
 
 -- steps behind others
-Steps-joins : {R W : Type 0} (tells : W → StreamLog) (trace : W → W → Type 0) (a m b : Both R W) (first then : List (Both R W))
-    → Steps tells trace a first m → Steps tells trace m then b → Steps tells trace a (then ++ first) b
-Steps-joins tells trace a m b first [] p q = subst (Steps tells trace a first) q p
-Steps-joins tells trace a m b first (x ∷ earlier) p (before, step) =
-    (Steps-joins tells trace a m x first earlier p before, step)
+StepsAlong-joins : {R W : Type 0} (tells : W → StreamLog) (trace : W → W → Type 0) (a m b : Both R W)
+    (first then : List (Both R W))
+    → StepsAlong tells trace a first m → StepsAlong tells trace m then b → StepsAlong tells trace a (then ++ first) b
+StepsAlong-joins tells trace a m b first [] p q = subst (StepsAlong tells trace a first) q p
+StepsAlong-joins tells trace a m b first (x ∷ earlier) p (before, step) =
+    (StepsAlong-joins tells trace a m x first earlier p before, step)
 
 module _ {W : Type 0} {tells : W → StreamLog} {trace : W → W → Type 0} where
   -- a beginning of some text is one of more
-  pub Puts-more : {w w' : Buffered W StdPolicy} {text : List ℕ} {e : Error} (more : List ℕ)
-      → Puts tells trace w text (Err e) w' → Puts tells trace w (text ++ more) (Err e) w'
-  Puts-more {w} {w'} {text} {e} more p = record {
+  pub PutsText-more : {w w' : Buffered W StdPolicy} {text : List ℕ} {e : Error} (more : List ℕ)
+      → PutsText tells trace w text (Err e) w' → PutsText tells trace w (text ++ more) (Err e) w'
+  PutsText-more {w} {w'} {text} {e} more p = record {
     front = BegunAlong-more tells trace std_write_rules w w' text more p.front;
     held = tt;
     met = tt;
@@ -60,15 +61,15 @@ module _ {W : Type 0} {tells : W → StreamLog} {trace : W → W → Type 0} whe
       longer (inr (room, few, refused)) = inr (room, omega (arith, few, length-append text more), refused)
 
   -- a flush
-  pub Puts-flushed : (w v : Buffered W StdPolicy) (answer : Result (Unit {0}) Error) → WasFlushed tells trace w answer v
-      → Puts tells trace w [] answer v
-  Puts-flushed w v (Ok x) f = record {
+  pub PutsText-flushed : (w v : Buffered W StdPolicy) (answer : Result (Unit {0}) Error) → WasFlushed tells trace w answer v
+      → PutsText tells trace w [] answer v
+  PutsText-flushed w v (Ok x) f = record {
     front = WasFlushed-along tells trace std_write_rules w (Ok x) v f;
     held = λ held none. record { empty = f.ok.empty; flushed = f.ok.flushed };
     met = f.ok.met;
     why = tt;
   }
-  Puts-flushed w v (Err e) f = record {
+  PutsText-flushed w v (Err e) f = record {
     front = BegunAlong-of tells trace std_write_rules w v [] []
         (WasFlushed-along tells trace std_write_rules w (Err e) v f);
     held = tt;
@@ -77,9 +78,9 @@ module _ {W : Type 0} {tells : W → StreamLog} {trace : W → W → Type 0} whe
   }
 
   -- parts
-  pub Puts-parts : (w v : Buffered W StdPolicy) (bytes : List ℕ) (answer : Result (Unit {0}) Error)
-      → WritesParts tells trace w bytes answer v → Puts tells trace w bytes answer v
-  Puts-parts w v bytes (Ok x) p = record {
+  pub PutsText-parts : (w v : Buffered W StdPolicy) (bytes : List ℕ) (answer : Result (Unit {0}) Error)
+      → WritesParts tells trace w bytes answer v → PutsText tells trace w bytes answer v
+  PutsText-parts w v bytes (Ok x) p = record {
     front = p.along;
     held = λ held none. elim (cases_lt (usable w.block) (length bytes)) [
       | inl few ↦
@@ -100,7 +101,7 @@ module _ {W : Type 0} {tells : W → StreamLog} {trace : W → W → Type 0} whe
     met = WritesParts-met tells trace w v bytes x p;
     why = tt;
   }
-  Puts-parts w v bytes (Err e) p = record {
+  PutsText-parts w v bytes (Err e) p = record {
     front = BegunAlong-of tells trace std_write_rules w v [] bytes p.along;
     held = tt;
     met = tt;
@@ -109,25 +110,26 @@ module _ {W : Type 0} {tells : W → StreamLog} {trace : W → W → Type 0} whe
 
   module _ (none : (u : W) → trace u u) where
     -- nothing was written
-    pub Puts-none : (w : Buffered W StdPolicy) → Puts tells trace w [] (Ok tt) w
-    Puts-none w = record {
+    pub PutsText-none : (w : Buffered W StdPolicy) → PutsText tells trace w [] (Ok tt) w
+    PutsText-none w = record {
       front = WritesAlong-none tells trace std_write_rules none w;
       held = λ held. held;
       met = MetInterrupts-none w.log.writes;
       why = tt;
     }
 
-    pub Puts-sent : (w v : Buffered W StdPolicy) (answer : Result (Unit {0}) Error) → SendsHeld tells trace w answer v
-        → Puts tells trace w [] answer v
-    Puts-sent w v answer (inl (all, well, same)) =
-        subst (λ r. Puts tells trace w [] r v) (sym well) (subst (Puts tells trace w [] (Ok tt)) (sym same) (Puts-none w))
-    Puts-sent w v answer (inr (some, flushed)) = Puts-flushed w v answer flushed
+    pub PutsText-sent : (w v : Buffered W StdPolicy) (answer : Result (Unit {0}) Error) → SendsHeld tells trace w answer v
+        → PutsText tells trace w [] answer v
+    PutsText-sent w v answer (inl (all, well, same)) =
+        subst (λ r. PutsText tells trace w [] r v) (sym well)
+            (subst (PutsText tells trace w [] (Ok tt)) (sym same) (PutsText-none w))
+    PutsText-sent w v answer (inr (some, flushed)) = PutsText-flushed w v answer flushed
 
   module _ (joins : (u v x : W) → trace u v → trace v x → trace u x) where
     -- more was taken in behind that
-    pub Puts-after : (w v w' : Buffered W StdPolicy) (a b : List ℕ) (putting : Result (Unit {0}) Error)
-        → Puts tells trace w a (Ok tt) v → Puts tells trace v b putting w' → Puts tells trace w (a ++ b) putting w'
-    Puts-after w v w' a b putting p q = record {
+    pub PutsText-after : (w v w' : Buffered W StdPolicy) (a b : List ℕ) (putting : Result (Unit {0}) Error)
+        → PutsText tells trace w a (Ok tt) v → PutsText tells trace v b putting w' → PutsText tells trace w (a ++ b) putting w'
+    PutsText-after w v w' a b putting p q = record {
       front = FrontAlong-after tells trace std_write_rules joins w v w' a b putting p.front q.front;
       held = still putting q.held;
       met = both putting q.met;
@@ -158,47 +160,48 @@ module _ {W : Type 0} {tells : W → StreamLog} {trace : W → W → Type 0} whe
     pub Prompt-joins : (a m b : Both R W) → Prompt tells trace a m → Prompt tells trace m b → Prompt tells trace a b
     Prompt-joins a m b p q = record {
       between = q.between ++ p.between;
-      steps = Steps-joins tells trace a m b p.between q.between p.steps q.steps;
+      steps = StepsAlong-joins tells trace a m b p.between q.between p.steps q.steps;
     }
 
     -- text that was taken in while nobody was asked
-    pub Writes-put : (s : Unbuffered R) {w w' : Buffered W StdPolicy} {text : List ℕ} {putting : Result (Unit {0}) Error}
-        → Puts tells trace w text putting w' → IsUnflushed w w' → Writes tells trace (s, w) text putting (s, w')
-    Writes-put s {w} {w'} puts unflushed =
+    pub WritesPromptly-put : (s : Unbuffered R) {w w' : Buffered W StdPolicy} {text : List ℕ} {putting : Result (Unit {0}) Error}
+        → PutsText tells trace w text putting w' → IsUnflushed w w' → WritesPromptly tells trace (s, w) text putting (s, w')
+    WritesPromptly-put s {w} {w'} puts unflushed =
         record { puts = puts; prompt = Prompt-one (s, w) (s, w') (inl (refl, unflushed)) }
 
     module _ (none : (u : W) → trace u u) where
-      pub Writes-none : (a : Both R W) → Writes tells trace a [] (Ok tt) a
-      Writes-none a = record { puts = Puts-none none a.1; prompt = record { between = []; steps = refl } }
+      pub WritesPromptly-none : (a : Both R W) → WritesPromptly tells trace a [] (Ok tt) a
+      WritesPromptly-none a = record { puts = PutsText-none none a.1; prompt = record { between = []; steps = refl } }
 
       -- the stream went on while nothing was written
-      pub Writes-read : {s t : Unbuffered R} (w : Buffered W StdPolicy) → (t.log ≡ s.log) ⊎ AllSent w
-          → Writes tells trace (s, w) [] (Ok tt) (t, w)
-      Writes-read {s} {t} w (inl same) =
-          record { puts = Puts-none none w; prompt = Prompt-one (s, w) (t, w) (inl (same, refl)) }
-      Writes-read {s} {t} w (inr sent) =
-          record { puts = Puts-none none w; prompt = Prompt-one (s, w) (t, w) (inr (inl (sent, refl))) }
+      pub WritesPromptly-read : {s t : Unbuffered R} (w : Buffered W StdPolicy) → (t.log ≡ s.log) ⊎ AllSent w
+          → WritesPromptly tells trace (s, w) [] (Ok tt) (t, w)
+      WritesPromptly-read {s} {t} w (inl same) =
+          record { puts = PutsText-none none w; prompt = Prompt-one (s, w) (t, w) (inl (same, refl)) }
+      WritesPromptly-read {s} {t} w (inr sent) =
+          record { puts = PutsText-none none w; prompt = Prompt-one (s, w) (t, w) (inr (inl (sent, refl))) }
 
       -- what was held was sent, where the stream is to be asked
-      pub Writes-sent : {P : Type 0} (s : Unbuffered R) (w v : Buffered W StdPolicy) (answer : Result (Unit {0}) Error)
+      pub WritesPromptly-sent : {P : Type 0} (s : Unbuffered R) (w v : Buffered W StdPolicy) (answer : Result (Unit {0}) Error)
           → SendsUnless tells trace P w answer v → ((¬ P) → IsOpen (heads usual) s.left)
-          → Writes tells trace (s, w) [] answer (s, v)
-      Writes-sent s w v answer (inl (settled, well, same)) asks =
-          subst (λ r. Writes tells trace (s, w) [] r (s, v)) (sym well)
-          (subst (λ x. Writes tells trace (s, w) [] (Ok tt) (s, x)) (sym same) (Writes-none (s, w)))
-      Writes-sent s w v answer (inr (unsettled, inl (all, well, same))) asks =
-          subst (λ r. Writes tells trace (s, w) [] r (s, v)) (sym well)
-          (subst (λ x. Writes tells trace (s, w) [] (Ok tt) (s, x)) (sym same) (Writes-none (s, w)))
-      Writes-sent s w v answer (inr (unsettled, inr (some, flushed))) asks = record {
-        puts = Puts-flushed w v answer flushed;
+          → WritesPromptly tells trace (s, w) [] answer (s, v)
+      WritesPromptly-sent s w v answer (inl (settled, well, same)) asks =
+          subst (λ r. WritesPromptly tells trace (s, w) [] r (s, v)) (sym well)
+          (subst (λ x. WritesPromptly tells trace (s, w) [] (Ok tt) (s, x)) (sym same) (WritesPromptly-none (s, w)))
+      WritesPromptly-sent s w v answer (inr (unsettled, inl (all, well, same))) asks =
+          subst (λ r. WritesPromptly tells trace (s, w) [] r (s, v)) (sym well)
+          (subst (λ x. WritesPromptly tells trace (s, w) [] (Ok tt) (s, x)) (sym same) (WritesPromptly-none (s, w)))
+      WritesPromptly-sent s w v answer (inr (unsettled, inr (some, flushed))) asks = record {
+        puts = PutsText-flushed w v answer flushed;
         prompt = Prompt-one (s, w) (s, v) (inr (inr (refl, asks unsettled, some, (answer, flushed))));
       }
 
     module _ (joins : (u v x : W) → trace u v → trace v x → trace u x) where
-      pub Writes-after : (a m b : Both R W) (x y : List ℕ) (putting : Result (Unit {0}) Error)
-          → Writes tells trace a x (Ok tt) m → Writes tells trace m y putting b → Writes tells trace a (x ++ y) putting b
-      Writes-after a m b x y putting p q = record {
-        puts = Puts-after joins a.1 m.1 b.1 x y putting p.puts q.puts;
+      pub WritesPromptly-after : (a m b : Both R W) (x y : List ℕ) (putting : Result (Unit {0}) Error)
+          → WritesPromptly tells trace a x (Ok tt) m → WritesPromptly tells trace m y putting b
+          → WritesPromptly tells trace a (x ++ y) putting b
+      WritesPromptly-after a m b x y putting p q = record {
+        puts = PutsText-after joins a.1 m.1 b.1 x y putting p.puts q.puts;
         prompt = Prompt-joins a m b p.prompt q.prompt;
       }
 

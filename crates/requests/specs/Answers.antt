@@ -23,7 +23,8 @@ use Rattle.messages.specs.declared.head.ParsedHead.{ParsedHead}
 use Rattle.messages.specs.Heads.{IsHead, heads}
 use Rattle.messages.specs.declared.head.Heads.{Heads}
 use Rattle.messages.specs.Limits.{usual}
-use Rattle.messages.specs.Messages.{EachGave, Fails, InBody, InTurn, IsMessage, IsRest, IsWrongNext, Message, Onward, body_of}
+use Rattle.messages.specs.Messages.{EachReadGave, Fails, GoesWrong, InBody, InTurn, IsMessage, IsRest, Message, Onward, body_of}
+use Rattle.messages.specs.Versions.{is_end}
 use Rattle.programs.specs.Streams.{AllSent, EndsOnce}
 use Rattle.requests.specs.declared.writing.Refusal.{Refusal}
 use Rattle.requests.specs.declared.writing.Refusal.TheVariants.{BadRequest, LargeBody, LongTarget, LargeHead, Unknown, OtherVersion}
@@ -35,7 +36,7 @@ use Rattle.requests.specs.declared.Ending.TheVariants.{Over, Unread}
 use Rattle.requests.specs.declared.taking.Untaken.{Untaken}
 use Rattle.requests.specs.declared.taking.Untaken.TheVariants.{Body, Large, Unsent, Many}
 use Rattle.requests.specs.Large.{TurnsLarge, is_large}
-use Rattle.requests.specs.Sending.{IsUnflushed, Puts, SendsHeld, Writes}
+use Rattle.requests.specs.Sending.{IsUnflushed, PutsText, SendsHeld, WritesPromptly}
 
 -- a call for a body, and a refusal, each where there is one
 abbrev pub called : Bool → List ℕ
@@ -86,8 +87,8 @@ success true = codes "HTTP/1.1 200 OK\r\nContent-Length: 21\r\nConnection: keep-
 success false = codes "HTTP/1.1 200 OK\r\nContent-Length: 21\r\nConnection: close\r\n\r\n"
 
 -- that, and the length, which isn't sent to `HEAD`
-abbrev pub accepted : ParsedHead → ℕ → List ℕ
-accepted said len = success said.keeps ++ (if said.bare then [] else length_line len)
+abbrev pub granted : ParsedHead → ℕ → List ℕ
+granted said len = success said.keeps ++ (if said.bare then [] else length_line len)
 
 -- 501, to a method that isn't known
 abbrev pub declined : Bool → List ℕ
@@ -98,10 +99,6 @@ declined false = codes "HTTP/1.1 501 Not Implemented\r\nContent-Length: 0\r\nCon
 abbrev pub disappointed : Bool → List ℕ
 disappointed true = codes "HTTP/1.1 417 Expectation Failed\r\nContent-Length: 0\r\nConnection: keep-alive\r\n\r\n"
 disappointed false = codes "HTTP/1.1 417 Expectation Failed\r\nContent-Length: 0\r\nConnection: close\r\n\r\n"
-
--- an end of a line
-abbrev pub is_end : ℕ → Bool
-is_end b = (b == 13) || (b == 10)
 
 -- a line begins with a method that is known (RFC 9110, section 9.3, and RFC 5789)
 abbrev pub begins : List ℕ → List ℕ → Bool
@@ -122,7 +119,7 @@ is_known head = begins_known (drop (prefix_len is_end head) head)
 
 abbrev pub answered : Bool → ParsedHead → ℕ → List ℕ
 answered known said len =
-    if known then (if said.met then accepted said len else disappointed said.keeps) else declined said.keeps
+    if known then (if said.met then granted said len else disappointed said.keeps) else declined said.keeps
 
 -- the answer to a message: 200, and how much payload all of its body has; or 501, or 417
 abbrev pub IsAnswer : Message → List ℕ → Type 0
@@ -163,54 +160,54 @@ call_at (Before requests) = []
 call_at (Inside body) = called (waits body.said)
 
 -- these are ends of lines alone, and so empty lines, which say nothing (RFC 9112, section 2.2)
-abbrev pub is_blank : List ℕ → Bool
-is_blank bytes = prefix_len is_end bytes == length bytes
+abbrev pub only_line_ends : List ℕ → Bool
+only_line_ends bytes = prefix_len is_end bytes == length bytes
 
 -- what comes is to be refused so: no head begins what is left, for that reason, or the stream ended in one; or the next byte of
 -- the body is wrong, or the stream ended before that was complete, or what was taken of it is too large, with this payload
-abbrev pub IsWrong : {S : Type 0} → Unbuffered S → Place S → List ℕ → Refusal → Type 0
-IsWrong s (Before requests) handed why = ((e : BadHead) × (heads usual).wrong (rest requests) e × (why ≡ refusal_of e))
-    ⊎ ((why ≡ BadRequest) × (ends_of s < ends_of (left_of requests)) × (is_blank (rest requests) ≡ false)
+abbrev pub IsToBeRefused : {S : Type 0} → Unbuffered S → Place S → List ℕ → Refusal → Type 0
+IsToBeRefused s (Before requests) handed why = ((e : BadHead) × (heads usual).wrong (rest requests) e × (why ≡ refusal_of e))
+    ⊎ ((why ≡ BadRequest) × (ends_of s < ends_of (left_of requests)) × (only_line_ends (rest requests) ≡ false)
     × IsOpen (heads usual) (rest requests))
-IsWrong s (Inside body) handed why = ((why ≡ BadRequest)
-    × (((name : Malformed) × IsWrongNext body.rest body.stream.left name)
+IsToBeRefused s (Inside body) handed why = ((why ≡ BadRequest)
+    × (((name : Malformed) × GoesWrong body.rest body.stream.left name)
     ⊎ ((ends_of s < ends_of body.stream) × (body.stream.left ≡ [])
     × ((payload : List ℕ) → ¬ (IsRest body.rest [] payload)))))
     ⊎ ((why ≡ LargeBody) × TurnsLarge body.said.extent body.taken handed)
 
 -- the stream ended, and nothing is left but empty lines, where a head would begin
-abbrev pub HasEnded : {S : Type 0} → Unbuffered S → Place S → Type 0
-HasEnded s (Before requests) = (ends_of s < ends_of (left_of requests)) × IsTrue (is_blank (rest requests))
-HasEnded s (Inside body) = ⊥
+abbrev pub EndedBeforeHead : {S : Type 0} → Unbuffered S → Place S → Type 0
+EndedBeforeHead s (Before requests) = (ends_of s < ends_of (left_of requests)) × IsTrue (only_line_ends (rest requests))
+EndedBeforeHead s (Inside body) = ⊥
 
 -- whether another message may follow this one, as its head says
-abbrev pub Keeps : Bool → Message → Type 0
-Keeps keeps m = (said : ParsedHead) × IsHead usual m.0 said × (said.keeps ≡ keeps)
+abbrev pub MayFollow : Bool → Message → Type 0
+MayFollow keeps m = (said : ParsedHead) × IsHead usual m.0 said × (said.keeps ≡ keeps)
 
 -- none may follow the last of these, and one each other
 pub record Closes (messages : List Message) : Type 0 where
   pub before : List Message
   pub last : Message
   pub all : messages ≡ before ++ last ∷ []
-  pub keep : All (Keeps true) before
-  pub close : Keeps false last
+  pub keep : All (MayFollow true) before
+  pub close : MayFollow false last
 
 -- why no more is answered: behind the last message none may follow, nothing was taken behind it, and no end was met, as who asks
 -- there may meet one; or what comes was refused, or the stream ended
-abbrev pub IsOver : {S : Type 0} → List Message → List ℕ → Option Refusal → Unbuffered S → Place S → Type 0
-IsOver messages taken refuses s place =
+abbrev pub NoMoreAnswered : {S : Type 0} → List Message → List ℕ → Option Refusal → Unbuffered S → Place S → Type 0
+NoMoreAnswered messages taken refuses s place =
     (Closes messages × (taken ≡ []) × (refuses ≡ None) × (ends_of (stream_at place) ≡ ends_of s))
-    ⊎ (All (Keeps true) messages × (IsSome refuses ⊎ HasEnded s place))
+    ⊎ (All (MayFollow true) messages × (IsSome refuses ⊎ EndedBeforeHead s place))
 
 -- these bytes behind whole messages are none, or a head, and of the body that it says some with this payload
-abbrev pub IsPart : {S : Type 0} → Place S → List ℕ → List ℕ → Type 0
-IsPart (Before requests) taken handed = (taken ≡ []) × (handed ≡ [])
-IsPart (Inside body) taken handed = (taken ≡ body.head ++ body.taken) × IsHead usual body.head body.said
+abbrev pub IsPartTaken : {S : Type 0} → Place S → List ℕ → List ℕ → Type 0
+IsPartTaken (Before requests) taken handed = (taken ≡ []) × (handed ≡ [])
+IsPartTaken (Inside body) taken handed = (taken ≡ body.head ++ body.taken) × IsHead usual body.head body.said
     × Onward (body_of usual body.said.extent) body.taken handed body.rest
 
 -- behind interruptions a read failed so
-abbrev pub ReadFails : {S : Type 0} → Unbuffered S → Error → Unbuffered S → Type 0
-ReadFails s e t = FaultAfterInterrupts (faults_of s) (faults_of t) e × (error_kind e ≢ Interrupted)
+abbrev pub FailsInRead : {S : Type 0} → Unbuffered S → Error → Unbuffered S → Type 0
+FailsInRead s e t = FaultAfterInterrupts (faults_of s) (faults_of t) e × (error_kind e ≢ Interrupted)
 
 -- with the interruptions that were met, these are more than are counted
 abbrev pub IsMany : {S : Type 0} → ℕ → Unbuffered S → Unbuffered S → Type 0
@@ -220,16 +217,16 @@ IsMany count s t = 2 ^ 64 ≤ count + (length (faults_of t) - length (faults_of 
 -- nothing asked for
 abbrev pub FailsOn : {S W : Type 0} → Unbuffered S → Untaken → InBody S → Buffered W StdPolicy → Type 0
 FailsOn s (Body e) b w' = Fails s e b.stream b.rest × ((b.stream.log ≡ s.log) ⊎ AllSent w')
-FailsOn s (Unsent e) b w' = EachGave s b.stream
+FailsOn s (Unsent e) b w' = EachReadGave s b.stream
 FailsOn s e b w' = ⊥
 
 -- why a body isn't taken whole, of which this payload was: so, or it is wrong, or too large, or more than is counted
 abbrev pub TakeFails : {S W : Type 0} → Unbuffered S → List ℕ → Untaken → InBody S → Buffered W StdPolicy → Type 0
 TakeFails s handed (Body (Io e)) b w' =
-    EndsOnce s.log.reads b.stream.log.reads × ReadFails s e b.stream × AllSent w'
+    EndsOnce s.log.reads b.stream.log.reads × FailsInRead s e b.stream × AllSent w'
 TakeFails s handed (Body wrong) b w' =
     EndsOnce s.log.reads b.stream.log.reads × OnlyInterrupts (faults_of s) (faults_of b.stream)
-    × IsWrong s (Inside b) handed BadRequest
+    × IsToBeRefused s (Inside b) handed BadRequest
 TakeFails s handed Large b w' = ReadsSteadily s b.stream × TurnsLarge b.said.extent b.taken handed
 TakeFails s handed (Unsent e) b w' = ReadsSteadily s b.stream
 TakeFails s handed Many b w' = ReadsSteadily s b.stream × IsMany (length handed) s b.stream
@@ -256,10 +253,10 @@ IsLastAnswer messages text = (before : List Message) × (m : Message) × (said :
 
 -- this is sent last, where the reader stands there: a refusal, or such an answer, or the call for a body of which nothing was
 -- taken
-abbrev pub IsLast : {S : Type 0} → List Message → List ℕ → Option Refusal → Place S → List ℕ → Type 0
-IsLast messages taken (Some why) place text = text ≡ refusal why
-IsLast messages taken None (Before requests) text = IsLastAnswer messages text
-IsLast messages taken None (Inside body) text = (text ≡ call_at (Inside body)) × (taken ≡ body.head)
+abbrev pub IsSentLast : {S : Type 0} → List Message → List ℕ → Option Refusal → Place S → List ℕ → Type 0
+IsSentLast messages taken (Some why) place text = text ≡ refusal why
+IsSentLast messages taken None (Before requests) text = IsLastAnswer messages text
+IsSentLast messages taken None (Inside body) text = (text ≡ call_at (Inside body)) × (taken ≡ body.head)
 
 -- of this text all but such a last part was taken in, and then taking that in failed; or a flush did, behind the whole text
 pub record FailsLast {W : Type 0} (tells : W → StreamLog) (trace : W → W → Type 0) (Last : List ℕ → Type 0)
@@ -269,8 +266,8 @@ pub record FailsLast {W : Type 0} (tells : W → StreamLog) (trace : W → W →
   pub equal : text ≡ front ++ part
   pub last : (part ≡ []) ⊎ Last part
   pub before : Buffered W StdPolicy
-  pub put : Puts tells trace w front (Ok tt) before
-  pub fails : Puts tells trace before part (Err e) w'
+  pub put : PutsText tells trace w front (Ok tt) before
+  pub fails : PutsText tells trace before part (Err e) w'
 
 -- what is sent behind a refusal, or a fault, ends so
 abbrev pub ending_of : Result (Unit {0}) Error → Ending
@@ -283,15 +280,15 @@ sending_of (stop.Unsent e) = Err e
 sending_of ending = Ok tt
 
 -- how that ends a run: what is wrong, or too large, is refused
-abbrev pub EndsBody : {W : Type 0} → (W → StreamLog) → (W → W → Type 0) → Buffered W StdPolicy → Untaken → Ending
+abbrev pub EndsUntaken : {W : Type 0} → (W → StreamLog) → (W → W → Type 0) → Buffered W StdPolicy → Untaken → Ending
     → Buffered W StdPolicy → Type 0
-EndsBody tells trace w (Body (Io e)) ending w' = (ending ≡ Unread e) × (w' ≡ w)
-EndsBody tells trace w (Body wrong) ending w' = (answer : Result (Unit {0}) Error) × (ending ≡ ending_of answer)
-    × Puts tells trace w (refusal BadRequest) answer w' × IsUnflushed w w'
-EndsBody tells trace w Large ending w' = (answer : Result (Unit {0}) Error) × (ending ≡ ending_of answer)
-    × Puts tells trace w (refusal LargeBody) answer w' × IsUnflushed w w'
-EndsBody tells trace w (Unsent e) ending w' = (ending ≡ stop.Unsent e) × (w' ≡ w)
-EndsBody tells trace w Many ending w' = (ending ≡ stop.Many) × (w' ≡ w)
+EndsUntaken tells trace w (Body (Io e)) ending w' = (ending ≡ Unread e) × (w' ≡ w)
+EndsUntaken tells trace w (Body wrong) ending w' = (answer : Result (Unit {0}) Error) × (ending ≡ ending_of answer)
+    × PutsText tells trace w (refusal BadRequest) answer w' × IsUnflushed w w'
+EndsUntaken tells trace w Large ending w' = (answer : Result (Unit {0}) Error) × (ending ≡ ending_of answer)
+    × PutsText tells trace w (refusal LargeBody) answer w' × IsUnflushed w w'
+EndsUntaken tells trace w (Unsent e) ending w' = (ending ≡ stop.Unsent e) × (w' ≡ w)
+EndsUntaken tells trace w Many ending w' = (ending ≡ stop.Many) × (w' ≡ w)
 
 -- what is done at the end, and what is answered: what is held is sent, unless sending or reading failed
 abbrev pub EndsSent : {W : Type 0} → (W → StreamLog) → (W → W → Type 0) → Ending → Buffered W StdPolicy
@@ -305,62 +302,62 @@ EndsSent tells trace (stop.Unsent e) w answer w' = (answer ≡ Err e) × (w' ≡
 module _ {R W : Type 0} (remaining : R → Option (List ℕ)) (tells : W → StreamLog) (trace : W → W → Type 0) where
   -- of what was given, these messages went, and then these bytes; what was taken in is the answer to each, in their order, and
   -- then this text; and where sending failed, it did in such a last part
-  pub record Answers (messages : List Message) (s : Unbuffered R) (w : Buffered W StdPolicy) (taken last : List ℕ)
+  pub record AnswersMessages (messages : List Message) (s : Unbuffered R) (w : Buffered W StdPolicy) (taken last : List ℕ)
       (Last : List ℕ → Type 0) (t : Unbuffered R) (sending : Result (Unit {0}) Error) (w' : Buffered W StdPolicy) : Type 0 where
     pub bytes : List ℕ
     pub are : InTurn IsTaken messages bytes
     pub went : StreamWent remaining s (bytes ++ taken) t
     pub text : List ℕ
     pub answers : InTurn IsAnswer messages text
-    pub writes : Writes tells trace (s, w) (text ++ last) sending (t, w')
+    pub writes : WritesPromptly tells trace (s, w) (text ++ last) sending (t, w')
     pub fails : IfErr sending (λ e. FailsLast tells trace Last w (text ++ last) e w')
 
   -- messages went, each was answered, and another may follow
   pub record Continues (s : Unbuffered R) (w : Buffered W StdPolicy) (t : Unbuffered R) (w' : Buffered W StdPolicy) : Type 0 where
     pub messages : List Message
-    pub answers : Answers messages s w [] [] (IsLastAnswer messages) t (Ok tt) w'
-    pub keep : All (Keeps true) messages
+    pub answers : AnswersMessages messages s w [] [] (IsLastAnswer messages) t (Ok tt) w'
+    pub keep : All (MayFollow true) messages
     pub reads : ReadsSteadily s t
 
   -- why a run ends: a read failed, and all had been sent; or reads were at most interrupted, and it is over, or these are more
   -- than are counted, or sending failed
-  abbrev pub EndsBy : Unbuffered R → List Message → List ℕ → List ℕ → Option Refusal → Place R → Buffered W StdPolicy
+  abbrev pub RunEndsBy : Unbuffered R → List Message → List ℕ → List ℕ → Option Refusal → Place R → Buffered W StdPolicy
       → Ending → Type 0
-  EndsBy s messages taken handed refuses place w' Over =
-      OnlyInterrupts (faults_of s) (faults_of (stream_at place)) × IsOver messages taken refuses s place
-  EndsBy s messages taken handed refuses place w' stop.Many = OnlyInterrupts (faults_of s) (faults_of (stream_at place))
+  RunEndsBy s messages taken handed refuses place w' Over =
+      OnlyInterrupts (faults_of s) (faults_of (stream_at place)) × NoMoreAnswered messages taken refuses s place
+  RunEndsBy s messages taken handed refuses place w' stop.Many = OnlyInterrupts (faults_of s) (faults_of (stream_at place))
       × IsMany (length messages + length handed) s (stream_at place)
-  EndsBy s messages taken handed refuses place w' (Unread e) = ReadFails s e (stream_at place) × AllSent w'
-  EndsBy s messages taken handed refuses place w' (stop.Unsent e) =
+  RunEndsBy s messages taken handed refuses place w' (Unread e) = FailsInRead s e (stream_at place) × AllSent w'
+  RunEndsBy s messages taken handed refuses place w' (stop.Unsent e) =
       OnlyInterrupts (faults_of s) (faults_of (stream_at place))
 
   -- a run, but for what is sent last: behind the answers were written the call for a body that the client waits for, and a
   -- refusal of what is wrong, by its status; so there is no 200 but for a whole message. The end is asked for once
-  pub record Runs (s : Unbuffered R) (w : Buffered W StdPolicy) (place : Place R) (ending : Ending)
+  pub record RunsToLast (s : Unbuffered R) (w : Buffered W StdPolicy) (place : Place R) (ending : Ending)
       (w' : Buffered W StdPolicy) : Type 0 where
     pub messages : List Message
     pub taken : List ℕ
     pub handed : List ℕ
-    pub part : IsPart place taken handed
+    pub part : IsPartTaken place taken handed
     pub refuses : Option Refusal
-    pub answers : Answers messages s w taken (call_at place ++ refused refuses) (IsLast messages taken refuses place)
+    pub answers : AnswersMessages messages s w taken (call_at place ++ refused refuses) (IsSentLast messages taken refuses place)
         (stream_at place) (sending_of ending) w'
     pub once : EndsOnce s.log.reads (stream_at place).log.reads
-    pub wrong : IfSome refuses (IsWrong s place handed)
-    pub ends : EndsBy s messages taken handed refuses place w' ending
+    pub wrong : IfSome refuses (IsToBeRefused s place handed)
+    pub ends : RunEndsBy s messages taken handed refuses place w' ending
 
   -- a run: where sending failed, it returns why, and nothing was taken that comes behind what failed; or all was sent
-  pub record Serves (s : Unbuffered R) (w : Buffered W StdPolicy) (place : Place R) (answer : Result (Unit {0}) Error)
+  pub record ServesRequests (s : Unbuffered R) (w : Buffered W StdPolicy) (place : Place R) (answer : Result (Unit {0}) Error)
       (w' : Buffered W StdPolicy) : Type 0 where
     pub ending : Ending
     pub held : Buffered W StdPolicy
-    pub runs : Runs s w place ending held
+    pub runs : RunsToLast s w place ending held
     pub last : EndsSent tells trace ending held answer w'
 
   -- one turn: a message went, or a read was interrupted; or the run ended
-  abbrev pub Turns : Unbuffered R → Buffered W StdPolicy → Result (ReaderState R Heads) (Place R × Ending)
+  abbrev pub AnswersTurn : Unbuffered R → Buffered W StdPolicy → Result (ReaderState R Heads) (Place R × Ending)
       → Buffered W StdPolicy → Type 0
-  Turns s w result w' = MatchResult result
+  AnswersTurn s w result w' = MatchResult result
       (λ next. (goes : Continues s w (left_of next) w')
       × (length (faults_of s) < length goes.messages + length (faults_of (left_of next))))
-      (λ e. Runs s w e.0 e.1 w')
+      (λ e. RunsToLast s w e.0 e.1 w')

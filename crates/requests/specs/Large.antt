@@ -14,12 +14,12 @@ is_large (Sized all) taken payload = nat_lt max_payload payload || nat_lt max_pa
 is_large Chunked taken payload = nat_lt max_payload payload || nat_lt (16384 + 6 * payload) taken
 
 -- it wasn't before the last read, which handed out this much payload at most; or nothing was read
-abbrev pub IsFresh : Extent → ℕ → List ℕ → List ℕ → Type 0
-IsFresh extent most taken handed = ((taken ≡ []) × (handed ≡ []))
+abbrev pub IsNewlyLarge : Extent → ℕ → List ℕ → List ℕ → Type 0
+IsNewlyLarge extent most taken handed = ((taken ≡ []) × (handed ≡ []))
     ⊎ ((before : List ℕ) × (wire : List ℕ) × (payload : List ℕ) × (last : List ℕ) × (taken ≡ before ++ wire)
     × (handed ≡ payload ++ last) × (length last ≤ most) × (is_large extent (length before) (length payload) ≡ false))
 
 -- what was taken of a body is too large with this payload, as soon as that was read
 pub record TurnsLarge (extent : Extent) (taken handed : List ℕ) : Type 0 where
   pub large : IsTrue (is_large extent (length taken) (length handed))
-  pub fresh : IsFresh extent 4096 taken handed
+  pub fresh : IsNewlyLarge extent 4096 taken handed

@@ -28,7 +28,7 @@ PutStops text w e w' = SendErrorCaused w.log.writes w'.log.writes e
     ⊎ ((more : ℕ) × (more ≤ length text) × GrowthFailed more w'.block e)
 
 -- at Ok this text was taken in, and the writer met nothing but interruptions; at an Err a beginning of it was
-pub record Puts {W : Type 0} (tells : W → StreamLog) (trace : W → W → Type 0) (w : Buffered W StdPolicy) (text : List ℕ)
+pub record PutsText {W : Type 0} (tells : W → StreamLog) (trace : W → W → Type 0) (w : Buffered W StdPolicy) (text : List ℕ)
     (putting : Result (Unit {0}) Error) (w' : Buffered W StdPolicy) : Type 0 where
   pub front : FrontAlong tells trace std_write_rules w text putting w'
   pub held : OnOk putting (IsHeld w → IsHeld w')
@@ -61,21 +61,21 @@ module _ {R W : Type 0} (tells : W → StreamLog) (trace : W → W → Type 0) w
       × ((sending : Result (Unit {0}) Error) × WasFlushed tells trace w sending v))
 
   -- such steps, by way of these, of which the last is first
-  abbrev pub Steps : Both R W → List (Both R W) → Both R W → Type 0
-  Steps a [] b = a ≡ b
-  Steps a (m ∷ earlier) b = Steps a earlier m × IsStep m b
+  abbrev pub StepsAlong : Both R W → List (Both R W) → Both R W → Type 0
+  StepsAlong a [] b = a ≡ b
+  StepsAlong a (m ∷ earlier) b = StepsAlong a earlier m × IsStep m b
 
   -- the stream was asked only where nothing was held back, and each flush sends something, and stands before an ask
   pub record Prompt (a b : Both R W) : Type 0 where
     pub between : List (Both R W)
-    pub steps : Steps a between b
+    pub steps : StepsAlong a between b
 
   -- and meanwhile this text was taken in
-  pub record Writes (a : Both R W) (text : List ℕ) (putting : Result (Unit {0}) Error) (b : Both R W) : Type 0 where
-    pub puts : Puts tells trace a.1 text putting b.1
+  pub record WritesPromptly (a : Both R W) (text : List ℕ) (putting : Result (Unit {0}) Error) (b : Both R W) : Type 0 where
+    pub puts : PutsText tells trace a.1 text putting b.1
     pub prompt : Prompt a b
 
   -- nothing was written but what had been held, and where the stream was asked that had been sent
-  pub record Comes (a b : Both R W) : Type 0 where
-    pub writes : Writes a [] (Ok tt) b
+  pub record WritesOnlyHeld (a b : Both R W) : Type 0 where
+    pub writes : WritesPromptly a [] (Ok tt) b
     pub asked : (b.0.log ≡ a.0.log) ⊎ AllSent b.1

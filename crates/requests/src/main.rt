@@ -5,7 +5,7 @@
 //! 9112 has for it (`refusal_of`); 400 is for a body that is none, or ends early, and 413 for one that is too large (`is_large`);
 //! and then no more comes. It ends behind a request after which none may follow, and where the stream does. It asks the stream
 //! only where all that it answered was sent, and sends only there and at the end (`Prompt`); where sending fails, nothing was
-//! taken behind what failed (`IsLast`).
+//! taken behind what failed (`IsSentLast`).
 #![tactic(auto)]
 
 mod limits;
@@ -23,9 +23,9 @@ ghost use Rattle.codec.specs.PieceReader.{IsSettled, ReaderState, left_of};
 ghost use Rattle.messages.specs.declared.head.Heads.{Heads};
 ghost use Rattle.messages.specs.Heads.{heads};
 ghost use Rattle.messages.specs.Limits.{usual};
-ghost use Rattle.messages.specs.Messages.{Begun, answer_of};
-ghost use Rattle.requests.specs.Sending.{Comes, IsHeld, SendsUnless, Writes};
-ghost use Rattle.requests.specs.Answers.{EndsBody, EndsSent, Serves, Turns, called, ending_of, is_blank, sending_of, waits};
+ghost use Rattle.messages.specs.Messages.{Begun, stop_answer};
+ghost use Rattle.requests.specs.Sending.{IsHeld, SendsUnless, WritesOnlyHeld, WritesPromptly};
+ghost use Rattle.requests.specs.Answers.{AnswersTurn, EndsSent, EndsUntaken, ServesRequests, called, ending_of, only_line_ends, sending_of, waits};
 
 use crate::taking::{Untaken, take_whole};
 use crate::writing::{
@@ -64,7 +64,7 @@ fn serve<R: TellRead, W: TellWrite>(
 ) -> (Place<R>, io::Result<()>)
     requires held { IsHeld writer.old }
     requires limits { requests.decoder.0 ≡ usual }
-    ensures { Serves R.remaining W.log W.trace (left_of requests) writer.old result.0 result.1 writer.new }
+    ensures { ServesRequests R.remaining W.log W.trace (left_of requests) writer.old result.0 result.1 writer.new }
 {
     let mut next = requests;
     for _message in 0..u64::MAX {
@@ -118,7 +118,7 @@ fn answer<R: TellRead, W: TellWrite>(
 ) -> Result<Requests<R>, (Place<R>, Ending)>
     requires held { IsHeld writer.old }
     requires limits { requests.decoder.0 ≡ usual }
-    ensures turns { Turns R.remaining W.log W.trace (left_of requests) writer.old result writer.new }
+    ensures turns { AnswersTurn R.remaining W.log W.trace (left_of requests) writer.old result writer.new }
     ensures limits { IfOk result (λ next. next.decoder.0 ≡ usual) }
 {
     match requests.next_buffered() {
@@ -134,7 +134,7 @@ fn answer_next<R: TellRead, W: TellWrite>(
 ) -> Result<Requests<R>, (Place<R>, Ending)>
     requires held { IsHeld writer.old }
     requires limits { requests.decoder.0 ≡ usual }
-    ensures turns { Turns R.remaining W.log W.trace (left_of requests) writer.old result writer.new }
+    ensures turns { AnswersTurn R.remaining W.log W.trace (left_of requests) writer.old result writer.new }
     ensures limits { IfOk result (λ next. next.decoder.0 ≡ usual) }
 {
     match send_to_ask(&requests, writer) {
@@ -170,9 +170,9 @@ fn stopped<R: TellRead, W: TellWrite>(
     requires limits { requests.decoder.0 ≡ usual }
     ensures limits { IfOk result (λ next. next.decoder.0 ≡ usual) }
     ensures turns { (s : ReaderState R Heads) (w : Buffered W StdPolicy) → s.ended ≡ false
-        → NextPiece R.remaining (heads usual) s (answer_of stop) requests
-        → Comes W.log W.trace (left_of s, w) (left_of requests, writer.old)
-        → Turns R.remaining W.log W.trace (left_of s) w result writer.new }
+        → NextPiece R.remaining (heads usual) s (stop_answer stop) requests
+        → WritesOnlyHeld W.log W.trace (left_of s, w) (left_of requests, writer.old)
+        → AnswersTurn R.remaining W.log W.trace (left_of s) w result writer.new }
 {
     if is_interrupt(&stop) {
         return Ok(requests);
@@ -193,9 +193,9 @@ fn stopped<R: TellRead, W: TellWrite>(
 // Whether the stream ended behind empty lines, which say nothing.
 fn is_blank_end(stop: &Stop, left: &[u8]) -> bool
     ensures yes { result ≡ true → (have : ℕ) × (stop.now ≡ Stop.Bad (BadHead.CutShort have))
-        × IsTrue (is_blank left.now) }
+        × IsTrue (only_line_ends left.now) }
     ensures cut { (have : ℕ) → stop.now ≡ Stop.Bad (BadHead.CutShort have)
-        → result ≡ is_blank left.now }
+        → result ≡ only_line_ends left.now }
 {
     match stop {
         Stop::Bad(BadHead::CutShort(_)) => is_blank(left),
@@ -204,7 +204,7 @@ fn is_blank_end(stop: &Stop, left: &[u8]) -> bool
 }
 
 fn is_blank(left: &[u8]) -> bool
-    ensures { result ≡ is_blank left.now }
+    ensures { result ≡ only_line_ends left.now }
 {
     blank_len(left) == left.len()
 }
@@ -237,8 +237,8 @@ fn answer_body<R: TellRead, W: TellWrite>(
     requires limits { body.limits ≡ usual }
     ensures limits { IfOk result (λ next. next.decoder.0 ≡ usual) }
     ensures turns { (s : ReaderState R Heads) (w : Buffered W StdPolicy) → Begun R.remaining s body
-        → Writes W.log W.trace (left_of s, w) [] (Ok tt) (body.stream, writer.old)
-        → Turns R.remaining W.log W.trace (left_of s) w result writer.new }
+        → WritesPromptly W.log W.trace (left_of s, w) [] (Ok tt) (body.stream, writer.old)
+        → AnswersTurn R.remaining W.log W.trace (left_of s) w result writer.new }
 {
     match call_for_body(body.said(), writer) {
         Ok(()) => answer_called(body, writer),
@@ -256,8 +256,8 @@ fn answer_called<R: TellRead, W: TellWrite>(
     requires limits { body.limits ≡ usual }
     ensures limits { IfOk result (λ next. next.decoder.0 ≡ usual) }
     ensures turns { (s : ReaderState R Heads) (w : Buffered W StdPolicy) → Begun R.remaining s body
-        → Writes W.log W.trace (left_of s, w) (called (waits body.said)) (Ok tt) (body.stream, writer.old)
-        → Turns R.remaining W.log W.trace (left_of s) w result writer.new }
+        → WritesPromptly W.log W.trace (left_of s, w) (called (waits body.said)) (Ok tt) (body.stream, writer.old)
+        → AnswersTurn R.remaining W.log W.trace (left_of s) w result writer.new }
 {
     let said = body.said();
     let known = is_known(body.head());
@@ -287,7 +287,7 @@ fn too_many() -> io::Error
 
 // Refuses a body that isn't whole, or is too large, where that isn't the stream's fault.
 fn unended<W: TellWrite>(e: Untaken, writer: &mut BufWriter<W>) -> Ending
-    ensures { EndsBody W.log W.trace writer.old e result writer.new }
+    ensures { EndsUntaken W.log W.trace writer.old e result writer.new }
 {
     match e {
         Untaken::Body(BodyError::Io(e)) => Ending::Unread(e),

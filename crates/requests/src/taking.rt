@@ -5,10 +5,10 @@ ghost use Rattle.redux_buffer.specs.Faults.{IsInterrupt};
 ghost use Rattle.body_reader.specs.Between.{handed_out};
 ghost use Rattle.codec.specs.PieceReader.{left_of};
 ghost use Rattle.messages.specs.Limits.{usual};
-ghost use Rattle.messages.specs.Messages.{EachGave, InsideGoes, IsRest};
+ghost use Rattle.messages.specs.Messages.{EachReadGave, InsideGoes, IsRest};
 ghost use Rattle.requests.specs.Answers.{FailsOn, ReadsSteadily, TakeFails, TakesWhole, sent_till, sent_with, unfinished};
 ghost use Rattle.requests.specs.Large.{is_large};
-ghost use Rattle.requests.specs.Sending.{IsHeld, SendsUnless, Writes};
+ghost use Rattle.requests.specs.Sending.{IsHeld, SendsUnless, WritesPromptly};
 
 use crate::limits::is_large;
 use crate::writing::send_held;
@@ -45,8 +45,8 @@ pub fn take_whole<R: TellRead, W: TellWrite>(
     ensures part { IfErr result (λ e. (handed : List ℕ) × InsideGoes R.remaining body handed e.0
         × TakeFails body.stream handed e.1 e.0 writer.new) }
     ensures writes { MatchResult result
-        (λ r. Writes W.log W.trace (body.stream, writer.old) [] (Ok tt) (left_of r.1, writer.new))
-        (λ e. Writes W.log W.trace (body.stream, writer.old) [] (sent_till e.1) (e.0.stream, writer.new)) }
+        (λ r. WritesPromptly W.log W.trace (body.stream, writer.old) [] (Ok tt) (left_of r.1, writer.new))
+        (λ e. WritesPromptly W.log W.trace (body.stream, writer.old) [] (sent_till e.1) (e.0.stream, writer.new)) }
 {
     let mut body = body;
     match payload_len(&mut body, writer) {
@@ -82,7 +82,7 @@ fn payload_len<R: TellRead, W: TellWrite>(
     ensures ended { OnOk result (IsRest body.new.rest [] []) }
     ensures small { IfOk result (λ len. is_large body.new.said.extent (length body.new.taken) len ≡ false) }
     ensures steady { OnOk result (ReadsSteadily body.old.stream body.new.stream) }
-    ensures writes { Writes W.log W.trace (body.old.stream, writer.old) [] (sent_with result)
+    ensures writes { WritesPromptly W.log W.trace (body.old.stream, writer.old) [] (sent_with result)
         (body.new.stream, writer.new) }
 {
     let extent = body.said().extent;
@@ -124,9 +124,9 @@ fn read_on<R: TellRead, W: TellWrite>(
     ensures bound { IfOk result (λ n. n ≤ length out.new) }
     ensures goes { InsideGoes R.remaining body.old (handed_out out.new result) body.new }
     ensures ended { result ≡ Ok 0 → IsRest body.new.rest [] [] }
-    ensures gave { OnOk result (EachGave body.old.stream body.new.stream) }
+    ensures gave { OnOk result (EachReadGave body.old.stream body.new.stream) }
     ensures fails { IfErr result (λ e. FailsOn body.old.stream e body.new writer.new) }
-    ensures writes { Writes W.log W.trace (body.old.stream, writer.old) [] (sent_with result)
+    ensures writes { WritesPromptly W.log W.trace (body.old.stream, writer.old) [] (sent_with result)
         (body.new.stream, writer.new) }
 {
     let count = body.read_buffered(out);

@@ -1,8 +1,9 @@
 //! What is written: answers, refusals and calls for bodies; and what is held is sent.
 ghost use Rattle.std.specs.Prelude.{◌≡◌, ◌≤◌, if◌then◌else◌, [], ◌++◌, codes, length, map};
 ghost use Rattle.std.specs.List.{concat, prefix_len};
-ghost use Rattle.requests.specs.Sending.{IsHeld, IsUnflushed, Puts, SendsHeld};
-ghost use Rattle.requests.specs.Answers.{accepted, answered, begins_known, begins_often, called, declined, disappointed, has_body, is_end, is_known, length_line, refusal, refusal_of, waits};
+ghost use Rattle.messages.specs.Versions.{is_end};
+ghost use Rattle.requests.specs.Sending.{IsHeld, IsUnflushed, PutsText, SendsHeld};
+ghost use Rattle.requests.specs.Answers.{answered, begins_known, begins_often, called, declined, disappointed, granted, has_body, is_known, length_line, refusal, refusal_of, waits};
 
 use crate::limits::is_large;
 use buffer_redux::BufWriter;
@@ -67,7 +68,7 @@ pub(crate) fn answer_whole<W: TellWrite>(
     said: ParsedHead,
     writer: &mut BufWriter<W>,
 ) -> io::Result<()>
-    ensures puts { Puts W.log W.trace writer.old (answered known said len) result writer.new }
+    ensures puts { PutsText W.log W.trace writer.old (answered known said len) result writer.new }
     ensures unflushed { IsUnflushed writer.old writer.new }
 {
     if !known {
@@ -81,7 +82,7 @@ pub(crate) fn answer_whole<W: TellWrite>(
 }
 
 fn disappoint<W: TellWrite>(keeps: bool, writer: &mut BufWriter<W>) -> io::Result<()>
-    ensures puts { Puts W.log W.trace writer.old (disappointed keeps) result writer.new }
+    ensures puts { PutsText W.log W.trace writer.old (disappointed keeps) result writer.new }
     ensures unflushed { IsUnflushed writer.old writer.new }
 {
     if keeps {
@@ -100,7 +101,7 @@ fn disappoint<W: TellWrite>(keeps: bool, writer: &mut BufWriter<W>) -> io::Resul
 }
 
 fn decline<W: TellWrite>(keeps: bool, writer: &mut BufWriter<W>) -> io::Result<()>
-    ensures puts { Puts W.log W.trace writer.old (declined keeps) result writer.new }
+    ensures puts { PutsText W.log W.trace writer.old (declined keeps) result writer.new }
     ensures unflushed { IsUnflushed writer.old writer.new }
 {
     if keeps {
@@ -117,7 +118,7 @@ fn decline<W: TellWrite>(keeps: bool, writer: &mut BufWriter<W>) -> io::Result<(
 
 // Says how many bytes of payload there were, and whether another request may follow.
 fn accept<W: TellWrite>(len: u64, said: ParsedHead, writer: &mut BufWriter<W>) -> io::Result<()>
-    ensures puts { Puts W.log W.trace writer.old (accepted said len) result writer.new }
+    ensures puts { PutsText W.log W.trace writer.old (granted said len) result writer.new }
     ensures unflushed { IsUnflushed writer.old writer.new }
 {
     if said.keeps {
@@ -135,7 +136,7 @@ fn accept_by<W: TellWrite>(
     bare: bool,
     writer: &mut BufWriter<W>,
 ) -> io::Result<()>
-    ensures puts { Puts W.log W.trace writer.old (head.now ++ (if bare then [] else length_line len)) result writer.new }
+    ensures puts { PutsText W.log W.trace writer.old (head.now ++ (if bare then [] else length_line len)) result writer.new }
     ensures unflushed { IsUnflushed writer.old writer.new }
 {
     if bare {
@@ -153,7 +154,7 @@ fn put_line<'a, W: TellWrite>(
     number: &'a [u8],
     writer: &mut BufWriter<W>,
 ) -> io::Result<()>
-    ensures puts { Puts W.log W.trace writer.old (head.now ++ (blanks.now ++ (number.now ++ codes "\n"))) result
+    ensures puts { PutsText W.log W.trace writer.old (head.now ++ (blanks.now ++ (number.now ++ codes "\n"))) result
         writer.new }
     ensures unflushed { IsUnflushed writer.old writer.new }
 {
@@ -164,7 +165,7 @@ pub(crate) fn call_for_body<W: TellWrite>(
     said: ParsedHead,
     writer: &mut BufWriter<W>,
 ) -> io::Result<()>
-    ensures puts { Puts W.log W.trace writer.old (called (waits said)) result writer.new }
+    ensures puts { PutsText W.log W.trace writer.old (called (waits said)) result writer.new }
     ensures unflushed { IsUnflushed writer.old writer.new }
 {
     if waits(said) {
@@ -202,7 +203,7 @@ pub(crate) fn refusal_of(why: BadHead) -> Refusal
 }
 
 pub(crate) fn refuse<W: TellWrite>(why: Refusal, writer: &mut BufWriter<W>) -> io::Result<()>
-    ensures puts { Puts W.log W.trace writer.old (refusal why) result writer.new }
+    ensures puts { PutsText W.log W.trace writer.old (refusal why) result writer.new }
     ensures unflushed { IsUnflushed writer.old writer.new }
 {
     match why {
@@ -238,7 +239,7 @@ pub(crate) fn refuse<W: TellWrite>(why: Refusal, writer: &mut BufWriter<W>) -> i
 }
 
 fn put<W: TellWrite>(writer: &mut BufWriter<W>, parts: &[&[u8]]) -> io::Result<()>
-    ensures puts { Puts W.log W.trace writer.old (concat (map (λ part. part.now) parts.now)) result writer.new }
+    ensures puts { PutsText W.log W.trace writer.old (concat (map (λ part. part.now) parts.now)) result writer.new }
     ensures unflushed { IsUnflushed writer.old writer.new }
 {
     writer.write_parts(parts)

@@ -8,7 +8,7 @@ use Rattle.resp.specs.declared.command.Name.{Name}
 use Rattle.resp.specs.declared.command.Name.TheVariants as name
 use Rattle.resp.specs.Numbers.{IsInteger}
 use Rattle.resp.specs.Replies.{bulk_reply, number_reply}
-use Rattle.resp.specs.Stored.{HasRoom, IsFull, Puts, Same, Values, counted}
+use Rattle.resp.specs.Stored.{IsFull, MayHold, Same, SetsValue, Values, counts_for}
 use Rattle.resp.specs.Waiting.{bytes_of}
 
 -- the same word, in either case
@@ -31,17 +31,17 @@ abbrev pub IsNoName : List ℕ → Type 0
 IsNoName word = (n : Name) → ¬ (SameWord word (word_of n))
 
 -- behind this name a command has so many other parts
-abbrev pub Takes : Name → ℕ → Type 0
-Takes name.Ping n = n ≤ 1
-Takes name.Echo n = n ≡ 1
-Takes name.Get n = n ≡ 1
-Takes name.Set n = n ≡ 2
-Takes name.Del n = 1 ≤ n
-Takes name.Incr n = n ≡ 1
-Takes name.DbSize n = n ≡ 0
-Takes name.Quit n = n ≡ 0
-Takes name.Command n = Unit {0}
-Takes name.Config n = Unit {0}
+abbrev pub HasParts : Name → ℕ → Type 0
+HasParts name.Ping n = n ≤ 1
+HasParts name.Echo n = n ≡ 1
+HasParts name.Get n = n ≡ 1
+HasParts name.Set n = n ≡ 2
+HasParts name.Del n = 1 ≤ n
+HasParts name.Incr n = n ≡ 1
+HasParts name.DbSize n = n ≡ 0
+HasParts name.Quit n = n ≡ 0
+HasParts name.Command n = Unit {0}
+HasParts name.Config n = Unit {0}
 
 -- which command it is, with this name and these other parts
 abbrev pub MeansRest : Name → List (List ℕ) → Command → Type 0
@@ -54,7 +54,7 @@ MeansRest n rest (command.Incr key) = (n ≡ name.Incr) × (rest ≡ key.now ∷
 MeansRest n rest command.DbSize = (n ≡ name.DbSize) × (rest ≡ [])
 MeansRest n rest command.Quit = (n ≡ name.Quit) × (rest ≡ [])
 MeansRest n rest command.Nothing = (n ≡ name.Command) ⊎ (n ≡ name.Config)
-MeansRest n rest command.Arguments = ¬ (Takes n (length rest))
+MeansRest n rest command.Arguments = ¬ (HasParts n (length rest))
 MeansRest n rest command.Unknown = ⊥
 
 -- a request has a name, and is a command with that; or it has none
@@ -66,7 +66,7 @@ Means (word ∷ rest) c =
 -- the number at a key, which is 0 where there is none, is now this, one more than it was
 abbrev pub Raises : Values → List ℕ → ℤ → Values → Type 0
 Raises old key n new = (m : ℤ) × MatchOption (old.value key) (m ≡ pos 0) (λ text. text ≡ signed_decimal m)
-    × (n ≡ m +ℤ pos 1) × HasRoom key old × Puts key (Some (signed_decimal n)) old new
+    × (n ≡ m +ℤ pos 1) × MayHold key old × SetsValue key (Some (signed_decimal n)) old new
 
 -- the number at a key is not raised, and why: there is no number, or the greatest that there is, or no room for one. That memory
 -- is refused is said of no state
@@ -81,8 +81,8 @@ RaisesNone old key why new = Same old new
 -- keys are taken out one after another, and so many of them were there
 abbrev pub Deletes : List (List ℕ) → Values → ℕ → Values → Type 0
 Deletes [] old n new = (n ≡ 0) × Same old new
-Deletes (key ∷ keys) old n new = (between : Values) × (m : ℕ) × Puts key None old between
-    × (n ≡ counted (old.value key) + m) × Deletes keys between m new
+Deletes (key ∷ keys) old n new = (between : Values) × (m : ℕ) × SetsValue key None old between
+    × (n ≡ counts_for (old.value key) + m) × Deletes keys between m new
 
 -- what a command does, and its reply. That memory is refused is said of no state
 abbrev pub Acts : Values → Command → List ℕ → Values → Type 0
@@ -91,7 +91,7 @@ Acts old (command.Echo text) reply new = (reply ≡ bulk_reply text.now) × Same
 Acts old (command.Get key) reply new =
     MatchOption (old.value key.now) (reply ≡ codes "$-1\r\n") (λ value. reply ≡ bulk_reply value) × Same old new
 Acts old (command.Set key value) reply new =
-    ((reply ≡ codes "+OK\r\n") × HasRoom key.now old × Puts key.now (Some value.now) old new)
+    ((reply ≡ codes "+OK\r\n") × MayHold key.now old × SetsValue key.now (Some value.now) old new)
     ⊎ (((reply ≡ codes "-ERR too many keys\r\n") × IsFull key.now old × Same old new)
     ⊎ ((reply ≡ codes "-ERR out of memory\r\n") × Same old new))
 Acts old (command.Del keys) reply new = (n : ℕ) × (reply ≡ number_reply (decimal n)) × Deletes (bytes_of keys.now) old n new
@@ -104,6 +104,6 @@ Acts old command.Arguments reply new = (reply ≡ codes "-ERR wrong number of ar
 Acts old command.Unknown reply new = (reply ≡ codes "-ERR unknown command\r\n") × Same old new
 
 -- no request is taken behind `QUIT`
-abbrev pub goes_on : Command → Bool
-goes_on command.Quit = false
-goes_on c = true
+abbrev pub takes_more : Command → Bool
+takes_more command.Quit = false
+takes_more c = true

@@ -2,7 +2,7 @@
 use Rattle.std.specs.Prelude.{◌≡◌, ℕ, List, [], Bool, true, false, MatchBool, codes}
 use Rattle.std.specs.Global.{Global}
 use Rattle.decoders.specs.declared.resp.RespItem.{RespItem}
-use Rattle.resp.specs.Commands.{Acts, Means, goes_on}
+use Rattle.resp.specs.Commands.{Acts, Means, takes_more}
 use Rattle.resp.specs.Stored.{Same, Values, held}
 use Rattle.resp.specs.Waiting.{Feeds, Waiting, nothing}
 use Rattle.resp.specs.declared.command.Command.{Command}
@@ -38,7 +38,7 @@ refusal_reply NoArray = codes "-ERR Protocol error: expected '*'\r\n"
 abbrev pub RepliesWhole : Waiting → Values → List ℕ → Bool → Waiting → Values → Type 0
 RepliesWhole m old reply more t new = (t ≡ nothing) × MatchBool m.lost
     ((reply ≡ codes "-ERR out of memory\r\n") × (more ≡ true) × Same old new)
-    ((command : Command) × Means m.parts command × Acts old command reply new × (more ≡ goes_on command))
+    ((command : Command) × Means m.parts command × Acts old command reply new × (more ≡ takes_more command))
 
 -- what is replied behind a piece: nothing, while more of a request is to come; one reply to a whole one; and an error to what
 -- belongs to none, behind which no further piece is taken
@@ -48,10 +48,10 @@ RepliesTo m old Whole reply more t new = RepliesWhole m old reply more t new
 RepliesTo m old (Bad why) reply more t new = (reply ≡ refusal_reply why) × (more ≡ false) × (t ≡ m) × Same old new
 
 -- a piece is fed to the request, and then this is replied
-abbrev pub Replies : SessionState → RespItem → List ℕ → List ℕ → Bool → SessionState → Type 0
-Replies s item payload reply more t = (fed : Fed) × (between : Waiting) × Feeds s.waiting item payload fed between
+abbrev pub RepliesToPiece : SessionState → RespItem → List ℕ → List ℕ → Bool → SessionState → Type 0
+RepliesToPiece s item payload reply more t = (fed : Fed) × (between : Waiting) × Feeds s.waiting item payload fed between
     × RepliesTo between s.values fed reply more t.waiting t.values
 
 -- the same, of what answers
 abbrev pub RepliesBy : Session → RespItem → List ℕ → List ℕ → Bool → Session → Type 0
-RepliesBy s item payload reply more t = Replies (state_of s) item payload reply more (state_of t)
+RepliesBy s item payload reply more t = RepliesToPiece (state_of s) item payload reply more (state_of t)

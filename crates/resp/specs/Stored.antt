@@ -30,19 +30,19 @@ pub record Same (old new : Values) : Type 0 where
   pub most : new.most ≡ old.most
 
 -- a value counts for one
-abbrev pub counted : Option (List ℕ) → ℕ
-counted value = if is_some value then 1 else 0
+abbrev pub counts_for : Option (List ℕ) → ℕ
+counts_for value = if is_some value then 1 else 0
 
 -- the key has this value, and each other key has what it had
-pub record Puts (key : List ℕ) (value : Option (List ℕ)) (old new : Values) : Type 0 where
+pub record SetsValue (key : List ℕ) (value : Option (List ℕ)) (old new : Values) : Type 0 where
   pub here : new.value key ≡ value
   pub others : (q : List ℕ) → q ≢ key → new.value q ≡ old.value q
-  pub count : new.count + counted (old.value key) ≡ old.count + counted value
+  pub count : new.count + counts_for (old.value key) ≡ old.count + counts_for value
   pub most : new.most ≡ old.most
 
 -- another value may be held at this key; or it has none, and there are as many keys as may have one
-abbrev pub HasRoom : List ℕ → Values → Type 0
-HasRoom key values = (values.count < values.most) ⊎ IsSome (values.value key)
+abbrev pub MayHold : List ℕ → Values → Type 0
+MayHold key values = (values.count < values.most) ⊎ IsSome (values.value key)
 
 abbrev pub IsFull : List ℕ → Values → Type 0
 IsFull key values = (values.most ≤ values.count) × (values.value key ≡ None)

@@ -21,32 +21,32 @@ bytes_of vectors = map (λ v. v.items) vectors
 abbrev pub nothing : Waiting
 nothing = record { parts = []; left = 0; lost = false }
 
-abbrev pub begun : ℕ → Waiting
-begun count = record { parts = []; left = count; lost = false }
+abbrev pub awaiting : ℕ → Waiting
+awaiting count = record { parts = []; left = count; lost = false }
 
 -- a part is kept; or memory was refused for it, and the request is lost
-abbrev pub Keeps : Waiting → List ℕ → Waiting → Type 0
-Keeps s part t = (t ≡ record s { parts = s.parts ++ part ∷ [] }) ⊎ (t ≡ record s { lost = true })
+abbrev pub KeepsPart : Waiting → List ℕ → Waiting → Type 0
+KeepsPart s part t = (t ≡ record s { parts = s.parts ++ part ∷ [] }) ⊎ (t ≡ record s { lost = true })
 
 -- a bulk string is the next part, and the last one makes the request whole; any other piece is none of it, and it stays as it is
 abbrev pub TakesPart : Waiting → RespItem → List ℕ → Fed → Waiting → Type 0
-TakesPart s item.Bulk payload More t = (1 < s.left) × Keeps (record s { left = s.left - 1 }) payload t
-TakesPart s item.Bulk payload Whole t = (s.left ≡ 1) × Keeps (record s { left = s.left - 1 }) payload t
+TakesPart s item.Bulk payload More t = (1 < s.left) × KeepsPart (record s { left = s.left - 1 }) payload t
+TakesPart s item.Bulk payload Whole t = (s.left ≡ 1) × KeepsPart (record s { left = s.left - 1 }) payload t
 TakesPart s item.Bulk payload (Bad why) t = ⊥
 TakesPart s i payload fed t = (fed ≡ Bad NoBulk) × (t ≡ s)
 
 -- an array begins a request of so many parts, but of 1,024 at most; a line is one of one part, and an empty line none; any other
 -- piece begins none
-abbrev pub Begins : Waiting → RespItem → List ℕ → Fed → Waiting → Type 0
-Begins s (item.Array (Some n)) payload fed t =
-    ((n ≤ 1024) × (fed ≡ More) × (t ≡ begun n)) ⊎ ((1024 < n) × (fed ≡ Bad Count) × (t ≡ s))
-Begins s (item.Array None) payload fed t = (fed ≡ Bad Count) × (t ≡ s)
-Begins s item.NullArray payload fed t = (fed ≡ More) × (t ≡ s)
-Begins s item.Inline [] fed t = (fed ≡ More) × (t ≡ nothing)
-Begins s item.Inline (byte ∷ line) fed t = (fed ≡ Whole) × Keeps nothing (byte ∷ line) t
-Begins s i payload fed t = (fed ≡ Bad NoArray) × (t ≡ s)
+abbrev pub BeginsRequest : Waiting → RespItem → List ℕ → Fed → Waiting → Type 0
+BeginsRequest s (item.Array (Some n)) payload fed t =
+    ((n ≤ 1024) × (fed ≡ More) × (t ≡ awaiting n)) ⊎ ((1024 < n) × (fed ≡ Bad Count) × (t ≡ s))
+BeginsRequest s (item.Array None) payload fed t = (fed ≡ Bad Count) × (t ≡ s)
+BeginsRequest s item.NullArray payload fed t = (fed ≡ More) × (t ≡ s)
+BeginsRequest s item.Inline [] fed t = (fed ≡ More) × (t ≡ nothing)
+BeginsRequest s item.Inline (byte ∷ line) fed t = (fed ≡ Whole) × KeepsPart nothing (byte ∷ line) t
+BeginsRequest s i payload fed t = (fed ≡ Bad NoArray) × (t ≡ s)
 
 -- a piece is a part, where one is to come, and else begins a request
 abbrev pub Feeds : Waiting → RespItem → List ℕ → Fed → Waiting → Type 0
 Feeds s i payload fed t =
-    ((0 < s.left) × TakesPart s i payload fed t) ⊎ ((s.left ≡ 0) × Begins s i payload fed t)
+    ((0 < s.left) × TakesPart s i payload fed t) ⊎ ((s.left ≡ 0) × BeginsRequest s i payload fed t)

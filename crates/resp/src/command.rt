@@ -1,7 +1,7 @@
 //! A request, and the command that it is.
 ghost use Rattle.std.specs.Prelude.{◌≡◌, ◌↔◌, List, ℕ, IfErr, IfOk, IsTrue, MatchOption};
 ghost use Rattle.buffer_redux.specs.WriteParts.{WritesParts};
-ghost use Rattle.resp.specs.Commands.{Acts, Deletes, IsNoName, Means, MeansRest, Raises, RaisesNone, SameWord, goes_on, word_of};
+ghost use Rattle.resp.specs.Commands.{Acts, Deletes, IsNoName, Means, MeansRest, Raises, RaisesNone, SameWord, takes_more, word_of};
 ghost use Rattle.resp.specs.Stored.{held};
 ghost use Rattle.resp.specs.Waiting.{bytes_of};
 
@@ -176,7 +176,7 @@ pub fn act<W: TellWrite>(
 
 /// Whether a further request is taken behind this one.
 pub fn goes_on(command: Command<'_>) -> bool
-    ensures { result ≡ goes_on command.entry }
+    ensures { result ≡ takes_more command.entry }
 {
     match command {
         Command::Quit => false,

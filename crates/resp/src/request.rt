@@ -1,6 +1,6 @@
 //! A request, of which some parts may still be to come.
 ghost use Rattle.std.specs.Prelude.{◌≡◌, ◌<◌, ◌↔◌, ◌∷◌, ◌++◌, [], IsTrue, OnOk, OnErr};
-ghost use Rattle.resp.specs.Waiting.{Begins, Feeds, Keeps, TakesPart, bytes_of, nothing};
+ghost use Rattle.resp.specs.Waiting.{BeginsRequest, Feeds, KeepsPart, TakesPart, bytes_of, nothing};
 
 use decoders::RespItem;
 use std::alloc::{AllocError, Global};
@@ -121,7 +121,7 @@ impl Request {
 
     // Begins a request: an array, or a word in one line.
     fn begin(&mut self, alloc: Global, item: RespItem, payload: &[u8]) -> Fed
-        ensures { Begins self.old item payload.now result self.new }
+        ensures { BeginsRequest self.old item payload.now result self.new }
     {
         match item {
             RespItem::Array(Some(count)) => {
@@ -148,7 +148,7 @@ impl Request {
 
     // Keeps a part. Where memory is refused the request is lost.
     fn push(&mut self, alloc: Global, bytes: &[u8])
-        ensures { Keeps self.old bytes.now self.new }
+        ensures { KeepsPart self.old bytes.now self.new }
     {
         match push_copy(alloc, &mut self.parts, bytes) {
             Ok(()) => {}

@@ -1,6 +1,6 @@
 //! What answers the pieces of one client: what came of its request, and the store.
 ghost use Rattle.std.specs.Prelude.{◌≡◌};
-ghost use Rattle.codec.specs.Answering.{Answered};
+ghost use Rattle.codec.specs.Answering.{WasAnswered};
 ghost use Rattle.resp.specs.Sessions.{RepliesWhole, refusal_reply, session, session_of};
 ghost use Rattle.resp.specs.Stored.{held};
 
@@ -83,7 +83,7 @@ fn answer_whole<W: TellWrite>(
     store: &mut Store,
     writer: &mut BufWriter<W>,
 ) -> Result<bool, AnswerError<Infallible>>
-    ensures { Answered W.log W.trace (λ reply more t. RepliesWhole request.old (held store.old) reply more t.waiting t.values)
+    ensures { WasAnswered W.log W.trace (λ reply more t. RepliesWhole request.old (held store.old) reply more t.waiting t.values)
         (λ _ _. ⊥) writer.old result (session request.new (held store.new)) writer.new }
 {
     if request.is_lost() {

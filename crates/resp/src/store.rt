@@ -1,7 +1,7 @@
 //! Entries, at most so many.
 
 ghost use Rattle.std.specs.Prelude.{◌≡◌, ◌<◌, ◌↔◌, List, ℕ, None, Some, Err, IsTrue, IsSome, OnOk, OnErr, IfSome, IfNone};
-ghost use Rattle.resp.specs.Stored.{HasRoom, IsFull, Puts, Same, held, value_in};
+ghost use Rattle.resp.specs.Stored.{IsFull, MayHold, Same, SetsValue, held, value_in};
 
 use std::alloc::Global;
 use std::collections::HashMap;
@@ -55,8 +55,8 @@ impl Store {
 
     /// Puts a value at a key. An `Err` changes nothing.
     pub fn set(&mut self, alloc: Global, key: &[u8], value: &[u8]) -> Result<(), Full>
-        ensures put { OnOk result (Puts key.now (Some value.now) (held self.old) (held self.new)) }
-        ensures room { OnOk result (HasRoom key.now (held self.old)) }
+        ensures put { OnOk result (SetsValue key.now (Some value.now) (held self.old) (held self.new)) }
+        ensures room { OnOk result (MayHold key.now (held self.old)) }
         ensures same { OnErr result (Same (held self.old) (held self.new)) }
         ensures full { result ≡ Err Full.Entries → IsFull key.now (held self.old) }
     {
@@ -78,7 +78,7 @@ impl Store {
     /// Takes a key out, and says whether it was there.
     pub fn del(&mut self, key: &[u8]) -> bool
         ensures was { IsTrue result ↔ IsSome (value_in self.old.map key.now) }
-        ensures put { Puts key.now None (held self.old) (held self.new) }
+        ensures put { SetsValue key.now None (held self.old) (held self.new) }
     {
         self.map.remove(key).is_some()
     }

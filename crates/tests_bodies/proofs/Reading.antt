@@ -2,7 +2,7 @@
 use Rattle.std.proofs.Common.{◌≡◌, ◌≢◌, ℕ, ◌==◌, ◌⊎◌, List, [], ◌∷◌, ◌++◌, All, Bool, true, false, if◌then◌else◌, inl, inr, refl, sym, ap, subst, ◌∙◌, arith}
 use Rattle.std.proofs.lemmas.Bool.{eqb-false, eqb-true}
 use Rattle.std.proofs.lemmas.List.Elements.{All-cons, All-nil}
-use Rattle.body_reader.specs.ByByte.{Completes}
+use Rattle.body_reader.specs.ByByte.{CompletesByTurns}
 use Rattle.body_reader.specs.declared.by_byte.Turn.TheVariants.{Payload, Passed, Wrong}
 use Rattle.tests_bodies.specs.declared.dot_stuffed.Alone.TheVariants as alone
 use Rattle.tests_bodies.specs.declared.dot_stuffed.Place.{Place}
@@ -182,7 +182,7 @@ passed at.Return q byte rest payload goes_on is reads = absurd (none is)
 passed at.Within q byte rest payload goes_on is reads = absurd (in_line_none byte q is)
 passed at.Done q byte rest payload goes_on is reads = let odd : true ≡ false = goes_on in cc
 
-pub read : (p : Place) (bytes payload : List ℕ) → Completes dot_stuffed p bytes payload → Reads p bytes payload
+pub read : (p : Place) (bytes payload : List ℕ) → CompletesByTurns dot_stuffed p bytes payload → Reads p bytes payload
 read at.Done [] payload c = (refl, c.1)
 read at.Line [] payload c = let odd : false ≡ true = c.0 in cc
 read at.Within [] payload c = let odd : false ≡ true = c.0 in cc

@@ -3,7 +3,7 @@ use Rattle.std.proofs.Common.{◌≡◌, ◌≢◌, ℕ, ◌==◌, List, [], ◌
 use Rattle.std.proofs.lemmas.Bool.{eqb-true}
 use Rattle.std.proofs.lemmas.List.Elements.{All-head, All-tail}
 use Rattle.std.proofs.lemmas.Bool.Decides.{eqb_tells}
-use Rattle.body_reader.specs.ByByte.{Completes, by_byte}
+use Rattle.body_reader.specs.ByByte.{CompletesByTurns, by_byte}
 use Rattle.body_reader.specs.Coding.{IsBody}
 use Rattle.body_reader.specs.declared.by_byte.Turn.TheVariants.{Payload, Passed, Wrong}
 use Rattle.tests_bodies.specs.declared.dot_stuffed.Alone.TheVariants as alone
@@ -24,9 +24,9 @@ module _ (byte : ℕ) (is : IsPlain byte) where
       ap (λ here. if here then Payload at.Return else if byte == 10 then Wrong alone.Feed else Payload at.Within) no_return
       ∙ ap (λ here. if here then Wrong alone.Feed else Payload at.Within) (differs byte 10 is.1)
 
-module _ (rest payload : List ℕ) (c : Completes dot_stuffed at.Line rest payload) where
+module _ (rest payload : List ℕ) (c : CompletesByTurns dot_stuffed at.Line rest payload) where
   within : (line : List ℕ) → All IsPlain line
-      → Completes dot_stuffed at.Within (line ++ 13 ∷ 10 ∷ rest) (line ++ 13 ∷ 10 ∷ payload)
+      → CompletesByTurns dot_stuffed at.Within (line ++ 13 ∷ 10 ∷ rest) (line ++ 13 ∷ 10 ∷ payload)
   within [] all = (refl, inl (at.Return, 10 ∷ payload, refl, refl, (refl, inl (at.Line, payload, refl, refl, c))))
   within (byte ∷ line) all = (
     refl,
@@ -41,7 +41,7 @@ module _ (rest payload : List ℕ) (c : Completes dot_stuffed at.Line rest paylo
 
   -- behind the dot that begins a line
   behind_dot : (line : List ℕ) → All IsPlain line → line ≢ []
-      → Completes dot_stuffed at.Dot (line ++ 13 ∷ 10 ∷ rest) (line ++ 13 ∷ 10 ∷ payload)
+      → CompletesByTurns dot_stuffed at.Dot (line ++ 13 ∷ 10 ∷ rest) (line ++ 13 ∷ 10 ∷ payload)
   behind_dot [] all some = absurd (some refl)
   behind_dot (byte ∷ line) all some = (
     refl,
@@ -56,11 +56,11 @@ module _ (rest payload : List ℕ) (c : Completes dot_stuffed at.Line rest paylo
   )
 
   whole : (line : List ℕ) → IsLine line
-      → Completes dot_stuffed at.Line (line ++ 13 ∷ 10 ∷ rest) (without_dot line ++ 13 ∷ 10 ∷ payload)
+      → CompletesByTurns dot_stuffed at.Line (line ++ 13 ∷ 10 ∷ rest) (without_dot line ++ 13 ∷ 10 ∷ payload)
   whole [] is = within [] is.0
   whole (byte ∷ line) is = begins (byte == 46) refl
     where
-      begins : (here : Bool) → (byte == 46) ≡ here → Completes dot_stuffed at.Line ((byte ∷ line) ++ 13 ∷ 10 ∷ rest)
+      begins : (here : Bool) → (byte == 46) ≡ here → CompletesByTurns dot_stuffed at.Line ((byte ∷ line) ++ 13 ∷ 10 ∷ rest)
           ((if here then line else byte ∷ line) ++ 13 ∷ 10 ∷ payload)
       begins true same = (
         refl,

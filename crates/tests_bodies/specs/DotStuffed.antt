@@ -1,6 +1,6 @@
 -- Texts of mails, whose lines that begin with a dot are sent with one more.
 use Rattle.std.specs.Prelude.{ℕ, ◌==◌, Bool, true, false, if◌then◌else◌}
-use Rattle.body_reader.specs.ByByte.{Turns}
+use Rattle.body_reader.specs.ByByte.{TurnRules}
 use Rattle.body_reader.specs.declared.by_byte.Turn.{Turn}
 use Rattle.body_reader.specs.declared.by_byte.Turn.TheVariants.{Payload, Passed, Wrong}
 use Rattle.tests_bodies.specs.declared.dot_stuffed.Alone.{Alone}
@@ -31,5 +31,5 @@ to_go at.Dot = 2
 to_go at.LastReturn = 1
 to_go place = 0
 
-abbrev pub dot_stuffed : Turns Place Alone
+abbrev pub dot_stuffed : TurnRules Place Alone
 dot_stuffed = record { first = at.Line; is_end = is_done; turn = turn; between = to_go }

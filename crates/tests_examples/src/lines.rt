@@ -1,6 +1,6 @@
 //! Lines, and the reader of lines that CALLING shows.
 ghost use Rattle.std.specs.Prelude.{◌≡◌, IfOk, List, length, ℕ};
-ghost use Rattle.line_reader.specs.Runs.{AllRead};
+ghost use Rattle.line_reader.specs.Runs.{AllLinesRead};
 
 use buffer_redux::tell::{TellRead, Told};
 use line_reader::{LineError, LineReader};
@@ -12,7 +12,7 @@ use std::test::Fail;
 /// How many lines are left, up to the end of the stream.
 fn lines_left<R: TellRead>(reader: &mut LineReader<R>) -> Result<u64, LineError>
     ensures counted { IfOk result (λ count. (lines : List (List ℕ)) × (count ≡ length lines)
-        × AllRead R.remaining reader.old lines reader.new) }
+        × AllLinesRead R.remaining reader.old lines reader.new) }
 {
     for count in 0..u64::MAX {
         match reader.next()? {

@@ -7,28 +7,28 @@ use Rattle.std.specs.declared.io.ErrorKind.TheVariants.{OutOfMemory}
 use Rattle.buffer_redux.specs.BufReader.{Fills, ReadsInOrder}
 use Rattle.buffer_redux.specs.Buffered.{Buffered}
 use Rattle.buffer_redux.specs.Policy.{ReadRules}
-use Rattle.uses.specs.Stops.{MetPassing, Passes}
+use Rattle.uses.specs.Stops.{MayGoOn, MetPassing}
 use Rattle.std.proofs.lemmas.Bool.{MatchBool-at_true}
 
 pub MetPassing-none : (faults : List Error) → MetPassing 0 faults faults
 MetPassing-none faults =
-    record { met = []; count_is = refl; passing = All-nil Passes; faults = sym (append-nil faults) }
+    record { met = []; count_is = refl; passing = All-nil MayGoOn; faults = sym (append-nil faults) }
 
 pub MetPassing-same : {count : ℕ} {a b c : List Error} → MetPassing count a b → c ≡ b → MetPassing count a c
 MetPassing-same {count} {a} met same = subst (MetPassing count a) (sym same) met
 
 -- one more
-pub MetPassing-more : {count : ℕ} {a b c : List Error} (e : Error) → MetPassing count a b → Passes e → c ≡ b ++ e ∷ []
+pub MetPassing-more : {count : ℕ} {a b c : List Error} (e : Error) → MetPassing count a b → MayGoOn e → c ≡ b ++ e ∷ []
     → MetPassing (count + 1) a c
 MetPassing-more {a = a} e p passes more = record {
   met = p.met ++ e ∷ [];
   count_is = length-append p.met (e ∷ []) ∙ ap (λ n. n + 1) p.count_is;
-  passing = All-push Passes p.met e p.passing passes;
+  passing = All-push MayGoOn p.met e p.passing passes;
   faults = more ∙ ap (λ l. l ++ e ∷ []) p.faults ∙ append_assoc a p.met (e ∷ []);
 }
 
 -- refused memory doesn't pass
-pub memory_stays : (e : Error) → error_kind e ≡ OutOfMemory → Passes e → ⊥
+pub memory_stays : (e : Error) → error_kind e ≡ OutOfMemory → MayGoOn e → ⊥
 memory_stays e is (inl interrupted) = cc
 memory_stays e is (inr (inl blocked)) = cc
 memory_stays e is (inr (inr late)) = cc

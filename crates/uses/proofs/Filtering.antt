@@ -9,12 +9,12 @@ use Rattle.buffer_redux.specs.Policy.{ReadRules, std_read_rules}
 use Rattle.buffer_redux.specs.ReaderLaws.{WantsBytes}
 use Rattle.buffer_redux.specs.StreamLog.{StreamLog}
 use Rattle.buffer_redux.specs.UntilLaws.{ReadsUntil-end}
-use Rattle.uses.specs.Filter.{AllGoOn, FiltersAll, FiltersSome, GoesOn}
-use Rattle.uses.specs.Tally.{HandsPieces}
-use Rattle.uses.proofs.Pieces.{HandsPieces-more}
+use Rattle.uses.specs.Filter.{AllGoOn, FiltersAll, FiltersSome, LineGoesThrough}
+use Rattle.uses.specs.Tally.{HandsLinePieces}
+use Rattle.uses.proofs.Pieces.{HandsLinePieces-more}
 
 pub AllGoOn-more : (word : List ℕ) (lines : List (List ℕ)) (line out first : List ℕ) → AllGoOn word lines out
-    → GoesOn word (without_end line) first → AllGoOn word (lines ++ line ∷ []) (out ++ first)
+    → LineGoesThrough word (without_end line) first → AllGoOn word (lines ++ line ∷ []) (out ++ first)
 AllGoOn-more word [] line out first none goes =
     (first, [], goes, refl, ap (λ l. l ++ first) none ∙ sym (append-nil first))
 AllGoOn-more word (l ∷ lines) line out first (front, rest, is, all, same) goes = (
@@ -29,13 +29,13 @@ module _ {S P : Type 0} (remaining : S → Option (List ℕ)) (rules : ReadRules
     (s t : Splitting S P) (byte : s.byte ≡ 10) (begun : s.begun ≡ []) (wants : WantsBytes (rules.claims s.reader.policy))
     (capacity : 0 < s.reader.block.capacity) where
   -- one more line was handed out
-  pub HandsPieces-line : (line : List ℕ) → HandsPieces remaining rules lines from s.reader
-      → GivesWhole remaining rules s line t → HandsPieces remaining rules (lines ++ line ∷ []) from t.reader
-  HandsPieces-line line hands whole =
+  pub HandsLinePieces-line : (line : List ℕ) → HandsLinePieces remaining rules lines from s.reader
+      → GivesWhole remaining rules s line t → HandsLinePieces remaining rules (lines ++ line ∷ []) from t.reader
+  HandsLinePieces-line line hands whole =
       let reads = rw byte at whole.went.reads in
       let same : line ≡ reads.handed = reads.appended ∙ ap (λ b. b ++ reads.handed) begun in
-      subst (λ l. HandsPieces remaining rules (lines ++ l ∷ []) from t.reader) (sym same)
-      (HandsPieces-more remaining rules lines whole.count s.begun line from s.reader t.reader hands wants capacity reads
+      subst (λ l. HandsLinePieces remaining rules (lines ++ l ∷ []) from t.reader) (sym same)
+      (HandsLinePieces-more remaining rules lines whole.count s.begun line from s.reader t.reader hands wants capacity reads
       (omega (arith, whole.some, reads.count, ap length same)))
 
   -- there is none
@@ -56,7 +56,7 @@ module _ {S P : Type 0} (remaining : S → Option (List ℕ)) (rules : ReadRules
 -- what was accepted was flushed
 pub FiltersAll-flushed : {S P T Q : Type 0} (remaining : S → Option (List ℕ)) (word : List ℕ) (from : Buffered S P)
     (w m v : Buffered T Q) (tells : T → StreamLog) (trace : T → T → Type 0) (lines : List (List ℕ)) (last : Buffered S P)
-    → HandsPieces remaining std_read_rules lines from last
+    → HandsLinePieces remaining std_read_rules lines from last
     → ((end : Buffered S P) × ReadsToEnd remaining std_read_rules last [] end) ⊎ (2 ^ 64 ≤ length lines + 1)
     → (out : List ℕ) → AllGoOn word lines out
     → m.log.writes.received ++ m.block.bytes ≡ (w.log.writes.received ++ w.block.bytes) ++ out
@@ -76,7 +76,7 @@ FiltersAll-flushed remaining word from w m v tells trace lines last hands ended 
 -- or couldn't be
 pub FiltersSome-flushed : {S P T Q : Type 0} (remaining : S → Option (List ℕ)) (word : List ℕ) (from : Buffered S P)
     (w m v : Buffered T Q) (tells : T → StreamLog) (trace : T → T → Type 0) (lines : List (List ℕ)) (last : Buffered S P)
-    → HandsPieces remaining std_read_rules lines from last
+    → HandsLinePieces remaining std_read_rules lines from last
     → ((end : Buffered S P) × ReadsToEnd remaining std_read_rules last [] end) ⊎ (2 ^ 64 ≤ length lines + 1)
     → (out : List ℕ) → AllGoOn word lines out
     → m.log.writes.received ++ m.block.bytes ≡ (w.log.writes.received ++ w.block.bytes) ++ out

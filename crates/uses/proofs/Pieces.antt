@@ -11,29 +11,30 @@ use Rattle.buffer_redux.specs.ReadUntil.{ReadsUntil}
 use Rattle.buffer_redux.specs.ReaderLaws.{ReadsAlong-joins, ReadsAlong-none, WantsBytes}
 use Rattle.buffer_redux.specs.UntilLaws.{ReadsUntil-along}
 use Rattle.uses.specs.LineCount.{line_feeds}
-use Rattle.uses.specs.Tally.{HandsPieces, IsPiece}
+use Rattle.uses.specs.Tally.{HandsLinePieces, IsLinePiece}
 
 -- none yet
-pub HandsPieces-none : {S P : Type 0} (remaining : S → Option (List ℕ)) (rules : ReadRules P) (s : Buffered S P)
-    → HandsPieces remaining rules [] s s
-HandsPieces-none remaining rules s =
-    record { are = All-nil IsPiece; few = omega arith; along = ReadsAlong-none remaining rules s }
+pub HandsLinePieces-none : {S P : Type 0} (remaining : S → Option (List ℕ)) (rules : ReadRules P) (s : Buffered S P)
+    → HandsLinePieces remaining rules [] s s
+HandsLinePieces-none remaining rules s =
+    record { are = All-nil IsLinePiece; few = omega arith; along = ReadsAlong-none remaining rules s }
 
 fed : (front back : List ℕ) → line_feeds (front ++ back) ≡ line_feeds front + line_feeds back
 fed front back = sum_by-append _ front back
 
 -- one more piece, which ends in a line feed, or behind which the reader ran dry
-pub HandsPieces-more : {S P : Type 0} (remaining : S → Option (List ℕ)) (rules : ReadRules P) (pieces : List (List ℕ)) (n : ℕ)
-    (before after : List ℕ) (s m t : Buffered S P) → HandsPieces remaining rules pieces s m → WantsBytes (rules.claims m.policy)
+pub HandsLinePieces-more : {S P : Type 0} (remaining : S → Option (List ℕ)) (rules : ReadRules P) (pieces : List (List ℕ)) (n : ℕ)
+    (before after : List ℕ) (s m t : Buffered S P) → HandsLinePieces remaining rules pieces s m
+    → WantsBytes (rules.claims m.policy)
     → 0 < m.block.capacity → (reads : ReadsUntil remaining rules 10 m before (Ok n) after t) → 0 < n
-    → HandsPieces remaining rules (pieces ++ reads.handed ∷ []) s t
-HandsPieces-more remaining rules pieces n before after s m t hands wants capacity reads some =
+    → HandsLinePieces remaining rules (pieces ++ reads.handed ∷ []) s t
+HandsLinePieces-more remaining rules pieces n before after s m t hands wants capacity reads some =
     let piece = reads.handed in
     let along = ReadsUntil-along remaining rules 10 m before (Ok n) after t reads in
     let joined : concat pieces ++ piece ≡ concat (pieces ++ piece ∷ []) =
     ap (λ l. concat pieces ++ l) (sym (append-nil piece)) ∙ sym (concat-append pieces (piece ∷ [])) in
     let one : line_feeds (10 ∷ []) ≡ 1 = refl in
-    let whole : IsPiece piece × (1 + m.log.reads.zero_reads ≤ line_feeds piece + t.log.reads.zero_reads) =
+    let whole : IsLinePiece piece × (1 + m.log.reads.zero_reads ≤ line_feeds piece + t.log.reads.zero_reads) =
     elim reads.ends [
       | inl reached ↦ (
         inl reached.0,
@@ -51,7 +52,7 @@ HandsPieces-more remaining rules pieces n before after s m t hands wants capacit
       )
     ] in
     record {
-      are = All-push IsPiece pieces piece hands.are whole.0;
+      are = All-push IsLinePiece pieces piece hands.are whole.0;
       few = omega (
         arith,
         hands.few,

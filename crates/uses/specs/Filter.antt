@@ -10,17 +10,17 @@ use Rattle.buffer_redux.specs.Pieces.{GivesLine, Splitting, without_end}
 use Rattle.buffer_redux.specs.Policy.{std_read_rules}
 use Rattle.buffer_redux.specs.StreamLog.{StreamLog}
 use Rattle.buffer_redux.specs.WriteFmt.{WritesText}
-use Rattle.uses.specs.Tally.{HandsPieces}
+use Rattle.uses.specs.Tally.{HandsLinePieces}
 
 -- what goes on of a line: its text and a line feed, where the word stands in it, and else nothing
-abbrev pub GoesOn : List ℕ → List ℕ → List ℕ → Type 0
-GoesOn word text out =
+abbrev pub LineGoesThrough : List ℕ → List ℕ → List ℕ → Type 0
+LineGoesThrough word text out =
     (HasSubslice text word × (out ≡ text ++ 10 ∷ [])) ⊎ ((¬ (HasSubslice text word)) × (out ≡ []))
 
 -- what goes on of these lines, in order
 abbrev pub AllGoOn : List ℕ → List (List ℕ) → List ℕ → Type 0
 AllGoOn word [] out = out ≡ []
-AllGoOn word (line ∷ lines) out = (first : List ℕ) × (rest : List ℕ) × GoesOn word (without_end line) first
+AllGoOn word (line ∷ lines) out = (first : List ℕ) × (rest : List ℕ) × LineGoesThrough word (without_end line) first
     × AllGoOn word lines rest × (out ≡ first ++ rest)
 
 -- all lines were read, unless they are more than a `u64` counts, and just what goes on of them was received and flushed, behind
@@ -29,7 +29,7 @@ pub record FiltersAll {S P T Q : Type 0} (remaining : S → Option (List ℕ)) (
     (w v : Buffered T Q) : Type 0 where
   pub lines : List (List ℕ)
   pub last : Buffered S P
-  pub hands : HandsPieces remaining std_read_rules lines from last
+  pub hands : HandsLinePieces remaining std_read_rules lines from last
   pub ended : ((end : Buffered S P) × ReadsToEnd remaining std_read_rules last [] end) ⊎ (2 ^ 64 ≤ length lines + 1)
   pub out : List ℕ
   pub goes_on : AllGoOn word lines out
@@ -38,12 +38,12 @@ pub record FiltersAll {S P T Q : Type 0} (remaining : S → Option (List ℕ)) (
 
 -- why lines were gone over no further, behind these: the next wasn't read, or is no UTF-8, and nothing was done to the writer; the
 -- write of the next, which has the word, failed; or there is none, and the flush did
-abbrev pub FailsBehind : {S P T Q : Type 0} → (S → Option (List ℕ)) → (T → StreamLog) → (T → T → Type 0) → List ℕ
+abbrev pub StopsBehind : {S P T Q : Type 0} → (S → Option (List ℕ)) → (T → StreamLog) → (T → T → Type 0) → List ℕ
     → List (List ℕ) → Buffered S P → Buffered S P → Buffered T Q → Error → Buffered T Q → Type 0
-FailsBehind {S} {P} remaining tells trace word lines from last w e v =
+StopsBehind {S} {P} remaining tells trace word lines from last w e v =
     ((s : Splitting S P) × (t : Splitting S P) × (s.reader ≡ last) × (s.byte ≡ 10) × (s.begun ≡ [])
     × GivesLine remaining std_read_rules s (Some (Err e)) t × (v ≡ w))
-    ⊎ (((line : List ℕ) × (next : Buffered S P) × HandsPieces remaining std_read_rules (lines ++ line ∷ []) from next
+    ⊎ (((line : List ℕ) × (next : Buffered S P) × HandsLinePieces remaining std_read_rules (lines ++ line ∷ []) from next
     × HasSubslice (without_end line) word
     × ThenSendsLines tells trace (WritesText tells trace line_rules w (Some (without_end line ++ 10 ∷ []))) (Err e) v)
     ⊎ ((((end : Buffered S P) × ReadsToEnd remaining std_read_rules last [] end) ⊎ (2 ^ 64 ≤ length lines + 1))
@@ -54,9 +54,9 @@ pub record FiltersSome {S P T Q : Type 0} (remaining : S → Option (List ℕ)) 
     (word : List ℕ) (from : Buffered S P) (w : Buffered T Q) (e : Error) (v : Buffered T Q) : Type 0 where
   pub lines : List (List ℕ)
   pub last : Buffered S P
-  pub hands : HandsPieces remaining std_read_rules lines from last
+  pub hands : HandsLinePieces remaining std_read_rules lines from last
   pub out : List ℕ
   pub goes_on : AllGoOn word lines out
   pub writer : Buffered T Q
   pub accepted : writer.log.writes.received ++ writer.block.bytes ≡ (w.log.writes.received ++ w.block.bytes) ++ out
-  pub fails : FailsBehind remaining tells trace word lines from last writer e v
+  pub fails : StopsBehind remaining tells trace word lines from last writer e v

@@ -9,8 +9,8 @@ abbrev pub FitsIn : Keeper → List ℕ → Type 0
 FitsIn s payload = length payload ≤ s.most - vec_len s.kept
 
 -- a payload that fits is kept behind those before, and an empty packet of its kind is written
-abbrev pub Keeps : Keeper → ℕ → List ℕ → List ℕ → Bool → Keeper → Type 0
-Keeps s kind payload answer more t = FitsIn s payload × (t.kept.items ≡ s.kept.items ++ payload) × (t.most ≡ s.most)
+abbrev pub KeepsPayload : Keeper → ℕ → List ℕ → List ℕ → Bool → Keeper → Type 0
+KeepsPayload s kind payload answer more t = FitsIn s payload × (t.kept.items ≡ s.kept.items ++ payload) × (t.most ≡ s.most)
     × (answer ≡ kind ∷ 0 ∷ []) × (more ≡ true)
 
 -- nothing of a payload is kept: it doesn't fit, or the vector had to grow for it, and memory was refused

@@ -3,6 +3,6 @@ use Rattle.std.specs.Prelude.{◌≡◌, ℕ, ◌==◌, List, [], ◌∷◌, ◌
 use Rattle.std.specs.List.{starts_with}
 
 -- one of the kind goes on as a line, and for another nothing is written
-abbrev pub PassesOn : List ℕ → List ℕ → Type 0
-PassesOn payload reply =
+abbrev pub GoesOnAsLine : List ℕ → List ℕ → Type 0
+GoesOnAsLine payload reply =
     reply ≡ (if starts_with (λ a b. a == b) payload (35 ∷ []) then payload ++ 10 ∷ [] else [])

@@ -17,14 +17,14 @@ abbrev pub StopsAtOnce : {S P : Type 0} → Error → Buffered S P → Buffered 
 StopsAtOnce e s t = (t.log.reads.faults ≡ s.log.reads.faults ++ e ∷ []) ⊎ CameTooMuch e 1 s t
 
 -- a fault after which reading may go on
-abbrev pub Passes : Error → Type 0
-Passes e = (error_kind e ≡ Interrupted) ⊎ ((error_kind e ≡ WouldBlock) ⊎ (error_kind e ≡ TimedOut))
+abbrev pub MayGoOn : Error → Type 0
+MayGoOn e = (error_kind e ≡ Interrupted) ⊎ ((error_kind e ≡ WouldBlock) ⊎ (error_kind e ≡ TimedOut))
 
 -- the faults that came are so many, and all of them pass
 pub record MetPassing (count : ℕ) (old new : List Error) : Type 0 where
   pub met : List Error
   pub count_is : length met ≡ count
-  pub passing : All Passes met
+  pub passing : All MayGoOn met
   pub faults : new ≡ old ++ met
 
 -- after such faults came this one, which doesn't pass, or comes once more than `most`
@@ -34,7 +34,7 @@ pub record MetLast (most : ℕ) (old new : List Error) (e : Error) : Type 0 wher
   pub before : List Error
   pub passed : MetPassing count old before
   pub last : new ≡ before ++ e ∷ []
-  pub often : Passes e → count ≡ most
+  pub often : MayGoOn e → count ≡ most
 
 -- at most so many faults came, all of which pass, and then memory was refused, or too much came
 pub record MetFew {S P : Type 0} (most : ℕ) (e : Error) (s t : Buffered S P) : Type 0 where

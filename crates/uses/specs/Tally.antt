@@ -12,13 +12,13 @@ use Rattle.buffer_redux.specs.ReadUntil.{EndsIn, Lacks, ReadsUntil}
 use Rattle.uses.specs.LineCount.{line_feeds}
 
 -- a piece ends in its one line feed, or has none, and then has some other byte
-abbrev pub IsPiece : List ℕ → Type 0
-IsPiece piece = EndsIn 10 piece ⊎ ((0 < length piece) × Lacks 10 piece)
+abbrev pub IsLinePiece : List ℕ → Type 0
+IsLinePiece piece = EndsIn 10 piece ⊎ ((0 < length piece) × Lacks 10 piece)
 
 -- just these pieces were handed out, and no more of them lack a line feed than the reader ran dry
-pub record HandsPieces {S P : Type 0} (remaining : S → Option (List ℕ)) (rules : ReadRules P) (pieces : List (List ℕ))
+pub record HandsLinePieces {S P : Type 0} (remaining : S → Option (List ℕ)) (rules : ReadRules P) (pieces : List (List ℕ))
     (s t : Buffered S P) : Type 0 where
-  pub are : All IsPiece pieces
+  pub are : All IsLinePiece pieces
   pub few : length pieces + s.log.reads.zero_reads ≤ line_feeds (concat pieces) + t.log.reads.zero_reads
   pub along : ReadsAlong remaining rules s (concat pieces) t
 
@@ -27,7 +27,7 @@ pub record ReadsPieces {S P : Type 0} (remaining : S → Option (List ℕ)) (rul
     (s t : Buffered S P) : Type 0 where
   pub pieces : List (List ℕ)
   pub last : Buffered S P
-  pub hands : HandsPieces remaining rules pieces s last
+  pub hands : HandsLinePieces remaining rules pieces s last
   pub count : n ≡ length pieces
   pub end : ReadsToEnd remaining rules last [] t
 
@@ -37,7 +37,7 @@ pub record StopsInPieces {S P : Type 0} (remaining : S → Option (List ℕ)) (r
     (s t : Buffered S P) : Type 0 where
   pub pieces : List (List ℕ)
   pub last : Buffered S P
-  pub hands : HandsPieces remaining rules pieces s last
+  pub hands : HandsLinePieces remaining rules pieces s last
   pub why : ((got : List ℕ) × ReadsUntil remaining rules 10 last [] (Err e) got t)
       ⊎ ((error_kind e ≡ Other) × (2 ^ 64 ≤ length pieces + 1) × (t ≡ last))
 

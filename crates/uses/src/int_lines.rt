@@ -1,6 +1,6 @@
 //! Reads the numbers of a text, one on each line.
 ghost use Rattle.std.specs.Prelude.{IfOk, vec_items};
-ghost use Rattle.uses.specs.IntLines.{IsNumber, AreNumbers, AreKnownNumbers};
+ghost use Rattle.uses.specs.IntLines.{ReadsAsNumber, AreNumbers, AreKnownNumbers};
 
 use buffer_redux::BufReader;
 use buffer_redux::tell::Told;
@@ -32,7 +32,7 @@ pub fn read_numbers<R: BufRead + Drop>(alloc: Global, reader: R) -> io::Result<V
 
 // The number that a line tells.
 fn number_of(line: &str) -> io::Result<u64>
-    ensures { IfOk result (IsNumber line.now) }
+    ensures { IfOk result (ReadsAsNumber line.now) }
 {
     match line.parse::<u64>() {
         Ok(n) => Ok(n),

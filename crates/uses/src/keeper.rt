@@ -23,11 +23,11 @@ pub struct Keeper {
 }
 
 impl Service<KindVarints> for Keeper {
-    ghost use Rattle.uses.specs.Keeper.{Keeps, KeepsNone};
+    ghost use Rattle.uses.specs.Keeper.{KeepsNone, KeepsPayload};
 
     type Failure = NotKept;
 
-    ghost answers = { Keeps };
+    ghost answers = { KeepsPayload };
 
     ghost fails = { KeepsNone };
 

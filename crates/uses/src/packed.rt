@@ -3,7 +3,7 @@ ghost use Rattle.std.specs.Prelude.{◌≡◌, true, OnOk, IfOk, IfErr, vec_item
 ghost use Rattle.buffer_redux.specs.Buffered.{InnerWent};
 ghost use Rattle.buffer_redux.specs.Faults.{IsMemory};
 ghost use Rattle.buffer_redux.specs.BufWriter.{WritesInOrder, WriterStopped};
-ghost use Rattle.uses.specs.Records.{frame, frames, IsShort, AreShort};
+ghost use Rattle.uses.specs.Records.{with_length, with_lengths, IsShort, AreShort};
 
 use buffer_redux::BufWriter;
 use buffer_redux::policy::WriterPolicy;
@@ -15,7 +15,7 @@ use std::io::Write;
 /// The frames of all records. It fails for want of memory alone.
 pub fn packed(alloc: Global, records: &[Vec<u8>]) -> io::Result<Vec<u8>>
     requires short { AreShort records.now }
-    ensures frames { IfOk result (λ v. vec_items v ≡ frames records.now) }
+    ensures with_lengths { IfOk result (λ v. vec_items v ≡ with_lengths records.now) }
     ensures memory { IfErr result IsMemory }
 {
     let mut writer = BufWriter::new(alloc, MemoryWriter::new(alloc))?;
@@ -32,7 +32,7 @@ pub fn pack_record<W: TellWrite, P: WriterPolicy>(
     bytes: &[u8],
 ) -> io::Result<()>
     requires short { IsShort bytes.now }
-    ensures packed { OnOk result (WritesInOrder writer.old (frame bytes.now) writer.new) }
+    ensures packed { OnOk result (WritesInOrder writer.old (with_length bytes.now) writer.new) }
     ensures caused { (P.rules.claims writer.old.policy).steady ≡ true
         → IfErr result (WriterStopped writer.old.log.writes writer.new.log.writes) }
     ensures went { InnerWent W.log W.trace writer.old writer.new }

@@ -2,7 +2,7 @@
 ghost use Rattle.std.specs.Prelude.{◌≡◌, [], ◌∷◌, IfOk, OnOk, IfSome, MatchOption, length, map, vec_items};
 ghost use Rattle.std.specs.Io.KnownBytes.{Appends, Consumes, IsAtEnd};
 ghost use Rattle.std.specs.Int.{w16, to_be_bytes};
-ghost use Rattle.uses.specs.Records.{frame, frames, IsShort, AreShort};
+ghost use Rattle.uses.specs.Records.{with_length, with_lengths, IsShort, AreShort};
 
 use buffer_redux::BufReader;
 use buffer_redux::tell::Told;
@@ -13,7 +13,7 @@ use std::io::{BufRead, ErrorKind, Read, Write};
 // Writes one record behind what the writer holds. After an `Err` that may be a part of it.
 fn write_record<W: Write>(writer: &mut W, bytes: &[u8]) -> io::Result<()>
     requires short { IsShort bytes.now }
-    ensures { OnOk result (Appends (W.contents writer.old) (W.contents writer.new) (frame bytes.now)) }
+    ensures { OnOk result (Appends (W.contents writer.old) (W.contents writer.new) (with_length bytes.now)) }
 {
     writer.write_all(&(bytes.len() as u16).to_be_bytes())?;
     writer.write_all(bytes)
@@ -25,7 +25,7 @@ fn write_record<W: Write>(writer: &mut W, bytes: &[u8]) -> io::Result<()>
 /// is dropped. `FrameWriter` of the crate `frame_reader` tears no frame, and can go on.
 pub fn write_records<W: Write + Drop>(writer: W, records: &[Vec<u8>]) -> io::Result<W>
     requires short { AreShort records.now }
-    ensures { IfOk result (λ w. Appends (W.contents writer) (W.contents w) (frames records.now)) }
+    ensures { IfOk result (λ w. Appends (W.contents writer) (W.contents w) (with_lengths records.now)) }
 {
     let mut writer = writer;
     for bytes in records {
@@ -38,7 +38,7 @@ pub fn write_records<W: Write + Drop>(writer: W, records: &[Vec<u8>]) -> io::Res
 // read behind it.
 fn read_record<R: BufRead>(alloc: Global, reader: &mut R) -> io::Result<Option<Vec<u8>>>
     ensures { IfOk result (λ next. MatchOption next (IsAtEnd (R.remaining reader.old)) (λ v.
-        IsShort (vec_items v) × Consumes (R.remaining reader.old) (R.remaining reader.new) (frame (vec_items v)))) }
+        IsShort (vec_items v) × Consumes (R.remaining reader.old) (R.remaining reader.new) (with_length (vec_items v)))) }
 {
     if reader.fill_buf()?.is_empty() {
         return Ok(None);
@@ -53,7 +53,7 @@ fn read_record<R: BufRead>(alloc: Global, reader: &mut R) -> io::Result<Option<V
 /// `FrameReader` of the crate `frame_reader` can be asked again.
 pub fn read_records<R: BufRead + Drop>(alloc: Global, reader: R) -> io::Result<Vec<Vec<u8>>>
     ensures short { IfOk result (λ v. AreShort (vec_items v)) }
-    ensures all { IfOk result (λ v. IfSome (R.remaining reader) (λ xs. xs ≡ frames (vec_items v))) }
+    ensures all { IfOk result (λ v. IfSome (R.remaining reader) (λ xs. xs ≡ with_lengths (vec_items v))) }
 {
     let mut reader = reader;
     let mut records = Vec::new(alloc);

@@ -10,9 +10,9 @@ use std::io;
 pub struct Sifted;
 
 impl Answer for Sifted {
-    ghost use Rattle.uses.specs.Sifted.{PassesOn};
+    ghost use Rattle.uses.specs.Sifted.{GoesOnAsLine};
 
-    ghost answers = { λ _ payload reply _. PassesOn payload reply };
+    ghost answers = { λ _ payload reply _. GoesOnAsLine payload reply };
 
     fn answer<W: TellWrite>(
         &mut self,

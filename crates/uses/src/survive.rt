@@ -2,7 +2,7 @@
 ghost use Rattle.std.specs.Prelude.{◌≡◌, ◌<◌, ◌↔◌, true, IsTrue, Ok, IfOk, IfErr, OnOk, vec_items};
 ghost use Rattle.buffer_redux.specs.BufReader.{RanDry};
 ghost use Rattle.buffer_redux.specs.ReaderLaws.{WantsBytes};
-ghost use Rattle.uses.specs.Stops.{Endures, Passes};
+ghost use Rattle.uses.specs.Stops.{Endures, MayGoOn};
 ghost use Rattle.uses.specs.Survive.{Gains, TurnFailed, TurnMoved};
 
 use buffer_redux::BufReader;
@@ -42,7 +42,7 @@ pub fn read_patiently<R: TellRead, P: ReaderPolicy>(
 
 // Whether a fault is one after which reading may go on.
 fn passes(e: &io::Error) -> bool
-    ensures { IsTrue result ↔ Passes e.now }
+    ensures { IsTrue result ↔ MayGoOn e.now }
 {
     matches!(
         e.kind(),

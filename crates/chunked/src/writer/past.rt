@@ -2,7 +2,7 @@
 ghost use Rattle.std.specs.Prelude.{◌≡◌, ◌^◌, ◌<◌, ◌≤◌, ◌+◌, ◌⊎◌, length};
 ghost use Rattle.std.specs.Io.{WritesAtMost};
 ghost use Rattle.buffer_redux.specs.WriteParts.{room};
-ghost use Rattle.chunked.specs.ChunkedWriter.{Begins, IsChunkedWriter, WentOn, WritesChunk, around};
+ghost use Rattle.chunked.specs.ChunkedWriter.{CopiesSizeLine, IsChunkedWriter, WentOn, WritesChunk, around};
 
 use crate::chunk::{AROUND, end_chunk, make_space, put_chunk, put_line, take_part};
 use crate::writer::ChunkedWriter;
@@ -71,7 +71,7 @@ impl<W: TellWrite> ChunkedWriter<W> {
         requires some { 0 < size }
         requires small { size < 2 ^ 62 }
         requires between { self.old.due ≡ 0 }
-        ensures begins { Begins W.log W.trace size self.old result self.new }
+        ensures begins { CopiesSizeLine W.log W.trace size self.old result self.new }
         ensures whole { IsChunkedWriter self.new }
     {
         match make_space(&mut self.writer, AROUND) {

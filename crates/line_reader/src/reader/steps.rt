@@ -7,7 +7,7 @@ ghost use Rattle.piece_reader.specs.NextPiece.{buffered_answer, load_answer};
 ghost use Rattle.piece_reader.specs.PieceReader.{rest};
 ghost use Rattle.piece_reader.specs.Trimming.{IsTrimmed};
 ghost use Rattle.line_reader.specs.LineReader.{IsLineReader, lined};
-ghost use Rattle.line_reader.specs.NextLine.{NextBuffered, NextLine};
+ghost use Rattle.line_reader.specs.NextLine.{NextBufferedLine, NextLine};
 ghost use Rattle.line_reader.specs.SkipLine.{DropsLine, DropsThrough};
 
 use crate::error::LineError;
@@ -59,7 +59,7 @@ impl<R: TellRead> LineReader<R> {
     #[inline(always)]
     pub(super) fn step_buffered(&mut self) -> Option<Span>
         ensures before { IsLineReader self.old }
-        ensures next { NextBuffered R.remaining self.old (buffered_answer result self.new.pieces) self.new }
+        ensures next { NextBufferedLine R.remaining self.old (buffered_answer result self.new.pieces) self.new }
         ensures lends { IfSome result
             (IsLent (lined self.new.pieces.decoder.max) self.new.pieces.handed self.new.pieces.reader.block.bytes) }
         ensures going { IfSome result (λ _. self.new.pieces.ended ≡ false) }

@@ -5,7 +5,7 @@ ghost use Rattle.std.specs.Io.KnownBytes.{ReadConsumes};
 ghost use Rattle.body_reader.specs.Asking.{AskedWhere};
 ghost use Rattle.body_reader.specs.Between.{handed_out};
 ghost use Rattle.buffer_redux.specs.StreamLog.{after_read};
-ghost use Rattle.messages.specs.Messages.{AskedIn, BecomesIo, EachGave, Fails, HasRoom, IsRest, ReaderTakes, ReadsAsIo, left_in, room_of, stream_of};
+ghost use Rattle.messages.specs.Messages.{AskedIn, BecomesIo, EachReadGave, Fails, HasRoom, IsRest, ReaderTakes, ReadsAsIo, left_in, room_of, stream_of};
 
 use crate::body::{Body, BodyCoding};
 use crate::error::BodyError;
@@ -53,7 +53,7 @@ fn read_told<R: TellRead>(
     ensures told { reader.new.calls ≡ after_read reader.old.calls out.new result }
     ensures takes { ReaderTakes R.remaining reader.old (handed_out out.new result) reader.new }
     ensures ended { result ≡ Ok 0 → 0 < length out.new → IsRest (left_in reader.new) [] [] }
-    ensures gave { OnOk result (EachGave (stream_of reader.old) (stream_of reader.new)) }
+    ensures gave { OnOk result (EachReadGave (stream_of reader.old) (stream_of reader.new)) }
     ensures fails { IfErr result (λ e. (why : BodyError)
         × Fails (stream_of reader.old) why (stream_of reader.new) (left_in reader.new) × BecomesIo why e) }
     ensures asked { AskedWhere (AskedIn (left_in reader.old) (length out.new) (stream_of reader.new).log.reads.offer)

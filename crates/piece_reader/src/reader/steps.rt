@@ -1,7 +1,7 @@
 //! The steps of which the calls of a reader of pieces are made.
 ghost use Rattle.std.specs.Prelude.{◌≡◌, ◌<◌, ◌≤◌, [], length, take, IfOk, IfSome};
 ghost use Rattle.piece_reader.specs.Decoding.{IsLent};
-ghost use Rattle.piece_reader.specs.Grammar.{IsOpen, Lacks};
+ghost use Rattle.piece_reader.specs.Grammar.{IsOpen, IsOpenBelow};
 ghost use Rattle.piece_reader.specs.NextPiece.{HandsBytes, NextPiece, PiecesWent, load_answer};
 ghost use Rattle.piece_reader.specs.PieceReader.{IsPieceReader, rest};
 ghost use Rattle.piece_reader.specs.Steps.{AsksFor, Takes, TakesEnd};
@@ -72,7 +72,7 @@ impl<R: TellRead, D: Decoder> PieceReader<R, D> {
     pub(super) fn load_outlined(&mut self, need: usize) -> Result<Option<Span>, NextError<D::Wrong>>
         requires few { length (rest self.old) < need }
         requires most { need ≤ (D.grammar self.old.decoder).most }
-        requires lacks { Lacks (D.grammar self.old.decoder) need (rest self.old) }
+        requires lacks { IsOpenBelow (D.grammar self.old.decoder) need (rest self.old) }
         requires looked { self.old.seen ≡ length (rest self.old) }
         ensures next { NextPiece R.remaining (D.grammar self.old.decoder) self.old
             (load_answer result self.new) self.new }
@@ -89,7 +89,7 @@ impl<R: TellRead, D: Decoder> PieceReader<R, D> {
     pub(super) fn load(&mut self, need: usize) -> Result<Option<Span>, NextError<D::Wrong>>
         requires few { length (rest self.old) < need }
         requires most { need ≤ (D.grammar self.old.decoder).most }
-        requires lacks { Lacks (D.grammar self.old.decoder) need (rest self.old) }
+        requires lacks { IsOpenBelow (D.grammar self.old.decoder) need (rest self.old) }
         requires looked { self.old.seen ≡ length (rest self.old) }
         ensures next { NextPiece R.remaining (D.grammar self.old.decoder) self.old
             (load_answer result self.new) self.new }

@@ -3,10 +3,10 @@ use Rattle.buffer_redux.specs.UnbufferLaws.{StreamWent-none}
 use Rattle.messages.specs.Messages.{InsideGoes}
 use Rattle.requests.specs.declared.Ending.TheVariants.{Unsent}
 use Rattle.requests.specs.declared.Place.TheVariants.{Inside}
-use Rattle.requests.specs.Answers.{IsLast, called, waits}
-use Rattle.requests.proofs.Answering.{FailsLast-of, Runs-stopped, part_answered}
+use Rattle.requests.specs.Answers.{IsSentLast, called, waits}
+use Rattle.requests.proofs.Answering.{FailsLast-of, RunsToLast-stopped, part_answered}
 use Rattle.requests.proofs.Reading.{begun_steady, is_part}
-use Rattle.requests.proofs.Sending.{Puts-more, Writes-after, Writes-put}
+use Rattle.requests.proofs.Sending.{PutsText-more, WritesPromptly-after, WritesPromptly-put}
 use Rattle.requests.proofs.answer_body.Goals as goal
 
 pub answer_called-requires : goal.answer_called-requires
@@ -21,8 +21,9 @@ returns-in-Ok-clause-turns g c = λ s w begun writes.
     let b = c.args.body in
     let call = rw c.said.ensures.value at c.in-Ok.ensures in
     c.answer_called.ensures.turns s w begun
-    (Writes-after g.met.W.TellWrite.trace_joins (_, w) (b.stream, c.args.writer.now) (b.stream, c.call_for_body.new.writer) []
-    (called (waits b.said)) (Ok tt) writes (Writes-put b.stream call.puts call.unflushed))
+    (WritesPromptly-after g.met.W.TellWrite.trace_joins (_, w) (b.stream, c.args.writer.now)
+    (b.stream, c.call_for_body.new.writer) []
+    (called (waits b.said)) (Ok tt) writes (WritesPromptly-put b.stream call.puts call.unflushed))
 
 pub returns-in-Err-clause-turns : goal.returns-in-Err-clause-turns
 returns-in-Err-clause-turns g c = λ s w begun writes.
@@ -42,10 +43,11 @@ returns-in-Err-clause-turns g c = λ s w begun writes.
       said = refl;
     } in
     let call = rw c.said.ensures.value at c.in-Err.ensures in
-    let more = Puts-more [] call.puts in
-    Runs-stopped [] (Inside b) (is_part begun c.requires.limits none) (omega (arith, (begun_steady begun).ends)) (Unsent c.in-Err.e)
+    let more = PutsText-more [] call.puts in
+    RunsToLast-stopped [] (Inside b) (is_part begun c.requires.limits none) (omega (arith, (begun_steady begun).ends)) (Unsent c.in-Err.e)
     (part_answered begun none
-    (Writes-after g.met.W.TellWrite.trace_joins (_, w) (b.stream, c.args.writer.now) (b.stream, c.call_for_body.new.writer) []
-    (called (waits b.said) ++ []) (Err c.in-Err.e) writes (Writes-put b.stream more call.unflushed))
-    (FailsLast-of (IsLast [] (b.head ++ none.takes.wire) None (Inside b)) (Err c.in-Err.e) refl
+    (WritesPromptly-after g.met.W.TellWrite.trace_joins (_, w) (b.stream, c.args.writer.now)
+    (b.stream, c.call_for_body.new.writer) []
+    (called (waits b.said) ++ []) (Err c.in-Err.e) writes (WritesPromptly-put b.stream more call.unflushed))
+    (FailsLast-of (IsSentLast [] (b.head ++ none.takes.wire) None (Inside b)) (Err c.in-Err.e) refl
     (inr (append-nil _, append-nil b.head)) writes.puts more)) (begun_steady begun).faults

@@ -3,8 +3,8 @@ use Rattle.std.proofs.lemmas.List.Elements.{All-cons, All-nil}
 use Rattle.messages.specs.Heads.{IsHead}
 use Rattle.requests.specs.declared.Ending.TheVariants.{Over, Unsent}
 use Rattle.requests.specs.declared.Place.TheVariants.{Before}
-use Rattle.requests.specs.Answers.{Keeps, is_known}
-use Rattle.requests.proofs.Answering.{Runs-stopped, one_answered, torn_answered}
+use Rattle.requests.specs.Answers.{MayFollow, is_known}
+use Rattle.requests.proofs.Answering.{RunsToLast-stopped, one_answered, torn_answered}
 use Rattle.requests.proofs.Reading.{begun_steady, no_shorter, steadily}
 use Rattle.requests.proofs.answer_called.Goals as goal
 
@@ -20,7 +20,7 @@ returns-then-said-clause-turns g c = λ s w begun call.
         answers = one_answered g.met.W.TellWrite.trace_joins begun c.requires.limits whole c.said-said.ensures.value
             (c.is_known-known.ensures ∙ ap is_known c.head.ensures) call c.in-Ok.ensures.writes
             c.in-Ok-answer_whole.ensures.puts c.in-Ok-answer_whole.ensures.unflushed;
-        keep = All-cons (Keeps true) (b.head, whole.1) [] (b.said, head, keeps) (All-nil (Keeps true));
+        keep = All-cons (MayFollow true) (b.head, whole.1) [] (b.said, head, keeps) (All-nil (MayFollow true));
         reads = reads;
       },
       omega (arith, no_shorter reads.faults),
@@ -32,7 +32,7 @@ returns-else-said-clause-turns g c = λ s w begun call.
     let head = subst (λ l. IsHead l b.head b.said) c.requires.limits begun.is in
     let whole = c.in-Ok.ensures.whole in
     let reads = steadily (begun_steady begun) c.in-Ok.ensures.steady in
-    Runs-stopped [] (Before c.in-Ok.requests) (refl, refl) (omega (arith, reads.ends)) Over
+    RunsToLast-stopped [] (Before c.in-Ok.requests) (refl, refl) (omega (arith, reads.ends)) Over
     (one_answered g.met.W.TellWrite.trace_joins begun c.requires.limits whole c.said-said.ensures.value
     (c.is_known-known.ensures ∙ ap is_known c.head.ensures) call c.in-Ok.ensures.writes
     c.in-Ok-answer_whole.ensures.puts c.in-Ok-answer_whole.ensures.unflushed) (
@@ -42,7 +42,7 @@ returns-else-said-clause-turns g c = λ s w begun call.
           before = [];
           last = (b.head, whole.1);
           all = refl;
-          keep = All-nil (Keeps true);
+          keep = All-nil (MayFollow true);
           close = (b.said, head, sym (ap (λ x. x.keeps) c.said-said.ensures.value) ∙ c.if-said.false);
         },
         refl,
@@ -54,7 +54,7 @@ returns-else-said-clause-turns g c = λ s w begun call.
 pub returns-in-Err-answer_whole-clause-turns : goal.returns-in-Err-answer_whole-clause-turns
 returns-in-Err-answer_whole-clause-turns g c = λ s w begun call.
     let reads = steadily (begun_steady begun) c.in-Ok.ensures.steady in
-    Runs-stopped [] (Before c.in-Ok.requests) (refl, refl) (omega (arith, reads.ends)) (Unsent c.in-Err-answer_whole.e)
+    RunsToLast-stopped [] (Before c.in-Ok.requests) (refl, refl) (omega (arith, reads.ends)) (Unsent c.in-Err-answer_whole.e)
     (one_answered g.met.W.TellWrite.trace_joins begun c.requires.limits c.in-Ok.ensures.whole c.said-said.ensures.value
     (c.is_known-known.ensures ∙ ap is_known c.head.ensures) call c.in-Ok.ensures.writes
     c.in-Err-answer_whole.ensures.puts c.in-Err-answer_whole.ensures.unflushed) reads.faults

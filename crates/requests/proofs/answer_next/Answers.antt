@@ -3,12 +3,12 @@ use Rattle.buffer_redux.specs.UnbufferLaws.{StreamWent-none}
 use Rattle.codec.specs.PieceReader.{left_of}
 use Rattle.requests.specs.declared.Ending.TheVariants.{Unsent}
 use Rattle.requests.specs.declared.Place.TheVariants.{Before}
-use Rattle.requests.specs.Answers.{IsLast}
-use Rattle.requests.specs.Sending.{Writes}
-use Rattle.requests.proofs.Answering.{FailsLast-of, Runs-stopped, none_answered}
+use Rattle.requests.specs.Answers.{IsSentLast}
+use Rattle.requests.specs.Sending.{WritesPromptly}
+use Rattle.requests.proofs.Answering.{FailsLast-of, RunsToLast-stopped, none_answered}
 use Rattle.requests.proofs.Coming.{comes, open_where, usually}
 use Rattle.requests.proofs.Reading.{none_met}
-use Rattle.requests.proofs.Sending.{Puts-none, Writes-sent}
+use Rattle.requests.proofs.Sending.{PutsText-none, WritesPromptly-sent}
 use Rattle.requests.proofs.answer_next.Goals as goal
 
 pub answer_body-requires : goal.answer_body-requires
@@ -28,7 +28,7 @@ returns-in-Ok-next-clause-turns g c =
     let came = comes g.met.W.TellWrite.trace_none g.met.W.TellWrite.trace_joins c.args.requests c.args.writer.now
     c.send_to_ask.new.writer c.in-Ok.ensures _ begun.behind (usually c.requires.limits begun.next) in
     c.answer_body.ensures.turns c.args.requests c.args.writer.now begun
-    (subst (λ u. Writes g.W.Tell.log g.W.TellWrite.trace (left_of c.args.requests, c.args.writer.now) [] (Ok tt)
+    (subst (λ u. WritesPromptly g.W.Tell.log g.W.TellWrite.trace (left_of c.args.requests, c.args.writer.now) [] (Ok tt)
     (u, c.send_to_ask.new.writer)) (sym begun.stream) came.writes)
 
 pub returns-in-Err-next-clause-turns : goal.returns-in-Err-next-clause-turns
@@ -41,9 +41,9 @@ returns-in-Err-next-clause-turns g c =
 pub returns-in-Err-clause-turns : goal.returns-in-Err-clause-turns
 returns-in-Err-clause-turns g c =
     let s = left_of c.args.requests in
-    let sent = Writes-sent g.met.W.TellWrite.trace_none s c.args.writer.now c.send_to_ask.new.writer (Err c.in-Err.e)
+    let sent = WritesPromptly-sent g.met.W.TellWrite.trace_none s c.args.writer.now c.send_to_ask.new.writer (Err c.in-Err.e)
     c.in-Err.ensures (open_where c.args.requests) in
-    Runs-stopped [] (Before c.args.requests) (refl, refl) (omega arith) (Unsent c.in-Err.e)
+    RunsToLast-stopped [] (Before c.args.requests) (refl, refl) (omega arith) (Unsent c.in-Err.e)
     (none_answered (StreamWent-none g.R.TellRead.remaining s) sent
-    (FailsLast-of (IsLast [] [] None (Before c.args.requests)) (Err c.in-Err.e) refl (inl refl)
-    (Puts-none g.met.W.TellWrite.trace_none c.args.writer.now) sent.puts)) (none_met refl)
+    (FailsLast-of (IsSentLast [] [] None (Before c.args.requests)) (Err c.in-Err.e) refl (inl refl)
+    (PutsText-none g.met.W.TellWrite.trace_none c.args.writer.now) sent.puts)) (none_met refl)

@@ -4,10 +4,10 @@ use Rattle.buffer_redux.specs.UnbufferLaws.{StreamWent-none}
 use Rattle.codec.specs.PieceReader.{left_of}
 use Rattle.requests.specs.declared.Ending.TheVariants.{Many}
 use Rattle.requests.specs.declared.Place.TheVariants.{Before}
-use Rattle.requests.specs.Answers.{Keeps}
-use Rattle.requests.proofs.Answering.{Answers-joins, IsLastAnswer-after, Runs-after, Runs-stopped, none_answered}
+use Rattle.requests.specs.Answers.{MayFollow}
+use Rattle.requests.proofs.Answering.{AnswersMessages-joins, IsLastAnswer-after, RunsToLast-after, RunsToLast-stopped, none_answered}
 use Rattle.requests.proofs.Reading.{steadily, steady_none}
-use Rattle.requests.proofs.Sending.{Writes-none}
+use Rattle.requests.proofs.Sending.{WritesPromptly-none}
 use Rattle.requests.proofs.serve.Goals as goal
 
 pub loop-message-init : goal.loop-message-init
@@ -15,8 +15,8 @@ loop-message-init g c = record {
   goes = record {
     messages = [];
     answers = none_answered (StreamWent-none g.R.TellRead.remaining (left_of c.args.requests))
-        (Writes-none g.met.W.TellWrite.trace_none (left_of c.args.requests, c.args.writer.now)) tt;
-    keep = All-nil (Keeps true);
+        (WritesPromptly-none g.met.W.TellWrite.trace_none (left_of c.args.requests, c.args.writer.now)) tt;
+    keep = All-nil (MayFollow true);
     reads = steady_none (refl, refl);
   };
   turns = omega arith;
@@ -32,8 +32,9 @@ loop-message-preserved g c =
     record {
       goes = record {
         messages = a.messages ++ b.messages;
-        answers = Answers-joins g.met.W.TellWrite.trace_joins a.answers b.answers (IsLastAnswer-after a.messages b.messages);
-        keep = All-append (Keeps true) a.messages b.messages a.keep b.keep;
+        answers =
+            AnswersMessages-joins g.met.W.TellWrite.trace_joins a.answers b.answers (IsLastAnswer-after a.messages b.messages);
+        keep = All-append (MayFollow true) a.messages b.messages a.keep b.keep;
         reads = steadily a.reads b.reads;
       };
       turns = omega (arith, before.turns, c.in-Ok.ensures.turns.1, length-append a.messages b.messages);
@@ -45,7 +46,7 @@ pub returns-in-Err : goal.returns-in-Err
 returns-in-Err g c = record {
   ending = c.in-Err.ending;
   held = c.answer.new.writer;
-  runs = Runs-after g.met.W.TellWrite.trace_joins c.loop-message.invariant.goes c.in-Err.ending c.in-Err.ensures.turns;
+  runs = RunsToLast-after g.met.W.TellWrite.trace_joins c.loop-message.invariant.goes c.in-Err.ending c.in-Err.ensures.turns;
   last = c.send_last-answer.ensures;
 }
 
@@ -54,7 +55,7 @@ returns g c =
     let before = c.loop-message.invariant in record {
       ending = Many;
       held = c.loop-message.writer;
-      runs = Runs-stopped [] (Before c.loop-message.next) (refl, refl) (omega (arith, before.goes.reads.ends)) Many
+      runs = RunsToLast-stopped [] (Before c.loop-message.next) (refl, refl) (omega (arith, before.goes.reads.ends)) Many
           before.goes.answers (before.goes.reads.faults, omega (arith, before.turns, c.loop-message-test.false));
       last = c.send_last-answer-2.ensures;
     }

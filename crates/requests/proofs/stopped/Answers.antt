@@ -1,22 +1,22 @@
 use Rattle.std.proofs.Common.{◌≡◌, ◌+◌, ◌∙◌, IsTrue, MatchBool, [], ◌∷◌, Some, true, false, ap, length, subst, sym, inl, inr, refl, arith, length-append}
 use Rattle.std.proofs.lemmas.List.Elements.{All-nil}
 use Rattle.redux_buffer.specs.Faults.{OnlyInterrupts-none}
-use Rattle.codec.specs.NextPiece.{MetEnd, NoEnd, empties}
+use Rattle.codec.specs.NextPiece.{MetEnd, NoEnd, empty_reads}
 use Rattle.codec.specs.PieceReader.{ReaderState, left_of}
 use Rattle.messages.specs.HeadsLaws.{never_cut}
 use Rattle.messages.specs.declared.head.Heads.{Heads}
 use Rattle.requests.specs.declared.Ending.TheVariants.{Over, Unread}
 use Rattle.requests.specs.declared.Place.TheVariants.{Before}
-use Rattle.requests.specs.Answers.{IsLast, Keeps, Runs, ends_of, faults_of, is_blank, refusal_of}
+use Rattle.requests.specs.Answers.{IsSentLast, MayFollow, RunsToLast, ends_of, faults_of, only_line_ends, refusal_of}
 use Rattle.messages.specs.declared.requests.Stop.TheVariants.{Bad}
-use Rattle.requests.proofs.Answering.{FailsLast-of, Runs-ended, Runs-stopped, none_answered}
+use Rattle.requests.proofs.Answering.{FailsLast-of, RunsToLast-ended, RunsToLast-stopped, none_answered}
 use Rattle.requests.proofs.Reading.{failed_behind, interrupted_once, none_met, nothing_went}
-use Rattle.requests.proofs.Sending.{Writes-after, Writes-put, on_ok}
+use Rattle.requests.proofs.Sending.{WritesPromptly-after, WritesPromptly-put, on_ok}
 use Rattle.requests.proofs.stopped.Goals as goal
 
 -- an end that no call had told before was met in this one
 met_end : {R : Type 0} (s t : ReaderState R Heads) → s.ended ≡ false → MetEnd s t → ends_of (left_of t) ≡ ends_of (left_of s) + 1
-met_end s t told met = subst (λ b. MatchBool b (NoEnd s t) (empties t.reader ≡ empties s.reader + 1)) told met
+met_end s t told met = subst (λ b. MatchBool b (NoEnd s t) (empty_reads t.reader ≡ empty_reads s.reader + 1)) told met
 
 pub returns-then-is_interrupt-clause-turns : goal.returns-then-is_interrupt-clause-turns
 returns-then-is_interrupt-clause-turns g c = λ s w told next comes.
@@ -26,7 +26,7 @@ returns-then-is_interrupt-clause-turns g c = λ s w told next comes.
       record {
         messages = [];
         answers = none_answered (nothing_went fault answers.0) comes.writes tt;
-        keep = All-nil (Keeps true);
+        keep = All-nil (MayFollow true);
         reads = record {
           faults = interrupted_once (faults_of (left_of s)) (faults_of (left_of c.args.requests)) was.0 was.2 answers.2;
           ends = answers.4;
@@ -39,10 +39,10 @@ pub returns-in-Ended-clause-turns : goal.returns-in-Ended-clause-turns
 returns-in-Ended-clause-turns g c = λ s w told next comes.
     let ended = rw c.in-Ended.is at next in
     let met = met_end s c.args.requests told ended.answers.4 in
-    Runs-stopped [] (Before c.args.requests) (refl, refl) (omega (arith, met)) Over
+    RunsToLast-stopped [] (Before c.args.requests) (refl, refl) (omega (arith, met)) Over
     (none_answered (nothing_went ended ended.answers.0) comes.writes tt) (
       none_met ended.answers.2,
-      inr (All-nil (Keeps true), inr (omega (arith, met), subst (λ l. IsTrue (is_blank l)) (sym ended.answers.1) refl)),
+      inr (All-nil (MayFollow true), inr (omega (arith, met), subst (λ l. IsTrue (only_line_ends l)) (sym ended.answers.1) refl)),
     )
 
 pub returns-then-is_blank_end-clause-turns : goal.returns-then-is_blank_end-clause-turns
@@ -53,12 +53,12 @@ returns-then-is_blank_end-clause-turns g c = λ s w told next comes.
       | inl wrong ↦ absurd (never_cut _ _ _ wrong.0)
       | inr end ↦
           (let met = met_end s c.args.requests told end.3 in
-          Runs-stopped [] (Before c.args.requests) (refl, refl) (omega (arith, met)) Over
+          RunsToLast-stopped [] (Before c.args.requests) (refl, refl) (omega (arith, met)) Over
           (none_answered (nothing_went cut cut.answers.0) comes.writes tt) (
             none_met cut.answers.1,
             inr (
-              All-nil (Keeps true),
-              inr (omega (arith, met), subst (λ l. IsTrue (is_blank l)) c.buffered.ensures was.2),
+              All-nil (MayFollow true),
+              inr (omega (arith, met), subst (λ l. IsTrue (only_line_ends l)) c.buffered.ensures was.2),
             ),
           ))
     ]
@@ -70,33 +70,33 @@ returns-in-Bad-clause-turns g c = λ s w told next comes.
     let why = c.refusal_of.result in
     let v = c.args.writer.now in
     let t = left_of c.args.requests in
-    subst (λ x. Runs g.R.TellRead.remaining g.W.Tell.log g.W.TellWrite.trace (left_of s) w (Before c.args.requests) x
-    c.refuse.new.writer) (sym c.ending_of-ending.ensures) (Runs-ended [] (Before c.args.requests) (refl, refl)
+    subst (λ x. RunsToLast g.R.TellRead.remaining g.W.Tell.log g.W.TellWrite.trace (left_of s) w (Before c.args.requests) x
+    c.refuse.new.writer) (sym c.ending_of-ending.ensures) (RunsToLast-ended [] (Before c.args.requests) (refl, refl)
     (elim bad.answers.3 [
       | inl wrong ↦ omega (arith, wrong.1)
       | inr cut ↦ omega (arith, met_end s c.args.requests told cut.3)
     ]) (Some why) sending (none_answered (nothing_went bad bad.answers.0)
-    (Writes-after g.met.W.TellWrite.trace_joins (left_of s, w) (t, v) (t, c.refuse.new.writer) [] _ sending comes.writes
-    (Writes-put t c.refuse.ensures.puts c.refuse.ensures.unflushed))
-    (FailsLast-of (IsLast [] [] (Some why) (Before c.args.requests)) sending refl (inr refl) comes.writes.puts
+    (WritesPromptly-after g.met.W.TellWrite.trace_joins (left_of s, w) (t, v) (t, c.refuse.new.writer) [] _ sending comes.writes
+    (WritesPromptly-put t c.refuse.ensures.puts c.refuse.ensures.unflushed))
+    (FailsLast-of (IsSentLast [] [] (Some why) (Before c.args.requests)) sending refl (inr refl) comes.writes.puts
     c.refuse.ensures.puts))
     (elim bad.answers.3 [
       | inl wrong ↦ inl (_, wrong.0, c.refusal_of.ensures)
       | inr cut ↦ inr (
         c.refusal_of.ensures ∙ ap refusal_of cut.0,
         omega (arith, met_end s c.args.requests told cut.3),
-        ap is_blank (sym c.buffered.ensures) ∙ sym (c.is_blank_end.ensures.cut _ (c.in-Bad.is ∙ ap Bad cut.0))
+        ap only_line_ends (sym c.buffered.ensures) ∙ sym (c.is_blank_end.ensures.cut _ (c.in-Bad.is ∙ ap Bad cut.0))
             ∙ c.if-is_blank_end.false,
         cut.1,
       )
     ])
-    (none_met bad.answers.1) (on_ok sending (inr (All-nil (Keeps true), inl refl))))
+    (none_met bad.answers.1) (on_ok sending (inr (All-nil (MayFollow true), inl refl))))
 
 pub returns-in-Io-clause-turns : goal.returns-in-Io-clause-turns
 returns-in-Io-clause-turns g c = λ s w told next comes.
     let fault = rw c.in-Io.is at next in
     let answers = fault.answers in
-    Runs-stopped [] (Before c.args.requests) (refl, refl) (omega (arith, answers.4)) (Unread c.in-Io.e)
+    RunsToLast-stopped [] (Before c.args.requests) (refl, refl) (omega (arith, answers.4)) (Unread c.in-Io.e)
     (none_answered (nothing_went fault answers.0) comes.writes tt) (
       (
         failed_behind _ _ _ c.in-Io.e (OnlyInterrupts-none (faults_of (left_of s))) answers.2,

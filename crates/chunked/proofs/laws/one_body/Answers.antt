@@ -1,5 +1,5 @@
-use Rattle.chunked.specs.BodyLaws.{IsBody-same}
+use Rattle.chunked.specs.BodyLaws.{IsBodyOfChunks-same}
 use Rattle.chunked.proofs.laws.one_body.Goals as goal
 
 pub returns : goal.returns
-returns c = IsBody-same
+returns c = IsBodyOfChunks-same

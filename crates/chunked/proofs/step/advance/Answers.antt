@@ -1,14 +1,14 @@
 use Rattle.std.proofs.Common.{[], ◌∷◌, take, slice_index, sym, subst, inl, inr, arith, refl, rules}
 use Rattle.std.proofs.lemmas.List.{take_more}
-use Rattle.chunked.specs.Place.{IsSettled, Passes, Within}
+use Rattle.chunked.specs.Place.{IsDataOrDone, PassesAlong, Within}
 use Rattle.chunked.specs.CodingLaws.{within_none, within_on}
-use Rattle.chunked.specs.PlaceLaws.{Passes-none, Passes-joins}
+use Rattle.chunked.specs.PlaceLaws.{PassesAlong-none, PassesAlong-joins}
 use Rattle.chunked.proofs.step.advance.Goals as goal
 
 pub loop-taken-init : goal.loop-taken-init
 loop-taken-init c = record {
   within = omega arith;
-  passes = Passes-none c.args.limits.now c.args.start;
+  passes = PassesAlong-none c.args.limits.now c.args.start;
   place = c.requires;
   begun = inr refl;
   short = within_none c.args.limits.now c.args.start;
@@ -20,9 +20,9 @@ loop-taken-preserved c =
     let shown = c.args.shown.now in
     record {
       within = omega arith;
-      passes = subst (λ l. Passes c.args.limits.now c.args.start l c.in-Ok.next)
+      passes = subst (λ l. PassesAlong c.args.limits.now c.args.start l c.in-Ok.next)
           (sym (take_more shown c.loop-taken.taken 0 c.loop-taken-test.true))
-          (Passes-joins c.args.limits.now c.args.start c.loop-taken.place c.in-Ok.next (take c.loop-taken.taken shown)
+          (PassesAlong-joins c.args.limits.now c.args.start c.loop-taken.place c.in-Ok.next (take c.loop-taken.taken shown)
           (slice_index shown c.loop-taken.taken ∷ []) before.passes c.in-Ok.ensures.0);
       place = c.in-Ok.ensures.1;
       begun = inl (omega arith);
@@ -49,7 +49,7 @@ returns-in-Err c =
 pub returns-else-not-is_settled : goal.returns-else-not-is_settled
 returns-else-not-is_settled c =
     let before = c.loop-taken.invariant in
-    let settled : IsSettled c.loop-taken.place = search rules in
+    let settled : IsDataOrDone c.loop-taken.place = search rules in
     record {
       within = before.within;
       passes = before.passes;
@@ -58,7 +58,7 @@ returns-else-not-is_settled c =
       all = λ _. inl settled;
       some = λ goes_on _ _. elim before.begun [
         | inl some ↦ some
-        | inr same ↦ absurd (goes_on (subst IsSettled same settled))
+        | inr same ↦ absurd (goes_on (subst IsDataOrDone same settled))
       ];
       begun = before.begun;
       short = before.short;

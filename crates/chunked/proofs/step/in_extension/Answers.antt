@@ -1,12 +1,12 @@
 use Rattle.std.proofs.Common.{[], arith, rules}
-use Rattle.chunked.specs.Within.{Extends}
+use Rattle.chunked.specs.Within.{CompletesExtension}
 use Rattle.chunked.proofs.Extending.{extension_on, extension_return, fits_in, runs_over}
 use Rattle.chunked.proofs.Least.{IsLeast}
 use Rattle.chunked.proofs.step.in_extension.Goals as goal
 
 pub returns-in-13 : goal.returns-in-13
 returns-in-13 c =
-    let none : Extends c.args.within [] = search rules in
+    let none : CompletesExtension c.args.within [] = search rules in
     λ l. (extension_return l c.args.within c.args.byte c.args.size c.args.room none c.in-13.is, c.requires)
 
 pub returns-in-Some : goal.returns-in-Some

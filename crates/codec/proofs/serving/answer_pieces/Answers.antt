@@ -1,6 +1,6 @@
 use Rattle.std.proofs.Common.{◌∷◌, Err, Ok, arith, false, refl, subst, true, ◌∙◌}
 use Rattle.std.proofs.lemmas.Result.{err_from_is_err_and}
-use Rattle.codec.specs.Serving.{Turns, server}
+use Rattle.codec.specs.Serving.{ServesTurn, server}
 use Rattle.codec.specs.ServingLaws.{stops, turn_failed_so}
 use Rattle.codec.specs.declared.serving.Step.TheVariants.{Closed, End, Went}
 use Rattle.codec.proofs.serving.answer_pieces.Goals as goal
@@ -9,7 +9,7 @@ pub loop-turn-preserved : goal.loop-turn-preserved
 loop-turn-preserved g c =
     let m = server c.loop-turn.reader c.loop-turn.service c.loop-turn.writer in
     let before = c.loop-turn.invariant in
-    let took = subst (λ d. Turns g.R.TellRead.remaining g.W.Tell.log g.W.TellWrite.trace (g.D.Decoder.grammar d)
+    let took = subst (λ d. ServesTurn g.R.TellRead.remaining g.W.Tell.log g.W.TellWrite.trace (g.D.Decoder.grammar d)
     (g.D.Items.item_of d) g.S.Service.answers g.S.Service.fails m (Ok Went)
     (server c.turn.new.reader c.turn.new.service c.turn.new.writer)) before.decoder (rw c.in-Went.is at c.in_ok-turn.ensures) in
     record {
@@ -24,7 +24,7 @@ returns-in-Closed-clause-ended g c =
     let m = server c.loop-turn.reader c.loop-turn.service c.loop-turn.writer in
     let t = server c.turn.new.reader c.turn.new.service c.turn.new.writer in
     let before = c.loop-turn.invariant in
-    let took = subst (λ d. Turns g.R.TellRead.remaining g.W.Tell.log g.W.TellWrite.trace (g.D.Decoder.grammar d)
+    let took = subst (λ d. ServesTurn g.R.TellRead.remaining g.W.Tell.log g.W.TellWrite.trace (g.D.Decoder.grammar d)
     (g.D.Items.item_of d) g.S.Service.answers g.S.Service.fails m (Ok Closed) t) before.decoder
     (rw c.in-Closed.is at c.in_ok-turn.ensures) in
     record {
@@ -39,7 +39,7 @@ pub returns-in-End-clause-ended : goal.returns-in-End-clause-ended
 returns-in-End-clause-ended g c =
     let m = server c.loop-turn.reader c.loop-turn.service c.loop-turn.writer in
     let before = c.loop-turn.invariant in
-    let none = subst (λ d. Turns g.R.TellRead.remaining g.W.Tell.log g.W.TellWrite.trace (g.D.Decoder.grammar d)
+    let none = subst (λ d. ServesTurn g.R.TellRead.remaining g.W.Tell.log g.W.TellWrite.trace (g.D.Decoder.grammar d)
     (g.D.Items.item_of d) g.S.Service.answers g.S.Service.fails m (Ok End)
     (server c.turn.new.reader c.turn.new.service c.turn.new.writer)) before.decoder (rw c.in-End.is at c.in_ok-turn.ensures) in
     record { exchanges = before.exchanges; more = true; last = m; talked = before.talked; ends = (refl, none) }
@@ -61,7 +61,7 @@ returns-in_err-turn-clause-failed g c =
     let m = server c.loop-turn.reader c.loop-turn.service c.loop-turn.writer in
     let t = server c.turn.new.reader c.turn.new.service c.turn.new.writer in
     let before = c.loop-turn.invariant in
-    let failed = subst (λ d. Turns g.R.TellRead.remaining g.W.Tell.log g.W.TellWrite.trace (g.D.Decoder.grammar d)
+    let failed = subst (λ d. ServesTurn g.R.TellRead.remaining g.W.Tell.log g.W.TellWrite.trace (g.D.Decoder.grammar d)
     (g.D.Items.item_of d) g.S.Service.answers g.S.Service.fails m (Err c.in_err-turn.field-0.0) t) before.decoder
     c.in_err-turn.ensures in
     rw (p.1, p.2) (stops _ _ _ _ _ _ _ g.met.W.TellWrite.trace_none g.met.W.TellWrite.trace_joins _ before.exchanges true m

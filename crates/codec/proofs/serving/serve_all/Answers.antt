@@ -1,5 +1,5 @@
 use Rattle.std.proofs.Common.{◌≡◌, inl, inr, refl, subst, arith, rules}
-use Rattle.codec.specs.Serving.{Serves, Stops, server}
+use Rattle.codec.specs.Serving.{Serves, ServingFails, server}
 use Rattle.codec.specs.declared.serving.ServeError.{ServeError}
 use Rattle.codec.specs.declared.serving.ServeError.TheVariants.{Failed, Flush, Read, Write, Wrong}
 use Rattle.codec.proofs.Resuming.{resumes_more, resumes_none, serves_behind, stops_so}
@@ -8,11 +8,11 @@ use Rattle.codec.proofs.serving.serve_all.Goals.{After-serve}
 
 -- serving failed so, behind interrupted reads
 failed : (g : _) (c : After-serve g) (e e' : ServeError g.row.D-Wrong.Denot g.row.S-Failure.Denot) → e ≡ e'
-    → Stops g.R.TellRead.remaining g.W.Tell.log g.W.TellWrite.trace (g.D.Decoder.grammar c.loop-call.reader.decoder)
+    → ServingFails g.R.TellRead.remaining g.W.Tell.log g.W.TellWrite.trace (g.D.Decoder.grammar c.loop-call.reader.decoder)
     (g.D.Items.item_of c.loop-call.reader.decoder) g.S.Service.answers g.S.Service.fails
     (server c.loop-call.reader c.loop-call.service c.loop-call.writer) e
     (server c.serve.new.reader c.serve.new.service c.serve.new.writer)
-    → Stops g.R.TellRead.remaining g.W.Tell.log g.W.TellWrite.trace (g.D.Decoder.grammar c.args.reader.now.decoder)
+    → ServingFails g.R.TellRead.remaining g.W.Tell.log g.W.TellWrite.trace (g.D.Decoder.grammar c.args.reader.now.decoder)
     (g.D.Items.item_of c.args.reader.now.decoder) g.S.Service.answers g.S.Service.fails
     (server c.loop-call.reader c.loop-call.service c.loop-call.writer) e'
     (server c.serve.new.reader c.serve.new.service c.serve.new.writer)

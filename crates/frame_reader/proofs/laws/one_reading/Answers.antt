@@ -1,6 +1,6 @@
 use Rattle.std.proofs.Common.{arith}
-use Rattle.frame_reader.specs.FramedLaws.{Splits-same}
+use Rattle.frame_reader.specs.FramedLaws.{SplitsIntoFrames-same}
 use Rattle.frame_reader.proofs.laws.one_reading.Goals as goal
 
 pub returns : goal.returns
-returns c = Splits-same c.args.max (omega arith)
+returns c = SplitsIntoFrames-same c.args.max (omega arith)

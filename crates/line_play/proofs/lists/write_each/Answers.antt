@@ -3,7 +3,7 @@ use Rattle.buffer_redux.specs.BufWriter.{WritesInOrder}
 use Rattle.buffer_redux.specs.LogGrows.{WriteLogGrows-joins}
 use Rattle.buffer_redux.specs.WriteAll.{TookBeginning}
 use Rattle.buffer_redux.specs.WritesAlongLaws.{WriterStopped-after}
-use Rattle.line_reader.specs.Lines.{with_end}
+use Rattle.line_reader.specs.Lines.{with_newline}
 use Rattle.line_play.proofs.WritingLines.{line_written, stops_in}
 use Rattle.line_play.proofs.lists.write_each.Goals as goal
 
@@ -12,7 +12,7 @@ returns-in-Err-clause-stopped g c =
     stops_in (λ v. v.items) c.args.lines.now c.loop-line.line-index c.line-item.result c.loop-line-test.true c.line-item.is
     g.W.TellWrite.trace g.met.W.TellWrite.trace_joins c.args.writer.now c.loop-line.writer c.write_line.new.writer
     c.loop-line.invariant.wrote c.loop-line.taken c.loop-line.invariant.count
-    (subst (λ l. TookBeginning (with_end l) c.loop-line.writer c.write_line.new.writer) c.deref.ensures.value
+    (subst (λ l. TookBeginning (with_newline l) c.loop-line.writer c.write_line.new.writer) c.deref.ensures.value
     c.write_line.ensures.beginning)
 
 pub returns-in-Err-clause-caused : goal.returns-in-Err-clause-caused
@@ -23,7 +23,7 @@ loop-line-preserved g c = record {
   wrote = line_written (λ v. v.items) c.args.lines.now c.loop-line.line-index c.line-item.result c.loop-line-test.true
       c.line-item.is g.W.TellWrite.trace g.met.W.TellWrite.trace_joins c.args.writer.now c.loop-line.writer
       c.write_line.new.writer c.loop-line.invariant.wrote
-      (subst (λ l. WritesInOrder c.loop-line.writer (with_end l) c.write_line.new.writer) c.deref.ensures.value
+      (subst (λ l. WritesInOrder c.loop-line.writer (with_newline l) c.write_line.new.writer) c.deref.ensures.value
       c.in-Ok.ensures.written) c.write_line.ensures.trace;
   grows = WriteLogGrows-joins _ _ _ c.loop-line.invariant.grows c.write_line.ensures.grows;
   same_flushed = c.write_line.ensures.not_flushed ∙ c.loop-line.invariant.same_flushed;

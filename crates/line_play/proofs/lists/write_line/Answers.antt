@@ -2,7 +2,7 @@ use Rattle.std.proofs.Common.{[], ◌∷◌, refl}
 use Rattle.std.proofs.lemmas.Result.{err_from_is_err_and}
 use Rattle.buffer_redux.specs.WriterLaws.{WritesInOrder-joins}
 use Rattle.buffer_redux.specs.WritesAlongLaws.{WriterStopped-after}
-use Rattle.line_reader.specs.Lines.{newline, with_end}
+use Rattle.line_reader.specs.Lines.{newline, with_newline}
 use Rattle.line_play.proofs.WritingLines.{begins_all, end_begins, line_begins}
 use Rattle.line_play.proofs.lists.write_line.Goals as goal
 
@@ -34,7 +34,7 @@ returns-clause-written g c =
 
 pub returns-clause-beginning : goal.returns-clause-beginning
 returns-clause-beginning g c =
-    begins_all c.args.writer.now c.write_all-2.new.self (with_end c.args.line.now)
+    begins_all c.args.writer.now c.write_all-2.new.self (with_newline c.args.line.now)
     (WritesInOrder-joins c.args.writer.now c.write_all.new.self c.write_all-2.new.self c.args.line.now (newline ∷ [])
     c.in_ok-write_all.ensures.in_order c.in_ok-write_all-2.ensures.in_order)
 

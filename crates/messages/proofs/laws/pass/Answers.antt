@@ -2,7 +2,7 @@ use Rattle.std.proofs.Common.{[], ◌∷◌, ◌++◌, ◌∙◌, arith, length-
 use Rattle.buffer_redux.specs.UnbufferLaws.{StreamWent-none}
 use Rattle.codec.specs.PieceReader.{left_of}
 use Rattle.messages.specs.Messages.{MessagesWent}
-use Rattle.messages.specs.MessagesLaws.{EachGave-joins, MessagesWent-joins}
+use Rattle.messages.specs.MessagesLaws.{EachReadGave-joins, MessagesWent-joins}
 use Rattle.messages.proofs.laws.pass.Goals as goal
 
 pub loop-init : goal.loop-init
@@ -26,7 +26,7 @@ loop-preserved g c =
           before.messages ((one.0, one.1) ∷ []) before.went
           (subst (λ d. MessagesWent g.R.TellRead.remaining d.0 (left_of c.loop.next) ((one.0, one.1) ∷ []) (left_of c.in-Ok.behind))
           before.limits one.2);
-      gave = EachGave-joins (left_of c.args.requests) (left_of c.loop.next) (left_of c.in-Ok.behind) before.gave one.3;
+      gave = EachReadGave-joins (left_of c.args.requests) (left_of c.loop.next) (left_of c.in-Ok.behind) before.gave one.3;
       limits = one.5 ∙ before.limits;
       room = one.4 ∙ before.room;
     }

@@ -1,5 +1,5 @@
 use Rattle.std.proofs.Common.{Err, Ok, false, subst, true}
-use Rattle.piece_filter.specs.Answering.{Answered}
+use Rattle.piece_filter.specs.Answering.{AnswersOne}
 use Rattle.piece_filter.proofs.Calls.{drops, passes, refused}
 use Rattle.piece_filter.proofs.answering.pass_held.Goals as goal
 
@@ -9,8 +9,8 @@ returns-in-Ok-true g c =
     let b = c.answer.new.self in
     let v = c.answer.new.writer in
     passes g.R.TellRead.remaining g.D.Decoder.grammar g.S.Answer.answers c.requires.ready c.args.span c.requires.held b v
-    (subst (λ l. Answered g.S.Answer.answers s.service l s.target (Ok true) b v) c.lent-payload.ensures
-    (subst (λ wrote. Answered g.S.Answer.answers s.service c.lent-payload.result.now s.target (Ok wrote) b v)
+    (subst (λ l. AnswersOne g.S.Answer.answers s.service l s.target (Ok true) b v) c.lent-payload.ensures
+    (subst (λ wrote. AnswersOne g.S.Answer.answers s.service c.lent-payload.result.now s.target (Ok wrote) b v)
     c.in-Ok-true.field-0-test c.in-Ok-true.ensures))
 
 pub returns-in-Ok-false : goal.returns-in-Ok-false
@@ -19,8 +19,8 @@ returns-in-Ok-false g c =
     let b = c.answer.new.self in
     let v = c.answer.new.writer in
     drops g.R.TellRead.remaining g.D.Decoder.grammar g.S.Answer.answers c.requires.ready c.args.span c.requires.held b v
-    (subst (λ l. Answered g.S.Answer.answers s.service l s.target (Ok false) b v) c.lent-payload.ensures
-    (subst (λ wrote. Answered g.S.Answer.answers s.service c.lent-payload.result.now s.target (Ok wrote) b v)
+    (subst (λ l. AnswersOne g.S.Answer.answers s.service l s.target (Ok false) b v) c.lent-payload.ensures
+    (subst (λ wrote. AnswersOne g.S.Answer.answers s.service c.lent-payload.result.now s.target (Ok wrote) b v)
     c.in-Ok-false.field-0-test c.in-Ok-false.ensures))
 
 pub returns-in-Err : goal.returns-in-Err
@@ -29,5 +29,5 @@ returns-in-Err g c =
     let b = c.answer.new.self in
     let v = c.answer.new.writer in
     refused g.R.TellRead.remaining g.D.Decoder.grammar g.S.Answer.answers c.requires.ready c.args.span c.requires.held b v
-    c.in-Err.e (subst (λ l. Answered g.S.Answer.answers s.service l s.target (Err c.in-Err.e) b v) c.lent-payload.ensures
+    c.in-Err.e (subst (λ l. AnswersOne g.S.Answer.answers s.service l s.target (Err c.in-Err.e) b v) c.lent-payload.ensures
     c.in-Err.ensures)

@@ -4,11 +4,11 @@ use Rattle.body_reader.specs.Between.{handed_out}
 use Rattle.messages.specs.MessagesLaws.{InsideGoes-joins, InsideGoes-none}
 use Rattle.requests.specs.declared.taking.Untaken.{Untaken}
 use Rattle.requests.specs.Answers.{faults_of, sent_till, sent_with}
-use Rattle.requests.specs.Large.{IsFresh, is_large}
-use Rattle.requests.specs.Sending.{Writes}
+use Rattle.requests.specs.Large.{IsNewlyLarge, is_large}
+use Rattle.requests.specs.Sending.{WritesPromptly}
 use Rattle.requests.proofs.Large.{fresh_behind, tested}
 use Rattle.requests.proofs.Reading.{TakeFails-of, interrupted_once, steadily, steady_none}
-use Rattle.requests.proofs.Sending.{Writes-after, Writes-none}
+use Rattle.requests.proofs.Sending.{WritesPromptly-after, WritesPromptly-none}
 use Rattle.requests.proofs.taking.payload_len.Goals as goal
 use Rattle.requests.proofs.taking.payload_len.Goals.{in-Ok, in-Err+else-not-is_interrupted}
 
@@ -34,7 +34,7 @@ loop-read-init g c = record {
   many = refl;
   steady = steady_none (refl, refl);
   turns = omega arith;
-  writes = Writes-none g.met.W.TellWrite.trace_none (c.args.body.now.stream, c.args.writer.now);
+  writes = WritesPromptly-none g.met.W.TellWrite.trace_none (c.args.body.now.stream, c.args.writer.now);
   held = c.requires.held;
   fresh = inl (c.requires.first, refl);
 }
@@ -53,8 +53,8 @@ loop-read-preserved g c =
           (let was = w.is_interrupted.ensures.yes w.if-not-is_interrupted.false in
           let is : c.read_on.result ≡ Err w.in-Err.e = cc in ap sent_with (is ∙ ap Err was.1))
     ] in
-    let more : Writes g.W.Tell.log g.W.TellWrite.trace (c.loop-read.body.stream, c.loop-read.writer) [] (Ok tt)
-    (c.read_on.new.body.stream, c.read_on.new.writer) = subst (λ r. Writes g.W.Tell.log g.W.TellWrite.trace
+    let more : WritesPromptly g.W.Tell.log g.W.TellWrite.trace (c.loop-read.body.stream, c.loop-read.writer) [] (Ok tt)
+    (c.read_on.new.body.stream, c.read_on.new.writer) = subst (λ r. WritesPromptly g.W.Tell.log g.W.TellWrite.trace
     (c.loop-read.body.stream, c.loop-read.writer) [] r (c.read_on.new.body.stream, c.read_on.new.writer)) well
     c.read_on.ensures.writes in
     let small = tested _ c.args.body.now.said.extent _ _ c.loop-read.body.taken before.payload _ c.is_large.ensures
@@ -105,7 +105,7 @@ loop-read-preserved g c =
             (rw was.1 at w.in-Err.ensures.fails).0.0 in
             omega (arith, both, before.turns, ap length one, length-append (faults_of c.loop-read.body.stream) (was.0 ∷ [])))
       ];
-      writes = Writes-after g.met.W.TellWrite.trace_joins (c.args.body.now.stream, c.args.writer.now)
+      writes = WritesPromptly-after g.met.W.TellWrite.trace_joins (c.args.body.now.stream, c.args.writer.now)
           (c.loop-read.body.stream, c.loop-read.writer) (c.read_on.new.body.stream, c.read_on.new.writer) [] [] (Ok tt)
           before.writes more;
       held = more.puts.held before.held;
@@ -124,7 +124,8 @@ returns-then-is_large-clause-goes g c =
         record {
           large = tested _ c.loop-read.body.said.extent _ _ c.loop-read.body.taken before.payload _ c.is_large.ensures
               (extent ∙ ap (λ x. x.extent) (sym before.goes.said)) c.taken.ensures before.many ∙ c.if-is_large.true;
-          fresh = subst (λ x. IsFresh x.extent 4096 c.loop-read.body.taken before.payload) (sym before.goes.said) before.fresh;
+          fresh = subst (λ x. IsNewlyLarge x.extent 4096 c.loop-read.body.taken before.payload)
+              (sym before.goes.said) before.fresh;
         },
       ),
     )
@@ -155,7 +156,7 @@ returns-then-is_large-2 g c =
             large = tested _ c.read_on.new.body.said.extent _ _ c.read_on.new.body.taken (before.payload ++ handed) _
                 c.is_large-in-Ok-eq0.ensures (extent ∙ ap (λ x. x.extent) (sym goes.said)) c.taken-all.ensures all
                 ∙ c.if-is_large-2.true;
-            fresh = subst (λ x. IsFresh x.extent 4096 c.read_on.new.body.taken (before.payload ++ handed)) (sym goes.said)
+            fresh = subst (λ x. IsNewlyLarge x.extent 4096 c.read_on.new.body.taken (before.payload ++ handed)) (sym goes.said)
                 (fresh_behind c.args.body.now.said.extent 4096 before.payload handed small c.read_on.ensures.goes
                 (omega (arith, few c.read_on.new.out c.read_on.result c.read_on.ensures.bound, c.read_on.auto.out)));
           },
@@ -164,7 +165,7 @@ returns-then-is_large-2 g c =
       ended = tt;
       small = tt;
       steady = tt;
-      writes = Writes-after g.met.W.TellWrite.trace_joins (c.args.body.now.stream, c.args.writer.now)
+      writes = WritesPromptly-after g.met.W.TellWrite.trace_joins (c.args.body.now.stream, c.args.writer.now)
           (c.loop-read.body.stream, c.loop-read.writer) (c.read_on.new.body.stream, c.read_on.new.writer) [] [] (Ok tt)
           before.writes (rw zero at c.read_on.ensures.writes);
     }
@@ -207,7 +208,7 @@ pub returns-in-Ok-eq0-clause-writes : goal.returns-in-Ok-eq0-clause-writes
 returns-in-Ok-eq0-clause-writes g c =
     let before = c.loop-read.invariant in
     let zero : c.read_on.result ≡ Ok 0 = cc in
-    Writes-after g.met.W.TellWrite.trace_joins (c.args.body.now.stream, c.args.writer.now)
+    WritesPromptly-after g.met.W.TellWrite.trace_joins (c.args.body.now.stream, c.args.writer.now)
     (c.loop-read.body.stream, c.loop-read.writer) (c.read_on.new.body.stream, c.read_on.new.writer) [] [] (Ok tt)
     before.writes (rw zero at c.read_on.ensures.writes)
 
@@ -225,6 +226,6 @@ pub returns-then-not-is_interrupted-clause-writes : goal.returns-then-not-is_int
 returns-then-not-is_interrupted-clause-writes g c =
     let before = c.loop-read.invariant in
     let is : c.read_on.result ≡ Err c.in-Err.e = cc in
-    Writes-after g.met.W.TellWrite.trace_joins (c.args.body.now.stream, c.args.writer.now)
+    WritesPromptly-after g.met.W.TellWrite.trace_joins (c.args.body.now.stream, c.args.writer.now)
     (c.loop-read.body.stream, c.loop-read.writer) (c.read_on.new.body.stream, c.read_on.new.writer) [] []
     (sent_till c.in-Err.e) before.writes (rw is at c.read_on.ensures.writes)

@@ -1,8 +1,8 @@
 use Rattle.std.proofs.Common.{◌≡◌, ℕ, ◌+◌, ◌≤◌, List, [], length, Ok}
 use Rattle.messages.specs.Messages.{InsideGoes}
 use Rattle.requests.specs.Answers.{ReadsSteadily, faults_of}
-use Rattle.requests.specs.Large.{IsFresh}
-use Rattle.requests.specs.Sending.{IsHeld, Writes}
+use Rattle.requests.specs.Large.{IsNewlyLarge}
+use Rattle.requests.specs.Sending.{IsHeld, WritesPromptly}
 use Rattle.requests.proofs.taking.payload_len.Given as goal
 
 -- this payload was read, and each turn read some of it, or was interrupted; before the last one it wasn't too large
@@ -13,8 +13,8 @@ invariant-loop-read g l = record {
   many : l.len ≡ length payload;
   steady : ReadsSteadily l.initial.body.stream l.body.stream;
   turns : l._read + length (faults_of l.initial.body.stream) ≤ length payload + length (faults_of l.body.stream);
-  writes : Writes g.W.Tell.log g.W.TellWrite.trace (l.initial.body.stream, l.initial.writer) [] (Ok tt)
+  writes : WritesPromptly g.W.Tell.log g.W.TellWrite.trace (l.initial.body.stream, l.initial.writer) [] (Ok tt)
       (l.body.stream, l.writer);
   held : IsHeld l.writer;
-  fresh : IsFresh l.initial.body.said.extent 4096 l.body.taken payload;
+  fresh : IsNewlyLarge l.initial.body.said.extent 4096 l.body.taken payload;
 }

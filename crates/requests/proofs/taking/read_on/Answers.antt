@@ -4,16 +4,16 @@ use Rattle.messages.specs.MessagesLaws.{InsideGoes-joins}
 use Rattle.programs.specs.Streams.{AllSent}
 use Rattle.requests.proofs.Coming.{body_asked, sends_empty}
 use Rattle.requests.proofs.Reading.{Fails-asked}
-use Rattle.requests.proofs.Sending.{Writes-after, Writes-read}
+use Rattle.requests.proofs.Sending.{WritesPromptly-after, WritesPromptly-read}
 use Rattle.requests.proofs.taking.read_on.Goals as goal
 
 pub returns-then-count-gt0-clause-writes : goal.returns-then-count-gt0-clause-writes
 returns-then-count-gt0-clause-writes g c =
-    Writes-read g.met.W.TellWrite.trace_none c.args.writer.now (inl c.read_buffered-count.ensures.unasked)
+    WritesPromptly-read g.met.W.TellWrite.trace_none c.args.writer.now (inl c.read_buffered-count.ensures.unasked)
 
 pub returns-then-is_done-clause-writes : goal.returns-then-is_done-clause-writes
 returns-then-is_done-clause-writes g c =
-    Writes-read g.met.W.TellWrite.trace_none c.args.writer.now (inl c.read_buffered-count.ensures.unasked)
+    WritesPromptly-read g.met.W.TellWrite.trace_none c.args.writer.now (inl c.read_buffered-count.ensures.unasked)
 
 read_none : {R : Type 0} {remaining : R → Option (List ℕ)} {b m : InBody R} {count : ℕ} (out : List ℕ) → count ≡ 0
     → InsideGoes remaining b (take count out) m → InsideGoes remaining b [] m
@@ -44,10 +44,11 @@ pub returns-in-Ok-read-clause-writes : goal.returns-in-Ok-read-clause-writes
 returns-in-Ok-read-clause-writes g c =
     let m = c.read_buffered-count.new.self.stream in
     let v = c.send_unless_shown.new.writer in
-    Writes-after g.met.W.TellWrite.trace_joins (c.args.body.now.stream, c.args.writer.now) (m, v) (c.read.new.self.stream, v)
+    WritesPromptly-after g.met.W.TellWrite.trace_joins (c.args.body.now.stream, c.args.writer.now) (m, v)
+        (c.read.new.self.stream, v)
     [] [] (Ok tt)
     (sends_empty g.met.W.TellWrite.trace_none g.met.W.TellWrite.trace_joins c.args.body.now.stream m c.args.writer.now v
-    c.read_buffered-count.ensures.unasked c.in-Ok.ensures) (Writes-read g.met.W.TellWrite.trace_none v
+    c.read_buffered-count.ensures.unasked c.in-Ok.ensures) (WritesPromptly-read g.met.W.TellWrite.trace_none v
     (body_asked c.read_buffered-count.result c.read_buffered-count.new.out c.read_buffered-count.new.self c.read.new.self
     c.args.writer.now c.send_unless_shown.new.writer c.in-Ok.ensures (omega (arith, c.if-count-gt0.false)) (search rules)
     (λ done. let odd = c.is_done.ensures.ended.1 done in absurd (cc)) c.read_buffered-count.ensures.all c.read.ensures.asked))
@@ -56,10 +57,11 @@ pub returns-in-Err-read-clause-writes : goal.returns-in-Err-read-clause-writes
 returns-in-Err-read-clause-writes g c =
     let m = c.read_buffered-count.new.self.stream in
     let v = c.send_unless_shown.new.writer in
-    Writes-after g.met.W.TellWrite.trace_joins (c.args.body.now.stream, c.args.writer.now) (m, v) (c.read.new.self.stream, v)
+    WritesPromptly-after g.met.W.TellWrite.trace_joins (c.args.body.now.stream, c.args.writer.now) (m, v)
+        (c.read.new.self.stream, v)
     [] [] (Ok tt)
     (sends_empty g.met.W.TellWrite.trace_none g.met.W.TellWrite.trace_joins c.args.body.now.stream m c.args.writer.now v
-    c.read_buffered-count.ensures.unasked c.in-Ok.ensures) (Writes-read g.met.W.TellWrite.trace_none v
+    c.read_buffered-count.ensures.unasked c.in-Ok.ensures) (WritesPromptly-read g.met.W.TellWrite.trace_none v
     (body_asked c.read_buffered-count.result c.read_buffered-count.new.out c.read_buffered-count.new.self c.read.new.self
     c.args.writer.now c.send_unless_shown.new.writer c.in-Ok.ensures (omega (arith, c.if-count-gt0.false)) (search rules)
     (λ done. let odd = c.is_done.ensures.ended.1 done in absurd (cc)) c.read_buffered-count.ensures.all c.read.ensures.asked))

@@ -2,7 +2,7 @@ use Rattle.std.proofs.Common.{[], ◌++◌, ◌∙◌, Ok, ap, inl}
 use Rattle.codec.specs.PieceReader.{left_of}
 use Rattle.messages.specs.MessagesLaws.{InsideGoes-joins}
 use Rattle.requests.proofs.Reading.{TakeFails-behind, steadily, steady_none, unasked, unasked_log, unfinished_sent, whole_taken}
-use Rattle.requests.proofs.Sending.{Writes-after, Writes-read}
+use Rattle.requests.proofs.Sending.{WritesPromptly-after, WritesPromptly-read}
 use Rattle.requests.proofs.taking.take_whole.Goals as goal
 
 pub returns-in-Ok-finish-clause-limits : goal.returns-in-Ok-finish-clause-limits
@@ -24,8 +24,8 @@ returns-in-Ok-finish-clause-writes g c =
     let m = c.payload_len.new.body in
     let t = left_of c.in-Ok-finish.requests in
     let v = c.payload_len.new.writer in
-    Writes-after g.met.W.TellWrite.trace_joins (c.args.body.stream, c.args.writer.now) (m.stream, v) (t, v) [] [] (Ok tt)
-    c.in-Ok.ensures.writes (Writes-read g.met.W.TellWrite.trace_none v
+    WritesPromptly-after g.met.W.TellWrite.trace_joins (c.args.body.stream, c.args.writer.now) (m.stream, v) (t, v) [] [] (Ok tt)
+    c.in-Ok.ensures.writes (WritesPromptly-read g.met.W.TellWrite.trace_none v
     (inl (unasked_log m.stream t m.rest c.in-Ok.ensures.ended c.in-Ok-finish.ensures.asked)))
 
 pub returns-in-Err-finish-clause-part : goal.returns-in-Err-finish-clause-part
@@ -46,8 +46,9 @@ returns-in-Err-finish-clause-writes g c =
     let t = c.in-Err-finish.body in
     let v = c.payload_len.new.writer in
     rw (c.unfinished.ensures, unfinished_sent c.in-Err-finish.e)
-    (Writes-after g.met.W.TellWrite.trace_joins (c.args.body.stream, c.args.writer.now) (m.stream, v) (t.stream, v) [] [] (Ok tt)
-    c.in-Ok.ensures.writes (Writes-read g.met.W.TellWrite.trace_none v
+    (WritesPromptly-after g.met.W.TellWrite.trace_joins (c.args.body.stream, c.args.writer.now) (m.stream, v) (t.stream, v) [] []
+    (Ok tt)
+    c.in-Ok.ensures.writes (WritesPromptly-read g.met.W.TellWrite.trace_none v
     (inl (unasked_log m.stream t.stream m.rest c.in-Ok.ensures.ended c.in-Err-finish.ensures.asked))))
 
 pub returns-in-Err-clause-part : goal.returns-in-Err-clause-part

@@ -1,10 +1,10 @@
-use Rattle.requests.proofs.Sending.{Puts-parts}
+use Rattle.requests.proofs.Sending.{PutsText-parts}
 use Rattle.buffer_redux.specs.WritePartsLaws.{WritesParts-unflushed}
 use Rattle.requests.proofs.writing.put.Goals as goal
 
 pub returns-clause-puts : goal.returns-clause-puts
 returns-clause-puts g c =
-    Puts-parts c.args.writer.now c.write_parts.new.self _ c.write_parts.result c.write_parts.ensures.parts
+    PutsText-parts c.args.writer.now c.write_parts.new.self _ c.write_parts.result c.write_parts.ensures.parts
 
 pub returns-clause-unflushed : goal.returns-clause-unflushed
 returns-clause-unflushed g c =

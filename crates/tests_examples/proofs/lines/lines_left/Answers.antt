@@ -1,7 +1,7 @@
 use Rattle.std.proofs.Common.{◌∷◌, [], ◌++◌, arith, length-append, refl}
 use Rattle.std.proofs.lemmas.List.{map-append}
 use Rattle.line_reader.specs.LinesAlongLaws.{NextLine-none, NextLine-some}
-use Rattle.line_reader.specs.RunsLaws.{NextRuns-more}
+use Rattle.line_reader.specs.RunsLaws.{LineRuns-more}
 use Rattle.tests_examples.proofs.lines.lines_left.Goals as goal
 
 pub loop-count-init : goal.loop-count-init
@@ -15,7 +15,7 @@ loop-count-preserved g c =
     record {
       lines = before.lines ++ c.in-Some.field-0.now ∷ [];
       counted = omega (arith, before.counted, length-append before.lines (c.in-Some.field-0.now ∷ []));
-      run = rw map-append (NextRuns-more _ _ _ _ _ _ before.run next);
+      run = rw map-append (LineRuns-more _ _ _ _ _ _ before.run next);
     }
 
 pub returns-in-None : goal.returns-in-None
@@ -23,4 +23,4 @@ returns-in-None g c =
     let before = c.loop-count.invariant in
     let next = NextLine-none _ c.loop-count.reader c.next.follows.lender-at-none _ _ c.in_ok-next.was c.in-None.is
     c.next.follows.holds-at-none in
-    record { counted = (before.lines, before.counted, NextRuns-more _ _ _ _ _ _ before.run next) }
+    record { counted = (before.lines, before.counted, LineRuns-more _ _ _ _ _ _ before.run next) }

@@ -5,16 +5,16 @@ use Rattle.std.specs.Str.Iter.{HasSubslice}
 use Rattle.buffer_redux.specs.Pieces.{without_end}
 use Rattle.buffer_redux.specs.Policy.{std_read_rules}
 use Rattle.buffer_redux.specs.ReaderLaws.{WantsBytes-std}
-use Rattle.uses.specs.Filter.{GoesOn}
-use Rattle.uses.proofs.Filtering.{AllGoOn-more, Ended-lines, FiltersAll-flushed, FiltersSome-flushed, HandsPieces-line}
-use Rattle.uses.proofs.Pieces.{HandsPieces-none}
+use Rattle.uses.specs.Filter.{LineGoesThrough}
+use Rattle.uses.proofs.Filtering.{AllGoOn-more, Ended-lines, FiltersAll-flushed, FiltersSome-flushed, HandsLinePieces-line}
+use Rattle.uses.proofs.Pieces.{HandsLinePieces-none}
 use Rattle.uses.proofs.filter.matching.Goals.{else-contains, then-contains+in_ok-writeln}
 use Rattle.uses.proofs.filter.matching.Goals as goal
 
 pub loop-line-init : goal.loop-line-init
 loop-line-init g c = rw (c.into_iter-line-iterator.ensures.into_iter_gives ∙ c.lines-line-items.ensures) (record {
   lines = [];
-  hands = λ some. HandsPieces-none _ _ _;
+  hands = λ some. HandsLinePieces-none _ _ _;
   byte = refl;
   begun = refl;
   turns = refl;
@@ -32,7 +32,7 @@ loop-line-preserved g c =
     let (line, whole, text) = rw (c.in-Some.is, c.in_ok-line.was) at c.next.ensures.steps in
     let is : c.deref.result.now ≡ without_end line = c.deref.ensures ∙ text in
     let has = rw is at (contains_text c.contains.result word c.deref.result.now c.contains.ensures.cases) in
-    let went : (first : List ℕ) × GoesOn word (without_end line) first
+    let went : (first : List ℕ) × LineGoesThrough word (without_end line) first
     × (c.if-contains.writer.log.writes.received ++ c.if-contains.writer.block.bytes
     ≡ (c.loop-line.writer.log.writes.received ++ c.loop-line.writer.block.bytes) ++ first) =
     elim c.if-contains.branch [
@@ -50,7 +50,7 @@ loop-line-preserved g c =
     ] in
     record {
       lines = i.lines ++ line ∷ [];
-      hands = λ some. HandsPieces-line g.R.TellRead.remaining std_read_rules i.lines c.args.reader s t i.byte i.begun
+      hands = λ some. HandsLinePieces-line g.R.TellRead.remaining std_read_rules i.lines c.args.reader s t i.byte i.begun
           (WantsBytes-std s.reader.policy) (omega (arith, some, (i.hands some).along.capacity)) line (i.hands some) whole;
       byte = whole.went.byte ∙ i.byte;
       begun = whole.begun;
@@ -117,7 +117,7 @@ returns-in_err-writeln-clause-some g c some =
       fails = inr (inl (
         line,
         c.next.new.self.reader,
-        HandsPieces-line g.R.TellRead.remaining std_read_rules i.lines c.args.reader s c.next.new.self i.byte i.begun
+        HandsLinePieces-line g.R.TellRead.remaining std_read_rules i.lines c.args.reader s c.next.new.self i.byte i.begun
             (WantsBytes-std s.reader.policy) (omega (arith, some, (i.hands some).along.capacity)) line (i.hands some) whole,
         there,
         rw text at c.in_err-writeln.ensures.steps,

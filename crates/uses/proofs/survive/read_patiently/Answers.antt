@@ -1,6 +1,6 @@
 use Rattle.std.proofs.Common.{[], sym, append-nil, vec_items, ◌-◌, ◌∙◌, ap, arith, inl, inr, subst, rules}
 use Rattle.buffer_redux.specs.ReaderLaws.{ReadsAlong-none}
-use Rattle.uses.specs.Stops.{MetPassing, Passes}
+use Rattle.uses.specs.Stops.{MayGoOn, MetPassing}
 use Rattle.uses.proofs.Enduring.{MetPassing-none, MetPassing-same, MetPassing-more, memory_stays, seen}
 use Rattle.uses.proofs.Gaining.{Gains-joins}
 use Rattle.uses.proofs.survive.read_patiently.Goals.{in-Ok, in-Err+else-left-eq0+else-not-passes, then-left-eq0-via-then-left-eq0, then-left-eq0-via-else-left-eq0+then-not-passes}
@@ -39,7 +39,7 @@ loop-preserved g c =
             turns = omega (arith, before.turns, moved.count, w.left-is, some);
           })
       | in-Err+else-left-eq0+else-not-passes w ↦
-          (let passes : Passes w.in-Err.e = w.passes.ensures.0 (search rules) in
+          (let passes : MayGoOn w.in-Err.e = w.passes.ensures.0 (search rules) in
           let some = w.if-left-eq0.false in
           record {
             gains = went;

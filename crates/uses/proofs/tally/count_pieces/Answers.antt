@@ -2,14 +2,14 @@ use Rattle.std.proofs.Common.{[], ◌∷◌, ◌++◌, inl, inr, refl, sym, subs
 use Rattle.std.proofs.lemmas.Result.{err_from_is_err_and}
 use Rattle.buffer_redux.specs.ReaderLaws.{WantsBytes}
 use Rattle.buffer_redux.specs.UntilLaws.{ReadsUntil-end}
-use Rattle.uses.proofs.Pieces.{HandsPieces-more, HandsPieces-none}
+use Rattle.uses.proofs.Pieces.{HandsLinePieces-more, HandsLinePieces-none}
 use Rattle.uses.proofs.tally.count_pieces.Goals as goal
 
 pub loop-count-init : goal.loop-count-init
 loop-count-init g c = record {
   pieces = [];
   counted = refl;
-  hands = HandsPieces-none _ _ _;
+  hands = HandsLinePieces-none _ _ _;
 }
 
 pub loop-count-preserved : goal.loop-count-preserved
@@ -20,7 +20,7 @@ loop-count-preserved g c =
     record {
       pieces = invariant.pieces ++ reads.handed ∷ [];
       counted = omega (arith, invariant.counted, length-append invariant.pieces (reads.handed ∷ []));
-      hands = HandsPieces-more g.R.TellRead.remaining g.P.ReaderPolicy.rules invariant.pieces _ _ _ c.args.reader.now
+      hands = HandsLinePieces-more g.R.TellRead.remaining g.P.ReaderPolicy.rules invariant.pieces _ _ _ c.args.reader.now
           c.loop-count.reader c.read_until.new.self invariant.hands (subst WantsBytes (sym claims) c.requires.wants)
           (omega (arith, c.requires.capacity, invariant.hands.along.capacity)) reads
           (omega (arith, c.if-branch-eq0.false));

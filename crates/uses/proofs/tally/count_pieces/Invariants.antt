@@ -1,5 +1,5 @@
 use Rattle.std.proofs.Common.{◌≡◌, ℕ, List, length}
-use Rattle.uses.specs.Tally.{HandsPieces}
+use Rattle.uses.specs.Tally.{HandsLinePieces}
 use Rattle.uses.proofs.tally.count_pieces.Given as goal
 
 -- as many pieces were handed out as were counted
@@ -7,5 +7,5 @@ abbrev pub invariant-loop-count : goal.invariant-loop-count
 invariant-loop-count g l = record {
   pieces : List (List ℕ);
   counted : l.count ≡ length pieces;
-  hands : HandsPieces g.R.TellRead.remaining g.P.ReaderPolicy.rules pieces l.initial.reader l.reader;
+  hands : HandsLinePieces g.R.TellRead.remaining g.P.ReaderPolicy.rules pieces l.initial.reader l.reader;
 }

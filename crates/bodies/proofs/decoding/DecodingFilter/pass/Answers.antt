@@ -1,6 +1,6 @@
 use Rattle.std.proofs.Common.{Err, Ok, arith, subst, take}
 use Rattle.std.proofs.lemmas.Result.{err_from_is_err_and}
-use Rattle.bodies.specs.Decoding.{WritesPiece}
+use Rattle.bodies.specs.Decoding.{WritesPayload}
 use Rattle.bodies.proofs.DecodingCalls.{not_written, written}
 use Rattle.bodies.proofs.decoding.DecodingFilter.pass.Goals as goal
 
@@ -11,11 +11,11 @@ returns-in_err-write_piece g c =
     let v = c.write_piece.new.target in
     let e = c.in_err-write_piece.field-0.0 in
     rw (p.1, p.2) (not_written g.R.TellRead.remaining c.args.self.now c.requires u c.hold.ensures v e
-    (subst (λ l. WritesPiece u.target (take u.held l) (Err e) v) c.as_slice.ensures.value c.in_err-write_piece.ensures))
+    (subst (λ l. WritesPayload u.target (take u.held l) (Err e) v) c.as_slice.ensures.value c.in_err-write_piece.ensures))
 
 pub returns : goal.returns
 returns g c =
     let u = c.hold.new.filter in
     let v = c.write_piece.new.target in
     written g.R.TellRead.remaining c.args.self.now c.requires u c.hold.ensures v (omega (arith, c.if-self-eq0.false))
-    (subst (λ l. WritesPiece u.target (take u.held l) (Ok tt) v) c.as_slice.ensures.value c.in_ok-write_piece.ensures)
+    (subst (λ l. WritesPayload u.target (take u.held l) (Ok tt) v) c.as_slice.ensures.value c.in_ok-write_piece.ensures)

@@ -4,7 +4,7 @@ use Rattle.std.proofs.lemmas.Slice.Eq.{starts_is}
 use Rattle.body_reader.specs.declared.coding.Look.TheVariants.{Passed}
 use Rattle.body_reader.specs.declared.just_or_until.JustOr.TheVariants as at
 use Rattle.body_reader.specs.declared.until.Part.TheVariants.{Inside}
-use Rattle.body_reader.specs.Coding.{Lacks, Looks}
+use Rattle.body_reader.specs.Coding.{IsOpenBelow, Looks}
 use Rattle.body_reader.specs.JustOrUntil.{just_or_until}
 use Rattle.body_reader.specs.JustOrUntilLaws.{alike_looks, alike_start, apart, looks_begun, looks_just}
 use Rattle.body_reader.proofs.just_or_until.JustOrUntilCoding.look.Goals as goal
@@ -40,7 +40,7 @@ returns-then-starts_with-2 c =
     (starts_is Decides-eqb just shown c.starts_with-in-Start.result c.starts_with-in-Start.ensures.value).0
     c.if-starts_with-2.true in
     let longer = (starts_is Decides-eqb shown just c.starts_with.result c.starts_with.ensures.value).1 in (
-      subst (λ p. Lacks (just_or_until s.just.items s.until.delimiter.items s.room) p (length shown + 1) shown)
+      subst (λ p. IsOpenBelow (just_or_until s.just.items s.until.delimiter.items s.room) p (length shown + 1) shown)
           (sym c.in-Start.is)
           (looks_begun s.just.items s.until.delimiter.items s.room s.some s.shorter s.fits shown (drop (length shown) just)
           (sym same ∙ begins)

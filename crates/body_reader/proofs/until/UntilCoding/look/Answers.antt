@@ -2,7 +2,7 @@ use Rattle.std.proofs.Common.{◌≡◌, ◌+◌, ap, arith, length, refl, subst
 use Rattle.memchr.specs.Find.{Nowhere, OccursAt}
 use Rattle.body_reader.specs.declared.coding.Look.TheVariants.{Passed}
 use Rattle.body_reader.specs.declared.until.Part.TheVariants.{Inside, Behind}
-use Rattle.body_reader.specs.Coding.{Carries, Lacks, Looks}
+use Rattle.body_reader.specs.Coding.{Carries, IsOpenBelow, Looks}
 use Rattle.body_reader.specs.Until.{MayBegin, until}
 use Rattle.body_reader.specs.UntilLaws.{looks_before, looks_end, looks_short, looks_until}
 use Rattle.body_reader.proofs.until.UntilCoding.look.Goals as goal
@@ -41,7 +41,7 @@ returns-then-at-eq0 c =
     let same : c.as_slice-needle.result.now ≡ needle = c.as_slice-needle.ensures.value in
     let begins : MayBegin needle shown 0 =
     subst (λ l. MayBegin l shown 0) same (subst (MayBegin c.as_slice-needle.result.now shown) c.if-at-eq0.true c.may_begin-at.ensures.begins) in (
-      subst (λ p. Lacks (until needle) p (length shown + 1) shown) (sym c.in-Inside.is)
+      subst (λ p. IsOpenBelow (until needle) p (length shown + 1) shown) (sym c.in-Inside.is)
           (looks_short needle c.args.self.now.some shown
           (omega (arith, c.may_begin-at.ensures.short c.if-at-eq0.true, ap length same)) begins),
       refl,

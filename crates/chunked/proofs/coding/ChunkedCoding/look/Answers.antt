@@ -3,15 +3,15 @@ use Rattle.body_reader.specs.Coding as body
 use Rattle.body_reader.specs.declared.Look.TheVariants.{Payload}
 use Rattle.chunked.specs.Coding.{chunked}
 use Rattle.chunked.specs.CodingLaws.{looks_data, settled_some}
-use Rattle.chunked.specs.Place.{IsSettled}
+use Rattle.chunked.specs.Place.{IsDataOrDone}
 use Rattle.chunked.proofs.coding.ChunkedCoding.look.Goals as goal
 
 pub returns-in-Data : goal.returns-in-Data
 returns-in-Data c =
-    let settled : IsSettled c.args.place = c.is_settled.ensures.0 c.if-is_settled.true in
+    let settled : IsDataOrDone c.args.place = c.is_settled.ensures.0 c.if-is_settled.true in
     subst (λ p. body.Looks (chunked c.args.self.now.0) p c.args.shown.now (Payload c.in-Data.left)) (sym c.in-Data.is)
     (looks_data c.args.self.now.0 c.in-Data.left c.args.shown.now
-    (settled_some c.args.self.now.0 c.in-Data.left (subst IsSettled c.in-Data.is settled)))
+    (settled_some c.args.self.now.0 c.in-Data.left (subst IsDataOrDone c.in-Data.is settled)))
 
 pub look_on-requires-clause-open : goal.look_on-requires-clause-open
 look_on-requires-clause-open c = λ settled. (let odd = c.is_settled.ensures.1 settled in cc)

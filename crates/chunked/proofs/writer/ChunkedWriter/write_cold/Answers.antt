@@ -1,5 +1,5 @@
 use Rattle.std.proofs.Common.{◌≡◌, ◌+◌, ◌<◌, length, Ok, Err, ap, subst, arith}
-use Rattle.chunked.specs.ChunkedWriter.{Begins, around}
+use Rattle.chunked.specs.ChunkedWriter.{CopiesSizeLine, around}
 use Rattle.chunked.proofs.Going.{not_begun, same_whole, wrote_begun}
 use Rattle.chunked.proofs.writer.ChunkedWriter.write_cold.Goals as goal
 
@@ -18,7 +18,8 @@ returns-in-Ok-clause-writes g c =
     ) in
     wrote_begun g.W.Tell.log g.W.TellWrite.trace g.met.W.TellWrite.trace_none g.met.W.TellWrite.trace_joins s payload
     c.requires.some is between large c.begin.new.self
-    (subst (λ k. Begins g.W.Tell.log g.W.TellWrite.trace k s (Ok tt) c.begin.new.self) c.min.ensures c.in-Ok.ensures.begins)
+    (subst (λ k. CopiesSizeLine g.W.Tell.log g.W.TellWrite.trace k s (Ok tt) c.begin.new.self) c.min.ensures
+        c.in-Ok.ensures.begins)
     c.go_on-in-Ok.result c.go_on-in-Ok.new.self c.go_on-in-Ok.ensures.went
 
 pub returns-in-Err-clause-writes : goal.returns-in-Err-clause-writes
@@ -36,5 +37,5 @@ returns-in-Err-clause-writes g c =
     ) in
     not_begun g.W.Tell.log g.W.TellWrite.trace g.met.W.TellWrite.trace_none g.met.W.TellWrite.trace_joins s payload
     c.requires.some is between large c.in-Err.e c.begin.new.self
-    (subst (λ k. Begins g.W.Tell.log g.W.TellWrite.trace k s (Err c.in-Err.e) c.begin.new.self) c.min.ensures
+    (subst (λ k. CopiesSizeLine g.W.Tell.log g.W.TellWrite.trace k s (Err c.in-Err.e) c.begin.new.self) c.min.ensures
     c.in-Err.ensures.begins) c.in-Err.ensures.whole

@@ -1,5 +1,5 @@
 use Rattle.std.proofs.Common.{false, subst, sym, true, ◌∙◌}
-use Rattle.piece_reader.specs.Decoding.{Ends}
+use Rattle.piece_reader.specs.Decoding.{DecodesAtEnd}
 use Rattle.codec.specs.FirstByte.{either}
 use Rattle.codec.specs.FirstByteLaws.{open_all, renamed_ends, renamed_open, side_ends}
 use Rattle.codec.specs.declared.by_first.EitherWrong.TheVariants.{One, Other}
@@ -26,7 +26,7 @@ returns-then-begins_with g c =
     let s = c.args.self.now in
     let one = g.A.Decoder.grammar s.one in
     let other = g.B.Decoder.grammar s.other in
-    subst (Ends (either s.byte one other) c.args.bytes.now) (sym c.ends_one.ensures)
+    subst (DecodesAtEnd (either s.byte one other) c.args.bytes.now) (sym c.ends_one.ensures)
     (side_ends s.byte one other (g.met.A.Decoder.lawful s.one) (g.met.B.Decoder.lawful s.other) true c.args.bytes.now
     c.requires.some (sym c.begins_with.ensures ∙ c.if-begins_with.true) _
     (renamed_ends (λ e. One e) one c.args.bytes.now c.at_end.result c.at_end.ensures))
@@ -36,7 +36,7 @@ returns-else-begins_with g c =
     let s = c.args.self.now in
     let one = g.A.Decoder.grammar s.one in
     let other = g.B.Decoder.grammar s.other in
-    subst (Ends (either s.byte one other) c.args.bytes.now) (sym c.ends_other.ensures)
+    subst (DecodesAtEnd (either s.byte one other) c.args.bytes.now) (sym c.ends_other.ensures)
     (side_ends s.byte one other (g.met.A.Decoder.lawful s.one) (g.met.B.Decoder.lawful s.other) false c.args.bytes.now
     c.requires.some (sym c.begins_with.ensures ∙ c.if-begins_with.false) _
     (renamed_ends (λ e. Other e) other c.args.bytes.now c.at_end-else-begins_with.result c.at_end-else-begins_with.ensures))

@@ -1,7 +1,7 @@
 use Rattle.std.proofs.Common.{◌∷◌, [], ap, append-nil, length-append, arith, inl, refl, subst, sym, ◌∙◌}
 use Rattle.std.proofs.lemmas.Result.{err_from_is_err_and}
 use Rattle.frame_reader.specs.WriteFrameLaws.{PiecesTaken-frames}
-use Rattle.line_reader.specs.LinesAlongLaws.{NextBuffered-none, NextBuffered-some}
+use Rattle.line_reader.specs.LinesAlongLaws.{NextBufferedLine-none, NextBufferedLine-some}
 use Rattle.piece_filter.specs.PiecesCalls.{lost, none_passed, not_held, passed, took_next}
 use Rattle.frames.specs.Packing.{packing}
 use Rattle.frames.specs.PackingLaws.{some_frame}
@@ -14,7 +14,7 @@ returns-in_err-write_line-in-Some-next_buffered g c =
     let m = c.next_buffered.follows.lender-at-none in
     let t = record c.args.self.now { source = m; target = c.write_line.new.target } in
     let line = c.in-Some-next_buffered.line.now in
-    let next = NextBuffered-some _ c.args.self.now.source m _ _ c.in-Some-next_buffered.is
+    let next = NextBufferedLine-some _ c.args.self.now.source m _ _ c.in-Some-next_buffered.is
     c.next_buffered.follows.holds-at-none in
     let p = err_from_is_err_and c.from_residual.result c.from_residual.ensures.1 in
     let wrote = c.in_err-write_line-in-Some-next_buffered.ensures in
@@ -30,7 +30,7 @@ returns-in_ok-write_line-in-Some-next_buffered g c =
     let m = c.next_buffered.follows.lender-at-none in
     let t = record c.args.self.now { source = m; target = c.write_line.new.target } in
     let line = c.in-Some-next_buffered.line.now in
-    let next = NextBuffered-some _ c.args.self.now.source m _ _ c.in-Some-next_buffered.is
+    let next = NextBufferedLine-some _ c.args.self.now.source m _ _ c.in-Some-next_buffered.is
     c.next_buffered.follows.holds-at-none in
     let wrote = c.in_ok-write_line-in-Some-next_buffered.ensures in
     let none = not_held c.args.self.now.held c.in_default.not-Some in
@@ -46,7 +46,7 @@ returns-in-None g c =
     let s = c.args.self.now in
     let m = c.next_buffered.follows.lender-at-none in
     let t = record s { source = m } in
-    let looked = NextBuffered-none _ s.source m _ c.in-None.is c.next_buffered.follows.holds-at-none in
+    let looked = NextBufferedLine-none _ s.source m _ c.in-None.is c.next_buffered.follows.holds-at-none in
     let none = not_held s.held c.in_default.not-Some in
     none_passed g.R.TellRead.remaining packing c.requires t none
     (record { target = refl; service = refl; sent = λ sent. sent })

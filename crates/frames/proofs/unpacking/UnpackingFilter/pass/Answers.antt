@@ -2,7 +2,7 @@ use Rattle.std.proofs.Common.{◌∷◌, [], None, ap, arith, inl, refl, ◌∙�
 use Rattle.std.proofs.lemmas.Result.{err_from_is_err_and}
 use Rattle.frame_reader.specs.NextLaws.{NextPiece-reads}
 use Rattle.piece_filter.specs.PiecesCalls.{lost, none_passed, not_held, passed, took_held, took_next, took_none}
-use Rattle.frames.specs.Words.{with_end}
+use Rattle.frames.specs.Words.{with_newline}
 use Rattle.frames.specs.Unpacking.{unpacking}
 use Rattle.frames.specs.UnpackingLaws.{some_line}
 use Rattle.frames.proofs.Unpacks.{frames_on, still_line}
@@ -27,7 +27,7 @@ returns-in-Some g c =
     passed g.R.TellRead.remaining unpacking c.requires t wrote.not_flushed wrote.flushes _ _
     (took_held g.R.TellRead.remaining unpacking c.requires t refl
     (frames_on c.args.self.now t frames refl frames.told wrote.kind wrote.capacity) c.in-Some.span c.in-Some.is refl)
-    (ap (λ l. with_end l) c.lent.ensures) wrote.taken wrote.met (inl (some_line c.lent.result.now))
+    (ap (λ l. with_newline l) c.lent.ensures) wrote.taken wrote.met (inl (some_line c.lent.result.now))
     (still_line s.target t.target c.lent.result.now wrote.fits wrote.capacity)
 
 pub returns-in_err-print_line-in-Some-next_buffered : goal.returns-in_err-print_line-in-Some-next_buffered

@@ -1,7 +1,7 @@
 use Rattle.std.proofs.Common.{Ok, Err, Some, None, refl, subst, sym}
 use Rattle.std.proofs.lemmas.Result.{err_from_is_err_and}
 use Rattle.piece_reader.specs.NextPiece.{load_answer}
-use Rattle.line_reader.specs.NextLine.{NextBuffered, NextLine}
+use Rattle.line_reader.specs.NextLine.{NextBufferedLine, NextLine}
 use Rattle.line_reader.proofs.Going.{NextLine-fits, NextLine-found, NextLine-looked, NextLine-says}
 use Rattle.line_reader.proofs.reader.LineReader.next.Goals as goal
 
@@ -14,7 +14,7 @@ returns-in-Some g c =
     let found = c.lent.result.now in
     let next : NextLine remaining s (Ok (Some found)) t =
     NextLine-found remaining s t found
-    (subst (λ l. NextBuffered remaining s (Some l) t) (sym c.lent.ensures) c.in-Some.ensures.next) in (
+    (subst (λ l. NextBufferedLine remaining s (Some l) t) (sym c.lent.ensures) c.in-Some.ensures.next) in (
       (refl, (λ _. tt), next),
       NextLine-says remaining s t (Ok (Some found)) whole next _ (NextLine-fits remaining s t found next),
     )

@@ -3,7 +3,7 @@ use Rattle.std.proofs.lemmas.Result.{err_from_is_err_and}
 use Rattle.std.specs.Prelude.{MatchBool}
 use Rattle.piece_reader.specs.NextPiece.{load_answer}
 use Rattle.piece_reader.specs.Trimming.{IsTrimmed}
-use Rattle.line_reader.specs.NextLine.{NextBuffered, NextLine, NextTrimmed}
+use Rattle.line_reader.specs.NextLine.{NextBufferedLine, NextLine, NextTrimmed}
 use Rattle.line_reader.proofs.Fronts.{NextTrimmed-begins}
 use Rattle.line_reader.proofs.Going.{NextLine-found, NextLine-looked}
 use Rattle.line_reader.proofs.Trimming.{trims_line}
@@ -19,7 +19,7 @@ returns-in-Some g c =
     let next : NextTrimmed remaining s (Ok (Some shown)) t = record {
       whole = Ok (Some line);
       next = NextLine-found remaining s t line
-          (subst (λ l. NextBuffered remaining s (Some l) t) (sym c.lent.ensures) c.in-Some.ensures.next);
+          (subst (λ l. NextBufferedLine remaining s (Some l) t) (sym c.lent.ensures) c.in-Some.ensures.next);
       trims = subst (λ b. MatchBool b (shown ≡ line) (IsTrimmed line shown)) (sym c.in-Some.ensures.going) c.trimmed.ensures;
     } in (
       (refl, (λ _. tt), next),

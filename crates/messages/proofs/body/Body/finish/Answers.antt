@@ -1,7 +1,7 @@
 use Rattle.std.proofs.Common.{◌≡◌, ◌∙◌, refl, subst, sym}
 use Rattle.buffer_redux.specs.Unbuffer.{unbuffered}
 use Rattle.codec.specs.PieceReader.{left_of}
-use Rattle.messages.specs.Messages.{Ends, left_in, stream_of}
+use Rattle.messages.specs.Messages.{TakesWholeRest, left_in, stream_of}
 use Rattle.messages.proofs.Said.{ends_in_order}
 use Rattle.messages.proofs.body.Body.finish.Goals as goal
 
@@ -13,7 +13,7 @@ returns-in-Ok-with_buffer-clause-in_order g c =
     let over : left_of f ≡ unbuffered c.in-Ok.reader =
     c.in-Ok-with_buffer.ensures.made.left ∙ rw (i.block, i.log, i.inner) refl in
     rw (c.before-in-Ok-with_buffer.ensures, ← c.self.view_is) (ends_in_order g.R.TellRead.remaining (stream_of d) (left_in d) f
-    (subst (Ends g.R.TellRead.remaining (stream_of d) (left_in d)) (sym over) c.in-Ok.ensures.ends))
+    (subst (TakesWholeRest g.R.TellRead.remaining (stream_of d) (left_in d)) (sym over) c.in-Ok.ensures.ends))
 
 pub returns-in-Err : goal.returns-in-Err
 returns-in-Err g c =

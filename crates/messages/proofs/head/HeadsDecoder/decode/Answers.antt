@@ -1,8 +1,8 @@
 use Rattle.std.proofs.Common.{arith, ℕ, List, drop, inl, inr, sym, take}
 use Rattle.std.proofs.lemmas.List.{take-append-drop}
 use Rattle.codec.specs.Decoding.{bytes_at}
-use Rattle.codec.specs.Grammar.{Lacks}
-use Rattle.messages.specs.Faults.{IsFault}
+use Rattle.codec.specs.Grammar.{IsOpenBelow}
+use Rattle.messages.specs.Faults.{IsHeadFault}
 use Rattle.messages.specs.Heads.{heads}
 use Rattle.messages.specs.HeadsLaws.{open_texts, text_few}
 use Rattle.messages.specs.Lines.{texts}
@@ -11,7 +11,7 @@ use Rattle.messages.specs.Versions.{as_known}
 use Rattle.messages.proofs.head.HeadsDecoder.decode.Goals as goal
 
 -- what settles nothing of lines settles nothing of heads
-lacks_head : (limits : Limits) (n : ℕ) (bytes : List ℕ) → Lacks texts n bytes → Lacks (heads limits) n bytes
+lacks_head : (limits : Limits) (n : ℕ) (bytes : List ℕ) → IsOpenBelow texts n bytes → IsOpenBelow (heads limits) n bytes
 lacks_head limits n bytes lacks more few = let still = lacks more few in record {
   no_piece = λ b. still.no_piece
       (record { piece = b.piece; payload = b.is.none; more = b.more; is = b.is.text; equal = b.equal });
@@ -33,7 +33,7 @@ returns-in-Some-clause-finds c =
         equal = sym (take-append-drop c.in-Piece.used c.args.bytes.now);
       },
       c.in-Some.ensures.some.0,
-      elim c.in-Some.ensures.some.1 as (λ _. IsFault c.args.self.now.0 (as_known piece) c.in-Some.e) [
+      elim c.in-Some.ensures.some.1 as (λ _. IsHeadFault c.args.self.now.0 (as_known piece) c.in-Some.e) [
         | inl long ↦ absurd (omega (arith, long.0, text_few piece _ is))
         | inr why ↦ why
       ],

@@ -4,7 +4,7 @@ use Rattle.codec.specs.Decoding.{bytes_at}
 use Rattle.codec.specs.PieceReader.{left_of}
 use Rattle.messages.specs.Heads.{IsHead, IsHeadPiece}
 use Rattle.messages.specs.HeadsLaws.{text_few}
-use Rattle.messages.specs.Messages.{Enters, begun}
+use Rattle.messages.specs.Messages.{Enters, entering}
 use Rattle.messages.specs.MessagesLaws.{same_room}
 use Rattle.messages.proofs.requests.Requests.enter.Goals as goal
 
@@ -40,7 +40,7 @@ returns g c =
     let stands : u ≡ left_of t = rw (c.with_buffer.ensures, apart.bytes, apart.log, apart.inner) refl in
     let lent : head ≡ c.lent-lent.result.now =
     c.append.ensures.bytes.bytes ∙ ap (λ l. l ++ c.lent-lent.result.now) c.clear.ensures.bytes.bytes in
-    let enters : Enters t (bytes_at c.args.span t.reader.block.bytes) (begun c.with_buffer.result limits head said) = record {
+    let enters : Enters t (bytes_at c.args.span t.reader.block.bytes) (entering c.with_buffer.result limits head said) = record {
       head = lent ∙ c.lent-lent.ensures;
       stream = stands;
       room = rw c.with_buffer.ensures (same_room c.into_inner_with_buffer-inner.result.1 t.reader.block apart.capacity apart.limit);
@@ -50,4 +50,4 @@ returns g c =
       rest = refl;
       taken = refl;
     } in
-    rw c.new.ensures (subst (λ x. Enters x (bytes_at c.args.span x.reader.block.bytes) (begun c.with_buffer.result limits head said)) c.self.view_is enters)
+    rw c.new.ensures (subst (λ x. Enters x (bytes_at c.args.span x.reader.block.bytes) (entering c.with_buffer.result limits head said)) c.self.view_is enters)

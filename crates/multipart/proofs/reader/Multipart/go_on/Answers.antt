@@ -1,6 +1,6 @@
 use Rattle.std.proofs.Common.{subst, sym}
 use Rattle.std.proofs.lemmas.Result.{err_from_is_err_and}
-use Rattle.body_reader.specs.BodyReader.{IsBodyReader, IsWhole}
+use Rattle.body_reader.specs.BodyReader.{IsBodyReader, TookWholeBody}
 use Rattle.multipart.specs.Multipart.{codes}
 use Rattle.multipart.proofs.Turning.{goes, goes_not}
 use Rattle.multipart.proofs.reader.Multipart.go_on.Goals as goal
@@ -15,7 +15,7 @@ pub end_head-requires-clause-whole : goal.end_head-requires-clause-whole
 end_head-requires-clause-whole g c =
     let m = c.collect.new.self.body in
     let collects = c.in_ok-collect.ensures.collects in
-    subst (λ x. IsWhole (codes x) m) (sym collects.went.coding) collects.answers.1
+    subst (λ x. TookWholeBody (codes x) m) (sym collects.went.coding) collects.answers.1
 
 pub end_head-requires-clause-reader : goal.end_head-requires-clause-reader
 end_head-requires-clause-reader g c =

@@ -1,6 +1,6 @@
 use Rattle.std.proofs.Common.{◌≡◌, ◌+◌, ◌-◌, ◌≤◌, ap, arith, drop, length, subst, sym, take, ◌∙◌}
 use Rattle.piece_reader.specs.Decoding.{IsPiece}
-use Rattle.piece_reader.specs.Grammar.{Lacks}
+use Rattle.piece_reader.specs.Grammar.{IsOpenBelow}
 use Rattle.piece_reader.specs.HeaderFormat.{length_prefixed}
 use Rattle.piece_reader.specs.HeaderFormatLaws.{length_prefixed_piece, sized_lacks}
 use Rattle.piece_reader.proofs.by_header.ByHeaderDecoder.decode.Goals as goal
@@ -17,7 +17,7 @@ returns-then-bytes-whole-clause-finds g c =
     let tail = ap length c.tail-tail.ensures in (
       c.if-bytes-whole.true,
       omega (arith, (law.some bytes len used is).2, fits, tail),
-      subst (λ n. Lacks (length_prefixed h) (used + len + n) bytes) (sym tail) (sized_lacks h law bytes len used is fits),
+      subst (λ n. IsOpenBelow (length_prefixed h) (used + len + n) bytes) (sym tail) (sized_lacks h law bytes len used is fits),
     )
 
 pub returns-else-not-is_tail-clause-finds : goal.returns-else-not-is_tail-clause-finds
