@@ -54,8 +54,11 @@ pub record IsUnended {read read' written written' : StreamLog} (m : Moved read r
 -- nothing else was given
 abbrev pub IsBodyBeginning : {read read' written written' : StreamLog} → Moved read read' written written' → Type 0
 IsBodyBeginning m = IsUnended m
-    ⊎ record { is_body : IsEncodedBody (m.sent ++ m.unsent) m.payload; cut : 0 < length m.unsent → IsCut m.sent;
-        all : m.rest ≡ [] }
+    ⊎ record {
+      is_body : IsEncodedBody (m.sent ++ m.unsent) m.payload;
+      cut : 0 < length m.unsent → IsCut m.sent;
+      all : m.rest ≡ [];
+    }
 
 -- what a run of `encode` did: at Ok a body was received, and the reader gave nothing, once. Where a read failed no byte that came
 -- is lost. Any other fault is a writer's, or a buffer was refused before the run began, or it ended at its count

@@ -142,7 +142,7 @@ module _ {S Q P W : Type 0} (remaining : S → Option (List ℕ)) (rules : ReadR
       asks =
           let once = reads.read.read room in
           AsksWithRoom-then remaining rules g slice s p s p t [] (TakesBytes-none remaining rules g s p place) (EachGave-none s)
-              (inl refl)
+          (inl refl)
           (omega (arith, fits, looks.1, once.offered, ap (λ l. l.reads.offer) once.told))
           (inr (record {
             came = [];

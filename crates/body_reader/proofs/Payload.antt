@@ -63,7 +63,8 @@ module _ {S Q C P W : Type 0} (remaining : S → Option (List ℕ)) (rules : Rea
         r.block.bytes order.got r'.block.bytes order.equal is.leads takes.leads in
         record {
           leads = subst (λ l. Leads g g.first l calls'.reads.given q.place (heeded g r'.block.bytes)) (sym takes.taken)
-              (subst (λ l. Leads g g.first (p.taken.log.fills.consumed ++ wire) l q.place (heeded g r'.block.bytes)) (sym given) joined);
+              (subst (λ l. Leads g g.first (p.taken.log.fills.consumed ++ wire) l q.place (heeded g r'.block.bytes)) (sym given)
+              joined);
           place = takes.place;
           room = omega (arith, is.room, takes.along.capacity);
           known = known;

@@ -134,7 +134,12 @@ module _ (limits : Limits) (filler : ℕ) where
     completes = (48 ∷ line_end (line_end []), refl, least_body limits some);
     plain = inl refl;
   }
-  Completes-some some (Fields room) is = record { rest = line_end []; payload = []; completes = (refl, no_trailers limits room); plain = inl refl }
+  Completes-some some (Fields room) is = record {
+    rest = line_end [];
+    payload = [];
+    completes = (refl, no_trailers limits room);
+    plain = inl refl;
+  }
   Completes-some some (FieldName room) is = record {
     rest = 58 ∷ line_end (line_end []);
     payload = [];
@@ -170,6 +175,11 @@ module _ (limits : Limits) (filler : ℕ) where
     plain = inl refl;
   }
   Completes-some some (FieldFeed room) is =
-      record { rest = 10 ∷ line_end []; payload = []; completes = (refl, (line_end [], refl, no_trailers limits room)); plain = inl refl }
+      record {
+        rest = 10 ∷ line_end [];
+        payload = [];
+        completes = (refl, (line_end [], refl, no_trailers limits room));
+        plain = inl refl;
+      }
   Completes-some some LastFeed is = record { rest = 10 ∷ []; payload = []; completes = (refl, refl); plain = inl refl }
   Completes-some some Done is = record { rest = []; payload = []; completes = (refl, refl); plain = inl refl }

@@ -81,7 +81,8 @@ pub fn next_known<R: TellRead, D: Decoder>(reader: &PieceReader<R, D>)
 
 /// A reader that is taken apart and made again with another decoder has left what the first had. So the pieces of both, one
 /// after another, are the front of what was left at first: the second decoder's begin just where the first one's ended. An end
-/// that no call told is forgotten: `into_inner_with_buffer` says whether there is one. A refusal hands back what the reader was taken apart into.
+/// that no call told is forgotten: `into_inner_with_buffer` says whether there is one. A refusal hands back what the reader was
+/// taken apart into.
 pub fn handed_over<R: TellRead, D: Decoder, E: Decoder>(
     alloc: Global,
     reader: PieceReader<R, D>,

@@ -99,13 +99,16 @@ module _ (used : ℕ) where
   varint_back n fits = by_one (nat_lt n 128) refl
     where
       by_three : (b : Bool) → nat_lt n 2097152 ≡ b → ScansAs n (three_or_four n b)
-      by_three true less = said ((128 + n % 128) ∷ (128 + n / 128 % 128) ∷ (n / 16384) ∷ []) (three (n % 128) (n / 128 % 128) (n / 16384) (omega (arith, ltb-true n 2097152 less)))
+      by_three true less = said ((128 + n % 128) ∷ (128 + n / 128 % 128) ∷ (n / 16384) ∷ [])
+          (three (n % 128) (n / 128 % 128) (n / 16384) (omega (arith, ltb-true n 2097152 less)))
           (omega arith) (omega arith)
-      by_three false more = said ((128 + n % 128) ∷ (128 + n / 128 % 128) ∷ (128 + n / 16384 % 128) ∷ (n / 2097152) ∷ []) (four (n % 128) (n / 128 % 128) (n / 16384 % 128) (n / 2097152) (omega (arith, fits)))
+      by_three false more = said ((128 + n % 128) ∷ (128 + n / 128 % 128) ∷ (128 + n / 16384 % 128) ∷ (n / 2097152) ∷ [])
+          (four (n % 128) (n / 128 % 128) (n / 16384 % 128) (n / 2097152) (omega (arith, fits)))
           (omega arith) (omega arith)
 
       by_two : (b : Bool) → nat_lt n 16384 ≡ b → ScansAs n (two_or_more n b)
-      by_two true less = said ((128 + n % 128) ∷ (n / 128) ∷ []) (two (n % 128) (n / 128) (omega (arith, ltb-true n 16384 less))) (omega arith) (omega arith)
+      by_two true less = said ((128 + n % 128) ∷ (n / 128) ∷ []) (two (n % 128) (n / 128) (omega (arith, ltb-true n 16384 less)))
+          (omega arith) (omega arith)
       by_two false more = by_three (nat_lt n 2097152) refl
 
       by_one : (b : Bool) → nat_lt n 128 ≡ b → ScansAs n (if b then n ∷ [] else two_or_more n (nat_lt n 16384))

@@ -110,7 +110,8 @@ module _ {T W : Type 0} (rules : FilterRules T W) where
 
     -- an ask that was interrupted, in front of others
     again : (ask : Ask T) → IsInterrupted rules ask → (row : ℕ) → (more : List (Ask T))
-        → (IsIdle rules ask × (row < interrupt_limit) × IsTurnBehind rules (row + 1) more) ⊎ (Gave rules ask × IsTurnBehind rules 1 more)
+        → (IsIdle rules ask × (row < interrupt_limit) × IsTurnBehind rules (row + 1) more)
+        ⊎ (Gave rules ask × IsTurnBehind rules 1 more)
         → IsTurnBehind rules row (ask ∷ more)
     again ask is row [] (inl idle) = absurd idle.2
     again ask is row [] (inr gave) = absurd gave.1
@@ -165,7 +166,8 @@ module _ {T W : Type 0} (rules : FilterRules T W) where
           (λ more so. again _ is count more (inr (a.3, subst (λ n. IsTurnBehind rules n more) goes.1 so)))
 
       -- these are at most as many as the limit
-      pub row_fits : count ≤ interrupt_limit → (answer : Result Bool (AskError W)) → (with : ℕ) → RowGoes answer count (Some with) → with ≤ interrupt_limit
+      pub row_fits : count ≤ interrupt_limit → (answer : Result Bool (AskError W)) → (with : ℕ) → RowGoes answer count (Some with)
+          → with ≤ interrupt_limit
       row_fits most (Ok more) with goes = absurd (no_row with goes)
       row_fits most (Err (Wrong why)) with goes = absurd (no_row with goes)
       row_fits most (Err (Io e)) with goes = omega (arith, goes.1, goes.2)
@@ -192,7 +194,8 @@ module _ {T W : Type 0} (rules : FilterRules T W) where
       often (Err (IoBehind e)) next ends is =
           absurd (ends (subst IsInterrupt (sym (same_fault _ _ e is.error next.asks.answers.1 is.failed)) is.interrupt))
 
-      failed : (e : Error) (answer : Result Bool (AskError W)) (next : LinkAsks rules t answer u) → (IsInterrupt e → count ≡ interrupt_limit)
+      failed : (e : Error) (answer : Result Bool (AskError W)) (next : LinkAsks rules t answer u)
+          → (IsInterrupt e → count ≡ interrupt_limit)
           → rules.waits u.filter × FailedToRead rules e t.filter u.filter → AskTurnAnswers rules s.filter (Err (Io e)) u.filter
       failed e answer next few a =
           let first = (rules.read s.filter).reads.faults in

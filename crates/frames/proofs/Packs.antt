@@ -132,7 +132,8 @@ fronts g (payload ∷ p) next more bytes (inr (last, none)) =
 
 -- from empty buffers on
 module _ {R W : Type 0} (remaining : R → Option (List ℕ)) (s t : Packing R W)
-    (fresh : (piece_rules remaining (packing {W = W})).fresh s) (unread : s.source.pieces.reader.block.bytes ≡ []) (going : s.source.pieces.ended ≡ false)
+    (fresh : (piece_rules remaining (packing {W = W})).fresh s) (unread : s.source.pieces.reader.block.bytes ≡ [])
+    (going : s.source.pieces.ended ≡ false)
     (ready : IsReady packing t) where
   abbrev max : ℕ
   max = s.source.pieces.decoder.max

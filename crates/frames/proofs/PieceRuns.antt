@@ -12,7 +12,8 @@ use Rattle.frames.specs.declared.error.RunError.TheVariants.{Read, Write, Io}
 
 -- a run from empty buffers on that says so of each way to end says so of its outcome
 module _ {T R D X A W : Type 0} (remaining : R → Option (List ℕ)) (f : Piecewise T R D X A W RunError) (s t : T)
-    (fresh : (piece_rules remaining f).fresh s) (unread : (f.source s).reader.block.bytes ≡ []) (sound : IsCoherent f) (never : (e : Error) → ¬ (f.refused e t)) where
+    (fresh : (piece_rules remaining f).fresh s) (unread : (f.source s).reader.block.bytes ≡ []) (sound : IsCoherent f)
+    (never : (e : Error) → ¬ (f.refused e t)) where
   abbrev rules : FilterRules T RunError
   rules = piece_rules remaining f
 

@@ -69,7 +69,8 @@ module _ {R W : Type 0} (remaining : R → Option (List ℕ)) {s : Unpacking R W
       (NextPiece-reads remaining s.source m (as_piece_answer answer) next.piece).told refl refl
 
   pub asked_more : (span : Span) → IsLent (framed m.decoder.max) m.handed m.reader.block.bytes span
-      → ¬ (Begins (framed s.source.decoder.max) (rest s.source)) → Next remaining s.source (Ok (Some (bytes_at span m.reader.block.bytes))) m
+      → ¬ (Begins (framed s.source.decoder.max) (rest s.source))
+      → Next remaining s.source (Ok (Some (bytes_at span m.reader.block.bytes))) m
       → FilterAsks (piece_rules remaining unpacking) s (Ok true) (after (Some span))
   asked_more span lent no_piece next =
       pieces.asked_more remaining unpacking ready (after (Some span)) lacks (kept (Some span))
@@ -121,7 +122,8 @@ module _ {R W : Type 0} (remaining : R → Option (List ℕ)) {s : Unpacking R W
 
 -- from empty buffers on
 module _ {R W : Type 0} (remaining : R → Option (List ℕ)) (s t : Unpacking R W)
-    (fresh : (piece_rules remaining (unpacking {W = W})).fresh s) (unread : s.source.reader.block.bytes ≡ []) (told : s.source.ended ≡ false)
+    (fresh : (piece_rules remaining (unpacking {W = W})).fresh s) (unread : s.source.reader.block.bytes ≡ [])
+    (told : s.source.ended ≡ false)
     (ready : IsReady unpacking t) where
   abbrev max : ℕ
   max = s.source.decoder.max

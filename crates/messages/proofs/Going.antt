@@ -386,7 +386,8 @@ module _ {R : Type 0} {s : Reader R} (is : IsBodyReader (body_rules s.coding) s)
       (Unended (left_in s)) (stream_of s) (unbuffered t.reader)
       (λ more o. (o.0, goes_on s.coding line s.place is.place o.0 (s.reader.block.bytes ++ more) o.1)) drains.asked
 
-  pub body_idle : {remaining : R → Option (List ℕ)} {out : List ℕ} {answer : Result ℕ (Unread (Side (Unit {0}) Malformed))} {t : Reader R}
+  pub body_idle : {remaining : R → Option (List ℕ)} {out : List ℕ} {answer : Result ℕ (Unread (Side (Unit {0}) Malformed))}
+      {t : Reader R}
       → ReadsPayload remaining std_read_rules (body_rules s.coding) s out answer t → HasNextPayload (stream_of s) (left_in s)
       → (stream_of t).log ≡ (stream_of s).log
   body_idle {remaining} {out} {answer} {t} reads ready = elim (ready_is (stream_of s) s.coding line s.place is.place ready) [

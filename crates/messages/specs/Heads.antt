@@ -44,7 +44,8 @@ expects minor known = nat_lt 0 minor && known.expect_continue
 abbrev pub is_met : List ℕ × List ℕ → Bool
 is_met h = not (is_named (codes "expect") h) || ((length h.1 == 0) || eq_ignore_case h.1 (codes "100-continue"))
 
--- these bytes are just the head of a request of HTTP/1.0 or 1.1, which says so (RFC 9112, section 6): at most one field says where the body ends, with
+-- these bytes are just the head of a request of HTTP/1.0 or 1.1, which says so (RFC 9112, section 6): at most one field says
+-- where the body ends, with
 -- no coding but `chunked`, no tunnel begins behind it, its target is one, and it has one `Host`, which HTTP/1.0 may leave out, and
 -- which names a host. An answer to `HEAD` has no body
 pub record IsKnownHead (limits : Limits) (bytes : List ℕ) (said : ParsedHead) : Type 0 where
@@ -83,7 +84,8 @@ IsRefused limits bytes e = ((16384 < length bytes) × (e ≡ LongHead)) ⊎ IsHe
 -- these are no lines, or lines in front are no such head, for this reason
 abbrev pub IsNoHead : Limits → List ℕ → BadHead → Type 0
 IsNoHead limits bytes e = ((why : HeaderError) × texts.wrong bytes why × (e ≡ line_fault bytes))
-    ⊎ ((text : Begins texts bytes) × ((said : ParsedHead) → ¬ (IsHead limits text.piece said)) × IsHeadFault limits (as_known text.piece) e)
+    ⊎ ((text : Begins texts bytes) × ((said : ParsedHead) → ¬ (IsHead limits text.piece said))
+    × IsHeadFault limits (as_known text.piece) e)
 
 abbrev pub heads : Limits → Grammar BadHead
 heads limits = record {

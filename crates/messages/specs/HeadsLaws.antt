@@ -113,7 +113,8 @@ whole_said method minor known =
 whole_text : (limits : Limits) (text : List ℕ) → is_cut (lines_fault limits text) ≡ false
 whole_text limits text =
     let other = has_other_version (first_line text) in
-    whole_if (has_many_lines limits text) ManyFields (if other then Version else Refused) refl (whole_if other Version Refused refl refl)
+    whole_if (has_many_lines limits text) ManyFields (if other then Version else Refused) refl
+    (whole_if other Version Refused refl refl)
 
 whole_fault : (limits : Limits) (bytes : List ℕ) (e : BadHead) → IsHeadFault limits bytes e → is_cut e ≡ false
 whole_fault limits bytes e (inl (h, few, is)) = ap is_cut is ∙ whole_said (method_kind h.method) h.minor (known_of h.fields)

@@ -22,7 +22,8 @@ use Rattle.messages.specs.Versions.{as_known}
 use Rattle.messages.specs.Messages.{AreMessages, Backward, Begun, EachReadGave, Enters, InBody, InTurn, InsideGoes, IsMessage, IsRest, Message, MessagesWent, Onward, Rest, TakesFromRest, body_of, room_of}
 
 -- a body ends in one place
-one_body : (limits : Limits) (e : Extent) (a b p q xs ys : List ℕ) → IsRest (body_of limits e) a p → IsRest (body_of limits e) b q → a ++ xs ≡ b ++ ys
+one_body : (limits : Limits) (e : Extent) (a b p q xs ys : List ℕ) → IsRest (body_of limits e) a p → IsRest (body_of limits e) b q
+    → a ++ xs ≡ b ++ ys
     → (a ≡ b) × (p ≡ q) × (xs ≡ ys)
 one_body limits (Sized n) a b p q xs ys is is' same =
     let parts = front_same a b xs ys (is.0 ∙ sym is'.0) same in
@@ -49,7 +50,8 @@ one_message limits a b xs ys h k p q m n same =
     (m.equal ∙ ap (λ l. l ++ m.wire) head ∙ ap (λ l. k ++ l) body.0 ∙ sym n.equal, head, body.1, body.2)
 
 -- a text is cut into a number of messages in one way
-pub one_cut : (limits : Limits) (ms ns : List Message) (a b xs ys : List ℕ) → length ms ≡ length ns → AreMessages limits ms a → AreMessages limits ns b
+pub one_cut : (limits : Limits) (ms ns : List Message) (a b xs ys : List ℕ) → length ms ≡ length ns → AreMessages limits ms a
+    → AreMessages limits ns b
     → a ++ xs ≡ b ++ ys → (ms ≡ ns) × (xs ≡ ys)
 one_cut limits [] [] a b xs ys many is is' same =
     (refl, sym (ap (λ l. l ++ xs) is) ∙ same ∙ ap (λ l. l ++ ys) is')
@@ -95,7 +97,8 @@ Backward-joins r q u a b h k first second later whole is =
 module _ {S : Type 0} (remaining : S → Option (List ℕ)) where
   -- a head that was handed out
   pub lent : (s t : ReaderState S head.Heads) (bytes : List ℕ)
-      (next : NextPiece remaining (heads s.decoder.0) s (Ok (Some bytes)) t) → (next.bytes ≡ bytes) × IsHeadPiece s.decoder.0 bytes bytes
+      (next : NextPiece remaining (heads s.decoder.0) s (Ok (Some bytes)) t) → (next.bytes ≡ bytes)
+      × IsHeadPiece s.decoder.0 bytes bytes
   lent s t bytes next =
       let piece : IsHeadPiece s.decoder.0 next.bytes bytes = elim next.answers.1 [ inl is ↦ is.0 | inr last ↦ absurd last.0 ] in
       (sym piece.same, subst (λ l. IsHeadPiece s.decoder.0 l bytes) (sym piece.same) piece)
@@ -142,7 +145,8 @@ module _ {S : Type 0} (remaining : S → Option (List ℕ)) where
     record {
       wire = wire;
       equal = refl;
-      text = record (subst (λ l. IsHeadPiece l b.head b.head) (sym begun.limits) (lent s begun.behind b.head begun.next).1) { said = b.said; is = begun.is };
+      text = record (subst (λ l. IsHeadPiece l b.head b.head) (sym begun.limits) (lent s begun.behind b.head begun.next).1)
+          { said = b.said; is = begun.is };
       body = body;
     },
     refl,

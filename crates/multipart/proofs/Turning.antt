@@ -19,7 +19,7 @@ pub begins_part : {S Q : Type 0} (d s : FormState S Q) → d ≡ s → IsForm d 
 begins_part d s same form stand whole b heads next before =
     let here : HasHead Head d = subst (λ x. HasHead x d) (ap (λ x. x.stand) same ∙ stand) form in
     let all : TookWholeBody (codes d.body.coding) d.body =
-        subst (λ x. TookWholeBody (codes x.body.coding) x.body) (sym same) whole in (
+    subst (λ x. TookWholeBody (codes x.body.coding) x.body) (sym same) whole in (
       subst (λ c. AreCodings c heads) (sym (ap (λ x. x.coding) next)) (subst (AreCodings d.other) (sym before) here.0),
       (
         d.body.taken,

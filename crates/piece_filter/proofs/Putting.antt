@@ -185,9 +185,9 @@ module _ {W : Type 0} (tells : W → StreamLog) (trace : W → W → Type 0) (s 
 -- at Ok all went in, and else nothing did
 pub puts_say : {W : Type 0} {s : Buffered W StdPolicy} {bytes : List ℕ} {t : Buffered W StdPolicy}
     (answer : Result (Unit {0}) Error) → Puts s bytes answer t → record {
-  in_order : OnOk answer (WritesInOrder s bytes t);
-  none : OnErr answer (WritesInOrder s [] t);
-  puts : Puts s bytes answer t;
-}
+      in_order : OnOk answer (WritesInOrder s bytes t);
+      none : OnErr answer (WritesInOrder s [] t);
+      puts : Puts s bytes answer t;
+    }
 puts_say (Ok _) puts = record { in_order = puts.taken; none = tt; puts = puts }
 puts_say (Err e) puts = record { in_order = tt; none = puts.taken; puts = puts }

@@ -30,5 +30,6 @@ module _ {R D X A W N : Type 0} (grammar : D → Grammar X) (Answers : A → Lis
     all_sent = λ s sent. sent.1;
   }
 
-  pub answering_lawful : (remaining : R → Option (List ℕ)) → IsLawful (piece_rules remaining (answering {W = W} {N = N} grammar Answers))
+  pub answering_lawful : (remaining : R → Option (List ℕ)) → IsLawful
+      (piece_rules remaining (answering {W = W} {N = N} grammar Answers))
   answering_lawful remaining = piece_lawful remaining (answering {N = N} grammar Answers) answering_sound

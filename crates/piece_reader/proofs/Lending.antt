@@ -43,7 +43,8 @@ module _ {S D W : Type 0} (grammar : D → Grammar W) (s t : ReaderState S D) wh
       subst (λ n. Lends grammar t (record { from = n; len = span.len })) here (lends_piece 0 (sym none) whole span used takes)
 
   -- of the last one
-  pub lends_end : s.handed ≡ 0 → IsOpen (grammar s.decoder) (rest s) → (r : Result (Option Span) (NextError W)) → TakesEnd (grammar s.decoder) s r t
+  pub lends_end : s.handed ≡ 0 → IsOpen (grammar s.decoder) (rest s) → (r : Result (Option Span) (NextError W))
+      → TakesEnd (grammar s.decoder) s r t
       → IfOk r (λ found. IfSome found (Lends grammar t))
   lends_end none open' (Ok None) takes = tt
   lends_end none open' (Err (Wrong e)) takes = tt

@@ -14,7 +14,8 @@ use std::io::Write;
 /// The greatest capacity of a buffer, in bytes.
 pub const GREATEST_CAPACITY: usize = 1048576;
 
-/// A buffered reader and a buffered writer of these capacities over the two streams, of rings the next multiples of 4096. Where one is refused, both streams come
+/// A buffered reader and a buffered writer of these capacities over the two streams, of rings the next multiples of 4096. Where
+/// one is refused, both streams come
 /// back, and none was called.
 pub fn buffered<R: TellRead, W: TellWrite>(
     alloc: Global,

@@ -210,7 +210,7 @@ module _ {W : Type 0} {tells : W → StreamLog} {trace : W → W → Type 0} whe
           → WritesPromptly tells trace (b.stream, u) [] (Ok tt) (t, v)
           → PutsText tells trace v (answered known said len) sending w' → IsUnflushed v w'
           → AnswersMessages remaining tells trace ((b.head, whole.1) ∷ []) (left_of s) w [] []
-              (IsLastAnswer ((b.head, whole.1) ∷ [])) t
+          (IsLastAnswer ((b.head, whole.1) ∷ [])) t
           sending w'
       one_answered {s} {b} {t} {len} {known} {said} {w} {u} {v} {w'} {sending} begun limits (wire, payload, went, is, many, small) same
           method call on puts unflushed =

@@ -122,7 +122,7 @@ module _ {W : Type 0} {tells : W → StreamLog} {trace : W → W → Type 0} whe
         → PutsText tells trace w [] answer v
     PutsText-sent w v answer (inl (all, well, same)) =
         subst (λ r. PutsText tells trace w [] r v) (sym well)
-            (subst (PutsText tells trace w [] (Ok tt)) (sym same) (PutsText-none w))
+        (subst (PutsText tells trace w [] (Ok tt)) (sym same) (PutsText-none w))
     PutsText-sent w v answer (inr (some, flushed)) = PutsText-flushed w v answer flushed
 
   module _ (joins : (u v x : W) → trace u v → trace v x → trace u x) where

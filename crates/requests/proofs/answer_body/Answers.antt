@@ -44,7 +44,8 @@ returns-in-Err-clause-turns g c = λ s w begun writes.
     } in
     let call = rw c.said.ensures.value at c.in-Err.ensures in
     let more = PutsText-more [] call.puts in
-    RunsToLast-stopped [] (Inside b) (is_part begun c.requires.limits none) (omega (arith, (begun_steady begun).ends)) (Unsent c.in-Err.e)
+    RunsToLast-stopped [] (Inside b) (is_part begun c.requires.limits none) (omega (arith, (begun_steady begun).ends))
+    (Unsent c.in-Err.e)
     (part_answered begun none
     (WritesPromptly-after g.met.W.TellWrite.trace_joins (_, w) (b.stream, c.args.writer.now)
     (b.stream, c.call_for_body.new.writer) []

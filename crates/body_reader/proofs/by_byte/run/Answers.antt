@@ -11,7 +11,8 @@ loop-count-preserved g c =
     let before = c.loop-count.invariant in
     record {
       within = omega arith;
-      keeps = subst (λ l. LeadsByPayload t c.args.place l c.in-Payload.next) (sym (take_more bytes c.loop-count.count 0 c.loop-count-test.true))
+      keeps = subst (λ l. LeadsByPayload t c.args.place l c.in-Payload.next)
+          (sym (take_more bytes c.loop-count.count 0 c.loop-count-test.true))
           (keeps_more t c.args.place (take c.loop-count.count bytes) c.loop-count.at (slice_index bytes c.loop-count.count)
           c.in-Payload.next before.keeps (sym c.is_end.ensures ∙ c.if-not-is_end.true) (sym c.turn.ensures ∙ c.in-Payload.is));
     }

@@ -32,5 +32,6 @@ pub returns-clause-hands : goal.returns-clause-hands
 returns-clause-hands g c =
     hands_behind g.R.TellRead.remaining g.P.ReaderPolicy.rules (g.C.Coding.grammar c.args.coding.now) c.args.known.now
     c.args.reader.now c.args.progress.now c.read_sure.new.out c.skip.new.reader c.skip.new.progress
-    (omega (arith, c.requires.some)) c.in_ok-sure.sure (omega (arith, c.if-sure-eq0.false)) (c.in_ok-sure.ensures _) c.read_sure.result c.read_sure.new.reader
+    (omega (arith, c.requires.some)) c.in_ok-sure.sure (omega (arith, c.if-sure-eq0.false)) (c.in_ok-sure.ensures _)
+    c.read_sure.result c.read_sure.new.reader
     c.read_sure.new.progress c.read_sure.ensures.hands

@@ -9,5 +9,5 @@ returns-in-Ok-clause-served g c =
 pub returns-in-Err-clause-failed : goal.returns-in-Err-clause-failed
 returns-in-Err-clause-failed g c =
     ServingEnds-failed _ _ _ _ _ _ _ g.met.W.TellWrite.trace_none g.met.W.TellWrite.trace_joins _ _ _
-        c.in_ok-ended.ensures.ended _
+    c.in_ok-ended.ensures.ended _
     c.in-Err.e c.in-Err.ensures.flushed

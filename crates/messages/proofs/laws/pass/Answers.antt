@@ -22,7 +22,8 @@ loop-preserved g c =
     record {
       messages = before.messages ++ (one.0, one.1) ∷ [];
       many = omega (arith, before.many, length-append before.messages ((one.0, one.1) ∷ []));
-      went = MessagesWent-joins g.R.TellRead.remaining c.args.requests.decoder.0 (left_of c.args.requests) (left_of c.loop.next) (left_of c.in-Ok.behind)
+      went = MessagesWent-joins g.R.TellRead.remaining c.args.requests.decoder.0 (left_of c.args.requests) (left_of c.loop.next)
+          (left_of c.in-Ok.behind)
           before.messages ((one.0, one.1) ∷ []) before.went
           (subst (λ d. MessagesWent g.R.TellRead.remaining d.0 (left_of c.loop.next) ((one.0, one.1) ∷ []) (left_of c.in-Ok.behind))
           before.limits one.2);

@@ -45,7 +45,7 @@ returns-in-Ok-read-clause-writes g c =
     let m = c.read_buffered-count.new.self.stream in
     let v = c.send_unless_shown.new.writer in
     WritesPromptly-after g.met.W.TellWrite.trace_joins (c.args.body.now.stream, c.args.writer.now) (m, v)
-        (c.read.new.self.stream, v)
+    (c.read.new.self.stream, v)
     [] [] (Ok tt)
     (sends_empty g.met.W.TellWrite.trace_none g.met.W.TellWrite.trace_joins c.args.body.now.stream m c.args.writer.now v
     c.read_buffered-count.ensures.unasked c.in-Ok.ensures) (WritesPromptly-read g.met.W.TellWrite.trace_none v
@@ -58,7 +58,7 @@ returns-in-Err-read-clause-writes g c =
     let m = c.read_buffered-count.new.self.stream in
     let v = c.send_unless_shown.new.writer in
     WritesPromptly-after g.met.W.TellWrite.trace_joins (c.args.body.now.stream, c.args.writer.now) (m, v)
-        (c.read.new.self.stream, v)
+    (c.read.new.self.stream, v)
     [] [] (Ok tt)
     (sends_empty g.met.W.TellWrite.trace_none g.met.W.TellWrite.trace_joins c.args.body.now.stream m c.args.writer.now v
     c.read_buffered-count.ensures.unasked c.in-Ok.ensures) (WritesPromptly-read g.met.W.TellWrite.trace_none v

@@ -68,12 +68,14 @@ returns g c =
     record {
       all = λ some.
           FiltersAll-flushed g.R.TellRead.remaining c.args.word.now c.args.reader c.args.writer.now c.loop-line.writer
-          c.flush.new.self g.W.Tell.log g.W.TellWrite.trace i.lines s.reader (i.hands some) (Ended-lines g.R.TellRead.remaining std_read_rules i.lines c.args.reader s c.next.new.self i.byte
+          c.flush.new.self g.W.Tell.log g.W.TellWrite.trace i.lines s.reader (i.hands some)
+          (Ended-lines g.R.TellRead.remaining std_read_rules i.lines c.args.reader s c.next.new.self i.byte
           i.begun (WantsBytes-std s.reader.policy) (omega (arith, some, (i.hands some).along.capacity)) i.turns none) i.out i.goes_on
           i.accepted c.flush.result c.flush.ensures.flushed;
       some = λ some.
           FiltersSome-flushed g.R.TellRead.remaining c.args.word.now c.args.reader c.args.writer.now c.loop-line.writer
-          c.flush.new.self g.W.Tell.log g.W.TellWrite.trace i.lines s.reader (i.hands some) (Ended-lines g.R.TellRead.remaining std_read_rules i.lines c.args.reader s c.next.new.self i.byte
+          c.flush.new.self g.W.Tell.log g.W.TellWrite.trace i.lines s.reader (i.hands some)
+          (Ended-lines g.R.TellRead.remaining std_read_rules i.lines c.args.reader s c.next.new.self i.byte
           i.begun (WantsBytes-std s.reader.policy) (omega (arith, some, (i.hands some).along.capacity)) i.turns none) i.out i.goes_on
           i.accepted c.flush.result c.flush.ensures.flushed;
     }

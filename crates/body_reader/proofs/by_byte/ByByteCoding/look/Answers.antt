@@ -5,4 +5,5 @@ use Rattle.body_reader.proofs.by_byte.ByByteCoding.look.Goals as goal
 pub returns-in-Payload : goal.returns-in-Payload
 returns-in-Payload g c =
     looks_payload (g.C.ByteCoding.turns c.args.self.now.0) c.args.place c.args.shown.now c.run.result.0 c.run.result.1
-    c.in-Payload.field-0 (sym c.is_empty.ensures ∙ c.if-is_empty.false) (sym c.is_end.ensures ∙ c.if-is_end.false) (sym c.turn.ensures ∙ c.in-Payload.is) c.run.ensures
+    c.in-Payload.field-0 (sym c.is_empty.ensures ∙ c.if-is_empty.false) (sym c.is_end.ensures ∙ c.if-is_end.false)
+    (sym c.turn.ensures ∙ c.in-Payload.is) c.run.ensures

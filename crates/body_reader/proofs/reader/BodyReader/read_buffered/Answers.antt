@@ -14,7 +14,8 @@ invariant_of-self g c =
 pub returns : goal.returns
 returns g c =
     let i = c.self.inside in
-    buffered_says _ _ (buffered_seen g.R.TellRead.remaining g.P.ReaderPolicy.rules g.C.Coding.grammar _ c.args.self.now _ _ _ c.self.view_is
+    buffered_says _ _ (buffered_seen g.R.TellRead.remaining g.P.ReaderPolicy.rules g.C.Coding.grammar _ c.args.self.now _ _ _
+    c.self.view_is
     (shown_reads g.R.TellRead.remaining g.P.ReaderPolicy.rules (g.C.Coding.grammar i.coding)
     (g.met.C.Coding.lawful i.coding) i.reader i.coding i.progress i.calls.log i.known c.self.invariant
     c.hand_buffered-count.new.out c.hand_buffered-count.result c.hand_buffered-count.new.reader

@@ -40,7 +40,8 @@ returns-then-at-eq0 c =
     let shown = c.args.shown.now in
     let same : c.as_slice-needle.result.now ≡ needle = c.as_slice-needle.ensures.value in
     let begins : MayBegin needle shown 0 =
-    subst (λ l. MayBegin l shown 0) same (subst (MayBegin c.as_slice-needle.result.now shown) c.if-at-eq0.true c.may_begin-at.ensures.begins) in (
+    subst (λ l. MayBegin l shown 0) same (subst (MayBegin c.as_slice-needle.result.now shown) c.if-at-eq0.true
+    c.may_begin-at.ensures.begins) in (
       subst (λ p. IsOpenBelow (until needle) p (length shown + 1) shown) (sym c.in-Inside.is)
           (looks_short needle c.args.self.now.some shown
           (omega (arith, c.may_begin-at.ensures.short c.if-at-eq0.true, ap length same)) begins),

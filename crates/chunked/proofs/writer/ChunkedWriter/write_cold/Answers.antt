@@ -19,7 +19,7 @@ returns-in-Ok-clause-writes g c =
     wrote_begun g.W.Tell.log g.W.TellWrite.trace g.met.W.TellWrite.trace_none g.met.W.TellWrite.trace_joins s payload
     c.requires.some is between large c.begin.new.self
     (subst (λ k. CopiesSizeLine g.W.Tell.log g.W.TellWrite.trace k s (Ok tt) c.begin.new.self) c.min.ensures
-        c.in-Ok.ensures.begins)
+    c.in-Ok.ensures.begins)
     c.go_on-in-Ok.result c.go_on-in-Ok.new.self c.go_on-in-Ok.ensures.went
 
 pub returns-in-Err-clause-writes : goal.returns-in-Err-clause-writes

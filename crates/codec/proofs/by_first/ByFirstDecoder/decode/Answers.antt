@@ -80,7 +80,8 @@ returns-else-begins_with-clause-leaves g c =
     let Others = g.B.Decoder.notes s.other in
     let note : g.row.A-Note.Denot × g.row.B-Note.Denot = (c.args.note.now.0, c.decode-else-begins_with.new.note) in
     subst (λ r. OnMore r (either_notes s.byte Ones Others c.args.bytes.now note)) (sym c.as_other.ensures)
-    (more_as (λ e. Other e) c.decode-else-begins_with.result (g.B.Decoder.notes s.other c.args.bytes.now c.decode-else-begins_with.new.note)
+    (more_as (λ e. Other e) c.decode-else-begins_with.result
+    (g.B.Decoder.notes s.other c.args.bytes.now c.decode-else-begins_with.new.note)
     (either_notes s.byte Ones Others c.args.bytes.now note)
     (side_leaves s.byte Ones Others note false c.args.bytes.now some (sym c.begins_with.ensures ∙ c.if-begins_with.false))
     c.decode-else-begins_with.ensures.leaves)

@@ -10,14 +10,16 @@ use Rattle.messages.proofs.requests.Requests.enter.Goals as goal
 
 pub unreachable-requires : goal.unreachable-requires
 unreachable-requires g c =
-    let head = subst (λ x. IsHeadPiece x.decoder.0 (bytes_at c.args.span x.reader.block.bytes) (bytes_at c.args.span x.reader.block.bytes))
+    let head = subst (λ x. IsHeadPiece x.decoder.0 (bytes_at c.args.span x.reader.block.bytes)
+    (bytes_at c.args.span x.reader.block.bytes))
     (sym c.self.view_is) c.requires.head in
     c.in_default.ensures.none head.said (subst (λ d. IsHead d.0 c.lent-lent.result.now head.said) (sym c.decoder.ensures)
     (subst (λ l. IsHead c.self.inside.pieces.decoder.0 l head.said) (sym c.lent-lent.ensures) head.is))
 
 pub append-requires : goal.append-requires
 append-requires g c =
-    let head = subst (λ x. IsHeadPiece x.decoder.0 (bytes_at c.args.span x.reader.block.bytes) (bytes_at c.args.span x.reader.block.bytes))
+    let head = subst (λ x. IsHeadPiece x.decoder.0 (bytes_at c.args.span x.reader.block.bytes)
+    (bytes_at c.args.span x.reader.block.bytes))
     (sym c.self.view_is) c.requires.head in
     record {
       fits = omega (
@@ -50,4 +52,5 @@ returns g c =
       rest = refl;
       taken = refl;
     } in
-    rw c.new.ensures (subst (λ x. Enters x (bytes_at c.args.span x.reader.block.bytes) (entering c.with_buffer.result limits head said)) c.self.view_is enters)
+    rw c.new.ensures (subst (λ x. Enters x (bytes_at c.args.span x.reader.block.bytes)
+    (entering c.with_buffer.result limits head said)) c.self.view_is enters)

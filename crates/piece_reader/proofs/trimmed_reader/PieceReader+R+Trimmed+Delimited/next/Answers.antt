@@ -18,7 +18,8 @@ returns-in-Some g c =
     (subst (λ o. NextPiece remaining grammar s (load_answer (Ok o) t) t) c.in-Some.is c.in_ok-span.ensures.next) in (
       (refl, (λ _. tt), lends),
       record {
-        begins = NextPiece-begins remaining grammar (trimming_front (delimited s.decoder.0.end s.decoder.0.max) (λ bytes payload is. (s.decoder.0.end ∷ [], is.2)))
+        begins = NextPiece-begins remaining grammar (trimming_front (delimited s.decoder.0.end s.decoder.0.max)
+            (λ bytes payload is. (s.decoder.0.end ∷ [], is.2)))
             (λ bytes payload is. is) s t found lends;
         after_borrow = tt;
       },

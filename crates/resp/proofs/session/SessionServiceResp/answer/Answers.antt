@@ -15,6 +15,10 @@ pub returns-in-Bad : goal.returns-in-Bad
 returns-in-Bad g c =
     let s = c.args.self.now in
     let values = held s.store in
-    AnswersBy-answered _ _ _ _ (RepliesBy s c.args.item c.args.payload.now) _ _ false _
-    (Bad c.in-Bad.refusal, c.take.new.self, c.in-Bad.ensures, (append-nil _ ∙ c.refusal_text.ensures, refl, refl, same_of values values refl))
+    AnswersBy-answered _ _ _ _ (RepliesBy s c.args.item c.args.payload.now) _ _ false _ (
+      Bad c.in-Bad.refusal,
+      c.take.new.self,
+      c.in-Bad.ensures,
+      (append-nil _ ∙ c.refusal_text.ensures, refl, refl, same_of values values refl),
+    )
     c.write_answer.result c.write_answer.ensures.answers
