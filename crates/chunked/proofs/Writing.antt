@@ -1,5 +1,5 @@
 -- What goes into a buffered writer, and what a whole chunk and the end of a body do there.
-use Rattle.std.proofs.Common.{◌≡◌, ℕ, zero, suc, ◌+◌, ◌-◌, ◌^◌, ◌<◌, ◌≤◌, ◌==◌, false, true, List, [], ◌∷◌, ◌++◌, length, take, Result, IfOk, MatchResult, Ok, Err, sym, ap, subst, ◌∙◌, arith, inl, inr, refl, append-nil}
+use Rattle.std.proofs.Common.{◌≡◌, ℕ, zero, suc, ◌+◌, ◌^◌, ◌<◌, ◌≤◌, ◌==◌, false, true, List, [], ◌∷◌, ◌++◌, length, take, Result, IfOk, MatchResult, Ok, Err, sym, ap, subst, ◌∙◌, arith, inl, inr, refl, append-nil}
 use Rattle.std.proofs.lemmas.Bool.{cases_lt}
 use Rattle.std.proofs.lemmas.List.{take_all}
 use Rattle.std.proofs.lemmas.List.Elements.{All-nil, All-cons}
@@ -9,7 +9,7 @@ use Rattle.buffer_redux.specs.Block.{Block, IsBlock, Kind, Plain, Ring, limit_of
 use Rattle.buffer_redux.specs.Buffered.{Buffered}
 use Rattle.buffer_redux.specs.BufWriter.{WasSent, WritesInOrder}
 use Rattle.buffer_redux.specs.LogGrows.{WriteLogGrows, WriteLogGrows-flush}
-use Rattle.buffer_redux.specs.StreamLog.{StreamLog, after_flush, after_write, portion}
+use Rattle.buffer_redux.specs.StreamLog.{StreamLog, after_flush, after_write}
 use Rattle.buffer_redux.specs.WriteParts.{PutsIn, SendsFirst, room}
 use Rattle.buffer_redux.specs.WritePartsLaws.{PutsIn-order}
 use Rattle.buffer_redux.specs.WriterLaws.{WritesInOrder-contents, WritesInOrder-joins, WritesInOrder-none}

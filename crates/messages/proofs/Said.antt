@@ -1,5 +1,5 @@
 -- What a call says first, in words of lists.
-use Rattle.std.proofs.Common.{◌≡◌, ◌↔◌, ℕ, Option, ◌<◌, List, [], ◌∷◌, ◌++◌, drop, length, Bool, false, IsTrue, inl, inr, sym, ap, subst, ◌∙◌, arith, refl, length-append}
+use Rattle.std.proofs.Common.{◌≡◌, ◌↔◌, ℕ, Option, ◌<◌, List, [], ◌∷◌, ◌++◌, drop, length, Bool, false, IsTrue, inl, inr, sym, ap, subst, arith, refl, length-append}
 use Rattle.buffer_redux.specs.Unbuffer.{Unbuffered}
 use Rattle.codec.specs.Grammar.{Begins, Grammar, IsLawful}
 use Rattle.codec.specs.PieceReader.{IsSettled, ReaderState, left_of, rest}
