@@ -61,7 +61,8 @@ module _ {S Q C P W : Type 0} {remaining : S → Option (List ℕ)} {rules : Rea
         ends fills (Ok tt) (filled_gave grammar so.taken fills, (fills_here grammar so.taken fills).answers.2 none)
 
     -- or there is too much of it, or no room
-    pub collects_long : 0 < n → most < length all + n → Collects remaining rules (grammar s.coding) most s before (Err TooLong) f all
+    pub collects_long : 0 < n → most < length all + n → Collects remaining rules (grammar s.coding) most s before
+        (Err TooLong) f all
     collects_long some long = ends fills (Err TooLong) (
       filled_gave grammar so.taken fills,
       omega (arith, some, fills.answers.0),

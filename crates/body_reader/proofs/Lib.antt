@@ -7,7 +7,6 @@ pub mod Draining
 pub mod Collecting
 pub mod Filling
 pub mod Consuming
-pub mod Resting
 pub mod Behind
 pub mod Showing
 pub mod Said

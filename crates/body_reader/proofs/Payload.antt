@@ -115,7 +115,8 @@ module _ {S Q C P W : Type 0} (remaining : S → Option (List ℕ)) (rules : Rea
 
 -- a read of payload
 module _ {S Q C P W : Type 0} (remaining : S → Option (List ℕ)) (rules : ReadRules Q) (g : Grammar P W) (lawful : IsLawful g)
-    (r : Buffered S Q) (c : C) (p : Progress P) (calls : StreamLog) (k : ℕ) (is : IsBodyReader g (seen r c p calls k)) (out : List ℕ)
+    (r : Buffered S Q) (c : C) (p : Progress P) (calls : StreamLog) (k : ℕ) (is : IsBodyReader g (seen r c p calls k))
+    (out : List ℕ)
     (answer : Result ℕ (BodyError W)) (r' : Buffered S Q) (q : Progress P)
     (hands : HandsOn remaining rules g k r p out answer r' q) (k' : ℕ) (known : IsKnown g q.place k' r'.block.bytes) where
   abbrev after : BodyState S Q C P
@@ -135,7 +136,8 @@ module _ {S Q C P W : Type 0} (remaining : S → Option (List ℕ)) (rules : Rea
   answered (Ok n) ends = (
     ends.1.0,
     ends.0,
-    (λ none some. Leads-whole g after.taken after.calls.reads.given q.place (heeded g r'.block.bytes) still.leads (ends.1.1 none some)),
+    (λ none some. Leads-whole g after.taken after.calls.reads.given q.place (heeded g r'.block.bytes) still.leads
+        (ends.1.1 none some)),
   )
   answered (Err e) ends =
       stops remaining rules g r c p calls k r' q (after_payload calls out answer) k' lawful still e ends
@@ -146,7 +148,8 @@ module _ {S Q C P W : Type 0} (remaining : S → Option (List ℕ)) (rules : Rea
   all_handed (Err e) ends = tt
 
   idle : (TookWholeBody g (seen r c p calls k) ⊎ (length out ≡ 0)) → r' ≡ r
-  idle (inl whole) = (hands.0.idle (Leads-done g lawful p.taken.log.fills.consumed calls.reads.given p.place (heeded g r.block.bytes)
+  idle (inl whole) = (hands.0.idle (Leads-done g lawful p.taken.log.fills.consumed calls.reads.given p.place
+      (heeded g r.block.bytes)
       is.leads is.place whole)).0
   idle (inr none) = (hands.1 none).1
 
@@ -166,7 +169,8 @@ module _ {S Q C P W : Type 0} (remaining : S → Option (List ℕ)) (rules : Rea
 -- the same with the calls as they were noted
 module _ {S Q C P W : Type 0} (remaining : S → Option (List ℕ)) (rules : ReadRules Q) (grammar : C → Grammar P W)
     (lawful : (c : C) → IsLawful (grammar c)) (d : BodyState S Q C P) (r : Buffered S Q) (c : C) (p : Progress P)
-    (calls : StreamLog) (k : ℕ) (view : seen r c p calls k ≡ d) (is : IsBodyReader (grammar c) (seen r c p calls k)) (out : List ℕ)
+    (calls : StreamLog) (k : ℕ) (view : seen r c p calls k ≡ d) (is : IsBodyReader (grammar c) (seen r c p calls k))
+    (out : List ℕ)
     (answer : Result ℕ (BodyError W)) (r' : Buffered S Q) (q : Progress P)
     (hands : HandsOn remaining rules (grammar c) k r p out answer r' q) (k' : ℕ)
     (known : IsKnown (grammar c) q.place k' r'.block.bytes) (calls' : StreamLog)
@@ -195,7 +199,8 @@ module _ {S Q C P W : Type 0} (remaining : S → Option (List ℕ)) (rules : Rea
       (sym (append-nil calls.reads.given))
 
   done : TookWholeBody g (seen r c p calls k) → IsDone g p.place
-  done whole = Leads-done g lawful p.taken.log.fills.consumed calls.reads.given p.place (heeded g r.block.bytes) is.leads is.place whole
+  done whole = Leads-done g lawful p.taken.log.fills.consumed calls.reads.given p.place (heeded g r.block.bytes) is.leads is.place
+      whole
 
   -- where the body ended nothing is done
   none_known : (n : ℕ) → ShowsOn remaining rules g 0 r p (Ok n) r' q → IsDone g p.place → n ≡ k
@@ -216,7 +221,8 @@ module _ {S Q C P W : Type 0} (remaining : S → Option (List ℕ)) (rules : Rea
     answers = (
       refl,
       fills.ends.0,
-      (λ zero. Leads-whole g q.taken.log.fills.consumed calls.reads.given q.place (heeded g r'.block.bytes) (filled_is n fills).leads
+      (λ zero. Leads-whole g q.taken.log.fills.consumed calls.reads.given q.place (heeded g r'.block.bytes)
+          (filled_is n fills).leads
           (fills.ends.1.1 zero)),
     );
     all = λ some _. fills.ends.1.2 some;

@@ -166,7 +166,8 @@ module _ {S Q P W : Type 0} (remaining : S → Option (List ℕ)) (rules : ReadR
   pub AsksWithRoom-open : (room : ℕ) (s : Buffered S Q) (p : P) (t : Buffered S Q) → AsksWithRoom remaining rules g room s p t
       → AsksOpen remaining rules g s p t
   AsksWithRoom-open room s p t =
-      AskedWhere-of (AskedFor g p room t.log.reads.offer) (LeadsOpen g p []) (unbuffered s) (unbuffered t) (λ more asked. asked.leads)
+      AskedWhere-of (AskedFor g p room t.log.reads.offer) (LeadsOpen g p []) (unbuffered s) (unbuffered t)
+      (λ more asked. asked.leads)
 
   pub AsksWithRoom-same : (room : ℕ) (s : Buffered S Q) (p : P) (m t : Buffered S Q) → t.log ≡ m.log
       → AsksWithRoom remaining rules g room s p m → AsksWithRoom remaining rules g room s p t

@@ -80,8 +80,8 @@ module _ {S Q C P W : Type 0} (remaining : S → Option (List ℕ)) (rules : Rea
     pub coding : t.coding ≡ s.coding
     pub keeps : KeepsBuffer rules g.ahead s.reader t.reader
 
-  -- what one call of `read_payload` does, which left the slice as out. The stream is asked only where nothing was settled, and
-  -- no payload left, and for as much as surely is payload and fits the slice; and no less is handed out than can be. Once the body
+  -- what one call of `read_payload` does, which left the slice as out. The stream is asked only where nothing was settled, and no
+  -- payload left, and for as much as surely is payload and fits the slice; and no less is handed out than can be. Once the body
   -- ended, or where the slice is empty, the buffered reader isn't called. An Ok read is noted, and no other
   pub record ReadsPayload (s : BodyState S Q C P) (out : List ℕ) (answer : Result ℕ (BodyError W)) (t : BodyState S Q C P)
       : Type 0 where
@@ -96,8 +96,8 @@ module _ {S Q C P W : Type 0} (remaining : S → Option (List ℕ)) (rules : Rea
     pub noted : MatchResult answer (λ n. t.calls ≡ after_read s.calls out (Ok n)) (λ _. t.calls ≡ s.calls)
     pub whole : IsBodyReader g t
 
-  -- payload is buffered, how much the answer says: none only where the body ended, and else all that a look says is. The stream is
-  -- asked only where nothing was settled, and no payload left; where some was known, or the body ended, nothing is done
+  -- payload is buffered, how much the answer says: none only where the body ended, and else all that a look says is. The stream
+  -- is asked only where nothing was settled, and no payload left; where some was known, or the body ended, nothing is done
   pub record FillsPayload (s : BodyState S Q C P) (answer : Result ℕ (BodyError W)) (t : BodyState S Q C P) : Type 0 where
     pub went : BodyWent s [] t
     pub answers : MatchResult answer (λ n. (n ≡ t.known) × EachGave s.reader t.reader × (n ≡ 0 → TookWholeBody g t))
@@ -145,8 +145,8 @@ module _ {S Q C P W : Type 0} (remaining : S → Option (List ℕ)) (rules : Rea
     pub ended : TookWholeBody g s → t.reader ≡ s.reader
     pub whole : IsBodyReader g t
 
-  -- why no more payload was collected, of which so much is there: none comes; or some is buffered, with which it would be more than
-  -- so many bytes, or memory for it was refused
+  -- why no more payload was collected, of which so much is there: none comes; or some is buffered, with which it would be more
+  -- than so many bytes, or memory for it was refused
   abbrev pub NotCollected : ℕ → BodyState S Q C P → List ℕ → CollectError W → BodyState S Q C P → Type 0
   NotCollected most s all (collect.Body why) t = NoPayload g s why t
   NotCollected most s all collect.TooLong t = EachGave s.reader t.reader × (0 < t.known) × (most < length all + t.known)

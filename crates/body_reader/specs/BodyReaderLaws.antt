@@ -65,8 +65,8 @@ module _ {S Q C P W : Type 0} (remaining : S → Option (List ℕ)) (rules : Rea
       left_then (Some x) None bytes lost is gone = absurd gone
       left_then (Some x) (Some y) bytes lost is gone = (y, refl, (let same : x ≡ bytes = cc in sym same ∙ gone))
 
--- of bytes that begin with a body, a reader that took and shows the front of them has handed out the front of its payload; nothing
--- is wrong, nor missing; and once the body ended, just what follows it is buffered
+-- of bytes that begin with a body, a reader that took and shows the front of them has handed out the front of its payload;
+-- nothing is wrong, nor missing; and once the body ended, just what follows it is buffered
 module _ {S Q C P W : Type 0} (g : Grammar P W) (lawful : IsLawful g) (t : BodyState S Q C P) (is : IsBodyReader g t)
     (body payload behind rest : List ℕ) (is_body : IsBody g body payload)
     (same : body ++ behind ≡ t.taken ++ (t.reader.block.bytes ++ rest)) where

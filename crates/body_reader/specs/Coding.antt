@@ -49,8 +49,8 @@ module _ {P W : Type 0} (g : Grammar P W) where
     pub leads : Leads p wire [] q follow
     pub few : g.between q + length wire ≤ g.between p
 
-  -- the bytes settle nothing: they are fewer than a look may need, the body goes on, what stands first isn't surely payload, nothing
-  -- is wrong, and what completes the body and agrees with them goes on behind them
+  -- the bytes settle nothing: they are fewer than a look may need, the body goes on, what stands first isn't surely payload,
+  -- nothing is wrong, and what completes the body and agrees with them goes on behind them
   pub record IsOpen (p : P) (bytes : List ℕ) : Type 0 where
     pub few : length bytes < g.ahead
     pub goes_on : ¬ IsDone p
@@ -74,8 +74,8 @@ module _ {P W : Type 0} (g : Grammar P W) where
     pub is_place : g.is_place place
     pub settles_nothing : IsOpen place shown
 
-  -- an ask where bytes lead on so, none of which is payload, for a slice that takes so many: where nothing was buffered it offered
-  -- as much of that as surely is payload
+  -- an ask where bytes lead on so, none of which is payload, for a slice that takes so many: where nothing was buffered it
+  -- offered as much of that as surely is payload
   pub record AskedFor (p : P) (room offer : ℕ) (bytes : List ℕ) : Type 0 where
     pub leads : LeadsOpen p [] bytes
     pub enough : leads.shown ≡ [] → min room (g.sure leads.place) ≤ offer
@@ -101,8 +101,8 @@ module _ {P W : Type 0} (g : Grammar P W) where
   Looks p shown Ended = IsDone p
 
   -- a look may need some byte; a body begins at a place; no byte holds no payload, and isn't wrong; what is wrong neither begins
-  -- what completes a body nor goes on with it; no more bytes surely are payload than it says; and no body begins another, and each
-  -- has one payload
+  -- what completes a body nor goes on with it; no more bytes surely are payload than it says; and no body begins another, and
+  -- each has one payload
   pub record IsLawful : Type 0 where
     pub some : 0 < g.ahead
     pub begins : g.is_place g.first

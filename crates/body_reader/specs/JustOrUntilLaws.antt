@@ -70,7 +70,8 @@ module _ (just needle : List ℕ) (room : ℕ) (some : 0 < length just) (shorter
   }
 
   pub alike_leads : (place : JustOr) (part q : Part) (wire handed follow : List ℕ) → Alike place part (wire ++ follow)
-      → Leads (until needle) part wire handed q follow → Leads (just_or_until just needle room) place wire handed (at.Until q) follow
+      → Leads (until needle) part wire handed q follow
+      → Leads (just_or_until just needle room) place wire handed (at.Until q) follow
   alike_leads place part q wire handed follow like leads = record {
     onward = λ rest payload agree c.
         like.there (wire ++ rest) (handed ++ payload) (Agree-front wire follow rest agree) (leads.onward rest payload agree c);

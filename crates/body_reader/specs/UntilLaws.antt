@@ -105,7 +105,13 @@ module _ (needle : List ℕ) (some : 0 < length needle) where
       );
       back = λ rest whole agree c. end_back rest whole c;
       within = λ rest payload past c same.
-          nil_from_length past (omega (arith, ap length same, ap length c.0, length-append rest past, length-append payload needle));
+          nil_from_length past (omega (
+            arith,
+            ap length same,
+            ap length c.0,
+            length-append rest past,
+            length-append payload needle,
+          ));
     };
     few = omega arith;
   }

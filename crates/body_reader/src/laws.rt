@@ -54,8 +54,8 @@ pub fn behind_body<R: TellRead, C: Coding, P: ReaderPolicy>(reader: &BodyReader<
         → (handed ≡ payload) × (ahead R.remaining reader.now.reader ≡ Some behind) }
 {}
 
-/// Between two states of one reader the bytes that were taken lead on from place to place, with the payload that was handed out in
-/// them: just what completes the body where it stands now completes it, with them in front, where it stood.
+/// Between two states of one reader the bytes that were taken lead on from place to place, with the payload that was handed out
+/// in them: just what completes the body where it stands now completes it, with them in front, where it stood.
 pub fn leads_on<R: TellRead, C: Coding, P: ReaderPolicy>(reader: &BodyReader<R, C, P>)
     ensures { (before : BodyState R P C C.Place) (payload : List ℕ)
         → IsBodyReader (C.grammar reader.now.coding) before

@@ -209,8 +209,8 @@ impl<R: TellRead, C: Coding, P: ReaderPolicy> BodyReader<R, C, P> {
         answer
     }
 
-    /// How many bytes of payload are buffered, which [`piece`](BodyReader::piece) lends; none only where the body ended. Where some
-    /// are known nobody is asked.
+    /// How many bytes of payload are buffered, which [`piece`](BodyReader::piece) lends; none only where the body ended. Where
+    /// some are known nobody is asked.
     pub fn fill_payload(&mut self) -> Result<usize, BodyError<C::Wrong>>
         ensures count { IfOk result (λ n. (n ≡ self.new.known)
             × (n ≡ 0 → IsBody (C.grammar self.old.coding) self.new.taken self.new.calls.reads.given)) }

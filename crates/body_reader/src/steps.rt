@@ -13,7 +13,7 @@ use buffer_redux::tell::TellRead;
 use std::io::{BufRead, Read};
 
 /// Takes what is buffered and no payload, and says what comes next. Nobody is asked.
-pub fn pass<R: TellRead, P: ReaderPolicy, C: Coding>(
+pub(crate) fn pass<R: TellRead, P: ReaderPolicy, C: Coding>(
     reader: &mut BufReader<R, P>,
     coding: &C,
     progress: &mut Progress<C::Place>,
@@ -34,7 +34,7 @@ pub fn pass<R: TellRead, P: ReaderPolicy, C: Coding>(
 }
 
 /// Takes what is no payload, and returns how many bytes of payload come next: 0 where the body ended.
-pub fn skip<R: TellRead, P: ReaderPolicy, C: Coding>(
+pub(crate) fn skip<R: TellRead, P: ReaderPolicy, C: Coding>(
     reader: &mut BufReader<R, P>,
     coding: &C,
     progress: &mut Progress<C::Place>,
@@ -63,7 +63,7 @@ pub fn skip<R: TellRead, P: ReaderPolicy, C: Coding>(
 /// Has some byte of payload buffered, of which the next `sure` bytes are, and returns how many are buffered.
 // One read is a look at a byte ahead too, and has one answer less.
 #[inline(always)]
-pub fn show<R: TellRead, P: ReaderPolicy, C: Coding>(
+pub(crate) fn show<R: TellRead, P: ReaderPolicy, C: Coding>(
     reader: &mut BufReader<R, P>,
     coding: &C,
     progress: &Progress<C::Place>,
@@ -87,7 +87,7 @@ pub fn show<R: TellRead, P: ReaderPolicy, C: Coding>(
 }
 
 /// Has payload buffered, and returns how much: none only where the body ended.
-pub fn fill_on<R: TellRead, P: ReaderPolicy, C: Coding>(
+pub(crate) fn fill_on<R: TellRead, P: ReaderPolicy, C: Coding>(
     reader: &mut BufReader<R, P>,
     coding: &C,
     progress: &mut Progress<C::Place>,
@@ -104,7 +104,7 @@ pub fn fill_on<R: TellRead, P: ReaderPolicy, C: Coding>(
 }
 
 /// Proceeds on behind the first `count` bytes, of which the first `known` are payload.
-pub fn take_front<R: TellRead, P: ReaderPolicy, C: Coding>(
+pub(crate) fn take_front<R: TellRead, P: ReaderPolicy, C: Coding>(
     reader: &mut BufReader<R, P>,
     coding: &C,
     progress: &mut Progress<C::Place>,
@@ -126,7 +126,7 @@ pub fn take_front<R: TellRead, P: ReaderPolicy, C: Coding>(
 }
 
 /// Hands out of the first `known` bytes, which are payload.
-pub fn hand_out<R: TellRead, P: ReaderPolicy, C: Coding>(
+pub(crate) fn hand_out<R: TellRead, P: ReaderPolicy, C: Coding>(
     reader: &mut BufReader<R, P>,
     coding: &C,
     progress: &mut Progress<C::Place>,
@@ -150,7 +150,7 @@ pub fn hand_out<R: TellRead, P: ReaderPolicy, C: Coding>(
 
 /// Reads past the buffer of payload, of which the next `most` bytes are.
 #[inline(never)]
-pub fn read_past<R: TellRead, P: ReaderPolicy, C: Coding>(
+pub(crate) fn read_past<R: TellRead, P: ReaderPolicy, C: Coding>(
     reader: &mut BufReader<R, P>,
     coding: &C,
     progress: &mut Progress<C::Place>,
@@ -176,7 +176,7 @@ pub fn read_past<R: TellRead, P: ReaderPolicy, C: Coding>(
 
 /// Hands out payload, of which the next `sure` bytes are.
 #[inline(always)]
-pub fn read_sure<R: TellRead, P: ReaderPolicy, C: Coding>(
+pub(crate) fn read_sure<R: TellRead, P: ReaderPolicy, C: Coding>(
     reader: &mut BufReader<R, P>,
     coding: &C,
     progress: &mut Progress<C::Place>,
@@ -205,7 +205,7 @@ pub fn read_sure<R: TellRead, P: ReaderPolicy, C: Coding>(
 
 /// Hands out payload behind what is none.
 #[inline(always)]
-pub fn read_new<R: TellRead, P: ReaderPolicy, C: Coding>(
+pub(crate) fn read_new<R: TellRead, P: ReaderPolicy, C: Coding>(
     reader: &mut BufReader<R, P>,
     coding: &C,
     progress: &mut Progress<C::Place>,
@@ -245,7 +245,7 @@ fn read_slowly<R: TellRead, P: ReaderPolicy, C: Coding>(
 }
 
 /// Hands out payload, at least a byte unless the body ended or the slice is empty.
-pub fn read_on<R: TellRead, P: ReaderPolicy, C: Coding>(
+pub(crate) fn read_on<R: TellRead, P: ReaderPolicy, C: Coding>(
     reader: &mut BufReader<R, P>,
     coding: &C,
     progress: &mut Progress<C::Place>,
@@ -269,7 +269,7 @@ pub fn read_on<R: TellRead, P: ReaderPolicy, C: Coding>(
 }
 
 /// Knows what payload is buffered behind what is none, unless some is known. Nobody is asked.
-pub fn find_known<R: TellRead, P: ReaderPolicy, C: Coding>(
+pub(crate) fn find_known<R: TellRead, P: ReaderPolicy, C: Coding>(
     reader: &mut BufReader<R, P>,
     coding: &C,
     progress: &mut Progress<C::Place>,
@@ -289,7 +289,7 @@ pub fn find_known<R: TellRead, P: ReaderPolicy, C: Coding>(
 }
 
 /// Hands out payload that is buffered. Nobody is asked.
-pub fn hand_buffered<R: TellRead, P: ReaderPolicy, C: Coding>(
+pub(crate) fn hand_buffered<R: TellRead, P: ReaderPolicy, C: Coding>(
     reader: &mut BufReader<R, P>,
     coding: &C,
     progress: &mut Progress<C::Place>,

@@ -100,7 +100,11 @@ module _ {S P K : Type 0} (remaining : S → Option (List ℕ)) (rules : ReadRul
       handed = before.handed;
       took = subst (λ x. sink.takes k x u) (append-nil before.handed) (law.joins k l u before.handed [] before.took h.1);
       front = before.shows.front;
-      ends = inr (inl (passes_shown remaining rules byte s m before.handed before.shows, subst (λ x. sink.refuses u x e) all h.2));
+      ends = inr (inl (
+        passes_shown remaining rules byte s m before.handed before.shows,
+        subst (λ x. sink.refuses u x e)
+            all h.2,
+      ));
     })
 
     -- the bytes up to the byte, with it, are handed to the sink

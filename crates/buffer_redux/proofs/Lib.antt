@@ -9,7 +9,6 @@ pub mod WriterFacts
 pub mod FillTelling
 pub mod WriteTelling
 pub mod SeekTelling
-pub mod Resting
 pub mod WriteOn
 pub mod WriteTurns
 pub mod WriteAllCauses

@@ -86,7 +86,12 @@ module _ {S P : Type 0} (tells : S → StreamLog) (trace : S → S → Type 0) (
       → t.block.consumed ≡ s.block.consumed → s.block.capacity ≤ t.block.capacity → t.block.kind ≡ s.block.kind
       → WritesAlong tells trace std_write_rules s bytes t
   block_along s t bytes same is kept up kind = subst (WritesAlong tells trace std_write_rules s bytes) (sym same) (record {
-    in_order = record { sent = []; received = sym (append-nil s.log.writes.received); equal = is; consumed = omega (arith, kept) };
+    in_order = record {
+      sent = [];
+      received = sym (append-nil s.log.writes.received);
+      equal = is;
+      consumed = omega (arith, kept);
+    };
     calls = none s.inner;
     told = λ told. told;
     noted = refl;

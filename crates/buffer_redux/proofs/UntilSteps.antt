@@ -154,8 +154,14 @@ pub stopped : {S P : Type 0} {leaves : List ℕ → Type 0} (remaining : S → O
     → HandedFront remaining rules s handed t × EndsUntil {A = ℕ} leaves stops remaining rules byte s (Err e) handed t
 stopped {leaves = leaves} remaining rules byte s m handed before stops at e t first same why = subst
     (λ x. HandedFront remaining rules s handed x × EndsUntil {A = ℕ} leaves stops remaining rules byte s (Err e) handed x)
-    (sym same)
-    (before.front, inr (inl (passes_shown remaining rules byte s m handed before, subst (stops handed e) (first_through byte at m.block.bytes first) why)))
+    (sym same) (
+      before.front,
+      inr (inl (
+        passes_shown remaining rules byte s m handed before,
+        subst (stops handed e)
+            (first_through byte at m.block.bytes first) why,
+      )),
+    )
 
 -- how many bytes these are
 pub through_length : (byte at : ℕ) (bytes : List ℕ) → FirstAt byte at bytes → length (take (at + 1) bytes) ≡ at + 1

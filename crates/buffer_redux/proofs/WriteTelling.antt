@@ -171,7 +171,8 @@ pub call_went : {S P : Type 0} (trace : S → S → Type 0) (rules : WriteRules 
     (calls noted : StreamLog) → t ≡ m → calls ≡ noted → trace s.inner m.inner
     → WriteLogGrows s.log.writes m.log.writes
     → WriteLogGrows (writer_log s).writes (writer_log (with_calls t calls)).writes
-    → (accepted : List ℕ) → WritesInOrder s accepted m → s.block.capacity ≤ m.block.capacity → m.block.kind ≡ s.block.kind → rules.claims m.policy ≡ rules.claims s.policy
+    → (accepted : List ℕ) → WritesInOrder s accepted m → s.block.capacity ≤ m.block.capacity → m.block.kind ≡ s.block.kind
+    → rules.claims m.policy ≡ rules.claims s.policy
     → m.log.writes.flushes + s.own_calls.writes.flushes ≤ s.log.writes.flushes + noted.writes.flushes
     → ((rules.claims s.policy).steady ≡ true
     → failures noted.writes + failures s.log.writes ≤ failures s.own_calls.writes + failures m.log.writes)

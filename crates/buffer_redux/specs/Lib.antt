@@ -44,6 +44,7 @@ pub mod ReadLine
 pub mod LineLaws
 pub mod Pieces
 pub mod PiecesLaws
+pub mod RestsLaws
 pub mod Unbuffer
 pub mod UnbufferLaws
 pub mod BufWriter

@@ -37,8 +37,8 @@ abbrev pub TellsFailures : {P : Type 0} → WriteRules P → P → Type 0
 TellsFailures rules p = ((rules.claims p).steady ≡ true) × FlushesNothingAfter rules
 
 -- the lists and counts only go on, its own and the inner writer's, which was flushed no more often than it was itself; no more
--- bytes were consumed than that received. Under a steady policy it failed no more often than the inner writer; and where no failure is kept back, the inner writer was at
--- most interrupted where it was so itself
+-- bytes were consumed than that received. Under a steady policy it failed no more often than the inner writer; and where no
+-- failure is kept back, the inner writer was at most interrupted where it was so itself
 pub record WriterWent {S P : Type 0} (trace : S → S → Type 0) (rules : WriteRules P) (s t : Buffered S P)
     : Type 0 where
   pub inner : trace s.inner t.inner

@@ -304,7 +304,7 @@ impl<R: TellRead, P: ReaderPolicy> Read for BufReader<R, P> {
             return self.inner.read_told(out);
         }
         if self.policy.before_read(&mut self.buf)?.0 && self.buf.usable_space() > 0 {
-            return self.read_outlined(out);
+            return self.read_apart(out);
         }
         Ok(self.hand_out(out))
     }
@@ -326,17 +326,17 @@ impl<R: TellRead, P: ReaderPolicy> Read for BufReader<R, P> {
         // The first test is for the compiler alone: an empty buffer has fewer bytes than any slice that isn't empty, but of that
         // it asks again in the policy.
         if self.buf.is_empty() || self.buf.len() < out.len() || out.is_empty() {
-            return self.read_rest_outlined(out);
+            return self.read_rest_apart(out);
         }
         match self.policy.before_read(&mut self.buf) {
             Ok(DoRead(more)) => {
                 if more {
-                    return self.read_ordered_outlined(out);
+                    return self.read_ordered_apart(out);
                 }
                 let _count = self.hand_out(out);
                 Ok(())
             }
-            Err(e) => self.read_on_outlined(e, out),
+            Err(e) => self.read_on_apart(e, out),
         }
     }
 }

@@ -235,7 +235,7 @@ impl<W: TellWrite, P> BufWriter<W, P> {
         self.send_first(amount)
     }
 
-    // Inlined, as `write_outlined` is.
+    // Inlined, as `write_apart` is.
     #[inline(always)]
     fn send_first(&mut self, amount: usize) -> io::Result<()>
         requires some { 0 < amount }
@@ -300,14 +300,14 @@ impl<W: TellWrite, P: WriterPolicy> Write for BufWriter<W, P> {
     {
         // Asked before the policy is, so that a policy that asks the same isn't compiled into the caller.
         if !self.buf.has_space_behind(bytes.len()) {
-            return self.write_asking_outlined(bytes);
+            return self.write_asking_apart(bytes);
         }
         let FlushAmt(first) = self.policy.before_write(&mut self.buf, bytes.len())?;
         if first > 0 {
-            return self.write_outlined(first, bytes);
+            return self.write_apart(first, bytes);
         }
         if bytes.len() >= self.buf.usable_space() {
-            return self.write_outlined(0, bytes);
+            return self.write_apart(0, bytes);
         }
         // Nothing is sent first, and the bytes fit with room to spare.
         self.buf.append_short(bytes);

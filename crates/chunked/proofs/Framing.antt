@@ -60,7 +60,8 @@ module _ (limits : Limits) where
 
   -- the digits of a size so far: none, or they write this number
   abbrev pub Reads : Place → List ℕ → ℕ → ℕ → ℕ → Type 0
-  Reads p shown begins at size = ((at ≡ begins) × (size ≡ 0)) ⊎ Comes limits p (take at shown) (Size size (limits.line - (at - begins)))
+  Reads p shown begins at size = ((at ≡ begins) × (size ≡ 0))
+      ⊎ Comes limits p (take at shown) (Size size (limits.line - (at - begins)))
 
   pub comes_of : (p : Place) (shown : List ℕ) (begins at size : ℕ) → Reads p shown begins at size → 0 < size
       → Comes limits p (take at shown) (Size size (limits.line - (at - begins)))
@@ -85,7 +86,8 @@ module _ (limits : Limits) where
       let left : limits.line - (at - begins) - 1 ≡ limits.line - (at + 1 - begins) = omega (arith, order) in
       subst (λ n. Comes limits p (take (at + 1) shown) (Size (size * 16 + digit) n)) left
       (subst (λ n. Comes limits p (take (at + 1) shown) (Size (size * 16 + n) (limits.line - (at - begins) - 1))) (sym is)
-      (comes_more p (Size size (limits.line - (at - begins))) (Size (size * 16 + digit_value byte) (limits.line - (at - begins) - 1))
+      (comes_more p (Size size (limits.line - (at - begins)))
+      (Size (size * 16 + digit_value byte) (limits.line - (at - begins) - 1))
       shown at byte held refl comes (λ settled. settled)
       (size_digit limits byte size (limits.line - (at - begins)) digits (omega (arith, room)))
       (omega (arith, small, digits))))

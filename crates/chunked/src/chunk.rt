@@ -20,7 +20,7 @@ const MAX_DIGITS: usize = 16;
 const BLANK: [u8; 18] = *b"0000000000000000\r\n";
 
 /// The most bytes of a chunk that are no payload: a size of 16 digits, and the ends of two lines.
-pub const AROUND: usize = 20;
+pub(crate) const AROUND: usize = 20;
 
 // The line of a size: its digits end at `MAX_DIGITS`, and the end of the line follows them.
 #[derive(Drop)]
@@ -56,7 +56,7 @@ impl SizeLine {
 
 /// Sends all that is buffered, without a flush of the inner writer, where fewer bytes than these fit behind it.
 #[inline(always)]
-pub fn make_space<W: TellWrite>(writer: &mut BufWriter<W>, bytes: usize) -> io::Result<()>
+pub(crate) fn make_space<W: TellWrite>(writer: &mut BufWriter<W>, bytes: usize) -> io::Result<()>
     ensures { MakesSpace W.log W.trace bytes writer.old result writer.new }
 {
     if writer.capacity() - writer.buf_len() < bytes {
@@ -67,7 +67,7 @@ pub fn make_space<W: TellWrite>(writer: &mut BufWriter<W>, bytes: usize) -> io::
 
 /// Copies bytes in, for which there is room, and notes them.
 #[inline(always)]
-pub fn put<W: TellWrite>(writer: &mut BufWriter<W>, wire: &mut CallLog, bytes: &[u8])
+pub(crate) fn put<W: TellWrite>(writer: &mut BufWriter<W>, wire: &mut CallLog, bytes: &[u8])
     requires { length bytes.now ≤ usable writer.old.block }
     ensures wire { wire.new.log.writes.received ≡ wire.old.log.writes.received ++ bytes.now }
     ensures put { PutsIn writer.old bytes.now writer.new }
@@ -79,7 +79,7 @@ pub fn put<W: TellWrite>(writer: &mut BufWriter<W>, wire: &mut CallLog, bytes: &
 
 /// Copies the payload's chunk in, for which there is room, and notes it.
 #[inline(always)]
-pub fn put_chunk<W: TellWrite>(writer: &mut BufWriter<W>, wire: &mut CallLog, payload: &[u8])
+pub(crate) fn put_chunk<W: TellWrite>(writer: &mut BufWriter<W>, wire: &mut CallLog, payload: &[u8])
     requires some { 0 < length payload.now }
     requires small { length payload.now < 2 ^ 62 }
     requires room { around + length payload.now ≤ room writer.old }
@@ -94,7 +94,7 @@ pub fn put_chunk<W: TellWrite>(writer: &mut BufWriter<W>, wire: &mut CallLog, pa
 }
 
 /// Copies the line of a chunk of so many bytes in, for which there is room, and notes it.
-pub fn put_line<W: TellWrite>(writer: &mut BufWriter<W>, wire: &mut CallLog, size: u64)
+pub(crate) fn put_line<W: TellWrite>(writer: &mut BufWriter<W>, wire: &mut CallLog, size: u64)
     requires small { size < 2 ^ 62 }
     requires room { around ≤ room writer.old }
     ensures wire { wire.new.log.writes.received ≡ wire.old.log.writes.received ++ chunk_begun size [] }
@@ -125,7 +125,7 @@ fn take<W: TellWrite>(writer: &mut BufWriter<W>, part: &[u8]) -> io::Result<usiz
 }
 
 /// Takes bytes of a payload in, and notes what was taken.
-pub fn take_part<W: TellWrite>(
+pub(crate) fn take_part<W: TellWrite>(
     writer: &mut BufWriter<W>,
     wire: &mut CallLog,
     part: &[u8],
@@ -140,7 +140,7 @@ pub fn take_part<W: TellWrite>(
 }
 
 /// Copies the end of the line behind a payload in, for which there is room, where no byte of it is due.
-pub fn end_chunk<W: TellWrite>(writer: &mut BufWriter<W>, wire: &mut CallLog, due: usize)
+pub(crate) fn end_chunk<W: TellWrite>(writer: &mut BufWriter<W>, wire: &mut CallLog, due: usize)
     requires room { 2 ≤ room writer.old }
     ensures wire { wire.new.log.writes.received ≡ wire.old.log.writes.received ++ chunk_end due }
     ensures put { PutsIn writer.old (chunk_end due) writer.new }

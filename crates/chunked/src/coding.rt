@@ -108,7 +108,8 @@ impl Coding for Chunked {
     ghost lawful = { λ c. chunked_lawful c.0 };
 }
 
-// What comes next where neither payload does nor the end. A call of its own, so that the reader's loop has the other answers alone.
+// What comes next where neither payload does nor the end. A call of its own, so that the reader's loop has the other answers
+// alone.
 #[inline(never)]
 fn look_on(limits: &Limits, place: Place, shown: &[u8]) -> Look<Place, Malformed>
     requires place { IsPlace place }

@@ -29,7 +29,7 @@ pub enum Within {
 
 impl Within {
     /// Where a byte leads: just what completes an extension from there completes it here, with the byte in front. Or none does.
-    pub fn next(self, byte: u8) -> Option<Within>
+    pub(crate) fn next(self, byte: u8) -> Option<Within>
         ensures { MatchOption result ((text : List ℕ) → ¬ CompletesExtension self (byte ∷ text))
             (λ next. (text : List ℕ) → CompletesExtension self (byte ∷ text) ↔ CompletesExtension next text) }
     {
@@ -81,7 +81,7 @@ impl Within {
     }
 
     /// Whether an extension may end there.
-    pub fn may_end(self) -> bool
+    pub(crate) fn may_end(self) -> bool
         ensures { IsTrue result ↔ CompletesExtension self [] }
     {
         match self {
@@ -91,7 +91,7 @@ impl Within {
     }
 
     /// How many bytes complete an extension from there, at least.
-    pub fn least(self) -> usize
+    pub(crate) fn least(self) -> usize
         ensures so_many { (text : List ℕ) × CompletesExtension self text × (length text ≡ result) }
         ensures none_less { (other : List ℕ) → CompletesExtension self other → result ≤ length other }
     {

@@ -10,10 +10,10 @@ use crate::step::digit;
 // The most digits that are looked at. As many write no size that is too large.
 const DIGITS: usize = 15;
 
-/// How many bytes stand before the next payload, and how many it has, where the line of its size has no extension, and all of that
-/// is shown: [`advance`](crate::step::advance) finds the same a byte at a time.
+/// How many bytes stand before the next payload, and how many it has, where the line of its size has no extension, and all of
+/// that is shown: [`advance`](crate::step::advance) finds the same a byte at a time.
 #[inline(always)]
-pub fn frame(limits: &Limits, start: Place, shown: &[u8]) -> Option<(usize, u64)>
+pub(crate) fn frame(limits: &Limits, start: Place, shown: &[u8]) -> Option<(usize, u64)>
     ensures { IfSome result (λ r. (r.0 ≤ length shown.now) × (0 < r.0)
         × Comes limits.now start (take r.0 shown.now) (place.Data r.1)) }
 {

@@ -1,4 +1,5 @@
-//! Laws, each as the contract of a function.
+//! Laws, each as the contract of a function. A law assumes whole grammars and exact relations, so no fact of few words stands
+//! in front.
 ghost use Rattle.std.specs.Prelude.{◌≡◌, ℕ, ◌<◌, List, ◌++◌};
 ghost use Rattle.std.specs.List.{AllByRecursion};
 ghost use Rattle.buffer_redux.specs.Buffered.{Buffered};

@@ -26,7 +26,7 @@ pub struct Reached {
 
 /// The value of a hexadecimal digit.
 #[inline(always)]
-pub fn digit(byte: u8) -> Option<u8>
+pub(crate) fn digit(byte: u8) -> Option<u8>
     ensures { SomeIff result (digit_value byte < 16) (digit_value byte) }
 {
     match byte {
@@ -178,7 +178,7 @@ fn step(limits: &Limits, place: Place, byte: u8) -> Result<Place, Malformed>
 }
 
 // Whether a payload or nothing comes next.
-pub fn is_settled(place: Place) -> bool
+pub(crate) fn is_settled(place: Place) -> bool
     ensures { IsTrue result ↔ IsDataOrDone place }
 {
     match place {
@@ -189,7 +189,7 @@ pub fn is_settled(place: Place) -> bool
 }
 
 /// Takes what is no payload of the front of `shown`.
-pub fn advance(limits: &Limits, start: Place, shown: &[u8]) -> Reached
+pub(crate) fn advance(limits: &Limits, start: Place, shown: &[u8]) -> Reached
     requires { IsPlace start }
     ensures { Advances limits.now start shown.now result }
 {

@@ -14,7 +14,7 @@ use buffer_redux::tell::{CallLog, TellWrite};
 use memchr::memchr;
 
 /// How many bytes the end of a body has where there are no trailers.
-pub const BARE_END: usize = 5;
+pub(crate) const BARE_END: usize = 5;
 
 // Whether this is a line of trailers.
 fn is_field(line: &[u8]) -> bool
@@ -42,7 +42,7 @@ fn is_framing(line: &[u8]) -> bool
 }
 
 /// How many bytes the end of a body with these trailers has, if it goes into a buffer of so many.
-pub fn end_len(fields: &[&[u8]], capacity: usize) -> Result<usize, TrailersError>
+pub(crate) fn end_len(fields: &[&[u8]], capacity: usize) -> Result<usize, TrailersError>
     requires { capacity < 2 ^ 63 }
     ensures lines { IfOk result (λ n. AllByRecursion IsTrailer (lines_of fields.now)) }
     ensures fits { IfOk result (λ n. length (body_end (lines_of fields.now)) ≤ capacity) }
@@ -66,7 +66,7 @@ pub fn end_len(fields: &[&[u8]], capacity: usize) -> Result<usize, TrailersError
 }
 
 /// Copies the end of a body with these trailers in, for which there is room, and notes it.
-pub fn put_end<W: TellWrite>(writer: &mut BufWriter<W>, wire: &mut CallLog, fields: &[&[u8]])
+pub(crate) fn put_end<W: TellWrite>(writer: &mut BufWriter<W>, wire: &mut CallLog, fields: &[&[u8]])
     requires room { length (body_end (lines_of fields.now)) ≤ room writer.old }
     ensures wire { wire.new.log.writes.received ≡ wire.old.log.writes.received ++ body_end (lines_of fields.now) }
     ensures put { PutsIn writer.old (body_end (lines_of fields.now)) writer.new }

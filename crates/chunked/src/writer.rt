@@ -248,7 +248,7 @@ impl<W: TellWrite> Write for ChunkedWriter<W> {
             return Ok(0);
         }
         if self.writer.capacity() - self.writer.buf_len() < AROUND + payload.len() || self.due > 0 {
-            return self.write_outlined(payload);
+            return self.write_apart(payload);
         }
         put_chunk(&mut self.writer, &mut self.wire, payload);
         self.calls.note(&Call::Write(payload, &Ok(payload.len())));

@@ -38,7 +38,8 @@ reason trace e m t before payload later payloads all (Io fault) failed = tt
 -- a payload that is refused is one of these
 pub write_reason : {E W : Type 0} (trace : MemoryWriter → MemoryWriter → Type 0) (encoding : E → Encoding W)
     (s t : WriterState MemoryWriter E) (payloads : List (List ℕ)) (why : WriteEachError (WritePieceError W))
-    → CallsEach (λ m. WritesPiece trace (encoding m.encoder) m) (λ m. WritePlays trace (encoding m.encoder) m) s payloads (Err why)
+    → CallsEach (λ m. WritesPiece trace (encoding m.encoder) m) (λ m. WritePlays trace (encoding m.encoder) m)
+    s payloads (Err why)
     t → IfRefused (RefusesOne (encoding s.encoder) payloads) why.error
 write_reason trace encoding s t payloads why each =
     subst (λ d. IfRefused (RefusesOne (encoding d) payloads) why.error) each.wrote.taken.encoder

@@ -26,4 +26,5 @@ module _ {T P : Type 0} (tells : T → StreamLog) (trace : T → T → Type 0) (
   WritesOnce-along none bytes (inl written) = written.along
   WritesOnce-along none bytes (inr (empty, same)) =
       subst (λ x. WritesAlong tells trace std_write_rules w bytes x) (sym same)
-      (subst (λ l. WritesAlong tells trace std_write_rules w l w) (sym empty) (WritesAlong-none tells trace std_write_rules none w))
+      (subst (λ l. WritesAlong tells trace std_write_rules w l w) (sym empty)
+      (WritesAlong-none tells trace std_write_rules none w))

@@ -1,4 +1,5 @@
-//! Laws, each as the contract of a function over the calls.
+//! Laws, each as the contract of a function over the calls. A law of calls assumes their exact relations, so no fact of few
+//! words stands in front.
 ghost use Rattle.std.specs.Prelude.{◌≡◌, ◌*◌, ◌^◌, ◌≤◌, ℕ, List, [], ◌∷◌, ◌++◌, IfErr, IfOk, IsOk, None, Ok, false};
 ghost use Rattle.buffer_redux.specs.BufWriter.{WritesInOrder};
 ghost use Rattle.buffer_redux.specs.GrowError.{FitsWithin};

@@ -152,7 +152,7 @@ impl<W: TellWrite, E: Encoder> PieceWriter<W, E> {
         match self.encoder.header(payload) {
             Ok(header) => {
                 if !self.has_room(&header, payload) {
-                    return self.write_outlined(header, payload);
+                    return self.write_apart(header, payload);
                 }
                 self.append(&header, payload);
                 Ok(())
@@ -188,7 +188,7 @@ impl<W: TellWrite, E: Encoder> PieceWriter<W, E> {
     // Goes on in `write_slowly`. The kit's compiler clears the answer of a call where the function that makes the call begins; of
     // a call made in here, which is inlined, that is behind the look at the room. So is the copy of the header.
     #[inline(always)]
-    fn write_outlined(
+    fn write_apart(
         &mut self,
         header: HeaderBytes,
         payload: &[u8],

@@ -108,7 +108,8 @@ module _ {T W : Type 0} (rules : FilterRules T W) where
         pub goes_on : Goes rules (AskedTo rules answer Such) (option_map_or flushed_last (result_err answer) 0) first t
         goes_on =
             let more = option_map_or flushed_last (result_err answer) 0 in
-            Goes-joins rules (AskedTo rules answer Such) (AlsoAsked rules Such) (also_asked Such answer) more first s t before.goes
+            Goes-joins rules (AskedTo rules answer Such) (AlsoAsked rules Such) (also_asked Such answer) more
+            first s t before.goes
             (Goes-weaker rules (AskedTo rules answer (AskedFrom rules s.filter)) (AskedTo rules answer Such)
             (so_asked (AskedFrom rules s.filter) Such so answer) more s t next.goes)
 

@@ -17,7 +17,8 @@ pub record FilterRules (T W : Type 0) : Type 1 where
   -- from one state to the other these payloads were handed out, and what becomes of these was taken in
   pub hands : T → List (List ℕ) → T → Type 0
   pub takes : T → List (List ℕ) → T → Type 0
-  -- a payload is held that was asked for; or none is there, neither held nor buffered; or none is, and what is left may become one
+  -- a payload is held that was asked for; or none is there, neither held nor buffered; or none is, and what is left may become
+  -- one
   pub has : T → Type 0
   pub lacks : T → Type 0
   pub waits : T → Type 0
@@ -158,8 +159,8 @@ module _ {T W : Type 0} (rules : FilterRules T W) where
       (rules.read t ≡ rules.read s)
       ⊎ SentBeforeAsking (rules.due first) (rules.read first) (rules.read t) (rules.written first) (rules.written s)
 
-  -- payloads go on in order, and an end that follows some is their end. It may be forwarded on where a payload may come. And where
-  -- no payload is there, and all that was taken in was sent, so was what is due of each byte that comes before the last ask
+  -- payloads go on in order, and an end that follows some is their end. It may be forwarded on where a payload may come. And
+  -- where no payload is there, and all that was taken in was sent, so was what is due of each byte that comes before the last ask
   pub record IsLawful : Type 0 where
     pub hands_none : (s : T) → rules.hands s [] s
     pub hands_joins : (a b c : T) (p q : List (List ℕ)) → rules.hands a p b → rules.hands b q c → rules.hands a (p ++ q) c

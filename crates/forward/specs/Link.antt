@@ -57,7 +57,8 @@ module _ {T W : Type 0} (rules : FilterRules T W) where
   IsTurnBehind row (ask ∷ []) = IsInterrupted ask → IsIdle ask × (row ≡ interrupt_limit)
   IsTurnBehind row (ask ∷ next ∷ more) =
       IsInterrupted ask
-      × ((IsIdle ask × (row < interrupt_limit) × IsTurnBehind (row + 1) (next ∷ more)) ⊎ (Gave ask × IsTurnBehind 1 (next ∷ more)))
+      × ((IsIdle ask × (row < interrupt_limit) × IsTurnBehind (row + 1) (next ∷ more))
+      ⊎ (Gave ask × IsTurnBehind 1 (next ∷ more)))
 
   abbrev pub IsTurn : List (Ask T) → Type 0
   IsTurn asks = IsTurnBehind 0 asks
@@ -74,8 +75,8 @@ module _ {T W : Type 0} (rules : FilterRules T W) where
     pub each : All IsTurn turns
     pub equal : asks ≡ flat_map (λ turn. turn) turns
 
-  -- what calls do to a link: each ask that was made is noted, and is such a one; the stream was asked in each but the last of all;
-  -- and the writer was flushed once for each turn of them at most, and so many times more
+  -- what calls do to a link: each ask that was made is noted, and is such a one; the stream was asked in each but the last of
+  -- all; and the writer was flushed once for each turn of them at most, and so many times more
   pub record Goes (Such : Ask T → Type 0) (more : ℕ) (s t : Linked T) : Type 0 where
     pub asks : List (Ask T)
     pub noted : t.states ≡ s.states ++ states_of asks

@@ -108,7 +108,7 @@ fn length_of(bytes: &[u8]) -> u16
 }
 
 /// What a slice holds is bytes.
-pub fn are_bytes(bytes: &[u8])
+pub(crate) fn are_bytes(bytes: &[u8])
     ensures { AreBytes bytes.now }
 {
     let _ = bytes;

@@ -130,7 +130,7 @@ impl<W: TellWrite> FrameWriter<W> {
     {
         match self.pieces.write_buffered(payload) {
             Ok(true) => Ok(()),
-            Ok(false) => self.write_outlined(payload),
+            Ok(false) => self.write_apart(payload),
             Err(len) => Err(WriteFrameError::TooLong(len)),
         }
     }
@@ -185,7 +185,7 @@ impl<W: TellWrite> FrameWriter<W> {
     // Goes on in `write_slowly`. The kit's compiler clears the answer of a call where the function that makes the call begins; of
     // a call made in here, which is inlined, that is behind the look at the room.
     #[inline(always)]
-    fn write_outlined(&mut self, payload: &[u8]) -> Result<(), WriteFrameError>
+    fn write_apart(&mut self, payload: &[u8]) -> Result<(), WriteFrameError>
         requires full { WritesBuffered W.trace (framed_out self.old.encoder.max) self.old payload.now (Ok false) self.old }
         ensures { WritesFrame W.trace self.old payload.now result self.new }
     {

@@ -39,7 +39,8 @@ ends_chunked (Ok (Length len)) = false
 ends_chunked (Ok UntilClose) = false
 ends_chunked (Err e) = false
 
--- what is wrong with a head that says so: behind it begins a tunnel; or its body ends plainly, by chunks, which hold another coding
+-- what is wrong with a head that says so: behind it begins a tunnel; or its body ends plainly, by chunks, which hold another
+-- coding
 abbrev pub said_fault : MethodKind → ℕ → KnownFields → BadHead
 said_fault method minor known =
     if is_connect method then Tunnel

@@ -45,9 +45,8 @@ abbrev pub is_met : List ℕ × List ℕ → Bool
 is_met h = not (is_named (codes "expect") h) || ((length h.1 == 0) || eq_ignore_case h.1 (codes "100-continue"))
 
 -- these bytes are just the head of a request of HTTP/1.0 or 1.1, which says so (RFC 9112, section 6): at most one field says
--- where the body ends, with
--- no coding but `chunked`, no tunnel begins behind it, its target is one, and it has one `Host`, which HTTP/1.0 may leave out, and
--- which names a host. An answer to `HEAD` has no body
+-- where the body ends, with no coding but `chunked`, no tunnel begins behind it, its target is one, and it has one `Host`, which
+-- HTTP/1.0 may leave out, and which names a host. An answer to `HEAD` has no body
 pub record IsKnownHead (limits : Limits) (bytes : List ℕ) (said : ParsedHead) : Type 0 where
   pub head : RequestHead
   pub reads : ReadsRequest bytes head []

@@ -75,7 +75,8 @@ abbrev pub sure_of : Rest → ℕ
 sure_of (Bytes n) = n
 sure_of (Chunks limits place) = chunks.chunk_left place
 
--- an ask for a slice that takes so many, where these bytes begin that without payload: as much of it was offered as surely is payload
+-- an ask for a slice that takes so many, where these bytes begin that without payload: as much of it was offered as surely is
+-- payload
 pub record AskedIn (r : Rest) (room offer : ℕ) (bytes : List ℕ) : Type 0 where
   pub goes_on : BeginsRest r [] bytes
   pub enough : min room (sure_of goes_on.rest) ≤ offer
@@ -271,7 +272,8 @@ AreMessages limits messages bytes = InTurn (λ m first. IsMessage limits first m
 
 -- these messages went, one after another: all of their bytes, and no other, were taken of what was left, so each begins where the
 -- one before it ended
-pub record MessagesWent {S : Type 0} (remaining : S → Option (List ℕ)) (limits : Limits) (s : Unbuffered S) (messages : List Message)
+pub record MessagesWent {S : Type 0} (remaining : S → Option (List ℕ)) (limits : Limits) (s : Unbuffered S)
+    (messages : List Message)
     (t : Unbuffered S) : Type 0 where
   pub bytes : List ℕ
   pub are : AreMessages limits messages bytes

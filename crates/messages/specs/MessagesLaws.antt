@@ -31,7 +31,8 @@ one_body limits (Sized n) a b p q xs ys is is' same =
 one_body limits Chunked a b p q xs ys is is' same = IsBodyOfChunks-same _ _ a b p q xs ys is is' same
 
 -- no message begins another
-pub one_message : (limits : Limits) (a b xs ys h k p q : List ℕ) → IsMessage limits a h p → IsMessage limits b k q → a ++ xs ≡ b ++ ys
+pub one_message : (limits : Limits) (a b xs ys h k p q : List ℕ) → IsMessage limits a h p → IsMessage limits b k q
+    → a ++ xs ≡ b ++ ys
     → (a ≡ b) × (h ≡ k) × (p ≡ q) × (xs ≡ ys)
 one_message limits a b xs ys h k p q m n same =
     let cut : h ++ (m.wire ++ xs) ≡ k ++ (n.wire ++ ys) =

@@ -38,7 +38,8 @@ has_later_version line = nat_lt 8 (length line) && is_later_version (drop (lengt
 -- where the first line ends with such, the last byte of it
 abbrev pub later_at : List ℕ → Option ℕ
 later_at bytes =
-    if has_later_version (first_line (behind_blank bytes)) then Some (prefix_len is_end bytes + first_len (behind_blank bytes) - 1)
+    if has_later_version (first_line (behind_blank bytes))
+    then Some (prefix_len is_end bytes + first_len (behind_blank bytes) - 1)
     else None
 
 abbrev pub with_one : List ℕ → Option ℕ → List ℕ

@@ -1,11 +1,11 @@
 //! The reader of requests, in a body.
-ghost use Rattle.std.specs.Prelude.{◌≡◌, ◌-◌, ◌^◌, ◌<◌, ◌≤◌, ◌↔◌, ℕ, List, [], ◌++◌, drop, length, min, take, IfErr, IfOk, IsTrue, MatchResult, Ok, OnOk};
+ghost use Rattle.std.specs.Prelude.{◌≡◌, ◌-◌, ◌^◌, ◌<◌, ◌≤◌, ◌↔◌, ℕ, List, [], ◌++◌, length, min, take, IfErr, IfOk, IsTrue, MatchResult, Ok, OnOk};
 ghost use Rattle.std.specs.Borrow.{Lends, sem};
 ghost use Rattle.body_reader.specs.Asking.{AskedWhere};
 ghost use Rattle.body_reader.specs.Between.{HandsAll, handed_out};
 ghost use Rattle.body_reader.specs.BodyReader.{handed_of};
 ghost use Rattle.buffer_redux.specs.Unbuffer.{unbuffered};
-ghost use Rattle.codec.specs.PieceReader.{left_of};
+ghost use Rattle.codec.specs.PieceReader.{left_of, rest};
 ghost use Rattle.messages.specs.contracts.body.Body.{the_row};
 ghost use Rattle.messages.specs.Heads.{IsHead};
 ghost use Rattle.messages.specs.Messages.{AskedIn, Bytes, EachReadGave, Fails, FinishFails, HasNextPayload, HasRoom, InsideGoes, IsRest, IsRoomy, ReaderTakes, RunsShort, TakesWholeRest, Unended, body_of, body_rules, entering, has_line, left_in, rest_of, room_of, stream_of, with_stream};
@@ -161,8 +161,8 @@ impl<R: TellRead> Body<R> {
     /// is wrong is so at each further call. After an `Io` or a `Truncated` the call can be made again: it asks the stream, and
     /// goes on where more comes.
     ///
-    /// The stream is asked only where no payload is buffered and the body goes on behind all that is: for no byte behind it, for as
-    /// much as surely is payload and fits the slice, and once only where it fails or gives nothing.
+    /// The stream is asked only where no payload is buffered and the body goes on behind all that is: for no byte behind it, for
+    /// as much as surely is payload and fits the slice, and once only where it fails or gives nothing.
     pub fn read(&mut self, out: &mut [u8]) -> Result<usize, BodyError>
         ensures bound { IfOk result (λ n. n ≤ length out.new) }
         ensures goes { InsideGoes R.remaining self.old (handed_out out.new result) self.new }
@@ -193,7 +193,7 @@ impl<R: TellRead> Body<R> {
     pub fn finish(self) -> Result<Requests<R>, (Self, BodyError)>
         ensures in_order { IfOk result (λ next. (wire : List ℕ) × (got : List ℕ)
             × (next.reader.log.reads.given ≡ self.stream.log.reads.given ++ got)
-            × (wire ++ drop next.handed next.reader.block.bytes ≡ self.stream.left ++ got)) }
+            × (wire ++ rest next ≡ self.stream.left ++ got)) }
         ensures ends { MatchResult result (λ next. TakesWholeRest R.remaining self.stream self.rest (left_of next))
             (λ e. (handed : List ℕ) × InsideGoes R.remaining self handed e.0
             × FinishFails self.stream handed e.1 e.0.stream e.0.rest) }

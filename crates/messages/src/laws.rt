@@ -1,4 +1,5 @@
-//! Laws, each as the contract of a function.
+//! Laws, each as the contract of a function. A law assumes whole grammars and exact relations, so no fact of few words stands
+//! in front.
 ghost use Rattle.std.specs.Prelude.{◌≡◌, ℕ, ◌<◌, List, ◌∷◌, [], ◌++◌, length, false, IfErr, IfOk, Some};
 ghost use Rattle.buffer_redux.specs.Unbuffer.{Unbuffered, unbuffer_remaining};
 ghost use Rattle.codec.specs.PieceReader.{ReaderState, left_of};

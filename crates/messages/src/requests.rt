@@ -1,5 +1,5 @@
 //! The reader of requests, before a head.
-ghost use Rattle.std.specs.Prelude.{◌≡◌, [], ◌<◌, ◌≤◌, ◌*◌, ◌↔◌, drop, length, IfErr, IfOk, IsOk, IsTrue, MatchResult, false};
+ghost use Rattle.std.specs.Prelude.{◌≡◌, [], ◌<◌, ◌≤◌, ◌*◌, ◌↔◌, length, IfErr, IfOk, IsOk, IsTrue, MatchResult, false};
 ghost use Rattle.std.specs.Borrow.{Lends, sem};
 ghost use Rattle.buffer_redux.specs.Block.{Plain};
 ghost use Rattle.buffer_redux.specs.Buffered.{with_inner};
@@ -98,7 +98,7 @@ impl<R: Tell> Requests<R> {
         head: Buffer,
         inner: R,
     ) -> Result<Self, MakeError<(Buffer, Buffer, R)>>
-        ensures over { IfOk result (λ r. (r.reader.inner ≡ inner) × (drop r.handed r.reader.block.bytes ≡ buffer.bytes)) }
+        ensures over { IfOk result (λ r. (r.reader.inner ≡ inner) × (rest r ≡ buffer.bytes)) }
         ensures made { IfOk result (IsOver R.log 16384 buffer inner (record { 0 = usual })) }
         ensures handed_back { IfErr result (λ e. (e.0.0 ≡ buffer) × (e.0.1 ≡ head) × (e.0.2 ≡ inner)) }
         ensures refused { IfErr result (λ e. e.1 ≡ GrowError.Memory) }
@@ -115,7 +115,7 @@ impl<R: Tell> Requests<R> {
         inner: R,
         limits: Limits,
     ) -> Result<Self, MakeError<(Buffer, Buffer, R)>>
-        ensures over { IfOk result (λ r. (r.reader.inner ≡ inner) × (drop r.handed r.reader.block.bytes ≡ buffer.bytes)) }
+        ensures over { IfOk result (λ r. (r.reader.inner ≡ inner) × (rest r ≡ buffer.bytes)) }
         ensures made { IfOk result (IsOver R.log 16384 buffer inner (record { 0 = limits })) }
         ensures handed_back { IfErr result (λ e. (e.0.0 ≡ buffer) × (e.0.1 ≡ head) × (e.0.2 ≡ inner)) }
         ensures refused { IfErr result (λ e. e.1 ≡ GrowError.Memory) }
@@ -228,7 +228,7 @@ impl<R: Tell> Requests<R> {
 
     /// The stream, the buffer with what comes next of it, and the room for a head.
     pub fn into_inner_with_buffers(self) -> (R, Buffer, Buffer)
-        ensures left { (result.0 ≡ self.reader.inner) × (result.1.bytes ≡ drop self.handed self.reader.block.bytes) }
+        ensures left { (result.0 ≡ self.reader.inner) × (result.1.bytes ≡ rest self) }
         ensures apart { TakenApart R.log self result.0 result.1 }
         ensures told { self.ended ≡ false }
         ensures head { result.2.capacity ≡ 16384 }
@@ -274,9 +274,10 @@ impl<R: TellRead> Requests<R> {
 
     /// Whether [`next`](Requests::next) answers without the stream: a whole head is buffered, or the beginning of none.
     ///
-    /// Who answers requests holds no answer back while the stream is waited for: where this is false, flush, and then call `next`.
+    /// Who answers requests holds no answer back while the stream is waited for: where this is false, flush, and then call
+    /// `next`.
     pub fn is_settled(&self) -> bool
-        ensures some { IsTrue result → 0 < length (drop self.now.handed self.now.reader.block.bytes) }
+        ensures some { IsTrue result → 0 < length (rest self.now) }
         ensures settled { IsTrue result ↔ IsSettled (heads self.now.decoder.0) self.now }
     {
         self.pieces.is_settled()

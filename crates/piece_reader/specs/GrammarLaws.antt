@@ -1,5 +1,5 @@
 -- Laws of grammars.
-use Rattle.std.specs.Prelude.{◌≡◌, ℕ, ◌+◌, ◌<◌, List, [], ◌∷◌, ◌++◌, length, take, drop}
+use Rattle.std.specs.Prelude.{◌≡◌, ◌≢◌, ℕ, ◌+◌, ◌<◌, List, [], ◌∷◌, ◌++◌, length, take, drop}
 use Rattle.std.proofs.Common.{sym, ap, subst, ◌∙◌, arith, refl, length-append, append-nil}
 use Rattle.std.proofs.lemmas.List.{nil_from_length, take-append-drop}
 use Rattle.piece_reader.specs.declared.decoder.Span.{Span}
@@ -67,3 +67,7 @@ module _ {W : Type 0} (g : Grammar W) where
     is = found.is;
     equal = sym (take-append-drop used bytes);
   }
+
+  -- and these are some
+  pub begins_none : IsLawful g → {bytes : List ℕ} → Begins g bytes → bytes ≢ []
+  begins_none law begins none = (open_none law).no_piece (subst (Begins g) none begins)

@@ -1,13 +1,15 @@
 -- Laws of one call of `next`, for the proofs of those who call it.
-use Rattle.std.specs.Prelude.{◌≡◌, ℕ, ◌+◌, ◌<◌, ◌≤◌, List, [], ◌++◌, length, take, Bool, true, false, MatchBool, Option, None, Some, Ok, Err}
+use Rattle.std.specs.Prelude.{◌≡◌, ℕ, ◌+◌, ◌<◌, ◌≤◌, List, [], ◌++◌, length, take, Bool, true, false, MatchBool, Option, None, Some, Result, Ok, Err}
 use Rattle.std.proofs.Common.{sym, ap, subst, ◌∙◌, refl, arith, le_refl, inl, inr, length-append, length-drop, append_assoc, append-nil}
 use Rattle.std.proofs.Math.Seq.{take-append_seam}
 use Rattle.std.proofs.lemmas.Bool.{cases_lt}
 use Rattle.std.proofs.lemmas.List.{append_cancel_left, take_all, take-append-le}
+use Rattle.piece_reader.specs.declared.decoder.Span.{Span}
 use Rattle.piece_reader.specs.declared.error.NextError.TheVariants.{Wrong, Io}
+use Rattle.piece_reader.specs.Decoding.{bytes_at}
 use Rattle.piece_reader.specs.Grammar.{Begins, Grammar, IsLawful, IsOpen}
 use Rattle.piece_reader.specs.GrammarLaws.{open_not}
-use Rattle.piece_reader.specs.NextPiece.{AskedWhere, AsksNone, MetEnd, NextAnswer, NextAnswers, NextPiece, NoEnd, empty_reads}
+use Rattle.piece_reader.specs.NextPiece.{AskedWhere, AsksNone, MetEnd, NextAnswer, NextAnswers, NextPiece, NoEnd, empty_reads, load_answer}
 use Rattle.piece_reader.specs.PiecesWentLaws.{PiecesWent-none, PiecesWent-unasked}
 use Rattle.piece_reader.specs.PieceReader.{ReaderState, IsPieceReader, IsSettled, rest}
 
@@ -210,3 +212,10 @@ pub NextPiece-begins : {S D W : Type 0} (remaining : S → Option (List ℕ)) (g
 NextPiece-begins remaining g piece last s t payload next =
     let front = NextPiece-front remaining g piece last s t payload next in
     fronts_agree payload front.0 (rest s) front.1 front.2
+
+-- a relation of what a call answers, once what that lends is shown
+pub shows_lent : {S D E : Type 0} (Such : Result (Option (List ℕ)) E → Type 0) (t : ReaderState S D) (found : Option Span) (span : Span)
+    (shown : List ℕ) → found ≡ Some span → shown ≡ bytes_at span t.reader.block.bytes → Such (load_answer (Ok found) t)
+    → Such (Ok (Some shown))
+shows_lent Such t found span shown is same said = subst (λ l. Such (Ok (Some l))) (sym same)
+    (subst (λ o. Such (load_answer (Ok o) t)) is said)

@@ -12,6 +12,7 @@ ghost use Rattle.piece_reader.specs.Grammar.{Begins, IsOpenBelow};
 ghost use Rattle.piece_reader.specs.PieceReader.{IsOver, IsPieceReader, IsFresh, IsSettled, Skips, TakenApart, rest, room_for};
 ghost use Rattle.piece_reader.specs.NextPiece.{HandsBytes, NextBuffered, NextPiece, Refills, buffered_answer, load_answer};
 
+mod asking;
 mod saying;
 mod steps;
 
@@ -315,7 +316,7 @@ impl<R: TellRead, D: Decoder> PieceReader<R, D> {
                 from: at + span.from,
                 len: span.len,
             })),
-            Found::More(need) => self.load_outlined(need),
+            Found::More(need) => self.load_apart(need),
             Found::Wrong(e) => Err(NextError::Wrong(e)),
         }
     }
@@ -337,48 +338,6 @@ impl<R: TellRead, D: Decoder> PieceReader<R, D> {
             Found::More(_) => None,
             Found::Wrong(_) => None,
         }
-    }
-
-    /// Whether a whole piece is buffered: then the next [`step`](PieceReader::step) hands it out, and reads nothing.
-    pub fn has_piece(&self) -> bool
-        ensures buffered { IsTrue result
-            ↔ Begins (D.grammar self.now.decoder) (drop self.now.handed self.now.reader.block.bytes) }
-    {
-        let mut note = self.note;
-        matches!(
-            self.decoder.decode(self.rest(), self.seen, &mut note),
-            Found::Piece(_, _)
-        )
-    }
-
-    /// Whether the next [`step`](PieceReader::step) answers without the stream: a whole piece is buffered, or the beginning of
-    /// none, or the stream ended, which no call has told yet.
-    pub fn is_settled(&self) -> bool
-        ensures none { rest self.now ≡ [] → result ≡ self.now.ended }
-        ensures settled { IsTrue result ↔ IsSettled (D.grammar self.now.decoder) self.now }
-    {
-        if self.ended {
-            return true;
-        }
-        let mut note = self.note;
-        match self.decoder.decode(self.rest(), self.seen, &mut note) {
-            Found::Piece(_, _) => true,
-            Found::More(_) => false,
-            Found::Wrong(_) => true,
-        }
-    }
-
-    /// Asks the stream once where nothing is left, and returns whether something is then: it isn't where the stream ended, which
-    /// the next [`step`](PieceReader::step) tells. An `Err` leaves nothing, too.
-    pub fn refill(&mut self) -> io::Result<bool>
-        requires none { rest self.old ≡ [] }
-        ensures came { result ≡ Ok true ↔ (0 < length (rest self.new)) }
-        ensures refills { Refills R.remaining (D.grammar self.old.decoder) self.old result self.new }
-    {
-        self.drop_handed();
-        let came = self.read_to(1)?;
-        self.ended = !came;
-        Ok(came)
     }
 
     /// Goes on to the next piece as [`step`](PieceReader::step) does where it is known that what is left settles nothing before

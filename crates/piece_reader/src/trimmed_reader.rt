@@ -25,7 +25,8 @@ impl<R: TellRead> PieceReader<R, Trimmed<Delimited>> {
         ensures begins { IfOk result (λ found. IfSome found (λ payload.
             take (length payload.now) (rest self.old) ≡ take (length (rest self.old)) payload.now)) }
         ensures* after_borrow { sem 𝓛 (Rests
-            (the_row R.row (trimmed_row delimited_row too_long_row unit) too_long_row unit R.Tell ⟦<Trimmed<Delimited> as Decoder>⟧)
+            (the_row R.row (trimmed_row delimited_row too_long_row unit) too_long_row unit
+            R.Tell ⟦<Trimmed<Delimited> as Decoder>⟧)
             self.entry
             (NextPiece R.remaining (trimming (delimited self.entry.now.decoder.0.end self.entry.now.decoder.0.max))
             self.entry.now (answer_of result))) }

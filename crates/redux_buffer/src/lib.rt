@@ -22,6 +22,7 @@ mod grow_error;
 pub mod laws;
 mod raw_buf;
 mod retry;
+mod short_copy;
 mod slice_deque_buf;
 mod std_buf;
 mod tail_span;

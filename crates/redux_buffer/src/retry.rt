@@ -15,7 +15,7 @@ pub trait Attempt<S> {
     // Where it may be made.
     ghost may: { Self → S → Type 0 };
 
-    // What it does.
+    // What it does: all that an attempt promises, so no fact stands in front.
     ghost step: { Self → Step S Self.Answer };
 
     /// Makes the call.
@@ -36,14 +36,14 @@ pub fn retried<S, A: Attempt<S>>(call: &A, state: &mut S) -> io::Result<A::Answe
 {
     match call.attempt(state) {
         Ok(answer) => Ok(answer),
-        Err(e) => retry_outlined(e, call, state),
+        Err(e) => retry_apart(e, call, state),
     }
 }
 
 // Goes on after a first call that failed so. It stands apart, and what it answers is cleared in here, which is inlined, and so
 // where it is called alone.
 #[inline(always)]
-fn retry_outlined<S, A: Attempt<S>>(e: io::Error, call: &A, state: &mut S) -> io::Result<A::Answer>
+fn retry_apart<S, A: Attempt<S>>(e: io::Error, call: &A, state: &mut S) -> io::Result<A::Answer>
     requires may { A.may call.now state.old }
     ensures retried { (s : S) → A.step call.now s (Err e) state.old → Retried (A.step call.now) s result state.new }
 {

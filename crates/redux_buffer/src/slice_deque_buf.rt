@@ -214,7 +214,7 @@ impl SliceDequeBuf {
             self.stop += n;
             self.consumed.add(n);
         } else {
-            self.clear_outlined();
+            self.clear_apart();
         }
     }
 
@@ -233,7 +233,7 @@ impl SliceDequeBuf {
 
     #[cold]
     #[inline(never)]
-    fn clear_outlined(&mut self)
+    fn clear_apart(&mut self)
         ensures bytes { ConsumesFirst (length self.old.block.bytes) self.old.block self.new.block }
         ensures shift { CountsShift (length self.old.block.bytes) self.old self.new }
         ensures whole { IsPlaced self.new }

@@ -170,7 +170,7 @@ impl StdBuf {
             self.pos = at;
             self.consumed.add(n);
         } else {
-            self.clear_outlined();
+            self.clear_apart();
         }
     }
 
@@ -188,7 +188,7 @@ impl StdBuf {
 
     #[cold]
     #[inline(never)]
-    fn clear_outlined(&mut self)
+    fn clear_apart(&mut self)
         ensures bytes { ConsumesFirst (length self.old.block.bytes) self.old.block self.new.block }
         ensures shift { CountsShift (length self.old.block.bytes) self.old self.new }
         ensures whole { IsPlaced self.new }

@@ -38,8 +38,8 @@ WriterAnswers rules s (Reserve a) Done t = Reserves a s.block t.block × (a ≤ 
 WriterAnswers rules s (Reserve a) (Refused e) t = GrowthRefused a s.block e × (t ≡ s)
 WriterAnswers rules s call answer t = ⊥
 
--- bytes were taken in, and none was lost or changed place. The capacity didn't fall, the kind stayed, and the writer noted no call
--- of its own
+-- bytes were taken in, and none was lost or changed place. The capacity didn't fall, the kind stayed, and the writer noted no
+-- call of its own
 pub record Accepts {S P : Type 0} (s : Buffered S P) (taken_in : List ℕ) (t : Buffered S P) : Type 0 where
   pub in_order : WritesInOrder s taken_in t
   pub grows : WriteLogGrows s.log.writes t.log.writes

@@ -130,7 +130,8 @@ module _ {W : Type 0} {tells : W → StreamLog} {trace : W → W → Type 0} whe
 
     module _ (joins : (u v x : W) → trace u v → trace v x → trace u x) where
       -- one did in part, and this is why
-      module _ {s : ReaderState R Heads} {b t : InBody R} {handed : List ℕ} (begun : Begun remaining s b) (limits : b.limits ≡ usual)
+      module _ {s : ReaderState R Heads} {b t : InBody R} {handed : List ℕ} (begun : Begun remaining s b)
+          (limits : b.limits ≡ usual)
           (goes : InsideGoes remaining b handed t) {w u : Buffered W StdPolicy}
           (call : WritesPromptly tells trace (left_of s, w) (called (waits b.said)) (Ok tt) (b.stream, u)) where
         refused_torn : {v w' : Buffered W StdPolicy} (why : Refusal) (answer : Result (Unit {0}) Error)
@@ -212,10 +213,12 @@ module _ {W : Type 0} {tells : W → StreamLog} {trace : W → W → Type 0} whe
           → AnswersMessages remaining tells trace ((b.head, whole.1) ∷ []) (left_of s) w [] []
           (IsLastAnswer ((b.head, whole.1) ∷ [])) t
           sending w'
-      one_answered {s} {b} {t} {len} {known} {said} {w} {u} {v} {w'} {sending} begun limits (wire, payload, went, is, many, small) same
+      one_answered {s} {b} {t} {len} {known} {said} {w} {u} {v} {w'} {sending} begun limits (wire, payload, went, is, many, small)
+          same
           method call on puts unflushed =
           let bytes = b.head ++ wire in
-          let message = subst (λ l. (m : IsMessage l (b.head ++ wire) b.head payload) × (m.wire ≡ wire) × (m.text.said ≡ b.said)) limits
+          let message = subst (λ l. (m : IsMessage l (b.head ++ wire) b.head payload) × (m.wire ≡ wire) × (m.text.said ≡ b.said))
+          limits
           (Begun-message remaining s b wire payload begun (subst (λ r. IsRest r wire payload) begun.rest is)) in
           let head = subst (λ l. IsHead l b.head b.said) limits begun.is in
           let taken : is_large message.0.text.said.extent (length message.0.wire) (length payload) ≡ false =

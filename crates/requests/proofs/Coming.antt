@@ -60,7 +60,8 @@ body_asked {slice = slice} count out m t w v sends zero some goes_on short asked
 module _ {R W : Type 0} {remaining : R → Option (List ℕ)} {tells : W → StreamLog} {trace : W → W → Type 0}
     (none : (u : W) → trace u u) (joins : (u v x : W) → trace u v → trace v x → trace u x) where
   -- what was held was sent, where the stream was asked then
-  pub comes : (s : ReaderState R Heads) (w v : Buffered W StdPolicy) → SendsUnless tells trace (IsSettled (heads usual) s) w (Ok tt) v
+  pub comes : (s : ReaderState R Heads) (w v : Buffered W StdPolicy)
+      → SendsUnless tells trace (IsSettled (heads usual) s) w (Ok tt) v
       → (answer : NextAnswer BadHead) (t : ReaderState R Heads) → NextPiece remaining (heads usual) s answer t
       → WritesOnlyHeld tells trace (left_of s, w) (left_of t, v)
   comes s w v sends answer t next =

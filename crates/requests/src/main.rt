@@ -37,8 +37,8 @@ use messages::{BadHead, Body, BodyError, Requests, Stop};
 use std::io;
 use std::io::{ErrorKind, Write};
 
-// How many bytes of answers are held. On a socket where nobody set `nodelay` a write that is smaller than what the kernel sends at
-// once waits until the last is acknowledged; one of this size doesn't.
+// How many bytes of answers are held. On a socket where nobody set `nodelay` a write that is smaller than what the kernel sends
+// at once waits until the last is acknowledged; one of this size doesn't.
 const HELD: usize = 1 << 16;
 
 fn main(rt: HostRuntime) -> io::Result<()> {

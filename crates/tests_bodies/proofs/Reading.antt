@@ -74,7 +74,8 @@ without_none (byte ∷ line) none =
     ap (λ here. if here then line else byte ∷ line) (differs byte 46 (λ same. none line (ap (λ b. b ∷ line) same)))
 
 -- a line that no dot begins
-begins : (byte : ℕ) (rest later : List ℕ) → byte ≢ 46 → InLine (byte ∷ rest) (byte ∷ later) → AreLines (byte ∷ rest) (byte ∷ later)
+begins : (byte : ℕ) (rest later : List ℕ) → byte ≢ 46 → InLine (byte ∷ rest) (byte ∷ later)
+    → AreLines (byte ∷ rest) (byte ∷ later)
 begins byte rest later apart l = record {
   lines = l.line ∷ l.lines;
   all = All-cons IsLine l.line l.lines (l.plain, λ one. none [] one) l.all;

@@ -1,4 +1,5 @@
-//! What decoders are made of: numbers in text, headers, lengths in bytes, also of seven bits, fields, extensions of a chunk's size.
+//! What decoders are made of: numbers in text, headers, lengths in bytes, also of seven bits, fields, extensions of a chunk's
+//! size.
 use chunked::Within;
 use codec::{ByHeader, Decoder, Found, HeaderBytes, Number, ScanOut};
 use decoders::{Lengths, Order, Varints, Width};

@@ -44,13 +44,3 @@ seen {s = s} {t = t} {handed = handed} p = omega (
   length-append handed t.block.bytes,
   length-append s.block.bytes p.got,
 )
-
--- under a steady policy a fill that failed did so by a fault of the reader inside
-pub blamed : {S P A : Type 0} {rules : ReadRules P} {s t : Buffered S P} {e : Error}
-    → (rules.claims s.policy).steady ≡ true → Fills {A = A} rules s (Err e) t
-    → t.log.reads.faults ≡ s.log.reads.faults ++ e ∷ []
-blamed {e = e} steady f = elim f.caused [
-  | inl fault ↦ fault
-  | inr gave ↦
-      absurd (MatchBool-at_true _ _ (ap (λ x. x.steady) (sym gave.gave.claims ∙ f.claims) ∙ steady) gave.gave.steady)
-]

@@ -36,8 +36,8 @@ pub record FiltersAll {S P T Q : Type 0} (remaining : S → Option (List ℕ)) (
   pub received : v.log.writes.received ≡ (w.log.writes.received ++ w.block.bytes) ++ out
   pub flushed : v.log.writes.flushed ≡ v.log.writes.received
 
--- why lines were gone over no further, behind these: the next wasn't read, or is no UTF-8, and nothing was done to the writer; the
--- write of the next, which has the word, failed; or there is none, and the flush did
+-- why lines were gone over no further, behind these: the next wasn't read, or is no UTF-8, and nothing was done to the writer;
+-- the write of the next, which has the word, failed; or there is none, and the flush did
 abbrev pub StopsBehind : {S P T Q : Type 0} → (S → Option (List ℕ)) → (T → StreamLog) → (T → T → Type 0) → List ℕ
     → List (List ℕ) → Buffered S P → Buffered S P → Buffered T Q → Error → Buffered T Q → Type 0
 StopsBehind {S} {P} remaining tells trace word lines from last w e v =

@@ -19,8 +19,8 @@ impl<R: Tell, C: Coding, P> Tell for BodyReader<R, C, P> {
     ghost log = { λ b. b.calls };
 }
 
-/// Payload, as [`read_payload`](BodyReader::read_payload) hands it out. An error is the stream's own, or of the kind `InvalidData`
-/// or `UnexpectedEof`.
+/// Payload, as [`read_payload`](BodyReader::read_payload) hands it out. An error is the stream's own, or of the kind
+/// `InvalidData` or `UnexpectedEof`.
 impl<R: TellRead, C: Coding, P: ReaderPolicy> Read for BodyReader<R, C, P>
 where
     C::Wrong: Drop,

@@ -30,11 +30,11 @@ impl<R: TellRead, P: ReaderPolicy> BufReader<R, P> {
         if self.buf.len() > 1 {
             return Ok(self.take_first());
         }
-        self.read_byte_outlined()
+        self.read_byte_apart()
     }
 
     #[inline(always)]
-    fn read_byte_outlined(&mut self) -> io::Result<Option<u8>>
+    fn read_byte_apart(&mut self) -> io::Result<Option<u8>>
         ensures byte { ReadsByte R.remaining P.rules self.old result self.new }
     {
         self.read_byte_slowly()
@@ -101,12 +101,12 @@ impl<R: TellRead, P: ReaderPolicy> BufReader<R, P> {
         if self.buf.len() >= n {
             return Ok(());
         }
-        self.read_ahead_outlined(n)
+        self.read_ahead_apart(n)
     }
 
-    // Inlined, as `read_byte_outlined` is, so that an answer is cleared only where it is asked for.
+    // Inlined, as `read_byte_apart` is, so that an answer is cleared only where it is asked for.
     #[inline(always)]
-    fn read_ahead_outlined(&mut self, n: usize) -> io::Result<()>
+    fn read_ahead_apart(&mut self, n: usize) -> io::Result<()>
         requires fits { n ≤ self.old.block.capacity }
         ensures ahead { ReadsAhead R.remaining P.rules n self.old result self.new }
     {

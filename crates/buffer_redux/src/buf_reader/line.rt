@@ -54,12 +54,12 @@ impl<R: TellRead, P: ReaderPolicy> BufReader<R, P> {
                 let n = self.append_line(at + 1, out)?;
                 Ok(n)
             }
-            None => self.read_line_outlined(out),
+            None => self.read_line_apart(out),
         }
     }
 
     #[inline(always)]
-    fn read_line_outlined<A: Allocator>(&mut self, out: &mut String<A>) -> io::Result<usize>
+    fn read_line_apart<A: Allocator>(&mut self, out: &mut String<A>) -> io::Result<usize>
         requires plain { Lacks 10 self.old.block.bytes }
         ensures line { ReadsLine R.remaining P.rules self.old (string_bytes out.old) result (string_bytes out.new) self.new }
     {

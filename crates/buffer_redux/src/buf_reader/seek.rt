@@ -81,7 +81,7 @@ impl<R: TellSeek, P> BufReader<R, P> {
     }
 
     #[inline(always)]
-    fn seek_far_outlined(&mut self, offset: i64) -> io::Result<()>
+    fn seek_far_apart(&mut self, offset: i64) -> io::Result<()>
         ensures moves { MovesBy (reader_position R.stream_position self.old)
             (reader_position R.stream_position self.new) offset result }
         ensures bytes { Keeps (R.stream_bytes self.old.inner) (R.stream_bytes self.new.inner) }
@@ -140,7 +140,7 @@ impl<R: TellSeek, P> Seek for BufReader<R, P> {
             self.buf.consume(offset as usize);
             return Ok(());
         }
-        self.seek_far_outlined(offset)
+        self.seek_far_apart(offset)
     }
 
     /// Where it stands: as the inner reader says, less what is buffered, which stays. `InvalidData` where the inner reader

@@ -85,9 +85,9 @@ impl<R: TellRead, P: ReaderPolicy> BufReader<R, P> {
     }
 
     // The kit's compiler clears the answer of a call where the function that makes the call begins; of a call made in here,
-    // which is inlined, that is behind the tests of the caller. So it is of each `_outlined`.
+    // which is inlined, that is behind the tests of the caller. So it is of each `_apart`.
     #[inline(always)]
-    pub(super) fn read_outlined(&mut self, out: &mut [u8]) -> io::Result<usize>
+    pub(super) fn read_apart(&mut self, out: &mut [u8]) -> io::Result<usize>
         requires room { 0 < usable self.old.block }
         ensures bound { ReadsAtMost result out.new }
         ensures read { (s : Buffered R P) → AskedRead P.rules read_now s self.old
@@ -134,7 +134,7 @@ impl<R: TellRead, P: ReaderPolicy> BufReader<R, P> {
     }
 
     #[inline(always)]
-    pub(super) fn read_rest_outlined(&mut self, out: &mut [u8]) -> io::Result<()>
+    pub(super) fn read_rest_apart(&mut self, out: &mut [u8]) -> io::Result<()>
         ensures exact { ReadsExactly R.remaining P.rules self.old result out.new self.new }
     {
         self.read_rest(out)
@@ -157,7 +157,7 @@ impl<R: TellRead, P: ReaderPolicy> BufReader<R, P> {
     }
 
     #[inline(always)]
-    pub(super) fn read_ordered_outlined(&mut self, out: &mut [u8]) -> io::Result<()>
+    pub(super) fn read_ordered_apart(&mut self, out: &mut [u8]) -> io::Result<()>
         requires some { 0 < length out.old }
         ensures exact { (s : Buffered R P) → AskedRead P.rules read_now s self.old → 0 < length s.block.bytes
             → ReadsExactly R.remaining P.rules s result out.new self.new }
@@ -167,7 +167,7 @@ impl<R: TellRead, P: ReaderPolicy> BufReader<R, P> {
 
     // The policy returned this error to the first question of a read of a whole slice.
     #[inline(always)]
-    pub(super) fn read_on_outlined(&mut self, e: io::Error, out: &mut [u8]) -> io::Result<()>
+    pub(super) fn read_on_apart(&mut self, e: io::Error, out: &mut [u8]) -> io::Result<()>
         requires some { 0 < length out.old }
         ensures exact { (s : Buffered R P) → OneRead R.remaining P.rules s out.old (Err e) self.old
             → ReadsExactly R.remaining P.rules s result out.new self.new }

@@ -37,12 +37,12 @@ impl<R: TellRead, P: ReaderPolicy> BufReader<R, P> {
                 self.append_first(n, out)?;
                 Ok(n)
             }
-            None => self.read_until_outlined(byte, out),
+            None => self.read_until_apart(byte, out),
         }
     }
 
     #[inline(always)]
-    fn read_until_outlined<A: Allocator>(
+    fn read_until_apart<A: Allocator>(
         &mut self,
         byte: u8,
         out: &mut Vec<u8, A>,
@@ -87,12 +87,12 @@ impl<R: TellRead, P: ReaderPolicy> BufReader<R, P> {
                 self.consume_exact(n);
                 Ok(n)
             }
-            None => self.skip_until_outlined(byte),
+            None => self.skip_until_apart(byte),
         }
     }
 
     #[inline(always)]
-    fn skip_until_outlined(&mut self, byte: u8) -> io::Result<usize>
+    fn skip_until_apart(&mut self, byte: u8) -> io::Result<usize>
         requires plain { Lacks byte self.old.block.bytes }
         ensures until { SkipsUntil R.remaining P.rules byte self.old result self.new }
     {

@@ -55,10 +55,10 @@ impl<W: TellWrite, P: WriterPolicy> BufWriter<W, P> {
         self.write_slowly(first, bytes)
     }
 
-    // Answers by the parts, as `write_outlined` does: a whole answer is loaded in other widths than it was stored in, and waits
+    // Answers by the parts, as `write_apart` does: a whole answer is loaded in other widths than it was stored in, and waits
     // until the stores are done.
     #[inline(always)]
-    pub(super) fn write_asking_outlined(&mut self, bytes: &[u8]) -> io::Result<usize>
+    pub(super) fn write_asking_apart(&mut self, bytes: &[u8]) -> io::Result<usize>
         ensures bound { WritesAtMost result bytes.now }
         ensures steps { Writes P.rules self.old bytes.now result self.new }
         ensures whole { IsBlock self.new.block }
@@ -73,7 +73,7 @@ impl<W: TellWrite, P: WriterPolicy> BufWriter<W, P> {
     // Goes on in `write_cold`. The kit's compiler clears the answer of a call, here 96 bytes, where the function that makes
     // the call begins; of a call made in here, which is inlined, that is behind the tests of `write`.
     #[inline(always)]
-    pub(super) fn write_outlined(&mut self, first: usize, bytes: &[u8]) -> io::Result<usize>
+    pub(super) fn write_apart(&mut self, first: usize, bytes: &[u8]) -> io::Result<usize>
         ensures bound { WritesAtMost result bytes.now }
         ensures steps { (s : Buffered W P) → AskedFirst W.log P.rules (length bytes.now) first s self.old
             → Writes P.rules s bytes.now result self.new }
@@ -122,9 +122,9 @@ impl<W: TellWrite, P: WriterPolicy> BufWriter<W, P> {
         self.write_on(answer, bytes)
     }
 
-    // These are inlined, as `write_outlined` is.
+    // These are inlined, as `write_apart` is.
     #[inline(always)]
-    pub(super) fn write_rest_outlined(&mut self, first: usize, bytes: &[u8]) -> io::Result<()>
+    pub(super) fn write_rest_apart(&mut self, first: usize, bytes: &[u8]) -> io::Result<()>
         requires some { 0 < length bytes.now }
         ensures all { (s : Buffered W P) → AskedFirst W.log P.rules (length bytes.now) first s self.old
             → WritesAll W.log W.trace P.rules s bytes.now result self.new }
@@ -145,7 +145,7 @@ impl<W: TellWrite, P: WriterPolicy> BufWriter<W, P> {
     }
 
     #[inline(always)]
-    pub(super) fn write_large_outlined(&mut self, bytes: &[u8]) -> io::Result<()>
+    pub(super) fn write_large_apart(&mut self, bytes: &[u8]) -> io::Result<()>
         requires some { 0 < length bytes.now }
         ensures all { WritesAll W.log W.trace P.rules self.old bytes.now result self.new }
     {
@@ -153,7 +153,7 @@ impl<W: TellWrite, P: WriterPolicy> BufWriter<W, P> {
     }
 
     #[inline(always)]
-    pub(super) fn write_on_outlined(&mut self, e: io::Error, bytes: &[u8]) -> io::Result<()>
+    pub(super) fn write_on_apart(&mut self, e: io::Error, bytes: &[u8]) -> io::Result<()>
         requires some { 0 < length bytes.now }
         ensures all { (s : Buffered W P) → Writes P.rules s bytes.now (Err e) self.old
             → IsBlock s.block × IsBlock self.old.block → InnerWent W.log W.trace s self.old

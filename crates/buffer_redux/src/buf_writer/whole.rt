@@ -35,22 +35,22 @@ impl<W: TellWrite, P: WriterPolicy> BufWriter<W, P> {
         }
         // Asked before the policy is, so that a policy that asks the same isn't compiled into the caller.
         if !self.buf.has_space_behind(bytes.len()) {
-            return self.write_large_outlined(bytes);
+            return self.write_large_apart(bytes);
         }
         match self.policy.before_write(&mut self.buf, bytes.len()) {
             Ok(FlushAmt(first)) => {
                 if first > 0 {
-                    return self.write_rest_outlined(first, bytes);
+                    return self.write_rest_apart(first, bytes);
                 }
                 if self.buf.usable_space() <= bytes.len() {
-                    return self.write_rest_outlined(0, bytes);
+                    return self.write_rest_apart(0, bytes);
                 }
                 // Nothing is sent first, and the bytes fit with room to spare.
                 append_by(&mut self.buf, bytes, known);
                 self.flush_after();
                 Ok(())
             }
-            Err(e) => self.write_on_outlined(e, bytes),
+            Err(e) => self.write_on_apart(e, bytes),
         }
     }
 }

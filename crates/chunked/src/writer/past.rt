@@ -15,7 +15,7 @@ const MAX_SIZE: usize = (1 << 62) - 1;
 impl<W: TellWrite> ChunkedWriter<W> {
     // Inlined, so that the compiler clears its answer only behind the tests of `write`.
     #[inline(always)]
-    pub(super) fn write_outlined(&mut self, payload: &[u8]) -> io::Result<usize>
+    pub(super) fn write_apart(&mut self, payload: &[u8]) -> io::Result<usize>
         requires some { 0 < length payload.now }
         requires outside { (0 < self.old.due) ⊎ (room self.old.writer < around + length payload.now) }
         ensures bound { WritesAtMost result payload.now }

@@ -1,3 +1,4 @@
+-- A call asks the stream only where what is left settles nothing, and a skip only where that holds no end.
 use Rattle.line_reader.specs.LinesAlongLaws.{NextLine-quiet, NextTrimmed-quiet, SkipsLine-quiet}
 use Rattle.line_play.proofs.asks_nobody.Goals as goal
 

@@ -1,3 +1,4 @@
+-- Each call takes the first of the lines that are left, and a new reader leaves all that its stream has.
 use Rattle.line_reader.specs.KnownCallsLaws.{Calls-takes, LeavesBehind-fresh}
 use Rattle.line_play.proofs.known_lines.Goals as goal
 

@@ -1,3 +1,4 @@
+-- Where no line is being skipped the call is one of a reader of pieces, of which the law is known.
 use Rattle.piece_reader.specs.DelimitedLaws.{delimited_lawful}
 use Rattle.piece_reader.specs.KnownPiecesLaws.{NextPiece-known}
 use Rattle.line_reader.specs.Lines.{newline}

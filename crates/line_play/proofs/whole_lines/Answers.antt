@@ -1,3 +1,4 @@
+-- A new reader stands before a line, none of which has gone, so what its calls took is cut at ends of lines.
 use Rattle.std.proofs.Common.{[], refl}
 use Rattle.line_reader.specs.CallsLaws.{no_line}
 use Rattle.line_reader.specs.CallsWentLaws.{Calls-went}

@@ -79,7 +79,7 @@ impl<R: TellRead> LineReader<R> {
             (IsLent (lined self.new.pieces.decoder.max) self.new.pieces.handed self.new.pieces.reader.block.bytes)) }
     {
         if self.skipping {
-            self.load_outlined()
+            self.load_apart()
         } else {
             self.load_line()
         }
@@ -88,7 +88,7 @@ impl<R: TellRead> LineReader<R> {
     // Goes on in `load_behind`. The kit's compiler clears the answer of a call where the function that makes the call begins; of
     // a call made in here, which is inlined, that is behind the test of `load`.
     #[inline(always)]
-    fn load_outlined(&mut self) -> Result<Option<Span>, LineError>
+    fn load_apart(&mut self) -> Result<Option<Span>, LineError>
         requires skipping { self.old.skipping ≡ true }
         ensures next { NextLine R.remaining self.old (load_answer result self.new.pieces) self.new }
         ensures lends { IfOk result (λ found. IfSome found

@@ -33,7 +33,7 @@ impl<R: TellRead, D: Items> PieceReader<R, D> {
                     },
                 )))
             }
-            Found::More(need) => match self.load_outlined(need) {
+            Found::More(need) => match self.load_apart(need) {
                 Ok(Some(span)) => {
                     let item = self.said(0);
                     Ok(Some((item, span)))

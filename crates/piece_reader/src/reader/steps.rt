@@ -69,7 +69,7 @@ impl<R: TellRead, D: Decoder> PieceReader<R, D> {
     // Goes on in `load`. The kit's compiler clears the answer of a call where the function that makes the call begins; of a
     // call made in here, which is inlined, that is behind the look at what is buffered.
     #[inline(always)]
-    pub(super) fn load_outlined(&mut self, need: usize) -> Result<Option<Span>, NextError<D::Wrong>>
+    pub(super) fn load_apart(&mut self, need: usize) -> Result<Option<Span>, NextError<D::Wrong>>
         requires few { length (rest self.old) < need }
         requires most { need ≤ (D.grammar self.old.decoder).most }
         requires lacks { IsOpenBelow (D.grammar self.old.decoder) need (rest self.old) }

@@ -1,3 +1,4 @@
+-- A head that is buffered is begun with nobody asked, and without one the reader stands where it stood.
 use Rattle.std.proofs.Common.{ap, subst, inl}
 use Rattle.codec.specs.PieceReader.{left_of}
 use Rattle.requests.specs.Answers.{AnswersTurn}

@@ -1,3 +1,4 @@
+-- The call is written while nobody is asked, and where that fails no byte of the body was taken.
 use Rattle.std.proofs.Common.{[], ◌++◌, Err, Ok, arith, append-nil, refl, inr, None, sym}
 use Rattle.buffer_redux.specs.UnbufferLaws.{StreamWent-none}
 use Rattle.messages.specs.Messages.{InsideGoes}

@@ -1,3 +1,4 @@
+-- A message that was taken whole is answered behind the call; of another a part is all that went.
 use Rattle.std.proofs.Common.{[], ◌∷◌, true, ap, sym, subst, ◌∙◌, refl, inl, arith}
 use Rattle.std.proofs.lemmas.List.Elements.{All-cons, All-nil}
 use Rattle.messages.specs.Heads.{IsHead}

@@ -1,3 +1,4 @@
+-- Where no head is settled what is held is sent first, so the stream is asked with nothing held.
 use Rattle.std.proofs.Common.{[], Ok, Err, None, sym, subst, ◌∙◌, inl, refl, arith}
 use Rattle.buffer_redux.specs.UnbufferLaws.{StreamWent-none}
 use Rattle.codec.specs.PieceReader.{left_of}

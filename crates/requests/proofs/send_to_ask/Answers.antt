@@ -1,3 +1,4 @@
+-- The reader tells whether it is settled under the usual limits, and only where it isn't what is held is sent.
 use Rattle.std.proofs.Common.{◌↔◌, IsTrue, inl, inr, refl, subst}
 use Rattle.codec.specs.PieceReader.{IsSettled}
 use Rattle.messages.specs.Heads.{heads}

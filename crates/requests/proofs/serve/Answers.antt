@@ -1,3 +1,4 @@
+-- What a turn answered joins what was answered before, and each turn counts a message or an interruption.
 use Rattle.std.proofs.Common.{[], ◌++◌, true, refl, arith, length-append}
 use Rattle.std.proofs.lemmas.List.Elements.{All-append, All-nil}
 use Rattle.buffer_redux.specs.UnbufferLaws.{StreamWent-none}

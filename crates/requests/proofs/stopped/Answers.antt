@@ -1,3 +1,4 @@
+-- Where no head came nothing went: an interruption is counted and goes on, and all else ends the run.
 use Rattle.std.proofs.Common.{◌≡◌, ◌+◌, ◌∙◌, IsTrue, MatchBool, [], ◌∷◌, Some, true, false, ap, length, subst, sym, inl, inr, refl, arith, length-append}
 use Rattle.std.proofs.lemmas.List.Elements.{All-nil}
 use Rattle.redux_buffer.specs.Faults.{OnlyInterrupts-none}

@@ -1,3 +1,4 @@
+-- Where a buffer is refused neither stream was called yet; else what `decode_all` says holds.
 use Rattle.std.proofs.Common.{refl}
 use Rattle.bodies.proofs.DecodeRuns.{refused}
 use Rattle.bodies.proofs.decode.decode.Goals as goal

@@ -1,3 +1,4 @@
+-- From empty buffers on, what `forward` says of payloads is what the two logs say of the body and its payload.
 use Rattle.std.proofs.Common.{◌∙◌, arith, subst, sym}
 use Rattle.body_reader.specs.BodyReaderLaws.{begun-is}
 use Rattle.chunked.specs.Coding.{chunked}

@@ -1,3 +1,4 @@
+-- Where none was held, what is read of the buffer is the piece; where one was, it still is.
 use Rattle.std.proofs.Common.{ap, arith, length, ◌∙◌}
 use Rattle.bodies.proofs.DecodingCalls.{held_on, held_still}
 use Rattle.bodies.proofs.decoding.hold.Goals as goal

@@ -1,3 +1,4 @@
+-- A read that gives less than it was lent tells that no more payload is buffered, and 8191 bytes were lent.
 use Rattle.std.proofs.Common.{arith, drop, inl, inr, length-append, length-take-le, subst, sym}
 use Rattle.std.proofs.lemmas.List.{take-append-le}
 use Rattle.bodies.specs.Words.{std_read_rules, BodyWent, IsBodyReader, chunked}

@@ -1,3 +1,4 @@
+-- Making room takes nothing in, and `put` calls no stream, so just the piece is taken in.
 use Rattle.std.proofs.Common.{[], ap, arith, subst, sym, ◌∙◌}
 use Rattle.buffer_redux.specs.Faults.{MetInterrupts}
 use Rattle.buffer_redux.specs.WriterLaws.{WritesInOrder-joins}

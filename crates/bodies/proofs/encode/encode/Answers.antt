@@ -1,3 +1,4 @@
+-- Where a buffer is refused neither stream was called yet; else what `encode_all` says holds.
 use Rattle.bodies.proofs.EncodeRuns.{refused}
 use Rattle.bodies.proofs.encode.encode.Goals as goal
 

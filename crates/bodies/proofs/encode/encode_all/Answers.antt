@@ -1,15 +1,15 @@
+-- From empty buffers on, what `forward` says of payloads holds of chunks; where all went over the body's end follows.
 use Rattle.std.proofs.Common.{refl, arith}
 use Rattle.forward.specs.ForwardLaws.{Goes-holds, Goes-per_ask, one_flush}
 use Rattle.programs.specs.PromptLaws.{HoldsNothingBack-on}
 use Rattle.bodies.specs.Encode.{IsDue}
 use Rattle.bodies.specs.Encoding.{encoding_rules}
-use Rattle.bodies.proofs.EncodeRuns.{ended, start, stopped}
+use Rattle.bodies.proofs.EncodeRuns.{ended, stopped}
 use Rattle.bodies.proofs.encode.encode_all.Goals as goal
 
 pub returns-in-Ok : goal.returns-in-Ok
 returns-in-Ok g c =
     let rules = encoding_rules g.R.TellRead.remaining g.W.TellWrite.trace in
-    let first = start c.args.source c.args.target in
     let t = c.forward-answer.new.link in
     let over = rw (c.new-link.ensures, c.new.ensures.begun) at c.in-Ok.ensures.forwards in
     let answers = over.answers in
@@ -29,7 +29,6 @@ returns-in-Ok g c =
 pub returns-in-Err : goal.returns-in-Err
 returns-in-Err g c =
     let rules = encoding_rules g.R.TellRead.remaining g.W.TellWrite.trace in
-    let first = start c.args.source c.args.target in
     let over = rw (c.new-link.ensures, c.new.ensures.begun) at c.in-Err.ensures.forwards in
     let before = Goes-per_ask rules _ c.forward-answer.new.link over.goes (λ s t asked. asked.1) in
     rw (c.into_inner.ensures, c.into_inner-source.ensures) (record {

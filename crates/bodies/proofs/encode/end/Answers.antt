@@ -1,3 +1,4 @@
+-- No payload is due, so the body's end is taken in whole, or nothing is; behind it the flush answers.
 use Rattle.std.proofs.Common.{[]}
 use Rattle.chunked.specs.Chunk.{body_end}
 use Rattle.bodies.proofs.EncodingCalls.{ends_badly, ends_not, ends_well, put_quietly}

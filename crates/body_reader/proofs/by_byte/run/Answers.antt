@@ -1,3 +1,4 @@
+-- The bytes before lead by payload to `at`, and one more that is payload there leads on.
 use Rattle.std.proofs.Common.{◌∙◌, arith, slice_index, subst, sym, take}
 use Rattle.std.proofs.lemmas.List.{take_more}
 use Rattle.body_reader.specs.ByByte.{LeadsByPayload}

@@ -1,3 +1,4 @@
+-- What was taken leads to where the reader stands, so what is a body with that in front completes it from there.
 use Rattle.body_reader.specs.BodyReaderLaws.{given_all, given_front, given_right, given_there}
 use Rattle.body_reader.proofs.laws.given_body.Goals as goal
 

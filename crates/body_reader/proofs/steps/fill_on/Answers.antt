@@ -1,3 +1,4 @@
+-- What was skipped is no payload, so what is shown behind it is what the whole fill shows.
 use Rattle.std.proofs.Common.{arith}
 use Rattle.std.proofs.lemmas.Result.{err_from_is_err_and}
 use Rattle.body_reader.proofs.Filling.{Proceeds-err, behind_skipped, fill_ended, payload_here}

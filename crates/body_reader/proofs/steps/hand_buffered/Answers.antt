@@ -1,3 +1,4 @@
+-- What is handed out next follows what was so far, and where none is known none is shown.
 use Rattle.std.proofs.Common.{arith}
 use Rattle.body_reader.proofs.Showing.{none_shown, shown_more, shown_none}
 use Rattle.body_reader.proofs.steps.hand_buffered.Goals as goal

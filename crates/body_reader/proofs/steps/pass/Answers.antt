@@ -1,3 +1,4 @@
+-- Each pass takes bytes of which only so many stand before payload or the end, so another answer comes.
 use Rattle.std.proofs.Common.{◌++◌, ap, subst, take, ◌∙◌}
 use Rattle.body_reader.specs.Coding.{Looks}
 use Rattle.body_reader.specs.declared.coding.Look.TheVariants.{Passed}

@@ -1,3 +1,4 @@
+-- Into an empty slice nothing goes, and what is known is handed out with nobody asked.
 use Rattle.std.proofs.Common.{◌<◌, length, sym, arith}
 use Rattle.std.proofs.lemmas.Bool.{eqb-true}
 use Rattle.body_reader.proofs.Handing.{hands_known, hands_none, some_of}

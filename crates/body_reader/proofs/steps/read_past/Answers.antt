@@ -1,3 +1,4 @@
+-- Nothing is buffered, so what came stands next, which a look said is payload whatever it is.
 use Rattle.std.proofs.Common.{◌≡◌, ◌++◌, drop, take, length, length-append, length-drop, refl, arith, subst, sym}
 use Rattle.std.proofs.lemmas.List.{length-take-le}
 use Rattle.std.proofs.lemmas.Result.{err_from_is_err_and}

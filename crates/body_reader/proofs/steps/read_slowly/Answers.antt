@@ -1,3 +1,4 @@
+-- What was skipped is no payload, so what is handed out behind it is what the whole read hands out.
 use Rattle.std.proofs.Common.{arith}
 use Rattle.std.proofs.lemmas.Result.{err_from_is_err_and}
 use Rattle.body_reader.proofs.Filling.{payload_here}

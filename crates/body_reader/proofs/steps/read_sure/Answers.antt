@@ -1,3 +1,4 @@
+-- Of bytes that are surely payload the first are too, be they buffered, shown by a fill, or read past the buffer.
 use Rattle.std.proofs.Common.{◌<◌, ◌≤◌, length, arith}
 use Rattle.std.proofs.lemmas.Result.{err_from_is_err_and}
 use Rattle.body_reader.specs.Coding.{IsKnown}

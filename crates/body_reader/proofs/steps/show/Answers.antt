@@ -1,3 +1,4 @@
+-- An empty buffer has room for its capacity, and what comes is payload as far as the look said.
 use Rattle.std.proofs.Common.{Ok, ◌≡◌, ◌<◌, arith, length, subst}
 use Rattle.std.proofs.lemmas.List.{nil_from_length}
 use Rattle.buffer_redux.specs.Block.{usable}

@@ -1,3 +1,4 @@
+-- As many bytes as a look needs fit the buffer, so fewer are shown only where the stream gave none.
 use Rattle.std.proofs.Common.{◌<◌, ◌≤◌, ap, arith, length, min}
 use Rattle.std.proofs.lemmas.List.{length-take}
 use Rattle.std.proofs.lemmas.Result.{err_from_is_err_and}

@@ -1,3 +1,4 @@
+-- The front of what is known to be payload leads on, and the rest is known where it leads.
 use Rattle.std.proofs.Common.{◌++◌, ap, arith, drop, subst, sym, take, ◌∙◌}
 use Rattle.body_reader.proofs.Handing.{front_carries, front_taken}
 use Rattle.body_reader.proofs.Skipping.{Notes}

@@ -1,3 +1,4 @@
+-- Where a byte of payload is due still, the end of the line is no bytes, and nothing goes in.
 use Rattle.std.proofs.Common.{arith}
 use Rattle.chunked.proofs.Going.{puts_nothing}
 use Rattle.chunked.proofs.chunk.end_chunk.Goals as goal

@@ -1,3 +1,4 @@
+-- What doesn't fit once space was made doesn't fit the capacity, so it goes past the buffer, and else inside.
 use Rattle.std.proofs.Common.{[], ap, subst, ◌∙◌, arith, refl}
 use Rattle.buffer_redux.specs.StreamLog.{after_write}
 use Rattle.buffer_redux.specs.WritePartsLaws.{PutsIn-joins}

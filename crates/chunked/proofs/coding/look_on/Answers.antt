@@ -1,3 +1,4 @@
+-- The body goes on here, so no bytes settle nothing, and of others the first lead on or the next is wrong.
 use Rattle.std.proofs.Common.{arith, sym}
 use Rattle.std.proofs.lemmas.Bool.{eqb-true}
 use Rattle.std.proofs.lemmas.List.{nil_from_length}

@@ -1,3 +1,4 @@
+-- The digits of a size that isn't 0 lead to it, and the end of the line behind them to its payload.
 use Rattle.std.proofs.Common.{◌<◌, arith, rules}
 use Rattle.chunked.proofs.Framing.{frames}
 use Rattle.chunked.proofs.frame.frame.Goals as goal

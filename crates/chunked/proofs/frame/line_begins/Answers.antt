@@ -1,3 +1,4 @@
+-- No bytes lead from the beginning of a line to itself.
 use Rattle.std.proofs.Common.{arith}
 use Rattle.chunked.specs.declared.place.Place.TheVariants.{Line}
 use Rattle.chunked.proofs.Framing.{comes_none}

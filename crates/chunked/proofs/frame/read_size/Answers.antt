@@ -1,3 +1,4 @@
+-- At most 14 digits write less than 2^58, so one more overflows nothing and is still the size of a chunk.
 use Rattle.std.proofs.Common.{◌≡◌, ◌-◌, ◌<◌, ◌≤◌, ◌^◌, ◌∙◌, arith, inr, length, slice_index}
 use Rattle.std.specs.Char.{digit_value}
 use Rattle.chunked.proofs.Framing.{few_digits, more_digits, reads_digit}

@@ -1,3 +1,4 @@
+-- What was written is a body with this payload, and of a body that is given a reader hands out just the payload.
 use Rattle.chunked.proofs.Written.{written_body}
 use Rattle.chunked.proofs.laws.round_trip.Goals as goal
 

@@ -1,3 +1,4 @@
+-- What was taken leads to where the reader stands, and where a line has room something completes the body there.
 use Rattle.chunked.specs.declared.place.Place.TheVariants.{Line}
 use Rattle.body_reader.specs.BodyReader.{handed_of}
 use Rattle.chunked.specs.CodingLaws.{leads_of}

@@ -1,3 +1,4 @@
+-- What was written since is the chunks, and then the end with the trailers: a body, as `Finishes` says.
 use Rattle.chunked.proofs.Written.{written_body}
 use Rattle.chunked.proofs.laws.written_body.Goals as goal
 

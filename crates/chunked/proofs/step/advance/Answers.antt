@@ -1,3 +1,4 @@
+-- A byte that leads on joins those before, and can't stand past the end, as the place isn't settled.
 use Rattle.std.proofs.Common.{[], ◌∷◌, take, slice_index, sym, subst, inl, inr, arith, refl, rules}
 use Rattle.std.proofs.lemmas.List.{take_more}
 use Rattle.chunked.specs.Place.{IsDataOrDone, PassesAlong, Within}

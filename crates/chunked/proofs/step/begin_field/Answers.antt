@@ -1,3 +1,4 @@
+-- A CR ends the trailers, and a byte of a token begins a line, where the colon fits too.
 use Rattle.std.proofs.Common.{arith, rules}
 use Rattle.chunked.specs.Token.{IsTokenByte}
 use Rattle.chunked.proofs.PassingOn.{fields_first, fields_return}

@@ -1,3 +1,4 @@
+-- A digit that fits the line begins the size with its value.
 use Rattle.std.proofs.Common.{◌≡◌, ◌-◌, [], ◌∷◌, ◌∙◌, sym, subst, arith}
 use Rattle.std.specs.Char.{digit_value}
 use Rattle.chunked.specs.Place.{PassesAlong}

@@ -1,3 +1,4 @@
+-- Behind a chunk's last byte a CR leads to its LF.
 use Rattle.chunked.proofs.PassingOn.{data_return}
 use Rattle.chunked.proofs.step.end_data.Goals as goal
 

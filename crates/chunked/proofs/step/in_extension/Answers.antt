@@ -1,3 +1,4 @@
+-- A byte leads on where the least that ends the extension still fits the line, and runs over where it doesn't.
 use Rattle.std.proofs.Common.{[], arith, rules}
 use Rattle.chunked.specs.Within.{CompletesExtension}
 use Rattle.chunked.proofs.Extending.{extension_on, extension_return, fits_in, runs_over}

@@ -1,3 +1,4 @@
+-- A colon ends the name, and a byte of a token goes on with it, where the colon fits too.
 use Rattle.std.proofs.Common.{arith, rules}
 use Rattle.chunked.specs.Token.{IsTokenByte}
 use Rattle.chunked.proofs.PassingOn.{name_colon, name_on}

@@ -1,3 +1,4 @@
+-- A digit leads on while the number stays small; what is none is told of as behind a size in an extension.
 use Rattle.std.proofs.Common.{◌≡◌, ◌+◌, ◌*◌, ◌-◌, [], ◌∷◌, ◌∙◌, inl, sym, subst, arith}
 use Rattle.std.specs.Char.{digit_value}
 use Rattle.chunked.specs.Place.{PassesAlong}

@@ -1,3 +1,4 @@
+-- A CR ends the value, and a byte of one goes on with it, where it fits.
 use Rattle.std.proofs.Common.{arith, rules}
 use Rattle.chunked.specs.Token.{IsValueByte}
 use Rattle.chunked.proofs.PassingOn.{value_on, value_return}

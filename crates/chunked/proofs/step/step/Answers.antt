@@ -1,3 +1,4 @@
+-- In a chunk whose place isn't settled no byte is left, so its end comes next.
 use Rattle.std.proofs.Common.{subst, sym}
 use Rattle.chunked.specs.Place.{IsDataOrDone, StepsOver}
 use Rattle.chunked.specs.declared.place.Place.TheVariants.{Data}

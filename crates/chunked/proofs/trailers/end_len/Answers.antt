@@ -1,3 +1,4 @@
+-- The sum saturates above each capacity, so one that fits the capacity is the length itself.
 use Rattle.std.proofs.Common.{◌≡◌, ℕ, ◌+◌, ◌-◌, ◌^◌, ◌<◌, ◌≤◌, List, Bor, length, min, take, ap, subst, arith, rules, refl}
 use Rattle.std.specs.List.{AllByRecursion}
 use Rattle.chunked.specs.Chunk.{body_end}

@@ -1,3 +1,4 @@
+-- The first colon of a line ends the name, as no byte of a token is one.
 use Rattle.std.proofs.Common.{◌≡◌, ◌+◌, length, slice_index, sym, subst, arith, rules}
 use Rattle.std.specs.List.{AllByRecursion}
 use Rattle.std.proofs.lemmas.Bool.Decides.{nat_tests}

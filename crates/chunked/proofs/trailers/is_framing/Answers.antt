@@ -1,3 +1,4 @@
+-- A field's name stands before its first colon, and is one of the two names whatever its case.
 use Rattle.std.proofs.Common.{◌≡◌, ℕ, List, inl, inr, map, sym, subst, arith, slice_index, codes}
 use Rattle.std.proofs.lemmas.Bool.Decides.{nat_tests}
 use Rattle.std.specs.Char.{to_ascii_lowercase}

@@ -1,3 +1,4 @@
+-- What went in is the front of the end of the body, so the room that is left takes what follows of it.
 use Rattle.std.proofs.Common.{[], length, ap, ◌++◌, ◌∙◌, arith}
 use Rattle.chunked.specs.Body.{line_end}
 use Rattle.chunked.specs.Trailers.{lines_of}

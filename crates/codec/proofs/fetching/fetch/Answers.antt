@@ -1,3 +1,4 @@
+-- A look alone hands nothing out, so a step behind the look and the flush is the step that it would have been.
 use Rattle.piece_reader.specs.NextPiece.{load_answer}
 use Rattle.codec.proofs.Fetched.{first_err, first_ok, next_ok}
 use Rattle.codec.proofs.fetching.fetch.Goals as goal

@@ -1,3 +1,4 @@
+-- A look alone hands nothing out, so a step behind the look and the flush is the step that it would have been.
 use Rattle.std.proofs.Common.{ap, subst}
 use Rattle.piece_reader.specs.Items.{NextItem}
 use Rattle.piece_reader.specs.NextPiece.{StaysLeft}

@@ -1,3 +1,4 @@
+-- The test that failed says that the next step isn't settled, and then the writer was flushed.
 use Rattle.std.proofs.Common.{inr}
 use Rattle.codec.proofs.Fetched.{untrue}
 use Rattle.codec.proofs.fetching.flush_to_ask.Goals as goal

@@ -1,3 +1,4 @@
+-- The second reader has left what the first one had, so what both hand out joins.
 use Rattle.std.proofs.Common.{◌≡◌, rules}
 use Rattle.piece_reader.specs.PiecesWentLaws.{PiecesWent-then}
 use Rattle.piece_reader.specs.PieceReader.{left_of}

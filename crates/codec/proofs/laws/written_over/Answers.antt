@@ -1,3 +1,4 @@
+-- The second writer has unsent what the first one had, so what both take in joins.
 use Rattle.std.proofs.Common.{◌≡◌, ◌≤◌, rules}
 use Rattle.buffer_redux.specs.Unbuffer.{unbuffered}
 use Rattle.buffer_redux.specs.UnbufferLaws.{WritesInOrder-over}

@@ -1,3 +1,4 @@
+-- A new writer has nothing buffered, so what was taken in since follows what the stream had received.
 use Rattle.codec.specs.WritePieceLaws.{PiecesTaken-since}
 use Rattle.codec.proofs.laws.written_since_new.Goals as goal
 

@@ -1,3 +1,4 @@
+-- The bytes that were read so far lead to where the header stands, so each byte goes on from there.
 use Rattle.std.proofs.Common.{◌≡◌, ℕ, ◌<◌, ◌+◌, ◌-◌, ◌∙◌, List, ap, arith, drop, get_or, length, length-drop, subst, sym, take}
 use Rattle.std.proofs.lemmas.List.{get_or-drop, get_or-take, take-append-drop}
 use Rattle.codec.specs.Scanning.{scan_notes, scanned}

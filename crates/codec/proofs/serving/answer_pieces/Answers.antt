@@ -1,3 +1,4 @@
+-- Each turn adds its exchange to those before it, under the decoder of the first; one that fails stops them.
 use Rattle.std.proofs.Common.{◌∷◌, Err, Ok, arith, false, refl, subst, true, ◌∙◌}
 use Rattle.std.proofs.lemmas.Result.{err_from_is_err_and}
 use Rattle.codec.specs.Serving.{ServesTurn, server}

@@ -1,3 +1,4 @@
+-- The last flush goes on where the turns ended, so what they exchanged is what was served.
 use Rattle.codec.specs.ServingLaws.{ServingEnds-failed, ServingEnds-served}
 use Rattle.codec.proofs.serving.serve.Goals as goal
 

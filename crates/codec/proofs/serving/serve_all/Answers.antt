@@ -1,3 +1,4 @@
+-- What a call served before an interrupted read joins what the calls before it did; any other end is the last.
 use Rattle.std.proofs.Common.{◌≡◌, inl, inr, refl, subst, arith, rules}
 use Rattle.codec.specs.Serving.{Serves, ServingFails, server}
 use Rattle.codec.specs.declared.serving.ServeError.{ServeError}

@@ -1,3 +1,4 @@
+-- What the service is given is the payload and the item of the piece that the fetch handed out.
 use Rattle.std.proofs.Common.{Ok, ap, ◌∙◌}
 use Rattle.codec.specs.Serving.{server}
 use Rattle.codec.proofs.Turning.{answer_failed, service_failed, took_piece}

@@ -1,3 +1,4 @@
+-- The buffers begin empty, so what was moved between them is what one stream gave and the other received.
 use Rattle.std.proofs.Common.{inl, inr, refl, arith}
 use Rattle.std.proofs.lemmas.Result.{err_from_is_err_and}
 use Rattle.copier.proofs.Moving.{copy_begins, copy_once, copy_unflushed, flush_begins, copy_caused, copy_often, flush_often, flushed_at_most, flushed_once, left_caused, flush_caused, flush_copied, offers_all}

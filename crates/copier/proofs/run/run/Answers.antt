@@ -1,3 +1,4 @@
+-- The streams come back as the copy left them, so what it says of their logs is what the run says.
 use Rattle.std.proofs.Common.{inl}
 use Rattle.copier.proofs.Endings.{run_caused}
 use Rattle.copier.proofs.Moving.{IsBeginning-none}

@@ -1,3 +1,4 @@
+-- Words ask for one buffer and one capacity at most, within range, and no run that began ends as `Usage`.
 use Rattle.std.specs.Prelude.{unwrap_or}
 use Rattle.std.proofs.Common.{◌≡◌, ℕ, Bool, ap, refl, sym}
 use Rattle.copier.proofs.Endings.{never_usage, run_ended}

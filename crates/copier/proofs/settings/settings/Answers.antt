@@ -1,3 +1,4 @@
+-- A word that names a buffer is no capacity, and names one only, so words ask for one thing at most.
 use Rattle.std.proofs.Common.{◌≡◌, arith, sym, string_bytes, None}
 use Rattle.copier.proofs.SettingsFacts.{unnamed, tells_named, tells_none_alone, tells_none_named, tells_both, map_one, map_two}
 use Rattle.copier.proofs.settings.settings.Goals as goal

@@ -1,3 +1,4 @@
+-- Unless a minus stands behind the dollar sign the header is that of bulk strings, whose bytes are known.
 use Rattle.std.proofs.Common.{arith}
 use Rattle.decoders.specs.StringsLaws.{is_string_piece, string_piece}
 use Rattle.decoders.proofs.laws.string_bytes.Goals as goal

@@ -1,3 +1,4 @@
+-- The number of the whole line is that of what is left of it, read on behind the digits so far.
 use Rattle.std.proofs.Common.{◌≡◌, ℕ, ◌+◌, ◌<◌, List, add-one, ap, drop, drop-cons, drop_of_length-le, get_or, le_refl, length, sym, ◌∙◌}
 use Rattle.std.proofs.lemmas.Slice.{between_to_end}
 use Rattle.std.specs.Option.{option_map_or}

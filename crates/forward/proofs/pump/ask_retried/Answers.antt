@@ -1,3 +1,4 @@
+-- An interrupted ask lengthens the row, or begins it anew where bytes came; the ask that isn't repeated ends the turn.
 use Rattle.std.proofs.Common.{arith}
 use Rattle.forward.proofs.Turning.{none_yet, one_retry, row_fits, turn_ends}
 use Rattle.forward.proofs.pump.ask_retried.Goals as goal

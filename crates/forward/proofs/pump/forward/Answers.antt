@@ -1,3 +1,4 @@
+-- The next payload follows those that went over; it adds a byte for the next flush to send, unless it was dropped.
 use Rattle.std.proofs.Common.{true, false, Ok, Err, subst, arith, lit≤}
 use Rattle.forward.specs.Link.{LinkPasses}
 use Rattle.forward.specs.Steps.{ForwardsNext}

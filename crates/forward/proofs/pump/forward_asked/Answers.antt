@@ -1,3 +1,4 @@
+-- The flush, the turn of asks and the pass join; a payload that was asked for is there, so the pass moves it.
 use Rattle.forward.proofs.Forwarding.{came_not_passed, came_passed, no_more, none_read, not_flushed, some_read, wrong_next}
 use Rattle.forward.proofs.pump.forward_asked.Goals as goal
 

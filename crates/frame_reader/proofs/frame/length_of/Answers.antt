@@ -1,3 +1,4 @@
+-- What a slice holds is bytes, so the first two are written again of the length that was read of them.
 use Rattle.std.proofs.Common.{arith}
 use Rattle.frame_reader.proofs.Lengths.{BeginsWith-first}
 use Rattle.frame_reader.proofs.frame.length_of.Goals as goal

@@ -1,3 +1,4 @@
+-- Known text is cut in one way, so a call hands out its first payload, and finds nothing wrong.
 use Rattle.codec.specs.KnownPiecesLaws.{NextPiece-known}
 use Rattle.frame_reader.specs.Framed.{framed}
 use Rattle.frame_reader.specs.FramedLaws.{framed_lawful}

@@ -1,3 +1,4 @@
+-- A new reader has nothing buffered and has moved no byte, so what went and what is left was given since.
 use Rattle.codec.specs.PiecesWentLaws.{PiecesWent-given, PiecesWent-moved}
 use Rattle.frame_reader.proofs.laws.since_new.Goals as goal
 

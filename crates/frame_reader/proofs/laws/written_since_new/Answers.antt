@@ -1,3 +1,4 @@
+-- A new writer has nothing buffered, and what is written of payloads as pieces is their frames.
 use Rattle.std.proofs.Common.{◌++◌, ◌∙◌, ap}
 use Rattle.codec.specs.WritePieceLaws.{PiecesTaken-since}
 use Rattle.frame_reader.specs.Framed.{framed_out}

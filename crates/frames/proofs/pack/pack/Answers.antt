@@ -1,3 +1,4 @@
+-- Buffers of such sizes are refused for want of memory alone, before any call; else what `pack_all` says holds.
 use Rattle.std.proofs.Common.{◌≡◌, ◌+◌, ◌^◌, ◌∙◌, Err, arith, subst}
 use Rattle.std.specs.declared.io.ErrorKind.TheVariants.{OutOfMemory}
 use Rattle.buffer_redux.specs.GrowError.{FitsWithin}

@@ -1,3 +1,4 @@
+-- A line that is held has a frame, which has some bytes; where it couldn't be taken in, the line is held still.
 use Rattle.std.proofs.Common.{[], None, ap, append-nil, arith, length-append, inl, refl, ◌∙◌}
 use Rattle.std.proofs.lemmas.Result.{err_from_is_err_and}
 use Rattle.frame_reader.specs.WriteFrameLaws.{PiecesTaken-frames}

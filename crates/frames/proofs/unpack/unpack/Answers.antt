@@ -1,3 +1,4 @@
+-- A buffer is refused for want of memory, before any call of a stream; else what `unpack_all` says holds.
 use Rattle.std.proofs.Common.{◌≡◌, rules}
 use Rattle.std.specs.IoError.{error_kind}
 use Rattle.std.specs.declared.io.ErrorKind.TheVariants.{OutOfMemory}

@@ -1,3 +1,4 @@
+-- From empty buffers on, what `forward` says of payloads is what the two logs say of frames and lines.
 use Rattle.std.proofs.Common.{None, refl, subst}
 use Rattle.forward.specs.Forward.{Forwards}
 use Rattle.forward.specs.ForwardLaws.{Goes-holds}

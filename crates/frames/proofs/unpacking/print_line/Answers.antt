@@ -1,3 +1,4 @@
+-- Making room takes nothing in, so the line and then its end are all that was taken in.
 use Rattle.std.proofs.Common.{◌∷◌, []}
 use Rattle.buffer_redux.specs.WriterLaws.{WritesInOrder-joins}
 use Rattle.line_reader.specs.Lines.{newline}

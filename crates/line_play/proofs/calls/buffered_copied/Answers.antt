@@ -1,3 +1,4 @@
+-- Where memory for the copy is refused the call was made, and its line is the one that is lost.
 use Rattle.std.proofs.Common.{option_copied, subst}
 use Rattle.line_reader.specs.NextLine.{NextBufferedLine}
 use Rattle.piece_reader.specs.RunsLaws.{on_err}

@@ -1,3 +1,4 @@
+-- The recorded calls answer the first asks; where memory is refused no further one was begun, or its line is lost.
 use Rattle.std.proofs.Common.{[], ◌∷◌, ◌++◌, ◌∙◌, ap, append-nil, arith, length, map, refl, sym}
 use Rattle.std.proofs.lemmas.List.{length-map, take_all}
 use Rattle.line_play.specs.declared.calls.Ask.TheVariants.{Next}

@@ -1,3 +1,4 @@
+-- Memory is refused only for a copy of a line, so the call that is lost handed one out.
 use Rattle.std.proofs.Common.{Ok, Some, arith, sym}
 use Rattle.line_reader.specs.Calls.{Nexts, NextsBuffered, NextsTrimmed}
 use Rattle.piece_reader.specs.RunsLaws.{on_err}

@@ -1,3 +1,4 @@
+-- Where the stream ended nothing is copied, and the call's answer is handed on as it is.
 use Rattle.line_reader.specs.LinesAlongLaws.{NextTrimmed-none}
 use Rattle.line_play.proofs.calls.trimmed_copied.Goals as goal
 

@@ -1,3 +1,4 @@
+-- Lines with their ends are a text of just these lines, and a reader of memory meets no fault.
 use Rattle.std.proofs.Common.{◌+◌, map, ap, inl, sym, subst, Some, ◌∙◌}
 use Rattle.std.specs.List.{All}
 use Rattle.buffer_redux.specs.Memory.{reader-faultless}

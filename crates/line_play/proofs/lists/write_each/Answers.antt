@@ -1,3 +1,4 @@
+-- Each turn adds a line to those that were taken in; at an `Err` a beginning of the next one stands behind them.
 use Rattle.std.proofs.Common.{arith, subst, ◌∙◌}
 use Rattle.buffer_redux.specs.BufWriter.{WritesInOrder}
 use Rattle.buffer_redux.specs.LogGrows.{WriteLogGrows-joins}

@@ -1,3 +1,4 @@
+-- A beginning of the line, or all of it and a beginning of its end, is a beginning of both.
 use Rattle.std.proofs.Common.{[], ◌∷◌, refl}
 use Rattle.std.proofs.lemmas.Result.{err_from_is_err_and}
 use Rattle.buffer_redux.specs.WriterLaws.{WritesInOrder-joins}

@@ -1,3 +1,4 @@
+-- A writer of memory fails for want of memory alone, in a write as in the last flush.
 use Rattle.std.proofs.Common.{ap, subst, sym}
 use Rattle.std.proofs.lemmas.Result.{err_from_is_err_and}
 use Rattle.buffer_redux.specs.BufWriter.{WriterStopped}

@@ -1,3 +1,4 @@
+-- What the drain did, told of the rest of the body: all of that went, or a part, and why no more.
 use Rattle.std.proofs.Common.{inl, inr, subst, sym}
 use Rattle.messages.specs.Messages.{IsNamed}
 use Rattle.messages.proofs.Going.{body_end, body_kept, body_named, body_room, body_take, drain_asked, drain_fails}

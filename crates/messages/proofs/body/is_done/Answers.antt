@@ -1,3 +1,4 @@
+-- What was taken is a body just where no bytes complete it from where the reader stands.
 use Rattle.messages.proofs.Going.{ended_is, is_ended}
 use Rattle.messages.proofs.body.is_done.Goals as goal
 

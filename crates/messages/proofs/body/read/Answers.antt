@@ -1,3 +1,4 @@
+-- What the reader did, told of the rest of the body: what it took leads to what is left of that.
 use Rattle.std.proofs.Common.{◌≡◌, Ok, ap, inr}
 use Rattle.buffer_redux.specs.Unbuffer.{unbuffered}
 use Rattle.messages.proofs.Going.{body_asked, body_done, body_fails, body_idle, body_kept, body_named, body_room, body_take}

@@ -1,3 +1,4 @@
+-- What the reader did, told of the rest of the body: what it took leads to what is left of that.
 use Rattle.messages.proofs.Going.{body_kept, body_room, body_short, body_take}
 use Rattle.messages.proofs.body.read_buffered.Goals as goal
 

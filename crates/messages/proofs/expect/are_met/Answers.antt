@@ -1,3 +1,4 @@
+-- Each field so far is met, and all are behind the last; one that isn't is among them.
 use Rattle.std.proofs.Common.{◌≤◌, length, All, IsTrue, take_all, sym, refl, ◌∙◌, subst, arith}
 use Rattle.std.proofs.lemmas.Bool.{false≢true}
 use Rattle.std.proofs.lemmas.List.Elements.{All-nil, All-map, All-get_or, All-more}

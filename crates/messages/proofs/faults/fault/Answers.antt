@@ -1,3 +1,4 @@
+-- A text reads as one head, so what is found in its spans is what its fault is told by.
 use Rattle.std.proofs.Common.{◌≡◌, ◌∙◌, [], inl, inr, length, take, drop, ap, subst, arith}
 use Rattle.std.proofs.lemmas.List.{length-drop, length-map, length-take-le, nil_from_length}
 use Rattle.http1.specs.Fields.{known_fields}

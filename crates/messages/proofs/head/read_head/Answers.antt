@@ -1,3 +1,4 @@
+-- The default limits are the usual ones.
 use Rattle.std.proofs.Common.{OnErr, subst}
 use Rattle.messages.specs.declared.head.ParsedHead.{ParsedHead}
 use Rattle.messages.specs.Heads.{IsHead}

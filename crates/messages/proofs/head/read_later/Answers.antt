@@ -1,3 +1,4 @@
+-- The copy is the head, so what reading it says is said of the head with that byte changed.
 use Rattle.messages.proofs.head.read_later.Goals as goal
 
 pub returns-clause-none : goal.returns-clause-none

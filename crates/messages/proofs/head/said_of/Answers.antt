@@ -1,3 +1,4 @@
+-- A text reads as one head, so each test of its spans is one of that head.
 use Rattle.std.proofs.Common.{◌≡◌, ◌↔◌, ◌∙◌, ℕ, List, [], length, map, take, drop, All, IsTrue, Option, None, Some, sym, ap, subst, arith, rules}
 use Rattle.std.proofs.lemmas.Bool.{false≢true}
 use Rattle.std.proofs.lemmas.List.{length-drop, length-map, length-take-le, nil_from_length}

@@ -1,3 +1,4 @@
+-- Messages join where the one ends and the next begins, and a text is cut into so many in one way.
 use Rattle.std.proofs.Common.{◌++◌, Some, ap, sym, ◌∙◌}
 use Rattle.buffer_redux.specs.UnbufferLaws.{StreamWent-front}
 use Rattle.codec.specs.PieceReader.{left_of}

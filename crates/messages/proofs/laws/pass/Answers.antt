@@ -1,3 +1,4 @@
+-- The next message joins those that went, and it keeps the room and the limits.
 use Rattle.std.proofs.Common.{[], ◌∷◌, ◌++◌, ◌∙◌, arith, length-append, refl, subst}
 use Rattle.buffer_redux.specs.UnbufferLaws.{StreamWent-none}
 use Rattle.codec.specs.PieceReader.{left_of}
@@ -25,7 +26,8 @@ loop-preserved g c =
       went = MessagesWent-joins g.R.TellRead.remaining c.args.requests.decoder.0 (left_of c.args.requests) (left_of c.loop.next)
           (left_of c.in-Ok.behind)
           before.messages ((one.0, one.1) ∷ []) before.went
-          (subst (λ d. MessagesWent g.R.TellRead.remaining d.0 (left_of c.loop.next) ((one.0, one.1) ∷ []) (left_of c.in-Ok.behind))
+          (subst (λ d. MessagesWent g.R.TellRead.remaining d.0 (left_of c.loop.next) ((one.0, one.1) ∷ [])
+          (left_of c.in-Ok.behind))
           before.limits one.2);
       gave = EachReadGave-joins (left_of c.args.requests) (left_of c.loop.next) (left_of c.in-Ok.behind) before.gave one.3;
       limits = one.5 ∙ before.limits;

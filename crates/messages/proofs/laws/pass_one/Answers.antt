@@ -1,3 +1,4 @@
+-- Nothing was read of the body, so its head, and then all that the finish took, are one message.
 use Rattle.std.proofs.Common.{[], ◌++◌, ◌∙◌, ap}
 use Rattle.codec.specs.PieceReader.{left_of}
 use Rattle.messages.specs.MessagesLaws.{Begun-gave, EachReadGave-joins, MessagesWent-one, TakesFromRest-none}

@@ -1,3 +1,4 @@
+-- As many bytes as a head may have are its first 16384, or all where there are fewer.
 use Rattle.std.proofs.Common.{◌∙◌, ap}
 use Rattle.std.proofs.lemmas.List.{take_min}
 use Rattle.messages.specs.declared.lines.Before.TheVariants.{Start}

@@ -1,3 +1,4 @@
+-- Each byte so far led on, so what is wrong from here on is what is wrong with the whole text.
 use Rattle.std.proofs.Common.{◌≡◌, ◌∙◌, ℕ, ◌+◌, ◌<◌, List, ap, arith, drop, get_or, length, sym}
 use Rattle.std.proofs.Math.ListN.{drop_of_length-le}
 use Rattle.std.proofs.lemmas.List.{drop_more}

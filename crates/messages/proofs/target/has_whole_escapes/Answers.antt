@@ -1,3 +1,4 @@
+-- Below `at` all is whole, and with the place there all is below the next.
 use Rattle.std.proofs.Common.{◌∙◌, IsTrue, below_more, sym}
 use Rattle.messages.specs.Target.{is_whole_at}
 use Rattle.messages.proofs.target.has_whole_escapes.Goals as goal

@@ -1,3 +1,4 @@
+-- The text begins with a letter, and behind the scheme stands `://`, so what follows decides.
 use Rattle.std.proofs.Common.{◌+◌, ◌↔◌, ◌∙◌, IsTrue, codes, drop, nat_eq, rules, subst, sym, take}
 use Rattle.std.proofs.lemmas.Bool.{false≢true}
 use Rattle.std.specs.List.{starts_with}
@@ -16,7 +17,8 @@ returns-then-starts_with c =
         sym c.begins_with_letter.ensures ∙ w.if-begins_with_letter.true,
         (let e = sym w.value-is ∙ c.if-starts_with.true in search rules),
       )
-      | else-begins_with_letter w ↦ absurd (false≢true (sym w.if-begins_with_letter.false ∙ sym w.value-is ∙ c.if-starts_with.true))
+      | else-begins_with_letter w ↦ absurd (false≢true (sym w.if-begins_with_letter.false ∙ sym w.value-is
+          ∙ c.if-starts_with.true))
     ] in
     let rest = subst (λ t. IsTrue c.is_behind_scheme.result ↔ IsBehindScheme c.is_web.result t) (take-drop (len + 3) text)
     c.is_behind_scheme.ensures in

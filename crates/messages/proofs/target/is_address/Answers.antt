@@ -1,3 +1,4 @@
+-- What is no future address is one just where the parser reads it, which reads each IPv6 text.
 use Rattle.std.proofs.Common.{◌∙◌, List, ℕ, IsTrue, Result, Ok, Err, inl, inr, refl, sym}
 use Rattle.std.proofs.lemmas.Bool.{false≢true}
 use Rattle.std.specs.Net.Grammar.{IsIpv6Text, Parses}

@@ -1,3 +1,4 @@
+-- The slice from the host on is all that stands behind the user.
 use Rattle.std.proofs.Common.{◌↔◌, IsTrue, drop, subst, sym}
 use Rattle.messages.specs.Target.{IsAuthority, IsHostAndPort}
 use Rattle.messages.proofs.Rest.{take-drop}

@@ -1,3 +1,4 @@
+-- It is no name, so it is a host just where what stands behind the bracket is bracketed.
 use Rattle.std.proofs.Common.{◌↔◌, IsTrue, inl, inr, subst, sym, ◌∙◌}
 use Rattle.std.proofs.lemmas.Bool.{false≢true}
 use Rattle.messages.specs.Target.{IsBracketed}

@@ -1,3 +1,4 @@
+-- Of a field that is named `host`, plain is just a value that names a host.
 use Rattle.std.proofs.Common.{◌∙◌, ap, subst, sym}
 use Rattle.std.specs.Prelude.{codes}
 use Rattle.http1.specs.Text.{eq_ignore_case}

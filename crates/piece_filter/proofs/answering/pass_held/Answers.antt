@@ -1,3 +1,4 @@
+-- The span that is held lends the payload, so what the service does for it is done for what is held.
 use Rattle.std.proofs.Common.{Err, Ok, false, subst, true}
 use Rattle.piece_filter.specs.Answering.{AnswersOne}
 use Rattle.piece_filter.proofs.Calls.{drops, passes, refused}

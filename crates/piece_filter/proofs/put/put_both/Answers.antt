@@ -1,3 +1,4 @@
+-- A send and the room made behind it take nothing in, so all or none of the bytes go in by `write_parts`.
 use Rattle.std.proofs.Common.{◌≡◌, Ok, [], ◌++◌, append-nil, subst, sym, arith, length-append}
 use Rattle.buffer_redux.specs.Block.{MakesRoom}
 use Rattle.buffer_redux.specs.BufWriter.{WasSent, WritesInOrder}

@@ -1,3 +1,4 @@
+-- The first bytes are plain, so the first end in the window behind them is the first of all.
 use Rattle.std.proofs.Common.{◌-◌, arith, drop, length-take-le, length-drop}
 use Rattle.piece_reader.proofs.Searching.{found_in, none_in}
 use Rattle.piece_reader.proofs.delimited.find_end.Goals as goal

@@ -1,3 +1,4 @@
+-- An end in front of `from` would stand within the searched bytes, so the first behind it is the first of all.
 use Rattle.std.proofs.Common.{arith}
 use Rattle.piece_reader.proofs.Terminating.{found_behind, none_behind}
 use Rattle.piece_reader.proofs.terminated.first_end.Goals as goal

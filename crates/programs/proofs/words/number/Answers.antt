@@ -1,3 +1,4 @@
+-- `parse` reads each word of digits that isn't empty and isn't too large, so one that it refuses is no number.
 use Rattle.std.proofs.Common.{◌≡◌, ℕ, zero, suc, List, ◌∷◌, All, None, Result, Ok, Err, sym, ◌∙◌, arith, rules}
 use Rattle.std.proofs.lemmas.Str.Parse.{IsDigitsTest, IsNumeralModel, numerals_by_value, parse_digits}
 use Rattle.std.specs.Char.{IsAsciiDigit}

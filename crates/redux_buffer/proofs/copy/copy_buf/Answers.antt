@@ -1,3 +1,4 @@
+-- Turns join, and the last moved nothing, unless the sum of what all moved passes what a `u64` holds.
 use Rattle.std.proofs.Common.{◌+◌, ◌∙◌, arith, refl, rules, inl, inr}
 use Rattle.std.proofs.lemmas.Result.{err_from_is_err_and}
 use Rattle.redux_buffer.specs.CopyLaws.{MovedBy-still, CopiesOn-none, CopiesOn-joins, CopyEnded-after, StreamFailed-after, TakesNothing-after}

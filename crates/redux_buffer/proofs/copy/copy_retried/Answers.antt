@@ -1,3 +1,4 @@
+-- An interrupted turn moves nothing and meets one fault, so the last turn's answer is that of them all.
 use Rattle.std.proofs.Common.{rules, arith, Ok, Err, refl, ◌∙◌}
 use Rattle.redux_buffer.specs.CopyLaws.{CopiesOn-none, CopiesOn-after, TakesNothing-after, TurnAnswers-after}
 use Rattle.redux_buffer.proofs.Turning.{last_retried}

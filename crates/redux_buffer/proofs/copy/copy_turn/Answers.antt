@@ -1,3 +1,4 @@
+-- A fill or a write that fails is one fault and moves nothing; else just what the writer took is consumed.
 use Rattle.std.proofs.Common.{length, ap, arith, rules, length-drop}
 use Rattle.std.proofs.lemmas.Result.{err_from_is_err_and}
 use Rattle.redux_buffer.proofs.Turning.{not_filled, not_written}

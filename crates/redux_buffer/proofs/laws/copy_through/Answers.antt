@@ -1,3 +1,4 @@
+-- The buffer was empty, so what is copied out is a front of what was copied in, and the rest of that is left.
 use Rattle.std.proofs.Common.{arith}
 use Rattle.std.proofs.lemmas.Grind.{common_steps}
 use Rattle.redux_buffer.proofs.laws.copy_through.Goals as goal

@@ -1,3 +1,4 @@
+-- An answer at once has no call before it; a first fault is the failed step that `retry_apart` goes on from.
 use Rattle.std.proofs.Common.{arith, refl}
 use Rattle.redux_buffer.proofs.retry.retried.Goals as goal
 
@@ -13,8 +14,8 @@ returns-in-Ok g c = record {
   };
 }
 
-pub retry_outlined-requires : goal.retry_outlined-requires
-retry_outlined-requires g c = record { may = g.met.A.Attempt.again _ _ _ _ c.requires.may c.in-Err.ensures.step }
+pub retry_apart-requires : goal.retry_apart-requires
+retry_apart-requires g c = record { may = g.met.A.Attempt.again _ _ _ _ c.requires.may c.in-Err.ensures.step }
 
 pub returns-in-Err : goal.returns-in-Err
-returns-in-Err g c = record { retried = c.retry_outlined.ensures.retried _ c.in-Err.ensures.step }
+returns-in-Err g c = record { retried = c.retry_apart.ensures.retried _ c.in-Err.ensures.step }

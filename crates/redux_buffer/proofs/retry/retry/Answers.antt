@@ -1,3 +1,4 @@
+-- Behind as many interrupted calls as the loop has counted, which are 64 at its end, the last one failed.
 use Rattle.std.proofs.Common.{arith, refl, rules, suc}
 use Rattle.std.proofs.Math.Numerals.{add-one}
 use Rattle.redux_buffer.proofs.retry.retry.Goals as goal

@@ -1,3 +1,4 @@
+-- Each turn adds one step to the run of the calls before it; to make room changes nothing of the run.
 use Rattle.std.proofs.Common.{true, false, [], ◌∷◌, ◌++◌, take, sym, ap, subst, ◌∙◌, arith, append_assoc, length-append, get_or}
 use Rattle.std.proofs.lemmas.List.{take_more}
 use Rattle.std.proofs.lemmas.Result.{err_from_is_err_and}

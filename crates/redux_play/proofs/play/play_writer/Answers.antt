@@ -1,3 +1,4 @@
+-- Each turn adds one step to the run of the calls before it; a refusal leaves the next call unbegun.
 use Rattle.std.proofs.Common.{true, false, [], ◌∷◌, ◌++◌, take, sym, ap, subst, ◌∙◌, arith, append_assoc, length-append}
 use Rattle.std.proofs.lemmas.List.{take_more}
 use Rattle.std.proofs.lemmas.Result.{err_from_is_err_and}

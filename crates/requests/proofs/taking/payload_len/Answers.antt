@@ -1,3 +1,4 @@
+-- The payload of each read joins what came before, which wasn't too large before the last read.
 use Rattle.std.proofs.Common.{◌≡◌, ℕ, ◌≤◌, List, [], ◌∷◌, ◌++◌, length, Result, Ok, Err, IfOk, ap, refl, arith, rules, inl, sym, ◌∙◌, length-append, subst}
 use Rattle.std.proofs.lemmas.List.{length-take-le}
 use Rattle.body_reader.specs.Between.{handed_out}

@@ -1,3 +1,4 @@
+-- The stream is asked only where nothing buffered is payload, and what was held was sent then.
 use Rattle.std.proofs.Common.{◌≡◌, ◌⊎◌, ℕ, List, [], take, Option, Ok, ap, subst, inl, inr, ◌∙◌, arith, rules}
 use Rattle.messages.specs.Messages.{InBody, InsideGoes}
 use Rattle.messages.specs.MessagesLaws.{InsideGoes-joins}
@@ -30,13 +31,15 @@ returns-in-Err-clause-goes g c =
 
 pub returns-in-Ok-read-clause-goes : goal.returns-in-Ok-read-clause-goes
 returns-in-Ok-read-clause-goes g c =
-    let first = read_none c.read_buffered-count.new.out (omega (arith, c.if-count-gt0.false)) c.read_buffered-count.ensures.goes in
+    let first = read_none c.read_buffered-count.new.out (omega (arith, c.if-count-gt0.false))
+    c.read_buffered-count.ensures.goes in
     InsideGoes-joins g.R.TellRead.remaining c.args.body.now c.read_buffered-count.new.self c.read.new.self []
     (take c.in-Ok-read.count c.read.new.out) first c.in-Ok-read.ensures.goes
 
 pub returns-in-Err-read-clause-goes : goal.returns-in-Err-read-clause-goes
 returns-in-Err-read-clause-goes g c =
-    let first = read_none c.read_buffered-count.new.out (omega (arith, c.if-count-gt0.false)) c.read_buffered-count.ensures.goes in
+    let first = read_none c.read_buffered-count.new.out (omega (arith, c.if-count-gt0.false))
+    c.read_buffered-count.ensures.goes in
     InsideGoes-joins g.R.TellRead.remaining c.args.body.now c.read_buffered-count.new.self c.read.new.self [] [] first
     c.in-Err-read.ensures.goes
 

@@ -1,3 +1,4 @@
+-- Whether some of the body is shown is what the test says, and only where none is what is held is sent.
 use Rattle.std.proofs.Common.{◌<◌, ◌≡◌, length, inl, inr, refl, rules, arith}
 use Rattle.requests.proofs.taking.send_unless_shown.Goals as goal
 

@@ -1,3 +1,4 @@
+-- Where no more of the body comes it has ended, so to finish it the stream is asked for nothing.
 use Rattle.std.proofs.Common.{[], ◌++◌, ◌∙◌, Ok, ap, inl}
 use Rattle.codec.specs.PieceReader.{left_of}
 use Rattle.messages.specs.MessagesLaws.{InsideGoes-joins}

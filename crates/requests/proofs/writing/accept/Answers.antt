@@ -1,3 +1,4 @@
+-- Each arm writes the text of its case.
 use Rattle.std.proofs.Common.{[], ◌++◌, if◌then◌else◌, sym, subst}
 use Rattle.requests.specs.Answers.{length_line, success}
 use Rattle.requests.specs.Sending.{PutsText}

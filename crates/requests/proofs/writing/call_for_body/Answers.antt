@@ -1,3 +1,4 @@
+-- Where the client waits the text is the call.
 use Rattle.std.proofs.Common.{subst, sym, ◌∙◌}
 use Rattle.requests.specs.Answers.{called}
 use Rattle.requests.specs.Sending.{PutsText}

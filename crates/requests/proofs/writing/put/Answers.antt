@@ -1,3 +1,4 @@
+-- The text is the parts, one behind the other, and to write them flushes nothing.
 use Rattle.requests.proofs.Sending.{PutsText-parts}
 use Rattle.buffer_redux.specs.WritePartsLaws.{WritesParts-unflushed}
 use Rattle.requests.proofs.writing.put.Goals as goal

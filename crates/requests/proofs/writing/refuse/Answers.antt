@@ -1,3 +1,4 @@
+-- Each arm writes the text of its case.
 use Rattle.std.proofs.Common.{subst, sym}
 use Rattle.requests.specs.Answers.{refusal}
 use Rattle.requests.specs.Sending.{PutsText}

@@ -1,3 +1,4 @@
+-- An empty buffer says that all was sent, as what is held is all that wasn't; another is flushed.
 use Rattle.std.proofs.Common.{◌≡◌, ◌<◌, length, inl, inr, refl, rules}
 use Rattle.std.proofs.lemmas.List.{nil_from_length}
 use Rattle.requests.proofs.writing.send_held.Goals as goal

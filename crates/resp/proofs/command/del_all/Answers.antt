@@ -1,3 +1,4 @@
+-- With the keys that are left all are taken out, and a key counts where it was there.
 use Rattle.std.proofs.Common.{◌≡◌, ap, arith, drop_of_length-le, inl, inr, refl, subst, sym, ◌+◌}
 use Rattle.resp.specs.Commands.{Deletes}
 use Rattle.resp.specs.Stored.{held}

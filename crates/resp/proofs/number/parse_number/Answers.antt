@@ -1,3 +1,4 @@
+-- The text of a number is UTF-8, is read as that number and is printed so again, so no test turns it away.
 use Rattle.std.proofs.Common.{◌≡◌, ◌∙◌, Ok, subst, sym, rules}
 use Rattle.std.proofs.lemmas.Fmt.{IsAscii-signed, parse-signed_decimal}
 use Rattle.std.proofs.lemmas.Str.{IsUtf8-from_ascii}

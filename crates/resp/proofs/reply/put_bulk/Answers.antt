@@ -1,3 +1,4 @@
+-- The parts are those of a bulk string, its length as `format` writes it.
 use Rattle.resp.proofs.reply.put_bulk.Goals as goal
 
 pub returns : goal.returns

@@ -1,3 +1,4 @@
+-- Whether a part was lost says what is due: the store as it was, or what the command means and does.
 use Rattle.std.proofs.Common.{inl, refl, subst, sym, true, ◌∙◌}
 use Rattle.std.specs.Prelude.{codes}
 use Rattle.codec.specs.AnsweringLaws.{AnswersBy-answered}

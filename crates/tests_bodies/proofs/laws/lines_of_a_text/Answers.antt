@@ -1,3 +1,4 @@
+-- What is read from the beginning of a line on is lines, and lines that are received are read so.
 use Rattle.std.proofs.Common.{subst, sym}
 use Rattle.body_reader.specs.ByByte.{by_byte}
 use Rattle.body_reader.specs.Coding.{IsBody}

@@ -1,3 +1,4 @@
+-- The line and its end are taken in one after the other, and flushed then; or the first that stopped is why.
 use Rattle.std.proofs.lemmas.Result.{err_from_is_err_and}
 use Rattle.buffer_redux.specs.WritesAlongLaws.{AllFlushed-of, StoppedAlong-after, StoppedAlong-more, WritesAll-all, WritesAll-took, WritesAlong-joins, WritesAlong-steady}
 use Rattle.tests_calls.proofs.example.log_line.Goals as goal

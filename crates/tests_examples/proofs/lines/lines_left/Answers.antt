@@ -1,3 +1,4 @@
+-- Each line that comes joins the run, and where none comes the stream has ended.
 use Rattle.std.proofs.Common.{◌∷◌, [], ◌++◌, arith, length-append, refl}
 use Rattle.std.proofs.lemmas.List.{map-append}
 use Rattle.line_reader.specs.LinesAlongLaws.{NextLine-none, NextLine-some}

@@ -1,3 +1,4 @@
+-- The rows so far take the text to where the parser stands, and where it has no next one the text is used up.
 use Rattle.std.proofs.Common.{◌≡◌, ◌∙◌, ◌∷◌, [], List, ℕ, Option, None, Some, IfSome, inl, inr, option_map, refl, rules, sym, true, vec_items}
 use Rattle.std.specs.Result.{is_ok}
 use Rattle.std.proofs.lemmas.List.{map-append}

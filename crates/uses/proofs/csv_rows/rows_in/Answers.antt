@@ -1,3 +1,4 @@
+-- A new reader has nothing buffered, so it has left what its stream has.
 use Rattle.std.proofs.Common.{arith, inl, refl}
 use Rattle.buffer_redux.specs.Policy.{std_read_rules}
 use Rattle.buffer_redux.specs.ReaderLaws.{Makes-left}

@@ -1,3 +1,4 @@
+-- A line goes on just where `contains` says so, so what was accepted is what goes on of the lines so far.
 use Rattle.std.proofs.Common.{◌≡◌, ◌∙◌, ℕ, List, [], ◌∷◌, ◌++◌, inl, inr, ap, arith, refl, sym, append-nil, append_assoc, length-append}
 use Rattle.std.proofs.lemmas.Result.{err_from_is_err_and}
 use Rattle.std.proofs.lemmas.Str.Pattern.{contains_text}
@@ -70,13 +71,15 @@ returns g c =
           FiltersAll-flushed g.R.TellRead.remaining c.args.word.now c.args.reader c.args.writer.now c.loop-line.writer
           c.flush.new.self g.W.Tell.log g.W.TellWrite.trace i.lines s.reader (i.hands some)
           (Ended-lines g.R.TellRead.remaining std_read_rules i.lines c.args.reader s c.next.new.self i.byte
-          i.begun (WantsBytes-std s.reader.policy) (omega (arith, some, (i.hands some).along.capacity)) i.turns none) i.out i.goes_on
+          i.begun (WantsBytes-std s.reader.policy) (omega (arith, some, (i.hands some).along.capacity)) i.turns none) i.out
+          i.goes_on
           i.accepted c.flush.result c.flush.ensures.flushed;
       some = λ some.
           FiltersSome-flushed g.R.TellRead.remaining c.args.word.now c.args.reader c.args.writer.now c.loop-line.writer
           c.flush.new.self g.W.Tell.log g.W.TellWrite.trace i.lines s.reader (i.hands some)
           (Ended-lines g.R.TellRead.remaining std_read_rules i.lines c.args.reader s c.next.new.self i.byte
-          i.begun (WantsBytes-std s.reader.policy) (omega (arith, some, (i.hands some).along.capacity)) i.turns none) i.out i.goes_on
+          i.begun (WantsBytes-std s.reader.policy) (omega (arith, some, (i.hands some).along.capacity)) i.turns none) i.out
+          i.goes_on
           i.accepted c.flush.result c.flush.ensures.flushed;
     }
 

@@ -1,3 +1,4 @@
+-- Each write takes a front of what is left of the text, so all of them took a front of it; no policy refuses one.
 use Rattle.std.proofs.Common.{length, ap, arith, length-drop, refl, inl, inr}
 use Rattle.std.proofs.lemmas.Slice.{between_to_end}
 use Rattle.buffer_redux.specs.WriterLaws.{WritesInOrder-piece, WritesInOrder-then}

@@ -1,3 +1,4 @@
+-- The reader is new over the text, so what it has left is the text.
 use Rattle.uses.proofs.int_lines.numbers_in.Goals as goal
 
 pub returns : goal.returns

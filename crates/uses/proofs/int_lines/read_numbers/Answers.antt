@@ -1,3 +1,4 @@
+-- Where no line is left none has a number, so the numbers so far are all.
 use Rattle.std.proofs.Common.{ℕ, List, [], Option, None, Some, append-nil, vec_items}
 use Rattle.std.specs.Io.KnownBytes.{IsAtEnd}
 use Rattle.uses.specs.IntLines.{AreKnownNumbers}

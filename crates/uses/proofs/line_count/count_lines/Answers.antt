@@ -1,3 +1,4 @@
+-- The bytes that were handed out have the line feeds that were counted, and a fill that shows none met the end.
 use Rattle.std.proofs.Common.{◌≡◌, ◌+◌, ◌==◌, inr, [], ◌++◌, length, refl, sym, ap, ◌∙◌, arith, length-append}
 use Rattle.std.proofs.lemmas.List.Sums.{count_by-le-length, sum_by-append}
 use Rattle.buffer_redux.specs.ReaderLaws.{ReadsAlong-none, ReadsAlong-shown, ReadsToEnd-of, ReadsToEnd-known}

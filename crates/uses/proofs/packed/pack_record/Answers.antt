@@ -1,3 +1,4 @@
+-- Two writes in order are one of both, and why the second stopped holds since before the first.
 use Rattle.std.proofs.Common.{List, ℕ, ◌++◌, ◌∙◌, ap, Result, Ok, Err, IfErr, OnOk}
 use Rattle.std.specs.declared.io.Error.{Error}
 use Rattle.buffer_redux.specs.Buffered.{Buffered}

@@ -1,3 +1,4 @@
+-- What a turn moved joins what went over before, and each turn that moved something was reported once.
 use Rattle.std.proofs.Common.{◌≡◌, ◌+◌, suc, rules, arith, inl, inr, length, ap, length-append}
 use Rattle.std.proofs.lemmas.Result.{err_from_is_err_and}
 use Rattle.std.specs.Io.Iter.{u64_saturate}

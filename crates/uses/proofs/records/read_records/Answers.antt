@@ -1,3 +1,4 @@
+-- Where nothing is left, what was consumed is all that there was.
 use Rattle.std.proofs.Common.{◌≡◌, ℕ, List, Option, None, Some, IfSome, ap, ◌∙◌, ◌++◌, append-nil}
 use Rattle.std.specs.Io.KnownBytes.{Consumes, IsAtEnd}
 use Rattle.uses.proofs.records.read_records.Goals as goal

@@ -1,3 +1,4 @@
+-- A fill under a minimum of 16 bytes or more shows the first 16 that are left, or all, and drops none.
 use Rattle.std.proofs.Common.{◌≡◌, ℕ, List, Option, IfSome, take, refl, ap, ◌∙◌}
 use Rattle.std.proofs.lemmas.List.{take_min}
 use Rattle.std.proofs.lemmas.Option.{IfSome_then}

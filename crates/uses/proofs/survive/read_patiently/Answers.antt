@@ -1,3 +1,4 @@
+-- What a turn handed out joins what was gained before, and each fault that was passed over is one that passes.
 use Rattle.std.proofs.Common.{[], sym, append-nil, vec_items, ◌-◌, ◌∙◌, ap, arith, inl, inr, subst, rules}
 use Rattle.buffer_redux.specs.ReaderLaws.{ReadsAlong-none}
 use Rattle.uses.specs.Stops.{MayGoOn, MetPassing}

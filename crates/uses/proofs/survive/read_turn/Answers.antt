@@ -1,3 +1,4 @@
+-- What the fill shows is appended and consumed, and where it shows nothing the reader ran dry.
 use Rattle.std.proofs.Common.{[], sym, append-nil, vec_items, ap, arith}
 use Rattle.buffer_redux.specs.ReaderLaws.{ReadsAlong-none, ReadsAlong-shown, ReadsToEnd-of, FillBuf-along}
 use Rattle.uses.proofs.survive.read_turn.Goals as goal

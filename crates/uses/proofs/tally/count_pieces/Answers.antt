@@ -1,3 +1,4 @@
+-- Each `read_until` hands out one line, which lacks its end only where the reader ran dry; one of nothing is the end.
 use Rattle.std.proofs.Common.{[], ◌∷◌, ◌++◌, inl, inr, refl, sym, subst, arith, length-append}
 use Rattle.std.proofs.lemmas.Result.{err_from_is_err_and}
 use Rattle.buffer_redux.specs.ReaderLaws.{WantsBytes}

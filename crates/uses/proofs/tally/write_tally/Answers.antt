@@ -1,3 +1,4 @@
+-- Writes join, so what was accepted, whichever of them fails, is a front of the count, the line and its end.
 use Rattle.std.proofs.Common.{[], ◌∷◌, ◌++◌, subst, ◌∙◌}
 use Rattle.std.proofs.lemmas.Result.{err_from_is_err_and}
 use Rattle.buffer_redux.specs.BufWriter.{BegunAlong, FrontAlong}

@@ -1,3 +1,4 @@
+-- A read that gives no payload ends the body, and the look behind it answers; else the read's answer does.
 use Rattle.std.proofs.Common.{length, arith, ap, ◌∙◌}
 use Rattle.bodies.proofs.DecodingCalls.{asked_behind, asked_failed, asked_more}
 use Rattle.bodies.proofs.decoding.DecodingFilter.ask.Goals as goal

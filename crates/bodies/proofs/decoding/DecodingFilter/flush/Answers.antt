@@ -1,3 +1,4 @@
+-- The writer's flush answers, and nothing is handed out or taken in.
 use Rattle.bodies.proofs.DecodingCalls.{flushes_all}
 use Rattle.bodies.proofs.decoding.DecodingFilter.flush.Goals as goal
 

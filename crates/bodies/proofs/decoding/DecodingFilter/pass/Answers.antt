@@ -1,3 +1,4 @@
+-- The piece that is held is taken in whole; where it couldn't be, nothing of it is, and it is held still.
 use Rattle.std.proofs.Common.{Err, Ok, arith, subst, take}
 use Rattle.std.proofs.lemmas.Result.{err_from_is_err_and}
 use Rattle.bodies.specs.Decoding.{WritesPayload}

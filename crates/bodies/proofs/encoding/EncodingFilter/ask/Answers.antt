@@ -1,3 +1,4 @@
+-- Nothing was buffered, so the fill asked the reader: what is shown came just then, and nothing shown is the end.
 use Rattle.std.proofs.Common.{length, ap, ◌∙◌, ◌==◌}
 use Rattle.buffer_redux.specs.Policy.{std_read_rules}
 use Rattle.buffer_redux.specs.ReaderLaws.{FillBuf-along}

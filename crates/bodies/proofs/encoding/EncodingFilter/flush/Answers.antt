@@ -1,3 +1,4 @@
+-- The flush of the writer of chunks answers, and takes in no payload.
 use Rattle.bodies.proofs.EncodingCalls.{flushes_all}
 use Rattle.bodies.proofs.encoding.EncodingFilter.flush.Goals as goal
 

@@ -1,3 +1,4 @@
+-- A chunk of what is buffered fits the writer's capacity, so some of it is taken in, and just that is consumed.
 use Rattle.std.proofs.Common.{length, ◌==◌, ◌≤◌, Err, Ok, ap, subst, sym, ◌∙◌}
 use Rattle.std.proofs.lemmas.Result.{err_from_is_err_and}
 use Rattle.buffer_redux.specs.ReaderLaws.{ReaderConsumes-along}

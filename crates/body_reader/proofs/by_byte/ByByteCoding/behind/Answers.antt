@@ -1,3 +1,4 @@
+-- A run over bytes that are all payload takes them all, and stands where they lead.
 use Rattle.std.proofs.Common.{[]}
 use Rattle.body_reader.specs.ByByteLaws.{ran_leads, ran_still}
 use Rattle.body_reader.proofs.by_byte.ByByteCoding.behind.Goals as goal

@@ -1,3 +1,4 @@
+-- A run that begins at a byte of payload has some, and each of its bytes is payload, whatever follows.
 use Rattle.std.proofs.Common.{◌∙◌, sym}
 use Rattle.body_reader.specs.ByByteLaws.{looks_payload}
 use Rattle.body_reader.proofs.by_byte.ByByteCoding.look.Goals as goal

@@ -1,3 +1,4 @@
+-- What is surely payload is clear of the delimiter, so it leads on as in a body that ends at that.
 use Rattle.body_reader.specs.JustOrUntilLaws.{text_leads, text_still}
 use Rattle.body_reader.proofs.just_or_until.JustOrUntilCoding.behind.Goals as goal
 

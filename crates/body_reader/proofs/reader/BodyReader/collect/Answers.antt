@@ -59,7 +59,8 @@ loop-came-preserved g c =
     let fills = c.in_ok-came.ensures.fills in
     let all : min c.in_ok-came.came f.known ≡ f.known = omega (arith, fills.answers.0) in
     let went : BodyWent remaining rules' (grammar f.coding) f (take f.known f.reader.block.bytes) t =
-    subst (λ k. BodyWent remaining rules' (grammar f.coding) f (take k f.reader.block.bytes) t) all c.consume_payload.ensures.went in
+    subst (λ k. BodyWent remaining rules' (grammar f.coding) f (take k f.reader.block.bytes) t) all
+    c.consume_payload.ensures.went in
     let same = added c.extend_from_slice.result (vec_items c.loop-came.out) c.piece.result.now
     (vec_items c.extend_from_slice.new.self) c.extend_from_slice.ensures.items
     (sym c.is_err.ensures.value ∙ c.if-is_err.false) in
@@ -67,4 +68,11 @@ loop-came-preserved g c =
     subst (Collected remaining rules' (grammar s.coding) c.args.most s (vec_items c.args.out.now) t) (sym (same ∙ piece))
     (collected_more grammar c.loop-came.invariant fills (omega (arith, c.if-came-eq0.false)) (g.met.C.Coding.lawful s.coding) t
     went c.consume_payload.ensures.told c.consume_payload.ensures.left c.consume_payload.ensures.whole
-    (omega (arith, fills.answers.0, c.if-came-eq0.false, c.if-came-saturating_sub.false, c.saturating_sub.ensures, c.len.ensures)))
+    (omega (
+      arith,
+      fills.answers.0,
+      c.if-came-eq0.false,
+      c.if-came-saturating_sub.false,
+      c.saturating_sub.ensures,
+      c.len.ensures,
+    )))

@@ -1,3 +1,4 @@
+-- The front of what is known is payload, and the call's note hands out just that.
 use Rattle.std.proofs.Common.{◌≡◌, Ok, ap, arith, min, subst, sym, take, ◌∙◌}
 use Rattle.buffer_redux.specs.StreamLog.{after_read}
 use Rattle.body_reader.specs.BodyReader.{BodyWent}
@@ -10,7 +11,8 @@ returns-then-count-eq0-clause-went g c =
     let s = c.args.self.now in
     let none : min c.args.count s.known ≡ 0 =
     omega (arith, c.if-count-eq0.true, c.min-count.ensures, ap (λ x. x.known) c.self.view_is) in
-    subst (λ k. BodyWent g.R.TellRead.remaining g.P.ReaderPolicy.rules (g.C.Coding.grammar s.coding) s (take k s.reader.block.bytes) s)
+    subst (λ k. BodyWent g.R.TellRead.remaining g.P.ReaderPolicy.rules (g.C.Coding.grammar s.coding) s
+    (take k s.reader.block.bytes) s)
     (sym none) (BodyWent-none g.R.TellRead.remaining g.P.ReaderPolicy.rules (g.C.Coding.grammar s.coding) s)
 
 pub invariant_of-self : goal.invariant_of-self

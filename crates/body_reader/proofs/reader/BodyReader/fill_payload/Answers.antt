@@ -1,3 +1,4 @@
+-- What is known stays so with nothing done; else the step's clause, read through the reader's view.
 use Rattle.std.proofs.Common.{◌≡◌, arith}
 use Rattle.body_reader.proofs.Payload.{fill_known, filled, filled_is, fills_seen, known_seen, not_filled, not_filled_is}
 use Rattle.body_reader.proofs.Said.{fill_says}

@@ -1,3 +1,4 @@
+-- What the drain took completes the body, and the buffered reader is handed back as that left it.
 use Rattle.body_reader.proofs.Said.{finish_says}
 use Rattle.body_reader.proofs.reader.BodyReader.finish.Goals as goal
 

@@ -1,3 +1,4 @@
+-- A look at one byte shows none only where the stream gave none, and what is known stays so where more is shown.
 use Rattle.std.proofs.lemmas.Result.{err_from_is_err_and}
 use Rattle.body_reader.proofs.Behind.{behind_is, behind_seen, looks_failed, looks_told}
 use Rattle.body_reader.proofs.Said.{look_says}

@@ -1,3 +1,4 @@
+-- Nobody was asked, so what was taken and what is left are together what was buffered.
 use Rattle.body_reader.proofs.Showing.{buffered_seen, shown_is, shown_reads}
 use Rattle.body_reader.proofs.Said.{buffered_says}
 use Rattle.body_reader.proofs.reader.BodyReader.read_buffered.Goals as goal

@@ -1,3 +1,4 @@
+-- The step's clause, read through the reader's view, with an Ok answer noted and no other.
 use Rattle.body_reader.proofs.Payload.{noted_none, noted_some, reads_payload, still_reader}
 use Rattle.body_reader.proofs.reader.BodyReader.read_payload.Goals as goal
 

@@ -1,3 +1,4 @@
+-- In the bytes before the first place where the delimiter stands, or may begin, it begins nowhere.
 use Rattle.std.proofs.Common.{◌≡◌, ◌+◌, ap, arith, length, refl, subst, sym}
 use Rattle.memchr.specs.Find.{Nowhere, OccursAt}
 use Rattle.body_reader.specs.declared.coding.Look.TheVariants.{Passed}

@@ -1,3 +1,4 @@
+-- Each turn is a read that the policy ordered and that gave bytes, so only the last read can have run dry.
 use Rattle.std.proofs.Common.{◌<◌, Result, Ok, Err, suc, arith, rules, inl, inr, refl, subst, sym}
 use Rattle.std.proofs.lemmas.Result.{err_from_is_err_and}
 use Rattle.std.specs.declared.io.Error.{Error}

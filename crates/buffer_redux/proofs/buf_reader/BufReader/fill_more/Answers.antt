@@ -1,3 +1,4 @@
+-- A read behind what is buffered keeps it, so an unchanged length means that the stream ended there.
 use Rattle.std.proofs.Common.{◌∙◌, ap, arith, length, sym}
 use Rattle.buffer_redux.proofs.LineSteps.{more_broken, more_read}
 use Rattle.buffer_redux.proofs.buf_reader.BufReader.fill_more.Goals as goal

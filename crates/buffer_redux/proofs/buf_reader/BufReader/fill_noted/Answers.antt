@@ -1,3 +1,4 @@
+-- Noting the call changes nothing that the fill did.
 use Rattle.std.proofs.Common.{rules, subst, sym}
 use Rattle.buffer_redux.specs.BufReader.{Fills}
 use Rattle.buffer_redux.specs.Fill.{Filled}

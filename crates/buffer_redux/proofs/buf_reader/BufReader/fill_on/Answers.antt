@@ -1,3 +1,4 @@
+-- The first read is the filling's first turn, or its end where it failed or gave nothing.
 use Rattle.std.proofs.Common.{refl}
 use Rattle.std.proofs.lemmas.Result.{err_from_is_err_and}
 use Rattle.buffer_redux.proofs.ReadSteps.{fault_did, dry_did, more_did}

@@ -1,9 +1,9 @@
+-- What was handed so far lacks the byte, and each fill shows more than the sink left, so the loop ends.
 use Rattle.std.proofs.Common.{◌≡◌, ◌<◌, ◌∙◌, ap, length, subst, sym}
 use Rattle.std.proofs.lemmas.Result.{err_from_is_err_and}
 use Rattle.redux_buffer.specs.Block.{IsBlock}
 use Rattle.buffer_redux.specs.ReadUntil.{FirstAt, Lacks}
-use Rattle.buffer_redux.proofs.HandSteps.{HandedOn, ends_at_all, ends_empty, ends_failed, ends_reached, fills_more, handed_filled}
-use Rattle.buffer_redux.proofs.HandSteps.{handed_none, handed_on}
+use Rattle.buffer_redux.proofs.HandSteps.{HandedOn, ends_at_all, ends_empty, ends_failed, ends_reached, fills_more, handed_filled, handed_none, handed_on}
 use Rattle.buffer_redux.proofs.buf_reader.BufReader.hand_until.Goals as goal
 use Rattle.buffer_redux.proofs.buf_reader.BufReader.hand_until.Goals.{After-fill_more, After-first_of}
 

@@ -1,3 +1,4 @@
+-- Reads ahead add bytes behind those buffered, so the front that is shown begins with what was there.
 use Rattle.std.proofs.Common.{◌≡◌, ◌∙◌, arith, Ok, ap, min, refl, subst, sym, take}
 use Rattle.std.specs.Io.{StartsWith}
 use Rattle.std.proofs.lemmas.List.{take_min}

@@ -1,3 +1,4 @@
+-- Each turn had room for all that lacked, and gave bytes; a fault or a read of none is the last one.
 use Rattle.std.proofs.Common.{ℕ, ◌-◌, ◌∙◌, length, Result, Ok, Err, arith, rules, ap, subst}
 use Rattle.std.proofs.lemmas.Result.{err_from_is_err_and}
 use Rattle.std.specs.declared.io.Error.{Error}

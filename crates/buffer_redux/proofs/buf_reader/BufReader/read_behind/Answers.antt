@@ -1,3 +1,4 @@
+-- To make space keeps the bytes and asks nobody, so one read past the policy is all that was asked.
 use Rattle.std.proofs.lemmas.Result.{err_from_is_err_and}
 use Rattle.buffer_redux.proofs.LineSteps.{behind_failed, behind_read}
 use Rattle.buffer_redux.proofs.buf_reader.BufReader.read_behind.Goals as goal

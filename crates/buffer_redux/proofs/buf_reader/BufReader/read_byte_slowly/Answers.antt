@@ -1,3 +1,4 @@
+-- Where no byte could be taken, none was buffered, and the fill begins with the reader as it was.
 use Rattle.std.proofs.Common.{subst}
 use Rattle.buffer_redux.specs.ReadByte.{FillsAndTakes}
 use Rattle.buffer_redux.proofs.ByteSteps.{reads_filled}

@@ -1,5 +1,5 @@
-use Rattle.std.proofs.Common.{arith}
-use Rattle.std.proofs.Common.{rules}
+-- The bytes that came stand behind those buffered, and are just what the inner reader gave.
+use Rattle.std.proofs.Common.{arith, rules}
 use Rattle.std.proofs.lemmas.Grind.{common_steps}
 use Rattle.buffer_redux.proofs.FillFacts.{ReadsInOrder-read_from, read_from_grows}
 use Rattle.buffer_redux.proofs.buf_reader.BufReader.read_into_buf.Goals as goal

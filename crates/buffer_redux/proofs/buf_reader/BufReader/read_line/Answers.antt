@@ -1,3 +1,4 @@
+-- A whole line that is no UTF-8 is mended by nothing that follows; any other is appended, or none of it.
 use Rattle.std.proofs.Common.{◌≡◌, ◌+◌, ◌∙◌, [], take, subst, sym, ap, arith, append-nil, inl, inr}
 use Rattle.std.proofs.lemmas.Result.{err_from_is_err_and}
 use Rattle.std.proofs.lemmas.Str.{IsUtf8-nil}
@@ -63,8 +64,8 @@ returns-in_ok-n-in-Some-clause-bytes g c =
 
 pub returns-in-None-clause-bytes : goal.returns-in-None-clause-bytes
 returns-in-None-clause-bytes g c =
-    ReadsLine-known g.R.TellRead.remaining g.P.ReaderPolicy.rules c.args.self.now _ _ _ c.read_line_outlined.new.self
-    c.read_line_outlined.ensures.line
+    ReadsLine-known g.R.TellRead.remaining g.P.ReaderPolicy.rules c.args.self.now _ _ _ c.read_line_apart.new.self
+    c.read_line_apart.ensures.line
 
 pub returns-in_err-n-in-Some-clause-invalid : goal.returns-in_err-n-in-Some-clause-invalid
 returns-in_err-n-in-Some-clause-invalid g c =
@@ -73,8 +74,8 @@ returns-in_err-n-in-Some-clause-invalid g c =
 
 pub returns-in-None-clause-invalid : goal.returns-in-None-clause-invalid
 returns-in-None-clause-invalid g c =
-    ReadsLine-invalid g.R.TellRead.remaining g.P.ReaderPolicy.rules c.args.self.now _ _ _ c.read_line_outlined.new.self
-    c.read_line_outlined.ensures.line
+    ReadsLine-invalid g.R.TellRead.remaining g.P.ReaderPolicy.rules c.args.self.now _ _ _ c.read_line_apart.new.self
+    c.read_line_apart.ensures.line
 
 pub returns-in_err-n-in-Some-clause-appended : goal.returns-in_err-n-in-Some-clause-appended
 returns-in_err-n-in-Some-clause-appended g c =
@@ -86,4 +87,4 @@ returns-in_ok-n-in-Some-clause-appended g c =
 
 pub returns-in-None-clause-appended : goal.returns-in-None-clause-appended
 returns-in-None-clause-appended g c =
-    let line = c.read_line_outlined.ensures.line in (line.handed, line.appended, line.front.in_order, line.count)
+    let line = c.read_line_apart.ensures.line in (line.handed, line.appended, line.front.in_order, line.count)

@@ -1,3 +1,4 @@
+-- No part of a character ends in a line feed, and the text's lengths before and after count what was handed out.
 use Rattle.std.proofs.Common.{◌∙◌}
 use Rattle.std.proofs.lemmas.Result.{err_from_is_err_and}
 use Rattle.buffer_redux.proofs.UntilSteps.{appended_length}

@@ -1,3 +1,4 @@
+-- Turn by turn the slice's bytes before `at` were handed out, and each further read is one into what is left.
 use Rattle.std.proofs.Common.{◌≡◌, ◌+◌, ◌-◌, ◌≤◌, arith, rules, length, length-drop, ap, ◌∙◌, le_refl, refl}
 use Rattle.std.proofs.lemmas.Result.{err_from_is_err_and}
 use Rattle.std.proofs.lemmas.Slice.{between_to_end}

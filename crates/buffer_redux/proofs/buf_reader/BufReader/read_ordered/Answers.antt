@@ -1,3 +1,4 @@
+-- Some bytes are buffered, so the first read stays inside, whether it fills on or finds no room.
 use Rattle.std.proofs.Common.{◌≡◌, true, Ok, refl, inl, ap, arith}
 use Rattle.redux_buffer.specs.Block.{usable}
 use Rattle.buffer_redux.proofs.ReadSteps.{one_read_says, full_did}

@@ -1,12 +1,10 @@
-use Rattle.std.proofs.Common.{◌≡◌, ◌==◌, ℕ, true, zero, suc, [], Ok, length, refl, arith, sym, ◌∙◌}
+-- No bytes are no read; else the reads of what is left join the first one.
+use Rattle.std.proofs.Common.{◌≡◌, [], Ok, length, sym, ◌∙◌}
 use Rattle.std.proofs.lemmas.List.{nil_from_length}
 use Rattle.buffer_redux.specs.ReadAll.{ReadsExactly}
 use Rattle.buffer_redux.proofs.ReadAll.{all_none, one_read}
+use Rattle.buffer_redux.proofs.Testing.{zero_of}
 use Rattle.buffer_redux.proofs.buf_reader.BufReader.read_rest.Goals as goal
-
-zero_of : (n : ℕ) → (n == 0) ≡ true → n ≡ 0
-zero_of zero is = refl
-zero_of (suc n) is = grind (arith, is)
 
 -- nothing is to be read, and a read after another
 nothing : (g : _) (c : goal.Then-is_empty g)

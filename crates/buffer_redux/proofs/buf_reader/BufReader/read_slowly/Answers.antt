@@ -1,3 +1,4 @@
+-- What the fill says doesn't hang on what its Ok carries, and the hand-out goes on from there.
 use Rattle.std.proofs.Common.{refl}
 use Rattle.std.proofs.lemmas.Result.{err_from_is_err_and}
 use Rattle.buffer_redux.specs.FillLaws.{Filled-ok, Filled-err}

@@ -1,3 +1,4 @@
+-- Where the byte is buffered, the bytes through it are appended, or none of them for want of memory.
 use Rattle.std.proofs.Common.{◌≡◌, ◌+◌, ◌∙◌, [], take, subst, sym, ap, arith, append-nil, inl}
 use Rattle.std.proofs.lemmas.Result.{err_from_is_err_and}
 use Rattle.redux_buffer.specs.Block.{IsBlock}
@@ -60,7 +61,7 @@ returns-in_ok-append_first-in-Some g c =
 
 pub returns-in-None : goal.returns-in-None
 returns-in-None g c =
-    let until = c.read_until_outlined.ensures.until in record {
+    let until = c.read_until_apart.ensures.until in record {
       appended = (until.handed, until.appended, until.front.in_order, until.count);
       until = until;
       bytes = ReadsUntil-known g.R.TellRead.remaining g.P.ReaderPolicy.rules c.args.byte c.args.self.now _ _ _ _ until;

@@ -1,3 +1,4 @@
+-- What the vector took is what was handed out, so its lengths before and after count that.
 use Rattle.std.proofs.Common.{◌∙◌}
 use Rattle.std.proofs.lemmas.Result.{err_from_is_err_and}
 use Rattle.buffer_redux.proofs.HandSteps.{some_last}

@@ -1,3 +1,4 @@
+-- The clauses are those of the inner reader's seek, and the buffer is cleared only behind an Ok.
 use Rattle.std.proofs.Common.{arith}
 use Rattle.std.proofs.lemmas.Grind.{common_steps}
 use Rattle.buffer_redux.proofs.buf_reader.BufReader.seek_once.Goals as goal

@@ -1,3 +1,4 @@
+-- The byte's first place counts the bytes through it, and a consume of just these drops them.
 use Rattle.std.proofs.Common.{◌≡◌, ◌+◌, ◌∙◌, [], take, subst, ap, arith, refl, inl, sym}
 use Rattle.redux_buffer.specs.Block.{IsBlock}
 use Rattle.buffer_redux.specs.ReadBehind.{FillsOn}
@@ -33,7 +34,7 @@ returns-in-Some g c =
 
 pub returns-in-None : goal.returns-in-None
 returns-in-None g c =
-    let until = c.skip_until_outlined.ensures.until in record {
+    let until = c.skip_until_apart.ensures.until in record {
       dropped = (until.handed, until.front.in_order, until.count);
       until = until;
       count = SkipsUntil-known g.R.TellRead.remaining g.P.ReaderPolicy.rules c.args.byte c.args.self.now _ _ until;

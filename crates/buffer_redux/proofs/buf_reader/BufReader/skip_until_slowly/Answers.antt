@@ -1,3 +1,4 @@
+-- The tally begins at 0, so its total is the number of bytes that were handed out.
 use Rattle.std.proofs.Common.{arith, inl, inr}
 use Rattle.std.proofs.lemmas.Result.{err_from_is_err_and}
 use Rattle.buffer_redux.proofs.HandSteps.{some_last}

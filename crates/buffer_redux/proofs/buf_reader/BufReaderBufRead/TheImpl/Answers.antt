@@ -1,3 +1,4 @@
+-- What holds once the borrow ends is weakened to std's clause: a fill keeps what is known to be ahead.
 use Rattle.std.specs.Prelude.{◌≡◌, [], length, Some, IfSome, IfOk}
 use Rattle.std.specs.Io.{StartsWith}
 use Rattle.std.specs.Io.BufRead.{FillKeeps}
@@ -5,7 +6,7 @@ use Rattle.buffer_redux.specs.BufReader.{FillBuf}
 use Rattle.buffer_redux.specs.Remaining.{reader_remaining}
 use Rattle.buffer_redux.proofs.KnownAhead.{fill_keeps}
 use Rattle.buffer_redux.specs.contracts.buf_reader.BufReader.{the_row}
-use Rattle.buffer_redux.proofs.Resting.{rests_widens}
+use Rattle.buffer_redux.specs.RestsLaws.{rests_widens}
 use base.Logic.{mono_r, id⊢, snd∗, via}
 use borrow.Fn.Refines.{by_parts}
 use contract.Monad.{fact, fact_i}

@@ -1,3 +1,4 @@
+-- To take `amount` of the bytes that are buffered is to take the smaller of it and their number.
 use Rattle.std.proofs.Common.{arith}
 use Rattle.std.proofs.lemmas.Grind.{common_steps}
 use Rattle.buffer_redux.proofs.buf_reader.BufReaderBufRead.consume.Goals as goal

@@ -1,3 +1,4 @@
+-- The bytes shown are all that are buffered: they begin with what was, and are the front of what is ahead.
 use Rattle.std.proofs.Common.{◌≡◌, Ok, refl, subst, sym, ap, ◌∙◌}
 use Rattle.std.proofs.lemmas.Result.{err_from_is_err_and}
 use Rattle.buffer_redux.specs.BufReader.{Fills, InnerGives}

@@ -1,5 +1,5 @@
-use Rattle.std.proofs.Common.{true, length, Ok, Err, inl, inr, refl, ap, subst, arith}
-use Rattle.std.proofs.Common.{rules}
+-- Past the buffer it is the inner read; inside it is a fill, begun by the policy's answer, and at Ok a hand-out.
+use Rattle.std.proofs.Common.{true, length, Ok, Err, inl, inr, refl, ap, subst, arith, rules}
 use Rattle.std.proofs.lemmas.Bool.{cases_lt}
 use Rattle.std.proofs.lemmas.Result.{err_from_is_err_and}
 use Rattle.std.proofs.lemmas.Grind.{common_steps}
@@ -77,8 +77,8 @@ returns-then-usable_space-gt0 g c =
     let table = g.P.ReaderPolicy.rules in
     let m = asked_reader g before in
     let is = subst (λ a. AskedRead table a c.args.self.now m) c.in_ok-before_read.was (asked g before) in
-    says g.R.TellRead.remaining table c.args.self.now c.args.out.now c.read_outlined.result c.read_outlined.new.out
-    c.read_outlined.new.self (c.read_outlined.ensures.read c.args.self.now
+    says g.R.TellRead.remaining table c.args.self.now c.args.out.now c.read_apart.result c.read_apart.new.out
+    c.read_apart.new.self (c.read_apart.ensures.read c.args.self.now
     (asked_so table c.args.self.now m c.in_ok-before_read.field-0 true c.if-branch.true is)) (inside g before)
 
 -- the policy said no, or left no room

@@ -1,3 +1,4 @@
+-- Where enough is buffered and the policy wants no more, one read fills the slice; the other ways stand apart.
 use Rattle.std.proofs.Common.{◌≡◌, ◌<◌, true, length, Ok, Err, refl, ap, inl, subst, sym, ◌∙◌, arith}
 use Rattle.buffer_redux.specs.Buffered.{Buffered}
 use Rattle.buffer_redux.specs.ReadInside.{AskedRead, ReadsInside}
@@ -36,7 +37,7 @@ has_some g c = omega (
 )
 
 pub returns-then-is_empty : goal.returns-then-is_empty
-returns-then-is_empty g c = exact_says _ _ _ _ _ _ c.read_rest_outlined.ensures.exact
+returns-then-is_empty g c = exact_says _ _ _ _ _ _ c.read_rest_apart.ensures.exact
 
 -- the policy wants more
 pub returns-then-more : goal.returns-then-more
@@ -45,7 +46,7 @@ returns-then-more g c =
     let table = g.P.ReaderPolicy.rules in
     let m = asked_reader g before in
     let is = subst (λ a. AskedRead table a c.args.self.now m) c.in-Ok.is (asked g before) in
-    exact_says _ _ _ _ _ _ (c.read_ordered_outlined.ensures.exact c.args.self.now
+    exact_says _ _ _ _ _ _ (c.read_ordered_apart.ensures.exact c.args.self.now
     (asked_so table c.args.self.now m c.in-Ok.field-0 true c.if-more.true is) (has_some g before))
 
 -- the policy wants no more
@@ -87,7 +88,7 @@ returns-in-Err g c =
     let remaining = g.R.TellRead.remaining in
     let m = asked_reader g before in
     let is = subst (λ a. AskedRead table a c.args.self.now m) c.in-Err.is (asked g before) in
-    exact_says _ _ _ _ _ _ (c.read_on_outlined.ensures.exact c.args.self.now (one_read_says remaining table c.args.self.now
+    exact_says _ _ _ _ _ _ (c.read_on_apart.ensures.exact c.args.self.now (one_read_says remaining table c.args.self.now
     c.args.out.now (Err c.in-Err.e) c.args.out.now m (rw (← c.self-2.view_is) c.self-2.invariant)
     (refused_did remaining table c.args.self.now m c.in-Err.e is, refl)
     (inl (has_some g before))))

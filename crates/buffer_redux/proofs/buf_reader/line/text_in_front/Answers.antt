@@ -1,3 +1,4 @@
+-- Where std finds a fault, nothing that follows mends it; else at most part of a character is behind the text.
 use Rattle.std.proofs.Common.{◌∙◌, ap, subst, sym, take}
 use Rattle.std.specs.Str.{IsErrorLen}
 use Rattle.buffer_redux.proofs.Utf8Fronts.{front_part, front_whole, never_at_fault}

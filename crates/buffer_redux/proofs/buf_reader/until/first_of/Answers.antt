@@ -1,3 +1,4 @@
+-- The search says by index which bytes differ, so the front lacks the byte, or all of them do.
 use Rattle.buffer_redux.proofs.Searching.{first_at, lacks_all}
 use Rattle.buffer_redux.proofs.buf_reader.until.first_of.Goals as goal
 

@@ -1,3 +1,4 @@
+-- Where sending failed, the handler's call is the last step; else both parts stay as sending left them.
 use Rattle.std.proofs.Common.{◌≡◌, ◌∙◌, [], Ok, Err, ap, length, refl, sym}
 use Rattle.buffer_redux.specs.Buffered.{Buffered}
 use Rattle.buffer_redux.proofs.buf_writer.BufWriter.finish.Goals as goal

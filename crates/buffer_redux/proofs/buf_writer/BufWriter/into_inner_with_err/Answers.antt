@@ -1,3 +1,4 @@
+-- The inner writer that comes back is that of the writer as the flush left it.
 use Rattle.std.proofs.Common.{◌∙◌, ap, sym}
 use Rattle.buffer_redux.proofs.buf_writer.BufWriter.into_inner_with_err.Goals as goal
 use Rattle.buffer_redux.proofs.buf_writer.BufWriter.into_inner_with_err.Goals.{in-Ok, in-Err}

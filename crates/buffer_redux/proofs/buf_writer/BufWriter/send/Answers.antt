@@ -1,3 +1,4 @@
+-- Sending was of all that is buffered, so at Ok none of it is left.
 use Rattle.std.proofs.Common.{refl}
 use Rattle.std.proofs.lemmas.Result.{on_ok_weaker}
 use Rattle.buffer_redux.specs.BufWriter.{WasSent}

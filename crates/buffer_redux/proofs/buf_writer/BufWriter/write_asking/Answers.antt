@@ -1,3 +1,4 @@
+-- The rest of the write meets its clause for the writer as it stood before the policy was asked.
 use Rattle.std.proofs.Common.{refl, rules}
 use Rattle.buffer_redux.specs.Buffered.{InnerWent}
 use Rattle.buffer_redux.proofs.buf_writer.BufWriter.write_asking.Goals as goal

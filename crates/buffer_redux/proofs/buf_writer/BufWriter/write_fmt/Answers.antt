@@ -1,3 +1,4 @@
+-- The writer handed back is the one that was lent, and the pieces taken are the text where that is known.
 use Rattle.std.proofs.Common.{rules}
 use Rattle.std.proofs.lemmas.Result.{on_ok_weaker}
 use Rattle.buffer_redux.proofs.TextPieces.{text_appends}

@@ -1,3 +1,4 @@
+-- The first write asks the policy itself, and the writes of what is left join it.
 use Rattle.buffer_redux.proofs.buf_writer.BufWriter.write_large.Goals as goal
 
 pub returns : goal.returns

@@ -1,3 +1,4 @@
+-- Turn by turn the bytes before `at` were taken in, and each further write is one of the bytes left.
 use Rattle.std.proofs.Common.{◌+◌, ◌≤◌, arith, rules, length, drop, length-drop}
 use Rattle.std.proofs.lemmas.Result.{err_from_is_err_and}
 use Rattle.buffer_redux.proofs.WriteAll.{bound_rest, one_rest, further_by, first_failed, first_more, turned_more, ended_failed, ended_all, ended_late}

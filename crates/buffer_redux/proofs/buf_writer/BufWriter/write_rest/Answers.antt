@@ -1,3 +1,4 @@
+-- The first write is one from before the policy was asked, and the writes of what is left join it.
 use Rattle.std.proofs.Common.{◌∙◌}
 use Rattle.buffer_redux.proofs.buf_writer.BufWriter.write_rest.Goals as goal
 

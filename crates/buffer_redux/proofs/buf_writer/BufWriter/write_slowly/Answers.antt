@@ -1,3 +1,4 @@
+-- The first flush, the taking in and the last flush are a write's steps behind the policy's first question.
 use Rattle.std.proofs.Common.{Ok, inl, inr}
 use Rattle.std.proofs.lemmas.Result.{err_from_is_err_and}
 use Rattle.buffer_redux.proofs.WriteOn.{asked_on}

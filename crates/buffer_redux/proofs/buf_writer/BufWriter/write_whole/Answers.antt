@@ -1,3 +1,4 @@
+-- No bytes are no write, bytes that fit are one, and other bytes are a first write that more of them join.
 use Rattle.std.proofs.Common.{◌≡◌, ◌<◌, ℕ, [], Ok, length, refl, arith, inl, sym, ◌∙◌}
 use Rattle.std.proofs.lemmas.List.{nil_from_length}
 use Rattle.redux_buffer.specs.Block.{usable}
@@ -43,19 +44,19 @@ returns-then-is_empty g c =
 pub returns-then-first-gt0 : goal.returns-then-first-gt0
 returns-then-first-gt0 g c =
     record {
-      steps = (c.write_rest_outlined.ensures.all c.args.self.now
+      steps = (c.write_rest_apart.ensures.all c.args.self.now
           (asked_first g (goal.at.returns-then-first-gt0 g c).In-Ok _ refl));
     }
 
 -- the bytes may not fit, before the policy was asked
 pub returns-then-not-has_space_behind : goal.returns-then-not-has_space_behind
-returns-then-not-has_space_behind g c = record { steps = c.write_large_outlined.ensures.all }
+returns-then-not-has_space_behind g c = record { steps = c.write_large_apart.ensures.all }
 
 -- the bytes may not fit, once the policy was asked
 pub returns-then-usable_space-bytes : goal.returns-then-usable_space-bytes
 returns-then-usable_space-bytes g c =
     record {
-      steps = (c.write_rest_outlined-then-usable_space-bytes.ensures.all c.args.self.now
+      steps = (c.write_rest_apart-then-usable_space-bytes.ensures.all c.args.self.now
           (asked_first g (goal.at.returns-then-usable_space-bytes g c).In-Ok 0
           (omega (arith, c.if-first-gt0.false, c.in-Ok.first-is))));
     }
@@ -104,7 +105,7 @@ returns-else-usable_space-bytes g c =
 pub returns-in-Err : goal.returns-in-Err
 returns-in-Err g c =
     record {
-      steps = (c.write_on_outlined.ensures.all c.args.self.now
+      steps = (c.write_on_apart.ensures.all c.args.self.now
           (rw (← c.self.view_is) (inl (record { asked = c.in-Err.ensures; told = refl })))
           (rw (← c.self.view_is) (c.self.invariant, c.in-Err.ensures.law.whole c.self.invariant))
           (rw (← c.self.view_is) (record

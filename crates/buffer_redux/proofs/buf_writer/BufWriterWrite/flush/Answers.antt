@@ -1,3 +1,4 @@
+-- A flush whose send failed promises what the send does, as the inner writer isn't flushed then.
 use Rattle.std.proofs.lemmas.Result.{err_from_is_err_and}
 use Rattle.buffer_redux.proofs.WriteSteps.{not_sent}
 use Rattle.buffer_redux.proofs.buf_writer.BufWriterWrite.flush.Goals as goal

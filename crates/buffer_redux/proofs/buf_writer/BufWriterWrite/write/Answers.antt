@@ -1,3 +1,4 @@
+-- Each way does the steps of one write, from before the policy was asked, and all clauses follow from those.
 use Rattle.std.proofs.Common.{◌≡◌, ℕ, Ok, length, refl, arith, rules}
 use Rattle.buffer_redux.specs.Buffered.{Buffered, InnerWent}
 use Rattle.buffer_redux.specs.WriteAll.{AskedFirst}
@@ -28,24 +29,24 @@ asked_first g c amount is = rw (← c.self.view_is) (record {
 -- the bytes may not fit, before the policy was asked
 pub returns-then-not-has_space_behind : goal.returns-then-not-has_space_behind
 returns-then-not-has_space_behind g c =
-    let wrote = c.write_asking_outlined.ensures in
+    let wrote = c.write_asking_apart.ensures in
     write_says _ _ g.P.WriterPolicy.rules _ _ _ _ wrote.bound wrote.whole wrote.trace wrote.steps
 
 -- something is sent first
 pub returns-then-first-gt0 : goal.returns-then-first-gt0
 returns-then-first-gt0 g c =
-    let went : InnerWent g.W.Tell.log g.W.TellWrite.trace c.args.self.now c.write_outlined.new.self = search rules in
-    write_says _ _ g.P.WriterPolicy.rules _ _ _ _ c.write_outlined.ensures.bound c.write_outlined.ensures.whole went
-    (c.write_outlined.ensures.steps c.args.self.now
+    let went : InnerWent g.W.Tell.log g.W.TellWrite.trace c.args.self.now c.write_apart.new.self = search rules in
+    write_says _ _ g.P.WriterPolicy.rules _ _ _ _ c.write_apart.ensures.bound c.write_apart.ensures.whole went
+    (c.write_apart.ensures.steps c.args.self.now
     (asked_first g (goal.at.returns-then-first-gt0 g c).In_ok-first _ refl))
 
 -- the bytes may not fit
 pub returns-then-bytes-usable_space : goal.returns-then-bytes-usable_space
 returns-then-bytes-usable_space g c =
     let none : c.in_ok-first.field-0.0 ≡ 0 = omega (arith, c.if-first-gt0.false, c.in_ok-first.first-is) in
-    let t = c.write_outlined-then-bytes-usable_space.new.self in
+    let t = c.write_apart-then-bytes-usable_space.new.self in
     let went : InnerWent g.W.Tell.log g.W.TellWrite.trace c.args.self.now t = search rules in
-    let wrote = c.write_outlined-then-bytes-usable_space.ensures in
+    let wrote = c.write_apart-then-bytes-usable_space.ensures in
     write_says _ _ g.P.WriterPolicy.rules _ _ _ _ wrote.bound wrote.whole went
     (wrote.steps c.args.self.now
     (asked_first g (goal.at.returns-then-bytes-usable_space g c).In_ok-first 0 none))

@@ -1,3 +1,4 @@
+-- All that is promised follows from the steps of the writes, turn by turn.
 use Rattle.buffer_redux.proofs.WriteAll.{all_says}
 use Rattle.buffer_redux.proofs.buf_writer.BufWriterWrite.write_all.Goals as goal
 

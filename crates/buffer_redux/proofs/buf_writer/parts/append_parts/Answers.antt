@@ -1,3 +1,4 @@
+-- What is held and the parts left make up all, and the room that is left is enough for those parts.
 use Rattle.std.proofs.Common.{◌≡◌, ◌++◌, ◌∙◌, ap, append-nil, arith, length, length-append, sym}
 use Rattle.redux_buffer.specs.BlockLaws.{OnlyRingMoves-joins}
 use Rattle.buffer_redux.proofs.Parts.{all_of, from_part, none_from, one_more}

@@ -1,3 +1,4 @@
+-- The sum so far and the parts left make up all, or as much of it as a `usize` counts.
 use Rattle.std.proofs.Common.{ap, arith, length, length-append}
 use Rattle.buffer_redux.proofs.Parts.{from_part, none_from}
 use Rattle.buffer_redux.proofs.buf_writer.parts.total.Goals as goal

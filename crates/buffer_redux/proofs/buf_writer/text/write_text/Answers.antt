@@ -1,3 +1,4 @@
+-- The pieces keep how far the text went since it began with this writer, and which error ended it.
 use Rattle.std.proofs.Common.{[], IfSome, None, Some, ap, subst, sym, refl}
 use Rattle.std.specs.Prelude.{is_ok}
 use Rattle.buffer_redux.proofs.TextPieces.{pieces_none, text_failed, text_stopped, text_taken, text_written, went_so}

@@ -1,3 +1,4 @@
+-- The slice gets the front of what was left, and a buffer that is freed had nothing left.
 use Rattle.std.proofs.Common.{◌≡◌, ◌<◌, ℕ, List, [], ◌++◌, length, take, drop, min, Option, Result, Ok, subst, sym, ap, ◌∙◌, arith, rules, append-nil, length-append, length-drop, length-take-le, take_at}
 use Rattle.std.specs.declared.io.Error.{Error}
 use Rattle.std.specs.Io.KnownBytes.{prepend_known, ReadConsumes}

@@ -1,3 +1,4 @@
+-- The digits of what is left, and then the bytes from `start` on, are at each turn the whole line.
 use Rattle.std.proofs.Common.{◌≡◌, ◌/◌, ◌%◌, [], ◌∷◌, ◌++◌, map, drop, sym, refl, ap, ◌∙◌, arith, append_assoc}
 use Rattle.std.specs.Char.{digit_char}
 use Rattle.std.specs.Int.Digits.{digits_of}

@@ -1,3 +1,4 @@
+-- The payload is at most what is left of the chunk, so it leads to where so much less is left.
 use Rattle.std.proofs.Common.{[], ◌-◌, ◌≤◌, ◌++◌, arith, length, length-append, subst, sym}
 use Rattle.body_reader.specs.Coding as body
 use Rattle.chunked.specs.declared.place.Place.TheVariants.{Data}

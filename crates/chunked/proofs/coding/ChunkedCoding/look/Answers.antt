@@ -1,3 +1,4 @@
+-- Where a payload or nothing comes next, and the place is in a chunk, some byte of it is left.
 use Rattle.std.proofs.Common.{subst, sym}
 use Rattle.body_reader.specs.Coding as body
 use Rattle.body_reader.specs.declared.Look.TheVariants.{Payload}

@@ -1,3 +1,4 @@
+-- The places of one arm are told apart, and for each some text has so many bytes and none has fewer.
 use Rattle.std.proofs.Common.{inl, inr}
 use Rattle.chunked.proofs.Least.{before_name, before_value, behind_name, blank, escaped, quoted}
 use Rattle.chunked.proofs.extension.Within.least.Goals as goal

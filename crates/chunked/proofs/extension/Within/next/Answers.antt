@@ -1,3 +1,4 @@
+-- The byte of each arm is one that leads on by the place's rule, and what is left over meets none.
 use Rattle.std.proofs.Common.{inl, inr, refl, arith, rules}
 use Rattle.chunked.specs.Token.{IsBlank, IsTokenByte}
 use Rattle.chunked.specs.WithinLaws.{leads, none}

@@ -1,3 +1,4 @@
+-- Behind the space that was made the line goes in, and without it nothing; read through the writer's view.
 use Rattle.std.proofs.Common.{refl, ap, ◌∙◌}
 use Rattle.chunked.proofs.Going.{same_begins}
 use Rattle.chunked.proofs.writer.ChunkedWriter.begin.Goals as goal

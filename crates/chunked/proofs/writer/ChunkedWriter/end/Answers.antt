@@ -1,3 +1,4 @@
+-- Where nothing is due the writer holds whole chunks, which are a body with the end behind them.
 use Rattle.std.proofs.Common.{ap, ◌∙◌}
 use Rattle.chunked.proofs.Writing.{finishes}
 use Rattle.chunked.proofs.writer.ChunkedWriter.end.Goals as goal

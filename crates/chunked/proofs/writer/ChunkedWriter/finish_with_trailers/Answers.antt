@@ -1,3 +1,4 @@
+-- The end went in in order, so it follows what the log received and the buffer held.
 use Rattle.chunked.proofs.Writing.{ended}
 use Rattle.chunked.proofs.writer.ChunkedWriter.finish_with_trailers.Goals as goal
 

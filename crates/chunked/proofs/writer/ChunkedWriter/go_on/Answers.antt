@@ -1,3 +1,4 @@
+-- The part is what is due at most, so it goes on in the chunk, and behind its last byte the line ends.
 use Rattle.std.proofs.Common.{◌<◌, take, ap, ◌∙◌, arith, refl}
 use Rattle.chunked.proofs.Going.{goes_on, same_on, stops, take_min}
 use Rattle.chunked.proofs.writer.ChunkedWriter.go_on.Goals as goal

@@ -1,3 +1,4 @@
+-- All is sent since there is no space, and then a chunk that fits the capacity has room.
 use Rattle.std.proofs.Common.{◌≡◌, ◌+◌, ◌<◌, ◌≤◌, length, Ok, ap, ◌∙◌, arith}
 use Rattle.buffer_redux.specs.WriteParts.{room}
 use Rattle.chunked.specs.ChunkedWriter.{around}

@@ -1,3 +1,4 @@
+-- A chunk that the capacity has no room for is begun, and its payload goes on in it, unless the line didn't go in.
 use Rattle.std.proofs.Common.{◌≡◌, ◌+◌, ◌<◌, length, Ok, Err, ap, subst, arith}
 use Rattle.chunked.specs.ChunkedWriter.{CopiesSizeLine, around}
 use Rattle.chunked.proofs.Going.{not_begun, same_whole, wrote_begun}

@@ -1,3 +1,4 @@
+-- A flush takes no payload in, and noting it leaves what was received.
 use Rattle.chunked.proofs.Writing.{flush_went}
 use Rattle.chunked.proofs.writer.ChunkedWriterTellWrite.flush_told.Goals as goal
 

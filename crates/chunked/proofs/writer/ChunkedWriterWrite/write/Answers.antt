@@ -1,3 +1,4 @@
+-- An empty payload makes no chunk, and one with room behind what is buffered goes in whole, with nothing sent.
 use Rattle.std.proofs.Common.{◌≡◌, ◌+◌, ◌<◌, ◌≤◌, length, sym, ◌∙◌, arith}
 use Rattle.buffer_redux.specs.WriteParts.{room}
 use Rattle.chunked.specs.ChunkedWriter.{around}

@@ -1,3 +1,4 @@
+-- The first byte says of which protocol the bytes are, so what is open or ends is so for that side.
 use Rattle.std.proofs.Common.{false, subst, sym, true, ◌∙◌}
 use Rattle.piece_reader.specs.Decoding.{DecodesAtEnd}
 use Rattle.codec.specs.FirstByte.{either}

@@ -1,3 +1,4 @@
+-- The first byte says of which protocol the bytes are, so what is open, found or noted is so for that side.
 use Rattle.std.proofs.Common.{◌<◌, rules, false, length, subst, sym, true, ◌∙◌}
 use Rattle.piece_reader.specs.Decoding.{Decodes, OnMore}
 use Rattle.codec.specs.FirstByte.{either, either_notes}
@@ -43,7 +44,8 @@ returns-else-begins_with-clause-finds g c =
     subst (Decodes (either s.byte one other) c.args.bytes.now) (sym c.as_other.ensures)
     (side_decodes s.byte one other (g.met.A.Decoder.lawful s.one) (g.met.B.Decoder.lawful s.other) false c.args.bytes.now
     some (sym c.begins_with.ensures ∙ c.if-begins_with.false) _
-    (renamed_decodes (λ e. Other e) other c.args.bytes.now c.decode-else-begins_with.result c.decode-else-begins_with.ensures.finds))
+    (renamed_decodes (λ e. Other e) other c.args.bytes.now c.decode-else-begins_with.result
+    c.decode-else-begins_with.ensures.finds))
 
 pub decode-requires-clause-noted : goal.decode-requires-clause-noted
 decode-requires-clause-noted g c =

@@ -1,3 +1,4 @@
+-- A piece of either protocol has a byte, so it has a first one.
 use Rattle.codec.specs.FirstByteLaws.{either_some}
 use Rattle.codec.proofs.by_first.ByFirstItems.item.Goals as goal
 

@@ -1,3 +1,4 @@
+-- But for what the end of the stream makes a piece, the grammar is the other decoder's, its reasons renamed.
 use Rattle.std.proofs.Common.{subst, sym, take}
 use Rattle.piece_reader.specs.Decoding.{Decodes, OnMore}
 use Rattle.codec.specs.Ended.{ended}

@@ -1,3 +1,4 @@
+-- Where it is known which payloads are left, an error that a call answers is one of the stream inside.
 use Rattle.std.proofs.Common.{Err, subst}
 use Rattle.piece_reader.specs.Runs.{kept_answer}
 use Rattle.codec.proofs.laws.known.next_of_known.Goals as goal

@@ -1,3 +1,4 @@
+-- Each call hands out the first payload that is left, so none is missing before the last and none comes behind.
 use Rattle.std.proofs.Common.{map, drop, Ok, subst, arith}
 use Rattle.std.proofs.lemmas.Result.{err_from_is_err_and}
 use Rattle.piece_reader.specs.Runs.{kept_answer}

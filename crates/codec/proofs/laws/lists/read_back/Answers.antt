@@ -1,3 +1,4 @@
+-- A reader of memory meets no fault, so reading fails for want of memory alone.
 use Rattle.std.proofs.Common.{ap, inl, sym, ◌∙◌}
 use Rattle.buffer_redux.specs.Memory.{reader-faultless}
 use Rattle.codec.specs.KnownPayloadsLaws.{read_refused}

@@ -1,3 +1,4 @@
+-- A writer of memory fails for want of memory alone, and the writer keeps the encoder that it was made with.
 use Rattle.std.proofs.Common.{◌≡◌, map, sym, subst, rules, inl}
 use Rattle.std.specs.List.{All}
 use Rattle.buffer_redux.specs.Faults.{IsMemory}

@@ -1,3 +1,4 @@
+-- Room comes before each call, so refused memory finds the record full, or loses the payload of one call.
 use Rattle.std.proofs.Common.{vec_capacity, [], ◌∷◌, ◌++◌, ◌∙◌, Ok, Some, arith, append-nil, refl, sym, ap, map}
 use Rattle.piece_reader.specs.Runs.{kept_answer}
 use Rattle.piece_reader.specs.RunsLaws.{on_err}

@@ -1,3 +1,4 @@
+-- Room for an answer is made before its call, so each call that was begun has its answer in the record.
 use Rattle.std.proofs.Common.{vec_capacity, map, take, ◌++◌, ◌∷◌, [], true, false, arith, append-nil, refl, sym, ap, subst, ◌∙◌}
 use Rattle.std.proofs.lemmas.Result.{err_from_is_err_and}
 use Rattle.codec.proofs.Playing.{writes_end, writes_on}

@@ -1,3 +1,4 @@
+-- No call changes what is taken, so the payload at which it stops was taken where all were, and failed by a fault.
 use Rattle.std.proofs.Common.{Err, Ok, arith, refl, subst}
 use Rattle.codec.proofs.Writing.{takes_next, wrote_all, wrote_more, wrote_none}
 use Rattle.codec.proofs.laws.runs.write_each.Goals as goal

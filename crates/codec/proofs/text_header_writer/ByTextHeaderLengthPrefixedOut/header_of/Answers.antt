@@ -1,3 +1,4 @@
+-- A length below 10^18 has at most 18 digits, so the header has room for all its parts.
 use Rattle.std.proofs.Common.{◌≤◌, length, ap, arith}
 use Rattle.std.specs.Fmt.{decimal}
 use Rattle.std.proofs.lemmas.Fmt.{length-decimal-le}

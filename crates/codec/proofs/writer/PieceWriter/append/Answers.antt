@@ -1,3 +1,4 @@
+-- There is room for the whole piece, so there is for each part behind those before it.
 use Rattle.std.proofs.Common.{arith}
 use Rattle.std.proofs.lemmas.Grind.{elements}
 use Rattle.codec.proofs.writer.PieceWriter.append.Goals as goal

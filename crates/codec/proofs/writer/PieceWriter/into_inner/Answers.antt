@@ -1,3 +1,4 @@
+-- A flush that went well received all that was buffered, and taking the writer apart keeps its log.
 use Rattle.std.proofs.Common.{◌∙◌, ap, sym}
 use Rattle.codec.proofs.writer.PieceWriter.into_inner.Goals as goal
 

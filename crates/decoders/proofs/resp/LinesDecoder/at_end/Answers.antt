@@ -1,3 +1,4 @@
+-- How a piece is shown doesn't change which bytes are one, and so not which settle nothing.
 use Rattle.codec.specs.Delimited.{delimited}
 use Rattle.codec.specs.ShowingLaws.{open_showing}
 use Rattle.codec.specs.Trimming.{trimming}

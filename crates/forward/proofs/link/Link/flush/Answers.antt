@@ -1,3 +1,4 @@
+-- The filter's clause: behind a flush that went well all that was taken in was sent.
 use Rattle.forward.proofs.Said.{flush_says}
 use Rattle.forward.proofs.link.Link.flush.Goals as goal
 

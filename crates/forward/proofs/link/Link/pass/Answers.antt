@@ -1,3 +1,4 @@
+-- The filter's clause, read through the link's view: one payload went over, or none was there.
 use Rattle.forward.proofs.Said.{pass_says}
 use Rattle.forward.proofs.link.Link.pass.Goals as goal
 

@@ -1,3 +1,4 @@
+-- Bytes that begin with a length above `max` are wrong, and that length is why.
 use Rattle.std.proofs.Common.{refl}
 use Rattle.frame_reader.proofs.frame.FramesDecoder.decode.Goals as goal
 

@@ -1,3 +1,4 @@
+-- A frame or what is wrong settles the next step, and more that is wanted doesn't; no bytes are neither.
 use Rattle.std.proofs.Common.{◌∙◌, ap, inl, inr, refl, subst}
 use Rattle.codec.specs.declared.Found.TheVariants.{More, Piece, Wrong}
 use Rattle.codec.specs.Grammar.{Begins}

@@ -1,7 +1,8 @@
-use Rattle.std.proofs.Common.{[], Ok, Err, Some, refl, subst, sym}
+-- What is lent is the payload that the step says; what is ready, too long or fits follows from its relation.
+use Rattle.std.proofs.Common.{[], Ok, Err, Some, refl}
 use Rattle.std.proofs.lemmas.List.Elements.{All-head}
 use Rattle.std.proofs.lemmas.Result.{err_from_is_err_and}
-use Rattle.codec.specs.NextPiece.{load_answer}
+use Rattle.codec.specs.NextPieceLaws.{shows_lent}
 use Rattle.frame_reader.specs.Frames.{Fits}
 use Rattle.frame_reader.specs.Next.{Next}
 use Rattle.frame_reader.specs.NextLaws.{Next-ready, Next-too_long, Next-went}
@@ -31,8 +32,8 @@ returns-in-Some g c =
     let s = c.args.self.now in
     let t = c.step.new.self in
     let found = c.lent.result.now in
-    let lends : Next remaining s (Ok (Some found)) t = subst (λ l. Next remaining s (Ok (Some l)) t) (sym c.lent.ensures)
-    (subst (λ o. Next remaining s (load_answer (Ok o) t) t) c.in-Some.is c.in_ok-span.ensures.next) in (
+    let lends = shows_lent (λ o. Next remaining s o t) t _ c.in-Some.span found c.in-Some.is c.lent.ensures
+    c.in_ok-span.ensures.next in (
       (refl, (λ _. tt), lends),
       record {
         after_borrow = tt;

@@ -1,3 +1,4 @@
+-- What is lent is the payload that the step says, and a payload that is handed out fits.
 use Rattle.std.proofs.Common.{[], Some, refl, subst, sym}
 use Rattle.std.proofs.lemmas.List.Elements.{All-head}
 use Rattle.codec.specs.NextPiece.{NextBuffered, buffered_answer}

@@ -1,3 +1,4 @@
+-- The invariant, read through the reader's view.
 use Rattle.std.proofs.Common.{subst}
 use Rattle.frame_reader.specs.Next.{ReadsFrames}
 use Rattle.frame_reader.proofs.reader.FrameReader.rest.Goals as goal

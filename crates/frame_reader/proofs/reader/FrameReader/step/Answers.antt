@@ -1,3 +1,4 @@
+-- What is left is bytes, so where these settle nothing there are none, or they are a frame that is cut short.
 use Rattle.std.proofs.Common.{◌∙◌, Ok, Err, ap, subst, sym}
 use Rattle.codec.specs.NextPiece.{NextPiece, load_answer}
 use Rattle.frame_reader.specs.Framed.{framed}

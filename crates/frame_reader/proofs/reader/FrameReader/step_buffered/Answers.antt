@@ -1,3 +1,4 @@
+-- The pieces' clause, read through the reader's view.
 use Rattle.std.proofs.Common.{subst}
 use Rattle.codec.specs.NextPiece.{NextBuffered, buffered_answer}
 use Rattle.frame_reader.specs.Framed.{framed}

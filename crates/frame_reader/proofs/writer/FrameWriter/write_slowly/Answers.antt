@@ -1,3 +1,4 @@
+-- Behind the send the buffer is empty, so the frame finds room there, and both calls are one write.
 use Rattle.std.proofs.Common.{arith, subst}
 use Rattle.codec.specs.WritePiece.{WritesBuffered}
 use Rattle.frame_reader.specs.Framed.{framed_out}

@@ -1,3 +1,4 @@
+-- The reader's step answers, unless its end is known; a fault came behind bytes where more is left than before.
 use Rattle.std.proofs.Common.{IfSome, Ok, ap, arith, length, subst, sym, ◌∙◌}
 use Rattle.line_reader.specs.NextLine.{NextLine}
 use Rattle.piece_filter.specs.PiecesCalls.{asked_ended}

@@ -1,3 +1,4 @@
+-- The writer's flush answers, and leaves the limits of lines and frames as they were.
 use Rattle.std.proofs.Common.{refl}
 use Rattle.piece_filter.specs.PiecesCalls.{flushed}
 use Rattle.frames.specs.Packing.{packing}

@@ -1,3 +1,4 @@
+-- The reader's step answers; a fault came behind bytes where more is left than before.
 use Rattle.std.proofs.Common.{IfSome, Ok, ap, arith, length, subst}
 use Rattle.frame_reader.specs.Next.{Next}
 use Rattle.frames.specs.Words.{IsLent, load_answer, framed}

@@ -1,3 +1,4 @@
+-- The writer's flush answers, and leaves the kind and the capacity of its buffer as they were.
 use Rattle.std.proofs.Common.{refl}
 use Rattle.piece_filter.specs.PiecesCalls.{flushed}
 use Rattle.frames.specs.Unpacking.{unpacking}

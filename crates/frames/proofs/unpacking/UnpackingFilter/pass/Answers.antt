@@ -1,3 +1,4 @@
+-- Each payload has a line; where it couldn't be taken in, one that was held still is, and a buffered one is lost.
 use Rattle.std.proofs.Common.{◌∷◌, [], None, ap, arith, inl, refl, ◌∙◌}
 use Rattle.std.proofs.lemmas.Result.{err_from_is_err_and}
 use Rattle.frame_reader.specs.NextLaws.{NextPiece-reads}

@@ -1,3 +1,4 @@
+-- Each arm's answer is the call's own, and its line is lost where memory for the copy is refused.
 use Rattle.std.proofs.Common.{Ok, Some, refl, subst, sym}
 use Rattle.piece_reader.specs.RunsLaws.{on_err}
 use Rattle.line_reader.specs.LinesAlongLaws.{NextLine-err, NextLine-none, NextLine-some}

@@ -1,3 +1,4 @@
+-- What was looked at holds no end, so the search begins behind it, and finds the first end of what is left.
 use Rattle.std.proofs.Common.{◌≡◌, true, false, ap, arith, length, subst, sym, take, ◌∙◌}
 use Rattle.std.proofs.lemmas.List.{take_all}
 use Rattle.piece_reader.specs.DelimitedLaws.{open_plain}
@@ -18,7 +19,6 @@ find_end-requires-clause-plain g c =
 
 pub returns-clause-drops : goal.returns-clause-drops
 returns-clause-drops g c =
-    let i = c.match-find_end.self-inside in
     let count = c.match-find_end.count in
     let t = c.skip.new.self in
     elim c.match-find_end.branch [

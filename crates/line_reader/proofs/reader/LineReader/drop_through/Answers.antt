@@ -1,3 +1,4 @@
+-- Each turn keeps that what went holds no end; where none was there nothing is left, and the stream is asked.
 use Rattle.std.proofs.Common.{Ok, Err, ap, subst, refl, ◌∙◌, arith}
 use Rattle.std.proofs.lemmas.Result.{err_from_is_err_and}
 use Rattle.piece_reader.specs.NextPiece.{Refills}

@@ -1,3 +1,4 @@
+-- While a line is being skipped nothing is left and no end is untold, so where a call is settled none is.
 use Rattle.std.proofs.Common.{◌≡◌, ◌↔◌, [], IsTrue, subst}
 use Rattle.piece_reader.specs.PieceReader.{rest}
 use Rattle.line_reader.specs.LineReader.{HasLine}

@@ -1,3 +1,4 @@
+-- Behind the skip no line is being skipped, so from there the call is one of a reader of pieces.
 use Rattle.std.proofs.Common.{◌∙◌}
 use Rattle.line_reader.specs.NextLineLaws.{NextLine-behind, NextLine-open, SkipsLine-whole}
 use Rattle.line_reader.proofs.Going.{NextLine-looked}

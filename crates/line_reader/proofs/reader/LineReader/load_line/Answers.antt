@@ -1,3 +1,4 @@
+-- What is left begins with no line, so above `max` bytes it is too long; else the answer is that of the pieces.
 use Rattle.std.proofs.Common.{◌≡◌, Ok, Err, false, ap, arith, length, subst, sym, ◌∙◌}
 use Rattle.piece_reader.specs.Grammar.{Begins}
 use Rattle.piece_reader.specs.NextPiece.{NextPiece, load_answer}

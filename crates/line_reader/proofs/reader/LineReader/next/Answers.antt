@@ -1,6 +1,8 @@
+-- A call behind a look that found no line is what it would have been; what each answer says follows from that.
 use Rattle.std.proofs.Common.{Ok, Err, Some, None, refl, subst, sym}
 use Rattle.std.proofs.lemmas.Result.{err_from_is_err_and}
 use Rattle.piece_reader.specs.NextPiece.{load_answer}
+use Rattle.piece_reader.specs.NextPieceLaws.{shows_lent}
 use Rattle.line_reader.specs.NextLine.{NextBufferedLine, NextLine}
 use Rattle.line_reader.proofs.Going.{NextLine-fits, NextLine-found, NextLine-looked, NextLine-says}
 use Rattle.line_reader.proofs.reader.LineReader.next.Goals as goal
@@ -43,9 +45,8 @@ returns-in-Some-2 g c =
     let found = c.lent-in-Some-2.result.now in
     let loads = NextLine-looked remaining s c.step_buffered.new.self t (load_answer (Ok c.in_ok-span.field-0) t.pieces) whole
     c.in_default.ensures.next c.in_ok-span.ensures.next in
-    let next : NextLine remaining s (Ok (Some found)) t =
-    subst (λ l. NextLine remaining s (Ok (Some l)) t) (sym c.lent-in-Some-2.ensures)
-    (subst (λ o. NextLine remaining s (load_answer (Ok o) t.pieces) t) c.in-Some-2.is loads) in (
+    let next = shows_lent (λ o. NextLine remaining s o t) t.pieces _ c.in-Some-2.span found c.in-Some-2.is
+    c.lent-in-Some-2.ensures loads in (
       (refl, (λ _. tt), next),
       NextLine-says remaining s t (Ok (Some found)) whole next _ (NextLine-fits remaining s t found next),
     )

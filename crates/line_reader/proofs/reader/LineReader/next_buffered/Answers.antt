@@ -1,3 +1,4 @@
+-- The stream wasn't asked, and the line isn't the last one, so it stood in what was left with its end.
 use Rattle.std.proofs.Common.{Some, refl, subst, sym}
 use Rattle.line_reader.specs.NextLine.{NextBufferedLine}
 use Rattle.line_reader.proofs.Fronts.{NextBufferedLine-there}

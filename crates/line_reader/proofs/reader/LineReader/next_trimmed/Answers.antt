@@ -1,3 +1,4 @@
+-- What is shown stands in front in the line, and the line in what was left, then what came.
 use Rattle.std.proofs.Common.{◌≡◌, Ok, Err, Some, None, refl, subst, sym}
 use Rattle.std.proofs.lemmas.Result.{err_from_is_err_and}
 use Rattle.std.specs.Prelude.{MatchBool}

@@ -1,3 +1,4 @@
+-- What was skipped, then what is left, is what was left, then what came; so dropping as many bytes leaves that.
 use Rattle.std.proofs.Common.{subst, sym}
 use Rattle.line_reader.proofs.Fronts.{SkipsLine-left}
 use Rattle.line_reader.specs.SkipLine.{DropsThrough, SkipsLine}

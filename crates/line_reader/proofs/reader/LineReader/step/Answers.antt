@@ -1,3 +1,4 @@
+-- A call behind a look that found no line is what it would have been before the look.
 use Rattle.line_reader.proofs.Going.{NextLine-found, NextLine-looked}
 use Rattle.line_reader.proofs.reader.LineReader.step.Goals as goal
 

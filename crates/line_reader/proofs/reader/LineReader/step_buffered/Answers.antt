@@ -1,3 +1,4 @@
+-- Nothing is left of a line that is being skipped, so where one was found none is, and it isn't the last one.
 use Rattle.std.proofs.Common.{subst}
 use Rattle.piece_reader.specs.NextPiece.{buffered_answer}
 use Rattle.line_reader.specs.NextLine.{NextBufferedLine}

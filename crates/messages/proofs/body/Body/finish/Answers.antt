@@ -1,3 +1,4 @@
+-- The reader of pieces is made over the body's buffer and stream, so what is left of it is what the body left.
 use Rattle.std.proofs.Common.{◌≡◌, ◌∙◌, refl, subst, sym}
 use Rattle.buffer_redux.specs.Unbuffer.{unbuffered}
 use Rattle.codec.specs.PieceReader.{left_of}

@@ -1,3 +1,4 @@
+-- The reader's clause, read through the body's view; no bytes complete a rest of so many just where that is 0.
 use Rattle.std.proofs.Common.{◌↔◌, [], IsTrue, subst}
 use Rattle.messages.specs.Messages.{IsRest}
 use Rattle.messages.proofs.Said.{sized_ended}

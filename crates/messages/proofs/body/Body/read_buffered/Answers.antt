@@ -1,3 +1,4 @@
+-- The reader's clauses, read through the body's view; the head and what it said stay.
 use Rattle.std.proofs.Common.{refl}
 use Rattle.messages.proofs.body.Body.read_buffered.Goals as goal
 

@@ -1,3 +1,4 @@
+-- What a read as std's did, told of the rest of the body; what its calls tell changes none of that.
 use Rattle.messages.proofs.AsIo.{io_asked, io_ended, io_fails, io_gave, io_room, io_take}
 use Rattle.messages.proofs.body.tells.read_told.Goals as goal
 

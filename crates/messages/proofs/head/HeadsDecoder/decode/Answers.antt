@@ -1,3 +1,4 @@
+-- A head is lines first, so what settles nothing of lines, or is wrong with them, is so of heads.
 use Rattle.std.proofs.Common.{arith, ℕ, List, drop, inl, inr, sym, take}
 use Rattle.std.proofs.lemmas.List.{take-append-drop}
 use Rattle.codec.specs.Decoding.{bytes_at}

@@ -1,3 +1,4 @@
+-- The bytes lent are a head, so it is read and fits its room; the body begins in what is left behind it.
 use Rattle.std.proofs.Common.{◌≡◌, ◌++◌, arith, ap, sym, subst, ◌∙◌, length, refl}
 use Rattle.buffer_redux.specs.Unbuffer.{Unbuffered, unbuffered}
 use Rattle.codec.specs.Decoding.{bytes_at}
@@ -45,7 +46,8 @@ returns g c =
     let enters : Enters t (bytes_at c.args.span t.reader.block.bytes) (entering c.with_buffer.result limits head said) = record {
       head = lent ∙ c.lent-lent.ensures;
       stream = stands;
-      room = rw c.with_buffer.ensures (same_room c.into_inner_with_buffer-inner.result.1 t.reader.block apart.capacity apart.limit);
+      room = rw c.with_buffer.ensures (same_room c.into_inner_with_buffer-inner.result.1 t.reader.block
+          apart.capacity apart.limit);
       fresh = refl;
       limits = ap (λ d. d.0) c.decoder.ensures;
       is = subst (λ l. IsHead limits l said) (sym lent) c.in-Ok.ensures.head;

@@ -1,3 +1,4 @@
+-- The reader's clause, read through the view; before the end is known only some bytes settle anything.
 use Rattle.std.proofs.Common.{◌↔◌, IsTrue, subst}
 use Rattle.codec.specs.PieceReader.{IsSettled}
 use Rattle.messages.specs.Heads.{heads}

@@ -1,3 +1,4 @@
+-- The head that the step lent is still buffered, so the body begins behind it.
 use Rattle.std.proofs.Common.{◌≡◌, false, inl, inr, subst}
 use Rattle.messages.specs.Messages.{Begun}
 use Rattle.messages.specs.MessagesLaws.{Enters-begun, lent_still}

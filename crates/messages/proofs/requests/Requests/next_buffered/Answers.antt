@@ -1,3 +1,4 @@
+-- The head that the step lent is still buffered, so the body begins behind it; without one none begins there.
 use Rattle.std.proofs.Common.{ap, subst, sym}
 use Rattle.codec.specs.Grammar.{Begins}
 use Rattle.codec.specs.PieceReader.{rest}

@@ -1,3 +1,4 @@
+-- The codings change places, and what was collected is the whole head that the one before says.
 use Rattle.multipart.proofs.Turning.{begins_part}
 use Rattle.multipart.proofs.reader.Multipart.end_head.Goals as goal
 

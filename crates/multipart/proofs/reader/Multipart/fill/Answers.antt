@@ -1,3 +1,4 @@
+-- The reader's clause, read through the view.
 use Rattle.multipart.specs.Multipart.{codes}
 use Rattle.body_reader.specs.BodyReader.{FillsPayload}
 use Rattle.std.proofs.Common.{subst}

@@ -1,3 +1,4 @@
+-- Where the head was collected its body was taken whole, as its end requires.
 use Rattle.std.proofs.Common.{subst, sym}
 use Rattle.std.proofs.lemmas.Result.{err_from_is_err_and}
 use Rattle.body_reader.specs.BodyReader.{IsBodyReader, TookWholeBody}

@@ -1,3 +1,4 @@
+-- Where the text was drained the codings change places behind it, and else it stands in it still.
 use Rattle.std.proofs.lemmas.Result.{err_from_is_err_and}
 use Rattle.multipart.proofs.Turning.{leaves, leaves_not, stays_in}
 use Rattle.multipart.proofs.reader.Multipart.leave_text.Goals as goal

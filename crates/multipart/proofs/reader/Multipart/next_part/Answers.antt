@@ -1,3 +1,4 @@
+-- A preamble is a text as a part is, so what passes it is the next part's clause from there too.
 use Rattle.std.proofs.Common.{inl, inr, refl}
 use Rattle.std.proofs.lemmas.Result.{err_from_is_err_and}
 use Rattle.multipart.proofs.Turning.{from_text}

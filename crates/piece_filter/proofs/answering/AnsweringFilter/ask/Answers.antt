@@ -1,3 +1,4 @@
+-- The reader's step answers, unless its end is known; a fault came behind bytes where more is left than before.
 use Rattle.std.proofs.Common.{IfSome, Ok, ap, arith, length, subst, sym, ◌∙◌}
 use Rattle.piece_reader.specs.Decoding.{IsLent}
 use Rattle.piece_reader.specs.NextPiece.{NextPiece, load_answer}

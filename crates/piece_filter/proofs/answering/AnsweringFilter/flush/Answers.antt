@@ -1,3 +1,4 @@
+-- The field `sent` tells that all was flushed, so no call is made then; else the writer's flush answers.
 use Rattle.piece_filter.proofs.Calls.{flushed, not_flushed, unflushed}
 use Rattle.piece_filter.proofs.answering.AnsweringFilter.flush.Goals as goal
 

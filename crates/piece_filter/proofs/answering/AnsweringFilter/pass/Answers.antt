@@ -1,3 +1,4 @@
+-- To hold a buffered piece hands nothing out, so what is said of one that is held is said from before it too.
 use Rattle.piece_filter.proofs.Calls.{none_passes, passes_behind}
 use Rattle.piece_filter.proofs.answering.AnsweringFilter.pass.Goals as goal
 

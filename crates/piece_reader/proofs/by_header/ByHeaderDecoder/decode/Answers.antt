@@ -1,3 +1,4 @@
+-- What a header says stays so whatever comes behind, so it settles how many bytes the piece takes.
 use Rattle.std.proofs.Common.{◌≡◌, ◌+◌, ◌-◌, ◌≤◌, ap, arith, drop, length, subst, sym, take, ◌∙◌}
 use Rattle.piece_reader.specs.Decoding.{IsPiece}
 use Rattle.piece_reader.specs.Grammar.{IsOpenBelow}

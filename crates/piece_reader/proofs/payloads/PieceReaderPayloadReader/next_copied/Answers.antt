@@ -1,3 +1,4 @@
+-- Where memory for the copy is refused the step was made, and its payload is the one that is lost.
 use Rattle.std.proofs.Common.{Ok, ap, subst, ◌∙◌}
 use Rattle.piece_reader.specs.Decoding.{bytes_at}
 use Rattle.piece_reader.specs.NextPiece.{NextPiece, load_answer}

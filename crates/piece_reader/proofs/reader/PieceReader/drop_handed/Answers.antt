@@ -1,3 +1,4 @@
+-- The bytes that are dropped are those that were handed out, so what is left, and was looked at, stays.
 use Rattle.std.proofs.Common.{arith}
 use Rattle.std.proofs.lemmas.Grind.{common_steps}
 use Rattle.piece_reader.proofs.reader.PieceReader.drop_handed.Goals as goal

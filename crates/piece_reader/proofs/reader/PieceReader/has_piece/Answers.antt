@@ -1,7 +1,8 @@
+-- Where a piece was found what is left begins with it, and no bytes begin with a piece.
 use Rattle.std.proofs.Common.{ap, refl, subst}
 use Rattle.piece_reader.specs.Decoding.{IsPiece}
 use Rattle.piece_reader.specs.Grammar.{Begins}
-use Rattle.piece_reader.specs.GrammarLaws.{begins_of}
+use Rattle.piece_reader.specs.GrammarLaws.{begins_none, begins_of}
 use Rattle.piece_reader.specs.PieceReader.{rest}
 use Rattle.piece_reader.proofs.reader.PieceReader.has_piece.Goals as goal
 
@@ -14,4 +15,9 @@ begins g c =
     (begins_of (grammar c.args.self.now.decoder) c.rest.result.now c.in-Piece.field-0 c.in-Piece.field-1 found)
 
 pub returns-in-Piece : goal.returns-in-Piece
-returns-in-Piece g c = record { buffered = (λ is. begins g c, λ is. refl) }
+returns-in-Piece g c =
+    let grammar = g.D.Decoder.grammar c.args.self.now.decoder in
+    record {
+      none = λ none. absurd (begins_none grammar (g.met.D.Decoder.lawful c.args.self.now.decoder) (begins g c) none);
+      buffered = (λ _. begins g c, λ _. refl);
+    }

@@ -1,8 +1,9 @@
+-- Where a piece was found what is left begins with it, and no bytes begin with a piece.
 use Rattle.std.proofs.Common.{ap, inl, inr, refl, subst, arith}
 use Rattle.std.proofs.lemmas.Grind.{common_steps}
 use Rattle.piece_reader.specs.Decoding.{IsPiece}
 use Rattle.piece_reader.specs.Grammar.{Begins}
-use Rattle.piece_reader.specs.GrammarLaws.{begins_of, open_none}
+use Rattle.piece_reader.specs.GrammarLaws.{begins_none, begins_of}
 use Rattle.piece_reader.specs.PieceReader.{rest}
 use Rattle.piece_reader.proofs.reader.PieceReader.is_settled.Goals as goal
 
@@ -18,8 +19,7 @@ pub returns-in-Piece : goal.returns-in-Piece
 returns-in-Piece g c =
     let grammar = g.D.Decoder.grammar c.args.self.now.decoder in
     record {
-      none = λ none. absurd ((open_none grammar (g.met.D.Decoder.lawful c.args.self.now.decoder)).no_piece
-          (subst (Begins grammar) none (begins g c)));
+      none = λ none. absurd (begins_none grammar (g.met.D.Decoder.lawful c.args.self.now.decoder) (begins g c) none);
       settled = (λ _. inr (inl (begins g c)), λ _. refl);
     }
 

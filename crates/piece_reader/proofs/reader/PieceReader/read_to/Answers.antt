@@ -1,3 +1,4 @@
+-- The policy's number is `need`, so one fill asks until so many bytes came, or the stream ended or failed.
 use Rattle.std.proofs.Common.{◌≡◌, ◌<◌, ◌≤◌, Ok, Err, ap, subst, ◌∙◌, arith, length}
 use Rattle.std.proofs.lemmas.Bool.{leb-true, leb-false}
 use Rattle.std.proofs.lemmas.Result.{err_from_is_err_and}

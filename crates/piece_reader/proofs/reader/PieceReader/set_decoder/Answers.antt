@@ -1,3 +1,4 @@
+-- A buffer has at most 2^62 bytes, so a product that isn't above its capacity is exact: three pieces fit.
 use Rattle.std.proofs.Common.{◌*◌, ◌≤◌, arith, drop}
 use Rattle.piece_reader.proofs.Handover.{piecing_small, redecoded_piecing}
 use Rattle.piece_reader.specs.GrammarLaws.{noted_none}

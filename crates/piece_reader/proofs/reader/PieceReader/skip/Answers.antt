@@ -1,3 +1,4 @@
+-- No more is dropped than is left, and of what stays nothing counts as looked at.
 use Rattle.std.proofs.Common.{arith}
 use Rattle.std.proofs.lemmas.Grind.{common_steps, elements}
 use Rattle.piece_reader.proofs.reader.PieceReader.skip.Goals as goal

@@ -1,3 +1,4 @@
+-- A look alone hands nothing out, so a step behind it is this one; what is ready or wrong follows from that.
 use Rattle.std.proofs.Common.{ap}
 use Rattle.piece_reader.specs.NextPiece.{load_answer}
 use Rattle.piece_reader.specs.NextPieceLaws.{NextPiece-ready, NextPiece-wrong}
@@ -28,9 +29,9 @@ returns-in-Piece-clause-wrong g c e wrong =
 
 pub returns-in-More-clause-next : goal.returns-in-More-clause-next
 returns-in-More-clause-next g c =
-    let t = c.load_outlined.new.self in
+    let t = c.load_apart.new.self in
     next_looked g.R.TellRead.remaining g.D.Decoder.grammar c.args.self.now c.take.new.self t c.in-More.need
-    (load_answer c.load_outlined.result t) c.take.ensures.before c.in-More.ensures.takes c.load_outlined.ensures.next
+    (load_answer c.load_apart.result t) c.take.ensures.before c.in-More.ensures.takes c.load_apart.ensures.next
 
 pub returns-in-Piece-clause-lends : goal.returns-in-Piece-clause-lends
 returns-in-Piece-clause-lends g c =

@@ -1,3 +1,4 @@
+-- Calls hand out one list of bytes, so those at the buffer's front are the piece, and say its item.
 use Rattle.std.proofs.Common.{◌-◌, Err, None, Ok, Some, ap, drop, subst, take, ◌∙◌}
 use Rattle.piece_reader.specs.NextPiece.{NextPiece, load_answer}
 use Rattle.piece_reader.specs.PiecesWentLaws.{HandsBytes-looked, HandsBytes-same}
@@ -14,11 +15,11 @@ said-item-requires-clause-whole g c =
 pub said-item-requires-in-Ok-Some-clause-whole : goal.said-item-requires-in-Ok-Some-clause-whole
 said-item-requires-in-Ok-Some-clause-whole g c =
     let found = c.in-Ok-Some.is ∙ ap (λ x. Ok x) c.in-Ok-Some.field-0-is in
-    whole_front g.D.Decoder.grammar c.take.new.self c.load_outlined.new.self g.R.TellRead.remaining _
-    (loaded_next g.D.Decoder.grammar c.take.new.self c.load_outlined.new.self g.R.TellRead.remaining c.load_outlined.result
-    c.in-Ok-Some.span found c.load_outlined.ensures.next)
-    (loaded_front c.take.new.self c.load_outlined.new.self c.load_outlined.result c.in-Ok-Some.span found
-    c.load_outlined.ensures.front)
+    whole_front g.D.Decoder.grammar c.take.new.self c.load_apart.new.self g.R.TellRead.remaining _
+    (loaded_next g.D.Decoder.grammar c.take.new.self c.load_apart.new.self g.R.TellRead.remaining c.load_apart.result
+    c.in-Ok-Some.span found c.load_apart.ensures.next)
+    (loaded_front c.take.new.self c.load_apart.new.self c.load_apart.result c.in-Ok-Some.span found
+    c.load_apart.ensures.front)
 
 pub returns-in-Piece-clause-next : goal.returns-in-Piece-clause-next
 returns-in-Piece-clause-next g c =
@@ -37,16 +38,16 @@ returns-in-Ok-Some-clause-next g c =
     let remaining = g.R.TellRead.remaining in
     let s = c.args.self.now in
     let m = c.take.new.self in
-    let t = c.load_outlined.new.self in
+    let t = c.load_apart.new.self in
     let wants = c.in-More.ensures.takes in
     let found = c.in-Ok-Some.is ∙ ap (λ x. Ok x) c.in-Ok-Some.field-0-is in
     let next = next_looked remaining g.D.Decoder.grammar s m t c.in-More.need
     (load_answer (Ok (Some c.in-Ok-Some.span)) t) c.take.ensures.before wants
-    (loaded_next g.D.Decoder.grammar m t remaining c.load_outlined.result c.in-Ok-Some.span found c.load_outlined.ensures.next)
+    (loaded_next g.D.Decoder.grammar m t remaining c.load_apart.result c.in-Ok-Some.span found c.load_apart.ensures.next)
     in
     let bytes = part_front t ∙ HandsBytes-same s t (take t.handed t.reader.block.bytes) next.bytes
     (HandsBytes-looked s m t (take t.handed t.reader.block.bytes) _ wants.3
-    (loaded_front m t c.load_outlined.result c.in-Ok-Some.span found c.load_outlined.ensures.front)) next.went.hands in
+    (loaded_front m t c.load_apart.result c.in-Ok-Some.span found c.load_apart.ensures.front)) next.went.hands in
     record {
       next = next;
       says = c.said-item-in-Ok-Some.ensures
@@ -58,12 +59,12 @@ pub returns-in-Ok-None-clause-next : goal.returns-in-Ok-None-clause-next
 returns-in-Ok-None-clause-next g c =
     let remaining = g.R.TellRead.remaining in
     let m = c.take.new.self in
-    let t = c.load_outlined.new.self in
+    let t = c.load_apart.new.self in
     record {
       next = next_looked remaining g.D.Decoder.grammar c.args.self.now m t c.in-More.need (Ok None) c.take.ensures.before
           c.in-More.ensures.takes
           (subst (λ r. NextPiece remaining (g.D.Decoder.grammar m.decoder) m (load_answer r t) t)
-          (c.in-Ok-None.is ∙ ap (λ x. Ok x) c.in-Ok-None.field-0-is) c.load_outlined.ensures.next);
+          (c.in-Ok-None.is ∙ ap (λ x. Ok x) c.in-Ok-None.field-0-is) c.load_apart.ensures.next);
       says = tt;
     }
 
@@ -71,12 +72,12 @@ pub returns-in-Err-clause-next : goal.returns-in-Err-clause-next
 returns-in-Err-clause-next g c =
     let remaining = g.R.TellRead.remaining in
     let m = c.take.new.self in
-    let t = c.load_outlined.new.self in
+    let t = c.load_apart.new.self in
     record {
       next = next_looked remaining g.D.Decoder.grammar c.args.self.now m t c.in-More.need (Err c.in-Err.e)
           c.take.ensures.before c.in-More.ensures.takes
           (subst (λ r. NextPiece remaining (g.D.Decoder.grammar m.decoder) m (load_answer r t) t) c.in-Err.is
-          c.load_outlined.ensures.next);
+          c.load_apart.ensures.next);
       says = tt;
     }
 

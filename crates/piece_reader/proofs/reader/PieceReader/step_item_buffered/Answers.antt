@@ -1,3 +1,4 @@
+-- What was handed out since is the piece itself, so it says the item; else what is left begins with none.
 use Rattle.std.proofs.Common.{ap}
 use Rattle.piece_reader.specs.Grammar.{Begins}
 use Rattle.piece_reader.specs.NextPiece.{StaysLeft}

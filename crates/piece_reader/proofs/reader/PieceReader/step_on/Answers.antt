@@ -1,3 +1,4 @@
+-- Each turn keeps that nothing was handed out, and that what is there settles nothing below `need` bytes.
 use Rattle.std.proofs.Common.{Err, [], ap, false, subst, sym, ◌∙◌}
 use Rattle.piece_reader.specs.Grammar.{IsOpen}
 use Rattle.piece_reader.specs.PieceReader.{IsPieceReader, rest}

@@ -1,3 +1,4 @@
+-- Behind a piece nothing counts as looked at; where more is wanted all that is left does, and is open.
 use Rattle.std.proofs.Common.{◌+◌, ap, arith, drop, sym, subst, ◌∙◌, length}
 use Rattle.std.proofs.lemmas.List.{take_all}
 use Rattle.piece_reader.specs.Decoding.{Decodes, OnMore}
@@ -18,7 +19,8 @@ invariant_of-self g c =
     let is = subst (Decodes gram c.rest-left.result.now) c.in-Piece.is c.decode-found.ensures.finds in (
       taken_whole gram (g.met.D.Decoder.lawful i.decoder) f c.self.invariant.0 c.in-Piece.field-0 c.in-Piece.used
           (subst (λ l. Decodes gram l (found.Piece c.in-Piece.field-0 c.in-Piece.used)) left is),
-      noted_none (g.D.Decoder.notes i.decoder) (drop (i.handed + c.in-Piece.used) i.reader.block.bytes) c.no_note-self-inside.result
+      noted_none (g.D.Decoder.notes i.decoder) (drop (i.handed + c.in-Piece.used) i.reader.block.bytes)
+          c.no_note-self-inside.result
           c.no_note-self-inside.ensures,
     )
 

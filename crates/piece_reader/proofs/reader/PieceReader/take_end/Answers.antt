@@ -1,3 +1,4 @@
+-- All that is buffered is handed out, so nothing is left, as the invariant wants it at an untold end.
 use Rattle.std.proofs.Common.{drop, true, subst}
 use Rattle.piece_reader.specs.GrammarLaws.{noted_none}
 use Rattle.piece_reader.specs.PieceReader.{ReaderState, IsPieceReader}

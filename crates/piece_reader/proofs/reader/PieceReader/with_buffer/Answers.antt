@@ -1,3 +1,4 @@
+-- Nothing was handed out or looked at, so the clauses of the fitted buffer make the invariant.
 use Rattle.std.proofs.Common.{ap, drop, refl, ◌∙◌}
 use Rattle.piece_reader.specs.GrammarLaws.{noted_none}
 use Rattle.piece_reader.specs.PieceReader.{room_for}

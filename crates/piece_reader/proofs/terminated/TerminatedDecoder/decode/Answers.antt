@@ -1,3 +1,4 @@
+-- By the note the end stands nowhere in what was looked at, so what the search finds or lacks, all bytes do.
 use Rattle.std.proofs.Common.{◌≡◌, ◌+◌, ◌≤◌, ℕ, ap, arith, length, min, subst, sym, take}
 use Rattle.memchr.specs.Find.{Nowhere, OccursAt}
 use Rattle.piece_reader.specs.Decoding.{IsPiece}

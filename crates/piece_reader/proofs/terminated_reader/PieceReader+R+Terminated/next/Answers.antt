@@ -1,7 +1,8 @@
-use Rattle.std.proofs.Common.{Ok, Some, refl, subst, sym}
+-- A payload stands in front in its piece, so it begins as what was left does.
+use Rattle.std.proofs.Common.{refl}
 use Rattle.piece_reader.specs.Terminated.{terminated}
-use Rattle.piece_reader.specs.NextPiece.{NextPiece, load_answer}
-use Rattle.piece_reader.specs.NextPieceLaws.{NextPiece-begins}
+use Rattle.piece_reader.specs.NextPiece.{NextPiece}
+use Rattle.piece_reader.specs.NextPieceLaws.{NextPiece-begins, shows_lent}
 use Rattle.piece_reader.proofs.terminated_reader.PieceReader+R+Terminated.next.Goals as goal
 
 pub returns-in-Some : goal.returns-in-Some
@@ -11,9 +12,8 @@ returns-in-Some g c =
     let t = c.step.new.self in
     let found = c.lent.result.now in
     let grammar = terminated s.decoder.end.items s.decoder.max in
-    let lends : NextPiece remaining grammar s (Ok (Some found)) t =
-    subst (λ l. NextPiece remaining grammar s (Ok (Some l)) t) (sym c.lent.ensures)
-    (subst (λ o. NextPiece remaining grammar s (load_answer (Ok o) t) t) c.in-Some.is c.in_ok-span.ensures.next) in (
+    let lends = shows_lent (λ o. NextPiece remaining grammar s o t) t _ c.in-Some.span found c.in-Some.is c.lent.ensures
+    c.in_ok-span.ensures.next in (
       (refl, (λ _. tt), lends),
       record {
         begins = NextPiece-begins remaining grammar (λ bytes payload is. (s.decoder.end.items, is.0))

@@ -1,3 +1,4 @@
+-- Each piece is shown in some way, so bytes that settle nothing as shown settle nothing as they stand.
 use Rattle.piece_reader.specs.TrimmingLaws.{open_shown}
 use Rattle.piece_reader.proofs.trimmed.TrimmedDecoder.at_end.Goals as goal
 

@@ -1,3 +1,4 @@
+-- Each piece is shown in some way, so bytes that settle nothing as shown settle nothing as they stand.
 use Rattle.std.proofs.Common.{take}
 use Rattle.piece_reader.specs.TrimmingLaws.{open_shown}
 use Rattle.piece_reader.proofs.trimmed.TrimmedDecoder.decode.Goals as goal

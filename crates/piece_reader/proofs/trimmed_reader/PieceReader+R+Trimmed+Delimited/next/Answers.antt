@@ -1,8 +1,9 @@
-use Rattle.std.proofs.Common.{[], ◌∷◌, Ok, Some, refl, subst, sym}
+-- What is shown stands in front in the payload, and that in its piece, so it begins as what was left does.
+use Rattle.std.proofs.Common.{[], ◌∷◌, refl}
 use Rattle.piece_reader.specs.Delimited.{delimited}
 use Rattle.piece_reader.specs.Trimming.{trimming}
-use Rattle.piece_reader.specs.NextPiece.{NextPiece, load_answer}
-use Rattle.piece_reader.specs.NextPieceLaws.{NextPiece-begins}
+use Rattle.piece_reader.specs.NextPiece.{NextPiece}
+use Rattle.piece_reader.specs.NextPieceLaws.{NextPiece-begins, shows_lent}
 use Rattle.piece_reader.specs.TrimmingLaws.{trimming_front}
 use Rattle.piece_reader.proofs.trimmed_reader.PieceReader+R+Trimmed+Delimited.next.Goals as goal
 
@@ -13,9 +14,8 @@ returns-in-Some g c =
     let t = c.step.new.self in
     let found = c.lent.result.now in
     let grammar = trimming (delimited s.decoder.0.end s.decoder.0.max) in
-    let lends : NextPiece remaining grammar s (Ok (Some found)) t =
-    subst (λ l. NextPiece remaining grammar s (Ok (Some l)) t) (sym c.lent.ensures)
-    (subst (λ o. NextPiece remaining grammar s (load_answer (Ok o) t) t) c.in-Some.is c.in_ok-span.ensures.next) in (
+    let lends = shows_lent (λ o. NextPiece remaining grammar s o t) t _ c.in-Some.span found c.in-Some.is c.lent.ensures
+    c.in_ok-span.ensures.next in (
       (refl, (λ _. tt), lends),
       record {
         begins = NextPiece-begins remaining grammar (trimming_front (delimited s.decoder.0.end s.decoder.0.max)

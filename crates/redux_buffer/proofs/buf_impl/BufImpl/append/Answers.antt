@@ -1,3 +1,4 @@
+-- Either branch leaves what `compact` says; so many of the bytes fill a front of its tail, which is then taken in.
 use Rattle.std.proofs.Common.{rules, ◌≡◌, ◌≤◌, ◌∙◌, length, take, subst, ap, arith, length-take-le}
 use Rattle.std.proofs.lemmas.Grind.{common_steps}
 use Rattle.redux_buffer.specs.Block.{Extends, compact, usable}

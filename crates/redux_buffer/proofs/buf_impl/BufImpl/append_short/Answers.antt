@@ -1,3 +1,4 @@
+-- Either branch leaves what `compact` says; the bytes fill a front of its tail, which is then taken in.
 use Rattle.std.proofs.Common.{rules, ◌≡◌, ◌≤◌, length, subst, ap, arith}
 use Rattle.std.proofs.lemmas.Grind.{common_steps}
 use Rattle.redux_buffer.specs.Block.{Extends, compact, usable}

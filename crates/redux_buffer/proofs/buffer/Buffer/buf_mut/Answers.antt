@@ -1,3 +1,4 @@
+-- The loan of the buffer inside, read through the view; bytes that are written over leave the invariant.
 use Rattle.std.proofs.Common.{refl, ap, ◌∙◌}
 use Rattle.redux_buffer.specs.Block.{Placed, with_bytes, with_limit}
 use Rattle.redux_buffer.proofs.Written.{as_placed-with_placed, bytes_whole}

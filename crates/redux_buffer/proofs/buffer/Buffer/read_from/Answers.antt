@@ -1,3 +1,4 @@
+-- The read fills the lent tail: the front that it gave is taken in, and nothing where it failed.
 use Rattle.std.proofs.Common.{◌≡◌, ◌≤◌, length, Ok, Err, arith, rules, ◌∙◌, ap, sym}
 use Rattle.std.proofs.lemmas.Result.{err_from_is_err_and}
 use Rattle.redux_buffer.specs.GivesRemaining.{GivesRemaining-none, GivesRemaining-read}

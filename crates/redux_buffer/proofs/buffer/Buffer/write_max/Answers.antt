@@ -1,3 +1,4 @@
+-- What a write took follows what was sent before; only one that leaves nothing took all that it was offered.
 use Rattle.std.proofs.Common.{◌≡◌, ◌≤◌, ◌<◌, ◌+◌, ◌-◌, [], ◌++◌, length, arith, rules, ap, ◌∙◌, length-append, length-drop, length-take-le}
 use Rattle.redux_buffer.specs.Faults.{OnlyInterrupted-none}
 use Rattle.std.proofs.lemmas.Grind.{common_steps}

@@ -1,3 +1,4 @@
+-- What `retried` says, where each step is a write: an interrupted one takes nothing, and traces join.
 use Rattle.redux_buffer.proofs.Sending.{traced_retried, wrote_retried}
 use Rattle.redux_buffer.proofs.buffer.transfer.write_retried.Goals as goal
 

@@ -1,3 +1,4 @@
+-- A part of the storage from 0 to 0 holds no byte, as bytes that are all dropped leave none.
 use Rattle.std.proofs.Common.{arith}
 use Rattle.std.proofs.lemmas.Grind.{common_steps}
 use Rattle.redux_buffer.proofs.Ranges.{drop_range, length_range}

@@ -1,3 +1,4 @@
+-- A place within the capacity puts the tail right behind the bytes, so raising the end takes in its front.
 use Rattle.std.proofs.Common.{◌≤◌, ◌-◌, length, ap, arith}
 use Rattle.std.proofs.lemmas.Grind.{common_steps}
 use Rattle.redux_buffer.proofs.Loans.{ring_took}

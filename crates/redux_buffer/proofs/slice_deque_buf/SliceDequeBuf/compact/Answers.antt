@@ -1,3 +1,4 @@
+-- The head has passed the capacity, and so the number of bytes: no more are moved than were consumed before.
 use Rattle.std.proofs.Common.{arith}
 use Rattle.std.proofs.lemmas.Grind.{common_steps}
 use Rattle.redux_buffer.proofs.slice_deque_buf.SliceDequeBuf.compact.Goals as goal

@@ -1,3 +1,4 @@
+-- A part of the storage that loses its front begins so much later; where `n` is no less than it, none is left.
 use Rattle.std.proofs.Common.{arith}
 use Rattle.std.proofs.lemmas.Grind.{common_steps}
 use Rattle.redux_buffer.proofs.Ranges.{drop_range, length_range}

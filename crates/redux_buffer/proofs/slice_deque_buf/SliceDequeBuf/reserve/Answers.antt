@@ -1,3 +1,4 @@
+-- What the growth adds to the tail is zeros: of a new block as it was made, of the old one as it was cleared.
 use Rattle.std.proofs.Common.{◌≡◌, ◌+◌, ◌-◌, ◌*◌, ℕ, length, ◌++◌, take, drop, slice_range, replicate, refl, ap, ◌∙◌, arith, rules, length-append}
 use Rattle.std.proofs.lemmas.Bool.{le-ltb}
 use Rattle.std.proofs.lemmas.Grind.{common_steps}

@@ -1,3 +1,4 @@
+-- The end rises by `n`, or by the tail's length where that is less, which takes in a front of the tail.
 use Rattle.std.proofs.Common.{arith}
 use Rattle.std.proofs.lemmas.Grind.{common_steps}
 use Rattle.redux_buffer.proofs.Loans.{std_took}

@@ -1,3 +1,4 @@
+-- The tail has `n` bytes at least, so raising the end by that takes in just so many of its first bytes.
 use Rattle.std.proofs.Common.{◌≤◌, ◌-◌, length, ap, arith, length-drop}
 use Rattle.std.proofs.lemmas.Grind.{common_steps}
 use Rattle.redux_buffer.proofs.Loans.{std_took}

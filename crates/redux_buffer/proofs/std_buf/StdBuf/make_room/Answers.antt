@@ -1,3 +1,4 @@
+-- The capacity without usable space and bytes is just `pos`, so the bytes count as moved where that isn't 0.
 use Rattle.std.proofs.Common.{arith}
 use Rattle.std.proofs.lemmas.Grind.{common_steps}
 use Rattle.redux_buffer.proofs.std_buf.StdBuf.make_room.Goals as goal

@@ -1,3 +1,4 @@
+-- An empty buffer begins at 0, and its new block is zeros alone; any other grows by zeros behind its tail.
 use Rattle.std.proofs.Common.{◌≡◌, ◌+◌, ◌-◌, ◌∙◌, length, replicate, ap, arith, rules}
 use Rattle.std.proofs.lemmas.Grind.{common_steps}
 use Rattle.redux_buffer.proofs.Ranges.{zeros_left}

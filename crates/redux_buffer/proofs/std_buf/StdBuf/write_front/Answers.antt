@@ -1,3 +1,4 @@
+-- A part of the storage that begins at the end of the bytes is a front of the tail.
 use Rattle.std.proofs.Common.{take, refl, ap, ◌∙◌, arith}
 use Rattle.std.proofs.lemmas.Grind.{common_steps}
 use Rattle.redux_buffer.specs.Block.{with_tail}

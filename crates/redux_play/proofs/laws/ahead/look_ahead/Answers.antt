@@ -1,3 +1,4 @@
+-- What a fill says holds once its loan has ended: at Ok the minimum is buffered, or the source ran dry.
 use Rattle.std.proofs.Common.{refl, le_refl}
 use Rattle.std.proofs.lemmas.Result.{err_from_is_err_and}
 use Rattle.buffer_redux.specs.MinBuffered.{min_read_rules}

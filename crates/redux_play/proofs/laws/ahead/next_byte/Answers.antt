@@ -1,3 +1,4 @@
+-- The look is the fill: where it showed a byte, a consume of the first follows, and the two calls join.
 use Rattle.std.proofs.Common.{refl}
 use Rattle.std.proofs.lemmas.Result.{err_from_is_err_and}
 use Rattle.buffer_redux.specs.FillLaws.{Fills-err}

@@ -1,3 +1,4 @@
+-- What a fill says holds of the reader once its loan has ended, and doesn't hang on what the Ok carries.
 use Rattle.std.proofs.lemmas.Result.{err_from_is_err_and}
 use Rattle.buffer_redux.specs.FillLaws.{Fills-ok, Fills-err}
 use Rattle.redux_play.proofs.laws.ahead.peek.Goals as goal

@@ -1,3 +1,4 @@
+-- The bytes moved are those that the reader handed out; where none stay buffered, it ran dry, so they are all.
 use Rattle.std.proofs.Common.{refl}
 use Rattle.redux_buffer.specs.CopyLaws.{CopyBuf-moved}
 use Rattle.redux_play.proofs.CopyKnown.{on_ok, moves_known, receives_all}

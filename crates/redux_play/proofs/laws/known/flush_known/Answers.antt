@@ -1,3 +1,4 @@
+-- The stream gained what the log says was received, and after an Ok flush that is what was buffered.
 use Rattle.redux_play.proofs.FlushKnown.{flush_gained}
 use Rattle.redux_play.proofs.laws.known.flush_known.Goals as goal
 

@@ -1,3 +1,4 @@
+-- A growth touches the buffer alone, so at the seek just the buffer and the minimum are new.
 use Rattle.std.proofs.Common.{rules, inr}
 use Rattle.redux_play.proofs.laws.sparing.spare_between.Goals as goal
 

@@ -1,3 +1,4 @@
+-- The handler leaves the inner writer and clears the buffer, and is called only where sending failed.
 use Rattle.std.proofs.Common.{rules}
 use Rattle.redux_play.proofs.Unwrapped.{drops_unsent}
 use Rattle.redux_play.proofs.laws.unsent.drop_unsent_lines.Goals as goal

@@ -1,3 +1,4 @@
+-- The handler leaves the inner writer and the buffer, so what sending left is what comes back.
 use Rattle.std.proofs.Common.{rules}
 use Rattle.redux_play.proofs.Unwrapped.{keeps_unsent}
 use Rattle.redux_play.proofs.laws.unsent.keep_unsent_lines.Goals as goal

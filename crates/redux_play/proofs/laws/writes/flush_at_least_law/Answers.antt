@@ -1,3 +1,4 @@
+-- The last flush is of all, or of more than is buffered: then fewer bytes than the number are there, and stay.
 use Rattle.redux_play.specs.WriterPolicyLaws.{Writes-at_least}
 use Rattle.redux_play.proofs.laws.writes.flush_at_least_law.Goals as goal
 

@@ -1,3 +1,4 @@
+-- Each flush is of the amount that the policy's table says, and one that is Ok sent that many bytes or none.
 use Rattle.redux_play.specs.WriterPolicyLaws.{Writes-exact}
 use Rattle.redux_play.proofs.laws.writes.flush_exact_law.Goals as goal
 

@@ -1,3 +1,4 @@
+-- The last flush goes through the last newline, and doesn't fail where each inner write took something.
 use Rattle.redux_play.specs.WriterPolicyLaws.{Writes-flush_on}
 use Rattle.redux_play.proofs.laws.writes.line_law.Goals as goal
 

@@ -1,3 +1,4 @@
+-- What a write returned is read off how it took the bytes in, and what it left off its last flush.
 use Rattle.redux_play.specs.WroteExactly.{Writes-exactly}
 use Rattle.redux_play.proofs.laws.writes.write_law.Goals as goal
 

@@ -1,3 +1,4 @@
+-- A fill hands nothing out, and what it says holds of the reader once its loan has ended.
 use Rattle.std.proofs.Common.{◌≡◌, ℕ, List, [], Result, length, refl, sym, ap, arith, append-nil}
 use Rattle.std.specs.declared.io.Error.{Error}
 use Rattle.buffer_redux.specs.Policy.{ReadRules}

@@ -1,3 +1,4 @@
+-- A flush takes in no bytes, so the step accepts none; the rest is the flush's own clause.
 use Rattle.std.proofs.Common.{Ok, Err, rules}
 use Rattle.redux_play.proofs.PlayWriting.{Flushes-accepts}
 use Rattle.redux_play.proofs.play.writing.flush.Goals as goal

@@ -1,4 +1,5 @@
-use Rattle.std.proofs.Common.{Ok, Err, rules, ap}
+-- The write's own clauses are the step's: an Err has no portion, so nothing was taken in.
+use Rattle.std.proofs.Common.{Ok, rules, ap}
 use Rattle.redux_play.proofs.PlayWriting.{Writes-accepts}
 use Rattle.redux_play.proofs.play.writing.write.Goals as goal
 

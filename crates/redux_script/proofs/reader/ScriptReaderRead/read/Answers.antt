@@ -1,3 +1,4 @@
+-- What is left is the slice from `served` on, and a call serves no more of it than fits.
 use Rattle.std.proofs.Common.{arith}
 use Rattle.std.proofs.lemmas.Grind.{common_steps}
 use Rattle.redux_script.proofs.reader.ScriptReaderRead.read.Goals as goal

@@ -1,3 +1,4 @@
+-- The session is made of the client's request and the store, and is taken apart into these again.
 use Rattle.resp.proofs.client.Client.serve.Goals as goal
 
 pub returns-in-Ok-clause-served : goal.returns-in-Ok-clause-served

@@ -1,3 +1,4 @@
+-- A piece that makes no request whole leaves the store as it was, and gets no reply, or why it is refused.
 use Rattle.std.proofs.Common.{[], append-nil, false, inr, refl, ◌∙◌}
 use Rattle.codec.specs.AnsweringLaws.{AnswersBy-answered}
 use Rattle.resp.specs.Sessions.{RepliesBy}

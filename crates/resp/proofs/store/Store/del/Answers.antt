@@ -1,3 +1,4 @@
+-- Keys are the same where their bytes are, so a change at one leaves what each other key finds.
 use Rattle.resp.proofs.Keys.{count_taken, puts}
 use Rattle.resp.proofs.store.Store.del.Goals as goal
 

@@ -1,3 +1,4 @@
+-- Keys are the same where their bytes are, so a change at one leaves what each other key finds.
 use Rattle.std.proofs.Common.{Some, subst}
 use Rattle.resp.specs.Stored.{SetsValue, holding}
 use Rattle.resp.proofs.Keys.{count_put, puts}

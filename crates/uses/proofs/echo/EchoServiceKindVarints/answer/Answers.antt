@@ -1,3 +1,4 @@
+-- The test of the kind is the clause's own, so what was written is the answer that it asks for.
 use Rattle.std.proofs.Common.{[], ◌∷◌, ◌++◌, false, length, refl, true}
 use Rattle.std.proofs.lemmas.Bool.{eq-eqb, ne_eqb}
 use Rattle.codec.specs.AnsweringLaws.{AnswersBy-answered}

@@ -1,3 +1,4 @@
+-- A whole line was given, and without its end it is a text, or `InvalidData` comes in its place.
 use Rattle.std.proofs.Common.{List, ℕ, ◌≡◌, String, Result, Ok, Err, Some, Option, MatchResult, string_bytes, IsUtf8, inl, inr, vec_items, subst, sym}
 use Rattle.std.specs.Global.{Global, Vec}
 use Rattle.std.specs.IoError.{error_kind}

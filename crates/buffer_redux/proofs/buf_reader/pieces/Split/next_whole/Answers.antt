@@ -1,3 +1,4 @@
+-- A piece is what had begun and what `read_until` appended; where that is no bytes, the stream has ended.
 use Rattle.std.proofs.Common.{◌≡◌, ℕ, ◌-◌, ◌==◌, ◌∙◌, List, Ok, inr, length, refl, sym, subst, ap, arith}
 use Rattle.std.proofs.lemmas.Bool.{eqb-true}
 use Rattle.std.proofs.lemmas.List.{nil_from_length}

@@ -1,3 +1,4 @@
+-- A seek back by what is buffered goes to where the reader stands, and the second goes on from there.
 use Rattle.std.proofs.Common.{◌≡◌, ◌-◌, ◌-ℤ◌, int_le, inl, inr, [], MatchResult, ℕ, ℤ, List, Option, None, Some, Result, Ok, Err, length, pos, neg_ℤ, zero, suc, ap, ◌∙◌, refl, arith, to_z-of_z, SFits, w64, ◌^◌}
 use Rattle.std.specs.Prelude.{nat_le, if◌then◌else◌}
 use Rattle.std.specs.Option.{option_and_then}

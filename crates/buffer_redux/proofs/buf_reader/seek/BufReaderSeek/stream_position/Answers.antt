@@ -1,3 +1,4 @@
+-- The subtraction fails just where the inner reader's place is less than what is buffered.
 use Rattle.std.proofs.Common.{◌≡◌, ◌+◌, ◌<◌, Ok, MatchResult, length, arith}
 use Rattle.std.specs.IoError.{error_kind}
 use Rattle.std.specs.declared.io.ErrorKind.TheVariants.{InvalidData}

@@ -1,10 +1,11 @@
+-- What holds once the borrow ends is weakened: the trait doesn't ask for the fill's own steps.
 use Rattle.std.specs.Prelude.{[], IfOk}
 use Rattle.std.specs.Io.{StartsWith}
 use Rattle.redux_buffer.specs.StreamLog.{FillTells}
 use Rattle.buffer_redux.specs.BufReader.{Fills}
 use Rattle.buffer_redux.specs.ReaderTells.{reader_log, ReaderWent}
 use Rattle.buffer_redux.specs.contracts.buf_reader.BufReader.{the_row}
-use Rattle.buffer_redux.proofs.Resting.{rests_widens}
+use Rattle.buffer_redux.specs.RestsLaws.{rests_widens}
 use base.Logic.{id⊢, snd∗, via}
 use borrow.Fn.Refines.{by_parts}
 use contract.Monad.{fact, fact_i}

@@ -1,3 +1,4 @@
+-- The fill is noted before its bytes are lent, and what is lent is what the log tells as shown.
 use Rattle.std.proofs.Common.{◌≡◌, Ok, refl, subst, sym, ap, ◌∙◌}
 use Rattle.std.proofs.lemmas.Result.{err_from_is_err_and}
 use Rattle.redux_buffer.specs.GoesOn.{GoesOn}

@@ -1,3 +1,4 @@
+-- A seek leaves what was buffered or nothing, and nothing at Ok, so what is told as shown stays or is dropped.
 use Rattle.std.proofs.Common.{◌≡◌, rules, subst, sym}
 use Rattle.redux_buffer.specs.StreamLog.{SeekTells, after_seek, with_shown}
 use Rattle.buffer_redux.specs.ReaderTells.{drops_shown, reader_log}

@@ -1,3 +1,4 @@
+-- One attempt is one fill, by the fill's own clauses.
 use Rattle.buffer_redux.proofs.Retrying.{one_fill}
 use Rattle.buffer_redux.proofs.buf_reader.until.FillingAttemptBufReader.attempt.Goals as goal
 

@@ -1,3 +1,4 @@
+-- A refused growth changes nothing, and comes only where the bytes don't fit behind what the send left.
 use Rattle.std.proofs.Common.{Err, ◌≡◌, ◌<◌, false, inl, inr, subst, sym, true}
 use Rattle.std.proofs.lemmas.Bool.{cases_lt}
 use Rattle.redux_buffer.specs.Block.{usable}

@@ -1,3 +1,4 @@
+-- A count that is cut off is more than any buffer holds, so it tells whether all parts fit.
 use Rattle.std.proofs.Common.{Err, Ok, ◌<◌, ap, arith, length, refl, subst}
 use Rattle.redux_buffer.specs.Block.{usable}
 use Rattle.buffer_redux.specs.WriteParts.{MakesPlace}
@@ -39,7 +40,8 @@ returns-in-Ok g c =
       c.total-len.ensures,
       ap (λ x. usable x.block) c.self.view_is,
     ) in
-    let parts = parts_moved _ _ g.met.W.TellWrite.trace_none g.met.W.TellWrite.trace_joins g.met.W.TellWrite.trace_grows c.args.self.now
+    let parts = parts_moved _ _ g.met.W.TellWrite.trace_none g.met.W.TellWrite.trace_joins g.met.W.TellWrite.trace_grows
+    c.args.self.now
     c.make_place.new.self _ _ few (subst (λ n. MakesPlace g.W.Tell.log g.W.TellWrite.trace n c.args.self.now (Ok tt)
     c.make_place.new.self) c.total-len.ensures c.in-Ok.ensures)
     (rw (← c.self-2.view_is) (record {

@@ -1,3 +1,4 @@
+-- No byte is lost before the seek, so what is told as received stays; all of it is flushed, or no more than was.
 use Rattle.std.proofs.Common.{◌≡◌, rules, subst, sym}
 use Rattle.redux_buffer.specs.StreamLog.{SeekTells, after_seek}
 use Rattle.buffer_redux.specs.Buffered.{with_calls}

@@ -1,3 +1,4 @@
+-- Noting the call changes nothing that the flush did, and a fault of it is one that the inner writer caused.
 use Rattle.std.proofs.Common.{[], rules, ◌≡◌, ◌∙◌, inr, ap, subst, sym, arith}
 use Rattle.redux_buffer.specs.Faults.{SendErrorCaused}
 use Rattle.redux_buffer.specs.StreamLog.{after_flush}

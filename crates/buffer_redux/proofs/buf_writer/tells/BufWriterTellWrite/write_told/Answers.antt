@@ -1,3 +1,4 @@
+-- Noting the call changes nothing that the write did; under a steady policy its fault is the inner writer's.
 use Rattle.std.proofs.Common.{rules, ◌≡◌, ◌∙◌, List, inl, ap, subst, sym, arith}
 use Rattle.std.specs.declared.io.Error.{Error}
 use Rattle.std.specs.declared.io.ErrorKind.TheVariants.{WriteZero}

@@ -1,3 +1,4 @@
+-- While no write has failed, each piece goes on from those before it; the first failed write ends the text.
 use Rattle.std.proofs.Common.{ap, ◌∙◌, subst}
 use Rattle.std.specs.Prelude.{not}
 use Rattle.buffer_redux.proofs.TextPieces.{one_piece, piece_stopped, piece_taken, stopped, went_on, went_wrong}

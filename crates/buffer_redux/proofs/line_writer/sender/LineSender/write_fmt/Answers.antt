@@ -1,3 +1,4 @@
+-- A send of lines follows an Ok write, and only moves what is buffered on to the inner writer.
 use Rattle.std.proofs.lemmas.Result.{err_from_is_err_and}
 use Rattle.buffer_redux.proofs.LineSends.{steps_failed, steps_sent, text_sent}
 use Rattle.buffer_redux.specs.LineWriter.{line_rules}

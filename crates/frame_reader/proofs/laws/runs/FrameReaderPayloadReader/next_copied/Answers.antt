@@ -1,3 +1,4 @@
+-- Each arm's answer is the call's own, and its payload is lost where memory for the copy is refused.
 use Rattle.std.proofs.Common.{Ok, Some, ap, subst, ◌∙◌}
 use Rattle.std.proofs.lemmas.Result.{err_from_is_err_and}
 use Rattle.codec.specs.NextPiece.{answer_of}

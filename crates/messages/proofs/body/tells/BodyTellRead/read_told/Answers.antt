@@ -1,3 +1,4 @@
+-- The reader's clauses, read through the body's view; its log gives what was handed out.
 use Rattle.std.proofs.Common.{◌≡◌, ℕ, List, ◌++◌, Result, Ok, Err, ap, refl}
 use Rattle.std.specs.declared.io.Error.{Error}
 use Rattle.body_reader.specs.Between.{handed_out}

@@ -1,3 +1,4 @@
+-- By default a seek leaves what is flushed and what is shown, so its own clause is what `SeekTells` asks.
 use Rattle.std.proofs.Common.{inl, refl}
 use Rattle.redux_buffer.proofs.tell.told.ToldTellSeek.TheImpl.Goals as goal
 

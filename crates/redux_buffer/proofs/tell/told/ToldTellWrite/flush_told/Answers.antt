@@ -1,3 +1,4 @@
+-- The stream keeps what it holds, and a flush adds no byte to what was received, so the trace goes on by none.
 use Rattle.redux_buffer.specs.Told.{ToldWrites-flush}
 use Rattle.redux_buffer.proofs.tell.told.ToldTellWrite.flush_told.Goals as goal
 

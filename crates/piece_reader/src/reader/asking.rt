@@ -1,0 +1,54 @@
+//! Whether the stream is asked next, and one ask of it.
+ghost use Rattle.std.specs.Prelude.{◌≡◌, ◌<◌, ◌↔◌, [], length, Ok, IsTrue, true, false};
+ghost use Rattle.piece_reader.specs.Grammar.{Begins};
+ghost use Rattle.piece_reader.specs.NextPiece.{Refills};
+ghost use Rattle.piece_reader.specs.PieceReader.{IsSettled, rest};
+
+use crate::decoder::{Decoder, Found};
+use crate::reader::PieceReader;
+use buffer_redux::tell::TellRead;
+use std::io;
+
+impl<R: TellRead, D: Decoder> PieceReader<R, D> {
+    /// Whether a whole piece is buffered: then the next [`step`](PieceReader::step) hands it out, and reads nothing.
+    pub fn has_piece(&self) -> bool
+        ensures none { rest self.now ≡ [] → result ≡ false }
+        ensures buffered { IsTrue result ↔ Begins (D.grammar self.now.decoder) (rest self.now) }
+    {
+        let mut note = self.note;
+        matches!(
+            self.decoder.decode(self.rest(), self.seen, &mut note),
+            Found::Piece(_, _)
+        )
+    }
+
+    /// Whether the next [`step`](PieceReader::step) answers without the stream: a whole piece is buffered, or the beginning of
+    /// none, or the stream ended, which no call has told yet.
+    pub fn is_settled(&self) -> bool
+        ensures none { rest self.now ≡ [] → result ≡ self.now.ended }
+        ensures settled { IsTrue result ↔ IsSettled (D.grammar self.now.decoder) self.now }
+    {
+        if self.ended {
+            return true;
+        }
+        let mut note = self.note;
+        match self.decoder.decode(self.rest(), self.seen, &mut note) {
+            Found::Piece(_, _) => true,
+            Found::More(_) => false,
+            Found::Wrong(_) => true,
+        }
+    }
+
+    /// Asks the stream once where nothing is left, and returns whether something is then: it isn't where the stream ended, which
+    /// the next [`step`](PieceReader::step) tells. An `Err` leaves nothing, too.
+    pub fn refill(&mut self) -> io::Result<bool>
+        requires none { rest self.old ≡ [] }
+        ensures came { result ≡ Ok true ↔ (0 < length (rest self.new)) }
+        ensures refills { Refills R.remaining (D.grammar self.old.decoder) self.old result self.new }
+    {
+        self.drop_handed();
+        let came = self.read_to(1)?;
+        self.ended = !came;
+        Ok(came)
+    }
+}
