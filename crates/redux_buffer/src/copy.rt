@@ -1,5 +1,5 @@
 //! Copying from a buffered reader to a writer.
-ghost use Rattle.std.specs.Prelude.{◌≡◌, ◌+◌, ◌^◌, ◌≤◌, IfSome, IfNone};
+ghost use Rattle.std.specs.Prelude.{◌≡◌, ℕ, ◌+◌, ◌^◌, ◌≤◌, List, [], ◌++◌, length, IfSome, IfNone, IfOk, OnErr};
 ghost use Rattle.redux_buffer.specs.Copy.{CopyBuf, CopyRetried, CopyTurn};
 
 use crate::INTERRUPT_LIMIT;
@@ -16,6 +16,9 @@ use std::io::ErrorKind;
 /// not, the bytes that were consumed are those that were received. `Other` without a fault is returned where the count
 /// passes what a `u64` holds.
 pub fn copy_buf<B: TellBufRead, W: TellWrite>(b: &mut B, w: &mut W) -> io::Result<u64>
+    ensures moved { (bytes : List ℕ) × ((B.log b.new).fills.consumed ≡ (B.log b.old).fills.consumed ++ bytes)
+        × ((W.log w.new).writes.received ≡ (W.log w.old).writes.received ++ bytes)
+        × IfOk result (λ n. n ≡ length bytes) }
     ensures reader { B.trace b.old b.new }
     ensures writer { W.trace w.old w.new }
     ensures copied { CopyBuf W.log W.trace W.call result (B.log b.old).fills (B.log b.new).fills w.old w.new }
@@ -65,6 +68,9 @@ fn copy_retried<B: TellBufRead, W: TellWrite>(b: &mut B, w: &mut W) -> io::Resul
 /// consumed, and copying has ended. A fault is returned at once, `Interrupted` too, and moves nothing.
 #[inline(always)]
 pub fn copy_turn<B: TellBufRead, W: TellWrite>(b: &mut B, w: &mut W) -> io::Result<usize>
+    ensures moved { (bytes : List ℕ) × ((B.log b.new).fills.consumed ≡ (B.log b.old).fills.consumed ++ bytes)
+        × ((W.log w.new).writes.received ≡ (W.log w.old).writes.received ++ bytes)
+        × IfOk result (λ n. n ≡ length bytes) × OnErr result (bytes ≡ []) }
     ensures reader { B.trace b.old b.new }
     ensures writer { W.trace w.old w.new }
     ensures turn { CopyTurn W.log W.trace W.call result (B.log b.old).fills (B.log b.new).fills w.old w.new }

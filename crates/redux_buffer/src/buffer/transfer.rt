@@ -1,5 +1,5 @@
 //! What a buffer reads from and writes to a stream.
-ghost use Rattle.std.specs.Prelude.{◌≡◌, ◌<◌, ◌⊎◌, length, Ok, OnErr, ⊤};
+ghost use Rattle.std.specs.Prelude.{◌≡◌, ℕ, ◌+◌, ◌<◌, ◌≤◌, ◌⊎◌, ◌++◌, length, min, take, drop, Ok, IfOk, MatchResult, OnOk, OnErr, ⊤};
 ghost use Rattle.std.specs.Io.{WritesAtMost};
 ghost use Rattle.std.specs.Io.KnownBytes.{IsAtEnd};
 ghost use Rattle.redux_buffer.specs.Block.{IsBlock, LeavesBytes, OnlyRingMoves, usable};
@@ -16,6 +16,8 @@ impl Buffer {
     /// Reads once, into all the space that can be written, and returns how many bytes came. Returns `Ok(0)` and doesn't
     /// ask the reader where there is no such space. A fault of the reader leaves the bytes.
     pub fn read_from<R: TellRead>(&mut self, rdr: &mut R) -> io::Result<usize>
+        ensures came { IfOk result (λ n. (take (length self.old.bytes) self.new.bytes ≡ self.old.bytes)
+            × (length self.new.bytes ≡ length self.old.bytes + n)) }
         ensures not_asked { usable self.old ≡ 0 → rdr.new ≡ rdr.old }
         ensures err { OnErr result (LeavesBytes self.old self.new) }
         ensures end { result ≡ Ok 0 → 0 < usable self.old → IsAtEnd (R.remaining rdr.new) }
@@ -35,6 +37,8 @@ impl Buffer {
     /// Writes all bytes once, drops those that the writer took, and returns how many those are. Returns `Ok(0)` and
     /// doesn't ask the writer where the buffer is empty. A fault of the writer changes nothing.
     pub fn write_to<W: TellWrite>(&mut self, wrt: &mut W) -> io::Result<usize>
+        ensures left { MatchResult result (λ n. self.new.bytes ≡ drop n self.old.bytes)
+            (λ _. self.new.bytes ≡ self.old.bytes) }
         ensures not_asked { length self.old.bytes ≡ 0 → wrt.new ≡ wrt.old }
         ensures moved { OnlyRingMoves self.old self.new }
         ensures trace { W.trace wrt.old wrt.new }
@@ -56,6 +60,9 @@ impl Buffer {
     /// that takes nothing is returned as `WriteZero`. At any fault the buffer has lost just what the writer took.
     #[inline(never)]
     pub fn write_max<W: TellWrite>(&mut self, max: usize, wrt: &mut W) -> io::Result<()>
+        ensures went { (n : ℕ) × (n ≤ max) × (self.new.bytes ≡ drop n self.old.bytes)
+            × ((W.log wrt.new).writes.received ≡ (W.log wrt.old).writes.received ++ take n self.old.bytes)
+            × OnOk result (n ≡ min max (length self.old.bytes)) }
         ensures idle { max ≡ 0 ⊎ (length self.old.bytes ≡ 0)
             → (result ≡ Ok tt) × (wrt.new ≡ wrt.old) × (self.new ≡ self.old) }
         ensures trace { W.trace wrt.old wrt.new }
@@ -79,6 +86,9 @@ impl Buffer {
 
     /// Writes all bytes, as [`write_max`](Buffer::write_max) does.
     pub fn write_all<W: TellWrite>(&mut self, wrt: &mut W) -> io::Result<()>
+        ensures went { (n : ℕ) × (self.new.bytes ≡ drop n self.old.bytes)
+            × ((W.log wrt.new).writes.received ≡ (W.log wrt.old).writes.received ++ take n self.old.bytes)
+            × OnOk result (n ≡ length self.old.bytes) }
         ensures idle { length self.old.bytes ≡ 0
             → (result ≡ Ok tt) × (wrt.new ≡ wrt.old) × (self.new ≡ self.old) }
         ensures trace { W.trace wrt.old wrt.new }
