@@ -1,5 +1,5 @@
 //! The buffered writer.
-ghost use Rattle.std.specs.Prelude.{None, ◌≡◌, ◌≢◌, ◌<◌, ◌≤◌, ◌^◌, [], length, Ok, IfErr, true, OnOk, OnErr, IfOk, IsOk};
+ghost use Rattle.std.specs.Prelude.{None, ◌≡◌, ◌≢◌, ◌<◌, ◌≤◌, ◌^◌, [], ◌++◌, length, Ok, IfErr, true, OnOk, OnErr, IfOk, IsOk};
 ghost use Rattle.std.specs.Borrow.{sem, Lends};
 ghost use Rattle.std.specs.Io.{WritesAtMost};
 ghost use Rattle.std.specs.Io.KnownBytes.{Appends, Keeps, WriteAppends};
@@ -216,7 +216,8 @@ impl<W: TellWrite, P> BufWriter<W, P> {
     ///
     /// The original has no such call: it sends all only where it flushes too.
     pub fn send(&mut self) -> io::Result<()>
-        ensures empty { OnOk result (self.new.block.bytes ≡ []) }
+        ensures all { OnOk result ((self.new.block.bytes ≡ [])
+            × (self.new.log.writes.received ≡ self.old.log.writes.received ++ self.old.block.bytes)) }
         ensures sent { WasSent W.log W.trace self.old result self.new }
     {
         self.buf.write_all(&mut self.inner)
@@ -337,6 +338,9 @@ impl<W: TellWrite, P: WriterPolicy> Write for BufWriter<W, P> {
     /// Sends what is buffered, and flushes the inner writer. Where sending fails, just what the inner writer took is no longer
     /// buffered, and it isn't flushed.
     fn flush(&mut self) -> io::Result<()>
+        ensures all { OnOk result ((self.new.block.bytes ≡ [])
+            × (self.new.log.writes.received ≡ self.old.log.writes.received ++ self.old.block.bytes)
+            × (self.new.log.writes.flushed ≡ self.new.log.writes.received)) }
         ensures bytes { Keeps (writer_contents self.old) (writer_contents self.new) }
         ensures flushed { WasFlushed W.log W.trace self.old result self.new }
     {

@@ -166,7 +166,8 @@ impl<W: TellWrite> LineWriter<W> {
     /// Sends all that is buffered, without a flush of the inner writer. Where that fails, just what the inner writer took is
     /// no longer buffered, so the call can be made again.
     pub fn send(&mut self) -> io::Result<()>
-        ensures empty { OnOk result (self.new.block.bytes ≡ []) }
+        ensures all { OnOk result ((self.new.block.bytes ≡ [])
+            × (self.new.log.writes.received ≡ self.old.log.writes.received ++ self.old.block.bytes)) }
         ensures sent { WasSent W.log W.trace self.old result self.new }
     {
         self.writer.send()
@@ -274,6 +275,9 @@ impl<W: TellWrite> Write for LineWriter<W> {
     }
 
     fn flush(&mut self) -> io::Result<()>
+        ensures all { OnOk result ((self.new.block.bytes ≡ [])
+            × (self.new.log.writes.received ≡ self.old.log.writes.received ++ self.old.block.bytes)
+            × (self.new.log.writes.flushed ≡ self.new.log.writes.received)) }
         ensures bytes { Keeps (writer_contents self.old) (writer_contents self.new) }
         ensures flushed { WasFlushed W.log W.trace self.old result self.new }
     {

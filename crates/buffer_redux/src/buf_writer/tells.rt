@@ -1,5 +1,5 @@
 //! A buffered writer as a stream that tells of its own calls.
-ghost use Rattle.std.specs.Prelude.{◌≡◌, [], None, OnOk};
+ghost use Rattle.std.specs.Prelude.{◌≡◌, [], ◌++◌, None, OnOk};
 ghost use Rattle.std.specs.Io.{WritesAtMost};
 ghost use Rattle.std.specs.Io.KnownBytes.{Keeps};
 ghost use Rattle.std.specs.Io.Seek.{SeekMoves};
@@ -38,7 +38,9 @@ impl<W: TellWrite, P: WriterPolicy> TellWrite for BufWriter<W, P> {
     }
 
     fn flush_told(&mut self) -> io::Result<()>
-        ensures empty { OnOk result (self.new.block.bytes ≡ []) }
+        ensures all { OnOk result ((self.new.block.bytes ≡ [])
+            × (self.new.log.writes.received ≡ self.old.log.writes.received ++ self.old.block.bytes)
+            × (self.new.log.writes.flushed ≡ self.new.log.writes.received)) }
         ensures told { writer_log self.new ≡ after_flush (writer_log self.old) result }
         ensures trace { WriterWent W.trace P.rules self.old self.new }
         ensures call { WriterCalled P.rules self.old self.new }

@@ -1,5 +1,5 @@
 //! A line writer as a stream that tells of its own calls.
-ghost use Rattle.std.specs.Prelude.{◌≡◌, [], OnOk};
+ghost use Rattle.std.specs.Prelude.{◌≡◌, [], ◌++◌, OnOk};
 ghost use Rattle.std.specs.Io.{WritesAtMost};
 ghost use Rattle.redux_buffer.specs.Block.{IsBlock};
 ghost use Rattle.redux_buffer.specs.StreamLog.{after_write, after_flush};
@@ -33,7 +33,9 @@ impl<W: TellWrite> TellWrite for LineWriter<W> {
     }
 
     fn flush_told(&mut self) -> io::Result<()>
-        ensures empty { OnOk result (self.new.block.bytes ≡ []) }
+        ensures all { OnOk result ((self.new.block.bytes ≡ [])
+            × (self.new.log.writes.received ≡ self.old.log.writes.received ++ self.old.block.bytes)
+            × (self.new.log.writes.flushed ≡ self.new.log.writes.received)) }
         ensures told { writer_log self.new ≡ after_flush (writer_log self.old) result }
         ensures trace { WriterWent W.trace line_rules self.old self.new }
         ensures call { WriterCalled line_rules self.old self.new }

@@ -11,4 +11,4 @@ returns g c =
     let sent : WasSent g.W.Tell.log g.W.TellWrite.trace c.args.self.now c.write_all.result _ =
     rw (← c.self.view_is) (was_sent _ _ _ _ _ w.sent refl w.whole
     (record { calls = w.trace; told_before = refl; told_after = refl; noted = refl })) in
-    record { empty = on_ok_weaker c.write_all.result (λ is. is.empty) sent.ok; sent = sent }
+    record { all = on_ok_weaker c.write_all.result (λ is. (is.empty, is.received)) sent.ok; sent = sent }
