@@ -232,7 +232,8 @@ impl<W: TellWrite, E: Encoder> PieceWriter<W, E> {
     /// Sends all pieces, without a flush of the inner writer. Where that fails, just what the inner writer took is no longer
     /// buffered.
     pub fn send(&mut self) -> io::Result<()>
-        ensures empty { OnOk result (self.new.writer.block.bytes ≡ []) }
+        ensures all { OnOk result ((self.new.writer.block.bytes ≡ [])
+            × (self.new.writer.log.writes.received ≡ self.old.writer.log.writes.received ++ self.old.writer.block.bytes)) }
         ensures sent { WasSent W.log W.trace self.old.writer result self.new.writer }
         ensures went { PiecesTaken W.trace (E.encoding self.old.encoder) self.old [] self.new }
         ensures whole { IsPieceWriter (E.encoding self.old.encoder).most self.new }
@@ -242,7 +243,9 @@ impl<W: TellWrite, E: Encoder> PieceWriter<W, E> {
 
     /// Sends all pieces, and flushes the inner writer.
     pub fn flush(&mut self) -> io::Result<()>
-        ensures empty { OnOk result (self.new.writer.block.bytes ≡ []) }
+        ensures all { OnOk result ((self.new.writer.block.bytes ≡ [])
+            × (self.new.writer.log.writes.received ≡ self.old.writer.log.writes.received ++ self.old.writer.block.bytes)
+            × (self.new.writer.log.writes.flushed ≡ self.new.writer.log.writes.received)) }
         ensures flushed { WasFlushed W.log W.trace self.old.writer result self.new.writer }
         ensures went { PiecesTaken W.trace (E.encoding self.old.encoder) self.old [] self.new }
         ensures whole { IsPieceWriter (E.encoding self.old.encoder).most self.new }

@@ -138,7 +138,8 @@ impl<W: TellWrite> FrameWriter<W> {
     /// Sends all frames, without a flush of the inner writer. Where that fails, just what the inner writer took is no longer
     /// buffered.
     pub fn send(&mut self) -> io::Result<()>
-        ensures empty { OnOk result (self.new.writer.block.bytes ≡ []) }
+        ensures all { OnOk result ((self.new.writer.block.bytes ≡ [])
+            × (self.new.writer.log.writes.received ≡ self.old.writer.log.writes.received ++ self.old.writer.block.bytes)) }
         ensures sent { WasSent W.log W.trace self.old.writer result self.new.writer }
         ensures went { PiecesTaken W.trace (framed_out self.old.encoder.max) self.old [] self.new }
         ensures whole { IsPieceWriter (2 + self.old.encoder.max) self.new }
@@ -148,7 +149,9 @@ impl<W: TellWrite> FrameWriter<W> {
 
     /// Sends all frames, and flushes the inner writer.
     pub fn flush(&mut self) -> io::Result<()>
-        ensures empty { OnOk result (self.new.writer.block.bytes ≡ []) }
+        ensures all { OnOk result ((self.new.writer.block.bytes ≡ [])
+            × (self.new.writer.log.writes.received ≡ self.old.writer.log.writes.received ++ self.old.writer.block.bytes)
+            × (self.new.writer.log.writes.flushed ≡ self.new.writer.log.writes.received)) }
         ensures flushed { WasFlushed W.log W.trace self.old.writer result self.new.writer }
         ensures went { PiecesTaken W.trace (framed_out self.old.encoder.max) self.old [] self.new }
         ensures whole { IsPieceWriter (2 + self.old.encoder.max) self.new }
