@@ -172,6 +172,7 @@ impl<R: Tell> LineReader<R> {
     /// of the others doesn't know that, and would ask the stream again. That a line [`is_skipping`](LineReader::is_skipping) is
     /// forgotten: ask before.
     pub fn into_inner_with_buffer(self) -> (R, Buffer, bool)
+        ensures left { (result.0 ≡ self.pieces.reader.inner) × (result.1.bytes ≡ rest self.pieces) }
         ensures ended { result.2 ≡ self.pieces.ended }
         ensures apart { TakenApart R.log self.pieces result.0 result.1 }
     {

@@ -217,6 +217,7 @@ impl<R: Tell, D: Decoder> PieceReader<R, D> {
     /// The last part is whether the stream ended, which no call has told yet ([`has_ended`](PieceReader::has_ended)): a reader
     /// that is made of the others doesn't know that, and would ask the stream again.
     pub fn into_inner_with_buffer(self) -> (R, Buffer, bool)
+        ensures left { (result.0 ≡ self.reader.inner) × (result.1.bytes ≡ rest self) }
         ensures ended { result.2 ≡ self.ended }
         ensures apart { TakenApart R.log self result.0 result.1 }
     {
