@@ -1,5 +1,5 @@
 -- What a call of a reader of pieces leaves, in the words of frames.
-use Rattle.std.proofs.Common.{◌≡◌, ℕ, ◌+◌, ◌<◌, ◌≤◌, ◌⊎◌, List, [], ◌∷◌, length, true, false, sym, ap, subst, ◌∙◌, arith, inl, inr, refl, Option, None, Ok, Err, Some, IfSome, drop, length-drop, length-take-le}
+use Rattle.std.proofs.Common.{◌≡◌, ℕ, ◌+◌, ◌<◌, ◌≤◌, ◌⊎◌, List, [], ◌∷◌, ◌++◌, append-nil, length, take, true, false, sym, ap, subst, ◌∙◌, arith, inl, inr, refl, Option, None, Ok, Err, Some, IfSome, drop, length-drop, length-take-le}
 use Rattle.std.proofs.lemmas.Bool.{cases_lt}
 use Rattle.std.specs.Int.{w16, from_be_bytes}
 use Rattle.codec.specs.declared.Found.{Found}
@@ -8,7 +8,9 @@ use Rattle.codec.specs.declared.Span.{Span}
 use Rattle.codec.specs.Decoding.{Decodes, IsLent}
 use Rattle.codec.specs.Grammar.{IsOpen}
 use Rattle.codec.specs.GrammarLaws.{begins_of, open_of}
-use Rattle.codec.specs.NextPiece.{NextAnswers, NextPiece, load_answer}
+use Rattle.codec.specs.NextPiece.{NextAnswers, NextBuffered, NextPiece, load_answer}
+use Rattle.codec.specs.NextPieceLaws.{fronts_agree}
+use Rattle.codec.specs.PiecesWentLaws.{PiecesWent-unasked}
 use Rattle.codec.specs.PieceReader.{IsSettled, ReaderState, rest}
 use Rattle.frame_reader.specs.declared.error.FrameError.{FrameError}
 use Rattle.frame_reader.specs.declared.error.FrameError.TheVariants.{Truncated, TooLong, Io}
@@ -17,8 +19,9 @@ use Rattle.frame_reader.specs.declared.frame.FrameFault.TheVariants as Fault
 use Rattle.frame_reader.specs.declared.frame.Frames.{Frames}
 use Rattle.frame_reader.specs.Framed.{framed}
 use Rattle.frame_reader.specs.FramedLaws.{frame_there}
-use Rattle.frame_reader.specs.Frames.{AreBytes, BeginsWith, IsCutShort}
+use Rattle.frame_reader.specs.Frames.{AreBytes, BeginsWith, IsCutShort, frame, frames}
 use Rattle.frame_reader.specs.Next.{ErrorLeaves, Next, ReadsFrames, piece_error}
+use Rattle.frame_reader.specs.NextLaws.{NextBuffered-frames, Next-went}
 use Rattle.frame_reader.proofs.Lengths.{BeginsWith-first}
 
 -- bytes that settle nothing are nothing, or cut short
@@ -71,6 +74,23 @@ module _ {S : Type 0} (remaining : S → Option (List ℕ)) (s t : ReaderState S
       → Next remaining s (load_answer (Ok found) t) t
   Next-found (Some span) next = record { piece = next; leaves = tt }
   Next-found None next = record { piece = next; leaves = tt }
+
+module _ {S : Type 0} (remaining : S → Option (List ℕ)) (s t : ReaderState S Frames) (payload : List ℕ) where
+  -- the frame of what is handed out begins as what was left does
+  pub Next-begins : Next remaining s (Ok (Some payload)) t
+      → take (length (frame payload)) (rest s) ≡ take (length (rest s)) (frame payload)
+  Next-begins next =
+      let hands = (Next-went remaining s t (Ok (Some payload)) next).went.hands in
+      subst (λ l. take (length l) (rest s) ≡ take (length (rest s)) l) (append-nil (frame payload))
+      (fronts_agree (frames (payload ∷ [])) (rest t) (rest s) hands.got hands.equal)
+
+  -- where it was buffered it stood there
+  pub NextBuffered-front : NextBuffered remaining (framed s.decoder.max) s (Some payload) t
+      → (more : List ℕ) × (rest s ≡ frame payload ++ more)
+  NextBuffered-front buffered =
+      let went = (NextBuffered-frames remaining s t (Some payload) buffered).went in
+      let all = PiecesWent-unasked remaining _ s t (frames (payload ∷ [])) went (ap (λ r. r.log) buffered.1) in
+      (rest t, sym all ∙ ap (λ l. l ++ rest t) (append-nil (frame payload)))
 
 -- where a frame lacks bytes nothing is settled
 pub unsettled : {S : Type 0} (f : ReaderState S Frames) (n : ℕ) → ReadsFrames f

@@ -1,5 +1,5 @@
 //! The reader of frames.
-ghost use Rattle.std.specs.Prelude.{◌≡◌, ℕ, ◌+◌, ◌*◌, ◌^◌, ◌<◌, ◌≤◌, ◌↔◌, List, [], ◌++◌, length, Ok, Err, Some, IfOk, IfErr, IfSome, IsOk, IsTrue, false, option_copied};
+ghost use Rattle.std.specs.Prelude.{◌≡◌, ℕ, ◌+◌, ◌*◌, ◌^◌, ◌<◌, ◌≤◌, ◌↔◌, List, [], ◌++◌, length, take, Ok, Err, Some, IfOk, IfErr, IfSome, IsOk, IsTrue, false, option_copied};
 ghost use Rattle.std.specs.Borrow.{sem};
 ghost use Rattle.std.specs.Io.BufRead.{Rests};
 ghost use Rattle.buffer_redux.specs.Block.{Plain};
@@ -194,6 +194,8 @@ impl<R: TellRead> FrameReader<R> {
     /// returned each time.
     #[inline(always)]
     pub fn next(&mut self) -> Result<Option<&[u8]>, FrameError>
+        ensures begins { IfOk result (λ found. IfSome found (λ payload.
+            take (length (frame payload.now)) (rest self.old) ≡ take (length (rest self.old)) (frame payload.now))) }
         ensures fits { IfOk result (λ found. IfSome found (λ payload. length payload.now ≤ self.old.decoder.max)) }
         ensures ready { (payload more : List ℕ) → length payload ≤ self.old.decoder.max
             → rest self.old ≡ frame payload ++ more → answer_of result ≡ Ok (Some payload) }
@@ -212,6 +214,7 @@ impl<R: TellRead> FrameReader<R> {
     /// the stream for nothing. `None` where it doesn't.
     #[inline(always)]
     pub fn next_buffered(&mut self) -> Option<&[u8]>
+        ensures front { IfSome result (λ payload. (more : List ℕ) × (rest self.old ≡ frame payload.now ++ more)) }
         ensures fits { IfSome result (λ payload. length payload.now ≤ self.old.decoder.max) }
         ensures* after_borrow { sem 𝓛 (Rests (the_row R.row R.Tell) self.entry
             (NextBuffered R.remaining (framed self.entry.now.decoder.max) self.entry.now (option_copied result))) }

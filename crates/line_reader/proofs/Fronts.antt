@@ -31,7 +31,14 @@ module _ {S : Type 0} (remaining : S → Option (List ℕ)) (s t : LineState S) 
       (λ m count is skips next. ([], line, append-nil line ∙ ap (λ l. l ++ line) (sym (whole.skipped is))))
       (λ e is skips fails. let odd : Ok (Some line) ≡ Err (Io e) = fails in cc)
 
-  -- what is shown of it begins as what was left does
+  -- it begins as what was left does
+  pub NextLine-begins : (line : List ℕ) → IsLineReader s → NextLine remaining s (Ok (Some line)) t
+      → take (length line) (rest s.pieces) ≡ take (length (rest s.pieces)) line
+  NextLine-begins line whole next =
+      let front = line_front line whole next in
+      fronts_agree line front.0 (rest s.pieces) front.1 front.2
+
+  -- so does what is shown of it
   trimmed_begins : (shown : List ℕ) → IsLineReader s → (answer : LineAnswer) → NextLine remaining s answer t
       → Trims answer (Ok (Some shown)) t.pieces.ended
       → take (length shown) (rest s.pieces) ≡ take (length (rest s.pieces)) shown

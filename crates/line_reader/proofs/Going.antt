@@ -181,8 +181,9 @@ module _ {S : Type 0} (remaining : S → Option (List ℕ)) where
     NextLine-told ended =
         by_open (answer ≡ Ok None) (λ step. same_none answer (step.0.told ended)) (settled_open s whole (inl ended))
 
-    -- all of that, and that it fits
-    pub NextLine-says : (Fits : Type 0) → Fits → record {
+    -- all of that, how it begins, and that it fits
+    pub NextLine-says : (Starts Fits : Type 0) → Starts → Fits → record {
+      begins : Starts;
       fits : Fits;
       ready : (line more : List ℕ) → IsLine line → length line ≤ max → rest s.pieces ≡ line ++ newline ∷ more
           → answer ≡ Ok (Some line);
@@ -190,7 +191,8 @@ module _ {S : Type 0} (remaining : S → Option (List ℕ)) where
       ended : s.pieces.ended ≡ true → answer ≡ Ok None;
       after_borrow : Unit {0};
     }
-    NextLine-says Fits fits = record {
+    NextLine-says Starts Fits starts fits = record {
+      begins = starts;
       fits = fits;
       ready = NextLine-ready;
       too_long = NextLine-too_long;

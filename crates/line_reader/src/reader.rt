@@ -252,6 +252,8 @@ impl<R: TellRead> LineReader<R> {
     /// lent begins where a line begins.
     #[inline(always)]
     pub fn next(&mut self) -> Result<Option<&[u8]>, LineError>
+        ensures begins { IfOk result (λ found. IfSome found (λ line.
+            take (length line.now) (rest self.old.pieces) ≡ take (length (rest self.old.pieces)) line.now)) }
         ensures fits { IfOk result (λ found. IfSome found (λ line. length line.now ≤ self.old.pieces.decoder.max)) }
         ensures ready { (line more : List ℕ) → IsLine line → length line ≤ self.old.pieces.decoder.max
             → rest self.old.pieces ≡ line ++ newline ∷ more → answer_of result ≡ Ok (Some line) }

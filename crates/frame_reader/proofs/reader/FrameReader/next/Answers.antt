@@ -6,6 +6,7 @@ use Rattle.codec.specs.NextPieceLaws.{shows_lent}
 use Rattle.frame_reader.specs.Frames.{Fits}
 use Rattle.frame_reader.specs.Next.{Next}
 use Rattle.frame_reader.specs.NextLaws.{Next-ready, Next-too_long, Next-went}
+use Rattle.frame_reader.proofs.Pieces.{Next-begins}
 use Rattle.frame_reader.proofs.reader.FrameReader.next.Goals as goal
 
 pub returns-in_err-span : goal.returns-in_err-span
@@ -20,6 +21,7 @@ returns-in_err-span g c =
       (refl, (λ _. tt), fails),
       record {
         after_borrow = tt;
+        begins = tt;
         fits = tt;
         ready = λ payload more fits front. (Next-ready remaining s t (Err e) fails payload more fits front).0;
         too_long = λ len above front. (Next-too_long remaining s t (Err e) fails len above front).0;
@@ -37,6 +39,7 @@ returns-in-Some g c =
       (refl, (λ _. tt), lends),
       record {
         after_borrow = tt;
+        begins = Next-begins remaining s t found lends;
         fits = All-head (Fits s.decoder.max) found [] (Next-went remaining s t (Ok (Some found)) lends).fit;
         ready = λ payload more fits front. (Next-ready remaining s t (Ok (Some found)) lends payload more fits front).0;
         too_long = λ len above front. (Next-too_long remaining s t (Ok (Some found)) lends len above front).0;

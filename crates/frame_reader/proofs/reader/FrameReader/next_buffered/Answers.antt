@@ -5,6 +5,7 @@ use Rattle.codec.specs.NextPiece.{NextBuffered, buffered_answer}
 use Rattle.frame_reader.specs.Framed.{framed}
 use Rattle.frame_reader.specs.Frames.{Fits}
 use Rattle.frame_reader.specs.NextLaws.{NextPiece-frames}
+use Rattle.frame_reader.proofs.Pieces.{NextBuffered-front}
 use Rattle.frame_reader.proofs.reader.FrameReader.next_buffered.Goals as goal
 
 pub returns-in-Some : goal.returns-in-Some
@@ -19,6 +20,7 @@ returns-in-Some g c =
       (refl, (λ _. tt), lends),
       record {
         after_borrow = tt;
+        front = NextBuffered-front remaining s t c.lent.result.now lends;
         fits = All-head (Fits s.decoder.max) c.lent.result.now [] (NextPiece-frames remaining s t _ lends.0).fit;
       },
     )

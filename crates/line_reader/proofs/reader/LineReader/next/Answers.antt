@@ -4,6 +4,7 @@ use Rattle.std.proofs.lemmas.Result.{err_from_is_err_and}
 use Rattle.piece_reader.specs.NextPiece.{load_answer}
 use Rattle.piece_reader.specs.NextPieceLaws.{shows_lent}
 use Rattle.line_reader.specs.NextLine.{NextBufferedLine, NextLine}
+use Rattle.line_reader.proofs.Fronts.{NextLine-begins}
 use Rattle.line_reader.proofs.Going.{NextLine-fits, NextLine-found, NextLine-looked, NextLine-says}
 use Rattle.line_reader.proofs.reader.LineReader.next.Goals as goal
 
@@ -18,7 +19,8 @@ returns-in-Some g c =
     NextLine-found remaining s t found
     (subst (λ l. NextBufferedLine remaining s (Some l) t) (sym c.lent.ensures) c.in-Some.ensures.next) in (
       (refl, (λ _. tt), next),
-      NextLine-says remaining s t (Ok (Some found)) whole next _ (NextLine-fits remaining s t found next),
+      NextLine-says remaining s t (Ok (Some found)) whole next _ _ (NextLine-begins remaining s t found whole next)
+          (NextLine-fits remaining s t found next),
     )
 
 pub returns-in_err-span : goal.returns-in_err-span
@@ -33,7 +35,7 @@ returns-in_err-span g c =
     let p = err_from_is_err_and c.from_residual.result c.from_residual.ensures.1 in
     rw (p.1, p.2) (
       (refl, (λ _. tt), next),
-      NextLine-says remaining s t (Err e) whole next _ tt,
+      NextLine-says remaining s t (Err e) whole next _ _ tt tt,
     )
 
 pub returns-in-Some-2 : goal.returns-in-Some-2
@@ -48,7 +50,8 @@ returns-in-Some-2 g c =
     let next = shows_lent (λ o. NextLine remaining s o t) t.pieces _ c.in-Some-2.span found c.in-Some-2.is
     c.lent-in-Some-2.ensures loads in (
       (refl, (λ _. tt), next),
-      NextLine-says remaining s t (Ok (Some found)) whole next _ (NextLine-fits remaining s t found next),
+      NextLine-says remaining s t (Ok (Some found)) whole next _ _ (NextLine-begins remaining s t found whole next)
+          (NextLine-fits remaining s t found next),
     )
 
 pub returns-in-None : goal.returns-in-None
@@ -62,5 +65,5 @@ returns-in-None g c =
     let next : NextLine remaining s (Ok None) t =
     subst (λ o. NextLine remaining s (load_answer (Ok o) t.pieces) t) c.in-None.is loads in (
       (refl, (λ _. tt), next),
-      NextLine-says remaining s t (Ok None) whole next _ tt,
+      NextLine-says remaining s t (Ok None) whole next _ _ tt tt,
     )
