@@ -2,7 +2,8 @@
 ghost use Rattle.std.specs.Prelude.{◌≡◌, map, IfOk, IfErr, OnOk};
 ghost use Rattle.std.specs.List.{All};
 ghost use Rattle.buffer_redux.specs.Faults.{IsMemory};
-ghost use Rattle.codec.specs.WriteRuns.{IfFault, IsFault};
+ghost use Rattle.codec.specs.WriteRuns.{IfFault, IfRefused, IsFault, RefusesOne};
+ghost use Rattle.frame_reader.specs.Framed.{framed_out};
 ghost use Rattle.frame_reader.specs.Frames.{Fits};
 ghost use Rattle.frame_reader.specs.WriteFrame.{piece_refused};
 
@@ -11,7 +12,8 @@ use crate::frame::Frames;
 use codec::WritePieceError;
 use std::alloc::Global;
 
-/// Payloads that are written and flushed are read again, each of them whole, in order, and no other. An `Io` is want of memory.
+/// Payloads that are written and flushed are read again, each of them whole, in order, and no other. A `TooLong` has
+/// the length of one that doesn't fit, and an `Io` is want of memory.
 pub fn round_trip(
     alloc: Global,
     payloads: &[Vec<u8>],
@@ -20,6 +22,8 @@ pub fn round_trip(
     ensures same { IfOk result (λ kept. map (λ v. v.items) kept.items ≡ map (λ v. v.items) payloads.now) }
     ensures fit { OnOk result (All (Fits max) (map (λ v. v.items) payloads.now)) }
     ensures fault { IfErr result (λ e. All (Fits max) (map (λ v. v.items) payloads.now) → IsFault (piece_refused e)) }
+    ensures reason { IfErr result (λ e.
+        IfRefused (RefusesOne (framed_out max) (map (λ v. v.items) payloads.now)) (piece_refused e)) }
     ensures memory { IfErr result (λ e. IfFault IsMemory (piece_refused e)) }
 {
     match codec::laws::round_trip(alloc, Frames { max }, payloads) {
