@@ -1,9 +1,12 @@
 -- What a call says first.
-use Rattle.std.proofs.Common.{◌≡◌, ℕ, List, [], ◌∷◌, length, Bool, true, false, if◌then◌else◌, Result, Ok, Err, IfOk, OnOk, refl}
+use Rattle.std.proofs.Common.{◌≡◌, ℕ, List, [], ◌∷◌, length, Bool, true, false, if◌then◌else◌, Result, Ok, Err, IfOk, MatchResult, OnOk, refl}
 use Rattle.std.specs.declared.io.Error.{Error}
 use Rattle.forward.specs.Filter.{FilterFlushes, FilterPasses, FilterRules}
-use Rattle.forward.specs.Forward.{Forwards}
+use Rattle.forward.specs.Forward.{Forwards, StopsBy}
 use Rattle.forward.specs.Link.{Linked}
+use Rattle.forward.specs.declared.error.Cause.{Cause}
+use Rattle.forward.specs.declared.error.Cause.TheVariants.{Wrong, Read, Write, Count}
+use Rattle.forward.specs.declared.error.Stopped.{Stopped}
 
 module _ {T W : Type 0} (rules : FilterRules T W) where
   pub pass_says : (s t : T) (answer : Result Bool Error) → FilterPasses rules s answer t
@@ -21,11 +24,22 @@ module _ {T W : Type 0} (rules : FilterRules T W) where
   flush_says s t (Ok _) flushes = flushes.answers.0
   flush_says s t (Err e) flushes = tt
 
-  pub forward_says : (s t : Linked T) (count : ℕ) → Forwards rules s (Ok count) t → record {
-    forwarded : (payloads : List (List ℕ)) × (length payloads ≡ count)
-        × rules.hands s.filter payloads t.filter × rules.takes s.filter payloads t.filter;
-    forwards : Forwards rules s (Ok count) t;
+  -- so many payloads were taken in, whatever stopped it
+  stop_says : (s t : T) (count : ℕ) (cause : Cause W) → StopsBy rules count s cause t
+      → (payloads : List (List ℕ)) × rules.takes s payloads t × (length payloads ≡ count)
+  stop_says s t count (Wrong why) stop = (stop.0.payloads, stop.0.moves.takes, stop.0.all)
+  stop_says s t count (Read e) stop = (stop.0.payloads, stop.0.moves.takes, stop.0.all)
+  stop_says s t count (Write e) stop = (stop.0.payloads, stop.0.moves.takes, stop.0.all)
+  stop_says s t count Count stop = (stop.0.payloads, stop.0.moves.takes, stop.0.all)
+
+  pub forward_says : (s t : Linked T) (answer : Result ℕ (Stopped W)) → Forwards rules s answer t → record {
+    forwarded : (payloads : List (List ℕ)) × rules.takes s.filter payloads t.filter × MatchResult answer
+        (λ count. (length payloads ≡ count) × rules.hands s.filter payloads t.filter)
+        (λ stopped. length payloads ≡ stopped.count);
+    forwards : Forwards rules s answer t;
   }
-  forward_says s t count forwards =
+  forward_says s t (Ok count) forwards =
       let all = forwards.answers.0 in
-      record { forwarded = (all.payloads, all.all, all.moves.hands, all.moves.takes); forwards = forwards }
+      record { forwarded = (all.payloads, all.moves.takes, (all.all, all.moves.hands)); forwards = forwards }
+  forward_says s t (Err stopped) forwards =
+      record { forwarded = stop_says s.filter t.filter stopped.count stopped.cause forwards.answers; forwards = forwards }

@@ -1,5 +1,5 @@
 //! Payloads forwarded until there are no more.
-ghost use Rattle.std.specs.Prelude.{◌≡◌, ℕ, List, ◌<◌, ◌≤◌, length, true, false, IfOk};
+ghost use Rattle.std.specs.Prelude.{◌≡◌, ℕ, List, ◌<◌, ◌≤◌, length, true, false, MatchResult};
 ghost use Rattle.forward.specs.Forward.{Forwards};
 ghost use Rattle.forward.specs.Steps.{ForwardsNext, RowGoes, TakesTurn};
 
@@ -19,8 +19,9 @@ use std::io::ErrorKind;
 pub fn forward<F: Filter>(link: &mut Link<F>) -> Result<u64, Stopped<F::Wrong>>
     requires ready { F.rules.ready link.old.filter }
     requires fresh { F.rules.fresh link.old.filter }
-    ensures forwarded { IfOk result (λ count. (payloads : List (List ℕ)) × (length payloads ≡ count)
-        × F.rules.hands link.old.filter payloads link.new.filter × F.rules.takes link.old.filter payloads link.new.filter) }
+    ensures forwarded { (payloads : List (List ℕ)) × F.rules.takes link.old.filter payloads link.new.filter
+        × MatchResult result (λ count. (length payloads ≡ count) × F.rules.hands link.old.filter payloads link.new.filter)
+        (λ stopped. length payloads ≡ stopped.count) }
     ensures forwards { Forwards F.rules link.old result link.new }
 {
     for count in 0..u64::MAX {

@@ -32,15 +32,16 @@ loop-count-preserved-in-Ok-true g c =
     }
 
 -- a payload that was there couldn't be written
-pub returns-in-Err-clause-forwards : goal.returns-in-Err-clause-forwards
-returns-in-Err-clause-forwards g c =
+pub returns-in-Err : goal.returns-in-Err
+returns-in-Err g c =
     let rules = g.F.Filter.rules in
     let lawful = g.met.F.Filter.lawful in
     let before = c.loop-count.invariant in
     let s = c.loop-count.link in
     let t = c.pass.new.self in
-    stopped_by rules lawful c.args.link.now c.requires.fresh c.loop-count.count s t before.so_far before.paced (Write c.in-Err.e)
-    (not_passed rules lawful s t c.in-Err.e c.in-Err.ensures.passes)
+    forward_says rules c.args.link.now t _
+    (stopped_by rules lawful c.args.link.now c.requires.fresh c.loop-count.count s t before.so_far before.paced
+    (Write c.in-Err.e) (not_passed rules lawful s t c.in-Err.e c.in-Err.ensures.passes))
 
 -- none was there, and one was asked for
 pub loop-count-preserved : goal.loop-count-preserved
@@ -75,22 +76,24 @@ returns-in-Ok-false-forward_asked g c =
     (subst (λ b. LinkPasses rules s (Ok b) m) c.in-Ok-false.field-0-test c.in-Ok-false.ensures.passes) (Ok false) t
     (subst (λ b. ForwardsNext rules m (Ok b) t) c.in-Ok-false-forward_asked.field-0-test c.in-Ok-false-forward_asked.ensures)))
 
-pub returns-in-Err-forward_asked-clause-forwards : goal.returns-in-Err-forward_asked-clause-forwards
-returns-in-Err-forward_asked-clause-forwards g c =
+pub returns-in-Err-forward_asked : goal.returns-in-Err-forward_asked
+returns-in-Err-forward_asked g c =
     let rules = g.F.Filter.rules in
     let lawful = g.met.F.Filter.lawful in
     let before = c.loop-count.invariant in
     let s = c.loop-count.link in
     let m = c.pass.new.self in
     let t = c.forward_asked.new.link in
-    stopped_by rules lawful c.args.link.now c.requires.fresh c.loop-count.count s t before.so_far before.paced
+    forward_says rules c.args.link.now t _
+    (stopped_by rules lawful c.args.link.now c.requires.fresh c.loop-count.count s t before.so_far before.paced
     c.in-Err-forward_asked.cause
     (then_asked rules lawful s m
     (subst (λ b. LinkPasses rules s (Ok b) m) c.in-Ok-false.field-0-test c.in-Ok-false.ensures.passes)
-    (Err c.in-Err-forward_asked.cause) t c.in-Err-forward_asked.ensures)
+    (Err c.in-Err-forward_asked.cause) t c.in-Err-forward_asked.ensures))
 
-pub returns-clause-forwards : goal.returns-clause-forwards
-returns-clause-forwards g c =
+pub returns : goal.returns
+returns g c =
     let before = c.loop-count.invariant in
-    counted_all g.F.Filter.rules g.met.F.Filter.lawful c.args.link.now c.requires.fresh c.loop-count.count c.loop-count.link
-    before.so_far before.paced _ (omega (arith, c.loop-count-test.false, c.loop-count.auto.count-end)) (lit≤ tt)
+    forward_says g.F.Filter.rules c.args.link.now c.loop-count.link _
+    (counted_all g.F.Filter.rules g.met.F.Filter.lawful c.args.link.now c.requires.fresh c.loop-count.count c.loop-count.link
+    before.so_far before.paced _ (omega (arith, c.loop-count-test.false, c.loop-count.auto.count-end)) (lit≤ tt))
