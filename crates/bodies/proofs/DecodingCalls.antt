@@ -22,7 +22,7 @@ use Rattle.chunked.specs.declared.place.Place.TheVariants.{Line}
 use Rattle.forward.specs.declared.error.AskError.{AskError}
 use Rattle.programs.specs.FlushesLaws.{SendsByOneFlush-flush}
 use Rattle.programs.specs.PromptLaws.{WritesOn-grows, WritesOn-unflushed}
-use Rattle.bodies.specs.Words.{Error, WasFlushed, WritesInOrder, Buffered, std_read_rules, StreamLog, StdPolicy, BodyWent, IsBodyOfChunks, IsBodyReader, TookWholeBody, LooksBehind, ReadsPayload, chunked, handed_of, taken_count, AskAnswers, FilterAsks, FlushAnswers, FilterFlushes, FilterRules, NeverGaveNothing, FilterPasses, taken_more, RunError}
+use Rattle.bodies.specs.Words.{Error, WasFlushed, WritesInOrder, Buffered, std_read_rules, StreamLog, StdPolicy, BodyWent, IsBodyOfChunks, IsBodyReader, IsStill-same, TookWholeBody, LooksBehind, ReadsPayload, chunked, handed_of, taken_count, AskAnswers, FilterAsks, FlushAnswers, FilterFlushes, FilterRules, NeverGaveNothing, FilterPasses, taken_more, RunError}
 use Rattle.bodies.specs.Decode.{IsDue}
 use Rattle.bodies.specs.Decoding.{ChunkedState, HandsPayloadPieces, HoldsPiece, IsPieceTarget, MayDecode, NoneBuffered, WritesPayload, ask_error, decoding_rules, end_answer, held_payload}
 use Rattle.bodies.specs.Decoding as Source
@@ -210,6 +210,7 @@ module _ {R W : Type 0} (remaining : R → Option (List ℕ)) (s : Decoding R W)
       closed = λ closed. closed;
       writes = WritesOn-grows s.target.log.writes v.log.writes f.grows;
       flushes = SendsByOneFlush-flush s.target v answer f.steps;
+      steps = f.steps;
       quiet = λ drops. absurd drops;
       moves = record { hands = hands_none remaining s (record s { target = v }) refl refl; takes = f.in_order };
       lacks = λ lacks. lacks;
@@ -229,6 +230,7 @@ module _ {R W : Type 0} (remaining : R → Option (List ℕ)) (s : Decoding R W)
         → FilterAsks rules s answer (asked t n)
     asks_so t n most went whole over once answer answers = record {
       told = refl;
+      still = IsStill-same s.target s.target refl;
       ready = read_ready none m out len t n went most whole;
       moves = record {
         hands = read_hands none m out len t n went;

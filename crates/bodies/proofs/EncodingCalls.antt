@@ -16,7 +16,7 @@ use Rattle.forward.specs.declared.error.AskError.{AskError}
 use Rattle.programs.specs.FlushesLaws.{flushed_once, SendsByOneFlush-flush}
 use Rattle.programs.specs.PromptLaws.{WritesOn-grows, WritesOn-joins, WritesOn-unflushed}
 use Rattle.programs.specs.StreamsLaws.{MetInterrupts-none}
-use Rattle.bodies.specs.Words.{around, AskAnswers, FilterAsks, body_end, Buffered, chunk, ChunkedWriterState, ChunksWent, Error, Fills, FilterRules, FlushAnswers, FilterFlushes, IsChunkedWriter, IsStill, line_end, MetInterrupts, MetInterrupts-joins, FilterPasses, PutsIn, ReadsAlong, room, RunError, SendErrorCaused-after, SendsFirst, size_digits, std_read_rules, StdPolicy, StreamLog, taken_more, WasFlushed, WritesChunk, WritesInOrder, AllSent, SendErrorCaused}
+use Rattle.bodies.specs.Words.{around, AskAnswers, FilterAsks, body_end, Buffered, chunk, ChunkedWriterState, ChunksWent, Error, Fills, FilterRules, FlushAnswers, FilterFlushes, IsChunkedWriter, IsStill, IsStill-same, line_end, MetInterrupts, MetInterrupts-joins, FilterPasses, PutsIn, ReadsAlong, room, RunError, SendErrorCaused-after, SendsFirst, size_digits, std_read_rules, StdPolicy, StreamLog, taken_more, WasFlushed, WritesChunk, WritesInOrder, AllSent, SendErrorCaused}
 use Rattle.bodies.specs.Encode.{EndsBody}
 use Rattle.bodies.specs.Encoding.{encoding_rules, MayEncode}
 use Rattle.bodies.specs.Filters.{Asked}
@@ -260,6 +260,7 @@ module _ {R W : Type 0} (remaining : R → Option (List ℕ)) (tells : W → Str
       closed = λ closed. closed;
       writes = WritesOn-grows s.target.writer.log.writes c.writer.log.writes f.grows;
       flushes = SendsByOneFlush-flush s.target.writer c.writer answer f.steps;
+      steps = f.steps;
       quiet = λ drops. absurd drops;
       moves = record { hands = ReadsAlong-none remaining std_read_rules s.source; takes = went };
       lacks = λ lacks. lacks;
@@ -277,6 +278,7 @@ module _ {R W : Type 0} (remaining : R → Option (List ℕ)) (tells : W → Str
         → (answer : Result Bool (AskError RunError)) → AskAnswers rules s answer after → FilterAsks rules s answer after
     empty_asked same asked told quiet answer answers = record {
       told = refl;
+      still = IsStill-same s.target.writer s.target.writer refl;
       ready = record {
         capacity = omega (arith, ready.capacity, along.capacity);
         fits = omega (arith, ready.fits, same);

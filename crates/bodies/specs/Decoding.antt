@@ -10,7 +10,7 @@ use Rattle.chunked.specs.declared.place.Place.{Place}
 use Rattle.forward.specs.declared.error.AskError.{AskError}
 use Rattle.forward.specs.declared.error.AskError.TheVariants.{Wrong}
 use Rattle.forward.specs.declared.error.AskError.TheVariants as ask
-use Rattle.bodies.specs.Words.{Error, RanDry, WritesInOrder, Buffered, MetInterrupts, SendErrorCaused, std_read_rules, StdPolicy, BodyState, BodyWent, BreaksAt, IsBodyOfChunks, IsBodyReader, TookWholeBody, LooksBehind, chunked, handed_of, taken_count, FilterRules, AllSent, IsStill, taken_in, RunError}
+use Rattle.bodies.specs.Words.{Error, Flushes, RanDry, WritesInOrder, Buffered, MetInterrupts, SendErrorCaused, std_read_rules, StdPolicy, BodyState, BodyWent, BreaksAt, IsBodyOfChunks, IsBodyReader, TookWholeBody, LooksBehind, chunked, handed_of, taken_count, FilterRules, AllSent, IsStill, taken_in, RunError}
 use Rattle.bodies.specs.Decode.{IsDue}
 use Rattle.bodies.specs.Filters.{Asked, joined}
 use Rattle.bodies.specs.declared.decoding.Decoding.{Decoding}
@@ -119,6 +119,7 @@ decoding_rules remaining = record {
   taken = λ s. taken_in s.target;
   still = λ s t. IsStill s.target t.target;
   room = λ s. s.target.block.capacity - length s.target.block.bytes;
+  flushes = λ s answer t. Flushes s.target answer t.target;
   asks = λ s t. AsksPromptly s.source t.source;
   wants = λ s. 0;
   ends = λ s how t. (t.held ≡ 0) × PayloadEnds s.source how t.source;
@@ -131,4 +132,5 @@ decoding_rules remaining = record {
   due = λ s bytes due. IsDue s.source.coding.0 (s.source.taken ++ bytes) (handed_of s.source ++ due);
   drops = ⊥;
   refused = λ e t. ⊥;
+  loses = 0;
 }

@@ -1,6 +1,6 @@
 -- A filter that makes what is given chunks.
 use Rattle.std.specs.Prelude.{◌≡◌, ℕ, ◌+◌, ◌-◌, ◌<◌, ◌≤◌, List, [], length, MatchResult, Option}
-use Rattle.bodies.specs.Words.{ReadsAlong, std_read_rules, ChunksWent, IsChunkedWriter, FilterRules, AllSent, IsStill, around, room, taken_in, RunError}
+use Rattle.bodies.specs.Words.{Flushes, ReadsAlong, std_read_rules, ChunksWent, IsChunkedWriter, FilterRules, AllSent, IsStill, around, room, taken_in, RunError}
 use Rattle.bodies.specs.Encode.{IsDue}
 use Rattle.bodies.specs.Filters.{Asked, joined}
 use Rattle.bodies.specs.declared.encoding.Encoding.{Encoding}
@@ -29,6 +29,7 @@ encoding_rules remaining trace = record {
   taken = λ s. taken_in s.target.writer;
   still = λ s t. IsStill s.target.writer t.target.writer;
   room = λ s. room s.target.writer - around;
+  flushes = λ s answer t. Flushes s.target.writer answer t.target.writer;
   asks = λ s t. Asked (λ bytes. bytes ≡ []) s.source t.source × (s.source.log.reads.asks < t.source.log.reads.asks);
   wants = λ s. 0;
   ends = λ s how t. MatchResult how
@@ -38,4 +39,5 @@ encoding_rules remaining trace = record {
   due = λ s. IsDue;
   drops = ⊥;
   refused = λ e t. ⊥;
+  loses = 0;
 }

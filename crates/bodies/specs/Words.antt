@@ -2,7 +2,7 @@
 pub use Rattle.bodies.specs.declared.error.RunError.{RunError}
 pub use Rattle.body_reader.specs.BodyReader.{BodyState, BodyWent, IsBodyReader, LooksBehind, ReadsPayload, TookWholeBody, begun, handed_of, taken_count}
 pub use Rattle.buffer_redux.specs.BufReader.{Fills, RanDry, ReadsAlong, ReadsInOrder}
-pub use Rattle.buffer_redux.specs.BufWriter.{WasFlushed, WritesInOrder}
+pub use Rattle.buffer_redux.specs.BufWriter.{Flushes, WasFlushed, WritesInOrder}
 pub use Rattle.buffer_redux.specs.Buffered.{Buffered}
 pub use Rattle.buffer_redux.specs.Faults.{MetInterrupts, MetInterrupts-joins, OnlyInterrupts-none, SendErrorCaused, SendErrorCaused-after}
 pub use Rattle.buffer_redux.specs.Policy.{std_read_rules}

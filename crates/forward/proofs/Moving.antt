@@ -29,7 +29,8 @@ module _ {T W : Type 0} (rules : FilterRules T W) where
     pub none_forwarded : (s t : T) → Moves rules s [] [] t → Forwarded rules 0 s t
     none_forwarded s t moves = record { payloads = []; moves = moves; all = refl }
 
-    pub none_first : (s t : T) (lost : List (List ℕ)) → Moves rules s lost [] t → length lost ≤ 1 → ForwardedFirst rules 0 s t
+    pub none_first : (s t : T) (lost : List (List ℕ)) → Moves rules s lost [] t → length lost ≤ rules.loses
+        → ForwardedFirst rules 0 s t
     none_first s t lost moves few = record { payloads = []; lost = lost; moves = moves; all = refl; few = few }
 
     pub forwarded_joins : (a b c : T) (n k : ℕ) → Forwarded rules n a b → Forwarded rules k b c → Forwarded rules (n + k) a c

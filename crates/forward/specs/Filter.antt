@@ -28,6 +28,8 @@ pub record FilterRules (T W : Type 0) : Type 1 where
   -- the writer was let be: not called, and given no memory; and so many bytes are taken in so
   pub still : T → T → Type 0
   pub room : T → ℕ
+  -- how the writer is flushed, once at most
+  pub flushes : T → Result (Unit {0}) Error → T → Type 0
   -- a payload may come from here though the stream isn't asked
   pub finds : T → Type 0
   -- how the stream is asked: for bytes that come while what is there holds no payload
@@ -42,9 +44,11 @@ pub record FilterRules (T W : Type 0) : Type 1 where
   pub fresh : T → Type 0
   -- what is due of what is buffered and then these bytes, which are given next
   pub due : T → List ℕ → List ℕ → Type 0
-  -- nothing may be taken in for a payload; and why one was refused, beside the writer's fault
+  -- nothing may be taken in for a payload; why one was refused, beside the writer's fault; and how many that were handed out may
+  -- be lost where one wasn't taken in
   pub drops : Type 0
   pub refused : Error → T → Type 0
+  pub loses : ℕ
 
 module _ {T W : Type 0} (rules : FilterRules T W) where
   -- these payloads were handed out, and those were taken in
@@ -71,8 +75,7 @@ module _ {T W : Type 0} (rules : FilterRules T W) where
       × (rules.taken s ≤ length (rules.written t).writes.received))
 
   -- what an answer of `pass` says. Something was taken in, but for a payload that was dropped; where there was room for it, the
-  -- writer was let be, as where there was none. Where the writer failed, or one was refused, the one payload that was handed out
-  -- may be lost
+  -- writer was let be, as where there was none. Where the writer failed, or one was refused, no more are lost than may be
   abbrev pub PassAnswers : T → Result Bool Error → T → Type 0
   PassAnswers s (Ok true) t =
       (payload : List ℕ) × Moves s (payload ∷ []) (payload ∷ []) t × WritesOnlyInterrupted s t
@@ -82,7 +85,8 @@ module _ {T W : Type 0} (rules : FilterRules T W) where
       Moves s [] [] t × WritesOnlyInterrupted s t × rules.lacks t × (¬ rules.has s) × (rules.drops → StaysSent s t)
       × rules.still s t
   PassAnswers s (Err e) t =
-      (lost : List (List ℕ)) × Moves s lost [] t × (FailedToWrite e s t ⊎ rules.refused e t) × (length lost ≤ 1)
+      (lost : List (List ℕ)) × Moves s lost [] t × (FailedToWrite e s t ⊎ rules.refused e t)
+      × (length lost ≤ rules.loses)
 
   -- what `pass` does: the stream that is read from isn't asked
   pub record FilterPasses (s : T) (answer : Result Bool Error) (t : T) : Type 0 where
@@ -105,6 +109,7 @@ module _ {T W : Type 0} (rules : FilterRules T W) where
     pub closed : rules.closed s → rules.closed t
     pub writes : WritesOn (rules.written s).writes (rules.written t).writes
     pub flushes : FlushesOnce s t
+    pub steps : rules.flushes s answer t
     pub quiet : rules.drops → rules.sent s → (rules.written t).writes.flushes ≡ (rules.written s).writes.flushes
     pub moves : Moves s [] [] t
     pub lacks : rules.lacks s → rules.lacks t
@@ -143,9 +148,10 @@ module _ {T W : Type 0} (rules : FilterRules T W) where
   AskAnswers s (Err (Io e)) t = rules.waits t × FailedToRead e s t × StaysOpen s t × (rules.wants t ≡ rules.wants s)
   AskAnswers s (Err (IoBehind e)) t = rules.waits t × FailedToRead e s t × StaysOpen s t × (rules.wants t < rules.wants s)
 
-  -- what `ask` does: nothing is written
+  -- what `ask` does: the writer is let be
   pub record FilterAsks (s : T) (answer : Result Bool (AskError W)) (t : T) : Type 0 where
     pub told : rules.written t ≡ rules.written s
+    pub still : rules.still s t
     pub ready : rules.ready t
     pub moves : Moves s [] [] t
     pub sent : rules.sent s → rules.sent t

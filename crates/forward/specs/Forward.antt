@@ -30,13 +30,13 @@ module _ {T W : Type 0} (rules : FilterRules T W) where
     pub moves : Moves rules s payloads payloads t
     pub all : length payloads ≡ count
 
-  -- this many payloads were taken in, and one behind them may be lost
+  -- this many payloads were taken in, and behind them no more are lost than may be
   pub record ForwardedFirst (count : ℕ) (s t : T) : Type 0 where
     pub payloads : List (List ℕ)
     pub lost : List (List ℕ)
     pub moves : Moves rules s (payloads ++ lost) payloads t
     pub all : length payloads ≡ count
-    pub few : length lost ≤ 1
+    pub few : length lost ≤ rules.loses
 
   -- sending failed; or a payload was refused. Reads were at most interrupted
   abbrev pub NotWritten : Error → T → T → Type 0

@@ -29,4 +29,5 @@ packing = record {
   drops = ⊥;
   sent = λ s. AllSent s.target.writer;
   refused = λ e t. ⊥;
+  loses = 1;
 }

@@ -34,4 +34,5 @@ unpacking = record {
   drops = ⊥;
   sent = λ s. AllSent s.target;
   refused = λ e t. ⊥;
+  loses = 1;
 }

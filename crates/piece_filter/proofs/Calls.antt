@@ -168,6 +168,7 @@ module _ {R D X A W N : Type 0} (remaining : R → Option (List ℕ)) (grammar :
     closed = λ closed. closed;
     writes = WritesOn-none s.target.log.writes;
     flushes = inl refl;
+    steps = inl (record { answered = refl; buffer = refl; told = refl });
     quiet = λ drops sent. refl;
     moves = record {
       hands = (answering_lawful grammar Answers remaining).hands_none s;

@@ -60,4 +60,5 @@ answering grammar Answers = record {
   drops = Unit {0};
   sent = λ s. (s.sent ≡ true) × AllSent s.target;
   refused = HoldsRefused Answers;
+  loses = 0;
 }

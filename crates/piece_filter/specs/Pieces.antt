@@ -2,9 +2,10 @@
 use Rattle.std.specs.Prelude.{◌≡◌, ℕ, ◌-◌, ◌≤◌, ◌⊎◌, List, [], ◌∷◌, ◌++◌, length, Bool, true, false, Option, None, Some, Result, Ok, Err}
 use Rattle.std.specs.declared.io.Error.{Error}
 use Rattle.buffer_redux.specs.BufReader.{RanDry}
-use Rattle.buffer_redux.specs.BufWriter.{WritesInOrder}
+use Rattle.buffer_redux.specs.BufWriter.{Flushes, WritesInOrder}
 use Rattle.buffer_redux.specs.Buffered.{Buffered}
 use Rattle.buffer_redux.specs.LogGrows.{ReadLogGrows}
+use Rattle.buffer_redux.specs.Transfer.{DoesNothing}
 use Rattle.buffer_redux.specs.declared.policy.StdPolicy.{StdPolicy}
 use Rattle.piece_reader.specs.Decoding.{IsLent, bytes_at}
 use Rattle.piece_reader.specs.Grammar.{Begins, Grammar, IsOpen}
@@ -31,10 +32,12 @@ pub record Piecewise (T R D X A W E : Type 0) : Type 1 where
   pub due : D → A → List ℕ → List ℕ → Type 0
   -- what comes next is no piece
   pub wrong : T → E → T → Type 0
-  -- nothing may be written for a payload; all that was is known to be sent; and why else a payload was refused
+  -- nothing may be written for a payload; all that was is known to be sent; why else a payload was refused; and how many may be
+  -- lost where one wasn't written
   pub drops : Type 0
   pub sent : T → Type 0
   pub refused : Error → T → Type 0
+  pub loses : ℕ
 
 -- these payloads were answered, one after another
 abbrev pub AnswersAll : {A : Type 0} → (A → List ℕ → List ℕ → A → Type 0) → A → List (List ℕ) → List ℕ → A → Type 0
@@ -101,6 +104,12 @@ module _ {T R D X A W E : Type 0} (f : Piecewise T R D X A W E) where
     pub service : f.service t ≡ f.service s
     pub sent : f.sent s → f.sent t
 
+  -- the writer was let be, or flushed by one call, whose answer this is
+  abbrev pub FlushesOrNot : T → Result (Unit {0}) Error → T → Type 0
+  FlushesOrNot s answer t =
+      DoesNothing tt (f.target s).block (f.target s).log answer (f.target t).block (f.target t).log
+      ⊎ Flushes (f.target s) answer (f.target t)
+
 module _ {T R D X A W E : Type 0} (remaining : R → Option (List ℕ)) (f : Piecewise T R D X A W E) where
   -- these payloads are what was held, then what the reader handed out, but for what is held still
   pub record HandsPieces (s : T) (payloads : List (List ℕ)) (t : T) : Type 0 where
@@ -128,6 +137,7 @@ module _ {T R D X A W E : Type 0} (remaining : R → Option (List ℕ)) (f : Pie
     taken = λ s. taken_in (f.target s);
     still = λ s t. IsStill (f.target s) (f.target t);
     room = λ s. (f.target s).block.capacity - length (f.target s).block.bytes;
+    flushes = FlushesOrNot f;
     asks = λ s t. AskedWhere (IsOpen (grammar_of f s)) (f.source s) (f.source t)
         × ReadLogGrows (f.source s).reader.log.reads (f.source t).reader.log.reads;
     wants = λ s. (grammar_of f s).most - length (rest (f.source s));
@@ -137,4 +147,5 @@ module _ {T R D X A W E : Type 0} (remaining : R → Option (List ℕ)) (f : Pie
     due = λ s bytes. f.due (f.source s).decoder (f.service s) (rest (f.source s) ++ bytes);
     drops = f.drops;
     refused = f.refused;
+    loses = f.loses;
   }

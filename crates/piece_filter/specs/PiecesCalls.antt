@@ -162,7 +162,7 @@ module _ {T R D X A W E : Type 0} (remaining : R → Option (List ℕ)) (f : Pie
       );
     }
 
-    pub lost : (p : List (List ℕ)) → length p ≤ 1 → Took p → f.service t ≡ f.service s
+    pub lost : (p : List (List ℕ)) → length p ≤ f.loses → Took p → f.service t ≡ f.service s
         → WritesInOrder (f.target s) [] (f.target t) → (e : Error)
         → SendErrorCaused (f.target s).log.writes (f.target t).log.writes e ⊎ f.refused e t → FilterPasses rules s (Err e) t
     lost p few took same taken e caused = record {
@@ -194,6 +194,7 @@ module _ {T R D X A W E : Type 0} (remaining : R → Option (List ℕ)) (f : Pie
       closed = took.closed;
       writes = WritesOn-grows (f.target s).log.writes (f.target t).log.writes w.grows;
       flushes = SendsByOneFlush-flush (f.target s) (f.target t) answer w.steps;
+      steps = inr w.steps;
       quiet = λ drops sent. absurd (unsent drops sent);
       moves = record { hands = took.hands; takes = takes_nothing remaining f s t same w.in_order };
       lacks = λ lacks. (held ∙ lacks.0, subst (λ m. ¬ (Begins (f.grammar m.decoder) (rest m))) (sym still) lacks.1);
@@ -245,6 +246,7 @@ module _ {T R D X A W E : Type 0} (remaining : R → Option (List ℕ)) (f : Pie
           → (answer : Result Bool (AskError E)) → AskAnswers rules s answer t → FilterAsks rules s answer t
       asked found next shows hands once answer answers = record {
         told = ap (λ v. v.log) same;
+        still = IsStill-same (f.target s) (f.target t) same;
         ready = ready_then found next shows also;
         moves = record { hands = hands; takes = taken };
         sent = keeps.sent;
@@ -376,6 +378,7 @@ pub asked_ended : {T R D X A W E : Type 0} (remaining : R → Option (List ℕ))
     {s : T} → IsReady f s → f.held s ≡ None → HasEnded f s → FilterAsks (piece_rules remaining f) s (Ok false) s
 asked_ended remaining f {s} ready lacks ended = record {
   told = refl;
+  still = IsStill-same (f.target s) (f.target s) refl;
   ready = ready;
   moves = record {
     hands = (took_none remaining f ready s refl ready.also refl).hands;
