@@ -1,20 +1,21 @@
 -- How all of some bytes is taken in, or nothing.
-use Rattle.std.proofs.Common.{◌≡◌, ℕ, ◌+◌, ◌-◌, ◌^◌, ◌==◌, ◌<◌, ◌≤◌, ◌⊎◌, if◌then◌else◌, nat_le, Bool, true, false, inl, inr, List, [], ◌++◌, length, min, Result, Ok, Err, IsOk, OnOk, refl, sym, ap, subst, ◌∙◌, arith, append-nil}
+use Rattle.std.proofs.Common.{◌≡◌, ℕ, ◌+◌, ◌-◌, ◌^◌, ◌==◌, ◌<◌, ◌≤◌, ◌⊎◌, if◌then◌else◌, nat_le, Bool, true, false, inl, inr, List, [], ◌++◌, length, min, Result, Ok, Err, IsOk, OnOk, refl, sym, ap, subst, ◌∙◌, arith, append-nil, length-append}
 use Rattle.std.proofs.lemmas.Bool.{cases_lt, true≢false}
 use Rattle.std.proofs.lemmas.List.{append_cancel_left}
-use Rattle.std.specs.Prelude.{MatchResult, OnErr}
+use Rattle.std.specs.Prelude.{IfErr, MatchResult, OnErr, ◌∷◌}
 use Rattle.std.specs.declared.io.Error.{Error}
 use Rattle.buffer_redux.specs.Block.{Block, Kind, MakesRoom, Plain, Reserves, Ring, by_kind, capacity_for, round, usable}
 use Rattle.buffer_redux.specs.BufWriter.{WasSent, WritesInOrder}
 use Rattle.buffer_redux.specs.Buffered.{Buffered, with_block}
 use Rattle.buffer_redux.specs.GrowError.{GrowthFailed}
 use Rattle.buffer_redux.specs.Faults.{MetInterrupts, MetInterrupts-none, SendErrorCaused, SendErrorCaused-after}
-use Rattle.buffer_redux.specs.StreamLog.{StreamLog}
+use Rattle.buffer_redux.specs.StreamLog.{StreamLog, WriteLog}
+use Rattle.buffer_redux.specs.Transfer.{Sends}
 use Rattle.buffer_redux.specs.WriteParts.{Appends, MakesPlace, PartsRefused, WritesParts}
 use Rattle.buffer_redux.specs.WritePartsLaws.{WritesParts-limit, WritesParts-sent}
 use Rattle.buffer_redux.specs.WriterLaws.{WritesInOrder-joins}
 use Rattle.buffer_redux.specs.declared.policy.StdPolicy.{StdPolicy}
-use Rattle.piece_filter.specs.Puts.{IsRoomRefused, Puts}
+use Rattle.piece_filter.specs.Puts.{IsRoomRefused, Puts, SendsOnce}
 
 -- the inner writer isn't called where parts fit, which goes well, nor where nothing is buffered
 module _ {W : Type 0} (tells : W → StreamLog) (trace : W → W → Type 0) (m : Buffered W StdPolicy) (bytes : List ℕ)
@@ -30,6 +31,19 @@ module _ {W : Type 0} (tells : W → StreamLog) (trace : W → W → Type 0) (m 
     where
       idle : (n : ℕ) → n ≡ 0 → min n n ≡ 0
       idle n none = rw none refl
+
+-- a writer that told nothing caused no error
+caused_none : (old new : WriteLog) (e : Error) → new ≡ old → ¬ (SendErrorCaused old new e)
+caused_none old new e same caused = elim caused.cause [
+  | inl nothing ↦ omega (arith, nothing.zero_writes, ap (λ l. l.zero_writes) same)
+  | inr fault ↦ omega (
+    arith,
+    ap length fault.faults,
+    ap (λ l. length l.faults) same,
+    length-append (old.faults ++ caused.interrupts) (e ∷ []),
+    length-append old.faults caused.interrupts,
+  )
+]
 
 -- an empty block grows by so many at most, or to so many, rounded up
 grows_to : (within none : Bool) (k : Kind) (capacity less n all : ℕ) → all ≡ n
@@ -101,30 +115,35 @@ module _ {W : Type 0} (tells : W → StreamLog) (trace : W → W → Type 0) (s 
     pub puts : (answer : Result (Unit {0}) Error)
         → (length s.block.bytes + length bytes ≤ s.block.capacity → IsOk answer × (t.log ≡ s.log))
         → (s.block.capacity < length s.block.bytes + length bytes → OnOk answer (t.block.bytes ≡ bytes))
+        → (s.block.capacity < length s.block.bytes + length bytes → SendsOnce s (length bytes) answer t)
         → OnErr answer (t.block.bytes ≡ []) → WritesParts tells trace m bytes answer t → Puts s bytes answer t
-    puts (Ok _) fits full empty p = record {
+    puts (Ok _) fits full sends empty p = record {
       taken = WritesInOrder-joins s m t [] bytes order p.along.in_order;
       met = met_still;
       fits = fits;
       full = full;
+      sends = sends;
       caused = tt;
       kept = kept;
       grown = grown;
       limit = limit;
       not_flushed = ap (λ l. l.writes.flushed) told ∙ not_flushed;
       flushes = ap (λ l. l.writes.flushes) told ∙ flushes;
+      whole = p.whole;
     }
-    puts (Err e) fits full empty p = record {
+    puts (Err e) fits full sends empty p = record {
       taken = WritesInOrder-joins s m t [] [] order p.along.in_order;
       met = tt;
       fits = fits;
       full = full;
+      sends = sends;
       caused = refused e empty p.caused;
       kept = kept;
       grown = grown;
       limit = limit;
       not_flushed = ap (λ l. l.writes.flushed) told ∙ not_flushed;
       flushes = ap (λ l. l.writes.flushes) told ∙ flushes;
+      whole = p.whole;
     }
 
   -- room was made, and the parts were written where they fit
@@ -139,7 +158,7 @@ module _ {W : Type 0} (tells : W → StreamLog) (trace : W → W → Type 0) (s 
       (ap (λ l. l.writes.flushed) same) (ap (λ l. l.writes.flushes) same) there.1
       (λ _. (p.fits fit).1.added.capacity ∙ room.capacity) (WritesParts-limit tells trace m t bytes answer p ∙ room.limit)
       (omega (arith, (p.fits fit).1.added.capacity, room.capacity)) answer (λ _. (there.0, there.1 ∙ same))
-      (λ few. absurd (omega (arith, fits, few))) (never answer there.0) p
+      (λ few. absurd (omega (arith, fits, few))) (λ few. absurd (omega (arith, fits, few))) (never answer there.0) p
     where
       never : (answer : Result (Unit {0}) Error) → IsOk answer → OnErr answer (t.block.bytes ≡ [])
       never (Ok _) ok = tt
@@ -157,7 +176,7 @@ module _ {W : Type 0} (tells : W → StreamLog) (trace : W → W → Type 0) (s 
       told (λ small. (p.fits (space small)).1.added.capacity ∙ room.capacity ∙ sent.capacity)
       (WritesParts-limit tells trace m t bytes answer p ∙ room.limit ∙ sent.sends.sent.dropped.limit)
       (omega (arith, parts_bound tells trace m empty bytes answer t p, room.capacity, sent.capacity)) answer
-      (λ fit. absurd (omega (arith, fit, few))) (λ _. kept answer p) (nothing answer p) p
+      (λ fit. absurd (omega (arith, fit, few))) (λ _. kept answer p) (λ _. once) (nothing answer p) p
     where
       empty : m.block.bytes ≡ []
       empty = room.bytes ∙ sent.ok.empty
@@ -177,6 +196,23 @@ module _ {W : Type 0} (tells : W → StreamLog) (trace : W → W → Type 0) (s 
       kept : (answer : Result (Unit {0}) Error) → WritesParts tells trace m bytes answer t → OnOk answer (t.block.bytes ≡ bytes)
       kept (Ok _) p = left bytes p.along.in_order
       kept (Err e) p = tt
+
+      room_refused : (answer : Result (Unit {0}) Error) → WritesParts tells trace m bytes answer t
+          → IfErr answer (λ e. IsRoomRefused (length bytes) e t)
+      room_refused (Ok _) p = tt
+      room_refused (Err e) p = elim p.caused [
+        | inl caused ↦ absurd (caused_none m.log.writes t.log.writes e (ap (λ l. l.writes) told) caused)
+        | inr (more, few, failed) ↦ (more, few, left [] p.along.in_order, failed)
+      ]
+
+      once : SendsOnce s (length bytes) answer t
+      once = record {
+        sending = Ok tt;
+        left = u.block;
+        sends = subst (λ l. Sends (length s.block.bytes) s.block s.log (Ok tt) u.block l)
+            (sym (told ∙ ap (λ x. x.log) others)) sent.sends;
+        ended = room_refused answer p;
+      }
 
       nothing : (answer : Result (Unit {0}) Error) → WritesParts tells trace m bytes answer t → OnErr answer (t.block.bytes ≡ [])
       nothing (Ok _) p = tt

@@ -9,7 +9,7 @@ use buffer_redux::tell::TellWrite;
 use std::io;
 
 /// Takes in the first bytes, and then the second: all of them, or nothing. Where they don't fit behind what is buffered, that is
-/// sent before, and only where they are more than the capacity, the buffer grows, within its limit. Nothing is flushed.
+/// sent before, once, and only where they are more than the capacity, the buffer grows, within its limit. Nothing is flushed.
 ///
 /// An `Err` is that of the send, or the growth was refused, where nothing is buffered any more.
 pub fn put_both<W: TellWrite>(
