@@ -1,5 +1,5 @@
 //! A filter that answers payloads.
-ghost use Rattle.std.specs.Prelude.{◌≡◌, [], ℕ, List, Some};
+ghost use Rattle.std.specs.Prelude.{◌≡◌, [], ℕ, List, None, Some};
 ghost use Rattle.forward.specs.Filter.{FilterPasses};
 ghost use Rattle.piece_reader.specs.PieceReader.{IsPieceReader, rest};
 ghost use Rattle.piece_filter.specs.Answering.{AnswersOne, answering};
@@ -47,11 +47,10 @@ impl<R: TellRead, D: Decoder, W: TellWrite, S: Answer> Answering<R, D, W, S> {
     pub fn new(source: PieceReader<R, D>, target: BufWriter<W>, service: S) -> Answering<R, D, W, S>
         requires whole { IsPieceReader (D.grammar source.decoder) source }
         requires unwritten { target.block.bytes ≡ [] }
+        ensures over { (result.source ≡ source) × (result.target ≡ target) × (result.service ≡ service)
+            × (result.held ≡ None) }
         ensures ready { IsReady (answering D.grammar S.answers) result }
         ensures fresh { (piece_rules R.remaining (answering D.grammar S.answers)).fresh result }
-        ensures source { result.source ≡ source }
-        ensures target { result.target ≡ target }
-        ensures service { result.service ≡ service }
     {
         Answering {
             source,
