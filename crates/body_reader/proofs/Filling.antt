@@ -236,6 +236,11 @@ module _ {S Q P W : Type 0} (remaining : S → Option (List ℕ)) (rules : ReadR
                 subst (Carries g p.place sure) (sym o.added.bytes)
                     (Carries-less g p.place sure sure s.block.bytes (take came o.out) carries carries.some (omega arith)),
                 looks.1,
+                inl (omega (
+                  arith,
+                  looks.1,
+                  lawful.sure p.place sure place (subst (Carries g p.place sure) empty carries),
+                )),
               ) (omega (arith, is, all))),
             ),
           );

@@ -13,7 +13,7 @@ use Rattle.body_reader.specs.Between.{AllShown, AsksWithRoom, EachGave, ShowsOn,
 use Rattle.body_reader.specs.BetweenLaws.{EachGave-none, EachGave-same, Proceeds-after, TakesBytes-none}
 use Rattle.body_reader.specs.Coding.{Carries, Grammar, IsDone, IsKnown, Leads, Looks, heeded}
 use Rattle.body_reader.specs.CodingLaws.{Leads-none, Leads-then}
-use Rattle.body_reader.proofs.Filling.{Carries-less, Proceeds-err, Proceeds-of, ended_here, payload_here}
+use Rattle.body_reader.proofs.Filling.{Proceeds-err, Proceeds-of, ended_here, payload_here}
 use Rattle.body_reader.proofs.Skipping.{Notes, consumes_left, takes_front}
 
 pub some_of : (n : ℕ) → false ≡ (n == 0) → 0 < n
@@ -140,20 +140,24 @@ module _ {S Q P W : Type 0} (remaining : S → Option (List ℕ)) (rules : ReadR
     looked_all looks whole =
         let handed = take n out in
         let size : k ≡ length handed = omega (arith, whole, is, length-take-le n out (omega (arith, is))) in
+        let none : order.got ≡ [] = nil_from_length order.got (omega (
+          arith,
+          ap length order.given,
+          ap (λ l. length l.reads.given) taken.told,
+          length-append s.log.reads.given order.got,
+        )) in
         let equal : handed ++ t.block.bytes ≡ s.block.bytes ++ order.got =
         ap (λ l. l ++ t.block.bytes) same ∙ order.equal in
+        let there : handed ++ t.block.bytes ≡ s.block.bytes =
+        equal ∙ ap (λ l. s.block.bytes ++ l) none ∙ append-nil s.block.bytes in
         record {
           wire = [];
           got = order.got;
           equal = equal;
           place = p.place;
           leads = Leads-none g p.place (heeded g (handed ++ t.block.bytes));
-          looks = (
-            subst (Carries g p.place (length handed)) (sym equal)
-                (subst (λ c. Carries g p.place c (s.block.bytes ++ order.got)) size
-                (Carries-less g p.place k k s.block.bytes order.got looks.0 some (omega arith))),
-            omega (arith, looks.1, size),
-          );
+          looks = subst (λ l. Looks g p.place l (Payload (length handed))) (sym there)
+              (subst (λ c. Looks g p.place s.block.bytes (Payload c)) size looks);
         }
 
     none_left' : k ≡ length s.block.bytes → k ≡ n → t.block.bytes ≡ []

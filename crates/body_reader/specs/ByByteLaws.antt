@@ -110,6 +110,22 @@ module _ {P W : Type 0} (t : TurnRules P W) where
       stopped (inr none) = none q (subst (λ m. t.turn m byte ≡ Payload q) ran.keeps is)
   ran_some p (byte ∷ rest) (suc n) r q more open' is ran = omega arith
 
+  -- no more of the bytes are payload
+  ran_most : (bytes : List ℕ) (p r : P) (n m : ℕ) → LeadsByPayload t p (take n bytes) r → NoPayloadNext t r (drop n bytes)
+      → m ≤ length bytes → (q : P) → LeadsByPayload t p (take m bytes) q → m ≤ n
+  ran_most bytes p r n zero k s within q l = omega arith
+  ran_most [] p r n (suc m) k s within q l = absurd (omega (arith, within))
+  ran_most (x ∷ bytes) p r zero (suc m) k (inl done) within q l =
+      let odd : false ≡ true = sym l.0 ∙ ap (λ j. t.is_end j) k ∙ done in cc
+  ran_most (x ∷ bytes) p r zero (suc m) k (inr none) within q l =
+      absurd (none l.1 (subst (λ j. t.turn j x ≡ Payload l.1) k l.2))
+  ran_most (x ∷ bytes) p r (suc n) (suc m) k s within q l =
+      let same : k.1 ≡ l.1 = (let both : Payload k.1 ≡ Payload l.1 = sym k.2 ∙ l.2 in cc) in
+      omega (
+        arith,
+        ran_most bytes l.1 r n m (subst (λ j. LeadsByPayload t j (take n bytes) r) same k.3) s (omega (arith, within)) q l.3,
+      )
+
   prefix_keeps : (p : P) (a b c d : List ℕ) (r : P) → LeadsByPayload t p a r → length b ≤ length a → b ++ c ≡ a ++ d
       → (q : P) × LeadsByPayload t p b q
   prefix_keeps p a b c d r k few same = elim (overlaps b c a d same) [
@@ -132,6 +148,10 @@ module _ {P W : Type 0} (t : TurnRules P W) where
           (same ∙ ap (λ l. l ++ later) (sym (take-append-drop n shown)) ∙ append_assoc (take n shown) (drop n shown) later);
     },
     omega arith,
+    inr (λ m within c.
+        let all = c.carries (take m shown) (drop m shown) [] (omega (arith, length-take-le m shown within))
+        (take-append-drop m shown ∙ sym (append-nil shown)) in
+        ran_most shown p r n m ran.keeps ran.stops within all.0 all.1),
   )
 
   -- what can't stand there completes no body

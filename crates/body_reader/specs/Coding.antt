@@ -1,5 +1,5 @@
 -- What a coding says of bytes.
-use Rattle.std.specs.Prelude.{◌≡◌, ℕ, ◌+◌, ◌<◌, ◌≤◌, List, [], ◌∷◌, ◌++◌, length, min, take, drop, Bool, if◌then◌else◌}
+use Rattle.std.specs.Prelude.{◌≡◌, ℕ, ◌+◌, ◌<◌, ◌≤◌, ◌⊎◌, List, [], ◌∷◌, ◌++◌, length, min, take, drop, Bool, if◌then◌else◌}
 use Rattle.body_reader.specs.declared.coding.Look.{Look}
 use Rattle.body_reader.specs.declared.coding.Look.TheVariants.{Payload, Passed, More, Wrong, Ended}
 
@@ -91,9 +91,13 @@ module _ {P W : Type 0} (g : Grammar P W) where
   abbrev pub IsKnown : P → ℕ → List ℕ → Type 0
   IsKnown p known bytes = (known ≤ length bytes) × (0 < known → Carries p known bytes)
 
+  -- no more of these bytes are payload, or as many are as surely are, whatever they are
+  abbrev pub IsAllPayload : P → ℕ → List ℕ → Type 0
+  IsAllPayload p n shown = (n ≡ g.sure p) ⊎ ((m : ℕ) → m ≤ length shown → Carries p m shown → m ≤ n)
+
   -- what each answer of a look means
   abbrev pub Looks : P → List ℕ → Look P W → Type 0
-  Looks p shown (Payload n) = Carries p n shown × (g.sure p ≤ n)
+  Looks p shown (Payload n) = Carries p n shown × (g.sure p ≤ n) × IsAllPayload p n shown
   Looks p shown (Passed n q) =
       (0 < n) × (n ≤ length shown) × PassesOver p (take n shown) q (heeded g (drop n shown)) × g.is_place q × ¬ IsDone p
   Looks p shown (More n) = IsOpenBelow p n shown × (g.sure p ≡ 0)

@@ -1,12 +1,12 @@
 -- Laws of bodies of one of two codings.
-use Rattle.std.proofs.Common.{◌≡◌, ℕ, ◌≤◌, List, [], ◌++◌}
+use Rattle.std.proofs.Common.{◌≡◌, ℕ, ◌≤◌, List, [], ◌++◌, inl, inr}
 use Rattle.body_reader.specs.declared.coding.Look.{Look}
 use Rattle.body_reader.specs.declared.coding.Look.TheVariants as look
 use Rattle.body_reader.specs.declared.either.Either.{Either}
 use Rattle.body_reader.specs.declared.either.Either.TheVariants as which
 use Rattle.body_reader.specs.declared.either.Side.{Side}
 use Rattle.body_reader.specs.declared.either.Side.TheVariants.{First, Second}
-use Rattle.body_reader.specs.Coding.{Agree, Carries, Grammar, IsLawful, IsOpen, Leads, Looks}
+use Rattle.body_reader.specs.Coding.{Agree, Carries, Grammar, IsAllPayload, IsLawful, IsOpen, Leads, Looks}
 use Rattle.body_reader.specs.Either.{first_of, of_either, of_first, of_second, second_of}
 
 module _ {P V : Type 0} (Q W : Type 0) (g : Grammar P V) where
@@ -29,10 +29,19 @@ module _ {P V : Type 0} (Q W : Type 0) (g : Grammar P V) where
     further = is.further;
   }
 
+  first_all : (p : P) (n : ℕ) (shown : List ℕ) → IsAllPayload g p n shown
+      → IsAllPayload (of_first {Q = Q} {W = W} g) (First p) n shown
+  first_all p n shown (inl same) = inl same
+  first_all p n shown (inr all) =
+      inr (λ m within c. all m within (record { some = c.some; goes_on = c.goes_on; carries = c.carries }))
+
   pub first_looks : (p : P) (shown : List ℕ) (l : Look P V) → Looks g p shown l
       → Looks (of_first {Q = Q} {W = W} g) (First p) shown (first_of l)
-  first_looks p shown (look.Payload n) looks =
-      (record { some = looks.0.some; goes_on = looks.0.goes_on; carries = looks.0.carries }, looks.1)
+  first_looks p shown (look.Payload n) looks = (
+    record { some = looks.0.some; goes_on = looks.0.goes_on; carries = looks.0.carries },
+    looks.1,
+    first_all p n shown looks.2,
+  )
   first_looks p shown (look.Passed n q) looks = (
     looks.0,
     looks.1,
@@ -105,10 +114,19 @@ module _ {Q W : Type 0} (P V : Type 0) (g : Grammar Q W) where
     further = is.further;
   }
 
+  second_all : (q : Q) (n : ℕ) (shown : List ℕ) → IsAllPayload g q n shown
+      → IsAllPayload (of_second {P = P} {V = V} g) (Second q) n shown
+  second_all q n shown (inl same) = inl same
+  second_all q n shown (inr all) =
+      inr (λ m within c. all m within (record { some = c.some; goes_on = c.goes_on; carries = c.carries }))
+
   pub second_looks : (p : Q) (shown : List ℕ) (l : Look Q W) → Looks g p shown l
       → Looks (of_second {P = P} {V = V} g) (Second p) shown (second_of l)
-  second_looks p shown (look.Payload n) looks =
-      (record { some = looks.0.some; goes_on = looks.0.goes_on; carries = looks.0.carries }, looks.1)
+  second_looks p shown (look.Payload n) looks = (
+    record { some = looks.0.some; goes_on = looks.0.goes_on; carries = looks.0.carries },
+    looks.1,
+    second_all p n shown looks.2,
+  )
   second_looks p shown (look.Passed n q) looks = (
     looks.0,
     looks.1,

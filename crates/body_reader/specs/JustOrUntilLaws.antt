@@ -106,6 +106,14 @@ module _ (just needle : List ℕ) (room : ℕ) (some : 0 < length just) (shorter
           like.carried bytes follow more same (looks.0.carries bytes follow more few same);
     },
     omega arith,
+    elim looks.2 [
+      | inl same ↦ inl same
+      | inr all ↦ inr (λ m within c. all m within (record {
+        some = c.some;
+        goes_on = looks.0.goes_on;
+        carries = λ bytes follow more few same. like.clear bytes follow (c.carries bytes follow more few same);
+      }))
+    ],
   )
   alike_looks place part shown like (look.Passed n q) looks = (
     looks.0,

@@ -8,7 +8,7 @@ use Rattle.buffer_redux.specs.OccursLaws.{OccursAt-behind, OccursAt-fewer, Occur
 use Rattle.body_reader.specs.declared.coding.Look.TheVariants as look
 use Rattle.body_reader.specs.declared.until.Part.{Part}
 use Rattle.body_reader.specs.declared.until.Part.TheVariants.{Inside, Behind}
-use Rattle.body_reader.specs.Coding.{Agree, Carries, IsDone, IsLawful, IsOpen, IsOpenBelow, Leads, Looks, PassesOver}
+use Rattle.body_reader.specs.Coding.{Agree, Carries, IsAllPayload, IsDone, IsLawful, IsOpen, IsOpenBelow, Leads, Looks, PassesOver}
 use Rattle.body_reader.specs.CodingLaws.{Agree-nothing, overlaps}
 use Rattle.body_reader.specs.Until.{EndsPart, IsClear, MayBegin, until}
 
@@ -178,6 +178,37 @@ module _ (needle : List ℕ) (some : 0 < length needle) where
             begins.clear k high beyond front.0 front.1
         | inr fits ↦ none k (OccursAt-fewer shown later needle k fits occurs)
       ])
+
+  -- no payload goes past where it stands in what is shown, or in what that may go on as
+  all_before : (shown rest : List ℕ) (at : ℕ) → OccursAt (shown ++ rest) needle at
+      → IsAllPayload (until needle) Inside at shown
+  all_before shown rest at here = inr (λ m within c. elim (cases_lt at m) [
+    | inr few ↦ few
+    | inl more ↦
+        let front = take m shown in
+        let behind = drop m shown in
+        let split : front ++ behind ≡ shown = take-append-drop m shown in
+        let long : length front ≡ m = length-take-le m shown within in
+        let equal : front ++ (behind ++ rest) ≡ shown ++ rest =
+        sym (append_assoc front behind rest) ∙ ap (λ l. l ++ rest) split in
+        absurd (c.carries front behind [] (omega (arith, long)) (split ∙ sym (append-nil shown)) (behind ++ rest)
+        (rest, [], sym (append-nil (behind ++ rest))) at (omega arith) (omega (arith, more, long))
+        (subst (λ l. OccursAt l needle at) (sym equal) here))
+  ])
+
+  pub all_found : (shown : List ℕ) (at : ℕ) → OccursAt shown needle at → IsAllPayload (until needle) Inside at shown
+  all_found shown at here = all_before shown [] at (OccursAt-more shown [] needle at here)
+
+  pub all_begun : (shown : List ℕ) (at : ℕ) → MayBegin needle shown at → IsAllPayload (until needle) Inside at shown
+  all_begun shown at begins =
+      let front = take at shown in
+      let rest = begins.front.0 in
+      let equal : front ++ needle ≡ shown ++ rest =
+      ap (λ l. front ++ l) begins.front.1 ∙ sym (append_assoc front (drop at shown) rest)
+      ∙ ap (λ l. l ++ rest) (take-append-drop at shown) in
+      all_before shown rest at
+      (subst (OccursAt (shown ++ rest) needle) (length-take-le at shown begins.within)
+      (subst (λ l. OccursAt l needle (length front)) equal (OccursAt-last front needle)))
 
   -- where it may begin at once, nothing is settled until a byte more is shown
   front_open : (shown rest : List ℕ) → needle ≡ shown ++ rest → length shown < length needle → IsOpen (until needle) Inside shown

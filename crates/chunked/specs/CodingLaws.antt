@@ -153,6 +153,7 @@ module _ (limits : Limits) where
       carries = λ bytes follow more few same. few;
     },
     omega arith,
+    inl refl,
   )
 
   pub looks_none : (p : Place) (shown : List ℕ) → IsPlace p → ¬ IsDataOrDone p → shown ≡ []

@@ -1,11 +1,11 @@
--- In the bytes before the first place where the delimiter stands, or may begin, it begins nowhere.
+-- In the bytes before the first place where the delimiter stands, or may begin, it begins nowhere, and no payload goes past that.
 use Rattle.std.proofs.Common.{◌≡◌, ◌+◌, ap, arith, length, refl, subst, sym}
 use Rattle.memchr.specs.Find.{Nowhere, OccursAt}
 use Rattle.body_reader.specs.declared.coding.Look.TheVariants.{Passed}
 use Rattle.body_reader.specs.declared.until.Part.TheVariants.{Inside, Behind}
-use Rattle.body_reader.specs.Coding.{Carries, IsOpenBelow, Looks}
+use Rattle.body_reader.specs.Coding.{Carries, IsAllPayload, IsOpenBelow, Looks}
 use Rattle.body_reader.specs.Until.{MayBegin, until}
-use Rattle.body_reader.specs.UntilLaws.{looks_before, looks_end, looks_short, looks_until}
+use Rattle.body_reader.specs.UntilLaws.{all_begun, all_found, looks_before, looks_end, looks_short, looks_until}
 use Rattle.body_reader.proofs.until.UntilCoding.look.Goals as goal
 
 pub returns-in-Some-eq0 : goal.returns-in-Some-eq0
@@ -33,6 +33,8 @@ returns-in-Some c =
       subst (λ p. Carries (until needle) p c.in-Some.at shown) (sym c.in-Inside.is)
           (looks_before needle c.args.self.now.some shown c.in-Some.at (omega arith) none here),
       omega arith,
+      subst (λ p. IsAllPayload (until needle) p c.in-Some.at shown) (sym c.in-Inside.is)
+          (all_found needle c.args.self.now.some shown c.in-Some.at here),
     )
 
 pub returns-then-at-eq0 : goal.returns-then-at-eq0
@@ -62,4 +64,6 @@ returns-else-at-eq0 c =
           c.in-None.ensures k (omega arith) (omega (arith, occurs.fits)) (subst (λ l. OccursAt shown l k) (sym same) occurs))
           begins),
       omega arith,
+      subst (λ p. IsAllPayload (until needle) p at shown) (sym c.in-Inside.is)
+          (all_begun needle c.args.self.now.some shown at begins),
     )
