@@ -69,9 +69,13 @@ module _ {S Q C P W : Type 0} {remaining : S → Option (List ℕ)} {rules : Rea
       omega (arith, long, fills.answers.0),
     )
 
-    pub collects_no_room : 0 < n → Collects remaining rules (grammar s.coding) most s before (Err Memory) f all
-    collects_no_room some =
-        ends fills (Err Memory) (filled_gave grammar so.taken fills, omega (arith, some, fills.answers.0))
+    pub collects_no_room : 0 < n → length all + n ≤ most → Collects remaining rules (grammar s.coding) most s before
+        (Err Memory) f all
+    collects_no_room some fits = ends fills (Err Memory) (
+      filled_gave grammar so.taken fills,
+      omega (arith, some, fills.answers.0),
+      omega (arith, fits, fills.answers.0),
+    )
 
     -- or it goes on, one piece more
     pub collected_more : 0 < n → IsLawful (grammar s.coding) → (t : BodyState S Q C P)

@@ -1,5 +1,5 @@
 -- What a call says first, in words of lists.
-use Rattle.std.proofs.Common.{◌≡◌, ◌↔◌, ℕ, List, [], ◌++◌, Bool, true, false, length, Option, Result, Ok, Err, IfOk, IsTrue, OnOk, sym, ap, subst, ◌∙◌, arith, refl, append-nil, length-append}
+use Rattle.std.proofs.Common.{◌≡◌, ◌↔◌, ℕ, ◌<◌, ◌≤◌, List, [], ◌++◌, Bool, true, false, length, Option, Result, Ok, Err, IfOk, IsTrue, OnOk, sym, ap, subst, ◌∙◌, arith, refl, append-nil, length-append}
 use Rattle.std.proofs.lemmas.List.{nil_from_length}
 use Rattle.std.specs.declared.io.Error.{Error}
 use Rattle.buffer_redux.specs.Buffered.{Buffered}
@@ -68,17 +68,18 @@ module _ {S Q C P W : Type 0} {remaining : S → Option (List ℕ)} {rules : Rea
 
   pub collect_says : (most : ℕ) (before after : List ℕ) (answer : Result (Unit {0}) (CollectError W))
       → Collects remaining rules g most s before answer t after → record {
-        appended : (payload : List ℕ) × (after ≡ before ++ payload) × (handed_of t ≡ handed_of s ++ payload);
+        appended : (payload : List ℕ) × (after ≡ before ++ payload) × (0 < length payload → length after ≤ most)
+            × (handed_of t ≡ handed_of s ++ payload);
         ended : OnOk answer (IsBody g t.taken (handed_of t));
         collects : Collects remaining rules g most s before answer t after;
       }
   collect_says most before after (Ok _) collects = record {
-    appended = (collects.payload, collects.collected, collects.went.handed);
+    appended = (collects.payload, collects.collected, collects.few, collects.went.handed);
     ended = collects.answers.1;
     collects = collects;
   }
   collect_says most before after (Err e) collects = record {
-    appended = (collects.payload, collects.collected, collects.went.handed);
+    appended = (collects.payload, collects.collected, collects.few, collects.went.handed);
     ended = tt;
     collects = collects;
   }

@@ -146,11 +146,11 @@ module _ {S Q C P W : Type 0} (remaining : S → Option (List ℕ)) (rules : Rea
     pub whole : IsBodyReader g t
 
   -- why no more payload was collected, of which so much is there: none comes; or some is buffered, with which it would be more
-  -- than so many bytes, or memory for it was refused
+  -- than so many bytes, or it would fit and memory for it was refused
   abbrev pub NotCollected : ℕ → BodyState S Q C P → List ℕ → CollectError W → BodyState S Q C P → Type 0
   NotCollected most s all (collect.Body why) t = NoPayload g s why t
   NotCollected most s all collect.TooLong t = EachGave s.reader t.reader × (0 < t.known) × (most < length all + t.known)
-  NotCollected most s all collect.Memory t = EachGave s.reader t.reader × (0 < t.known)
+  NotCollected most s all collect.Memory t = EachGave s.reader t.reader × (0 < t.known) × (length all + t.known ≤ most)
 
   -- the rest of the body was taken, and its payload appended, or why not: of no more bytes than fit so many. The stream is asked
   -- only where nothing was settled, and no piece is cut. Once the body ended nothing is done

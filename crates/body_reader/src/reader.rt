@@ -307,9 +307,10 @@ impl<R: TellRead, C: Coding, P: ReaderPolicy> BodyReader<R, C, P> {
         Err(BodyError::Io(io::Error::from(ErrorKind::Other)))
     }
 
-    /// Takes the rest of the body, and appends its payload to `out`, which has at most `most` bytes then.
+    /// Takes the rest of the body, and appends its payload to `out`, but no byte with which that would have more than `most`.
     pub fn collect(&mut self, most: usize, out: &mut Vec<u8>) -> Result<(), CollectError<C::Wrong>>
         ensures appended { (payload : List ℕ) × (vec_items out.new ≡ vec_items out.old ++ payload)
+            × (0 < length payload → length (vec_items out.new) ≤ most)
             × (self.new.calls.reads.given ≡ self.old.calls.reads.given ++ payload) }
         ensures ended { OnOk result (IsBody (C.grammar self.old.coding) self.new.taken self.new.calls.reads.given) }
         ensures collects { Collects R.remaining P.rules (C.grammar self.old.coding) most self.old (vec_items out.old) result

@@ -46,7 +46,14 @@ returns-then-is_err g c =
     collect_says _ _ _ _
     (subst (Collects g.R.TellRead.remaining g.P.ReaderPolicy.rules (g.C.Coding.grammar s.coding) c.args.most s
     (vec_items c.args.out.now) (Err why.Memory) c.fill_payload.new.self) (sym same)
-    (collects_no_room g.C.Coding.grammar c.loop-came.invariant c.in_ok-came.ensures.fills (omega (arith, c.if-came-eq0.false))))
+    (collects_no_room g.C.Coding.grammar c.loop-came.invariant c.in_ok-came.ensures.fills (omega (arith, c.if-came-eq0.false))
+    (omega (
+      arith,
+      c.if-came-eq0.false,
+      c.if-came-saturating_sub.false,
+      c.saturating_sub.ensures,
+      c.len.ensures,
+    ))))
 
 pub loop-came-preserved : goal.loop-came-preserved
 loop-came-preserved g c =
