@@ -1,5 +1,5 @@
 -- What a call of a reader of a body comes to, seen by contracts.
-use Rattle.std.proofs.Common.{◌≡◌, ℕ, zero, suc, ◌<◌, ◌≤◌, ◌⊎◌, List, [], ◌++◌, length, Option, Result, IfOk, MatchResult, Ok, Err, sym, ap, subst, ◌∙◌, inl, inr, refl, arith, append-nil, length-append}
+use Rattle.std.proofs.Common.{◌≡◌, ℕ, zero, suc, ◌-◌, ◌<◌, ◌≤◌, ◌⊎◌, List, [], ◌++◌, length, Option, Result, IfOk, MatchResult, Ok, Err, sym, ap, subst, ◌∙◌, inl, inr, refl, arith, append-nil, length-append}
 use Rattle.buffer_redux.specs.Buffered.{Buffered}
 use Rattle.buffer_redux.specs.Policy.{ReadRules}
 use Rattle.buffer_redux.specs.StreamLog.{StreamLog, after_read}
@@ -118,7 +118,8 @@ module _ {S Q C P W : Type 0} (remaining : S → Option (List ℕ)) (rules : Rea
     (r : Buffered S Q) (c : C) (p : Progress P) (calls : StreamLog) (k : ℕ) (is : IsBodyReader g (seen r c p calls k))
     (out : List ℕ)
     (answer : Result ℕ (BodyError W)) (r' : Buffered S Q) (q : Progress P)
-    (hands : HandsOn remaining rules g k r p out answer r' q) (k' : ℕ) (known : IsKnown g q.place k' r'.block.bytes) where
+    (hands : HandsOn remaining rules g k r p out answer r' q) (k' : ℕ) (known : IsKnown g q.place k' r'.block.bytes)
+    (left : 0 < k → IfOk answer (λ n. k' ≡ k - n)) where
   abbrev after : BodyState S Q C P
   after = seen r' c q (after_payload calls out answer) k'
 
@@ -160,6 +161,7 @@ module _ {S Q C P W : Type 0} (remaining : S → Option (List ℕ)) (rules : Rea
     answers = answered answer hands.0.ends;
     asked = hands.0.asked;
     all = all_handed answer hands.0.ends;
+    left = left;
     idle = idle;
     empty = λ none. (hands.1 none).0;
     noted = noted_after calls out answer;
@@ -173,16 +175,16 @@ module _ {S Q C P W : Type 0} (remaining : S → Option (List ℕ)) (rules : Rea
     (out : List ℕ)
     (answer : Result ℕ (BodyError W)) (r' : Buffered S Q) (q : Progress P)
     (hands : HandsOn remaining rules (grammar c) k r p out answer r' q) (k' : ℕ)
-    (known : IsKnown (grammar c) q.place k' r'.block.bytes) (calls' : StreamLog)
+    (known : IsKnown (grammar c) q.place k' r'.block.bytes) (left : 0 < k → IfOk answer (λ n. k' ≡ k - n)) (calls' : StreamLog)
     (noted : calls' ≡ after_payload calls out answer) where
   pub reads_payload : ReadsPayload remaining rules (grammar d.coding) d out answer (seen r' c q calls' k')
   reads_payload = subst (λ x. ReadsPayload remaining rules (grammar x.coding) x out answer (seen r' c q calls' k')) view
       (subst (λ l. ReadsPayload remaining rules (grammar c) (seen r c p calls k) out answer (seen r' c q l k')) (sym noted)
-      (payload_read remaining rules (grammar c) (lawful c) r c p calls k is out answer r' q hands k' known))
+      (payload_read remaining rules (grammar c) (lawful c) r c p calls k is out answer r' q hands k' known left))
 
   pub still_reader : IsBodyReader (grammar c) (seen r' c q calls' k')
   still_reader = subst (λ l. IsBodyReader (grammar c) (seen r' c q l k')) (sym noted)
-      (payload_read remaining rules (grammar c) (lawful c) r c p calls k is out answer r' q hands k' known).whole
+      (payload_read remaining rules (grammar c) (lawful c) r c p calls k is out answer r' q hands k' known left).whole
 
 -- a fill
 module _ {S Q C P W : Type 0} (remaining : S → Option (List ℕ)) (rules : ReadRules Q) (g : Grammar P W) (lawful : IsLawful g)
@@ -231,6 +233,7 @@ module _ {S Q C P W : Type 0} (remaining : S → Option (List ℕ)) (rules : Rea
       | inl some ↦ absurd (omega (arith, some, none))
       | inr whole ↦ same n (fills.idle (done whole)) (none_known n fills (done whole))
     ];
+    noted = refl;
     whole = filled_is n fills;
   }
 
@@ -249,6 +252,7 @@ module _ {S Q C P W : Type 0} (remaining : S → Option (List ℕ)) (rules : Rea
       | inl some ↦ absurd (omega (arith, some, none))
       | inr whole ↦ same k (fills.idle (done whole)) refl
     ];
+    noted = refl;
     whole = not_filled_is e fills;
   }
 
@@ -261,6 +265,7 @@ fill_known remaining rules g d is some = record {
   all = λ _ none. absurd (omega (arith, some, none));
   asked = inl refl;
   still = λ _. refl;
+  noted = refl;
   whole = is;
 }
 

@@ -1,5 +1,5 @@
 -- Payload that is buffered is handed out, and nobody is asked.
-use Rattle.std.proofs.Common.{◌≡◌, ◌≢◌, ℕ, ◌+◌, ◌-◌, ◌<◌, ◌≤◌, ◌⊎◌, List, [], ◌++◌, length, min, take, drop, Option, Ok, sym, ap, subst, ◌∙◌, arith, inl, inr, refl, append-nil, length-append}
+use Rattle.std.proofs.Common.{◌≡◌, ◌≢◌, ℕ, zero, suc, ◌+◌, ◌-◌, ◌<◌, ◌≤◌, ◌⊎◌, List, [], ◌++◌, length, min, take, drop, Option, Ok, sym, ap, subst, ◌∙◌, arith, inl, inr, refl, append-nil, length-append}
 use Rattle.std.proofs.Math.Seq.{take-append-add}
 use Rattle.std.proofs.lemmas.List.{drop_all, length-drop, length-take-le}
 use Rattle.buffer_redux.specs.Buffered.{Buffered}
@@ -26,25 +26,32 @@ put_rest out tail n =
 module _ {S Q P W : Type 0} (remaining : S → Option (List ℕ)) (rules : ReadRules Q) (g : Grammar P W) where
   -- some is known
   pub known_found : (s : Buffered S Q) (p : Progress P) (k : ℕ) → g.is_place p.place → IsKnown g p.place k s.block.bytes → 0 < k
-      → FindsKnown remaining rules g s p s p k
+      → FindsKnown remaining rules g s p k s p k
   known_found s p k place known some = record {
     wire = [];
     takes = TakesBytes-none remaining rules g s p place;
     told = refl;
     known = known;
+    kept = λ _. refl;
     none = λ none. absurd (omega (arith, none, some));
   }
 
-  module _ (lawful : IsLawful g) (s : Buffered S Q) (p : Progress P) (l : Look P W) (t : Buffered S Q) (q : Progress P)
-      (passes : PassesOn remaining rules g s p l t q) where
+  module _ (lawful : IsLawful g) (s : Buffered S Q) (p : Progress P) (before : ℕ) (unknown : before ≡ 0) (l : Look P W)
+      (t : Buffered S Q) (q : Progress P) (passes : PassesOn remaining rules g s p l t q) where
     found : (k : ℕ) → IsKnown g q.place k t.block.bytes → (k ≡ 0 → NoneShown remaining rules g q.place t.block.bytes)
-        → FindsKnown remaining rules g s p t q k
-    found k known none =
-        record { wire = passes.wire; takes = passes.takes; told = passes.told; known = known; none = none }
+        → FindsKnown remaining rules g s p before t q k
+    found k known none = record {
+      wire = passes.wire;
+      takes = passes.takes;
+      told = passes.told;
+      known = known;
+      kept = λ some. absurd (omega (arith, some, unknown));
+      none = none;
+    }
 
     -- payload comes next
     pub payload_found : (sure : ℕ) → l ≡ look.Payload sure → (k : ℕ) → k ≡ min sure (length t.block.bytes)
-        → FindsKnown remaining rules g s p t q k
+        → FindsKnown remaining rules g s p before t q k
     payload_found sure is k count =
         let looks : Looks g q.place t.block.bytes (look.Payload sure) = subst (Looks g q.place t.block.bytes) is passes.looks in
         let carries = looks.0 in
@@ -63,60 +70,81 @@ module _ {S Q P W : Type 0} (remaining : S → Option (List ℕ)) (rules : ReadR
     none_so (look.Wrong why) looks no_more never = inr (inr (why, looks.0))
     none_so look.Ended looks no_more never = inl looks
 
-    pub none_found : ((n : ℕ) → l ≢ look.Payload n) → (k : ℕ) → k ≡ 0 → FindsKnown remaining rules g s p t q k
+    pub none_found : ((n : ℕ) → l ≢ look.Payload n) → (k : ℕ) → k ≡ 0
+        → FindsKnown remaining rules g s p before t q k
     none_found never k none = found k (omega (arith, none), λ some. absurd (omega (arith, some, none)))
         (λ _. none_so l passes.looks passes.no_more never)
 
   -- so much was handed out so far
-  pub record Shown (s : Buffered S Q) (p : Progress P) (out : List ℕ) (handed : ℕ) (m : Buffered S Q) (q : Progress P) (k : ℕ)
-      : Type 0 where
+  pub record Shown (s : Buffered S Q) (p : Progress P) (before : ℕ) (out : List ℕ) (handed : ℕ) (m : Buffered S Q)
+      (q : Progress P) (k : ℕ) : Type 0 where
     pub wire : List ℕ
     pub takes : TakesBytes remaining rules g s p wire (take handed out) m q
     pub told : m.log ≡ s.log
     pub within : handed ≤ length out
     pub known : IsKnown g q.place k m.block.bytes
+    pub left : handed ≤ before → k ≡ before - handed
+    pub idle : length out ≡ 0 → (m ≡ s) × (q ≡ p)
 
   pub shown_none : (s : Buffered S Q) (p : Progress P) (out : List ℕ) (k : ℕ) → g.is_place p.place
-      → IsKnown g p.place k s.block.bytes → Shown s p out 0 s p k
+      → IsKnown g p.place k s.block.bytes → Shown s p k out 0 s p k
   shown_none s p out k place known = record {
     wire = [];
     takes = TakesBytes-none remaining rules g s p place;
     told = refl;
     within = omega arith;
     known = known;
+    left = λ _. omega arith;
+    idle = λ _. (refl, refl);
   }
 
-  module _ (s : Buffered S Q) (p : Progress P) (out : List ℕ) (handed : ℕ) (m : Buffered S Q) (q : Progress P) (k : ℕ)
-      (so : Shown s p out handed m q k) where
-    pub all_shown : length out ≤ handed → HandsShown remaining rules g s p out handed m q k
+  module _ (s : Buffered S Q) (p : Progress P) (before : ℕ) (out : List ℕ) (handed : ℕ) (m : Buffered S Q) (q : Progress P)
+      (k : ℕ) (so : Shown s p before out handed m q k) where
+    pub all_shown : length out ≤ handed → HandsShown remaining rules g s p before out handed m q k
     all_shown full = record {
       wire = so.wire;
       takes = so.takes;
       told = so.told;
       within = so.within;
       known = so.known;
+      left = so.left;
+      idle = so.idle;
       all = inl (omega (arith, full, so.within));
     }
 
-    module _ (f : Buffered S Q) (r : Progress P) (k' : ℕ) (finds : FindsKnown remaining rules g m q f r k') where
+    module _ (room : handed < length out) (f : Buffered S Q) (r : Progress P) (k' : ℕ)
+        (finds : FindsKnown remaining rules g m q k f r k') where
+      -- where none is found none was known
+      none_before : (j : ℕ) → (0 < j → k' ≡ j) → k' ≡ 0 → j ≡ 0
+      none_before zero kept none = refl
+      none_before (suc j) kept none = omega (arith, kept (omega arith), none)
+
       found_on : TakesBytes remaining rules g s p (so.wire ++ finds.wire) (take handed out) f r
       found_on = subst (λ l. TakesBytes remaining rules g s p (so.wire ++ finds.wire) l f r) (append-nil (take handed out))
           (TakesBytes-joins remaining rules g s p m q f r so.wire (take handed out) finds.wire [] so.takes finds.takes)
 
-      pub none_shown : k' ≡ 0 → HandsShown remaining rules g s p out handed f r k'
+      pub none_shown : k' ≡ 0 → HandsShown remaining rules g s p before out handed f r k'
       none_shown none = record {
         wire = so.wire ++ finds.wire;
         takes = found_on;
         told = finds.told ∙ so.told;
         within = so.within;
         known = finds.known;
+        left = λ few. omega (arith, so.left few, none_before k finds.kept none, none);
+        idle = λ empty. absurd (omega (arith, room, empty));
         all = inr (finds.none none);
       }
 
-      more : (n : ℕ) (rest : List ℕ) (t : Buffered S Q) (u : Progress P) (k'' : ℕ) → n ≤ length rest
+      -- what is left of what was known, where no more was handed out
+      less : (n k'' : ℕ) → 0 < n → k'' ≡ k' - n → (j : ℕ) → (0 < j → k' ≡ j) → j ≡ before - handed → handed + n ≤ before
+          → k'' ≡ before - (handed + n)
+      less n k'' some is zero kept was few = absurd (omega (arith, some, was, few))
+      less n k'' some is (suc j) kept was few = omega (arith, is, kept (omega arith), was, few)
+
+      more : (n : ℕ) (rest : List ℕ) (t : Buffered S Q) (u : Progress P) (k'' : ℕ) → 0 < n → n ≤ length rest
           → take n rest ≡ take n f.block.bytes → TakesFront remaining rules g n f r k' t u k''
-          → Shown s p (take handed out ++ rest) (handed + n) t u k''
-      more n rest t u k'' within same front =
+          → Shown s p before (take handed out ++ rest) (handed + n) t u k''
+      more n rest t u k'' some within same front =
           let long : length (take handed out) ≡ handed = length-take-le handed out so.within in
           let joined : take (handed + n) (take handed out ++ rest) ≡ take handed out ++ take n f.block.bytes =
           ap (λ j. take (j + n) (take handed out ++ rest)) (sym long) ∙ take-append-add (take handed out) rest n
@@ -130,19 +158,22 @@ module _ {S Q P W : Type 0} (remaining : S → Option (List ℕ)) (rules : ReadR
             told = front.told ∙ finds.told ∙ so.told;
             within = omega (arith, within, long, length-append (take handed out) rest);
             known = front.known;
+            left = λ few. less n k'' some front.left k finds.kept (so.left (omega (arith, few))) few;
+            idle = λ empty. absurd (omega (arith, some, within, empty, length-append (take handed out) rest));
           }
 
-      pub shown_more : (n : ℕ) (rest : List ℕ) (t : Buffered S Q) (u : Progress P) (k'' : ℕ) → n ≤ length rest
+      pub shown_more : (n : ℕ) (rest : List ℕ) (t : Buffered S Q) (u : Progress P) (k'' : ℕ) → 0 < n → n ≤ length rest
           → take n rest ≡ take n f.block.bytes → TakesFront remaining rules g n f r k' t u k''
-          → Shown s p (put_mid handed (length out - handed) out rest) (handed + n) t u k''
-      shown_more n rest t u k'' within same front =
-          subst (λ l. Shown s p l (handed + n) t u k'') (sym (put_rest out rest handed)) (more n rest t u k'' within same front)
+          → Shown s p before (put_mid handed (length out - handed) out rest) (handed + n) t u k''
+      shown_more n rest t u k'' some within same front =
+          subst (λ l. Shown s p before l (handed + n) t u k'') (sym (put_rest out rest handed))
+          (more n rest t u k'' some within same front)
 
 -- the same, seen by contracts
 module _ {S Q C P W : Type 0} (remaining : S → Option (List ℕ)) (rules : ReadRules Q) (g : Grammar P W) (lawful : IsLawful g)
     (r : Buffered S Q) (c : C) (p : Progress P) (calls : StreamLog) (k : ℕ) (is : IsBodyReader g (seen r c p calls k))
     (out : List ℕ) (handed : ℕ) (r' : Buffered S Q) (q : Progress P) (k' : ℕ)
-    (hands : HandsShown remaining rules g r p out handed r' q k') (calls' : StreamLog)
+    (hands : HandsShown remaining rules g r p k out handed r' q k') (calls' : StreamLog)
     (noted : calls' ≡ after_read calls out (Ok handed)) where
   given : calls'.reads.given ≡ calls.reads.given ++ take handed out
   given = ap (λ l. l.reads.given) noted
@@ -165,6 +196,8 @@ module _ {S Q C P W : Type 0} (remaining : S → Option (List ℕ)) (rules : Rea
     told = hands.told;
     bound = hands.within;
     all = elim hands.all [ inl all ↦ inl all | inr none ↦ inr (none_left none) ];
+    left = hands.left;
+    empty = λ none. ((hands.idle none).0, ap (λ x. x.place) (hands.idle none).1);
     noted = noted;
     whole = shown_is;
   }

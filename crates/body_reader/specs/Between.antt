@@ -151,21 +151,25 @@ module _ {S Q P W : Type 0} (remaining : S → Option (List ℕ)) (rules : ReadR
   NoneShown p bytes = IsDone g p ⊎ (IsOpen g p bytes ⊎ ((why : W) × g.wrong p bytes why))
 
   -- taking what is buffered and no payload, up to payload that is known, or none is shown; nobody is asked
-  pub record FindsKnown (s : Buffered S Q) (p : Progress P) (t : Buffered S Q) (q : Progress P) (after : ℕ) : Type 0 where
+  pub record FindsKnown (s : Buffered S Q) (p : Progress P) (before : ℕ) (t : Buffered S Q) (q : Progress P) (after : ℕ)
+      : Type 0 where
     pub wire : List ℕ
     pub takes : TakesBytes s p wire [] t q
     pub told : t.log ≡ s.log
     pub known : IsKnown g q.place after t.block.bytes
+    pub kept : 0 < before → after ≡ before
     pub none : after ≡ 0 → NoneShown q.place t.block.bytes
 
   -- handing out of what is buffered into a slice, which is left so, as much as it takes; nobody is asked
-  pub record HandsShown (s : Buffered S Q) (p : Progress P) (out : List ℕ) (handed : ℕ) (t : Buffered S Q) (q : Progress P)
-      (after : ℕ) : Type 0 where
+  pub record HandsShown (s : Buffered S Q) (p : Progress P) (before : ℕ) (out : List ℕ) (handed : ℕ) (t : Buffered S Q)
+      (q : Progress P) (after : ℕ) : Type 0 where
     pub wire : List ℕ
     pub takes : TakesBytes s p wire (take handed out) t q
     pub told : t.log ≡ s.log
     pub within : handed ≤ length out
     pub known : IsKnown g q.place after t.block.bytes
+    pub left : handed ≤ before → after ≡ before - handed
+    pub idle : length out ≡ 0 → (t ≡ s) × (q ≡ p)
     pub all : (handed ≡ length out) ⊎ NoneShown q.place t.block.bytes
 
   -- handing payload out into a slice, which is left so: no less than can be. None comes into one that isn't empty only where the

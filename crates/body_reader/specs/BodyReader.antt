@@ -82,7 +82,8 @@ module _ {S Q C P W : Type 0} (remaining : S → Option (List ℕ)) (rules : Rea
 
   -- what one call of `read_payload` does, which left the slice as out. The stream is asked only where nothing was settled, and no
   -- payload left, and for as much as surely is payload and fits the slice; and no less is handed out than can be. Once the body
-  -- ended, or where the slice is empty, the buffered reader isn't called. An Ok read is noted, and no other
+  -- ended, or where the slice is empty, the buffered reader isn't called. What was known and isn't handed out stays known. An Ok
+  -- read is noted, and no other
   pub record ReadsPayload (s : BodyState S Q C P) (out : List ℕ) (answer : Result ℕ (BodyError W)) (t : BodyState S Q C P)
       : Type 0 where
     pub went : BodyWent s (handed_out out answer) t
@@ -91,13 +92,15 @@ module _ {S Q C P W : Type 0} (remaining : S → Option (List ℕ)) (rules : Rea
         (λ e. NoPayload g s e t)
     pub asked : AsksWithRoom remaining rules g (length out) s.reader s.place t.reader
     pub all : IfOk answer (λ n. 0 < n → HandsAll g s.place s.reader.block.bytes s.known out n t.reader.block.bytes)
+    pub left : 0 < s.known → IfOk answer (λ n. t.known ≡ s.known - n)
     pub idle : (TookWholeBody g s ⊎ (length out ≡ 0)) → t.reader ≡ s.reader
     pub empty : length out ≡ 0 → answer ≡ Ok 0
     pub noted : MatchResult answer (λ n. t.calls ≡ after_read s.calls out (Ok n)) (λ _. t.calls ≡ s.calls)
     pub whole : IsBodyReader g t
 
   -- payload is buffered, how much the answer says: none only where the body ended, and else all that a look says is. The stream
-  -- is asked only where nothing was settled, and no payload left; where some was known, or the body ended, nothing is done
+  -- is asked only where nothing was settled, and no payload left; where some was known, or the body ended, nothing is done. No
+  -- call is noted
   pub record FillsPayload (s : BodyState S Q C P) (answer : Result ℕ (BodyError W)) (t : BodyState S Q C P) : Type 0 where
     pub went : BodyWent s [] t
     pub answers : MatchResult answer (λ n. (n ≡ t.known) × EachGave s.reader t.reader × (n ≡ 0 → TookWholeBody g t))
@@ -105,6 +108,7 @@ module _ {S Q C P W : Type 0} (remaining : S → Option (List ℕ)) (rules : Rea
     pub all : IfOk answer (λ n. 0 < n → s.known ≡ 0 → AllShown g t.place n t.reader.block.bytes)
     pub asked : AsksOpen remaining rules g s.reader s.place t.reader
     pub still : (0 < s.known ⊎ TookWholeBody g s) → t ≡ s
+    pub noted : t.calls ≡ s.calls
     pub whole : IsBodyReader g t
 
   -- a piece of payload was taken: all that a fill showed
@@ -168,12 +172,15 @@ module _ {S Q C P W : Type 0} (remaining : S → Option (List ℕ)) (rules : Rea
     pub whole : IsBodyReader g t
 
   -- what `read_buffered` does, which left the slice as out: payload that is buffered is handed out, as much as the slice takes.
-  -- Less comes only where the body ended, or what is buffered settles nothing, or is wrong. The stream isn't asked
+  -- Less comes only where the body ended, or what is buffered settles nothing, or is wrong. The stream isn't asked. Of what was
+  -- known just what wasn't handed out stays known, where no more was handed out. Into an empty slice nothing is done
   pub record HandsBuffered (s : BodyState S Q C P) (out : List ℕ) (handed : ℕ) (t : BodyState S Q C P) : Type 0 where
     pub went : BodyWent s (take handed out) t
     pub told : t.reader.log ≡ s.reader.log
     pub bound : handed ≤ length out
     pub all : (handed ≡ length out) ⊎ (TookWholeBody g t ⊎ (EndsEarly g t ⊎ ((why : W) × Breaks g why t)))
+    pub left : handed ≤ s.known → t.known ≡ s.known - handed
+    pub empty : length out ≡ 0 → (t.reader ≡ s.reader) × (t.place ≡ s.place)
     pub noted : t.calls ≡ after_read s.calls out (Ok handed)
     pub whole : IsBodyReader g t
 

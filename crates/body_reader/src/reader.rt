@@ -2,11 +2,12 @@
 ghost use Rattle.std.specs.Prelude.{◌≡◌, ℕ, List, [], ◌-◌, ◌<◌, ◌≤◌, ◌↔◌, ◌++◌, length, min, take, vec_items, Err, IfErr, IfOk, IsOkAnd, IsTrue, MatchResult, Ok, OnOk};
 ghost use Rattle.std.specs.Borrow.{Lends, sem};
 ghost use Rattle.body_reader.specs.contracts.reader.BodyReader.{the_row};
-ghost use Rattle.buffer_redux.specs.Block.{capacity_for};
+ghost use Rattle.buffer_redux.specs.Block.{Reserves, capacity_for};
 ghost use Rattle.buffer_redux.specs.Buffered.{over_buffer, with_inner};
 ghost use Rattle.buffer_redux.specs.BufReader.{ReadsInOrder};
 ghost use Rattle.buffer_redux.specs.GrowError.{FitsWithin};
 ghost use Rattle.buffer_redux.specs.MakeError.{growth};
+ghost use Rattle.buffer_redux.specs.StreamLog.{after_read};
 ghost use Rattle.body_reader.specs.Coding.{IsBody};
 ghost use Rattle.body_reader.specs.BodyReader.{BodyState, BodyWent, Collects, Drains, FillsPayload, HandsBuffered, IsBodyReader, LooksBehind, ReadsPayload, begun, taken_count};
 
@@ -81,6 +82,8 @@ impl<R: Tell, C: Coding> BodyReader<R, C> {
             → IsOkAnd result (λ b. b.reader.block ≡ buffer) }
         ensures within { buffer.capacity < (C.grammar coding).ahead → FitsWithin (growth result)
             (capacity_for buffer ((C.grammar coding).ahead - length buffer.bytes)) buffer.limit }
+        ensures grown { IfOk result (λ b. buffer.capacity < (C.grammar coding).ahead
+            → Reserves ((C.grammar coding).ahead - length buffer.bytes) buffer b.reader.block) }
     {
         let ahead = coding.ahead();
         if buffer.capacity() < ahead {
@@ -194,6 +197,7 @@ impl<R: TellRead, C: Coding, P: ReaderPolicy> BodyReader<R, C, P> {
     /// goes on where more came, as it does after an `Io`.
     pub fn read_payload(&mut self, out: &mut [u8]) -> Result<usize, BodyError<C::Wrong>>
         ensures bound { IfOk result (λ n. n ≤ length out.new) }
+        ensures handed { IfOk result (λ n. self.new.calls.reads.given ≡ self.old.calls.reads.given ++ take n out.new) }
         ensures reads { ReadsPayload R.remaining P.rules (C.grammar self.old.coding) self.old out.new result self.new }
     {
         let answer = read_on(
@@ -230,6 +234,10 @@ impl<R: TellRead, C: Coding, P: ReaderPolicy> BodyReader<R, C, P> {
 
     /// Proceeds on behind the first `count` bytes that [`piece`](BodyReader::piece) lends, or behind all.
     pub fn consume_payload(&mut self, count: usize)
+        ensures taken { self.new.taken ≡ self.old.taken ++ take (min count self.old.known) self.old.reader.block.bytes }
+        ensures noted { 0 < min count self.old.known → self.new.calls ≡ after_read self.old.calls
+            (take (min count self.old.known) self.old.reader.block.bytes) (Ok (min count self.old.known)) }
+        ensures idle { min count self.old.known ≡ 0 → self.new ≡ self.old }
         ensures left { self.new.known ≡ self.old.known - count }
         ensures told { self.new.reader.log ≡ self.old.reader.log }
         ensures went { BodyWent R.remaining P.rules (C.grammar self.old.coding) self.old

@@ -1,5 +1,5 @@
 //! The steps of a reader of a body, over the buffered reader.
-ghost use Rattle.std.specs.Prelude.{[], ◌≡◌, ℕ, ◌-◌, ◌<◌, ◌≤◌, length, min, take, drop};
+ghost use Rattle.std.specs.Prelude.{[], ◌≡◌, ℕ, ◌-◌, ◌<◌, ◌≤◌, length, min, take, drop, IfOk};
 ghost use Rattle.buffer_redux.specs.Buffered.{GoesPast};
 ghost use Rattle.body_reader.specs.Coding.{Carries, IsKnown, Looks};
 ghost use Rattle.body_reader.specs.Between.{BeginsRead, FindsKnown, HandsOn, HandsShown, PassesOn, ShowsOn, SkipsOn, TakesFront};
@@ -258,6 +258,7 @@ pub(crate) fn read_on<R: TellRead, P: ReaderPolicy, C: Coding>(
     ensures hands { HandsOn R.remaining P.rules (C.grammar coding.now) known.old reader.old progress.old out.new result
         reader.new progress.new }
     ensures known { IsKnown (C.grammar coding.now) progress.new.place known.new reader.new.block.bytes }
+    ensures left { 0 < known.old → IfOk result (λ n. known.new ≡ known.old - n) }
 {
     if out.is_empty() {
         return Ok(0);
@@ -277,7 +278,7 @@ pub(crate) fn find_known<R: TellRead, P: ReaderPolicy, C: Coding>(
 )
     requires place { (C.grammar coding.now).is_place progress.old.place }
     requires known { IsKnown (C.grammar coding.now) progress.old.place known.old reader.old.block.bytes }
-    ensures { FindsKnown R.remaining P.rules (C.grammar coding.now) reader.old progress.old reader.new progress.new
+    ensures { FindsKnown R.remaining P.rules (C.grammar coding.now) reader.old progress.old known.old reader.new progress.new
         known.new }
 {
     if *known > 0 {
@@ -298,7 +299,7 @@ pub(crate) fn hand_buffered<R: TellRead, P: ReaderPolicy, C: Coding>(
 ) -> usize
     requires place { (C.grammar coding.now).is_place progress.old.place }
     requires known { IsKnown (C.grammar coding.now) progress.old.place known.old reader.old.block.bytes }
-    ensures { HandsShown R.remaining P.rules (C.grammar coding.now) reader.old progress.old out.new result reader.new
+    ensures { HandsShown R.remaining P.rules (C.grammar coding.now) reader.old progress.old known.old out.new result reader.new
         progress.new known.new }
 {
     let mut handed = 0;

@@ -1,5 +1,5 @@
 //! The reader of a body, as a stream of std's.
-ghost use Rattle.std.specs.Prelude.{None, Some, [], ◌≡◌, ℕ, List, ◌-◌, length, min, take, IfOk, IfSome};
+ghost use Rattle.std.specs.Prelude.{None, Some, [], ◌≡◌, ℕ, List, ◌-◌, ◌<◌, ◌++◌, length, min, take, IfOk, IfSome, Ok};
 ghost use Rattle.std.specs.Borrow.{sem};
 ghost use Rattle.std.specs.Io.{ReadsAtMost, StartsWith};
 ghost use Rattle.std.specs.Io.BufRead.{Rests};
@@ -73,6 +73,10 @@ where
     }
 
     fn consume(&mut self, amount: usize)
+        ensures taken { self.new.taken ≡ self.old.taken ++ take (min amount self.old.known) self.old.reader.block.bytes }
+        ensures noted { 0 < min amount self.old.known → self.new.calls ≡ after_read self.old.calls
+            (take (min amount self.old.known) self.old.reader.block.bytes) (Ok (min amount self.old.known)) }
+        ensures idle { min amount self.old.known ≡ 0 → self.new ≡ self.old }
         ensures went { BodyWent R.remaining P.rules (C.grammar self.old.coding) self.old
             (take (min amount self.old.known) self.old.reader.block.bytes) self.new }
         ensures left { self.new.known ≡ self.old.known - amount }
