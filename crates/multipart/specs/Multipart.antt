@@ -1,5 +1,8 @@
 -- What contracts see of a reader of parts, and what its calls promise.
 use Rattle.std.specs.Prelude.{◌≡◌, ◌≢◌, ℕ, ◌+◌, ◌<◌, ◌≤◌, ◌⊎◌, List, [], ◌∷◌, length, Bool, true, false, Option, Result, Ok, Err, IsTrue}
+use Rattle.std.specs.IoError.{error_kind}
+use Rattle.std.specs.declared.io.Error.{Error}
+use Rattle.std.specs.declared.io.ErrorKind.TheVariants.{InvalidData, OutOfMemory, UnexpectedEof}
 use Rattle.buffer_redux.specs.Buffered.{Buffered}
 use Rattle.buffer_redux.specs.Policy.{ReadRules}
 use Rattle.body_reader.specs.declared.error.BodyError.{BodyError}
@@ -87,6 +90,15 @@ abbrev pub head_error : CollectError (Unit {0}) → PartError
 head_error (collect.Body e) = part_error e
 head_error collect.TooLong = part.LongHead
 head_error collect.Memory = part.Memory
+
+-- an error of the whole as one of std's streams: a stream's own is the same
+abbrev pub PartBecomesIo : PartError → Error → Type 0
+PartBecomesIo (part.Io same) e = e ≡ same
+PartBecomesIo part.Truncated e = error_kind e ≡ UnexpectedEof
+PartBecomesIo part.Memory e = error_kind e ≡ OutOfMemory
+PartBecomesIo part.Boundary e = error_kind e ≡ InvalidData
+PartBecomesIo part.LongHead e = error_kind e ≡ InvalidData
+PartBecomesIo part.ManyParts e = error_kind e ≡ InvalidData
 
 -- a head ended, and then: the two hyphens end the body; a head that begins as the line of its boundary ends leads into a part,
 -- unless those are too many

@@ -67,6 +67,10 @@ impl From<CollectError<()>> for PartError {
 }
 
 impl From<PartError> for io::Error {
+    ghost use Rattle.multipart.specs.Multipart.{PartBecomesIo};
+
+    ghost from_gives = { PartBecomesIo };
+
     /// The stream's own error; `UnexpectedEof` where it ended, `OutOfMemory`, and `InvalidData` for what is wrong or too much.
     fn from(e: PartError) -> io::Error {
         match e {
