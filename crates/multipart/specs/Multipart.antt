@@ -64,6 +64,7 @@ pub record IsBegun {S Q : Type 0} (reader : Buffered S Q) (boundary : List ℕ) 
     : Type 0 where
   pub mark : t.body.coding.just.items ≡ 45 ∷ 45 ∷ boundary
   pub body : t.body ≡ begun (codes t.body.coding) reader t.body.coding
+  pub head : t.head ≡ []
   pub stand : t.stand ≡ Preamble
   pub parts : t.parts ≡ 0
   pub limited : t.limits ≡ limits

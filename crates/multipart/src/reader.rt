@@ -1,5 +1,5 @@
 //! The reader of parts.
-ghost use Rattle.std.specs.Prelude.{◌≡◌, ◌≢◌, ◌<◌, ◌≤◌, ◌+◌, ◌-◌, ◌⊎◌, ◌∷◌, ◌++◌, length, min, take, vec_items, Ok, IfErr, IfOk, IfSome};
+ghost use Rattle.std.specs.Prelude.{[], ◌≡◌, ◌≢◌, ◌<◌, ◌≤◌, ◌+◌, ◌-◌, ◌⊎◌, ◌∷◌, ◌++◌, length, min, take, vec_items, Ok, IfErr, IfOk, IfSome};
 ghost use Rattle.body_reader.specs.BodyReader.{BodyWent, FillsPayload, IsBodyReader, ReadsPayload, TookWholeBody};
 ghost use Rattle.multipart.specs.Multipart.{AreCodings, CollectsHead, EndsHead, GoesOnFromHead, IsBegun, IsForm, LeavesText, NextPart, NoReaderMade, codes};
 
@@ -82,6 +82,7 @@ impl<R: Tell, P> Multipart<R, P> {
         boundary: &[u8],
         limits: Limits,
     ) -> Result<Self, (BufReader<R, P>, NewError)>
+        ensures over { IfOk result (λ m. (m.body.reader ≡ reader) × (m.body.taken ≡ []) × (m.head ≡ []) × (m.parts ≡ 0)) }
         ensures begun { IfOk result (IsBegun reader boundary.now limits) }
         ensures whole { IfOk result IsForm }
         ensures handed_back { IfErr result (λ e. e.0 ≡ reader) }
@@ -200,6 +201,9 @@ impl<R: TellRead, P: ReaderPolicy> Multipart<R, P> {
     /// part. After a `Truncated` or an `Io` a further call goes on.
     pub fn read(&mut self, out: &mut [u8]) -> Result<usize, BodyError<()>>
         ensures none { self.old.stand ≢ Stand.Part → (result ≡ Ok 0) × (self.new ≡ self.old) }
+        ensures handed { IfOk result (λ n. (n ≤ length out.new)
+            × (self.old.stand ≡ Stand.Part
+            → self.new.body.calls.reads.given ≡ self.old.body.calls.reads.given ++ take n out.new)) }
         ensures within { self.new ≡ record self.old { body = self.new.body } }
         ensures reads { self.old.stand ≡ Stand.Part → ReadsPayload R.remaining P.rules (codes self.old.body.coding) self.old.body
             out.new result self.new.body }
@@ -226,6 +230,8 @@ impl<R: TellRead, P: ReaderPolicy> Multipart<R, P> {
 
     /// Proceeds on behind the first `count` bytes that [`piece`](Multipart::piece) lends, or behind all.
     pub fn consume(&mut self, count: usize)
+        ensures taken { self.old.stand ≡ Stand.Part → self.new.body.taken
+            ≡ self.old.body.taken ++ take (min count self.old.body.known) self.old.body.reader.block.bytes }
         ensures left { self.old.stand ≡ Stand.Part → self.new.body.known ≡ self.old.body.known - count }
         ensures told { self.new.body.reader.log ≡ self.old.body.reader.log }
         ensures none { self.old.stand ≢ Stand.Part → self.new ≡ self.old }
