@@ -1,5 +1,5 @@
 //! The reader of parts.
-ghost use Rattle.std.specs.Prelude.{[], ◌≡◌, ◌≢◌, ◌<◌, ◌≤◌, ◌+◌, ◌-◌, ◌⊎◌, ◌∷◌, ◌++◌, length, min, take, vec_items, Ok, IfErr, IfOk, IfSome};
+ghost use Rattle.std.specs.Prelude.{[], ◌≡◌, ◌≢◌, ◌<◌, ◌≤◌, ◌+◌, ◌-◌, ◌⊎◌, ◌∷◌, ◌++◌, length, min, take, vec_items, Ok, IfErr, IfOk, IfSome, MatchBool};
 ghost use Rattle.body_reader.specs.BodyReader.{BodyWent, FillsPayload, IsBodyReader, ReadsPayload, TookWholeBody};
 ghost use Rattle.multipart.specs.Multipart.{AreCodings, CollectsHead, EndsHead, GoesOnFromHead, IsBegun, IsForm, LeavesText, NextPart, NoReaderMade, codes};
 
@@ -250,7 +250,10 @@ impl<R: TellRead, P: ReaderPolicy> Multipart<R, P> {
     /// The stream is asked only where what is buffered settles nothing: for no byte behind the empty line of a head, nor behind
     /// the two hyphens of the last boundary.
     pub fn next_part(&mut self) -> Result<bool, PartError>
-        ensures { NextPart R.remaining P.rules self.old.stand self.old result self.new }
+        ensures stands { IfOk result (λ more. MatchBool more
+            ((self.new.stand ≡ Stand.Part) × (self.new.parts ≡ self.old.parts + 1))
+            ((self.new.stand ≡ Stand.Ended) × (self.new.parts ≡ self.old.parts))) }
+        ensures next { NextPart R.remaining P.rules self.old.stand self.old result self.new }
     {
         match self.stand {
             Stand::Ended => Ok(false),
