@@ -2,6 +2,8 @@
 use Rattle.std.specs.Prelude.{◌≡◌, ℕ, ℤ, pos, ◌+ℤ◌, ◌+◌, ◌-◌, ◌^◌, ◌≤◌, ◌⊎◌, List, [], ◌∷◌, length, map, codes, decimal, Bool, true, false, None, Some, IsSomeAnd, MatchOption}
 use Rattle.std.specs.Fmt.{signed_decimal}
 use Rattle.std.specs.Char.{to_ascii_lowercase}
+use Rattle.std.specs.Int.{w64}
+use Rattle.std.specs.Int.RustNames.{FitsSigned}
 use Rattle.resp.specs.declared.command.Command.{Command}
 use Rattle.resp.specs.declared.command.Command.TheVariants as command
 use Rattle.resp.specs.declared.command.Name.{Name}
@@ -63,20 +65,29 @@ Means [] c = c ≡ command.Unknown
 Means (word ∷ rest) c =
     ((n : Name) × SameWord word (word_of n) × MeansRest n rest c) ⊎ (IsNoName word × (c ≡ command.Unknown))
 
--- the number at a key, which is 0 where there is none, is now this, one more than it was
-abbrev pub Raises : Values → List ℕ → ℤ → Values → Type 0
-Raises old key n new = (m : ℤ) × MatchOption (old.value key) (m ≡ pos 0) (λ text. text ≡ signed_decimal m)
-    × (n ≡ m +ℤ pos 1) × MayHold key old × SetsValue key (Some (signed_decimal n)) old new
+-- the number at a key, which is 0 where there is none
+abbrev pub HasNumber : Values → List ℕ → ℤ → Type 0
+HasNumber values key m = MatchOption (values.value key) (m ≡ pos 0) (λ text. text ≡ signed_decimal m)
 
--- the number at a key is not raised, and why: there is no number, or the greatest that there is, or no room for one. That memory
--- is refused is said of no state
+-- it is now this, one more than it was
+abbrev pub Raises : Values → List ℕ → ℤ → Values → Type 0
+Raises old key n new = (m : ℤ) × HasNumber old key m × (n ≡ m +ℤ pos 1) × MayHold key old
+    × SetsValue key (Some (signed_decimal n)) old new
+
+-- it might be raised: one more is an i64, and may be held
+abbrev pub MayRaise : Values → List ℕ → Type 0
+MayRaise values key = (m : ℤ) × HasNumber values key m × FitsSigned w64 (m +ℤ pos 1) × MayHold key values
+
+-- it is not raised, and why: there is no number, or the greatest that there is, or no room for one; or it might be, and memory is
+-- refused
 abbrev pub RaisesNone : Values → List ℕ → List ℕ → Values → Type 0
 RaisesNone old key why new = Same old new
     × (((why ≡ codes "-ERR value is not an integer or out of range\r\n")
     × IsSomeAnd (old.value key) (λ text. ¬ (IsInteger text)))
     ⊎ (((why ≡ codes "-ERR increment or decrement would overflow\r\n")
     × (old.value key ≡ Some (signed_decimal (pos (2 ^ 63 - 1)))))
-    ⊎ (((why ≡ codes "-ERR too many keys\r\n") × IsFull key old) ⊎ (why ≡ codes "-ERR out of memory\r\n"))))
+    ⊎ (((why ≡ codes "-ERR too many keys\r\n") × IsFull key old)
+    ⊎ ((why ≡ codes "-ERR out of memory\r\n") × MayRaise old key))))
 
 -- keys are taken out one after another, and so many of them were there
 abbrev pub Deletes : List (List ℕ) → Values → ℕ → Values → Type 0
@@ -84,7 +95,7 @@ Deletes [] old n new = (n ≡ 0) × Same old new
 Deletes (key ∷ keys) old n new = (between : Values) × (m : ℕ) × SetsValue key None old between
     × (n ≡ counts_for (old.value key) + m) × Deletes keys between m new
 
--- what a command does, and its reply. That memory is refused is said of no state
+-- what a command does, and its reply. Memory is refused only for what might be held
 abbrev pub Acts : Values → Command → List ℕ → Values → Type 0
 Acts old command.Ping reply new = (reply ≡ codes "+PONG\r\n") × Same old new
 Acts old (command.Echo text) reply new = (reply ≡ bulk_reply text.now) × Same old new
@@ -93,7 +104,7 @@ Acts old (command.Get key) reply new =
 Acts old (command.Set key value) reply new =
     ((reply ≡ codes "+OK\r\n") × MayHold key.now old × SetsValue key.now (Some value.now) old new)
     ⊎ (((reply ≡ codes "-ERR too many keys\r\n") × IsFull key.now old × Same old new)
-    ⊎ ((reply ≡ codes "-ERR out of memory\r\n") × Same old new))
+    ⊎ ((reply ≡ codes "-ERR out of memory\r\n") × MayHold key.now old × Same old new))
 Acts old (command.Del keys) reply new = (n : ℕ) × (reply ≡ number_reply (decimal n)) × Deletes (bytes_of keys.now) old n new
 Acts old (command.Incr key) reply new =
     ((n : ℤ) × (reply ≡ number_reply (signed_decimal n)) × Raises old key.now n new) ⊎ RaisesNone old key.now reply new

@@ -59,6 +59,7 @@ impl Store {
         ensures room { OnOk result (MayHold key.now (held self.old)) }
         ensures same { OnErr result (Same (held self.old) (held self.new)) }
         ensures full { result ≡ Err Full.Entries → IsFull key.now (held self.old) }
+        ensures memory { result ≡ Err Full.Memory → MayHold key.now (held self.old) }
     {
         if self.map.len() >= self.most && !self.map.contains_key(key) {
             return Err(Full::Entries);
