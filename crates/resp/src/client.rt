@@ -1,5 +1,5 @@
 //! A client, and the store that outlives it.
-ghost use Rattle.std.specs.Prelude.{◌≡◌, IfErr, IfOk};
+ghost use Rattle.std.specs.Prelude.{◌≡◌, [], IfErr, IfOk, OnOk};
 ghost use Rattle.codec.specs.Answering.{NeverFails};
 ghost use Rattle.codec.specs.PieceReader.{IsFresh};
 ghost use Rattle.codec.specs.ServingAll.{ServesAll, StopsAll};
@@ -84,6 +84,7 @@ impl<R: TellRead> Client<R> {
         store: &mut Store,
         replies: &mut BufWriter<W>,
     ) -> Result<Ending, ServeError<EitherWrong<HeaderError, Unended<TooLong>>, Infallible>>
+        ensures flushed { OnOk result (replies.new.block.bytes ≡ []) }
         ensures served { IfOk result (λ ending. ServesAll R.remaining W.log W.trace (resp (pieces_of self.old).decoder.max)
             resp_item RepliesBy NeverFails (serving self.old store.old replies.old) (ends_as ending)
             (serving self.new store.new replies.new)) }

@@ -1,6 +1,7 @@
 //! Replies.
-ghost use Rattle.std.specs.Prelude.{decimal};
+ghost use Rattle.std.specs.Prelude.{decimal, [], OnErr, OnOk};
 ghost use Rattle.std.specs.Fmt.{signed_decimal};
+ghost use Rattle.buffer_redux.specs.BufWriter.{WritesInOrder};
 ghost use Rattle.buffer_redux.specs.WriteParts.{WritesParts};
 ghost use Rattle.resp.specs.Replies.{bulk_reply, number_reply};
 
@@ -11,14 +12,18 @@ use std::io;
 
 /// Writes all of these bytes, or none.
 pub fn put<W: TellWrite>(writer: &mut BufWriter<W>, bytes: &[u8]) -> io::Result<()>
-    ensures { WritesParts W.log W.trace writer.old bytes.now result writer.new }
+    ensures taken { OnOk result (WritesInOrder writer.old bytes.now writer.new) }
+    ensures none { OnErr result (WritesInOrder writer.old [] writer.new) }
+    ensures parts { WritesParts W.log W.trace writer.old bytes.now result writer.new }
 {
     writer.write_parts(&[bytes])
 }
 
 /// Writes a bulk string.
 pub fn put_bulk<W: TellWrite>(writer: &mut BufWriter<W>, bytes: &[u8]) -> io::Result<()>
-    ensures { WritesParts W.log W.trace writer.old (bulk_reply bytes.now) result writer.new }
+    ensures taken { OnOk result (WritesInOrder writer.old (bulk_reply bytes.now) writer.new) }
+    ensures none { OnErr result (WritesInOrder writer.old [] writer.new) }
+    ensures parts { WritesParts W.log W.trace writer.old (bulk_reply bytes.now) result writer.new }
 {
     let mut buffer = Buffer::new();
     let len = buffer.format(bytes.len()).as_bytes();
@@ -27,7 +32,9 @@ pub fn put_bulk<W: TellWrite>(writer: &mut BufWriter<W>, bytes: &[u8]) -> io::Re
 
 /// Writes how many there are.
 pub fn put_count<W: TellWrite>(writer: &mut BufWriter<W>, count: usize) -> io::Result<()>
-    ensures { WritesParts W.log W.trace writer.old (number_reply (decimal count)) result writer.new }
+    ensures taken { OnOk result (WritesInOrder writer.old (number_reply (decimal count)) writer.new) }
+    ensures none { OnErr result (WritesInOrder writer.old [] writer.new) }
+    ensures parts { WritesParts W.log W.trace writer.old (number_reply (decimal count)) result writer.new }
 {
     let mut buffer = Buffer::new();
     put_number(writer, buffer.format(count).as_bytes())
@@ -35,7 +42,9 @@ pub fn put_count<W: TellWrite>(writer: &mut BufWriter<W>, count: usize) -> io::R
 
 /// Writes a number.
 pub fn put_signed<W: TellWrite>(writer: &mut BufWriter<W>, number: i64) -> io::Result<()>
-    ensures { WritesParts W.log W.trace writer.old (number_reply (signed_decimal number)) result writer.new }
+    ensures taken { OnOk result (WritesInOrder writer.old (number_reply (signed_decimal number)) writer.new) }
+    ensures none { OnErr result (WritesInOrder writer.old [] writer.new) }
+    ensures parts { WritesParts W.log W.trace writer.old (number_reply (signed_decimal number)) result writer.new }
 {
     let mut buffer = Buffer::new();
     put_number(writer, buffer.format(number).as_bytes())
@@ -43,7 +52,9 @@ pub fn put_signed<W: TellWrite>(writer: &mut BufWriter<W>, number: i64) -> io::R
 
 // Writes a number, of which these are the digits.
 fn put_number<W: TellWrite>(writer: &mut BufWriter<W>, digits: &[u8]) -> io::Result<()>
-    ensures { WritesParts W.log W.trace writer.old (number_reply digits.now) result writer.new }
+    ensures taken { OnOk result (WritesInOrder writer.old (number_reply digits.now) writer.new) }
+    ensures none { OnErr result (WritesInOrder writer.old [] writer.new) }
+    ensures parts { WritesParts W.log W.trace writer.old (number_reply digits.now) result writer.new }
 {
     writer.write_parts(&[b":", digits, b"\r\n"])
 }
