@@ -1,5 +1,5 @@
 -- What a whole run of `decode` comes to.
-use Rattle.std.proofs.Common.{◌≡◌, ℕ, inl, inr, List, [], ◌++◌, length, length-append, ◌≤◌, Option, Result, Ok, Err, refl, sym, ap, subst, ◌∙◌, arith, append_assoc, append-nil}
+use Rattle.std.proofs.Common.{◌≡◌, ℕ, inl, inr, List, [], ◌++◌, length, length-append, ◌≤◌, Option, Result, Ok, Err, OnOk, refl, sym, ap, subst, ◌∙◌, arith, append_assoc, append-nil}
 use Rattle.std.proofs.lemmas.Grind.{flat_map-append}
 use Rattle.std.specs.Global.{Vec}
 use Rattle.buffer_redux.specs.ReaderLaws.{ReadsInOrder-fresh}
@@ -137,6 +137,30 @@ module _ {R W : Type 0} (remaining : R → Option (List ℕ)) (limits : Limits) 
     moved_over count over,
     inl (record { other = is.1; large = omega (arith, large, counted count over); met = met }),
   )
+
+-- where all went well: what was written is the payload of what was read
+pub decode_says : {limits : Limits} {read read' written written' : StreamLog} (answer : Result (Unit {0}) RunError)
+    → DecodesBody limits read read' written written' answer → record {
+      decoded : OnOk answer ((body : List ℕ) × (payload : List ℕ) × IsBodyOfChunks limits body payload
+          × (read'.reads.given ≡ read.reads.given ++ body)
+          × (written'.writes.received ≡ written.writes.received ++ payload));
+      decodes : DecodesBody limits read read' written written' answer;
+    }
+decode_says {limits} {read} {read'} {written} {written'} (Ok _) decodes =
+    let m = decodes.ran.0.moved in
+    record {
+      decoded = (
+        m.wire,
+        m.payload,
+        decodes.ran.1,
+        m.given ∙ ap (λ l. read.reads.given ++ (m.wire ++ l)) decodes.ran.2
+            ∙ ap (λ l. read.reads.given ++ l) (append-nil m.wire),
+        sym (append-nil written'.writes.received) ∙ ap (λ l. written'.writes.received ++ l) (sym decodes.ran.0.all)
+            ∙ m.received,
+      );
+      decodes = decodes;
+    }
+decode_says (Err e) decodes = record { decoded = tt; decodes = decodes }
 
 -- a buffer was refused
 pub refused : (limits : Limits) (read read' written written' : StreamLog) (e : Error)

@@ -1,5 +1,5 @@
 -- What a whole run of `encode` comes to.
-use Rattle.std.proofs.Common.{◌≡◌, ℕ, ◌+◌, ◌<◌, inl, inr, List, [], ◌++◌, length, length-append, Option, Result, Ok, Err, refl, sym, ap, subst, ◌∙◌, arith, append_assoc, append-nil}
+use Rattle.std.proofs.Common.{◌≡◌, ℕ, ◌+◌, ◌<◌, inl, inr, List, [], ◌++◌, length, length-append, Option, Result, Ok, Err, OnOk, refl, sym, ap, subst, ◌∙◌, arith, append_assoc, append-nil}
 use Rattle.std.proofs.lemmas.Grind.{flat_map-append}
 use Rattle.std.proofs.lemmas.List.Elements.{All-weaker}
 use Rattle.std.specs.List.{flat_map}
@@ -38,7 +38,12 @@ cut_short sent behind payload whole some limits body payload' more is begins =
 
 -- chunks are no body, and with its end they are one
 written : (bytes payload : List ℕ) → IsChunks bytes payload → IsEncodedBody (bytes ++ body_end []) payload
-written bytes payload is limits line = IsChunks-body limits line [] tt (omega arith) bytes payload is
+written bytes payload is = record {
+  chunks = bytes;
+  carries = is;
+  ended = refl;
+  is_body = λ limits line. IsChunks-body limits line [] tt (omega arith) bytes payload is;
+}
 
 module _ {read read' written' written'' : StreamLog} (m : Moved read read' written' written'') where
   unended : IsChunks (m.sent ++ m.unsent) m.payload → IsUnended m
@@ -46,13 +51,13 @@ module _ {read read' written' written'' : StreamLog} (m : Moved read read' writt
     chunks = is;
     cut = cut_short m.sent (m.unsent ++ body_end []) m.payload
         (subst (λ l. IsBodyOfChunks least l m.payload) (append_assoc m.sent m.unsent (body_end []))
-        (written (m.sent ++ m.unsent) m.payload is least (omega arith)))
+        ((written (m.sent ++ m.unsent) m.payload is).is_body least (omega arith)))
         (omega (arith, length-append m.unsent (body_end [])));
   }
 
   unflushed : IsEncodedBody (m.sent ++ m.unsent) m.payload → m.rest ≡ [] → IsBodyBeginning m
   unflushed is left =
-      inr (record { is_body = is; cut = cut_short m.sent m.unsent m.payload (is least (omega arith)); all = left })
+      inr (record { is_body = is; cut = cut_short m.sent m.unsent m.payload (is.is_body least (omega arith)); all = left })
 
 -- a filter before a body
 abbrev pub start : {R W : Type 0} → Buffered R StdPolicy → Buffered W StdPolicy → Encoding R W
@@ -176,6 +181,29 @@ module _ {R W : Type 0} (remaining : R → Option (List ℕ)) (trace : W → W �
       met = met;
     }),
   )
+
+-- where all went well: what was read is the payload of what was written
+pub encode_says : {read read' written' written'' : StreamLog} (answer : Result (Unit {0}) RunError)
+    → Encodes read read' written' written'' answer → record {
+      encoded : OnOk answer ((body : List ℕ) × (payload : List ℕ) × IsEncodedBody body payload
+          × (read'.reads.given ≡ read.reads.given ++ payload)
+          × (written''.writes.received ≡ written'.writes.received ++ body));
+      encodes : Encodes read read' written' written'' answer;
+    }
+encode_says {read} {read'} {written'} {written''} (Ok _) encodes =
+    let m = encodes.ran.0.moved in
+    record {
+      encoded = (
+        m.sent,
+        m.payload,
+        encodes.ran.1,
+        m.given ∙ ap (λ l. read.reads.given ++ (m.payload ++ l)) encodes.ran.0.all
+            ∙ ap (λ l. read.reads.given ++ l) (append-nil m.payload),
+        m.received,
+      );
+      encodes = encodes;
+    }
+encode_says (Err e) encodes = record { encoded = tt; encodes = encodes }
 
 -- a buffer was refused
 pub refused : (read read' written written' : StreamLog) (e : Error) → RefusedBeforeCalls e read read' written written'

@@ -21,9 +21,13 @@ pub record EndsBody {W : Type 0} (u : Buffered W StdPolicy) (answer : Result (Un
   pub flushes : FlushesSend 0 u.log.writes v.log.writes
   pub once : v.log.writes.flushes ≤ u.log.writes.flushes + 1
 
--- these bytes are a body with this payload, for each reader that lets the line of a size have 16 bytes
-abbrev pub IsEncodedBody : List ℕ → List ℕ → Type 0
-IsEncodedBody body payload = (limits : Limits) → 16 ≤ limits.line → IsBodyOfChunks limits body payload
+-- these bytes are chunks with this payload, and then just `0`, its line's end and an empty line: a body, for each reader that
+-- lets the line of a size have 16 bytes
+pub record IsEncodedBody (body payload : List ℕ) : Type 0 where
+  pub chunks : List ℕ
+  pub carries : IsChunks chunks payload
+  pub ended : body ≡ chunks ++ body_end []
+  pub is_body : (limits : Limits) → 16 ≤ limits.line → IsBodyOfChunks limits body payload
 
 -- no body begins these bytes, so who reads them knows that more was to come
 abbrev pub IsCut : List ℕ → Type 0

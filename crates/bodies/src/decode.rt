@@ -1,5 +1,6 @@
 //! The payload of a body copied, over any two streams that tell.
-ghost use Rattle.std.specs.Prelude.{◌≡◌, ◌<◌, [], vec_len};
+ghost use Rattle.std.specs.Prelude.{◌≡◌, ℕ, ◌<◌, List, [], ◌++◌, OnOk, vec_len};
+ghost use Rattle.chunked.specs.Body.{IsBodyOfChunks};
 ghost use Rattle.bodies.specs.Decode.{DecodesBody};
 ghost use Rattle.bodies.specs.Decoding.{IsPieceTarget};
 
@@ -24,7 +25,10 @@ pub fn decode<R: TellRead, W: TellWrite>(
     reader: R,
     writer: W,
 ) -> (Result<(), RunError>, R, W)
-    ensures { DecodesBody limits (R.log reader) (R.log result.1) (W.log writer) (W.log result.2) result.0 }
+    ensures decoded { OnOk result.0 ((body : List ℕ) × (payload : List ℕ) × IsBodyOfChunks limits body payload
+        × ((R.log result.1).reads.given ≡ (R.log reader).reads.given ++ body)
+        × ((W.log result.2).writes.received ≡ (W.log writer).writes.received ++ payload)) }
+    ensures decodes { DecodesBody limits (R.log reader) (R.log result.1) (W.log writer) (W.log result.2) result.0 }
 {
     let piece = match vec![in alloc; 0; PIECE] {
         Ok(piece) => piece,

@@ -1,8 +1,8 @@
 //! What is given made the payload of a body, over any two streams that tell.
-ghost use Rattle.std.specs.Prelude.{◌≡◌, ◌+◌, ◌≤◌};
+ghost use Rattle.std.specs.Prelude.{◌≡◌, ℕ, ◌+◌, ◌≤◌, List, ◌++◌, OnOk};
 ghost use Rattle.chunked.specs.ChunkedWriter.{around};
 ghost use Rattle.programs.specs.Streams.{IsEmptyBuffer};
-ghost use Rattle.bodies.specs.Encode.{Encodes, EndsBody};
+ghost use Rattle.bodies.specs.Encode.{Encodes, EndsBody, IsEncodedBody};
 
 use crate::encoding::Encoding;
 use crate::error::{RunError, error_of};
@@ -28,7 +28,10 @@ pub fn encode<R: TellRead, W: TellWrite>(
     reader: R,
     writer: W,
 ) -> (Result<(), RunError>, R, W)
-    ensures { Encodes (R.log reader) (R.log result.1) (W.log writer) (W.log result.2) result.0 }
+    ensures encoded { OnOk result.0 ((body : List ℕ) × (payload : List ℕ) × IsEncodedBody body payload
+        × ((R.log result.1).reads.given ≡ (R.log reader).reads.given ++ payload)
+        × ((W.log result.2).writes.received ≡ (W.log writer).writes.received ++ body)) }
+    ensures encodes { Encodes (R.log reader) (R.log result.1) (W.log writer) (W.log result.2) result.0 }
 {
     let (source, target) = match buffered(alloc, false, (PIECE, 2 * PIECE), reader, writer) {
         Ok(buffers) => buffers,

@@ -1,14 +1,14 @@
 -- Where a buffer is refused neither stream was called yet; else what `decode_all` says holds.
 use Rattle.std.proofs.Common.{refl}
-use Rattle.bodies.proofs.DecodeRuns.{refused}
+use Rattle.bodies.proofs.DecodeRuns.{decode_says, refused}
 use Rattle.bodies.proofs.decode.decode.Goals as goal
 
 pub returns-in-Err : goal.returns-in-Err
 returns-in-Err g c =
-    refused c.args.limits _ _ _ _ _ (record { memory = c.into.ensures; read_same = refl; written_same = refl })
+    decode_says _ (refused c.args.limits _ _ _ _ _ (record { memory = c.into.ensures; read_same = refl; written_same = refl }))
 
 pub returns-in-Err-buffered : goal.returns-in-Err-buffered
-returns-in-Err-buffered g c = refused c.args.limits _ _ _ _ _ c.in-Err-buffered.ensures.refused
+returns-in-Err-buffered g c = decode_says _ (refused c.args.limits _ _ _ _ _ c.in-Err-buffered.ensures.refused)
 
 pub returns : goal.returns
 returns g c =
@@ -18,4 +18,4 @@ returns g c =
       ← c.in-Ok-buffered.ensures.read,
       ← c.in-Ok-buffered.ensures.written,
     )
-    c.decode_all-answer.ensures
+    (decode_says _ c.decode_all-answer.ensures)

@@ -1,9 +1,9 @@
 -- Where a buffer is refused neither stream was called yet; else what `encode_all` says holds.
-use Rattle.bodies.proofs.EncodeRuns.{refused}
+use Rattle.bodies.proofs.EncodeRuns.{encode_says, refused}
 use Rattle.bodies.proofs.encode.encode.Goals as goal
 
 pub returns-in-Err : goal.returns-in-Err
-returns-in-Err g c = refused _ _ _ _ _ c.in-Err.ensures.refused
+returns-in-Err g c = encode_says _ (refused _ _ _ _ _ c.in-Err.ensures.refused)
 
 pub returns : goal.returns
 returns g c =
@@ -13,4 +13,4 @@ returns g c =
       ← c.in-Ok.ensures.read,
       ← c.in-Ok.ensures.written,
     )
-    c.encode_all-answer.ensures
+    (encode_says _ c.encode_all-answer.ensures)
