@@ -76,9 +76,10 @@ pub record IsHeadPiece (limits : Limits) (bytes payload : List ℕ) : Type 0 whe
   pub said : ParsedHead
   pub is : IsHead limits bytes said
 
--- why a text is no head
+-- why a text is no head: it is too long, or what it is
 abbrev pub IsRefused : Limits → List ℕ → BadHead → Type 0
-IsRefused limits bytes e = ((16384 < length bytes) × (e ≡ LongHead)) ⊎ IsHeadFault limits (as_known bytes) e
+IsRefused limits bytes e = ((16384 < length bytes) × (e ≡ LongHead))
+    ⊎ ((length bytes ≤ 16384) × IsHeadFault limits (as_known bytes) e)
 
 -- these are no lines, or lines in front are no such head, for this reason
 abbrev pub IsNoHead : Limits → List ℕ → BadHead → Type 0

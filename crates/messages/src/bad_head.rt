@@ -9,7 +9,8 @@ pub enum BadHead {
     BareEnd,
     /// The first line doesn't end within as many bytes as a head may have. 414.
     LongLine,
-    /// That does, but the head doesn't. 431.
+    /// That does, but the head doesn't; or the bytes that [`read_head`](crate::read_head) is given are more, whatever their first
+    /// line is. 431.
     LongHead,
     /// It has more lines than a head may have fields. 431.
     ManyFields,

@@ -36,7 +36,7 @@ returns-in-Some-clause-finds c =
       c.in-Some.ensures.some.0,
       elim c.in-Some.ensures.some.1 as (λ _. IsHeadFault c.args.self.now.0 (as_known piece) c.in-Some.e) [
         | inl long ↦ absurd (omega (arith, long.0, text_few piece _ is))
-        | inr why ↦ why
+        | inr why ↦ why.1
       ],
     )
 
