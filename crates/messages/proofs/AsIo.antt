@@ -1,5 +1,5 @@
 -- What a read of a body as one of std's takes of it and of its stream, and why it fails.
-use Rattle.std.proofs.Common.{◌≡◌, ℕ, ◌<◌, List, [], length, IfErr, OnOk, Option, Result, Ok, Err, subst}
+use Rattle.std.proofs.Common.{◌≡◌, ℕ, ◌<◌, List, [], length, IfErr, OnOk, Option, Result, Ok, Err, ap, inr, subst}
 use Rattle.std.specs.declared.io.Error.{Error}
 use Rattle.body_reader.specs.Asking.{AskedWhere}
 use Rattle.body_reader.specs.Between as between
@@ -9,6 +9,7 @@ use Rattle.body_reader.specs.declared.error.BodyError.TheVariants as unread
 use Rattle.body_reader.specs.declared.either.Side.{Side}
 use Rattle.body_reader.specs.declared.either.Side.TheVariants as side
 use Rattle.buffer_redux.specs.Policy.{std_read_rules}
+use Rattle.buffer_redux.specs.Unbuffer.{unbuffered}
 use Rattle.chunked.specs.declared.error.Malformed.{Malformed}
 use Rattle.chunked.specs.declared.place.Place.{Place}
 use Rattle.messages.specs.declared.error.BodyError.{BodyError}
@@ -63,3 +64,10 @@ module _ {R : Type 0} (remaining : R → Option (List ℕ)) (s t : Reader R) (is
       → AskedWhere (AskedIn (left_in s) (length out) (stream_of t).log.reads.offer) (stream_of s) (stream_of t)
   io_asked (Ok n) reads line = body_asked is line (length out) t reads.asked
   io_asked (Err e) (why, reads, becomes) line = body_asked is line (length out) t reads.asked
+
+  pub io_none : (answer : Result ℕ Error) → Reads remaining s out answer t → length out ≡ 0
+      → (answer ≡ Ok 0) × (stream_of t ≡ stream_of s)
+  io_none (Ok n) reads none =
+      let zero : n ≡ 0 = (let same = reads.empty none in cc) in
+      (ap Ok zero, ap (λ b. unbuffered b) (reads.idle (inr none)))
+  io_none (Err e) (why, reads, becomes) none = absurd (subst (λ r. OnOk r ⊥) (reads.empty none) tt)

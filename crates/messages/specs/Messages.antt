@@ -256,6 +256,8 @@ pub record ReadsAsIo {S : Type 0} (remaining : S → Option (List ℕ)) (s : InB
   pub ended : answer ≡ Ok 0 → 0 < length out → IsRest t.rest [] []
   pub fails : IfErr answer (λ e. (why : BodyError) × Fails s.stream why t.stream t.rest × BecomesIo why e)
   pub asked : AskedWhere (AskedIn s.rest (length out) t.stream.log.reads.offer) s.stream t.stream
+  -- a slice that is empty asks for nothing
+  pub none : length out ≡ 0 → (answer ≡ Ok 0) × (t.stream ≡ s.stream)
 
 -- a head, and a payload
 abbrev pub Message : Type 0

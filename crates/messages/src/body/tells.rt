@@ -18,7 +18,8 @@ impl<R: Tell> Tell for Body<R> {
     ghost log = { λ b. b.calls };
 }
 
-/// Payload, as [`read`](Body::read) hands it out. An error is the stream's own, or of the kind `InvalidData` or `UnexpectedEof`.
+/// Payload, as [`read`](Body::read) hands it out; for an empty slice nothing is done. An error is the stream's own, or of the kind
+/// `InvalidData` or `UnexpectedEof`.
 impl<R: TellRead> Read for Body<R> {
     fn read(&mut self, out: &mut [u8]) -> io::Result<usize>
         ensures bound { ReadsAtMost result out.new }
@@ -58,6 +59,7 @@ fn read_told<R: TellRead>(
         × Fails (stream_of reader.old) why (stream_of reader.new) (left_in reader.new) × BecomesIo why e) }
     ensures asked { AskedWhere (AskedIn (left_in reader.old) (length out.new) (stream_of reader.new).log.reads.offer)
         (stream_of reader.old) (stream_of reader.new) }
+    ensures none { length out.new ≡ 0 → (result ≡ Ok 0) × (stream_of reader.new ≡ stream_of reader.old) }
 {
     let _ = reader.get_ref();
     reader.read_told(out)

@@ -28,4 +28,5 @@ returns-clause-read g c =
       ended = reads.ended;
       fails = reads.fails;
       asked = reads.asked;
+      none = reads.none;
     })
