@@ -1,5 +1,6 @@
 -- What a call says first, in words of lists.
-use Rattle.std.proofs.Common.{◌≡◌, ◌↔◌, ℕ, Option, ◌<◌, List, [], ◌∷◌, ◌++◌, drop, length, Bool, false, IsTrue, inl, inr, sym, ap, subst, arith, refl, length-append}
+use Rattle.std.proofs.Common.{◌≡◌, ◌∙◌, ◌↔◌, ℕ, Option, ◌<◌, List, [], ◌∷◌, ◌++◌, drop, length, Bool, false, IsTrue, inl, inr, sym, ap, subst, arith, refl, append-nil, length-append}
+use Rattle.std.proofs.lemmas.List.{nil_from_length}
 use Rattle.buffer_redux.specs.Unbuffer.{Unbuffered}
 use Rattle.codec.specs.Grammar.{Begins, Grammar, IsLawful}
 use Rattle.codec.specs.PieceReader.{IsSettled, ReaderState, left_of, rest}
@@ -8,7 +9,8 @@ use Rattle.messages.specs.declared.head.Heads.{Heads}
 use Rattle.messages.specs.declared.limits.Limits.{Limits}
 use Rattle.messages.specs.Heads.{heads}
 use Rattle.messages.specs.HeadsLaws.{heads_lawful}
-use Rattle.messages.specs.Messages.{Bytes, IsRest, Rest, TakesWholeRest}
+use Rattle.messages.specs.Messages.{Begun, Bytes, InBody, IsRest, Rest, TakesWholeRest}
+use Rattle.messages.specs.MessagesLaws.{Begun-went}
 
 -- no piece begins no byte
 begins_some : {W : Type 0} (g : Grammar W) → IsLawful g → (bytes : List ℕ) → Begins g bytes → 0 < length bytes
@@ -49,3 +51,23 @@ pub ends_in_order : {S : Type 0} (remaining : S → Option (List ℕ)) (s : Unbu
 ends_in_order remaining s r f ends =
     let order = ends.went.order in
     (ends.wire, order.got, order.given, order.equal)
+
+-- the head that was handed out, and what is left behind it, are what was left
+pub begun_in_order : {S : Type 0} (remaining : S → Option (List ℕ)) (s : ReaderState S Heads) (b : InBody S)
+    → Begun remaining s b → (got : List ℕ) × (b.stream.log.reads.given ≡ s.reader.log.reads.given ++ got)
+    × (b.head ++ b.stream.left ≡ rest s ++ got)
+begun_in_order remaining s b begun =
+    let order = (Begun-went remaining s b begun).order in
+    (order.got, order.given, order.equal)
+
+pub begun_front : {S : Type 0} (remaining : S → Option (List ℕ)) (s : ReaderState S Heads) (b : InBody S)
+    → Begun remaining s b → b.stream.log ≡ s.reader.log → b.head ++ b.stream.left ≡ rest s
+begun_front remaining s b begun same =
+    let order = begun_in_order remaining s b begun in
+    let none : order.0 ≡ [] = nil_from_length order.0 (omega (
+      arith,
+      ap length order.1,
+      ap (λ l. length l.reads.given) same,
+      length-append s.reader.log.reads.given order.0,
+    )) in
+    order.2 ∙ ap (λ l. rest s ++ l) none ∙ append-nil (rest s)

@@ -1,5 +1,5 @@
 //! The reader of requests, before a head.
-ghost use Rattle.std.specs.Prelude.{◌≡◌, [], ◌<◌, ◌≤◌, ◌*◌, ◌↔◌, length, IfErr, IfOk, IsOk, IsTrue, MatchResult, false};
+ghost use Rattle.std.specs.Prelude.{◌≡◌, ℕ, List, [], ◌++◌, ◌<◌, ◌≤◌, ◌*◌, ◌↔◌, length, IfErr, IfOk, IsOk, IsTrue, MatchResult, false};
 ghost use Rattle.std.specs.Borrow.{Lends, sem};
 ghost use Rattle.buffer_redux.specs.Block.{Plain};
 ghost use Rattle.buffer_redux.specs.Buffered.{with_inner};
@@ -246,6 +246,9 @@ impl<R: Tell> Requests<R> {
 impl<R: TellRead> Requests<R> {
     /// Goes on into the next message. An `Err` says why there is none, and hands the reader back, before what there is.
     pub fn next(mut self) -> Result<Body<R>, (Self, Stop)>
+        ensures in_order { IfOk result (λ body. (got : List ℕ)
+            × (body.stream.log.reads.given ≡ self.reader.log.reads.given ++ got)
+            × (body.head ++ body.stream.left ≡ rest self ++ got)) }
         ensures told { self.ended ≡ false }
         ensures next { MatchResult result (Begun R.remaining self)
             (λ e. NextPiece R.remaining (heads self.decoder.0) self (stop_answer e.1) e.0) }
@@ -261,6 +264,7 @@ impl<R: TellRead> Requests<R> {
     /// Goes on into the next message as [`next`](Requests::next) does where its head stands whole in the buffer, and asks the
     /// stream for nothing. An `Err` hands the reader back where it doesn't: `next` says then why, or asks for more.
     pub fn next_buffered(mut self) -> Result<Body<R>, Self>
+        ensures front { IfOk result (λ body. body.head ++ body.stream.left ≡ rest self) }
         ensures unasked { IfOk result (λ body. body.stream.log ≡ self.reader.log) }
         ensures begun { IfOk result (Begun R.remaining self) }
         ensures stays { IfErr result (StaysLeft (heads self.decoder.0) self) }

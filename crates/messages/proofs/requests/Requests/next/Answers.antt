@@ -1,7 +1,9 @@
 -- The head that the step lent is still buffered, so the body begins behind it.
-use Rattle.std.proofs.Common.{◌≡◌, false, inl, inr, subst}
+use Rattle.std.proofs.Common.{◌≡◌, ◌++◌, ℕ, List, false, inl, inr, subst}
+use Rattle.codec.specs.PieceReader.{rest}
 use Rattle.messages.specs.Messages.{Begun}
 use Rattle.messages.specs.MessagesLaws.{Enters-begun, lent_still}
+use Rattle.messages.proofs.Said.{begun_in_order}
 use Rattle.messages.proofs.requests.Requests.next.Goals as goal
 
 pub enter-requires : goal.enter-requires
@@ -11,6 +13,15 @@ enter-requires g c =
       lends = rw c.in-Ok-Some.field-0-is at c.in-Ok-Some.ensures.lends;
       head = lent_still g.R.TellRead.remaining c.self.inside.pieces c.step.new.self _ next;
     }
+
+pub returns-in-Ok-Some-clause-in_order : goal.returns-in-Ok-Some-clause-in_order
+returns-in-Ok-Some-clause-in_order g c =
+    let next = rw c.in-Ok-Some.field-0-is at c.in-Ok-Some.ensures.next in
+    let body = c.enter.result in
+    subst (λ x. (got : List ℕ) × (body.stream.log.reads.given ≡ x.reader.log.reads.given ++ got)
+    × (body.head ++ body.stream.left ≡ rest x ++ got)) c.self.view_is
+    (begun_in_order g.R.TellRead.remaining c.self.inside.pieces body
+    (Enters-begun g.R.TellRead.remaining c.self.inside.pieces c.step.new.self _ body next c.enter.ensures))
 
 pub returns-in-Ok-Some-clause-next : goal.returns-in-Ok-Some-clause-next
 returns-in-Ok-Some-clause-next g c =

@@ -1,10 +1,11 @@
 -- The head that the step lent is still buffered, so the body begins behind it; without one none begins there.
-use Rattle.std.proofs.Common.{ap, subst, sym}
+use Rattle.std.proofs.Common.{◌≡◌, ◌++◌, ap, rules, subst, sym}
 use Rattle.codec.specs.Grammar.{Begins}
 use Rattle.codec.specs.PieceReader.{rest}
 use Rattle.messages.specs.Heads.{heads}
 use Rattle.messages.specs.Messages.{Begun}
 use Rattle.messages.specs.MessagesLaws.{Enters-begun, lent_still}
+use Rattle.messages.proofs.Said.{begun_front}
 use Rattle.messages.proofs.requests.Requests.next_buffered.Goals as goal
 
 pub enter-requires : goal.enter-requires
@@ -12,6 +13,15 @@ enter-requires g c = record {
   lends = c.in-Some.ensures.lends;
   head = lent_still g.R.TellRead.remaining c.self.inside.pieces c.step_buffered.new.self _ c.in-Some.ensures.next.0;
 }
+
+pub returns-in-Some-clause-front : goal.returns-in-Some-clause-front
+returns-in-Some-clause-front g c =
+    let body = c.enter.result in
+    let unasked : body.stream.log ≡ c.self.inside.pieces.reader.log = search rules in
+    subst (λ x. body.head ++ body.stream.left ≡ rest x) c.self.view_is
+    (begun_front g.R.TellRead.remaining c.self.inside.pieces body
+    (Enters-begun g.R.TellRead.remaining c.self.inside.pieces c.step_buffered.new.self _ body c.in-Some.ensures.next.0
+    c.enter.ensures) unasked)
 
 pub returns-in-Some-clause-begun : goal.returns-in-Some-clause-begun
 returns-in-Some-clause-begun g c =
