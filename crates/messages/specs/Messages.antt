@@ -104,11 +104,13 @@ pub record Room : Type 0 where
 abbrev pub room_of : Block → Room
 room_of b = record { capacity = b.capacity; limit = b.limit }
 
--- a reader in a body: what the stream has left, how much its buffer takes, what was handed out of the body, as a stream tells
--- it, the limits, the head and what that says, what is left of the body, and what was taken of it
+-- a reader in a body: what the stream has left, how much its buffer takes and how many bytes were moved in it, what was handed
+-- out of the body, as a stream tells it, the limits, the head and what that says, what is left of the body, and what was taken
+-- of it
 pub record InBody (S : Type 0) : Type 0 where
   pub stream : Unbuffered S
   pub room : Room
+  pub moved : ℕ
   pub calls : StreamLog
   pub limits : Limits
   pub head : List ℕ
@@ -120,6 +122,7 @@ abbrev pub entering : {S : Type 0} → Buffered S StdPolicy → Limits → List 
 entering reader limits head said = record {
   stream = unbuffered reader;
   room = room_of reader.block;
+  moved = reader.block.moved;
   calls = no_calls;
   limits = limits;
   head = head;
@@ -128,12 +131,13 @@ entering reader limits head said = record {
   taken = [];
 }
 
--- the reader stands in front of a body, behind its head, which was the next piece
+-- the reader stands in front of a body, behind its head, which was the next piece; no byte was moved for it
 pub record Begun {S : Type 0} (remaining : S → Option (List ℕ)) (s : ReaderState S Heads) (b : InBody S) : Type 0 where
   pub behind : ReaderState S Heads
   pub next : NextPiece remaining (heads s.decoder.0) s (Ok (Some b.head)) behind
   pub stream : b.stream ≡ left_of behind
   pub room : b.room ≡ room_of s.reader.block
+  pub moved : b.moved ≡ behind.reader.block.moved
   pub fresh : b.calls ≡ no_calls
   pub limits : b.limits ≡ s.decoder.0
   pub is : IsHead b.limits b.head b.said
@@ -145,6 +149,7 @@ pub record Enters {S : Type 0} (s : ReaderState S Heads) (bytes : List ℕ) (b :
   pub head : b.head ≡ bytes
   pub stream : b.stream ≡ left_of s
   pub room : b.room ≡ room_of s.reader.block
+  pub moved : b.moved ≡ s.reader.block.moved
   pub fresh : b.calls ≡ no_calls
   pub limits : b.limits ≡ s.decoder.0
   pub is : IsHead b.limits b.head b.said

@@ -117,6 +117,7 @@ module _ {S : Type 0} (remaining : S → Option (List ℕ)) where
     next = subst (λ l. NextPiece remaining (heads s.decoder.0) s (Ok (Some l)) t) (sym enters.head) next;
     stream = enters.stream;
     room = enters.room ∙ same_room t.reader.block s.reader.block next.went.capacity next.went.limit;
+    moved = enters.moved;
     fresh = enters.fresh;
     limits = enters.limits ∙ ap (λ d. d.0) next.went.decoder;
     is = enters.is;

@@ -47,6 +47,7 @@ impl<R: Tell> Model for Body<R> {
     ghost view = { λ b. record {
       stream = stream_of b.reader;
       room = room_of b.reader.reader.block;
+      moved = b.reader.reader.block.moved;
       calls = b.reader.calls;
       limits = b.limits;
       head = b.head.bytes;
@@ -136,6 +137,8 @@ impl<R: Tell> Body<R> {
         ensures stream { unbuffered result.0 ≡ self.stream }
         ensures room { room_of result.0.block ≡ self.room }
         ensures head { result.1.bytes ≡ self.head }
+        ensures capacity { result.1.capacity ≡ 16384 }
+        ensures kept { IsRoomy result.0.block }
     {
         let Body {
             alloc: _,
@@ -189,7 +192,8 @@ impl<R: TellRead> Body<R> {
     }
 
     /// Goes on to the next head: takes what is left of the body, and drops its payload. The stream is asked for no byte behind
-    /// it. An `Err` hands the reader back, in the body still. The buffer is kept, and takes no memory.
+    /// it. An `Err` hands the reader back, in the body still. The buffer is kept, and takes no memory; where the body has ended,
+    /// no byte is moved in it.
     pub fn finish(self) -> Result<Requests<R>, (Self, BodyError)>
         ensures in_order { IfOk result (λ next. (wire : List ℕ) × (got : List ℕ)
             × (next.reader.log.reads.given ≡ self.stream.log.reads.given ++ got)
@@ -198,6 +202,7 @@ impl<R: TellRead> Body<R> {
             (λ e. (handed : List ℕ) × InsideGoes R.remaining self handed e.0
             × FinishFails self.stream handed e.1 e.0.stream e.0.rest) }
         ensures room { IfOk result (λ next. room_of next.reader.block ≡ self.room) }
+        ensures still { IfOk result (λ next. IsRest self.rest [] [] → next.reader.block.moved ≡ self.moved) }
         ensures limits { IfOk result (λ next. next.decoder ≡ record { 0 = self.limits }) }
         ensures asked { MatchResult result (λ next. AskedWhere (Unended self.rest) self.stream (left_of next))
             (λ e. AskedWhere (Unended self.rest) self.stream e.0.stream) }
@@ -308,6 +313,7 @@ fn finish<R: TellRead>(
         × ReaderTakes R.remaining reader handed e.0
         × FinishFails (stream_of reader) handed e.1 (stream_of e.0) (left_in e.0)
         × (handed_of e.0 ≡ handed_of reader ++ handed)) }
+    ensures still { IfOk result (λ rest. IsRest (left_in reader) [] [] → rest ≡ reader.reader) }
     ensures asked { MatchResult result
         (λ rest. AskedWhere (Unended (left_in reader)) (stream_of reader) (unbuffered rest))
         (λ e. AskedWhere (Unended (left_in reader)) (stream_of reader) (stream_of e.0)) }

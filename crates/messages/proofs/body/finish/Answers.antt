@@ -1,7 +1,7 @@
 -- What the drain did, told of the rest of the body: all of that went, or a part, and why no more.
-use Rattle.std.proofs.Common.{inl, inr, subst, sym}
+use Rattle.std.proofs.Common.{◌∙◌, inl, inr, subst, sym}
 use Rattle.messages.specs.Messages.{IsNamed}
-use Rattle.messages.proofs.Going.{body_end, body_kept, body_named, body_room, body_take, drain_asked, drain_fails}
+use Rattle.messages.proofs.Going.{body_end, body_kept, body_named, body_room, body_take, drain_asked, drain_fails, is_ended}
 use Rattle.messages.proofs.body.finish.Goals as goal
 
 pub returns-in-Ok-clause-room : goal.returns-in-Ok-clause-room
@@ -18,6 +18,11 @@ pub returns-in-Ok-clause-ends : goal.returns-in-Ok-clause-ends
 returns-in-Ok-clause-ends g c =
     let left = c.in-Ok.ensures.drains in
     rw left.2 (body_end c.get_ref.ensures.whole left.1.whole left.1.went left.1.answers.1 left.1.answers.0)
+
+pub returns-in-Ok-clause-still : goal.returns-in-Ok-clause-still
+returns-in-Ok-clause-still g c = λ done.
+    let left = c.in-Ok.ensures.drains in
+    left.2 ∙ left.1.ended (is_ended c.get_ref.ensures.whole done)
 
 pub returns-in-Ok-clause-asked : goal.returns-in-Ok-clause-asked
 returns-in-Ok-clause-asked g c =

@@ -1,5 +1,5 @@
 -- The reader of pieces is made over the body's buffer and stream, so what is left of it is what the body left.
-use Rattle.std.proofs.Common.{◌≡◌, ◌∙◌, refl, subst, sym}
+use Rattle.std.proofs.Common.{◌≡◌, ◌≤◌, ◌*◌, ◌∙◌, ap, arith, refl, subst, sym}
 use Rattle.buffer_redux.specs.Unbuffer.{unbuffered}
 use Rattle.codec.specs.PieceReader.{left_of}
 use Rattle.messages.specs.Messages.{TakesWholeRest, left_in, stream_of}
@@ -15,6 +15,16 @@ returns-in-Ok-with_buffer-clause-in_order g c =
     c.in-Ok-with_buffer.ensures.made.left ∙ rw (i.block, i.log, i.inner) refl in
     rw (c.before-in-Ok-with_buffer.ensures, ← c.self.view_is) (ends_in_order g.R.TellRead.remaining (stream_of d) (left_in d) f
     (subst (TakesWholeRest g.R.TellRead.remaining (stream_of d) (left_in d)) (sym over) c.in-Ok.ensures.ends))
+
+pub returns-in-Ok-with_buffer-clause-still : goal.returns-in-Ok-with_buffer-clause-still
+returns-in-Ok-with_buffer-clause-still g c =
+    let i = c.into_inner_with_buffer-inner.ensures in
+    let roomy = c.in-Ok.ensures.room in
+    let kept = c.in-Ok-with_buffer.ensures.made.kept (ap (λ b. b.kind) i.block ∙ roomy.kind)
+    (let fits : 3 * 16384 ≤ c.into_inner_with_buffer-inner.result.1.capacity =
+    omega (arith, roomy.capacity, ap (λ b. b.capacity) i.block) in fits) in
+    rw (c.before-in-Ok-with_buffer.ensures, ← c.self.view_is) (λ done.
+    ap (λ b. b.moved) kept ∙ ap (λ b. b.moved) i.block ∙ ap (λ r. r.block.moved) (c.in-Ok.ensures.still done))
 
 pub returns-in-Err : goal.returns-in-Err
 returns-in-Err g c =
@@ -35,6 +45,7 @@ returns-in-Err g c =
         failed.2,
       );
       room = tt;
+      still = tt;
       limits = tt;
       asked = c.in-Err.ensures.asked;
     })

@@ -1,5 +1,6 @@
 -- The bytes lent are a head, so it is read and fits its room; the body begins in what is left behind it.
-use Rattle.std.proofs.Common.{◌≡◌, ◌++◌, arith, ap, sym, subst, ◌∙◌, length, refl}
+use Rattle.std.proofs.Common.{◌≡◌, ◌++◌, arith, rules, ap, sym, subst, ◌∙◌, length, refl}
+use Rattle.buffer_redux.specs.Block.{Plain}
 use Rattle.buffer_redux.specs.Unbuffer.{Unbuffered, unbuffered}
 use Rattle.codec.specs.Decoding.{bytes_at}
 use Rattle.codec.specs.PieceReader.{left_of}
@@ -41,6 +42,8 @@ returns g c =
     let apart = c.into_inner_with_buffer-inner.ensures.apart in
     let u : Unbuffered g.row.R.Denot = unbuffered c.with_buffer.result in
     let stands : u ≡ left_of t = rw (c.with_buffer.ensures, apart.bytes, apart.log, apart.inner) refl in
+    let plain : t.reader.block.kind ≡ Plain = search rules in
+    let unmoved : c.into_inner_with_buffer-inner.result.1.moved ≡ t.reader.block.moved = rw plain at apart.moved in
     let lent : head ≡ c.lent-lent.result.now =
     c.append.ensures.bytes.bytes ∙ ap (λ l. l ++ c.lent-lent.result.now) c.clear.ensures.bytes.bytes in
     let enters : Enters t (bytes_at c.args.span t.reader.block.bytes) (entering c.with_buffer.result limits head said) = record {
@@ -48,6 +51,7 @@ returns g c =
       stream = stands;
       room = rw c.with_buffer.ensures (same_room c.into_inner_with_buffer-inner.result.1 t.reader.block
           apart.capacity apart.limit);
+      moved = rw c.with_buffer.ensures unmoved;
       fresh = refl;
       limits = ap (λ d. d.0) c.decoder.ensures;
       is = subst (λ l. IsHead limits l said) (sym lent) c.in-Ok.ensures.head;
