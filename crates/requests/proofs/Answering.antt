@@ -28,7 +28,7 @@ use Rattle.requests.specs.declared.writing.Refusal.TheVariants.{BadRequest, Larg
 use Rattle.requests.specs.declared.taking.Untaken.TheVariants.{Body, Large, Unsent, Many}
 use Rattle.requests.specs.Answers.{AnswersMessages, EndsUntaken, RunEndsBy, Continues, FailsLast, IsSentLast, IsLastAnswer, IsAnswer, IsMany, NoMoreAnswered, IsPartTaken, IsTaken, IsToBeRefused, MayFollow, RunsToLast, TakeFails, TakesWhole, answered, call_at, called, ending_of, faults_of, is_known, refusal, refused, sending_of, sent_till, stream_at, waits}
 use Rattle.requests.specs.Large.{is_large}
-use Rattle.requests.specs.Sending.{IsUnflushed, PutsText, WritesPromptly}
+use Rattle.requests.specs.Sending.{PutsText, SendsForRoom, WritesPromptly}
 use Rattle.requests.proofs.Reading.{IsMany-still, NoMoreAnswered-still, IsToBeRefused-still, each_wrong, FailsInRead-still, begun_once, begun_steady, is_part, joined}
 use Rattle.requests.proofs.Sending.{PutsText-after, WritesPromptly-after, WritesPromptly-put, on_ok}
 
@@ -137,9 +137,9 @@ module _ {W : Type 0} {tells : W → StreamLog} {trace : W → W → Type 0} whe
         refused_torn : {v w' : Buffered W StdPolicy} (why : Refusal) (answer : Result (Unit {0}) Error)
             → EndsOnce b.stream.log.reads t.stream.log.reads → OnlyInterrupts (faults_of b.stream) (faults_of t.stream)
             → IsToBeRefused b.stream (Inside t) handed why → WritesPromptly tells trace (b.stream, u) [] (Ok tt) (t.stream, v)
-            → PutsText tells trace v (refusal why) answer w' → IsUnflushed v w'
+            → PutsText tells trace v (refusal why) answer w' → SendsForRoom tells trace v w'
             → RunsToLast remaining tells trace (left_of s) w (Inside t) (ending_of answer) w'
-        refused_torn {v} {w'} why answer once reads torn on puts unflushed =
+        refused_torn {v} {w'} why answer once reads torn on puts sends =
             let at : call_at (Inside t) ≡ called (waits b.said) = ap (λ x. called (waits x)) goes.said in
             let Last = IsSentLast [] (b.head ++ goes.takes.wire) (Some why) (Inside t) in
             let first : WritesPromptly tells trace (left_of s, w) (call_at (Inside t)) (Ok tt) (t.stream, v) =
@@ -150,7 +150,7 @@ module _ {W : Type 0} {tells : W → StreamLog} {trace : W → W → Type 0} whe
             (part_answered begun goes
             (WritesPromptly-after joins (left_of s, w) (t.stream, v) (t.stream, w') (call_at (Inside t))
             (refusal why) answer first
-            (WritesPromptly-put t.stream puts unflushed))
+            (WritesPromptly-put t.stream puts sends))
             (FailsLast-of Last answer refl (inr refl) first.puts puts))
             (IsToBeRefused-still (begun_steady begun) (Inside t) handed why torn)
             (joined (begun_steady begun) t.stream reads) (on_ok answer (inr (All-nil (MayFollow true), inl refl)))
@@ -171,21 +171,21 @@ module _ {W : Type 0} {tells : W → StreamLog} {trace : W → W → Type 0} whe
         pub torn_answered : {v w' : Buffered W StdPolicy} (why : Untaken) (ending : Ending) → TakeFails b.stream handed why t v
             → WritesPromptly tells trace (b.stream, u) [] (sent_till why) (t.stream, v) → EndsUntaken tells trace v why ending w'
             → RunsToLast remaining tells trace (left_of s) w (Inside t) ending w'
-        torn_answered {v} {w'} (Body (Wrong why)) ending (once, reads, torn) on (answer, is, puts, unflushed) =
+        torn_answered {v} {w'} (Body (Wrong why)) ending (once, reads, torn) on (answer, is, puts, sends) =
             subst (λ x. RunsToLast remaining tells trace (left_of s) w (Inside t) x w') (sym is)
-            (refused_torn BadRequest answer once reads torn on puts unflushed)
-        torn_answered {v} {w'} (Body (Truncated due)) ending (once, reads, torn) on (answer, is, puts, unflushed) =
+            (refused_torn BadRequest answer once reads torn on puts sends)
+        torn_answered {v} {w'} (Body (Truncated due)) ending (once, reads, torn) on (answer, is, puts, sends) =
             subst (λ x. RunsToLast remaining tells trace (left_of s) w (Inside t) x w') (sym is)
-            (refused_torn BadRequest answer once reads torn on puts unflushed)
+            (refused_torn BadRequest answer once reads torn on puts sends)
         torn_answered {v} {w'} (Body (Io e)) ending (once, fails, all) on (is, same) =
             subst (λ x. RunsToLast remaining tells trace (left_of s) w (Inside t) x w') (sym is)
             (subst (RunsToLast remaining tells trace (left_of s) w (Inside t) (Unread e)) (sym same)
             (RunsToLast-stopped handed (Inside t) (is_part begun limits goes) (begun_once begun t.stream once) (Unread e)
             (unrefused (Ok tt) (IsSentLast [] (b.head ++ goes.takes.wire) None (Inside t)) on)
             (FailsInRead-still (begun_steady begun) e t.stream fails, all)))
-        torn_answered {v} {w'} Large ending (reads, large) on (answer, is, puts, unflushed) =
+        torn_answered {v} {w'} Large ending (reads, large) on (answer, is, puts, sends) =
             subst (λ x. RunsToLast remaining tells trace (left_of s) w (Inside t) x w') (sym is)
-            (refused_torn LargeBody answer (omega (arith, reads.ends)) reads.faults (inr (refl, large)) on puts unflushed)
+            (refused_torn LargeBody answer (omega (arith, reads.ends)) reads.faults (inr (refl, large)) on puts sends)
         torn_answered {v} {w'} (Unsent e) ending reads on (is, same) =
             subst (λ x. RunsToLast remaining tells trace (left_of s) w (Inside t) x w') (sym is)
             (subst (RunsToLast remaining tells trace (left_of s) w (Inside t) (stop.Unsent e)) (sym same)
@@ -209,13 +209,13 @@ module _ {W : Type 0} {tells : W → StreamLog} {trace : W → W → Type 0} whe
           → (whole : TakesWhole remaining b t len) → said ≡ b.said → known ≡ is_known b.head
           → WritesPromptly tells trace (left_of s, w) (called (waits b.said)) (Ok tt) (b.stream, u)
           → WritesPromptly tells trace (b.stream, u) [] (Ok tt) (t, v)
-          → PutsText tells trace v (answered known said len) sending w' → IsUnflushed v w'
+          → PutsText tells trace v (answered known said len) sending w' → SendsForRoom tells trace v w'
           → AnswersMessages remaining tells trace ((b.head, whole.1) ∷ []) (left_of s) w [] []
           (IsLastAnswer ((b.head, whole.1) ∷ [])) t
           sending w'
       one_answered {s} {b} {t} {len} {known} {said} {w} {u} {v} {w'} {sending} begun limits (wire, payload, went, is, many, small)
           same
-          method call on puts unflushed =
+          method call on puts sends =
           let bytes = b.head ++ wire in
           let message = subst (λ l. (m : IsMessage l (b.head ++ wire) b.head payload) × (m.wire ≡ wire) × (m.text.said ≡ b.said))
           limits
@@ -236,7 +236,7 @@ module _ {W : Type 0} {tells : W → StreamLog} {trace : W → W → Type 0} whe
           subst (λ l. PutsText tells trace v l sending w') answer puts in
           let both : WritesPromptly tells trace (left_of s, w) text sending (t, w') =
           WritesPromptly-after joins (left_of s, w) (t, v) (t, w') (called (waits b.said))
-          (answered (is_known b.head) b.said (length payload)) sending first (WritesPromptly-put t says unflushed) in
+          (answered (is_known b.head) b.said (length payload)) sending first (WritesPromptly-put t says sends) in
           record {
             bytes = bytes;
             are = InTurn-one IsTaken (b.head, payload) bytes (message.0, taken);

@@ -11,7 +11,7 @@ use Rattle.buffer_redux.specs.StreamLog.{StreamLog}
 use Rattle.buffer_redux.specs.Unbuffer.{Unbuffered}
 use Rattle.buffer_redux.specs.Block.{usable}
 use Rattle.buffer_redux.specs.WriteParts.{WritesParts}
-use Rattle.buffer_redux.specs.WritePartsLaws.{WritesParts-met}
+use Rattle.buffer_redux.specs.WritePartsLaws.{WritesParts-met, WritesParts-unflushed}
 use Rattle.buffer_redux.specs.WritesAlongLaws.{BegunAlong-more, BegunAlong-of, FrontAlong-after, WasFlushed-along, WritesAlong-none}
 use Rattle.buffer_redux.specs.declared.policy.StdPolicy.{StdPolicy}
 use Rattle.codec.specs.Grammar.{IsOpen}
@@ -19,7 +19,7 @@ use Rattle.messages.specs.Heads.{heads}
 use Rattle.messages.specs.HeadsLaws.{heads_lawful}
 use Rattle.messages.specs.Limits.{usual}
 use Rattle.programs.specs.Streams.{AllSent}
-use Rattle.requests.specs.Sending.{Both, IsHeld, IsStep, IsUnflushed, Prompt, PutStops, PutsText, SendsHeld, SendsUnless, StepsAlong, WritesPromptly}
+use Rattle.requests.specs.Sending.{Both, IsHeld, IsStep, Prompt, PutStops, PutsText, SendsForRoom, SendsHeld, SendsUnless, StepsAlong, WritesPromptly}
 
 -- nothing settles nothing
 pub open_empty : (bytes : List ℕ) → bytes ≡ [] → IsOpen (heads usual) bytes
@@ -108,6 +108,17 @@ module _ {W : Type 0} {tells : W → StreamLog} {trace : W → W → Type 0} whe
     why = p.caused;
   }
 
+  -- which are sent for only where they don't fit
+  pub SendsForRoom-parts : (w v : Buffered W StdPolicy) (bytes : List ℕ) (answer : Result (Unit {0}) Error)
+      → WritesParts tells trace w bytes answer v → SendsForRoom tells trace w v
+  SendsForRoom-parts w v bytes answer p = (
+    (WritesParts-unflushed tells trace w v bytes answer p).0,
+    elim (cases_lt (usable w.block) (length bytes)) [
+      | inl few ↦ inr (bytes, answer, few, p)
+      | inr fit ↦ inl (ap (λ x. x.log) (p.fits fit).1.others)
+    ],
+  )
+
   module _ (none : (u : W) → trace u u) where
     -- nothing was written
     pub PutsText-none : (w : Buffered W StdPolicy) → PutsText tells trace w [] (Ok tt) w
@@ -165,9 +176,10 @@ module _ {W : Type 0} {tells : W → StreamLog} {trace : W → W → Type 0} whe
 
     -- text that was taken in while nobody was asked
     pub WritesPromptly-put : (s : Unbuffered R) {w w' : Buffered W StdPolicy} {text : List ℕ} {putting : Result (Unit {0}) Error}
-        → PutsText tells trace w text putting w' → IsUnflushed w w' → WritesPromptly tells trace (s, w) text putting (s, w')
-    WritesPromptly-put s {w} {w'} puts unflushed =
-        record { puts = puts; prompt = Prompt-one (s, w) (s, w') (inl (refl, unflushed)) }
+        → PutsText tells trace w text putting w' → SendsForRoom tells trace w w'
+        → WritesPromptly tells trace (s, w) text putting (s, w')
+    WritesPromptly-put s {w} {w'} puts sends =
+        record { puts = puts; prompt = Prompt-one (s, w) (s, w') (inl (refl, sends)) }
 
     module _ (none : (u : W) → trace u u) where
       pub WritesPromptly-none : (a : Both R W) → WritesPromptly tells trace a [] (Ok tt) a
@@ -177,7 +189,7 @@ module _ {W : Type 0} {tells : W → StreamLog} {trace : W → W → Type 0} whe
       pub WritesPromptly-read : {s t : Unbuffered R} (w : Buffered W StdPolicy) → (t.log ≡ s.log) ⊎ AllSent w
           → WritesPromptly tells trace (s, w) [] (Ok tt) (t, w)
       WritesPromptly-read {s} {t} w (inl same) =
-          record { puts = PutsText-none none w; prompt = Prompt-one (s, w) (t, w) (inl (same, refl)) }
+          record { puts = PutsText-none none w; prompt = Prompt-one (s, w) (t, w) (inl (same, (refl, inl refl))) }
       WritesPromptly-read {s} {t} w (inr sent) =
           record { puts = PutsText-none none w; prompt = Prompt-one (s, w) (t, w) (inr (inl (sent, refl))) }
 

@@ -36,7 +36,7 @@ use Rattle.requests.specs.declared.Ending.TheVariants.{Over, Unread}
 use Rattle.requests.specs.declared.taking.Untaken.{Untaken}
 use Rattle.requests.specs.declared.taking.Untaken.TheVariants.{Body, Large, Unsent, Many}
 use Rattle.requests.specs.Large.{TurnsLarge, is_large}
-use Rattle.requests.specs.Sending.{IsUnflushed, PutsText, SendsHeld, WritesPromptly}
+use Rattle.requests.specs.Sending.{PutsText, SendsForRoom, SendsHeld, WritesPromptly}
 
 -- a call for a body, and a refusal, each where there is one
 abbrev pub called : Bool → List ℕ
@@ -284,9 +284,9 @@ abbrev pub EndsUntaken : {W : Type 0} → (W → StreamLog) → (W → W → Typ
     → Buffered W StdPolicy → Type 0
 EndsUntaken tells trace w (Body (Io e)) ending w' = (ending ≡ Unread e) × (w' ≡ w)
 EndsUntaken tells trace w (Body wrong) ending w' = (answer : Result (Unit {0}) Error) × (ending ≡ ending_of answer)
-    × PutsText tells trace w (refusal BadRequest) answer w' × IsUnflushed w w'
+    × PutsText tells trace w (refusal BadRequest) answer w' × SendsForRoom tells trace w w'
 EndsUntaken tells trace w Large ending w' = (answer : Result (Unit {0}) Error) × (ending ≡ ending_of answer)
-    × PutsText tells trace w (refusal LargeBody) answer w' × IsUnflushed w w'
+    × PutsText tells trace w (refusal LargeBody) answer w' × SendsForRoom tells trace w w'
 EndsUntaken tells trace w (Unsent e) ending w' = (ending ≡ stop.Unsent e) × (w' ≡ w)
 EndsUntaken tells trace w Many ending w' = (ending ≡ stop.Many) × (w' ≡ w)
 

@@ -3,11 +3,13 @@ use Rattle.std.specs.Prelude.{◌≡◌, ℕ, ◌<◌, ◌≤◌, ◌⊎◌, Lis
 use Rattle.std.specs.declared.io.Error.{Error}
 use Rattle.redux_buffer.specs.Faults.{MetInterrupts, SendErrorCaused}
 use Rattle.redux_buffer.specs.GrowError.{GrowthFailed}
+use Rattle.buffer_redux.specs.Block.{usable}
 use Rattle.buffer_redux.specs.BufWriter.{FrontAlong, WasFlushed}
 use Rattle.buffer_redux.specs.Buffered.{Buffered}
 use Rattle.buffer_redux.specs.Policy.{std_write_rules}
 use Rattle.buffer_redux.specs.StreamLog.{StreamLog}
 use Rattle.buffer_redux.specs.Unbuffer.{Unbuffered}
+use Rattle.buffer_redux.specs.WriteParts.{WritesParts}
 use Rattle.buffer_redux.specs.declared.policy.StdPolicy.{StdPolicy}
 use Rattle.codec.specs.Grammar.{IsOpen}
 use Rattle.messages.specs.Heads.{heads}
@@ -18,9 +20,11 @@ use Rattle.programs.specs.Streams.{AllSent}
 abbrev pub IsHeld : {W : Type 0} → Buffered W StdPolicy → Type 0
 IsHeld w = w.block.bytes ≡ [] → AllSent w
 
--- nothing was flushed
-abbrev pub IsUnflushed : {W : Type 0} → Buffered W StdPolicy → Buffered W StdPolicy → Type 0
-IsUnflushed w w' = w'.log.writes.flushes ≡ w.log.writes.flushes
+-- nothing was flushed; and nothing was sent, unless a text was written that didn't fit behind what is buffered
+abbrev pub SendsForRoom : {W : Type 0} → (W → StreamLog) → (W → W → Type 0) → Buffered W StdPolicy → Buffered W StdPolicy → Type 0
+SendsForRoom tells trace w w' = (w'.log.writes.flushes ≡ w.log.writes.flushes)
+    × ((w'.log ≡ w.log) ⊎ ((text : List ℕ) × (writing : Result (Unit {0}) Error) × (usable w.block < length text)
+    × WritesParts tells trace w text writing w'))
 
 -- why text wasn't taken in, or sent: the writer failed, and before that met nothing but interruptions; or room for it was refused
 abbrev pub PutStops : {W : Type 0} → List ℕ → Buffered W StdPolicy → Error → Buffered W StdPolicy → Type 0
@@ -52,10 +56,11 @@ abbrev pub Both : Type 0 → Type 0 → Type 0
 Both R W = Unbuffered R × Buffered W StdPolicy
 
 module _ {R W : Type 0} (tells : W → StreamLog) (trace : W → W → Type 0) where
-  -- the stream isn't asked, and nothing flushed; or it is asked, where all that was written was received and flushed; or what is
-  -- held is sent, or that fails, where what is buffered of the stream settles nothing, so that it is to be asked
+  -- the stream isn't asked, nothing flushed, and nothing sent but for room; or it is asked, where all that was written was
+  -- received and flushed; or what is held is sent, or that fails, where what is buffered of the stream settles nothing, so that it
+  -- is to be asked
   abbrev pub IsStep : Both R W → Both R W → Type 0
-  IsStep (s, w) (t, v) = ((t.log ≡ s.log) × IsUnflushed w v)
+  IsStep (s, w) (t, v) = ((t.log ≡ s.log) × SendsForRoom tells trace w v)
       ⊎ (AllSent w × (v ≡ w))
       ⊎ ((t ≡ s) × IsOpen (heads usual) s.left × (0 < length w.block.bytes)
       × ((sending : Result (Unit {0}) Error) × WasFlushed tells trace w sending v))

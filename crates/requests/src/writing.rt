@@ -2,7 +2,7 @@
 ghost use Rattle.std.specs.Prelude.{◌≡◌, ◌≤◌, if◌then◌else◌, [], ◌++◌, codes, length, map};
 ghost use Rattle.std.specs.List.{concat, prefix_len};
 ghost use Rattle.messages.specs.Versions.{is_end};
-ghost use Rattle.requests.specs.Sending.{IsHeld, IsUnflushed, PutsText, SendsHeld};
+ghost use Rattle.requests.specs.Sending.{IsHeld, PutsText, SendsForRoom, SendsHeld};
 ghost use Rattle.requests.specs.Answers.{answered, begins_known, begins_often, called, declined, disappointed, granted, has_body, is_known, length_line, refusal, refusal_of, waits};
 
 use crate::limits::is_large;
@@ -69,7 +69,7 @@ pub(crate) fn answer_whole<W: TellWrite>(
     writer: &mut BufWriter<W>,
 ) -> io::Result<()>
     ensures puts { PutsText W.log W.trace writer.old (answered known said len) result writer.new }
-    ensures unflushed { IsUnflushed writer.old writer.new }
+    ensures sends { SendsForRoom W.log W.trace writer.old writer.new }
 {
     if !known {
         return decline(said.keeps, writer);
@@ -83,7 +83,7 @@ pub(crate) fn answer_whole<W: TellWrite>(
 
 fn disappoint<W: TellWrite>(keeps: bool, writer: &mut BufWriter<W>) -> io::Result<()>
     ensures puts { PutsText W.log W.trace writer.old (disappointed keeps) result writer.new }
-    ensures unflushed { IsUnflushed writer.old writer.new }
+    ensures sends { SendsForRoom W.log W.trace writer.old writer.new }
 {
     if keeps {
         put(
@@ -102,7 +102,7 @@ fn disappoint<W: TellWrite>(keeps: bool, writer: &mut BufWriter<W>) -> io::Resul
 
 fn decline<W: TellWrite>(keeps: bool, writer: &mut BufWriter<W>) -> io::Result<()>
     ensures puts { PutsText W.log W.trace writer.old (declined keeps) result writer.new }
-    ensures unflushed { IsUnflushed writer.old writer.new }
+    ensures sends { SendsForRoom W.log W.trace writer.old writer.new }
 {
     if keeps {
         put(
@@ -119,7 +119,7 @@ fn decline<W: TellWrite>(keeps: bool, writer: &mut BufWriter<W>) -> io::Result<(
 // Says how many bytes of payload there were, and whether another request may follow.
 fn accept<W: TellWrite>(len: u64, said: ParsedHead, writer: &mut BufWriter<W>) -> io::Result<()>
     ensures puts { PutsText W.log W.trace writer.old (granted said len) result writer.new }
-    ensures unflushed { IsUnflushed writer.old writer.new }
+    ensures sends { SendsForRoom W.log W.trace writer.old writer.new }
 {
     if said.keeps {
         let head = b"HTTP/1.1 200 OK\r\nContent-Length: 21\r\nConnection: keep-alive\r\n\r\n";
@@ -137,7 +137,7 @@ fn accept_by<W: TellWrite>(
     writer: &mut BufWriter<W>,
 ) -> io::Result<()>
     ensures puts { PutsText W.log W.trace writer.old (head.now ++ (if bare then [] else length_line len)) result writer.new }
-    ensures unflushed { IsUnflushed writer.old writer.new }
+    ensures sends { SendsForRoom W.log W.trace writer.old writer.new }
 {
     if bare {
         return put(writer, &[head]);
@@ -156,7 +156,7 @@ fn put_line<'a, W: TellWrite>(
 ) -> io::Result<()>
     ensures puts { PutsText W.log W.trace writer.old (head.now ++ (blanks.now ++ (number.now ++ codes "\n"))) result
         writer.new }
-    ensures unflushed { IsUnflushed writer.old writer.new }
+    ensures sends { SendsForRoom W.log W.trace writer.old writer.new }
 {
     put(writer, &[head, blanks, number, b"\n"])
 }
@@ -166,7 +166,7 @@ pub(crate) fn call_for_body<W: TellWrite>(
     writer: &mut BufWriter<W>,
 ) -> io::Result<()>
     ensures puts { PutsText W.log W.trace writer.old (called (waits said)) result writer.new }
-    ensures unflushed { IsUnflushed writer.old writer.new }
+    ensures sends { SendsForRoom W.log W.trace writer.old writer.new }
 {
     if waits(said) {
         put(writer, &[b"HTTP/1.1 100 Continue\r\n\r\n"])
@@ -204,7 +204,7 @@ pub(crate) fn refusal_of(why: BadHead) -> Refusal
 
 pub(crate) fn refuse<W: TellWrite>(why: Refusal, writer: &mut BufWriter<W>) -> io::Result<()>
     ensures puts { PutsText W.log W.trace writer.old (refusal why) result writer.new }
-    ensures unflushed { IsUnflushed writer.old writer.new }
+    ensures sends { SendsForRoom W.log W.trace writer.old writer.new }
 {
     match why {
         Refusal::BadRequest => put(
@@ -240,7 +240,7 @@ pub(crate) fn refuse<W: TellWrite>(why: Refusal, writer: &mut BufWriter<W>) -> i
 
 fn put<W: TellWrite>(writer: &mut BufWriter<W>, parts: &[&[u8]]) -> io::Result<()>
     ensures puts { PutsText W.log W.trace writer.old (concat (map (λ part. part.now) parts.now)) result writer.new }
-    ensures unflushed { IsUnflushed writer.old writer.new }
+    ensures sends { SendsForRoom W.log W.trace writer.old writer.new }
 {
     writer.write_parts(parts)
 }

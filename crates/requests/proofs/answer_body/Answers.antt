@@ -24,7 +24,7 @@ returns-in-Ok-clause-turns g c = λ s w begun writes.
     c.answer_called.ensures.turns s w begun
     (WritesPromptly-after g.met.W.TellWrite.trace_joins (_, w) (b.stream, c.args.writer.now)
     (b.stream, c.call_for_body.new.writer) []
-    (called (waits b.said)) (Ok tt) writes (WritesPromptly-put b.stream call.puts call.unflushed))
+    (called (waits b.said)) (Ok tt) writes (WritesPromptly-put b.stream call.puts call.sends))
 
 pub returns-in-Err-clause-turns : goal.returns-in-Err-clause-turns
 returns-in-Err-clause-turns g c = λ s w begun writes.
@@ -50,6 +50,6 @@ returns-in-Err-clause-turns g c = λ s w begun writes.
     (part_answered begun none
     (WritesPromptly-after g.met.W.TellWrite.trace_joins (_, w) (b.stream, c.args.writer.now)
     (b.stream, c.call_for_body.new.writer) []
-    (called (waits b.said) ++ []) (Err c.in-Err.e) writes (WritesPromptly-put b.stream more call.unflushed))
+    (called (waits b.said) ++ []) (Err c.in-Err.e) writes (WritesPromptly-put b.stream more call.sends))
     (FailsLast-of (IsSentLast [] (b.head ++ none.takes.wire) None (Inside b)) (Err c.in-Err.e) refl
     (inr (append-nil _, append-nil b.head)) writes.puts more)) (begun_steady begun).faults

@@ -20,7 +20,7 @@ returns-then-said-clause-turns g c = λ s w begun call.
         messages = (b.head, whole.1) ∷ [];
         answers = one_answered g.met.W.TellWrite.trace_joins begun c.requires.limits whole c.said-said.ensures.value
             (c.is_known-known.ensures ∙ ap is_known c.head.ensures) call c.in-Ok.ensures.writes
-            c.in-Ok-answer_whole.ensures.puts c.in-Ok-answer_whole.ensures.unflushed;
+            c.in-Ok-answer_whole.ensures.puts c.in-Ok-answer_whole.ensures.sends;
         keep = All-cons (MayFollow true) (b.head, whole.1) [] (b.said, head, keeps) (All-nil (MayFollow true));
         reads = reads;
       },
@@ -36,7 +36,7 @@ returns-else-said-clause-turns g c = λ s w begun call.
     RunsToLast-stopped [] (Before c.in-Ok.requests) (refl, refl) (omega (arith, reads.ends)) Over
     (one_answered g.met.W.TellWrite.trace_joins begun c.requires.limits whole c.said-said.ensures.value
     (c.is_known-known.ensures ∙ ap is_known c.head.ensures) call c.in-Ok.ensures.writes
-    c.in-Ok-answer_whole.ensures.puts c.in-Ok-answer_whole.ensures.unflushed) (
+    c.in-Ok-answer_whole.ensures.puts c.in-Ok-answer_whole.ensures.sends) (
       reads.faults,
       inl (
         record {
@@ -58,7 +58,7 @@ returns-in-Err-answer_whole-clause-turns g c = λ s w begun call.
     RunsToLast-stopped [] (Before c.in-Ok.requests) (refl, refl) (omega (arith, reads.ends)) (Unsent c.in-Err-answer_whole.e)
     (one_answered g.met.W.TellWrite.trace_joins begun c.requires.limits c.in-Ok.ensures.whole c.said-said.ensures.value
     (c.is_known-known.ensures ∙ ap is_known c.head.ensures) call c.in-Ok.ensures.writes
-    c.in-Err-answer_whole.ensures.puts c.in-Err-answer_whole.ensures.unflushed) reads.faults
+    c.in-Err-answer_whole.ensures.puts c.in-Err-answer_whole.ensures.sends) reads.faults
 
 pub returns-in-Err-clause-turns : goal.returns-in-Err-clause-turns
 returns-in-Err-clause-turns g c = λ s w begun call.

@@ -78,7 +78,7 @@ returns-in-Bad-clause-turns g c = λ s w told next comes.
       | inr cut ↦ omega (arith, met_end s c.args.requests told cut.3)
     ]) (Some why) sending (none_answered (nothing_went bad bad.answers.0)
     (WritesPromptly-after g.met.W.TellWrite.trace_joins (left_of s, w) (t, v) (t, c.refuse.new.writer) [] _ sending comes.writes
-    (WritesPromptly-put t c.refuse.ensures.puts c.refuse.ensures.unflushed))
+    (WritesPromptly-put t c.refuse.ensures.puts c.refuse.ensures.sends))
     (FailsLast-of (IsSentLast [] [] (Some why) (Before c.args.requests)) sending refl (inr refl) comes.writes.puts
     c.refuse.ensures.puts))
     (elim bad.answers.3 [
