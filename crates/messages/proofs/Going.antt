@@ -69,7 +69,7 @@ no_byte c p bytes is = nil_from_length bytes (omega (arith, is.few, one_ahead c)
 
 module _ (c : BodyCoding) (p q : Side ℕ Place) (wire handed bytes : List ℕ) (is : (body_rules c).is_place p)
     (is' : (body_rules c).is_place q) (leads : Leads (body_rules c) p wire handed q (heeded (body_rules c) bytes)) where
-  onward_is : Onward (rest_of c p) wire handed (rest_of c q)
+  pub onward_is : Onward (rest_of c p) wire handed (rest_of c q)
   onward_is later payload it = rest_is c p is (wire ++ later) (handed ++ payload)
       (leads.onward later payload (unheeded c bytes later) (completes_is c q is' later payload it))
 
@@ -112,7 +112,7 @@ module _ (c : BodyCoding) (line : has_line c) (p : Side ℕ Place) (is : (body_r
   })
 
 -- as much is offered as surely is payload
-sure_is : (c : BodyCoding) (p : Side ℕ Place) → (body_rules c).is_place p → sure_of (rest_of c p) ≡ (body_rules c).sure p
+pub sure_is : (c : BodyCoding) (p : Side ℕ Place) → (body_rules c).is_place p → sure_of (rest_of c p) ≡ (body_rules c).sure p
 sure_is (coding.First c) (side.First left) is = refl
 sure_is (coding.First c) (side.Second q) is = absurd is
 sure_is (coding.Second c) (side.First left) is = absurd is

@@ -1,5 +1,6 @@
 pub mod AsIo
 pub mod Going
+pub mod Handing
 pub mod Said
 pub mod HeadsRead
 mod Rest

@@ -1,5 +1,5 @@
 -- Messages, and what contracts see of a reader that stands in one.
-use Rattle.std.specs.Prelude.{◌≡◌, ◌⊎◌, ◌≤◌, ◌<◌, ◌+◌, ◌-◌, ◌*◌, ◌^◌, ℕ, List, [], ◌∷◌, ◌++◌, length, min, IfErr, MatchOption, OnOk, Option, None, Some, Result, Ok, Err, ⊤}
+use Rattle.std.specs.Prelude.{◌≡◌, ◌⊎◌, ◌≤◌, ◌<◌, ◌+◌, ◌-◌, ◌*◌, ◌^◌, ℕ, List, [], ◌∷◌, ◌++◌, length, min, take, IfErr, MatchOption, OnOk, Option, None, Some, Result, Ok, Err, ⊤}
 use Rattle.std.specs.IoError.{error_kind}
 use Rattle.std.specs.declared.io.Error.{Error}
 use Rattle.std.specs.declared.io.ErrorKind.TheVariants.{InvalidData, Other, UnexpectedEof}
@@ -105,8 +105,8 @@ abbrev pub room_of : Block → Room
 room_of b = record { capacity = b.capacity; limit = b.limit }
 
 -- a reader in a body: what the stream has left, how much its buffer takes and how many bytes were moved in it, what was handed
--- out of the body, as a stream tells it, the limits, the head and what that says, what is left of the body, and what was taken
--- of it
+-- out of the body, as a stream tells it, the limits, the head and what that says, what is left of the body, what was taken of it,
+-- and how many of the next bytes are buffered and known to be payload
 pub record InBody (S : Type 0) : Type 0 where
   pub stream : Unbuffered S
   pub room : Room
@@ -117,6 +117,7 @@ pub record InBody (S : Type 0) : Type 0 where
   pub said : ParsedHead
   pub rest : Rest
   pub taken : List ℕ
+  pub known : ℕ
 
 abbrev pub entering : {S : Type 0} → Buffered S StdPolicy → Limits → List ℕ → ParsedHead → InBody S
 entering reader limits head said = record {
@@ -129,6 +130,7 @@ entering reader limits head said = record {
   said = said;
   rest = body_of limits said.extent;
   taken = [];
+  known = 0;
 }
 
 -- the reader stands in front of a body, behind its head, which was the next piece; no byte was moved for it
@@ -143,6 +145,7 @@ pub record Begun {S : Type 0} (remaining : S → Option (List ℕ)) (s : ReaderS
   pub is : IsHead b.limits b.head b.said
   pub rest : b.rest ≡ body_of b.limits b.said.extent
   pub taken : b.taken ≡ []
+  pub unknown : b.known ≡ 0
 
 -- the reader went on behind a head, into the body that it says
 pub record Enters {S : Type 0} (s : ReaderState S Heads) (bytes : List ℕ) (b : InBody S) : Type 0 where
@@ -155,6 +158,7 @@ pub record Enters {S : Type 0} (s : ReaderState S Heads) (bytes : List ℕ) (b :
   pub is : IsHead b.limits b.head b.said
   pub rest : b.rest ≡ body_of b.limits b.said.extent
   pub taken : b.taken ≡ []
+  pub unknown : b.known ≡ 0
 
 -- why there is no message is the answer of a reader of pieces
 abbrev pub stop_answer : Stop → NextAnswer BadHead
@@ -194,6 +198,21 @@ GoesWrong (Chunks limits place) bytes name = chunks.IsWrongNext limits place byt
 abbrev pub RunsShort : ℕ → ℕ → Rest → List ℕ → Type 0
 RunsShort asked count r left =
     (count ≡ asked) ⊎ IsRest r [] [] ⊎ (left ≡ []) ⊎ ((name : Malformed) × GoesWrong r left name)
+
+-- behind bytes that are no payload, as much was handed out as surely is payload: those, then that, then what is left, are what was
+-- there, then what came
+pub record HandsSure (r : Rest) (before handed left : List ℕ) : Type 0 where
+  pub wire : List ℕ
+  pub got : List ℕ
+  pub equal : wire ++ (handed ++ left) ≡ before ++ got
+  pub rest : Rest
+  pub onward : Onward r wire [] rest
+  pub sure : sure_of rest ≤ length handed
+
+-- so much payload was handed out as a slice takes, or nothing is left of the buffer, or as was known to be payload, or as surely is
+abbrev pub HandsMost : Rest → List ℕ → ℕ → List ℕ → ℕ → List ℕ → Type 0
+HandsMost r before known out n left =
+    (n ≡ length out) ⊎ (left ≡ []) ⊎ ((0 < known) × (n ≡ known)) ⊎ HandsSure r before (take n out) left
 
 -- why no payload comes: the next byte is wrong; or the stream gave nothing, once, where nothing was left, and the body isn't
 -- complete, of which so much is due if it has a length; or the stream failed, once

@@ -123,6 +123,7 @@ module _ {S : Type 0} (remaining : S → Option (List ℕ)) where
     is = enters.is;
     rest = enters.rest;
     taken = enters.taken;
+    unknown = enters.unknown;
   }
 
   pub Begun-went : (s : ReaderState S head.Heads) (b : InBody S) → Begun remaining s b

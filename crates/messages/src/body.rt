@@ -8,7 +8,7 @@ ghost use Rattle.buffer_redux.specs.Unbuffer.{unbuffered};
 ghost use Rattle.codec.specs.PieceReader.{left_of, rest};
 ghost use Rattle.messages.specs.contracts.body.Body.{the_row};
 ghost use Rattle.messages.specs.Heads.{IsHead};
-ghost use Rattle.messages.specs.Messages.{AskedIn, Bytes, EachReadGave, Fails, FinishFails, HasNextPayload, HasRoom, InsideGoes, IsRest, IsRoomy, ReaderTakes, RunsShort, TakesWholeRest, Unended, body_of, body_rules, entering, has_line, left_in, rest_of, room_of, stream_of, with_stream};
+ghost use Rattle.messages.specs.Messages.{AskedIn, Bytes, EachReadGave, Fails, FinishFails, HandsMost, HasNextPayload, HasRoom, InsideGoes, IsRest, IsRoomy, ReaderTakes, RunsShort, TakesWholeRest, Unended, body_of, body_rules, entering, has_line, left_in, rest_of, room_of, stream_of, with_stream};
 
 mod tells;
 
@@ -54,6 +54,7 @@ impl<R: Tell> Model for Body<R> {
       said = b.said;
       rest = left_in b.reader;
       taken = b.reader.taken;
+      known = b.reader.known;
     } };
 
     ghost invariant = { λ b. (b.head.capacity ≡ 16384) × IsHead b.limits b.head.bytes b.said × HasRoom b.reader };
@@ -165,7 +166,8 @@ impl<R: TellRead> Body<R> {
     /// goes on where more comes.
     ///
     /// The stream is asked only where no payload is buffered and the body goes on behind all that is: for no byte behind it, for
-    /// as much as surely is payload and fits the slice, and once only where it fails or gives nothing.
+    /// as much as surely is payload and fits the slice, and once only where it fails or gives nothing. Less than the slice takes
+    /// comes only where nothing is left of the buffer, or as much as surely is payload, or was known to be.
     pub fn read(&mut self, out: &mut [u8]) -> Result<usize, BodyError>
         ensures bound { IfOk result (λ n. n ≤ length out.new) }
         ensures goes { InsideGoes R.remaining self.old (handed_out out.new result) self.new }
@@ -174,6 +176,8 @@ impl<R: TellRead> Body<R> {
         ensures fails { IfErr result (λ e. Fails self.old.stream e self.new.stream self.new.rest) }
         ensures asked { AskedWhere (AskedIn self.old.rest (length out.new) self.new.stream.log.reads.offer) self.old.stream
             self.new.stream }
+        ensures all { IfOk result (λ n. 0 < n → HandsMost self.old.rest self.old.stream.left self.old.known out.new n
+            self.new.stream.left) }
         ensures idle { HasNextPayload self.old.stream self.old.rest → self.new.stream.log ≡ self.old.stream.log }
         ensures none { length out.new ≡ 0 → (result ≡ Ok 0) × (self.new.stream ≡ self.old.stream) }
     {
@@ -274,6 +278,8 @@ fn read<R: TellRead>(
         (stream_of reader.old) (stream_of reader.new) }
     ensures all { IfOk result (λ n. 0 < n → HandsAll (body_rules reader.old.coding) reader.old.place reader.old.reader.block.bytes
         reader.old.known out.new n reader.new.reader.block.bytes) }
+    ensures most { IfOk result (λ n. 0 < n → HandsMost (left_in reader.old) (stream_of reader.old).left reader.old.known out.new n
+        (stream_of reader.new).left) }
     ensures idle { HasNextPayload (stream_of reader.old) (left_in reader.old)
         → (stream_of reader.new).log ≡ (stream_of reader.old).log }
     ensures none { length out.new ≡ 0 → (result ≡ Ok 0) × (stream_of reader.new ≡ stream_of reader.old) }

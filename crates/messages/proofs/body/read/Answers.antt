@@ -2,6 +2,7 @@
 use Rattle.std.proofs.Common.{◌≡◌, Ok, ap, inr}
 use Rattle.buffer_redux.specs.Unbuffer.{unbuffered}
 use Rattle.messages.proofs.Going.{body_asked, body_done, body_fails, body_idle, body_kept, body_named, body_room, body_take}
+use Rattle.messages.proofs.Handing.{hands_most}
 use Rattle.messages.proofs.body.read.Goals as goal
 
 pub returns-in-Ok-clause-room : goal.returns-in-Ok-clause-room
@@ -33,6 +34,13 @@ returns-in-Ok-clause-gave g c = let gave = c.in-Ok.ensures.reads.answers.1 in (g
 pub returns-in-Ok-clause-asked : goal.returns-in-Ok-clause-asked
 returns-in-Ok-clause-asked g c =
     body_asked c.get_ref.ensures.whole c.requires.1 _ c.read_payload.new.self c.in-Ok.ensures.reads.asked
+
+pub returns-in-Ok-clause-most : goal.returns-in-Ok-clause-most
+returns-in-Ok-clause-most g c = λ some.
+    let d = c.args.reader.now in
+    let t = c.read_payload.new.self in
+    hands_most d.coding d.place c.get_ref.ensures.whole.place d.reader.block.bytes d.known c.read_payload.new.out c.in-Ok.count
+    t.reader.block.bytes (c.in-Ok.ensures.reads.all some)
 
 pub returns-in-Ok-clause-idle : goal.returns-in-Ok-clause-idle
 returns-in-Ok-clause-idle g c = body_idle c.get_ref.ensures.whole c.requires.1 c.in-Ok.ensures.reads

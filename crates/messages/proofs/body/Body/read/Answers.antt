@@ -26,3 +26,6 @@ returns-clause-idle g c = rw (← c.self.view_is) c.read.ensures.idle
 
 pub returns-clause-none : goal.returns-clause-none
 returns-clause-none g c = rw (← c.self.view_is) c.read.ensures.none
+
+pub returns-clause-all : goal.returns-clause-all
+returns-clause-all g c = rw (← c.self.view_is) c.read.ensures.most

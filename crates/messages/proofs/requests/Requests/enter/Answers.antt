@@ -57,6 +57,7 @@ returns g c =
       is = subst (λ l. IsHead limits l said) (sym lent) c.in-Ok.ensures.head;
       rest = refl;
       taken = refl;
+      unknown = refl;
     } in
     rw c.new.ensures (subst (λ x. Enters x (bytes_at c.args.span x.reader.block.bytes)
     (entering c.with_buffer.result limits head said)) c.self.view_is enters)
