@@ -379,8 +379,7 @@ module _ {R : Type 0} {s : Reader R} (is : IsBodyReader (body_rules s.coding) s)
       (stream_of t) (λ more asked. asked_in s.coding line s.place is.place slice offer (s.reader.block.bytes ++ more) asked)
 
   pub drain_asked : {remaining : R → Option (List ℕ)} {answer : Result (Unit {0}) (Unread (Side (Unit {0}) Malformed))}
-      {t : Reader R}
-      → Drains remaining std_read_rules (body_rules s.coding) s answer t
+      {t : Reader R} → Drains remaining std_read_rules (body_rules s.coding) s answer t
       → AskedWhere (Unended (left_in s)) (stream_of s) (unbuffered t.reader)
   drain_asked {remaining} {answer} {t} drains =
       AskedWhere-of (λ bytes. (dropped : List ℕ) × LeadsOpen (body_rules s.coding) s.place dropped bytes)

@@ -199,8 +199,8 @@ abbrev pub RunsShort : ℕ → ℕ → Rest → List ℕ → Type 0
 RunsShort asked count r left =
     (count ≡ asked) ⊎ IsRest r [] [] ⊎ (left ≡ []) ⊎ ((name : Malformed) × GoesWrong r left name)
 
--- behind bytes that are no payload, as much was handed out as surely is payload: those, then that, then what is left, are what was
--- there, then what came
+-- behind bytes that are no payload, as much was handed out as surely is payload: those, then that, then what is left, are what
+-- was there, then what came
 pub record HandsSure (r : Rest) (before handed left : List ℕ) : Type 0 where
   pub wire : List ℕ
   pub got : List ℕ
@@ -209,7 +209,8 @@ pub record HandsSure (r : Rest) (before handed left : List ℕ) : Type 0 where
   pub onward : Onward r wire [] rest
   pub sure : sure_of rest ≤ length handed
 
--- so much payload was handed out as a slice takes, or nothing is left of the buffer, or as was known to be payload, or as surely is
+-- so much payload was handed out as a slice takes, or nothing is left of the buffer, or as was known to be payload, or as surely
+-- is
 abbrev pub HandsMost : Rest → List ℕ → ℕ → List ℕ → ℕ → List ℕ → Type 0
 HandsMost r before known out n left =
     (n ≡ length out) ⊎ (left ≡ []) ⊎ ((0 < known) × (n ≡ known)) ⊎ HandsSure r before (take n out) left

@@ -214,8 +214,8 @@ NextPiece-begins remaining g piece last s t payload next =
     fronts_agree payload front.0 (rest s) front.1 front.2
 
 -- a relation of what a call answers, once what that lends is shown
-pub shows_lent : {S D E : Type 0} (Such : Result (Option (List ℕ)) E → Type 0) (t : ReaderState S D) (found : Option Span) (span : Span)
-    (shown : List ℕ) → found ≡ Some span → shown ≡ bytes_at span t.reader.block.bytes → Such (load_answer (Ok found) t)
-    → Such (Ok (Some shown))
+pub shows_lent : {S D E : Type 0} (Such : Result (Option (List ℕ)) E → Type 0) (t : ReaderState S D) (found : Option Span)
+    (span : Span) (shown : List ℕ) → found ≡ Some span → shown ≡ bytes_at span t.reader.block.bytes
+    → Such (load_answer (Ok found) t) → Such (Ok (Some shown))
 shows_lent Such t found span shown is same said = subst (λ l. Such (Ok (Some l))) (sym same)
     (subst (λ o. Such (load_answer (Ok o) t)) is said)

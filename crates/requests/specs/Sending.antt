@@ -57,8 +57,8 @@ Both R W = Unbuffered R × Buffered W StdPolicy
 
 module _ {R W : Type 0} (tells : W → StreamLog) (trace : W → W → Type 0) where
   -- the stream isn't asked, nothing flushed, and nothing sent but for room; or it is asked, where all that was written was
-  -- received and flushed; or what is held is sent, or that fails, where what is buffered of the stream settles nothing, so that it
-  -- is to be asked
+  -- received and flushed; or what is held is sent, or that fails, where what is buffered of the stream settles nothing, so that
+  -- it is to be asked
   abbrev pub IsStep : Both R W → Both R W → Type 0
   IsStep (s, w) (t, v) = ((t.log ≡ s.log) × SendsForRoom tells trace w v)
       ⊎ (AllSent w × (v ≡ w))

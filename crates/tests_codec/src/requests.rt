@@ -282,15 +282,18 @@ const MANY: &[u8] = b"GET / HTTP/1.1\r\nHost: a\r\nB: b\r\nC: c\r\n\r\n";
 // Two messages, and whether they pass under those limits.
 static LIMITED: [(&'static [u8], bool); 4] = [
     (
-        b"GET / HTTP/1.1\r\nHost: a\r\nB: b\r\n\r\nPOST / HTTP/1.1\r\nHost: a\r\nTransfer-Encoding: chunked\r\n\r\n03\r\nabc\r\n0\r\nT:v\r\n\r\n",
+        b"GET / HTTP/1.1\r\nHost: a\r\nB: b\r\n\r\n\
+POST / HTTP/1.1\r\nHost: a\r\nTransfer-Encoding: chunked\r\n\r\n03\r\nabc\r\n0\r\nT:v\r\n\r\n",
         true,
     ),
     (
-        b"GET / HTTP/1.1\r\nHost: a\r\nB: b\r\n\r\nPOST / HTTP/1.1\r\nHost: a\r\nTransfer-Encoding: chunked\r\n\r\n003\r\nabc\r\n0\r\nT:v\r\n\r\n",
+        b"GET / HTTP/1.1\r\nHost: a\r\nB: b\r\n\r\n\
+POST / HTTP/1.1\r\nHost: a\r\nTransfer-Encoding: chunked\r\n\r\n003\r\nabc\r\n0\r\nT:v\r\n\r\n",
         false,
     ),
     (
-        b"GET / HTTP/1.1\r\nHost: a\r\nB: b\r\n\r\nPOST / HTTP/1.1\r\nHost: a\r\nTransfer-Encoding: chunked\r\n\r\n3\r\nabc\r\n0\r\nT: v\r\n\r\n",
+        b"GET / HTTP/1.1\r\nHost: a\r\nB: b\r\n\r\n\
+POST / HTTP/1.1\r\nHost: a\r\nTransfer-Encoding: chunked\r\n\r\n3\r\nabc\r\n0\r\nT: v\r\n\r\n",
         false,
     ),
     (

@@ -18,8 +18,8 @@ impl<R: Tell> Tell for Body<R> {
     ghost log = { λ b. b.calls };
 }
 
-/// Payload, as [`read`](Body::read) hands it out; for an empty slice nothing is done. An error is the stream's own, or of the kind
-/// `InvalidData` or `UnexpectedEof`.
+/// Payload, as [`read`](Body::read) hands it out; for an empty slice nothing is done. An error is the stream's own, or of the
+/// kind `InvalidData` or `UnexpectedEof`.
 impl<R: TellRead> Read for Body<R> {
     fn read(&mut self, out: &mut [u8]) -> io::Result<usize>
         ensures bound { ReadsAtMost result out.new }

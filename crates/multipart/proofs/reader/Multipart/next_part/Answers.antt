@@ -7,8 +7,8 @@ use Rattle.multipart.proofs.reader.Multipart.next_part.Goals as goal
 pub returns-in_err-leave_text-in-Preamble : goal.returns-in_err-leave_text-in-Preamble
 returns-in_err-leave_text-in-Preamble g c =
     let p = err_from_is_err_and c.from_residual.result c.from_residual.ensures.1 in
-    rw (p.1, p.2) (next_says _ _ _ _ _ (from_text g.R.TellRead.remaining g.P.ReaderPolicy.rules c.args.self.now _ c.leave_text.new.self _
-    c.self.view_is c.in-Preamble.is (inr (_, refl, c.in_err-leave_text-in-Preamble.ensures))))
+    rw (p.1, p.2) (next_says _ _ _ _ _ (from_text g.R.TellRead.remaining g.P.ReaderPolicy.rules c.args.self.now _
+    c.leave_text.new.self _ c.self.view_is c.in-Preamble.is (inr (_, refl, c.in_err-leave_text-in-Preamble.ensures))))
 
 pub returns-in_ok-leave_text-in-Preamble : goal.returns-in_ok-leave_text-in-Preamble
 returns-in_ok-leave_text-in-Preamble g c =
