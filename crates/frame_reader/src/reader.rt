@@ -194,9 +194,9 @@ impl<R: TellRead> FrameReader<R> {
     /// returned each time.
     #[inline(always)]
     pub fn next(&mut self) -> Result<Option<&[u8]>, FrameError>
+        ensures fits { IfOk result (λ found. IfSome found (λ payload. length payload.now ≤ self.old.decoder.max)) }
         ensures begins { IfOk result (λ found. IfSome found (λ payload.
             take (length (frame payload.now)) (rest self.old) ≡ take (length (rest self.old)) (frame payload.now))) }
-        ensures fits { IfOk result (λ found. IfSome found (λ payload. length payload.now ≤ self.old.decoder.max)) }
         ensures ready { (payload more : List ℕ) → length payload ≤ self.old.decoder.max
             → rest self.old ≡ frame payload ++ more → answer_of result ≡ Ok (Some payload) }
         ensures too_long { (len : ℕ) → self.old.decoder.max < len → BeginsWith len (rest self.old)
@@ -214,8 +214,8 @@ impl<R: TellRead> FrameReader<R> {
     /// the stream for nothing. `None` where it doesn't.
     #[inline(always)]
     pub fn next_buffered(&mut self) -> Option<&[u8]>
-        ensures front { IfSome result (λ payload. (more : List ℕ) × (rest self.old ≡ frame payload.now ++ more)) }
         ensures fits { IfSome result (λ payload. length payload.now ≤ self.old.decoder.max) }
+        ensures front { IfSome result (λ payload. (more : List ℕ) × (rest self.old ≡ frame payload.now ++ more)) }
         ensures* after_borrow { sem 𝓛 (Rests (the_row R.row R.Tell) self.entry
             (NextBuffered R.remaining (framed self.entry.now.decoder.max) self.entry.now (option_copied result))) }
     {
