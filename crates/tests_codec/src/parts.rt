@@ -1,6 +1,4 @@
-//! What decoders are made of: numbers in text, headers, lengths in bytes, also of seven bits, fields, extensions of a chunk's
-//! size.
-use chunked::Within;
+//! What decoders are made of: numbers in text, headers, lengths in bytes, also of seven bits, and fields.
 use codec::{ByHeader, Decoder, Found, HeaderBytes, Number, ScanOut};
 use decoders::{Lengths, Order, Varints, Width};
 use std::test::Fail;
@@ -112,45 +110,5 @@ fn field(bytes: &[u8]) -> Option<(&[u8], &[u8])> {
 fn fields(rt: HostRuntime) -> Result<(), Fail> {
     assert!(rt; field(b"\0\x02hi\x01") == Some((b"hi".as_slice(), b"\x01".as_slice())));
     assert!(rt; field(b"\0\x02h").is_none());
-    Ok(())
-}
-
-// Beginnings of extensions, as RFC 9112, section 7.1.1 has them: whether one may end there, and else how many bytes complete
-// one at least; or that no extension begins so.
-static EXTENSIONS: [(&'static [u8], Option<(bool, usize)>); 13] = [
-    (b"", Some((true, 0))),
-    (b" ", Some((false, 2))),
-    (b" ;\t", Some((false, 1))),
-    (b";a", Some((true, 0))),
-    (b";a ", Some((false, 2))),
-    (b";a = ", Some((false, 1))),
-    (b";a=b", Some((true, 0))),
-    (b";a=\"", Some((false, 1))),
-    (b";a=\"\\", Some((false, 2))),
-    (b";a=\"\\\"\"", Some((true, 0))),
-    (b"a", None),
-    (b";=", None),
-    (b";a=\"\n", None),
-];
-
-fn within(text: &[u8]) -> Option<Within> {
-    let mut place = Within::Behind;
-    for byte in text {
-        place = place.next(*byte)?;
-    }
-    Some(place)
-}
-
-// Whether an extension may end there, and how many bytes complete one.
-fn ending(text: &[u8]) -> Option<(bool, usize)> {
-    let place = within(text)?;
-    Some((place.may_end(), place.least()))
-}
-
-#[test]
-fn extensions(rt: HostRuntime) -> Result<(), Fail> {
-    for &(text, want) in &EXTENSIONS {
-        assert!(rt; ending(text) == want);
-    }
     Ok(())
 }
