@@ -26,7 +26,3 @@ module _ {S Q C P W : Type 0} (remaining : S → Option (List ℕ)) (rules : Rea
   pub consumed_is : IsBodyReader g (seen r' c q calls' k')
   consumed_is = state_is remaining rules g r c p calls k r' q calls' k' (take n r.block.bytes) (take n r.block.bytes) front.takes
       given is front.known
-
-  pub consumed_went : BodyWent remaining rules g (seen r c p calls k) (take n r.block.bytes) (seen r' c q calls' k')
-  consumed_went = state_went remaining rules g r c p calls k r' q calls' k' (take n r.block.bytes) (take n r.block.bytes)
-      front.takes given

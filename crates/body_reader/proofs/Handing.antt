@@ -125,13 +125,6 @@ module _ {S Q P W : Type 0} (remaining : S → Option (List ℕ)) (rules : ReadR
       λ none. absurd (omega (arith, none, room)),
     )
 
-    -- it was known before
-    pub hands_known : HandsOn remaining rules g k s p out (Ok n) t q
-    hands_known = hands_these k (elim (cases_lt n (length out)) [
-      | inl short ↦ inr (inr (inl (some, omega (arith, is, short))))
-      | inr full ↦ inl (omega (arith, is, full))
-    ])
-
     order : ReadsInOrder s (take n s.block.bytes) t
     order = taken.takes.along.in_order
 

@@ -1,8 +1,7 @@
 -- What a call says first, in words of lists.
-use Rattle.std.proofs.Common.{◌≡◌, ◌↔◌, ℕ, ◌<◌, ◌≤◌, List, [], ◌++◌, Bool, true, false, length, Option, Result, Ok, Err, IfOk, IsTrue, OnOk, sym, ap, subst, ◌∙◌, arith, refl, append-nil, length-append}
+use Rattle.std.proofs.Common.{◌≡◌, ◌↔◌, ℕ, ◌<◌, ◌≤◌, List, [], ◌++◌, Bool, true, false, length, Option, Result, Ok, Err, IfOk, IsTrue, OnOk, sym, ap, ◌∙◌, arith, refl, append-nil, length-append}
 use Rattle.std.proofs.lemmas.List.{nil_from_length}
 use Rattle.std.specs.declared.io.Error.{Error}
-use Rattle.buffer_redux.specs.Buffered.{Buffered}
 use Rattle.buffer_redux.specs.BufReader.{ReadsInOrder}
 use Rattle.buffer_redux.specs.Policy.{ReadRules}
 use Rattle.body_reader.specs.declared.error.BodyError.{BodyError}
@@ -53,18 +52,6 @@ module _ {S Q C P W : Type 0} {remaining : S → Option (List ℕ)} {rules : Rea
     in_order = (drains.went.wire, drains.went.along.in_order, drains.went.taken);
     drains = drains;
   }
-
-  pub finish_says : {rest : Buffered S Q} → Drains remaining rules g s (Ok tt) t → rest ≡ t.reader
-      → (wire : List ℕ) × (dropped : List ℕ) × ReadsInOrder s.reader wire rest
-      × IsBody g (s.taken ++ wire) (handed_of s ++ dropped)
-  finish_says drains is =
-      let went = drains.went in (
-        went.wire,
-        drains.payload,
-        subst (λ r. ReadsInOrder s.reader went.wire r) (sym is) went.along.in_order,
-        subst (λ l. IsBody g (s.taken ++ went.wire) l) went.handed
-            (subst (λ l. IsBody g l (handed_of t)) went.taken drains.answers.1),
-      )
 
   pub collect_says : (most : ℕ) (before after : List ℕ) (answer : Result (Unit {0}) (CollectError W))
       → Collects remaining rules g most s before answer t after → record {

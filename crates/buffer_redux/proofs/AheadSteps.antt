@@ -6,7 +6,7 @@ use Rattle.std.proofs.lemmas.Bool.{cases_lt}
 use Rattle.std.proofs.lemmas.List.{length-take, take-append-drop, take-append-le, take-take}
 use lib.Seq.{take-length}
 use Rattle.std.specs.declared.io.Error.{Error}
-use Rattle.redux_buffer.specs.Block.{IsBlock, MakesRoom, usable}
+use Rattle.redux_buffer.specs.Block.{MakesRoom, usable}
 use Rattle.redux_buffer.specs.BlockLaws.{OnlyRingMoves-none}
 use Rattle.redux_buffer.specs.Potential.{potential-make_room}
 use Rattle.redux_buffer.specs.Transfer.{ReadsOnce}
@@ -151,26 +151,6 @@ module _ {S P : Type 0} (remaining : S → Option (List ℕ)) (rules : ReadRules
     kind = refl;
     noted = refl;
     sparing = λ keep _. Spared-none keep s;
-  }
-
-  -- n bytes are buffered, which ends reading ahead
-  pub ahead_enough : {A : Type 0} (s m : Buffered S P) (a : A) → AheadTurns remaining rules n s m
-      → IsBlock m.block → n ≤ length m.block.bytes → ReadsAhead remaining rules n s (Ok a) m
-  ahead_enough s m a turns whole enough = record {
-    along = turns.along;
-    ended = inl (enough, turns.zeros);
-    caused = turns.faults;
-    buffered = λ many. elim turns.begun [ inl same ↦ same | inr less ↦ absurd (omega (arith, many, less.0)) ];
-    asked = turns.asked;
-    consumed = turns.consumed;
-    moves = turns.moves;
-    policy = turns.policy;
-    capacity = turns.capacity;
-    limit = turns.limit;
-    kind = turns.kind;
-    noted = turns.noted;
-    sparing = turns.sparing;
-    whole = whole;
   }
 
   module _ (s m r : Buffered S P) (answer : Result ℕ Error) (t : Buffered S P)

@@ -72,15 +72,6 @@ ReadsInOrder-read_from s t answer read = elim (cases_lt 0 (usable s.block)) [
       )
 ]
 
-pub read_from_grows : (b b' : Block) (log log' : StreamLog) (answer : Result ℕ Error)
-    → ReadsFrom b log answer b' log' → ReadLogGrows log.reads log'.reads
-read_from_grows b b' log log' answer read = elim (cases_lt 0 (usable b)) [
-  | inl room ↦ read_grows b b' log log' answer (read.read room)
-  | inr full ↦
-      subst (λ l. ReadLogGrows log.reads l.reads) (sym (read.no_room (omega (arith, full))).told)
-      (ReadLogGrows-none log.reads)
-]
-
 -- one read past an empty buffer
 pub ReadsInOrder-direct : {S P : Type 0} (s t : Buffered S P) (out : List ℕ) (answer : Result ℕ Error)
     → GoesDirect after_read s out answer t → length s.block.bytes ≡ 0 → ReadsInOrder s (portion out answer) t

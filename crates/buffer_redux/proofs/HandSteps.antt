@@ -1,6 +1,6 @@
 -- The turns and the ends of a call that hands bytes to a sink, up to a byte.
 use Rattle.std.proofs.Common.{◌≡◌, ℕ, ◌+◌, ◌-◌, ◌^◌, ◌<◌, ◌≤◌, Bool, true, false, List, [], ◌∷◌, ◌++◌, length, take, drop}
-use Rattle.std.proofs.Common.{Result, Ok, Err, Option, sym, ap, subst, ◌∙◌, inl, inr, arith, append-nil, length-append, length-drop}
+use Rattle.std.proofs.Common.{Result, Ok, Err, Option, sym, ap, subst, ◌∙◌, inl, inr, arith, append-nil, length-drop}
 use Rattle.std.proofs.Common.{length-take-le, take_all}
 use Rattle.std.specs.Prelude.{IsTrue, MatchResult, ◌↔◌}
 use Rattle.std.proofs.lemmas.Bool.{cases_lt}
@@ -185,10 +185,6 @@ module _ {S P K : Type 0} (remaining : S → Option (List ℕ)) (rules : ReadRul
             | inr read ↦ absurd (omega (arith, f.1 read.0, none))
           ]) none);
     }
-
--- bytes that end in some are some
-pub some_last : (front : List ℕ) (byte : ℕ) → ¬ (front ++ byte ∷ [] ≡ [])
-some_last front byte none = absurd (omega (arith, ap length none, length-append front (byte ∷ [])))
 
 -- a fill that leaves some bytes shows more than were left
 pub fills_more : (left len' : ℕ) (empty : Bool) → (0 < left → left < len') → IsTrue empty ↔ (len' ≡ 0) → empty ≡ false

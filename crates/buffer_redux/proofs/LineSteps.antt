@@ -1,27 +1,20 @@
 -- Reads past the policy, behind what is buffered.
-use Rattle.std.proofs.Common.{◌≡◌, ℕ, zero, suc, ◌*◌, ◌<◌, ◌≤◌, List, [], ◌∷◌, ◌++◌, length, take, Result, Ok, Err}
-use Rattle.std.proofs.Common.{Option, sym, ap, ◌∙◌, inl, inr, arith, append-nil, length-append}
-use Rattle.std.proofs.Common.{length-take-le}
-use Rattle.std.specs.Prelude.{◌⊎◌, MatchResult}
-use Rattle.std.proofs.lemmas.Bool.{cases_lt}
+use Rattle.std.proofs.Common.{◌≡◌, ℕ, zero, suc, ◌*◌, ◌<◌, ◌≤◌, List, [], length, Result, Ok, Err}
+use Rattle.std.proofs.Common.{Option, sym, ap, ◌∙◌, inl, inr, arith}
+use Rattle.std.specs.Prelude.{◌⊎◌}
 use Rattle.std.specs.IoError.{error_kind}
 use Rattle.std.specs.declared.io.Error.{Error}
 use Rattle.std.specs.declared.io.ErrorKind.TheVariants.{InvalidData}
-use Rattle.redux_buffer.specs.GrowError.{GrowthFailed}
 use Rattle.redux_buffer.specs.Faults.{OnlyInterrupts-same}
 use Rattle.redux_buffer.specs.Retried.{InterruptedSteps, Retried}
 use Rattle.redux_buffer.specs.Transfer.{ReadsOnce}
-use Rattle.redux_buffer.specs.StreamLog.{zero_of_none}
 use Rattle.buffer_redux.specs.Policy.{ReadRules}
 use Rattle.redux_buffer.specs.Block.{capacity_for, usable}
 use Rattle.buffer_redux.specs.Buffered.{Buffered, with_block}
 use Rattle.buffer_redux.specs.BufReader.{MovesFor, RanDry, ReadsInOrder, ReadsIntoBuf}
-use Rattle.buffer_redux.specs.FillRetried.{FillRetried}
 use Rattle.buffer_redux.specs.ReadBehind.{FillsOn, FillsOrReads, ReadsBehind}
 use Rattle.buffer_redux.specs.Sparing.{Spared}
 use Rattle.buffer_redux.specs.ReadAll.{HandedFront}
-use Rattle.buffer_redux.proofs.Moving.{MovesFor-on, offered}
-use Rattle.buffer_redux.proofs.ReadAll.{front_joins}
 use Rattle.buffer_redux.proofs.Retrying.{HandsNothing, one_interrupt, refilling, retrying}
 
 -- space was made behind what is buffered, where bytes can be written now
@@ -53,80 +46,6 @@ module _ {S P : Type 0} (remaining : S → Option (List ℕ)) (rules : ReadRules
       (order : ReadsInOrder r [] t) (spared : (keep : ℕ) → Spared keep r t) where
     once : ReadsOnce r.block r.log answer t.block t.log
     once = reads.read.read space.room
-
-    read_so : {A : Type 0} (end : Result A Error)
-        → MatchResult end (λ _. (t.log.reads.faults ≡ s.log.reads.faults)
-        × ((length s.block.bytes < length t.block.bytes) ⊎ ((t.block.bytes ≡ s.block.bytes) × RanDry s t)))
-        (λ e. (t.block.bytes ≡ s.block.bytes)
-        × ((t.log.reads.faults ≡ s.log.reads.faults ++ e ∷ [])
-        ⊎ (GrowthFailed 1 s.block e × (s.block.capacity < 2 * length s.block.bytes) × (t ≡ s))))
-        → ReadsBehind remaining rules s end t
-    read_so end ended = record {
-      front = front_joins remaining rules s r t [] [] space.front (record {
-        in_order = order;
-        keeps = record {
-          known = reads.known;
-          grows = reads.grows;
-          capacity = (spared 0).capacity;
-          kind = (spared 0).kind;
-          claims = ap rules.claims reads.policy;
-          sparing = λ keep claims. spared keep;
-          whole = reads.whole;
-          noted = reads.noted;
-        };
-      });
-      ended = ended;
-      asks = omega (arith, ap (λ l. l.reads.asks) once.told, ap (λ x. x.log.reads.asks) space.others);
-      offer = λ _. offered r answer t once;
-      moves = MovesFor-on 1 s.block r.block t.block space.front.keeps.kind space.moves once.added.moved;
-      policy = reads.policy ∙ ap (λ x. x.policy) space.others;
-      limit = once.added.limit ∙ space.limit;
-      capacity = λ few. once.added.capacity ∙ space.capacity few;
-      grown = elim space.grown [
-        | inl same ↦ inl (once.added.capacity ∙ same)
-        | inr more ↦ inr (once.added.capacity ∙ more)
-      ];
-      consumed = once.added.consumed ∙ space.consumed;
-    }
-
-  pub behind_failed : (s r : Buffered S P) (e : Error) (t : Buffered S P)
-      → SpaceMade remaining rules s r → ReadsIntoBuf remaining r (Err e) t → ReadsInOrder r [] t
-      → ((keep : ℕ) → Spared keep r t) → ReadsBehind {A = Unit {0}} remaining rules s (Err e) t
-  behind_failed s r e t space reads order spared =
-      let one = once s r (Err e) t space reads order spared in
-      read_so s r (Err e) t space reads order spared (Err e) (
-        one.added.bytes ∙ append-nil r.block.bytes ∙ space.bytes,
-        inl (ap (λ l. l.reads.faults) one.told ∙ ap (λ x. x.log.reads.faults ++ e ∷ []) space.others),
-      )
-
-  pub behind_read : (s r : Buffered S P) (n : ℕ) (t : Buffered S P)
-      → SpaceMade remaining rules s r → ReadsIntoBuf remaining r (Ok n) t → ReadsInOrder r [] t
-      → ((keep : ℕ) → Spared keep r t) → ReadsBehind {A = Unit {0}} remaining rules s (Ok tt) t
-  behind_read s r n t space reads order spared =
-      let one = once s r (Ok n) t space reads order spared in
-      read_so s r (Ok n) t space reads order spared (Ok tt) (
-        ap (λ l. l.reads.faults) one.told ∙ ap (λ x. x.log.reads.faults) space.others,
-        elim (cases_lt 0 n) [
-          | inl some ↦ inl (omega (
-            arith,
-            some,
-            ap length one.added.bytes,
-            length-append r.block.bytes (take n one.out),
-            length-take-le n one.out one.bound.0,
-            ap length space.bytes,
-          ))
-          | inr none ↦
-              let zero : n ≡ 0 = omega (arith, none) in inr (
-                one.added.bytes ∙ ap (λ k. r.block.bytes ++ take k one.out) zero ∙ append-nil r.block.bytes ∙ space.bytes,
-                omega (
-                  arith,
-                  ap (λ l. l.reads.zero_reads) one.told,
-                  zero_of_none n one.out r.log.reads.zero_reads zero (omega (arith, one.offered, space.room)),
-                  ap (λ x. x.log.reads.zero_reads) space.others,
-                ),
-              )
-        ],
-      )
 
   reading : HandsNothing remaining rules (ReadsBehind remaining rules)
   reading = record {
@@ -166,12 +85,6 @@ module _ {S P : Type 0} (remaining : S → Option (List ℕ)) (rules : ReadRules
         | inl more ↦ inl (omega (arith, more, ap length before.0))
         | inr none ↦ inr (none.0 ∙ before.0, omega (arith, before.1, none.1))
       ]
-
-  -- how a call goes on from what is buffered
-  pub more_filled : (s : Buffered S P) (answer : Result (Unit {0}) Error) (t : Buffered S P) → length s.block.bytes ≡ 0
-      → FillRetried remaining rules s answer t → FillsMore remaining rules s answer t
-  more_filled s (Ok tt) t none f = (inl (none, f), λ some. absurd (omega (arith, some, none)))
-  more_filled s (Err e) t none f = inl (inl (none, f))
 
   pub more_read : (s t : Buffered S P) → 0 < length s.block.bytes
       → Retried {A = Unit {0}} (ReadsBehind remaining rules) s (Ok tt) t

@@ -1,12 +1,11 @@
 -- Parts that are taken in together.
-use Rattle.std.proofs.Common.{◌≡◌, ℕ, ◌+◌, ◌-◌, ◌%◌, ◌<◌, ◌≤◌, List, [], ◌++◌, length, map, min, drop, get_or, Bor, Result, Ok, Err, MatchResult, refl, sym, ap, subst, ◌∙◌, arith, inl, inr, add-one, drop-cons, append_assoc, append-nil, length-drop, le_refl}
+use Rattle.std.proofs.Common.{◌≡◌, ℕ, ◌+◌, ◌-◌, ◌%◌, ◌<◌, ◌≤◌, List, [], ◌++◌, length, map, min, drop, get_or, Bor, Result, Ok, Err, MatchResult, refl, sym, ap, subst, ◌∙◌, arith, inl, inr, add-one, drop-cons, append_assoc, append-nil, le_refl}
 use Rattle.std.specs.Prelude.{◌==◌, if◌then◌else◌, nat_le}
 use Rattle.std.specs.List.{concat}
 use Rattle.std.specs.declared.io.Error.{Error}
 use Rattle.std.proofs.lemmas.Bool.{cond_both, leb-false, leb-true}
-use Rattle.std.proofs.lemmas.List.{nil_from_length}
 use Rattle.std.proofs.lemmas.Nat.{div-add-mod'}
-use Rattle.redux_buffer.specs.Block.{Block, IsBlock, Kind, OnKind, Plain, Ring, Reserves, capacity_for, limit_of, by_kind, round, usable}
+use Rattle.redux_buffer.specs.Block.{Block, IsBlock, Kind, OnKind, Plain, Ring, Reserves, capacity_for, by_kind, round, usable}
 use Rattle.redux_buffer.specs.Faults.{SendErrorCaused}
 use Rattle.redux_buffer.specs.GrowError.{GrowthFailed}
 use Rattle.redux_buffer.specs.LogGrows.{WriteLogGrows-none, WritesGoOn}
@@ -34,18 +33,6 @@ one_more parts at within held all new is added =
     let part = (get_or parts at (record { ref_ptr = (0, 0); now = [] })).now in
     let rest = all_of (drop (at + 1) parts) in
     ap (λ l. l ++ rest) added ∙ append_assoc held part rest ∙ ap (λ l. held ++ l) (sym (from_part parts at within)) ∙ is
-
-pub none_from : (parts : List (Bor (List ℕ))) (at : ℕ) → length parts ≤ at → all_of (drop at parts) ≡ []
-none_from parts at past =
-    ap all_of (nil_from_length (drop at parts) (omega (arith, past, length-drop {A = Bor (List ℕ)} at parts)))
-
--- bytes fit where there is room for as many, or for the greatest number
-limit_small : (k : Kind) → limit_of k ≤ 4611686018427387904
-limit_small Plain = omega arith
-limit_small Ring = omega arith
-
-pub fits_of : (b : Block) → IsBlock b → (n count : ℕ) → count ≡ min n 18446744073709551615 → count ≤ usable b → n ≤ usable b
-fits_of b whole n count is fit = omega (arith, is, fit, whole.fits, whole.limit, whole.most, limit_small b.kind)
 
 -- how many bytes there are, as far as a `usize` counts
 abbrev counted : List ℕ → ℕ
@@ -105,17 +92,6 @@ module _ {S P : Type 0} (tells : S → StreamLog) (trace : S → S → Type 0) (
   put_along s t bytes p =
       block_along s t bytes p.others p.added.bytes p.added.consumed (omega (arith, p.added.capacity)) p.added.kind
 
-  -- where they fit nothing else is done
-  pub parts_fit : (s t : Buffered S P) (bytes : List ℕ) → length bytes ≤ usable s.block → Appends s bytes t
-      → WritesParts tells trace s bytes (Ok tt) t
-  parts_fit s t bytes fit p = record {
-    along = put_along s t bytes p;
-    fits = λ _. (refl, p);
-    full = λ few. absurd (omega (arith, few, fit));
-    caused = tt;
-    whole = p.whole;
-  }
-
   -- what was sent before, and the room that there is then, or none
   pub place_made : (s m t : Buffered S P) (count : ℕ) (x y : Unit {0}) → WasSent tells trace s (Ok x) m
       → Reserves count m.block t.block → t ≡ with_block m t.block → IsBlock t.block → MakesPlace tells trace count s (Ok y) t
@@ -131,18 +107,6 @@ module _ {S P : Type 0} (tells : S → StreamLog) (trace : S → S → Type 0) (
       → MakesPlace tells trace count s (Err e) t
   place_unsent s t count e sent =
       record { sending = Err e; left = t; sent = sent; ended = (refl, refl); whole = sent.whole }
-
-  -- there is room, once it was made
-  pub place_room : (s t : Buffered S P) (count : ℕ) (y : Unit {0}) → MakesPlace tells trace count s (Ok y) t
-      → count ≤ usable t.block
-  place_room s t count y p = roomed p.sending p.left p.sent p.ended
-    where
-      roomed : (sending : Result (Unit {0}) Error) (m : Buffered S P) → WasSent tells trace s sending m
-          → MatchResult sending (λ _. Reserves count m.block t.block × (t ≡ with_block m t.block))
-          (λ e. (Ok y ≡ Err e) × (t ≡ m)) → count ≤ usable t.block
-      roomed (Ok x) m sent (grown, others) =
-          (let up = roomy m.block count sent.whole in omega (arith, up.1, grown.usable, grown.capacity))
-      roomed (Err e) m sent (odd, same) = cc
 
   module _ (joins : (u v w : S) → trace u v → trace v w → trace u w)
       (goes : (u v : S) → trace u v → WritesGoOn (tells u) (tells v)) where

@@ -1,6 +1,5 @@
 -- Where a byte stands first.
-use Rattle.std.proofs.Common.{◌≡◌, ℕ, zero, suc, ◌+◌, ◌<◌, ◌≤◌, ◌==◌, true, List, [], ◌∷◌, ◌++◌, length, take, drop, slice_index, refl, sym, ap, ◌∙◌, arith, append_assoc, length-take-le, take-append-drop}
-use Rattle.std.proofs.lemmas.Bool.{eqb-true, eq-eqb}
+use Rattle.std.proofs.Common.{◌≡◌, ℕ, suc, ◌+◌, List, [], ◌∷◌, ◌++◌, length, take, drop, refl, sym, ap, ◌∙◌, arith, append_assoc, length-take-le, take-append-drop}
 use Rattle.std.proofs.lemmas.List.Elements.{All-nil, All-cons, All-append}
 use Rattle.std.specs.Io.BufRead.{take_through}
 use Rattle.buffer_redux.specs.ReadUntil.{EndsIn, FirstAt, Lacks}
@@ -9,24 +8,11 @@ use Rattle.buffer_redux.specs.UntilLaws.{ending_through}
 abbrev other : ℕ → ℕ → Type 0
 other byte b = ¬ (b ≡ byte)
 
--- the byte stands nowhere before this place
-abbrev pub NoneBefore : ℕ → List ℕ → ℕ → Type 0
-NoneBefore byte bytes end = (k : ℕ) → 0 ≤ k → k < end → ¬ ((slice_index bytes k == byte) ≡ true)
-
-isnt_byte : (byte b : ℕ) → ¬ ((b == byte) ≡ true) → ¬ (b ≡ byte)
-isnt_byte byte b isnt is = isnt (eq-eqb b byte is)
-
 pub lacks_none : (byte : ℕ) → Lacks byte []
 lacks_none byte = All-nil (other byte)
 
 pub lacks_both : (byte : ℕ) (xs ys : List ℕ) → Lacks byte xs → Lacks byte ys → Lacks byte (xs ++ ys)
 lacks_both byte = All-append (other byte)
-
-pub lacks_all : (byte : ℕ) (bytes : List ℕ) → NoneBefore byte bytes (length bytes) → Lacks byte bytes
-lacks_all byte [] none = All-nil (other byte)
-lacks_all byte (b ∷ bytes) none = All-cons (other byte) b bytes
-    (isnt_byte byte b (none 0 (omega arith) (omega arith)))
-    (lacks_all byte bytes (λ k low high. none (suc k) (omega arith) (omega (arith, high))))
 
 longer : (byte b at : ℕ) (bytes : List ℕ) → ¬ (b ≡ byte) → FirstAt byte at bytes → FirstAt byte (suc at) (b ∷ bytes)
 longer byte b at bytes isnt e =
@@ -35,18 +21,6 @@ longer byte b at bytes isnt e =
       plain = All-cons (other byte) b (take at bytes) isnt e.plain;
       equal = ap (λ n. b ∷ take at bytes ++ byte ∷ drop n (b ∷ bytes)) count ∙ ap (λ l. b ∷ l) e.equal;
     }
-
-pub first_at : (byte : ℕ) (bytes : List ℕ) (at : ℕ) → at < length bytes → NoneBefore byte bytes at
-    → (slice_index bytes at == byte) ≡ true → FirstAt byte at bytes
-first_at byte [] at inside none is = absurd (omega (arith, inside))
-first_at byte (b ∷ bytes) zero inside none is = record {
-  inside = inside;
-  plain = All-nil (other byte);
-  equal = ap (λ x. x ∷ bytes) (sym (eqb-true b byte is));
-}
-first_at byte (b ∷ bytes) (suc at) inside none is =
-    longer byte b at bytes (isnt_byte byte b (none 0 (omega arith) (omega arith)))
-    (first_at byte bytes at (omega (arith, inside)) (λ k low high. none (suc k) (omega arith) (omega (arith, high))) is)
 
 take-append-more : (front : List ℕ) (byte : ℕ) (more : List ℕ)
     → take (length front + 1) (front ++ byte ∷ more) ≡ front ++ byte ∷ []

@@ -1,7 +1,7 @@
 -- The turns and the ends of a call that goes on up to a byte.
-use Rattle.std.proofs.Common.{◌≡◌, ℕ, zero, suc, ◌+◌, ◌-◌, ◌<◌, ◌≤◌, List, [], ◌++◌, length, take, Result, Ok}
+use Rattle.std.proofs.Common.{◌≡◌, ℕ, zero, suc, ◌+◌, ◌<◌, ◌≤◌, List, [], ◌++◌, length, take, Result, Ok}
 use Rattle.std.proofs.Common.{Err, Option}
-use Rattle.std.proofs.Common.{refl, sym, ap, subst, inl, inr, arith, append-nil, length-append}
+use Rattle.std.proofs.Common.{refl, sym, ap, subst, inl, inr, arith, append-nil}
 use Rattle.std.proofs.Common.{length-take-le}
 use Rattle.std.proofs.lemmas.Bool.{cases_lt}
 use Rattle.std.proofs.lemmas.List.{nil_from_length}
@@ -166,10 +166,3 @@ stopped {leaves = leaves} remaining rules byte s m handed before stops at e t fi
 -- how many bytes these are
 pub through_length : (byte at : ℕ) (bytes : List ℕ) → FirstAt byte at bytes → length (take (at + 1) bytes) ≡ at + 1
 through_length byte at bytes first = length-take-le (at + 1) bytes (omega (arith, first.inside))
-
--- what was appended is counted by the lengths before and after
-pub appended_length : (old new handed : List ℕ) (before after : ℕ) → new ≡ old ++ handed → before ≡ length old
-    → after ≡ length new → (before ≤ after) × (after - before ≡ length handed)
-appended_length old new handed before after is first last =
-    let sum = length-append old handed in
-    (omega (arith, ap length is, sum, first, last), omega (arith, ap length is, sum, first, last))

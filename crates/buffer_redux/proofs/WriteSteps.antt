@@ -1,5 +1,5 @@
 -- What each step of a write keeps.
-use Rattle.std.proofs.Common.{◌≡◌, ℕ, ◌≤◌, List, [], ◌∷◌, ◌++◌, length, min, take, drop, take_all, Result, Ok, Err, refl, sym, ap, ◌∙◌, arith, inl, inr, append-nil, append_assoc, length-drop, subst}
+use Rattle.std.proofs.Common.{◌≡◌, ℕ, ◌≤◌, List, [], ◌∷◌, ◌++◌, length, min, take, drop, take_all, Result, Ok, Err, sym, ap, ◌∙◌, arith, inl, inr, append-nil, append_assoc, length-drop, subst}
 use Rattle.std.proofs.lemmas.Bool.{cases_lt}
 use Rattle.std.proofs.lemmas.List.{drop_all, nil_from_length}
 use Rattle.std.specs.declared.io.Error.{Error}
@@ -10,7 +10,7 @@ use Rattle.redux_buffer.specs.StreamLog.{StreamLog, portion}
 use Rattle.redux_buffer.specs.Transfer.{Sends}
 use Rattle.buffer_redux.specs.Policy.{WriteRules}
 use Rattle.buffer_redux.specs.Buffered.{Buffered, InnerWent, with_policy}
-use Rattle.buffer_redux.specs.BufWriter.{FlushesAmount, TakesIn, CopiesIn, Prepared, Finished, WritesInOrder, WasSent, WasFlushed}
+use Rattle.buffer_redux.specs.BufWriter.{FlushesAmount, TakesIn, CopiesIn, Prepared, Finished, WritesInOrder, WasSent}
 use Rattle.buffer_redux.specs.WriterLaws.{flush_ways, ways_in, WritesInOrder-joins, WritesInOrder-sends}
 
 -- sending lets the log go on
@@ -109,27 +109,6 @@ module _ {S P : Type 0} where
     capacity = f.sent.dropped.capacity;
     whole = whole;
     went = went;
-  }
-
-  pub not_sent : (tells : S → StreamLog) (trace : S → S → Type 0) (s t : Buffered S P) (e : Error)
-      → WasSent tells trace s (Err e) t → WasFlushed tells trace s (Err e) t
-  not_sent tells trace s t e sent = record {
-    steps = record {
-      policy = sent.policy;
-      sent_log = t.log;
-      sending = Err e;
-      sends = sent.sends;
-      ended = (refl, refl);
-    };
-    in_order = sent.in_order;
-    ok = tt;
-    caused = sent.caused;
-    not_flushed = sent.not_flushed;
-    grows = sends_grow (length s.block.bytes) _ _ _ _ (Err e) sent.sends;
-    capacity = sent.capacity;
-    kind = sent.sends.sent.dropped.kind;
-    whole = sent.whole;
-    went = sent.went;
   }
 
   -- what every step of a write keeps

@@ -4,7 +4,7 @@ use Rattle.chunked.specs.declared.extension.Within.{Within}
 use Rattle.chunked.specs.declared.limits.Limits.{Limits}
 use Rattle.chunked.specs.declared.place.Place.TheVariants.{Extension, SizeFeed}
 use Rattle.chunked.specs.Place.{BehindSize, PassesAlong}
-use Rattle.chunked.specs.Within.{CompletesExtension, RunsOver}
+use Rattle.chunked.specs.Within.{CompletesExtension}
 use Rattle.chunked.specs.WithinLaws.{CompletesExtension-text}
 use Rattle.chunked.proofs.Least.{IsLeast}
 use Rattle.chunked.proofs.Passing.{quiet, line_back, line_on, return_back, return_on}
@@ -18,13 +18,6 @@ module _ (within next : Within) (b least : ℕ) (follows : (text : List ℕ)
 
   pub fits_in : (room : ℕ) → least < room → (text : List ℕ) × CompletesExtension next text × (length text ≤ room - 1)
   fits_in room some = (is_least.0.0, is_least.0.1, omega (arith, is_least.0.2, some))
-
-  pub runs_over : (room : ℕ) → room ≤ least → RunsOver within room b
-  runs_over room none = record {
-    text = is_least.0.0;
-    extends = (follows is_least.0.0).1 is_least.0.1;
-    over = λ other e. omega (arith, none, is_least.1 other ((follows other).0 e));
-  }
 
   pub extension_on : (limits : Limits) (size room : ℕ) → least < room
       → PassesAlong limits (Extension within size room) (b ∷ []) (Extension next size (room - 1))

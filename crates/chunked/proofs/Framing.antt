@@ -43,30 +43,10 @@ module _ (limits : Limits) where
         short = within_on limits p q (take at shown) byte comes.passes.leads goes_on comes.short;
       })
 
-  -- the end of a chunk
-  data_feed : PassesAlong limits DataFeed (10 ∷ []) Line
-  data_feed = record {
-    leads = quiet limits DataFeed Line (10 ∷ []) (λ rest payload c. (rest, refl, c))
-        (λ rest payload c. let same : c.0 ≡ rest = cc in subst (λ l. IsBodyOfChunks limits l payload) same c.2);
-    few = omega arith;
-  }
-
-  pub comes_line : (shown : List ℕ) → 2 ≤ length shown → slice_index shown 0 ≡ 13 → slice_index shown 1 ≡ 10
-      → Comes limits (Data 0) (take 2 shown) Line
-  comes_line shown held return feed =
-      comes_more (Data 0) DataFeed Line shown 1 10 (omega (arith, held)) feed
-      (comes_more (Data 0) (Data 0) DataFeed shown 0 13 (omega (arith, held)) return (comes_none (Data 0) tt)
-      (λ settled. settled) (data_return limits 13 refl) tt) (λ settled. settled) data_feed tt
-
   -- the digits of a size so far: none, or they write this number
   abbrev pub Reads : Place → List ℕ → ℕ → ℕ → ℕ → Type 0
   Reads p shown begins at size = ((at ≡ begins) × (size ≡ 0))
       ⊎ Comes limits p (take at shown) (Size size (limits.line - (at - begins)))
-
-  pub comes_of : (p : Place) (shown : List ℕ) (begins at size : ℕ) → Reads p shown begins at size → 0 < size
-      → Comes limits p (take at shown) (Size size (limits.line - (at - begins)))
-  comes_of p shown begins at size (inl none) some = absurd (omega (arith, none.1, some))
-  comes_of p shown begins at size (inr comes) some = comes
 
   pub reads_digit : (p : Place) (shown : List ℕ) (begins at size digit : ℕ) → Comes limits p (take begins shown) Line
       → begins ≤ at → Reads p shown begins at size → at < length shown → at - begins < limits.line → size < 2 ^ 58

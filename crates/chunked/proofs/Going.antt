@@ -23,18 +23,6 @@ chunk_end_more (suc due) some = refl
 chunk_end_last : (due : ℕ) → due ≡ 0 → chunk_end due ≡ line_end []
 chunk_end_last due none = ap chunk_end none
 
-pub puts_nothing : {S : Type 0} (s : Buffered S StdPolicy) → IsBlock s.block → (due : ℕ) → 0 < due
-    → PutsIn s (chunk_end due) s
-puts_nothing s whole due some = subst (λ l. PutsIn s l s) (sym (chunk_end_more due some)) (record {
-  others = refl;
-  added = sym (append-nil s.block.bytes);
-  capacity = refl;
-  limit = refl;
-  kind = refl;
-  consumed = refl;
-  whole = whole;
-})
-
 -- room was made
 pub puts_roomy : {S : Type 0} (s t : Buffered S StdPolicy) → MakesRoom s.block t.block → t ≡ with_block s t.block
     → IsBlock t.block → PutsIn s [] t

@@ -1,5 +1,5 @@
 -- What goes into a buffered writer, and what a whole chunk and the end of a body do there.
-use Rattle.std.proofs.Common.{◌≡◌, ℕ, zero, suc, ◌+◌, ◌^◌, ◌<◌, ◌≤◌, ◌==◌, false, true, List, [], ◌∷◌, ◌++◌, length, take, Result, IfOk, MatchResult, Ok, Err, sym, ap, subst, ◌∙◌, arith, inl, inr, refl, append-nil}
+use Rattle.std.proofs.Common.{◌≡◌, ℕ, zero, suc, ◌+◌, ◌^◌, ◌<◌, ◌≤◌, ◌==◌, false, true, List, [], ◌∷◌, ◌++◌, length, take, Result, Ok, Err, sym, ap, subst, ◌∙◌, arith, inl, inr, refl, append-nil}
 use Rattle.std.proofs.lemmas.Bool.{cases_lt}
 use Rattle.std.proofs.lemmas.List.{take_all}
 use Rattle.std.proofs.lemmas.List.Elements.{All-nil, All-cons}
@@ -287,13 +287,6 @@ module _ {S : Type 0} (tells : S → StreamLog) (trace : S → S → Type 0) (no
       → Finishes tells trace s fields t
       → t.log.writes.received ++ t.block.bytes ≡ (s.writer.log.writes.received ++ s.writer.block.bytes) ++ body_end fields
   ended s fields t finishes = WritesInOrder-contents s.writer t (body_end fields) finishes.in_order
-
-  pub ended_if : {E : Type 0} (s : ChunkedWriterState S) (fields : List (List ℕ)) (Fails : E → Type 0)
-      (answer : Result (Buffered S StdPolicy) E) → MatchResult answer (Finishes tells trace s fields) Fails
-      → IfOk answer (λ w. w.log.writes.received ++ w.block.bytes
-      ≡ (s.writer.log.writes.received ++ s.writer.block.bytes) ++ body_end fields)
-  ended_if s fields Fails (Ok t) finishes = ended s fields t finishes
-  ended_if s fields Fails (Err e) fails = tt
 
   -- a flush that is told took nothing in
   pub flush_went : (s m v : ChunkedWriterState S) (answer : Result (Unit {0}) Error) (calls : StreamLog) → v ≡ m

@@ -1,7 +1,7 @@
 -- Loops that play calls.
-use Rattle.std.specs.Prelude.{◌≡◌, ℕ, ◌+◌, ◌<◌, ◌≤◌, List, [], ◌∷◌, ◌++◌, length, map, take, get_or, Bool, true, false, MatchBool, Option, Some, Result, Ok}
+use Rattle.std.specs.Prelude.{◌≡◌, ℕ, ◌+◌, ◌<◌, ◌≤◌, List, [], ◌∷◌, ◌++◌, length, map, take, get_or, Bool, true, false, MatchBool, Option, Result}
 use Rattle.std.specs.Global.{Vec}
-use Rattle.std.proofs.Common.{sym, ap, subst, ◌∙◌, arith, inl, inr, append_assoc, length-append}
+use Rattle.std.proofs.Common.{sym, ap, subst, ◌∙◌, arith, inl, append_assoc, length-append}
 use Rattle.std.proofs.lemmas.List.{length-map, take-map}
 use Rattle.codec.specs.PayloadsLaws.{before}
 use Rattle.piece_reader.specs.Runs.{AnswersPlayed, AnswersStopped, kept_answer}
@@ -44,16 +44,6 @@ module _ {T E : Type 0} {Plays : T → List (Result (Option (List ℕ)) E) → T
       gained = ap (λ l. map kept_answer l) is ∙ so.gained;
       fewer = omega (arith, so.count, fewer);
       wanted = inl (so.plays, omega (arith, so.capacity, full, length-map kept' kept_answer, ap length is));
-    }
-
-    -- one more was made, for whose payload memory was refused
-    pub one_lost : (payload : List ℕ) (t : T) → Plays s (so.answers ++ Ok (Some payload) ∷ []) t
-        → AnswersStopped Plays s all room (map kept_answer old) (map kept_answer kept') t
-    one_lost payload t plays = record {
-      answers = so.answers;
-      gained = ap (λ l. map kept_answer l) is ∙ so.gained;
-      fewer = omega (arith, so.count, fewer);
-      wanted = inr (payload, plays);
     }
 
 -- the first so many payloads were written so far, and each answer was recorded

@@ -1,9 +1,9 @@
 -- Steps of a loop that writes payloads.
-use Rattle.std.specs.Prelude.{◌≡◌, ℕ, ◌+◌, ◌<◌, ◌≤◌, List, [], ◌∷◌, ◌++◌, length, map, take, drop, get_or, Result, Ok, Err}
+use Rattle.std.specs.Prelude.{◌≡◌, ℕ, ◌+◌, ◌<◌, List, [], ◌∷◌, ◌++◌, length, map, take, drop, get_or, Result, Ok, Err}
 use Rattle.std.specs.Global.{Vec}
 use Rattle.std.specs.List.{All}
 use Rattle.std.proofs.Common.{sym, subst, arith}
-use Rattle.std.proofs.lemmas.List.{drop-map, length-map, length-take-le, map-append, take_all}
+use Rattle.std.proofs.lemmas.List.{drop-map, length-map, length-take-le, map-append}
 use Rattle.std.proofs.lemmas.List.Elements.{All-drop, All-head}
 use Rattle.codec.specs.declared.laws.runs.WriteEachError.{WriteEachError}
 use Rattle.codec.specs.PayloadsLaws.{before, behind, parted}
@@ -62,8 +62,3 @@ module _ {T X : Type 0} {Call : T → List ℕ → Result (Unit {0}) X → T →
         (All-head (Takes s) v.items (map (λ x. x.items) (drop (i + 1) vs))
         (subst (All (Takes s)) (behind (λ x. x.items) vs i v inside is)
         (subst (All (Takes s)) (drop-map (λ x. x.items) i vs) (All-drop (Takes s) i (map (λ x. x.items) vs) all))))
-
-  -- at the end all were
-  pub wrote_all : length vs ≤ i → Plays s (map (λ v. v.items) vs) (map (λ payload. Ok tt) (map (λ v. v.items) vs)) m
-  wrote_all end = subst (λ l. Plays s (map (λ v. v.items) l) (map (λ payload. Ok tt) (map (λ v. v.items) l)) m)
-      (take_all i vs end) so.plays

@@ -20,10 +20,6 @@ module _ {T W : Type 0} (rules : FilterRules T W) where
       ([], refl, moves.hands, moves.takes)
   pass_says s t (Err e) passes = tt
 
-  pub flush_says : (s t : T) (answer : Result (Unit {0}) Error) → FilterFlushes rules s answer t → OnOk answer (rules.sent t)
-  flush_says s t (Ok _) flushes = flushes.answers.0
-  flush_says s t (Err e) flushes = tt
-
   -- so many payloads were taken in, whatever stopped it
   stop_says : (s t : T) (count : ℕ) (cause : Cause W) → StopsBy rules count s cause t
       → (payloads : List (List ℕ)) × rules.takes s payloads t × (length payloads ≡ count)

@@ -8,7 +8,7 @@ use Rattle.codec.specs.declared.Span.{Span}
 use Rattle.codec.specs.Decoding.{Decodes, IsLent}
 use Rattle.codec.specs.Grammar.{IsOpen}
 use Rattle.codec.specs.GrammarLaws.{begins_of, open_of}
-use Rattle.codec.specs.NextPiece.{NextAnswers, NextBuffered, NextPiece, load_answer}
+use Rattle.codec.specs.NextPiece.{NextAnswers, NextBuffered, NextPiece}
 use Rattle.codec.specs.NextPieceLaws.{fronts_agree}
 use Rattle.codec.specs.PiecesWentLaws.{PiecesWent-unasked}
 use Rattle.codec.specs.PieceReader.{IsSettled, ReaderState, rest}
@@ -69,11 +69,6 @@ module _ {S : Type 0} (remaining : S → Option (List ℕ)) (s t : ReaderState S
   pub Next-failed : (e : FrameError) → AreBytes (rest t)
       → NextPiece remaining (framed s.decoder.max) s (Err (piece_error e)) t → Next remaining s (Err e) t
   Next-failed e small next = record { piece = next; leaves = leaves_of e next.bytes small next.answers }
-
-  pub Next-found : (found : Option Span) → NextPiece remaining (framed s.decoder.max) s (load_answer (Ok found) t) t
-      → Next remaining s (load_answer (Ok found) t) t
-  Next-found (Some span) next = record { piece = next; leaves = tt }
-  Next-found None next = record { piece = next; leaves = tt }
 
 module _ {S : Type 0} (remaining : S → Option (List ℕ)) (s t : ReaderState S Frames) (payload : List ℕ) where
   -- the frame of what is handed out begins as what was left does

@@ -1,5 +1,5 @@
 -- What a call of a reader of pieces comes to in a reader of lines.
-use Rattle.std.proofs.Common.{[], ◌≡◌, ℕ, ◌+◌, ◌<◌, ◌≤◌, List, ◌∷◌, ◌++◌, length, length-append, length-drop, take, true, false, Option, Ok, Err, Some, None, IfSome, inl, inr, refl, sym, ap, subst, ◌∙◌, arith, append_assoc}
+use Rattle.std.proofs.Common.{[], ◌≡◌, ℕ, ◌+◌, ◌<◌, ◌≤◌, List, ◌∷◌, ◌++◌, length, length-append, length-drop, take, true, false, Option, Ok, Err, Some, None, inl, inr, refl, sym, ap, subst, ◌∙◌, arith, append_assoc}
 use Rattle.piece_reader.specs.declared.decoder.Span.{Span}
 use Rattle.piece_reader.specs.Decoding.{bytes_at}
 use Rattle.piece_reader.specs.DelimitedLaws.{delimited_lawful}
@@ -95,12 +95,6 @@ module _ {S : Type 0} (remaining : S → Option (List ℕ)) where
     NextBufferedLine-of (Some span) (next, same) =
         record { piece = (next, same); open' = open_found (bytes_at span t.reader.block.bytes) next same; skipping = refl }
     NextBufferedLine-of None (stays, none) = record { piece = (stays, none); open' = tt; skipping = refl }
-
-    pub going_buffered : (found : Option Span)
-        → pieces.NextBuffered remaining (lined s.pieces.decoder.max) s.pieces (buffered_answer found t) t
-        → IfSome found (λ _. t.ended ≡ false)
-    going_buffered (Some span) (next, same) = going_found (bytes_at span t.reader.block.bytes) next same
-    going_buffered None stays = tt
 
   -- an `Ok` of a reader of lines is one of a reader of pieces
   pub piece_loaded : (s t : ReaderState S Lines) (found : Option Span)

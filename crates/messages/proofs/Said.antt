@@ -1,39 +1,11 @@
 -- What a call says first, in words of lists.
-use Rattle.std.proofs.Common.{◌≡◌, ◌∙◌, ◌↔◌, ℕ, Option, ◌<◌, List, [], ◌∷◌, ◌++◌, drop, length, Bool, false, IsTrue, inl, inr, sym, ap, subst, arith, refl, append-nil, length-append}
+use Rattle.std.proofs.Common.{◌≡◌, ◌∙◌, ◌↔◌, ℕ, Option, List, [], ◌++◌, drop, length, Bool, IsTrue, sym, ap, subst, arith, refl, append-nil, length-append}
 use Rattle.std.proofs.lemmas.List.{nil_from_length}
 use Rattle.buffer_redux.specs.Unbuffer.{Unbuffered}
-use Rattle.codec.specs.Grammar.{Begins, Grammar, IsLawful}
-use Rattle.codec.specs.PieceReader.{IsSettled, ReaderState, left_of, rest}
-use Rattle.messages.specs.declared.bad_head.BadHead.{BadHead}
+use Rattle.codec.specs.PieceReader.{ReaderState, left_of, rest}
 use Rattle.messages.specs.declared.head.Heads.{Heads}
-use Rattle.messages.specs.declared.limits.Limits.{Limits}
-use Rattle.messages.specs.Heads.{heads}
-use Rattle.messages.specs.HeadsLaws.{heads_lawful}
 use Rattle.messages.specs.Messages.{Begun, Bytes, InBody, IsRest, Rest, TakesWholeRest}
 use Rattle.messages.specs.MessagesLaws.{Begun-went}
-
--- no piece begins no byte
-begins_some : {W : Type 0} (g : Grammar W) → IsLawful g → (bytes : List ℕ) → Begins g bytes → 0 < length bytes
-begins_some g lawful bytes begins = omega (
-  arith,
-  lawful.some begins.piece begins.payload begins.is,
-  ap length begins.equal,
-  length-append begins.piece begins.more,
-)
-
--- nor is it wrong
-wrong_some : (limits : Limits) (bytes : List ℕ) (e : BadHead) → (heads limits).wrong bytes e → 0 < length bytes
-wrong_some limits [] e wrong = absurd ((heads_lawful limits).nothing e wrong)
-wrong_some limits (byte ∷ bytes) e wrong = omega arith
-
--- where nothing is buffered the stream is asked
-pub settled_some : {S : Type 0} (s : ReaderState S Heads) → s.ended ≡ false → IsSettled (heads s.decoder.0) s
-    → 0 < length (rest s)
-settled_some s told settled = elim settled [
-  | inl ended ↦ absurd (cc)
-  | inr (inl begins) ↦ begins_some (heads s.decoder.0) (heads_lawful s.decoder.0) (rest s) begins
-  | inr (inr (e, wrong)) ↦ wrong_some s.decoder.0 (rest s) e wrong
-]
 
 -- a body of a length ended where no byte is left of it
 pub sized_ended : (r : Rest) (answer : Bool) → (IsTrue answer ↔ IsRest r [] []) → (n : ℕ) → r ≡ Bytes n

@@ -6,15 +6,6 @@ use Rattle.messages.specs.declared.head.Extent.TheVariants.{Sized, Chunked}
 use Rattle.messages.specs.Messages.{InBody, InsideGoes}
 use Rattle.requests.specs.Large.{IsNewlyLarge, is_large, max_payload}
 
-first_false : (a b : Bool) → a || b ≡ false → a ≡ false
-first_false false b none = refl
-first_false true b none = none
-
--- how much payload one has that isn't too large
-pub small_payload : (extent : Extent) (taken payload : ℕ) → is_large extent taken payload ≡ false → payload ≤ max_payload
-small_payload (Sized all) taken payload small = ltb-false max_payload payload (first_false _ _ small)
-small_payload Chunked taken payload small = ltb-false max_payload payload (first_false _ _ small)
-
 -- a count of what was taken ends far beyond that
 same_test : (n p : ℕ) → p ≤ max_payload
     → nat_lt (16384 + 6 * p) (min n (2 ^ 64 - 1)) ≡ nat_lt (16384 + 6 * p) n

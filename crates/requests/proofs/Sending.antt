@@ -129,13 +129,6 @@ module _ {W : Type 0} {tells : W → StreamLog} {trace : W → W → Type 0} whe
       why = tt;
     }
 
-    pub PutsText-sent : (w v : Buffered W StdPolicy) (answer : Result (Unit {0}) Error) → SendsHeld tells trace w answer v
-        → PutsText tells trace w [] answer v
-    PutsText-sent w v answer (inl (all, well, same)) =
-        subst (λ r. PutsText tells trace w [] r v) (sym well)
-        (subst (PutsText tells trace w [] (Ok tt)) (sym same) (PutsText-none w))
-    PutsText-sent w v answer (inr (some, flushed)) = PutsText-flushed w v answer flushed
-
   module _ (joins : (u v x : W) → trace u v → trace v x → trace u x) where
     -- more was taken in behind that
     pub PutsText-after : (w v w' : Buffered W StdPolicy) (a b : List ℕ) (putting : Result (Unit {0}) Error)

@@ -1,9 +1,8 @@
 -- Of bytes that are surely payload the first are too, be they buffered, shown by a fill, or read past the buffer.
 use Rattle.std.proofs.Common.{◌<◌, ◌≤◌, length, arith}
-use Rattle.std.proofs.lemmas.Result.{err_from_is_err_and}
 use Rattle.body_reader.specs.Coding.{IsKnown}
 use Rattle.body_reader.proofs.Filling.{Carries-fewer, all_shown, show_some}
-use Rattle.body_reader.proofs.Handing.{hands_failed, hands_filled, hands_shown}
+use Rattle.body_reader.proofs.Handing.{hands_filled, hands_shown}
 use Rattle.body_reader.proofs.steps.read_sure.Goals as goal
 
 pub returns-then-held-gt0-clause-hands : goal.returns-then-held-gt0-clause-hands
@@ -24,29 +23,6 @@ returns-then-held-gt0-clause-hands g c =
     c.hand_out.ensures.count room c.hand_out.ensures.bytes
     (all_shown g.R.TellRead.remaining g.P.ReaderPolicy.rules grammar p.place s.block.bytes c.args.sure k c.requires.sure
     (omega (arith, c.min.ensures, c.buf_len-held.ensures.value))) c.args.known.now
-
-pub read_past-requires : goal.read_past-requires
-read_past-requires g c = record {
-  place = c.requires.begins.place;
-  sure = Carries-fewer (g.C.Coding.grammar c.args.coding.now) c.args.progress.now.place c.args.sure c.min-most.result
-      c.args.reader.now.block.bytes c.requires.sure.0
-      (omega (arith, c.min-most.ensures, c.requires.sure.0.some, c.requires.begins.some)) (omega (arith, c.min-most.ensures));
-  past = (
-    omega (arith, c.if-held-gt0.false, c.buf_len-held.ensures.value),
-    omega (arith, c.if-most-capacity.true, c.capacity.ensures.value),
-  );
-  room = omega (arith, c.min-most.ensures);
-  offers = omega (arith, c.min-most.ensures, c.requires.sure.1);
-}
-
-pub returns-then-most-capacity-clause-hands : goal.returns-then-most-capacity-clause-hands
-returns-then-most-capacity-clause-hands g c = c.read_past.ensures c.args.known.now
-
-pub returns-in_err-known-clause-hands : goal.returns-in_err-known-clause-hands
-returns-in_err-known-clause-hands g c =
-    let p = err_from_is_err_and c.from_residual.result c.from_residual.ensures.1 in
-    rw (p.1, p.2) (hands_failed _ _ _ _ _ _ _ _ _ c.requires.begins.some _ _
-    (c.in_err-known.ensures _ (omega (arith, c.min-most.ensures, c.if-most-capacity.false, c.capacity.ensures.value))))
 
 pub returns-clause-hands : goal.returns-clause-hands
 returns-clause-hands g c =

@@ -1,7 +1,7 @@
 -- A byte leads on where the least that ends the extension still fits the line, and runs over where it doesn't.
 use Rattle.std.proofs.Common.{[], arith, rules}
 use Rattle.chunked.specs.Within.{CompletesExtension}
-use Rattle.chunked.proofs.Extending.{extension_on, extension_return, fits_in, runs_over}
+use Rattle.chunked.proofs.Extending.{extension_on, extension_return, fits_in}
 use Rattle.chunked.proofs.Least.{IsLeast}
 use Rattle.chunked.proofs.step.in_extension.Goals as goal
 
@@ -9,11 +9,6 @@ pub returns-in-13 : goal.returns-in-13
 returns-in-13 c =
     let none : CompletesExtension c.args.within [] = search rules in
     λ l. (extension_return l c.args.within c.args.byte c.args.size c.args.room none c.in-13.is, c.requires)
-
-pub returns-in-Some : goal.returns-in-Some
-returns-in-Some c =
-    λ l. runs_over c.args.within c.in-Some.next c.args.byte c.least.result c.in-Some.ensures
-    (c.least.ensures.so_many, c.least.ensures.none_less) c.args.room (omega arith)
 
 pub returns-in-Some-2 : goal.returns-in-Some-2
 returns-in-Some-2 c =

@@ -1,5 +1,5 @@
 -- A digit leads on while the number stays small; what is none is told of as behind a size in an extension.
-use Rattle.std.proofs.Common.{◌≡◌, ◌+◌, ◌*◌, ◌-◌, [], ◌∷◌, ◌∙◌, inl, sym, subst, arith}
+use Rattle.std.proofs.Common.{◌≡◌, ◌+◌, ◌*◌, ◌-◌, [], ◌∷◌, ◌∙◌, sym, subst, arith}
 use Rattle.std.specs.Char.{digit_value}
 use Rattle.chunked.specs.Place.{PassesAlong}
 use Rattle.chunked.specs.declared.place.Place.TheVariants.{Size}
@@ -9,11 +9,6 @@ use Rattle.chunked.proofs.step.in_size.Goals as goal
 pub returns-in-None : goal.returns-in-None
 returns-in-None c =
     λ l. StepsOver-size l c.args.byte c.args.number c.args.room c.in_extension.result c.in-None.ensures (c.in_extension.ensures l)
-
-pub returns-in-Some-2 : goal.returns-in-Some-2
-returns-in-Some-2 c =
-    let found = c.in-Some.ensures in
-    λ l. inl ((found.0, omega (arith, found.0)), omega arith)
 
 pub returns-in-Some-3 : goal.returns-in-Some-3
 returns-in-Some-3 c =

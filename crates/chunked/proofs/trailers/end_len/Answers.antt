@@ -58,10 +58,6 @@ returns-then-len-capacity-clause-cannot c =
       ),
     )
 
-pub returns-clause-lines : goal.returns-clause-lines
-returns-clause-lines c =
-    subst (AllByRecursion IsTrailer) (all_lines c.args.fields.now c.loop-i.i c.loop-i-test.false) c.loop-i.invariant.lines
-
 pub returns-clause-fits : goal.returns-clause-fits
 returns-clause-fits c =
     omega (

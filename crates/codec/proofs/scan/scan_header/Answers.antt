@@ -3,7 +3,7 @@ use Rattle.std.proofs.Common.{◌≡◌, ℕ, ◌<◌, ◌+◌, ◌-◌, ◌∙�
 use Rattle.std.proofs.lemmas.List.{get_or-drop, get_or-take, take-append-drop}
 use Rattle.codec.specs.Scanning.{scan_notes, scanned}
 use Rattle.codec.specs.ScanningLaws.{scanned_headers}
-use Rattle.codec.proofs.Scanning.{scans_all, scans_from, scans_more, scans_says, scans_short}
+use Rattle.codec.proofs.Scanning.{scans_from, scans_more, scans_says, scans_short}
 use Rattle.piece_reader.specs.declared.header.Header.TheVariants.{Sized}
 use Rattle.codec.proofs.scan.scan_header.Goals as goal
 
@@ -80,17 +80,3 @@ returns-clause-says g c =
     sym (scans_short _ _ _ _ _ c.loop-byte.used so.0
     (omega (arith, so.1, c.loop-byte-test.false, length-drop c.args.seen c.args.bytes.now))
     (λ is. c.if-used-most-2.false (is ∙ sym c.most_header-most.ensures)))
-
-pub returns-clause-leaves : goal.returns-clause-leaves
-returns-clause-leaves g c =
-    let so = c.loop-byte.invariant in
-    scans_all _ _ _ _ _ c.loop-byte.used so.0
-    (omega (
-      arith,
-      so.1,
-      c.loop-byte-test.false,
-      c.loop-byte.auto.byte-index-end,
-      c.requires.within,
-      length-drop c.args.seen c.args.bytes.now,
-    ))
-    (λ is. c.if-used-most-2.false (is ∙ sym c.most_header-most.ensures))

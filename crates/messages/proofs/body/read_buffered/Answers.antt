@@ -1,19 +1,6 @@
 -- What the reader did, told of the rest of the body: what it took leads to what is left of that.
-use Rattle.messages.proofs.Going.{body_kept, body_room, body_short, body_take}
+use Rattle.messages.proofs.Going.{body_short, body_take}
 use Rattle.messages.proofs.body.read_buffered.Goals as goal
-
-pub returns-clause-room : goal.returns-clause-room
-returns-clause-room g c =
-    let reads = c.read_buffered.ensures.reads in
-    body_room c.get_ref.ensures.whole reads.whole reads.went c.requires
-
-pub returns-clause-kept : goal.returns-clause-kept
-returns-clause-kept g c =
-    let reads = c.read_buffered.ensures.reads in
-    body_kept c.get_ref.ensures.whole reads.whole reads.went
-
-pub returns-clause-told : goal.returns-clause-told
-returns-clause-told g c = c.read_buffered.ensures.reads.went.handed
 
 pub returns-clause-takes : goal.returns-clause-takes
 returns-clause-takes g c =

@@ -1,14 +1,11 @@
 -- Each field so far is met, and all are behind the last; one that isn't is among them.
 use Rattle.std.proofs.Common.{◌≤◌, length, All, IsTrue, take_all, sym, refl, ◌∙◌, subst, arith}
 use Rattle.std.proofs.lemmas.Bool.{false≢true}
-use Rattle.std.proofs.lemmas.List.Elements.{All-nil, All-map, All-get_or, All-more}
+use Rattle.std.proofs.lemmas.List.Elements.{All-map, All-get_or, All-more}
 use Rattle.httparse.specs.Spans.{header_bytes}
 use Rattle.messages.specs.Heads.{is_met}
 use Rattle.messages.proofs.Spans.{all_of_map, no_span}
 use Rattle.messages.proofs.expect.are_met.Goals as goal
-
-pub loop-span-init : goal.loop-span-init
-loop-span-init c = All-nil _
 
 pub loop-span-preserved : goal.loop-span-preserved
 loop-span-preserved c =

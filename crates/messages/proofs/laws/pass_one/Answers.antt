@@ -17,8 +17,3 @@ returns-in-Ok-finish-clause-passed g c =
       c.in-Ok-finish.ensures.room ∙ c.in-Ok.ensures.next.room,
       c.in-Ok-finish.ensures.limits ∙ ap (λ l. record { 0 = l }) c.in-Ok.ensures.next.limits,
     )
-
-pub returns-in-Err-finish-clause-stopped : goal.returns-in-Err-finish-clause-stopped
-returns-in-Err-finish-clause-stopped g c =
-    let ends = c.in-Err-finish.ensures.ends in
-    (c.in-Ok.body, ends.0, c.in-Ok.ensures.next, ends.1, ends.2)

@@ -1,18 +1,9 @@
 -- Turns join, and the last moved nothing, unless the sum of what all moved passes what a `u64` holds.
-use Rattle.std.proofs.Common.{◌+◌, ◌∙◌, arith, refl, rules, inl, inr}
+use Rattle.std.proofs.Common.{◌+◌, ◌∙◌, arith, rules, inl, inr}
 use Rattle.std.proofs.lemmas.Result.{err_from_is_err_and}
-use Rattle.redux_buffer.specs.CopyLaws.{MovedBy-still, CopiesOn-none, CopiesOn-joins, CopyEnded-after, StreamFailed-after, TakesNothing-after}
+use Rattle.redux_buffer.specs.CopyLaws.{MovedBy-still, CopiesOn-joins, CopyEnded-after, StreamFailed-after, TakesNothing-after}
 use Rattle.redux_buffer.proofs.Turning.{moved_count, faults_come}
 use Rattle.redux_buffer.proofs.copy.copy_buf.Goals as goal
-
-pub turns-init : goal.turns-init
-turns-init g c = record {
-  copies = CopiesOn-none _ _;
-  few = omega arith;
-  reader = g.met.B.TellBufRead.trace_none _;
-  writer = g.met.W.TellWrite.trace_none _;
-  still = λ takes. refl;
-}
 
 pub returns-in_err-taken-clause-copied : goal.returns-in_err-taken-clause-copied
 returns-in_err-taken-clause-copied g c =
@@ -34,14 +25,6 @@ returns-in_err-taken-clause-copied g c =
           turn.answers.one_end (TakesNothing-after _ _ _ g.met.W.TellWrite.trace_joins before.writer takes)
           ∙ before.still takes;
     })
-
-pub returns-in_err-taken-clause-reader : goal.returns-in_err-taken-clause-reader
-returns-in_err-taken-clause-reader g c =
-    g.met.B.TellBufRead.trace_joins _ _ _ c.turns.invariant.reader c.in_err-taken.ensures.reader
-
-pub returns-in_err-taken-clause-writer : goal.returns-in_err-taken-clause-writer
-returns-in_err-taken-clause-writer g c =
-    g.met.W.TellWrite.trace_joins _ _ _ c.turns.invariant.writer c.in_err-taken.ensures.writer
 
 pub returns-then-taken-eq0-clause-copied : goal.returns-then-taken-eq0-clause-copied
 returns-then-taken-eq0-clause-copied g c =

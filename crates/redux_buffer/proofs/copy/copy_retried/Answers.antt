@@ -1,17 +1,8 @@
 -- An interrupted turn moves nothing and meets one fault, so the last turn's answer is that of them all.
-use Rattle.std.proofs.Common.{rules, arith, Ok, Err, refl, ◌∙◌}
-use Rattle.redux_buffer.specs.CopyLaws.{CopiesOn-none, CopiesOn-after, TakesNothing-after, TurnAnswers-after}
+use Rattle.std.proofs.Common.{rules, arith, Ok, Err, ◌∙◌}
+use Rattle.redux_buffer.specs.CopyLaws.{CopiesOn-after, TakesNothing-after, TurnAnswers-after}
 use Rattle.redux_buffer.proofs.Turning.{last_retried}
 use Rattle.redux_buffer.proofs.copy.copy_retried.Goals as goal
-
-pub loop-init : goal.loop-init
-loop-init g c = record {
-  copies = CopiesOn-none _ _;
-  faults = omega arith;
-  reader = g.met.B.TellBufRead.trace_none _;
-  writer = g.met.W.TellWrite.trace_none _;
-  still = λ takes. refl;
-}
 
 pub returns-in-Ok-clause-retried : goal.returns-in-Ok-clause-retried
 returns-in-Ok-clause-retried g c =
@@ -23,14 +14,6 @@ returns-in-Ok-clause-retried g c =
       often = tt;
       few = omega (arith, before.faults, turn.one_fault);
     }
-
-pub returns-in-Ok-clause-reader : goal.returns-in-Ok-clause-reader
-returns-in-Ok-clause-reader g c =
-    g.met.B.TellBufRead.trace_joins _ _ _ c.loop.invariant.reader c.in-Ok.ensures.reader
-
-pub returns-in-Ok-clause-writer : goal.returns-in-Ok-clause-writer
-returns-in-Ok-clause-writer g c =
-    g.met.W.TellWrite.trace_joins _ _ _ c.loop.invariant.writer c.in-Ok.ensures.writer
 
 pub returns-then-ne-clause-retried : goal.returns-then-ne-clause-retried
 returns-then-ne-clause-retried g c =
@@ -70,11 +53,3 @@ returns-clause-retried g c =
     let before = c.loop.invariant in
     last_retried _ _ _ g.met.W.TellWrite.trace_joins before.copies before.writer before.still c.copy_turn-2.result
     (search rules) (search rules) c.copy_turn-2.ensures.turn
-
-pub returns-clause-reader : goal.returns-clause-reader
-returns-clause-reader g c =
-    g.met.B.TellBufRead.trace_joins _ _ _ c.loop.invariant.reader c.copy_turn-2.ensures.reader
-
-pub returns-clause-writer : goal.returns-clause-writer
-returns-clause-writer g c =
-    g.met.W.TellWrite.trace_joins _ _ _ c.loop.invariant.writer c.copy_turn-2.ensures.writer

@@ -53,7 +53,3 @@ returns-clause-turn g c =
       ended_once = search rules;
       one_fault = search rules;
     }
-
-pub returns-clause-reader : goal.returns-clause-reader
-returns-clause-reader g c =
-    g.met.B.TellBufRead.trace_joins _ _ _ c.fill_told.follows.holds-at-none.1 c.consume_told.ensures.trace

@@ -1,23 +1,7 @@
 -- Behind as many interrupted calls as the loop has counted, which are 64 at its end, the last one failed.
-use Rattle.std.proofs.Common.{arith, refl, rules, suc}
+use Rattle.std.proofs.Common.{arith, rules, suc}
 use Rattle.std.proofs.Math.Numerals.{add-one}
 use Rattle.redux_buffer.proofs.retry.retry.Goals as goal
-
-pub loop-init : goal.loop-init
-loop-init g c = record { failed = λ s went. (s, refl, went); may = c.requires.may }
-
-pub returns-then-ne : goal.returns-then-ne
-returns-then-ne g c = record {
-  retried = λ s went.
-      let before = c.loop.invariant.failed s went in record {
-        count = c.loop.counter;
-        last = before.0;
-        interrupted = before.1;
-        most = omega (arith, c.loop.auto.counter-end);
-        often = search rules;
-        went = before.2;
-      };
-}
 
 pub returns-in-Ok : goal.returns-in-Ok
 returns-in-Ok g c = record {
@@ -41,17 +25,4 @@ loop-preserved g c = record {
         c.in-Err.ensures.step,
       );
   may = g.met.A.Attempt.again _ _ _ _ c.loop.invariant.may c.in-Err.ensures.step;
-}
-
-pub returns : goal.returns
-returns g c = record {
-  retried = λ s went.
-      let before = c.loop.invariant.failed s went in record {
-        count = c.loop.counter;
-        last = before.0;
-        interrupted = before.1;
-        most = omega (arith, c.loop.auto.counter-end);
-        often = λ is. omega (arith, c.loop.auto.counter-end, c.loop-test.false);
-        went = before.2;
-      };
 }

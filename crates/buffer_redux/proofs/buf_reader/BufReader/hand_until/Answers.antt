@@ -1,9 +1,8 @@
 -- What was handed so far lacks the byte, and each fill shows more than the sink left, so the loop ends.
 use Rattle.std.proofs.Common.{◌≡◌, ◌<◌, ◌∙◌, ap, length, subst, sym}
 use Rattle.std.proofs.lemmas.Result.{err_from_is_err_and}
-use Rattle.redux_buffer.specs.Block.{IsBlock}
 use Rattle.buffer_redux.specs.ReadUntil.{FirstAt, Lacks}
-use Rattle.buffer_redux.proofs.HandSteps.{HandedOn, ends_at_all, ends_empty, ends_failed, ends_reached, fills_more, handed_filled, handed_none, handed_on}
+use Rattle.buffer_redux.proofs.HandSteps.{HandedOn, ends_at_all, ends_empty, ends_failed, ends_reached, fills_more, handed_filled, handed_on}
 use Rattle.buffer_redux.proofs.buf_reader.BufReader.hand_until.Goals as goal
 use Rattle.buffer_redux.proofs.buf_reader.BufReader.hand_until.Goals.{After-fill_more, After-first_of}
 
@@ -21,12 +20,6 @@ filled_more : (g : _) (c : goal.After-first_of g)
     → length c.hand_first.new.self.block.bytes < length c.fill_more.new.self.block.bytes
 filled_more g c = fills_more _ _ c.is_empty.result c.in_ok-fill_more.ensures.fills.1
     (rw (ap (λ x. length x.block.bytes) c.self-in-fills-2.view_is) at c.is_empty.ensures.value) c.if-is_empty.false
-
-pub fills-init : goal.fills-init
-fills-init g c = record {
-  handed = handed_none _ _ _ g.met.K.Sink.lawful _ _ _ (subst (λ x. IsBlock x.block) c.self.view_is c.self.invariant);
-  behind = c.requires.plain;
-}
 
 pub returns-in_err-hand_first : goal.returns-in_err-hand_first
 returns-in_err-hand_first g c =

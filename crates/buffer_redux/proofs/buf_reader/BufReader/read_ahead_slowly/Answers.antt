@@ -4,7 +4,7 @@ use Rattle.std.proofs.lemmas.Result.{err_from_is_err_and}
 use Rattle.std.specs.declared.io.Error.{Error}
 use Rattle.buffer_redux.specs.BufReader.{ReadsIntoBuf}
 use Rattle.buffer_redux.specs.Sparing.{Spared}
-use Rattle.buffer_redux.proofs.AheadSteps.{AsksOnce, MakesRoomFor, ahead_dry, ahead_failed, makes_room, turns_more, turns_none}
+use Rattle.buffer_redux.proofs.AheadSteps.{AsksOnce, MakesRoomFor, ahead_dry, ahead_failed, makes_room, turns_more}
 use Rattle.buffer_redux.proofs.buf_reader.BufReader.read_ahead_slowly.Goals as goal
 use Rattle.buffer_redux.proofs.buf_reader.BufReader.read_ahead_slowly.Goals.{After-read_into_buf}
 
@@ -24,9 +24,6 @@ asked g c answer reads spared = record {
   reads = reads;
   spared = spared;
 }
-
-pub loop-self-init : goal.loop-self-init
-loop-self-init g c = record { turns = turns_none _ _ _ _ }
 
 pub loop-self-preserved : goal.loop-self-preserved
 loop-self-preserved g c =

@@ -80,11 +80,3 @@ returns-in-None-clause-invalid g c =
 pub returns-in_err-n-in-Some-clause-appended : goal.returns-in_err-n-in-Some-clause-appended
 returns-in_err-n-in-Some-clause-appended g c =
     let line = returns-in_err-n-in-Some-clause-line g c in (line.handed, line.appended, line.front.in_order, line.count)
-
-pub returns-in_ok-n-in-Some-clause-appended : goal.returns-in_ok-n-in-Some-clause-appended
-returns-in_ok-n-in-Some-clause-appended g c =
-    let line = returns-in_ok-n-in-Some-clause-line g c in (line.handed, line.appended, line.front.in_order, line.count)
-
-pub returns-in-None-clause-appended : goal.returns-in-None-clause-appended
-returns-in-None-clause-appended g c =
-    let line = c.read_line_apart.ensures.line in (line.handed, line.appended, line.front.in_order, line.count)

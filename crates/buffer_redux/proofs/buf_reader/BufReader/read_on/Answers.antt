@@ -36,13 +36,6 @@ within g c =
       put_length c.loop.at c.loop.out c.read.new.out (omega (arith, c.if-at-out.false)) (part g c),
     )
 
-pub overflow_add-at : goal.overflow_add-at
-overflow_add-at g c =
-    let took = taken_by c.read.result c.in_ok-at-2.field-0 c.in_ok-at-2.ensures c.read.new.out c.read.ensures.bound in
-    let fits : c.loop.at + c.in_ok-at-2.field-0 ≤ length c.loop.out =
-    omega (arith, took.0, part g c, c.if-at-out.false) in
-    search rules
-
 pub loop-preserved : goal.loop-preserved
 loop-preserved g c =
     let r = c.read.ensures in

@@ -2,7 +2,6 @@
 use Rattle.std.proofs.Common.{true, length, Ok, Err, inl, inr, refl, ap, subst, arith, rules}
 use Rattle.std.proofs.lemmas.Bool.{cases_lt}
 use Rattle.std.proofs.lemmas.Result.{err_from_is_err_and}
-use Rattle.std.proofs.lemmas.Grind.{common_steps}
 use Rattle.buffer_redux.specs.Buffered.{Buffered, StaysInside}
 use Rattle.buffer_redux.specs.ReadInside.{AskedRead, FillDone}
 use Rattle.buffer_redux.proofs.FillFacts.{ReadsInOrder-direct}
@@ -100,24 +99,3 @@ returns g c =
     ] in
     says remaining table c.args.self.now c.args.out.now (Ok c.hand_out.result) c.hand_out.new.out c.hand_out.new.self
     (c.else-branch.self, fill, c.hand_out.ensures.hands) (inside g before)
-
-pub returns-then-out-capacity-clause-bound : goal.returns-then-out-capacity-clause-bound
-returns-then-out-capacity-clause-bound g c = grind (arith, common_steps)
-
-pub returns-then-out-capacity-clause-bytes : goal.returns-then-out-capacity-clause-bytes
-returns-then-out-capacity-clause-bytes g c = grind (arith, common_steps)
-
-pub returns-then-out-capacity-clause-caused : goal.returns-then-out-capacity-clause-caused
-returns-then-out-capacity-clause-caused g c = grind (arith, common_steps)
-
-pub returns-then-out-capacity-clause-empty : goal.returns-then-out-capacity-clause-empty
-returns-then-out-capacity-clause-empty g c = grind (arith, common_steps)
-
-pub returns-then-out-capacity-clause-ran_dry : goal.returns-then-out-capacity-clause-ran_dry
-returns-then-out-capacity-clause-ran_dry g c = grind (arith, common_steps)
-
-pub returns-then-out-capacity-clause-steps : goal.returns-then-out-capacity-clause-steps
-returns-then-out-capacity-clause-steps g c = grind (arith, common_steps)
-
-pub returns-then-out-capacity-clause-keeps : goal.returns-then-out-capacity-clause-keeps
-returns-then-out-capacity-clause-keeps g c = grind (arith, common_steps)

@@ -44,9 +44,6 @@ returns-then-at-bytes g c = record {
       (c.loop.invariant.turned s (record { steps = steps; whole = whole; went = went })) c.if-at-bytes.true;
 }
 
-pub overflow_add-at : goal.overflow_add-at
-overflow_add-at g c = let fits = within g c in search rules
-
 pub returns-in_err-at-2 : goal.returns-in_err-at-2
 returns-in_err-at-2 g c = record {
   all = λ s steps whole went.

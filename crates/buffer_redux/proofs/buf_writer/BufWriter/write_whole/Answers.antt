@@ -1,34 +1,12 @@
 -- No bytes are no write, bytes that fit are one, and other bytes are a first write that more of them join.
-use Rattle.std.proofs.Common.{◌≡◌, ◌<◌, ℕ, [], Ok, length, refl, arith, inl, sym, ◌∙◌}
+use Rattle.std.proofs.Common.{◌≡◌, ◌<◌, [], Ok, length, refl, arith, inl, sym, ◌∙◌}
 use Rattle.std.proofs.lemmas.List.{nil_from_length}
 use Rattle.redux_buffer.specs.Block.{usable}
 use Rattle.buffer_redux.specs.Buffered.{Buffered}
-use Rattle.buffer_redux.specs.WriteAll.{AskedFirst}
 use Rattle.buffer_redux.proofs.Testing.{some_of, zero_of}
 use Rattle.buffer_redux.proofs.WriteOn.{writes_on, flushes_none, takes_in_all}
 use Rattle.buffer_redux.proofs.WriteAll.{all_none, all_at_once}
 use Rattle.buffer_redux.proofs.buf_writer.BufWriter.write_whole.Goals as goal
-use Rattle.buffer_redux.proofs.buf_writer.BufWriter.write_whole.Goals.{In-Ok}
-
--- what the policy answered where it returned no error
-asked_first : (g : _) (c : goal.In-Ok g) (amount : ℕ) → c.in-Ok.field-0.0 ≡ amount → AskedFirst g.W.Tell.log
-    g.P.WriterPolicy.rules (length c.args.bytes.now) amount c.args.self.now (record {
-      policy = c.before_write.new.self;
-      block = c.before_write.new.buf;
-      inner = c.self.inside.inner;
-      log = g.W.Tell.log c.self.inside.inner;
-      own_calls = c.self.inside.calls.log;
-    })
-asked_first g c amount is = rw (← c.self.view_is) (record {
-  answer = c.in-Ok.field-0;
-  is = is;
-  asked = c.in-Ok.ensures;
-  whole = c.self.invariant;
-  inner = refl;
-  told_before = refl;
-  told = refl;
-  noted = refl;
-})
 
 -- nothing is to be written
 pub returns-then-is_empty : goal.returns-then-is_empty
@@ -38,27 +16,6 @@ returns-then-is_empty g c =
     record {
       steps = (rw empty (rw (← c.self.view_is) (all_none _ _ g.met.W.TellWrite.trace_none
           g.met.W.TellWrite.trace_joins _ _ c.self.invariant refl)));
-    }
-
--- something is sent first
-pub returns-then-first-gt0 : goal.returns-then-first-gt0
-returns-then-first-gt0 g c =
-    record {
-      steps = (c.write_rest_apart.ensures.all c.args.self.now
-          (asked_first g (goal.at.returns-then-first-gt0 g c).In-Ok _ refl));
-    }
-
--- the bytes may not fit, before the policy was asked
-pub returns-then-not-has_space_behind : goal.returns-then-not-has_space_behind
-returns-then-not-has_space_behind g c = record { steps = c.write_large_apart.ensures.all }
-
--- the bytes may not fit, once the policy was asked
-pub returns-then-usable_space-bytes : goal.returns-then-usable_space-bytes
-returns-then-usable_space-bytes g c =
-    record {
-      steps = (c.write_rest_apart-then-usable_space-bytes.ensures.all c.args.self.now
-          (asked_first g (goal.at.returns-then-usable_space-bytes g c).In-Ok 0
-          (omega (arith, c.if-first-gt0.false, c.in-Ok.first-is))));
     }
 
 -- neither is so

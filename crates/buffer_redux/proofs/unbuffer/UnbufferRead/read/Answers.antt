@@ -5,7 +5,7 @@ use Rattle.std.specs.Io.KnownBytes.{prepend_known, ReadConsumes}
 use Rattle.std.proofs.lemmas.Grind.{common_steps}
 use Rattle.std.proofs.lemmas.List.{take-append-drop, nil_from_length, drop_min}
 use Rattle.redux_buffer.specs.GivesRemaining.{GivesRemaining, GivesRemaining-none, GivesRemaining-ahead}
-use Rattle.redux_buffer.specs.LogGrows.{ReadLogGrows, ReadLogGrows-none, ReadLogGrows-read}
+use Rattle.redux_buffer.specs.LogGrows.{ReadLogGrows, ReadLogGrows-none}
 use Rattle.redux_buffer.specs.StreamLog.{StreamLog, portion}
 use Rattle.buffer_redux.specs.Unbuffer.{Unbuffered, HandsOutInOrder, bytes_in}
 use Rattle.buffer_redux.proofs.unbuffer.UnbufferRead.read.Goals as goal
@@ -72,11 +72,6 @@ returns-in_default-clause-in_order g c =
       equal = ap (λ l. given ++ l) left ∙ append-nil given ∙ sym (ap (λ l. l ++ given) left);
     })
 
-pub returns-in_default-clause-grows : goal.returns-in_default-clause-grows
-returns-in_default-clause-grows g c =
-    rw (← c.self.view_is, c.read_told.ensures.told)
-    (ReadLogGrows-read (g.R.Tell.log c.self.inside.inner) c.read_told.new.buf c.read_told.result)
-
 then_handed : (g : _) (c : goal.Joined-self-2 g) → Handed g.R.TellRead.remaining c.args.self.now c.match-self-2.self
     c.copy_to_slice-n.result c.args.out.now c.copy_to_slice-n.new.out
 then_handed g c =
@@ -112,30 +107,6 @@ else_handed g c =
 
 pub returns-then-is_empty-clause-in_order : goal.returns-then-is_empty-clause-in_order
 returns-then-is_empty-clause-in_order g c = (then_handed g c).in_order
-
-pub returns-then-is_empty-clause-left : goal.returns-then-is_empty-clause-left
-returns-then-is_empty-clause-left g c = λ _. (then_handed g c).left
-
-pub returns-then-is_empty-clause-grows : goal.returns-then-is_empty-clause-grows
-returns-then-is_empty-clause-grows g c = (then_handed g c).grows
-
-pub returns-then-is_empty-clause-asked : goal.returns-then-is_empty-clause-asked
-returns-then-is_empty-clause-asked g c = λ none. absurd (omega (arith, (then_handed g c).some, none))
-
-pub returns-then-is_empty-clause-bytes : goal.returns-then-is_empty-clause-bytes
-returns-then-is_empty-clause-bytes g c = (then_handed g c).bytes
-
-pub returns-else-is_empty-clause-in_order : goal.returns-else-is_empty-clause-in_order
-returns-else-is_empty-clause-in_order g c = (else_handed g c).in_order
-
-pub returns-else-is_empty-clause-left : goal.returns-else-is_empty-clause-left
-returns-else-is_empty-clause-left g c = λ _. (else_handed g c).left
-
-pub returns-else-is_empty-clause-grows : goal.returns-else-is_empty-clause-grows
-returns-else-is_empty-clause-grows g c = (else_handed g c).grows
-
-pub returns-else-is_empty-clause-asked : goal.returns-else-is_empty-clause-asked
-returns-else-is_empty-clause-asked g c = λ none. absurd (omega (arith, (else_handed g c).some, none))
 
 pub returns-else-is_empty-clause-bytes : goal.returns-else-is_empty-clause-bytes
 returns-else-is_empty-clause-bytes g c = (else_handed g c).bytes

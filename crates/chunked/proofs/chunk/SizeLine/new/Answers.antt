@@ -1,5 +1,5 @@
 -- The digits of what is left, and then the bytes from `start` on, are at each turn the whole line.
-use Rattle.std.proofs.Common.{◌≡◌, ◌/◌, ◌%◌, [], ◌∷◌, ◌++◌, map, drop, sym, refl, ap, ◌∙◌, arith, append_assoc}
+use Rattle.std.proofs.Common.{◌/◌, ◌%◌, [], ◌∷◌, ◌++◌, map, drop, sym, refl, ap, ◌∙◌, arith, append_assoc}
 use Rattle.std.specs.Char.{digit_char}
 use Rattle.std.specs.Int.Digits.{digits_of}
 use Rattle.std.proofs.lemmas.List.{map-append, length-set}
@@ -38,8 +38,3 @@ loop-left-preserved c =
       start = omega (arith, before.start);
       size = length-set l.bytes _ _ ∙ before.size;
     }
-
-pub returns : goal.returns
-returns c =
-    let none : c.loop-left.left ≡ 0 = omega (arith, c.loop-left-test.false) in
-    ap (λ k. size_digits k ++ drop c.loop-left.start c.loop-left.bytes) (sym none) ∙ c.loop-left.invariant.written

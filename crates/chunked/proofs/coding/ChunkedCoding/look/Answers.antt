@@ -13,6 +13,3 @@ returns-in-Data c =
     subst (λ p. body.Looks (chunked c.args.self.now.0) p c.args.shown.now (Payload c.in-Data.left)) (sym c.in-Data.is)
     (looks_data c.args.self.now.0 c.in-Data.left c.args.shown.now
     (settled_some c.args.self.now.0 c.in-Data.left (subst IsDataOrDone c.in-Data.is settled)))
-
-pub look_on-requires-clause-open : goal.look_on-requires-clause-open
-look_on-requires-clause-open c = λ settled. (let odd = c.is_settled.ensures.1 settled in cc)

@@ -1,8 +1,8 @@
 -- The first byte says of which protocol the bytes are, so what is open, found or noted is so for that side.
 use Rattle.std.proofs.Common.{◌<◌, rules, false, length, subst, sym, true, ◌∙◌}
-use Rattle.piece_reader.specs.Decoding.{Decodes, OnMore}
-use Rattle.codec.specs.FirstByte.{either, either_notes}
-use Rattle.codec.specs.FirstByteLaws.{more_as, renamed_decodes, renamed_open, side_decodes, side_leaves, side_noted, side_open}
+use Rattle.piece_reader.specs.Decoding.{Decodes}
+use Rattle.codec.specs.FirstByte.{either}
+use Rattle.codec.specs.FirstByteLaws.{renamed_decodes, renamed_open, side_decodes, side_open}
 use Rattle.codec.specs.declared.by_first.EitherWrong.TheVariants.{One, Other}
 use Rattle.codec.proofs.by_first.ByFirstDecoder.decode.Goals as goal
 
@@ -46,44 +46,3 @@ returns-else-begins_with-clause-finds g c =
     some (sym c.begins_with.ensures ∙ c.if-begins_with.false) _
     (renamed_decodes (λ e. Other e) other c.args.bytes.now c.decode-else-begins_with.result
     c.decode-else-begins_with.ensures.finds))
-
-pub decode-requires-clause-noted : goal.decode-requires-clause-noted
-decode-requires-clause-noted g c =
-    let s = c.args.self.now in
-    let some : 0 < length c.args.bytes.now = search rules in
-    side_noted s.byte (g.A.Decoder.notes s.one) (g.B.Decoder.notes s.other) c.args.note.now true c.args.bytes.now c.args.seen some
-    (sym c.begins_with.ensures ∙ c.if-begins_with.true) c.requires.noted
-
-pub decode-requires-else-begins_with-clause-noted : goal.decode-requires-else-begins_with-clause-noted
-decode-requires-else-begins_with-clause-noted g c =
-    let s = c.args.self.now in
-    let some : 0 < length c.args.bytes.now = search rules in
-    side_noted s.byte (g.A.Decoder.notes s.one) (g.B.Decoder.notes s.other) c.args.note.now false c.args.bytes.now c.args.seen
-    some (sym c.begins_with.ensures ∙ c.if-begins_with.false) c.requires.noted
-
-pub returns-then-begins_with-clause-leaves : goal.returns-then-begins_with-clause-leaves
-returns-then-begins_with-clause-leaves g c =
-    let s = c.args.self.now in
-    let some : 0 < length c.args.bytes.now = search rules in
-    let Ones = g.A.Decoder.notes s.one in
-    let Others = g.B.Decoder.notes s.other in
-    let note : g.row.A-Note.Denot × g.row.B-Note.Denot = (c.decode.new.note, c.args.note.now.1) in
-    subst (λ r. OnMore r (either_notes s.byte Ones Others c.args.bytes.now note)) (sym c.as_one.ensures)
-    (more_as (λ e. One e) c.decode.result (g.A.Decoder.notes s.one c.args.bytes.now c.decode.new.note)
-    (either_notes s.byte Ones Others c.args.bytes.now note)
-    (side_leaves s.byte Ones Others note true c.args.bytes.now some (sym c.begins_with.ensures ∙ c.if-begins_with.true))
-    c.decode.ensures.leaves)
-
-pub returns-else-begins_with-clause-leaves : goal.returns-else-begins_with-clause-leaves
-returns-else-begins_with-clause-leaves g c =
-    let s = c.args.self.now in
-    let some : 0 < length c.args.bytes.now = search rules in
-    let Ones = g.A.Decoder.notes s.one in
-    let Others = g.B.Decoder.notes s.other in
-    let note : g.row.A-Note.Denot × g.row.B-Note.Denot = (c.args.note.now.0, c.decode-else-begins_with.new.note) in
-    subst (λ r. OnMore r (either_notes s.byte Ones Others c.args.bytes.now note)) (sym c.as_other.ensures)
-    (more_as (λ e. Other e) c.decode-else-begins_with.result
-    (g.B.Decoder.notes s.other c.args.bytes.now c.decode-else-begins_with.new.note)
-    (either_notes s.byte Ones Others c.args.bytes.now note)
-    (side_leaves s.byte Ones Others note false c.args.bytes.now some (sym c.begins_with.ensures ∙ c.if-begins_with.false))
-    c.decode-else-begins_with.ensures.leaves)

@@ -1,13 +1,9 @@
 -- Each call hands out the first payload that is left, so none is missing before the last and none comes behind.
-use Rattle.std.proofs.Common.{map, drop, Ok, subst, arith}
+use Rattle.std.proofs.Common.{Ok, subst, arith}
 use Rattle.std.proofs.lemmas.Result.{err_from_is_err_and}
 use Rattle.piece_reader.specs.Runs.{kept_answer}
 use Rattle.codec.proofs.Stepping.{end_fails, read_all, read_fails, read_lost, read_more, read_none, reads_on}
 use Rattle.codec.proofs.laws.known.read_each.Goals as goal
-
-pub next_of_known-requires : goal.next_of_known-requires
-next_of_known-requires g c =
-    record { left = (map (λ v. v.items) (drop c.loop.index c.args.payloads.now), c.loop.invariant.has) }
 
 pub unreachable-requires : goal.unreachable-requires
 unreachable-requires g c =

@@ -1,18 +1,11 @@
 -- A writer of memory fails for want of memory alone, and the writer keeps the encoder that it was made with.
 use Rattle.std.proofs.Common.{◌≡◌, map, sym, subst, rules, inl}
-use Rattle.std.specs.List.{All}
 use Rattle.buffer_redux.specs.Faults.{IsMemory}
 use Rattle.buffer_redux.specs.WritesAlongLaws.{WasFlushed-memory}
 use Rattle.codec.specs.WriteRuns.{IfRefused, RefusesOne}
 use Rattle.codec.specs.WriteRunsLaws.{CallPlays-ok}
 use Rattle.codec.proofs.Refusing.{or_larger, write_reason, write_refused}
 use Rattle.codec.proofs.laws.lists.written.Goals as goal
-
-pub returns-in-Err-clause-fault : goal.returns-in-Err-clause-fault
-returns-in-Err-clause-fault g c =
-    let same : c.in_ok-writer.writer.encoder ≡ c.args.encoder = search rules in
-    λ fit. c.in-Err.ensures.fault
-    (subst (λ e. All (g.E.Encoder.encoding e).takes (map (λ v. v.items) c.args.payloads.now)) (sym same) fit)
 
 pub returns-in-Err-clause-refused : goal.returns-in-Err-clause-refused
 returns-in-Err-clause-refused g c =

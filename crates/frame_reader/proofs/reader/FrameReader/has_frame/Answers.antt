@@ -2,10 +2,9 @@
 use Rattle.std.proofs.Common.{◌∙◌, ap, inl, inr, refl, subst}
 use Rattle.codec.specs.declared.Found.TheVariants.{More, Piece, Wrong}
 use Rattle.codec.specs.Grammar.{Begins}
-use Rattle.codec.specs.GrammarLaws.{begins_of, open_none}
+use Rattle.codec.specs.GrammarLaws.{begins_of}
 use Rattle.codec.specs.PieceReader.{rest}
 use Rattle.frame_reader.specs.Framed.{framed}
-use Rattle.frame_reader.specs.FramedLaws.{framed_lawful}
 use Rattle.frame_reader.specs.Next.{ReadsFrames}
 use Rattle.frame_reader.proofs.Pieces.{decoded, unsettled}
 use Rattle.frame_reader.proofs.reader.FrameReader.has_frame.Goals as goal
@@ -18,11 +17,6 @@ begins g c =
     let found = decoded s _ _ (c.decoder.ensures ∙ ap (λ x. x.decoder) c.self.view_is)
     (c.rest.ensures.value ∙ ap rest c.self.view_is) (Piece span used) c.in-Piece.ensures.finds in
     begins_of (framed s.decoder.max) (rest s) span used found
-
-pub returns-in-Piece-clause-none : goal.returns-in-Piece-clause-none
-returns-in-Piece-clause-none g c none =
-    let d = c.args.self.now.decoder in
-    absurd ((open_none (framed d.max) (framed_lawful d.max d.fits)).no_piece (subst (Begins (framed d.max)) none (begins g c)))
 
 pub returns-in-Piece-clause-settled : goal.returns-in-Piece-clause-settled
 returns-in-Piece-clause-settled g c = (λ _. inr (inl (begins g c)), λ _. refl)
@@ -38,12 +32,6 @@ returns-in-More-clause-settled g c =
 wrong : (g : _) (c : goal.In-Wrong g) → (framed c.args.self.now.decoder.max).wrong (rest c.args.self.now) c.in-Wrong.field-0
 wrong g c = decoded c.args.self.now _ _ (c.decoder.ensures ∙ ap (λ x. x.decoder) c.self.view_is)
     (c.rest.ensures.value ∙ ap rest c.self.view_is) (Wrong c.in-Wrong.field-0) c.in-Wrong.ensures.finds
-
-pub returns-in-Wrong-clause-none : goal.returns-in-Wrong-clause-none
-returns-in-Wrong-clause-none g c none =
-    let d = c.args.self.now.decoder in
-    absurd ((framed_lawful d.max d.fits).nothing c.in-Wrong.field-0
-    (subst (λ l. (framed d.max).wrong l c.in-Wrong.field-0) none (wrong g c)))
 
 pub returns-in-Wrong-clause-settled : goal.returns-in-Wrong-clause-settled
 returns-in-Wrong-clause-settled g c = (λ _. inr (inr (c.in-Wrong.field-0, wrong g c)), λ _. refl)

@@ -1,17 +1,10 @@
 -- What is left is bytes, so where these settle nothing there are none, or they are a frame that is cut short.
-use Rattle.std.proofs.Common.{◌∙◌, Ok, Err, ap, subst, sym}
-use Rattle.codec.specs.NextPiece.{NextPiece, load_answer}
+use Rattle.std.proofs.Common.{◌∙◌, Err, ap, subst, sym}
+use Rattle.codec.specs.NextPiece.{NextPiece}
 use Rattle.frame_reader.specs.Framed.{framed}
 use Rattle.frame_reader.specs.Next.{Next}
-use Rattle.frame_reader.proofs.Pieces.{Next-failed, Next-found, lent_fits}
+use Rattle.frame_reader.proofs.Pieces.{Next-failed, lent_fits}
 use Rattle.frame_reader.proofs.reader.FrameReader.step.Goals as goal
-
-pub returns-in-Ok-clause-next : goal.returns-in-Ok-clause-next
-returns-in-Ok-clause-next g c =
-    let remaining = g.R.TellRead.remaining in
-    let t = c.step.new.self in
-    subst (λ x. Next remaining x (load_answer (Ok c.in-Ok.found) t) t) c.self.view_is
-    (Next-found remaining c.self.inside.pieces t c.in-Ok.found c.in-Ok.ensures.next)
 
 pub returns-in-Err-clause-next : goal.returns-in-Err-clause-next
 returns-in-Err-clause-next g c =

@@ -2,12 +2,7 @@
 use Rattle.std.proofs.Common.{◌↔◌, IsTrue, subst}
 use Rattle.codec.specs.PieceReader.{IsSettled}
 use Rattle.messages.specs.Heads.{heads}
-use Rattle.messages.proofs.Said.{settled_some}
 use Rattle.messages.proofs.requests.Requests.is_settled.Goals as goal
-
-pub returns-clause-some : goal.returns-clause-some
-returns-clause-some g c = λ yes.
-    rw (← c.self.view_is) (settled_some c.self.inside.pieces c.self.invariant.1 (c.is_settled.ensures.settled.0 yes))
 
 pub returns-clause-settled : goal.returns-clause-settled
 returns-clause-settled g c =

@@ -6,21 +6,6 @@ use Rattle.piece_reader.specs.HeaderFormat.{length_prefixed}
 use Rattle.piece_reader.specs.HeaderFormatLaws.{length_prefixed_piece, sized_lacks}
 use Rattle.piece_reader.proofs.by_header.ByHeaderDecoder.decode.Goals as goal
 
-pub returns-then-bytes-whole-clause-finds : goal.returns-then-bytes-whole-clause-finds
-returns-then-bytes-whole-clause-finds g c =
-    let h = g.H.LengthPrefixed.header_format c.args.self.now.0 in
-    let law = g.met.H.LengthPrefixed.headers c.args.self.now.0 in
-    let bytes = c.args.bytes.now in
-    let len = c.in-Sized.len in
-    let used = c.in-Sized.used in
-    let is = sym c.header.ensures.says ∙ c.in-Sized.is in
-    let fits : len ≤ h.max = omega (arith, c.if-len-max.false, c.max.ensures) in
-    let tail = ap length c.tail-tail.ensures in (
-      c.if-bytes-whole.true,
-      omega (arith, (law.some bytes len used is).2, fits, tail),
-      subst (λ n. IsOpenBelow (length_prefixed h) (used + len + n) bytes) (sym tail) (sized_lacks h law bytes len used is fits),
-    )
-
 pub returns-else-not-is_tail-clause-finds : goal.returns-else-not-is_tail-clause-finds
 returns-else-not-is_tail-clause-finds g c =
     let h = g.H.LengthPrefixed.header_format c.args.self.now.0 in

@@ -26,11 +26,6 @@ returns-in-Some-clause-finds c =
     found_piece d.end d.max c.args.bytes.now c.in-Some.len (omega (arith, found.0, c.min-to.ensures))
     (omega (arith, found.0, c.min-to.ensures)) found.1
 
-pub returns-then-bytes-self-clause-finds : goal.returns-then-bytes-self-clause-finds
-returns-then-bytes-self-clause-finds c =
-    let d = c.args.self.now in
-    too_long d.end d.max c.args.bytes.now c.min-to.result c.min-to.ensures c.in-None.ensures.none c.if-bytes-self.true
-
 pub returns-else-bytes-self-clause-finds : goal.returns-else-bytes-self-clause-finds
 returns-else-bytes-self-clause-finds c =
     let d = c.args.self.now in

@@ -22,6 +22,3 @@ returns-in-Piece g c =
       none = λ none. absurd (begins_none grammar (g.met.D.Decoder.lawful c.args.self.now.decoder) (begins g c) none);
       settled = (λ _. inr (inl (begins g c)), λ _. refl);
     }
-
-pub decode-requires-clause-within : goal.decode-requires-clause-within
-decode-requires-clause-within g c = grind (arith, common_steps)

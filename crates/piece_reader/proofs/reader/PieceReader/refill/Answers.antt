@@ -7,10 +7,6 @@ use Rattle.piece_reader.specs.Steps.{AsksFor}
 use Rattle.piece_reader.proofs.Refilling.{came_left, ends, fails, refilled}
 use Rattle.piece_reader.proofs.reader.PieceReader.refill.Goals as goal
 
-pub read_to-requires-clause-most : goal.read_to-requires-clause-most
-read_to-requires-clause-most g c =
-    omega (arith, (g.met.D.Decoder.lawful c.drop_handed.new.self.decoder).room)
-
 pub returns-in_err-came : goal.returns-in_err-came
 returns-in_err-came g c =
     let remaining = g.R.TellRead.remaining in

@@ -3,9 +3,6 @@ use Rattle.std.proofs.Common.{arith}
 use Rattle.std.proofs.lemmas.Grind.{common_steps, elements}
 use Rattle.piece_reader.proofs.reader.PieceReader.skip.Goals as goal
 
-pub overflow_add-self : goal.overflow_add-self
-overflow_add-self g c = grind (arith, common_steps)
-
 pub invariant_of-self : goal.invariant_of-self
 invariant_of-self g c = grind (arith, elements)
 

@@ -37,38 +37,3 @@ pub returns-in-Piece-clause-lends : goal.returns-in-Piece-clause-lends
 returns-in-Piece-clause-lends g c =
     lends_piece g.D.Decoder.grammar c.args.self.now c.take.new.self c.self.inside.handed (ap (λ x. x.handed) c.self.view_is)
     c.take.ensures.whole c.in-Piece.span c.in-Piece.field-1 c.in-Piece.ensures.takes
-
-pub returns-in-Wrong-clause-next : goal.returns-in-Wrong-clause-next
-returns-in-Wrong-clause-next g c =
-    let s = c.args.self.now in
-    wrong_now g.R.TellRead.remaining (g.D.Decoder.grammar s.decoder) (g.met.D.Decoder.lawful s.decoder) s c.take.new.self
-    c.in-Wrong.e c.in-Wrong.ensures.takes.0 c.in-Wrong.ensures.takes.1 c.take.ensures.before
-
-pub returns-in-More-clause-ready : goal.returns-in-More-clause-ready
-returns-in-More-clause-ready g c piece payload more is front =
-    (NextPiece-ready _ _ (g.met.D.Decoder.lawful c.args.self.now.decoder) _ _ _ (returns-in-More-clause-next g c)
-    piece payload more is front).0
-
-pub returns-in-More-clause-wrong : goal.returns-in-More-clause-wrong
-returns-in-More-clause-wrong g c e wrong =
-    (NextPiece-wrong _ _ (g.met.D.Decoder.lawful c.args.self.now.decoder) _ _ _ (returns-in-More-clause-next g c)
-    e wrong).0
-
-pub returns-in-Wrong-clause-ready : goal.returns-in-Wrong-clause-ready
-returns-in-Wrong-clause-ready g c piece payload more is front =
-    (NextPiece-ready _ _ (g.met.D.Decoder.lawful c.args.self.now.decoder) _ _ _ (returns-in-Wrong-clause-next g c)
-    piece payload more is front).0
-
-pub returns-in-Wrong-clause-wrong : goal.returns-in-Wrong-clause-wrong
-returns-in-Wrong-clause-wrong g c e wrong =
-    (NextPiece-wrong _ _ (g.met.D.Decoder.lawful c.args.self.now.decoder) _ _ _ (returns-in-Wrong-clause-next g c)
-    e wrong).0
-
-pub returns-in-Piece-clause-ended : goal.returns-in-Piece-clause-ended
-returns-in-Piece-clause-ended g c = (returns-in-Piece-clause-next g c).told
-
-pub returns-in-More-clause-ended : goal.returns-in-More-clause-ended
-returns-in-More-clause-ended g c = (returns-in-More-clause-next g c).told
-
-pub returns-in-Wrong-clause-ended : goal.returns-in-Wrong-clause-ended
-returns-in-Wrong-clause-ended g c = (returns-in-Wrong-clause-next g c).told

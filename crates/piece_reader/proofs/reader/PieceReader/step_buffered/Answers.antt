@@ -17,18 +17,6 @@ returns-in-Piece-clause-next g c =
       ap (λ x. x.reader) c.in-Piece.ensures.takes.1,
     )
 
-pub returns-in-More-clause-next : goal.returns-in-More-clause-next
-returns-in-More-clause-next g c =
-    let s = c.args.self.now in
-    none_yet (g.D.Decoder.grammar s.decoder) s c.take.new.self c.take.ensures.whole c.take.ensures.before
-    c.in-More.field-0 c.in-More.ensures.takes
-
-pub returns-in-Wrong-clause-next : goal.returns-in-Wrong-clause-next
-returns-in-Wrong-clause-next g c =
-    let s = c.args.self.now in
-    none_wrong (g.D.Decoder.grammar s.decoder) s c.take.new.self c.take.ensures.whole
-    (g.met.D.Decoder.lawful s.decoder) c.in-Wrong.field-0 c.in-Wrong.ensures.takes.0 c.in-Wrong.ensures.takes.1
-
 pub returns-in-Piece-clause-lends : goal.returns-in-Piece-clause-lends
 returns-in-Piece-clause-lends g c =
     lends_piece g.D.Decoder.grammar c.args.self.now c.take.new.self c.self.inside.handed (ap (λ x. x.handed) c.self.view_is)

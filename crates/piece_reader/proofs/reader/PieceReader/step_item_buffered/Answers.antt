@@ -24,31 +24,3 @@ pub returns-in-Piece-clause-lends : goal.returns-in-Piece-clause-lends
 returns-in-Piece-clause-lends g c =
     lends_piece g.D.Decoder.grammar c.args.self.now c.take.new.self c.self.inside.handed (ap (λ x. x.handed) c.self.view_is)
     c.take.ensures.whole c.in-Piece.span c.in-Piece.field-1 c.in-Piece.ensures.takes
-
-yet : (g : _) (c : goal.In-More g)
-    → StaysLeft (g.D.Decoder.grammar c.args.self.now.decoder) c.args.self.now c.take.new.self
-    × ¬ (Begins (g.D.Decoder.grammar c.args.self.now.decoder) (rest c.args.self.now))
-yet g c =
-    let s = c.args.self.now in
-    none_yet (g.D.Decoder.grammar s.decoder) s c.take.new.self c.take.ensures.whole c.take.ensures.before
-    c.in-More.field-0 c.in-More.ensures.takes
-
-pub returns-in-More-clause-stays : goal.returns-in-More-clause-stays
-returns-in-More-clause-stays g c = (yet g c).0
-
-pub returns-in-More-clause-none : goal.returns-in-More-clause-none
-returns-in-More-clause-none g c = (yet g c).1
-
-wrong : (g : _) (c : goal.In-Wrong g)
-    → StaysLeft (g.D.Decoder.grammar c.args.self.now.decoder) c.args.self.now c.take.new.self
-    × ¬ (Begins (g.D.Decoder.grammar c.args.self.now.decoder) (rest c.args.self.now))
-wrong g c =
-    let s = c.args.self.now in
-    none_wrong (g.D.Decoder.grammar s.decoder) s c.take.new.self c.take.ensures.whole
-    (g.met.D.Decoder.lawful s.decoder) c.in-Wrong.field-0 c.in-Wrong.ensures.takes.0 c.in-Wrong.ensures.takes.1
-
-pub returns-in-Wrong-clause-stays : goal.returns-in-Wrong-clause-stays
-returns-in-Wrong-clause-stays g c = (wrong g c).0
-
-pub returns-in-Wrong-clause-none : goal.returns-in-Wrong-clause-none
-returns-in-Wrong-clause-none g c = (wrong g c).1

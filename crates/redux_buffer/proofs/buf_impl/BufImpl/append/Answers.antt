@@ -1,6 +1,5 @@
 -- Either branch leaves what `compact` says; so many of the bytes fill a front of its tail, which is then taken in.
 use Rattle.std.proofs.Common.{rules, ◌≡◌, ◌≤◌, ◌∙◌, length, take, subst, ap, arith, length-take-le}
-use Rattle.std.proofs.lemmas.Grind.{common_steps}
 use Rattle.redux_buffer.specs.Block.{Extends, compact, usable}
 use Rattle.redux_buffer.specs.BufImpl.{as_placed}
 use Rattle.redux_buffer.proofs.Written.{front_adds}
@@ -24,18 +23,3 @@ returns-clause-bytes c =
     let moves : (as_placed t).block.moved ≡ (compact p).block.moved = search rules in
     subst (λ l. Extends l p.block (as_placed t).block) is
     (front_adds c.if-is_past.self t p w n is_drawn size room c.commit.ensures.bytes moves)
-
-pub returns-clause-count : goal.returns-clause-count
-returns-clause-count c = grind (arith, common_steps)
-
-pub returns-clause-place : goal.returns-clause-place
-returns-clause-place c = grind (arith, common_steps)
-
-pub returns-clause-moved : goal.returns-clause-moved
-returns-clause-moved c = grind (arith, common_steps)
-
-pub returns-clause-whole : goal.returns-clause-whole
-returns-clause-whole c = grind (arith, common_steps)
-
-pub commit-requires-clause-fits : goal.commit-requires-clause-fits
-commit-requires-clause-fits c = grind (arith, common_steps)

@@ -1,6 +1,5 @@
 -- Either branch leaves what `compact` says; the bytes fill a front of its tail, which is then taken in.
-use Rattle.std.proofs.Common.{rules, ◌≡◌, ◌≤◌, length, subst, ap, arith}
-use Rattle.std.proofs.lemmas.Grind.{common_steps}
+use Rattle.std.proofs.Common.{rules, ◌≡◌, ◌≤◌, length, subst, ap}
 use Rattle.redux_buffer.specs.Block.{Extends, compact, usable}
 use Rattle.redux_buffer.specs.BufImpl.{as_placed}
 use Rattle.redux_buffer.proofs.Written.{front_adds}
@@ -24,6 +23,3 @@ returns-clause-bytes c =
     let moves : (as_placed t).block.moved ≡ (compact p).block.moved = search rules in
     subst (λ l. Extends l p.block (as_placed t).block) is
     (front_adds c.if-is_past.self t p w n is_drawn size room c.commit.ensures.bytes moves)
-
-pub commit-requires-clause-fits : goal.commit-requires-clause-fits
-commit-requires-clause-fits c = grind (arith, common_steps)

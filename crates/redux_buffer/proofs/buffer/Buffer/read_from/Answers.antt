@@ -1,7 +1,6 @@
 -- The read fills the lent tail: the front that it gave is taken in, and nothing where it failed.
-use Rattle.std.proofs.Common.{◌≡◌, ◌≤◌, length, Ok, Err, arith, rules, ◌∙◌, ap, sym}
+use Rattle.std.proofs.Common.{◌≡◌, ◌≤◌, length, arith, rules, ◌∙◌, ap, sym}
 use Rattle.std.proofs.lemmas.Result.{err_from_is_err_and}
-use Rattle.redux_buffer.specs.GivesRemaining.{GivesRemaining-none, GivesRemaining-read}
 use Rattle.redux_buffer.specs.Block.{usable}
 use Rattle.redux_buffer.specs.BufImpl.{as_placed}
 use Rattle.redux_buffer.proofs.Written.{tail_whole, written_adds, written_leaves, leaves_extends}
@@ -45,24 +44,5 @@ returns-in_err-n-clause-read g c =
       };
     })
 
-pub returns-in_err-n-clause-err : goal.returns-in_err-n-clause-err
-returns-in_err-n-clause-err g c =
-    let p = err_from_is_err_and c.from_residual.result c.from_residual.ensures.1 in
-    rw (p.1, ← c.self.view_is) (written_leaves c.self.inside.imp c.read_told.new.buf c.self.inside.limit)
-
-pub returns-in_err-n-clause-known : goal.returns-in_err-n-clause-known
-returns-in_err-n-clause-known g c = GivesRemaining-read _ _ _ _ c.read_told.new.buf (Err c.in_err-n.field-0.0)
-    c.in_err-n.ensures.bytes c.in_err-n.ensures.told
-
-pub returns-clause-known : goal.returns-clause-known
-returns-clause-known g c = GivesRemaining-read _ _ _ _ c.read_told.new.buf (Ok c.in_ok-n.n)
-    c.in_ok-n.ensures.bytes c.in_ok-n.ensures.told
-
-pub returns-then-usable_space-eq0-clause-known : goal.returns-then-usable_space-eq0-clause-known
-returns-then-usable_space-eq0-clause-known g c = GivesRemaining-none _ _
-
 pub invariant_of-self : goal.invariant_of-self
 invariant_of-self g c = tail_whole _ _ _ c.self.invariant
-
-pub returns-in_err-n-clause-whole : goal.returns-in_err-n-clause-whole
-returns-in_err-n-clause-whole g c = (tail_whole _ c.read_told.new.buf _ c.self.invariant).1

@@ -1,7 +1,6 @@
 -- What a write took follows what was sent before; only one that leaves nothing took all that it was offered.
 use Rattle.std.proofs.Common.{◌≡◌, ◌≤◌, ◌<◌, ◌+◌, ◌-◌, [], ◌++◌, length, arith, rules, ap, ◌∙◌, length-append, length-drop, length-take-le}
 use Rattle.redux_buffer.specs.Faults.{OnlyInterrupted-none}
-use Rattle.std.proofs.lemmas.Grind.{common_steps}
 use Rattle.redux_buffer.proofs.Sending.{Sent-more, only_more, short_more, whole_more, sends_failed, sends_nothing}
 use Rattle.redux_buffer.proofs.buffer.Buffer.write_max.Goals as goal
 
@@ -70,12 +69,3 @@ loop-left-preserved g c =
       trace = g.met.W.TellWrite.trace_joins _ _ _ inv.trace c.in-Ok.ensures.trace;
       whole = c.consume.ensures.whole;
     }
-
-pub returns-clause-sent : goal.returns-clause-sent
-returns-clause-sent g c = grind (arith, common_steps)
-
-pub returns-clause-idle : goal.returns-clause-idle
-returns-clause-idle g c = grind (arith, common_steps)
-
-pub returns-clause-whole : goal.returns-clause-whole
-returns-clause-whole g c = grind (arith, common_steps)

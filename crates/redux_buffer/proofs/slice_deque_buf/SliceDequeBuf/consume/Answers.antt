@@ -4,14 +4,5 @@ use Rattle.std.proofs.lemmas.Grind.{common_steps}
 use Rattle.redux_buffer.proofs.Ranges.{drop_range, length_range}
 use Rattle.redux_buffer.proofs.slice_deque_buf.SliceDequeBuf.consume.Goals as goal
 
-pub invariant_of-self : goal.invariant_of-self
-invariant_of-self c = grind (arith, common_steps, drop_range, length_range)
-
 pub returns-then-n-len-clause-bytes : goal.returns-then-n-len-clause-bytes
 returns-then-n-len-clause-bytes c = grind (arith, common_steps, drop_range, length_range)
-
-pub returns-then-n-len-clause-whole : goal.returns-then-n-len-clause-whole
-returns-then-n-len-clause-whole c = grind (arith, common_steps, drop_range, length_range)
-
-pub returns-else-n-len-clause-bytes : goal.returns-else-n-len-clause-bytes
-returns-else-n-len-clause-bytes c = grind (arith, common_steps, drop_range, length_range)

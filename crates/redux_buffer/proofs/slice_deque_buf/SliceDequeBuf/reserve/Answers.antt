@@ -101,50 +101,5 @@ returns-clause-whole c =
     let behind = le-ltb (length c.clear_range.new.self) c.round_up-cap.result (omega (arith, long)) in
     grind (arith, common_steps, length_range)
 
-pub returns-then-additional-self-clause-grown : goal.returns-then-additional-self-clause-grown
-returns-then-additional-self-clause-grown c = grind (arith, common_steps)
-
-pub returns-then-additional-self-clause-limit : goal.returns-then-additional-self-clause-limit
-returns-then-additional-self-clause-limit c = grind (arith, common_steps)
-
-pub returns-then-additional-self-clause-whole : goal.returns-then-additional-self-clause-whole
-returns-then-additional-self-clause-whole c = grind (arith, common_steps)
-
-pub returns-then-additional-len-clause-limit : goal.returns-then-additional-len-clause-limit
-returns-then-additional-len-clause-limit c = grind (arith, common_steps)
-
-pub returns-then-additional-len-clause-succeeds : goal.returns-then-additional-len-clause-succeeds
-returns-then-additional-len-clause-succeeds c = grind (arith, common_steps)
-
-pub returns-then-additional-len-clause-whole : goal.returns-then-additional-len-clause-whole
-returns-then-additional-len-clause-whole c = grind (arith, common_steps)
-
-pub returns-in_err-self-inside-clause-limit : goal.returns-in_err-self-inside-clause-limit
-returns-in_err-self-inside-clause-limit c = grind (arith, common_steps)
-
-pub returns-in_err-self-inside-clause-succeeds : goal.returns-in_err-self-inside-clause-succeeds
-returns-in_err-self-inside-clause-succeeds c = grind (arith, common_steps)
-
-pub returns-in_err-self-inside-clause-whole : goal.returns-in_err-self-inside-clause-whole
-returns-in_err-self-inside-clause-whole c = grind (arith, common_steps)
-
-pub invariant_of-self : goal.invariant_of-self
-invariant_of-self c = grind (arith, common_steps)
-
-pub returns-then-self-gt0-clause-limit : goal.returns-then-self-gt0-clause-limit
-returns-then-self-gt0-clause-limit c = grind (arith, common_steps)
-
 pub returns-then-self-gt0-clause-whole : goal.returns-then-self-gt0-clause-whole
 returns-then-self-gt0-clause-whole c = grind (arith, common_steps)
-
-pub returns-in_err-reserve-clause-succeeds : goal.returns-in_err-reserve-clause-succeeds
-returns-in_err-reserve-clause-succeeds c = grind (arith, common_steps)
-
-pub returns-in_err-reserve-clause-whole : goal.returns-in_err-reserve-clause-whole
-returns-in_err-reserve-clause-whole c = grind (arith, common_steps)
-
-pub clear_range-requires-clause-in_bounds : goal.clear_range-requires-clause-in_bounds
-clear_range-requires-clause-in_bounds c = grind (arith, common_steps)
-
-pub invariant_of-self-2 : goal.invariant_of-self-2
-invariant_of-self-2 c = grind (arith, common_steps)

@@ -1,6 +1,5 @@
 -- A place within the capacity puts the tail right behind the bytes, so the loan is a front of it.
 use Rattle.std.proofs.Common.{◌≡◌, ◌≤◌, ◌-◌, length, take, drop, slice_range, refl, sym, ap, ◌∙◌, arith}
-use Rattle.std.proofs.lemmas.Grind.{common_steps}
 use Rattle.std.proofs.lemmas.Bool.{le-ltb}
 use Rattle.std.proofs.lemmas.List.{take-take}
 use Rattle.redux_buffer.specs.contracts.slice_deque_buf.SliceDequeBuf.{the_view}
@@ -29,12 +28,3 @@ returns c =
             ∙ ap (λ q. take n q.block.tail) view;
       },
     )
-
-pub overflow_add-end : goal.overflow_add-end
-overflow_add-end c = grind (arith, common_steps)
-
-pub range_mut-requires-clause-in_bounds : goal.range_mut-requires-clause-in_bounds
-range_mut-requires-clause-in_bounds c = grind (arith, common_steps)
-
-pub invariant_of-self-lent : goal.invariant_of-self-lent
-invariant_of-self-lent c = grind (arith, common_steps)

@@ -1,6 +1,5 @@
 -- The end rises by `n`, or by the tail's length where that is less, which takes in a front of the tail.
 use Rattle.std.proofs.Common.{arith}
-use Rattle.std.proofs.lemmas.Grind.{common_steps}
 use Rattle.redux_buffer.proofs.Loans.{std_took}
 use Rattle.redux_buffer.proofs.std_buf.StdBuf.bytes_written.Goals as goal
 
@@ -8,15 +7,3 @@ pub returns-clause-bytes : goal.returns-clause-bytes
 returns-clause-bytes c =
     rw (← c.self.view_is)
     (std_took c.self.inside c.args.n c.min.result (omega arith) (omega arith) (omega arith) (omega arith))
-
-pub returns-clause-shift : goal.returns-clause-shift
-returns-clause-shift c = grind (arith, common_steps)
-
-pub returns-clause-whole : goal.returns-clause-whole
-returns-clause-whole c = grind (arith, common_steps)
-
-pub min-requires : goal.min-requires
-min-requires c = grind (arith, common_steps)
-
-pub overflow_sub-room : goal.overflow_sub-room
-overflow_sub-room c = grind (arith, common_steps)

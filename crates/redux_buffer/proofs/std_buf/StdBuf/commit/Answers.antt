@@ -1,6 +1,5 @@
 -- The tail has `n` bytes at least, so raising the end by that takes in just so many of its first bytes.
 use Rattle.std.proofs.Common.{◌≤◌, ◌-◌, length, ap, arith, length-drop}
-use Rattle.std.proofs.lemmas.Grind.{common_steps}
 use Rattle.redux_buffer.proofs.Loans.{std_took}
 use Rattle.redux_buffer.proofs.std_buf.StdBuf.commit.Goals as goal
 
@@ -11,12 +10,3 @@ returns-clause-bytes c =
     omega (arith, c.requires, length-drop b.end b.buf, ap (λ p. length p.block.tail) c.self.view_is) in
     rw (← c.self.view_is)
     (std_took b c.args.n c.args.n (omega arith) (omega arith) (omega arith) (omega (arith, fits)))
-
-pub overflow_add-self : goal.overflow_add-self
-overflow_add-self c = grind (arith, common_steps)
-
-pub invariant_of-self : goal.invariant_of-self
-invariant_of-self c = grind (arith, common_steps)
-
-pub returns-clause-whole : goal.returns-clause-whole
-returns-clause-whole c = grind (arith, common_steps)

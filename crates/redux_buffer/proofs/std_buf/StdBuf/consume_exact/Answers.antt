@@ -4,17 +4,5 @@ use Rattle.std.proofs.lemmas.Grind.{common_steps}
 use Rattle.redux_buffer.proofs.Ranges.{drop_range, length_range}
 use Rattle.redux_buffer.proofs.std_buf.StdBuf.consume_exact.Goals as goal
 
-pub overflow_add-at : goal.overflow_add-at
-overflow_add-at c = grind (arith, common_steps, drop_range, length_range)
-
 pub returns-then-at-self-clause-bytes : goal.returns-then-at-self-clause-bytes
 returns-then-at-self-clause-bytes c = grind (arith, common_steps, drop_range, length_range)
-
-pub returns-then-at-self-clause-whole : goal.returns-then-at-self-clause-whole
-returns-then-at-self-clause-whole c = grind (arith, common_steps, drop_range, length_range)
-
-pub returns-else-at-self-clause-bytes : goal.returns-else-at-self-clause-bytes
-returns-else-at-self-clause-bytes c = grind (arith, common_steps, drop_range, length_range)
-
-pub returns-else-at-self-clause-shift : goal.returns-else-at-self-clause-shift
-returns-else-at-self-clause-shift c = grind (arith, common_steps, drop_range, length_range)

@@ -22,39 +22,3 @@ returns-clause-grown c =
       consumed = search rules;
       moved = search rules;
     })
-
-pub returns-then-usable-additional-clause-grown : goal.returns-then-usable-additional-clause-grown
-returns-then-usable-additional-clause-grown c = grind (arith, common_steps)
-
-pub returns-then-usable-additional-clause-limit : goal.returns-then-usable-additional-clause-limit
-returns-then-usable-additional-clause-limit c = grind (arith, common_steps)
-
-pub returns-then-usable-additional-clause-whole : goal.returns-then-usable-additional-clause-whole
-returns-then-usable-additional-clause-whole c = grind (arith, common_steps)
-
-pub returns-in_err-reserve-clause-limit : goal.returns-in_err-reserve-clause-limit
-returns-in_err-reserve-clause-limit c = grind (arith, common_steps)
-
-pub returns-in_err-reserve-clause-succeeds : goal.returns-in_err-reserve-clause-succeeds
-returns-in_err-reserve-clause-succeeds c = grind (arith, common_steps)
-
-pub returns-in_err-reserve-clause-whole : goal.returns-in_err-reserve-clause-whole
-returns-in_err-reserve-clause-whole c = grind (arith, common_steps)
-
-pub invariant_of-self-then-self-gt0 : goal.invariant_of-self-then-self-gt0
-invariant_of-self-then-self-gt0 c = grind (arith, common_steps)
-
-pub returns-then-self-gt0-clause-grown : goal.returns-then-self-gt0-clause-grown
-returns-then-self-gt0-clause-grown c = grind (arith, common_steps)
-
-pub returns-then-self-gt0-clause-limit : goal.returns-then-self-gt0-clause-limit
-returns-then-self-gt0-clause-limit c = grind (arith, common_steps)
-
-pub returns-then-self-gt0-clause-whole : goal.returns-then-self-gt0-clause-whole
-returns-then-self-gt0-clause-whole c = grind (arith, common_steps)
-
-pub invariant_of-self-2 : goal.invariant_of-self-2
-invariant_of-self-2 c = grind (arith, common_steps)
-
-pub returns-clause-whole : goal.returns-clause-whole
-returns-clause-whole c = grind (arith, common_steps)

@@ -1,6 +1,5 @@
 -- A part of the storage that begins at the end of the bytes is a front of the tail.
 use Rattle.std.proofs.Common.{take, refl, ap, ◌∙◌, arith}
-use Rattle.std.proofs.lemmas.Grind.{common_steps}
 use Rattle.redux_buffer.specs.Block.{with_tail}
 use Rattle.redux_buffer.proofs.Loans.{std_tail_written}
 use Rattle.redux_buffer.proofs.Ranges.{range_front}
@@ -16,15 +15,3 @@ returns c =
             ∙ ap (λ p. take c.args.n p.block.tail) c.self.view_is;
       },
     )
-
-pub overflow_add-end : goal.overflow_add-end
-overflow_add-end c = grind (arith, common_steps)
-
-pub invariant_of-self-lent : goal.invariant_of-self-lent
-invariant_of-self-lent c = grind (arith, common_steps)
-
-pub range_mut-requires-clause-in_bounds : goal.range_mut-requires-clause-in_bounds
-range_mut-requires-clause-in_bounds c = grind (arith, common_steps)
-
-pub range_mut-requires-clause-start_le_end : goal.range_mut-requires-clause-start_le_end
-range_mut-requires-clause-start_le_end c = grind (arith, common_steps)

@@ -3,15 +3,8 @@ use Rattle.std.proofs.Common.{Err, ◌≡◌, ◌<◌, false, inl, inr, subst, s
 use Rattle.std.proofs.lemmas.Bool.{cases_lt}
 use Rattle.redux_buffer.specs.Block.{usable}
 use Rattle.buffer_redux.specs.WriteParts.{MakesPlace}
-use Rattle.buffer_redux.proofs.Parts.{place_made, place_refused, place_unsent}
+use Rattle.buffer_redux.proofs.Parts.{place_refused}
 use Rattle.buffer_redux.proofs.buf_writer.parts.BufWriter+W+StdPolicy.make_place.Goals as goal
-
-pub returns-in-Err : goal.returns-in-Err
-returns-in-Err g c = place_unsent _ _ g.met.W.TellWrite.trace_none _ _ _ _ c.in-Err.ensures.sent
-
-pub returns-in-Ok : goal.returns-in-Ok
-returns-in-Ok g c = place_made _ _ g.met.W.TellWrite.trace_none _ c.send.new.self _ _ _ _ c.in_default.ensures.sent
-    c.in-Ok.ensures.grown c.in-Ok.ensures.others c.in-Ok.ensures.whole
 
 pub returns-in-Err-reserve : goal.returns-in-Err-reserve
 returns-in-Err-reserve g c =

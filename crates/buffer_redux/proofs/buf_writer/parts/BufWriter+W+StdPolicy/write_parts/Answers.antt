@@ -2,34 +2,8 @@
 use Rattle.std.proofs.Common.{Err, Ok, ◌<◌, ap, arith, length, refl, subst}
 use Rattle.redux_buffer.specs.Block.{usable}
 use Rattle.buffer_redux.specs.WriteParts.{MakesPlace}
-use Rattle.buffer_redux.proofs.Parts.{all_of, fits_of, parts_failed, parts_fit, parts_moved, place_room}
+use Rattle.buffer_redux.proofs.Parts.{all_of, parts_failed, parts_moved}
 use Rattle.buffer_redux.proofs.buf_writer.parts.BufWriter+W+StdPolicy.write_parts.Goals as goal
-
-pub append_parts-requires-clause-room : goal.append_parts-requires-clause-room
-append_parts-requires-clause-room g c =
-    fits_of c.self.inside.buf c.usable_space.ensures.whole _ c.total-len.result c.total-len.ensures
-    (omega (arith, c.if-usable_space-len.true, c.usable_space.ensures.value))
-
-pub append_parts-requires-in-Ok-clause-room : goal.append_parts-requires-in-Ok-clause-room
-append_parts-requires-in-Ok-clause-room g c =
-    fits_of c.self-2.inside.buf c.self-2.invariant _ c.total-len.result c.total-len.ensures
-    (omega (
-      arith,
-      place_room _ _ g.met.W.TellWrite.trace_none _ _ _ _ c.in-Ok.ensures,
-      ap (λ x. usable x.block) c.self-2.view_is,
-    ))
-
-pub returns-then-usable_space-len : goal.returns-then-usable_space-len
-returns-then-usable_space-len g c =
-    let parts = parts_fit _ _ g.met.W.TellWrite.trace_none c.args.self.now _ (all_of c.args.parts.now)
-    (rw (← c.self.view_is) (fits_of c.self.inside.buf c.usable_space.ensures.whole (length (all_of c.args.parts.now))
-    c.total-len.result c.total-len.ensures (omega (arith, c.if-usable_space-len.true, c.usable_space.ensures.value))))
-    (rw (← c.self.view_is) (record {
-      others = refl;
-      added = c.append_parts.ensures.added;
-      whole = c.append_parts.ensures.whole;
-    })) in
-    record { in_order = parts.along.in_order; none = tt; parts = parts }
 
 pub returns-in-Ok : goal.returns-in-Ok
 returns-in-Ok g c =
