@@ -190,6 +190,13 @@ module _ {S P : Type 0} where
     | inr none ↦ (let made = copied.tight (omega (arith, none)) in (made.bytes, made.capacity, made.consumed))
   ]
 
+  pub capacity_taken : (s t : Buffered S P) (bs : List ℕ) (answer : Result ℕ Error)
+      → TakesIn bs s answer t → t.block.capacity ≡ s.block.capacity
+  capacity_taken s t bs answer f = elim (ways_in s.block (length bs)) [
+    | inl past ↦ ap (λ b. b.capacity) (f.past past).block
+    | inr inside ↦ (let copied = f.inside inside in copied.added.capacity ∙ (settled_bytes bs s answer t copied).1)
+  ]
+
   -- bytes taken in past the buffer, or into it
   pub StepKeeps-takes : (s t : Buffered S P) (bs : List ℕ) (answer : Result ℕ Error)
       → TakesIn bs s answer t → StepKeeps s (portion bs answer) t
@@ -210,7 +217,7 @@ module _ {S P : Type 0} where
               (WriteLogGrows-write s.log bs answer);
           flushed = ap (λ l. l.writes.flushed) direct.told;
           flushes = ap (λ l. l.writes.flushes) direct.told;
-          capacity = omega (arith, ap (λ b. b.capacity) direct.block);
+          capacity = omega (arith, capacity_taken s t bs answer f);
         }
         )
     | inr inside ↦ (
@@ -221,7 +228,7 @@ module _ {S P : Type 0} where
           grows = log_same s.log t.log copied.told;
           flushed = ap (λ l. l.writes.flushed) copied.told;
           flushes = ap (λ l. l.writes.flushes) copied.told;
-          capacity = omega (arith, copied.added.capacity, settled.1);
+          capacity = omega (arith, capacity_taken s t bs answer f);
         }
         )
   ]

@@ -11,10 +11,11 @@ use Rattle.redux_buffer.specs.LogGrows.{WriteLogGrows}
 use Rattle.redux_buffer.specs.Faults.{IsInterrupt, MetInterrupts, MetInterrupts-err, TookNothing, SendErrorCaused}
 use Rattle.buffer_redux.specs.Policy.{WriteRules}
 use Rattle.buffer_redux.specs.Buffered.{Buffered, with_calls, with_policy}
-use Rattle.buffer_redux.specs.BufWriter.{Writes, WriteErrorCaused, IsFlushed, Flushes, FlushesAmount, TakesIn, WritesInOrder}
+use Rattle.buffer_redux.specs.BufWriter.{Writes, WriteErrorCaused, IsFlushed, Flushes, FlushesAmount, Prepared, TakesIn, WritesInOrder}
 use Rattle.buffer_redux.specs.WriterLaws.{Wrote-met}
 use Rattle.buffer_redux.proofs.WriterFacts.{steady_caused, steady_met_nothing}
-use Rattle.buffer_redux.specs.WriterTells.{writer_log, failures, TellsFailures, WriterWent}
+use Rattle.buffer_redux.specs.WriterTells.{writer_log, failures, LeavesCapacity, TellsFailures, WriterWent}
+use Rattle.buffer_redux.proofs.WriteSteps.{capacity_stays, capacity_taken}
 
 -- noting a call changes nothing of what a write or a flush did
 module _ {S P : Type 0} (t : Buffered S P) (calls : StreamLog) where
@@ -166,12 +167,30 @@ pub flush_once : {S P : Type 0} (s t : Buffered S P) (answer : Result (Unit {0})
     → t.log.writes.flushes ≤ s.log.writes.flushes + 1
 flush_once s t answer f = flush_counted s t f.sent_log answer f.sending f.sends.sent.flushes f.ended
 
+-- a write changes no capacity where the policy changes none
+module _ {S P : Type 0} (rules : WriteRules P) (leaves : LeavesCapacity rules) (s : Buffered S P) (bs : List ℕ) where
+  prepared_leaves : (answer : Result (Unit {0}) Error) (m : Buffered S P) → Prepared rules (length bs) s answer m
+      → m.block.capacity ≡ s.block.capacity
+  prepared_leaves answer m p =
+      capacity_stays p.seen m (p.amount.0) answer p.flush ∙ leaves _ _ _ _ _ _ p.asked.allowed
+
+  pub write_leaves : (answer : Result ℕ Error) (t : Buffered S P) → Writes rules s bs answer t
+      → t.block.capacity ≡ s.block.capacity
+  write_leaves (Ok n) t w =
+      capacity_stays (with_policy w.after t.policy) t (w.finished.amount.0) w.finished.flushed w.finished.flush
+      ∙ capacity_taken w.before w.after bs (Ok n) w.took_in ∙ prepared_leaves (Ok tt) w.before w.prepared
+  write_leaves (Err e) t (inl refused) = leaves _ _ _ _ _ _ refused.asked.allowed
+  write_leaves (Err e) t (inr (inl prepared)) = prepared_leaves (Err e) t prepared
+  write_leaves (Err e) t (inr (inr faulted)) =
+      capacity_taken faulted.before t bs (Err e) faulted.took_in ∙ prepared_leaves (Ok tt) faulted.before faulted.prepared
+
 -- a call of a writer that was noted
 pub call_went : {S P : Type 0} (trace : S → S → Type 0) (rules : WriteRules P) (s m t : Buffered S P)
     (calls noted : StreamLog) → t ≡ m → calls ≡ noted → trace s.inner m.inner
     → WriteLogGrows s.log.writes m.log.writes
     → WriteLogGrows (writer_log s).writes (writer_log (with_calls t calls)).writes
     → (accepted : List ℕ) → WritesInOrder s accepted m → s.block.capacity ≤ m.block.capacity → m.block.kind ≡ s.block.kind
+    → (LeavesCapacity rules → m.block.capacity ≡ s.block.capacity)
     → rules.claims m.policy ≡ rules.claims s.policy
     → m.log.writes.flushes + s.own_calls.writes.flushes ≤ s.log.writes.flushes + noted.writes.flushes
     → ((rules.claims s.policy).steady ≡ true
@@ -179,7 +198,7 @@ pub call_went : {S P : Type 0} (trace : S → S → Type 0) (rules : WriteRules 
     → (TellsFailures rules s.policy → MetInterrupts s.own_calls.writes noted.writes
     → MetInterrupts s.log.writes m.log.writes)
     → WriterWent trace rules s (with_calls t calls)
-call_went trace rules s m t calls noted is told went grows own accepted order capacity kind claims flushes fails met =
+call_went trace rules s m t calls noted is told went grows own accepted order capacity kind same claims flushes fails met =
     let log : t.log ≡ m.log = ap (λ x. x.log) is in record {
       inner = subst (trace s.inner) (sym (ap (λ x. x.inner) is)) went;
       grows = subst (λ l. WriteLogGrows s.log.writes l.writes) (sym log) grows;
@@ -193,6 +212,7 @@ call_went trace rules s m t calls noted is told went grows own accepted order ca
         ap (λ l. length l.writes.received) log,
       );
       capacity = omega (arith, ap (λ x. x.block.capacity) is, capacity);
+      same_capacity = λ leaves. ap (λ x. x.block.capacity) is ∙ same leaves;
       kind = ap (λ x. x.block.kind) is ∙ kind;
       claims = ap (λ x. rules.claims x.policy) is ∙ claims;
       flushes = omega (arith, flushes, ap (λ l. l.writes.flushes) told, ap (λ l. l.writes.flushes) log);

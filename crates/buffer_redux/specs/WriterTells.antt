@@ -3,10 +3,12 @@ use Rattle.std.specs.Prelude.{◌≡◌, ℕ, ◌+◌, ◌≤◌, ◌⊎◌, Lis
 use Rattle.std.proofs.Common.{refl, ap, ◌∙◌, arith, le_refl, le_trans}
 use Rattle.std.specs.declared.io.Error.{Error}
 use Rattle.std.specs.declared.io.ErrorKind.TheVariants.{WriteZero}
+use Rattle.redux_buffer.specs.Block.{Block}
 use Rattle.redux_buffer.specs.Faults.{MetInterrupts, MetInterrupts-joins, MetInterrupts-none, MetInterrupts-parts, TookNothing, SendErrorCaused}
 use Rattle.redux_buffer.specs.StreamLog.{StreamLog, WriteLog, Readies, after_write, after_flush}
 use Rattle.redux_buffer.specs.LogGrows.{WriteLogGrows, WriteLogGrows-none, WriteLogGrows-joins, WritesGoOn, WritesGoOn-of}
-use Rattle.buffer_redux.specs.Policy.{WriteRules}
+use Rattle.buffer_redux.specs.declared.policy.FlushAmt.{FlushAmt}
+use Rattle.buffer_redux.specs.Policy.{WriteRules, std_write_rules}
 use Rattle.buffer_redux.specs.Buffered.{Buffered}
 use Rattle.buffer_redux.specs.BufWriter.{Writes, Flushes}
 use Rattle.buffer_redux.specs.WriterLaws.{FlushesNothingAfter}
@@ -36,6 +38,11 @@ failures log = length log.faults + log.zero_writes
 abbrev pub TellsFailures : {P : Type 0} → WriteRules P → P → Type 0
 TellsFailures rules p = ((rules.claims p).steady ≡ true) × FlushesNothingAfter rules
 
+-- the rules have the policy leave the capacity, as those of `StdPolicy` do
+abbrev pub LeavesCapacity : {P : Type 0} → WriteRules P → Type 0
+LeavesCapacity {P} rules = (p : P) (b : Block) (incoming : ℕ) (answer : Result FlushAmt Error) (p' : P) (b' : Block)
+    → rules.before_write p b incoming answer p' b' → b'.capacity ≡ b.capacity
+
 -- the lists and counts only go on, its own and the inner writer's, which was flushed no more often than it was itself; no more
 -- bytes were consumed than that received. Under a steady policy it failed no more often than the inner writer; and where no
 -- failure is kept back, the inner writer was at most interrupted where it was so itself
@@ -46,6 +53,7 @@ pub record WriterWent {S P : Type 0} (trace : S → S → Type 0) (rules : Write
   pub own_grows : WriteLogGrows (writer_log s).writes (writer_log t).writes
   pub consumed : t.block.consumed + length s.log.writes.received ≤ s.block.consumed + length t.log.writes.received
   pub capacity : s.block.capacity ≤ t.block.capacity
+  pub same_capacity : LeavesCapacity rules → t.block.capacity ≡ s.block.capacity
   pub kind : t.block.kind ≡ s.block.kind
   pub claims : rules.claims t.policy ≡ rules.claims s.policy
   pub flushes : t.log.writes.flushes + s.own_calls.writes.flushes ≤ s.log.writes.flushes + t.own_calls.writes.flushes
@@ -67,6 +75,10 @@ pub record WriterCalled {S P : Type 0} (rules : WriteRules P) (s t : Buffered S 
   pub nothing : (rules.claims s.policy).steady ≡ true
       → t.own_calls.writes.zero_writes ≡ s.own_calls.writes.zero_writes + 1
       → (interrupts : List Error) × TookNothing interrupts s.log.writes t.log.writes WriteZero
+
+pub LeavesCapacity-std : {P : Type 0} → LeavesCapacity (std_write_rules {P = P})
+LeavesCapacity-std p b incoming (Ok a) p' b' allowed = ap (λ x. x.capacity) allowed.1
+LeavesCapacity-std p b incoming (Err e) p' b' allowed = absurd allowed
 
 module _ {S P : Type 0} (trace : S → S → Type 0) (rules : WriteRules P) where
   -- the interrupted calls of a trace are those of its parts
@@ -108,6 +120,7 @@ module _ {S P : Type 0} (trace : S → S → Type 0) (rules : WriteRules P) wher
     own_grows = WriteLogGrows-none (writer_log s).writes;
     consumed = le_refl _;
     capacity = le_refl _;
+    same_capacity = λ leaves. refl;
     kind = refl;
     claims = refl;
     flushes = le_refl _;
@@ -130,6 +143,7 @@ module _ {S P : Type 0} (trace : S → S → Type 0) (rules : WriteRules P) wher
             WriteLogGrows-joins (writer_log a).writes (writer_log b).writes (writer_log c).writes p.own_grows q.own_grows;
         consumed = omega (arith, p.consumed, q.consumed);
         capacity = le_trans p.capacity q.capacity;
+        same_capacity = λ leaves. q.same_capacity leaves ∙ p.same_capacity leaves;
         kind = q.kind ∙ p.kind;
         claims = q.claims ∙ p.claims;
         flushes = omega (arith, p.flushes, q.flushes);

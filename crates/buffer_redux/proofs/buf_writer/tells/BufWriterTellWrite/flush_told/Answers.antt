@@ -25,6 +25,7 @@ returns-clause-trace g c =
     (WriteLogGrows-flush (writer_log s) answer)) [] flush.in_order
     (omega (arith, flush.capacity))
     flush.kind
+    (λ leaves. flush.capacity)
     (ap table.claims flush.steps.policy)
     (omega (arith, flush_once s m answer flush.steps))
     (λ steady. flush_fails s m answer flush.grows flush.caused)
