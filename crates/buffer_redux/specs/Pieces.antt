@@ -20,12 +20,13 @@ pub record Splitting (S P : Type 0) : Type 0 where
 abbrev pub goes_on : {S P : Type 0} → ℕ → Buffered S P → List ℕ → Splitting S P
 goes_on byte reader begun = record { reader = reader; byte = byte; begun = begun; left = 2 ^ 64 - 1 }
 
--- the next piece was gone on with up to its byte or the end of all, or to this error
+-- the next piece was gone on with up to its byte or the end of all, or to this error, and this was not the last call
 pub record GoesOnWith {S P : Type 0} (remaining : S → Option (List ℕ)) (rules : ReadRules P) (s : Splitting S P)
     (answer : Result ℕ Error) (piece : List ℕ) (t : Splitting S P) : Type 0 where
   pub reads : ReadsUntil remaining rules s.byte s.reader s.begun answer piece t.reader
   pub byte : t.byte ≡ s.byte
   pub called : t.left + 1 ≡ s.left
+  pub more : 0 < t.left
 
 -- the next piece is this with its byte, where it has one
 pub record GivesWhole {S P : Type 0} (remaining : S → Option (List ℕ)) (rules : ReadRules P) (s : Splitting S P)

@@ -1,5 +1,5 @@
 -- The calls of a buffered writer as steps, and whole runs of them.
-use Rattle.std.specs.Prelude.{◌≡◌, ℕ, ◌+◌, ◌<◌, ◌≤◌, List, [], ◌∷◌, ◌++◌, length, take, Ok, Err, Bool, MatchBool}
+use Rattle.std.specs.Prelude.{◌≡◌, ℕ, ◌<◌, ◌≤◌, List, [], ◌∷◌, ◌++◌, length, take, Ok, Err, Bool, MatchBool}
 use Rattle.redux_buffer.specs.Block.{MakesRoom, Reserves, usable}
 use Rattle.redux_buffer.specs.GrowError.{GrowthRefused}
 use Rattle.redux_buffer.specs.Faults.{SendErrorCaused}

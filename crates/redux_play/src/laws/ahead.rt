@@ -78,6 +78,7 @@ pub fn next_byte<R: TellRead, P: ReaderPolicy>(
     ensures along { ReadsAlong R.remaining P.rules reader.old (handed_byte result) reader.new }
     ensures end { result ≡ Ok None → WantsBytes (P.rules.claims reader.old.policy) → 0 < reader.old.block.capacity
         → ReadsToEnd R.remaining P.rules reader.old [] reader.new }
+    ensures noted { reader.new.own_calls ≡ reader.old.own_calls }
 {
     let found = peek(reader)?;
     if found.is_some() {

@@ -3,8 +3,8 @@ ghost use Rattle.std.specs.Prelude.{◌≡◌, ℕ, List, ◌++◌, IfErr, OnOk}
 ghost use Rattle.std.specs.Io.KnownBytes.{Appends, Consumes};
 ghost use Rattle.redux_buffer.specs.Copy.{CopyBuf, ReceivesAll};
 ghost use Rattle.redux_buffer.specs.Faults.{SendErrorCaused};
-ghost use Rattle.redux_buffer.specs.Told.{told_stream};
-ghost use Rattle.buffer_redux.specs.BufWriter.{Flushes, IsFlushed};
+ghost use Rattle.redux_buffer.specs.Told.{told_log, told_stream, ToldWrites};
+ghost use Rattle.buffer_redux.specs.BufWriter.{WasFlushed};
 ghost use Rattle.buffer_redux.specs.ReaderTells.{reader_log, ReaderWent};
 ghost use Rattle.buffer_redux.specs.Remaining.{reader_remaining};
 
@@ -37,11 +37,9 @@ pub fn copy_known<R: TellRead, P: ReaderPolicy, W: TellWrite>(
 pub fn flush_known<S: Write, P: WriterPolicy>(writer: &mut BufWriter<Told<S>, P>) -> io::Result<()>
     ensures held { OnOk result (Appends (S.contents (told_stream writer.old.inner))
         (S.contents (told_stream writer.new.inner)) writer.old.block.bytes) }
-    ensures flushed { OnOk result (IsFlushed writer.old writer.new) }
     ensures caused { IfErr result (λ e.
         SendErrorCaused writer.old.log.writes writer.new.log.writes e) }
-    ensures steps { Flushes writer.old result writer.new }
-    ensures noted { writer.new.own_calls ≡ writer.old.own_calls }
+    ensures flushed { WasFlushed told_log (ToldWrites S.contents) writer.old result writer.new }
 {
     writer.flush()
 }

@@ -27,6 +27,7 @@ went g c begun =
           c.read_until.new.out.items c.read_until.new.self) c.in_default.is c.read_until.ensures.until;
       byte = refl;
       called = omega (arith, c.if-self-eq0.false);
+      more = omega (arith, c.if-self-eq0.false, c.if-self-eq0-2.false);
     }
 
 counted : (g : _) (c : goal.After-is_empty g) → (length c.read_until.new.out.items == 0) ≡ c.is_empty.result
