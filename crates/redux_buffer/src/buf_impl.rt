@@ -193,6 +193,7 @@ impl BufImpl {
     fn is_past(&self) -> bool
         ensures past { result ≡ true → (as_placed self.now).block.kind ≡ Ring }
         ensures far { result ≡ true → (as_placed self.now).block.capacity < (as_placed self.now).place }
+        ensures apart { result ≡ true → (as_placed self.now).block.tail_behind ≡ false }
         ensures in_front { result ≡ false → IsInFront (as_placed self.now) }
         ensures whole { IsPlaced (as_placed self.now) }
     {
@@ -221,6 +222,18 @@ impl BufImpl {
                 let _ = b.capacity();
             }
             BufImpl::Ringbuf(b) => b.compact(),
+        }
+    }
+
+    // Draws a ring back whose tail reaches past its storage, so that the tail can be written behind the bytes.
+    #[inline(always)]
+    fn draw_back(&mut self)
+        ensures drawn { as_placed self.new ≡ compact (as_placed self.old) }
+        ensures in_front { IsInFront (as_placed self.new) }
+        ensures still { (as_placed self.old).block.tail_behind ≡ true → as_placed self.new ≡ as_placed self.old }
+    {
+        if self.is_past() {
+            self.compact();
         }
     }
 
@@ -266,11 +279,11 @@ impl BufImpl {
         ensures bytes { Extends (take result src.now) (as_placed self.old).block (as_placed self.new).block }
         ensures place { (as_placed self.new).place ≡ (compact (as_placed self.old)).place }
         ensures moved { (as_placed self.new).block.moved ≡ (compact (as_placed self.old)).block.moved }
+        ensures still { (as_placed self.old).block.tail_behind ≡ true
+            → (as_placed self.new).block.moved ≡ (as_placed self.old).block.moved }
         ensures whole { IsPlaced (as_placed self.new) }
     {
-        if self.is_past() {
-            self.compact();
-        }
+        self.draw_back();
         let n = src.len().min(self.usable_space());
         self.write_front(n).copy_from_slice(&src[..n]);
         self.commit(n);
@@ -284,11 +297,11 @@ impl BufImpl {
         ensures bytes { Extends src.now (as_placed self.old).block (as_placed self.new).block }
         ensures place { (as_placed self.new).place ≡ (compact (as_placed self.old)).place }
         ensures moved { (as_placed self.new).block.moved ≡ (compact (as_placed self.old)).block.moved }
+        ensures still { (as_placed self.old).block.tail_behind ≡ true
+            → (as_placed self.new).block.moved ≡ (as_placed self.old).block.moved }
         ensures whole { IsPlaced (as_placed self.new) }
     {
-        if self.is_past() {
-            self.compact();
-        }
+        self.draw_back();
         let n = src.len();
         self.write_front(n).copy_from_slice(src);
         self.commit(n);
@@ -302,11 +315,11 @@ impl BufImpl {
         ensures bytes { Extends src.now (as_placed self.old).block (as_placed self.new).block }
         ensures place { (as_placed self.new).place ≡ (compact (as_placed self.old)).place }
         ensures moved { (as_placed self.new).block.moved ≡ (compact (as_placed self.old)).block.moved }
+        ensures still { (as_placed self.old).block.tail_behind ≡ true
+            → (as_placed self.new).block.moved ≡ (as_placed self.old).block.moved }
         ensures whole { IsPlaced (as_placed self.new) }
     {
-        if self.is_past() {
-            self.compact();
-        }
+        self.draw_back();
         let n = src.len();
         copy_short(self.write_front(n), src);
         self.commit(n);

@@ -183,7 +183,8 @@ impl Buffer {
     /// }
     /// ```
     ///
-    /// `connection.reserve(length)?` then makes room for a message, or returns `TooLarge` and takes no memory.
+    /// `connection.reserve(length)?` then makes room for a message. Past the limit it returns `TooLarge` and takes no memory, and
+    /// `Memory` where that was refused.
     pub fn set_limit(&mut self, limit: usize) -> Result<(), GrowError>
         ensures set { OnOk result (self.new ≡ with_limit self.old (min limit (limit_of self.old.kind))) }
         ensures unchanged { OnErr result (self.new ≡ self.old) }
@@ -285,6 +286,7 @@ impl Buffer {
     /// Appends the first bytes of `src`, as many as can be written now, and returns how many those are.
     pub fn copy_from_slice(&mut self, src: &[u8]) -> usize
         ensures count { result ≡ min (usable self.old) (length src.now) }
+        ensures still { self.old.tail_behind ≡ true → self.new.moved ≡ self.old.moved }
         ensures bytes { Extends (take result src.now) self.old self.new }
         ensures whole { IsBlock self.new }
     {
@@ -294,6 +296,7 @@ impl Buffer {
     /// Appends all of `src`, which fits behind the bytes.
     pub fn append(&mut self, src: &[u8])
         requires fits { length src.now ≤ usable self.old }
+        ensures still { self.old.tail_behind ≡ true → self.new.moved ≡ self.old.moved }
         ensures bytes { Extends src.now self.old self.new }
         ensures whole { IsBlock self.new }
     {
@@ -304,6 +307,7 @@ impl Buffer {
     #[inline(always)]
     pub fn append_short(&mut self, src: &[u8])
         requires fits { length src.now ≤ usable self.old }
+        ensures still { self.old.tail_behind ≡ true → self.new.moved ≡ self.old.moved }
         ensures bytes { Extends src.now self.old self.new }
         ensures whole { IsBlock self.new }
     {

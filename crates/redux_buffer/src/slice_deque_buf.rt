@@ -1,5 +1,5 @@
 //! The ring.
-ghost use Rattle.std.specs.Prelude.{◌≡◌, [], ◌+◌, ◌-◌, ◌^◌, ◌≤◌, ◌<◌, ◌↔◌, ◌++◌, length, min, take, drop, nat_le, IsTrue, IfOk, IsOk, OnOk, OnErr};
+ghost use Rattle.std.specs.Prelude.{◌≡◌, [], true, false, ◌+◌, ◌-◌, ◌^◌, ◌≤◌, ◌<◌, ◌↔◌, ◌++◌, length, min, take, drop, nat_le, IsTrue, IfOk, IsOk, OnOk, OnErr};
 ghost use Rattle.std.specs.Borrow.{Lends, Array, sem, u8};
 ghost use Rattle.redux_buffer.specs.GrowError.{FitsWithin};
 ghost use Rattle.redux_buffer.specs.Block.{Ring, IsPlaced, IsNew, BytesWritten, ConsumesFirst, Reserves, MakesRoom, CountsShift, usable, capacity_for, with_tail, with_bytes, compact, round};
@@ -129,6 +129,7 @@ impl SliceDequeBuf {
     // Whether the tail reaches past the storage.
     pub(crate) fn is_past(&self) -> bool
         ensures value { IsTrue result ↔ (self.now.block.capacity < self.now.place) }
+        ensures apart { result ≡ true → self.now.block.tail_behind ≡ false }
         ensures kind { self.now.block.kind ≡ Ring }
     {
         self.stop > self.buf.capacity()

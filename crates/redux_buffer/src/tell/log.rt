@@ -44,6 +44,7 @@ impl CallLog {
     /// Adds one call. A stream notes each of its calls just after it has the answer, and a consume just before it is made.
     #[inline(always)]
     pub fn note(&mut self, _call: &Call<'_>)
+        // This is all: a fact of one list would hold of some kinds of call only.
         ensures { self.new.log ≡ after_call self.old.log _call.now }
     {}
 }
