@@ -133,36 +133,40 @@ module _ {S P : Type 0} (tells : S → StreamLog) (trace : S → S → Type 0) (
         behind (Ok x) (Err e) m whole (failed, same) = still m same
         behind (Err e) answer m whole (is, same) = still m same
 
-    -- the parts moved in, once there was room
-    pub parts_moved : (s m t : Buffered S P) (bytes : List ℕ) → usable s.block < length bytes
-        → MakesPlace tells trace (counted bytes) s (Ok tt) m → Appends m bytes t
-        → WritesParts tells trace s bytes (Ok tt) t
-    parts_moved s m t bytes few p put = record {
-      along = WritesAlong-joins tells trace std_write_rules joins s m t [] bytes
-          (place_along s m (counted bytes) (Ok tt) p) (put_along m t bytes put);
-      fits = λ fit. absurd (omega (arith, fit, few));
-      full = λ _. (m, p, put);
-      caused = tt;
-      whole = put.whole;
-    }
+    -- so many bytes, as far as they were counted, don't fit as they are
+    module _ (s : Buffered S P) (bytes : List ℕ) (len : ℕ) (is : len ≡ counted bytes) (few : usable s.block < len) where
+      no_fit : {A : Type 0} → length bytes ≤ usable s.block → A
+      no_fit fit = absurd (omega (arith, is, few, fit))
 
-    -- no room was made, and no part moved in
-    pub parts_failed : (s t : Buffered S P) (bytes : List ℕ) (e : Error) → usable s.block < length bytes
-        → MakesPlace tells trace (counted bytes) s (Err e) t → WritesParts tells trace s bytes (Err e) t
-    parts_failed s t bytes e few p = record {
-      along = place_along s t (counted bytes) (Err e) p;
-      fits = λ fit. absurd (omega (arith, fit, few));
-      full = λ _. p;
-      caused = failed p.sending p.left p.sent p.ended;
-      whole = p.whole;
-    }
-      where
-        failed : (sending : Result (Unit {0}) Error) (m : Buffered S P) → WasSent tells trace s sending m
-            → MatchResult sending (λ _. GrowthFailed (counted bytes) m.block e × (t ≡ m))
-            (λ why. (◌≡◌ {A = Result (Unit {0}) Error} (Err e) (Err why)) × (t ≡ m))
-            → PartsRefused (length bytes) s e t
-        failed (Ok x) m sent (refused, same) =
-            inr (counted bytes, omega arith, subst (λ u. GrowthFailed (counted bytes) u.block e) (sym same) refused)
-        failed (Err why) m sent (is, same) =
-            let cause : SendErrorCaused s.log.writes m.log.writes e = (let back : e ≡ why = cc in rw back sent.caused) in
-            inl (subst (λ u. SendErrorCaused s.log.writes u.log.writes e) (sym same) cause)
+      -- the parts moved in, once there was room
+      pub parts_moved : (m t : Buffered S P) → MakesPlace tells trace len s (Ok tt) m → Appends m bytes t
+          → WritesParts tells trace s bytes (Ok tt) t
+      parts_moved m t p put = record {
+        along = WritesAlong-joins tells trace std_write_rules joins s m t [] bytes
+            (place_along s m len (Ok tt) p) (put_along m t bytes put);
+        fits = no_fit;
+        full = λ _. (m, rw is at p, put);
+        caused = tt;
+        whole = put.whole;
+      }
+
+      -- no room was made, and no part moved in
+      pub parts_failed : (t : Buffered S P) (e : Error) → MakesPlace tells trace len s (Err e) t
+          → WritesParts tells trace s bytes (Err e) t
+      parts_failed t e p = record {
+        along = place_along s t len (Err e) p;
+        fits = no_fit;
+        full = λ _. rw is at p;
+        caused = failed p.sending p.left p.sent p.ended;
+        whole = p.whole;
+      }
+        where
+          failed : (sending : Result (Unit {0}) Error) (m : Buffered S P) → WasSent tells trace s sending m
+              → MatchResult sending (λ _. GrowthFailed len m.block e × (t ≡ m))
+              (λ why. (◌≡◌ {A = Result (Unit {0}) Error} (Err e) (Err why)) × (t ≡ m))
+              → PartsRefused (length bytes) s e t
+          failed (Ok x) m sent (refused, same) =
+              inr (len, omega (arith, is), subst (λ u. GrowthFailed len u.block e) (sym same) refused)
+          failed (Err why) m sent (is_why, same) =
+              let cause : SendErrorCaused s.log.writes m.log.writes e = (let back : e ≡ why = cc in rw back sent.caused) in
+              inl (subst (λ u. SendErrorCaused s.log.writes u.log.writes e) (sym same) cause)

@@ -1,14 +1,14 @@
 -- What follows from the steps of a write, whatever it returned.
-use Rattle.std.proofs.Common.{◌≡◌, ℕ, ◌<◌, ◌⊎◌, List, [], ◌++◌, length, min, take, Result, Ok, Err, refl, sym, ap, subst, ◌∙◌, arith, inl, inr, append-nil}
+use Rattle.std.proofs.Common.{◌≡◌, ℕ, ◌<◌, ◌⊎◌, List, [], ◌++◌, length, take, Result, Ok, Err, refl, sym, ap, subst, ◌∙◌, arith, inl, inr, append-nil}
 use Rattle.std.proofs.Math.Seq.{take-length}
 use Rattle.std.specs.Io.{WritesAtMost}
 use Rattle.std.specs.Io.KnownBytes.{WriteAppends}
 use Rattle.std.specs.declared.io.Error.{Error}
-use Rattle.redux_buffer.specs.Block.{IsBlock, Extends, usable}
+use Rattle.redux_buffer.specs.Block.{Block, IsBlock, Extends, usable}
 use Rattle.redux_buffer.specs.StreamLog.{StreamLog, portion}
 use Rattle.buffer_redux.specs.Policy.{WriteRules, BeforeWrite}
 use Rattle.buffer_redux.specs.declared.policy.FlushAmt.{FlushAmt}
-use Rattle.buffer_redux.specs.Buffered.{Buffered, InnerWent}
+use Rattle.buffer_redux.specs.Buffered.{Buffered, InnerWent, with_block}
 use Rattle.buffer_redux.specs.BufWriter.{writer_contents, EmptyWriteCaused, FlushesAmount, TakesIn, Prepared, Finished, WriteErrorCaused, WriterKeeps, Writes, WritesInOrder, WritesSteadily}
 use Rattle.buffer_redux.specs.WriteAll.{AskedFirst}
 use Rattle.buffer_redux.specs.WriterLaws.{WritesInOrder-contents}
@@ -59,7 +59,7 @@ asked_on tells rules amount s m bs first answer t steps = writes_on rules s m bs
     (first.asked.law.whole first.whole) first.told answer t (rw first.is steps)
 
 -- where nothing is sent first, and where bytes fit with room to spare
-pub flushes_none : {S P : Type 0} (m : Buffered S P) (amount : ℕ)
+flushes_none : {S P : Type 0} (m : Buffered S P) (amount : ℕ)
     → amount ≡ 0 → FlushesAmount amount m (Ok tt) m
 flushes_none m amount none = record {
   policy = refl;
@@ -67,27 +67,30 @@ flushes_none m amount none = record {
   sends = λ some. absurd (omega (arith, none, some));
 }
 
-pub takes_in_roomy : {S P : Type 0} (m t : Buffered S P) (bs : List ℕ) (n : ℕ)
-    → IsBlock m.block → length bs < usable m.block → n ≡ min (usable m.block) (length bs)
-    → Extends (take n bs) m.block t.block → t.policy ≡ m.policy → t.log ≡ m.log → TakesIn bs m (Ok n) t
-takes_in_roomy m t bs n whole room count added policy told = record {
+takes_in_all : {S P : Type 0} (m t : Buffered S P) (bs : List ℕ) → IsBlock m.block → length bs < usable m.block
+    → Extends bs m.block t.block → t.policy ≡ m.policy → t.log ≡ m.log → TakesIn bs m (Ok (length bs)) t
+takes_in_all m t bs whole room added policy told = record {
   past = λ past. absurd (omega (arith, past.1, whole.fits, room));
   inside = λ inside. record {
     policy = policy;
     settled = m.block;
     roomy = λ _. refl;
     tight = λ none. absurd (omega (arith, none, room));
-    answered = ap Ok count;
-    added = added;
+    answered = ap Ok (omega (arith, room));
+    added = subst (λ l. Extends l m.block t.block) (sym (take-length bs)) added;
     told = told;
   };
 }
 
--- a write that fits took in all of its bytes, where they were appended as they are
-pub takes_in_all : {S P : Type 0} (m t : Buffered S P) (bs : List ℕ) → IsBlock m.block → length bs < usable m.block
-    → Extends bs m.block t.block → t.policy ≡ m.policy → t.log ≡ m.log → TakesIn bs m (Ok (length bs)) t
-takes_in_all m t bs whole room added policy told = takes_in_roomy m t bs (length bs) whole room (omega (arith, room))
-    (subst (λ l. Extends l m.block t.block) (sym (take-length bs)) added) policy told
+-- a write before which nothing is sent, and that fits
+pub writes_in : {S P : Type 0} (rules : WriteRules P) (s m t : Buffered S P) (bs : List ℕ) (b : Block) (amount : FlushAmt)
+    → BeforeWrite rules s.policy s.block (length bs) (Ok amount) m.policy m.block → IsBlock m.block → m.log ≡ s.log
+    → amount.0 ≡ 0 → length bs < usable m.block → Extends bs m.block b → Finished rules (with_block m b) t
+    → Writes rules s bs (Ok (length bs)) t
+writes_in rules s m t bs b amount asked whole told none room added finished =
+    let after = with_block m b in
+    writes_on rules s m bs amount asked whole told (Ok (length bs)) t
+    (m, after, flushes_none m (amount.0) none, takes_in_all m after bs whole room added refl refl, finished)
 
 -- all that `write` promises, as its clauses say it
 module _ {S P : Type 0} (tells : S → StreamLog) (trace : S → S → Type 0) (rules : WriteRules P)

@@ -1,10 +1,10 @@
 -- No bytes are no write, bytes that fit are one, and other bytes are a first write that more of them join.
-use Rattle.std.proofs.Common.{◌≡◌, ◌<◌, [], Ok, length, refl, arith, inl, sym, ◌∙◌}
+use Rattle.std.proofs.Common.{◌≡◌, ◌<◌, [], length, refl, arith, inl, sym, ◌∙◌}
 use Rattle.std.proofs.lemmas.List.{nil_from_length}
 use Rattle.redux_buffer.specs.Block.{usable}
-use Rattle.buffer_redux.specs.Buffered.{Buffered}
+use Rattle.buffer_redux.specs.Buffered.{over_buffer, with_calls}
 use Rattle.buffer_redux.proofs.Testing.{some_of, zero_of}
-use Rattle.buffer_redux.proofs.WriteOn.{writes_on, flushes_none, takes_in_all}
+use Rattle.buffer_redux.proofs.WriteOn.{writes_in}
 use Rattle.buffer_redux.proofs.WriteAll.{all_none, all_at_once}
 use Rattle.buffer_redux.proofs.buf_writer.BufWriter.write_whole.Goals as goal
 
@@ -28,26 +28,15 @@ returns-else-usable_space-bytes g c =
     omega (arith, c.if-usable_space-bytes.false, c.usable_space.ensures.value) in
     let some : 0 < length bytes =
     omega (arith, some_of (length bytes) (sym c.is_empty.ensures ∙ c.if-is_empty.false)) in
-    let before : Buffered g.row.W.Denot g.row.P.Denot = record {
-      policy = c.before_write.new.self;
-      block = c.before_write.new.buf;
-      inner = c.self.inside.inner;
-      log = g.W.Tell.log c.self.inside.inner;
-      own_calls = c.self.inside.calls.log;
-    } in
-    let after : Buffered g.row.W.Denot g.row.P.Denot = record before { block = c.append_by.new.buf } in
+    let before = with_calls (over_buffer g.W.Tell.log c.before_write.new.self c.before_write.new.buf c.self.inside.inner)
+    c.self.inside.calls.log in
     record {
       steps = (all_at_once _ _ g.met.W.TellWrite.trace_none g.met.W.TellWrite.trace_joins rules
           c.args.self.now bytes (length bytes) c.flush_after.new.self some refl
           (rw (← c.self.view_is) (record {
-            steps = writes_on rules _ before bytes c.in-Ok.field-0 c.in-Ok.ensures whole refl (Ok (length bytes))
-                c.flush_after.new.self (
-                  before,
-                  after,
-                  flushes_none _ _ (omega (arith, c.if-first-gt0.false, c.in-Ok.first-is)),
-                  takes_in_all _ _ bytes whole roomy c.append_by.ensures.bytes refl refl,
-                  c.flush_after.ensures.finished,
-                );
+            steps = writes_in rules _ before c.flush_after.new.self bytes c.append_by.new.buf c.in-Ok.field-0 c.in-Ok.ensures
+                whole refl (omega (arith, c.if-first-gt0.false, c.in-Ok.first-is)) roomy c.append_by.ensures.bytes
+                c.flush_after.ensures.finished;
             whole = (c.self.invariant, c.flush_after.ensures.whole);
             went = record {
               calls = c.flush_after.ensures.trace.calls;

@@ -1,20 +1,19 @@
 -- Each way does the steps of one write, from before the policy was asked, and all clauses follow from those.
 use Rattle.std.proofs.Common.{◌≡◌, ℕ, Ok, length, refl, arith, rules}
-use Rattle.buffer_redux.specs.Buffered.{Buffered, InnerWent}
+use Rattle.buffer_redux.specs.Buffered.{Buffered, InnerWent, over_buffer, with_calls}
 use Rattle.buffer_redux.specs.WriteAll.{AskedFirst}
-use Rattle.buffer_redux.proofs.WriteOn.{writes_on, write_says, flushes_none, takes_in_all}
+use Rattle.buffer_redux.proofs.WriteOn.{writes_in, write_says}
 use Rattle.buffer_redux.proofs.buf_writer.BufWriterWrite.write.Goals as goal
 use Rattle.buffer_redux.proofs.buf_writer.BufWriterWrite.write.Goals.{In_ok-first}
 
--- what the policy answered
+-- the writer once the policy was asked
+abbrev asked : (g : _) → goal.In_ok-first g → Buffered g.row.W.Denot g.row.P.Denot
+asked g c = with_calls (over_buffer g.W.Tell.log c.before_write.new.self c.before_write.new.buf c.self.inside.inner)
+    c.self.inside.calls.log
+
+-- what it answered
 asked_first : (g : _) (c : goal.In_ok-first g) (amount : ℕ) → c.in_ok-first.field-0.0 ≡ amount → AskedFirst g.W.Tell.log
-    g.P.WriterPolicy.rules (length c.args.bytes.now) amount c.args.self.now (record {
-      policy = c.before_write.new.self;
-      block = c.before_write.new.buf;
-      inner = c.self.inside.inner;
-      log = g.W.Tell.log c.self.inside.inner;
-      own_calls = c.self.inside.calls.log;
-    })
+    g.P.WriterPolicy.rules (length c.args.bytes.now) amount c.args.self.now (asked g c)
 asked_first g c amount is = rw (← c.self.view_is) (record {
   answer = c.in_ok-first.field-0;
   is = is;
@@ -55,24 +54,11 @@ returns-then-bytes-usable_space g c =
 pub returns : goal.returns
 returns g c =
     let bytes = c.args.bytes.now in
-    let whole = c.in_ok-first.ensures.law.whole c.self.invariant in
-    let before : Buffered g.row.W.Denot g.row.P.Denot = record {
-      policy = c.before_write.new.self;
-      block = c.before_write.new.buf;
-      inner = c.self.inside.inner;
-      log = g.W.Tell.log c.self.inside.inner;
-      own_calls = c.self.inside.calls.log;
-    } in
-    let after : Buffered g.row.W.Denot g.row.P.Denot = record before { block = c.append_short.new.self } in
-    let went : InnerWent g.W.Tell.log g.W.TellWrite.trace c.args.self.now c.flush_after.new.self = search rules in
-    write_says _ _ g.P.WriterPolicy.rules _ _ (Ok (length bytes)) _ (omega arith)
-    c.flush_after.ensures.whole went (rw (← c.self.view_is) (writes_on g.P.WriterPolicy.rules _ before
-    bytes c.in_ok-first.field-0 c.in_ok-first.ensures whole refl (Ok (length bytes)) c.flush_after.new.self (
-      before,
-      after,
-      flushes_none _ _ (omega (arith, c.if-first-gt0.false, c.in_ok-first.first-is)),
-      takes_in_all _ _ bytes whole
-          (omega (arith, c.if-bytes-usable_space.false, c.usable_space.ensures.value))
-          c.append_short.ensures.bytes refl refl,
-      c.flush_after.ensures.finished,
-    )))
+    let t = c.flush_after.new.self in
+    let went : InnerWent g.W.Tell.log g.W.TellWrite.trace c.args.self.now t = search rules in
+    write_says _ _ g.P.WriterPolicy.rules _ _ (Ok (length bytes)) _ (omega arith) c.flush_after.ensures.whole went
+    (rw (← c.self.view_is) (writes_in g.P.WriterPolicy.rules _ (asked g (goal.at.returns g c).In_ok-first) t bytes
+    c.append_short.new.self c.in_ok-first.field-0 c.in_ok-first.ensures (c.in_ok-first.ensures.law.whole c.self.invariant) refl
+    (omega (arith, c.if-first-gt0.false, c.in_ok-first.first-is))
+    (omega (arith, c.if-bytes-usable_space.false, c.usable_space.ensures.value))
+    c.append_short.ensures.bytes c.flush_after.ensures.finished))
