@@ -6,7 +6,7 @@ ghost use Rattle.std.specs.declared.io.Error.{Error};
 ghost use Rattle.std.specs.declared.io.ErrorKind.TheVariants.{InvalidData};
 ghost use Rattle.std.specs.declared.io.traits.SeekFrom.TheVariants.{Current};
 ghost use Rattle.std.specs.Io.Seek.{MovesBy, SeekMoves, StaysAt};
-ghost use Rattle.redux_buffer.specs.Block.{IsBlock, ConsumesFirst};
+ghost use Rattle.redux_buffer.specs.Block.{IsBlock, ConsumesFirst, OnlyRingMoves};
 ghost use Rattle.redux_buffer.specs.StreamLog.{with_fault, SeekTells};
 ghost use Rattle.buffer_redux.specs.Seek.{plan_for, reader_position, Seeks, SeeksBy, SeeksOnce, SeekLeaves};
 ghost use Rattle.buffer_redux.specs.Sparing.{Spared};
@@ -129,7 +129,8 @@ impl<R: TellSeek, P> Seek for BufReader<R, P> {
             (reader_position R.stream_position self.new) offset result }
         ensures bytes { Keeps (R.stream_bytes self.old.inner) (R.stream_bytes self.new.inner) }
         ensures near { (n : ℕ) → offset ≡ pos n → n ≤ length self.old.block.bytes → (result ≡ Ok tt)
-            × ConsumesFirst n self.old.block self.new.block × (self.new ≡ with_block self.old self.new.block) }
+            × ConsumesFirst n self.old.block self.new.block × OnlyRingMoves self.old.block self.new.block
+            × (self.new ≡ with_block self.old self.new.block) }
         ensures far { ¬ ((n : ℕ) × (offset ≡ pos n) × (n ≤ length self.old.block.bytes))
             → SeeksBy R.readies offset self.old result self.new }
         ensures spared { (keep : ℕ) → Spared keep self.old self.new }
