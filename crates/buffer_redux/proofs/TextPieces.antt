@@ -14,7 +14,7 @@ use Rattle.buffer_redux.specs.Policy.{WriteRules}
 use Rattle.buffer_redux.specs.Buffered.{Buffered}
 use Rattle.buffer_redux.specs.BufWriter.{WritesAlong, writer_contents}
 use Rattle.buffer_redux.specs.WriteAll.{WritesAll}
-use Rattle.buffer_redux.specs.WriteFmt.{PieceFailed, StoppedIn, TakesPieces, TextWent, WritesEach, WritesPieces, WritesText}
+use Rattle.buffer_redux.specs.WriteFmt.{PieceFailed, StoppedIn, TakesPiece, TakesPieces, TextWent, WritesEach, WritesPieces, WritesText}
 use Rattle.buffer_redux.specs.WriterLaws.{WritesInOrder-contents}
 use Rattle.buffer_redux.specs.WritesAlongLaws.{WritesAll-along, WritesAll-took, WritesAlong-joins, WritesAlong-none}
 use Rattle.std.specs.IoError.{error_kind}
@@ -27,7 +27,7 @@ module _ {S P : Type 0} (tells : S → StreamLog) (trace : S → S → Type 0) (
   pieces_none s =
       record { pieces = []; all = refl; each = refl; along = WritesAlong-none tells trace rules none s }
 
-  pub one_piece : (s : Buffered S P) (piece : List ℕ) (t : Buffered S P)
+  one_piece : (s : Buffered S P) (piece : List ℕ) (t : Buffered S P)
       → WritesAll tells trace rules s piece (Ok tt) t → WritesPieces tells trace rules s piece t
   one_piece s piece t all = record {
     pieces = piece ∷ [];
@@ -51,7 +51,7 @@ module _ {S P : Type 0} (tells : S → StreamLog) (trace : S → S → Type 0) (
   }
 
   -- a piece whose write failed
-  pub stopped : (s : Buffered S P) (piece : List ℕ) (e : Error) (t : Buffered S P)
+  stopped : (s : Buffered S P) (piece : List ℕ) (e : Error) (t : Buffered S P)
       → WritesAll tells trace rules s piece (Err e) t → StoppedIn tells trace rules s piece e t
   stopped s piece e t all = record {
     why = record { before = []; last = s; went = pieces_none s; piece = piece; steps = all };
@@ -127,20 +127,17 @@ module _ {S P : Type 0} (tells : S → StreamLog) (trace : S → S → Type 0) (
   pieces writer ended (a ∷ parts) f g (m, p, q) = pieces_join (writer f) (writer m) (writer g) (ended f) (ended m) (ended g)
       a (concat parts) p (pieces writer ended parts m g q)
 
-  -- a text that went so far goes on
-  pub went_on : (o : Option (Buffered S P)) (k : Option Error) (m t : Buffered S P) (a : List ℕ) → is_some k ≡ false
-      → ∥ IfSome o (λ s. TextWent tells trace rules s k m) ∥₁ → WritesPieces tells trace rules m a t
-      → ∥ IfSome o (λ s. TextWent tells trace rules s k t) ∥₁
-  went_on None k m t a open' went p = ∣ tt ∣₁
-  went_on (Some s) None m t a open' went p = ∥∥₁_map went (λ w. (w.0 ++ a, pieces_behind s m t w.0 a w.1 p))
-  went_on (Some s) (Some e) m t a open' went p = absurd (subst T open' tt)
-
-  pub went_wrong : (o : Option (Buffered S P)) (k : Option Error) (m t : Buffered S P) (a : List ℕ) (e : Error)
-      → is_some k ≡ false → ∥ IfSome o (λ s. TextWent tells trace rules s k m) ∥₁
-      → StoppedIn tells trace rules m a e t → ∥ IfSome o (λ s. TextWent tells trace rules s (Some e) t) ∥₁
-  went_wrong None k m t a e open' went p = ∣ tt ∣₁
-  went_wrong (Some s) None m t a e open' went p = ∥∥₁_map went (λ w. failed_after s m t w.0 e w.1 p.why)
-  went_wrong (Some s) (Some x) m t a e open' went p = absurd (subst T open' tt)
+  -- one more piece of a text that went so far
+  pub went_piece : (o : Option (Buffered S P)) (k l : Option Error) (m t : Buffered S P) (a : List ℕ)
+      → ∥ IfSome o (λ s. TextWent tells trace rules s k m) ∥₁ → TakesPiece tells trace rules m k a t l
+      → ∥ IfSome o (λ s. TextWent tells trace rules s l t) ∥₁
+  went_piece None k l m t a went p = ∣ tt ∣₁
+  went_piece (Some s) None None m t a went p =
+      ∥∥₁_map went (λ w. (w.0 ++ a, pieces_behind s m t w.0 a w.1 (one_piece m a t p)))
+  went_piece (Some s) None (Some e) m t a went p = ∥∥₁_map went (λ w. failed_after s m t w.0 e w.1 (stopped m a e t p).why)
+  went_piece (Some s) (Some e) None m t a went p = absurd p
+  went_piece (Some s) (Some e) (Some f) m t a went p =
+      subst (λ u. ∥ PieceFailed tells trace rules s f u ∥₁) p.1 (subst (λ x. ∥ PieceFailed tells trace rules s x m ∥₁) p.0 went)
 
   -- a text that went so far lost no byte
   went_along : (s : Buffered S P) (k : Option Error) (t : Buffered S P) → TextWent tells trace rules s k t
@@ -152,15 +149,21 @@ module _ {S P : Type 0} (tells : S → StreamLog) (trace : S → S → Type 0) (
         (WritesAll-along tells trace rules w.last w.piece (Err e) t w.steps),
   )
 
-  -- the piece whose write failed, where none had
+  -- a piece as pieces, and as its write was answered where none had failed
+  pub TakesPieces-one : (k l : Option Error) (s t : Buffered S P) (a : List ℕ) → TakesPiece tells trace rules s k a t l
+      → TakesPieces tells trace rules s k a t l
+  TakesPieces-one None None s t a p = one_piece s a t p
+  TakesPieces-one None (Some e) s t a p = stopped s a e t p
+  TakesPieces-one (Some e) None s t a p = absurd p
+  TakesPieces-one (Some e) (Some f) s t a p = p
+
   pub piece_stopped : (k : Option Error) (s : Buffered S P) (a : List ℕ) (e : Error) (t : Buffered S P)
-      → is_some k ≡ false → StoppedIn tells trace rules s a e t → TakesPieces tells trace rules s k a t (Some e)
+      → is_some k ≡ false → WritesAll tells trace rules s a (Err e) t → TakesPiece tells trace rules s k a t (Some e)
   piece_stopped None s a e t open' p = p
   piece_stopped (Some x) s a e t open' p = absurd (subst T open' tt)
 
-  -- a piece that was taken, where no write had failed
   pub piece_taken : (k : Option Error) (s : Buffered S P) (a : List ℕ) (t : Buffered S P) → is_some k ≡ false
-      → WritesPieces tells trace rules s a t → TakesPieces tells trace rules s k a t k
+      → WritesAll tells trace rules s a (Ok tt) t → TakesPiece tells trace rules s k a t k
   piece_taken None s a t open' p = p
   piece_taken (Some x) s a t open' p = absurd (subst T open' tt)
 

@@ -3,7 +3,7 @@ ghost use Rattle.std.specs.Prelude.{◌≡◌, ℕ, Option, None, Some, IfSome, 
 ghost use Rattle.std.specs.Io.KnownBytes.{Appends};
 ghost use Rattle.buffer_redux.specs.Buffered.{Buffered};
 ghost use Rattle.buffer_redux.specs.BufWriter.{writer_contents};
-ghost use Rattle.buffer_redux.specs.WriteFmt.{TakesPieces, TextWent, WritesText};
+ghost use Rattle.buffer_redux.specs.WriteFmt.{TakesPiece, TakesPieces, TextWent, WritesText};
 
 use crate::buf_writer::BufWriter;
 use crate::policy::WriterPolicy;
@@ -39,7 +39,10 @@ struct Pieces<'a, W: TellWrite, P: WriterPolicy, B: Began<W, P>> {
 impl<W: TellWrite, P: WriterPolicy, B: Began<W, P>> fmt::Write for Pieces<'_, W, P, B> {
     ghost write_str_gives = { λ s bytes t. TakesPieces W.log W.trace P.rules s.writer.now s.ended bytes t.writer.now t.ended };
 
-    fn write_str(&mut self, piece: &str) -> fmt::Result {
+    fn write_str(&mut self, piece: &str) -> fmt::Result
+        ensures takes { TakesPiece W.log W.trace P.rules self.old.writer.now self.old.ended piece.now
+            self.new.writer.now self.new.ended }
+    {
         if self.ended.is_none() {
             if let Err(e) = self.writer.write_whole(piece.as_bytes(), true) {
                 self.ended = kept(e);
