@@ -57,7 +57,7 @@ module _ {S P : Type 0} (tells : S → StreamLog) (trace : S → S → Type 0) (
     pub whole : OnOk answer (IfSome text (λ bytes. WritesPieces s bytes t))
     pub beginning : IfErr answer (λ e. IfSome text (λ bytes. (error_kind e ≡ Uncategorized) ⊎ StoppedIn s bytes e t))
 
-  -- one piece was taken: all of it was written, and an error of that ended the text; or there was one before, and nothing was done
+  -- one piece was taken: all of it was written, and an error of that ended the text; behind such an error nothing was done
   abbrev pub TakesPiece : Buffered S P → Option Error → List ℕ → Buffered S P → Option Error → Type 0
   TakesPiece s None piece t None = WritesAll tells trace rules s piece (Ok tt) t
   TakesPiece s None piece t (Some e) = WritesAll tells trace rules s piece (Err e) t

@@ -1,5 +1,5 @@
 //! Formatted text, which is written piece by piece.
-ghost use Rattle.std.specs.Prelude.{◌≡◌, ℕ, Option, None, Some, IfSome, OnOk};
+ghost use Rattle.std.specs.Prelude.{◌≡◌, ℕ, Option, None, Some, IfSome, IsOk, OnOk};
 ghost use Rattle.std.specs.Io.KnownBytes.{Appends};
 ghost use Rattle.buffer_redux.specs.Buffered.{Buffered};
 ghost use Rattle.buffer_redux.specs.BufWriter.{writer_contents};
@@ -40,6 +40,7 @@ impl<W: TellWrite, P: WriterPolicy, B: Began<W, P>> fmt::Write for Pieces<'_, W,
     ghost write_str_gives = { λ s bytes t. TakesPieces W.log W.trace P.rules s.writer.now s.ended bytes t.writer.now t.ended };
 
     fn write_str(&mut self, piece: &str) -> fmt::Result
+        ensures ok { IsOk result }
         ensures takes { TakesPiece W.log W.trace P.rules self.old.writer.now self.old.ended piece.now
             self.new.writer.now self.new.ended }
     {

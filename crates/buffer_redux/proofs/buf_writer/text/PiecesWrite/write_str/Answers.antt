@@ -28,8 +28,8 @@ pub invariant_of-self-in_default-clause-went : goal.invariant_of-self-in_default
 invariant_of-self-in_default-clause-went g c = went_piece _ _ _ g.met.W.TellWrite.trace_none g.met.W.TellWrite.trace_joins
     g.B.Began.writer _ _ _ _ _ c.args.self.now.went (taken g c)
 
-pub returns-in-Err : goal.returns-in-Err
-returns-in-Err g c = record { takes = stopped g (goal.at.returns-in-Err g c).After-kept-self }
+pub returns-in-Err-clause-takes : goal.returns-in-Err-clause-takes
+returns-in-Err-clause-takes g c = stopped g (goal.at.returns-in-Err-clause-takes g c).After-kept-self
 
-pub returns-in_default : goal.returns-in_default
-returns-in_default g c = record { takes = taken g (goal.at.returns-in_default g c).In_default }
+pub returns-in_default-clause-takes : goal.returns-in_default-clause-takes
+returns-in_default-clause-takes g c = taken g (goal.at.returns-in_default-clause-takes g c).In_default
