@@ -14,7 +14,7 @@ use Rattle.buffer_redux.specs.Policy.{WriteRules}
 use Rattle.buffer_redux.specs.Buffered.{Buffered}
 use Rattle.buffer_redux.specs.BufWriter.{WritesAlong, writer_contents}
 use Rattle.buffer_redux.specs.WriteAll.{WritesAll}
-use Rattle.buffer_redux.specs.WriteFmt.{PieceFailed, StoppedIn, TakesPiece, TakesPieces, TextWent, WritesEach, WritesPieces, WritesText}
+use Rattle.buffer_redux.specs.WriteFmt.{PieceFailed, StoppedIn, TakesOnePiece, TakesPieces, TextWent, WritesEach, WritesPieces, WritesText}
 use Rattle.buffer_redux.specs.WriterLaws.{WritesInOrder-contents}
 use Rattle.buffer_redux.specs.WritesAlongLaws.{WritesAll-along, WritesAll-took, WritesAlong-joins, WritesAlong-none}
 use Rattle.std.specs.IoError.{error_kind}
@@ -129,7 +129,7 @@ module _ {S P : Type 0} (tells : S → StreamLog) (trace : S → S → Type 0) (
 
   -- one more piece of a text that went so far
   pub went_piece : (o : Option (Buffered S P)) (k l : Option Error) (m t : Buffered S P) (a : List ℕ)
-      → ∥ IfSome o (λ s. TextWent tells trace rules s k m) ∥₁ → TakesPiece tells trace rules m k a t l
+      → ∥ IfSome o (λ s. TextWent tells trace rules s k m) ∥₁ → TakesOnePiece tells trace rules m k a t l
       → ∥ IfSome o (λ s. TextWent tells trace rules s l t) ∥₁
   went_piece None k l m t a went p = ∣ tt ∣₁
   went_piece (Some s) None None m t a went p =
@@ -150,7 +150,7 @@ module _ {S P : Type 0} (tells : S → StreamLog) (trace : S → S → Type 0) (
   )
 
   -- a piece as pieces, and as its write was answered where none had failed
-  pub TakesPieces-one : (k l : Option Error) (s t : Buffered S P) (a : List ℕ) → TakesPiece tells trace rules s k a t l
+  pub TakesPieces-one : (k l : Option Error) (s t : Buffered S P) (a : List ℕ) → TakesOnePiece tells trace rules s k a t l
       → TakesPieces tells trace rules s k a t l
   TakesPieces-one None None s t a p = one_piece s a t p
   TakesPieces-one None (Some e) s t a p = stopped s a e t p
@@ -158,12 +158,12 @@ module _ {S P : Type 0} (tells : S → StreamLog) (trace : S → S → Type 0) (
   TakesPieces-one (Some e) (Some f) s t a p = p
 
   pub piece_stopped : (k : Option Error) (s : Buffered S P) (a : List ℕ) (e : Error) (t : Buffered S P)
-      → is_some k ≡ false → WritesAll tells trace rules s a (Err e) t → TakesPiece tells trace rules s k a t (Some e)
+      → is_some k ≡ false → WritesAll tells trace rules s a (Err e) t → TakesOnePiece tells trace rules s k a t (Some e)
   piece_stopped None s a e t open' p = p
   piece_stopped (Some x) s a e t open' p = absurd (subst T open' tt)
 
   pub piece_taken : (k : Option Error) (s : Buffered S P) (a : List ℕ) (t : Buffered S P) → is_some k ≡ false
-      → WritesAll tells trace rules s a (Ok tt) t → TakesPiece tells trace rules s k a t k
+      → WritesAll tells trace rules s a (Ok tt) t → TakesOnePiece tells trace rules s k a t k
   piece_taken None s a t open' p = p
   piece_taken (Some x) s a t open' p = absurd (subst T open' tt)
 

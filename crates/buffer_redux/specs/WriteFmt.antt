@@ -58,11 +58,11 @@ module _ {S P : Type 0} (tells : S → StreamLog) (trace : S → S → Type 0) (
     pub beginning : IfErr answer (λ e. IfSome text (λ bytes. (error_kind e ≡ Uncategorized) ⊎ StoppedIn s bytes e t))
 
   -- one piece was taken: all of it was written, and an error of that ended the text; behind such an error nothing was done
-  abbrev pub TakesPiece : Buffered S P → Option Error → List ℕ → Buffered S P → Option Error → Type 0
-  TakesPiece s None piece t None = WritesAll tells trace rules s piece (Ok tt) t
-  TakesPiece s None piece t (Some e) = WritesAll tells trace rules s piece (Err e) t
-  TakesPiece s (Some e) piece t None = ⊥
-  TakesPiece s (Some e) piece t (Some f) = (e ≡ f) × (s ≡ t)
+  abbrev pub TakesOnePiece : Buffered S P → Option Error → List ℕ → Buffered S P → Option Error → Type 0
+  TakesOnePiece s None piece t None = WritesAll tells trace rules s piece (Ok tt) t
+  TakesOnePiece s None piece t (Some e) = WritesAll tells trace rules s piece (Err e) t
+  TakesOnePiece s (Some e) piece t None = ⊥
+  TakesOnePiece s (Some e) piece t (Some f) = (e ≡ f) × (s ≡ t)
 
   -- pieces of it were taken, one after another, and none behind the error that ended it
   abbrev pub TakesPieces : Buffered S P → Option Error → List ℕ → Buffered S P → Option Error → Type 0

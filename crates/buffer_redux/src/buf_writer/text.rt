@@ -3,7 +3,7 @@ ghost use Rattle.std.specs.Prelude.{◌≡◌, ℕ, Option, None, Some, IfSome, 
 ghost use Rattle.std.specs.Io.KnownBytes.{Appends};
 ghost use Rattle.buffer_redux.specs.Buffered.{Buffered};
 ghost use Rattle.buffer_redux.specs.BufWriter.{writer_contents};
-ghost use Rattle.buffer_redux.specs.WriteFmt.{TakesPiece, TakesPieces, TextWent, WritesText};
+ghost use Rattle.buffer_redux.specs.WriteFmt.{TakesOnePiece, TakesPieces, TextWent, WritesText};
 
 use crate::buf_writer::BufWriter;
 use crate::policy::WriterPolicy;
@@ -41,7 +41,7 @@ impl<W: TellWrite, P: WriterPolicy, B: Began<W, P>> fmt::Write for Pieces<'_, W,
 
     fn write_str(&mut self, piece: &str) -> fmt::Result
         ensures ok { IsOk result }
-        ensures takes { TakesPiece W.log W.trace P.rules self.old.writer.now self.old.ended piece.now
+        ensures takes { TakesOnePiece W.log W.trace P.rules self.old.writer.now self.old.ended piece.now
             self.new.writer.now self.new.ended }
     {
         if self.ended.is_none() {

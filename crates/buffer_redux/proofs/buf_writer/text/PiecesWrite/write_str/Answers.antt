@@ -2,20 +2,20 @@
 use Rattle.std.proofs.Common.{ap, ◌∙◌, subst}
 use Rattle.std.specs.Prelude.{not}
 use Rattle.buffer_redux.proofs.TextPieces.{piece_stopped, piece_taken, went_piece}
-use Rattle.buffer_redux.specs.WriteFmt.{TakesPiece}
+use Rattle.buffer_redux.specs.WriteFmt.{TakesOnePiece}
 use Rattle.buffer_redux.proofs.buf_writer.text.PiecesWrite.write_str.Goals as goal
 use Rattle.buffer_redux.proofs.buf_writer.text.PiecesWrite.write_str.Goals.{After-kept-self, In_default}
 
-stopped : (g : _) (c : goal.After-kept-self g) → TakesPiece g.W.Tell.log g.W.TellWrite.trace g.P.WriterPolicy.rules
+stopped : (g : _) (c : goal.After-kept-self g) → TakesOnePiece g.W.Tell.log g.W.TellWrite.trace g.P.WriterPolicy.rules
     c.args.self.now.writer.now c.args.self.now.ended c.args.piece.now c.write_whole.new.self c.kept-self.result
-stopped g c = subst (λ l. TakesPiece g.W.Tell.log g.W.TellWrite.trace g.P.WriterPolicy.rules c.args.self.now.writer.now
+stopped g c = subst (λ l. TakesOnePiece g.W.Tell.log g.W.TellWrite.trace g.P.WriterPolicy.rules c.args.self.now.writer.now
     c.args.self.now.ended l c.write_whole.new.self c.kept-self.result) c.as_bytes.ensures.value
     (rw c.kept-self.ensures (piece_stopped _ _ _ g.met.W.TellWrite.trace_none g.met.W.TellWrite.trace_joins
     c.args.self.now.ended _ _ c.in-Err.e _ (c.is_none.ensures ∙ ap not c.if-is_none.true) c.in-Err.ensures.steps))
 
-taken : (g : _) (c : goal.In_default g) → TakesPiece g.W.Tell.log g.W.TellWrite.trace g.P.WriterPolicy.rules
+taken : (g : _) (c : goal.In_default g) → TakesOnePiece g.W.Tell.log g.W.TellWrite.trace g.P.WriterPolicy.rules
     c.args.self.now.writer.now c.args.self.now.ended c.args.piece.now c.write_whole.new.self c.args.self.now.ended
-taken g c = subst (λ l. TakesPiece g.W.Tell.log g.W.TellWrite.trace g.P.WriterPolicy.rules c.args.self.now.writer.now
+taken g c = subst (λ l. TakesOnePiece g.W.Tell.log g.W.TellWrite.trace g.P.WriterPolicy.rules c.args.self.now.writer.now
     c.args.self.now.ended l c.write_whole.new.self c.args.self.now.ended) c.as_bytes.ensures.value
     (piece_taken _ _ _ g.met.W.TellWrite.trace_none g.met.W.TellWrite.trace_joins c.args.self.now.ended _ _ _
     (c.is_none.ensures ∙ ap not c.if-is_none.true) c.in_default.ensures.steps)
