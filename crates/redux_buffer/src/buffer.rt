@@ -286,8 +286,8 @@ impl Buffer {
     /// Appends the first bytes of `src`, as many as can be written now, and returns how many those are.
     pub fn copy_from_slice(&mut self, src: &[u8]) -> usize
         ensures count { result ≡ min (usable self.old) (length src.now) }
-        ensures still { self.old.tail_behind ≡ true → self.new.moved ≡ self.old.moved }
         ensures bytes { Extends (take result src.now) self.old self.new }
+        ensures still { self.old.tail_behind ≡ true → self.new.moved ≡ self.old.moved }
         ensures whole { IsBlock self.new }
     {
         self.imp.append(src)
@@ -296,8 +296,8 @@ impl Buffer {
     /// Appends all of `src`, which fits behind the bytes.
     pub fn append(&mut self, src: &[u8])
         requires fits { length src.now ≤ usable self.old }
-        ensures still { self.old.tail_behind ≡ true → self.new.moved ≡ self.old.moved }
         ensures bytes { Extends src.now self.old self.new }
+        ensures still { self.old.tail_behind ≡ true → self.new.moved ≡ self.old.moved }
         ensures whole { IsBlock self.new }
     {
         self.imp.append_all(src);
@@ -307,8 +307,8 @@ impl Buffer {
     #[inline(always)]
     pub fn append_short(&mut self, src: &[u8])
         requires fits { length src.now ≤ usable self.old }
-        ensures still { self.old.tail_behind ≡ true → self.new.moved ≡ self.old.moved }
         ensures bytes { Extends src.now self.old self.new }
+        ensures still { self.old.tail_behind ≡ true → self.new.moved ≡ self.old.moved }
         ensures whole { IsBlock self.new }
     {
         self.imp.append_short(src);
