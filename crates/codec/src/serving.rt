@@ -114,16 +114,8 @@ pub fn serve_all<R: TellRead, D: Items, W: TellWrite, S: Service<D>>(
 {
     for _call in 0..u64::MAX {
         match serve(service, reader, writer) {
-            Ok(ended) => return Ok(ended),
-            Err(ServeError::Read(e)) => {
-                if e.kind() != ErrorKind::Interrupted {
-                    return Err(ServeError::Read(e));
-                }
-            }
-            Err(ServeError::Write(e)) => return Err(ServeError::Write(e)),
-            Err(ServeError::Flush(ended, e)) => return Err(ServeError::Flush(ended, e)),
-            Err(ServeError::Wrong(e)) => return Err(ServeError::Wrong(e)),
-            Err(ServeError::Failed(why)) => return Err(ServeError::Failed(why)),
+            Err(ServeError::Read(e)) if e.kind() == ErrorKind::Interrupted => {}
+            ended => return ended,
         }
     }
     Err(ServeError::Read(io::Error::from(ErrorKind::TimedOut)))

@@ -24,7 +24,7 @@ use std::marker::Model;
 /// A reader of frames whose payload has at most so many bytes.
 ///
 /// It lends each payload out of a plain buffer, which holds any three frames. The makers take it, and no other call takes
-/// memory. No more bytes are moved in it than are read.
+/// memory. In a buffer of its own it moves no more bytes than it reads.
 ///
 /// ```
 /// let stream = Told::new(b"\x00\x02hi\x00\x00".as_slice());

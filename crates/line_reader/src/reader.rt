@@ -29,7 +29,7 @@ use std::marker::Model;
 /// A reader of lines that have at most so many bytes, their ends not counted.
 ///
 /// It lends each line out of a plain buffer, in which three lines fit with their ends. The makers take its memory, and no
-/// other call takes any. No more bytes are moved in it than are read.
+/// other call takes any. In a buffer of its own it moves no more bytes than it reads.
 ///
 /// ```
 /// let mut reader = LineReader::new(alloc, Told::new(b"one\n\nlast".as_slice()), 100)?;
@@ -323,7 +323,7 @@ impl<R: TellRead> LineReader<R> {
     ///
     /// A fault leaves the line half skipped, and the reader goes on with that line, however often the stream fails: the next
     /// call of this drops what comes of it, through its end, and so does one of `next` before it looks for its line. A line
-    /// of more than `2^63` bytes ends the call too, by `Other`.
+    /// of more than `2^63` bytes may end the call too, by `Other`.
     pub fn skip_line(&mut self) -> io::Result<u64>
         ensures left { IfOk result (λ n. (got : List ℕ)
             × (self.new.pieces.reader.log.reads.given ≡ self.old.pieces.reader.log.reads.given ++ got)

@@ -1,7 +1,9 @@
 -- What is handed out of what is buffered alone.
-use Rattle.std.proofs.Common.{◌≡◌, ◌≤◌, ℕ, length, ap, refl, subst, sym, ◌∙◌, arith, le_refl}
+use Rattle.std.proofs.Common.{◌≡◌, ◌≤◌, ℕ, List, length, ap, refl, subst, sym, ◌∙◌, arith, le_refl}
+use Rattle.piece_reader.specs.declared.decoder.Span.{Span}
+use Rattle.piece_reader.specs.Decoding.{IsPiece}
 use Rattle.piece_reader.specs.Grammar.{Begins, Grammar, IsLawful, IsOpen}
-use Rattle.piece_reader.specs.GrammarLaws.{open_of}
+use Rattle.piece_reader.specs.GrammarLaws.{begins_of, open_of}
 use Rattle.piece_reader.specs.NextPiece.{StaysLeft}
 use Rattle.piece_reader.specs.NextPieceLaws.{seen_inside}
 use Rattle.piece_reader.specs.PieceReader.{ReaderState, IsPieceReader, rest}
@@ -31,3 +33,10 @@ module _ {S D W : Type 0} (g : Grammar W) (s t : ReaderState S D) (whole : IsPie
     looked s.seen same (le_refl s.seen) (λ open'. absurd (open'.not_wrong e wrong)),
     λ b. law.apart b.piece b.payload b.more e b.is (subst (λ l. g.wrong l e) b.equal wrong),
   )
+
+-- a piece that was found in what is left is one that it begins with
+pub found_begins : {S D W : Type 0} (grammar : D → Grammar W) (s : ReaderState S D) (d : D) → d ≡ s.decoder → (bytes : List ℕ)
+    → bytes ≡ rest s → (span : Span) (used : ℕ) → IsPiece (grammar d) bytes span used → Begins (grammar s.decoder) (rest s)
+found_begins grammar s d same bytes is span used found =
+    let here = subst (λ x. IsPiece (grammar x) bytes span used) same found in
+    subst (Begins (grammar s.decoder)) is (begins_of (grammar s.decoder) bytes span used here)

@@ -53,14 +53,16 @@ pub record IsFresh {S D : Type 0} (tells : S → StreamLog) (least most : ℕ) (
   pub capacity : f.reader.block.capacity ≡ room_for least most
   pub limit : f.reader.block.limit ≡ room_for least most
 
--- made over this buffer and stream: just what they have is left. A plain buffer in which three pieces fit is the reader's, with
--- no byte moved
+-- made over this buffer and stream: just what they have is left, and no byte was moved. A plain buffer in which three pieces fit
+-- is the reader's
 pub record IsOver {S D : Type 0} (tells : S → StreamLog) (most : ℕ) (buffer : Block) (stream : S) (finder : D)
     (f : ReaderState S D) : Type 0 where
   pub left : left_of f ≡ record { left = buffer.bytes; inner = stream; log = tells stream }
   pub decoder : f.decoder ≡ finder
   pub ended : f.ended ≡ false
   pub capacity : f.reader.block.capacity ≡ room_for buffer.capacity most
+  pub consumed : f.reader.block.consumed ≤ buffer.consumed
+  pub moved : f.reader.block.moved ≤ buffer.moved
   pub kept : buffer.kind ≡ Plain → 3 * most ≤ buffer.capacity → f.reader.block ≡ with_limit buffer buffer.capacity
 
 -- the next call answers without the stream: a whole piece stands there, or what no piece begins with, or the stream has ended,

@@ -40,6 +40,7 @@ pub fn fit_buffer(
     ensures limit { IfOk result (λ b. b.limit ≡ room_for buffer.capacity most) }
     ensures same { IfOk result (λ b. buffer.kind ≡ Plain → 3 * most ≤ buffer.capacity → b ≡ with_limit buffer buffer.capacity) }
     ensures consumed { IfOk result (λ b. b.consumed ≤ buffer.consumed) }
+    ensures moved { IfOk result (λ b. b.moved ≤ buffer.moved) }
     ensures whole { IfOk result IsBlock }
     ensures handed_back { IfErr result (λ e. e.0 ≡ buffer) }
     ensures within { FitsWithin (growth result) (room_for buffer.capacity most) (2 ^ 62) }

@@ -1,9 +1,8 @@
 -- What a header says stays so whatever comes behind, so it settles how many bytes the piece takes.
 use Rattle.std.proofs.Common.{◌≡◌, ◌+◌, ◌-◌, ◌≤◌, ap, arith, drop, length, subst, sym, take, ◌∙◌}
 use Rattle.piece_reader.specs.Decoding.{IsPiece}
-use Rattle.piece_reader.specs.Grammar.{IsOpenBelow}
 use Rattle.piece_reader.specs.HeaderFormat.{length_prefixed}
-use Rattle.piece_reader.specs.HeaderFormatLaws.{length_prefixed_piece, sized_lacks}
+use Rattle.piece_reader.specs.HeaderFormatLaws.{length_prefixed_piece}
 use Rattle.piece_reader.proofs.by_header.ByHeaderDecoder.decode.Goals as goal
 
 pub returns-else-not-is_tail-clause-finds : goal.returns-else-not-is_tail-clause-finds

@@ -1,7 +1,7 @@
 -- What was looked at settles nothing, so it is plain and at most `max` bytes: the search begins behind it.
 use Rattle.std.proofs.Common.{arith, take}
 use Rattle.piece_reader.specs.DelimitedLaws.{open_plain}
-use Rattle.piece_reader.proofs.Delimiting.{found_piece, seen_few, too_long, wants_one}
+use Rattle.piece_reader.proofs.Delimiting.{found_piece, seen_few, wants_one}
 use Rattle.piece_reader.proofs.delimited.DelimitedDecoder.decode.Goals as goal
 
 pub find_end-requires-clause-order : goal.find_end-requires-clause-order

@@ -1,24 +1,15 @@
 -- Where a piece was found what is left begins with it, and no bytes begin with a piece.
-use Rattle.std.proofs.Common.{ap, inl, inr, refl, subst, arith}
-use Rattle.std.proofs.lemmas.Grind.{common_steps}
-use Rattle.piece_reader.specs.Decoding.{IsPiece}
-use Rattle.piece_reader.specs.Grammar.{Begins}
-use Rattle.piece_reader.specs.GrammarLaws.{begins_none, begins_of}
-use Rattle.piece_reader.specs.PieceReader.{rest}
+use Rattle.std.proofs.Common.{ap, inl, inr, refl}
+use Rattle.piece_reader.specs.GrammarLaws.{begins_none}
+use Rattle.piece_reader.proofs.Buffered.{found_begins}
 use Rattle.piece_reader.proofs.reader.PieceReader.is_settled.Goals as goal
-
-begins : (g : _) (c : goal.In-Piece g) → Begins (g.D.Decoder.grammar c.args.self.now.decoder) (rest c.args.self.now)
-begins g c =
-    let grammar = g.D.Decoder.grammar in
-    let found = subst (λ d. IsPiece (grammar d) c.rest.result.now c.in-Piece.field-0 c.in-Piece.field-1)
-    (ap (λ x. x.decoder) c.self.view_is) c.in-Piece.ensures.finds in
-    subst (Begins (grammar c.args.self.now.decoder)) c.rest.ensures.value
-    (begins_of (grammar c.args.self.now.decoder) c.rest.result.now c.in-Piece.field-0 c.in-Piece.field-1 found)
 
 pub returns-in-Piece : goal.returns-in-Piece
 returns-in-Piece g c =
-    let grammar = g.D.Decoder.grammar c.args.self.now.decoder in
+    let s = c.args.self.now in
+    let begins = found_begins g.D.Decoder.grammar s _ (ap (λ x. x.decoder) c.self.view_is) _ c.rest.ensures.value _ _
+    c.in-Piece.ensures.finds in
     record {
-      none = λ none. absurd (begins_none grammar (g.met.D.Decoder.lawful c.args.self.now.decoder) (begins g c) none);
-      settled = (λ _. inr (inl (begins g c)), λ _. refl);
+      none = λ none. absurd (begins_none (g.D.Decoder.grammar s.decoder) (g.met.D.Decoder.lawful s.decoder) begins none);
+      settled = (λ _. inr (inl begins), λ _. refl);
     }

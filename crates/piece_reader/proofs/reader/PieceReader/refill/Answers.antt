@@ -1,5 +1,5 @@
 -- Nothing was left and one byte is asked for, so where none came the stream ended, which stays untold.
-use Rattle.std.proofs.Common.{Ok, Err, arith, not, true, false, refl, subst, sym}
+use Rattle.std.proofs.Common.{Ok, Err, not, true, false, refl, subst, sym}
 use Rattle.std.proofs.lemmas.Result.{err_from_is_err_and}
 use Rattle.piece_reader.specs.NextPiece.{Refills}
 use Rattle.piece_reader.specs.PieceReader.{ReaderState}

@@ -4,7 +4,6 @@ use Rattle.piece_reader.specs.NextPiece.{load_answer}
 use Rattle.piece_reader.specs.NextPieceLaws.{NextPiece-ready, NextPiece-wrong}
 use Rattle.piece_reader.proofs.Lending.{lends_piece}
 use Rattle.piece_reader.proofs.Loading.{next_looked, takes_shown}
-use Rattle.piece_reader.proofs.Saying.{wrong_now}
 use Rattle.piece_reader.proofs.reader.PieceReader.step.Goals as goal
 
 pub returns-in-Piece-clause-next : goal.returns-in-Piece-clause-next

@@ -1,6 +1,5 @@
 -- Where more is wanted, or no piece can come, what is left begins with no piece, and only a look was done.
 use Rattle.std.proofs.Common.{ap}
-use Rattle.piece_reader.proofs.Buffered.{none_wrong, none_yet}
 use Rattle.piece_reader.proofs.Lending.{lends_piece}
 use Rattle.piece_reader.proofs.Loading.{takes_shown}
 use Rattle.piece_reader.proofs.reader.PieceReader.step_buffered.Goals as goal

@@ -1,9 +1,5 @@
 -- What was handed out since is the piece itself, so it says the item; else what is left begins with none.
 use Rattle.std.proofs.Common.{ap}
-use Rattle.piece_reader.specs.Grammar.{Begins}
-use Rattle.piece_reader.specs.NextPiece.{StaysLeft}
-use Rattle.piece_reader.specs.PieceReader.{rest}
-use Rattle.piece_reader.proofs.Buffered.{none_wrong, none_yet}
 use Rattle.piece_reader.proofs.Lending.{lends_piece}
 use Rattle.piece_reader.proofs.Saying.{says_piece, whole_piece}
 use Rattle.piece_reader.proofs.reader.PieceReader.step_item_buffered.Goals as goal
