@@ -1,7 +1,10 @@
 //! Pieces are answered, one after another.
-ghost use Rattle.std.specs.Prelude.{◌≡◌, ℕ, List, [], Bool, IfOk, IfErr, OnOk};
+ghost use Rattle.std.specs.Prelude.{◌≡◌, ℕ, List, [], Bool, true, false, Err, IfOk, IfErr, OnOk};
+ghost use Rattle.std.specs.declared.io.Error.{Error};
+ghost use Rattle.buffer_redux.specs.Faults.{IsInterrupt};
+ghost use Rattle.codec.specs.declared.serving.ServeError.TheVariants.{Read};
 ghost use Rattle.codec.specs.Answering.{IsPieceRead, WasAnswered};
-ghost use Rattle.codec.specs.ServingAll.{ServesAll, StopsAll};
+ghost use Rattle.codec.specs.ServingAll.{NotInterrupted, ServesAll, StopsAll};
 ghost use Rattle.codec.specs.Serving.{Serves, ServesTurn, ServingEnds, ServingFails, server};
 
 use crate::answering::AnswerError;
@@ -113,12 +116,23 @@ pub fn serve_all<R: TellRead, D: Items, W: TellWrite, S: Service<D>>(
         (server reader.new service.new writer.new)) }
 {
     for _call in 0..u64::MAX {
-        match serve(service, reader, writer) {
-            Err(ServeError::Read(e)) if e.kind() == ErrorKind::Interrupted => {}
-            ended => return ended,
+        let served = serve(service, reader, writer);
+        if !was_interrupted(&served) {
+            return served;
         }
     }
     Err(ServeError::Read(io::Error::from(ErrorKind::TimedOut)))
+}
+
+// Whether a read was interrupted.
+fn was_interrupted<W, F>(served: &Result<Served, ServeError<W, F>>) -> bool
+    ensures yes { result ≡ true → (why : Error) × (served.now ≡ Err (Read why)) × IsInterrupt why }
+    ensures no { result ≡ false → IfErr served.now NotInterrupted }
+{
+    match served {
+        Err(ServeError::Read(e)) => e.kind() == ErrorKind::Interrupted,
+        _ => false,
+    }
 }
 
 // Serves, but for the last flush.

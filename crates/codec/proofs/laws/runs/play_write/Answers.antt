@@ -1,5 +1,5 @@
 -- Room for an answer is made before its call, so each call that was begun has its answer in the record.
-use Rattle.std.proofs.Common.{true, false, arith}
+use Rattle.std.proofs.Common.{false, arith}
 use Rattle.std.proofs.lemmas.Result.{err_from_is_err_and}
 use Rattle.codec.proofs.Playing.{writes_end}
 use Rattle.codec.proofs.laws.runs.play_write.Goals as goal
