@@ -67,7 +67,7 @@ impl<R: Tell, C: Coding, P> Model for BodyReader<R, C, P> {
 impl<R: Tell, C: Coding> BodyReader<R, C> {
     /// The same over a buffer of yours: its bytes are read first, as those that another reader left, and then `inner` is asked.
     ///
-    /// The buffer is kept. Where it holds fewer bytes than a look needs it grows; a refusal hands all three back.
+    /// The buffer is kept. Where its capacity is below what a look needs it grows; a refusal hands all three back.
     pub fn with_buffer(
         mut buffer: Buffer,
         inner: R,
@@ -97,7 +97,7 @@ impl<R: Tell, C: Coding> BodyReader<R, C> {
 }
 
 impl<R: Tell, C: Coding, P> BodyReader<R, C, P> {
-    /// A reader of the body that comes next of `reader`, whose buffer holds as many bytes as a look at them needs.
+    /// A reader of the body that comes next of `reader`, whose buffer has the capacity that a look needs.
     pub fn new(reader: BufReader<R, P>, coding: C) -> Self
         requires room { (C.grammar coding).ahead ≤ reader.block.capacity }
         ensures over { (result.reader ≡ reader) × (result.taken ≡ []) }
@@ -282,7 +282,7 @@ impl<R: TellRead, C: Coding, P: ReaderPolicy> BodyReader<R, C, P> {
     /// stream is asked for nothing behind the end of the body, and for nothing at all where that was taken.
     ///
     /// An `Err` says why the body didn't end, as one of [`read_payload`](BodyReader::read_payload), and hands the reader back,
-    /// which has taken what was right. A body whose rest is read in 2^64 pieces ends the call too, by `Other`.
+    /// which has taken what was right. A body whose rest is read in 2^64 - 1 pieces ends the call too, by `Other`.
     pub fn finish(mut self) -> Result<BufReader<R, P>, (Self, BodyError<C::Wrong>)>
         ensures behind { IfOk result (λ rest. (wire : List ℕ) × (dropped : List ℕ) × ReadsInOrder self.reader wire rest
             × IsBody (C.grammar self.coding) (self.taken ++ wire) (self.calls.reads.given ++ dropped)) }

@@ -210,7 +210,7 @@ impl<R: Tell> LineReader<R> {
     }
 
     /// The line that the last [`step`](LineReader::step) went on to, without its end. [`trimmed`](crate::trimmed) takes a
-    /// carriage return off it. A place that an earlier step said is refused.
+    /// carriage return off it. A place that an earlier step said is refused where it shows something else.
     #[inline(always)]
     pub fn lent(&self, span: Span) -> &[u8]
         requires { IsLent (lined self.now.pieces.decoder.max) self.now.pieces.handed self.now.pieces.reader.block.bytes span }

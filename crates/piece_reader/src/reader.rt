@@ -251,7 +251,7 @@ impl<R: Tell, D: Decoder> PieceReader<R, D> {
     }
 
     /// The payload that the last [`step`](PieceReader::step), or [`step_buffered`](PieceReader::step_buffered), went on to, which
-    /// said where it is. A place that an earlier step said is refused.
+    /// said where it is. A place that an earlier step said is refused where it shows something else.
     #[inline(always)]
     pub fn lent(&self, span: Span) -> &[u8]
         requires { IsLent (D.grammar self.now.decoder) self.now.handed self.now.reader.block.bytes span }
