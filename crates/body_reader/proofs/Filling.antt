@@ -164,6 +164,7 @@ module _ {S Q P W : Type 0} (remaining : S → Option (List ℕ)) (rules : ReadR
           }) (record {
             kind = once.added.kind;
             room = λ _. (once.added.capacity, once.added.limit);
+            still = λ _ same. absurd (omega (arith, same, ap (λ l. l.reads.asks) once.told));
             spared = λ keep high claims. spared keep;
           })
 

@@ -2,6 +2,7 @@
 use Rattle.std.proofs.Common.{◌≡◌, ◌≢◌, ℕ, ◌<◌, ◌≤◌, List, [], ◌++◌, length, min, take, drop, Option, Result, Ok, Err, sym, ap, subst, ◌∙◌, arith, inl, inr, refl}
 use Rattle.std.proofs.lemmas.List.{length-drop, length-take-le}
 use Rattle.std.specs.declared.io.Error.{Error}
+use Rattle.buffer_redux.specs.Block.{OnKind}
 use Rattle.buffer_redux.specs.Buffered.{Buffered}
 use Rattle.buffer_redux.specs.BufReader.{ReaderConsumes, ReaderKeeps}
 use Rattle.buffer_redux.specs.Peek.{ReadsAhead}
@@ -35,6 +36,9 @@ consumes_keeps remaining rules least n s t gone keeps = record {
   room = λ leaves.
       let same = leaves s.policy gone.left (min n (length s.block.bytes)) t.policy t.block gone.told_policy.allowed in
       (same.0 ∙ gone.dropped.capacity, same.1 ∙ gone.dropped.limit);
+  still = λ leaves _.
+      let same = leaves s.policy gone.left (min n (length s.block.bytes)) t.policy t.block gone.told_policy.allowed in
+      subst (λ k. OnKind s.block.kind (k ≡ s.block.moved) (s.block.moved ≤ k)) (sym same) gone.moved;
   spared = λ keep high claims. keeps.sparing keep claims;
 }
 

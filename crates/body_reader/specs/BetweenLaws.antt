@@ -1,6 +1,7 @@
 -- Laws of what a reader of a body does with its buffered reader.
 use Rattle.std.proofs.Common.{◌≡◌, ℕ, ◌+◌, ◌<◌, ◌≤◌, List, [], ◌∷◌, ◌++◌, length, min, Option, Result, MatchResult, Ok, Err, ◌⊎◌, inl, inr, sym, ap, subst, ◌∙◌, refl, arith, append_assoc, append-nil, length-append}
 use Rattle.std.specs.declared.io.Error.{Error}
+use Rattle.buffer_redux.specs.Block.{Block, Kind, OnKind, OnlyRingMoves, Plain, Ring}
 use Rattle.buffer_redux.specs.Buffered.{Buffered}
 use Rattle.buffer_redux.specs.BufReader.{ReadsAlong}
 use Rattle.buffer_redux.specs.Peek.{AskedAhead, ReadsAhead}
@@ -41,22 +42,68 @@ GaveNothingOnce-after s m t gave met = (met.0 ∙ gave.faults, omega (arith, met
 pub FaultedOnce-after : {S Q : Type 0} (s m t : Buffered S Q) → EachGave s m → (e : Error) → FaultedOnce m e t → FaultedOnce s e t
 FaultedOnce-after s m t gave e fault = (fault.0 ∙ ap (λ l. l ++ e ∷ []) gave.faults, fault.1 ∙ gave.zero_reads)
 
+-- where nothing is done nothing is moved, and where nothing is moved before nor behind
+pub unmoved : (b : Block) → OnlyRingMoves b b
+unmoved b = on b.kind
+  where
+    on : (k : Kind) → OnKind k (b.moved ≡ b.moved) (b.moved ≤ b.moved)
+    on Plain = refl
+    on Ring = omega arith
+
+unmoved_on : (a b c : Block) → b.kind ≡ a.kind → OnlyRingMoves a b → OnlyRingMoves b c → OnlyRingMoves a c
+unmoved_on a b c same first then = on a.kind first (subst (λ k. OnKind k (c.moved ≡ b.moved) (b.moved ≤ c.moved)) same then)
+  where
+    on : (k : Kind) → OnKind k (b.moved ≡ a.moved) (a.moved ≤ b.moved) → OnKind k (c.moved ≡ b.moved) (b.moved ≤ c.moved)
+        → OnKind k (c.moved ≡ a.moved) (a.moved ≤ c.moved)
+    on Plain x y = y ∙ x
+    on Ring x y = omega (arith, x, y)
+
 module _ {S Q : Type 0} (rules : ReadRules Q) (least : ℕ) where
   pub KeepsBuffer-none : (s : Buffered S Q) → KeepsBuffer rules least s s
   KeepsBuffer-none s = record {
     kind = refl;
     room = λ _. (refl, refl);
+    still = λ _ _. unmoved s.block;
     spared = λ keep high claims. Spared-none keep s;
   }
 
-  pub KeepsBuffer-joins : (s m t : Buffered S Q) → rules.claims m.policy ≡ rules.claims s.policy
+  pub KeepsBuffer-joins : {remaining : S → Option (List ℕ)} (s m t : Buffered S Q) (a b : List ℕ)
+      → ReadsAlong remaining rules s a m → ReadsAlong remaining rules m b t
       → KeepsBuffer rules least s m → KeepsBuffer rules least m t → KeepsBuffer rules least s t
-  KeepsBuffer-joins s m t claims x y = record {
+  KeepsBuffer-joins s m t a b first then x y = record {
     kind = y.kind ∙ x.kind;
     room = λ leaves. let a = x.room leaves in let b = y.room leaves in (b.0 ∙ a.0, b.1 ∙ a.1);
+    still = λ leaves same.
+        let none : m.log.reads.asks ≡ s.log.reads.asks = omega (arith, same, first.grows.asks, then.grows.asks) in
+        unmoved_on s.block m.block t.block x.kind (x.still leaves none)
+        (y.still leaves (omega (arith, same, first.grows.asks, then.grows.asks)));
     spared = λ keep high claimed. Spared-joins keep s m t (x.spared keep high claimed)
-        (y.spared keep high (subst (λ c. ClaimsToSpare c.spares keep) (sym claims) claimed));
+        (y.spared keep high (subst (λ c. ClaimsToSpare c.spares keep) (sym first.claims) claimed));
   }
+
+-- reading ahead, where nothing was asked for
+unasked : {S Q A : Type 0} (remaining : S → Option (List ℕ)) (rules : ReadRules Q) (n : ℕ) (s : Buffered S Q)
+    (answer : Result A Error) (t : Buffered S Q) → ReadsAhead remaining rules n s answer t → t.log ≡ s.log → t ≡ s
+unasked remaining rules n s (Ok a) t ahead same = elim ahead.ended [
+  | inl some ↦
+      let order = ahead.along.in_order in
+      ahead.buffered (omega (
+        arith,
+        some.0,
+        ap length order.equal,
+        ap length order.given,
+        ap (λ l. length l.reads.given) same,
+        length-append s.block.bytes order.got,
+        length-append s.log.reads.given order.got,
+      ))
+  | inr few ↦ absurd (omega (arith, few.1, ap (λ l. l.reads.zero_reads) same))
+]
+unasked remaining rules n s (Err e) t ahead same = absurd (omega (
+  arith,
+  ap length ahead.caused,
+  ap (λ l. length l.reads.faults) same,
+  length-append s.log.reads.faults (e ∷ []),
+))
 
 -- reading ahead
 module _ {S Q A : Type 0} (remaining : S → Option (List ℕ)) (rules : ReadRules Q) (n : ℕ) (s : Buffered S Q)
@@ -65,6 +112,11 @@ module _ {S Q A : Type 0} (remaining : S → Option (List ℕ)) (rules : ReadRul
   ReadsAhead-keeps least few = record {
     kind = ahead.kind;
     room = λ _. (ahead.capacity, ahead.limit);
+    still = λ _ same. elim ahead.asked [
+      | inl none ↦
+          subst (λ x. OnlyRingMoves s.block x.block) (sym (unasked remaining rules n s answer t ahead none)) (unmoved s.block)
+      | inr over ↦ absurd (omega (arith, over.some, same))
+    ];
     spared = λ keep high claims. ahead.sparing keep (omega (arith, few, high));
   }
 
@@ -141,7 +193,7 @@ module _ {S Q P W : Type 0} (remaining : S → Option (List ℕ)) (rules : ReadR
         y.along.in_order.equal x.leads y.leads;
     taken = y.taken ∙ ap (λ l. l ++ b) x.taken ∙ append_assoc p.taken.log.fills.consumed a b;
     place = y.place;
-    keeps = KeepsBuffer-joins rules g.ahead s m t x.along.claims x.keeps y.keeps;
+    keeps = KeepsBuffer-joins rules g.ahead s m t a b x.along y.along x.keeps y.keeps;
   }
 
   -- calls of the buffered reader that hand out nothing take nothing
@@ -153,7 +205,7 @@ module _ {S Q P W : Type 0} (remaining : S → Option (List ℕ)) (rules : ReadR
     leads = Leads-still g p.place q.place a h m.block.bytes still.in_order.got t.block.bytes still.in_order.equal x.leads;
     taken = x.taken;
     place = x.place;
-    keeps = KeepsBuffer-joins rules g.ahead s m t x.along.claims x.keeps keeps;
+    keeps = KeepsBuffer-joins rules g.ahead s m t a [] x.along still x.keeps keeps;
   }
 
   -- a failure behind reads that gave

@@ -41,7 +41,7 @@ module _ {S Q C P W : Type 0} (remaining : S → Option (List ℕ)) (rules : Rea
     taken = b.taken ∙ ap (λ l. l ++ b.wire) a.taken ∙ append_assoc s.taken a.wire b.wire;
     handed = b.handed ∙ ap (λ l. l ++ k) a.handed ∙ append_assoc (handed_of s) h k;
     coding = b.coding ∙ a.coding;
-    keeps = KeepsBuffer-joins rules g.ahead s.reader m.reader t.reader a.along.claims a.keeps b.keeps;
+    keeps = KeepsBuffer-joins rules g.ahead s.reader m.reader t.reader a.wire b.wire a.along b.along a.keeps b.keeps;
   }
 
   -- where the bytes that are known to be left begin with a body, once it ended just what follows it is left
