@@ -1,14 +1,14 @@
 -- The rest of a body is taken, and its payload appended.
-use Rattle.std.proofs.Common.{◌≡◌, ℕ, ◌-◌, ◌+◌, ◌<◌, ◌≤◌, List, [], ◌++◌, length, take, Option, Result, MatchResult, Ok, Err, sym, ap, ◌∙◌, arith, append_assoc, append-nil, length-append}
+use Rattle.std.proofs.Common.{◌≡◌, ℕ, ◌+◌, ◌<◌, ◌≤◌, List, [], ◌++◌, length, take, Option, Result, MatchResult, Ok, Err, sym, ap, ◌∙◌, arith, append_assoc, append-nil, length-append}
 use Rattle.std.proofs.lemmas.List.{length-take-le}
 use Rattle.buffer_redux.specs.Policy.{ReadRules}
 use Rattle.body_reader.specs.declared.error.BodyError.{BodyError}
 use Rattle.body_reader.specs.declared.error.CollectError.{CollectError}
 use Rattle.body_reader.specs.declared.error.CollectError.TheVariants.{Body, TooLong, Memory}
 use Rattle.body_reader.specs.Between.{EachGave}
-use Rattle.body_reader.specs.BodyReader.{BodyState, BodyWent, Collects, FillsPayload, IsBodyReader, NotCollected, TookWholeBody}
+use Rattle.body_reader.specs.BodyReader.{BodyState, Collects, FillsPayload, IsBodyReader, NotCollected, TookWholeBody}
 use Rattle.body_reader.specs.Coding.{Grammar, IsLawful}
-use Rattle.body_reader.proofs.Taking.{Taken, filled_asked, filled_ended, filled_gave, filled_pieces, filled_went, fills_here, stops_after, taken_more, taken_none}
+use Rattle.body_reader.proofs.Taking.{Consumed, Taken, filled_asked, filled_ended, filled_gave, filled_pieces, filled_went, fills_here, stops_after, taken_more, taken_none}
 
 -- so much was collected so far
 pub record Collected {S Q C P W : Type 0} (remaining : S → Option (List ℕ)) (rules : ReadRules Q) (g : Grammar P W) (most : ℕ)
@@ -78,16 +78,14 @@ module _ {S Q C P W : Type 0} {remaining : S → Option (List ℕ)} {rules : Rea
     )
 
     -- or it goes on, one piece more
-    pub collected_more : 0 < n → IsLawful (grammar s.coding) → (t : BodyState S Q C P)
-        → BodyWent remaining rules (grammar f.coding) f (take f.known f.reader.block.bytes) t
-        → t.reader.log ≡ f.reader.log → t.known ≡ f.known - n → IsBodyReader (grammar t.coding) t
+    pub collected_more : 0 < n → IsLawful (grammar s.coding) → (t : BodyState S Q C P) → Consumed remaining rules grammar n f t
         → length all + f.known ≤ most
         → Collected remaining rules (grammar s.coding) most s before t (all ++ take f.known f.reader.block.bytes)
-    collected_more some lawful t goes told left is fits =
+    collected_more some lawful t takes fits =
         let piece = take f.known f.reader.block.bytes in
         record {
           payload = so.payload ++ piece;
-          taken = taken_more grammar so.taken fills some lawful t goes told left is;
+          taken = taken_more grammar so.taken fills some lawful t takes;
           collected = ap (λ l. l ++ piece) so.collected ∙ append_assoc before so.payload piece;
           few = λ _. omega (
             arith,

@@ -15,7 +15,7 @@ use Rattle.body_reader.specs.declared.error.BodyError.{BodyError}
 use Rattle.body_reader.specs.declared.error.BodyError.TheVariants.{Truncated, Io}
 use Rattle.body_reader.specs.declared.progress.Progress.{Progress}
 use Rattle.body_reader.specs.Between.{AllShown, AsksWithRoom, Proceeds, Settles, ShowsOn, SkipsOn, TakesBytes}
-use Rattle.body_reader.specs.BetweenLaws.{AsksWithRoom-then, EachGave-none, Proceeds-after, TakesBytes-none, TakesBytes-still}
+use Rattle.body_reader.specs.BetweenLaws.{AsksWithRoom-then, EachGave-none, Proceeds-after, Proceeds-through, TakesBytes-none, TakesBytes-still}
 use Rattle.body_reader.specs.Coding.{Carries, Grammar, IsDone, IsLawful, IsOpen, Looks}
 use Rattle.body_reader.specs.CodingLaws.{open_at}
 
@@ -60,6 +60,7 @@ module _ {S Q P W : Type 0} (remaining : S → Option (List ℕ)) (rules : ReadR
     wire = goes.wire;
     takes = goes.takes;
     asked = goes.asked;
+    through = goes.through;
     ends = goes.ends;
     idle = goes.idle;
   }
@@ -72,6 +73,7 @@ module _ {S Q P W : Type 0} (remaining : S → Option (List ℕ)) (rules : ReadR
     wire = goes.wire;
     takes = goes.takes;
     asked = goes.asked;
+    through = goes.through;
     ends = (goes.ends.0, so a goes.ends.1);
     idle = goes.idle;
   }
@@ -112,6 +114,7 @@ module _ {S Q P W : Type 0} (remaining : S → Option (List ℕ)) (rules : ReadR
         wire = [];
         takes = TakesBytes-none remaining rules g s p place;
         asked = inl refl;
+        through = inl (omega arith);
         ends = (
           EachGave-none s,
           (
@@ -175,6 +178,7 @@ module _ {S Q P W : Type 0} (remaining : S → Option (List ℕ)) (rules : ReadR
           wire = [];
           takes = still (Err e) reads;
           asked = asks (Err e) reads;
+          through = inl (omega (arith, o.added.consumed));
           ends = (
             (ap (λ l. l.reads.faults) o.told, ap (λ l. l.reads.zero_reads) o.told),
             is_open t.block.bytes (o.added.bytes ∙ append-nil s.block.bytes ∙ empty),
@@ -189,6 +193,7 @@ module _ {S Q P W : Type 0} (remaining : S → Option (List ℕ)) (rules : ReadR
           wire = [];
           takes = still (Ok 0) reads;
           asked = asks (Ok 0) reads;
+          through = inl (omega (arith, o.added.consumed));
           ends = (
             (
               ap (λ l. l.reads.faults) o.told,
@@ -213,6 +218,7 @@ module _ {S Q P W : Type 0} (remaining : S → Option (List ℕ)) (rules : ReadR
           wire = [];
           takes = still (Ok came) reads;
           asked = asks (Ok came) reads;
+          through = inl (omega (arith, o.added.consumed));
           ends = (
             record {
               faults = ap (λ l. l.reads.faults) o.told;
@@ -255,6 +261,7 @@ module _ {S Q P W : Type 0} (remaining : S → Option (List ℕ)) (rules : ReadR
       wire = skips.wire;
       takes = skips.takes;
       asked = skips.asked;
+      through = skips.through;
       ends = (
         skips.ends.0,
         (
@@ -274,3 +281,4 @@ module _ {S Q P W : Type 0} (remaining : S → Option (List ℕ)) (rules : ReadR
         Proceeds-after remaining rules g slice s p m q t skips.wire skips.takes skips.ends.0 skips.asked handed answer M r goes
         (λ done. absurd ((payload_here q.place m.block.bytes sure some skips.ends.1).0.goes_on
         (subst (λ x. IsDone g x.place) (sym (skips.idle done).1) done)))
+        (Proceeds-through remaining rules g slice s p (Ok sure) _ m q skips)

@@ -1,5 +1,5 @@
 -- Payload is handed out, and how that ends.
-use Rattle.std.proofs.Common.{◌≡◌, ◌==◌, false, ℕ, zero, suc, ◌-◌, ◌<◌, ◌≤◌, List, [], ◌++◌, length, min, take, drop, Option, Result, Ok, Err, sym, ap, subst, ◌∙◌, arith, inl, inr, refl, append_assoc, append-nil, length-append}
+use Rattle.std.proofs.Common.{◌≡◌, ◌==◌, ◌+◌, false, ℕ, zero, suc, ◌-◌, ◌<◌, ◌≤◌, List, [], ◌++◌, length, min, take, drop, Option, Result, Ok, Err, sym, ap, subst, ◌∙◌, arith, inl, inr, refl, append_assoc, append-nil, length-append}
 use Rattle.std.proofs.lemmas.Bool.{cases_lt}
 use Rattle.std.proofs.lemmas.List.{length-drop, length-take-le, nil_from_length, take-append-drop}
 use Rattle.buffer_redux.specs.Buffered.{Buffered}
@@ -9,12 +9,12 @@ use Rattle.body_reader.specs.declared.coding.Look.{Look}
 use Rattle.body_reader.specs.declared.coding.Look.TheVariants.{Payload}
 use Rattle.body_reader.specs.declared.error.BodyError.{BodyError}
 use Rattle.body_reader.specs.declared.progress.Progress.{Progress}
-use Rattle.body_reader.specs.Between.{AllShown, AsksWithRoom, EachGave, ShowsOn, HandsAll, PassesOn, Proceeds, HandsOn, SkipsOn, Stretch, TakesBytes, TakesFront, handed_out}
-use Rattle.body_reader.specs.BetweenLaws.{EachGave-none, EachGave-same, Proceeds-after, TakesBytes-none}
+use Rattle.body_reader.specs.Between.{AllShown, AsksWithRoom, EachGave, ShowsOn, HandsAll, HandsOn, KnowsAll, PassesOn, Proceeds, SkipsOn, Stretch, StretchBehind, TakenThrough, TakesBytes, TakesFront, handed_out}
+use Rattle.body_reader.specs.BetweenLaws.{EachGave-none, EachGave-same, Proceeds-after, Proceeds-through, TakesBytes-none}
 use Rattle.body_reader.specs.Coding.{Carries, Grammar, IsDone, IsKnown, Leads, Looks, heeded}
 use Rattle.body_reader.specs.CodingLaws.{Leads-none, Leads-then}
 use Rattle.body_reader.proofs.Filling.{Proceeds-err, Proceeds-of, ended_here, payload_here}
-use Rattle.body_reader.proofs.Skipping.{Notes, consumes_left, takes_front}
+use Rattle.body_reader.proofs.Skipping.{Notes, consumes_left, consumes_parts, consumes_through, takes_front}
 
 pub some_of : (n : ℕ) → false ≡ (n == 0) → 0 < n
 some_of zero odd = cc
@@ -26,6 +26,47 @@ pub front_carries : {P W : Type 0} (g : Grammar P W) (p : P) (k n : ℕ) (bytes 
 front_carries g p k n bytes carries few held =
     carries.carries (take n bytes) (drop n bytes) [] (omega (arith, few, length-take-le n bytes held))
     (take-append-drop n bytes ∙ sym (append-nil bytes))
+
+-- of bytes of which a look showed k the first n are taken, and the rest of the k stays known
+pub knows_rest : {P W : Type 0} (g : Grammar P W) (p : P) (k n : ℕ) (bytes left : List ℕ) (k' : ℕ) → AllShown g p k bytes
+    → take n bytes ++ left ≡ bytes → n ≤ k → k ≤ length bytes → k' ≡ k - n → KnowsAll g p bytes [] (take n bytes) k' left
+knows_rest g p k n bytes left k' all split few held is = elim all [
+  | inl every ↦ inl (omega (arith, every, is, sizes.0, sizes.1, few))
+  | inr looks ↦ inr (record {
+    wire = [];
+    got = [];
+    equal = whole ∙ sym (append-nil bytes);
+    place = p;
+    leads = Leads-none g p (heeded g (shown ++ drop k' left));
+    looks = subst (λ l. Looks g p l (Payload (length shown))) (sym whole)
+        (subst (λ c. Looks g p bytes (Payload c)) size looks);
+  })
+]
+  where
+    shown : List ℕ
+    shown = take n bytes ++ take k' left
+
+    sizes : (length (take n bytes) ≡ n) × (length (take n bytes) + length left ≡ length bytes)
+    sizes = (
+      length-take-le n bytes (omega (arith, few, held)),
+      omega (arith, ap length split, length-append (take n bytes) left),
+    )
+
+    whole : shown ++ drop k' left ≡ bytes
+    whole = append_assoc (take n bytes) (take k' left) (drop k' left)
+        ∙ ap (λ l. take n bytes ++ l) (take-append-drop k' left) ∙ split
+
+    size : k ≡ length shown
+    size = omega (
+      arith,
+      is,
+      few,
+      held,
+      sizes.0,
+      sizes.1,
+      length-append (take n bytes) (take k' left),
+      length-take-le k' left (omega (arith, is, held, sizes.0, sizes.1)),
+    )
 
 -- the first bytes are taken, of those that are known to be payload
 module _ {S Q P W : Type 0} (remaining : S → Option (List ℕ)) (rules : ReadRules Q) (g : Grammar P W) (n : ℕ)
@@ -50,7 +91,7 @@ module _ {S Q P W : Type 0} (remaining : S → Option (List ℕ)) (rules : ReadR
   left = consumes_left rules n s t held gone
 
   split : take n s.block.bytes ++ t.block.bytes ≡ s.block.bytes
-  split = ap (λ l. take n s.block.bytes ++ l) left ∙ take-append-drop n s.block.bytes
+  split = consumes_parts rules n s t held gone
 
   -- bytes behind those are payload as they were
   behind : (more follow later : List ℕ) → length more ≤ k - n → more ++ follow ≡ t.block.bytes ++ later
@@ -78,7 +119,7 @@ module _ {S Q P W : Type 0} (remaining : S → Option (List ℕ)) (rules : ReadR
   front_taken k' is = record {
     takes = takes_front remaining rules g n s p t q (take n s.block.bytes) held inner gone keeps there notes
         (leads (drop n s.block.bytes) (front_carries g p.place k n s.block.bytes sure few held)) place;
-    told = gone.told;
+    consumed = gone;
     left = is;
     known = (
       omega (arith, is, ap length left, length-drop n s.block.bytes, known.0, few),
@@ -88,17 +129,47 @@ module _ {S Q P W : Type 0} (remaining : S → Option (List ℕ)) (rules : ReadR
   }
 
 module _ {S Q P W : Type 0} (remaining : S → Option (List ℕ)) (rules : ReadRules Q) (g : Grammar P W) where
+  -- what is told of bytes is told of those in front of which others were taken
+  module _ (s : Buffered S Q) (p : Progress P) (m : Buffered S Q) (q : Progress P) (wire h : List ℕ)
+      (takes : TakesBytes remaining rules g s p wire h m q) (first : List ℕ) where
+    stretch_behind : (last left : List ℕ) → StretchBehind g q.place m.block.bytes first last left
+        → StretchBehind g p.place s.block.bytes (h ++ first) last left
+    stretch_behind last left x =
+        let order = takes.along.in_order in
+        record {
+          wire = wire ++ x.wire;
+          got = order.got ++ x.got;
+          equal = append_assoc wire x.wire (last ++ left) ∙ ap (λ l. wire ++ l) x.equal
+              ∙ sym (append_assoc wire m.block.bytes x.got) ∙ ap (λ l. l ++ x.got) order.equal
+              ∙ append_assoc s.block.bytes order.got x.got;
+          place = x.place;
+          leads = Leads-then g p.place q.place x.place wire x.wire h first m.block.bytes x.got (last ++ left) x.equal
+              takes.leads x.leads;
+          looks = x.looks;
+        }
+
+    pub knows_behind : (last : List ℕ) (known : ℕ) (left : List ℕ) → KnowsAll g q.place m.block.bytes first last known left
+        → KnowsAll g p.place s.block.bytes (h ++ first) last known left
+    knows_behind last known left (inl all) = inl all
+    knows_behind last known left (inr x) = inr (stretch_behind (last ++ take known left) (drop known left) x)
+
   -- into an empty slice none is handed out
   pub hands_none : (known : ℕ) (s : Buffered S Q) (p : Progress P) (out : List ℕ) → g.is_place p.place → length out ≡ 0
-      → HandsOn remaining rules g known s p out (Ok 0) s p
+      → HandsOn remaining rules g known s p out (Ok 0) s p known
   hands_none known s p out place none = (
     record {
       wire = [];
       takes = TakesBytes-none remaining rules g s p place;
       asked = inl refl;
+      through = inl (omega arith);
       ends = (
         EachGave-none s,
-        (omega arith, (λ _ room. absurd (omega (arith, room, none))), (λ some. absurd (omega (arith, some)))),
+        (
+          omega arith,
+          (λ _ room. absurd (omega (arith, room, none))),
+          (λ some. absurd (omega (arith, some))),
+          (λ _ some. absurd (omega (arith, some))),
+        ),
       );
       idle = λ _. (refl, refl);
     },
@@ -110,20 +181,34 @@ module _ {S Q P W : Type 0} (remaining : S → Option (List ℕ)) (rules : ReadR
       (taken : TakesFront remaining rules g n s p k t q k') (known : IsKnown g p.place k s.block.bytes) (some : 0 < k)
       (is : n ≡ min k (length out)) (room : 0 < length out) (same : take n out ≡ take n s.block.bytes) where
     hands_these : (before : ℕ) → HandsAll g p.place s.block.bytes before out n t.block.bytes
-        → HandsOn remaining rules g before s p out (Ok n) t q
-    hands_these before all = (
+        → (before ≡ 0 → KnowsAll g p.place s.block.bytes [] (take n out) k' t.block.bytes)
+        → HandsOn remaining rules g before s p out (Ok n) t q k'
+    hands_these before all knows = (
       record {
         wire = take n s.block.bytes;
         takes = subst (λ l. TakesBytes remaining rules g s p (take n s.block.bytes) l t q) (sym same) taken.takes;
-        asked = inl taken.told;
+        asked = inl taken.consumed.told;
+        through = inl (consumes_through rules n s t (omega (arith, is, known.0)) taken.consumed);
         ends = (
-          EachGave-same s t taken.told,
-          (omega (arith, is), (λ none _. absurd (omega (arith, none, is, some, room))), (λ _. all)),
+          EachGave-same s t taken.consumed.told,
+          (
+            omega (arith, is),
+            (λ none _. absurd (omega (arith, none, is, some, room))),
+            (λ _. all),
+            (λ unknown _. knows unknown),
+          ),
         );
         idle = λ done. absurd ((known.1 some).goes_on done);
       },
       λ none. absurd (omega (arith, none, room)),
     )
+
+    -- it was known before
+    pub hands_known : HandsOn remaining rules g k s p out (Ok n) t q k'
+    hands_known = hands_these k (elim (cases_lt n (length out)) [
+      | inl short ↦ inr (inr (inl (some, omega (arith, is, short))))
+      | inr full ↦ inl (omega (arith, is, full))
+    ]) (λ unknown. absurd (omega (arith, unknown, some)))
 
     order : ReadsInOrder s (take n s.block.bytes) t
     order = taken.takes.along.in_order
@@ -136,7 +221,7 @@ module _ {S Q P W : Type 0} (remaining : S → Option (List ℕ)) (rules : ReadR
         let none : order.got ≡ [] = nil_from_length order.got (omega (
           arith,
           ap length order.given,
-          ap (λ l. length l.reads.given) taken.told,
+          ap (λ l. length l.reads.given) taken.consumed.told,
           length-append s.log.reads.given order.got,
         )) in
         let equal : handed ++ t.block.bytes ≡ s.block.bytes ++ order.got =
@@ -160,14 +245,20 @@ module _ {S Q P W : Type 0} (remaining : S → Option (List ℕ)) (rules : ReadR
       whole,
       ap length order.equal,
       ap length order.given,
-      ap (λ l. length l.reads.given) taken.told,
+      ap (λ l. length l.reads.given) taken.consumed.told,
       length-append (take n s.block.bytes) t.block.bytes,
       length-append s.block.bytes order.got,
       length-append s.log.reads.given order.got,
       length-take-le n s.block.bytes (omega (arith, held, whole)),
     ))
 
-    pub hands_shown : AllShown g p.place k s.block.bytes → (before : ℕ) → HandsOn remaining rules g before s p out (Ok n) t q
+    knows : AllShown g p.place k s.block.bytes → KnowsAll g p.place s.block.bytes [] (take n out) k' t.block.bytes
+    knows all =
+        subst (λ l. KnowsAll g p.place s.block.bytes [] l k' t.block.bytes) (sym same)
+        (knows_rest g p.place k n s.block.bytes t.block.bytes k' all
+        (consumes_parts rules n s t (omega (arith, is, known.0)) taken.consumed) (omega (arith, is)) known.0 taken.left)
+
+    pub hands_shown : AllShown g p.place k s.block.bytes → (before : ℕ) → HandsOn remaining rules g before s p out (Ok n) t q k'
     hands_shown all before = hands_these before (elim (cases_lt n (length out)) [
       | inl short ↦
           let whole : k ≡ n = omega (arith, is, short) in
@@ -176,10 +267,10 @@ module _ {S Q P W : Type 0} (remaining : S → Option (List ℕ)) (rules : ReadR
             | inr looks ↦ inr (inr (inr (looked_all looks whole)))
           ]
       | inr full ↦ inl (omega (arith, is, full))
-    ])
+    ]) (λ _. knows all)
 
   -- behind what is no payload, which failed, or came to the end
-  module _ (known : ℕ) (s : Buffered S Q) (p : Progress P) (out : List ℕ) (m : Buffered S Q) (q : Progress P)
+  module _ (known after : ℕ) (s : Buffered S Q) (p : Progress P) (out : List ℕ) (m : Buffered S Q) (q : Progress P)
       (room : 0 < length out) where
     never : {t : Buffered S Q} {answer : Result ℕ (BodyError W)} → length out ≡ 0 → (answer ≡ Ok 0) × (t ≡ s)
     never none = absurd (omega (arith, none, room))
@@ -188,9 +279,10 @@ module _ {S Q P W : Type 0} (remaining : S → Option (List ℕ)) (rules : ReadR
     abbrev Handed : Buffered S Q → Progress P → Buffered S Q → Progress P → ℕ → Type 0
     Handed from at t r n = (n ≤ length out) × (n ≡ 0 → 0 < length out → IsDone g r.place)
         × (0 < n → HandsAll g at.place from.block.bytes known out n t.block.bytes)
+        × (known ≡ 0 → 0 < n → KnowsAll g at.place from.block.bytes [] (take n out) after t.block.bytes)
 
     pub hands_failed : {A : Type 0} (e : BodyError W) (M : A → Type 0)
-        → Proceeds remaining rules g (length out) s p [] (Err e) M m q → HandsOn remaining rules g known s p out (Err e) m q
+        → Proceeds remaining rules g (length out) s p [] (Err e) M m q → HandsOn remaining rules g known s p out (Err e) m q after
     hands_failed e M goes =
         (Proceeds-err remaining rules g (length out) s p [] e M (Handed s p m q) m q goes, never)
 
@@ -200,38 +292,32 @@ module _ {S Q P W : Type 0} (remaining : S → Option (List ℕ)) (rules : ReadR
     all_behind wire takes n rest (inr (inl none)) = inr (inl none)
     all_behind wire takes n rest (inr (inr (inl before))) = inr (inr (inl before))
     all_behind wire takes n rest (inr (inr (inr x))) =
-        let order = takes.along.in_order in
-        let handed = take n out in
-        inr (inr (inr (record {
-          wire = wire ++ x.wire;
-          got = order.got ++ x.got;
-          equal = append_assoc wire x.wire (handed ++ rest) ∙ ap (λ l. wire ++ l) x.equal
-              ∙ sym (append_assoc wire m.block.bytes x.got) ∙ ap (λ l. l ++ x.got) order.equal
-              ∙ append_assoc s.block.bytes order.got x.got;
-          place = x.place;
-          leads = Leads-then g p.place q.place x.place wire x.wire [] [] m.block.bytes x.got (handed ++ rest) x.equal
-              takes.leads x.leads;
-          looks = x.looks;
-        })))
+        inr (inr (inr (stretch_behind s p m q wire [] takes [] (take n out) rest x)))
 
     -- behind calls that took bytes without payload, and of which each read gave some
     hands_after : (wire : List ℕ) → TakesBytes remaining rules g s p wire [] m q → EachGave s m
-        → AsksWithRoom remaining rules g (length out) s p.place m → (answer : Result ℕ (BodyError W)) (t : Buffered S Q)
-        (r : Progress P) → HandsOn remaining rules g known m q out answer t r
-        → (IsDone g p.place → (t ≡ s) × (r ≡ p)) → HandsOn remaining rules g known s p out answer t r
-    hands_after wire takes gave asked answer t r hands idle = (
+        → AsksWithRoom remaining rules g (length out) s p.place m → TakenThrough s wire m
+        → (answer : Result ℕ (BodyError W)) (t : Buffered S Q) (r : Progress P)
+        → HandsOn remaining rules g known m q out answer t r after
+        → (IsDone g p.place → (t ≡ s) × (r ≡ p)) → HandsOn remaining rules g known s p out answer t r after
+    hands_after wire takes gave asked through answer t r hands idle = (
       Proceeds-after remaining rules g (length out) s p m q t wire takes gave asked (handed_out out answer) answer
           (Handed s p t r) r
           (Proceeds-of remaining rules g (length out) m q (handed_out out answer) answer (Handed m q t r) (Handed s p t r) t r
-          (λ n means. (means.0, means.1, λ some. all_behind wire takes n t.block.bytes (means.2 some))) hands.0) idle,
+          (λ n means. (
+          means.0,
+          means.1,
+          (λ some. all_behind wire takes n t.block.bytes (means.2 some)),
+          (λ none some. knows_behind s p m q wire [] takes [] (take n out) after t.block.bytes (means.3 none some)),
+          )) hands.0) idle through,
       never,
     )
 
     pub hands_passed : (l : Look P W) → PassesOn remaining rules g s p l m q → (answer : Result ℕ (BodyError W))
-        → (t : Buffered S Q) (r : Progress P) → HandsOn remaining rules g known m q out answer t r
-        → HandsOn remaining rules g known s p out answer t r
+        → (t : Buffered S Q) (r : Progress P) → HandsOn remaining rules g known m q out answer t r after
+        → HandsOn remaining rules g known s p out answer t r after
     hands_passed l passes answer t r hands =
-        hands_after passes.wire passes.takes (EachGave-same s m passes.told) (inl passes.told) answer t r hands
+        hands_after passes.wire passes.takes (EachGave-same s m passes.told) (inl passes.told) passes.through answer t r hands
         (λ done. (
         let first = passes.idle done in
         let then = hands.0.idle (subst (λ x. IsDone g x.place) (sym first.1) done) in
@@ -239,18 +325,20 @@ module _ {S Q P W : Type 0} (remaining : S → Option (List ℕ)) (rules : ReadR
         ))
 
     pub hands_ended : SkipsOn remaining rules g (length out) s p (Ok 0) m q
-        → HandsOn remaining rules g known s p out (Ok 0) m q
+        → HandsOn remaining rules g known s p out (Ok 0) m q after
     hands_ended skips = (
       record {
         wire = skips.wire;
         takes = skips.takes;
         asked = skips.asked;
+        through = skips.through;
         ends = (
           skips.ends.0,
           (
             omega arith,
             (λ _ _. ended_here remaining rules g q.place m.block.bytes skips.ends.1),
             (λ some. absurd (omega (arith, some))),
+            (λ _ some. absurd (omega (arith, some))),
           ),
         );
         idle = skips.idle;
@@ -260,16 +348,19 @@ module _ {S Q P W : Type 0} (remaining : S → Option (List ℕ)) (rules : ReadR
 
     pub hands_behind : (sure : ℕ) → 0 < sure → SkipsOn remaining rules g (length out) s p (Ok sure) m q
         → (answer : Result ℕ (BodyError W)) → (t : Buffered S Q) (r : Progress P)
-        → HandsOn remaining rules g known m q out answer t r → HandsOn remaining rules g known s p out answer t r
+        → HandsOn remaining rules g known m q out answer t r after → HandsOn remaining rules g known s p out answer t r after
     hands_behind sure some skips answer t r hands =
-        hands_after skips.wire skips.takes skips.ends.0 skips.asked answer t r hands
+        hands_after skips.wire skips.takes skips.ends.0 skips.asked
+        (Proceeds-through remaining rules g (length out) s p (Ok sure) _ m q skips)
+        answer t r hands
         (λ done. absurd ((payload_here remaining rules g q.place m.block.bytes sure some skips.ends.1).0.goes_on
         (subst (λ x. IsDone g x.place) (sym (skips.idle done).1) done)))
 
     -- and behind a fill
     pub hands_filled : (k : ℕ) → 0 < k → ShowsOn remaining rules g (length out) s p (Ok k) m q
         → (answer : Result ℕ (BodyError W)) → (t : Buffered S Q) (r : Progress P)
-        → HandsOn remaining rules g known m q out answer t r → HandsOn remaining rules g known s p out answer t r
+        → HandsOn remaining rules g known m q out answer t r after → HandsOn remaining rules g known s p out answer t r after
     hands_filled k some fills answer t r hands =
-        hands_after fills.wire fills.takes fills.ends.0 fills.asked answer t r hands
+        hands_after fills.wire fills.takes fills.ends.0 fills.asked
+        (Proceeds-through remaining rules g (length out) s p (Ok k) _ m q fills) answer t r hands
         (λ done. absurd ((fills.ends.1.0.1 some).goes_on (subst (λ x. IsDone g x.place) (sym (fills.idle done).1) done)))

@@ -1,12 +1,12 @@
 -- What a call of a reader of a body comes to, seen by contracts.
-use Rattle.std.proofs.Common.{◌≡◌, ℕ, zero, suc, ◌-◌, ◌<◌, ◌≤◌, ◌⊎◌, List, [], ◌++◌, length, Option, Result, IfOk, MatchResult, Ok, Err, sym, ap, subst, ◌∙◌, inl, inr, refl, arith, append-nil, length-append}
+use Rattle.std.proofs.Common.{◌≡◌, ℕ, zero, suc, ◌-◌, ◌<◌, ◌≤◌, ◌⊎◌, List, [], ◌++◌, length, take, Option, Result, IfOk, MatchResult, Ok, Err, sym, ap, subst, ◌∙◌, inl, inr, refl, arith, append-nil, length-append}
 use Rattle.buffer_redux.specs.Buffered.{Buffered}
 use Rattle.buffer_redux.specs.Policy.{ReadRules}
 use Rattle.buffer_redux.specs.StreamLog.{StreamLog, after_read}
 use Rattle.body_reader.specs.declared.error.BodyError.{BodyError}
 use Rattle.body_reader.specs.declared.error.BodyError.TheVariants.{Wrong, Truncated, Io}
 use Rattle.body_reader.specs.declared.progress.Progress.{Progress}
-use Rattle.body_reader.specs.Between.{EachGave, HandsAll, HandsOn, PayloadFails, ShowsOn, TakesBytes, handed_out}
+use Rattle.body_reader.specs.Between.{EachGave, HandsAll, HandsOn, KnowsAll, PayloadFails, ShowsOn, TakesBytes, handed_out}
 use Rattle.body_reader.specs.BodyReader.{BodyState, BodyWent, Breaks, EndsEarly, FillsPayload, IsBodyReader, TookWholeBody, ReadsPayload, NoPayload}
 use Rattle.body_reader.specs.BodyReaderLaws.{BodyWent-none}
 use Rattle.body_reader.specs.BetweenLaws.{AsksWithRoom-open, EachGave-none}
@@ -117,8 +117,8 @@ module _ {S Q C P W : Type 0} (remaining : S → Option (List ℕ)) (rules : Rea
 module _ {S Q C P W : Type 0} (remaining : S → Option (List ℕ)) (rules : ReadRules Q) (g : Grammar P W) (lawful : IsLawful g)
     (r : Buffered S Q) (c : C) (p : Progress P) (calls : StreamLog) (k : ℕ) (is : IsBodyReader g (seen r c p calls k))
     (out : List ℕ)
-    (answer : Result ℕ (BodyError W)) (r' : Buffered S Q) (q : Progress P)
-    (hands : HandsOn remaining rules g k r p out answer r' q) (k' : ℕ) (known : IsKnown g q.place k' r'.block.bytes)
+    (answer : Result ℕ (BodyError W)) (r' : Buffered S Q) (q : Progress P) (k' : ℕ)
+    (hands : HandsOn remaining rules g k r p out answer r' q k') (known : IsKnown g q.place k' r'.block.bytes)
     (left : 0 < k → IfOk answer (λ n. k' ≡ k - n)) where
   abbrev after : BodyState S Q C P
   after = seen r' c q (after_payload calls out answer) k'
@@ -129,7 +129,9 @@ module _ {S Q C P W : Type 0} (remaining : S → Option (List ℕ)) (rules : Rea
 
   abbrev Ends : Result ℕ (BodyError W) → Type 0
   Ends a = MatchResult a (λ n. EachGave r r' × ((n ≤ length out) × (n ≡ 0 → 0 < length out → IsDone g q.place)
-      × (0 < n → HandsAll g p.place r.block.bytes k out n r'.block.bytes))) (λ e. PayloadFails remaining rules g r e r' q)
+      × (0 < n → HandsAll g p.place r.block.bytes k out n r'.block.bytes)
+      × (k ≡ 0 → 0 < n → KnowsAll g p.place r.block.bytes [] (take n out) k' r'.block.bytes)))
+      (λ e. PayloadFails remaining rules g r e r' q)
 
   answered : (a : Result ℕ (BodyError W)) → Ends a
       → MatchResult a (λ n. (n ≤ length out) × EachGave r r' × (n ≡ 0 → 0 < length out → TookWholeBody g after))
@@ -148,6 +150,11 @@ module _ {S Q C P W : Type 0} (remaining : S → Option (List ℕ)) (rules : Rea
   all_handed (Ok n) ends = ends.1.2
   all_handed (Err e) ends = tt
 
+  knows_told : (a : Result ℕ (BodyError W)) → Ends a → k ≡ 0
+      → IfOk a (λ n. 0 < n → KnowsAll g p.place r.block.bytes [] (take n out) k' r'.block.bytes)
+  knows_told (Ok n) ends none = ends.1.3 none
+  knows_told (Err e) ends none = tt
+
   idle : (TookWholeBody g (seen r c p calls k) ⊎ (length out ≡ 0)) → r' ≡ r
   idle (inl whole) = (hands.0.idle (Leads-done g lawful p.taken.log.fills.consumed calls.reads.given p.place
       (heeded g r.block.bytes)
@@ -155,13 +162,16 @@ module _ {S Q C P W : Type 0} (remaining : S → Option (List ℕ)) (rules : Rea
   idle (inr none) = (hands.1 none).1
 
   pub payload_read : ReadsPayload remaining rules g (seen r c p calls k) out answer after
+  unfolding state_went
   payload_read = record {
     went = state_went remaining rules g r c p calls k r' q (after_payload calls out answer) k' hands.0.wire
         (handed_out out answer) hands.0.takes (given_after calls out answer);
     answers = answered answer hands.0.ends;
     asked = hands.0.asked;
+    through = elim hands.0.through [ inl all ↦ inl all | inr past ↦ inr past.1 ];
     all = all_handed answer hands.0.ends;
     left = left;
+    knows = knows_told answer hands.0.ends;
     idle = idle;
     empty = λ none. (hands.1 none).0;
     noted = noted_after calls out answer;
@@ -173,18 +183,18 @@ module _ {S Q C P W : Type 0} (remaining : S → Option (List ℕ)) (rules : Rea
     (lawful : (c : C) → IsLawful (grammar c)) (d : BodyState S Q C P) (r : Buffered S Q) (c : C) (p : Progress P)
     (calls : StreamLog) (k : ℕ) (view : seen r c p calls k ≡ d) (is : IsBodyReader (grammar c) (seen r c p calls k))
     (out : List ℕ)
-    (answer : Result ℕ (BodyError W)) (r' : Buffered S Q) (q : Progress P)
-    (hands : HandsOn remaining rules (grammar c) k r p out answer r' q) (k' : ℕ)
+    (answer : Result ℕ (BodyError W)) (r' : Buffered S Q) (q : Progress P) (k' : ℕ)
+    (hands : HandsOn remaining rules (grammar c) k r p out answer r' q k')
     (known : IsKnown (grammar c) q.place k' r'.block.bytes) (left : 0 < k → IfOk answer (λ n. k' ≡ k - n)) (calls' : StreamLog)
     (noted : calls' ≡ after_payload calls out answer) where
   pub reads_payload : ReadsPayload remaining rules (grammar d.coding) d out answer (seen r' c q calls' k')
   reads_payload = subst (λ x. ReadsPayload remaining rules (grammar x.coding) x out answer (seen r' c q calls' k')) view
       (subst (λ l. ReadsPayload remaining rules (grammar c) (seen r c p calls k) out answer (seen r' c q l k')) (sym noted)
-      (payload_read remaining rules (grammar c) (lawful c) r c p calls k is out answer r' q hands k' known left))
+      (payload_read remaining rules (grammar c) (lawful c) r c p calls k is out answer r' q k' hands known left))
 
   pub still_reader : IsBodyReader (grammar c) (seen r' c q calls' k')
   still_reader = subst (λ l. IsBodyReader (grammar c) (seen r' c q l k')) (sym noted)
-      (payload_read remaining rules (grammar c) (lawful c) r c p calls k is out answer r' q hands k' known left).whole
+      (payload_read remaining rules (grammar c) (lawful c) r c p calls k is out answer r' q k' hands known left).whole
 
 -- a fill
 module _ {S Q C P W : Type 0} (remaining : S → Option (List ℕ)) (rules : ReadRules Q) (g : Grammar P W) (lawful : IsLawful g)

@@ -8,13 +8,15 @@ use Rattle.buffer_redux.specs.StreamLog.{StreamLog, after_read}
 use Rattle.body_reader.specs.declared.coding.Look.{Look}
 use Rattle.body_reader.specs.declared.coding.Look.TheVariants as look
 use Rattle.body_reader.specs.declared.progress.Progress.{Progress}
-use Rattle.body_reader.specs.Between.{FindsKnown, HandsShown, NoneShown, PassesOn, TakesBytes, TakesFront}
+use Rattle.body_reader.specs.Between.{AllShown, FindsKnown, HandsShown, KnowsAll, KnowsBehind, NoneShown, PassesOn, TakesBytes, TakesFront}
 use Rattle.body_reader.specs.BetweenLaws.{TakesBytes-joins, TakesBytes-none}
 use Rattle.body_reader.specs.BodyReader.{BodyState, Breaks, EndsEarly, HandsBuffered, IsBodyReader, TookWholeBody}
 use Rattle.body_reader.specs.Coding.{Grammar, IsKnown, IsLawful, Looks, heeded}
 use Rattle.body_reader.specs.CodingLaws.{IsOpenBelow-open, Leads-whole, open_at}
-use Rattle.body_reader.proofs.Filling.{Carries-fewer}
+use Rattle.body_reader.proofs.Filling.{Carries-fewer, all_shown}
+use Rattle.body_reader.proofs.Handing.{knows_behind, knows_rest}
 use Rattle.body_reader.proofs.Payload.{breaks_so, early, seen, state_is, state_went}
+use Rattle.body_reader.proofs.Skipping.{consumes_parts}
 use borrow.Rule.Slice.PartMut.{put_mid}
 
 -- a slice of which the rest was written
@@ -33,19 +35,21 @@ module _ {S Q P W : Type 0} (remaining : S → Option (List ℕ)) (rules : ReadR
     told = refl;
     known = known;
     kept = λ _. refl;
+    all = λ unknown. absurd (omega (arith, unknown, some));
     none = λ none. absurd (omega (arith, none, some));
   }
 
   module _ (lawful : IsLawful g) (s : Buffered S Q) (p : Progress P) (before : ℕ) (unknown : before ≡ 0) (l : Look P W)
       (t : Buffered S Q) (q : Progress P) (passes : PassesOn remaining rules g s p l t q) where
-    found : (k : ℕ) → IsKnown g q.place k t.block.bytes → (k ≡ 0 → NoneShown remaining rules g q.place t.block.bytes)
-        → FindsKnown remaining rules g s p before t q k
-    found k known none = record {
+    found : (k : ℕ) → IsKnown g q.place k t.block.bytes → (0 < k → AllShown g q.place k t.block.bytes)
+        → (k ≡ 0 → NoneShown remaining rules g q.place t.block.bytes) → FindsKnown remaining rules g s p before t q k
+    found k known all none = record {
       wire = passes.wire;
       takes = passes.takes;
       told = passes.told;
       known = known;
       kept = λ some. absurd (omega (arith, some, unknown));
+      all = λ _. all;
       none = none;
     }
 
@@ -58,7 +62,8 @@ module _ {S Q P W : Type 0} (remaining : S → Option (List ℕ)) (rules : ReadR
         found k (
           omega (arith, count),
           (λ some. Carries-fewer g q.place sure k t.block.bytes carries some (omega (arith, count))),
-        ) (λ none. inr (inl (open_at g lawful q.place passes.takes.place carries.goes_on t.block.bytes
+        ) (λ _. all_shown remaining rules g q.place t.block.bytes sure k looks count)
+        (λ none. inr (inl (open_at g lawful q.place passes.takes.place carries.goes_on t.block.bytes
         (omega (arith, none, count, carries.some)))))
 
     -- or none does
@@ -73,7 +78,7 @@ module _ {S Q P W : Type 0} (remaining : S → Option (List ℕ)) (rules : ReadR
     pub none_found : ((n : ℕ) → l ≢ look.Payload n) → (k : ℕ) → k ≡ 0
         → FindsKnown remaining rules g s p before t q k
     none_found never k none = found k (omega (arith, none), λ some. absurd (omega (arith, some, none)))
-        (λ _. none_so l passes.looks passes.no_more never)
+        (λ some. absurd (omega (arith, some, none))) (λ _. none_so l passes.looks passes.no_more never)
 
   -- so much was handed out so far
   pub record Shown (s : Buffered S Q) (p : Progress P) (before : ℕ) (out : List ℕ) (handed : ℕ) (m : Buffered S Q)
@@ -84,6 +89,8 @@ module _ {S Q P W : Type 0} (remaining : S → Option (List ℕ)) (rules : ReadR
     pub within : handed ≤ length out
     pub known : IsKnown g q.place k m.block.bytes
     pub left : handed ≤ before → k ≡ before - handed
+    pub knows : before < handed → KnowsBehind g p.place s.block.bytes (take handed out) k m.block.bytes
+    pub first : handed < length out → 0 < k → handed ≡ 0
     pub idle : length out ≡ 0 → (m ≡ s) × (q ≡ p)
 
   pub shown_none : (s : Buffered S Q) (p : Progress P) (out : List ℕ) (k : ℕ) → g.is_place p.place
@@ -95,19 +102,22 @@ module _ {S Q P W : Type 0} (remaining : S → Option (List ℕ)) (rules : ReadR
     within = omega arith;
     known = known;
     left = λ _. omega arith;
+    knows = λ more. absurd (omega (arith, more));
+    first = λ _ _. refl;
     idle = λ _. (refl, refl);
   }
 
   module _ (s : Buffered S Q) (p : Progress P) (before : ℕ) (out : List ℕ) (handed : ℕ) (m : Buffered S Q) (q : Progress P)
       (k : ℕ) (so : Shown s p before out handed m q k) where
-    pub all_shown : length out ≤ handed → HandsShown remaining rules g s p before out handed m q k
-    all_shown full = record {
+    pub all_handed : length out ≤ handed → HandsShown remaining rules g s p before out handed m q k
+    all_handed full = record {
       wire = so.wire;
       takes = so.takes;
       told = so.told;
       within = so.within;
       known = so.known;
       left = so.left;
+      knows = λ more _. so.knows more;
       idle = so.idle;
       all = inl (omega (arith, full, so.within));
     }
@@ -131,6 +141,7 @@ module _ {S Q P W : Type 0} (remaining : S → Option (List ℕ)) (rules : ReadR
         within = so.within;
         known = finds.known;
         left = λ few. omega (arith, so.left few, none_before k finds.kept none, none);
+        knows = λ _ full. absurd (omega (arith, room, full));
         idle = λ empty. absurd (omega (arith, room, empty));
         all = inr (finds.none none);
       }
@@ -141,10 +152,20 @@ module _ {S Q P W : Type 0} (remaining : S → Option (List ℕ)) (rules : ReadR
       less n k'' some is zero kept was few = absurd (omega (arith, some, was, few))
       less n k'' some is (suc j) kept was few = omega (arith, is, kept (omega arith), was, few)
 
-      more : (n : ℕ) (rest : List ℕ) (t : Buffered S Q) (u : Progress P) (k'' : ℕ) → 0 < n → n ≤ length rest
+      -- where more is handed out than was known, the last of it was looked for
+      unknown : (n j : ℕ) → n ≤ k' → before < handed + n → (handed ≤ before → j ≡ before - handed) → (0 < j → handed ≡ 0)
+          → (0 < j → k' ≡ j) → j ≡ 0
+      unknown n zero few beyond left first kept = refl
+      unknown n (suc j) few beyond left first kept =
+          let none = first (omega arith) in
+          absurd (omega (arith, few, beyond, none, left (omega (arith, none)), kept (omega arith)))
+
+      more : (n : ℕ) (rest : List ℕ) (t : Buffered S Q) (u : Progress P) (k'' : ℕ) → 0 < n → n ≡ min k' (length rest)
           → take n rest ≡ take n f.block.bytes → TakesFront remaining rules g n f r k' t u k''
           → Shown s p before (take handed out ++ rest) (handed + n) t u k''
-      more n rest t u k'' some within same front =
+      more n rest t u k'' some count same front =
+          let held : n ≤ length f.block.bytes = omega (arith, count, finds.known.0) in
+          let parts = consumes_parts rules n f t held front.consumed in
           let long : length (take handed out) ≡ handed = length-take-le handed out so.within in
           let joined : take (handed + n) (take handed out ++ rest) ≡ take handed out ++ take n f.block.bytes =
           ap (λ j. take (j + n) (take handed out ++ rest)) (sym long) ∙ take-append-add (take handed out) rest n
@@ -155,19 +176,41 @@ module _ {S Q P W : Type 0} (remaining : S → Option (List ℕ)) (rules : ReadR
                 (sym joined)
                 (TakesBytes-joins remaining rules g s p f r t u (so.wire ++ finds.wire) (take handed out) (take n f.block.bytes)
                 (take n f.block.bytes) found_on front.takes);
-            told = front.told ∙ finds.told ∙ so.told;
-            within = omega (arith, within, long, length-append (take handed out) rest);
+            told = front.consumed.told ∙ finds.told ∙ so.told;
+            within = omega (arith, count, long, length-append (take handed out) rest);
             known = front.known;
             left = λ few. less n k'' some front.left k finds.kept (so.left (omega (arith, few))) few;
-            idle = λ empty. absurd (omega (arith, some, within, empty, length-append (take handed out) rest));
+            knows = λ beyond.
+                let shows = finds.all (unknown n k (omega (arith, count)) beyond so.left (so.first room) finds.kept)
+                (omega (arith, some, count)) in (
+                  take handed out,
+                  take n f.block.bytes,
+                  joined,
+                  subst (λ l. KnowsAll g p.place s.block.bytes l (take n f.block.bytes) k'' t.block.bytes)
+                      (append-nil (take handed out))
+                      (knows_behind remaining rules g s p f r (so.wire ++ finds.wire) (take handed out) found_on []
+                      (take n f.block.bytes) k'' t.block.bytes
+                      (knows_rest g r.place k' n f.block.bytes t.block.bytes k'' shows parts (omega (arith, count))
+                      finds.known.0 front.left)),
+                );
+            first = λ short left. absurd (omega (
+              arith,
+              count,
+              short,
+              left,
+              front.left,
+              long,
+              length-append (take handed out) rest,
+            ));
+            idle = λ empty. absurd (omega (arith, some, count, empty, length-append (take handed out) rest));
           }
 
-      pub shown_more : (n : ℕ) (rest : List ℕ) (t : Buffered S Q) (u : Progress P) (k'' : ℕ) → 0 < n → n ≤ length rest
+      pub shown_more : (n : ℕ) (rest : List ℕ) (t : Buffered S Q) (u : Progress P) (k'' : ℕ) → 0 < n → n ≡ min k' (length rest)
           → take n rest ≡ take n f.block.bytes → TakesFront remaining rules g n f r k' t u k''
           → Shown s p before (put_mid handed (length out - handed) out rest) (handed + n) t u k''
-      shown_more n rest t u k'' some within same front =
+      shown_more n rest t u k'' some count same front =
           subst (λ l. Shown s p before l (handed + n) t u k'') (sym (put_rest out rest handed))
-          (more n rest t u k'' some within same front)
+          (more n rest t u k'' some count same front)
 
 -- the same, seen by contracts
 module _ {S Q C P W : Type 0} (remaining : S → Option (List ℕ)) (rules : ReadRules Q) (g : Grammar P W) (lawful : IsLawful g)
@@ -197,6 +240,7 @@ module _ {S Q C P W : Type 0} (remaining : S → Option (List ℕ)) (rules : Rea
     bound = hands.within;
     all = elim hands.all [ inl all ↦ inl all | inr none ↦ inr (none_left none) ];
     left = hands.left;
+    knows = hands.knows;
     empty = λ none. ((hands.idle none).0, ap (λ x. x.place) (hands.idle none).1);
     noted = noted;
     whole = shown_is;

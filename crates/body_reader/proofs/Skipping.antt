@@ -1,6 +1,6 @@
 -- What is no payload is taken, and how that ends.
-use Rattle.std.proofs.Common.{◌≡◌, ◌≢◌, ℕ, ◌<◌, ◌≤◌, List, [], ◌++◌, length, min, take, drop, Option, Result, Ok, Err, sym, ap, subst, ◌∙◌, arith, inl, inr, refl}
-use Rattle.std.proofs.lemmas.List.{length-drop, length-take-le}
+use Rattle.std.proofs.Common.{◌≡◌, ◌≢◌, ℕ, ◌<◌, ◌≤◌, List, [], ◌++◌, length, min, take, drop, Option, Result, Ok, Err, sym, ap, subst, ◌∙◌, arith, inl, inr, refl, length-append}
+use Rattle.std.proofs.lemmas.List.{length-drop, length-take, length-take-le, take-append-drop}
 use Rattle.std.specs.declared.io.Error.{Error}
 use Rattle.buffer_redux.specs.Block.{OnKind}
 use Rattle.buffer_redux.specs.Buffered.{Buffered}
@@ -12,7 +12,7 @@ use Rattle.body_reader.specs.declared.coding.Look.{Look}
 use Rattle.body_reader.specs.declared.coding.Look.TheVariants as look
 use Rattle.body_reader.specs.declared.error.BodyError.TheVariants.{Wrong, Truncated, Io}
 use Rattle.body_reader.specs.declared.progress.Progress.{Progress}
-use Rattle.body_reader.specs.Between.{AsksWithRoom, EachGave, KeepsBuffer, PassesOn, SkipsOn, TakesBytes, spend}
+use Rattle.body_reader.specs.Between.{AsksWithRoom, EachGave, KeepsBuffer, PassesOn, SkipsOn, TakenThrough, TakesBytes, spend}
 use Rattle.body_reader.specs.BetweenLaws.{AsksWithRoom-same, AsksWithRoom-then, EachGave-joins, EachGave-none, EachGave-same, FaultedOnce-after, GaveNothingOnce-after, ReadsAhead-asks, ReadsAhead-ended, ReadsAhead-failed, ReadsAhead-gave, ReadsAhead-keeps, ReadsAhead-open, TakesBytes-joins, TakesBytes-none, TakesBytes-still}
 use Rattle.body_reader.specs.Coding.{Grammar, IsDone, IsOpenBelow, Leads, Looks, heeded}
 use Rattle.body_reader.specs.CodingLaws.{IsOpenBelow-open}
@@ -42,6 +42,22 @@ consumes_keeps remaining rules least n s t gone keeps = record {
   spared = λ keep high claims. keeps.sparing keep claims;
 }
 
+pub consumes_parts : {S Q : Type 0} (rules : ReadRules Q) (n : ℕ) (s t : Buffered S Q) → n ≤ length s.block.bytes
+    → ReaderConsumes rules n s t → take n s.block.bytes ++ t.block.bytes ≡ s.block.bytes
+consumes_parts rules n s t held gone =
+    ap (λ l. take n s.block.bytes ++ l) (consumes_left rules n s t held gone) ∙ take-append-drop n s.block.bytes
+
+-- through the buffer
+pub consumes_through : {S Q : Type 0} (rules : ReadRules Q) (n : ℕ) (s t : Buffered S Q) → n ≤ length s.block.bytes
+    → ReaderConsumes rules n s t → TakenThrough s (take n s.block.bytes) t
+consumes_through rules n s t held gone = omega (
+  arith,
+  held,
+  gone.told_policy.law.consumed,
+  gone.dropped.consumed,
+  length-take-le n s.block.bytes held,
+)
+
 -- bytes that lead on are taken
 module _ {S Q P W : Type 0} (remaining : S → Option (List ℕ)) (rules : ReadRules Q) (g : Grammar P W) (n : ℕ)
     (s : Buffered S Q) (p : Progress P) (t : Buffered S Q) (q : Progress P) (handed : List ℕ) where
@@ -65,6 +81,7 @@ pub record Passed {S Q P W : Type 0} (remaining : S → Option (List ℕ)) (rule
   pub wire : List ℕ
   pub takes : TakesBytes remaining rules g s p wire [] m q
   pub told : m.log ≡ s.log
+  pub through : TakenThrough s wire m
   pub spends : spend g q.place m.block.bytes ≤ spend g p.place s.block.bytes
   pub idle : IsDone g p.place → (m ≡ s) × (q ≡ p)
 
@@ -75,6 +92,7 @@ pub record Skipped {S Q P W : Type 0} (remaining : S → Option (List ℕ)) (rul
   pub takes : TakesBytes remaining rules g s p wire [] m q
   pub gave : EachGave s m
   pub asked : (slice : ℕ) → AsksWithRoom remaining rules g slice s p.place m
+  pub through : TakenThrough s wire m
   pub room : g.ahead ≤ m.block.capacity
   pub still : IsDone g p.place → (m ≡ s) × (q ≡ p)
 
@@ -84,6 +102,7 @@ module _ {S Q P W : Type 0} (remaining : S → Option (List ℕ)) (rules : ReadR
     wire = [];
     takes = TakesBytes-none remaining rules g s p place;
     told = refl;
+    through = omega arith;
     spends = omega arith;
     idle = λ _. (refl, refl);
   }
@@ -95,6 +114,7 @@ module _ {S Q P W : Type 0} (remaining : S → Option (List ℕ)) (rules : ReadR
       wire = so.wire;
       takes = so.takes;
       told = so.told;
+      through = so.through;
       looks = looks;
       no_more = no_more;
       spends = so.spends;
@@ -112,6 +132,12 @@ module _ {S Q P W : Type 0} (remaining : S → Option (List ℕ)) (rules : ReadR
             wire = so.wire ++ take n m.block.bytes;
             takes = TakesBytes-joins remaining rules g s p m q t q' so.wire [] (take n m.block.bytes) [] so.takes front;
             told = gone.told ∙ so.told;
+            through = omega (
+              arith,
+              so.through,
+              consumes_through rules n m t looks.1 gone,
+              length-append so.wire (take n m.block.bytes),
+            );
             spends = omega (
               arith,
               so.spends,
@@ -141,6 +167,7 @@ module _ {S Q P W : Type 0} (remaining : S → Option (List ℕ)) (rules : ReadR
     takes = TakesBytes-none remaining rules g s p place;
     gave = EachGave-none s;
     asked = λ slice. inl refl;
+    through = omega arith;
     room = room;
     still = λ _. (refl, refl);
   }
@@ -154,6 +181,7 @@ module _ {S Q P W : Type 0} (remaining : S → Option (List ℕ)) (rules : ReadR
       takes = TakesBytes-joins remaining rules g s p m q t r so.wire [] passes.wire [] so.takes passes.takes;
       gave = EachGave-joins s m t so.gave (EachGave-same m t passes.told);
       asked = λ slice. AsksWithRoom-same remaining rules g slice s p.place m t passes.told (so.asked slice);
+      through = omega (arith, so.through, passes.through, length-append so.wire passes.wire);
       room = omega (arith, so.room, passes.takes.along.capacity);
       still = λ done. (
           let first = so.still done in
@@ -168,6 +196,7 @@ module _ {S Q P W : Type 0} (remaining : S → Option (List ℕ)) (rules : ReadR
       wire = skipped_there.wire;
       takes = skipped_there.takes;
       asked = skipped_there.asked slice;
+      through = inl skipped_there.through;
       ends = (skipped_there.gave, inr (subst (Looks g r.place t.block.bytes) is passes.looks));
       idle = skipped_there.still;
     }
@@ -178,6 +207,7 @@ module _ {S Q P W : Type 0} (remaining : S → Option (List ℕ)) (rules : ReadR
       wire = skipped_there.wire;
       takes = skipped_there.takes;
       asked = skipped_there.asked slice;
+      through = inl skipped_there.through;
       ends = (skipped_there.gave, inl (refl, subst (Looks g r.place t.block.bytes) is passes.looks));
       idle = skipped_there.still;
     }
@@ -191,6 +221,7 @@ module _ {S Q P W : Type 0} (remaining : S → Option (List ℕ)) (rules : ReadR
           wire = skipped_there.wire;
           takes = skipped_there.takes;
           asked = skipped_there.asked slice;
+          through = inl skipped_there.through;
           ends = (skipped_there.gave, refl, looks.0);
           idle = skipped_there.still;
         }
@@ -214,6 +245,9 @@ module _ {S Q P W : Type 0} (remaining : S → Option (List ℕ)) (rules : ReadR
       takes_still = TakesBytes-still remaining rules g s p t r u skipped_there.wire [] skipped_there.takes ahead.along
           (ReadsAhead-keeps remaining rules n t answer u ahead g.ahead lacks.most)
 
+      through_still : TakenThrough s skipped_there.wire u
+      through_still = omega (arith, skipped_there.through, ahead.consumed)
+
       asks_then : (slice : ℕ) → AsksWithRoom remaining rules g slice s p.place u
       asks_then slice = AsksWithRoom-then remaining rules g slice s p t r u skipped_there.wire skipped_there.takes
           skipped_there.gave (skipped_there.asked slice) (omega (arith, looks.1))
@@ -232,6 +266,7 @@ module _ {S Q P W : Type 0} (remaining : S → Option (List ℕ)) (rules : ReadR
             wire = skipped_there.wire;
             takes = takes_still n is (Err e) u ahead';
             asked = asks_then n is (Err e) u ahead' slice;
+            through = inl (through_still n is (Err e) u ahead');
             ends = (
               FaultedOnce-after s t u skipped_there.gave e (ReadsAhead-failed {A = A} remaining rules n t u e a),
               ReadsAhead-open remaining rules g r.place n t (Err e) u (lacks n is (Err e) u ahead') a a.ended.0,
@@ -247,6 +282,7 @@ module _ {S Q P W : Type 0} (remaining : S → Option (List ℕ)) (rules : ReadR
             wire = skipped_there.wire;
             takes = takes_still n is (Ok a) u ahead';
             asked = asks_then n is (Ok a) u ahead' slice;
+            through = inl (through_still n is (Ok a) u ahead');
             ends = (
               GaveNothingOnce-after s t u skipped_there.gave (ReadsAhead-ended remaining rules n t u a so' few),
               refl,
@@ -263,6 +299,7 @@ module _ {S Q P W : Type 0} (remaining : S → Option (List ℕ)) (rules : ReadR
         gave = EachGave-joins s t u skipped_there.gave
             (ReadsAhead-gave remaining rules n t u a (ahead n is (Ok a) u ahead') enough);
         asked = asks_then n is (Ok a) u ahead';
+        through = through_still n is (Ok a) u ahead';
         room = omega (arith, skipped_there.room, ahead'.capacity);
         still = never_done n is (Ok a) u ahead';
       }
@@ -276,5 +313,13 @@ module _ {S Q P W : Type 0} (remaining : S → Option (List ℕ)) (rules : ReadR
         let looks : Looks g r.place t.block.bytes (look.More n) = subst (Looks g r.place t.block.bytes) is passes.looks in
         (looks.0.few, looks.0.most)
 
-    pub fits_here : (n : ℕ) → l ≡ look.More n → min n t.block.capacity ≡ n
-    fits_here n is = omega (arith, skipped_there.room, (lacks_here n is).1)
+    -- of so many bytes those that are buffered are shown
+    pub shows_here : (n : ℕ) → l ≡ look.More n → (bytes shown : List ℕ) → shown ≡ take (min n t.block.capacity) bytes
+        → length shown ≡ min n (length bytes)
+    shows_here n is bytes shown same = omega (
+      arith,
+      ap length same,
+      length-take (min n t.block.capacity) bytes,
+      skipped_there.room,
+      (lacks_here n is).1,
+    )

@@ -1,6 +1,8 @@
 -- Pieces of payload are taken, one after another.
-use Rattle.std.proofs.Common.{◌≡◌, ℕ, zero, suc, ◌-◌, ◌<◌, List, [], ◌++◌, take, Option, Result, Ok, subst, sym, ◌∙◌, arith, inl, inr, refl, append-nil}
+use Rattle.std.proofs.Common.{◌≡◌, ℕ, zero, suc, ◌-◌, ◌<◌, List, [], ◌++◌, min, take, Option, Result, Ok, subst, sym, ◌∙◌, arith, inl, inr, refl, append-nil}
+use Rattle.buffer_redux.specs.BufReader.{ReaderConsumes}
 use Rattle.buffer_redux.specs.Policy.{ReadRules}
+use Rattle.buffer_redux.specs.StreamLog.{after_read}
 use Rattle.buffer_redux.specs.Unbuffer.{unbuffered}
 use Rattle.body_reader.specs.declared.error.BodyError.{BodyError}
 use Rattle.body_reader.specs.declared.error.BodyError.TheVariants.{Wrong, Truncated, Io}
@@ -16,6 +18,16 @@ use Rattle.body_reader.specs.CodingLaws.{Leads-done, LeadsOpen-behind}
 -- these bytes lead on from where a reader stands, with some payload in them, and what follows of them settles nothing
 abbrev pub Unsettled : {S Q C P W : Type 0} → Grammar P W → BodyState S Q C P → List ℕ → Type 0
 Unsettled g s bytes = (taken : List ℕ) × LeadsOpen g s.place taken bytes
+
+-- payload was consumed: so much of what is known, or all
+pub record Consumed {S Q C P W : Type 0} (remaining : S → Option (List ℕ)) (rules : ReadRules Q) (grammar : C → Grammar P W)
+    (n : ℕ) (f t : BodyState S Q C P) : Type 0 where
+  pub went : BodyWent remaining rules (grammar f.coding) f (take (min n f.known) f.reader.block.bytes) t
+  pub consumed : 0 < min n f.known → ReaderConsumes rules (min n f.known) f.reader t.reader
+  pub noted : 0 < min n f.known
+      → t.calls ≡ after_read f.calls (take (min n f.known) f.reader.block.bytes) (Ok (min n f.known))
+  pub left : t.known ≡ f.known - n
+  pub whole : IsBodyReader (grammar t.coding) t
 
 -- so much was taken so far, with this payload in it
 pub record Taken {S Q C P W : Type 0} (remaining : S → Option (List ℕ)) (rules : ReadRules Q) (g : Grammar P W)
@@ -91,18 +103,22 @@ module _ {S Q C P W : Type 0} {remaining : S → Option (List ℕ)} {rules : Rea
     filled_gave = EachGave-joins s.reader m.reader f.reader so.gave fills'.answers.1
 
     -- one piece more
-    pub taken_more : 0 < n → IsLawful g → (t : BodyState S Q C P)
-        → BodyWent remaining rules (grammar f.coding) f (take f.known f.reader.block.bytes) t
-        → t.reader.log ≡ f.reader.log → t.known ≡ f.known - n → IsBodyReader (grammar t.coding) t
+    pub taken_more : 0 < n → IsLawful g → (t : BodyState S Q C P) → Consumed remaining rules grammar n f t
         → Taken remaining rules g s (payload ++ take f.known f.reader.block.bytes) t
-    taken_more some lawful t goes' told left is =
-        let piece = take f.known f.reader.block.bytes in
+    taken_more some lawful t takes =
+        let bytes = f.reader.block.bytes in
+        let piece = take f.known bytes in
         let here = fills'.went.coding ∙ so.went.coding in
+        let all : min n f.known ≡ f.known = omega (arith, fills'.answers.0) in
+        let more : 0 < min n f.known = omega (arith, some, fills'.answers.0) in
         let goes : BodyWent remaining rules g f piece t =
-        subst (λ c. BodyWent remaining rules (grammar c) f piece t) here goes' in
+        subst (λ c. BodyWent remaining rules (grammar c) f piece t) here
+        (subst (λ k. BodyWent remaining rules (grammar f.coding) f (take k bytes) t) all takes.went) in
+        let consumed : ReaderConsumes rules f.known f.reader t.reader =
+        subst (λ k. ReaderConsumes rules k f.reader t.reader) all (takes.consumed more) in
         record {
           went = BodyWent-joins remaining rules g s f t payload piece (filled_went fills') goes;
-          gave = EachGave-joins s.reader f.reader t.reader filled_gave (EachGave-same f.reader t.reader told);
+          gave = EachGave-joins s.reader f.reader t.reader filled_gave (EachGave-same f.reader t.reader consumed.told);
           count = suc so.count;
           pieces = (
             m,
@@ -113,14 +129,15 @@ module _ {S Q C P W : Type 0} {remaining : S → Option (List ℕ)} {rules : Rea
               some = some;
               fills = fills_here fills';
               went = goes;
-              told = told;
-              none_left = omega (arith, left, fills'.answers.0);
+              consumed = consumed;
+              noted = subst (λ k. t.calls ≡ after_read f.calls (take k bytes) (Ok k)) all (takes.noted more);
+              none_left = omega (arith, takes.left, fills'.answers.0);
             },
           );
-          asked = AskedWhere-same (Unsettled g s) (unbuffered s.reader) (unbuffered f.reader) (unbuffered t.reader) told
-              (filled_asked fills');
+          asked = AskedWhere-same (Unsettled g s) (unbuffered s.reader) (unbuffered f.reader) (unbuffered t.reader)
+              consumed.told (filled_asked fills');
           ended = λ whole. absurd (not_whole remaining rules g lawful f (fills_here fills').whole
               (omega (arith, some, fills'.answers.0)) (subst (TookWholeBody g) (sym (filled_ended fills' whole)) whole));
           first = so.first;
-          whole = subst (λ c. IsBodyReader (grammar c) t) (goes'.coding ∙ here) is;
+          whole = subst (λ c. IsBodyReader (grammar c) t) (takes.went.coding ∙ here) takes.whole;
         }

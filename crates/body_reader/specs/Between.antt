@@ -1,11 +1,11 @@
 -- What a reader of a body does with its buffered reader.
-use Rattle.std.specs.Prelude.{◌≡◌, ◌≢◌, ℕ, ◌+◌, ◌-◌, ◌*◌, ◌<◌, ◌≤◌, ◌⊎◌, List, [], ◌∷◌, ◌++◌, length, take, Option, Result, Ok, Err, MatchResult}
+use Rattle.std.specs.Prelude.{◌≡◌, ◌≢◌, ℕ, ◌+◌, ◌-◌, ◌*◌, ◌<◌, ◌≤◌, ◌⊎◌, List, [], ◌∷◌, ◌++◌, length, take, drop, Option, Result, Ok, Err, MatchResult}
 use Rattle.std.specs.IoError.{error_kind}
 use Rattle.std.specs.declared.io.Error.{Error}
 use Rattle.std.specs.declared.io.ErrorKind.TheVariants.{InvalidData, UnexpectedEof}
 use Rattle.buffer_redux.specs.Block.{Block, OnlyRingMoves}
 use Rattle.buffer_redux.specs.Buffered.{Buffered}
-use Rattle.buffer_redux.specs.BufReader.{ReadsAlong}
+use Rattle.buffer_redux.specs.BufReader.{ReaderConsumes, ReadsAlong}
 use Rattle.buffer_redux.specs.Policy.{ClaimsToSpare, ReadRules}
 use Rattle.buffer_redux.specs.Sparing.{Spared}
 use Rattle.buffer_redux.specs.Unbuffer.{unbuffered}
@@ -50,6 +50,10 @@ pub record KeepsBuffer {S Q : Type 0} (rules : ReadRules Q) (least : ℕ) (s t :
   pub still : LeavesPlaces rules → t.log.reads.asks ≡ s.log.reads.asks → OnlyRingMoves s.block t.block
   pub spared : (keep : ℕ) → least ≤ keep → ClaimsToSpare (rules.claims s.policy).spares keep → Spared keep s t
 
+-- these bytes were taken through the buffer
+abbrev pub TakenThrough : {S Q : Type 0} → Buffered S Q → List ℕ → Buffered S Q → Type 0
+TakenThrough s wire t = t.block.consumed ≡ s.block.consumed + length wire
+
 -- the payload that an answer hands out of a slice: its first bytes, or none
 abbrev pub handed_out : {E : Type 0} → List ℕ → Result ℕ E → List ℕ
 handed_out out (Ok n) = take n out
@@ -72,15 +76,30 @@ module _ {P W : Type 0} (g : Grammar P W) where
   abbrev pub AllShown : P → ℕ → List ℕ → Type 0
   AllShown p n bytes = (n ≡ length bytes) ⊎ Looks g p bytes (Payload n)
 
-  -- what was handed out is all that a look says is payload, behind bytes that are none: those, then what was handed out, then
+  -- of bytes that hold this payload, and then some more, those are all that a look says is payload: the first, then those, then
   -- what is left, are what was there, then what came
-  pub record Stretch (p : P) (before handed left : List ℕ) : Type 0 where
+  pub record StretchBehind (p : P) (before first last left : List ℕ) : Type 0 where
     pub wire : List ℕ
     pub got : List ℕ
-    pub equal : wire ++ (handed ++ left) ≡ before ++ got
+    pub equal : wire ++ (last ++ left) ≡ before ++ got
     pub place : P
-    pub leads : Leads g p wire [] place (heeded g (handed ++ left))
-    pub looks : Looks g place (handed ++ left) (Payload (length handed))
+    pub leads : Leads g p wire first place (heeded g (last ++ left))
+    pub looks : Looks g place (last ++ left) (Payload (length last))
+
+  -- what was handed out is all that a look says is payload, behind bytes that are none
+  abbrev pub Stretch : P → List ℕ → List ℕ → List ℕ → Type 0
+  Stretch p before handed left = StretchBehind p before [] handed left
+
+  -- all that is left is known to be payload, or what was handed out last, behind this payload, and then what is known, are all
+  -- that a look says
+  abbrev pub KnowsAll : P → List ℕ → List ℕ → List ℕ → ℕ → List ℕ → Type 0
+  KnowsAll p before first last known left =
+      (known ≡ length left) ⊎ StretchBehind p before first (last ++ take known left) (drop known left)
+
+  -- so it is with the last of what was handed out
+  abbrev pub KnowsBehind : P → List ℕ → List ℕ → ℕ → List ℕ → Type 0
+  KnowsBehind p before handed known left =
+      (first : List ℕ) × (last : List ℕ) × (handed ≡ first ++ last) × KnowsAll p before first last known left
 
   -- so much was handed out as the slice takes, or as was buffered or came past the buffer, or as was known, or as a look says
   abbrev pub HandsAll : P → List ℕ → ℕ → List ℕ → ℕ → List ℕ → Type 0
@@ -111,6 +130,7 @@ module _ {S Q P W : Type 0} (remaining : S → Option (List ℕ)) (rules : ReadR
     pub wire : List ℕ
     pub takes : TakesBytes s p wire [] t q
     pub told : t.log ≡ s.log
+    pub through : TakenThrough s wire t
     pub looks : Looks g q.place t.block.bytes look
     pub no_more : (n : ℕ) (r : P) → look ≢ Passed n r
     pub spends : spend g q.place t.block.bytes ≤ spend g p.place s.block.bytes
@@ -126,12 +146,14 @@ module _ {S Q P W : Type 0} (remaining : S → Option (List ℕ)) (rules : ReadR
   abbrev pub Settles : P → List ℕ → ℕ → Type 0
   Settles p shown sure = ((sure ≡ 0) × IsDone g p) ⊎ Looks g p shown (Payload sure)
 
-  -- what a call does that hands out this payload, for a slice that takes so many, and what its answer means
+  -- what a call does that hands out this payload, for a slice that takes so many, and what its answer means. It takes all through
+  -- the buffer, or asks for no less payload than that holds
   pub record Proceeds {A : Type 0} (room : ℕ) (s : Buffered S Q) (p : Progress P) (handed : List ℕ)
       (answer : Result A (BodyError W)) (Means : A → Type 0) (t : Buffered S Q) (q : Progress P) : Type 0 where
     pub wire : List ℕ
     pub takes : TakesBytes s p wire handed t q
     pub asked : AsksWithRoom room s p.place t
+    pub through : TakenThrough s wire t ⊎ ((0 < length handed) × (s.block.capacity ≤ t.log.reads.offer))
     pub ends : MatchResult answer (λ a. EachGave s t × Means a) (λ e. PayloadFails s e t q)
     pub idle : IsDone g p.place → (t ≡ s) × (q ≡ p)
 
@@ -148,7 +170,7 @@ module _ {S Q P W : Type 0} (remaining : S → Option (List ℕ)) (rules : ReadR
   pub record TakesFront (n : ℕ) (s : Buffered S Q) (p : Progress P) (before : ℕ) (t : Buffered S Q) (q : Progress P) (after : ℕ)
       : Type 0 where
     pub takes : TakesBytes s p (take n s.block.bytes) (take n s.block.bytes) t q
-    pub told : t.log ≡ s.log
+    pub consumed : ReaderConsumes rules n s t
     pub left : after ≡ before - n
     pub known : IsKnown g q.place after t.block.bytes
 
@@ -164,6 +186,7 @@ module _ {S Q P W : Type 0} (remaining : S → Option (List ℕ)) (rules : ReadR
     pub told : t.log ≡ s.log
     pub known : IsKnown g q.place after t.block.bytes
     pub kept : 0 < before → after ≡ before
+    pub all : before ≡ 0 → 0 < after → AllShown g q.place after t.block.bytes
     pub none : after ≡ 0 → NoneShown q.place t.block.bytes
 
   -- handing out of what is buffered into a slice, which is left so, as much as it takes; nobody is asked
@@ -175,15 +198,18 @@ module _ {S Q P W : Type 0} (remaining : S → Option (List ℕ)) (rules : ReadR
     pub within : handed ≤ length out
     pub known : IsKnown g q.place after t.block.bytes
     pub left : handed ≤ before → after ≡ before - handed
+    pub knows : before < handed → handed ≡ length out
+        → KnowsBehind g p.place s.block.bytes (take handed out) after t.block.bytes
     pub idle : length out ≡ 0 → (t ≡ s) × (q ≡ p)
     pub all : (handed ≡ length out) ⊎ NoneShown q.place t.block.bytes
 
-  -- handing payload out into a slice, which is left so: no less than can be. None comes into one that isn't empty only where the
-  -- body ended
-  abbrev pub HandsOn : ℕ → Buffered S Q → Progress P → List ℕ → Result ℕ (BodyError W) → Buffered S Q → Progress P → Type 0
-  HandsOn known s p out answer t q = Proceeds (length out) s p (handed_out out answer) answer
+  -- handing payload out into a slice, which is left so: no less than can be, and what a look told stays known. None comes into
+  -- one that isn't empty only where the body ended
+  abbrev pub HandsOn : ℕ → Buffered S Q → Progress P → List ℕ → Result ℕ (BodyError W) → Buffered S Q → Progress P → ℕ → Type 0
+  HandsOn before s p out answer t q after = Proceeds (length out) s p (handed_out out answer) answer
       (λ n. (n ≤ length out) × (n ≡ 0 → 0 < length out → IsDone g q.place)
-      × (0 < n → HandsAll g p.place s.block.bytes known out n t.block.bytes)) t q
+      × (0 < n → HandsAll g p.place s.block.bytes before out n t.block.bytes)
+      × (before ≡ 0 → 0 < n → KnowsAll g p.place s.block.bytes [] (take n out) after t.block.bytes)) t q
       × (length out ≡ 0 → (answer ≡ Ok 0) × (t ≡ s))
 
 -- an error as one of std's streams

@@ -14,7 +14,7 @@ use Rattle.body_reader.specs.declared.error.BodyError.TheVariants.{Wrong, Trunca
 use Rattle.body_reader.specs.declared.progress.Progress.{Progress}
 use Rattle.body_reader.specs.Asking.{AskedWhere}
 use Rattle.body_reader.specs.AskingLaws.{AskedOver-on, AskedWhere-of, AskedWhere-same}
-use Rattle.body_reader.specs.Between.{AsksWithRoom, AsksOpen, EachGave, PayloadFails, FaultedOnce, Proceeds, KeepsBuffer, GaveNothingOnce, TakesBytes}
+use Rattle.body_reader.specs.Between.{AsksWithRoom, AsksOpen, EachGave, PayloadFails, FaultedOnce, Proceeds, KeepsBuffer, GaveNothingOnce, TakenThrough, TakesBytes}
 use Rattle.body_reader.specs.Coding.{AskedFor, Grammar, IsDone, IsOpen, IsOpenBelow, LeadsOpen, heeded}
 use Rattle.body_reader.specs.CodingLaws.{AskedFor-behind, AskedFor-here, Leads-none, Leads-still, Leads-then}
 
@@ -215,6 +215,15 @@ module _ {S Q P W : Type 0} (remaining : S → Option (List ℕ)) (rules : ReadR
   PayloadFails-after s m t q gave (Truncated count) (met, right, is) = (GaveNothingOnce-after s m t gave met, right, is)
   PayloadFails-after s m t q gave (Io e) (fault, is) = (FaultedOnce-after s m t gave e fault, is)
 
+  -- where no payload is handed out all is taken through the buffer
+  pub Proceeds-through : {A : Type 0} (room : ℕ) (s : Buffered S Q) (p : Progress P) (answer : Result A (BodyError W))
+      (Means : A → Type 0) (t : Buffered S Q) (q : Progress P) (goes : Proceeds remaining rules g room s p [] answer Means t q)
+      → TakenThrough s goes.wire t
+  Proceeds-through room s p answer Means t q goes = elim goes.through [
+    | inl all ↦ all
+    | inr past ↦ absurd (omega (arith, past.0))
+  ]
+
   pub AsksWithRoom-open : (room : ℕ) (s : Buffered S Q) (p : P) (t : Buffered S Q) → AsksWithRoom remaining rules g room s p t
       → AsksOpen remaining rules g s p t
   AsksWithRoom-open room s p t =
@@ -247,7 +256,8 @@ module _ {S Q P W : Type 0} (remaining : S → Option (List ℕ)) (rules : ReadR
 
     -- and go on so
     module _ {A : Type 0} (handed : List ℕ) (answer : Result A (BodyError W)) (Means : A → Type 0) (r : Progress P)
-        (goes : Proceeds remaining rules g room m q handed answer Means t r) (idle : IsDone g p.place → (t ≡ s) × (r ≡ p)) where
+        (goes : Proceeds remaining rules g room m q handed answer Means t r) (idle : IsDone g p.place → (t ≡ s) × (r ≡ p))
+        (through : TakenThrough s wire m) where
       ends_after : (a : Result A (BodyError W))
           → MatchResult a (λ x. EachGave m t × Means x) (λ e. PayloadFails remaining rules g m e t r)
           → MatchResult a (λ x. EachGave s t × Means x) (λ e. PayloadFails remaining rules g s e t r)
@@ -259,6 +269,10 @@ module _ {S Q P W : Type 0} (remaining : S → Option (List ℕ)) (rules : ReadR
         wire = wire ++ goes.wire;
         takes = TakesBytes-joins s p m q t r wire [] goes.wire handed takes goes.takes;
         asked = AsksWithRoom-joins goes.asked;
+        through = elim goes.through [
+          | inl all ↦ inl (omega (arith, through, all, length-append wire goes.wire))
+          | inr past ↦ inr (past.0, omega (arith, takes.along.capacity, past.1))
+        ];
         ends = ends_after answer goes.ends;
         idle = idle;
       }

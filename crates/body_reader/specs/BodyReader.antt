@@ -5,7 +5,7 @@ use Rattle.std.specs.IoError.{error_kind}
 use Rattle.std.specs.declared.io.Error.{Error}
 use Rattle.std.specs.declared.io.ErrorKind.TheVariants.{Other}
 use Rattle.buffer_redux.specs.Buffered.{Buffered}
-use Rattle.buffer_redux.specs.BufReader.{ReadsAlong}
+use Rattle.buffer_redux.specs.BufReader.{ReaderConsumes, ReadsAlong}
 use Rattle.buffer_redux.specs.Policy.{ReadRules}
 use Rattle.buffer_redux.specs.StreamLog.{StreamLog, after_read, no_calls}
 use Rattle.buffer_redux.specs.Unbuffer.{unbuffered}
@@ -14,7 +14,7 @@ use Rattle.body_reader.specs.declared.error.BodyError.TheVariants.{Wrong, Trunca
 use Rattle.body_reader.specs.declared.error.CollectError.{CollectError}
 use Rattle.body_reader.specs.declared.error.CollectError.TheVariants as collect
 use Rattle.body_reader.specs.Asking.{AskedWhere}
-use Rattle.body_reader.specs.Between.{AllShown, AsksOpen, AsksWithRoom, BecomesIo, EachGave, FaultedOnce, GaveNothingOnce, HandsAll, KeepsBuffer, handed_out}
+use Rattle.body_reader.specs.Between.{AllShown, AsksOpen, AsksWithRoom, BecomesIo, EachGave, FaultedOnce, GaveNothingOnce, HandsAll, KeepsBuffer, KnowsAll, KnowsBehind, TakenThrough, handed_out}
 use Rattle.body_reader.specs.Coding.{Grammar, IsBody, IsKnown, IsOpen, Leads, LeadsOpen, heeded}
 
 -- the buffered reader; the coding; where in the body the reader stands; the bytes of it that were taken so far; what it handed
@@ -81,9 +81,9 @@ module _ {S Q C P W : Type 0} (remaining : S → Option (List ℕ)) (rules : Rea
     pub keeps : KeepsBuffer rules g.ahead s.reader t.reader
 
   -- what one call of `read_payload` does, which left the slice as out. The stream is asked only where nothing was settled, and no
-  -- payload left, and for as much as surely is payload and fits the slice; and no less is handed out than can be. Once the body
-  -- ended, or where the slice is empty, the buffered reader isn't called. What was known and isn't handed out stays known. An Ok
-  -- read is noted, and no other
+  -- payload left, and for as much as surely is payload and fits the slice; past the buffer for no less than that holds; and no
+  -- less is handed out than can be. Once the body ended, or where the slice is empty, the buffered reader isn't called. What was
+  -- known, or a look told, and isn't handed out stays known. An Ok read is noted, and no other
   pub record ReadsPayload (s : BodyState S Q C P) (out : List ℕ) (answer : Result ℕ (BodyError W)) (t : BodyState S Q C P)
       : Type 0 where
     pub went : BodyWent s (handed_out out answer) t
@@ -91,8 +91,11 @@ module _ {S Q C P W : Type 0} (remaining : S → Option (List ℕ)) (rules : Rea
         (λ n. (n ≤ length out) × EachGave s.reader t.reader × (n ≡ 0 → 0 < length out → TookWholeBody g t))
         (λ e. NoPayload g s e t)
     pub asked : AsksWithRoom remaining rules g (length out) s.reader s.place t.reader
+    pub through : TakenThrough s.reader went.wire t.reader ⊎ (s.reader.block.capacity ≤ t.reader.log.reads.offer)
     pub all : IfOk answer (λ n. 0 < n → HandsAll g s.place s.reader.block.bytes s.known out n t.reader.block.bytes)
     pub left : 0 < s.known → IfOk answer (λ n. t.known ≡ s.known - n)
+    pub knows : s.known ≡ 0 → IfOk answer
+        (λ n. 0 < n → KnowsAll g s.place s.reader.block.bytes [] (take n out) t.known t.reader.block.bytes)
     pub idle : (TookWholeBody g s ⊎ (length out ≡ 0)) → t.reader ≡ s.reader
     pub empty : length out ≡ 0 → answer ≡ Ok 0
     pub noted : MatchResult answer (λ n. t.calls ≡ after_read s.calls out (Ok n)) (λ _. t.calls ≡ s.calls)
@@ -111,14 +114,15 @@ module _ {S Q C P W : Type 0} (remaining : S → Option (List ℕ)) (rules : Rea
     pub noted : t.calls ≡ s.calls
     pub whole : IsBodyReader g t
 
-  -- a piece of payload was taken: all that a fill showed
+  -- a piece of payload was taken: all that a fill showed, and it is noted as one read
   pub record TakesPiece (s t : BodyState S Q C P) : Type 0 where
     pub shown : ℕ
     pub filled : BodyState S Q C P
     pub some : 0 < shown
     pub fills : FillsPayload s (Ok shown) filled
     pub went : BodyWent filled (take filled.known filled.reader.block.bytes) t
-    pub told : t.reader.log ≡ filled.reader.log
+    pub consumed : ReaderConsumes rules filled.known filled.reader t.reader
+    pub noted : t.calls ≡ after_read filled.calls (take filled.known filled.reader.block.bytes) (Ok filled.known)
     pub none_left : t.known ≡ 0
 
   -- so many pieces, one after another
@@ -173,13 +177,16 @@ module _ {S Q C P W : Type 0} (remaining : S → Option (List ℕ)) (rules : Rea
 
   -- what `read_buffered` does, which left the slice as out: payload that is buffered is handed out, as much as the slice takes.
   -- Less comes only where the body ended, or what is buffered settles nothing, or is wrong. The stream isn't asked. Of what was
-  -- known just what wasn't handed out stays known, where no more was handed out. Into an empty slice nothing is done
+  -- known just what wasn't handed out stays known, or, where more was handed out, of what the last look told. Into an empty slice
+  -- nothing is done
   pub record HandsBuffered (s : BodyState S Q C P) (out : List ℕ) (handed : ℕ) (t : BodyState S Q C P) : Type 0 where
     pub went : BodyWent s (take handed out) t
     pub told : t.reader.log ≡ s.reader.log
     pub bound : handed ≤ length out
     pub all : (handed ≡ length out) ⊎ (TookWholeBody g t ⊎ (EndsEarly g t ⊎ ((why : W) × Breaks g why t)))
     pub left : handed ≤ s.known → t.known ≡ s.known - handed
+    pub knows : s.known < handed → handed ≡ length out
+        → KnowsBehind g s.place s.reader.block.bytes (take handed out) t.known t.reader.block.bytes
     pub empty : length out ≡ 0 → (t.reader ≡ s.reader) × (t.place ≡ s.place)
     pub noted : t.calls ≡ after_read s.calls out (Ok handed)
     pub whole : IsBodyReader g t

@@ -4,7 +4,7 @@ ghost use Rattle.std.specs.Borrow.{Lends, sem};
 ghost use Rattle.body_reader.specs.contracts.reader.BodyReader.{the_row};
 ghost use Rattle.buffer_redux.specs.Block.{Reserves, capacity_for};
 ghost use Rattle.buffer_redux.specs.Buffered.{over_buffer, with_inner};
-ghost use Rattle.buffer_redux.specs.BufReader.{ReadsInOrder};
+ghost use Rattle.buffer_redux.specs.BufReader.{ReaderConsumes, ReadsInOrder};
 ghost use Rattle.buffer_redux.specs.GrowError.{FitsWithin};
 ghost use Rattle.buffer_redux.specs.MakeError.{growth};
 ghost use Rattle.buffer_redux.specs.StreamLog.{after_read};
@@ -239,6 +239,8 @@ impl<R: TellRead, C: Coding, P: ReaderPolicy> BodyReader<R, C, P> {
             (take (min count self.old.known) self.old.reader.block.bytes) (Ok (min count self.old.known)) }
         ensures idle { min count self.old.known ≡ 0 → self.new ≡ self.old }
         ensures left { self.new.known ≡ self.old.known - count }
+        ensures consumed { 0 < min count self.old.known
+            → ReaderConsumes P.rules (min count self.old.known) self.old.reader self.new.reader }
         ensures told { self.new.reader.log ≡ self.old.reader.log }
         ensures went { BodyWent R.remaining P.rules (C.grammar self.old.coding) self.old
             (take (min count self.old.known) self.old.reader.block.bytes) self.new }

@@ -162,8 +162,8 @@ pub(crate) fn read_past<R: TellRead, P: ReaderPolicy, C: Coding>(
     requires past { GoesPast reader.old.block most }
     requires room { most ≤ length out.old }
     requires offers { min (length out.old) ((C.grammar coding.now).sure progress.old.place) ≤ most }
-    ensures { (known : ℕ) → HandsOn R.remaining P.rules (C.grammar coding.now) known reader.old progress.old out.new result
-        reader.new progress.new }
+    ensures { (known : ℕ) → known ≡ 0 → HandsOn R.remaining P.rules (C.grammar coding.now) known reader.old progress.old out.new
+        result reader.new progress.new known }
 {
     let count = reader.read(&mut out[..most])?;
     if count == 0 {
@@ -187,7 +187,7 @@ pub(crate) fn read_sure<R: TellRead, P: ReaderPolicy, C: Coding>(
     requires begins { BeginsRead (C.grammar coding.now) reader.old progress.old known.old out.old }
     requires sure { Looks (C.grammar coding.now) progress.old.place reader.old.block.bytes (Look.Payload sure) }
     ensures hands { HandsOn R.remaining P.rules (C.grammar coding.now) known.old reader.old progress.old out.new result
-        reader.new progress.new }
+        reader.new progress.new known.new }
     ensures known { IsKnown (C.grammar coding.now) progress.new.place known.new reader.new.block.bytes }
 {
     let held = reader.buf_len();
@@ -214,7 +214,7 @@ pub(crate) fn read_new<R: TellRead, P: ReaderPolicy, C: Coding>(
 ) -> Result<usize, BodyError<C::Wrong>>
     requires { BeginsRead (C.grammar coding.now) reader.old progress.old known.old out.old }
     ensures hands { HandsOn R.remaining P.rules (C.grammar coding.now) known.old reader.old progress.old out.new result
-        reader.new progress.new }
+        reader.new progress.new known.new }
     ensures known { IsKnown (C.grammar coding.now) progress.new.place known.new reader.new.block.bytes }
 {
     if let Look::Payload(sure) = pass(reader, coding, progress) {
@@ -234,7 +234,7 @@ fn read_slowly<R: TellRead, P: ReaderPolicy, C: Coding>(
 ) -> Result<usize, BodyError<C::Wrong>>
     requires { BeginsRead (C.grammar coding.now) reader.old progress.old known.old out.old }
     ensures hands { HandsOn R.remaining P.rules (C.grammar coding.now) known.old reader.old progress.old out.new result
-        reader.new progress.new }
+        reader.new progress.new known.new }
     ensures known { IsKnown (C.grammar coding.now) progress.new.place known.new reader.new.block.bytes }
 {
     let sure = skip(reader, coding, progress)?;
@@ -256,7 +256,7 @@ pub(crate) fn read_on<R: TellRead, P: ReaderPolicy, C: Coding>(
     requires room { (C.grammar coding.now).ahead ≤ reader.old.block.capacity }
     requires held { IsKnown (C.grammar coding.now) progress.old.place known.old reader.old.block.bytes }
     ensures hands { HandsOn R.remaining P.rules (C.grammar coding.now) known.old reader.old progress.old out.new result
-        reader.new progress.new }
+        reader.new progress.new known.new }
     ensures known { IsKnown (C.grammar coding.now) progress.new.place known.new reader.new.block.bytes }
     ensures left { 0 < known.old → IfOk result (λ n. known.new ≡ known.old - n) }
 {

@@ -5,6 +5,7 @@ ghost use Rattle.std.specs.Io.{ReadsAtMost, StartsWith};
 ghost use Rattle.std.specs.Io.BufRead.{Rests};
 ghost use Rattle.std.specs.Io.KnownBytes.{ReadConsumes};
 ghost use Rattle.body_reader.specs.contracts.reader.BodyReader.{the_row};
+ghost use Rattle.buffer_redux.specs.BufReader.{ReaderConsumes};
 ghost use Rattle.buffer_redux.specs.StreamLog.{StreamLog, after_read};
 ghost use Rattle.body_reader.specs.BodyReader.{BodyWent, FillsAsIo, IsBodyReader, ReadsAsIo};
 
@@ -80,6 +81,8 @@ where
         ensures went { BodyWent R.remaining P.rules (C.grammar self.old.coding) self.old
             (take (min amount self.old.known) self.old.reader.block.bytes) self.new }
         ensures left { self.new.known ≡ self.old.known - amount }
+        ensures consumed { 0 < min amount self.old.known
+            → ReaderConsumes P.rules (min amount self.old.known) self.old.reader self.new.reader }
         ensures told { self.new.reader.log ≡ self.old.reader.log }
         ensures whole { IsBodyReader (C.grammar self.new.coding) self.new }
     {

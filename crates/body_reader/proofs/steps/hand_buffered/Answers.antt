@@ -24,4 +24,4 @@ loop-handed-preserved g c =
       c.if-known-eq0.false,
       c.loop-handed-test.true,
       c.hand_out-handed.auto.out,
-    )) (omega (arith, c.hand_out-handed.ensures.count)) c.hand_out-handed.ensures.bytes c.hand_out-handed.ensures.took
+    )) c.hand_out-handed.ensures.count c.hand_out-handed.ensures.bytes c.hand_out-handed.ensures.took

@@ -8,12 +8,12 @@ use Rattle.body_reader.proofs.steps.read_slowly.Goals as goal
 pub returns-in_err-sure-clause-hands : goal.returns-in_err-sure-clause-hands
 returns-in_err-sure-clause-hands g c =
     let p = err_from_is_err_and c.from_residual.result c.from_residual.ensures.1 in
-    rw (p.1, p.2) (hands_failed _ _ _ _ _ _ _ _ _ c.requires.some _ _ (c.in_err-sure.ensures _))
+    rw (p.1, p.2) (hands_failed _ _ _ _ _ _ _ _ _ _ c.requires.some _ _ (c.in_err-sure.ensures _))
 
 pub returns-then-sure-eq0-clause-hands : goal.returns-then-sure-eq0-clause-hands
 returns-then-sure-eq0-clause-hands g c =
     let skips = rw c.if-sure-eq0.true at c.in_ok-sure.ensures in
-    hands_ended _ _ _ _ _ _ _ _ _ c.requires.some (skips _)
+    hands_ended _ _ _ _ _ _ _ _ _ _ c.requires.some (skips _)
 
 pub read_sure-requires : goal.read_sure-requires
 read_sure-requires g c =
@@ -32,7 +32,7 @@ read_sure-requires g c =
 pub returns-clause-hands : goal.returns-clause-hands
 returns-clause-hands g c =
     hands_behind g.R.TellRead.remaining g.P.ReaderPolicy.rules (g.C.Coding.grammar c.args.coding.now) c.args.known.now
-    c.args.reader.now c.args.progress.now c.read_sure.new.out c.skip.new.reader c.skip.new.progress
+    c.read_sure.new.known c.args.reader.now c.args.progress.now c.read_sure.new.out c.skip.new.reader c.skip.new.progress
     (omega (arith, c.requires.some)) c.in_ok-sure.sure (omega (arith, c.if-sure-eq0.false)) (c.in_ok-sure.ensures _)
     c.read_sure.result c.read_sure.new.reader
     c.read_sure.new.progress c.read_sure.ensures.hands

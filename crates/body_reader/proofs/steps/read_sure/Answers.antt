@@ -35,8 +35,8 @@ returns-clause-hands g c =
     (omega (arith, c.min-most.ensures, c.if-most-capacity.false, c.capacity.ensures.value)) in
     let some = show_some remaining rules' grammar (length hands.new.out) c.args.reader.now c.args.progress.now c.args.sure
     c.requires.sure.0 c.show.new.reader _ fills in
-    hands_filled remaining rules' grammar c.args.known.now c.args.reader.now c.args.progress.now hands.new.out c.show.new.reader
-    c.args.progress.now room _ some fills _ hands.new.reader hands.new.progress
+    hands_filled remaining rules' grammar c.args.known.now hands.new.known c.args.reader.now c.args.progress.now hands.new.out
+    c.show.new.reader c.args.progress.now room _ some fills _ hands.new.reader hands.new.progress
     (hands_shown remaining rules' grammar hands.result c.show.new.reader c.args.progress.now _ hands.new.reader
     hands.new.progress hands.new.known hands.new.out hands.ensures.took fills.ends.1.0 some hands.ensures.count room
     hands.ensures.bytes (fills.ends.1.2 some) c.args.known.now)

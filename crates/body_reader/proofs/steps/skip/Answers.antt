@@ -1,8 +1,7 @@
 -- As many bytes as a look needs fit the buffer, so fewer are shown only where the stream gave none.
-use Rattle.std.proofs.Common.{◌<◌, ◌≤◌, ap, arith, length, min}
-use Rattle.std.proofs.lemmas.List.{length-take}
+use Rattle.std.proofs.Common.{arith}
 use Rattle.std.proofs.lemmas.Result.{err_from_is_err_and}
-use Rattle.body_reader.proofs.Skipping.{fits_here, lacks_here, skipped_less, skipped_more, skipped_none, skips_cut, skips_done, skips_fails, skips_payload, skips_wrong}
+use Rattle.body_reader.proofs.Skipping.{lacks_here, shows_here, skipped_less, skipped_more, skipped_none, skips_cut, skips_done, skips_fails, skips_payload, skips_wrong}
 use Rattle.body_reader.proofs.steps.skip.Goals as goal
 
 pub loop-sure-init : goal.loop-sure-init
@@ -25,46 +24,23 @@ returns-in_err-shown-in-More g c =
 
 pub returns-then-shown-need : goal.returns-then-shown-need
 returns-then-shown-need g c =
-    let t = c.peek.follows.lender-at-none in
-    let n = c.in-More.need in
     let found = rw c.in_ok-shown-in-More.was at c.peek.follows.holds-at-none in
-    let all = fits_here _ _ _ _ _ _ _ c.loop-sure.invariant _ _ _ c.pass.ensures n c.in-More.is in
-    let few : length t.block.bytes < n = omega (
-      arith,
-      c.if-shown-need.true,
-      ap length found.1,
-      length-take (min n c.pass.new.reader.block.capacity) t.block.bytes,
-      all,
-    ) in
-    skips_cut _ _ _ _ _ _ _ c.loop-sure.invariant _ _ _ c.pass.ensures _ c.in-More.is _ _ found.0 few
+    let count = shows_here _ _ _ _ _ _ _ c.loop-sure.invariant _ _ _ c.pass.ensures c.in-More.need c.in-More.is _ _ found.1 in
+    skips_cut _ _ _ _ _ _ _ c.loop-sure.invariant _ _ _ c.pass.ensures _ c.in-More.is _ _ found.0
+    (omega (arith, c.if-shown-need.true, count))
 
 pub loop-sure-preserved : goal.loop-sure-preserved
 loop-sure-preserved g c =
-    let t = c.peek.follows.lender-at-none in
-    let n = c.in-More.need in
     let found = rw c.in_ok-shown-in-More.was at c.peek.follows.holds-at-none in
-    let all = fits_here _ _ _ _ _ _ _ c.loop-sure.invariant _ _ _ c.pass.ensures n c.in-More.is in
-    let enough : n ≤ length t.block.bytes = omega (
-      arith,
-      c.if-shown-need.false,
-      ap length found.1,
-      length-take (min n c.pass.new.reader.block.capacity) t.block.bytes,
-      all,
-    ) in
-    skipped_more _ _ _ _ _ _ _ c.loop-sure.invariant _ _ _ c.pass.ensures _ c.in-More.is _ _ found.0 enough
+    let count = shows_here _ _ _ _ _ _ _ c.loop-sure.invariant _ _ _ c.pass.ensures c.in-More.need c.in-More.is _ _ found.1 in
+    skipped_more _ _ _ _ _ _ _ c.loop-sure.invariant _ _ _ c.pass.ensures _ c.in-More.is _ _ found.0
+    (omega (arith, c.if-shown-need.false, count))
 
 pub loop-sure-smaller : goal.loop-sure-smaller
 loop-sure-smaller g c =
-    let t = c.peek.follows.lender-at-none in
-    let n = c.in-More.need in
     let found = rw c.in_ok-shown-in-More.was at c.peek.follows.holds-at-none in
-    let all = fits_here _ _ _ _ _ _ _ c.loop-sure.invariant _ _ _ c.pass.ensures n c.in-More.is in
-    let enough : n ≤ length t.block.bytes = omega (
-      arith,
-      c.if-shown-need.false,
-      ap length found.1,
-      length-take (min n c.pass.new.reader.block.capacity) t.block.bytes,
-      all,
-    ) in
+    let n = c.in-More.need in
+    let count = shows_here _ _ _ _ _ _ _ c.loop-sure.invariant _ _ _ c.pass.ensures n c.in-More.is _ _ found.1 in
     let short = lacks_here _ _ _ _ _ _ _ c.loop-sure.invariant _ _ _ c.pass.ensures n c.in-More.is in
-    skipped_less _ _ _ _ _ _ _ c.loop-sure.invariant _ _ _ c.pass.ensures n t enough short.0 short.1
+    skipped_less _ _ _ _ _ _ _ c.loop-sure.invariant _ _ _ c.pass.ensures n c.peek.follows.lender-at-none
+    (omega (arith, c.if-shown-need.false, count)) short.0 short.1

@@ -1,8 +1,8 @@
 -- Each piece that comes is appended, until the body ends, or why it doesn't.
-use Rattle.std.proofs.Common.{◌≡◌, ◌++◌, ℕ, List, Result, Ok, Err, true, false, if◌then◌else◌, is_ok, is_err, ap, arith, min, take, subst, sym, vec_items, ◌∙◌}
+use Rattle.std.proofs.Common.{◌≡◌, ◌++◌, ℕ, List, Result, Ok, Err, true, false, if◌then◌else◌, is_ok, is_err, ap, arith, subst, sym, vec_items, ◌∙◌}
 use Rattle.std.proofs.lemmas.Result.{err_from_is_err_and}
 use Rattle.body_reader.specs.declared.error.CollectError.TheVariants as why
-use Rattle.body_reader.specs.BodyReader.{BodyWent, Collects}
+use Rattle.body_reader.specs.BodyReader.{Collects}
 use Rattle.body_reader.proofs.Collecting.{Collected, collected_more, collected_none, collects_all, collects_long, collects_no_room, collects_none}
 use Rattle.body_reader.proofs.Said.{collect_says}
 use Rattle.body_reader.proofs.reader.BodyReader.collect.Goals as goal
@@ -61,20 +61,22 @@ loop-came-preserved g c =
     let rules' = g.P.ReaderPolicy.rules in
     let grammar = g.C.Coding.grammar in
     let s = c.args.self.now in
-    let f = c.fill_payload.new.self in
     let t = c.consume_payload.new.self in
     let fills = c.in_ok-came.ensures.fills in
-    let all : min c.in_ok-came.came f.known ≡ f.known = omega (arith, fills.answers.0) in
-    let went : BodyWent remaining rules' (grammar f.coding) f (take f.known f.reader.block.bytes) t =
-    subst (λ k. BodyWent remaining rules' (grammar f.coding) f (take k f.reader.block.bytes) t) all
-    c.consume_payload.ensures.went in
+    let consumes = c.consume_payload.ensures in
     let same = added c.extend_from_slice.result (vec_items c.loop-came.out) c.piece.result.now
     (vec_items c.extend_from_slice.new.self) c.extend_from_slice.ensures.items
     (sym c.is_err.ensures.value ∙ c.if-is_err.false) in
     let piece = ap (λ l. vec_items c.loop-came.out ++ l) c.piece.ensures in
     subst (Collected remaining rules' (grammar s.coding) c.args.most s (vec_items c.args.out.now) t) (sym (same ∙ piece))
     (collected_more grammar c.loop-came.invariant fills (omega (arith, c.if-came-eq0.false)) (g.met.C.Coding.lawful s.coding) t
-    went c.consume_payload.ensures.told c.consume_payload.ensures.left c.consume_payload.ensures.whole
+    (record {
+      went = consumes.went;
+      consumed = consumes.consumed;
+      noted = consumes.noted;
+      left = consumes.left;
+      whole = consumes.whole;
+    })
     (omega (
       arith,
       fills.answers.0,

@@ -1,7 +1,6 @@
 -- Each piece that comes is dropped, until the body ends, or why it doesn't.
-use Rattle.std.proofs.Common.{◌≡◌, min, take, arith, subst}
+use Rattle.std.proofs.Common.{arith}
 use Rattle.std.proofs.lemmas.Result.{err_from_is_err_and}
-use Rattle.body_reader.specs.BodyReader.{BodyWent}
 use Rattle.body_reader.proofs.Draining.{dropped_more, dropped_none, drained, not_drained, too_many}
 use Rattle.body_reader.proofs.Said.{drain_says}
 use Rattle.body_reader.proofs.reader.BodyReader.drain.Goals as goal
@@ -20,17 +19,15 @@ returns-then-count-eq0 g c =
 
 pub loop-piece-preserved : goal.loop-piece-preserved
 loop-piece-preserved g c =
-    let f = c.fill_payload.new.self in
-    let t = c.consume_payload.new.self in
-    let fills = c.in_ok-count.ensures.fills in
-    let all : min c.in_ok-count.count f.known ≡ f.known = omega (arith, fills.answers.0) in
-    let went : BodyWent g.R.TellRead.remaining g.P.ReaderPolicy.rules (g.C.Coding.grammar f.coding) f
-    (take f.known f.reader.block.bytes) t =
-    subst (λ k. BodyWent g.R.TellRead.remaining g.P.ReaderPolicy.rules (g.C.Coding.grammar f.coding) f
-    (take k f.reader.block.bytes) t) all c.consume_payload.ensures.went in
-    dropped_more g.C.Coding.grammar c.loop-piece.invariant fills (omega (arith, c.if-count-eq0.false))
-    (g.met.C.Coding.lawful c.args.self.now.coding) t went c.consume_payload.ensures.told c.consume_payload.ensures.left
-    c.consume_payload.ensures.whole
+    let consumes = c.consume_payload.ensures in
+    dropped_more g.C.Coding.grammar c.loop-piece.invariant c.in_ok-count.ensures.fills (omega (arith, c.if-count-eq0.false))
+    (g.met.C.Coding.lawful c.args.self.now.coding) c.consume_payload.new.self (record {
+      went = consumes.went;
+      consumed = consumes.consumed;
+      noted = consumes.noted;
+      left = consumes.left;
+      whole = consumes.whole;
+    })
 
 pub returns : goal.returns
 returns g c =
