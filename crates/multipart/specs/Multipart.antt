@@ -63,6 +63,7 @@ IsForm d = HasHead d.stand d
 pub record IsBegun {S Q : Type 0} (reader : Buffered S Q) (boundary : List ℕ) (limits : Limits) (t : FormState S Q)
     : Type 0 where
   pub mark : t.body.coding.just.items ≡ 45 ∷ 45 ∷ boundary
+  pub room : t.body.coding.room ≡ length boundary + 4
   pub body : t.body ≡ begun (codes t.body.coding) reader t.body.coding
   pub head : t.head ≡ []
   pub stand : t.stand ≡ Preamble
