@@ -1,5 +1,5 @@
 -- Heads and texts by turns.
-use Rattle.std.proofs.Common.{◌≡◌, ℕ, ◌+◌, ◌⊎◌, List, [], Option, Result, Ok, Err, IfOk, Bool, true, false, MatchBool, subst, sym, ap, ◌∙◌, refl, inl, inr}
+use Rattle.std.proofs.Common.{◌≡◌, ℕ, ◌⊎◌, List, [], Option, Result, Ok, Err, Bool, subst, sym, ap, ◌∙◌, refl, inl, inr}
 use Rattle.buffer_redux.specs.Policy.{ReadRules}
 use Rattle.body_reader.specs.declared.error.BodyError.{BodyError}
 use Rattle.body_reader.specs.declared.error.CollectError.{CollectError}
@@ -8,8 +8,7 @@ use Rattle.body_reader.specs.declared.just_or_until.JustOrUntil.{JustOrUntil}
 use Rattle.body_reader.specs.BodyReader.{BodyState, Collects, Drains, TookWholeBody, begun, handed_of}
 use Rattle.body_reader.specs.Coding.{IsBody}
 use Rattle.multipart.specs.declared.error.PartError.{PartError}
-use Rattle.multipart.specs.declared.reader.Stand.{Stand}
-use Rattle.multipart.specs.declared.reader.Stand.TheVariants.{Preamble, Head, Part, Ended}
+use Rattle.multipart.specs.declared.reader.Stand.TheVariants.{Preamble, Head, Part}
 use Rattle.multipart.specs.Multipart.{AreCodings, CollectsHead, EndsHead, FormState, GoesOnFromHead, HasHead, IsForm, LeavesText, NextPart, PassesText, codes, head_error, part_error}
 
 -- a part begins behind a head
@@ -90,42 +89,6 @@ module _ {S Q : Type 0} (remaining : S → Option (List ℕ)) (rules : ReadRules
       → m ≡ record s { body = m.body; head = m.head } → EndsHead m answer t → GoesOnFromHead remaining rules s answer t
   goes s m t answer collects within ends =
       (m.body, m.head, inl (collects, subst (λ x. EndsHead x answer t) within ends))
-
-  -- where it stands then, and how many parts began
-  abbrev Stands : FormState S Q → Result Bool PartError → FormState S Q → Type 0
-  Stands s answer t = IfOk answer (λ more. MatchBool more ((t.stand ≡ Part) × (t.parts ≡ s.parts + 1))
-      ((t.stand ≡ Ended) × (t.parts ≡ s.parts)))
-
-  head_stands : (s t : FormState S Q) (answer : Result Bool PartError) → EndsHead s answer t → Stands s answer t
-  head_stands s t (Ok false) ends = (ap (λ x. x.stand) ends.1, ap (λ x. x.parts) ends.1)
-  head_stands s t (Ok true) ends = (ap (λ x. x.stand) ends.3, ap (λ x. x.parts) ends.3)
-  head_stands s t (Err e) ends = tt
-
-  goes_stands : (s t : FormState S Q) (answer : Result Bool PartError) → GoesOnFromHead remaining rules s answer t
-      → Stands s answer t
-  goes_stands s t answer (b, head, inl all) = head_stands (record s { body = b; head = head }) t answer all.1
-  goes_stands s t answer (b, head, inr none) = subst (λ a. Stands s a t) (sym none.1) tt
-
-  passes_stands : (s t : FormState S Q) (answer : Result Bool PartError) → PassesText remaining rules s answer t
-      → Stands s answer t
-  passes_stands s t answer (inl (m, leaves, goes)) =
-      subst (λ k. IfOk answer (λ more. MatchBool more ((t.stand ≡ Part) × (t.parts ≡ k + 1))
-      ((t.stand ≡ Ended) × (t.parts ≡ k)))) (ap (λ x. x.parts) leaves.2) (goes_stands m t answer goes)
-  passes_stands s t answer (inr none) = subst (λ a. Stands s a t) (sym none.1) tt
-
-  next_stands : (stand : Stand) (s t : FormState S Q) (answer : Result Bool PartError) → s.stand ≡ stand
-      → NextPart remaining rules stand s answer t → Stands s answer t
-  next_stands Ended s t answer is next =
-      subst (λ a. Stands s a t) (sym next.0) (ap (λ x. x.stand) next.1 ∙ is, ap (λ x. x.parts) next.1)
-  next_stands Head s t answer is next = goes_stands s t answer next
-  next_stands Preamble s t answer is next = passes_stands s t answer next
-  next_stands Part s t answer is next = passes_stands s t answer next
-
-  pub next_says : (s t : FormState S Q) (answer : Result Bool PartError) → NextPart remaining rules s.stand s answer t → record {
-    stands : Stands s answer t;
-    next : NextPart remaining rules s.stand s answer t;
-  }
-  next_says s t answer next = record { stands = next_stands s.stand s t answer refl next; next = next }
 
   pub from_text : (s d t : FormState S Q) (answer : Result Bool PartError) → d ≡ s
       → ((d.stand ≡ Preamble) ⊎ (d.stand ≡ Part)) → PassesText remaining rules s answer t
