@@ -1,5 +1,5 @@
 -- Payload is handed out, and how that ends.
-use Rattle.std.proofs.Common.{◌≡◌, ◌==◌, ◌+◌, false, ℕ, zero, suc, ◌-◌, ◌<◌, ◌≤◌, List, [], ◌++◌, length, min, take, drop, Option, Result, Ok, Err, sym, ap, subst, ◌∙◌, arith, inl, inr, refl, append_assoc, append-nil, length-append}
+use Rattle.std.proofs.Common.{◌≡◌, ◌==◌, ◌+◌, false, ℕ, zero, suc, ◌-◌, ◌<◌, ◌≤◌, List, [], ◌++◌, length, min, take, drop, Option, Result, Ok, Err, sym, ap, subst, ◌∙◌, arith, inl, inr, append_assoc, append-nil, length-append}
 use Rattle.std.proofs.lemmas.Bool.{cases_lt}
 use Rattle.std.proofs.lemmas.List.{length-drop, length-take-le, nil_from_length, take-append-drop}
 use Rattle.buffer_redux.specs.Buffered.{Buffered}
@@ -10,7 +10,7 @@ use Rattle.body_reader.specs.declared.coding.Look.TheVariants.{Payload}
 use Rattle.body_reader.specs.declared.error.BodyError.{BodyError}
 use Rattle.body_reader.specs.declared.progress.Progress.{Progress}
 use Rattle.body_reader.specs.Between.{AllShown, AsksWithRoom, EachGave, ShowsOn, HandsAll, HandsOn, KnowsAll, PassesOn, Proceeds, SkipsOn, Stretch, StretchBehind, TakenThrough, TakesBytes, TakesFront, handed_out}
-use Rattle.body_reader.specs.BetweenLaws.{EachGave-none, EachGave-same, Proceeds-after, Proceeds-through, TakesBytes-none}
+use Rattle.body_reader.specs.BetweenLaws.{EachGave-same, Proceeds-after, Proceeds-through}
 use Rattle.body_reader.specs.Coding.{Carries, Grammar, IsDone, IsKnown, Leads, Looks, heeded}
 use Rattle.body_reader.specs.CodingLaws.{Leads-none, Leads-then}
 use Rattle.body_reader.proofs.Filling.{Proceeds-err, Proceeds-of, ended_here, payload_here}
@@ -132,49 +132,26 @@ module _ {S Q P W : Type 0} (remaining : S → Option (List ℕ)) (rules : ReadR
   -- what is told of bytes is told of those in front of which others were taken
   module _ (s : Buffered S Q) (p : Progress P) (m : Buffered S Q) (q : Progress P) (wire h : List ℕ)
       (takes : TakesBytes remaining rules g s p wire h m q) (first : List ℕ) where
-    stretch_behind : (last left : List ℕ) → StretchBehind g q.place m.block.bytes first last left
-        → StretchBehind g p.place s.block.bytes (h ++ first) last left
-    stretch_behind last left x =
+    stretch_behind : (last rest : List ℕ) → StretchBehind g q.place m.block.bytes first last rest
+        → StretchBehind g p.place s.block.bytes (h ++ first) last rest
+    stretch_behind last rest x =
         let order = takes.along.in_order in
         record {
           wire = wire ++ x.wire;
           got = order.got ++ x.got;
-          equal = append_assoc wire x.wire (last ++ left) ∙ ap (λ l. wire ++ l) x.equal
+          equal = append_assoc wire x.wire (last ++ rest) ∙ ap (λ l. wire ++ l) x.equal
               ∙ sym (append_assoc wire m.block.bytes x.got) ∙ ap (λ l. l ++ x.got) order.equal
               ∙ append_assoc s.block.bytes order.got x.got;
           place = x.place;
-          leads = Leads-then g p.place q.place x.place wire x.wire h first m.block.bytes x.got (last ++ left) x.equal
+          leads = Leads-then g p.place q.place x.place wire x.wire h first m.block.bytes x.got (last ++ rest) x.equal
               takes.leads x.leads;
           looks = x.looks;
         }
 
-    pub knows_behind : (last : List ℕ) (known : ℕ) (left : List ℕ) → KnowsAll g q.place m.block.bytes first last known left
-        → KnowsAll g p.place s.block.bytes (h ++ first) last known left
-    knows_behind last known left (inl all) = inl all
-    knows_behind last known left (inr x) = inr (stretch_behind (last ++ take known left) (drop known left) x)
-
-  -- into an empty slice none is handed out
-  pub hands_none : (known : ℕ) (s : Buffered S Q) (p : Progress P) (out : List ℕ) → g.is_place p.place → length out ≡ 0
-      → HandsOn remaining rules g known s p out (Ok 0) s p known
-  hands_none known s p out place none = (
-    record {
-      wire = [];
-      takes = TakesBytes-none remaining rules g s p place;
-      asked = inl refl;
-      through = inl (omega arith);
-      ends = (
-        EachGave-none s,
-        (
-          omega arith,
-          (λ _ room. absurd (omega (arith, room, none))),
-          (λ some. absurd (omega (arith, some))),
-          (λ _ some. absurd (omega (arith, some))),
-        ),
-      );
-      idle = λ _. (refl, refl);
-    },
-    λ _. (refl, refl),
-  )
+    pub knows_behind : (last : List ℕ) (known : ℕ) (rest : List ℕ) → KnowsAll g q.place m.block.bytes first last known rest
+        → KnowsAll g p.place s.block.bytes (h ++ first) last known rest
+    knows_behind last known rest (inl all) = inl all
+    knows_behind last known rest (inr x) = inr (stretch_behind (last ++ take known rest) (drop known rest) x)
 
   -- what is known is handed out
   module _ (n : ℕ) (s : Buffered S Q) (p : Progress P) (k : ℕ) (t : Buffered S Q) (q : Progress P) (k' : ℕ) (out : List ℕ)
@@ -305,10 +282,10 @@ module _ {S Q P W : Type 0} (remaining : S → Option (List ℕ)) (rules : ReadR
           (Handed s p t r) r
           (Proceeds-of remaining rules g (length out) m q (handed_out out answer) answer (Handed m q t r) (Handed s p t r) t r
           (λ n means. (
-          means.0,
-          means.1,
-          (λ some. all_behind wire takes n t.block.bytes (means.2 some)),
-          (λ none some. knows_behind s p m q wire [] takes [] (take n out) after t.block.bytes (means.3 none some)),
+            means.0,
+            means.1,
+            (λ some. all_behind wire takes n t.block.bytes (means.2 some)),
+            (λ none some. knows_behind s p m q wire [] takes [] (take n out) after t.block.bytes (means.3 none some)),
           )) hands.0) idle through,
       never,
     )

@@ -1,23 +1,14 @@
 -- What a call says first, in words of lists.
-use Rattle.std.proofs.Common.{◌≡◌, ◌↔◌, ℕ, ◌<◌, ◌≤◌, List, [], ◌++◌, Bool, true, false, length, Option, Result, Ok, Err, IfOk, IsTrue, OnOk, sym, ap, ◌∙◌, arith, refl, append-nil, length-append}
+use Rattle.std.proofs.Common.{◌≡◌, ℕ, List, [], ◌++◌, length, Option, Result, Ok, Err, OnOk, sym, ap, ◌∙◌, arith, append-nil, length-append}
 use Rattle.std.proofs.lemmas.List.{nil_from_length}
-use Rattle.std.specs.declared.io.Error.{Error}
 use Rattle.buffer_redux.specs.BufReader.{ReadsInOrder}
 use Rattle.buffer_redux.specs.Policy.{ReadRules}
 use Rattle.body_reader.specs.declared.error.BodyError.{BodyError}
-use Rattle.body_reader.specs.declared.error.CollectError.{CollectError}
-use Rattle.body_reader.specs.BodyReader.{BodyState, Collects, Drains, FillsPayload, HandsBuffered, LooksBehind, handed_of}
+use Rattle.body_reader.specs.BodyReader.{BodyState, Drains, HandsBuffered, handed_of}
 use Rattle.body_reader.specs.Coding.{Grammar, IsBody}
 
 module _ {S Q C P W : Type 0} {remaining : S → Option (List ℕ)} {rules : ReadRules Q} {g : Grammar P W}
     {s t : BodyState S Q C P} where
-  pub fill_says : (answer : Result ℕ (BodyError W)) → FillsPayload remaining rules g s answer t → record {
-    count : IfOk answer (λ n. (n ≡ t.known) × (n ≡ 0 → IsBody g t.taken (handed_of t)));
-    fills : FillsPayload remaining rules g s answer t;
-  }
-  fill_says (Ok n) fills = record { count = (fills.answers.0, fills.answers.2); fills = fills }
-  fill_says (Err e) fills = record { count = tt; fills = fills }
-
   -- what is buffered was buffered, as nothing was asked for
   pub buffered_says : (out : List ℕ) (handed : ℕ) → HandsBuffered remaining rules g s out handed t → record {
     taken : (wire : List ℕ) × (wire ++ t.reader.block.bytes ≡ s.reader.block.bytes) × (t.taken ≡ s.taken ++ wire);
@@ -52,32 +43,3 @@ module _ {S Q C P W : Type 0} {remaining : S → Option (List ℕ)} {rules : Rea
     in_order = (drains.went.wire, drains.went.along.in_order, drains.went.taken);
     drains = drains;
   }
-
-  pub collect_says : (most : ℕ) (before after : List ℕ) (answer : Result (Unit {0}) (CollectError W))
-      → Collects remaining rules g most s before answer t after → record {
-        appended : (payload : List ℕ) × (after ≡ before ++ payload) × (0 < length payload → length after ≤ most)
-            × (handed_of t ≡ handed_of s ++ payload);
-        ended : OnOk answer (IsBody g t.taken (handed_of t));
-        collects : Collects remaining rules g most s before answer t after;
-      }
-  collect_says most before after (Ok _) collects = record {
-    appended = (collects.payload, collects.collected, collects.few, collects.went.handed);
-    ended = collects.answers.1;
-    collects = collects;
-  }
-  collect_says most before after (Err e) collects = record {
-    appended = (collects.payload, collects.collected, collects.few, collects.went.handed);
-    ended = tt;
-    collects = collects;
-  }
-
-  pub look_says : (answer : Result Bool Error) → LooksBehind remaining rules g s answer t → record {
-    buffered : IfOk answer (λ none. IsTrue none ↔ t.reader.block.bytes ≡ []);
-    looks : LooksBehind remaining rules g s answer t;
-  }
-  look_says (Ok true) looks = record { buffered = (λ _. looks.answers.0, λ _. refl); looks = looks }
-  look_says (Ok false) looks = record {
-    buffered = (λ odd. absurd (cc), λ none. absurd (omega (arith, looks.answers.0, ap length none)));
-    looks = looks;
-  }
-  look_says (Err e) looks = record { buffered = tt; looks = looks }

@@ -109,19 +109,6 @@ module _ {S Q P W : Type 0} (remaining : S → Option (List ℕ)) (rules : ReadR
 
   module _ (s : Buffered S Q) (p : Progress P) (before : ℕ) (out : List ℕ) (handed : ℕ) (m : Buffered S Q) (q : Progress P)
       (k : ℕ) (so : Shown s p before out handed m q k) where
-    pub all_handed : length out ≤ handed → HandsShown remaining rules g s p before out handed m q k
-    all_handed full = record {
-      wire = so.wire;
-      takes = so.takes;
-      told = so.told;
-      within = so.within;
-      known = so.known;
-      left = so.left;
-      knows = λ more _. so.knows more;
-      idle = so.idle;
-      all = inl (omega (arith, full, so.within));
-    }
-
     module _ (room : handed < length out) (f : Buffered S Q) (r : Progress P) (k' : ℕ)
         (finds : FindsKnown remaining rules g m q k f r k') where
       -- where none is found none was known

@@ -1,5 +1,5 @@
 -- What is no payload is taken, and how that ends.
-use Rattle.std.proofs.Common.{◌≡◌, ◌≢◌, ℕ, ◌<◌, ◌≤◌, List, [], ◌++◌, length, min, take, drop, Option, Result, Ok, Err, sym, ap, subst, ◌∙◌, arith, inl, inr, refl, length-append}
+use Rattle.std.proofs.Common.{◌≡◌, ℕ, ◌<◌, ◌≤◌, List, [], ◌++◌, length, min, take, drop, Option, Result, Ok, Err, sym, ap, subst, ◌∙◌, arith, inl, inr, refl, length-append}
 use Rattle.std.proofs.lemmas.List.{length-drop, length-take, length-take-le, take-append-drop}
 use Rattle.std.specs.declared.io.Error.{Error}
 use Rattle.buffer_redux.specs.Block.{OnKind}
@@ -108,19 +108,6 @@ module _ {S Q P W : Type 0} (remaining : S → Option (List ℕ)) (rules : ReadR
   }
 
   module _ (s : Buffered S Q) (p : Progress P) (m : Buffered S Q) (q : Progress P) (so : Passed remaining rules g s p m q) where
-    pub passed_looks : (l : Look P W) → Looks g q.place m.block.bytes l → ((n : ℕ) (r : P) → l ≢ look.Passed n r)
-        → PassesOn remaining rules g s p l m q
-    passed_looks l looks no_more = record {
-      wire = so.wire;
-      takes = so.takes;
-      told = so.told;
-      through = so.through;
-      looks = looks;
-      no_more = no_more;
-      spends = so.spends;
-      idle = so.idle;
-    }
-
     -- bytes that are no payload come next
     module _ (n : ℕ) (next : P) (looks : Looks g q.place m.block.bytes (look.Passed n next)) (q' : Progress P)
         (notes : Notes q next (take n m.block.bytes) q') (t : Buffered S Q) (inner : t.inner ≡ m.inner)
@@ -150,15 +137,6 @@ module _ {S Q P W : Type 0} (remaining : S → Option (List ℕ)) (rules : ReadR
             );
             idle = λ done. absurd (looks.4 (subst (λ x. IsDone g x.place) (sym (so.idle done).1) done));
           }
-
-      pub passed_less : g.between q'.place < g.between q.place
-      passed_less = omega (
-        arith,
-        looks.0,
-        looks.2.few,
-        length-take-le n m.block.bytes looks.1,
-        ap g.between notes.place,
-      )
 
   pub skipped_none : (s : Buffered S Q) (p : Progress P) → g.is_place p.place → g.ahead ≤ s.block.capacity
       → Skipped remaining rules g s p s p

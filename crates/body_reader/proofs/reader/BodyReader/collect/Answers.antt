@@ -4,7 +4,6 @@ use Rattle.std.proofs.lemmas.Result.{err_from_is_err_and}
 use Rattle.body_reader.specs.declared.error.CollectError.TheVariants as why
 use Rattle.body_reader.specs.BodyReader.{Collects}
 use Rattle.body_reader.proofs.Collecting.{Collected, collected_more, collected_none, collects_all, collects_long, collects_no_room, collects_none}
-use Rattle.body_reader.proofs.Said.{collect_says}
 use Rattle.body_reader.proofs.reader.BodyReader.collect.Goals as goal
 
 -- what was refused leaves a vector as it was
@@ -21,30 +20,27 @@ added (Err e) xs ys all is taken = absurd (let odd : true ≡ false = taken in c
 pub loop-came-init : goal.loop-came-init
 loop-came-init g c = collected_none _ _ _ _ _ _ c.get_ref.ensures.whole
 
-pub returns-in_err-came : goal.returns-in_err-came
-returns-in_err-came g c =
+pub returns-in_err-came-clause-collects : goal.returns-in_err-came-clause-collects
+returns-in_err-came-clause-collects g c =
     let p = err_from_is_err_and c.from_residual.result c.from_residual.ensures.1 in
-    rw (p.1, p.2) (collect_says _ _ _ _ (collects_none g.C.Coding.grammar c.loop-came.invariant c.in_err-came.ensures.fills))
+    rw (p.1, p.2) (collects_none g.C.Coding.grammar c.loop-came.invariant c.in_err-came.ensures.fills)
 
-pub returns-then-came-eq0 : goal.returns-then-came-eq0
-returns-then-came-eq0 g c =
-    collect_says _ _ _ _
-    (collects_all g.C.Coding.grammar c.loop-came.invariant c.in_ok-came.ensures.fills c.if-came-eq0.true)
+pub returns-then-came-eq0-clause-collects : goal.returns-then-came-eq0-clause-collects
+returns-then-came-eq0-clause-collects g c =
+    collects_all g.C.Coding.grammar c.loop-came.invariant c.in_ok-came.ensures.fills c.if-came-eq0.true
 
-pub returns-then-came-saturating_sub : goal.returns-then-came-saturating_sub
-returns-then-came-saturating_sub g c =
-    collect_says _ _ _ _
-    (collects_long g.C.Coding.grammar c.loop-came.invariant c.in_ok-came.ensures.fills (omega (arith, c.if-came-eq0.false))
-    (omega (arith, c.if-came-saturating_sub.true, c.saturating_sub.ensures, c.len.ensures)))
+pub returns-then-came-saturating_sub-clause-collects : goal.returns-then-came-saturating_sub-clause-collects
+returns-then-came-saturating_sub-clause-collects g c =
+    collects_long g.C.Coding.grammar c.loop-came.invariant c.in_ok-came.ensures.fills (omega (arith, c.if-came-eq0.false))
+    (omega (arith, c.if-came-saturating_sub.true, c.saturating_sub.ensures, c.len.ensures))
 
-pub returns-then-is_err : goal.returns-then-is_err
-returns-then-is_err g c =
+pub returns-then-is_err-clause-collects : goal.returns-then-is_err-clause-collects
+returns-then-is_err-clause-collects g c =
     let s = c.args.self.now in
     let same = not_added c.extend_from_slice.result (vec_items c.loop-came.out) c.piece.result.now
     (vec_items c.extend_from_slice.new.self) c.extend_from_slice.ensures.items
     (sym c.is_err.ensures.value ∙ c.if-is_err.true) in
-    collect_says _ _ _ _
-    (subst (Collects g.R.TellRead.remaining g.P.ReaderPolicy.rules (g.C.Coding.grammar s.coding) c.args.most s
+    subst (Collects g.R.TellRead.remaining g.P.ReaderPolicy.rules (g.C.Coding.grammar s.coding) c.args.most s
     (vec_items c.args.out.now) (Err why.Memory) c.fill_payload.new.self) (sym same)
     (collects_no_room g.C.Coding.grammar c.loop-came.invariant c.in_ok-came.ensures.fills (omega (arith, c.if-came-eq0.false))
     (omega (
@@ -53,7 +49,7 @@ returns-then-is_err g c =
       c.if-came-saturating_sub.false,
       c.saturating_sub.ensures,
       c.len.ensures,
-    ))))
+    )))
 
 pub loop-came-preserved : goal.loop-came-preserved
 loop-came-preserved g c =

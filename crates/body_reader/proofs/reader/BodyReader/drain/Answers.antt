@@ -29,6 +29,6 @@ loop-piece-preserved g c =
       whole = consumes.whole;
     })
 
-pub returns : goal.returns
-returns g c =
-    drain_says _ (too_many g.C.Coding.grammar c.loop-piece.invariant c.from.ensures (omega (arith, c.loop-piece-test.false)))
+pub returns-clause-drains : goal.returns-clause-drains
+returns-clause-drains g c =
+    too_many g.C.Coding.grammar c.loop-piece.invariant c.from.ensures (omega (arith, c.loop-piece-test.false))

@@ -1,26 +1,25 @@
 -- A look at one byte shows none only where the stream gave none, and what is known stays so where more is shown.
 use Rattle.std.proofs.lemmas.Result.{err_from_is_err_and}
 use Rattle.body_reader.proofs.Behind.{behind_is, behind_seen, looks_failed, looks_told}
-use Rattle.body_reader.proofs.Said.{look_says}
 use Rattle.body_reader.proofs.reader.BodyReader.is_at_end.Goals as goal
 
-pub returns-in_err-peek : goal.returns-in_err-peek
-returns-in_err-peek g c =
+pub returns-in_err-peek-clause-looks : goal.returns-in_err-peek-clause-looks
+returns-in_err-peek-clause-looks g c =
     let i = c.self.inside in
     let found = rw c.in_err-peek.was at c.peek.follows.holds-at-none in
     let p = err_from_is_err_and c.from_residual.result c.from_residual.ensures.1 in
-    rw (p.1, p.2) (look_says _ (behind_seen g.R.TellRead.remaining g.P.ReaderPolicy.rules g.C.Coding.grammar _ c.args.self.now _ _
+    rw (p.1, p.2) (behind_seen g.R.TellRead.remaining g.P.ReaderPolicy.rules g.C.Coding.grammar _ c.args.self.now _ _
     c.self.view_is (looks_failed g.R.TellRead.remaining g.P.ReaderPolicy.rules (g.C.Coding.grammar i.coding)
-    (g.met.C.Coding.lawful i.coding) i.reader i.coding i.progress i.calls.log i.known c.self.invariant _ _ found.0)))
+    (g.met.C.Coding.lawful i.coding) i.reader i.coding i.progress i.calls.log i.known c.self.invariant _ _ found.0))
 
-pub returns : goal.returns
-returns g c =
+pub returns-clause-looks : goal.returns-clause-looks
+returns-clause-looks g c =
     let i = c.self.inside in
     let found = rw c.in_ok-peek.was at c.peek.follows.holds-at-none in
-    look_says _ (behind_seen g.R.TellRead.remaining g.P.ReaderPolicy.rules g.C.Coding.grammar _ c.args.self.now _ _ c.self.view_is
+    behind_seen g.R.TellRead.remaining g.P.ReaderPolicy.rules g.C.Coding.grammar _ c.args.self.now _ _ c.self.view_is
     (looks_told g.R.TellRead.remaining g.P.ReaderPolicy.rules (g.C.Coding.grammar i.coding)
     (g.met.C.Coding.lawful i.coding) i.reader i.coding i.progress i.calls.log i.known c.self.invariant _ _ found.0 _ found.1 _
-    c.is_empty.ensures))
+    c.is_empty.ensures)
 
 pub invariant_of-self-2 : goal.invariant_of-self-2
 invariant_of-self-2 g c =
