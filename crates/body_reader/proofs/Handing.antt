@@ -1,7 +1,7 @@
 -- Payload is handed out, and how that ends.
-use Rattle.std.proofs.Common.{◌≡◌, ◌==◌, ◌+◌, false, ℕ, zero, suc, ◌-◌, ◌<◌, ◌≤◌, List, [], ◌++◌, length, min, take, drop, Option, Result, Ok, Err, sym, ap, subst, ◌∙◌, arith, inl, inr, append_assoc, append-nil, length-append}
+use Rattle.std.proofs.Common.{◌≡◌, ◌==◌, ◌+◌, false, ℕ, zero, suc, ◌-◌, ◌<◌, ◌≤◌, ◌⊎◌, List, [], ◌++◌, length, min, take, drop, Option, Result, Ok, Err, sym, ap, subst, ◌∙◌, arith, inl, inr, append_assoc, append-nil, length-append}
 use Rattle.std.proofs.lemmas.Bool.{cases_lt}
-use Rattle.std.proofs.lemmas.List.{length-drop, length-take-le, nil_from_length, take-append-drop}
+use Rattle.std.proofs.lemmas.List.{append_cancel_left, length-drop, length-take-le, nil_from_length, take-append-drop}
 use Rattle.buffer_redux.specs.Buffered.{Buffered}
 use Rattle.buffer_redux.specs.BufReader.{ReaderConsumes, ReaderKeeps, ReadsInOrder}
 use Rattle.buffer_redux.specs.Policy.{ReadRules}
@@ -9,7 +9,7 @@ use Rattle.body_reader.specs.declared.coding.Look.{Look}
 use Rattle.body_reader.specs.declared.coding.Look.TheVariants.{Payload}
 use Rattle.body_reader.specs.declared.error.BodyError.{BodyError}
 use Rattle.body_reader.specs.declared.progress.Progress.{Progress}
-use Rattle.body_reader.specs.Between.{AllShown, AsksWithRoom, EachGave, ShowsOn, HandsAll, HandsOn, KnowsAll, PassesOn, Proceeds, SkipsOn, Stretch, StretchBehind, TakenThrough, TakesBytes, TakesFront, handed_out}
+use Rattle.body_reader.specs.Between.{AllShown, AsksWithRoom, EachGave, ShowsOn, HandsAll, HandsOn, KnowsAll, PassesOn, Proceeds, SkipsOn, Stretch, TakenThrough, TakesBytes, TakesFront, handed_out}
 use Rattle.body_reader.specs.BetweenLaws.{EachGave-same, Proceeds-after, Proceeds-through}
 use Rattle.body_reader.specs.Coding.{Carries, Grammar, IsDone, IsKnown, Leads, Looks, heeded}
 use Rattle.body_reader.specs.CodingLaws.{Leads-none, Leads-then}
@@ -28,45 +28,18 @@ front_carries g p k n bytes carries few held =
     (take-append-drop n bytes ∙ sym (append-nil bytes))
 
 -- of bytes of which a look showed k the first n are taken, and the rest of the k stays known
-pub knows_rest : {P W : Type 0} (g : Grammar P W) (p : P) (k n : ℕ) (bytes left : List ℕ) (k' : ℕ) → AllShown g p k bytes
-    → take n bytes ++ left ≡ bytes → n ≤ k → k ≤ length bytes → k' ≡ k - n → KnowsAll g p bytes [] (take n bytes) k' left
-knows_rest g p k n bytes left k' all split few held is = elim all [
-  | inl every ↦ inl (omega (arith, every, is, sizes.0, sizes.1, few))
-  | inr looks ↦ inr (record {
-    wire = [];
-    got = [];
-    equal = whole ∙ sym (append-nil bytes);
-    place = p;
-    leads = Leads-none g p (heeded g (shown ++ drop k' left));
-    looks = subst (λ l. Looks g p l (Payload (length shown))) (sym whole)
-        (subst (λ c. Looks g p bytes (Payload c)) size looks);
-  })
-]
-  where
-    shown : List ℕ
-    shown = take n bytes ++ take k' left
-
-    sizes : (length (take n bytes) ≡ n) × (length (take n bytes) + length left ≡ length bytes)
-    sizes = (
-      length-take-le n bytes (omega (arith, few, held)),
-      omega (arith, ap length split, length-append (take n bytes) left),
-    )
-
-    whole : shown ++ drop k' left ≡ bytes
-    whole = append_assoc (take n bytes) (take k' left) (drop k' left)
-        ∙ ap (λ l. take n bytes ++ l) (take-append-drop k' left) ∙ split
-
-    size : k ≡ length shown
-    size = omega (
-      arith,
-      is,
-      few,
-      held,
-      sizes.0,
-      sizes.1,
-      length-append (take n bytes) (take k' left),
-      length-take-le k' left (omega (arith, is, held, sizes.0, sizes.1)),
-    )
+pub knows_rest : {P W : Type 0} (g : Grammar P W) (p : P) (taken taken' : List ℕ) (k n : ℕ) (bytes left : List ℕ) (k' : ℕ)
+    → AllShown g p k bytes → taken' ≡ taken ++ take n bytes → take n bytes ++ left ≡ bytes → n ≤ k → k ≤ length bytes → k' ≡ k - n
+    → KnowsAll g p taken taken' [] (take n bytes) k' left
+knows_rest g p taken taken' k n bytes left k' all is parts few held rest =
+    let size : k ≡ length (take n bytes) + k' = omega (arith, rest, few, length-take-le n bytes (omega (arith, few, held))) in
+    record {
+      wire = [];
+      equal = is;
+      place = p;
+      leads = Leads-none g p (heeded g (take n bytes ++ left));
+      all = subst (AllShown g p (length (take n bytes) + k')) (sym parts) (subst (λ j. AllShown g p j bytes) size all);
+    }
 
 -- the first bytes are taken, of those that are known to be payload
 module _ {S Q P W : Type 0} (remaining : S → Option (List ℕ)) (rules : ReadRules Q) (g : Grammar P W) (n : ℕ)
@@ -129,36 +102,42 @@ module _ {S Q P W : Type 0} (remaining : S → Option (List ℕ)) (rules : ReadR
   }
 
 module _ {S Q P W : Type 0} (remaining : S → Option (List ℕ)) (rules : ReadRules Q) (g : Grammar P W) where
-  -- what is told of bytes is told of those in front of which others were taken
-  module _ (s : Buffered S Q) (p : Progress P) (m : Buffered S Q) (q : Progress P) (wire h : List ℕ)
-      (takes : TakesBytes remaining rules g s p wire h m q) (first : List ℕ) where
-    stretch_behind : (last rest : List ℕ) → StretchBehind g q.place m.block.bytes first last rest
-        → StretchBehind g p.place s.block.bytes (h ++ first) last rest
-    stretch_behind last rest x =
-        let order = takes.along.in_order in
-        record {
-          wire = wire ++ x.wire;
-          got = order.got ++ x.got;
-          equal = append_assoc wire x.wire (last ++ rest) ∙ ap (λ l. wire ++ l) x.equal
-              ∙ sym (append_assoc wire m.block.bytes x.got) ∙ ap (λ l. l ++ x.got) order.equal
-              ∙ append_assoc s.block.bytes order.got x.got;
-          place = x.place;
-          leads = Leads-then g p.place q.place x.place wire x.wire h first m.block.bytes x.got (last ++ rest) x.equal
-              takes.leads x.leads;
-          looks = x.looks;
-        }
-
-    pub knows_behind : (last : List ℕ) (known : ℕ) (rest : List ℕ) → KnowsAll g q.place m.block.bytes first last known rest
-        → KnowsAll g p.place s.block.bytes (h ++ first) last known rest
-    knows_behind last known rest (inl all) = inl all
-    knows_behind last known rest (inr x) = inr (stretch_behind (last ++ take known rest) (drop known rest) x)
+  -- what is told behind bytes that were taken is told from before them
+  pub knows_behind : (s : Buffered S Q) (p : Progress P) (m : Buffered S Q) (q : Progress P) (t : Buffered S Q) (r : Progress P)
+      (wire h wire' h' first last : List ℕ) (known : ℕ) → TakesBytes remaining rules g s p wire h m q
+      → TakesBytes remaining rules g m q wire' h' t r
+      → KnowsAll g q.place q.taken.log.fills.consumed r.taken.log.fills.consumed first last known t.block.bytes
+      → KnowsAll g p.place p.taken.log.fills.consumed r.taken.log.fills.consumed (h ++ first) last known t.block.bytes
+  knows_behind s p m q t r wire h wire' h' first last known before takes x =
+      let rest = t.block.bytes in
+      let order = takes.along.in_order in
+      let same : wire' ≡ x.wire ++ last =
+      append_cancel_left q.taken.log.fills.consumed wire' (x.wire ++ last) (sym takes.taken ∙ x.equal) in
+      let equal : x.wire ++ (last ++ rest) ≡ m.block.bytes ++ order.got =
+      sym (append_assoc x.wire last rest) ∙ ap (λ l. l ++ rest) (sym same) ∙ order.equal in
+      record {
+        wire = wire ++ x.wire;
+        equal = x.equal ∙ ap (λ l. l ++ (x.wire ++ last)) before.taken
+            ∙ append_assoc p.taken.log.fills.consumed wire (x.wire ++ last)
+            ∙ ap (λ l. p.taken.log.fills.consumed ++ l) (sym (append_assoc wire x.wire last));
+        place = x.place;
+        leads = Leads-then g p.place q.place x.place wire x.wire h first m.block.bytes order.got (last ++ rest) equal before.leads
+            x.leads;
+        all = x.all;
+      }
 
   -- what is known is handed out
   module _ (n : ℕ) (s : Buffered S Q) (p : Progress P) (k : ℕ) (t : Buffered S Q) (q : Progress P) (k' : ℕ) (out : List ℕ)
       (taken : TakesFront remaining rules g n s p k t q k') (known : IsKnown g p.place k s.block.bytes) (some : 0 < k)
       (is : n ≡ min k (length out)) (room : 0 < length out) (same : take n out ≡ take n s.block.bytes) where
+    full : (n ≡ length out) ⊎ (k' ≡ 0)
+    full = elim (cases_lt n (length out)) [
+      | inl short ↦ inr (omega (arith, is, short, taken.left))
+      | inr all ↦ inl (omega (arith, is, all))
+    ]
+
     hands_these : (before : ℕ) → HandsAll g p.place s.block.bytes before out n t.block.bytes
-        → (before ≡ 0 → KnowsAll g p.place s.block.bytes [] (take n out) k' t.block.bytes)
+        → (before ≡ 0 → KnowsAll g p.place p.taken.log.fills.consumed q.taken.log.fills.consumed [] (take n out) k' t.block.bytes)
         → HandsOn remaining rules g before s p out (Ok n) t q k'
     hands_these before all knows = (
       record {
@@ -172,6 +151,7 @@ module _ {S Q P W : Type 0} (remaining : S → Option (List ℕ)) (rules : ReadR
             omega (arith, is),
             (λ none _. absurd (omega (arith, none, is, some, room))),
             (λ _. all),
+            full,
             (λ unknown _. knows unknown),
           ),
         );
@@ -229,10 +209,13 @@ module _ {S Q P W : Type 0} (remaining : S → Option (List ℕ)) (rules : ReadR
       length-take-le n s.block.bytes (omega (arith, held, whole)),
     ))
 
-    knows : AllShown g p.place k s.block.bytes → KnowsAll g p.place s.block.bytes [] (take n out) k' t.block.bytes
+    knows : AllShown g p.place k s.block.bytes
+        → KnowsAll g p.place p.taken.log.fills.consumed q.taken.log.fills.consumed [] (take n out) k' t.block.bytes
     knows all =
-        subst (λ l. KnowsAll g p.place s.block.bytes [] l k' t.block.bytes) (sym same)
-        (knows_rest g p.place k n s.block.bytes t.block.bytes k' all
+        let before = p.taken.log.fills.consumed in
+        let after = q.taken.log.fills.consumed in
+        subst (λ l. KnowsAll g p.place before after [] l k' t.block.bytes) (sym same)
+        (knows_rest g p.place before after k n s.block.bytes t.block.bytes k' all taken.takes.taken
         (consumes_parts rules n s t (omega (arith, is, known.0)) taken.consumed) (omega (arith, is)) known.0 taken.left)
 
     pub hands_shown : AllShown g p.place k s.block.bytes → (before : ℕ) → HandsOn remaining rules g before s p out (Ok n) t q k'
@@ -256,7 +239,9 @@ module _ {S Q P W : Type 0} (remaining : S → Option (List ℕ)) (rules : ReadR
     abbrev Handed : Buffered S Q → Progress P → Buffered S Q → Progress P → ℕ → Type 0
     Handed from at t r n = (n ≤ length out) × (n ≡ 0 → 0 < length out → IsDone g r.place)
         × (0 < n → HandsAll g at.place from.block.bytes known out n t.block.bytes)
-        × (known ≡ 0 → 0 < n → KnowsAll g at.place from.block.bytes [] (take n out) after t.block.bytes)
+        × ((n ≡ length out) ⊎ (after ≡ 0))
+        × (known ≡ 0 → 0 < n → KnowsAll g at.place at.taken.log.fills.consumed r.taken.log.fills.consumed [] (take n out) after
+        t.block.bytes)
 
     pub hands_failed : {A : Type 0} (e : BodyError W) (M : A → Type 0)
         → Proceeds remaining rules g (length out) s p [] (Err e) M m q → HandsOn remaining rules g known s p out (Err e) m q after
@@ -269,7 +254,19 @@ module _ {S Q P W : Type 0} (remaining : S → Option (List ℕ)) (rules : ReadR
     all_behind wire takes n rest (inr (inl none)) = inr (inl none)
     all_behind wire takes n rest (inr (inr (inl before))) = inr (inr (inl before))
     all_behind wire takes n rest (inr (inr (inr x))) =
-        inr (inr (inr (stretch_behind s p m q wire [] takes [] (take n out) rest x)))
+        let order = takes.along.in_order in
+        let handed = take n out in
+        inr (inr (inr (record {
+          wire = wire ++ x.wire;
+          got = order.got ++ x.got;
+          equal = append_assoc wire x.wire (handed ++ rest) ∙ ap (λ l. wire ++ l) x.equal
+              ∙ sym (append_assoc wire m.block.bytes x.got) ∙ ap (λ l. l ++ x.got) order.equal
+              ∙ append_assoc s.block.bytes order.got x.got;
+          place = x.place;
+          leads = Leads-then g p.place q.place x.place wire x.wire [] [] m.block.bytes x.got (handed ++ rest) x.equal
+              takes.leads x.leads;
+          looks = x.looks;
+        })))
 
     -- behind calls that took bytes without payload, and of which each read gave some
     hands_after : (wire : List ℕ) → TakesBytes remaining rules g s p wire [] m q → EachGave s m
@@ -285,7 +282,9 @@ module _ {S Q P W : Type 0} (remaining : S → Option (List ℕ)) (rules : ReadR
             means.0,
             means.1,
             (λ some. all_behind wire takes n t.block.bytes (means.2 some)),
-            (λ none some. knows_behind s p m q wire [] takes [] (take n out) after t.block.bytes (means.3 none some)),
+            means.3,
+            (λ none some. knows_behind s p m q t r wire [] hands.0.wire (handed_out out answer) [] (take n out) after takes
+                hands.0.takes (means.4 none some)),
           )) hands.0) idle through,
       never,
     )
@@ -301,9 +300,9 @@ module _ {S Q P W : Type 0} (remaining : S → Option (List ℕ)) (rules : ReadR
         (then.0 ∙ first.0, then.1 ∙ first.1)
         ))
 
-    pub hands_ended : SkipsOn remaining rules g (length out) s p (Ok 0) m q
+    pub hands_ended : after ≡ 0 → SkipsOn remaining rules g (length out) s p (Ok 0) m q
         → HandsOn remaining rules g known s p out (Ok 0) m q after
-    hands_ended skips = (
+    hands_ended unknown skips = (
       record {
         wire = skips.wire;
         takes = skips.takes;
@@ -315,6 +314,7 @@ module _ {S Q P W : Type 0} (remaining : S → Option (List ℕ)) (rules : ReadR
             omega arith,
             (λ _ _. ended_here remaining rules g q.place m.block.bytes skips.ends.1),
             (λ some. absurd (omega (arith, some))),
+            inr unknown,
             (λ _ some. absurd (omega (arith, some))),
           ),
         );

@@ -13,7 +13,7 @@ use Rattle.body_reader.specs.declared.progress.Progress.{Progress}
 use Rattle.body_reader.specs.Between.{AsksWithRoom, HandsOn, KeepsBuffer, TakesBytes}
 use Rattle.body_reader.specs.BetweenLaws.{AsksWithRoom-then, EachGave-none, TakesBytes-none, unmoved}
 use Rattle.body_reader.specs.Coding.{Carries, Grammar, IsLawful, IsOpen, Leads, heeded}
-use Rattle.body_reader.specs.CodingLaws.{open_at}
+use Rattle.body_reader.specs.CodingLaws.{Leads-none, open_at}
 use Rattle.body_reader.proofs.Skipping.{Notes}
 
 -- one read past the buffer, into the first bytes of a slice, which it left so
@@ -107,7 +107,8 @@ module _ {S Q P W : Type 0} (remaining : S → Option (List ℕ)) (rules : ReadR
             λ none. absurd (omega (arith, none, some)),
           )
 
-      pub past_dry : Went (Ok 0) → ReadsInOrder s [] t → HandsOn remaining rules g known s p out (Err (Truncated p.count)) t p known
+      pub past_dry : Went (Ok 0) → ReadsInOrder s [] t
+          → HandsOn remaining rules g known s p out (Err (Truncated p.count)) t p known
       past_dry goes order =
           let direct = went (Ok 0) goes in (
             record {
@@ -169,7 +170,20 @@ module _ {S Q P W : Type 0} (remaining : S → Option (List ℕ)) (rules : ReadR
                   omega (arith, within, length-append lent (drop most slice)),
                   (λ none _. absurd (omega (arith, none, given))),
                   (λ _. inr (inl (ap (λ b. b.bytes) direct.block ∙ empty))),
-                  (λ _ _. inl (omega (arith, unknown, ap (λ b. length b.bytes) direct.block, ap length empty))),
+                  inr unknown,
+                  (λ _ _. record {
+                    wire = [];
+                    equal = notes.taken;
+                    place = p.place;
+                    leads = Leads-none g p.place (heeded g (take n out ++ t.block.bytes));
+                    all = inl (omega (
+                      arith,
+                      unknown,
+                      ap (λ b. length b.bytes) direct.block,
+                      ap length empty,
+                      length-append (take n out) t.block.bytes,
+                    ));
+                  }),
                 ),
               );
               idle = λ done. absurd (carries.goes_on done);

@@ -130,7 +130,9 @@ module _ {S Q C P W : Type 0} (remaining : S → Option (List ℕ)) (rules : Rea
   abbrev Ends : Result ℕ (BodyError W) → Type 0
   Ends a = MatchResult a (λ n. EachGave r r' × ((n ≤ length out) × (n ≡ 0 → 0 < length out → IsDone g q.place)
       × (0 < n → HandsAll g p.place r.block.bytes k out n r'.block.bytes)
-      × (k ≡ 0 → 0 < n → KnowsAll g p.place r.block.bytes [] (take n out) k' r'.block.bytes)))
+      × ((n ≡ length out) ⊎ (k' ≡ 0))
+      × (k ≡ 0 → 0 < n
+      → KnowsAll g p.place p.taken.log.fills.consumed q.taken.log.fills.consumed [] (take n out) k' r'.block.bytes)))
       (λ e. PayloadFails remaining rules g r e r' q)
 
   answered : (a : Result ℕ (BodyError W)) → Ends a
@@ -151,9 +153,14 @@ module _ {S Q C P W : Type 0} (remaining : S → Option (List ℕ)) (rules : Rea
   all_handed (Err e) ends = tt
 
   knows_told : (a : Result ℕ (BodyError W)) → Ends a → k ≡ 0
-      → IfOk a (λ n. 0 < n → KnowsAll g p.place r.block.bytes [] (take n out) k' r'.block.bytes)
-  knows_told (Ok n) ends none = ends.1.3 none
+      → IfOk a (λ n. 0 < n
+      → KnowsAll g p.place p.taken.log.fills.consumed q.taken.log.fills.consumed [] (take n out) k' r'.block.bytes)
+  knows_told (Ok n) ends none = ends.1.4 none
   knows_told (Err e) ends none = tt
+
+  full_handed : (a : Result ℕ (BodyError W)) → Ends a → IfOk a (λ n. (n ≡ length out) ⊎ (k' ≡ 0))
+  full_handed (Ok n) ends = ends.1.3
+  full_handed (Err e) ends = tt
 
   idle : (TookWholeBody g (seen r c p calls k) ⊎ (length out ≡ 0)) → r' ≡ r
   idle (inl whole) = (hands.0.idle (Leads-done g lawful p.taken.log.fills.consumed calls.reads.given p.place
@@ -170,6 +177,7 @@ module _ {S Q C P W : Type 0} (remaining : S → Option (List ℕ)) (rules : Rea
     asked = hands.0.asked;
     through = elim hands.0.through [ inl all ↦ inl all | inr past ↦ inr past.1 ];
     all = all_handed answer hands.0.ends;
+    full = full_handed answer hands.0.ends;
     left = left;
     knows = knows_told answer hands.0.ends;
     idle = idle;

@@ -89,7 +89,8 @@ module _ {S Q P W : Type 0} (remaining : S → Option (List ℕ)) (rules : ReadR
     pub within : handed ≤ length out
     pub known : IsKnown g q.place k m.block.bytes
     pub left : handed ≤ before → k ≡ before - handed
-    pub knows : before < handed → KnowsBehind g p.place s.block.bytes (take handed out) k m.block.bytes
+    pub knows : before < handed
+        → KnowsBehind g p.place p.taken.log.fills.consumed q.taken.log.fills.consumed (take handed out) k m.block.bytes
     pub first : handed < length out → 0 < k → handed ≡ 0
     pub idle : length out ≡ 0 → (m ≡ s) × (q ≡ p)
 
@@ -173,12 +174,12 @@ module _ {S Q P W : Type 0} (remaining : S → Option (List ℕ)) (rules : ReadR
                   take handed out,
                   take n f.block.bytes,
                   joined,
-                  subst (λ l. KnowsAll g p.place s.block.bytes l (take n f.block.bytes) k'' t.block.bytes)
-                      (append-nil (take handed out))
-                      (knows_behind remaining rules g s p f r (so.wire ++ finds.wire) (take handed out) found_on []
-                      (take n f.block.bytes) k'' t.block.bytes
-                      (knows_rest g r.place k' n f.block.bytes t.block.bytes k'' shows parts (omega (arith, count))
-                      finds.known.0 front.left)),
+                  subst (λ l. KnowsAll g p.place p.taken.log.fills.consumed u.taken.log.fills.consumed l (take n f.block.bytes)
+                      k'' t.block.bytes) (append-nil (take handed out))
+                      (knows_behind remaining rules g s p f r t u (so.wire ++ finds.wire) (take handed out) (take n f.block.bytes)
+                      (take n f.block.bytes) [] (take n f.block.bytes) k'' found_on front.takes
+                      (knows_rest g r.place r.taken.log.fills.consumed u.taken.log.fills.consumed k' n f.block.bytes t.block.bytes
+                      k'' shows front.takes.taken parts (omega (arith, count)) finds.known.0 front.left)),
                 );
             first = λ short left. absurd (omega (
               arith,

@@ -1,5 +1,5 @@
 -- What a reader of a body does with its buffered reader.
-use Rattle.std.specs.Prelude.{◌≡◌, ◌≢◌, ℕ, ◌+◌, ◌-◌, ◌*◌, ◌<◌, ◌≤◌, ◌⊎◌, List, [], ◌∷◌, ◌++◌, length, take, drop, Option, Result, Ok, Err, MatchResult}
+use Rattle.std.specs.Prelude.{◌≡◌, ◌≢◌, ℕ, ◌+◌, ◌-◌, ◌*◌, ◌<◌, ◌≤◌, ◌⊎◌, List, [], ◌∷◌, ◌++◌, length, take, Option, Result, Ok, Err, MatchResult}
 use Rattle.std.specs.IoError.{error_kind}
 use Rattle.std.specs.declared.io.Error.{Error}
 use Rattle.std.specs.declared.io.ErrorKind.TheVariants.{InvalidData, UnexpectedEof}
@@ -76,30 +76,29 @@ module _ {P W : Type 0} (g : Grammar P W) where
   abbrev pub AllShown : P → ℕ → List ℕ → Type 0
   AllShown p n bytes = (n ≡ length bytes) ⊎ Looks g p bytes (Payload n)
 
-  -- of bytes that hold this payload, and then some more, those are all that a look says is payload: the first, then those, then
+  -- what was handed out is all that a look says is payload, behind bytes that are none: those, then what was handed out, then
   -- what is left, are what was there, then what came
-  pub record StretchBehind (p : P) (before first last left : List ℕ) : Type 0 where
+  pub record Stretch (p : P) (before handed left : List ℕ) : Type 0 where
     pub wire : List ℕ
     pub got : List ℕ
-    pub equal : wire ++ (last ++ left) ≡ before ++ got
+    pub equal : wire ++ (handed ++ left) ≡ before ++ got
+    pub place : P
+    pub leads : Leads g p wire [] place (heeded g (handed ++ left))
+    pub looks : Looks g place (handed ++ left) (Payload (length handed))
+
+  -- of the bytes that were taken the last are payload, behind some in which there is this payload, and so many of what is left are
+  -- known to be: together all that there is, or that a look says
+  pub record KnowsAll (p : P) (taken taken' first last : List ℕ) (known : ℕ) (left : List ℕ) : Type 0 where
+    pub wire : List ℕ
+    pub equal : taken' ≡ taken ++ (wire ++ last)
     pub place : P
     pub leads : Leads g p wire first place (heeded g (last ++ left))
-    pub looks : Looks g place (last ++ left) (Payload (length last))
-
-  -- what was handed out is all that a look says is payload, behind bytes that are none
-  abbrev pub Stretch : P → List ℕ → List ℕ → List ℕ → Type 0
-  Stretch p before handed left = StretchBehind p before [] handed left
-
-  -- all that is left is known to be payload, or what was handed out last, behind this payload, and then what is known, are all
-  -- that a look says
-  abbrev pub KnowsAll : P → List ℕ → List ℕ → List ℕ → ℕ → List ℕ → Type 0
-  KnowsAll p before first last known left =
-      (known ≡ length left) ⊎ StretchBehind p before first (last ++ take known left) (drop known left)
+    pub all : AllShown place (length last + known) (last ++ left)
 
   -- so it is with the last of what was handed out
-  abbrev pub KnowsBehind : P → List ℕ → List ℕ → ℕ → List ℕ → Type 0
-  KnowsBehind p before handed known left =
-      (first : List ℕ) × (last : List ℕ) × (handed ≡ first ++ last) × KnowsAll p before first last known left
+  abbrev pub KnowsBehind : P → List ℕ → List ℕ → List ℕ → ℕ → List ℕ → Type 0
+  KnowsBehind p taken taken' handed known left =
+      (first : List ℕ) × (last : List ℕ) × (handed ≡ first ++ last) × KnowsAll p taken taken' first last known left
 
   -- so much was handed out as the slice takes, or as was buffered or came past the buffer, or as was known, or as a look says
   abbrev pub HandsAll : P → List ℕ → ℕ → List ℕ → ℕ → List ℕ → Type 0
@@ -199,7 +198,7 @@ module _ {S Q P W : Type 0} (remaining : S → Option (List ℕ)) (rules : ReadR
     pub known : IsKnown g q.place after t.block.bytes
     pub left : handed ≤ before → after ≡ before - handed
     pub knows : before < handed → handed ≡ length out
-        → KnowsBehind g p.place s.block.bytes (take handed out) after t.block.bytes
+        → KnowsBehind g p.place p.taken.log.fills.consumed q.taken.log.fills.consumed (take handed out) after t.block.bytes
     pub idle : length out ≡ 0 → (t ≡ s) × (q ≡ p)
     pub all : (handed ≡ length out) ⊎ NoneShown q.place t.block.bytes
 
@@ -209,7 +208,9 @@ module _ {S Q P W : Type 0} (remaining : S → Option (List ℕ)) (rules : ReadR
   HandsOn before s p out answer t q after = Proceeds (length out) s p (handed_out out answer) answer
       (λ n. (n ≤ length out) × (n ≡ 0 → 0 < length out → IsDone g q.place)
       × (0 < n → HandsAll g p.place s.block.bytes before out n t.block.bytes)
-      × (before ≡ 0 → 0 < n → KnowsAll g p.place s.block.bytes [] (take n out) after t.block.bytes)) t q
+      × ((n ≡ length out) ⊎ (after ≡ 0))
+      × (before ≡ 0 → 0 < n → KnowsAll g p.place p.taken.log.fills.consumed q.taken.log.fills.consumed [] (take n out) after
+      t.block.bytes)) t q
       × (length out ≡ 0 → (answer ≡ Ok 0) × (t ≡ s))
 
 -- an error as one of std's streams

@@ -81,9 +81,9 @@ module _ {S Q C P W : Type 0} (remaining : S → Option (List ℕ)) (rules : Rea
     pub keeps : KeepsBuffer rules g.ahead s.reader t.reader
 
   -- what one call of `read_payload` does, which left the slice as out. The stream is asked only where nothing was settled, and no
-  -- payload left, and for as much as surely is payload and fits the slice; past the buffer for no less than that holds; and no
-  -- less is handed out than can be. Once the body ended, or where the slice is empty, the buffered reader isn't called. What was
-  -- known, or a look told, and isn't handed out stays known. An Ok read is noted, and no other
+  -- payload left, and for as much as surely is payload and fits the slice; past the buffer for no less than that holds. No less is
+  -- handed out than can be, nor than is known: what was known, or a look told, and isn't handed out stays known. Once the body
+  -- ended, or where the slice is empty, the buffered reader isn't called. An Ok read is noted, and no other
   pub record ReadsPayload (s : BodyState S Q C P) (out : List ℕ) (answer : Result ℕ (BodyError W)) (t : BodyState S Q C P)
       : Type 0 where
     pub went : BodyWent s (handed_out out answer) t
@@ -93,9 +93,10 @@ module _ {S Q C P W : Type 0} (remaining : S → Option (List ℕ)) (rules : Rea
     pub asked : AsksWithRoom remaining rules g (length out) s.reader s.place t.reader
     pub through : TakenThrough s.reader went.wire t.reader ⊎ (s.reader.block.capacity ≤ t.reader.log.reads.offer)
     pub all : IfOk answer (λ n. 0 < n → HandsAll g s.place s.reader.block.bytes s.known out n t.reader.block.bytes)
+    pub full : IfOk answer (λ n. (n ≡ length out) ⊎ (t.known ≡ 0))
     pub left : 0 < s.known → IfOk answer (λ n. t.known ≡ s.known - n)
     pub knows : s.known ≡ 0 → IfOk answer
-        (λ n. 0 < n → KnowsAll g s.place s.reader.block.bytes [] (take n out) t.known t.reader.block.bytes)
+        (λ n. 0 < n → KnowsAll g s.place s.taken t.taken [] (take n out) t.known t.reader.block.bytes)
     pub idle : (TookWholeBody g s ⊎ (length out ≡ 0)) → t.reader ≡ s.reader
     pub empty : length out ≡ 0 → answer ≡ Ok 0
     pub noted : MatchResult answer (λ n. t.calls ≡ after_read s.calls out (Ok n)) (λ _. t.calls ≡ s.calls)
@@ -186,7 +187,7 @@ module _ {S Q C P W : Type 0} (remaining : S → Option (List ℕ)) (rules : Rea
     pub all : (handed ≡ length out) ⊎ (TookWholeBody g t ⊎ (EndsEarly g t ⊎ ((why : W) × Breaks g why t)))
     pub left : handed ≤ s.known → t.known ≡ s.known - handed
     pub knows : s.known < handed → handed ≡ length out
-        → KnowsBehind g s.place s.reader.block.bytes (take handed out) t.known t.reader.block.bytes
+        → KnowsBehind g s.place s.taken t.taken (take handed out) t.known t.reader.block.bytes
     pub empty : length out ≡ 0 → (t.reader ≡ s.reader) × (t.place ≡ s.place)
     pub noted : t.calls ≡ after_read s.calls out (Ok handed)
     pub whole : IsBodyReader g t

@@ -13,7 +13,7 @@ returns-in_err-sure-clause-hands g c =
 pub returns-then-sure-eq0-clause-hands : goal.returns-then-sure-eq0-clause-hands
 returns-then-sure-eq0-clause-hands g c =
     let skips = rw c.if-sure-eq0.true at c.in_ok-sure.ensures in
-    hands_ended _ _ _ _ _ _ _ _ _ _ c.requires.some (skips _)
+    hands_ended _ _ _ _ _ _ _ _ _ _ c.requires.some c.requires.none (skips _)
 
 pub read_sure-requires : goal.read_sure-requires
 read_sure-requires g c =
