@@ -175,6 +175,7 @@ module _ {S : Type 0} (remaining : S → Option (List ℕ)) (s m : ReaderState S
                 ∙ append_assoc s.reader.log.reads.given h.went.hands.got over.last;
             latest = over.latest;
             such = all_plain;
+            some = omega (arith, h.went.grows.asks, over.some);
             asks = omega (
               arith,
               h.gave,

@@ -73,6 +73,7 @@ module _ {S D W : Type 0} (remaining : S → Option (List ℕ)) (g : Grammar W) 
                 ap (λ l. length (l ++ over.came)) came,
                 ap length (append_assoc (rest s) h.went.hands.got over.came),
               )) lacks;
+          some = omega (arith, h.went.grows.asks, over.some);
           asks = omega (
             arith,
             h.asks,

@@ -60,6 +60,7 @@ pub record AsksFew {S : Type 0} (s t : Buffered S MinBuffered) : Type 0 where
   pub given : t.log.reads.given ≡ s.log.reads.given ++ (came ++ last)
   pub latest : t.log.reads.latest ≡ last
   pub few : length (s.block.bytes ++ came) < s.policy.0
+  pub some : s.log.reads.asks < t.log.reads.asks
   pub asks : t.log.reads.asks ≤ s.log.reads.asks + length came + 1
 
 module _ {S : Type 0} (s : Buffered S MinBuffered) where
@@ -74,6 +75,7 @@ module _ {S : Type 0} (s : Buffered S MinBuffered) where
         given = given ∙ ap (λ l. l ++ last) before.given ∙ append_assoc s.log.reads.given before.got last;
         latest = latest;
         few = omega (arith, few, ap length before.bytes, ap (λ p. p.0) before.policy);
+        some = omega (arith, asks, before.asks);
         asks = omega (arith, asks, before.asks, before.many);
       }
 
@@ -194,6 +196,7 @@ module _ {S D W : Type 0} (remaining : S → Option (List ℕ)) (g : Grammar W) 
       given = over.given;
       latest = over.latest;
       such = omega (arith, over.few, number, ap (λ l. length (l ++ over.came)) (rest_whole s handed));
+      some = over.some;
       asks = over.asks;
     })
   ]

@@ -35,6 +35,7 @@ module _ {S D W : Type 0} (remaining : S → Option (List ℕ)) (g : Grammar W) 
     given = over.given ∙ ap (λ l. l.reads.given ++ (over.came ++ over.last)) told;
     latest = over.latest;
     such = nil_from_length (rest s ++ over.came) (omega (arith, over.such, ap (λ l. length (l ++ over.came)) left));
+    some = omega (arith, over.some, ap (λ l. l.reads.asks) told);
     asks = omega (arith, over.asks, ap (λ l. l.reads.asks) told);
   })
 

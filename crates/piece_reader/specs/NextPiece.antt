@@ -41,6 +41,7 @@ pub record AskedOver {S D : Type 0} (Such : List ℕ → Type 0) (s t : ReaderSt
   pub given : t.reader.log.reads.given ≡ s.reader.log.reads.given ++ (came ++ last)
   pub latest : t.reader.log.reads.latest ≡ last
   pub such : Such (rest s ++ came)
+  pub some : s.reader.log.reads.asks < t.reader.log.reads.asks
   pub asks : t.reader.log.reads.asks ≤ s.reader.log.reads.asks + length came + 1
 
 -- the stream wasn't asked, or only where what was there was such

@@ -117,6 +117,7 @@ AskedWhere-told Such s m t told (inr over) = inr (record {
   given = ap (λ l. l.reads.given) told ∙ over.given;
   latest = ap (λ l. l.reads.latest) told ∙ over.latest;
   such = over.such;
+  some = omega (arith, over.some, ap (λ l. l.reads.asks) told);
   asks = omega (arith, over.asks, ap (λ l. l.reads.asks) told);
 })
 

@@ -50,6 +50,7 @@ module _ {S D W : Type 0} (remaining : S → Option (List ℕ)) (g : Grammar W) 
             given = over.given;
             latest = over.latest;
             such = over.such;
+            some = over.some;
             asks = over.asks;
           })
         ];
