@@ -1,13 +1,16 @@
 -- What asks come to in front of each of which all that was due was sent, and what their turns.
-use Rattle.std.proofs.Common.{inl, inr, ℕ, ◌+◌, ◌<◌, ◌≤◌, List, [], ◌∷◌, length, refl, sym, ap, subst, arith, length-append, All, flat_map}
+use Rattle.std.proofs.Common.{inl, inr, ◌≡◌, ◌⊎◌, ℕ, ◌+◌, ◌<◌, ◌≤◌, List, [], ◌∷◌, length, refl, sym, ap, subst, arith, length-append, All, flat_map, Result, Ok, Err}
+use Rattle.std.specs.Option.{option_map_or}
+use Rattle.std.specs.Result.{result_err}
 use Rattle.std.proofs.lemmas.List.Elements.{All-head, All-tail}
 use Rattle.forward.specs.Filter.{FilterRules}
-use Rattle.forward.specs.Forward.{flushed_last}
-use Rattle.forward.specs.Link.{Ask, AsksAlong, Goes, IsPrompt, IsTurn, Linked}
+use Rattle.forward.specs.Forward.{Forwards, flushed_last}
+use Rattle.forward.specs.Link.{Ask, AskedBefore, AsksAlong, Goes, IsPrompt, IsTurn, Linked}
 use Rattle.forward.specs.Prompt.{HoldsNothingBack}
 use Rattle.forward.specs.PromptLaws.{HoldsNothingBack-on, WritesOn-none}
 use Rattle.forward.specs.declared.error.Cause.{Cause}
 use Rattle.forward.specs.declared.error.Cause.TheVariants.{Wrong, Read, Write, Count}
+use Rattle.forward.specs.declared.error.Stopped.{Stopped}
 
 module _ {T W : Type 0} (rules : FilterRules T W) (first : T) where
   -- of the logs of both streams alone, at that state
@@ -78,9 +81,62 @@ module _ {T W : Type 0} (rules : FilterRules T W) where
     ap length goes.turns.equal,
   )
 
+  -- an ask of the filter's asks the stream, or leaves its log as it is; and no payload comes without the stream
+  abbrev pub CountsAsks : Type 0
+  CountsAsks = (s t : T) → rules.asks s t
+      → (rules.read t ≡ rules.read s) ⊎ ((rules.read s).reads.asks < (rules.read t).reads.asks)
+
+  abbrev pub FindsNone : Type 0
+  FindsNone = (s : T) → ¬ (rules.finds s)
+
+  -- so the stream is asked in each ask but the last
+  asks_but_last : CountsAsks → FindsNone → (s t : T) (asks : List (Ask T)) → AsksAlong rules s asks t → AskedBefore rules asks
+      → (rules.read s).reads.asks + length asks ≤ (rules.read t).reads.asks + 1
+  asks_but_last counts none s t [] along asked = omega (arith, ap (λ l. l.reads.asks) along.told)
+  asks_but_last counts none s t (ask ∷ []) along asked =
+      let on : (rules.read ask.before).reads.asks ≤ (rules.read ask.after).reads.asks =
+      elim (counts ask.before ask.after along.1.asks) [
+        | inl same ↦ omega (arith, ap (λ l. l.reads.asks) same)
+        | inr some ↦ omega (arith, some)
+      ] in
+      omega (arith, ap (λ l. l.reads.asks) along.0.told, on, ap (λ l. l.reads.asks) along.2.told)
+  asks_but_last counts none s t (ask ∷ next ∷ more) along asked =
+      let some : (rules.read ask.before).reads.asks < (rules.read ask.after).reads.asks =
+      elim (counts ask.before ask.after along.1.asks) [
+        | inl same ↦ absurd (asked.0 (none ask.before) same)
+        | inr some ↦ some
+      ] in
+      omega (
+        arith,
+        ap (λ l. l.reads.asks) along.0.told,
+        some,
+        asks_but_last counts none ask.after t (next ∷ more) along.2 asked.1,
+      )
+
 -- behind the last ask there is one flush at most
 pub one_flush : {W : Type 0} (cause : Cause W) → flushed_last cause ≤ 1
 one_flush (Wrong why) = omega arith
 one_flush (Read e) = omega arith
 one_flush (Write e) = omega arith
 one_flush Count = omega arith
+
+last_flush : {W : Type 0} (answer : Result ℕ (Stopped W))
+    → option_map_or (λ stopped. flushed_last stopped.cause) (result_err answer) 0 ≤ 1
+last_flush (Ok count) = omega arith
+last_flush (Err stopped) = one_flush stopped.cause
+
+-- the writer was flushed once for each ask of the stream at most, and twice more
+pub Forwards-per_ask : {T W : Type 0} (rules : FilterRules T W) (s t : Linked T) (answer : Result ℕ (Stopped W))
+    → Forwards rules s answer t → CountsAsks rules → FindsNone rules
+    → (rules.written t.filter).writes.flushes + (rules.read s.filter).reads.asks
+    ≤ (rules.written s.filter).writes.flushes + (rules.read t.filter).reads.asks + 2
+Forwards-per_ask rules s t answer over counts none =
+    let goes = over.goes in
+    omega (
+      arith,
+      goes.flushes,
+      asks_but_last rules counts none s.filter t.filter goes.asks goes.along goes.asked,
+      turns_counted rules goes.turns.turns goes.turns.each,
+      ap length goes.turns.equal,
+      last_flush answer,
+    )

@@ -300,4 +300,5 @@ pack_refused most read written e memory = record {
   prompt = inl refl;
   once = omega arith;
   flushes = omega arith;
+  per_ask = omega arith;
 }

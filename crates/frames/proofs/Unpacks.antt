@@ -223,4 +223,5 @@ unpack_refused most read written e memory = record {
   prompt = inl refl;
   once = omega arith;
   flushes = omega arith;
+  per_ask = omega arith;
 }

@@ -1,5 +1,5 @@
 -- What a run of `pack` moves from a reader to a writer.
-use Rattle.std.specs.Prelude.{◌≡◌, ℕ, ◌⊎◌, List, [], ◌++◌, length, Result, Ok, Err}
+use Rattle.std.specs.Prelude.{◌≡◌, ℕ, ◌+◌, ◌≤◌, ◌⊎◌, List, [], ◌++◌, length, Result, Ok, Err}
 use Rattle.line_reader.specs.Lines.{BeginsTooLong}
 use Rattle.frames.specs.Words.{All, StreamLog, Fits, frames, FitsLine, IsLine, HasLines, with_newlines, RunError, HoldsNothingBack, EndsOnce, MetNoFault, ReadFailed as AReadFailed, WriterFailed, OverCount, RefusedBeforeCalls, GaveNothing, ReceivedFlushed}
 use Rattle.frames.specs.declared.error.RunError.TheVariants.{TooLong, Truncated, Read, Write, Io}
@@ -58,9 +58,10 @@ PackRan most read read' written written' (Err (Io e)) =
     (first : PackedFirst most read read' written written')
     × (OverCount e (length first.lines) read read' written written' ⊎ RefusedBeforeCalls e read read' written written')
 
--- all that a run of `pack` promises
+-- all that a run of `pack` promises: the writer was flushed once for each ask of the reader at most, and twice more
 pub record Packs (most : ℕ) (read read' written written' : StreamLog) (answer : Result (Unit {0}) RunError) : Type 0 where
   pub ran : PackRan most read read' written written' answer
   pub prompt : HoldsNothingBack (IsDue most) read read' written written'
   pub once : EndsOnce read.reads read'.reads
   pub flushes : FlushesSend 1 written.writes written'.writes
+  pub per_ask : written'.writes.flushes + read.reads.asks ≤ written.writes.flushes + read'.reads.asks + 2

@@ -1,5 +1,5 @@
 -- What a whole run over pieces comes to.
-use Rattle.std.proofs.Common.{◌≡◌, ℕ, ◌⊎◌, List, [], ◌++◌, Option, None, refl, sym, ap, subst, ◌∙◌, append-nil, append_assoc}
+use Rattle.std.proofs.Common.{◌≡◌, ℕ, ◌⊎◌, inl, inr, List, [], ◌++◌, Option, None, refl, sym, ap, subst, ◌∙◌, append-nil, append_assoc}
 use Rattle.buffer_redux.specs.BufReader.{RanDry}
 use Rattle.buffer_redux.specs.StreamLog.{StreamLog}
 use Rattle.buffer_redux.specs.WriterLaws.{WritesInOrder-fresh}
@@ -7,11 +7,18 @@ use Rattle.piece_reader.specs.PieceReader.{rest}
 use Rattle.piece_reader.specs.PiecesWentLaws.{drop_none}
 use Rattle.forward.specs.Filter.{FilterRules, Moves}
 use Rattle.forward.specs.Forward.{Forwarded, ForwardedFirst}
+use Rattle.forward.specs.ForwardLaws.{CountsAsks}
 use Rattle.forward.specs.Prompt.{HoldsNothingBack}
 use Rattle.forward.specs.PromptLaws.{HoldsNothingBack-such}
 use Rattle.programs.specs.Streams.{AllSent}
 use Rattle.piece_filter.specs.Pieces.{AnswersAll, HasEnded, IsText, Piecewise, grammar_of, held_of, piece_rules}
 use Rattle.piece_filter.specs.PiecesLaws.{given_since, none_held}
+
+-- the stream is asked, or its log stays
+pub counts_asks : {T R D X A W E : Type 0} (remaining : R → Option (List ℕ)) (f : Piecewise T R D X A W E)
+    → CountsAsks (piece_rules remaining f)
+counts_asks remaining f s t (inl same, grows) = inl same
+counts_asks remaining f s t (inr over, grows) = inr over.some
 
 -- from empty buffers on
 module _ {T R D X A W E : Type 0} (remaining : R → Option (List ℕ)) (f : Piecewise T R D X A W E) (s t : T)

@@ -1,8 +1,8 @@
 -- From empty buffers on, what `forward` says of payloads is what the two logs say of lines and frames.
 use Rattle.std.proofs.Common.{None, refl, subst}
 use Rattle.forward.specs.Forward.{Forwards}
-use Rattle.forward.specs.ForwardLaws.{Goes-holds}
-use Rattle.piece_filter.specs.PieceRuns.{holds_unread}
+use Rattle.forward.specs.ForwardLaws.{Forwards-per_ask, Goes-holds}
+use Rattle.piece_filter.specs.PieceRuns.{counts_asks, holds_unread}
 use Rattle.piece_filter.specs.Pieces.{piece_rules}
 use Rattle.frames.specs.Packing.{packing}
 use Rattle.frames.specs.declared.packing.Packing.{Packing}
@@ -23,4 +23,6 @@ returns g c =
           (Goes-holds rules _ t over.goes);
       once = over.once;
       flushes = over.flushes;
+      per_ask = Forwards-per_ask rules _ t c.forward-answer.result over (counts_asks g.R.TellRead.remaining packing)
+          (λ s found. found);
     })
