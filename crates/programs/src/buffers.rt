@@ -96,6 +96,9 @@ pub fn make_room<W: TellWrite>(target: &mut BufWriter<W>, whole: usize) -> io::R
     ensures not_flushed { target.new.log.writes.flushed ≡ target.old.log.writes.flushed }
     ensures flushes { target.new.log.writes.flushes ≡ target.old.log.writes.flushes }
     ensures room { OnOk result (whole ≤ usable target.new.block) }
+    ensures all { OnOk result (target.old.block.capacity < length target.old.block.bytes + whole
+        → target.new.block.bytes ≡ []) }
+    ensures free { OnOk result (length target.new.block.bytes + usable target.new.block ≡ target.new.block.capacity) }
     ensures met { OnOk result (MetInterrupts target.old.log.writes target.new.log.writes) }
     ensures caused { IfErr result (λ e. SendErrorCaused target.old.log.writes target.new.log.writes e) }
     ensures often { IfErr result (λ e. IsInterrupt e
