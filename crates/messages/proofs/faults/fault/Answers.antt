@@ -1,20 +1,15 @@
 -- A text reads as one head, so what is found in its spans is what its fault is told by.
-use Rattle.std.proofs.Common.{◌≡◌, ◌∙◌, [], inl, inr, length, take, drop, ap, subst, arith}
-use Rattle.std.proofs.lemmas.List.{length-drop, length-map, length-take-le, nil_from_length}
+use Rattle.std.proofs.Common.{◌≡◌, ◌∙◌, [], inl, inr, length, ap, arith}
 use Rattle.http1.specs.Fields.{known_fields}
 use Rattle.http1.specs.Framing.{method_kind}
 use Rattle.http1.specs.Message.{known_of}
 use Rattle.httparse.proofs.GrammarLemmas.{request_unique}
-use Rattle.httparse.specs.Grammar.{ReadsRequest}
-use Rattle.httparse.specs.Spans.{header_bytes, name_and_value}
 use Rattle.messages.specs.Faults.{said_fault}
+use Rattle.messages.proofs.Spans.{fields_counted, reads_whole}
 use Rattle.messages.proofs.faults.fault.Goals as goal
 
 pub returns-then-spans-fields_of : goal.returns-then-spans-fields_of
 returns-then-spans-fields_of c =
-    let bytes = c.args.head.now in
-    let spans = c.in-Ok-Complete.spans in
-    let headers = c.parse_request.new.headers in
     let found = rw c.in-Ok-Complete.field-0-is at c.in-Ok-Complete.ensures.complete in
     let within = rw c.in-Ok-Complete.field-0-is at c.in-Ok-Complete.ensures.within in
     inr (
@@ -23,20 +18,15 @@ returns-then-spans-fields_of c =
         c.fields_of.ensures,
         c.if-spans-fields_of.true,
         few.1,
-        ap (λ h. length h.fields) (request_unique bytes found.0 h _ [] found.1.reads few.0).0,
-        ap length found.1.fields,
-        length-map (take spans.headers headers) (header_bytes bytes),
-        length-map found.0.fields name_and_value,
-        length-take-le spans.headers headers within.section.count_fits,
+        ap (λ h. length h.fields) (request_unique c.args.head.now found.0 h _ [] found.1.reads few.0).0,
+        fields_counted found.1 within.section.count_fits,
       ))),
       c.text_fault-then-spans-fields_of.ensures,
     )
 
 pub returns : goal.returns
 returns c =
-    let bytes = c.args.head.now in
     let spans = c.in-Ok-Complete.spans in
-    let headers = c.parse_request.new.headers in
     let found = rw c.in-Ok-Complete.field-0-is at c.in-Ok-Complete.ensures.complete in
     let within = rw c.in-Ok-Complete.field-0-is at c.in-Ok-Complete.ensures.within in
     let h = found.0 in
@@ -48,19 +38,8 @@ returns c =
     inl (
       h,
       (
-        subst (ReadsRequest bytes h)
-            (nil_from_length (drop spans.len bytes) (omega (arith, c.if-spans-head.false, length-drop spans.len bytes)))
-            found.1.reads,
-        omega (
-          arith,
-          c.fields_of.ensures,
-          c.if-spans-fields_of.false,
-          within.section.count_fits,
-          ap length found.1.fields,
-          length-map (take spans.headers headers) (header_bytes bytes),
-          length-map h.fields name_and_value,
-          length-take-le spans.headers headers within.section.count_fits,
-        ),
+        reads_whole found.1 c.if-spans-head.false,
+        omega (arith, c.fields_of.ensures, c.if-spans-fields_of.false, fields_counted found.1 within.section.count_fits),
       ),
       c.said_fault.ensures ∙ ap (λ k. said_fault k spans.version known) kind
           ∙ ap (λ n. said_fault (method_kind h.method) n known) minor

@@ -1,18 +1,18 @@
 -- A text reads as one head, so each test of its spans is one of that head.
-use Rattle.std.proofs.Common.{◌≡◌, ◌↔◌, ◌∙◌, ℕ, List, [], length, map, take, drop, All, IsTrue, Option, None, Some, sym, ap, subst, arith, rules}
+use Rattle.std.proofs.Common.{◌≡◌, ◌↔◌, ◌∙◌, ℕ, List, [], length, map, All, IsTrue, Option, None, Some, sym, ap, subst, arith, rules}
 use Rattle.std.proofs.lemmas.Bool.{false≢true}
-use Rattle.std.proofs.lemmas.List.{length-drop, length-map, length-take-le, nil_from_length}
 use Rattle.http1.specs.Fields.{known_fields}
 use Rattle.http1.specs.Framing.{method_kind, request_framing}
 use Rattle.http1.specs.Message.{has_one_host, known_of}
 use Rattle.httparse.proofs.GrammarLemmas.{request_unique}
 use Rattle.httparse.specs.Grammar.{ReadsRequest, RequestHead}
-use Rattle.httparse.specs.Spans.{header_bytes, name_and_value}
+use Rattle.httparse.specs.Spans.{name_and_value}
 use Rattle.messages.specs.Target.{IsPlainField, IsTarget}
 use Rattle.messages.specs.declared.head.Extent.{Extent}
 use Rattle.messages.specs.declared.head.ParsedHead.{ParsedHead}
 use Rattle.messages.specs.declared.limits.Limits.{Limits}
 use Rattle.messages.specs.Heads.{IsKnownHead, expects, extent_of, is_met, keeps}
+use Rattle.messages.proofs.Spans.{fields_counted, reads_whole}
 use Rattle.messages.proofs.head.said_of.Goals as goal
 
 -- a text is one head
@@ -22,9 +22,6 @@ only limits bytes rest h said reads is = (request_unique bytes h is.head rest []
 
 pub returns-then-spans-fields_of-clause-none : goal.returns-then-spans-fields_of-clause-none
 returns-then-spans-fields_of-clause-none c = λ said is.
-    let bytes = c.args.head.now in
-    let spans = c.in-Ok-Complete.spans in
-    let headers = c.parse_request.new.headers in
     let found = rw c.in-Ok-Complete.field-0-is at c.in-Ok-Complete.ensures.complete in
     let within = rw c.in-Ok-Complete.field-0-is at c.in-Ok-Complete.ensures.within in
     absurd (omega (
@@ -32,11 +29,8 @@ returns-then-spans-fields_of-clause-none c = λ said is.
       c.fields_of.ensures,
       c.if-spans-fields_of.true,
       is.few,
-      ap (λ h. length h.fields) (only c.args.limits bytes _ found.0 said found.1.reads is),
-      ap length found.1.fields,
-      length-map (take spans.headers headers) (header_bytes bytes),
-      length-map found.0.fields name_and_value,
-      length-take-le spans.headers headers within.section.count_fits,
+      ap (λ h. length h.fields) (only c.args.limits c.args.head.now _ found.0 said found.1.reads is),
+      fields_counted found.1 within.section.count_fits,
     ))
 
 pub returns-then-not-are_hosts_plain-clause-none : goal.returns-then-not-are_hosts_plain-clause-none
@@ -75,9 +69,7 @@ returns-in-None-clause-none c = λ said is.
 
 pub returns-in-Some-clause-some : goal.returns-in-Some-clause-some
 returns-in-Some-clause-some c =
-    let bytes = c.args.head.now in
     let spans = c.in-Ok-Complete.spans in
-    let headers = c.parse_request.new.headers in
     let found = rw c.in-Ok-Complete.field-0-is at c.in-Ok-Complete.ensures.complete in
     let within = rw c.in-Ok-Complete.field-0-is at c.in-Ok-Complete.ensures.within in
     let h = found.0 in
@@ -89,19 +81,8 @@ returns-in-Some-clause-some c =
     let host : IsTrue (has_one_host spans.version known) = search rules in
     record {
       head = h;
-      reads = subst (ReadsRequest bytes h)
-          (nil_from_length (drop spans.len bytes) (omega (arith, c.if-spans-head.false, length-drop spans.len bytes)))
-          found.1.reads;
-      few = omega (
-        arith,
-        c.fields_of.ensures,
-        c.if-spans-fields_of.false,
-        within.section.count_fits,
-        ap length found.1.fields,
-        length-map (take spans.headers headers) (header_bytes bytes),
-        length-map h.fields name_and_value,
-        length-take-le spans.headers headers within.section.count_fits,
-      );
+      reads = reads_whole found.1 c.if-spans-head.false;
+      few = omega (arith, c.fields_of.ensures, c.if-spans-fields_of.false, fields_counted found.1 within.section.count_fits);
       host = subst (λ k. IsTrue (has_one_host h.minor k)) fields (subst (λ n. IsTrue (has_one_host n known)) minor host);
       single = omega (arith, c.if-known-gt1.false, ap (λ k. k.framing_fields) fields);
       open' = λ is. (let odd = c.is_connect.ensures.1 (kind ∙ is) in cc);
