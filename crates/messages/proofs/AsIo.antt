@@ -1,5 +1,5 @@
 -- What a read of a body as one of std's takes of it and of its stream, and why it fails.
-use Rattle.std.proofs.Common.{◌≡◌, ℕ, ◌<◌, List, [], length, IfErr, OnOk, Option, Result, Ok, Err, ap, inr, subst}
+use Rattle.std.proofs.Common.{◌≡◌, ℕ, ◌<◌, List, [], length, IfErr, IfOk, OnOk, Option, Result, Ok, Err, ap, inr, subst}
 use Rattle.std.specs.declared.io.Error.{Error}
 use Rattle.body_reader.specs.Asking.{AskedWhere}
 use Rattle.body_reader.specs.Between as between
@@ -13,8 +13,9 @@ use Rattle.buffer_redux.specs.Unbuffer.{unbuffered}
 use Rattle.chunked.specs.declared.error.Malformed.{Malformed}
 use Rattle.chunked.specs.declared.place.Place.{Place}
 use Rattle.messages.specs.declared.error.BodyError.{BodyError}
-use Rattle.messages.specs.Messages.{AskedIn, BecomesIo, EachReadGave, Fails, HasRoom, IsNamed, IsRest, Reader, ReaderTakes, body_error, body_rules, has_line, left_in, room_of, stream_of}
+use Rattle.messages.specs.Messages.{AskedIn, BecomesIo, EachReadGave, Fails, HandsMost, HasRoom, IsNamed, IsRest, Reader, ReaderTakes, body_error, body_rules, has_line, left_in, room_of, stream_of}
 use Rattle.messages.proofs.Going.{body_asked, body_done, body_fails, body_kept, body_named, body_room, body_take}
+use Rattle.messages.proofs.Handing.{hands_most}
 
 abbrev Reads : {R : Type 0} → (R → Option (List ℕ)) → Reader R → List ℕ → Result ℕ Error → Reader R → Type 0
 Reads remaining s out answer t = ReadsAsIo remaining std_read_rules (body_rules s.coding) s out answer t
@@ -64,6 +65,12 @@ module _ {R : Type 0} (remaining : R → Option (List ℕ)) (s t : Reader R) (is
       → AskedWhere (AskedIn (left_in s) (length out) (stream_of t).log.reads.offer) (stream_of s) (stream_of t)
   io_asked (Ok n) reads line = body_asked is line (length out) t reads.asked
   io_asked (Err e) (why, reads, becomes) line = body_asked is line (length out) t reads.asked
+
+  pub io_most : (answer : Result ℕ Error) → Reads remaining s out answer t
+      → IfOk answer (λ n. 0 < n → HandsMost (left_in s) (stream_of s).left s.known out n (stream_of t).left)
+  io_most (Ok n) reads = λ some. hands_most s.coding s.place is.place s.reader.block.bytes s.known out n t.reader.block.bytes
+      (reads.all some)
+  io_most (Err e) reads = tt
 
   pub io_none : (answer : Result ℕ Error) → Reads remaining s out answer t → length out ≡ 0
       → (answer ≡ Ok 0) × (stream_of t ≡ stream_of s)

@@ -1,5 +1,5 @@
 -- Messages, and what contracts see of a reader that stands in one.
-use Rattle.std.specs.Prelude.{◌≡◌, ◌⊎◌, ◌≤◌, ◌<◌, ◌+◌, ◌-◌, ◌*◌, ◌^◌, ℕ, List, [], ◌∷◌, ◌++◌, length, min, take, IfErr, MatchOption, OnOk, Option, None, Some, Result, Ok, Err, ⊤}
+use Rattle.std.specs.Prelude.{◌≡◌, ◌⊎◌, ◌≤◌, ◌<◌, ◌+◌, ◌-◌, ◌*◌, ◌^◌, ℕ, List, [], ◌∷◌, ◌++◌, length, min, take, IfErr, IfOk, MatchOption, OnOk, Option, None, Some, Result, Ok, Err, ⊤}
 use Rattle.std.specs.IoError.{error_kind}
 use Rattle.std.specs.declared.io.Error.{Error}
 use Rattle.std.specs.declared.io.ErrorKind.TheVariants.{InvalidData, Other, UnexpectedEof}
@@ -281,6 +281,7 @@ pub record ReadsAsIo {S : Type 0} (remaining : S → Option (List ℕ)) (s : InB
   pub ended : answer ≡ Ok 0 → 0 < length out → IsRest t.rest [] []
   pub fails : IfErr answer (λ e. (why : BodyError) × Fails s.stream why t.stream t.rest × BecomesIo why e)
   pub asked : AskedWhere (AskedIn s.rest (length out) t.stream.log.reads.offer) s.stream t.stream
+  pub all : IfOk answer (λ n. 0 < n → HandsMost s.rest s.stream.left s.known out n t.stream.left)
   -- a slice that is empty asks for nothing
   pub none : length out ≡ 0 → (answer ≡ Ok 0) × (t.stream ≡ s.stream)
 

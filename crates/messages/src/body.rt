@@ -2,8 +2,9 @@
 ghost use Rattle.std.specs.Prelude.{◌≡◌, ◌-◌, ◌^◌, ◌<◌, ◌≤◌, ◌↔◌, ℕ, List, [], ◌++◌, length, min, take, IfErr, IfOk, IsTrue, MatchResult, Ok, OnOk};
 ghost use Rattle.std.specs.Borrow.{Lends, sem};
 ghost use Rattle.body_reader.specs.Asking.{AskedWhere};
-ghost use Rattle.body_reader.specs.Between.{HandsAll, handed_out};
+ghost use Rattle.body_reader.specs.Between.{handed_out};
 ghost use Rattle.body_reader.specs.BodyReader.{handed_of};
+ghost use Rattle.buffer_redux.specs.StreamLog.{after_read};
 ghost use Rattle.buffer_redux.specs.Unbuffer.{unbuffered};
 ghost use Rattle.codec.specs.PieceReader.{left_of, rest};
 ghost use Rattle.messages.specs.contracts.body.Body.{the_row};
@@ -137,6 +138,7 @@ impl<R: Tell> Body<R> {
     pub fn into_inner_torn(self) -> (BufReader<R>, Buffer)
         ensures stream { unbuffered result.0 ≡ self.stream }
         ensures room { room_of result.0.block ≡ self.room }
+        ensures moved { result.0.block.moved ≡ self.moved }
         ensures head { result.1.bytes ≡ self.head }
         ensures capacity { result.1.capacity ≡ 16384 }
         ensures kept { IsRoomy result.0.block }
@@ -163,7 +165,7 @@ impl<R: Tell> Body<R> {
 impl<R: TellRead> Body<R> {
     /// Hands out payload, at least a byte unless the body ended or the slice is empty. For an empty slice nothing is done. What
     /// is wrong is so at each further call. After an `Io` or a `Truncated` the call can be made again: it asks the stream, and
-    /// goes on where more comes.
+    /// goes on where more comes. An Ok is told as a read, and an `Err` isn't.
     ///
     /// The stream is asked only where no payload is buffered and the body goes on behind all that is: for no byte behind it, for
     /// as much as surely is payload and fits the slice, and once only where it fails or gives nothing. Less than the slice takes
@@ -171,6 +173,8 @@ impl<R: TellRead> Body<R> {
     pub fn read(&mut self, out: &mut [u8]) -> Result<usize, BodyError>
         ensures bound { IfOk result (λ n. n ≤ length out.new) }
         ensures goes { InsideGoes R.remaining self.old (handed_out out.new result) self.new }
+        ensures noted { MatchResult result (λ n. self.new.calls ≡ after_read self.old.calls out.new (Ok n))
+            (λ _. self.new.calls ≡ self.old.calls) }
         ensures ended { result ≡ Ok 0 → 0 < length out.new → IsRest self.new.rest [] [] }
         ensures gave { OnOk result (EachReadGave self.old.stream self.new.stream) }
         ensures fails { IfErr result (λ e. Fails self.old.stream e self.new.stream self.new.rest) }
@@ -185,10 +189,12 @@ impl<R: TellRead> Body<R> {
     }
 
     /// Hands out payload that is buffered, and asks the stream for nothing. Less than the slice takes comes only where the body
-    /// ended, or nothing is buffered, or what comes next is wrong, which [`read`](Body::read) tells.
+    /// ended, or nothing is buffered, or what comes next is wrong, which [`read`](Body::read) tells. It is told as a read,
+    /// also where nothing is handed out.
     pub fn read_buffered(&mut self, out: &mut [u8]) -> usize
         ensures bound { result ≤ length out.new }
         ensures goes { InsideGoes R.remaining self.old (take result out.new) self.new }
+        ensures noted { self.new.calls ≡ after_read self.old.calls out.new (Ok result) }
         ensures unasked { self.new.stream.log ≡ self.old.stream.log }
         ensures all { RunsShort (length out.new) result self.new.rest self.new.stream.left }
     {
@@ -197,7 +203,7 @@ impl<R: TellRead> Body<R> {
 
     /// Goes on to the next head: takes what is left of the body, and drops its payload. The stream is asked for no byte behind
     /// it. An `Err` hands the reader back, in the body still. The buffer is kept, and takes no memory; where the body has ended,
-    /// no byte is moved in it.
+    /// or the stream isn't asked, no byte is moved in it.
     pub fn finish(self) -> Result<Requests<R>, (Self, BodyError)>
         ensures in_order { IfOk result (λ next. (wire : List ℕ) × (got : List ℕ)
             × (next.reader.log.reads.given ≡ self.stream.log.reads.given ++ got)
@@ -207,6 +213,7 @@ impl<R: TellRead> Body<R> {
             × FinishFails self.stream handed e.1 e.0.stream e.0.rest) }
         ensures room { IfOk result (λ next. room_of next.reader.block ≡ self.room) }
         ensures still { IfOk result (λ next. IsRest self.rest [] [] → next.reader.block.moved ≡ self.moved) }
+        ensures moved { IfOk result (λ next. next.reader.log ≡ self.stream.log → next.reader.block.moved ≡ self.moved) }
         ensures limits { IfOk result (λ next. next.decoder ≡ record { 0 = self.limits }) }
         ensures asked { MatchResult result (λ next. AskedWhere (Unended self.rest) self.stream (left_of next))
             (λ e. AskedWhere (Unended self.rest) self.stream e.0.stream) }
@@ -270,15 +277,15 @@ fn read<R: TellRead>(
     ensures room { HasRoom reader.new }
     ensures kept { room_of reader.new.reader.block ≡ room_of reader.old.reader.block }
     ensures told { handed_of reader.new ≡ handed_of reader.old ++ handed_out out.new result }
+    ensures noted { MatchResult result (λ n. reader.new.calls ≡ after_read reader.old.calls out.new (Ok n))
+        (λ _. reader.new.calls ≡ reader.old.calls) }
     ensures takes { ReaderTakes R.remaining reader.old (handed_out out.new result) reader.new }
     ensures ended { result ≡ Ok 0 → 0 < length out.new → IsRest (left_in reader.new) [] [] }
     ensures gave { OnOk result (EachReadGave (stream_of reader.old) (stream_of reader.new)) }
     ensures fails { IfErr result (λ e. Fails (stream_of reader.old) e (stream_of reader.new) (left_in reader.new)) }
     ensures asked { AskedWhere (AskedIn (left_in reader.old) (length out.new) (stream_of reader.new).log.reads.offer)
         (stream_of reader.old) (stream_of reader.new) }
-    ensures all { IfOk result (λ n. 0 < n → HandsAll (body_rules reader.old.coding) reader.old.place reader.old.reader.block.bytes
-        reader.old.known out.new n reader.new.reader.block.bytes) }
-    ensures most { IfOk result (λ n. 0 < n → HandsMost (left_in reader.old) (stream_of reader.old).left reader.old.known out.new n
+    ensures all { IfOk result (λ n. 0 < n → HandsMost (left_in reader.old) (stream_of reader.old).left reader.old.known out.new n
         (stream_of reader.new).left) }
     ensures idle { HasNextPayload (stream_of reader.old) (left_in reader.old)
         → (stream_of reader.new).log ≡ (stream_of reader.old).log }
@@ -297,7 +304,7 @@ fn read_buffered<R: TellRead>(reader: &mut BodyReader<R, BodyCoding>, out: &mut 
     ensures bound { result ≤ length out.new }
     ensures room { HasRoom reader.new }
     ensures kept { room_of reader.new.reader.block ≡ room_of reader.old.reader.block }
-    ensures told { handed_of reader.new ≡ handed_of reader.old ++ take result out.new }
+    ensures noted { reader.new.calls ≡ after_read reader.old.calls out.new (Ok result) }
     ensures takes { ReaderTakes R.remaining reader.old (take result out.new) reader.new }
     ensures unasked { (stream_of reader.new).log ≡ (stream_of reader.old).log }
     ensures all { RunsShort (length out.new) result (left_in reader.new) (stream_of reader.new).left }
@@ -320,6 +327,7 @@ fn finish<R: TellRead>(
         × FinishFails (stream_of reader) handed e.1 (stream_of e.0) (left_in e.0)
         × (handed_of e.0 ≡ handed_of reader ++ handed)) }
     ensures still { IfOk result (λ rest. IsRest (left_in reader) [] [] → rest ≡ reader.reader) }
+    ensures moved { IfOk result (λ rest. rest.log ≡ reader.reader.log → rest.block.moved ≡ reader.reader.block.moved) }
     ensures asked { MatchResult result
         (λ rest. AskedWhere (Unended (left_in reader)) (stream_of reader) (unbuffered rest))
         (λ e. AskedWhere (Unended (left_in reader)) (stream_of reader) (stream_of e.0)) }

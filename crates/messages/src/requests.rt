@@ -23,7 +23,7 @@ use std::alloc::Global;
 use std::io;
 use std::marker::Model;
 
-/// Why there is no next message, or no end of this one.
+/// Why there is no next message.
 #[derive(Debug, Drop)]
 pub enum Stop {
     /// The stream ended behind the last message.

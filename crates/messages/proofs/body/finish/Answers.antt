@@ -1,5 +1,6 @@
 -- What the drain did, told of the rest of the body: all of that went, or a part, and why no more.
-use Rattle.std.proofs.Common.{◌∙◌, inl, inr, subst, sym}
+use Rattle.std.proofs.Common.{◌≡◌, ◌≤◌, ◌∙◌, ap, inl, inr, subst, sym}
+use Rattle.buffer_redux.specs.Block.{Block, OnKind, OnlyRingMoves, Plain}
 use Rattle.messages.specs.Messages.{IsNamed}
 use Rattle.messages.proofs.Going.{body_end, body_kept, body_named, body_room, body_take, drain_asked, drain_fails, is_ended}
 use Rattle.messages.proofs.body.finish.Goals as goal
@@ -23,6 +24,15 @@ pub returns-in-Ok-clause-still : goal.returns-in-Ok-clause-still
 returns-in-Ok-clause-still g c = λ done.
     let left = c.in-Ok.ensures.drains in
     left.2 ∙ left.1.ended (is_ended c.get_ref.ensures.whole done)
+
+plain_unmoved : (old new : Block) → old.kind ≡ Plain → OnlyRingMoves old new → new.moved ≡ old.moved
+plain_unmoved old new plain = subst (λ k. OnKind k (new.moved ≡ old.moved) (old.moved ≤ new.moved)) plain
+
+pub returns-in-Ok-clause-moved : goal.returns-in-Ok-clause-moved
+returns-in-Ok-clause-moved g c =
+    let left = c.in-Ok.ensures.drains in
+    rw left.2 (λ same. plain_unmoved c.args.reader.reader.block left.0.reader.block c.requires.0.kind
+    (left.1.went.keeps.still (λ p b n p' b' leaves. ap (λ b. b.moved) leaves.1) (ap (λ l. l.reads.asks) same)))
 
 pub returns-in-Ok-clause-asked : goal.returns-in-Ok-clause-asked
 returns-in-Ok-clause-asked g c =

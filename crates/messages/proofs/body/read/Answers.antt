@@ -35,8 +35,8 @@ pub returns-in-Ok-clause-asked : goal.returns-in-Ok-clause-asked
 returns-in-Ok-clause-asked g c =
     body_asked c.get_ref.ensures.whole c.requires.1 _ c.read_payload.new.self c.in-Ok.ensures.reads.asked
 
-pub returns-in-Ok-clause-most : goal.returns-in-Ok-clause-most
-returns-in-Ok-clause-most g c = λ some.
+pub returns-in-Ok-clause-all : goal.returns-in-Ok-clause-all
+returns-in-Ok-clause-all g c = λ some.
     let d = c.args.reader.now in
     let t = c.read_payload.new.self in
     hands_most d.coding d.place c.get_ref.ensures.whole.place d.reader.block.bytes d.known c.read_payload.new.out c.in-Ok.count

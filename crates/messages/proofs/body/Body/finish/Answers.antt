@@ -26,6 +26,18 @@ returns-in-Ok-with_buffer-clause-still g c =
     rw (c.before-in-Ok-with_buffer.ensures, ← c.self.view_is) (λ done.
     ap (λ b. b.moved) kept ∙ ap (λ b. b.moved) i.block ∙ ap (λ r. r.block.moved) (c.in-Ok.ensures.still done))
 
+pub returns-in-Ok-with_buffer-clause-moved : goal.returns-in-Ok-with_buffer-clause-moved
+returns-in-Ok-with_buffer-clause-moved g c =
+    let i = c.into_inner_with_buffer-inner.ensures in
+    let made = c.in-Ok-with_buffer.ensures.made in
+    let roomy = c.in-Ok.ensures.room in
+    let kept = made.kept (ap (λ b. b.kind) i.block ∙ roomy.kind)
+    (let fits : 3 * 16384 ≤ c.into_inner_with_buffer-inner.result.1.capacity =
+    omega (arith, roomy.capacity, ap (λ b. b.capacity) i.block) in fits) in
+    rw (c.before-in-Ok-with_buffer.ensures, ← c.self.view_is) (λ same.
+    ap (λ b. b.moved) kept ∙ ap (λ b. b.moved) i.block
+    ∙ c.in-Ok.ensures.moved (sym i.log ∙ sym (ap (λ u. u.log) made.left) ∙ same))
+
 pub returns-in-Err : goal.returns-in-Err
 returns-in-Err g c =
     let failed = c.in-Err.ensures.ends in
@@ -46,6 +58,7 @@ returns-in-Err g c =
       );
       room = tt;
       still = tt;
+      moved = tt;
       limits = tt;
       asked = c.in-Err.ensures.asked;
     })

@@ -15,6 +15,9 @@ returns-clause-goes g c =
       said = refl;
     })
 
+pub returns-clause-noted : goal.returns-clause-noted
+returns-clause-noted g c = rw (← c.self.view_is) c.read.ensures.noted
+
 pub returns-clause-gave : goal.returns-clause-gave
 returns-clause-gave g c = rw (← c.self.view_is) c.read.ensures.gave
 
@@ -28,4 +31,4 @@ pub returns-clause-none : goal.returns-clause-none
 returns-clause-none g c = rw (← c.self.view_is) c.read.ensures.none
 
 pub returns-clause-all : goal.returns-clause-all
-returns-clause-all g c = rw (← c.self.view_is) c.read.ensures.most
+returns-clause-all g c = rw (← c.self.view_is) c.read.ensures.all

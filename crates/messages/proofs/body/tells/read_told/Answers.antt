@@ -1,51 +1,27 @@
 -- What a read as std's did, told of the rest of the body; what its calls tell changes none of that.
-use Rattle.messages.proofs.AsIo.{io_asked, io_ended, io_fails, io_gave, io_none, io_room, io_take}
+use Rattle.messages.proofs.AsIo.{io_asked, io_ended, io_fails, io_gave, io_most, io_none, io_room, io_take}
 use Rattle.messages.proofs.body.tells.read_told.Goals as goal
 
-pub returns-clause-room : goal.returns-clause-room
-returns-clause-room g c =
+pub returns : goal.returns
+returns g c =
+    let remaining = g.R.TellRead.remaining in
+    let s = c.args.reader.now in
     let t = record c.read_told.new.self { calls = c.read_told.ensures.read.0 } in
-    (io_room g.R.TellRead.remaining c.args.reader.now t c.get_ref.ensures.whole c.read_told.new.out c.read_told.result
-    c.read_told.ensures.read.1 c.requires).0
-
-pub returns-clause-kept : goal.returns-clause-kept
-returns-clause-kept g c =
-    let t = record c.read_told.new.self { calls = c.read_told.ensures.read.0 } in
-    (io_room g.R.TellRead.remaining c.args.reader.now t c.get_ref.ensures.whole c.read_told.new.out c.read_told.result
-    c.read_told.ensures.read.1 c.requires).1
-
-pub returns-clause-takes : goal.returns-clause-takes
-returns-clause-takes g c =
-    let t = record c.read_told.new.self { calls = c.read_told.ensures.read.0 } in
-    io_take g.R.TellRead.remaining c.args.reader.now t c.get_ref.ensures.whole c.read_told.new.out c.read_told.result
-    c.read_told.ensures.read.1
-
-pub returns-clause-ended : goal.returns-clause-ended
-returns-clause-ended g c =
-    let t = record c.read_told.new.self { calls = c.read_told.ensures.read.0 } in
-    io_ended g.R.TellRead.remaining c.args.reader.now t c.get_ref.ensures.whole c.read_told.new.out c.read_told.result
-    c.read_told.ensures.read.1
-
-pub returns-clause-gave : goal.returns-clause-gave
-returns-clause-gave g c =
-    let t = record c.read_told.new.self { calls = c.read_told.ensures.read.0 } in
-    io_gave g.R.TellRead.remaining c.args.reader.now t c.get_ref.ensures.whole c.read_told.new.out c.read_told.result
-    c.read_told.ensures.read.1
-
-pub returns-clause-fails : goal.returns-clause-fails
-returns-clause-fails g c =
-    let t = record c.read_told.new.self { calls = c.read_told.ensures.read.0 } in
-    io_fails g.R.TellRead.remaining c.args.reader.now t c.get_ref.ensures.whole c.read_told.new.out c.read_told.result
-    c.read_told.ensures.read.1
-
-pub returns-clause-asked : goal.returns-clause-asked
-returns-clause-asked g c =
-    let t = record c.read_told.new.self { calls = c.read_told.ensures.read.0 } in
-    io_asked g.R.TellRead.remaining c.args.reader.now t c.get_ref.ensures.whole c.read_told.new.out c.read_told.result
-    c.read_told.ensures.read.1 c.requires.1
-
-pub returns-clause-none : goal.returns-clause-none
-returns-clause-none g c =
-    let t = record c.read_told.new.self { calls = c.read_told.ensures.read.0 } in
-    io_none g.R.TellRead.remaining c.args.reader.now t c.get_ref.ensures.whole c.read_told.new.out c.read_told.result
-    c.read_told.ensures.read.1
+    let is = c.get_ref.ensures.whole in
+    let out = c.read_told.new.out in
+    let answer = c.read_told.result in
+    let reads = c.read_told.ensures.read.1 in
+    let room = io_room remaining s t is out answer reads c.requires in
+    record {
+      bound = c.read_told.ensures.bound;
+      room = room.0;
+      kept = room.1;
+      told = c.read_told.ensures.told;
+      takes = io_take remaining s t is out answer reads;
+      ended = io_ended remaining s t is out answer reads;
+      gave = io_gave remaining s t is out answer reads;
+      fails = io_fails remaining s t is out answer reads;
+      asked = io_asked remaining s t is out answer reads c.requires.1;
+      all = io_most remaining s t is out answer reads;
+      none = io_none remaining s t is out answer reads;
+    }

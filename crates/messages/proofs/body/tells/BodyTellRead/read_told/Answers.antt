@@ -28,5 +28,6 @@ returns-clause-read g c =
       ended = reads.ended;
       fails = reads.fails;
       asked = reads.asked;
+      all = reads.all;
       none = reads.none;
     })
