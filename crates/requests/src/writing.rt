@@ -1,9 +1,9 @@
 //! What is written: answers, refusals and calls for bodies; and what is held is sent.
-ghost use Rattle.std.specs.Prelude.{◌≡◌, ◌≤◌, if◌then◌else◌, [], ◌++◌, codes, length, map};
+ghost use Rattle.std.specs.Prelude.{◌≡◌, ◌≤◌, ◌++◌, codes, length, map};
 ghost use Rattle.std.specs.List.{concat, prefix_len};
 ghost use Rattle.messages.specs.Versions.{is_end};
 ghost use Rattle.requests.specs.Sending.{IsHeld, PutsText, SendsForRoom, SendsHeld};
-ghost use Rattle.requests.specs.Answers.{answered, begins_known, begins_often, called, declined, disappointed, granted, has_body, is_known, length_line, refusal, refusal_of, waits};
+ghost use Rattle.requests.specs.Answers.{answered, begins_known, begins_often, called, declined, disappointed, granted, has_body, is_known, refusal, refusal_of, success, waits};
 
 use crate::limits::is_large;
 use buffer_redux::BufWriter;
@@ -85,18 +85,16 @@ fn disappoint<W: TellWrite>(keeps: bool, writer: &mut BufWriter<W>) -> io::Resul
     ensures puts { PutsText W.log W.trace writer.old (disappointed keeps) result writer.new }
     ensures sends { SendsForRoom W.log W.trace writer.old writer.new }
 {
+    put(writer, &[disappointed(keeps)])
+}
+
+fn disappointed(keeps: bool) -> &'static [u8]
+    ensures { result.now ≡ disappointed keeps }
+{
     if keeps {
-        put(
-            writer,
-            &[
-                b"HTTP/1.1 417 Expectation Failed\r\nContent-Length: 0\r\nConnection: keep-alive\r\n\r\n",
-            ],
-        )
+        b"HTTP/1.1 417 Expectation Failed\r\nContent-Length: 0\r\nConnection: keep-alive\r\n\r\n"
     } else {
-        put(
-            writer,
-            &[b"HTTP/1.1 417 Expectation Failed\r\nContent-Length: 0\r\nConnection: close\r\n\r\n"],
-        )
+        b"HTTP/1.1 417 Expectation Failed\r\nContent-Length: 0\r\nConnection: close\r\n\r\n"
     }
 }
 
@@ -104,15 +102,16 @@ fn decline<W: TellWrite>(keeps: bool, writer: &mut BufWriter<W>) -> io::Result<(
     ensures puts { PutsText W.log W.trace writer.old (declined keeps) result writer.new }
     ensures sends { SendsForRoom W.log W.trace writer.old writer.new }
 {
+    put(writer, &[declined(keeps)])
+}
+
+fn declined(keeps: bool) -> &'static [u8]
+    ensures { result.now ≡ declined keeps }
+{
     if keeps {
-        put(
-            writer,
-            &[
-                b"HTTP/1.1 501 Not Implemented\r\nContent-Length: 0\r\nConnection: keep-alive\r\n\r\n",
-            ],
-        )
+        b"HTTP/1.1 501 Not Implemented\r\nContent-Length: 0\r\nConnection: keep-alive\r\n\r\n"
     } else {
-        refuse(Refusal::Unknown, writer)
+        refusal_text(Refusal::Unknown)
     }
 }
 
@@ -121,31 +120,24 @@ fn accept<W: TellWrite>(len: u64, said: ParsedHead, writer: &mut BufWriter<W>) -
     ensures puts { PutsText W.log W.trace writer.old (granted said len) result writer.new }
     ensures sends { SendsForRoom W.log W.trace writer.old writer.new }
 {
-    if said.keeps {
-        let head = b"HTTP/1.1 200 OK\r\nContent-Length: 21\r\nConnection: keep-alive\r\n\r\n";
-        accept_by(head, len, said.bare, writer)
-    } else {
-        let head = b"HTTP/1.1 200 OK\r\nContent-Length: 21\r\nConnection: close\r\n\r\n";
-        accept_by(head, len, said.bare, writer)
-    }
-}
-
-fn accept_by<W: TellWrite>(
-    head: &[u8],
-    len: u64,
-    bare: bool,
-    writer: &mut BufWriter<W>,
-) -> io::Result<()>
-    ensures puts { PutsText W.log W.trace writer.old (head.now ++ (if bare then [] else length_line len)) result writer.new }
-    ensures sends { SendsForRoom W.log W.trace writer.old writer.new }
-{
-    if bare {
+    let head = success(said.keeps);
+    if said.bare {
         return put(writer, &[head]);
     }
     let mut digits = itoa::Buffer::new();
     let number = digits.format(len).as_bytes();
     let blanks: &[u8] = b"                    ";
     put_line(head, &blanks[number.len()..], number, writer)
+}
+
+fn success(keeps: bool) -> &'static [u8]
+    ensures { result.now ≡ success keeps }
+{
+    if keeps {
+        b"HTTP/1.1 200 OK\r\nContent-Length: 21\r\nConnection: keep-alive\r\n\r\n"
+    } else {
+        b"HTTP/1.1 200 OK\r\nContent-Length: 21\r\nConnection: close\r\n\r\n"
+    }
 }
 
 fn put_line<'a, W: TellWrite>(
@@ -206,35 +198,31 @@ pub(crate) fn refuse<W: TellWrite>(why: Refusal, writer: &mut BufWriter<W>) -> i
     ensures puts { PutsText W.log W.trace writer.old (refusal why) result writer.new }
     ensures sends { SendsForRoom W.log W.trace writer.old writer.new }
 {
+    put(writer, &[refusal_text(why)])
+}
+
+fn refusal_text(why: Refusal) -> &'static [u8]
+    ensures { result.now ≡ refusal why }
+{
     match why {
-        Refusal::BadRequest => put(
-            writer,
-            &[b"HTTP/1.1 400 Bad Request\r\nContent-Length: 0\r\nConnection: close\r\n\r\n"],
-        ),
-        Refusal::LargeBody => put(
-            writer,
-            &[b"HTTP/1.1 413 Content Too Large\r\nContent-Length: 0\r\nConnection: close\r\n\r\n"],
-        ),
-        Refusal::LongTarget => put(
-            writer,
-            &[b"HTTP/1.1 414 URI Too Long\r\nContent-Length: 0\r\nConnection: close\r\n\r\n"],
-        ),
-        Refusal::LargeHead => put(
-            writer,
-            &[
-                b"HTTP/1.1 431 Request Header Fields Too Large\r\nContent-Length: 0\r\nConnection: close\r\n\r\n",
-            ],
-        ),
-        Refusal::Unknown => put(
-            writer,
-            &[b"HTTP/1.1 501 Not Implemented\r\nContent-Length: 0\r\nConnection: close\r\n\r\n"],
-        ),
-        Refusal::OtherVersion => put(
-            writer,
-            &[
-                b"HTTP/1.1 505 HTTP Version Not Supported\r\nContent-Length: 0\r\nConnection: close\r\n\r\n",
-            ],
-        ),
+        Refusal::BadRequest => {
+            b"HTTP/1.1 400 Bad Request\r\nContent-Length: 0\r\nConnection: close\r\n\r\n"
+        }
+        Refusal::LargeBody => {
+            b"HTTP/1.1 413 Content Too Large\r\nContent-Length: 0\r\nConnection: close\r\n\r\n"
+        }
+        Refusal::LongTarget => {
+            b"HTTP/1.1 414 URI Too Long\r\nContent-Length: 0\r\nConnection: close\r\n\r\n"
+        }
+        Refusal::LargeHead => {
+            b"HTTP/1.1 431 Request Header Fields Too Large\r\nContent-Length: 0\r\nConnection: close\r\n\r\n"
+        }
+        Refusal::Unknown => {
+            b"HTTP/1.1 501 Not Implemented\r\nContent-Length: 0\r\nConnection: close\r\n\r\n"
+        }
+        Refusal::OtherVersion => {
+            b"HTTP/1.1 505 HTTP Version Not Supported\r\nContent-Length: 0\r\nConnection: close\r\n\r\n"
+        }
     }
 }
 
