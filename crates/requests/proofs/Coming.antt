@@ -1,5 +1,5 @@
 -- What was sent before a further head was asked for.
-use Rattle.std.proofs.Common.{◌≡◌, ◌⊎◌, ◌<◌, ℕ, List, [], length, Option, Result, Ok, inl, inr, ap, subst, arith}
+use Rattle.std.proofs.Common.{◌≡◌, ◌∙◌, ◌⊎◌, ◌<◌, ℕ, List, [], length, Option, Result, Ok, inl, inr, ap, subst, arith}
 use Rattle.std.proofs.lemmas.List.{nil_from_length}
 use Rattle.std.specs.declared.io.Error.{Error}
 use Rattle.buffer_redux.specs.Buffered.{Buffered}
@@ -83,3 +83,17 @@ module _ {R W : Type 0} {tells : W → StreamLog} {trace : W → W → Type 0} (
   sends_empty {answer} s m w v same sends =
       WritesPromptly-after joins (s, w) (m, w) (m, v) [] [] answer (WritesPromptly-read none w (inl same))
       (WritesPromptly-sent none m w v answer sends (λ no. open_empty m.left (nil_from_length m.left (omega (arith, no)))))
+
+  -- and then the stream was asked for more
+  pub comes_inside : {slice : ℕ} (count : ℕ) (out : List ℕ) (s : Unbuffered R) (m t : InBody R) (w v : Buffered W StdPolicy)
+      → m.stream.log ≡ s.log → SendsUnless tells trace (0 < length m.stream.left) w (Ok tt) v → count ≡ 0 → 0 < length out
+      → (¬ (IsRest m.rest [] [])) → RunsShort (length out) count m.rest m.stream.left
+      → AskedWhere (AskedIn m.rest slice t.stream.log.reads.offer) m.stream t.stream
+      → WritesOnlyHeld tells trace (s, w) (t.stream, v)
+  comes_inside count out s m t w v same sends zero some goes_on short asked =
+      let after = body_asked count out m t w v sends zero some goes_on short asked in
+      record {
+        writes = WritesPromptly-after joins (s, w) (m.stream, v) (t.stream, v) [] [] (Ok tt) (sends_empty s m.stream w v same sends)
+            (WritesPromptly-read none v after);
+        asked = elim after [ inl still ↦ inl (still ∙ same) | inr all ↦ inr all ];
+      }

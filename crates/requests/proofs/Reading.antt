@@ -1,5 +1,5 @@
 -- What reads of a run met.
-use Rattle.std.proofs.Common.{◌≡◌, ℕ, ◌+◌, ◌<◌, ◌≤◌, true, false, List, [], ◌∷◌, ◌++◌, All, length, Option, None, Some, IfSome, Ok, sym, ap, subst, inl, inr, ◌∙◌, refl, arith, append_assoc, append-nil, length-append}
+use Rattle.std.proofs.Common.{◌≡◌, ℕ, ◌+◌, ◌<◌, ◌≤◌, true, false, List, [], ◌∷◌, ◌++◌, All, length, Option, None, Some, IfSome, Result, Ok, Err, IfOk, IfErr, ◌⊎◌, zero, suc, sym, ap, subst, inl, inr, ◌∙◌, refl, arith, append_assoc, append-nil, length-append}
 use Rattle.std.proofs.lemmas.List.{nil_from_length}
 use Rattle.std.proofs.lemmas.List.Elements.{All-append, All-cons, All-nil}
 use Rattle.std.specs.declared.io.Error.{Error}
@@ -24,14 +24,14 @@ use Rattle.messages.specs.Heads.{IsHead, heads}
 use Rattle.messages.specs.Limits.{usual}
 use Rattle.messages.specs.Messages.{BeginsRest, Begun, Bytes, Chunks, EachReadGave, Fails, FinishFails, GoesWrong, InBody, InsideGoes, IsRest, Message, Onward, Rest, TakesWholeRest, Unended, body_of}
 use Rattle.messages.specs.MessagesLaws.{Begun-gave}
-use Rattle.programs.specs.Streams.{EndsOnce}
+use Rattle.programs.specs.Streams.{AllSent, EndsOnce}
 use Rattle.requests.specs.declared.Place.{Place}
 use Rattle.requests.specs.declared.writing.Refusal.{Refusal}
 use Rattle.requests.specs.declared.Place.TheVariants.{Before, Inside}
 use Rattle.requests.specs.declared.taking.Untaken.{Untaken}
 use Rattle.requests.specs.declared.taking.Untaken.TheVariants.{Body, Large, Unsent, Many}
 use Rattle.requests.specs.Large.{is_large}
-use Rattle.requests.specs.Answers.{EndedBeforeHead, FailsInRead, FailsOn, IsMany, IsPartTaken, IsToBeRefused, MayFollow, NoMoreAnswered, ReadsSteadily, TakeFails, TakesWhole, faults_of, sent_till, unfinished}
+use Rattle.requests.specs.Answers.{EndedBeforeHead, FailsInRead, FailsOn, FailsToRead, IsMany, IsPartTaken, IsToBeRefused, MayFollow, NoMoreAnswered, ReadsSome, ReadsSteadily, TakeFails, TakesWhole, faults_of, sent_till, sent_with, unfinished}
 
 -- no fault was met, or one
 pub none_met : {a b : List Error} → b ≡ a → OnlyInterrupts a b
@@ -118,23 +118,23 @@ module _ {S : Type 0} {s m : Unbuffered S} (steady : ReadsSteadily s m) where
       omega (arith, ap length fault.0, ap length same, length-append (faults_of m) (e ∷ []))
 
   -- why a read in a body failed is why the whole isn't taken
-  pub TakeFails-of : {W : Type 0} (handed : List ℕ) (b : InBody S) (w : Buffered W StdPolicy) (e : Untaken)
-      → ((why : Error) → e ≡ Body (Io why) → ¬ (IsInterrupt why)) → FailsOn m e b w → TakeFails s handed e b w
-  TakeFails-of handed b w (Body (Wrong why)) hard ((gave, torn), sent) =
+  pub TakeFails-of : {W : Type 0} (handed : List ℕ) (b : InBody S) (w : Buffered W StdPolicy) (e : Untaken) → FailsOn m e b w
+      → TakeFails s handed e b w
+  TakeFails-of handed b w (Body (Wrong why)) (((gave, torn), hard), sent) =
       (omega (arith, steady.ends, gave.1), joined b.stream (none_met gave.0), inl (refl, inl (why, torn)))
-  TakeFails-of handed b w (Body (Truncated due)) hard ((none, end, left, cut, so_many), sent) = (
+  TakeFails-of handed b w (Body (Truncated due)) (((none, end, left, cut, so_many), hard), sent) = (
     omega (arith, steady.ends, end),
     joined b.stream (none_met none),
     inl (refl, inr (omega (arith, steady.ends, end), left, cut)),
   )
-  TakeFails-of handed b w (Body (Io e)) hard ((fault, none), sent) = (
+  TakeFails-of handed b w (Body (Io e)) (((fault, none), hard), sent) = (
     omega (arith, steady.ends, none),
     (failed_behind (faults_of s) (faults_of m) (faults_of b.stream) e steady.faults fault, hard e refl),
     elim sent [ inl same ↦ absurd (no_fault b e (fault, none) (ap (λ l. l.reads.faults) same)) | inr all ↦ all ],
   )
-  TakeFails-of handed b w (Unsent e) hard gave = steadily (steady_none gave)
-  TakeFails-of handed b w Large hard odd = elim odd [ ]
-  TakeFails-of handed b w Many hard odd = elim odd [ ]
+  TakeFails-of handed b w (Unsent e) gave = steadily (steady_none gave)
+  TakeFails-of handed b w Large odd = elim odd [ ]
+  TakeFails-of handed b w Many odd = elim odd [ ]
 
   pub TakeFails-behind : {W : Type 0} (handed more : List ℕ) (b : InBody S) (w : Buffered W StdPolicy) (why : BodyError)
       → FinishFails m more why b.stream b.rest → EachReadGave m b.stream → TakeFails s (handed ++ more) (unfinished why) b w
@@ -146,6 +146,58 @@ module _ {S : Type 0} {s m : Unbuffered S} (steady : ReadsSteadily s m) where
   TakeFails-behind handed more b w (Truncated due) (inr (e, is, other, many)) same = absurd (cc)
   TakeFails-behind handed more b w (Io why) (inr (e, is, other, many)) same =
       (steadily (steady_none same), omega (arith, many, length-append handed more))
+
+-- a read of a body handed out some, or the body ended; or it was interrupted
+pub read_some : {S : Type 0} {s : Unbuffered S} {b : InBody S} (n : ℕ) → EachReadGave s b.stream
+    → (n ≡ 0 → IsRest b.rest [] []) → ReadsSome s n b
+read_some zero gave ended = record { steady = steady_none gave; more = inl (ended refl) }
+read_some (suc n) gave ended = record { steady = steady_none gave; more = inr (omega (arith, ap length gave.0)) }
+
+pub read_interrupted : {S : Type 0} {s : Unbuffered S} {b : InBody S} (e : Error) → IsInterrupt e
+    → Fails s (Io e) b.stream b.rest → ReadsSome s 0 b
+read_interrupted {s = s} {b = b} e is fails = record {
+  steady = record { faults = interrupted_once (faults_of s) (faults_of b.stream) e is fails.0; ends = fails.1 };
+  more = inr (omega (arith, ap length fails.0, length-append (faults_of s) (e ∷ [])));
+}
+
+-- why a read fails is said of what it asked
+pub Fails-asked : {S : Type 0} (s m : Unbuffered S) (e : BodyError) (t : Unbuffered S) (r : Rest) → m.log ≡ s.log
+    → Fails m e t r → Fails s e t r
+Fails-asked s m (Wrong why) t r same (gave, torn) =
+    ((gave.0 ∙ ap (λ l. l.reads.faults) same, gave.1 ∙ ap (λ l. l.reads.zero_reads) same), torn)
+Fails-asked s m (Truncated due) t r same (none, end, left, cut, many) = (
+  none ∙ ap (λ l. l.reads.faults) same,
+  end ∙ ap (λ l. l.reads.zero_reads + 1) same,
+  left,
+  cut,
+  many,
+)
+Fails-asked s m (Io e) t r same (fault, none) =
+    (fault ∙ ap (λ l. l.reads.faults ++ e ∷ []) same, none ∙ ap (λ l. l.reads.zero_reads) same)
+
+-- what is said of a read of it is so since the stream was asked last
+module _ {S : Type 0} (s m : Unbuffered S) (t : InBody S) (same : m.log ≡ s.log) where
+  pub reads_since : (answer : Result ℕ Untaken) → IfOk answer (λ n. ReadsSome m n t) → IfOk answer (λ n. ReadsSome s n t)
+  reads_since (Ok n) r = record {
+    steady = steadily (steady_none (ap (λ l. l.reads.faults) same, ap (λ l. l.reads.zero_reads) same)) r.steady;
+    more = elim r.more [ inl ended ↦ inl ended | inr some ↦ inr (omega (arith, some, ap (λ l. length l.reads.faults) same)) ];
+  }
+  reads_since (Err e) r = tt
+
+  pub fails_since : {W : Type 0} {v : Buffered W StdPolicy} (answer : Result ℕ Untaken)
+      → ((t.stream.log ≡ s.log) ⊎ AllSent v) → IfErr answer (λ e. FailsToRead m e t) → IfErr answer (λ e. FailsOn s e t v)
+  fails_since (Ok n) asked f = tt
+  fails_since (Err (Body e)) asked f = ((Fails-asked s m e t.stream t.rest same f.0, f.1), asked)
+  fails_since (Err (Unsent e)) asked f = elim f [ ]
+  fails_since (Err Large) asked f = elim f [ ]
+  fails_since (Err Many) asked f = elim f [ ]
+
+  pub sent_so : (answer : Result ℕ Untaken) → IfErr answer (λ e. FailsToRead m e t) → sent_with answer ≡ Ok tt
+  sent_so (Ok n) f = refl
+  sent_so (Err (Body e)) f = refl
+  sent_so (Err (Unsent e)) f = elim f [ ]
+  sent_so (Err Large) f = elim f [ ]
+  sent_so (Err Many) f = elim f [ ]
 
 -- a call that goes into no message takes nothing
 pub nothing_went : {R : Type 0} {remaining : R → Option (List ℕ)} {s t : ReaderState R Heads} {answer : NextAnswer BadHead}
@@ -220,21 +272,6 @@ wrong_unasked s t (Chunks limits place) name wrong (inr over) =
     let all = (s.left ++ over.came) ++ later in
     absurd (wrong.1 (over.came ++ later) all [] on.more.1
     (sym (append_assoc s.left over.came later) ∙ sym (append-nil all)) (on.onward later on.more.1 on.more.3))
-
--- why a read fails is said of what it asked
-pub Fails-asked : {S : Type 0} (s m : Unbuffered S) (e : BodyError) (t : Unbuffered S) (r : Rest) → m.log ≡ s.log
-    → Fails m e t r → Fails s e t r
-Fails-asked s m (Wrong why) t r same (gave, torn) =
-    ((gave.0 ∙ ap (λ l. l.reads.faults) same, gave.1 ∙ ap (λ l. l.reads.zero_reads) same), torn)
-Fails-asked s m (Truncated due) t r same (none, end, left, cut, many) = (
-  none ∙ ap (λ l. l.reads.faults) same,
-  end ∙ ap (λ l. l.reads.zero_reads + 1) same,
-  left,
-  cut,
-  many,
-)
-Fails-asked s m (Io e) t r same (fault, none) =
-    (fault ∙ ap (λ l. l.reads.faults ++ e ∷ []) same, none ∙ ap (λ l. l.reads.zero_reads) same)
 
 -- all was sent where the end of a body wasn't taken
 pub unfinished_sent : (e : BodyError) → sent_till (unfinished e) ≡ Ok tt

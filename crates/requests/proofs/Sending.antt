@@ -19,7 +19,7 @@ use Rattle.messages.specs.Heads.{heads}
 use Rattle.messages.specs.HeadsLaws.{heads_lawful}
 use Rattle.messages.specs.Limits.{usual}
 use Rattle.programs.specs.Streams.{AllSent}
-use Rattle.requests.specs.Sending.{Both, IsHeld, IsStep, Prompt, PutStops, PutsText, SendsForRoom, SendsHeld, SendsUnless, StepsAlong, WritesPromptly}
+use Rattle.requests.specs.Sending.{Both, IsHeld, IsStep, Prompt, PutStops, PutsText, SendsForRoom, SendsUnless, StepsAlong, WritesPromptly}
 
 -- nothing settles nothing
 pub open_empty : (bytes : List ℕ) → bytes ≡ [] → IsOpen (heads usual) bytes

@@ -1,5 +1,5 @@
 -- What is answered to requests.
-use Rattle.std.specs.Prelude.{◌≡◌, ◌≢◌, ℕ, ◌+◌, ◌-◌, ◌^◌, ◌<◌, ◌≤◌, ◌⊎◌, ◌&&◌, ◌||◌, ◌==◌, not, nat_lt, if◌then◌else◌, Bool, true, false, List, [], ◌∷◌, ◌++◌, All, length, drop, nat_eq, Option, None, Some, Result, Ok, Err, MatchResult, IfErr, IfSome, IsErr, IsSome, IsTrue, ⊤, codes}
+use Rattle.std.specs.Prelude.{◌≡◌, ◌≢◌, ℕ, ◌+◌, ◌-◌, ◌^◌, ◌<◌, ◌≤◌, ◌⊎◌, ◌&&◌, ◌||◌, ◌==◌, not, nat_lt, if◌then◌else◌, Bool, true, false, List, [], ◌∷◌, ◌++◌, All, length, drop, nat_eq, Option, None, Some, Result, Ok, Err, MatchResult, IfErr, IfSome, IsErr, IsSome, IsTrue, codes}
 use Rattle.std.specs.Fmt.{decimal}
 use Rattle.std.specs.List.{prefix_len, starts_with}
 use Rattle.std.specs.IoError.{error_kind}
@@ -213,10 +213,19 @@ FailsInRead s e t = FaultAfterInterrupts (faults_of s) (faults_of t) e × (error
 abbrev pub IsMany : {S : Type 0} → ℕ → Unbuffered S → Unbuffered S → Type 0
 IsMany count s t = 2 ^ 64 ≤ count + (length (faults_of t) - length (faults_of s)) + 1
 
--- why a read of a body handed none out: none comes, and where that was asked for all had been sent; or that wasn't sent, and
--- nothing asked for
+-- so much payload was read: some, or the body ended, or the read was interrupted
+pub record ReadsSome {S : Type 0} (s : Unbuffered S) (n : ℕ) (b : InBody S) : Type 0 where
+  pub steady : ReadsSteadily s b.stream
+  pub more : IsRest b.rest [] [] ⊎ (length (faults_of s) < n + length (faults_of b.stream))
+
+-- why none was: none comes, and the read wasn't interrupted
+abbrev pub FailsToRead : {S : Type 0} → Unbuffered S → Untaken → InBody S → Type 0
+FailsToRead s (Body e) b = Fails s e b.stream b.rest × ((why : Error) → e ≡ Io why → error_kind why ≢ Interrupted)
+FailsToRead s e b = ⊥
+
+-- so, and where that was asked for all had been sent; or that wasn't sent, and nothing asked for
 abbrev pub FailsOn : {S W : Type 0} → Unbuffered S → Untaken → InBody S → Buffered W StdPolicy → Type 0
-FailsOn s (Body e) b w' = Fails s e b.stream b.rest × ((b.stream.log ≡ s.log) ⊎ AllSent w')
+FailsOn s (Body e) b w' = FailsToRead s (Body e) b × ((b.stream.log ≡ s.log) ⊎ AllSent w')
 FailsOn s (Unsent e) b w' = EachReadGave s b.stream
 FailsOn s e b w' = ⊥
 

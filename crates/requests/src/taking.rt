@@ -1,12 +1,11 @@
 //! Bodies are taken whole, and their payload counted.
-ghost use Rattle.std.specs.Prelude.{◌≡◌, ℕ, ◌<◌, ◌≤◌, true, false, List, [], length, IfErr, IfOk, MatchResult, Ok, OnOk};
-ghost use Rattle.std.specs.declared.io.Error.{Error};
-ghost use Rattle.redux_buffer.specs.Faults.{IsInterrupt};
+ghost use Rattle.std.specs.Prelude.{◌≡◌, ℕ, ◌<◌, ◌≤◌, false, List, [], length, IfErr, IfOk, MatchResult, Ok, OnOk};
+ghost use Rattle.body_reader.specs.Asking.{AskedWhere};
 ghost use Rattle.body_reader.specs.Between.{handed_out};
 ghost use Rattle.codec.specs.PieceReader.{left_of};
 ghost use Rattle.messages.specs.Limits.{usual};
-ghost use Rattle.messages.specs.Messages.{EachReadGave, InsideGoes, IsRest};
-ghost use Rattle.requests.specs.Answers.{FailsOn, ReadsSteadily, TakeFails, TakesWhole, sent_till, sent_with, unfinished};
+ghost use Rattle.messages.specs.Messages.{AskedIn, InsideGoes, IsRest};
+ghost use Rattle.requests.specs.Answers.{FailsOn, FailsToRead, ReadsSome, ReadsSteadily, TakeFails, TakesWhole, sent_till, sent_with, unfinished};
 ghost use Rattle.requests.specs.Large.{is_large};
 ghost use Rattle.requests.specs.Sending.{IsHeld, SendsUnless, WritesPromptly};
 
@@ -88,32 +87,25 @@ fn payload_len<R: TellRead, W: TellWrite>(
     let extent = body.said().extent;
     let mut out = [0; 4096];
     let mut len = 0u64;
+    if is_large(extent, body.taken(), len) {
+        return Err(Untaken::Large);
+    }
     for _read in 0..u64::MAX {
+        match read_on(body, &mut out, writer) {
+            Ok(count) => len += count as u64,
+            Err(e) => return Err(e),
+        }
         if is_large(extent, body.taken(), len) {
             return Err(Untaken::Large);
         }
-        match read_on(body, &mut out, writer) {
-            Ok(0) => {
-                let all = body.taken();
-                if is_large(extent, all, len) {
-                    return Err(Untaken::Large);
-                }
-                return Ok(len);
-            }
-            Ok(count) => {
-                len += count as u64;
-            }
-            Err(e) => {
-                if !is_interrupted(&e) {
-                    return Err(e);
-                }
-            }
+        if body.is_done() {
+            return Ok(len);
         }
     }
     Err(Untaken::Many)
 }
 
-// Reads some payload. Where it isn't buffered, what is held is sent before the stream is asked.
+// Reads some payload, none where that is interrupted. Where it isn't buffered, what is held is sent before the stream is asked.
 fn read_on<R: TellRead, W: TellWrite>(
     body: &mut Body<R>,
     out: &mut [u8],
@@ -123,8 +115,7 @@ fn read_on<R: TellRead, W: TellWrite>(
     requires held { IsHeld writer.old }
     ensures bound { IfOk result (λ n. n ≤ length out.new) }
     ensures goes { InsideGoes R.remaining body.old (handed_out out.new result) body.new }
-    ensures ended { result ≡ Ok 0 → IsRest body.new.rest [] [] }
-    ensures gave { OnOk result (EachReadGave body.old.stream body.new.stream) }
+    ensures reads { IfOk result (λ n. ReadsSome body.old.stream n body.new) }
     ensures fails { IfErr result (λ e. FailsOn body.old.stream e body.new writer.new) }
     ensures writes { WritesPromptly W.log W.trace (body.old.stream, writer.old) [] (sent_with result)
         (body.new.stream, writer.new) }
@@ -137,11 +128,31 @@ fn read_on<R: TellRead, W: TellWrite>(
         return Ok(0);
     }
     match send_unless_shown(body, writer) {
-        Ok(()) => match body.read(out) {
-            Ok(count) => Ok(count),
-            Err(e) => Err(Untaken::Body(e)),
-        },
+        Ok(()) => read(body, out),
         Err(e) => Err(Untaken::Unsent(e)),
+    }
+}
+
+// Reads some payload, none where that is interrupted.
+fn read<R: TellRead>(body: &mut Body<R>, out: &mut [u8]) -> Result<usize, Untaken>
+    requires { 0 < length out.old }
+    ensures bound { IfOk result (λ n. n ≤ length out.new) }
+    ensures goes { InsideGoes R.remaining body.old (handed_out out.new result) body.new }
+    ensures reads { IfOk result (λ n. ReadsSome body.old.stream n body.new) }
+    ensures fails { IfErr result (λ e. FailsToRead body.old.stream e body.new) }
+    ensures asked { AskedWhere (AskedIn body.old.rest (length out.new) body.new.stream.log.reads.offer) body.old.stream
+        body.new.stream }
+{
+    match body.read(out) {
+        Ok(count) => Ok(count),
+        Err(BodyError::Io(e)) => {
+            if e.kind() == ErrorKind::Interrupted {
+                Ok(0)
+            } else {
+                Err(Untaken::Body(BodyError::Io(e)))
+            }
+        }
+        Err(e) => Err(Untaken::Body(e)),
     }
 }
 
@@ -157,14 +168,4 @@ fn send_unless_shown<R: TellRead, W: TellWrite>(
         return Ok(());
     }
     send_held(writer)
-}
-
-fn is_interrupted(e: &Untaken) -> bool
-    ensures yes { result ≡ true → (why : Error) × (e.now ≡ Untaken.Body (BodyError.Io why)) × IsInterrupt why }
-    ensures no { (why : Error) → e.now ≡ Untaken.Body (BodyError.Io why) → IsInterrupt why → result ≡ true }
-{
-    match e {
-        Untaken::Body(BodyError::Io(e)) => e.kind() == ErrorKind::Interrupted,
-        _ => false,
-    }
 }

@@ -1,11 +1,11 @@
-use Rattle.std.proofs.Common.{◌≡◌, ℕ, ◌+◌, ◌≤◌, List, [], length, Ok}
+use Rattle.std.proofs.Common.{◌≡◌, ℕ, ◌+◌, ◌≤◌, false, List, [], length, Ok}
 use Rattle.messages.specs.Messages.{InsideGoes}
 use Rattle.requests.specs.Answers.{ReadsSteadily, faults_of}
-use Rattle.requests.specs.Large.{IsNewlyLarge}
+use Rattle.requests.specs.Large.{is_large}
 use Rattle.requests.specs.Sending.{IsHeld, WritesPromptly}
 use Rattle.requests.proofs.taking.payload_len.Given as goal
 
--- this payload was read, and each turn read some of it, or was interrupted; before the last one it wasn't too large
+-- this payload was read, which isn't too large, and each turn read some of it, or was interrupted
 abbrev pub invariant-loop-read : goal.invariant-loop-read
 invariant-loop-read g l = record {
   payload : List ℕ;
@@ -16,5 +16,5 @@ invariant-loop-read g l = record {
   writes : WritesPromptly g.W.Tell.log g.W.TellWrite.trace (l.initial.body.stream, l.initial.writer) [] (Ok tt)
       (l.body.stream, l.writer);
   held : IsHeld l.writer;
-  fresh : IsNewlyLarge l.initial.body.said.extent 4096 l.body.taken payload;
+  small : is_large l.initial.body.said.extent (length l.body.taken) (length payload) ≡ false;
 }

@@ -1,86 +1,67 @@
 -- The stream is asked only where nothing buffered is payload, and what was held was sent then.
-use Rattle.std.proofs.Common.{◌≡◌, ◌⊎◌, ℕ, List, [], take, Option, Ok, ap, subst, inl, inr, ◌∙◌, arith, rules}
+use Rattle.std.proofs.Common.{◌≡◌, ℕ, [], take, Option, List, ap, arith, inl, rules, subst, sym}
+use Rattle.body_reader.specs.Between.{handed_out}
 use Rattle.messages.specs.Messages.{InBody, InsideGoes}
 use Rattle.messages.specs.MessagesLaws.{InsideGoes-joins}
-use Rattle.programs.specs.Streams.{AllSent}
-use Rattle.requests.proofs.Coming.{body_asked, sends_empty}
-use Rattle.requests.proofs.Reading.{Fails-asked}
-use Rattle.requests.proofs.Sending.{WritesPromptly-after, WritesPromptly-read}
+use Rattle.requests.specs.Sending.{WritesPromptly}
+use Rattle.requests.proofs.Coming.{comes_inside, sends_empty}
+use Rattle.requests.proofs.Reading.{fails_since, read_some, reads_since, sent_so}
+use Rattle.requests.proofs.Sending.{WritesPromptly-read}
 use Rattle.requests.proofs.taking.read_on.Goals as goal
-
-pub returns-then-count-gt0-clause-writes : goal.returns-then-count-gt0-clause-writes
-returns-then-count-gt0-clause-writes g c =
-    WritesPromptly-read g.met.W.TellWrite.trace_none c.args.writer.now (inl c.read_buffered-count.ensures.unasked)
-
-pub returns-then-is_done-clause-writes : goal.returns-then-is_done-clause-writes
-returns-then-is_done-clause-writes g c =
-    WritesPromptly-read g.met.W.TellWrite.trace_none c.args.writer.now (inl c.read_buffered-count.ensures.unasked)
 
 read_none : {R : Type 0} {remaining : R → Option (List ℕ)} {b m : InBody R} {count : ℕ} (out : List ℕ) → count ≡ 0
     → InsideGoes remaining b (take count out) m → InsideGoes remaining b [] m
 read_none {R} {remaining} {b} {m} out none goes =
     subst (λ l. InsideGoes remaining b l m) (ap (λ n. take n out) none) goes
 
+pub returns-then-count-gt0-clause-reads : goal.returns-then-count-gt0-clause-reads
+returns-then-count-gt0-clause-reads g c =
+    let same = c.read_buffered-count.ensures.unasked in
+    read_some c.read_buffered-count.result (ap (λ l. l.reads.faults) same, ap (λ l. l.reads.zero_reads) same)
+    (λ none. absurd (omega (arith, none, c.if-count-gt0.true)))
+
+pub returns-then-count-gt0-clause-writes : goal.returns-then-count-gt0-clause-writes
+returns-then-count-gt0-clause-writes g c =
+    WritesPromptly-read g.met.W.TellWrite.trace_none c.args.writer.now (inl c.read_buffered-count.ensures.unasked)
+
 pub returns-then-is_done-clause-goes : goal.returns-then-is_done-clause-goes
 returns-then-is_done-clause-goes g c =
     read_none c.read_buffered-count.new.out (omega (arith, c.if-count-gt0.false)) c.read_buffered-count.ensures.goes
 
+pub returns-then-is_done-clause-reads : goal.returns-then-is_done-clause-reads
+returns-then-is_done-clause-reads g c =
+    let same = c.read_buffered-count.ensures.unasked in
+    read_some 0 (ap (λ l. l.reads.faults) same, ap (λ l. l.reads.zero_reads) same)
+    (λ none. c.is_done.ensures.ended.0 c.if-is_done.true)
+
+pub returns-then-is_done-clause-writes : goal.returns-then-is_done-clause-writes
+returns-then-is_done-clause-writes g c =
+    WritesPromptly-read g.met.W.TellWrite.trace_none c.args.writer.now (inl c.read_buffered-count.ensures.unasked)
+
+pub returns-in-Ok : goal.returns-in-Ok
+returns-in-Ok g c =
+    let none = c.read_buffered-count.ensures in
+    let m = c.read_buffered-count.new.self in
+    let t = c.read.new.body in
+    let s = c.args.body.now.stream in
+    let zero : c.read_buffered-count.result ≡ 0 = omega (arith, c.if-count-gt0.false) in
+    let comes = comes_inside g.met.W.TellWrite.trace_none g.met.W.TellWrite.trace_joins c.read_buffered-count.result
+    c.read_buffered-count.new.out c.args.body.now.stream m t c.args.writer.now c.send_unless_shown.new.writer none.unasked
+    c.in-Ok.ensures zero (search rules) (λ done. let odd = c.is_done.ensures.ended.1 done in absurd (cc)) none.all
+    c.read.ensures.asked in
+    record {
+      bound = c.read.ensures.bound;
+      goes = InsideGoes-joins g.R.TellRead.remaining c.args.body.now m t [] (handed_out c.read.new.out c.read.result)
+          (read_none c.read_buffered-count.new.out zero none.goes) c.read.ensures.goes;
+      reads = reads_since s m.stream t none.unasked c.read.result c.read.ensures.reads;
+      fails = fails_since s m.stream t none.unasked c.read.result comes.asked c.read.ensures.fails;
+      writes = subst (λ r. WritesPromptly g.W.Tell.log g.W.TellWrite.trace (c.args.body.now.stream, c.args.writer.now) [] r
+          (t.stream, c.send_unless_shown.new.writer)) (sym (sent_so s m.stream t none.unasked c.read.result c.read.ensures.fails)) comes.writes;
+    }
+
 pub returns-in-Err-clause-goes : goal.returns-in-Err-clause-goes
 returns-in-Err-clause-goes g c =
     read_none c.read_buffered-count.new.out (omega (arith, c.if-count-gt0.false)) c.read_buffered-count.ensures.goes
-
-pub returns-in-Ok-read-clause-goes : goal.returns-in-Ok-read-clause-goes
-returns-in-Ok-read-clause-goes g c =
-    let first = read_none c.read_buffered-count.new.out (omega (arith, c.if-count-gt0.false))
-    c.read_buffered-count.ensures.goes in
-    InsideGoes-joins g.R.TellRead.remaining c.args.body.now c.read_buffered-count.new.self c.read.new.self []
-    (take c.in-Ok-read.count c.read.new.out) first c.in-Ok-read.ensures.goes
-
-pub returns-in-Err-read-clause-goes : goal.returns-in-Err-read-clause-goes
-returns-in-Err-read-clause-goes g c =
-    let first = read_none c.read_buffered-count.new.out (omega (arith, c.if-count-gt0.false))
-    c.read_buffered-count.ensures.goes in
-    InsideGoes-joins g.R.TellRead.remaining c.args.body.now c.read_buffered-count.new.self c.read.new.self [] [] first
-    c.in-Err-read.ensures.goes
-
-pub returns-in-Ok-read-clause-writes : goal.returns-in-Ok-read-clause-writes
-returns-in-Ok-read-clause-writes g c =
-    let m = c.read_buffered-count.new.self.stream in
-    let v = c.send_unless_shown.new.writer in
-    WritesPromptly-after g.met.W.TellWrite.trace_joins (c.args.body.now.stream, c.args.writer.now) (m, v)
-    (c.read.new.self.stream, v)
-    [] [] (Ok tt)
-    (sends_empty g.met.W.TellWrite.trace_none g.met.W.TellWrite.trace_joins c.args.body.now.stream m c.args.writer.now v
-    c.read_buffered-count.ensures.unasked c.in-Ok.ensures) (WritesPromptly-read g.met.W.TellWrite.trace_none v
-    (body_asked c.read_buffered-count.result c.read_buffered-count.new.out c.read_buffered-count.new.self c.read.new.self
-    c.args.writer.now c.send_unless_shown.new.writer c.in-Ok.ensures (omega (arith, c.if-count-gt0.false)) (search rules)
-    (λ done. let odd = c.is_done.ensures.ended.1 done in absurd (cc)) c.read_buffered-count.ensures.all c.read.ensures.asked))
-
-pub returns-in-Err-read-clause-writes : goal.returns-in-Err-read-clause-writes
-returns-in-Err-read-clause-writes g c =
-    let m = c.read_buffered-count.new.self.stream in
-    let v = c.send_unless_shown.new.writer in
-    WritesPromptly-after g.met.W.TellWrite.trace_joins (c.args.body.now.stream, c.args.writer.now) (m, v)
-    (c.read.new.self.stream, v)
-    [] [] (Ok tt)
-    (sends_empty g.met.W.TellWrite.trace_none g.met.W.TellWrite.trace_joins c.args.body.now.stream m c.args.writer.now v
-    c.read_buffered-count.ensures.unasked c.in-Ok.ensures) (WritesPromptly-read g.met.W.TellWrite.trace_none v
-    (body_asked c.read_buffered-count.result c.read_buffered-count.new.out c.read_buffered-count.new.self c.read.new.self
-    c.args.writer.now c.send_unless_shown.new.writer c.in-Ok.ensures (omega (arith, c.if-count-gt0.false)) (search rules)
-    (λ done. let odd = c.is_done.ensures.ended.1 done in absurd (cc)) c.read_buffered-count.ensures.all c.read.ensures.asked))
-
-pub returns-in-Err-read-clause-fails : goal.returns-in-Err-read-clause-fails
-returns-in-Err-read-clause-fails g c =
-    let same = c.read_buffered-count.ensures.unasked in
-    let asked : (c.read.new.self.stream.log ≡ c.read_buffered-count.new.self.stream.log)
-    ⊎ AllSent c.send_unless_shown.new.writer =
-    body_asked c.read_buffered-count.result c.read_buffered-count.new.out c.read_buffered-count.new.self c.read.new.self
-    c.args.writer.now c.send_unless_shown.new.writer c.in-Ok.ensures (omega (arith, c.if-count-gt0.false)) (search rules)
-    (λ done. let odd = c.is_done.ensures.ended.1 done in absurd (cc)) c.read_buffered-count.ensures.all c.read.ensures.asked in (
-      Fails-asked c.args.body.now.stream c.read_buffered-count.new.self.stream c.in-Err-read.e c.read.new.self.stream
-          c.read.new.self.rest same c.in-Err-read.ensures.fails,
-      elim asked [ inl still ↦ inl (still ∙ same) | inr all ↦ inr all ],
-    )
 
 pub returns-in-Err-clause-writes : goal.returns-in-Err-clause-writes
 returns-in-Err-clause-writes g c =
