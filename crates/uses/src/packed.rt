@@ -2,7 +2,7 @@
 ghost use Rattle.std.specs.Prelude.{◌≡◌, true, OnOk, IfOk, IfErr, vec_items};
 ghost use Rattle.buffer_redux.specs.Buffered.{InnerWent};
 ghost use Rattle.buffer_redux.specs.Faults.{IsMemory};
-ghost use Rattle.buffer_redux.specs.BufWriter.{WritesInOrder, WriterStopped};
+ghost use Rattle.buffer_redux.specs.BufWriter.{FrontAlong, WritesInOrder, WriterStopped};
 ghost use Rattle.uses.specs.Records.{with_length, with_lengths, IsShort, AreShort};
 
 use buffer_redux::BufWriter;
@@ -25,8 +25,8 @@ pub fn packed(alloc: Global, records: &[Vec<u8>]) -> io::Result<Vec<u8>>
     Ok(writer.into_inner()?.into_vec())
 }
 
-/// Writes one record. Its frame then stands behind what the writer received before, there or in its buffer.
-/// An `Err` may leave a part of it there, as of `write_record`: write nothing more behind it.
+/// Writes one record. Its frame then stands behind what the writer received before, there or in its buffer, and isn't flushed.
+/// An `Err` may leave a beginning of it there, as of `write_record`: write nothing more behind it.
 pub fn pack_record<W: TellWrite, P: WriterPolicy>(
     writer: &mut BufWriter<W, P>,
     bytes: &[u8],
@@ -35,6 +35,8 @@ pub fn pack_record<W: TellWrite, P: WriterPolicy>(
     ensures packed { OnOk result (WritesInOrder writer.old (with_length bytes.now) writer.new) }
     ensures caused { (P.rules.claims writer.old.policy).steady ≡ true
         → IfErr result (WriterStopped writer.old.log.writes writer.new.log.writes) }
+    ensures flushes { writer.new.log.writes.flushes ≡ writer.old.log.writes.flushes }
+    ensures front { FrontAlong W.log W.trace P.rules writer.old (with_length bytes.now) result writer.new }
     ensures went { InnerWent W.log W.trace writer.old writer.new }
 {
     writer.write_all(&(bytes.len() as u16).to_be_bytes())?;

@@ -1,6 +1,7 @@
 //! Counts lines by `read_until`, and writes a count beside a line.
-ghost use Rattle.std.specs.Prelude.{◌<◌, IfOk, IfErr};
-ghost use Rattle.buffer_redux.specs.BufWriter.{FrontAlong};
+ghost use Rattle.std.specs.Prelude.{◌≡◌, ◌<◌, ◌⊎◌, true, IfOk, IfErr};
+ghost use Rattle.buffer_redux.specs.BufWriter.{FrontAlong, WriterStopped};
+ghost use Rattle.buffer_redux.specs.Faults.{IsMemory};
 ghost use Rattle.buffer_redux.specs.ReaderLaws.{WantsBytes};
 ghost use Rattle.uses.specs.Tally.{ReadsPieces, StopsInPieces, tally_text};
 
@@ -33,14 +34,19 @@ pub fn count_pieces<R: TellRead, P: ReaderPolicy>(
     Err(io::Error::from(ErrorKind::Other))
 }
 
-/// Writes a count, a space, and a line with a line feed behind it. After an `Err` a beginning of that was accepted.
+/// Writes a count, a space, and a line with a line feed behind it. After an `Err` a beginning of that was accepted, or nothing
+/// was done for want of memory. It flushes nothing.
 pub fn write_tally<W: TellWrite, P: WriterPolicy>(
     alloc: Global,
     writer: &mut BufWriter<W, P>,
     count: u64,
     line: &[u8],
 ) -> io::Result<()>
-    ensures { FrontAlong W.log W.trace P.rules writer.old (tally_text count line.now) result writer.new }
+    ensures front { FrontAlong W.log W.trace P.rules writer.old (tally_text count line.now) result writer.new }
+    ensures caused { (P.rules.claims writer.old.policy).steady ≡ true
+        → IfErr result (λ e. WriterStopped writer.old.log.writes writer.new.log.writes e
+        ⊎ (IsMemory e × (writer.new ≡ writer.old))) }
+    ensures flushes { writer.new.log.writes.flushes ≡ writer.old.log.writes.flushes }
 {
     let head = format!(in alloc; "{count} ")?;
     writer.write_all(head.as_bytes())?;
