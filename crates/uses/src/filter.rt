@@ -1,6 +1,6 @@
 //! Copies lines to a writer that tells where one can't be sent.
-ghost use Rattle.std.specs.Prelude.{◌<◌, IfErr, IfOk};
-ghost use Rattle.uses.specs.Filter.{FiltersAll, FiltersSome};
+ghost use Rattle.std.specs.Prelude.{◌+◌, ◌^◌, ◌<◌, IfErr, IfOk, IfSome, length};
+ghost use Rattle.uses.specs.Filter.{FiltersAll, FiltersSome, FiltersText};
 
 use buffer_redux::tell::{TellRead, TellWrite, Told};
 use buffer_redux::{BufReader, LineSender, LineWriter};
@@ -17,7 +17,7 @@ pub fn matching<R: TellRead + Drop, W: TellWrite>(
     word: &str,
 ) -> io::Result<()>
     ensures all { 0 < reader.block.capacity
-        → IfOk result (λ _. FiltersAll R.remaining word.now reader writer.old writer.new) }
+        → IfOk result (λ _. FiltersAll R.remaining W.log W.trace word.now reader writer.old writer.new) }
     ensures some { 0 < reader.block.capacity
         → IfErr result (λ e. FiltersSome R.remaining W.log W.trace word.now reader writer.old e writer.new) }
 {
@@ -30,14 +30,18 @@ pub fn matching<R: TellRead + Drop, W: TellWrite>(
     writer.flush()
 }
 
-/// The same from a stream of std to another.
+/// The same from a stream of std to another, which is handed back after an `Ok`.
 pub fn filter<R: Read + Drop, W: Write + Drop>(
     alloc: Global,
     from: R,
     to: W,
     word: &str,
-) -> io::Result<()> {
+) -> io::Result<W>
+    ensures { IfOk result (λ w. IfSome (R.remaining from) (λ text. length text + 1 < 2 ^ 64
+        → FiltersText word.now text (W.contents to) (W.contents w))) }
+{
     let reader = BufReader::new(alloc, Told::new(from))?;
-    let lines = LineWriter::new(alloc, Told::new(to))?;
-    matching(alloc, reader, &mut LineSender::new(lines), word)
+    let mut lines = LineSender::new(LineWriter::new(alloc, Told::new(to))?);
+    matching(alloc, reader, &mut lines, word)?;
+    Ok(lines.into_inner().into_inner_with_buffer().0.into_inner())
 }
