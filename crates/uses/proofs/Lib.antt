@@ -1,5 +1,6 @@
 pub mod FrameState
 pub mod Gaining
+pub mod Closing
 pub mod Enduring
 pub mod Failing
 pub mod Reporting

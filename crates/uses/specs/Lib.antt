@@ -1,5 +1,6 @@
 pub mod Echo
 pub mod Filter
+pub mod FullLog
 pub mod IntLines
 pub mod Keeper
 pub mod LineCount

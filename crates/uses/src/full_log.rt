@@ -1,7 +1,9 @@
 //! A log that keeps the bytes which its device doesn't take, and sends them later.
-ghost use Rattle.std.specs.Prelude.{◌≡◌, ◌+◌, ◌⊎◌, [], ◌++◌, IfErr, OnOk, length, take};
+ghost use Rattle.std.specs.Prelude.{◌≡◌, ◌+◌, ◌≤◌, ◌⊎◌, ℕ, [], ◌++◌, IfErr, OnOk, length, take};
+ghost use Rattle.buffer_redux.specs.Buffered.{over_buffer};
 ghost use Rattle.buffer_redux.specs.BufWriter.{WritesInOrder};
 ghost use Rattle.buffer_redux.specs.Unwrapping.{KeepsUnsent};
+ghost use Rattle.uses.specs.FullLog.{ClosesAgain};
 ghost use Rattle.uses.specs.Stops.{DeviceFailed, FailedTimes};
 
 use buffer_redux::tell::TellWrite;
@@ -37,15 +39,16 @@ pub fn close<W: TellWrite>(log: LineWriter<W>) -> (W, Buffer)
 
 /// The same log again, over a device that may take bytes by now.
 pub fn reopen<W: TellWrite>(device: W, unsent: Buffer) -> LineWriter<W>
-    ensures log { result.log ≡ W.log device }
-    ensures unsent { result.block ≡ unsent }
+    ensures { result ≡ over_buffer W.log (record {}) unsent device }
 {
     LineWriter::with_buffer(unsent, device)
 }
 
-/// Closes the log, and tries so many times again to send what is left.
+/// Closes the log, and tries so many times again to send what is left, as long as something is.
 pub fn close_patiently<W: TellWrite>(log: LineWriter<W>, tries: u32) -> (W, Buffer)
     ensures tried { (result.1.bytes ≡ []) ⊎ FailedTimes (tries + 1) log.log.writes (W.log result.0).writes }
+    ensures often { (again : ℕ) × (again ≤ tries) × ((result.1.bytes ≡ []) ⊎ (again ≡ tries))
+        × ClosesAgain W.log again log result.0 result.1 }
     ensures none_lost { (W.log result.0).writes.received ++ result.1.bytes ≡ log.log.writes.received ++ log.block.bytes }
 {
     let (mut device, mut unsent) = close(log);

@@ -1,0 +1,13 @@
+-- How often a log is closed.
+use Rattle.std.specs.Prelude.{ℕ, ◌<◌, length, zero, suc}
+use Rattle.buffer_redux.specs.Block.{Block}
+use Rattle.buffer_redux.specs.Buffered.{Buffered, over_buffer}
+use Rattle.buffer_redux.specs.StreamLog.{StreamLog}
+use Rattle.buffer_redux.specs.Unwrapping.{KeepsUnsent}
+use Rattle.buffer_redux.specs.declared.policy.writers.FlushOnNewline.{FlushOnNewline}
+
+-- the log was closed, and so many times again, each time over the bytes that came back, of which there were some
+abbrev pub ClosesAgain : {S : Type 0} → (S → StreamLog) → ℕ → Buffered S FlushOnNewline → S → Block → Type 0
+ClosesAgain tells zero log device unsent = KeepsUnsent tells log device unsent
+ClosesAgain {S} tells (suc k) log device unsent = (before : S) × (left : Block) × ClosesAgain tells k log before left
+    × (0 < length left.bytes) × KeepsUnsent tells (over_buffer {P = FlushOnNewline} tells (record {}) left before) device unsent
