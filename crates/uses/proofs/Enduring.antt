@@ -1,14 +1,12 @@
 -- Reading on over faults that pass.
-use Rattle.std.proofs.Common.{◌≡◌, ◌∙◌, ℕ, ◌+◌, List, [], ◌∷◌, ◌++◌, length, Err, true, inl, inr, refl, sym, ap, subst, append-nil, append_assoc, length-append, arith}
+use Rattle.std.proofs.Common.{◌≡◌, ◌∙◌, ℕ, ◌+◌, List, [], ◌∷◌, ◌++◌, length, inl, inr, refl, sym, ap, subst, append-nil, append_assoc, length-append, arith}
 use Rattle.std.proofs.lemmas.List.Elements.{All-nil, All-push}
 use Rattle.std.specs.IoError.{error_kind}
 use Rattle.std.specs.declared.io.Error.{Error}
 use Rattle.std.specs.declared.io.ErrorKind.TheVariants.{OutOfMemory}
-use Rattle.buffer_redux.specs.BufReader.{Fills, ReadsInOrder}
+use Rattle.buffer_redux.specs.BufReader.{ReadsInOrder}
 use Rattle.buffer_redux.specs.Buffered.{Buffered}
-use Rattle.buffer_redux.specs.Policy.{ReadRules}
 use Rattle.uses.specs.Stops.{MayGoOn, MetPassing}
-use Rattle.std.proofs.lemmas.Bool.{MatchBool-at_true}
 
 pub MetPassing-none : (faults : List Error) → MetPassing 0 faults faults
 MetPassing-none faults =

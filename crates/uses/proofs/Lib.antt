@@ -1,6 +1,7 @@
 pub mod FrameState
 pub mod Gaining
 pub mod Closing
+pub mod EmptyAsks
 pub mod Enduring
 pub mod Failing
 pub mod Reporting

@@ -4,6 +4,7 @@ pub mod FullLog
 pub mod IntLines
 pub mod Keeper
 pub mod LineCount
+pub mod OwnPolicy
 pub mod Progress
 pub mod Records
 pub mod Sifted

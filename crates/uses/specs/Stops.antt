@@ -2,8 +2,9 @@
 use Rattle.std.specs.Prelude.{◌≡◌, ℕ, ◌+◌, ◌^◌, ◌<◌, ◌≤◌, ◌⊎◌, List, ◌∷◌, [], ◌++◌, length, All, Result, Ok, Err}
 use Rattle.std.specs.IoError.{error_kind}
 use Rattle.std.specs.declared.io.Error.{Error}
-use Rattle.std.specs.declared.io.ErrorKind.TheVariants.{Interrupted, Other, OutOfMemory, TimedOut, WouldBlock, WriteZero}
+use Rattle.std.specs.declared.io.ErrorKind.TheVariants.{Interrupted, Other, TimedOut, WouldBlock, WriteZero}
 use Rattle.buffer_redux.specs.Buffered.{Buffered}
+use Rattle.buffer_redux.specs.Faults.{IsMemory}
 use Rattle.buffer_redux.specs.StreamLog.{WriteLog}
 use Rattle.buffer_redux.specs.WriterTells.{failures}
 
@@ -36,17 +37,22 @@ pub record MetLast (most : ℕ) (old new : List Error) (e : Error) : Type 0 wher
   pub last : new ≡ before ++ e ∷ []
   pub often : MayGoOn e → count ≡ most
 
--- at most so many faults came, all of which pass, and then memory was refused, or too much came
-pub record MetFew {S P : Type 0} (most : ℕ) (e : Error) (s t : Buffered S P) : Type 0 where
+-- memory was refused, and more is buffered than there was room for
+pub record RoomRefused {S P : Type 0} (e : Error) (room : ℕ) (t : Buffered S P) : Type 0 where
+  pub memory : IsMemory e
+  pub more : room < length t.block.bytes
+
+-- at most so many faults came, all of which pass, and then room was refused, or too much came
+pub record MetFew {S P : Type 0} (most : ℕ) (e : Error) (room : ℕ) (s t : Buffered S P) : Type 0 where
   pub count : ℕ
   pub few : count ≤ most
   pub passed : MetPassing count s.log.reads.faults t.log.reads.faults
-  pub why : (error_kind e ≡ OutOfMemory) ⊎ CameTooMuch e (count + 1) s t
+  pub why : RoomRefused e room t ⊎ CameTooMuch e (count + 1) s t
 
--- what a patient reader met: at Ok at most so many faults, all of which pass
-abbrev pub Endures : {S P : Type 0} → ℕ → Result (Unit {0}) Error → Buffered S P → Buffered S P → Type 0
-Endures most (Ok _) s t = (count : ℕ) × (count ≤ most) × MetPassing count s.log.reads.faults t.log.reads.faults
-Endures most (Err e) s t = MetLast most s.log.reads.faults t.log.reads.faults e ⊎ MetFew most e s t
+-- what a patient reader met, into a list that has so much room: at Ok at most so many faults, all of which pass
+abbrev pub Endures : {S P : Type 0} → ℕ → Result (Unit {0}) Error → ℕ → Buffered S P → Buffered S P → Type 0
+Endures most (Ok _) room s t = (count : ℕ) × (count ≤ most) × MetPassing count s.log.reads.faults t.log.reads.faults
+Endures most (Err e) room s t = MetLast most s.log.reads.faults t.log.reads.faults e ⊎ MetFew most e room s t
 
 -- the device failed with this error, or took nothing of something
 abbrev pub DeviceFailed : WriteLog → WriteLog → Error → Type 0

@@ -7,6 +7,7 @@ use Rattle.std.specs.declared.io.Error.{Error}
 use Rattle.std.specs.declared.io.ErrorKind.TheVariants.{Other}
 use Rattle.buffer_redux.specs.Buffered.{Buffered}
 use Rattle.buffer_redux.specs.BufReader.{ReadsAlong, ReadsToEnd}
+use Rattle.buffer_redux.specs.EmptyReads.{ReadsWhenEmpty}
 use Rattle.buffer_redux.specs.Policy.{ReadRules}
 use Rattle.buffer_redux.specs.ReadUntil.{EndsIn, Lacks, ReadsUntil}
 use Rattle.uses.specs.LineCount.{line_feeds}
@@ -15,14 +16,17 @@ use Rattle.uses.specs.LineCount.{line_feeds}
 abbrev pub IsLinePiece : List ℕ → Type 0
 IsLinePiece piece = EndsIn 10 piece ⊎ ((0 < length piece) × Lacks 10 piece)
 
--- just these pieces were handed out, and no more of them lack a line feed than the reader ran dry
+-- just these pieces were handed out, and no more of them lack a line feed than the reader ran dry: just as many, where a read
+-- is ordered over an empty buffer alone
 pub record HandsLinePieces {S P : Type 0} (remaining : S → Option (List ℕ)) (rules : ReadRules P) (pieces : List (List ℕ))
     (s t : Buffered S P) : Type 0 where
   pub are : All IsLinePiece pieces
   pub few : length pieces + s.log.reads.zero_reads ≤ line_feeds (concat pieces) + t.log.reads.zero_reads
+  pub just : ReadsWhenEmpty rules
+      → length pieces + s.log.reads.zero_reads ≡ line_feeds (concat pieces) + t.log.reads.zero_reads
   pub along : ReadsAlong remaining rules s (concat pieces) t
 
--- so many pieces were handed out, and then the end was met
+-- so many pieces were handed out, and then the end was met, and nothing asked behind it
 pub record ReadsPieces {S P : Type 0} (remaining : S → Option (List ℕ)) (rules : ReadRules P) (n : ℕ)
     (s t : Buffered S P) : Type 0 where
   pub pieces : List (List ℕ)
@@ -30,6 +34,7 @@ pub record ReadsPieces {S P : Type 0} (remaining : S → Option (List ℕ)) (rul
   pub hands : HandsLinePieces remaining rules pieces s last
   pub count : n ≡ length pieces
   pub end : ReadsToEnd remaining rules last [] t
+  pub once : ReadsWhenEmpty rules → t.log.reads.zero_reads ≡ last.log.reads.zero_reads + 1
 
 -- pieces were handed out, and then a `read_until` of the next, which got so far, failed with this error; or they are more
 -- than a `u64` counts

@@ -1,6 +1,7 @@
 //! A policy of one's own that claims a minimum, and what follows of the claim for whoever fills under it.
-ghost use Rattle.std.specs.Prelude.{◌≡◌, ◌≤◌, [], Some, Ok, false, IfOk, IsTrue, length};
-ghost use Rattle.buffer_redux.specs.BufReader.{RanDry, ReadsInOrder};
+ghost use Rattle.std.specs.Prelude.{◌≡◌, ◌+◌, ◌≤◌, ◌↔◌, [], Ok, false, IfOk, IsTrue, length};
+ghost use Rattle.buffer_redux.specs.BufReader.{RanDry, ReadErrorCaused, ReadsInOrder};
+ghost use Rattle.uses.specs.OwnPolicy.{sixteen_rules};
 
 use buffer_redux::policy::{DoRead, ReaderPolicy};
 use buffer_redux::tell::TellRead;
@@ -8,14 +9,12 @@ use buffer_redux::{BufReader, Buffer};
 use std::io;
 use std::io::{BufRead, ErrorKind};
 
-/// Has sixteen bytes in sight, as far as there are so many.
+/// Has sixteen bytes in sight, as far as there are so many. It fails for want of memory alone.
 #[derive(Drop)]
 pub struct HeaderFirst;
 
 impl ReaderPolicy for HeaderFirst {
-    ghost use Rattle.buffer_redux.specs.Policy.{any_read_rules, no_read_claims};
-
-    ghost rules = { record any_read_rules { claims = λ p. record no_read_claims { minimum = Some 16 } } };
+    ghost rules = { sixteen_rules };
 
     fn before_read(&mut self, buffer: &mut Buffer) -> io::Result<DoRead> {
         let len = buffer.len();
@@ -34,8 +33,10 @@ impl ReaderPolicy for HeaderFirst {
 
 /// Whether sixteen bytes are in sight; if not, the stream has ended. They stay in the reader.
 pub fn sees_header<R: TellRead>(reader: &mut BufReader<R, HeaderFirst>) -> io::Result<bool>
-    ensures seen { IfOk result (λ seen. IsTrue seen → 16 ≤ length reader.new.block.bytes) }
+    ensures seen { IfOk result (λ seen. IsTrue seen ↔ 16 ≤ length reader.new.block.bytes) }
     ensures ended { result ≡ Ok false → RanDry reader.old reader.new }
+    ensures once { reader.new.log.reads.zero_reads ≤ reader.old.log.reads.zero_reads + 1 }
+    ensures caused { ReadErrorCaused sixteen_rules reader.old result reader.new }
     ensures kept { ReadsInOrder reader.old [] reader.new }
 {
     Ok(reader.fill_buf()?.len() >= 16)

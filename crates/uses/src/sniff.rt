@@ -1,5 +1,5 @@
 //! Tells a format by the first sixteen bytes of a stream, and hands the whole stream on.
-ghost use Rattle.std.specs.Prelude.{◌≡◌, ◌≤◌, ◌⊎◌, [], IfSome, IfOk, OnOk, length, take};
+ghost use Rattle.std.specs.Prelude.{◌≡◌, ◌+◌, ◌≤◌, ◌⊎◌, [], IfSome, IfOk, OnOk, length, take};
 ghost use Rattle.buffer_redux.specs.BufReader.{ReadErrorCaused, ReadsInOrder, RanDry};
 ghost use Rattle.buffer_redux.specs.MinBuffered.{min_read_rules};
 ghost use Rattle.buffer_redux.specs.Remaining.{reader_remaining};
@@ -46,6 +46,7 @@ pub fn sniff<R: TellRead>(reader: &mut BufReader<R, MinBuffered>) -> io::Result<
     ensures format { IfOk result (λ f. f ≡ format_of (take 16 reader.new.block.bytes)) }
     ensures shown { OnOk result ((16 ≤ length reader.new.block.bytes) ⊎ RanDry reader.old reader.new) }
     ensures caused { ReadErrorCaused min_read_rules reader.old result reader.new }
+    ensures once { reader.new.log.reads.zero_reads ≤ reader.old.log.reads.zero_reads + 1 }
     ensures kept { ReadsInOrder reader.old [] reader.new }
     ensures known { IfSome (reader_remaining R.remaining min_read_rules reader.old)
         (λ xs. IfOk result (λ f. f ≡ format_of (take 16 xs))) }

@@ -1,14 +1,23 @@
 -- The bytes that were handed out have the line feeds that were counted, and a fill that shows none met the end.
 use Rattle.std.proofs.Common.{◌≡◌, ◌+◌, ◌==◌, inr, [], ◌++◌, length, refl, sym, ap, ◌∙◌, arith, length-append}
 use Rattle.std.proofs.lemmas.List.Sums.{count_by-le-length, sum_by-append}
-use Rattle.buffer_redux.specs.ReaderLaws.{ReadsAlong-none, ReadsAlong-shown, ReadsToEnd-of, ReadsToEnd-known}
+use Rattle.std.proofs.lemmas.Result.{err_from_is_err_and}
+use Rattle.buffer_redux.specs.EmptyReads.{none_before_fault, none_where_shown, once_at_most}
+use Rattle.buffer_redux.specs.ReaderLaws.{FillBuf-along, ReadsAlong-none, ReadsAlong-shown, ReadsAlong-then, ReadsToEnd-of, ReadsToEnd-known}
 use Rattle.uses.specs.LineCount.{line_feeds}
 use Rattle.uses.proofs.Enduring.{seen}
 use Rattle.uses.proofs.line_count.count_lines.Goals.{else-loop-test, then-loop-test+in_ok-shown+else-len-eq0+in-None}
 use Rattle.uses.proofs.line_count.count_lines.Goals as goal
 
 pub loop-init : goal.loop-init
-loop-init g c = record { handed = []; along = ReadsAlong-none _ _ _; count = refl; none = refl; turns = omega arith }
+loop-init g c = record {
+  handed = [];
+  along = ReadsAlong-none _ _ _;
+  count = refl;
+  none = refl;
+  turns = omega arith;
+  quiet = λ _. refl;
+}
 
 pub loop-preserved : goal.loop-preserved
 loop-preserved g c =
@@ -26,6 +35,10 @@ loop-preserved g c =
         length-append before.handed c.in_ok-shown.shown.now,
         c.if-len-eq0.false,
       );
+      quiet = λ orders. ap (λ l. l.reads.zero_reads) c.consume.ensures.consumed.told
+          ∙ none_where_shown g.P.ReaderPolicy.rules orders _ _ c.in_ok-shown.shown filled.fills.filled
+          (omega (arith, c.if-len-eq0.false, ap length filled.shown))
+          ∙ before.quiet orders;
     }
 
 pub returns-then-len-eq0-clause-lines : goal.returns-then-len-eq0-clause-lines
@@ -72,3 +85,51 @@ returns-clause-caused g c steady =
             ))
       ];
     })
+
+pub returns-then-len-eq0-clause-once : goal.returns-then-len-eq0-clause-once
+returns-then-len-eq0-clause-once g c orders =
+    let filled = rw c.in_ok-shown.was at c.fill_buf.follows.holds-at-none in omega (
+      arith,
+      c.loop.invariant.quiet orders,
+      (returns-then-len-eq0-clause-lines g c).end.dry,
+      once_at_most g.P.ReaderPolicy.rules orders _ _ c.in_ok-shown.shown filled.fills.filled,
+    )
+
+pub returns-in_err-shown-clause-once : goal.returns-in_err-shown-clause-once
+returns-in_err-shown-clause-once g c orders =
+    let p = err_from_is_err_and c.from_residual.result c.from_residual.ensures.1 in
+    let filled = rw c.in_err-shown.was at c.fill_buf.follows.holds-at-none in
+    rw p.1 (none_before_fault g.P.ReaderPolicy.rules orders _ _ _ filled.fills.filled ∙ c.loop.invariant.quiet orders)
+
+pub returns-in_err-shown-clause-part : goal.returns-in_err-shown-clause-part
+returns-in_err-shown-clause-part g c =
+    let p = err_from_is_err_and c.from_residual.result c.from_residual.ensures.1 in
+    let before = c.loop.invariant in
+    rw p.1 (
+      before.handed,
+      ReadsAlong-then _ _ _ _ _ _ before.along (FillBuf-along _ _ _ _ _ c.fill_buf.follows.holds-at-none),
+    )
+
+pub returns-clause-once : goal.returns-clause-once
+returns-clause-once g c orders =
+    elim c.loop-test.branch [
+      | else-loop-test w ↦ ap (λ r. r.log.reads.zero_reads) w.reader-is ∙ c.loop.invariant.quiet orders
+      | then-loop-test+in_ok-shown+else-len-eq0+in-None w ↦
+          (let filled = rw w.in_ok-shown.was at w.fill_buf.follows.holds-at-none in
+          ap (λ r. r.log.reads.zero_reads) w.reader-is
+          ∙ none_where_shown g.P.ReaderPolicy.rules orders _ _ w.in_ok-shown.shown filled.fills.filled
+          (omega (arith, w.if-len-eq0.false, ap length filled.shown))
+          ∙ c.loop.invariant.quiet orders)
+    ]
+
+pub returns-clause-part : goal.returns-clause-part
+returns-clause-part g c =
+    let before = c.loop.invariant in
+    elim c.loop-test.branch [
+      | else-loop-test w ↦ (before.handed, rw w.reader-is before.along)
+      | then-loop-test+in_ok-shown+else-len-eq0+in-None w ↦ (
+        before.handed,
+        rw w.reader-is (ReadsAlong-then _ _ _ _ _ _ before.along
+            (FillBuf-along _ _ _ _ _ w.fill_buf.follows.holds-at-none)),
+      )
+    ]

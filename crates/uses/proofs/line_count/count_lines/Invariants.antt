@@ -1,5 +1,6 @@
 use Rattle.std.proofs.Common.{◌≡◌, ℕ, ◌≤◌, List, length}
 use Rattle.buffer_redux.specs.BufReader.{ReadsAlong}
+use Rattle.buffer_redux.specs.EmptyReads.{ReadsWhenEmpty}
 use Rattle.uses.specs.LineCount.{line_feeds}
 use Rattle.uses.proofs.line_count.count_lines.Given as goal
 
@@ -11,4 +12,5 @@ invariant-loop g l = record {
   count : l.lines ≡ line_feeds handed;
   none : l.reader.log.reads.faults ≡ l.initial.reader.log.reads.faults;
   turns : l.counter ≤ length handed;
+  quiet : ReadsWhenEmpty g.P.ReaderPolicy.rules → l.reader.log.reads.zero_reads ≡ l.initial.reader.log.reads.zero_reads;
 }

@@ -6,6 +6,7 @@ use Rattle.buffer_redux.specs.MinBuffered.{min_read_rules}
 use Rattle.buffer_redux.specs.Remaining.{reader_remaining}
 use Rattle.buffer_redux.specs.ReaderLaws.{FillBuf-first, FillBuf-keeps}
 use Rattle.uses.specs.Sniff.{format_of}
+use Rattle.uses.proofs.EmptyAsks.{fill_once}
 use Rattle.uses.proofs.sniff.sniff.Goals as goal
 use Rattle.uses.proofs.sniff.sniff.Goals.{After-reader-2-1}
 
@@ -34,3 +35,9 @@ returns-clause-left g c = FillBuf-keeps _ _ _ _ _ c.fill_buf.follows.holds-at-no
 
 pub returns-in_err-shown-clause-left : goal.returns-in_err-shown-clause-left
 returns-in_err-shown-clause-left g c = FillBuf-keeps _ _ _ _ _ c.fill_buf.follows.holds-at-none
+
+pub returns-clause-once : goal.returns-clause-once
+returns-clause-once g c = fill_once min_read_rules _ _ _ c.fill_buf.follows.holds-at-none.fills.filled
+
+pub returns-in_err-shown-clause-once : goal.returns-in_err-shown-clause-once
+returns-in_err-shown-clause-once g c = fill_once min_read_rules _ _ _ c.fill_buf.follows.holds-at-none.fills.filled

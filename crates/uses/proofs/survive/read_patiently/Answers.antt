@@ -1,5 +1,5 @@
 -- What a turn handed out joins what was gained before, and each fault that was passed over is one that passes.
-use Rattle.std.proofs.Common.{[], sym, append-nil, vec_items, ◌-◌, ◌∙◌, ap, arith, inl, inr, subst, rules}
+use Rattle.std.proofs.Common.{refl, [], sym, append-nil, vec_items, ◌-◌, ◌∙◌, ap, arith, inl, inr, subst, rules}
 use Rattle.buffer_redux.specs.ReaderLaws.{ReadsAlong-none}
 use Rattle.uses.specs.Stops.{MayGoOn, MetPassing}
 use Rattle.uses.proofs.Enduring.{MetPassing-none, MetPassing-same, MetPassing-more, memory_stays, seen}
@@ -19,6 +19,8 @@ loop-init g c = record {
       let faults = c.args.reader.now.log.reads.faults in
       subst (λ n. MetPassing n faults faults) (omega arith) (MetPassing-none faults);
   turns = omega arith;
+  room = omega arith;
+  quiet = λ _. refl;
 }
 
 pub loop-preserved : goal.loop-preserved
@@ -38,6 +40,8 @@ loop-preserved g c =
             met = λ steady. subst (λ n. MetPassing (c.args.faults - n) first last) (sym w.left-is)
                 (MetPassing-same (before.met steady) moved.none);
             turns = omega (arith, before.turns, moved.count, w.left-is, some);
+            room = omega (arith, before.room, turn.capacity);
+            quiet = λ orders. (w.in-Ok.ensures.once orders).1 (omega (arith, some)) ∙ before.quiet orders;
           })
       | in-Err+else-left-eq0+else-not-passes w ↦
           (let passes : MayGoOn w.in-Err.e = w.passes.ensures.0 (search rules) in
@@ -49,7 +53,7 @@ loop-preserved g c =
                 elim (w.in-Err.ensures.caused (ap (λ x. x.steady) before.gains.along.claims ∙ steady)) [
                   | inl fault ↦ subst (λ n. MetPassing n first last) (omega (arith, before.some_left, w.left-is, some))
                       (MetPassing-more w.in-Err.e (before.met steady) passes fault)
-                  | inr memory ↦ absurd (memory_stays w.in-Err.e memory.0 passes)
+                  | inr memory ↦ absurd (memory_stays w.in-Err.e memory.0.memory passes)
                 ];
             turns = omega (
               arith,
@@ -59,6 +63,8 @@ loop-preserved g c =
               w.left-is,
               some,
             );
+            room = omega (arith, before.room, turn.capacity);
+            quiet = λ orders. w.in-Err.ensures.once orders ∙ before.quiet orders;
           })
     ]
 
@@ -87,6 +93,29 @@ returns-then-left-eq0-clause-endures g c steady =
         count = c.args.faults - c.loop.left;
         few = omega arith;
         passed = MetPassing-same (before.met steady) memory.1;
-        why = inl memory.0;
+        why = inl (record {
+          memory = memory.0.memory;
+          more = omega (arith, memory.0.more, before.room);
+        });
       })
     ]
+
+pub returns-in-Ok-eq0-clause-once : goal.returns-in-Ok-eq0-clause-once
+returns-in-Ok-eq0-clause-once g c orders =
+    omega (arith, (c.in-Ok-eq0.ensures.once orders).0 c.in-Ok-eq0.field-0-test, c.loop.invariant.quiet orders)
+
+pub returns-then-left-eq0-clause-once : goal.returns-then-left-eq0-clause-once
+returns-then-left-eq0-clause-once g c orders = c.in-Err.ensures.once orders ∙ c.loop.invariant.quiet orders
+
+pub returns-clause-once : goal.returns-clause-once
+returns-clause-once g c orders = c.loop.invariant.quiet orders
+
+pub returns-clause-endures : goal.returns-clause-endures
+returns-clause-endures g c steady =
+    let before = c.loop.invariant in
+    inr (record {
+      count = c.args.faults - c.loop.left;
+      few = omega arith;
+      passed = before.met steady;
+      why = inr (record { other = c.from.ensures; large = omega (arith, before.turns, c.loop-test.false) });
+    })

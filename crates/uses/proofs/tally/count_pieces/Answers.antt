@@ -3,7 +3,7 @@ use Rattle.std.proofs.Common.{[], ◌∷◌, ◌++◌, inl, inr, refl, sym, subs
 use Rattle.std.proofs.lemmas.Result.{err_from_is_err_and}
 use Rattle.buffer_redux.specs.ReaderLaws.{WantsBytes}
 use Rattle.buffer_redux.specs.UntilLaws.{ReadsUntil-end}
-use Rattle.uses.proofs.Pieces.{HandsLinePieces-more, HandsLinePieces-none}
+use Rattle.uses.proofs.Pieces.{HandsLinePieces-more, HandsLinePieces-none, ends_once}
 use Rattle.uses.proofs.tally.count_pieces.Goals as goal
 
 pub loop-count-init : goal.loop-count-init
@@ -32,14 +32,16 @@ returns-then-branch-eq0-clause-pieces g c =
     let invariant = c.loop-count.invariant in
     let m = c.loop-count.reader in
     let reads = rw c.if-branch-eq0.true at c.in_ok-read_until.ensures.until in
+    let end = (ReadsUntil-end g.R.TellRead.remaining g.P.ReaderPolicy.rules 10 m _ _ c.read_until.new.self reads
+    (subst WantsBytes (sym invariant.hands.along.claims) c.requires.wants)
+    (omega (arith, c.requires.capacity, invariant.hands.along.capacity))).1 in
     record {
       pieces = invariant.pieces;
       last = m;
       hands = invariant.hands;
       count = invariant.counted;
-      end = (ReadsUntil-end g.R.TellRead.remaining g.P.ReaderPolicy.rules 10 m _ _ c.read_until.new.self reads
-          (subst WantsBytes (sym invariant.hands.along.claims) c.requires.wants)
-          (omega (arith, c.requires.capacity, invariant.hands.along.capacity))).1;
+      end = end;
+      once = λ orders. ends_once g.R.TellRead.remaining g.P.ReaderPolicy.rules m c.read_until.new.self _ _ orders reads end.dry;
     }
 
 -- a `read_until` failed

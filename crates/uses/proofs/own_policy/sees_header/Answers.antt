@@ -1,0 +1,10 @@
+-- One fill is answered with nothing once at most.
+use Rattle.uses.specs.OwnPolicy.{sixteen_rules}
+use Rattle.uses.proofs.EmptyAsks.{fill_once}
+use Rattle.uses.proofs.own_policy.sees_header.Goals as goal
+
+pub returns-in_err-fill_buf-clause-once : goal.returns-in_err-fill_buf-clause-once
+returns-in_err-fill_buf-clause-once g c = fill_once sixteen_rules _ _ _ c.fill_buf.follows.holds-at-none.fills.filled
+
+pub returns-clause-once : goal.returns-clause-once
+returns-clause-once g c = fill_once sixteen_rules _ _ _ c.fill_buf.follows.holds-at-none.fills.filled
