@@ -1,5 +1,5 @@
 -- What reads of a run met.
-use Rattle.std.proofs.Common.{◌≡◌, ℕ, ◌+◌, ◌<◌, ◌≤◌, true, false, List, [], ◌∷◌, ◌++◌, All, length, Option, None, Some, IfSome, Result, Ok, Err, IfOk, IfErr, ◌⊎◌, zero, suc, sym, ap, subst, inl, inr, ◌∙◌, refl, arith, append_assoc, append-nil, length-append}
+use Rattle.std.proofs.Common.{◌≡◌, ℕ, ◌+◌, ◌<◌, ◌≤◌, true, false, List, [], ◌∷◌, ◌++◌, All, length, Option, None, Some, IfSome, Result, Ok, Err, IfOk, IfErr, ◌⊎◌, sym, ap, subst, inl, inr, ◌∙◌, refl, arith, append_assoc, append-nil, length-append}
 use Rattle.std.proofs.lemmas.List.{nil_from_length}
 use Rattle.std.proofs.lemmas.List.Elements.{All-append, All-cons, All-nil}
 use Rattle.std.specs.declared.io.Error.{Error}
@@ -146,19 +146,6 @@ module _ {S : Type 0} {s m : Unbuffered S} (steady : ReadsSteadily s m) where
   TakeFails-behind handed more b w (Truncated due) (inr (e, is, other, many)) same = absurd (cc)
   TakeFails-behind handed more b w (Io why) (inr (e, is, other, many)) same =
       (steadily (steady_none same), omega (arith, many, length-append handed more))
-
--- a read of a body handed out some, or the body ended; or it was interrupted
-pub read_some : {S : Type 0} {s : Unbuffered S} {b : InBody S} (n : ℕ) → EachReadGave s b.stream
-    → (n ≡ 0 → IsRest b.rest [] []) → ReadsSome s n b
-read_some zero gave ended = record { steady = steady_none gave; more = inl (ended refl) }
-read_some (suc n) gave ended = record { steady = steady_none gave; more = inr (omega (arith, ap length gave.0)) }
-
-pub read_interrupted : {S : Type 0} {s : Unbuffered S} {b : InBody S} (e : Error) → IsInterrupt e
-    → Fails s (Io e) b.stream b.rest → ReadsSome s 0 b
-read_interrupted {s = s} {b = b} e is fails = record {
-  steady = record { faults = interrupted_once (faults_of s) (faults_of b.stream) e is fails.0; ends = fails.1 };
-  more = inr (omega (arith, ap length fails.0, length-append (faults_of s) (e ∷ [])));
-}
 
 -- why a read fails is said of what it asked
 pub Fails-asked : {S : Type 0} (s m : Unbuffered S) (e : BodyError) (t : Unbuffered S) (r : Rest) → m.log ≡ s.log

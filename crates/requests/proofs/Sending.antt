@@ -11,7 +11,7 @@ use Rattle.buffer_redux.specs.StreamLog.{StreamLog}
 use Rattle.buffer_redux.specs.Unbuffer.{Unbuffered}
 use Rattle.buffer_redux.specs.Block.{usable}
 use Rattle.buffer_redux.specs.WriteParts.{WritesParts}
-use Rattle.buffer_redux.specs.WritePartsLaws.{WritesParts-met, WritesParts-unflushed}
+use Rattle.buffer_redux.specs.WritePartsLaws.{WritesParts-met}
 use Rattle.buffer_redux.specs.WritesAlongLaws.{BegunAlong-more, BegunAlong-of, FrontAlong-after, WasFlushed-along, WritesAlong-none}
 use Rattle.buffer_redux.specs.declared.policy.StdPolicy.{StdPolicy}
 use Rattle.codec.specs.Grammar.{IsOpen}
@@ -107,17 +107,6 @@ module _ {W : Type 0} {tells : W → StreamLog} {trace : W → W → Type 0} whe
     met = tt;
     why = p.caused;
   }
-
-  -- which are sent for only where they don't fit
-  pub SendsForRoom-parts : (w v : Buffered W StdPolicy) (bytes : List ℕ) (answer : Result (Unit {0}) Error)
-      → WritesParts tells trace w bytes answer v → SendsForRoom tells trace w v
-  SendsForRoom-parts w v bytes answer p = (
-    (WritesParts-unflushed tells trace w v bytes answer p).0,
-    elim (cases_lt (usable w.block) (length bytes)) [
-      | inl few ↦ inr (bytes, answer, few, p)
-      | inr fit ↦ inl (ap (λ x. x.log) (p.fits fit).1.others)
-    ],
-  )
 
   module _ (none : (u : W) → trace u u) where
     -- nothing was written

@@ -1,5 +1,5 @@
 -- The payload of each read joins what came before, which wasn't too large before the last read.
-use Rattle.std.proofs.Common.{◌≡◌, ◌∙◌, ℕ, ◌+◌, ◌≤◌, List, [], ◌++◌, length, take, Option, ap, arith, inl, inr, length-append, refl, rules, subst, sym}
+use Rattle.std.proofs.Common.{◌≡◌, ◌∙◌, ℕ, ◌+◌, ◌≤◌, List, [], ◌++◌, length, take, Option, ap, arith, inl, inr, length-append, refl, subst, sym}
 use Rattle.std.proofs.lemmas.List.{length-take-le}
 use Rattle.messages.specs.Messages.{InBody, InsideGoes}
 use Rattle.messages.specs.MessagesLaws.{InsideGoes-joins, InsideGoes-none}
@@ -47,9 +47,6 @@ loop-read-init g c =
       small = tested _ b.said.extent _ _ b.taken [] _ c.is_large.ensures (ap (λ x. x.extent) c.said-extent.ensures.value)
           c.taken.ensures refl ∙ c.if-is_large.false;
     }
-
-pub read_on-requires : goal.read_on-requires
-read_on-requires g c = record { some = search rules; held = c.loop-read.invariant.held }
 
 pub loop-read-preserved : goal.loop-read-preserved
 loop-read-preserved g c =

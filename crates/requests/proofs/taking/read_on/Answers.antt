@@ -5,7 +5,7 @@ use Rattle.messages.specs.Messages.{InBody, InsideGoes}
 use Rattle.messages.specs.MessagesLaws.{InsideGoes-joins}
 use Rattle.requests.specs.Sending.{WritesPromptly}
 use Rattle.requests.proofs.Coming.{comes_inside, sends_empty}
-use Rattle.requests.proofs.Reading.{fails_since, read_some, reads_since, sent_so}
+use Rattle.requests.proofs.Reading.{fails_since, reads_since, sent_so}
 use Rattle.requests.proofs.Sending.{WritesPromptly-read}
 use Rattle.requests.proofs.taking.read_on.Goals as goal
 
@@ -14,12 +14,6 @@ read_none : {R : Type 0} {remaining : R → Option (List ℕ)} {b m : InBody R} 
 read_none {R} {remaining} {b} {m} out none goes =
     subst (λ l. InsideGoes remaining b l m) (ap (λ n. take n out) none) goes
 
-pub returns-then-count-gt0-clause-reads : goal.returns-then-count-gt0-clause-reads
-returns-then-count-gt0-clause-reads g c =
-    let same = c.read_buffered-count.ensures.unasked in
-    read_some c.read_buffered-count.result (ap (λ l. l.reads.faults) same, ap (λ l. l.reads.zero_reads) same)
-    (λ none. absurd (omega (arith, none, c.if-count-gt0.true)))
-
 pub returns-then-count-gt0-clause-writes : goal.returns-then-count-gt0-clause-writes
 returns-then-count-gt0-clause-writes g c =
     WritesPromptly-read g.met.W.TellWrite.trace_none c.args.writer.now (inl c.read_buffered-count.ensures.unasked)
@@ -27,12 +21,6 @@ returns-then-count-gt0-clause-writes g c =
 pub returns-then-is_done-clause-goes : goal.returns-then-is_done-clause-goes
 returns-then-is_done-clause-goes g c =
     read_none c.read_buffered-count.new.out (omega (arith, c.if-count-gt0.false)) c.read_buffered-count.ensures.goes
-
-pub returns-then-is_done-clause-reads : goal.returns-then-is_done-clause-reads
-returns-then-is_done-clause-reads g c =
-    let same = c.read_buffered-count.ensures.unasked in
-    read_some 0 (ap (λ l. l.reads.faults) same, ap (λ l. l.reads.zero_reads) same)
-    (λ none. c.is_done.ensures.ended.0 c.if-is_done.true)
 
 pub returns-then-is_done-clause-writes : goal.returns-then-is_done-clause-writes
 returns-then-is_done-clause-writes g c =

@@ -1,24 +1,16 @@
 -- Where no more of the body comes it has ended, so to finish it the stream is asked for nothing.
-use Rattle.std.proofs.Common.{[], ◌++◌, ◌∙◌, Ok, ap, inl}
+use Rattle.std.proofs.Common.{[], ◌++◌, Ok, inl}
 use Rattle.codec.specs.PieceReader.{left_of}
 use Rattle.messages.specs.MessagesLaws.{InsideGoes-joins}
-use Rattle.requests.proofs.Reading.{TakeFails-behind, steadily, steady_none, unasked, unasked_log, unfinished_sent, whole_taken}
+use Rattle.requests.proofs.Reading.{TakeFails-behind, unasked, unasked_log, unfinished_sent, whole_taken}
 use Rattle.requests.proofs.Sending.{WritesPromptly-after, WritesPromptly-read}
 use Rattle.requests.proofs.taking.take_whole.Goals as goal
-
-pub returns-in-Ok-finish-clause-limits : goal.returns-in-Ok-finish-clause-limits
-returns-in-Ok-finish-clause-limits g c =
-    ap (λ d. d.0) c.in-Ok-finish.ensures.limits ∙ c.in-Ok.ensures.goes.1.limits ∙ c.requires.limits
 
 pub returns-in-Ok-finish-clause-whole : goal.returns-in-Ok-finish-clause-whole
 returns-in-Ok-finish-clause-whole g c =
     let read = c.in-Ok.ensures.goes in
     whole_taken g.R.TellRead.remaining c.args.body c.payload_len.new.body read.0 (left_of c.in-Ok-finish.requests) c.in-Ok.len
     read.1 read.2 c.in-Ok.ensures.ended c.in-Ok.ensures.small c.in-Ok-finish.ensures.ends
-
-pub returns-in-Ok-finish-clause-steady : goal.returns-in-Ok-finish-clause-steady
-returns-in-Ok-finish-clause-steady g c =
-    steadily c.in-Ok.ensures.steady (steady_none c.in-Ok-finish.ensures.ends.gave)
 
 pub returns-in-Ok-finish-clause-writes : goal.returns-in-Ok-finish-clause-writes
 returns-in-Ok-finish-clause-writes g c =
@@ -51,8 +43,3 @@ returns-in-Err-finish-clause-writes g c =
     (Ok tt)
     c.in-Ok.ensures.writes (WritesPromptly-read g.met.W.TellWrite.trace_none v
     (inl (unasked_log m.stream t.stream m.rest c.in-Ok.ensures.ended c.in-Err-finish.ensures.asked))))
-
-pub returns-in-Err-clause-part : goal.returns-in-Err-clause-part
-returns-in-Err-clause-part g c =
-    let goes = c.in-Err.ensures.goes in
-    (goes.0, goes.1, goes.2)

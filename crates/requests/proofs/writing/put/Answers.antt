@@ -1,11 +1,7 @@
 -- The text is the parts, one behind the other, and to write them flushes nothing, and sends only for room.
-use Rattle.requests.proofs.Sending.{PutsText-parts, SendsForRoom-parts}
+use Rattle.requests.proofs.Sending.{PutsText-parts}
 use Rattle.requests.proofs.writing.put.Goals as goal
 
 pub returns-clause-puts : goal.returns-clause-puts
 returns-clause-puts g c =
     PutsText-parts c.args.writer.now c.write_parts.new.self _ c.write_parts.result c.write_parts.ensures.parts
-
-pub returns-clause-sends : goal.returns-clause-sends
-returns-clause-sends g c =
-    SendsForRoom-parts c.args.writer.now c.write_parts.new.self _ c.write_parts.result c.write_parts.ensures.parts
