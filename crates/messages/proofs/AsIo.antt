@@ -67,9 +67,8 @@ module _ {R : Type 0} (remaining : R → Option (List ℕ)) (s t : Reader R) (is
   io_asked (Err e) (why, reads, becomes) line = body_asked is line (length out) t reads.asked
 
   pub io_most : (answer : Result ℕ Error) → Reads remaining s out answer t
-      → IfOk answer (λ n. 0 < n → HandsMost (left_in s) (stream_of s).left s.known out n (stream_of t).left)
-  io_most (Ok n) reads = λ some. hands_most s.coding s.place is.place s.reader.block.bytes s.known out n t.reader.block.bytes
-      (reads.all some)
+      → IfOk answer (λ n. 0 < n → HandsMost (left_in s) s.taken s.known out n t.taken t.known (stream_of t).left)
+  io_most (Ok n) reads = hands_most remaining s t is out n reads
   io_most (Err e) reads = tt
 
   pub io_none : (answer : Result ℕ Error) → Reads remaining s out answer t → length out ≡ 0

@@ -1,7 +1,9 @@
 -- How much a read of a body hands out.
-use Rattle.std.proofs.Common.{ℕ, List, [], ◌++◌, length, inl, inr, sym, arith, append-nil}
+use Rattle.std.proofs.Common.{◌≡◌, ◌⊎◌, ◌<◌, ◌+◌, ℕ, List, [], ◌++◌, length, Option, Ok, inl, inr, sym, arith, append-nil, length-append}
 use Rattle.std.specs.Prelude.{take}
-use Rattle.body_reader.specs.Between.{HandsAll, Stretch}
+use Rattle.buffer_redux.specs.Policy.{std_read_rules}
+use Rattle.body_reader.specs.Between.{KnowsAll}
+use Rattle.body_reader.specs.BodyReader.{IsBodyReader, ReadsPayload}
 use Rattle.body_reader.specs.Coding.{Carries}
 use Rattle.body_reader.specs.declared.either.Either.TheVariants as coding
 use Rattle.body_reader.specs.declared.either.Side.{Side}
@@ -10,7 +12,7 @@ use Rattle.chunked.specs.Coding.{InChunk}
 use Rattle.chunked.specs.Place.{IsPlace}
 use Rattle.chunked.specs.declared.place.Place.{Place}
 use Rattle.chunked.specs.declared.place.Place.TheVariants.{Line, Size, Extension, SizeFeed, Data, DataFeed, Fields, FieldName, FieldValue, FieldFeed, LastFeed, Done}
-use Rattle.messages.specs.Messages.{BodyCoding, HandsMost, HandsSure, body_rules, rest_of}
+use Rattle.messages.specs.Messages.{BodyCoding, HandsMost, HandsSure, Reader, body_rules, left_in, rest_of, stream_of}
 use Rattle.messages.proofs.Going.{onward_is, sure_is}
 
 -- where bytes are those of a chunk, a chunk is read
@@ -39,24 +41,29 @@ carried : (c : BodyCoding) (p : Side ℕ Place) (n : ℕ) (shown : List ℕ) →
     → (body_rules c).is_place p
 carried c p n shown is = place_is c p shown (is.carries [] shown [] (omega arith) (sym (append-nil shown)))
 
-hands_sure : (c : BodyCoding) (p : Side ℕ Place) → (body_rules c).is_place p → (before handed left : List ℕ)
-    → Stretch (body_rules c) p before handed left → HandsSure (rest_of c p) before handed left
-hands_sure c p is before handed left s =
-    let is' = carried c s.place (length handed) (handed ++ left) s.looks.0 in
-    record {
-      wire = s.wire;
-      got = s.got;
-      equal = s.equal;
-      rest = rest_of c s.place;
-      onward = onward_is c p s.place s.wire [] (handed ++ left) is is' s.leads;
-      sure = omega (arith, s.looks.1, sure_is c s.place is');
-    }
+hands_sure : (c : BodyCoding) (p : Side ℕ Place) → (body_rules c).is_place p → (taken taken' handed : List ℕ) (known : ℕ)
+    (left : List ℕ) → KnowsAll (body_rules c) p taken taken' [] handed known left
+    → (known ≡ length left) ⊎ HandsSure (rest_of c p) taken taken' handed known
+hands_sure c p is taken taken' handed known left k = elim k.all [
+  | inl same ↦ inl (omega (arith, same, length-append handed left))
+  | inr looks ↦
+      (let is' = carried c k.place (length handed + known) (handed ++ left) looks.0 in
+      inr (record {
+        wire = k.wire;
+        equal = k.equal;
+        rest = rest_of c k.place;
+        onward = onward_is c p k.place k.wire [] (handed ++ left) is is' k.leads;
+        sure = omega (arith, looks.1, sure_is c k.place is');
+      }))
+]
 
-pub hands_most : (c : BodyCoding) (p : Side ℕ Place) → (body_rules c).is_place p → (before : List ℕ) (known : ℕ)
-    (out : List ℕ) (n : ℕ) (left : List ℕ) → HandsAll (body_rules c) p before known out n left
-    → HandsMost (rest_of c p) before known out n left
-hands_most c p is before known out n left (inl all) = inl all
-hands_most c p is before known out n left (inr (inl none)) = inr (inl none)
-hands_most c p is before known out n left (inr (inr (inl same))) = inr (inr (inl same))
-hands_most c p is before known out n left (inr (inr (inr stretch))) =
-    inr (inr (inr (hands_sure c p is before (take n out) left stretch)))
+module _ {R : Type 0} (remaining : R → Option (List ℕ)) (s t : Reader R) (is : IsBodyReader (body_rules s.coding) s)
+    (out : List ℕ) where
+  pub hands_most : (n : ℕ) → ReadsPayload remaining std_read_rules (body_rules s.coding) s out (Ok n) t → 0 < n
+      → HandsMost (left_in s) s.taken s.known out n t.taken t.known (stream_of t).left
+  hands_most n reads some = record {
+    full = reads.full;
+    still = reads.left;
+    knows = λ none. hands_sure s.coding s.place is.place s.taken t.taken (take n out) t.known t.reader.block.bytes
+        (reads.knows none some);
+  }

@@ -199,21 +199,21 @@ abbrev pub RunsShort : ℕ → ℕ → Rest → List ℕ → Type 0
 RunsShort asked count r left =
     (count ≡ asked) ⊎ IsRest r [] [] ⊎ (left ≡ []) ⊎ ((name : Malformed) × GoesWrong r left name)
 
--- behind bytes that are no payload, as much was handed out as surely is payload: those, then that, then what is left, are what
--- was there, then what came
-pub record HandsSure (r : Rest) (before handed left : List ℕ) : Type 0 where
+-- behind bytes that are no payload, what was handed out, and then what is known, are as much as surely is payload
+pub record HandsSure (r : Rest) (taken taken' handed : List ℕ) (known : ℕ) : Type 0 where
   pub wire : List ℕ
-  pub got : List ℕ
-  pub equal : wire ++ (handed ++ left) ≡ before ++ got
+  pub equal : taken' ≡ taken ++ (wire ++ handed)
   pub rest : Rest
   pub onward : Onward r wire [] rest
-  pub sure : sure_of rest ≤ length handed
+  pub sure : sure_of rest ≤ length handed + known
 
--- so much payload was handed out as a slice takes, or nothing is left of the buffer, or as was known to be payload, or as surely
--- is
-abbrev pub HandsMost : Rest → List ℕ → ℕ → List ℕ → ℕ → List ℕ → Type 0
-HandsMost r before known out n left =
-    (n ≡ length out) ⊎ (left ≡ []) ⊎ ((0 < known) × (n ≡ known)) ⊎ HandsSure r before (take n out) left
+-- so much payload was handed out as a slice takes, or no less than is known. What was known and isn't handed out stays so; and
+-- where nothing was, all that is left of the buffer is known then, or what surely is payload
+pub record HandsMost (r : Rest) (taken : List ℕ) (known : ℕ) (out : List ℕ) (n : ℕ) (taken' : List ℕ) (known' : ℕ) (left : List ℕ)
+    : Type 0 where
+  pub full : (n ≡ length out) ⊎ (known' ≡ 0)
+  pub still : 0 < known → known' ≡ known - n
+  pub knows : known ≡ 0 → (known' ≡ length left) ⊎ HandsSure r taken taken' (take n out) known'
 
 -- why no payload comes: the next byte is wrong; or the stream gave nothing, once, where nothing was left, and the body isn't
 -- complete, of which so much is due if it has a length; or the stream failed, once
@@ -281,7 +281,7 @@ pub record ReadsAsIo {S : Type 0} (remaining : S → Option (List ℕ)) (s : InB
   pub ended : answer ≡ Ok 0 → 0 < length out → IsRest t.rest [] []
   pub fails : IfErr answer (λ e. (why : BodyError) × Fails s.stream why t.stream t.rest × BecomesIo why e)
   pub asked : AskedWhere (AskedIn s.rest (length out) t.stream.log.reads.offer) s.stream t.stream
-  pub all : IfOk answer (λ n. 0 < n → HandsMost s.rest s.stream.left s.known out n t.stream.left)
+  pub all : IfOk answer (λ n. 0 < n → HandsMost s.rest s.taken s.known out n t.taken t.known t.stream.left)
   -- a slice that is empty asks for nothing
   pub none : length out ≡ 0 → (answer ≡ Ok 0) × (t.stream ≡ s.stream)
 

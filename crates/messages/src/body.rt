@@ -180,8 +180,8 @@ impl<R: TellRead> Body<R> {
         ensures fails { IfErr result (λ e. Fails self.old.stream e self.new.stream self.new.rest) }
         ensures asked { AskedWhere (AskedIn self.old.rest (length out.new) self.new.stream.log.reads.offer) self.old.stream
             self.new.stream }
-        ensures all { IfOk result (λ n. 0 < n → HandsMost self.old.rest self.old.stream.left self.old.known out.new n
-            self.new.stream.left) }
+        ensures all { IfOk result (λ n. 0 < n → HandsMost self.old.rest self.old.taken self.old.known out.new n
+            self.new.taken self.new.known self.new.stream.left) }
         ensures idle { HasNextPayload self.old.stream self.old.rest → self.new.stream.log ≡ self.old.stream.log }
         ensures none { length out.new ≡ 0 → (result ≡ Ok 0) × (self.new.stream ≡ self.old.stream) }
     {
@@ -285,8 +285,8 @@ fn read<R: TellRead>(
     ensures fails { IfErr result (λ e. Fails (stream_of reader.old) e (stream_of reader.new) (left_in reader.new)) }
     ensures asked { AskedWhere (AskedIn (left_in reader.old) (length out.new) (stream_of reader.new).log.reads.offer)
         (stream_of reader.old) (stream_of reader.new) }
-    ensures all { IfOk result (λ n. 0 < n → HandsMost (left_in reader.old) (stream_of reader.old).left reader.old.known out.new n
-        (stream_of reader.new).left) }
+    ensures all { IfOk result (λ n. 0 < n → HandsMost (left_in reader.old) reader.old.taken reader.old.known out.new n
+        reader.new.taken reader.new.known (stream_of reader.new).left) }
     ensures idle { HasNextPayload (stream_of reader.old) (left_in reader.old)
         → (stream_of reader.new).log ≡ (stream_of reader.old).log }
     ensures none { length out.new ≡ 0 → (result ≡ Ok 0) × (stream_of reader.new ≡ stream_of reader.old) }

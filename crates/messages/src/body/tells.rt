@@ -59,8 +59,8 @@ fn read_told<R: TellRead>(
         × Fails (stream_of reader.old) why (stream_of reader.new) (left_in reader.new) × BecomesIo why e) }
     ensures asked { AskedWhere (AskedIn (left_in reader.old) (length out.new) (stream_of reader.new).log.reads.offer)
         (stream_of reader.old) (stream_of reader.new) }
-    ensures all { IfOk result (λ n. 0 < n → HandsMost (left_in reader.old) (stream_of reader.old).left reader.old.known out.new n
-        (stream_of reader.new).left) }
+    ensures all { IfOk result (λ n. 0 < n → HandsMost (left_in reader.old) reader.old.taken reader.old.known out.new n
+        reader.new.taken reader.new.known (stream_of reader.new).left) }
     ensures none { length out.new ≡ 0 → (result ≡ Ok 0) × (stream_of reader.new ≡ stream_of reader.old) }
 {
     let _ = reader.get_ref();

@@ -36,11 +36,9 @@ returns-in-Ok-clause-asked g c =
     body_asked c.get_ref.ensures.whole c.requires.1 _ c.read_payload.new.self c.in-Ok.ensures.reads.asked
 
 pub returns-in-Ok-clause-all : goal.returns-in-Ok-clause-all
-returns-in-Ok-clause-all g c = λ some.
-    let d = c.args.reader.now in
-    let t = c.read_payload.new.self in
-    hands_most d.coding d.place c.get_ref.ensures.whole.place d.reader.block.bytes d.known c.read_payload.new.out c.in-Ok.count
-    t.reader.block.bytes (c.in-Ok.ensures.reads.all some)
+returns-in-Ok-clause-all g c =
+    hands_most g.R.TellRead.remaining c.args.reader.now c.read_payload.new.self c.get_ref.ensures.whole c.read_payload.new.out
+    c.in-Ok.count c.in-Ok.ensures.reads
 
 pub returns-in-Ok-clause-idle : goal.returns-in-Ok-clause-idle
 returns-in-Ok-clause-idle g c = body_idle c.get_ref.ensures.whole c.requires.1 c.in-Ok.ensures.reads
