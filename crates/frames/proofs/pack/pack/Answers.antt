@@ -22,15 +22,3 @@ returns-in-Err-with_capacity g c =
     (omega (arith, c.ranges.most.fits)) c.in-Err-with_capacity.ensures.within in
     rw (c.into_inner.ensures.log, c.in-Ok.ensures.made.log, c.in-Err-with_capacity.ensures.handed_back)
     (pack_refused c.args.most _ _ c.into-in-Err-with_capacity.result memory)
-
-pub returns : goal.returns
-returns g c =
-    rw (
-      c.into_inner-2.ensures.log,
-      c.into_inner_with_buffer-writer.ensures.log,
-      ← c.in-Ok.ensures.made.log,
-      ← c.in-Ok-with_capacity.ensures.made.log,
-      ← c.from.ensures,
-      ← c.in-Ok.ensures.max,
-    )
-    c.pack_all-answer.ensures

@@ -15,14 +15,3 @@ returns-in-Err-buffered_writer g c =
     let memory : error_kind c.into-in-Err-buffered_writer.result ≡ OutOfMemory = search rules in
     rw (c.into_inner.ensures.log, c.in-Ok.ensures.made.log, c.in-Err-buffered_writer.ensures.handed_back)
     (unpack_refused c.args.most _ _ c.into-in-Err-buffered_writer.result memory)
-
-pub returns : goal.returns
-returns g c =
-    rw (
-      c.into_inner-2.ensures.log,
-      c.into_inner_with_buffer-writer.ensures.log,
-      ← c.in-Ok.ensures.made.log,
-      ← c.in-Ok-buffered_writer.ensures.log,
-      ← c.in-Ok.ensures.takes,
-    )
-    c.unpack_all-answer.ensures

@@ -1,5 +1,5 @@
 -- Each line has a frame, which has some bytes; where it couldn't be taken in, that one buffered line is lost.
-use Rattle.std.proofs.Common.{◌∷◌, [], ap, append-nil, length-append, arith, inl, refl, subst, sym, ◌∙◌}
+use Rattle.std.proofs.Common.{◌∷◌, [], ap, append-nil, length-append, arith, inl, refl, ◌∙◌}
 use Rattle.std.proofs.lemmas.Result.{err_from_is_err_and}
 use Rattle.frame_reader.specs.WriteFrameLaws.{PiecesTaken-frames}
 use Rattle.line_reader.specs.LinesAlongLaws.{NextBufferedLine-none, NextBufferedLine-some}
