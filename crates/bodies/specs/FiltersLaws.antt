@@ -3,7 +3,7 @@ use Rattle.std.proofs.Common.{◌≡◌, zero, suc, ◌+◌, ◌<◌, ◌≤◌,
 use Rattle.std.proofs.lemmas.Bool.Decides.{nat_tests}
 use Rattle.std.proofs.lemmas.List.{nil_from_length}
 use Rattle.std.proofs.lemmas.List.Elements.{All-head, All-tail}
-use Rattle.buffer_redux.specs.EmptyReads.{ReadsWhenEmpty-std, ReadsWhole-std, once_at_most}
+use Rattle.buffer_redux.specs.EmptyReads.{ReadsWhole-std, fill_once}
 use Rattle.buffer_redux.specs.Fill.{Answered, Ends, Ordered, Turns}
 use Rattle.buffer_redux.specs.Policy.{no_read, read_now}
 use Rattle.buffer_redux.specs.ReaderLaws.{Fills-empty, ReadsInOrder-fresh, WantsBytes-std}
@@ -115,6 +115,6 @@ module _ {R A : Type 0} (s t : Buffered R StdPolicy) where
         omega (
           arith,
           Fills-empty std_read_rules s a t fills (WantsBytes-std s.policy) room none,
-          once_at_most std_read_rules ReadsWhenEmpty-std s t a fills.filled,
+          fill_once std_read_rules s t (Ok a) fills.filled,
         ),
       )

@@ -3,6 +3,7 @@ use Rattle.std.proofs.Common.{◌≡◌, ℕ, ◌<◌, ◌≤◌, List, [], ◌+
 use Rattle.std.proofs.lemmas.List.{length-take-le, nil_from_length, take-append-le}
 use Rattle.std.specs.declared.io.Error.{Error}
 use Rattle.buffer_redux.specs.Block.{OnlyRingMoves}
+use Rattle.buffer_redux.specs.BlockLaws.{OnlyRingMoves-none}
 use Rattle.buffer_redux.specs.Buffered.{Buffered, GoesDirect, GoesPast}
 use Rattle.buffer_redux.specs.BufReader.{ReaderKeeps, ReadsAlong, ReadsInOrder}
 use Rattle.buffer_redux.specs.Policy.{ReadRules}
@@ -11,7 +12,7 @@ use Rattle.buffer_redux.specs.StreamLog.{after_read, zero_of_none, zero_of_some}
 use Rattle.body_reader.specs.declared.error.BodyError.TheVariants.{Truncated, Io}
 use Rattle.body_reader.specs.declared.progress.Progress.{Progress}
 use Rattle.body_reader.specs.Between.{AsksWithRoom, HandsOn, KeepsBuffer, TakesBytes}
-use Rattle.body_reader.specs.BetweenLaws.{AsksWithRoom-then, EachGave-none, TakesBytes-none, unmoved}
+use Rattle.body_reader.specs.BetweenLaws.{AsksWithRoom-then, EachGave-none, TakesBytes-none}
 use Rattle.body_reader.specs.Coding.{Carries, Grammar, IsLawful, IsOpen, Leads, heeded}
 use Rattle.body_reader.specs.CodingLaws.{Leads-none, open_at}
 use Rattle.body_reader.proofs.Skipping.{Notes}
@@ -42,7 +43,7 @@ module _ {S Q P W : Type 0} (remaining : S → Option (List ℕ)) (rules : ReadR
     buffer_kept same = record {
       kind = keeps.kind;
       room = λ _. (ap (λ b. b.capacity) same, ap (λ b. b.limit) same);
-      still = λ _ _. subst (OnlyRingMoves s.block) (sym same) (unmoved s.block);
+      still = λ _ _. subst (OnlyRingMoves s.block) (sym same) (OnlyRingMoves-none s.block);
       spared = λ keep high claims. keeps.sparing keep claims;
     }
 

@@ -86,8 +86,8 @@ module _ {P W : Type 0} (g : Grammar P W) where
     pub leads : Leads g p wire [] place (heeded g (handed ++ left))
     pub looks : Looks g place (handed ++ left) (Payload (length handed))
 
-  -- of the bytes that were taken the last are payload, behind some in which there is this payload, and so many of what is left are
-  -- known to be: together all that there is, or that a look says
+  -- of the bytes that were taken the last are payload, behind some in which there is this payload, and so many of what is left
+  -- are known to be: together all that there is, or that a look says
   pub record KnowsAll (p : P) (taken taken' first last : List ℕ) (known : ℕ) (left : List ℕ) : Type 0 where
     pub wire : List ℕ
     pub equal : taken' ≡ taken ++ (wire ++ last)

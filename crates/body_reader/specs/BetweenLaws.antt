@@ -1,7 +1,8 @@
 -- Laws of what a reader of a body does with its buffered reader.
 use Rattle.std.proofs.Common.{◌≡◌, ℕ, ◌+◌, ◌<◌, ◌≤◌, List, [], ◌∷◌, ◌++◌, length, min, Option, Result, MatchResult, Ok, Err, ◌⊎◌, inl, inr, sym, ap, subst, ◌∙◌, refl, arith, append_assoc, append-nil, length-append}
 use Rattle.std.specs.declared.io.Error.{Error}
-use Rattle.buffer_redux.specs.Block.{Block, Kind, OnKind, OnlyRingMoves, Plain, Ring}
+use Rattle.buffer_redux.specs.Block.{OnlyRingMoves}
+use Rattle.buffer_redux.specs.BlockLaws.{OnlyRingMoves-joins, OnlyRingMoves-none}
 use Rattle.buffer_redux.specs.Buffered.{Buffered}
 use Rattle.buffer_redux.specs.BufReader.{ReadsAlong}
 use Rattle.buffer_redux.specs.Peek.{AskedAhead, ReadsAhead}
@@ -42,28 +43,12 @@ GaveNothingOnce-after s m t gave met = (met.0 ∙ gave.faults, omega (arith, met
 pub FaultedOnce-after : {S Q : Type 0} (s m t : Buffered S Q) → EachGave s m → (e : Error) → FaultedOnce m e t → FaultedOnce s e t
 FaultedOnce-after s m t gave e fault = (fault.0 ∙ ap (λ l. l ++ e ∷ []) gave.faults, fault.1 ∙ gave.zero_reads)
 
--- where nothing is done nothing is moved, and where nothing is moved before nor behind
-pub unmoved : (b : Block) → OnlyRingMoves b b
-unmoved b = on b.kind
-  where
-    on : (k : Kind) → OnKind k (b.moved ≡ b.moved) (b.moved ≤ b.moved)
-    on Plain = refl
-    on Ring = omega arith
-
-unmoved_on : (a b c : Block) → b.kind ≡ a.kind → OnlyRingMoves a b → OnlyRingMoves b c → OnlyRingMoves a c
-unmoved_on a b c same first then = on a.kind first (subst (λ k. OnKind k (c.moved ≡ b.moved) (b.moved ≤ c.moved)) same then)
-  where
-    on : (k : Kind) → OnKind k (b.moved ≡ a.moved) (a.moved ≤ b.moved) → OnKind k (c.moved ≡ b.moved) (b.moved ≤ c.moved)
-        → OnKind k (c.moved ≡ a.moved) (a.moved ≤ c.moved)
-    on Plain x y = y ∙ x
-    on Ring x y = omega (arith, x, y)
-
 module _ {S Q : Type 0} (rules : ReadRules Q) (least : ℕ) where
   pub KeepsBuffer-none : (s : Buffered S Q) → KeepsBuffer rules least s s
   KeepsBuffer-none s = record {
     kind = refl;
     room = λ _. (refl, refl);
-    still = λ _ _. unmoved s.block;
+    still = λ _ _. OnlyRingMoves-none s.block;
     spared = λ keep high claims. Spared-none keep s;
   }
 
@@ -75,7 +60,7 @@ module _ {S Q : Type 0} (rules : ReadRules Q) (least : ℕ) where
     room = λ leaves. let a = x.room leaves in let b = y.room leaves in (b.0 ∙ a.0, b.1 ∙ a.1);
     still = λ leaves same.
         let none : m.log.reads.asks ≡ s.log.reads.asks = omega (arith, same, first.grows.asks, then.grows.asks) in
-        unmoved_on s.block m.block t.block x.kind (x.still leaves none)
+        OnlyRingMoves-joins s.block m.block t.block x.kind (x.still leaves none)
         (y.still leaves (omega (arith, same, first.grows.asks, then.grows.asks)));
     spared = λ keep high claimed. Spared-joins keep s m t (x.spared keep high claimed)
         (y.spared keep high (subst (λ c. ClaimsToSpare c.spares keep) (sym first.claims) claimed));
@@ -114,7 +99,8 @@ module _ {S Q A : Type 0} (remaining : S → Option (List ℕ)) (rules : ReadRul
     room = λ _. (ahead.capacity, ahead.limit);
     still = λ _ same. elim ahead.asked [
       | inl none ↦
-          subst (λ x. OnlyRingMoves s.block x.block) (sym (unasked remaining rules n s answer t ahead none)) (unmoved s.block)
+          subst (λ x. OnlyRingMoves s.block x.block) (sym (unasked remaining rules n s answer t ahead none))
+          (OnlyRingMoves-none s.block)
       | inr over ↦ absurd (omega (arith, over.some, same))
     ];
     spared = λ keep high claims. ahead.sparing keep (omega (arith, few, high));

@@ -80,10 +80,10 @@ module _ {S Q C P W : Type 0} (remaining : S → Option (List ℕ)) (rules : Rea
     pub coding : t.coding ≡ s.coding
     pub keeps : KeepsBuffer rules g.ahead s.reader t.reader
 
-  -- what one call of `read_payload` does, which left the slice as out. The stream is asked only where nothing was settled, and no
-  -- payload left, and for as much as surely is payload and fits the slice; past the buffer for no less than that holds. No less is
-  -- handed out than can be, nor than is known: what was known, or a look told, and isn't handed out stays known. Once the body
-  -- ended, or where the slice is empty, the buffered reader isn't called. An Ok read is noted, and no other
+  -- what one call of `read_payload` does, which left the slice as out. The stream is asked only where nothing was settled, and
+  -- no payload left, and for as much as surely is payload and fits the slice; past the buffer for no less than that holds. No
+  -- less is handed out than can be, nor than is known: what was known, or a look told, and isn't handed out stays known. Once
+  -- the body ended, or where the slice is empty, the buffered reader isn't called. An Ok read is noted, and no other
   pub record ReadsPayload (s : BodyState S Q C P) (out : List ℕ) (answer : Result ℕ (BodyError W)) (t : BodyState S Q C P)
       : Type 0 where
     pub went : BodyWent s (handed_out out answer) t

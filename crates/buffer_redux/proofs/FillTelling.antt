@@ -11,7 +11,7 @@ use Rattle.buffer_redux.specs.Buffered.{Buffered, with_calls}
 use Rattle.buffer_redux.specs.Fill.{Ends, Filled}
 use Rattle.redux_buffer.specs.GivesRemaining.{GivesRemaining}
 use Rattle.buffer_redux.specs.BufReader.{Fills, InnerGives}
-use Rattle.buffer_redux.specs.EmptyReads.{ReadsWhenEmpty, none_before_fault, none_where_shown, once_at_most}
+use Rattle.buffer_redux.specs.EmptyReads.{ReadsWhenEmpty, none_before_fault, none_where_shown, fill_once}
 use Rattle.buffer_redux.specs.ReaderLaws.{Fills-empty, WantsBytes}
 use Rattle.buffer_redux.specs.Sparing.{Spared, Spared-noted}
 use Rattle.buffer_redux.specs.ReaderTells.{FaultsAlike, ReaderWent}
@@ -125,7 +125,7 @@ module _ {S P : Type 0} (remaining : S → Option (List ℕ)) (rules : ReadRules
     | inr few ↦ omega (
       arith,
       end_noted s.own_calls.fills.zero_fills t.block.bytes (omega (arith, few)),
-      once_at_most rules orders s m a f.filled,
+      fill_once rules s m (Ok a) f.filled,
     )
   ]
   once_bound (Err e) f orders = omega (arith, none_before_fault rules orders s m e f.filled)

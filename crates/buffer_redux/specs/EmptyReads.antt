@@ -1,4 +1,4 @@
--- How often the reader inside gives nothing in one fill, where a read is ordered over an empty buffer alone: at its end.
+-- How often the reader inside gives nothing in one fill; where a read is ordered over an empty buffer alone, at its end.
 use Rattle.std.proofs.Common.{◌≡◌, ℕ, ◌+◌, ◌<◌, ◌≤◌, ◌==◌, true, length, Result, Ok, Err, inl, inr, refl, ap, ◌∙◌, arith, append-nil}
 use Rattle.std.proofs.lemmas.Bool.Decides.{nat_tests}
 use Rattle.std.specs.declared.io.Error.{Error}
@@ -39,6 +39,28 @@ ReadsWhole-std = record {
   after = λ p b n p' b' allowed. allowed.1;
 }
 
+-- one fill is answered with nothing once at most, under any policy
+pub fill_once : {S P A : Type 0} (rules : ReadRules P) (s t : Buffered S P) (answer : Result A Error) → Filled rules s answer t
+    → t.log.reads.zero_reads ≤ s.log.reads.zero_reads + 1
+fill_once rules s t (Ok a) f =
+    let gave = Turns-gave rules f.count s f.last f.turns in
+    elim f.ends [
+      | inl declined ↦ omega (arith, gave, ap (λ l. l.reads.zero_reads) declined.told)
+      | inr (inl full) ↦ omega (arith, gave, ap (λ l. l.reads.zero_reads) full.1.told)
+      | inr (inr end) ↦ omega (
+        arith,
+        gave,
+        ap (λ l. l.reads.zero_reads) end.read.told,
+        zero_of_none 0 end.read.out f.last.log.reads.zero_reads refl (omega (arith, end.read.offered, end.room)),
+      )
+    ]
+fill_once rules s t (Err e) f =
+    let gave = Turns-gave rules f.count s f.last f.turns in
+    elim f.ends [
+      | inl refused ↦ omega (arith, gave, ap (λ l. l.reads.zero_reads) refused.told)
+      | inr faulted ↦ omega (arith, gave, ap (λ l. l.reads.zero_reads) faulted.read.told)
+    ]
+
 module _ {S P A : Type 0} (rules : ReadRules P) (orders : ReadsWhenEmpty rules) (s t : Buffered S P) where
   -- a fill that failed
   pub none_before_fault : (e : Error) → Filled {A = A} rules s (Err e) t → t.log.reads.zero_reads ≡ s.log.reads.zero_reads
@@ -64,18 +86,4 @@ module _ {S P A : Type 0} (rules : ReadRules P) (orders : ReadsWhenEmpty rules) 
           | inl declined ↦ ap (λ l. l.reads.zero_reads) declined.told ∙ gave
           | inr (inl full) ↦ ap (λ l. l.reads.zero_reads) full.1.told ∙ gave
           | inr (inr end) ↦ absurd (omega (arith, dry_shows_none end, some))
-        ]
-
-    pub once_at_most : t.log.reads.zero_reads ≤ s.log.reads.zero_reads + 1
-    once_at_most =
-        let gave = Turns-gave rules f.count s f.last f.turns in
-        elim f.ends [
-          | inl declined ↦ omega (arith, gave, ap (λ l. l.reads.zero_reads) declined.told)
-          | inr (inl full) ↦ omega (arith, gave, ap (λ l. l.reads.zero_reads) full.1.told)
-          | inr (inr end) ↦ omega (
-            arith,
-            gave,
-            ap (λ l. l.reads.zero_reads) end.read.told,
-            zero_of_none 0 end.read.out f.last.log.reads.zero_reads refl (omega (arith, end.read.offered, end.room)),
-          )
         ]

@@ -1,4 +1,5 @@
 pub use Rattle.redux_buffer.specs.Block
+pub use Rattle.redux_buffer.specs.BlockLaws
 pub use Rattle.redux_buffer.specs.BufImpl
 pub use Rattle.redux_buffer.specs.Calls
 pub use Rattle.redux_buffer.specs.Copy

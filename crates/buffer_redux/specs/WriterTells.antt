@@ -44,8 +44,9 @@ LeavesCapacity {P} rules = (p : P) (b : Block) (incoming : ℕ) (answer : Result
     → rules.before_write p b incoming answer p' b' → b'.capacity ≡ b.capacity
 
 -- the lists and counts only go on, its own and the inner writer's, which was flushed no more often than it was itself; no more
--- bytes were consumed than that received. Under a steady policy it failed no more often than the inner writer; and where no
--- failure is kept back, the inner writer was at most interrupted where it was so itself
+-- bytes were consumed than that received. The buffer grew only where the policy may change its capacity. Under a steady policy
+-- it failed no more often than the inner writer; and where no failure is kept back, the inner writer was at most interrupted
+-- where it was so itself
 pub record WriterWent {S P : Type 0} (trace : S → S → Type 0) (rules : WriteRules P) (s t : Buffered S P)
     : Type 0 where
   pub inner : trace s.inner t.inner

@@ -33,8 +33,8 @@ pub record IsUnused {S E : Type 0} (tells : S → StreamLog) (least most : ℕ) 
   pub capacity : f.writer.block.capacity ≡ room_for least most
   pub limit : f.writer.block.limit ≡ room_for least most
 
--- made over this buffer and stream: just what the buffer has is not sent yet, and no byte was moved. A plain buffer in which three
--- pieces fit is the writer's
+-- made over this buffer and stream: just what the buffer has is not sent yet, and no byte was moved. A plain buffer in which
+-- three pieces fit is the writer's
 pub record IsMadeOver {S E : Type 0} (tells : S → StreamLog) (most : ℕ) (buffer : Block) (stream : S) (maker : E)
     (f : WriterState S E) : Type 0 where
   pub left : unbuffered f.writer ≡ record { left = buffer.bytes; inner = stream; log = tells stream }

@@ -176,8 +176,8 @@ impl<R: Tell> FrameReader<R> {
         }
     }
 
-    /// The payload that the last [`step`](FrameReader::step) went on to. A place that an earlier step said is
-    /// refused where it shows something else.
+    /// The payload that the last [`step`](FrameReader::step) went on to. A place that an earlier step said is refused where
+    /// it shows something else.
     #[inline(always)]
     pub fn lent(&self, span: Span) -> &[u8]
         requires { IsLent (framed self.now.decoder.max) self.now.handed self.now.reader.block.bytes span }

@@ -16,7 +16,8 @@ abbrev pub no_span : HeaderSpan
 no_span = record { name = record { start = 0; end = 0 }; value = record { start = 0; end = 0 } }
 
 -- a text has as many fields as were found, and is just the head where that is as long
-module _ {bytes : List ℕ} {headers : List HeaderSpan} {r : RequestSpans} {h : RequestHead} (at : IsRequestAt bytes headers r h) where
+module _ {bytes : List ℕ} {headers : List HeaderSpan} {r : RequestSpans} {h : RequestHead}
+    (at : IsRequestAt bytes headers r h) where
   pub fields_counted : r.headers ≤ length headers → length h.fields ≡ r.headers
   fields_counted fits = omega (
     arith,

@@ -93,7 +93,7 @@ module _ {R W : Type 0} {tells : W → StreamLog} {trace : W → W → Type 0} (
   comes_inside count out s m t w v same sends zero some goes_on short asked =
       let after = body_asked count out m t w v sends zero some goes_on short asked in
       record {
-        writes = WritesPromptly-after joins (s, w) (m.stream, v) (t.stream, v) [] [] (Ok tt) (sends_empty s m.stream w v same sends)
-            (WritesPromptly-read none v after);
+        writes = WritesPromptly-after joins (s, w) (m.stream, v) (t.stream, v) [] [] (Ok tt)
+            (sends_empty s m.stream w v same sends) (WritesPromptly-read none v after);
         asked = elim after [ inl still ↦ inl (still ∙ same) | inr all ↦ inr all ];
       }

@@ -72,20 +72,13 @@ pub(crate) fn answer_whole<W: TellWrite>(
     ensures sends { SendsForRoom W.log W.trace writer.old writer.new }
 {
     if !known {
-        return decline(said.keeps, writer);
+        return put(writer, &[declined(said.keeps)]);
     }
     if said.met {
         accept(len, said, writer)
     } else {
-        disappoint(said.keeps, writer)
+        put(writer, &[disappointed(said.keeps)])
     }
-}
-
-fn disappoint<W: TellWrite>(keeps: bool, writer: &mut BufWriter<W>) -> io::Result<()>
-    ensures puts { PutsText W.log W.trace writer.old (disappointed keeps) result writer.new }
-    ensures sends { SendsForRoom W.log W.trace writer.old writer.new }
-{
-    put(writer, &[disappointed(keeps)])
 }
 
 fn disappointed(keeps: bool) -> &'static [u8]
@@ -96,13 +89,6 @@ fn disappointed(keeps: bool) -> &'static [u8]
     } else {
         b"HTTP/1.1 417 Expectation Failed\r\nContent-Length: 0\r\nConnection: close\r\n\r\n"
     }
-}
-
-fn decline<W: TellWrite>(keeps: bool, writer: &mut BufWriter<W>) -> io::Result<()>
-    ensures puts { PutsText W.log W.trace writer.old (declined keeps) result writer.new }
-    ensures sends { SendsForRoom W.log W.trace writer.old writer.new }
-{
-    put(writer, &[declined(keeps)])
 }
 
 fn declined(keeps: bool) -> &'static [u8]

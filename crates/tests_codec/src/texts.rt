@@ -166,8 +166,8 @@ fn of_bodies(rt: HostRuntime) -> Result<(), Fail> {
     let text = shown(rt.alloc(), body(rt.alloc())?)?;
     assert!(rt;
         text.as_str()
-            == "body_reader::BodyReader { reader: buffer_redux::BufReader { reader: Told { stream: [] }, buf_len: 0, capacity: 8, \
-policy: StdPolicy }, place: Line, taken: 0 }"
+            == "body_reader::BodyReader { reader: buffer_redux::BufReader { reader: Told { stream: [] }, buf_len: 0, \
+capacity: 8, policy: StdPolicy }, place: Line, taken: 0 }"
     );
     let inner = writer(rt.alloc(), 45, b"", Told::new(Vec::new(rt.alloc())))?;
     let text = shown(rt.alloc(), chunks::over(inner)?)?;

@@ -1,38 +1,12 @@
 -- How often a reader gives nothing in what is asked of it.
-use Rattle.std.proofs.Common.{◌≡◌, ◌∙◌, ℕ, ◌+◌, ◌<◌, ◌≤◌, List, [], zero, suc, length, Result, Ok, Err, Option, inl, inr, ap, refl, sym, arith}
-use Rattle.std.specs.declared.io.Error.{Error}
+use Rattle.std.proofs.Common.{◌≡◌, ◌∙◌, ℕ, ◌+◌, ◌<◌, ◌≤◌, List, [], zero, suc, length, Ok, Option, inl, inr, ap, refl, sym, arith}
 use Rattle.buffer_redux.specs.Buffered.{Buffered}
-use Rattle.buffer_redux.specs.EmptyReads.{ReadsWhenEmpty, none_before_fault, none_where_shown, once_at_most}
-use Rattle.buffer_redux.specs.Fill.{Filled}
-use Rattle.buffer_redux.specs.FillLaws.{Turns-gave}
+use Rattle.buffer_redux.specs.EmptyReads.{ReadsWhenEmpty, none_before_fault, none_where_shown, fill_once}
 use Rattle.buffer_redux.specs.FillRetried.{FillRetried, OneFill}
 use Rattle.buffer_redux.specs.Policy.{ReadRules}
 use Rattle.buffer_redux.specs.ReadBehind.{FillsOn}
 use Rattle.buffer_redux.specs.ReadUntil.{DropsSome, PassesAndFills, Steps}
 use Rattle.buffer_redux.specs.Retried.{InterruptedSteps}
-use Rattle.buffer_redux.specs.StreamLog.{zero_of_none}
-
--- one fill is answered with nothing once at most, under any policy
-pub fill_once : {S P A : Type 0} (rules : ReadRules P) (s t : Buffered S P) (answer : Result A Error) → Filled rules s answer t
-    → t.log.reads.zero_reads ≤ s.log.reads.zero_reads + 1
-fill_once rules s t (Ok a) f =
-    let gave = Turns-gave rules f.count s f.last f.turns in
-    elim f.ends [
-      | inl declined ↦ omega (arith, gave, ap (λ l. l.reads.zero_reads) declined.told)
-      | inr (inl full) ↦ omega (arith, gave, ap (λ l. l.reads.zero_reads) full.1.told)
-      | inr (inr end) ↦ omega (
-        arith,
-        gave,
-        ap (λ l. l.reads.zero_reads) end.read.told,
-        zero_of_none 0 end.read.out f.last.log.reads.zero_reads refl (omega (arith, end.read.offered, end.room)),
-      )
-    ]
-fill_once rules s t (Err e) f =
-    let gave = Turns-gave rules f.count s f.last f.turns in
-    elim f.ends [
-      | inl refused ↦ omega (arith, gave, ap (λ l. l.reads.zero_reads) refused.told)
-      | inr faulted ↦ omega (arith, gave, ap (λ l. l.reads.zero_reads) faulted.read.told)
-    ]
 
 module _ {S P : Type 0} (remaining : S → Option (List ℕ)) (rules : ReadRules P) (orders : ReadsWhenEmpty rules) where
   -- fills that were interrupted
@@ -52,7 +26,7 @@ module _ {S P : Type 0} (remaining : S → Option (List ℕ)) (rules : ReadRules
       → t.log.reads.zero_reads ≤ s.log.reads.zero_reads + 1
   retried_once s t f = omega (
     arith,
-    once_at_most rules orders f.last t tt f.went.fills.filled,
+    fill_once rules f.last t (Ok tt) f.went.fills.filled,
     interrupted_none f.count s f.last f.interrupted,
   )
 

@@ -16,14 +16,14 @@ loop-call-preserved g c =
 pub returns-then-not-was_interrupted-clause-served : goal.returns-then-not-was_interrupted-clause-served
 returns-then-not-was_interrupted-clause-served g c =
     let before = c.loop-call.invariant in
-    serves_behind _ _ _ g.D.Decoder.grammar g.D.Items.item_of _ _ g.met.W.TellWrite.trace_joins _ _ _ before _ c.serve-served.result
-    c.serve-served.ensures.served
+    serves_behind _ _ _ g.D.Decoder.grammar g.D.Items.item_of _ _ g.met.W.TellWrite.trace_joins _ _ _ before _
+    c.serve-served.result c.serve-served.ensures.served
 
 pub returns-then-not-was_interrupted-clause-failed : goal.returns-then-not-was_interrupted-clause-failed
 returns-then-not-was_interrupted-clause-failed g c =
     let before = c.loop-call.invariant in
-    stops_behind _ _ _ g.D.Decoder.grammar g.D.Items.item_of _ _ g.met.W.TellWrite.trace_joins _ _ _ before _ c.serve-served.result
-    (c.was_interrupted.ensures.no c.if-not-was_interrupted.true)
+    stops_behind _ _ _ g.D.Decoder.grammar g.D.Items.item_of _ _ g.met.W.TellWrite.trace_joins _ _ _ before _
+    c.serve-served.result (c.was_interrupted.ensures.no c.if-not-was_interrupted.true)
     c.serve-served.ensures.failed
 
 pub returns-clause-failed : goal.returns-clause-failed

@@ -44,7 +44,8 @@ returns-in-Ok g c =
       reads = reads_since s m.stream t none.unasked c.read.result c.read.ensures.reads;
       fails = fails_since s m.stream t none.unasked c.read.result comes.asked c.read.ensures.fails;
       writes = subst (λ r. WritesPromptly g.W.Tell.log g.W.TellWrite.trace (c.args.body.now.stream, c.args.writer.now) [] r
-          (t.stream, c.send_unless_shown.new.writer)) (sym (sent_so s m.stream t none.unasked c.read.result c.read.ensures.fails)) comes.writes;
+          (t.stream, c.send_unless_shown.new.writer))
+          (sym (sent_so s m.stream t none.unasked c.read.result c.read.ensures.fails)) comes.writes;
     }
 
 pub returns-in-Err-clause-goes : goal.returns-in-Err-clause-goes

@@ -1,8 +1,8 @@
 -- The bytes that were handed out have the line feeds that were counted, and a fill that shows none met the end.
-use Rattle.std.proofs.Common.{◌≡◌, ◌+◌, ◌==◌, inr, [], ◌++◌, length, refl, sym, ap, ◌∙◌, arith, length-append}
+use Rattle.std.proofs.Common.{◌≡◌, ◌+◌, ◌==◌, Ok, inr, [], ◌++◌, length, refl, sym, ap, ◌∙◌, arith, length-append}
 use Rattle.std.proofs.lemmas.List.Sums.{count_by-le-length, sum_by-append}
 use Rattle.std.proofs.lemmas.Result.{err_from_is_err_and}
-use Rattle.buffer_redux.specs.EmptyReads.{none_before_fault, none_where_shown, once_at_most}
+use Rattle.buffer_redux.specs.EmptyReads.{none_before_fault, none_where_shown, fill_once}
 use Rattle.buffer_redux.specs.ReaderLaws.{FillBuf-along, ReadsAlong-none, ReadsAlong-shown, ReadsAlong-then, ReadsToEnd-of, ReadsToEnd-known}
 use Rattle.uses.specs.LineCount.{line_feeds}
 use Rattle.uses.proofs.Enduring.{seen}
@@ -92,7 +92,7 @@ returns-then-len-eq0-clause-once g c orders =
       arith,
       c.loop.invariant.quiet orders,
       (returns-then-len-eq0-clause-lines g c).end.dry,
-      once_at_most g.P.ReaderPolicy.rules orders _ _ c.in_ok-shown.shown filled.fills.filled,
+      fill_once g.P.ReaderPolicy.rules _ _ (Ok c.in_ok-shown.shown) filled.fills.filled,
     )
 
 pub returns-in_err-shown-clause-once : goal.returns-in_err-shown-clause-once

@@ -1,6 +1,6 @@
 -- One fill is answered with nothing once at most.
 use Rattle.uses.specs.OwnPolicy.{sixteen_rules}
-use Rattle.uses.proofs.EmptyAsks.{fill_once}
+use Rattle.buffer_redux.specs.EmptyReads.{fill_once}
 use Rattle.uses.proofs.own_policy.sees_header.Goals as goal
 
 pub returns-in_err-fill_buf-clause-once : goal.returns-in_err-fill_buf-clause-once

@@ -6,7 +6,7 @@ use Rattle.buffer_redux.specs.MinBuffered.{min_read_rules}
 use Rattle.buffer_redux.specs.Remaining.{reader_remaining}
 use Rattle.buffer_redux.specs.ReaderLaws.{FillBuf-first, FillBuf-keeps}
 use Rattle.uses.specs.Sniff.{format_of}
-use Rattle.uses.proofs.EmptyAsks.{fill_once}
+use Rattle.buffer_redux.specs.EmptyReads.{fill_once}
 use Rattle.uses.proofs.sniff.sniff.Goals as goal
 use Rattle.uses.proofs.sniff.sniff.Goals.{After-reader-2-1}
 

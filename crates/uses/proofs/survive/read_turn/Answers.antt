@@ -1,7 +1,7 @@
 -- What the fill shows is appended and consumed, and where it shows nothing the reader ran dry.
-use Rattle.std.proofs.Common.{◌∙◌, ◌<◌, length, rules, [], sym, append-nil, vec_items, ap, arith}
+use Rattle.std.proofs.Common.{◌∙◌, ◌<◌, length, rules, Ok, [], sym, append-nil, vec_items, ap, arith}
 use Rattle.std.proofs.lemmas.Result.{err_from_is_err_and}
-use Rattle.buffer_redux.specs.EmptyReads.{none_before_fault, none_where_shown, once_at_most}
+use Rattle.buffer_redux.specs.EmptyReads.{none_before_fault, none_where_shown, fill_once}
 use Rattle.buffer_redux.specs.ReaderLaws.{ReadsAlong-none, ReadsAlong-shown, ReadsToEnd-of, FillBuf-along}
 use Rattle.uses.proofs.survive.read_turn.Goals as goal
 
@@ -53,7 +53,7 @@ returns-clause-once g c orders =
             arith,
             told,
             end.dry,
-            once_at_most g.P.ReaderPolicy.rules orders _ _ c.in_ok-shown.shown filled.fills.filled,
+            fill_once g.P.ReaderPolicy.rules _ _ (Ok c.in_ok-shown.shown) filled.fills.filled,
           ),
       λ some. told ∙ none_where_shown g.P.ReaderPolicy.rules orders _ _ c.in_ok-shown.shown filled.fills.filled
           (omega (arith, some, ap length filled.shown)),
