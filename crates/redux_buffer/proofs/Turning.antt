@@ -74,7 +74,6 @@ module _ {W : Type 0} (tells : W → StreamLog) (trace call : W → W → Type 0
           writer = none;
         };
         one_fill = refl;
-        one_write = λ same. absurd (omega (arith, same, length-append from.fills.faults (e ∷ [])));
         offered = tt;
         called = λ same. absurd (omega (arith, same, length-append from.fills.faults (e ∷ [])));
         no_write = λ more. refl;
@@ -139,7 +138,6 @@ module _ {W : Type 0} (tells : W → StreamLog) (trace call : W → W → Type 0
           };
         };
         one_fill = refl;
-        one_write = λ same. once;
         offered = tt;
         called = λ same. called;
         no_write = λ more. absurd (omega (arith, more));

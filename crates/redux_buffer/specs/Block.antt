@@ -110,10 +110,10 @@ with_bytes b ws = record b {
   tail = if b.tail_behind then overwrite b.tail (drop (length b.bytes) ws) else b.tail;
 }
 
--- the first n bytes of the tail become the last bytes
+-- the first n bytes of the tail become the last bytes, and the others stay its own
 pub record BytesWritten (n : ℕ) (old new : Block) : Type 0 where
   pub bytes : new.bytes ≡ old.bytes ++ take n old.tail
-  pub usable : usable new ≡ usable old - n
+  pub tail : new.tail ≡ drop n old.tail
   pub capacity : new.capacity ≡ old.capacity
   pub limit : new.limit ≡ old.limit
   pub kind : new.kind ≡ old.kind

@@ -114,7 +114,6 @@ pub record CopyTurn {W : Type 0} (tells : W → StreamLog) (trace call : W → W
   pub interrupted : IfErr result
       (λ e. error_kind e ≡ Interrupted → CopiesOn 0 from from' (tells w).writes (tells w').writes)
   pub one_fill : from'.asks ≡ from.asks + 1
-  pub one_write : length from'.faults ≡ length from.faults → (tells w').writes.asks ≡ (tells w).writes.asks + 1
   pub offered : IfOk result (λ n. (tells w').writes.offer ≡ n + length from'.shown)
   pub called : length from'.faults ≡ length from.faults → call w w'
   pub no_write : length from.faults < length from'.faults → w' ≡ w

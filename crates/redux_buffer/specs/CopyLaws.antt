@@ -1,8 +1,8 @@
 -- Laws of copying turn by turn, for the proofs of those who make the turns.
-use Rattle.std.proofs.Common.{◌≡◌, ℕ, ◌+◌, Result, Ok, Err, inl, inr, subst, le_trans, arith, refl, sym, [], append-nil, ◌∙◌, ◌++◌, ap, append_assoc, length-append, le_refl}
+use Rattle.std.proofs.Common.{◌≡◌, ℕ, ◌+◌, Result, Ok, Err, inl, inr, subst, le_trans, arith, refl, sym, [], append-nil, ◌∙◌, ◌++◌, ap, append_assoc, length-append}
 use Rattle.std.specs.declared.io.Error.{Error}
 use Rattle.redux_buffer.specs.StreamLog.{StreamLog, FillLog, WriteLog}
-use Rattle.redux_buffer.specs.Faults.{OnlyInterrupts-none, OnlyInterrupts-joins, FaultAfterInterrupts-after, MetInterrupts-joins, MetInterrupts-none}
+use Rattle.redux_buffer.specs.Faults.{OnlyInterrupts-joins, FaultAfterInterrupts-after, MetInterrupts-joins}
 use Rattle.redux_buffer.specs.Copy.{MovedBy, CopiesOn, LastWrite, CopyEnded, StreamFailed, TakesNothing, TurnAnswers, CopyBuf}
 
 -- no turn moves nothing, and two turns one after the other move what both do
@@ -33,17 +33,6 @@ MovedBy-joins n k a b c x y z p q = record {
 pub MovedBy-still : {n : ℕ} {a b c : FillLog} {x y z : WriteLog} → MovedBy n a b x y → MovedBy 0 b c y z → MovedBy n a c x z
 MovedBy-still {n} {a} {b} {c} {x} {y} {z} p q =
     subst (λ k. MovedBy k a c x z) (omega arith) (MovedBy-joins n 0 a b c x y z p q)
-
-pub CopiesOn-none : (from : FillLog) (to : WriteLog) → CopiesOn 0 from from to to
-CopiesOn-none from to = record {
-  moved = MovedBy-none from to;
-  ends = le_refl _;
-  ends_shown = omega arith;
-  fills = omega arith;
-  writes = omega arith;
-  reader = OnlyInterrupts-none from.faults;
-  writer = MetInterrupts-none to;
-}
 
 -- turns that follow one another
 module _ {n : ℕ} {a b : FillLog} {x y : WriteLog} (before : CopiesOn n a b x y) where

@@ -104,7 +104,8 @@ impl BufImpl {
         }
     }
 
-    /// Lends the whole usable tail. What is written there counts once [`bytes_written`](BufImpl::bytes_written) says so.
+    /// Lends the whole usable tail. What is written there counts once [`bytes_written`](BufImpl::bytes_written) says so, unless
+    /// another call comes between.
     pub fn write_buf(&mut self) -> &mut [u8]
         ensures* writes_back { sem 𝓛 (Lends the_row (Array u8 0) self.entry result
             (λ w. with_placed self.old (with_tail (as_placed self.old) w))) }

@@ -150,7 +150,7 @@ impl SliceDequeBuf {
     }
 
     /// Lends all free space as one slice. What is written there counts once [`bytes_written`](SliceDequeBuf::bytes_written)
-    /// says so.
+    /// says so, unless another call comes between.
     pub fn write_buf(&mut self) -> &mut [u8]
         ensures* writes_back { sem 𝓛 (Lends the_row (Array u8 0) self.entry result (with_tail self.old)) }
         ensures value { result.now ≡ self.old.block.tail }

@@ -115,7 +115,8 @@ impl StdBuf {
         self.pos == self.end
     }
 
-    /// Lends the whole usable tail. What is written there counts once [`bytes_written`](StdBuf::bytes_written) says so.
+    /// Lends the whole usable tail. What is written there counts once [`bytes_written`](StdBuf::bytes_written) says so, unless
+    /// another call comes between.
     pub fn write_buf(&mut self) -> &mut [u8]
         ensures* writes_back { sem 𝓛 (Lends the_row (Array u8 0) self.entry result (with_tail self.old)) }
         ensures value { result.now ≡ self.old.block.tail }

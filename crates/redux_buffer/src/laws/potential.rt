@@ -4,7 +4,7 @@
 //! Only bytes that are appended raise it, and `make_room` where it doesn't pay. So who makes room only where it pays moves
 //! no more bytes than were appended.
 //!
-//! Each function is its call, and promises what that did beside.
+//! Each function is its call, and says beside that what became of the bytes.
 ghost use Rattle.std.specs.Prelude.{◌≡◌, ◌*◌, ◌≤◌, ℕ, ◌++◌, length, min, take, drop, MatchResult, OnOk, OnErr, IsOk, IsOkUnless};
 ghost use Rattle.redux_buffer.specs.Block.{Plain, ConsumesFirst, Clears, Reserves, Extends, PushesBytes};
 ghost use Rattle.redux_buffer.specs.Block.{MakesRoom, usable, capacity_for, capacity_to_push, limit_of, with_limit};

@@ -38,7 +38,6 @@ returns-clause-turn g c =
       };
       interrupted = tt;
       one_fill = search rules;
-      one_write = search rules;
       offered = omega (
         arith,
         wrote.bound,
