@@ -8,13 +8,13 @@ use Rattle.std.proofs.lemmas.Nat.{div-add-mod'}
 use Rattle.redux_buffer.specs.Block.{Block, IsBlock, Kind, OnKind, Plain, Ring, Reserves, capacity_for, by_kind, round, usable}
 use Rattle.redux_buffer.specs.Faults.{SendErrorCaused}
 use Rattle.redux_buffer.specs.GrowError.{GrowthFailed}
-use Rattle.redux_buffer.specs.LogGrows.{WriteLogGrows-none, WritesGoOn}
+use Rattle.redux_buffer.specs.LogGrows.{WritesGoOn}
 use Rattle.redux_buffer.specs.StreamLog.{StreamLog}
 use Rattle.buffer_redux.specs.Buffered.{Buffered, with_block}
 use Rattle.buffer_redux.specs.BufWriter.{WasSent, WritesAlong}
 use Rattle.buffer_redux.specs.Policy.{std_write_rules}
 use Rattle.buffer_redux.specs.WriteParts.{Appends, MakesPlace, PartsRefused, WritesParts}
-use Rattle.buffer_redux.specs.WritesAlongLaws.{WasSent-along, WritesAlong-joins, WritesAlong-none, WritesAlong-then}
+use Rattle.buffer_redux.specs.WritesAlongLaws.{WasSent-along, WritesAlong-block, WritesAlong-joins, WritesAlong-none, WritesAlong-then}
 
 -- the bytes of all parts
 abbrev pub all_of : List (Bor (List ℕ)) → List ℕ
@@ -72,21 +72,12 @@ module _ {S P : Type 0} (tells : S → StreamLog) (trace : S → S → Type 0) (
   block_along : (s t : Buffered S P) (bytes : List ℕ) → t ≡ with_block s t.block → t.block.bytes ≡ s.block.bytes ++ bytes
       → t.block.consumed ≡ s.block.consumed → s.block.capacity ≤ t.block.capacity → t.block.kind ≡ s.block.kind
       → WritesAlong tells trace std_write_rules s bytes t
-  block_along s t bytes same is kept up kind = subst (WritesAlong tells trace std_write_rules s bytes) (sym same) (record {
-    in_order = record {
-      sent = [];
-      received = sym (append-nil s.log.writes.received);
-      equal = is;
-      consumed = omega (arith, kept);
-    };
-    calls = none s.inner;
-    told = λ told. told;
-    noted = refl;
-    grows = WriteLogGrows-none s.log.writes;
-    capacity = up;
-    kind = kind;
-    claims = refl;
-  })
+  block_along s t bytes same is kept up kind = WritesAlong-block tells trace std_write_rules none s bytes t (record {
+    sent = [];
+    received = ap (λ x. x.log.writes.received) same ∙ sym (append-nil s.log.writes.received);
+    equal = is;
+    consumed = omega (arith, kept);
+  }) up kind same
 
   put_along : (s t : Buffered S P) (bytes : List ℕ) → Appends s bytes t → WritesAlong tells trace std_write_rules s bytes t
   put_along s t bytes p =

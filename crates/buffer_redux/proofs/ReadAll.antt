@@ -14,8 +14,8 @@ use Rattle.redux_buffer.specs.StreamLog.{portion}
 use Rattle.buffer_redux.specs.Policy.{ReadRules, ClaimsToSpare}
 use Rattle.buffer_redux.specs.AllBytes.{GoesBy, EndsBy, GaveUp}
 use Rattle.buffer_redux.specs.Buffered.{Buffered}
-use Rattle.buffer_redux.specs.BufReader.{ReadsInOrder, ReaderKeeps, ReadErrorCaused, EmptyReadCaused, RanDry, Reads}
-use Rattle.buffer_redux.specs.ReaderLaws.{ReadsInOrder-none, ReadsInOrder-joins, InnerGives-none, InnerGives-joins, WantsBytes, remaining_gives}
+use Rattle.buffer_redux.specs.BufReader.{ReadsInOrder, ReaderKeeps, ReadErrorCaused, EmptyReadCaused, Reads}
+use Rattle.buffer_redux.specs.ReaderLaws.{ReadsInOrder-none, ReadsInOrder-joins, InnerGives-none, InnerGives-joins, remaining_gives}
 use Rattle.buffer_redux.specs.Remaining.{reader_remaining}
 use Rattle.buffer_redux.specs.Sparing.{Spared-none, Spared-joins}
 use Rattle.buffer_redux.specs.ReadAll.{ReadTurns, HandedFront, ReadsExactly, OneRead}
@@ -231,16 +231,14 @@ module _ {S P : Type 0} (remaining : S → Option (List ℕ)) (rules : ReadRules
       → length out' ≡ length out → IsBlock s.block → ReadsAtMost answer out' → Reads rules s out answer out' t
       → ReadsInOrder s (portion out' answer) t → ReaderKeeps remaining rules s t → ReadErrorCaused rules s answer t
       → (answer ≡ Ok 0 → 0 < length out → EmptyReadCaused rules s t)
-      → (answer ≡ Ok 0 → 0 < length out → WantsBytes (rules.claims s.policy) → RanDry s t)
       → OneRead remaining rules s out' answer t
-  one_read s out answer out' t same whole bound steps in_order keeps caused empty ran_dry = record {
+  one_read s out answer out' t same whole bound steps in_order keeps caused empty = record {
     whole = whole;
     bound = bound;
     steps = (out, steps);
     front = record { in_order = in_order; keeps = keeps };
     caused = caused;
     empty = λ is some. empty is (omega (arith, some, same));
-    ran_dry = λ is some. ran_dry is (omega (arith, some, same));
   }
 
   -- all that `read_exact` promises, as its clauses say it

@@ -302,4 +302,4 @@ module _ {S P : Type 0} (remaining : S → Option (List ℕ)) (rules : ReadRules
   one_read_says answer out' t whole r inside =
       let a = says answer out' t r inside in
       one_read remaining rules s out answer out' t (keeps_length answer out' t r inside) whole a.bound a.steps a.in_order
-      a.keeps a.caused a.empty a.ran_dry
+      a.keeps a.caused a.empty

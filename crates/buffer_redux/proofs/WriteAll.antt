@@ -14,11 +14,12 @@ use Rattle.redux_buffer.specs.LogGrows.{WriteLogGrows-none, WriteLogGrows-joins}
 use Rattle.redux_buffer.specs.StreamLog.{StreamLog, portion}
 use Rattle.buffer_redux.specs.Policy.{WriteRules}
 use Rattle.buffer_redux.specs.AllBytes.{GoesBy, EndsBy, GaveUp}
-use Rattle.buffer_redux.specs.Buffered.{Buffered, InnerWent}
-use Rattle.buffer_redux.specs.BufWriter.{writer_contents, WritesInOrder, FlushesAmount, TakesIn, Prepared, Finished, Writes, WriterKeeps, WriteErrorCaused, WriterStopped}
+use Rattle.buffer_redux.specs.Buffered.{Buffered, InnerWent, with_policy}
+use Rattle.buffer_redux.specs.BufWriter.{writer_contents, LeavesCapacity, WritesInOrder, FlushesAmount, TakesIn, Prepared, Finished, Writes, WriterKeeps, WriteErrorCaused, WriterStopped}
 use Rattle.buffer_redux.specs.WriterLaws.{WritesInOrder-none, WritesInOrder-joins, WritesInOrder-contents, flush_ways, ways_in}
 use Rattle.buffer_redux.specs.WriteAll.{WriteTurns, TookFront, TookBeginning, WritesAll}
 use Rattle.buffer_redux.proofs.WriteAllCauses.{LastWriteFailed, all_caused, all_steadily}
+use Rattle.buffer_redux.proofs.WriteSteps.{capacity_stays, capacity_taken}
 use Rattle.buffer_redux.proofs.WriteTurns.{claims_stay}
 use Rattle.buffer_redux.proofs.WriterFacts.{writes_keep, writes_caused, writes_steadily, writes_nothing}
 
@@ -69,6 +70,23 @@ module _ {S P : Type 0} where
     caused_of (Ok n) t w = tt
     caused_of (Err e) t w = writes_caused rules s bs e t w
 
+-- a write changes no capacity where the policy changes none
+module _ {S P : Type 0} (rules : WriteRules P) (leaves : LeavesCapacity rules) (s : Buffered S P) (bs : List ℕ) where
+  prepared_leaves : (answer : Result (Unit {0}) Error) (m : Buffered S P) → Prepared rules (length bs) s answer m
+      → m.block.capacity ≡ s.block.capacity
+  prepared_leaves answer m p =
+      capacity_stays p.seen m (p.amount.0) answer p.flush ∙ leaves _ _ _ _ _ _ p.asked.allowed
+
+  write_leaves : (answer : Result ℕ Error) (t : Buffered S P) → Writes rules s bs answer t
+      → t.block.capacity ≡ s.block.capacity
+  write_leaves (Ok n) t w =
+      capacity_stays (with_policy w.after t.policy) t (w.finished.amount.0) w.finished.flushed w.finished.flush
+      ∙ capacity_taken w.before w.after bs (Ok n) w.took_in ∙ prepared_leaves (Ok tt) w.before w.prepared
+  write_leaves (Err e) t (inl refused) = leaves _ _ _ _ _ _ refused.asked.allowed
+  write_leaves (Err e) t (inr (inl prepared)) = prepared_leaves (Err e) t prepared
+  write_leaves (Err e) t (inr (inr faulted)) =
+      capacity_taken faulted.before t bs (Err e) faulted.took_in ∙ prepared_leaves (Ok tt) faulted.before faulted.prepared
+
 -- what a write keeps
 pub writer_keeps : {S P : Type 0} (tells : S → StreamLog) (trace : S → S → Type 0) (rules : WriteRules P)
     (s : Buffered S P) (bs : List ℕ) (answer : Result ℕ Error) (t : Buffered S P) → IsBlock t.block
@@ -80,6 +98,7 @@ writer_keeps tells trace rules s bs answer t whole steps went =
       not_flushed = keeps.flushed;
       flushes = keeps.flushes;
       capacity = keeps.capacity;
+      same_capacity = λ leaves. write_leaves rules leaves s bs answer t steps;
       kind = kind_stays rules s bs answer t steps;
       claims = claims_stay rules s bs answer t steps;
       whole = whole;
@@ -149,6 +168,7 @@ module _ {S P : Type 0} (tells : S → StreamLog) (trace : S → S → Type 0)
       not_flushed = refl;
       flushes = refl;
       capacity = le_refl _;
+      same_capacity = λ _. refl;
       kind = refl;
       claims = refl;
       whole = whole;
@@ -163,6 +183,7 @@ module _ {S P : Type 0} (tells : S → StreamLog) (trace : S → S → Type 0)
     not_flushed = q.not_flushed ∙ p.not_flushed;
     flushes = q.flushes ∙ p.flushes;
     capacity = le_trans p.capacity q.capacity;
+    same_capacity = λ leaves. q.same_capacity leaves ∙ p.same_capacity leaves;
     kind = q.kind ∙ p.kind;
     claims = q.claims ∙ p.claims;
     whole = q.whole;

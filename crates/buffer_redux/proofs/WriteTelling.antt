@@ -11,11 +11,10 @@ use Rattle.redux_buffer.specs.LogGrows.{WriteLogGrows}
 use Rattle.redux_buffer.specs.Faults.{IsInterrupt, MetInterrupts, MetInterrupts-err, TookNothing, SendErrorCaused}
 use Rattle.buffer_redux.specs.Policy.{WriteRules}
 use Rattle.buffer_redux.specs.Buffered.{Buffered, with_calls, with_policy}
-use Rattle.buffer_redux.specs.BufWriter.{Writes, WriteErrorCaused, IsFlushed, Flushes, FlushesAmount, Prepared, TakesIn, WritesInOrder}
+use Rattle.buffer_redux.specs.BufWriter.{LeavesCapacity, Writes, WriteErrorCaused, IsFlushed, Flushes, FlushesAmount, TakesIn, WritesInOrder}
 use Rattle.buffer_redux.specs.WriterLaws.{Wrote-met}
 use Rattle.buffer_redux.proofs.WriterFacts.{steady_caused, steady_met_nothing}
-use Rattle.buffer_redux.specs.WriterTells.{writer_log, failures, LeavesCapacity, TellsFailures, WriterWent}
-use Rattle.buffer_redux.proofs.WriteSteps.{capacity_stays, capacity_taken}
+use Rattle.buffer_redux.specs.WriterTells.{writer_log, failures, TellsFailures, WriterWent}
 
 -- noting a call changes nothing of what a write or a flush did
 module _ {S P : Type 0} (t : Buffered S P) (calls : StreamLog) where
@@ -166,23 +165,6 @@ flush_counted s t sent answer (Err e) same ended = omega (arith, same, ap (λ l.
 pub flush_once : {S P : Type 0} (s t : Buffered S P) (answer : Result (Unit {0}) Error) → Flushes s answer t
     → t.log.writes.flushes ≤ s.log.writes.flushes + 1
 flush_once s t answer f = flush_counted s t f.sent_log answer f.sending f.sends.sent.flushes f.ended
-
--- a write changes no capacity where the policy changes none
-module _ {S P : Type 0} (rules : WriteRules P) (leaves : LeavesCapacity rules) (s : Buffered S P) (bs : List ℕ) where
-  prepared_leaves : (answer : Result (Unit {0}) Error) (m : Buffered S P) → Prepared rules (length bs) s answer m
-      → m.block.capacity ≡ s.block.capacity
-  prepared_leaves answer m p =
-      capacity_stays p.seen m (p.amount.0) answer p.flush ∙ leaves _ _ _ _ _ _ p.asked.allowed
-
-  pub write_leaves : (answer : Result ℕ Error) (t : Buffered S P) → Writes rules s bs answer t
-      → t.block.capacity ≡ s.block.capacity
-  write_leaves (Ok n) t w =
-      capacity_stays (with_policy w.after t.policy) t (w.finished.amount.0) w.finished.flushed w.finished.flush
-      ∙ capacity_taken w.before w.after bs (Ok n) w.took_in ∙ prepared_leaves (Ok tt) w.before w.prepared
-  write_leaves (Err e) t (inl refused) = leaves _ _ _ _ _ _ refused.asked.allowed
-  write_leaves (Err e) t (inr (inl prepared)) = prepared_leaves (Err e) t prepared
-  write_leaves (Err e) t (inr (inr faulted)) =
-      capacity_taken faulted.before t bs (Err e) faulted.took_in ∙ prepared_leaves (Ok tt) faulted.before faulted.prepared
 
 -- a call of a writer that was noted
 pub call_went : {S P : Type 0} (trace : S → S → Type 0) (rules : WriteRules P) (s m t : Buffered S P)

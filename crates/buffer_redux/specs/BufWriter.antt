@@ -118,14 +118,21 @@ WritesSteadily rules s incoming answer t = (rules.claims s.policy).steady ≡ tr
     → IfErr answer (SendErrorCaused s.log.writes t.log.writes)
     × (answer ≡ Ok 0 → 0 < incoming → s.log.writes.zero_writes < t.log.writes.zero_writes)
 
--- what each write keeps: the log only goes on, and nothing is flushed; the capacity doesn't fall, and the kind and the
--- policy's claims stay; the inner writer went through a trace of calls, and no call of its own is noted
+-- the rules have the policy leave the capacity, as those of `StdPolicy` do
+abbrev pub LeavesCapacity : {P : Type 0} → WriteRules P → Type 0
+LeavesCapacity {P} rules = (p : P) (b : Block) (incoming : ℕ) (answer : Result FlushAmt Error) (p' : P) (b' : Block)
+    → rules.before_write p b incoming answer p' b' → b'.capacity ≡ b.capacity
+
+-- what each write keeps: the log only goes on, and nothing is flushed; the capacity doesn't fall, and rises only where the
+-- policy may change it; the kind and the policy's claims stay; the inner writer went through a trace of calls, and no call of
+-- its own is noted
 pub record WriterKeeps {S P : Type 0} (tells : S → StreamLog) (trace : S → S → Type 0) (rules : WriteRules P)
     (s t : Buffered S P) : Type 0 where
   pub grows : WriteLogGrows s.log.writes t.log.writes
   pub not_flushed : t.log.writes.flushed ≡ s.log.writes.flushed
   pub flushes : t.log.writes.flushes ≡ s.log.writes.flushes
   pub capacity : s.block.capacity ≤ t.block.capacity
+  pub same_capacity : LeavesCapacity rules → t.block.capacity ≡ s.block.capacity
   pub kind : t.block.kind ≡ s.block.kind
   pub claims : rules.claims t.policy ≡ rules.claims s.policy
   pub whole : IsBlock t.block

@@ -8,8 +8,7 @@ use Rattle.redux_buffer.specs.StreamLog.{portion}
 use Rattle.buffer_redux.specs.Policy.{ReadRules}
 use Rattle.buffer_redux.specs.AllBytes.{GoesBy, EndsBy, GaveUp}
 use Rattle.buffer_redux.specs.Buffered.{Buffered}
-use Rattle.buffer_redux.specs.BufReader.{Reads, ReadsInOrder, ReaderKeeps, ReadErrorCaused, EmptyReadCaused, RanDry}
-use Rattle.buffer_redux.specs.ReaderLaws.{WantsBytes}
+use Rattle.buffer_redux.specs.BufReader.{Reads, ReadsInOrder, ReaderKeeps, ReadErrorCaused, EmptyReadCaused}
 
 -- just these bytes were handed out, and none was lost or changed place
 pub record HandedFront {S P : Type 0} (remaining : S → Option (List ℕ)) (rules : ReadRules P)
@@ -26,7 +25,6 @@ pub record OneRead {S P : Type 0} (remaining : S → Option (List ℕ)) (rules :
   pub front : HandedFront remaining rules s (portion slice answer) t
   pub caused : ReadErrorCaused rules s answer t
   pub empty : answer ≡ Ok 0 → 0 < length slice → EmptyReadCaused rules s t
-  pub ran_dry : answer ≡ Ok 0 → 0 < length slice → WantsBytes (rules.claims s.policy) → RanDry s t
 
 -- this many turns handed these bytes out, one after another: each was a read into what was left of a slice of `room` bytes,
 -- and was gone on from

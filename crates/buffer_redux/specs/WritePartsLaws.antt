@@ -9,8 +9,7 @@ use Rattle.redux_buffer.specs.GrowError.{GrowthFailed}
 use Rattle.redux_buffer.specs.StreamLog.{StreamLog}
 use Rattle.buffer_redux.specs.Buffered.{Buffered, with_block}
 use Rattle.buffer_redux.specs.BufWriter.{WasSent, WritesInOrder}
-use Rattle.buffer_redux.specs.WriteParts.{Appends, MakesPlace, PutsIn, SendsFirst, WritesParts}
-use Rattle.buffer_redux.specs.WriterLaws.{WritesInOrder-joins}
+use Rattle.buffer_redux.specs.WriteParts.{Appends, MakesPlace, PutsIn, WritesParts}
 
 -- bytes behind others are both
 pub PutsIn-joins : {S P : Type 0} (s m t : Buffered S P) (a b : List ℕ) → PutsIn s a m → PutsIn m b t → PutsIn s (a ++ b) t
@@ -24,23 +23,11 @@ PutsIn-joins s m t a b p q = record {
   whole = q.whole;
 }
 
--- what was appended was put in
-pub PutsIn-appends : {S P : Type 0} (s t : Buffered S P) (bytes : List ℕ) → Appends s bytes t → PutsIn s bytes t
-PutsIn-appends s t bytes p = record {
-  others = p.others;
-  added = p.added.bytes;
-  capacity = p.added.capacity;
-  limit = p.added.limit;
-  kind = p.added.kind;
-  consumed = p.added.consumed;
-  whole = p.whole;
-}
-
 -- nothing was told
 pub PutsIn-told : {S P : Type 0} (s t : Buffered S P) (bytes : List ℕ) → PutsIn s bytes t → t.log ≡ s.log
 PutsIn-told s t bytes p = ap (λ x. x.log) p.others
 
--- what is copied in is taken in, and so where all was sent first
+-- what is copied in is taken in
 pub PutsIn-order : {S P : Type 0} (s t : Buffered S P) (bytes : List ℕ) → PutsIn s bytes t → WritesInOrder s bytes t
 PutsIn-order s t bytes p = record {
   sent = [];
@@ -48,11 +35,6 @@ PutsIn-order s t bytes p = record {
   equal = p.added;
   consumed = omega (arith, p.consumed);
 }
-
-pub SendsFirst-order : {S P : Type 0} (tells : S → StreamLog) (trace : S → S → Type 0) (s t : Buffered S P) (bytes : List ℕ)
-    → SendsFirst tells trace s bytes t → WritesInOrder s bytes t
-SendsFirst-order tells trace s t bytes p =
-    WritesInOrder-joins s p.sent t [] bytes p.sends.in_order (PutsIn-order p.sent t bytes p.puts)
 
 module _ {S P : Type 0} (tells : S → StreamLog) (trace : S → S → Type 0) (s t : Buffered S P) (bytes : List ℕ) where
   -- who made place told of the send alone, whose failure is the answer, and left the limit

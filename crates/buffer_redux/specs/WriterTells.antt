@@ -3,14 +3,12 @@ use Rattle.std.specs.Prelude.{◌≡◌, ℕ, ◌+◌, ◌≤◌, ◌⊎◌, Lis
 use Rattle.std.proofs.Common.{refl, ap, ◌∙◌, arith, le_refl, le_trans}
 use Rattle.std.specs.declared.io.Error.{Error}
 use Rattle.std.specs.declared.io.ErrorKind.TheVariants.{WriteZero}
-use Rattle.redux_buffer.specs.Block.{Block}
 use Rattle.redux_buffer.specs.Faults.{MetInterrupts, MetInterrupts-joins, MetInterrupts-none, MetInterrupts-parts, TookNothing, SendErrorCaused}
 use Rattle.redux_buffer.specs.StreamLog.{StreamLog, WriteLog, Readies, after_write, after_flush}
 use Rattle.redux_buffer.specs.LogGrows.{WriteLogGrows, WriteLogGrows-none, WriteLogGrows-joins, WritesGoOn, WritesGoOn-of}
-use Rattle.buffer_redux.specs.declared.policy.FlushAmt.{FlushAmt}
 use Rattle.buffer_redux.specs.Policy.{WriteRules, std_write_rules}
 use Rattle.buffer_redux.specs.Buffered.{Buffered}
-use Rattle.buffer_redux.specs.BufWriter.{Writes, Flushes}
+use Rattle.buffer_redux.specs.BufWriter.{LeavesCapacity, Writes, Flushes}
 use Rattle.buffer_redux.specs.WriterLaws.{FlushesNothingAfter}
 
 -- a buffered writer tells that it received what the inner writer did, and then what is buffered, and flushed what the inner
@@ -37,11 +35,6 @@ failures log = length log.faults + log.zero_writes
 -- a policy under which no failure is kept back: it is steady, and has nothing flushed after a write
 abbrev pub TellsFailures : {P : Type 0} → WriteRules P → P → Type 0
 TellsFailures rules p = ((rules.claims p).steady ≡ true) × FlushesNothingAfter rules
-
--- the rules have the policy leave the capacity, as those of `StdPolicy` do
-abbrev pub LeavesCapacity : {P : Type 0} → WriteRules P → Type 0
-LeavesCapacity {P} rules = (p : P) (b : Block) (incoming : ℕ) (answer : Result FlushAmt Error) (p' : P) (b' : Block)
-    → rules.before_write p b incoming answer p' b' → b'.capacity ≡ b.capacity
 
 -- the lists and counts only go on, its own and the inner writer's, which was flushed no more often than it was itself; no more
 -- bytes were consumed than that received. The buffer grew only where the policy may change its capacity. Under a steady policy

@@ -1,5 +1,5 @@
 -- Laws of traces of a writer's calls, for the proofs of those who make them.
-use Rattle.std.specs.Prelude.{◌≡◌, ℕ, ◌⊎◌, List, [], ◌∷◌, ◌++◌, length, take, drop, Result, Ok, Err, Option, true}
+use Rattle.std.specs.Prelude.{◌≡◌, ℕ, ◌≤◌, ◌⊎◌, List, [], ◌∷◌, ◌++◌, length, take, drop, Result, Ok, Err, Option, true}
 use Rattle.std.proofs.Common.{sym, ap, subst, refl, ◌∙◌, arith, inl, inr, le_refl, le_trans, append_assoc, append-nil, take-append-drop}
 use Rattle.std.proofs.Math.Seq.{take-length}
 use Rattle.std.proofs.lemmas.List.{append_cancel_left}
@@ -14,7 +14,7 @@ use Rattle.redux_buffer.specs.Told.{ToldWrites, told_log, told_stream}
 use Rattle.redux_buffer.specs.declared.tell.memory.MemoryWriter.{MemoryWriter}
 use Rattle.redux_buffer.specs.declared.tell.told.Told.{Told}
 use Rattle.buffer_redux.specs.Policy.{WriteRules}
-use Rattle.buffer_redux.specs.Buffered.{Buffered}
+use Rattle.buffer_redux.specs.Buffered.{Buffered, with_block}
 use Rattle.buffer_redux.specs.BufWriter.{WritesInOrder, WriterKeeps, WasSent, WasFlushed, WritesSteadily, WritesAlong, FlushedAlong, WasInterrupted, WriterStopped, BegunAlong, StoppedAlong, FrontAlong, AllAlong, AllFlushed}
 use Rattle.buffer_redux.specs.WriteAll.{WritesAll}
 use Rattle.buffer_redux.specs.WriterLaws.{WritesInOrder-none, WritesInOrder-joins, WritesInOrder-contents}
@@ -109,6 +109,21 @@ module _ {S P : Type 0} (tells : S → StreamLog) (trace : S → S → Type 0) (
     capacity = le_refl _;
     kind = refl;
     claims = refl;
+  }
+
+  -- what touches the buffer alone, and takes these bytes in
+  pub WritesAlong-block : ((u : S) → trace u u) → (s : Buffered S P) (accepted : List ℕ) (t : Buffered S P)
+      → WritesInOrder s accepted t → s.block.capacity ≤ t.block.capacity → t.block.kind ≡ s.block.kind
+      → t ≡ with_block s t.block → WritesAlong tells trace rules s accepted t
+  WritesAlong-block none s accepted t order capacity kind others = record {
+    in_order = order;
+    calls = subst (λ x. trace s.inner x.inner) (sym others) (none s.inner);
+    told = λ is. ap (λ x. x.log) others ∙ is ∙ ap (λ x. tells x.inner) (sym others);
+    noted = ap (λ x. x.own_calls) others;
+    grows = subst (λ x. WriteLogGrows s.log.writes x.log.writes) (sym others) (WriteLogGrows-none s.log.writes);
+    capacity = capacity;
+    kind = kind;
+    claims = ap (λ x. rules.claims x.policy) others;
   }
 
   -- a steady policy stays one

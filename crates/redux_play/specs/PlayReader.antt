@@ -1,9 +1,8 @@
 -- The calls of a buffered reader as steps, and whole runs of them.
-use Rattle.std.specs.Prelude.{◌≡◌, ℕ, ◌<◌, ◌≤◌, List, [], ◌++◌, length, take, min, Ok, Err, Bool, MatchBool, ⊤}
+use Rattle.std.specs.Prelude.{◌≡◌, ℕ, ◌<◌, ◌≤◌, List, [], ◌++◌, length, take, min, Option, Ok, Err, Bool, MatchBool, ⊤}
 use Rattle.std.specs.List.{All}
 use Rattle.redux_buffer.specs.Block.{LeavesBytes, MakesRoom, Reserves, usable}
 use Rattle.redux_buffer.specs.GrowError.{GrowthRefused}
-use Rattle.redux_buffer.specs.LogGrows.{ReadLogGrows}
 use Rattle.redux_buffer.specs.Transfer.{ReadsFrom}
 use Rattle.redux_play.specs.declared.play.ReaderCall.{ReaderCall}
 use Rattle.redux_play.specs.declared.play.ReaderCall.TheVariants.{Read, Fill, Consume, ReadIntoBuf, MakeRoom, Reserve}
@@ -12,7 +11,7 @@ use Rattle.redux_play.specs.declared.play.ReaderAnswer.TheVariants.{Count, Shown
 use Rattle.buffer_redux.specs.Policy.{ReadRules}
 use Rattle.buffer_redux.specs.Buffered.{Buffered, with_block}
 use Rattle.buffer_redux.specs.Fill.{Filled}
-use Rattle.buffer_redux.specs.BufReader.{Reads, ReadsInOrder, ReadErrorCaused, EmptyReadCaused, EmptyFillCaused, ReaderConsumes}
+use Rattle.buffer_redux.specs.BufReader.{Reads, ReadsAlong, ReadErrorCaused, EmptyReadCaused, EmptyFillCaused, ReaderConsumes}
 use Rattle.redux_play.specs.PlayRoom.{FaultOf, Runs}
 use Rattle.buffer_redux.specs.Sparing.{SparesClaimed}
 
@@ -66,13 +65,11 @@ ReaderAnswers rules s (Reserve a) Done out t = (out ≡ []) × Reserves a s.bloc
 ReaderAnswers rules s (Reserve a) (Refused e) out t = (out ≡ []) × GrowthRefused a s.block e × (t ≡ s)
 ReaderAnswers rules s call answer out t = ⊥
 
--- bytes were handed out, and none was lost or changed place. The capacity didn't fall, the kind stayed, and the reader noted no
--- call of its own
-pub record HandsOut {S P : Type 0} (s : Handing S P) (out : List ℕ) (t : Handing S P) : Type 0 where
+-- bytes were handed out, as a trace of a reader's calls does. The kind stayed, and the reader noted no call of its own
+pub record HandsOut {S P : Type 0} (remaining : S → Option (List ℕ)) (rules : ReadRules P) (s : Handing S P) (out : List ℕ)
+    (t : Handing S P) : Type 0 where
   pub handed : t.handed ≡ s.handed ++ out
-  pub in_order : ReadsInOrder s.reader out t.reader
-  pub grows : ReadLogGrows s.reader.log.reads t.reader.log.reads
-  pub capacity : s.reader.block.capacity ≤ t.reader.block.capacity
+  pub along : ReadsAlong remaining rules s.reader out t.reader
   pub kind : t.reader.block.kind ≡ s.reader.block.kind
   pub noted : t.reader.own_calls ≡ s.reader.own_calls
 
@@ -81,26 +78,24 @@ abbrev pub MakesNoRoom : ReaderCall → Type 0
 MakesNoRoom MakeRoom = ⊥
 MakesNoRoom call = ⊤
 
--- one call with its answer. What the policy claims stays, and it spares what the policy claims to, unless it makes room
-pub record ReaderStep {S P : Type 0} (rules : ReadRules P) (s : Handing S P) (call : ReaderCall) (answer : ReaderAnswer)
-    (t : Handing S P) : Type 0 where
+-- one call with its answer. It spares what the policy claims to, unless it makes room
+pub record ReaderStep {S P : Type 0} (remaining : S → Option (List ℕ)) (rules : ReadRules P) (s : Handing S P)
+    (call : ReaderCall) (answer : ReaderAnswer) (t : Handing S P) : Type 0 where
   pub out : List ℕ
-  pub hands_out : HandsOut s out t
+  pub hands_out : HandsOut remaining rules s out t
   pub answers : ReaderAnswers rules s.reader call answer out t.reader
-  pub claims : rules.claims t.reader.policy ≡ rules.claims s.reader.policy
   pub sparing : MakesNoRoom call → SparesClaimed rules s.reader t.reader
 
 -- what was played: the answers that were gained are a run of the first calls, as many as there are answers; at Ok these
 -- are all calls, and else some are left, of which none was begun
-pub record ReaderPlays {S P : Type 0} (rules : ReadRules P) (s : Handing S P) (calls : List ReaderCall)
-    (old : List ReaderAnswer) (ok : Bool) (new : List ReaderAnswer) (t : Handing S P) : Type 0 where
+pub record ReaderPlays {S P : Type 0} (remaining : S → Option (List ℕ)) (rules : ReadRules P) (s : Handing S P)
+    (calls : List ReaderCall) (old : List ReaderAnswer) (ok : Bool) (new : List ReaderAnswer) (t : Handing S P) : Type 0 where
   pub answers : List ReaderAnswer
   pub gained : new ≡ old ++ answers
-  pub run : Runs (ReaderStep rules) s (take (length answers) calls) answers t
+  pub run : Runs (ReaderStep remaining rules) s (take (length answers) calls) answers t
   pub ended : MatchBool ok (length answers ≡ length calls) (length answers < length calls)
   pub out : List ℕ
-  pub hands_out : HandsOut s out t
-  pub claims : rules.claims t.reader.policy ≡ rules.claims s.reader.policy
+  pub hands_out : HandsOut remaining rules s out t
   pub sparing : All MakesNoRoom calls → SparesClaimed rules s.reader t.reader
 
 -- how long a slice a call reads into, and how many bytes it may hand out

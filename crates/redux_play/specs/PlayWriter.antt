@@ -3,14 +3,14 @@ use Rattle.std.specs.Prelude.{◌≡◌, ℕ, ◌<◌, ◌≤◌, List, [], ◌�
 use Rattle.redux_buffer.specs.Block.{MakesRoom, Reserves, usable}
 use Rattle.redux_buffer.specs.GrowError.{GrowthRefused}
 use Rattle.redux_buffer.specs.Faults.{SendErrorCaused}
-use Rattle.redux_buffer.specs.LogGrows.{WriteLogGrows}
+use Rattle.redux_buffer.specs.StreamLog.{StreamLog}
 use Rattle.redux_play.specs.declared.play.WriterCall.{WriterCall}
 use Rattle.redux_play.specs.declared.play.WriterCall.TheVariants.{Write, Flush, MakeRoom, Reserve}
 use Rattle.redux_play.specs.declared.play.WriterAnswer.{WriterAnswer}
 use Rattle.redux_play.specs.declared.play.WriterAnswer.TheVariants.{Count, Done, Fault, Refused}
 use Rattle.buffer_redux.specs.Policy.{WriteRules}
 use Rattle.buffer_redux.specs.Buffered.{Buffered, with_block}
-use Rattle.buffer_redux.specs.BufWriter.{WritesInOrder, WriteErrorCaused, EmptyWriteCaused, Writes, Flushes, IsFlushed}
+use Rattle.buffer_redux.specs.BufWriter.{WriteErrorCaused, EmptyWriteCaused, Writes, WritesAlong, Flushes, IsFlushed}
 use Rattle.redux_play.specs.PlayRoom.{FaultOf, Runs}
 
 -- the bytes that a call with this answer took in: the first k of a write that returned `Ok(k)`, and of all calls
@@ -38,27 +38,19 @@ WriterAnswers rules s (Reserve a) Done t = Reserves a s.block t.block × (a ≤ 
 WriterAnswers rules s (Reserve a) (Refused e) t = GrowthRefused a s.block e × (t ≡ s)
 WriterAnswers rules s call answer t = ⊥
 
--- bytes were taken in, and none was lost or changed place. The capacity didn't fall, the kind stayed, and the writer noted no
--- call of its own
-pub record Accepts {S P : Type 0} (s : Buffered S P) (taken_in : List ℕ) (t : Buffered S P) : Type 0 where
-  pub in_order : WritesInOrder s taken_in t
-  pub grows : WriteLogGrows s.log.writes t.log.writes
-  pub capacity : s.block.capacity ≤ t.block.capacity
-  pub kind : t.block.kind ≡ s.block.kind
-  pub noted : t.own_calls ≡ s.own_calls
-
 -- one call with its answer
-pub record WriterStep {S P : Type 0} (rules : WriteRules P) (s : Buffered S P) (call : WriterCall)
-    (answer : WriterAnswer) (t : Buffered S P) : Type 0 where
-  pub accepts : Accepts s (bytes_accepted_by call answer) t
+pub record WriterStep {S P : Type 0} (tells : S → StreamLog) (trace : S → S → Type 0) (rules : WriteRules P)
+    (s : Buffered S P) (call : WriterCall) (answer : WriterAnswer) (t : Buffered S P) : Type 0 where
+  pub accepts : WritesAlong tells trace rules s (bytes_accepted_by call answer) t
   pub answers : WriterAnswers rules s call answer t
 
 -- what was played: the answers that were gained are a run of the first calls, as many as there are answers; at Ok these
 -- are all calls, and else some are left, of which none was begun
-pub record WriterPlays {S P : Type 0} (rules : WriteRules P) (s : Buffered S P) (calls : List WriterCall)
-    (old : List WriterAnswer) (ok : Bool) (new : List WriterAnswer) (t : Buffered S P) : Type 0 where
+pub record WriterPlays {S P : Type 0} (tells : S → StreamLog) (trace : S → S → Type 0) (rules : WriteRules P)
+    (s : Buffered S P) (calls : List WriterCall) (old : List WriterAnswer) (ok : Bool) (new : List WriterAnswer)
+    (t : Buffered S P) : Type 0 where
   pub answers : List WriterAnswer
   pub gained : new ≡ old ++ answers
-  pub run : Runs (WriterStep rules) s (take (length answers) calls) answers t
+  pub run : Runs (WriterStep tells trace rules) s (take (length answers) calls) answers t
   pub ended : MatchBool ok (length answers ≡ length calls) (length answers < length calls)
-  pub accepts : Accepts s (accepted_bytes (take (length answers) calls) answers) t
+  pub accepts : WritesAlong tells trace rules s (accepted_bytes (take (length answers) calls) answers) t

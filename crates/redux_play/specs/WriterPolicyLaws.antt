@@ -70,6 +70,17 @@ module _ {S P : Type 0} (rules : WriteRules P)
       took_in_policy wrote.before wrote.after bs (Ok n) wrote.took_in
       ∙ prepared_policy s wrote.before (length bs) (Ok tt) wrote.prepared
 
+  -- and one that the second leaves too, all of it
+  pub Writes-policy : ((p : P) (b : Block) (amount : FlushAmt) (p' : P) → rules.after_write p b amount p' → p' ≡ p)
+      → (s : Buffered S P) (bs : List ℕ) (answer : Result ℕ Error) (t : Buffered S P) → Writes rules s bs answer t
+      → t.policy ≡ s.policy
+  Writes-policy after s bs (Ok n) t wrote = after _ _ _ _ wrote.finished.asked.allowed ∙ asked_policy s t bs n wrote
+  Writes-policy after s bs (Err e) t (inl refused) = stays _ _ _ _ _ _ refused.asked.allowed
+  Writes-policy after s bs (Err e) t (inr (inl prepared)) = prepared_policy s t (length bs) (Err e) prepared
+  Writes-policy after s bs (Err e) t (inr (inr faulted)) =
+      took_in_policy faulted.before t bs (Err e) faulted.took_in
+      ∙ prepared_policy s faulted.before (length bs) (Ok tt) faulted.prepared
+
 -- a write under `FlushOn` leaves no such byte, where each write of the inner writer took something
 module _ {S P : Type 0} (byte : P → ℕ) (s : Buffered S P) (bs : List ℕ) (n : ℕ) (t : Buffered S P)
     (wrote : Wrote (flush_on_rules byte) s bs n t) where

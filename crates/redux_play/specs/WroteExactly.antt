@@ -8,7 +8,7 @@ use Rattle.redux_buffer.specs.Faults.{SendErrorCaused}
 use Rattle.redux_buffer.specs.StreamLog.{WriteLog, after_write, with_zero}
 use Rattle.buffer_redux.specs.Policy.{WriteRules}
 use Rattle.buffer_redux.specs.Buffered.{Buffered, GoesPast, StaysInside, with_policy}
-use Rattle.buffer_redux.specs.BufWriter.{FlushesAmount, CopiesIn, TakesIn, Wrote, Writes}
+use Rattle.buffer_redux.specs.BufWriter.{FlushesAmount, CopiesIn, Wrote, Writes}
 use Rattle.buffer_redux.specs.WriterLaws.{flush_ways, ways_in, FlushesAmount-met}
 
 -- what the flush of an amount leaves: the bytes behind the first amount, or all of them where there are fewer; where it
@@ -204,11 +204,3 @@ pub Writes-exactly : {S P : Type 0} (rules : WriteRules P) (s : Buffered S P) (b
     (t : Buffered S P) → Writes rules s bs answer t → IfOk answer (λ n. WroteExactly rules s bs n t)
 Writes-exactly rules s bs (Ok n) t wrote = Wrote-exactly rules s bs n t wrote
 Writes-exactly rules s bs (Err e) t failed = tt
-
--- a write that failed as it took bytes in had gone past the buffer, and offered all of them
-pub TakesIn-failed : {S P : Type 0} (before : Buffered S P) (bs : List ℕ) (e : Error) (t : Buffered S P)
-    → TakesIn bs before (Err e) t → GoesPast before.block (length bs) × (t.log ≡ after_write before.log bs (Err e))
-TakesIn-failed before bs e t took_in = elim (ways_in before.block (length bs)) [
-  | inl past ↦ (past, (took_in.past past).told)
-  | inr inside ↦ (let odd = (took_in.inside inside).answered in cc)
-]

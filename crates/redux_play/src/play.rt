@@ -152,7 +152,7 @@ pub fn play_reader<R: TellRead, P: ReaderPolicy>(
     calls: &[ReaderCall],
     run: &mut ReaderRun,
 ) -> Result<(), AllocError>
-    ensures plays { ReaderPlays P.rules (with_handed reader.old run.old.handed.items) calls.now run.old.answers.items
+    ensures plays { ReaderPlays R.remaining P.rules (with_handed reader.old run.old.handed.items) calls.now run.old.answers.items
         (is_ok result) run.new.answers.items (with_handed reader.new run.new.handed.items) }
     ensures whole { IsBlock reader.new.block }
 {
@@ -174,7 +174,7 @@ pub fn play_writer<W: TellWrite, P: WriterPolicy>(
     calls: &[WriterCall<'_>],
     run: &mut WriterRun,
 ) -> Result<(), AllocError>
-    ensures plays { WriterPlays P.rules writer.old calls.now run.old.answers.items (is_ok result)
+    ensures plays { WriterPlays W.log W.trace P.rules writer.old calls.now run.old.answers.items (is_ok result)
         run.new.answers.items writer.new }
     ensures whole { IsBlock writer.new.block }
 {

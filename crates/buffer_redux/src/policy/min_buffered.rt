@@ -7,11 +7,12 @@ use crate::policy::{DoRead, ReaderPolicy};
 use redux_buffer::Buffer;
 use std::io;
 
-/// Reads until this many bytes are buffered, or the source gives none, and grows a buffer that is too small for them.
+/// Reads until this many bytes are buffered, or the source gives none.
 ///
-/// With 0 it never reads into the buffer. It makes room where that many bytes don't fit behind those that are there and
-/// would fit then, or where nothing can be written. A growth that is refused is an `Err` of the kind that the
-/// [`GrowError`](crate::GrowError) becomes, and leaves the buffer as it is.
+/// With 0 it never reads into the buffer. Where the capacity is too small for them it reserves what that lacks, which grows the
+/// buffer once so much isn't usable; a growth that is refused is an `Err` of the kind that the
+/// [`GrowError`](crate::GrowError) becomes, and leaves the buffer as it is. Else it makes room where that many bytes don't fit
+/// behind those that are there and would fit then, or where nothing can be written.
 ///
 /// With three times this number as its capacity, a plain buffer that was empty has moved since then no more bytes than the
 /// reader was given: see `play_sparing` of the crate `redux_play`.

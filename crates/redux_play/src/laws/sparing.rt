@@ -35,7 +35,7 @@ pub fn play_sparing<R: TellRead, P: ReaderPolicy>(
         → All MakesNoRoom calls.now → Spared keep first reader.old → BeginsEmpty keep first
         → MovedAtMostGiven first reader.new }
     ensures claims { P.rules.claims reader.new.policy ≡ P.rules.claims reader.old.policy }
-    ensures plays { ReaderPlays P.rules
+    ensures plays { ReaderPlays R.remaining P.rules
         (with_handed reader.old run.old.handed.items) calls.now run.old.answers.items (is_ok result)
         run.new.answers.items (with_handed reader.new run.new.handed.items) }
 {

@@ -48,7 +48,7 @@ pub fn step<R: TellRead, P: ReaderPolicy>(
 ) -> ReaderAnswer
     requires slice { length out.old ≡ room_to_read call }
     requires room { vec_len handed.old + most_handed reader.old call ≤ vec_capacity handed.old }
-    ensures step { ReaderStep P.rules (with_handed reader.old handed.old.items) call result
+    ensures step { ReaderStep R.remaining P.rules (with_handed reader.old handed.old.items) call result
         (with_handed reader.new handed.new.items) }
     ensures whole { IsBlock reader.new.block }
 {
@@ -68,7 +68,7 @@ fn read<R: TellRead, P: ReaderPolicy>(
     handed: &mut Vec<u8>,
 ) -> ReaderAnswer
     requires { vec_len handed.old + length out.old ≤ vec_capacity handed.old }
-    ensures step { ReaderStep P.rules (with_handed reader.old handed.old.items) (Read (length out.old)) result
+    ensures step { ReaderStep R.remaining P.rules (with_handed reader.old handed.old.items) (Read (length out.old)) result
         (with_handed reader.new handed.new.items) }
     ensures whole { IsBlock reader.new.block }
 {
@@ -82,7 +82,7 @@ fn read<R: TellRead, P: ReaderPolicy>(
 }
 
 fn fill<R: TellRead, P: ReaderPolicy>(reader: &mut BufReader<R, P>) -> ReaderAnswer
-    ensures step { (handed : List ℕ) → ReaderStep P.rules (with_handed reader.old handed) Fill result
+    ensures step { (handed : List ℕ) → ReaderStep R.remaining P.rules (with_handed reader.old handed) Fill result
         (with_handed reader.new handed) }
     ensures whole { IsBlock reader.new.block }
 {
@@ -98,7 +98,7 @@ fn consume<R: TellRead, P: ReaderPolicy>(
     handed: &mut Vec<u8>,
 ) -> ReaderAnswer
     requires { vec_len handed.old + min n (length reader.old.block.bytes) ≤ vec_capacity handed.old }
-    ensures step { ReaderStep P.rules (with_handed reader.old handed.old.items) (Consume n) result
+    ensures step { ReaderStep R.remaining P.rules (with_handed reader.old handed.old.items) (Consume n) result
         (with_handed reader.new handed.new.items) }
     ensures whole { IsBlock reader.new.block }
 {
@@ -109,7 +109,7 @@ fn consume<R: TellRead, P: ReaderPolicy>(
 }
 
 fn read_into_buf<R: TellRead, P: ReaderPolicy>(reader: &mut BufReader<R, P>) -> ReaderAnswer
-    ensures step { (handed : List ℕ) → ReaderStep P.rules (with_handed reader.old handed) ReadIntoBuf result
+    ensures step { (handed : List ℕ) → ReaderStep R.remaining P.rules (with_handed reader.old handed) ReadIntoBuf result
         (with_handed reader.new handed) }
     ensures whole { IsBlock reader.new.block }
 {
@@ -120,7 +120,7 @@ fn read_into_buf<R: TellRead, P: ReaderPolicy>(reader: &mut BufReader<R, P>) -> 
 }
 
 fn make_room<R: TellRead, P: ReaderPolicy>(reader: &mut BufReader<R, P>) -> ReaderAnswer
-    ensures step { (handed : List ℕ) → ReaderStep P.rules (with_handed reader.old handed) MakeRoom result
+    ensures step { (handed : List ℕ) → ReaderStep R.remaining P.rules (with_handed reader.old handed) MakeRoom result
         (with_handed reader.new handed) }
     ensures whole { IsBlock reader.new.block }
 {
@@ -132,7 +132,7 @@ fn reserve<R: TellRead, P: ReaderPolicy>(
     reader: &mut BufReader<R, P>,
     additional: usize,
 ) -> ReaderAnswer
-    ensures step { (handed : List ℕ) → ReaderStep P.rules (with_handed reader.old handed) (Reserve additional) result
+    ensures step { (handed : List ℕ) → ReaderStep R.remaining P.rules (with_handed reader.old handed) (Reserve additional) result
         (with_handed reader.new handed) }
     ensures whole { IsBlock reader.new.block }
 {

@@ -14,7 +14,7 @@ pub fn step<W: TellWrite, P: WriterPolicy>(
     writer: &mut BufWriter<W, P>,
     call: WriterCall<'_>,
 ) -> WriterAnswer
-    ensures step { WriterStep P.rules writer.old call.entry result writer.new }
+    ensures step { WriterStep W.log W.trace P.rules writer.old call.entry result writer.new }
     ensures whole { IsBlock writer.new.block }
 {
     match call {
@@ -26,7 +26,7 @@ pub fn step<W: TellWrite, P: WriterPolicy>(
 }
 
 fn write<W: TellWrite, P: WriterPolicy>(writer: &mut BufWriter<W, P>, bytes: &[u8]) -> WriterAnswer
-    ensures step { WriterStep P.rules writer.old (Write bytes.entry) result writer.new }
+    ensures step { WriterStep W.log W.trace P.rules writer.old (Write bytes.entry) result writer.new }
     ensures whole { IsBlock writer.new.block }
 {
     match writer.write(bytes) {
@@ -36,7 +36,7 @@ fn write<W: TellWrite, P: WriterPolicy>(writer: &mut BufWriter<W, P>, bytes: &[u
 }
 
 fn flush<W: TellWrite, P: WriterPolicy>(writer: &mut BufWriter<W, P>) -> WriterAnswer
-    ensures step { WriterStep P.rules writer.old Flush result writer.new }
+    ensures step { WriterStep W.log W.trace P.rules writer.old Flush result writer.new }
     ensures whole { IsBlock writer.new.block }
 {
     match writer.flush() {
@@ -46,7 +46,7 @@ fn flush<W: TellWrite, P: WriterPolicy>(writer: &mut BufWriter<W, P>) -> WriterA
 }
 
 fn make_room<W: TellWrite, P: WriterPolicy>(writer: &mut BufWriter<W, P>) -> WriterAnswer
-    ensures step { WriterStep P.rules writer.old MakeRoom result writer.new }
+    ensures step { WriterStep W.log W.trace P.rules writer.old MakeRoom result writer.new }
     ensures whole { IsBlock writer.new.block }
 {
     writer.make_room();
@@ -57,7 +57,7 @@ fn reserve<W: TellWrite, P: WriterPolicy>(
     writer: &mut BufWriter<W, P>,
     additional: usize,
 ) -> WriterAnswer
-    ensures step { WriterStep P.rules writer.old (Reserve additional) result writer.new }
+    ensures step { WriterStep W.log W.trace P.rules writer.old (Reserve additional) result writer.new }
     ensures whole { IsBlock writer.new.block }
 {
     match writer.reserve(additional) {

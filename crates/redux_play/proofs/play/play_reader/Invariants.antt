@@ -11,7 +11,7 @@ invariant-loop-call g l = record {
   answers : List ReaderAnswer;
   gained : l.run.answers.items ≡ l.initial.run.answers.items ++ answers;
   count : length answers ≡ l.call-index;
-  run : Runs (ReaderStep g.P.ReaderPolicy.rules) (with_handed l.initial.reader l.initial.run.handed.items)
+  run : Runs (ReaderStep g.R.TellRead.remaining g.P.ReaderPolicy.rules) (with_handed l.initial.reader l.initial.run.handed.items)
       (take l.call-index l.calls) answers (with_handed l.reader l.run.handed.items);
   whole : IsBlock l.reader.block;
 }

@@ -46,7 +46,7 @@ loop-preserved g c =
           slice_goes_on g.R.TellRead.remaining g.P.ReaderPolicy.rules s c.loop.out c.loop.counter c.loop.at c.loop.self
           before c.if-at-out.false c.read.new.out (part g c) c.read.result c.read.new.self
           (one_read _ _ _ _ _ c.read.new.out _ c.read.auto.out before.front.keeps.whole r.bound r.steps r.in_order r.keeps
-          r.caused r.empty r.ran_dry)
+          r.caused r.empty)
           c.in_ok-at-2.field-0 c.in_ok-at-2.ensures;
     }
 
@@ -69,7 +69,7 @@ returns-in_err-at-2 g c =
           rw (p.1, p.2) (slice_ended g.R.TellRead.remaining g.P.ReaderPolicy.rules s c.loop.out c.loop.counter c.loop.at
           c.loop.self before c.if-at-out.false c.read.new.out length-part c.read.result c.read.new.self
           (one_read _ _ _ _ _ c.read.new.out _ c.read.auto.out before.front.keeps.whole r.bound r.steps r.in_order r.keeps
-          r.caused r.empty r.ran_dry)
+          r.caused r.empty)
           _ c.in_err-at-2.ensures);
     }
 

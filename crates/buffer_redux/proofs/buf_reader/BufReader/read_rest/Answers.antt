@@ -21,7 +21,7 @@ turns g c =
     let r = c.read-answer.ensures in
     c.read_on.ensures.exact c.args.self.now
     (one_read _ _ _ _ _ c.read-answer.new.out _ c.read-answer.auto.out (rw (← c.self.view_is) c.self.invariant) r.bound
-    r.steps r.in_order r.keeps r.caused r.empty r.ran_dry)
+    r.steps r.in_order r.keeps r.caused r.empty)
 
 pub returns-then-is_empty : goal.returns-then-is_empty
 returns-then-is_empty g c = record { exact = nothing g c }

@@ -1,24 +1,24 @@
 -- A fill hands nothing out, and what it says holds of the reader once its loan has ended.
-use Rattle.std.proofs.Common.{◌≡◌, ℕ, List, [], Result, length, refl, sym, ap, arith, append-nil}
+use Rattle.std.proofs.Common.{ℕ, List, [], Option, Result, length, refl, sym, ap, arith, append-nil}
+use Rattle.std.specs.Borrow.{Bor}
 use Rattle.std.specs.declared.io.Error.{Error}
 use Rattle.buffer_redux.specs.Policy.{ReadRules}
 use Rattle.buffer_redux.specs.Buffered.{Buffered}
-use Rattle.buffer_redux.specs.BufReader.{Fills}
+use Rattle.buffer_redux.specs.BufReader.{FillBuf}
 use Rattle.buffer_redux.specs.FillLaws.{Filled-ok, Filled-err}
+use Rattle.buffer_redux.specs.ReaderLaws.{FillBuf-along}
 use Rattle.redux_play.specs.PlayReader.{HandsOut, with_handed}
 use Rattle.redux_play.proofs.play.reading.fill.Goals as goal
 
 -- a fill hands nothing out, whatever it answers
-hands_none : {S P A : Type 0} (rules : ReadRules P) (s : Buffered S P) (answer : Result A Error) (t : Buffered S P)
-    (handed : List ℕ) → Fills rules s answer t → t.own_calls ≡ s.own_calls
-    → HandsOut (with_handed s handed) [] (with_handed t handed)
-hands_none rules s answer t handed f noted = record {
+hands_none : {S P : Type 0} (remaining : S → Option (List ℕ)) (rules : ReadRules P) (s : Buffered S P)
+    (answer : Result (Bor (List ℕ)) Error) (t : Buffered S P) (handed : List ℕ) → FillBuf remaining rules s answer t
+    → HandsOut remaining rules (with_handed s handed) [] (with_handed t handed)
+hands_none remaining rules s answer t handed f = record {
   handed = sym (append-nil handed);
-  in_order = f.in_order;
-  grows = f.grows;
-  capacity = f.capacity;
-  kind = f.kind;
-  noted = noted;
+  along = FillBuf-along remaining rules s answer t f;
+  kind = f.fills.kind;
+  noted = f.noted;
 }
 
 pub returns-in-Ok-clause-step : goal.returns-in-Ok-clause-step
@@ -28,7 +28,7 @@ returns-in-Ok-clause-step g c handed =
     let f = rw c.in-Ok.is at c.fill_buf.follows.holds-at-none in
     record {
       out = [];
-      hands_out = hands_none rules _ _ t handed f.fills f.noted;
+      hands_out = hands_none g.R.TellRead.remaining rules _ _ t handed f;
       answers = record {
         none = refl;
         count = ap length f.shown;
@@ -36,7 +36,6 @@ returns-in-Ok-clause-step g c handed =
         empty = λ zero. f.fills.empty refl (omega (arith, zero, ap length f.shown));
         fills = Filled-ok rules c.args.reader.now c.in-Ok.bytes (length c.in-Ok.bytes.now) t f.fills.filled;
       };
-      claims = f.fills.claims;
       sparing = λ _. f.fills.sparing;
     }
 
@@ -47,11 +46,10 @@ returns-in-Err-clause-step g c handed =
     let f = rw c.in-Err.is at c.fill_buf.follows.holds-at-none in
     record {
       out = [];
-      hands_out = hands_none rules _ _ t handed f.fills f.noted;
+      hands_out = hands_none g.R.TellRead.remaining rules _ _ t handed f;
       answers = (
         refl,
         (c.in-Err.e, sym c.kind.ensures, (f.fills.caused, Filled-err rules c.args.reader.now c.in-Err.e t f.fills.filled)),
       );
-      claims = f.fills.claims;
       sparing = λ _. f.fills.sparing;
     }

@@ -7,7 +7,7 @@ use Rattle.redux_buffer.specs.StreamLog.{after_write}
 use Rattle.redux_buffer.specs.LogGrows.{WriteLogGrows, WriteLogGrows-write}
 use Rattle.buffer_redux.specs.WriterTells.{writer_log}
 use Rattle.buffer_redux.specs.BufWriter.{Writes}
-use Rattle.buffer_redux.proofs.WriteTelling.{call_went, write_fails, write_leaves, write_met, write_fault, write_nothing, writes_noted}
+use Rattle.buffer_redux.proofs.WriteTelling.{call_went, write_fails, write_met, write_fault, write_nothing, writes_noted}
 use Rattle.buffer_redux.proofs.buf_writer.tells.BufWriterTellWrite.write_told.Goals as goal
 
 pub returns-clause-told : goal.returns-clause-told
@@ -25,7 +25,7 @@ returns-clause-trace g c =
     c.self.view_is noted wrote.keeps.went.calls wrote.keeps.grows
     (subst (λ l. WriteLogGrows (writer_log s).writes l.writes) (sym (returns-clause-told g c))
     (WriteLogGrows-write (writer_log s) bs answer)) _ wrote.in_order wrote.keeps.capacity wrote.keeps.kind
-    (λ leaves. write_leaves g.P.WriterPolicy.rules leaves s bs answer m wrote.steps) wrote.keeps.claims
+    wrote.keeps.same_capacity wrote.keeps.claims
     (omega (arith, wrote.keeps.flushes))
     (λ steady. write_fails s m bs answer wrote.keeps.grows (wrote.steadily steady))
     (λ tells. write_met g.P.WriterPolicy.rules s m bs tells answer wrote.steps wrote.caused)
