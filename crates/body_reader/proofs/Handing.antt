@@ -1,17 +1,16 @@
 -- Payload is handed out, and how that ends.
 use Rattle.std.proofs.Common.{◌≡◌, ◌==◌, ◌+◌, false, ℕ, zero, suc, ◌-◌, ◌<◌, ◌≤◌, ◌⊎◌, List, [], ◌++◌, length, min, take, drop, Option, Result, Ok, Err, sym, ap, subst, ◌∙◌, arith, inl, inr, append_assoc, append-nil, length-append}
 use Rattle.std.proofs.lemmas.Bool.{cases_lt}
-use Rattle.std.proofs.lemmas.List.{append_cancel_left, length-drop, length-take-le, nil_from_length, take-append-drop}
+use Rattle.std.proofs.lemmas.List.{append_cancel_left, length-drop, length-take-le, take-append-drop}
 use Rattle.buffer_redux.specs.Buffered.{Buffered}
-use Rattle.buffer_redux.specs.BufReader.{ReaderConsumes, ReaderKeeps, ReadsInOrder}
+use Rattle.buffer_redux.specs.BufReader.{ReaderConsumes, ReaderKeeps}
 use Rattle.buffer_redux.specs.Policy.{ReadRules}
 use Rattle.body_reader.specs.declared.coding.Look.{Look}
-use Rattle.body_reader.specs.declared.coding.Look.TheVariants.{Payload}
 use Rattle.body_reader.specs.declared.error.BodyError.{BodyError}
 use Rattle.body_reader.specs.declared.progress.Progress.{Progress}
-use Rattle.body_reader.specs.Between.{AllShown, AsksWithRoom, EachGave, ShowsOn, HandsAll, HandsOn, KnowsAll, PassesOn, Proceeds, SkipsOn, Stretch, TakenThrough, TakesBytes, TakesFront, handed_out}
+use Rattle.body_reader.specs.Between.{AllShown, AsksWithRoom, EachGave, ShowsOn, HandsOn, KnowsAll, PassesOn, Proceeds, SkipsOn, TakenThrough, TakesBytes, TakesFront, handed_out}
 use Rattle.body_reader.specs.BetweenLaws.{EachGave-same, Proceeds-after, Proceeds-through}
-use Rattle.body_reader.specs.Coding.{Carries, Grammar, IsDone, IsKnown, Leads, Looks, heeded}
+use Rattle.body_reader.specs.Coding.{Carries, Grammar, IsDone, IsKnown, Leads, heeded}
 use Rattle.body_reader.specs.CodingLaws.{Leads-none, Leads-then}
 use Rattle.body_reader.proofs.Filling.{Proceeds-err, Proceeds-of, ended_here, payload_here}
 use Rattle.body_reader.proofs.Skipping.{Notes, consumes_left, consumes_parts, consumes_through, takes_front}
@@ -136,10 +135,10 @@ module _ {S Q P W : Type 0} (remaining : S → Option (List ℕ)) (rules : ReadR
       | inr all ↦ inl (omega (arith, is, all))
     ]
 
-    hands_these : (before : ℕ) → HandsAll g p.place s.block.bytes before out n t.block.bytes
+    hands_these : (before : ℕ)
         → (before ≡ 0 → KnowsAll g p.place p.taken.log.fills.consumed q.taken.log.fills.consumed [] (take n out) k' t.block.bytes)
         → HandsOn remaining rules g before s p out (Ok n) t q k'
-    hands_these before all knows = (
+    hands_these before knows = (
       record {
         wire = take n s.block.bytes;
         takes = subst (λ l. TakesBytes remaining rules g s p (take n s.block.bytes) l t q) (sym same) taken.takes;
@@ -150,7 +149,6 @@ module _ {S Q P W : Type 0} (remaining : S → Option (List ℕ)) (rules : ReadR
           (
             omega (arith, is),
             (λ none _. absurd (omega (arith, none, is, some, room))),
-            (λ _. all),
             full,
             (λ unknown _. knows unknown),
           ),
@@ -162,53 +160,9 @@ module _ {S Q P W : Type 0} (remaining : S → Option (List ℕ)) (rules : ReadR
 
     -- it was known before
     pub hands_known : HandsOn remaining rules g k s p out (Ok n) t q k'
-    hands_known = hands_these k (elim (cases_lt n (length out)) [
-      | inl short ↦ inr (inr (inl (some, omega (arith, is, short))))
-      | inr full ↦ inl (omega (arith, is, full))
-    ]) (λ unknown. absurd (omega (arith, unknown, some)))
-
-    order : ReadsInOrder s (take n s.block.bytes) t
-    order = taken.takes.along.in_order
+    hands_known = hands_these k (λ unknown. absurd (omega (arith, unknown, some)))
 
     -- or is as much as a look says
-    looked_all : Looks g p.place s.block.bytes (Payload k) → k ≡ n → Stretch g p.place s.block.bytes (take n out) t.block.bytes
-    looked_all looks whole =
-        let handed = take n out in
-        let size : k ≡ length handed = omega (arith, whole, is, length-take-le n out (omega (arith, is))) in
-        let none : order.got ≡ [] = nil_from_length order.got (omega (
-          arith,
-          ap length order.given,
-          ap (λ l. length l.reads.given) taken.consumed.told,
-          length-append s.log.reads.given order.got,
-        )) in
-        let equal : handed ++ t.block.bytes ≡ s.block.bytes ++ order.got =
-        ap (λ l. l ++ t.block.bytes) same ∙ order.equal in
-        let there : handed ++ t.block.bytes ≡ s.block.bytes =
-        equal ∙ ap (λ l. s.block.bytes ++ l) none ∙ append-nil s.block.bytes in
-        record {
-          wire = [];
-          got = order.got;
-          equal = equal;
-          place = p.place;
-          leads = Leads-none g p.place (heeded g (handed ++ t.block.bytes));
-          looks = subst (λ l. Looks g p.place l (Payload (length handed))) (sym there)
-              (subst (λ c. Looks g p.place s.block.bytes (Payload c)) size looks);
-        }
-
-    none_left' : k ≡ length s.block.bytes → k ≡ n → t.block.bytes ≡ []
-    none_left' held whole = nil_from_length t.block.bytes (omega (
-      arith,
-      held,
-      whole,
-      ap length order.equal,
-      ap length order.given,
-      ap (λ l. length l.reads.given) taken.consumed.told,
-      length-append (take n s.block.bytes) t.block.bytes,
-      length-append s.block.bytes order.got,
-      length-append s.log.reads.given order.got,
-      length-take-le n s.block.bytes (omega (arith, held, whole)),
-    ))
-
     knows : AllShown g p.place k s.block.bytes
         → KnowsAll g p.place p.taken.log.fills.consumed q.taken.log.fills.consumed [] (take n out) k' t.block.bytes
     knows all =
@@ -219,15 +173,7 @@ module _ {S Q P W : Type 0} (remaining : S → Option (List ℕ)) (rules : ReadR
         (consumes_parts rules n s t (omega (arith, is, known.0)) taken.consumed) (omega (arith, is)) known.0 taken.left)
 
     pub hands_shown : AllShown g p.place k s.block.bytes → (before : ℕ) → HandsOn remaining rules g before s p out (Ok n) t q k'
-    hands_shown all before = hands_these before (elim (cases_lt n (length out)) [
-      | inl short ↦
-          let whole : k ≡ n = omega (arith, is, short) in
-          elim all [
-            | inl held ↦ inr (inl (none_left' held whole))
-            | inr looks ↦ inr (inr (inr (looked_all looks whole)))
-          ]
-      | inr full ↦ inl (omega (arith, is, full))
-    ]) (λ _. knows all)
+    hands_shown all before = hands_these before (λ _. knows all)
 
   -- behind what is no payload, which failed, or came to the end
   module _ (known after : ℕ) (s : Buffered S Q) (p : Progress P) (out : List ℕ) (m : Buffered S Q) (q : Progress P)
@@ -236,9 +182,8 @@ module _ {S Q P W : Type 0} (remaining : S → Option (List ℕ)) (rules : ReadR
     never none = absurd (omega (arith, none, room))
 
     -- what an Ok means behind other calls
-    abbrev Handed : Buffered S Q → Progress P → Buffered S Q → Progress P → ℕ → Type 0
-    Handed from at t r n = (n ≤ length out) × (n ≡ 0 → 0 < length out → IsDone g r.place)
-        × (0 < n → HandsAll g at.place from.block.bytes known out n t.block.bytes)
+    abbrev Handed : Progress P → Buffered S Q → Progress P → ℕ → Type 0
+    Handed at t r n = (n ≤ length out) × (n ≡ 0 → 0 < length out → IsDone g r.place)
         × ((n ≡ length out) ⊎ (after ≡ 0))
         × (known ≡ 0 → 0 < n → KnowsAll g at.place at.taken.log.fills.consumed r.taken.log.fills.consumed [] (take n out) after
         t.block.bytes)
@@ -246,27 +191,7 @@ module _ {S Q P W : Type 0} (remaining : S → Option (List ℕ)) (rules : ReadR
     pub hands_failed : {A : Type 0} (e : BodyError W) (M : A → Type 0)
         → Proceeds remaining rules g (length out) s p [] (Err e) M m q → HandsOn remaining rules g known s p out (Err e) m q after
     hands_failed e M goes =
-        (Proceeds-err remaining rules g (length out) s p [] e M (Handed s p m q) m q goes, never)
-
-    all_behind : (wire : List ℕ) → TakesBytes remaining rules g s p wire [] m q → (n : ℕ) (rest : List ℕ)
-        → HandsAll g q.place m.block.bytes known out n rest → HandsAll g p.place s.block.bytes known out n rest
-    all_behind wire takes n rest (inl full) = inl full
-    all_behind wire takes n rest (inr (inl none)) = inr (inl none)
-    all_behind wire takes n rest (inr (inr (inl before))) = inr (inr (inl before))
-    all_behind wire takes n rest (inr (inr (inr x))) =
-        let order = takes.along.in_order in
-        let handed = take n out in
-        inr (inr (inr (record {
-          wire = wire ++ x.wire;
-          got = order.got ++ x.got;
-          equal = append_assoc wire x.wire (handed ++ rest) ∙ ap (λ l. wire ++ l) x.equal
-              ∙ sym (append_assoc wire m.block.bytes x.got) ∙ ap (λ l. l ++ x.got) order.equal
-              ∙ append_assoc s.block.bytes order.got x.got;
-          place = x.place;
-          leads = Leads-then g p.place q.place x.place wire x.wire [] [] m.block.bytes x.got (handed ++ rest) x.equal
-              takes.leads x.leads;
-          looks = x.looks;
-        })))
+        (Proceeds-err remaining rules g (length out) s p [] e M (Handed p m q) m q goes, never)
 
     -- behind calls that took bytes without payload, and of which each read gave some
     hands_after : (wire : List ℕ) → TakesBytes remaining rules g s p wire [] m q → EachGave s m
@@ -276,15 +201,14 @@ module _ {S Q P W : Type 0} (remaining : S → Option (List ℕ)) (rules : ReadR
         → (IsDone g p.place → (t ≡ s) × (r ≡ p)) → HandsOn remaining rules g known s p out answer t r after
     hands_after wire takes gave asked through answer t r hands idle = (
       Proceeds-after remaining rules g (length out) s p m q t wire takes gave asked (handed_out out answer) answer
-          (Handed s p t r) r
-          (Proceeds-of remaining rules g (length out) m q (handed_out out answer) answer (Handed m q t r) (Handed s p t r) t r
+          (Handed p t r) r
+          (Proceeds-of remaining rules g (length out) m q (handed_out out answer) answer (Handed q t r) (Handed p t r) t r
           (λ n means. (
             means.0,
             means.1,
-            (λ some. all_behind wire takes n t.block.bytes (means.2 some)),
-            means.3,
+            means.2,
             (λ none some. knows_behind s p m q t r wire [] hands.0.wire (handed_out out answer) [] (take n out) after takes
-                hands.0.takes (means.4 none some)),
+                hands.0.takes (means.3 none some)),
           )) hands.0) idle through,
       never,
     )
@@ -313,7 +237,6 @@ module _ {S Q P W : Type 0} (remaining : S → Option (List ℕ)) (rules : ReadR
           (
             omega arith,
             (λ _ _. ended_here remaining rules g q.place m.block.bytes skips.ends.1),
-            (λ some. absurd (omega (arith, some))),
             inr unknown,
             (λ _ some. absurd (omega (arith, some))),
           ),

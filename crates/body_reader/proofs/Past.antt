@@ -170,7 +170,6 @@ module _ {S Q P W : Type 0} (remaining : S → Option (List ℕ)) (rules : ReadR
                 (
                   omega (arith, within, length-append lent (drop most slice)),
                   (λ none _. absurd (omega (arith, none, given))),
-                  (λ _. inr (inl (ap (λ b. b.bytes) direct.block ∙ empty))),
                   inr unknown,
                   (λ _ _. record {
                     wire = [];

@@ -1,12 +1,12 @@
 -- What a call of a reader of a body comes to, seen by contracts.
-use Rattle.std.proofs.Common.{◌≡◌, ℕ, zero, suc, ◌-◌, ◌<◌, ◌≤◌, ◌⊎◌, List, [], ◌++◌, length, take, Option, Result, IfOk, MatchResult, Ok, Err, sym, ap, subst, ◌∙◌, inl, inr, refl, arith, append-nil, length-append}
+use Rattle.std.proofs.Common.{◌≡◌, ℕ, zero, suc, ◌-◌, ◌<◌, ◌≤◌, ◌⊎◌, List, [], ◌++◌, length, min, take, Option, Result, IfOk, MatchResult, Ok, Err, sym, ap, subst, ◌∙◌, inl, inr, refl, arith, append-nil, length-append}
 use Rattle.buffer_redux.specs.Buffered.{Buffered}
 use Rattle.buffer_redux.specs.Policy.{ReadRules}
 use Rattle.buffer_redux.specs.StreamLog.{StreamLog, after_read}
 use Rattle.body_reader.specs.declared.error.BodyError.{BodyError}
 use Rattle.body_reader.specs.declared.error.BodyError.TheVariants.{Wrong, Truncated, Io}
 use Rattle.body_reader.specs.declared.progress.Progress.{Progress}
-use Rattle.body_reader.specs.Between.{EachGave, HandsAll, HandsOn, KnowsAll, PayloadFails, ShowsOn, TakesBytes, handed_out}
+use Rattle.body_reader.specs.Between.{EachGave, HandsOn, KnowsAll, PayloadFails, ShowsOn, TakesBytes, handed_out}
 use Rattle.body_reader.specs.BodyReader.{BodyState, BodyWent, Breaks, EndsEarly, FillsPayload, IsBodyReader, TookWholeBody, ReadsPayload, NoPayload}
 use Rattle.body_reader.specs.BodyReaderLaws.{BodyWent-none}
 use Rattle.body_reader.specs.BetweenLaws.{AsksWithRoom-open, EachGave-none}
@@ -119,7 +119,7 @@ module _ {S Q C P W : Type 0} (remaining : S → Option (List ℕ)) (rules : Rea
     (out : List ℕ)
     (answer : Result ℕ (BodyError W)) (r' : Buffered S Q) (q : Progress P) (k' : ℕ)
     (hands : HandsOn remaining rules g k r p out answer r' q k') (known : IsKnown g q.place k' r'.block.bytes)
-    (left : 0 < k → IfOk answer (λ n. k' ≡ k - n)) where
+    (left : 0 < k → IfOk answer (λ n. (n ≡ min k (length out)) × (k' ≡ k - n))) where
   abbrev after : BodyState S Q C P
   after = seen r' c q (after_payload calls out answer) k'
 
@@ -129,7 +129,6 @@ module _ {S Q C P W : Type 0} (remaining : S → Option (List ℕ)) (rules : Rea
 
   abbrev Ends : Result ℕ (BodyError W) → Type 0
   Ends a = MatchResult a (λ n. EachGave r r' × ((n ≤ length out) × (n ≡ 0 → 0 < length out → IsDone g q.place)
-      × (0 < n → HandsAll g p.place r.block.bytes k out n r'.block.bytes)
       × ((n ≡ length out) ⊎ (k' ≡ 0))
       × (k ≡ 0 → 0 < n
       → KnowsAll g p.place p.taken.log.fills.consumed q.taken.log.fills.consumed [] (take n out) k' r'.block.bytes)))
@@ -147,19 +146,14 @@ module _ {S Q C P W : Type 0} (remaining : S → Option (List ℕ)) (rules : Rea
   answered (Err e) ends =
       stops remaining rules g r c p calls k r' q (after_payload calls out answer) k' lawful still e ends
 
-  all_handed : (a : Result ℕ (BodyError W)) → Ends a
-      → IfOk a (λ n. 0 < n → HandsAll g p.place r.block.bytes k out n r'.block.bytes)
-  all_handed (Ok n) ends = ends.1.2
-  all_handed (Err e) ends = tt
-
   knows_told : (a : Result ℕ (BodyError W)) → Ends a → k ≡ 0
       → IfOk a (λ n. 0 < n
       → KnowsAll g p.place p.taken.log.fills.consumed q.taken.log.fills.consumed [] (take n out) k' r'.block.bytes)
-  knows_told (Ok n) ends none = ends.1.4 none
+  knows_told (Ok n) ends none = ends.1.3 none
   knows_told (Err e) ends none = tt
 
   full_handed : (a : Result ℕ (BodyError W)) → Ends a → IfOk a (λ n. (n ≡ length out) ⊎ (k' ≡ 0))
-  full_handed (Ok n) ends = ends.1.3
+  full_handed (Ok n) ends = ends.1.2
   full_handed (Err e) ends = tt
 
   idle : (TookWholeBody g (seen r c p calls k) ⊎ (length out ≡ 0)) → r' ≡ r
@@ -176,7 +170,6 @@ module _ {S Q C P W : Type 0} (remaining : S → Option (List ℕ)) (rules : Rea
     answers = answered answer hands.0.ends;
     asked = hands.0.asked;
     through = elim hands.0.through [ inl all ↦ inl all | inr past ↦ inr past.1 ];
-    all = all_handed answer hands.0.ends;
     full = full_handed answer hands.0.ends;
     left = left;
     knows = knows_told answer hands.0.ends;
@@ -193,7 +186,7 @@ module _ {S Q C P W : Type 0} (remaining : S → Option (List ℕ)) (rules : Rea
     (out : List ℕ)
     (answer : Result ℕ (BodyError W)) (r' : Buffered S Q) (q : Progress P) (k' : ℕ)
     (hands : HandsOn remaining rules (grammar c) k r p out answer r' q k')
-    (known : IsKnown (grammar c) q.place k' r'.block.bytes) (left : 0 < k → IfOk answer (λ n. k' ≡ k - n)) (calls' : StreamLog)
+    (known : IsKnown (grammar c) q.place k' r'.block.bytes) (left : 0 < k → IfOk answer (λ n. (n ≡ min k (length out)) × (k' ≡ k - n))) (calls' : StreamLog)
     (noted : calls' ≡ after_payload calls out answer) where
   pub reads_payload : ReadsPayload remaining rules (grammar d.coding) d out answer (seen r' c q calls' k')
   reads_payload = subst (λ x. ReadsPayload remaining rules (grammar x.coding) x out answer (seen r' c q calls' k')) view

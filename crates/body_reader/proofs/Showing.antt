@@ -1,16 +1,17 @@
 -- Payload that is buffered is handed out, and nobody is asked.
-use Rattle.std.proofs.Common.{◌≡◌, ◌≢◌, ℕ, zero, suc, ◌+◌, ◌-◌, ◌<◌, ◌≤◌, ◌⊎◌, List, [], ◌++◌, length, min, take, drop, Option, Ok, sym, ap, subst, ◌∙◌, arith, inl, inr, refl, append-nil, length-append}
+use Rattle.std.proofs.Common.{◌≡◌, ◌≢◌, ℕ, zero, suc, ◌+◌, ◌-◌, ◌<◌, ◌≤◌, ◌⊎◌, List, [], ◌++◌, length, min, take, drop, Option, sym, ap, subst, ◌∙◌, arith, inl, inr, refl, append-nil, length-append}
 use Rattle.std.proofs.Math.Seq.{take-append-add}
 use Rattle.std.proofs.lemmas.List.{drop_all, length-drop, length-take-le}
 use Rattle.buffer_redux.specs.Buffered.{Buffered}
 use Rattle.buffer_redux.specs.Policy.{ReadRules}
-use Rattle.buffer_redux.specs.StreamLog.{StreamLog, after_read}
+use Rattle.buffer_redux.specs.StreamLog.{StreamLog}
 use Rattle.body_reader.specs.declared.coding.Look.{Look}
 use Rattle.body_reader.specs.declared.coding.Look.TheVariants as look
 use Rattle.body_reader.specs.declared.progress.Progress.{Progress}
 use Rattle.body_reader.specs.Between.{AllShown, FindsKnown, HandsShown, KnowsAll, KnowsBehind, NoneShown, PassesOn, TakesBytes, TakesFront}
 use Rattle.body_reader.specs.BetweenLaws.{TakesBytes-joins, TakesBytes-none}
-use Rattle.body_reader.specs.BodyReader.{BodyState, Breaks, EndsEarly, HandsBuffered, IsBodyReader, TookWholeBody}
+use Rattle.body_reader.specs.BodyReader.{BodyState, Breaks, EndsEarly, HandsBuffered, IsBodyReader, NotedIfSome, TookWholeBody}
+use Rattle.body_reader.specs.BodyReaderLaws.{NotedIfSome-given}
 use Rattle.body_reader.specs.Coding.{Grammar, IsKnown, IsLawful, Looks, heeded}
 use Rattle.body_reader.specs.CodingLaws.{IsOpenBelow-open, Leads-whole, open_at}
 use Rattle.body_reader.proofs.Filling.{Carries-fewer, all_shown}
@@ -205,9 +206,9 @@ module _ {S Q C P W : Type 0} (remaining : S → Option (List ℕ)) (rules : Rea
     (r : Buffered S Q) (c : C) (p : Progress P) (calls : StreamLog) (k : ℕ) (is : IsBodyReader g (seen r c p calls k))
     (out : List ℕ) (handed : ℕ) (r' : Buffered S Q) (q : Progress P) (k' : ℕ)
     (hands : HandsShown remaining rules g r p k out handed r' q k') (calls' : StreamLog)
-    (noted : calls' ≡ after_read calls out (Ok handed)) where
+    (noted : NotedIfSome calls out handed calls') where
   given : calls'.reads.given ≡ calls.reads.given ++ take handed out
-  given = ap (λ l. l.reads.given) noted
+  given = NotedIfSome-given calls out handed calls' noted
 
   pub shown_is : IsBodyReader g (seen r' c q calls' k')
   shown_is = state_is remaining rules g r c p calls k r' q calls' k' hands.wire (take handed out) hands.takes given is hands.known

@@ -76,16 +76,6 @@ module _ {P W : Type 0} (g : Grammar P W) where
   abbrev pub AllShown : P → ℕ → List ℕ → Type 0
   AllShown p n bytes = (n ≡ length bytes) ⊎ Looks g p bytes (Payload n)
 
-  -- what was handed out is all that a look says is payload, behind bytes that are none: those, then what was handed out, then
-  -- what is left, are what was there, then what came
-  pub record Stretch (p : P) (before handed left : List ℕ) : Type 0 where
-    pub wire : List ℕ
-    pub got : List ℕ
-    pub equal : wire ++ (handed ++ left) ≡ before ++ got
-    pub place : P
-    pub leads : Leads g p wire [] place (heeded g (handed ++ left))
-    pub looks : Looks g place (handed ++ left) (Payload (length handed))
-
   -- of the bytes that were taken the last are payload, behind some in which there is this payload, and so many of what is left
   -- are known to be: together all that there is, or that a look says
   pub record KnowsAll (p : P) (taken taken' first last : List ℕ) (known : ℕ) (left : List ℕ) : Type 0 where
@@ -99,11 +89,6 @@ module _ {P W : Type 0} (g : Grammar P W) where
   abbrev pub KnowsBehind : P → List ℕ → List ℕ → List ℕ → ℕ → List ℕ → Type 0
   KnowsBehind p taken taken' handed known left =
       (first : List ℕ) × (last : List ℕ) × (handed ≡ first ++ last) × KnowsAll p taken taken' first last known left
-
-  -- so much was handed out as the slice takes, or as was buffered or came past the buffer, or as was known, or as a look says
-  abbrev pub HandsAll : P → List ℕ → ℕ → List ℕ → ℕ → List ℕ → Type 0
-  HandsAll p before known out n left =
-      (n ≡ length out) ⊎ ((left ≡ []) ⊎ (((0 < known) × (n ≡ known)) ⊎ Stretch p before (take n out) left))
 
 module _ {S Q P W : Type 0} (remaining : S → Option (List ℕ)) (rules : ReadRules Q) (g : Grammar P W) where
   -- what any calls do that take these bytes of a body, in which there is this payload
@@ -207,7 +192,6 @@ module _ {S Q P W : Type 0} (remaining : S → Option (List ℕ)) (rules : ReadR
   abbrev pub HandsOn : ℕ → Buffered S Q → Progress P → List ℕ → Result ℕ (BodyError W) → Buffered S Q → Progress P → ℕ → Type 0
   HandsOn before s p out answer t q after = Proceeds (length out) s p (handed_out out answer) answer
       (λ n. (n ≤ length out) × (n ≡ 0 → 0 < length out → IsDone g q.place)
-      × (0 < n → HandsAll g p.place s.block.bytes before out n t.block.bytes)
       × ((n ≡ length out) ⊎ (after ≡ 0))
       × (before ≡ 0 → 0 < n → KnowsAll g p.place p.taken.log.fills.consumed q.taken.log.fills.consumed [] (take n out) after
       t.block.bytes)) t q

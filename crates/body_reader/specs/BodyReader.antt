@@ -14,7 +14,7 @@ use Rattle.body_reader.specs.declared.error.BodyError.TheVariants.{Wrong, Trunca
 use Rattle.body_reader.specs.declared.error.CollectError.{CollectError}
 use Rattle.body_reader.specs.declared.error.CollectError.TheVariants as collect
 use Rattle.body_reader.specs.Asking.{AskedWhere}
-use Rattle.body_reader.specs.Between.{AllShown, AsksOpen, AsksWithRoom, BecomesIo, EachGave, FaultedOnce, GaveNothingOnce, HandsAll, KeepsBuffer, KnowsAll, KnowsBehind, TakenThrough, handed_out}
+use Rattle.body_reader.specs.Between.{AllShown, AsksOpen, AsksWithRoom, BecomesIo, EachGave, FaultedOnce, GaveNothingOnce, KeepsBuffer, KnowsAll, KnowsBehind, TakenThrough, handed_out}
 use Rattle.body_reader.specs.Coding.{Grammar, IsBody, IsKnown, IsOpen, Leads, LeadsOpen, heeded}
 
 -- the buffered reader; the coding; where in the body the reader stands; the bytes of it that were taken so far; what it handed
@@ -34,6 +34,11 @@ handed_of d = d.calls.reads.given
 -- how many bytes were taken, as far as a `u64` counts
 abbrev pub taken_count : {S Q C P : Type 0} → BodyState S Q C P → ℕ
 taken_count d = min (length d.taken) (2 ^ 64 - 1)
+
+-- where payload was handed out that is noted as a read, and where none was, no call is
+abbrev pub NotedIfSome : StreamLog → List ℕ → ℕ → StreamLog → Type 0
+NotedIfSome calls out handed later =
+    (0 < handed → later ≡ after_read calls out (Ok handed)) × (handed ≡ 0 → later ≡ calls)
 
 module _ {S Q C P W : Type 0} (g : Grammar P W) where
   -- what is true of every reader of a body: the bytes that were taken lead to where it stands, and what was handed out is the
@@ -92,9 +97,8 @@ module _ {S Q C P W : Type 0} (remaining : S → Option (List ℕ)) (rules : Rea
         (λ e. NoPayload g s e t)
     pub asked : AsksWithRoom remaining rules g (length out) s.reader s.place t.reader
     pub through : TakenThrough s.reader went.wire t.reader ⊎ (s.reader.block.capacity ≤ t.reader.log.reads.offer)
-    pub all : IfOk answer (λ n. 0 < n → HandsAll g s.place s.reader.block.bytes s.known out n t.reader.block.bytes)
     pub full : IfOk answer (λ n. (n ≡ length out) ⊎ (t.known ≡ 0))
-    pub left : 0 < s.known → IfOk answer (λ n. t.known ≡ s.known - n)
+    pub left : 0 < s.known → IfOk answer (λ n. (n ≡ min s.known (length out)) × (t.known ≡ s.known - n))
     pub knows : s.known ≡ 0 → IfOk answer
         (λ n. 0 < n → KnowsAll g s.place s.taken t.taken [] (take n out) t.known t.reader.block.bytes)
     pub idle : (TookWholeBody g s ⊎ (length out ≡ 0)) → t.reader ≡ s.reader
@@ -179,7 +183,7 @@ module _ {S Q C P W : Type 0} (remaining : S → Option (List ℕ)) (rules : Rea
   -- what `read_buffered` does, which left the slice as out: payload that is buffered is handed out, as much as the slice takes.
   -- Less comes only where the body ended, or what is buffered settles nothing, or is wrong. The stream isn't asked. Of what was
   -- known just what wasn't handed out stays known, or, where more was handed out, of what the last look told. Into an empty slice
-  -- nothing is done
+  -- nothing is done, and where nothing is handed out no read is noted
   pub record HandsBuffered (s : BodyState S Q C P) (out : List ℕ) (handed : ℕ) (t : BodyState S Q C P) : Type 0 where
     pub went : BodyWent s (take handed out) t
     pub told : t.reader.log ≡ s.reader.log
@@ -189,7 +193,7 @@ module _ {S Q C P W : Type 0} (remaining : S → Option (List ℕ)) (rules : Rea
     pub knows : s.known < handed → handed ≡ length out
         → KnowsBehind g s.place s.taken t.taken (take handed out) t.known t.reader.block.bytes
     pub empty : length out ≡ 0 → (t.reader ≡ s.reader) × (t.place ≡ s.place)
-    pub noted : t.calls ≡ after_read s.calls out (Ok handed)
+    pub noted : NotedIfSome s.calls out handed t.calls
     pub whole : IsBodyReader g t
 
   -- whether nothing follows what was taken: the stream was asked where nothing was buffered, and nothing else is done

@@ -1,15 +1,22 @@
 -- Laws of a reader of a body.
-use Rattle.std.proofs.Common.{◌≡◌, ◌≤◌, arith, ℕ, List, [], ◌++◌, length, drop, Option, None, Some, sym, ap, subst, ◌∙◌, refl, append_assoc, append-nil}
+use Rattle.std.proofs.Common.{◌≡◌, ◌≤◌, arith, ℕ, zero, suc, List, [], ◌++◌, length, take, drop, Option, None, Some, sym, ap, subst, ◌∙◌, refl, append_assoc, append-nil}
 use Rattle.std.proofs.lemmas.List.{append_cancel_left, drop_at}
 use Rattle.std.specs.Io.KnownBytes.{Consumes}
 use Rattle.buffer_redux.specs.Buffered.{Buffered}
 use Rattle.buffer_redux.specs.Policy.{ReadRules}
 use Rattle.buffer_redux.specs.ReaderLaws.{ReadsAlong-none, ReadsAlong-joins, ReadsInOrder-ahead}
 use Rattle.buffer_redux.specs.Remaining.{ahead}
+use Rattle.buffer_redux.specs.StreamLog.{StreamLog}
 use Rattle.body_reader.specs.BetweenLaws.{KeepsBuffer-joins, KeepsBuffer-none}
-use Rattle.body_reader.specs.BodyReader.{BodyState, BodyWent, Breaks, EndsEarly, IsBodyReader, TookWholeBody, begun, handed_of}
+use Rattle.body_reader.specs.BodyReader.{BodyState, BodyWent, Breaks, EndsEarly, IsBodyReader, NotedIfSome, TookWholeBody, begun, handed_of}
 use Rattle.body_reader.specs.Coding.{Agree, Grammar, IsBody, IsLawful, Leads, heeded}
 use Rattle.body_reader.specs.CodingLaws.{Agree-front, Agree-less, Leads-left, Leads-none, heeded_on}
+
+-- just what was handed out is noted
+pub NotedIfSome-given : (calls : StreamLog) (out : List ℕ) (handed : ℕ) (later : StreamLog) → NotedIfSome calls out handed later
+    → later.reads.given ≡ calls.reads.given ++ take handed out
+NotedIfSome-given calls out zero later noted = ap (λ l. l.reads.given) (noted.1 refl) ∙ sym (append-nil calls.reads.given)
+NotedIfSome-given calls out (suc n) later noted = ap (λ l. l.reads.given) (noted.0 (omega arith))
 
 -- a reader that was just made stands before a body
 pub begun-is : {S Q C P W : Type 0} (g : Grammar P W) → IsLawful g → (reader : Buffered S Q) (coding : C)

@@ -9,7 +9,7 @@ ghost use Rattle.buffer_redux.specs.GrowError.{FitsWithin};
 ghost use Rattle.buffer_redux.specs.MakeError.{growth};
 ghost use Rattle.buffer_redux.specs.StreamLog.{after_read};
 ghost use Rattle.body_reader.specs.Coding.{IsBody};
-ghost use Rattle.body_reader.specs.BodyReader.{BodyState, BodyWent, Collects, Drains, FillsPayload, HandsBuffered, IsBodyReader, LooksBehind, ReadsPayload, begun, taken_count};
+ghost use Rattle.body_reader.specs.BodyReader.{BodyState, BodyWent, Collects, Drains, FillsPayload, HandsBuffered, IsBodyReader, LooksBehind, NotedIfSome, ReadsPayload, begun, taken_count};
 
 mod streams;
 
@@ -263,7 +263,7 @@ impl<R: TellRead, C: Coding, P: ReaderPolicy> BodyReader<R, C, P> {
 
     /// Hands out payload that is buffered, as much as the slice takes, and asks the stream for nothing. Less comes only where no
     /// more is buffered: the body ended, what is buffered settles nothing, or is wrong, which the next
-    /// [`read_payload`](BodyReader::read_payload) tells.
+    /// [`read_payload`](BodyReader::read_payload) tells. It is told as a read where payload is handed out, and else not.
     pub fn read_buffered(&mut self, out: &mut [u8]) -> usize
         ensures taken { (wire : List ℕ) × (wire ++ self.new.reader.block.bytes ≡ self.old.reader.block.bytes)
             × (self.new.taken ≡ self.old.taken ++ wire) }
@@ -276,7 +276,7 @@ impl<R: TellRead, C: Coding, P: ReaderPolicy> BodyReader<R, C, P> {
             &mut self.known,
             out,
         );
-        self.calls.note(&Call::Read(out, &Ok(count)));
+        note_some(&mut self.calls, out, count);
         count
     }
 
@@ -350,6 +350,15 @@ impl<R: TellRead, C: Coding, P: ReaderPolicy> BodyReader<R, C, P> {
         ensures looks { LooksBehind R.remaining P.rules (C.grammar self.old.coding) self.old result self.new }
     {
         Ok(self.reader.peek(1)?.is_empty())
+    }
+}
+
+// Notes a read that handed out some bytes; one of none doesn't tell an end.
+fn note_some(calls: &mut CallLog, out: &[u8], count: usize)
+    ensures { NotedIfSome calls.old.log out.now count calls.new.log }
+{
+    if count > 0 {
+        calls.note(&Call::Read(out, &Ok(count)));
     }
 }
 

@@ -258,7 +258,7 @@ pub(crate) fn read_on<R: TellRead, P: ReaderPolicy, C: Coding>(
     ensures hands { HandsOn R.remaining P.rules (C.grammar coding.now) known.old reader.old progress.old out.new result
         reader.new progress.new known.new }
     ensures known { IsKnown (C.grammar coding.now) progress.new.place known.new reader.new.block.bytes }
-    ensures left { 0 < known.old → IfOk result (λ n. known.new ≡ known.old - n) }
+    ensures left { 0 < known.old → IfOk result (λ n. (n ≡ min known.old (length out.new)) × (known.new ≡ known.old - n)) }
 {
     if out.is_empty() {
         return Ok(0);

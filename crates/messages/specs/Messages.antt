@@ -207,12 +207,12 @@ pub record HandsSure (r : Rest) (taken taken' handed : List ℕ) (known : ℕ) :
   pub onward : Onward r wire [] rest
   pub sure : sure_of rest ≤ length handed + known
 
--- so much payload was handed out as a slice takes, or no less than is known. What was known and isn't handed out stays so; and
+-- so much payload was handed out as a slice takes, or all that is known. Of what was known what isn't handed out stays so; and
 -- where nothing was, all that is left of the buffer is known then, or what surely is payload
 pub record HandsMost (r : Rest) (taken : List ℕ) (known : ℕ) (out : List ℕ) (n : ℕ) (taken' : List ℕ) (known' : ℕ) (left : List ℕ)
     : Type 0 where
   pub full : (n ≡ length out) ⊎ (known' ≡ 0)
-  pub still : 0 < known → known' ≡ known - n
+  pub still : 0 < known → (n ≡ min known (length out)) × (known' ≡ known - n)
   pub knows : known ≡ 0 → (known' ≡ length left) ⊎ HandsSure r taken taken' (take n out) known'
 
 -- why no payload comes: the next byte is wrong; or the stream gave nothing, once, where nothing was left, and the body isn't

@@ -3,7 +3,7 @@ ghost use Rattle.std.specs.Prelude.{◌≡◌, ◌-◌, ◌^◌, ◌<◌, ◌≤
 ghost use Rattle.std.specs.Borrow.{Lends, sem};
 ghost use Rattle.body_reader.specs.Asking.{AskedWhere};
 ghost use Rattle.body_reader.specs.Between.{handed_out};
-ghost use Rattle.body_reader.specs.BodyReader.{handed_of};
+ghost use Rattle.body_reader.specs.BodyReader.{NotedIfSome, handed_of};
 ghost use Rattle.buffer_redux.specs.StreamLog.{after_read};
 ghost use Rattle.buffer_redux.specs.Unbuffer.{unbuffered};
 ghost use Rattle.codec.specs.PieceReader.{left_of, rest};
@@ -189,12 +189,12 @@ impl<R: TellRead> Body<R> {
     }
 
     /// Hands out payload that is buffered, and asks the stream for nothing. Less than the slice takes comes only where the body
-    /// ended, or nothing is buffered, or what comes next is wrong, which [`read`](Body::read) tells. It is told as a read,
-    /// also where nothing is handed out.
+    /// ended, or nothing is buffered, or what comes next is wrong, which [`read`](Body::read) tells. It is told as a read where
+    /// payload is handed out, and else not.
     pub fn read_buffered(&mut self, out: &mut [u8]) -> usize
         ensures bound { result ≤ length out.new }
         ensures goes { InsideGoes R.remaining self.old (take result out.new) self.new }
-        ensures noted { self.new.calls ≡ after_read self.old.calls out.new (Ok result) }
+        ensures noted { NotedIfSome self.old.calls out.new result self.new.calls }
         ensures unasked { self.new.stream.log ≡ self.old.stream.log }
         ensures all { RunsShort (length out.new) result self.new.rest self.new.stream.left }
     {
@@ -212,7 +212,6 @@ impl<R: TellRead> Body<R> {
             (λ e. (handed : List ℕ) × InsideGoes R.remaining self handed e.0
             × FinishFails self.stream handed e.1 e.0.stream e.0.rest) }
         ensures room { IfOk result (λ next. room_of next.reader.block ≡ self.room) }
-        ensures still { IfOk result (λ next. IsRest self.rest [] [] → next.reader.block.moved ≡ self.moved) }
         ensures moved { IfOk result (λ next. next.reader.log ≡ self.stream.log → next.reader.block.moved ≡ self.moved) }
         ensures limits { IfOk result (λ next. next.decoder ≡ record { 0 = self.limits }) }
         ensures asked { MatchResult result (λ next. AskedWhere (Unended self.rest) self.stream (left_of next))
@@ -304,7 +303,7 @@ fn read_buffered<R: TellRead>(reader: &mut BodyReader<R, BodyCoding>, out: &mut 
     ensures bound { result ≤ length out.new }
     ensures room { HasRoom reader.new }
     ensures kept { room_of reader.new.reader.block ≡ room_of reader.old.reader.block }
-    ensures noted { reader.new.calls ≡ after_read reader.old.calls out.new (Ok result) }
+    ensures noted { NotedIfSome reader.old.calls out.new result reader.new.calls }
     ensures takes { ReaderTakes R.remaining reader.old (take result out.new) reader.new }
     ensures unasked { (stream_of reader.new).log ≡ (stream_of reader.old).log }
     ensures all { RunsShort (length out.new) result (left_in reader.new) (stream_of reader.new).left }
@@ -326,7 +325,6 @@ fn finish<R: TellRead>(
         × ReaderTakes R.remaining reader handed e.0
         × FinishFails (stream_of reader) handed e.1 (stream_of e.0) (left_in e.0)
         × (handed_of e.0 ≡ handed_of reader ++ handed)) }
-    ensures still { IfOk result (λ rest. IsRest (left_in reader) [] [] → rest ≡ reader.reader) }
     ensures moved { IfOk result (λ rest. rest.log ≡ reader.reader.log → rest.block.moved ≡ reader.reader.block.moved) }
     ensures asked { MatchResult result
         (λ rest. AskedWhere (Unended (left_in reader)) (stream_of reader) (unbuffered rest))

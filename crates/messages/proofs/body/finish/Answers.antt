@@ -2,7 +2,7 @@
 use Rattle.std.proofs.Common.{◌≡◌, ◌≤◌, ◌∙◌, ap, inl, inr, subst, sym}
 use Rattle.buffer_redux.specs.Block.{Block, OnKind, OnlyRingMoves, Plain}
 use Rattle.messages.specs.Messages.{IsNamed}
-use Rattle.messages.proofs.Going.{body_end, body_kept, body_named, body_room, body_take, drain_asked, drain_fails, is_ended}
+use Rattle.messages.proofs.Going.{body_end, body_kept, body_named, body_room, body_take, drain_asked, drain_fails}
 use Rattle.messages.proofs.body.finish.Goals as goal
 
 pub returns-in-Ok-clause-room : goal.returns-in-Ok-clause-room
@@ -19,11 +19,6 @@ pub returns-in-Ok-clause-ends : goal.returns-in-Ok-clause-ends
 returns-in-Ok-clause-ends g c =
     let left = c.in-Ok.ensures.drains in
     rw left.2 (body_end c.get_ref.ensures.whole left.1.whole left.1.went left.1.answers.1 left.1.answers.0)
-
-pub returns-in-Ok-clause-still : goal.returns-in-Ok-clause-still
-returns-in-Ok-clause-still g c = λ done.
-    let left = c.in-Ok.ensures.drains in
-    left.2 ∙ left.1.ended (is_ended c.get_ref.ensures.whole done)
 
 plain_unmoved : (old new : Block) → old.kind ≡ Plain → OnlyRingMoves old new → new.moved ≡ old.moved
 plain_unmoved old new plain = subst (λ k. OnKind k (new.moved ≡ old.moved) (old.moved ≤ new.moved)) plain

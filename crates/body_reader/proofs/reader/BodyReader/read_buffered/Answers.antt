@@ -9,8 +9,8 @@ invariant_of-self g c =
     shown_is g.R.TellRead.remaining g.P.ReaderPolicy.rules (g.C.Coding.grammar i.coding)
     (g.met.C.Coding.lawful i.coding) i.reader i.coding i.progress i.calls.log i.known c.self.invariant
     c.hand_buffered-count.new.out c.hand_buffered-count.result c.hand_buffered-count.new.reader
-    c.hand_buffered-count.new.progress c.hand_buffered-count.new.known c.hand_buffered-count.ensures c.note.new.self.log
-    c.note.ensures
+    c.hand_buffered-count.new.progress c.hand_buffered-count.new.known c.hand_buffered-count.ensures c.note_some.new.calls.log
+    c.note_some.ensures
 
 pub returns : goal.returns
 returns g c =
@@ -20,5 +20,5 @@ returns g c =
     (shown_reads g.R.TellRead.remaining g.P.ReaderPolicy.rules (g.C.Coding.grammar i.coding)
     (g.met.C.Coding.lawful i.coding) i.reader i.coding i.progress i.calls.log i.known c.self.invariant
     c.hand_buffered-count.new.out c.hand_buffered-count.result c.hand_buffered-count.new.reader
-    c.hand_buffered-count.new.progress c.hand_buffered-count.new.known c.hand_buffered-count.ensures c.note.new.self.log
-    c.note.ensures))
+    c.hand_buffered-count.new.progress c.hand_buffered-count.new.known c.hand_buffered-count.ensures c.note_some.new.calls.log
+    c.note_some.ensures))

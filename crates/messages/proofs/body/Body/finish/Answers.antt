@@ -16,16 +16,6 @@ returns-in-Ok-with_buffer-clause-in_order g c =
     rw (c.before-in-Ok-with_buffer.ensures, ← c.self.view_is) (ends_in_order g.R.TellRead.remaining (stream_of d) (left_in d) f
     (subst (TakesWholeRest g.R.TellRead.remaining (stream_of d) (left_in d)) (sym over) c.in-Ok.ensures.ends))
 
-pub returns-in-Ok-with_buffer-clause-still : goal.returns-in-Ok-with_buffer-clause-still
-returns-in-Ok-with_buffer-clause-still g c =
-    let i = c.into_inner_with_buffer-inner.ensures in
-    let roomy = c.in-Ok.ensures.room in
-    let kept = c.in-Ok-with_buffer.ensures.made.kept (ap (λ b. b.kind) i.block ∙ roomy.kind)
-    (let fits : 3 * 16384 ≤ c.into_inner_with_buffer-inner.result.1.capacity =
-    omega (arith, roomy.capacity, ap (λ b. b.capacity) i.block) in fits) in
-    rw (c.before-in-Ok-with_buffer.ensures, ← c.self.view_is) (λ done.
-    ap (λ b. b.moved) kept ∙ ap (λ b. b.moved) i.block ∙ ap (λ r. r.block.moved) (c.in-Ok.ensures.still done))
-
 pub returns-in-Ok-with_buffer-clause-moved : goal.returns-in-Ok-with_buffer-clause-moved
 returns-in-Ok-with_buffer-clause-moved g c =
     let i = c.into_inner_with_buffer-inner.ensures in
@@ -57,7 +47,6 @@ returns-in-Err g c =
         failed.2,
       );
       room = tt;
-      still = tt;
       moved = tt;
       limits = tt;
       asked = c.in-Err.ensures.asked;

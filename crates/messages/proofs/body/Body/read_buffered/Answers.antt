@@ -1,5 +1,6 @@
 -- The reader's clauses, read through the body's view; the head and what it said stay.
-use Rattle.std.proofs.Common.{ap, refl}
+use Rattle.std.proofs.Common.{refl}
+use Rattle.body_reader.specs.BodyReaderLaws.{NotedIfSome-given}
 use Rattle.messages.proofs.body.Body.read_buffered.Goals as goal
 
 pub returns-clause-goes : goal.returns-clause-goes
@@ -9,7 +10,7 @@ returns-clause-goes g c =
       takes = c.read_buffered.ensures.takes.0;
       taken = c.read_buffered.ensures.takes.1;
       room = c.read_buffered.ensures.kept;
-      told = ap (λ l. l.reads.given) c.read_buffered.ensures.noted;
+      told = NotedIfSome-given _ c.read_buffered.new.out _ _ c.read_buffered.ensures.noted;
       limits = refl;
       head = refl;
       said = refl;
