@@ -29,8 +29,8 @@ mod past;
 /// A writer of one body, into a buffered writer of yours. [`finish`](ChunkedWriter::finish) ends the body, and hands that back.
 ///
 /// Each write makes one chunk; an empty slice makes none. One that fits the buffer goes into it whole or not at all. Of another
-/// the payload goes past the buffer, and further writes go on in it until none of it is [`due`](ChunkedWriter::due). The writer
-/// takes no memory. One that is dropped drops the buffered writer, which sends what it holds: the body has no end then, so a
+/// payload that doesn't fit goes past the buffer, and further writes go on in it until none of it is
+/// [`due`](ChunkedWriter::due). The writer takes no memory. One that is dropped drops the buffered writer, which sends what it holds: the body has no end then, so a
 /// reader can tell that it is cut short.
 ///
 /// ```
@@ -232,9 +232,9 @@ impl<W: TellWrite> Write for ChunkedWriter<W> {
     /// taken to need 20 bytes beside its payload, which are those of the longest size. An empty `payload` makes no chunk.
     ///
     /// Where the capacity has no room for the chunk either, it is begun: its line goes behind what is buffered, and is sent with
-    /// it, and then the payload goes past the buffer, by one write of the inner writer, which may take less. Further payload goes
-    /// on in the chunk, as long as some of it is [`due`](ChunkedWriter::due), and never beyond its end; a rest that fits is
-    /// buffered.
+    /// it unless the payload fits behind it. Then payload that the capacity has no room for goes past the buffer, by one write of
+    /// the inner writer, which may take less. Further payload goes on in the chunk, as long as some of it is
+    /// [`due`](ChunkedWriter::due), and never beyond its end; a rest that fits is buffered.
     ///
     /// An `Err` is that of the sending, or of the write past the buffer. No byte of `payload` was taken in, and just what the
     /// inner writer took is gone from the buffer, so the call can be made again. A chunk may have been begun then.

@@ -32,8 +32,8 @@ pub record PiecesWent {S D : Type 0} (remaining : S → Option (List ℕ)) (most
   pub limit : t.reader.block.limit ≡ s.reader.block.limit
   pub decoder : t.decoder ≡ s.decoder
 
--- the stream was asked, also for the last time, only where what was left, then what had come, was such; and each ask but
--- the last gave a byte, and that gave the last
+-- the stream was asked, also for the last time, only where what was left, then what had come, was such, and at most once more
+-- than bytes had come then; that ask gave the last
 pub record AskedOver {S D : Type 0} (Such : List ℕ → Type 0) (s t : ReaderState S D) : Type 0 where
   pub not_ended : s.ended ≡ false
   pub came : List ℕ
