@@ -36,10 +36,10 @@ module _ {R : Type 0} (remaining : R → Option (List ℕ)) (s t : Reader R) (is
   io_room (Err e) (why, reads, becomes) room =
       (body_room is reads.whole reads.went room, body_kept is reads.whole reads.went)
 
-  pub io_take : (answer : Result ℕ Error) → Reads remaining s out answer t
+  pub io_take : (answer : Result ℕ Error) → Reads remaining s out answer t → HasRoom s
       → ReaderTakes remaining s (between.handed_out out answer) t
-  io_take (Ok n) reads = body_take is reads.whole reads.went
-  io_take (Err e) (why, reads, becomes) = body_take is reads.whole reads.went
+  io_take (Ok n) reads room = body_take is reads.whole reads.went room
+  io_take (Err e) (why, reads, becomes) room = body_take is reads.whole reads.went room
 
   pub io_ended : (answer : Result ℕ Error) → Reads remaining s out answer t → answer ≡ Ok 0 → 0 < length out
       → IsRest (left_in t) [] []

@@ -1,5 +1,5 @@
 -- What calls of the reader of a body take of it and of its stream, where they ask that, and why they fail.
-use Rattle.std.proofs.Common.{◌≡◌, ℕ, suc, ◌+◌, ◌<◌, List, [], ◌∷◌, ◌++◌, length, ◌⊎◌, inl, inr, Option, Result, Err, sym, ap, subst, ◌∙◌, arith, refl, append-nil, length-append, replicate}
+use Rattle.std.proofs.Common.{◌≡◌, ℕ, suc, ◌+◌, ◌<◌, ◌≤◌, List, [], ◌∷◌, ◌++◌, length, ◌⊎◌, inl, inr, Option, Result, Err, sym, ap, subst, ◌∙◌, arith, refl, append-nil, length-append, replicate}
 use Rattle.std.proofs.lemmas.List.{length-replicate, nil_from_length}
 use Rattle.body_reader.specs.Asking.{AskedWhere}
 use Rattle.body_reader.specs.AskingLaws.{AskedWhere-of}
@@ -18,6 +18,7 @@ use Rattle.body_reader.specs.declared.either.Either.TheVariants as coding
 use Rattle.body_reader.specs.declared.either.Side.{Side}
 use Rattle.body_reader.specs.declared.either.Side.TheVariants as side
 use Rattle.body_reader.specs.declared.sized.Sized.{Sized as OfLength}
+use Rattle.buffer_redux.specs.Block.{Block, OnKind, OnlyRingMoves, Plain}
 use Rattle.buffer_redux.specs.Policy.{std_read_rules}
 use Rattle.buffer_redux.specs.declared.policy.StdPolicy.{StdPolicy}
 use Rattle.buffer_redux.specs.Unbuffer.{Unbuffered, unbuffered}
@@ -73,7 +74,7 @@ module _ (c : BodyCoding) (p q : Side ℕ Place) (wire handed bytes : List ℕ) 
   onward_is later payload it = rest_is c p is (wire ++ later) (handed ++ payload)
       (leads.onward later payload (unheeded c bytes later) (completes_is c q is' later payload it))
 
-  backward_is : Backward (rest_of c p) wire handed (rest_of c q)
+  pub backward_is : Backward (rest_of c p) wire handed (rest_of c q)
   backward_is later whole it =
       let back = leads.back later whole (unheeded c bytes later) (completes_is c p is (wire ++ later) whole it) in
       (back.0, back.1, rest_is c q is' later back.0 back.2)
@@ -254,6 +255,10 @@ short_is c p is bytes (inr (side.Second name, wrong)) = inr (name, wrong_is c p 
 std_leaves : LeavesRoom {Q = StdPolicy} std_read_rules
 std_leaves p b n p' b' left = (ap (λ b. b.capacity) left.1, ap (λ b. b.limit) left.1)
 
+-- a plain block keeps its bytes where they stand
+pub plain_unmoved : (old new : Block) → old.kind ≡ Plain → OnlyRingMoves old new → new.moved ≡ old.moved
+plain_unmoved old new plain = subst (λ k. OnKind k (new.moved ≡ old.moved) (old.moved ≤ new.moved)) plain
+
 -- calls of the reader
 module _ {R : Type 0} {remaining : R → Option (List ℕ)} {s t : Reader R} (is : IsBodyReader (body_rules s.coding) s)
     (is' : IsBodyReader (body_rules s.coding) t) {handed : List ℕ}
@@ -267,8 +272,13 @@ module _ {R : Type 0} {remaining : R → Option (List ℕ)} {s t : Reader R} (is
   leads : Leads (body_rules s.coding) s.place went.wire handed t.place (heeded (body_rules s.coding) t.reader.block.bytes)
   leads = BodyWent-leads remaining std_read_rules (body_rules s.coding) s t handed is is' went
 
-  pub body_take : ReaderTakes remaining s handed t
-  body_take = (
+  pub body_still : HasRoom s → t.reader.log.reads.asks ≡ s.reader.log.reads.asks
+      → t.reader.block.moved ≡ s.reader.block.moved
+  body_still room same = plain_unmoved s.reader.block t.reader.block room.0.kind
+      (went.keeps.still (λ p b n p' b' leaves. ap (λ b. b.moved) leaves.1) same)
+
+  pub body_take : HasRoom s → ReaderTakes remaining s handed t
+  body_take room = (
     record {
       wire = went.wire;
       went = ReadsAlong-stream remaining std_read_rules s.reader went.wire t.reader went.along;
@@ -278,6 +288,7 @@ module _ {R : Type 0} {remaining : R → Option (List ℕ)} {s t : Reader R} (is
           (backward_is s.coding s.place t.place went.wire handed t.reader.block.bytes is.place is'.place leads);
     },
     went.taken,
+    body_still room,
   )
 
   pub body_room : HasRoom s → HasRoom t

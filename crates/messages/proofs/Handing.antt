@@ -13,7 +13,7 @@ use Rattle.chunked.specs.Place.{IsPlace}
 use Rattle.chunked.specs.declared.place.Place.{Place}
 use Rattle.chunked.specs.declared.place.Place.TheVariants.{Line, Size, Extension, SizeFeed, Data, DataFeed, Fields, FieldName, FieldValue, FieldFeed, LastFeed, Done}
 use Rattle.messages.specs.Messages.{BodyCoding, HandsMost, HandsSure, Reader, body_rules, left_in, rest_of, stream_of}
-use Rattle.messages.proofs.Going.{onward_is, sure_is}
+use Rattle.messages.proofs.Going.{backward_is, onward_is, sure_is}
 
 -- where bytes are those of a chunk, a chunk is read
 in_chunk : (q : Place) (shown : List ℕ) → InChunk q [] shown → IsPlace q
@@ -53,6 +53,7 @@ hands_sure c p is taken taken' handed known left k = elim k.all [
         equal = k.equal;
         rest = rest_of c k.place;
         onward = onward_is c p k.place k.wire [] (handed ++ left) is is' k.leads;
+        backward = backward_is c p k.place k.wire [] (handed ++ left) is is' k.leads;
         sure = omega (arith, looks.1, sure_is c k.place is');
       }))
 ]

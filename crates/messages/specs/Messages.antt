@@ -199,12 +199,14 @@ abbrev pub RunsShort : ℕ → ℕ → Rest → List ℕ → Type 0
 RunsShort asked count r left =
     (count ≡ asked) ⊎ IsRest r [] [] ⊎ (left ≡ []) ⊎ ((name : Malformed) × GoesWrong r left name)
 
--- behind bytes that are no payload, what was handed out, and then what is known, are as much as surely is payload
+-- behind bytes that are no payload, and with which just what completes the body behind them completes it, what was handed out,
+-- and then what is known, are as much as surely is payload
 pub record HandsSure (r : Rest) (taken taken' handed : List ℕ) (known : ℕ) : Type 0 where
   pub wire : List ℕ
   pub equal : taken' ≡ taken ++ (wire ++ handed)
   pub rest : Rest
   pub onward : Onward r wire [] rest
+  pub backward : Backward r wire [] rest
   pub sure : sure_of rest ≤ length handed + known
 
 -- so much payload was handed out as a slice takes, or all that is known. Of what was known what isn't handed out stays so; and
@@ -252,12 +254,14 @@ pub record TakesWholeRest {S : Type 0} (remaining : S → Option (List ℕ)) (s 
   pub is : IsRest r wire payload
   pub gave : EachReadGave s t
 
--- a call of a reader in a body, which keeps the limits, the head and what that says, and how much its buffer takes, did so
+-- a call of a reader in a body, which keeps the limits, the head and what that says, and how much its buffer takes, did so; where
+-- the stream wasn't asked, no byte was moved
 pub record InsideGoes {S : Type 0} (remaining : S → Option (List ℕ)) (s : InBody S) (handed : List ℕ) (t : InBody S)
     : Type 0 where
   pub takes : TakesFromRest remaining s.stream s.rest handed t.stream t.rest
   pub taken : t.taken ≡ s.taken ++ takes.wire
   pub room : t.room ≡ s.room
+  pub moved : t.stream.log.reads.asks ≡ s.stream.log.reads.asks → t.moved ≡ s.moved
   pub told : t.calls.reads.given ≡ s.calls.reads.given ++ handed
   pub limits : t.limits ≡ s.limits
   pub head : t.head ≡ s.head
@@ -330,11 +334,12 @@ stream_of d = unbuffered d.reader
 abbrev pub left_in : {S : Type 0} → Reader S → Rest
 left_in d = rest_of d.coding d.place
 
--- it took these bytes so
+-- it took these bytes so, and where the stream wasn't asked, no byte was moved in its buffer
 abbrev pub ReaderTakes : {S : Type 0} → (S → Option (List ℕ)) → Reader S → List ℕ → Reader S → Type 0
 ReaderTakes remaining d handed d' =
     (takes : TakesFromRest remaining (stream_of d) (left_in d) handed (stream_of d') (left_in d'))
     × (d'.taken ≡ d.taken ++ takes.wire)
+    × (d'.reader.log.reads.asks ≡ d.reader.log.reads.asks → d'.reader.block.moved ≡ d.reader.block.moved)
 
 -- a plain buffer in which three heads fit, and which grows no further: a reader of heads keeps it, and takes no memory
 pub record IsRoomy (b : Block) : Type 0 where

@@ -262,11 +262,13 @@ impl<R: TellRead> Requests<R> {
     }
 
     /// Goes on into the next message as [`next`](Requests::next) does where its head stands whole in the buffer, and asks the
-    /// stream for nothing. An `Err` hands the reader back where it doesn't: `next` says then why, or asks for more.
+    /// stream for nothing, and moves no byte. An `Err` hands the reader back where it doesn't: `next` says then why, or asks for
+    /// more.
     pub fn next_buffered(mut self) -> Result<Body<R>, Self>
         ensures front { IfOk result (λ body. body.head ++ body.stream.left ≡ rest self) }
         ensures unasked { IfOk result (λ body. body.stream.log ≡ self.reader.log) }
         ensures begun { IfOk result (Begun R.remaining self) }
+        ensures still { IfOk result (λ body. body.moved ≡ self.reader.block.moved) }
         ensures stays { IfErr result (StaysLeft (heads self.decoder.0) self) }
         ensures none { IfErr result (λ next. ¬ (Begins (heads self.decoder.0) (rest next))) }
     {

@@ -23,6 +23,7 @@ impl<R: Tell> Tell for Body<R> {
 impl<R: TellRead> Read for Body<R> {
     fn read(&mut self, out: &mut [u8]) -> io::Result<usize>
         ensures bound { ReadsAtMost result out.new }
+        ensures told { self.new.calls ≡ after_read self.old.calls out.new result }
         ensures bytes { ReadConsumes None None result out.new }
         ensures read { ReadsAsIo R.remaining self.old out.new result self.new }
     {

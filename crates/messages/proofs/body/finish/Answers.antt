@@ -1,8 +1,7 @@
 -- What the drain did, told of the rest of the body: all of that went, or a part, and why no more.
-use Rattle.std.proofs.Common.{◌≡◌, ◌≤◌, ◌∙◌, ap, inl, inr, subst, sym}
-use Rattle.buffer_redux.specs.Block.{Block, OnKind, OnlyRingMoves, Plain}
+use Rattle.std.proofs.Common.{ap, inl, inr, subst, sym}
 use Rattle.messages.specs.Messages.{IsNamed}
-use Rattle.messages.proofs.Going.{body_end, body_kept, body_named, body_room, body_take, drain_asked, drain_fails}
+use Rattle.messages.proofs.Going.{body_end, body_kept, body_named, body_room, body_still, body_take, drain_asked, drain_fails}
 use Rattle.messages.proofs.body.finish.Goals as goal
 
 pub returns-in-Ok-clause-room : goal.returns-in-Ok-clause-room
@@ -20,14 +19,10 @@ returns-in-Ok-clause-ends g c =
     let left = c.in-Ok.ensures.drains in
     rw left.2 (body_end c.get_ref.ensures.whole left.1.whole left.1.went left.1.answers.1 left.1.answers.0)
 
-plain_unmoved : (old new : Block) → old.kind ≡ Plain → OnlyRingMoves old new → new.moved ≡ old.moved
-plain_unmoved old new plain = subst (λ k. OnKind k (new.moved ≡ old.moved) (old.moved ≤ new.moved)) plain
-
 pub returns-in-Ok-clause-moved : goal.returns-in-Ok-clause-moved
 returns-in-Ok-clause-moved g c =
     let left = c.in-Ok.ensures.drains in
-    rw left.2 (λ same. plain_unmoved c.args.reader.reader.block left.0.reader.block c.requires.0.kind
-    (left.1.went.keeps.still (λ p b n p' b' leaves. ap (λ b. b.moved) leaves.1) (ap (λ l. l.reads.asks) same)))
+    rw left.2 (λ same. body_still c.get_ref.ensures.whole left.1.whole left.1.went c.requires (ap (λ l. l.reads.asks) same))
 
 pub returns-in-Ok-clause-asked : goal.returns-in-Ok-clause-asked
 returns-in-Ok-clause-asked g c =
@@ -56,7 +51,7 @@ returns-in-Err-clause-ends g c =
     let drains = c.in-Err.ensures.drains in
     rw (c.unread.ensures, c.place-place.ensures) (
       drains.payload,
-      body_take c.get_ref.ensures.whole drains.whole drains.went,
+      body_take c.get_ref.ensures.whole drains.whole drains.went c.requires,
       drain_fails c.get_ref.ensures.whole drains,
       drains.went.handed,
     )

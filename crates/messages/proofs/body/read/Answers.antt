@@ -21,7 +21,7 @@ returns-in-Ok-clause-told g c = c.in-Ok.ensures.reads.went.handed
 pub returns-in-Ok-clause-takes : goal.returns-in-Ok-clause-takes
 returns-in-Ok-clause-takes g c =
     let reads = c.in-Ok.ensures.reads in
-    body_take c.get_ref.ensures.whole reads.whole reads.went
+    body_take c.get_ref.ensures.whole reads.whole reads.went c.requires
 
 pub returns-in-Ok-clause-ended : goal.returns-in-Ok-clause-ended
 returns-in-Ok-clause-ended g c = λ none some.
@@ -70,7 +70,7 @@ returns-in-Err-clause-told g c = c.in-Err.ensures.reads.went.handed
 pub returns-in-Err-clause-takes : goal.returns-in-Err-clause-takes
 returns-in-Err-clause-takes g c =
     let reads = c.in-Err.ensures.reads in
-    body_take c.get_ref.ensures.whole reads.whole reads.went
+    body_take c.get_ref.ensures.whole reads.whole reads.went c.requires
 
 pub returns-in-Err-clause-fails : goal.returns-in-Err-clause-fails
 returns-in-Err-clause-fails g c =

@@ -5,7 +5,7 @@ use Rattle.messages.proofs.body.read_buffered.Goals as goal
 pub returns-clause-takes : goal.returns-clause-takes
 returns-clause-takes g c =
     let reads = c.read_buffered.ensures.reads in
-    body_take c.get_ref.ensures.whole reads.whole reads.went
+    body_take c.get_ref.ensures.whole reads.whole reads.went c.requires
 
 pub returns-clause-all : goal.returns-clause-all
 returns-clause-all g c =

@@ -39,6 +39,7 @@ returns-in-Err g c =
           takes = failed.1.0;
           taken = failed.1.1;
           room = c.in-Err.ensures.kept;
+          moved = failed.1.2;
           told = failed.3;
           limits = refl;
           head = refl;

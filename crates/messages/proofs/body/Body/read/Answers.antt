@@ -9,6 +9,7 @@ returns-clause-goes g c =
       takes = c.read.ensures.takes.0;
       taken = c.read.ensures.takes.1;
       room = c.read.ensures.kept;
+      moved = c.read.ensures.takes.2;
       told = c.read.ensures.told;
       limits = refl;
       head = refl;

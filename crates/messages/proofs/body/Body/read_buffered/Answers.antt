@@ -10,8 +10,12 @@ returns-clause-goes g c =
       takes = c.read_buffered.ensures.takes.0;
       taken = c.read_buffered.ensures.takes.1;
       room = c.read_buffered.ensures.kept;
+      moved = c.read_buffered.ensures.takes.2;
       told = NotedIfSome-given _ c.read_buffered.new.out _ _ c.read_buffered.ensures.noted;
       limits = refl;
       head = refl;
       said = refl;
     })
+
+pub returns-clause-noted : goal.returns-clause-noted
+returns-clause-noted g c = rw (← c.self.view_is) c.read_buffered.ensures.noted

@@ -19,6 +19,7 @@ returns-clause-read g c =
         takes = reads.takes.0;
         taken = reads.takes.1;
         room = reads.kept;
+        moved = reads.takes.2;
         told = told c.self.inside.reader.calls c.read_told.new.reader.calls c.read_told.new.out c.read_told.result reads.told;
         limits = refl;
         head = refl;
