@@ -180,6 +180,10 @@ abbrev pub HasNextPayload : {S : Type 0} → Unbuffered S → Rest → Type 0
 HasNextPayload s (Bytes n) = (n ≡ 0) ⊎ (0 < length s.left)
 HasNextPayload s (Chunks limits place) = (place ≡ Done) ⊎ (IsDataOrDone place × (0 < length s.left))
 
+-- where nothing is left of the buffer, bytes are asked for, and the body goes on, the stream is asked
+abbrev pub AsksForMore : {S : Type 0} → Unbuffered S → Rest → List ℕ → Unbuffered S → Type 0
+AsksForMore s r out t = s.left ≡ [] → 0 < length out → ¬ (IsRest r [] []) → s.log.reads.asks < t.log.reads.asks
+
 -- no read of the stream failed, or gave nothing though it was asked for something
 abbrev pub EachReadGave : {S : Type 0} → Unbuffered S → Unbuffered S → Type 0
 EachReadGave s t = (t.log.reads.faults ≡ s.log.reads.faults) × (t.log.reads.zero_reads ≡ s.log.reads.zero_reads)

@@ -9,7 +9,7 @@ ghost use Rattle.buffer_redux.specs.Unbuffer.{unbuffered};
 ghost use Rattle.codec.specs.PieceReader.{left_of, rest};
 ghost use Rattle.messages.specs.contracts.body.Body.{the_row};
 ghost use Rattle.messages.specs.Heads.{IsHead};
-ghost use Rattle.messages.specs.Messages.{AskedIn, Bytes, EachReadGave, Fails, FinishFails, HandsMost, HasNextPayload, HasRoom, InsideGoes, IsRest, IsRoomy, ReaderTakes, RunsShort, TakesWholeRest, Unended, body_of, body_rules, entering, has_line, left_in, rest_of, room_of, stream_of, with_stream};
+ghost use Rattle.messages.specs.Messages.{AskedIn, AsksForMore, Bytes, EachReadGave, Fails, FinishFails, HandsMost, HasNextPayload, HasRoom, InsideGoes, IsRest, IsRoomy, ReaderTakes, RunsShort, TakesWholeRest, Unended, body_of, body_rules, entering, has_line, left_in, rest_of, room_of, stream_of, with_stream};
 
 mod tells;
 
@@ -180,6 +180,7 @@ impl<R: TellRead> Body<R> {
         ensures fails { IfErr result (λ e. Fails self.old.stream e self.new.stream self.new.rest) }
         ensures asked { AskedWhere (AskedIn self.old.rest (length out.new) self.new.stream.log.reads.offer) self.old.stream
             self.new.stream }
+        ensures asks { AsksForMore self.old.stream self.old.rest out.new self.new.stream }
         ensures all { IfOk result (λ n. 0 < n → HandsMost self.old.rest self.old.taken self.old.known out.new n
             self.new.taken self.new.known self.new.stream.left) }
         ensures idle { HasNextPayload self.old.stream self.old.rest → self.new.stream.log ≡ self.old.stream.log }
@@ -284,6 +285,7 @@ fn read<R: TellRead>(
     ensures fails { IfErr result (λ e. Fails (stream_of reader.old) e (stream_of reader.new) (left_in reader.new)) }
     ensures asked { AskedWhere (AskedIn (left_in reader.old) (length out.new) (stream_of reader.new).log.reads.offer)
         (stream_of reader.old) (stream_of reader.new) }
+    ensures asks { AsksForMore (stream_of reader.old) (left_in reader.old) out.new (stream_of reader.new) }
     ensures all { IfOk result (λ n. 0 < n → HandsMost (left_in reader.old) reader.old.taken reader.old.known out.new n
         reader.new.taken reader.new.known (stream_of reader.new).left) }
     ensures idle { HasNextPayload (stream_of reader.old) (left_in reader.old)

@@ -1,7 +1,7 @@
 -- What the reader did, told of the rest of the body: what it took leads to what is left of that.
-use Rattle.std.proofs.Common.{◌≡◌, Ok, ap, inr}
+use Rattle.std.proofs.Common.{◌≡◌, Err, Ok, ap, inr}
 use Rattle.buffer_redux.specs.Unbuffer.{unbuffered}
-use Rattle.messages.proofs.Going.{body_asked, body_done, body_fails, body_idle, body_kept, body_named, body_room, body_take}
+use Rattle.messages.proofs.Going.{body_asked, body_asks, body_done, body_fails, body_idle, body_kept, body_named, body_room, body_take}
 use Rattle.messages.proofs.Handing.{hands_most}
 use Rattle.messages.proofs.body.read.Goals as goal
 
@@ -34,6 +34,10 @@ returns-in-Ok-clause-gave g c = let gave = c.in-Ok.ensures.reads.answers.1 in (g
 pub returns-in-Ok-clause-asked : goal.returns-in-Ok-clause-asked
 returns-in-Ok-clause-asked g c =
     body_asked c.get_ref.ensures.whole c.requires.1 _ c.read_payload.new.self c.in-Ok.ensures.reads.asked
+
+pub returns-in-Ok-clause-asks : goal.returns-in-Ok-clause-asks
+returns-in-Ok-clause-asks g c =
+    body_asks c.get_ref.ensures.whole c.requires (Ok c.in-Ok.count) c.in-Ok.ensures.reads
 
 pub returns-in-Ok-clause-all : goal.returns-in-Ok-clause-all
 returns-in-Ok-clause-all g c =
@@ -84,3 +88,6 @@ returns-in-Err-clause-asked g c =
 
 pub returns-in-Err-clause-idle : goal.returns-in-Err-clause-idle
 returns-in-Err-clause-idle g c = body_idle c.get_ref.ensures.whole c.requires.1 c.in-Err.ensures.reads
+
+pub returns-in-Err-clause-asks : goal.returns-in-Err-clause-asks
+returns-in-Err-clause-asks g c = body_asks c.get_ref.ensures.whole c.requires (Err c.in-Err.e) c.in-Err.ensures.reads

@@ -33,3 +33,6 @@ returns-clause-none g c = rw (← c.self.view_is) c.read.ensures.none
 
 pub returns-clause-all : goal.returns-clause-all
 returns-clause-all g c = rw (← c.self.view_is) c.read.ensures.all
+
+pub returns-clause-asks : goal.returns-clause-asks
+returns-clause-asks g c = rw (← c.self.view_is) c.read.ensures.asks
