@@ -1,5 +1,5 @@
 -- What was sent before a further head was asked for.
-use Rattle.std.proofs.Common.{◌≡◌, ◌∙◌, ◌⊎◌, ◌<◌, ℕ, List, [], length, Option, Result, Ok, inl, inr, ap, subst, arith}
+use Rattle.std.proofs.Common.{◌≡◌, ◌∙◌, ◌<◌, ◌+◌, ℕ, Bool, true, false, MatchBool, List, [], ◌∷◌, ◌++◌, length, Option, None, Some, Ok, Err, inl, inr, ap, refl, sym, subst, arith, append-nil, length-append}
 use Rattle.std.proofs.lemmas.List.{nil_from_length}
 use Rattle.std.specs.declared.io.Error.{Error}
 use Rattle.buffer_redux.specs.Buffered.{Buffered}
@@ -8,8 +8,9 @@ use Rattle.buffer_redux.specs.Unbuffer.{Unbuffered}
 use Rattle.buffer_redux.specs.declared.policy.StdPolicy.{StdPolicy}
 use Rattle.body_reader.specs.Asking.{AskedWhere}
 use Rattle.body_reader.specs.AskingLaws.{AskedWhere-of}
+use Rattle.codec.specs.declared.NextError.TheVariants as why
 use Rattle.codec.specs.Grammar.{IsOpen}
-use Rattle.codec.specs.NextPiece.{NextAnswer, NextPiece}
+use Rattle.codec.specs.NextPiece.{HandsBytes, NextAnswer, NextPiece, NoEnd, empty_reads}
 use Rattle.codec.specs.NextPieceLaws.{AsksNone-settled}
 use Rattle.codec.specs.PieceReader.{IsSettled, ReaderState, left_of, rest}
 use Rattle.messages.specs.declared.bad_head.BadHead.{BadHead}
@@ -17,10 +18,9 @@ use Rattle.messages.specs.declared.head.Heads.{Heads}
 use Rattle.messages.specs.Heads.{heads}
 use Rattle.messages.specs.HeadsLaws.{heads_lawful}
 use Rattle.messages.specs.Limits.{usual}
-use Rattle.messages.specs.Messages.{AskedIn, BeginsRest, InBody, IsRest, RunsShort}
-use Rattle.programs.specs.Streams.{AllSent}
+use Rattle.messages.specs.Messages.{AskedIn, AsksForMore, BeginsRest, InBody, IsRest, RunsShort}
 use Rattle.requests.specs.Sending.{SendsUnless, WritesOnlyHeld, WritesPromptly}
-use Rattle.requests.proofs.Sending.{WritesPromptly-after, WritesPromptly-read, WritesPromptly-sent, open_empty, sent_then}
+use Rattle.requests.proofs.Sending.{WritesPromptly-after, WritesPromptly-asked, WritesPromptly-read, WritesPromptly-unsent, open_empty, sent_then}
 use Rattle.requests.proofs.Reading.{wrong_unasked}
 
 -- under the usual limits heads are the usual ones
@@ -35,65 +35,121 @@ open_where s unsettled = record {
   not_wrong = λ e bad. unsettled (inr (inr (e, bad)));
 }
 
--- a body was asked for only where all had been sent: what is buffered of it is none, and it goes on
-pub body_asked : {R W : Type 0} {tells : W → StreamLog} {trace : W → W → Type 0} {slice : ℕ} (count : ℕ) (out : List ℕ)
-    (m t : InBody R)
-    (w v : Buffered W StdPolicy) → SendsUnless tells trace (0 < length m.stream.left) w (Ok tt) v → count ≡ 0 → 0 < length out
+-- an end that is met where nobody is asked was met before
+ended_before : {R : Type 0} (s t : ReaderState R Heads) → t.reader.log ≡ s.reader.log → (before : Bool)
+    → MatchBool before (NoEnd s t) (empty_reads t.reader ≡ empty_reads s.reader + 1) → before ≡ true
+ended_before s t same true met = refl
+ended_before s t same false met = absurd (omega (arith, met, ap (λ l. l.reads.zero_reads) same))
+
+-- and all that was left is there
+all_left : {R : Type 0} (s t : ReaderState R Heads) → t.reader.log ≡ s.reader.log → (bytes : List ℕ)
+    → HandsBytes s bytes t → bytes ++ rest t ≡ rest s
+all_left s t same bytes hands =
+    let none : hands.got ≡ [] = nil_from_length hands.got (omega (
+      arith,
+      ap length hands.given,
+      length-append s.reader.log.reads.given hands.got,
+      ap (λ l. length l.reads.given) same,
+    )) in
+    hands.equal ∙ ap (λ l. rest s ++ l) none ∙ append-nil (rest s)
+
+-- so what is answered there is settled
+settled_where : {R : Type 0} {remaining : R → Option (List ℕ)} (s t : ReaderState R Heads) → t.reader.log ≡ s.reader.log
+    → (answer : NextAnswer BadHead) → NextPiece remaining (heads usual) s answer t → IsSettled (heads usual) s
+settled_where s t same (Ok (Some payload)) next = elim next.answers.1 [
+  | inl piece ↦ inr (inl (record {
+    piece = next.bytes;
+    payload = payload;
+    more = rest t;
+    is = piece.0;
+    equal = sym (all_left s t same next.bytes next.went.hands);
+  }))
+  | inr last ↦ absurd last.0
+]
+settled_where s t same (Ok None) next = inl (ended_before s t same s.ended next.answers.4)
+settled_where s t same (Err (why.Wrong e)) next = elim next.answers.3 [
+  | inl wrong ↦ inr (inr (
+    e,
+    subst (λ l. (heads usual).wrong l e)
+        (ap (λ l. l ++ rest t) (sym next.answers.0) ∙ all_left s t same next.bytes next.went.hands) wrong.0,
+  ))
+  | inr cut ↦ inl (ended_before s t same s.ended cut.3)
+]
+settled_where s t same (Err (why.Io e)) next = absurd (omega (
+  arith,
+  ap length next.answers.2,
+  length-append s.reader.log.reads.faults (e ∷ []),
+  ap (λ l. length l.reads.faults) same,
+))
+
+-- and where nothing is settled the stream is asked
+asks_where : {R : Type 0} {remaining : R → Option (List ℕ)} (s t : ReaderState R Heads) (answer : NextAnswer BadHead)
+    → NextPiece remaining (heads usual) s answer t → (¬ (IsSettled (heads usual) s))
+    → s.reader.log.reads.asks < t.reader.log.reads.asks
+asks_where s t answer next unsettled = elim next.asked [
+  | inl same ↦ absurd (unsettled (settled_where s t same answer next))
+  | inr over ↦ over.some
+]
+
+-- a body of which something is buffered, and can't be handed out, isn't asked for
+shown_unasked : {R : Type 0} {slice : ℕ} (count : ℕ) (out : List ℕ) (m t : InBody R) → count ≡ 0 → 0 < length out
     → (¬ (IsRest m.rest [] [])) → RunsShort (length out) count m.rest m.stream.left
-    → AskedWhere (AskedIn m.rest slice t.stream.log.reads.offer) m.stream t.stream → (t.stream.log ≡ m.stream.log) ⊎ AllSent v
-body_asked {slice = slice} count out m t w v sends zero some goes_on short asked = elim (sent_then w v sends) [
-  | inl shown ↦ elim short [
-    | inl same ↦ absurd (omega (arith, same, zero, some))
-    | inr none ↦ elim none [
-      | inl done ↦ absurd (goes_on done)
-      | inr left ↦ elim left [
-        | inl empty ↦ absurd (omega (arith, shown, ap length empty))
-        | inr wrong ↦ inl (wrong_unasked m.stream t.stream m.rest wrong.0 wrong.1
-            (AskedWhere-of (AskedIn m.rest slice t.stream.log.reads.offer) (BeginsRest m.rest []) m.stream t.stream
-            (λ more ask. ask.goes_on) asked))
-      ]
+    → AskedWhere (AskedIn m.rest slice t.stream.log.reads.offer) m.stream t.stream → 0 < length m.stream.left
+    → t.stream.log ≡ m.stream.log
+shown_unasked {slice = slice} count out m t zero some goes_on short asked shown = elim short [
+  | inl same ↦ absurd (omega (arith, same, zero, some))
+  | inr none ↦ elim none [
+    | inl done ↦ absurd (goes_on done)
+    | inr left ↦ elim left [
+      | inl empty ↦ absurd (omega (arith, shown, ap length empty))
+      | inr wrong ↦ wrong_unasked m.stream t.stream m.rest wrong.0 wrong.1
+          (AskedWhere-of (AskedIn m.rest slice t.stream.log.reads.offer) (BeginsRest m.rest []) m.stream t.stream
+          (λ more ask. ask.goes_on) asked)
     ]
   ]
-  | inr all ↦ inr all
 ]
 
 module _ {R W : Type 0} {remaining : R → Option (List ℕ)} {tells : W → StreamLog} {trace : W → W → Type 0}
-    (none : (u : W) → trace u u) (joins : (u v x : W) → trace u v → trace v x → trace u x) where
+    (none : (u : W) → trace u u) where
   -- what was held was sent, where the stream was asked then
   pub comes : (s : ReaderState R Heads) (w v : Buffered W StdPolicy)
       → SendsUnless tells trace (IsSettled (heads usual) s) w (Ok tt) v
       → (answer : NextAnswer BadHead) (t : ReaderState R Heads) → NextPiece remaining (heads usual) s answer t
       → WritesOnlyHeld tells trace (left_of s, w) (left_of t, v)
   comes s w v sends answer t next =
-      let asked : (t.reader.log ≡ s.reader.log) ⊎ AllSent v = elim (sent_then w v sends) [
-        | inl settled ↦ inl (AsksNone-settled remaining (heads usual) (heads_lawful usual) s settled answer t next)
-        | inr all ↦ inr all
-      ] in
+      let still : IsSettled (heads usual) s → t.reader.log ≡ s.reader.log = λ settled.
+      AsksNone-settled remaining (heads usual) (heads_lawful usual) s settled answer t next in
       record {
-        writes = WritesPromptly-after joins (left_of s, w) (left_of s, v) (left_of t, v) [] [] (Ok tt)
-            (WritesPromptly-sent none (left_of s) w v (Ok tt) sends (open_where s)) (WritesPromptly-read none v asked);
-        asked = asked;
+        writes = WritesPromptly-asked none (left_of s) (left_of t) w v sends (open_where s) (asks_where s t answer next) still;
+        asked = elim (sent_then w v sends) [ inl settled ↦ inl (still settled) | inr all ↦ inr all ];
       }
+
+-- where nothing is left nothing is settled
+open_behind : {R : Type 0} (m : Unbuffered R) → (¬ (0 < length m.left)) → IsOpen (heads usual) m.left
+open_behind m lacks = open_empty m.left (nil_from_length m.left (omega (arith, lacks)))
 
 module _ {R W : Type 0} {tells : W → StreamLog} {trace : W → W → Type 0} (none : (u : W) → trace u u)
     (joins : (u v x : W) → trace u v → trace v x → trace u x) where
-  -- what was held was sent where no more of a body is buffered
-  pub sends_empty : {answer : Result (Unit {0}) Error} (s m : Unbuffered R) (w v : Buffered W StdPolicy) → m.log ≡ s.log
-      → SendsUnless tells trace (0 < length m.left) w answer v → WritesPromptly tells trace (s, w) [] answer (m, v)
-  sends_empty {answer} s m w v same sends =
-      WritesPromptly-after joins (s, w) (m, w) (m, v) [] [] answer (WritesPromptly-read none w (inl same))
-      (WritesPromptly-sent none m w v answer sends (λ no. open_empty m.left (nil_from_length m.left (omega (arith, no)))))
+  -- what was held couldn't be sent where no more of a body is buffered
+  pub unsent_empty : (e : Error) (s m : Unbuffered R) (w v : Buffered W StdPolicy) → m.log ≡ s.log
+      → SendsUnless tells trace (0 < length m.left) w (Err e) v → WritesPromptly tells trace (s, w) [] (Err e) (m, v)
+  unsent_empty e s m w v same sends =
+      WritesPromptly-after joins (s, w) (m, w) (m, v) [] [] (Err e) (WritesPromptly-read none w (inl same))
+      (WritesPromptly-unsent none m w v e sends (open_behind m))
 
-  -- and then the stream was asked for more
-  pub comes_inside : {slice : ℕ} (count : ℕ) (out : List ℕ) (s : Unbuffered R) (m t : InBody R) (w v : Buffered W StdPolicy)
+  -- or it was, and then the stream was asked for more
+  pub comes_inside : {slice : ℕ} (count : ℕ) (out into : List ℕ) (s : Unbuffered R) (m t : InBody R)
+      (w v : Buffered W StdPolicy)
       → m.stream.log ≡ s.log → SendsUnless tells trace (0 < length m.stream.left) w (Ok tt) v → count ≡ 0 → 0 < length out
       → (¬ (IsRest m.rest [] [])) → RunsShort (length out) count m.rest m.stream.left
       → AskedWhere (AskedIn m.rest slice t.stream.log.reads.offer) m.stream t.stream
-      → WritesOnlyHeld tells trace (s, w) (t.stream, v)
-  comes_inside count out s m t w v same sends zero some goes_on short asked =
-      let after = body_asked count out m t w v sends zero some goes_on short asked in
+      → 0 < length into → AsksForMore m.stream m.rest into t.stream → WritesOnlyHeld tells trace (s, w) (t.stream, v)
+  comes_inside count out into s m t w v same sends zero some goes_on short asked room asks =
+      let still = shown_unasked count out m t zero some goes_on short asked in
       record {
-        writes = WritesPromptly-after joins (s, w) (m.stream, v) (t.stream, v) [] [] (Ok tt)
-            (sends_empty s m.stream w v same sends) (WritesPromptly-read none v after);
-        asked = elim after [ inl still ↦ inl (still ∙ same) | inr all ↦ inr all ];
+        writes = WritesPromptly-after joins (s, w) (m.stream, w) (t.stream, v) [] [] (Ok tt)
+            (WritesPromptly-read none w (inl same))
+            (WritesPromptly-asked none m.stream t.stream w v sends (open_behind m.stream)
+            (λ lacks. asks (nil_from_length m.stream.left (omega (arith, lacks))) room goes_on) still);
+        asked = elim (sent_then w v sends) [ inl shown ↦ inl (still shown ∙ same) | inr all ↦ inr all ];
       }

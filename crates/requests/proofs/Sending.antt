@@ -1,5 +1,5 @@
 -- What is written and sent, one after another.
-use Rattle.std.proofs.Common.{◌≡◌, ℕ, ◌⊎◌, List, [], ◌∷◌, ◌++◌, length, Result, Ok, Err, OnOk, IfErr, sym, ap, subst, inl, inr, refl, arith, length-append}
+use Rattle.std.proofs.Common.{◌≡◌, ℕ, ◌<◌, ◌≤◌, ◌⊎◌, List, [], ◌∷◌, ◌++◌, length, Result, Ok, Err, OnOk, IfErr, sym, ap, subst, inl, inr, refl, arith, length-append}
 use Rattle.std.proofs.lemmas.Bool.{cases_lt}
 use Rattle.std.proofs.lemmas.List.{nil_from_length}
 use Rattle.std.specs.declared.io.Error.{Error}
@@ -168,26 +168,38 @@ module _ {W : Type 0} {tells : W → StreamLog} {trace : W → W → Type 0} whe
       WritesPromptly-none a = record { puts = PutsText-none none a.1; prompt = record { between = []; steps = refl } }
 
       -- the stream went on while nothing was written
-      pub WritesPromptly-read : {s t : Unbuffered R} (w : Buffered W StdPolicy) → (t.log ≡ s.log) ⊎ AllSent w
+      pub WritesPromptly-read : {s t : Unbuffered R} (w : Buffered W StdPolicy)
+          → (t.log ≡ s.log) ⊎ (AllSent w × (s.log.reads.asks ≤ t.log.reads.asks))
           → WritesPromptly tells trace (s, w) [] (Ok tt) (t, w)
       WritesPromptly-read {s} {t} w (inl same) =
           record { puts = PutsText-none none w; prompt = Prompt-one (s, w) (t, w) (inl (same, (refl, inl refl))) }
-      WritesPromptly-read {s} {t} w (inr sent) =
-          record { puts = PutsText-none none w; prompt = Prompt-one (s, w) (t, w) (inr (inl (sent, refl))) }
+      WritesPromptly-read {s} {t} w (inr (sent, more)) =
+          record { puts = PutsText-none none w; prompt = Prompt-one (s, w) (t, w) (inr (inl (sent, refl, more))) }
 
-      -- what was held was sent, where the stream is to be asked
-      pub WritesPromptly-sent : {P : Type 0} (s : Unbuffered R) (w v : Buffered W StdPolicy) (answer : Result (Unit {0}) Error)
-          → SendsUnless tells trace P w answer v → ((¬ P) → IsOpen (heads usual) s.left)
-          → WritesPromptly tells trace (s, w) [] answer (s, v)
-      WritesPromptly-sent s w v answer (inl (settled, well, same)) asks =
-          subst (λ r. WritesPromptly tells trace (s, w) [] r (s, v)) (sym well)
-          (subst (λ x. WritesPromptly tells trace (s, w) [] (Ok tt) (s, x)) (sym same) (WritesPromptly-none (s, w)))
-      WritesPromptly-sent s w v answer (inr (unsettled, inl (all, well, same))) asks =
-          subst (λ r. WritesPromptly tells trace (s, w) [] r (s, v)) (sym well)
-          (subst (λ x. WritesPromptly tells trace (s, w) [] (Ok tt) (s, x)) (sym same) (WritesPromptly-none (s, w)))
-      WritesPromptly-sent s w v answer (inr (unsettled, inr (some, flushed))) asks = record {
-        puts = PutsText-flushed w v answer flushed;
-        prompt = Prompt-one (s, w) (s, v) (inr (inr (refl, asks unsettled, some, (answer, flushed))));
+      -- what was held was sent, where the stream is to be asked, and then that was asked
+      pub WritesPromptly-asked : {P : Type 0} (s t : Unbuffered R) (w v : Buffered W StdPolicy)
+          → SendsUnless tells trace P w (Ok tt) v → ((¬ P) → IsOpen (heads usual) s.left)
+          → ((¬ P) → s.log.reads.asks < t.log.reads.asks) → (P → t.log ≡ s.log)
+          → WritesPromptly tells trace (s, w) [] (Ok tt) (t, v)
+      WritesPromptly-asked s t w v (inl (settled, well, same)) open' asks still =
+          subst (λ x. WritesPromptly tells trace (s, w) [] (Ok tt) (t, x)) (sym same) (WritesPromptly-read w (inl (still settled)))
+      WritesPromptly-asked s t w v (inr (unsettled, inl (all, well, same))) open' asks still =
+          subst (λ x. WritesPromptly tells trace (s, w) [] (Ok tt) (t, x)) (sym same)
+          (WritesPromptly-read w (inr (all, omega (arith, asks unsettled))))
+      WritesPromptly-asked s t w v (inr (unsettled, inr (some, flushed))) open' asks still = record {
+        puts = PutsText-flushed w v (Ok tt) flushed;
+        prompt = Prompt-one (s, w) (t, v) (inr (inr (open' unsettled, some, (Ok tt, flushed, asks unsettled))));
+      }
+
+      -- that failed, and the stream wasn't asked
+      pub WritesPromptly-unsent : {P : Type 0} (s : Unbuffered R) (w v : Buffered W StdPolicy) (e : Error)
+          → SendsUnless tells trace P w (Err e) v → ((¬ P) → IsOpen (heads usual) s.left)
+          → WritesPromptly tells trace (s, w) [] (Err e) (s, v)
+      WritesPromptly-unsent s w v e (inl (settled, well, same)) open' = absurd (cc)
+      WritesPromptly-unsent s w v e (inr (unsettled, inl (all, well, same))) open' = absurd (cc)
+      WritesPromptly-unsent s w v e (inr (unsettled, inr (some, flushed))) open' = record {
+        puts = PutsText-flushed w v (Err e) flushed;
+        prompt = Prompt-one (s, w) (s, v) (inr (inr (open' unsettled, some, (Err e, flushed, refl))));
       }
 
     module _ (joins : (u v x : W) → trace u v → trace v x → trace u x) where

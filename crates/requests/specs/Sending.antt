@@ -1,5 +1,5 @@
 -- What is written, and when it is sent.
-use Rattle.std.specs.Prelude.{◌≡◌, ℕ, ◌<◌, ◌≤◌, ◌⊎◌, List, [], ◌∷◌, length, Result, Ok, OnOk, IfErr}
+use Rattle.std.specs.Prelude.{◌≡◌, ℕ, ◌<◌, ◌≤◌, ◌⊎◌, List, [], ◌∷◌, length, Result, Ok, MatchResult, OnOk, IfErr}
 use Rattle.std.specs.declared.io.Error.{Error}
 use Rattle.redux_buffer.specs.Faults.{MetInterrupts, SendErrorCaused}
 use Rattle.redux_buffer.specs.GrowError.{GrowthFailed}
@@ -57,13 +57,14 @@ Both R W = Unbuffered R × Buffered W StdPolicy
 
 module _ {R W : Type 0} (tells : W → StreamLog) (trace : W → W → Type 0) where
   -- the stream isn't asked, nothing flushed, and nothing sent but for room; or it is asked, where all that was written was
-  -- received and flushed; or what is held is sent, or that fails, where what is buffered of the stream settles nothing, so that
-  -- it is to be asked
+  -- received and flushed; or what is held is sent, where what is buffered of the stream settles nothing, and then the stream is
+  -- asked, or that failed, and nothing else is done
   abbrev pub IsStep : Both R W → Both R W → Type 0
   IsStep (s, w) (t, v) = ((t.log ≡ s.log) × SendsForRoom tells trace w v)
-      ⊎ (AllSent w × (v ≡ w))
-      ⊎ ((t ≡ s) × IsOpen (heads usual) s.left × (0 < length w.block.bytes)
-      × ((sending : Result (Unit {0}) Error) × WasFlushed tells trace w sending v))
+      ⊎ (AllSent w × (v ≡ w) × (s.log.reads.asks ≤ t.log.reads.asks))
+      ⊎ (IsOpen (heads usual) s.left × (0 < length w.block.bytes)
+      × ((sending : Result (Unit {0}) Error) × WasFlushed tells trace w sending v
+      × MatchResult sending (λ _. s.log.reads.asks < t.log.reads.asks) (λ e. t ≡ s)))
 
   -- such steps, by way of these, of which the last is first
   abbrev pub StepsAlong : Both R W → List (Both R W) → Both R W → Type 0

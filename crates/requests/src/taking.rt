@@ -4,7 +4,7 @@ ghost use Rattle.body_reader.specs.Asking.{AskedWhere};
 ghost use Rattle.body_reader.specs.Between.{handed_out};
 ghost use Rattle.codec.specs.PieceReader.{left_of};
 ghost use Rattle.messages.specs.Limits.{usual};
-ghost use Rattle.messages.specs.Messages.{AskedIn, InsideGoes, IsRest};
+ghost use Rattle.messages.specs.Messages.{AskedIn, AsksForMore, InsideGoes, IsRest};
 ghost use Rattle.requests.specs.Answers.{FailsOn, FailsToRead, ReadsSome, ReadsSteadily, TakeFails, TakesWhole, sent_till, sent_with, unfinished};
 ghost use Rattle.requests.specs.Large.{is_large};
 ghost use Rattle.requests.specs.Sending.{IsHeld, SendsUnless, WritesPromptly};
@@ -142,6 +142,7 @@ fn read<R: TellRead>(body: &mut Body<R>, out: &mut [u8]) -> Result<usize, Untake
     ensures fails { IfErr result (λ e. FailsToRead body.old.stream e body.new) }
     ensures asked { AskedWhere (AskedIn body.old.rest (length out.new) body.new.stream.log.reads.offer) body.old.stream
         body.new.stream }
+    ensures asks { AsksForMore body.old.stream body.old.rest out.new body.new.stream }
 {
     match body.read(out) {
         Ok(count) => Ok(count),

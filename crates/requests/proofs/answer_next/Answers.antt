@@ -9,12 +9,12 @@ use Rattle.requests.specs.Sending.{WritesPromptly}
 use Rattle.requests.proofs.Answering.{FailsLast-of, RunsToLast-stopped, none_answered}
 use Rattle.requests.proofs.Coming.{comes, open_where, usually}
 use Rattle.requests.proofs.Reading.{none_met}
-use Rattle.requests.proofs.Sending.{PutsText-none, WritesPromptly-sent}
+use Rattle.requests.proofs.Sending.{PutsText-none, WritesPromptly-unsent}
 use Rattle.requests.proofs.answer_next.Goals as goal
 
 pub answer_body-requires : goal.answer_body-requires
 answer_body-requires g c =
-    let came = comes g.met.W.TellWrite.trace_none g.met.W.TellWrite.trace_joins c.args.requests c.args.writer.now
+    let came = comes g.met.W.TellWrite.trace_none c.args.requests c.args.writer.now
     c.send_to_ask.new.writer c.in-Ok.ensures _ c.in-Ok-next.ensures.next.behind
     (usually c.requires.limits c.in-Ok-next.ensures.next.next) in
     record {
@@ -26,7 +26,7 @@ answer_body-requires g c =
 pub returns-in-Ok-next-clause-turns : goal.returns-in-Ok-next-clause-turns
 returns-in-Ok-next-clause-turns g c =
     let begun = c.in-Ok-next.ensures.next in
-    let came = comes g.met.W.TellWrite.trace_none g.met.W.TellWrite.trace_joins c.args.requests c.args.writer.now
+    let came = comes g.met.W.TellWrite.trace_none c.args.requests c.args.writer.now
     c.send_to_ask.new.writer c.in-Ok.ensures _ begun.behind (usually c.requires.limits begun.next) in
     c.answer_body.ensures.turns c.args.requests c.args.writer.now begun
     (subst (λ u. WritesPromptly g.W.Tell.log g.W.TellWrite.trace (left_of c.args.requests, c.args.writer.now) [] (Ok tt)
@@ -36,13 +36,13 @@ pub returns-in-Err-next-clause-turns : goal.returns-in-Err-next-clause-turns
 returns-in-Err-next-clause-turns g c =
     let next = usually c.requires.limits c.in-Err-next.ensures.next in
     c.stopped.ensures.turns c.args.requests c.args.writer.now c.in-Err-next.ensures.told next
-    (comes g.met.W.TellWrite.trace_none g.met.W.TellWrite.trace_joins c.args.requests c.args.writer.now
+    (comes g.met.W.TellWrite.trace_none c.args.requests c.args.writer.now
     c.send_to_ask.new.writer c.in-Ok.ensures _ c.in-Err-next.requests next)
 
 pub returns-in-Err-clause-turns : goal.returns-in-Err-clause-turns
 returns-in-Err-clause-turns g c =
     let s = left_of c.args.requests in
-    let sent = WritesPromptly-sent g.met.W.TellWrite.trace_none s c.args.writer.now c.send_to_ask.new.writer (Err c.in-Err.e)
+    let sent = WritesPromptly-unsent g.met.W.TellWrite.trace_none s c.args.writer.now c.send_to_ask.new.writer c.in-Err.e
     c.in-Err.ensures (open_where c.args.requests) in
     RunsToLast-stopped [] (Before c.args.requests) (refl, refl) (omega arith) (Unsent c.in-Err.e)
     (none_answered (StreamWent-none g.R.TellRead.remaining s) sent

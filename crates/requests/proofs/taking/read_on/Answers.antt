@@ -4,7 +4,7 @@ use Rattle.body_reader.specs.Between.{handed_out}
 use Rattle.messages.specs.Messages.{InBody, InsideGoes}
 use Rattle.messages.specs.MessagesLaws.{InsideGoes-joins}
 use Rattle.requests.specs.Sending.{WritesPromptly}
-use Rattle.requests.proofs.Coming.{comes_inside, sends_empty}
+use Rattle.requests.proofs.Coming.{comes_inside, unsent_empty}
 use Rattle.requests.proofs.Reading.{fails_since, reads_since, sent_so}
 use Rattle.requests.proofs.Sending.{WritesPromptly-read}
 use Rattle.requests.proofs.taking.read_on.Goals as goal
@@ -34,9 +34,9 @@ returns-in-Ok g c =
     let s = c.args.body.now.stream in
     let zero : c.read_buffered-count.result ≡ 0 = omega (arith, c.if-count-gt0.false) in
     let comes = comes_inside g.met.W.TellWrite.trace_none g.met.W.TellWrite.trace_joins c.read_buffered-count.result
-    c.read_buffered-count.new.out c.args.body.now.stream m t c.args.writer.now c.send_unless_shown.new.writer none.unasked
-    c.in-Ok.ensures zero (search rules) (λ done. let odd = c.is_done.ensures.ended.1 done in absurd (cc)) none.all
-    c.read.ensures.asked in
+    c.read_buffered-count.new.out c.read.new.out c.args.body.now.stream m t c.args.writer.now c.send_unless_shown.new.writer
+    none.unasked c.in-Ok.ensures zero (search rules) (λ done. let odd = c.is_done.ensures.ended.1 done in absurd (cc)) none.all
+    c.read.ensures.asked (search rules) c.read.ensures.asks in
     record {
       bound = c.read.ensures.bound;
       goes = InsideGoes-joins g.R.TellRead.remaining c.args.body.now m t [] (handed_out c.read.new.out c.read.result)
@@ -54,6 +54,6 @@ returns-in-Err-clause-goes g c =
 
 pub returns-in-Err-clause-writes : goal.returns-in-Err-clause-writes
 returns-in-Err-clause-writes g c =
-    sends_empty g.met.W.TellWrite.trace_none g.met.W.TellWrite.trace_joins c.args.body.now.stream
+    unsent_empty g.met.W.TellWrite.trace_none g.met.W.TellWrite.trace_joins c.in-Err.e c.args.body.now.stream
     c.read_buffered-count.new.self.stream c.args.writer.now c.send_unless_shown.new.writer
     c.read_buffered-count.ensures.unasked c.in-Err.ensures
