@@ -182,7 +182,8 @@ module _ {W : Type 0} {tells : W → StreamLog} {trace : W → W → Type 0} whe
           → ((¬ P) → s.log.reads.asks < t.log.reads.asks) → (P → t.log ≡ s.log)
           → WritesPromptly tells trace (s, w) [] (Ok tt) (t, v)
       WritesPromptly-asked s t w v (inl (settled, well, same)) open' asks still =
-          subst (λ x. WritesPromptly tells trace (s, w) [] (Ok tt) (t, x)) (sym same) (WritesPromptly-read w (inl (still settled)))
+          subst (λ x. WritesPromptly tells trace (s, w) [] (Ok tt) (t, x)) (sym same)
+          (WritesPromptly-read w (inl (still settled)))
       WritesPromptly-asked s t w v (inr (unsettled, inl (all, well, same))) open' asks still =
           subst (λ x. WritesPromptly tells trace (s, w) [] (Ok tt) (t, x)) (sym same)
           (WritesPromptly-read w (inr (all, omega (arith, asks unsettled))))

@@ -71,7 +71,8 @@ module _ {R W : Type 0} (tells : W → StreamLog) (trace : W → W → Type 0) w
   StepsAlong a [] b = a ≡ b
   StepsAlong a (m ∷ earlier) b = StepsAlong a earlier m × IsStep m b
 
-  -- the stream was asked only where nothing was held back, and each flush sends something, and stands before an ask
+  -- the stream was asked only where nothing was held back, and each flush sends something, and stands directly before an ask,
+  -- unless it fails
   pub record Prompt (a b : Both R W) : Type 0 where
     pub between : List (Both R W)
     pub steps : StepsAlong a between b
