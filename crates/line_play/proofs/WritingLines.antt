@@ -1,8 +1,8 @@
 -- What the loop comes to that writes lines with their ends.
-use Rattle.std.proofs.Common.{◌≡◌, ℕ, ◌+◌, ◌<◌, List, [], ◌∷◌, ◌++◌, length, map, take, drop, sym, ap, subst, refl, ◌∙◌, arith, append-nil, get_or, length-append}
+use Rattle.std.proofs.Common.{◌≡◌, ℕ, ◌+◌, ◌<◌, List, [], ◌∷◌, ◌++◌, length, map, take, drop, sym, ap, subst, refl, ◌∙◌, arith, append-nil, get_or, length-append, Result, Ok, Err}
 use Rattle.std.proofs.Math.Seq.{take-append-add}
 use Rattle.std.proofs.lemmas.Grind.{flat_map-append}
-use Rattle.std.proofs.lemmas.List.{take_all, take-append-le, take-map}
+use Rattle.std.proofs.lemmas.List.{length-map, length-take-le, map-append, take_all, take-append-le, take-map}
 use Rattle.buffer_redux.specs.BufWriter.{WritesInOrder}
 use Rattle.buffer_redux.specs.Buffered.{Buffered}
 use Rattle.buffer_redux.specs.WriteAll.{TookBeginning}
@@ -10,6 +10,9 @@ use Rattle.buffer_redux.specs.WriterLaws.{WritesInOrder-none, WritesInOrder-join
 use Rattle.line_reader.specs.Lines.{newline, with_newline, with_newlines}
 use Rattle.line_play.specs.WrittenLines.{StopsInLine}
 use Rattle.codec.specs.PayloadsLaws.{before, parted}
+use Rattle.codec.specs.WriteRuns.{CallRuns, CallsStopped}
+use Rattle.codec.specs.WriteRunsLaws.{CallRuns-more}
+use Rattle.codec.specs.declared.laws.runs.WriteEachError.{WriteEachError}
 
 -- these lines were taken in, one after another
 pub record WroteLines {S P : Type 0} (trace : S → S → Type 0) (s : Buffered S P) (lines : List (List ℕ)) (t : Buffered S P)
@@ -80,4 +83,33 @@ module _ {V : Type 0} (f : V → List ℕ) (vs : List V) (i : ℕ) (x : V) (insi
       record {
         in_order = subst (λ l. WritesInOrder s l t) (sym same) all;
         went = joins s.inner m.inner t.inner so_far.went went;
+      }
+
+-- calls with the first lines, so many, answered Ok so far
+module _ {V T X : Type 0} (f : V → List ℕ) (vs : List V) (i : ℕ) (x : V) (inside : i < length vs)
+    (is : x ≡ get_or vs i x) (Call : T → List ℕ → Result (Unit {0}) X → T → Type 0) (s m t : T)
+    (run : CallRuns Call s (map f (take i vs)) (map (λ line. Ok tt) (map f (take i vs))) m) where
+  -- so did the next one
+  pub calls_more : Call m (f x) (Ok tt) t
+      → CallRuns Call s (map f (take (i + 1) vs)) (map (λ line. Ok tt) (map f (take (i + 1) vs))) t
+  calls_more wrote =
+      let done = map f (take i vs) in
+      subst (λ l. CallRuns Call s l (map (λ line. Ok tt) l) t) (sym (before f vs i x inside is))
+      (subst (λ answers. CallRuns Call s (done ++ f x ∷ []) answers t) (sym (map-append (λ line. Ok tt) done (f x ∷ [])))
+      (CallRuns-more Call s done (map (λ line. Ok tt) done) m (f x) (Ok tt) t run wrote))
+
+  -- or it failed
+  pub calls_stop : (why : WriteEachError X) → why.taken ≡ i → Call m (f x) (Err why.error) t
+      → CallsStopped Call (CallRuns Call) s (map f vs) why t
+  calls_stop why count failed =
+      let done = map f (take i vs) in record {
+        done = done;
+        taken = omega (arith, count, inside, length-map (take i vs) f, length-take-le i vs (omega (arith, inside)));
+        payload = f x;
+        later = map f (drop (i + 1) vs);
+        all = parted f vs i x inside is;
+        before = m;
+        wrote = run;
+        failed = failed;
+        plays = CallRuns-more Call s done (map (λ line. Ok tt) done) m (f x) (Err why.error) t run failed;
       }

@@ -3,11 +3,13 @@ ghost use Rattle.std.specs.Prelude.{◌≡◌, ◌+◌, map, IfOk, IfErr, OnOk};
 ghost use Rattle.std.specs.List.{All};
 ghost use Rattle.buffer_redux.specs.BufWriter.{WritesInOrder, WriterStopped};
 ghost use Rattle.buffer_redux.specs.Faults.{IsMemory};
+ghost use Rattle.buffer_redux.specs.LineWriter.{line_rules};
 ghost use Rattle.buffer_redux.specs.LogGrows.{WriteLogGrows};
 ghost use Rattle.buffer_redux.specs.WriteAll.{TookBeginning};
+ghost use Rattle.codec.specs.WriteRuns.{CallRuns, CallsEach};
 ghost use Rattle.piece_reader.specs.KnownPieces.{BufferRefused};
 ghost use Rattle.line_reader.specs.Lines.{FitsLine, with_newline, with_newlines};
-ghost use Rattle.line_play.specs.WrittenLines.{StopsInLine};
+ghost use Rattle.line_play.specs.WrittenLines.{StopsInLine, WritesLine};
 
 use buffer_redux::LineWriter;
 use buffer_redux::tell::{MemoryReader, MemoryWriter, TellWrite};
@@ -19,7 +21,7 @@ use std::io::Write;
 
 /// Writes each line, and its end, up to the first `Err`, which is one of the inner writer, and says how many lines were taken in
 /// before. A beginning of the next one may have been too, and no call tells how much: who goes on with that line may write this
-/// beginning twice. Nothing is flushed.
+/// beginning twice. Nothing is flushed, and the buffer doesn't grow.
 pub fn write_each<W: TellWrite>(
     writer: &mut LineWriter<W>,
     lines: &[Vec<u8>],
@@ -27,8 +29,11 @@ pub fn write_each<W: TellWrite>(
     ensures written { OnOk result (WritesInOrder writer.old (with_newlines (map (λ v. v.items) lines.now)) writer.new) }
     ensures stopped { IfErr result (λ e.
         StopsInLine (map (λ v. v.items) lines.now) e.taken writer.old writer.new) }
+    ensures calls { CallsEach (WritesLine W.log W.trace line_rules) (CallRuns (WritesLine W.log W.trace line_rules))
+        writer.old (map (λ v. v.items) lines.now) result writer.new }
     ensures caused { IfErr result (λ e. WriterStopped writer.old.log.writes writer.new.log.writes e.error) }
     ensures not_flushed { writer.new.log.writes.flushed ≡ writer.old.log.writes.flushed }
+    ensures capacity { writer.new.block.capacity ≡ writer.old.block.capacity }
     ensures trace { W.trace writer.old.inner writer.new.inner }
 {
     let mut taken = 0usize;
@@ -50,6 +55,8 @@ fn write_line<W: TellWrite>(writer: &mut LineWriter<W>, line: &[u8]) -> io::Resu
     ensures caused { IfErr result (WriterStopped writer.old.log.writes writer.new.log.writes) }
     ensures grows { WriteLogGrows writer.old.log.writes writer.new.log.writes }
     ensures not_flushed { writer.new.log.writes.flushed ≡ writer.old.log.writes.flushed }
+    ensures calls { WritesLine W.log W.trace line_rules writer.old line.now result writer.new }
+    ensures capacity { writer.new.block.capacity ≡ writer.old.block.capacity }
     ensures trace { W.trace writer.old.inner writer.new.inner }
 {
     writer.write_all(line)?;
