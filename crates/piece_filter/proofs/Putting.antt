@@ -32,6 +32,26 @@ module _ {W : Type 0} (tells : W → StreamLog) (trace : W → W → Type 0) (m 
       idle : (n : ℕ) → n ≡ 0 → min n n ≡ 0
       idle n none = rw none refl
 
+-- where parts were refused the capacity is still the same
+module _ {W : Type 0} (tells : W → StreamLog) (trace : W → W → Type 0) (m t : Buffered W StdPolicy) (e : Error) where
+  place_kept : (count : ℕ) → MakesPlace tells trace count m (Err e) t → t.block.capacity ≡ m.block.capacity
+  place_kept count place = by_sending place.sending place.left place.sent (Err e) place.ended
+    where
+      by_sending : (sending : Result (Unit {0}) Error) (left : Buffered W StdPolicy) → WasSent tells trace m sending left
+          → (answer : Result (Unit {0}) Error) → MatchResult sending
+          (λ _. MatchResult answer (λ _. Reserves count left.block t.block × (t ≡ with_block left t.block))
+          (λ e. GrowthFailed count left.block e × (t ≡ left)))
+          (λ e. (answer ≡ Err e) × (t ≡ left)) → OnErr answer (t.block.capacity ≡ m.block.capacity)
+      by_sending sending left sent (Ok _) ended = tt
+      by_sending (Ok _) left sent (Err e) (failed, same) = ap (λ x. x.block.capacity) same ∙ sent.capacity
+      by_sending (Err e) left sent (Err x) (is, same) = ap (λ x. x.block.capacity) same ∙ sent.capacity
+
+  parts_kept : (bytes : List ℕ) → WritesParts tells trace m bytes (Err e) t → t.block.capacity ≡ m.block.capacity
+  parts_kept bytes p = elim (cases_lt (usable m.block) (length bytes)) [
+    | inl few ↦ place_kept (min (length bytes) (2 ^ 64 - 1)) (p.full few)
+    | inr fit ↦ absurd (true≢false (sym (fit_in tells trace m bytes (Err e) t p fit).0))
+  ]
+
 -- a writer that told nothing caused no error
 caused_none : (old new : WriteLog) (e : Error) → new ≡ old → ¬ (SendErrorCaused old new e)
 caused_none old new e same caused = elim caused.cause [
@@ -103,7 +123,8 @@ module _ {W : Type 0} (tells : W → StreamLog) (trace : W → W → Type 0) (s 
   module _ (m : Buffered W StdPolicy) (order : WritesInOrder s [] m) (met : MetInterrupts s.log.writes m.log.writes)
       (not_flushed : m.log.writes.flushed ≡ s.log.writes.flushed) (flushes : m.log.writes.flushes ≡ s.log.writes.flushes)
       (told : t.log ≡ m.log) (kept : length bytes ≤ s.block.capacity → t.block.capacity ≡ s.block.capacity)
-      (limit : t.block.limit ≡ s.block.limit) (grown : t.block.capacity ≤ s.block.capacity + length bytes + 4095) where
+      (limit : t.block.limit ≡ s.block.limit) (grown : t.block.capacity ≤ s.block.capacity + length bytes + 4095)
+      (same : m.block.capacity ≡ s.block.capacity) where
     met_still : MetInterrupts s.log.writes t.log.writes
     met_still = subst (λ l. MetInterrupts s.log.writes l.writes) (sym told) met
 
@@ -126,6 +147,7 @@ module _ {W : Type 0} (tells : W → StreamLog) (trace : W → W → Type 0) (s 
       caused = tt;
       kept = kept;
       grown = grown;
+      refused = tt;
       limit = limit;
       not_flushed = ap (λ l. l.writes.flushed) told ∙ not_flushed;
       flushes = ap (λ l. l.writes.flushes) told ∙ flushes;
@@ -140,6 +162,7 @@ module _ {W : Type 0} (tells : W → StreamLog) (trace : W → W → Type 0) (s 
       caused = refused e empty p.caused;
       kept = kept;
       grown = grown;
+      refused = parts_kept tells trace m t e bytes p ∙ same;
       limit = limit;
       not_flushed = ap (λ l. l.writes.flushed) told ∙ not_flushed;
       flushes = ap (λ l. l.writes.flushes) told ∙ flushes;
@@ -157,7 +180,7 @@ module _ {W : Type 0} (tells : W → StreamLog) (trace : W → W → Type 0) (s 
       puts m order (subst (λ l. MetInterrupts s.log.writes l.writes) (sym same) (MetInterrupts-none s.log.writes))
       (ap (λ l. l.writes.flushed) same) (ap (λ l. l.writes.flushes) same) there.1
       (λ _. (p.fits fit).1.added.capacity ∙ room.capacity) (WritesParts-limit tells trace m t bytes answer p ∙ room.limit)
-      (omega (arith, (p.fits fit).1.added.capacity, room.capacity)) answer (λ _. (there.0, there.1 ∙ same))
+      (omega (arith, (p.fits fit).1.added.capacity, room.capacity)) room.capacity answer (λ _. (there.0, there.1 ∙ same))
       (λ few. absurd (omega (arith, fits, few))) (λ few. absurd (omega (arith, fits, few))) (never answer there.0) p
     where
       never : (answer : Result (Unit {0}) Error) → IsOk answer → OnErr answer (t.block.bytes ≡ [])
@@ -175,7 +198,8 @@ module _ {W : Type 0} (tells : W → StreamLog) (trace : W → W → Type 0) (s 
       (ap (λ l. l.writes.flushed) same ∙ sent.not_flushed) (ap (λ l. l.writes.flushes) same ∙ sent.sends.sent.flushes)
       told (λ small. (p.fits (space small)).1.added.capacity ∙ room.capacity ∙ sent.capacity)
       (WritesParts-limit tells trace m t bytes answer p ∙ room.limit ∙ sent.sends.sent.dropped.limit)
-      (omega (arith, parts_bound tells trace m empty bytes answer t p, room.capacity, sent.capacity)) answer
+      (omega (arith, parts_bound tells trace m empty bytes answer t p, room.capacity, sent.capacity))
+      (room.capacity ∙ sent.capacity) answer
       (λ fit. absurd (omega (arith, fit, few))) (λ _. kept answer p) (λ _. once) (nothing answer p) p
     where
       empty : m.block.bytes ≡ []

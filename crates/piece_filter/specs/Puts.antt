@@ -1,5 +1,5 @@
 -- Bytes that a buffered writer takes in, all of them or none.
-use Rattle.std.specs.Prelude.{◌≡◌, ℕ, ◌+◌, ◌<◌, ◌≤◌, ◌⊎◌, List, [], length, Result, Err, MatchResult, IfErr, IsOk, OnOk}
+use Rattle.std.specs.Prelude.{◌≡◌, ℕ, ◌+◌, ◌<◌, ◌≤◌, ◌⊎◌, List, [], length, Result, Err, MatchResult, IfErr, IsOk, OnErr, OnOk}
 use Rattle.std.specs.declared.io.Error.{Error}
 use Rattle.buffer_redux.specs.BufWriter.{WritesInOrder}
 use Rattle.buffer_redux.specs.Block.{Block, IsBlock}
@@ -25,7 +25,7 @@ pub record SendsOnce {W P : Type 0} (s : Buffered W P) (count : ℕ) (answer : R
 
 -- all of these bytes were taken in, or nothing, and nothing was flushed. Where they fit the inner writer isn't called, and else
 -- what was buffered is sent first, once. The buffer grows only where they are more than its capacity, and then by so many at
--- most, but for what rounds up to pages
+-- most, but for what rounds up to pages; at an `Err` it has its capacity still
 pub record Puts {W : Type 0} (s : Buffered W StdPolicy) (bytes : List ℕ) (answer : Result (Unit {0}) Error)
     (t : Buffered W StdPolicy) : Type 0 where
   pub taken : MatchResult answer (λ _. WritesInOrder s bytes t) (λ e. WritesInOrder s [] t)
@@ -36,6 +36,7 @@ pub record Puts {W : Type 0} (s : Buffered W StdPolicy) (bytes : List ℕ) (answ
   pub caused : IfErr answer (λ e. SendErrorCaused s.log.writes t.log.writes e ⊎ IsRoomRefused (length bytes) e t)
   pub kept : length bytes ≤ s.block.capacity → t.block.capacity ≡ s.block.capacity
   pub grown : t.block.capacity ≤ s.block.capacity + length bytes + 4095
+  pub refused : OnErr answer (t.block.capacity ≡ s.block.capacity)
   pub limit : t.block.limit ≡ s.block.limit
   pub not_flushed : t.log.writes.flushed ≡ s.log.writes.flushed
   pub flushes : t.log.writes.flushes ≡ s.log.writes.flushes
