@@ -22,7 +22,7 @@ use Rattle.chunked.specs.declared.place.Place.TheVariants.{Line}
 use Rattle.forward.specs.declared.error.AskError.{AskError}
 use Rattle.programs.specs.FlushesLaws.{SendsByOneFlush-flush}
 use Rattle.programs.specs.PromptLaws.{WritesOn-grows, WritesOn-unflushed}
-use Rattle.bodies.specs.Words.{Error, WasFlushed, WritesInOrder, Buffered, std_read_rules, StreamLog, StdPolicy, BodyWent, IsBodyOfChunks, IsBodyReader, IsStill-same, TookWholeBody, LooksBehind, ReadsPayload, chunked, handed_of, taken_count, AskAnswers, FilterAsks, FlushAnswers, FilterFlushes, FilterRules, NeverGaveNothing, FilterPasses, taken_more, RunError}
+use Rattle.bodies.specs.Words.{Error, frees_received, WasFlushed, WritesInOrder, Buffered, std_read_rules, StreamLog, StdPolicy, BodyWent, IsBodyOfChunks, IsBodyReader, IsStill-same, TookWholeBody, LooksBehind, ReadsPayload, chunked, handed_of, taken_count, AskAnswers, FilterAsks, FlushAnswers, FilterFlushes, FilterRules, NeverGaveNothing, FilterPasses, taken_more, RunError}
 use Rattle.bodies.specs.Decode.{IsDue}
 use Rattle.bodies.specs.Decoding.{ChunkedState, HandsPayloadPieces, HoldsPiece, IsPieceTarget, MayDecode, NoneBuffered, WritesPayload, ask_error, decoding_rules, end_answer, held_payload}
 use Rattle.bodies.specs.Decoding as Source
@@ -153,6 +153,7 @@ module _ {R W : Type 0} (remaining : R → Option (List ℕ)) (s : Decoding R W)
             },
             inl wrote.answers.1,
             omega arith,
+            omega (arith, frees_received s.target v 0 wrote.answers.0 wrote.capacity),
           );
         }
 

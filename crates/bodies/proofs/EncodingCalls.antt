@@ -16,7 +16,7 @@ use Rattle.forward.specs.declared.error.AskError.{AskError}
 use Rattle.programs.specs.FlushesLaws.{flushed_once, SendsByOneFlush-flush}
 use Rattle.programs.specs.PromptLaws.{WritesOn-grows, WritesOn-joins, WritesOn-unflushed}
 use Rattle.programs.specs.StreamsLaws.{MetInterrupts-none}
-use Rattle.bodies.specs.Words.{around, AskAnswers, FilterAsks, body_end, Buffered, chunk, ChunkedWriterState, ChunksWent, Error, Fills, FilterRules, FlushAnswers, FilterFlushes, IsChunkedWriter, IsStill, IsStill-same, line_end, MetInterrupts, MetInterrupts-joins, FilterPasses, PutsIn, ReadsAlong, room, RunError, SendErrorCaused-after, SendsFirst, size_digits, std_read_rules, StdPolicy, StreamLog, taken_more, WasFlushed, WritesChunk, WritesInOrder, AllSent, SendErrorCaused}
+use Rattle.bodies.specs.Words.{around, frees_received, AskAnswers, FilterAsks, body_end, Buffered, chunk, ChunkedWriterState, ChunksWent, Error, Fills, FilterRules, FlushAnswers, FilterFlushes, IsChunkedWriter, IsStill, IsStill-same, line_end, MetInterrupts, MetInterrupts-joins, FilterPasses, PutsIn, ReadsAlong, room, RunError, SendErrorCaused-after, SendsFirst, size_digits, std_read_rules, StdPolicy, StreamLog, taken_more, WasFlushed, WritesChunk, WritesInOrder, AllSent, SendErrorCaused}
 use Rattle.bodies.specs.Encode.{EndsBody}
 use Rattle.bodies.specs.Encoding.{encoding_rules, MayEncode}
 use Rattle.bodies.specs.Filters.{Asked}
@@ -193,6 +193,7 @@ module _ {R W : Type 0} (remaining : R → Option (List ℕ)) (tells : W → Str
             record { hands = ReadsAlong-none remaining std_read_rules s.source; takes = chunks },
             inl failed.caused,
             omega arith,
+            frees_received s.target.writer c.writer around failed.in_order failed.capacity,
           );
         }
 

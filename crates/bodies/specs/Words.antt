@@ -17,5 +17,5 @@ pub use Rattle.chunked.specs.declared.limits.Limits.{Limits}
 pub use Rattle.forward.specs.Filter.{AskAnswers, AsksSent, FilterAsks, FilterFlushes, FilterPasses, FilterRules, FlushAnswers, IsLawful, Moves, NeverGaveNothing, StaysOpen}
 pub use Rattle.programs.specs.Prompt.{AskedLast, AsksGiveOrFail, HoldsNothingBack, WritesOn}
 pub use Rattle.programs.specs.Streams.{AllSent, EndsOnce, GaveNothing, MetNoFault, OverCount, ReadFailed, ReceivedFlushed, RefusedBeforeCalls, WriterFailed}
-pub use Rattle.programs.specs.TakenIn.{IsStill, IsStill-same, sent_all, taken_in, taken_more}
+pub use Rattle.programs.specs.TakenIn.{IsStill, IsStill-same, frees_received, sent_all, taken_in, taken_more}
 pub use Rattle.std.specs.declared.io.Error.{Error}

@@ -1,7 +1,7 @@
 -- What a call says first.
-use Rattle.std.proofs.Common.{◌≡◌, ℕ, List, [], ◌∷◌, length, Bool, true, false, if◌then◌else◌, Result, Ok, Err, IfOk, MatchResult, OnOk, refl}
+use Rattle.std.proofs.Common.{◌≡◌, ℕ, List, [], ◌∷◌, length, Bool, true, false, if◌then◌else◌, Result, Ok, Err, IfOk, MatchResult, refl}
 use Rattle.std.specs.declared.io.Error.{Error}
-use Rattle.forward.specs.Filter.{FilterFlushes, FilterPasses, FilterRules}
+use Rattle.forward.specs.Filter.{FilterPasses, FilterRules}
 use Rattle.forward.specs.Forward.{Forwards, StopsBy}
 use Rattle.forward.specs.Link.{Linked}
 use Rattle.forward.specs.declared.error.Cause.{Cause}

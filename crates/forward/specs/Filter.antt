@@ -74,8 +74,14 @@ module _ {T W : Type 0} (rules : FilterRules T W) where
       ⊎ (((rules.written t).writes.flushes ≡ (rules.written s).writes.flushes + 1)
       × (rules.taken s ≤ length (rules.written t).writes.received))
 
+  -- the writer was given no memory: no more is free than before, but for what was received
+  abbrev pub GivesNoMemory : T → T → Type 0
+  GivesNoMemory s t = rules.room t + length (rules.written s).writes.received
+      ≤ rules.room s + length (rules.written t).writes.received
+
   -- what an answer of `pass` says. Something was taken in, but for a payload that was dropped; where there was room for it, the
-  -- writer was let be, as where there was none. Where the writer failed, or one was refused, no more are lost than may be
+  -- writer was let be, as where there was none. Where the writer failed, or one was refused, no more are lost than may be, and
+  -- the writer was given no memory
   abbrev pub PassAnswers : T → Result Bool Error → T → Type 0
   PassAnswers s (Ok true) t =
       (payload : List ℕ) × Moves s (payload ∷ []) (payload ∷ []) t × WritesOnlyInterrupted s t
@@ -86,7 +92,7 @@ module _ {T W : Type 0} (rules : FilterRules T W) where
       × rules.still s t
   PassAnswers s (Err e) t =
       (lost : List (List ℕ)) × Moves s lost [] t × (FailedToWrite e s t ⊎ rules.refused e t)
-      × (length lost ≤ rules.loses)
+      × (length lost ≤ rules.loses) × GivesNoMemory s t
 
   -- what `pass` does: the stream that is read from isn't asked
   pub record FilterPasses (s : T) (answer : Result Bool Error) (t : T) : Type 0 where

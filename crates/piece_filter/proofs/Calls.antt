@@ -68,7 +68,7 @@ module _ {R D X A W N : Type 0} (remaining : R → Option (List ℕ)) (grammar :
         let t : Answering R D W A X N = record s { target = v; service = b; sent = false } in
         let holds = ap (λ h. held_at s.source h) held in
         pieces.lost remaining f ready t puts.not_flushed puts.flushes [] (omega arith)
-        (pieces.took_none remaining f ready t refl (λ sent. absurd (true≢false (sym sent))) refl) same puts.taken e
+        (pieces.took_none remaining f ready t refl (λ sent. absurd (true≢false (sym sent))) refl) same puts.taken puts.refused e
         (elim puts.caused [
           | inl failed ↦ inl failed
           | inr room ↦ inr (payload, reply, after, holds, subst (λ a. Answers a payload reply after) (sym same) is, room)
@@ -100,7 +100,7 @@ module _ {R D X A W N : Type 0} (remaining : R → Option (List ℕ)) (grammar :
       answers_behind t (Ok true) (p, moves, met, some, still) = (p, joins t (p ∷ []) (p ∷ []) moves, met, some, still)
       answers_behind t (Ok false) (moves, met, none, isnt, sent, still) =
           (joins t [] [] moves, met, none, λ has. has lacks, sent, still)
-      answers_behind t (Err e) (lost, moves, caused, few) = (lost, joins t lost [] moves, caused, few)
+      answers_behind t (Err e) (lost, moves, caused, few, none) = (lost, joins t lost [] moves, caused, few, none)
 
       pub passes_behind : (t : Answering R D W A X N) (answer : Result Bool Error) → FilterPasses rules (holding span) answer t
           → FilterPasses rules s answer t

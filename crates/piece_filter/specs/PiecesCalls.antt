@@ -25,7 +25,7 @@ use Rattle.forward.specs.declared.error.AskError.{AskError}
 use Rattle.programs.specs.FlushesLaws.{SendsByOneFlush-flush}
 use Rattle.programs.specs.PromptLaws.{WritesOn-unflushed}
 use Rattle.programs.specs.Streams.{AllSent}
-use Rattle.programs.specs.TakenIn.{IsStill, IsStill-same, taken_more}
+use Rattle.programs.specs.TakenIn.{IsStill, IsStill-same, frees_received, taken_more}
 use Rattle.piece_filter.specs.Pieces.{CanShow, HandsPieces, HasEnded, IsReady, Keeps, Piecewise, TakesReplies, grammar_of, held_at, held_of, piece_rules}
 use Rattle.piece_filter.specs.PiecesLaws.{answers_one, gave_but_failed, hands_nothing, hands_one, none_held, takes_nothing}
 
@@ -163,15 +163,21 @@ module _ {T R D X A W E : Type 0} (remaining : R → Option (List ℕ)) (f : Pie
     }
 
     pub lost : (p : List (List ℕ)) → length p ≤ f.loses → Took p → f.service t ≡ f.service s
-        → WritesInOrder (f.target s) [] (f.target t) → (e : Error)
+        → WritesInOrder (f.target s) [] (f.target t) → (f.target t).block.capacity ≡ (f.target s).block.capacity → (e : Error)
         → SendErrorCaused (f.target s).log.writes (f.target t).log.writes e ⊎ f.refused e t → FilterPasses rules s (Err e) t
-    lost p few took same taken e caused = record {
+    lost p few took same taken kept e caused = record {
       told = took.told;
       ready = took.leaves;
       closed = took.closed;
       writes = WritesOn-unflushed (f.target s) (f.target t) [] taken unflushed;
       flushes = steady;
-      answers = (p, record { hands = took.hands; takes = takes_nothing remaining f s t same taken }, caused, few);
+      answers = (
+        p,
+        record { hands = took.hands; takes = takes_nothing remaining f s t same taken },
+        caused,
+        few,
+        omega (arith, frees_received (f.target s) (f.target t) 0 taken kept),
+      );
     }
 
   -- all was flushed, or not

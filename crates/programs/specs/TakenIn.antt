@@ -1,5 +1,5 @@
 -- What a buffered writer took in, whether or not it was received.
-use Rattle.std.proofs.Common.{◌≡◌, ℕ, ◌+◌, List, [], ◌++◌, length, length-append, sym, ap, subst, ◌∙◌, arith, append-nil}
+use Rattle.std.proofs.Common.{◌≡◌, ℕ, ◌+◌, ◌-◌, ◌≤◌, List, [], ◌++◌, length, length-append, sym, ap, subst, ◌∙◌, arith, append-nil}
 use Rattle.buffer_redux.specs.BufWriter.{WritesInOrder}
 use Rattle.buffer_redux.specs.Buffered.{Buffered}
 use Rattle.buffer_redux.specs.GoesOn.{GoesOn, GoesOn-none}
@@ -43,3 +43,16 @@ module _ {W P : Type 0} (u v : Buffered W P) (accepted : List ℕ) (taken : Writ
     length-append taken.sent v.block.bytes,
     length-append u.block.bytes accepted,
   )
+
+-- where nothing was taken in, and the capacity stayed, no more is free than before, but for what was received
+pub frees_received : {W P : Type 0} (u v : Buffered W P) (less : ℕ) → WritesInOrder u [] v
+    → v.block.capacity ≡ u.block.capacity
+    → v.block.capacity - length v.block.bytes - less + length u.log.writes.received
+    ≤ u.block.capacity - length u.block.bytes - less + length v.log.writes.received
+frees_received u v less taken same = omega (
+  arith,
+  same,
+  taken_more u v [] taken,
+  ap length taken.received,
+  length-append u.log.writes.received taken.sent,
+)

@@ -18,7 +18,7 @@ returns-in_err-write_line g c =
     rw (p.1, p.2) (lost g.R.TellRead.remaining packing ready t wrote.not_flushed wrote.flushes [] (omega arith)
     (took_none g.R.TellRead.remaining packing ready t refl
     (lines_on c.args.filter.now t ready.also refl wrote.none.encoder ready.also.open' ready.also.fits) refl) refl
-    wrote.none.in_order _ (inl wrote.caused))
+    wrote.none.in_order wrote.none.capacity _ (inl wrote.caused))
 
 pub returns : goal.returns
 returns g c =

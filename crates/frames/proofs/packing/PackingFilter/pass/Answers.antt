@@ -23,7 +23,7 @@ returns-in_err-write_line-in-Some-next_buffered g c =
     rw (p.1, p.2) (lost g.R.TellRead.remaining packing c.requires t wrote.not_flushed wrote.flushes (line ∷ []) (omega arith)
     (took_next g.R.TellRead.remaining packing c.requires t none none
     (lines_on c.args.self.now t c.requires.also next.0.0.went.decoder wrote.none.encoder next.0.1 (none_fits m _ none))
-    line next.0.0 next.1) refl wrote.none.in_order _
+    line next.0.0 next.1) refl wrote.none.in_order wrote.none.capacity _
     (inl wrote.caused))
 
 pub returns-in_ok-write_line-in-Some-next_buffered : goal.returns-in_ok-write_line-in-Some-next_buffered

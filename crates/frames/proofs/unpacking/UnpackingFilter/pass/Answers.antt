@@ -17,7 +17,8 @@ returns-in_err-print_line g c =
     let frames = c.requires.also in
     rw (p.1, p.2) (lost g.R.TellRead.remaining unpacking c.requires t wrote.not_flushed wrote.flushes [] (omega arith)
     (took_none g.R.TellRead.remaining unpacking c.requires t refl
-    (frames_on c.args.self.now t frames refl frames.told wrote.kind wrote.capacity) refl) refl wrote.none _ (inl wrote.caused))
+    (frames_on c.args.self.now t frames refl frames.told wrote.kind wrote.capacity) refl) refl wrote.none wrote.capacity _
+    (inl wrote.caused))
 
 pub returns-in-Some : goal.returns-in-Some
 returns-in-Some g c =
@@ -45,7 +46,7 @@ returns-in_err-print_line-in-Some-next_buffered g c =
     rw (p.1, p.2) (lost g.R.TellRead.remaining unpacking c.requires t wrote.not_flushed wrote.flushes
     (some.payload.now ∷ []) (omega arith) (took_next g.R.TellRead.remaining unpacking c.requires t none none
     (frames_on s t c.requires.also next.0.went.decoder (NextPiece-reads g.R.TellRead.remaining s.source m _ next.0).told
-    wrote.kind wrote.capacity) some.payload.now next.0 next.1) refl wrote.none _ (inl wrote.caused))
+    wrote.kind wrote.capacity) some.payload.now next.0 next.1) refl wrote.none wrote.capacity _ (inl wrote.caused))
 
 pub returns-in_ok-print_line-in-Some-next_buffered : goal.returns-in_ok-print_line-in-Some-next_buffered
 returns-in_ok-print_line-in-Some-next_buffered g c =
