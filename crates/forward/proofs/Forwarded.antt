@@ -1,17 +1,18 @@
 -- What `forward` does for all payloads.
 use Rattle.std.proofs.Common.{inl, inr, ◌≡◌, ◌⊎◌, ℕ, ◌+◌, ◌^◌, ◌≤◌, length, Bool, true, false, Result, Ok, Err, refl, ◌∙◌, arith}
+use Rattle.std.proofs.lemmas.List.Elements.{All-nil}
 use Rattle.std.specs.Option.{option_map_or}
 use Rattle.std.specs.Result.{result_err}
 use Rattle.forward.specs.Filter.{AsksOnce, FilterRules, IsLawful}
 use Rattle.forward.specs.Flushes.{FlushesSend}
 use Rattle.forward.specs.Forward.{Forwards, flushed_last}
-use Rattle.forward.specs.Link.{Ask, Goes, IsPrompt, Linked}
+use Rattle.forward.specs.Link.{Ask, EndsInterrupted, Goes, IsPrompt, Linked}
 use Rattle.forward.specs.Steps.{AlsoAsked, AskedFrom, AskedTo, ForwardsNext, StepAnswers}
 use Rattle.forward.specs.StreamsLaws.{MetNoFault-none}
 use Rattle.forward.specs.declared.error.Cause.{Cause}
 use Rattle.forward.specs.declared.error.Cause.TheVariants.{Count}
 use Rattle.forward.proofs.Between.{Paced, SoFar}
-use Rattle.forward.proofs.Forwarding.{answers_on, goes_on, once_on}
+use Rattle.forward.proofs.Forwarding.{answers_on, goes_on, once_on, whole_on}
 use Rattle.forward.proofs.Moving.{AsksOnce-none, Goes-none, Goes-weaker, Moves-none, Moves-on, none_forwarded, StaysOpen-joins, StaysOpen-none}
 
 module _ {T W : Type 0} (rules : FilterRules T W) (lawful : IsLawful rules) where
@@ -22,6 +23,7 @@ module _ {T W : Type 0} (rules : FilterRules T W) (lawful : IsLawful rules) wher
     pub so_far_none : rules.ready first.filter → SoFar rules Prompt 0 first first
     so_far_none ready = record {
       goes = Goes-none rules (AlsoAsked rules Prompt) first;
+      whole = All-nil (λ turn. ¬ (EndsInterrupted rules turn));
       once = AsksOnce-none rules first.filter first.filter refl (λ closed. closed);
       still = StaysOpen-none rules first.filter first.filter refl;
       forwarded = none_forwarded rules lawful first.filter first.filter (Moves-none rules lawful first.filter);
@@ -87,7 +89,7 @@ module _ {T W : Type 0} (rules : FilterRules T W) (lawful : IsLawful rules) wher
           asked.asks
 
       module _ (answer : Result Bool (Cause W)) (next : ForwardsNext rules s answer t) where
-        all_goes : Goes rules (AskedTo rules answer Prompt) (option_map_or flushed_last (result_err answer) 0) first t
+        abbrev all_goes : Goes rules (AskedTo rules answer Prompt) (option_map_or flushed_last (result_err answer) 0) first t
         all_goes = goes_on rules lawful Prompt count first s t before prompt_of answer next
 
         all_once : AsksOnce rules first.filter t.filter
@@ -101,6 +103,7 @@ module _ {T W : Type 0} (rules : FilterRules T W) (lawful : IsLawful rules) wher
           let answers = all_answers (Ok true) next in
           record {
             goes = all_goes (Ok true) next;
+            whole = whole_on rules lawful Prompt count first s t before prompt_of (Ok true) next;
             once = all_once (Ok true) next;
             still = answers.2;
             forwarded = answers.0;

@@ -1,12 +1,13 @@
 -- What is done for one payload, behind those that went over before.
-use Rattle.std.proofs.Common.{inl, inr, length, ◌≡◌, ◌⊎◌, ℕ, ◌+◌, ◌≤◌, [], ◌∷◌, Bool, true, false, Result, Ok, Err, refl, sym, ap, subst, ◌∙◌, arith, length-append}
+use Rattle.std.proofs.Common.{inl, inr, length, ◌≡◌, ◌⊎◌, ℕ, ◌+◌, ◌≤◌, List, [], ◌∷◌, ◌++◌, Bool, true, false, Result, Ok, Err, refl, sym, ap, subst, ◌∙◌, arith, length-append}
+use Rattle.std.proofs.lemmas.List.Elements.{All-append, All-cons, All-nil}
 use Rattle.std.specs.Option.{option_map_or}
 use Rattle.std.specs.Result.{result_err}
 use Rattle.std.specs.declared.io.Error.{Error}
 use Rattle.redux_buffer.specs.Faults.{MetInterrupts, OnlyInterrupts, OnlyInterrupts-joins, OnlyInterrupts-same}
 use Rattle.forward.specs.Filter.{AsksOnce, FilterRules, FlushesOnce, IsLawful, Moves, StaysOpen, WasAsked, WritesOnlyInterrupted}
 use Rattle.forward.specs.Forward.{NoneFailed, flushed_last}
-use Rattle.forward.specs.Link.{Ask, Goes, LinkFlushes, LinkPasses, Linked, NotAsked}
+use Rattle.forward.specs.Link.{Ask, EndsInterrupted, Goes, LinkFlushes, LinkPasses, Linked, NoneGaveUp, NotAsked}
 use Rattle.forward.specs.Prompt.{WritesOn}
 use Rattle.forward.specs.Steps.{AlsoAsked, AskedFrom, AskedTo, ForwardsNext, GivesUp, GoesAhead, IsQuiet, OnTrue, ReadsOnlyInterrupted, StepAnswers, TakesTurn}
 use Rattle.forward.specs.Streams.{ReadGaveUp}
@@ -35,13 +36,13 @@ module _ {T W : Type 0} (rules : FilterRules T W) where
   )
 
   -- asks that came to an answer are such others
-  so_asked : {E : Type 0} (Such Other : Ask T → Type 0) → ((ask : Ask T) → Such ask → Other ask) → (answer : Result Bool E)
+  pub so_asked : {E : Type 0} (Such Other : Ask T → Type 0) → ((ask : Ask T) → Such ask → Other ask) → (answer : Result Bool E)
       (ask : Ask T) → AskedTo rules answer Such ask → AskedTo rules answer Other ask
   so_asked Such Other so (Ok true) ask is = (so ask is.0, is.1)
   so_asked Such Other so (Ok false) ask is = so ask is
   so_asked Such Other so (Err e) ask is = so ask is
 
-  also_asked : {E : Type 0} (Such : Ask T → Type 0) (answer : Result Bool E) (ask : Ask T) → AlsoAsked rules Such ask
+  pub also_asked : {E : Type 0} (Such : Ask T → Type 0) (answer : Result Bool E) (ask : Ask T) → AlsoAsked rules Such ask
       → AskedTo rules answer Such ask × WasAsked rules ask.before ask.after
   also_asked Such (Ok true) ask is = (is, is.1)
   also_asked Such (Ok false) ask is = is
@@ -104,14 +105,25 @@ module _ {T W : Type 0} (rules : FilterRules T W) where
       )
       behind (Err Count) once next = absurd (omega (arith, next.1))
 
+      whole : (answer : Result Bool (Cause W)) (turns : List (List (Ask T))) → OnTrue rules answer (NoneGaveUp rules turns)
+          → OnTrue rules answer (NoneGaveUp rules (before.goes.turns.turns ++ turns))
+      whole (Ok true) turns next =
+          All-append (λ turn. ¬ (EndsInterrupted rules turn)) before.goes.turns.turns turns before.whole next
+      whole (Ok false) turns next = tt
+      whole (Err cause) turns next = tt
+
       module _ (answer : Result Bool (Cause W)) (next : ForwardsNext rules s answer t) where
-        pub goes_on : Goes rules (AskedTo rules answer Such) (option_map_or flushed_last (result_err answer) 0) first t
+        abbrev pub goes_on : Goes rules (AskedTo rules answer Such) (option_map_or flushed_last (result_err answer) 0) first t
         goes_on =
             let more = option_map_or flushed_last (result_err answer) 0 in
             Goes-joins rules (AskedTo rules answer Such) (AlsoAsked rules Such) (also_asked Such answer) more
-            first s t before.goes
+            first s t before.goes before.whole
             (Goes-weaker rules (AskedTo rules answer (AskedFrom rules s.filter)) (AskedTo rules answer Such)
             (so_asked (AskedFrom rules s.filter) Such so answer) more s t next.goes)
+
+        -- no turn gave up where a payload came
+        pub whole_on : OnTrue rules answer (NoneGaveUp rules goes_on.turns.turns)
+        whole_on = whole answer next.goes.turns.turns next.whole
 
         pub once_on : AsksOnce rules first.filter t.filter
         once_on = AsksOnce-joins rules first.filter s.filter t.filter before.once before.still next.once
@@ -150,7 +162,7 @@ module _ {T W : Type 0} (rules : FilterRules T W) where
       unread told = OnlyInterrupts-same (rules.read s.filter).reads.faults (rules.read m.filter).reads.faults
           (ap (λ l. l.reads.faults) told)
 
-      unasked : (Such : Ask T → Type 0) (more : ℕ) (answer : Result Bool Error) → LinkPasses rules s answer m
+      abbrev unasked : (Such : Ask T → Type 0) (more : ℕ) (answer : Result Bool Error) → LinkPasses rules s answer m
           → Goes rules Such more s m
       unasked Such more answer p =
           Goes-unasked rules Such more s m (record { told = p.passes.told; writes = p.passes.writes }) p.noted
@@ -162,6 +174,7 @@ module _ {T W : Type 0} (rules : FilterRules T W) where
       pub passed : LinkPasses rules s (Ok true) m → ForwardsNext rules s (Ok true) m
       passed p = record {
         goes = unasked (AlsoAsked rules (AskedFrom rules s.filter)) 0 (Ok true) p;
+        whole = All-nil (λ turn. ¬ (EndsInterrupted rules turn));
         once = unasked_once (Ok true) p;
         flushes = inl p.passes.flushes;
         quiet = λ drops sent. p.passes.flushes;
@@ -178,6 +191,7 @@ module _ {T W : Type 0} (rules : FilterRules T W) where
       pub not_passed : (e : Error) → LinkPasses rules s (Err e) m → ForwardsNext rules s (Err (Write e)) m
       not_passed e p = record {
         goes = unasked (AskedFrom rules s.filter) 1 (Err e) p;
+        whole = tt;
         once = unasked_once (Err e) p;
         flushes = inl p.passes.flushes;
         quiet = λ drops sent. p.passes.flushes;
@@ -196,6 +210,7 @@ module _ {T W : Type 0} (rules : FilterRules T W) where
       none_passed : (Such : Ask T → Type 0) → LinkPasses rules s (Ok false) m → SoFar rules Such 0 s m
       none_passed Such p = record {
         goes = unasked (AlsoAsked rules Such) 0 (Ok false) p;
+        whole = All-nil (λ turn. ¬ (EndsInterrupted rules turn));
         once = unasked_once (Ok false) p;
         still = StaysOpen-none rules s.filter m.filter p.passes.told;
         forwarded = none_forwarded rules lawful s.filter m.filter p.passes.answers.0;
@@ -212,6 +227,7 @@ module _ {T W : Type 0} (rules : FilterRules T W) where
           let less = lawful.taken_on s.filter m.filter [] p.passes.answers.0.takes in
           record {
             goes = goes_on Such 0 s m t before so answer next;
+            whole = whole_on Such 0 s m t before so answer next;
             once = once_on Such 0 s m t before so answer next;
             flushes = elim next.flushes [
               | inl same ↦ inl (same ∙ p.passes.flushes)
@@ -236,6 +252,7 @@ module _ {T W : Type 0} (rules : FilterRules T W) where
       not_flushed e p = record {
         goes = Goes-unasked rules (AskedFrom rules s.filter) 1 s m (flush_unasked (Err e) p) p.noted
             (once_more s.filter m.filter p.flushes.flushes);
+        whole = tt;
         once = flush_once (Err e) p;
         flushes = p.flushes.flushes;
         quiet = p.flushes.quiet;
@@ -254,7 +271,7 @@ module _ {T W : Type 0} (rules : FilterRules T W) where
       moves : Moves rules s.filter [] [] t.filter
       moves = Moves-on rules lawful s.filter m.filter t.filter [] [] p.flushes.moves turn.moves
 
-      goes : (more : ℕ) → Goes rules (AskedTo rules answer (AskedFrom rules s.filter)) more s t
+      abbrev goes : (more : ℕ) → Goes rules (AskedTo rules answer (AskedFrom rules s.filter)) more s t
       goes more = Goes-weaker rules (AskedTo rules answer (AskedFrom rules m.filter))
           (AskedTo rules answer (AskedFrom rules s.filter))
           (so_asked (AskedFrom rules m.filter) (AskedFrom rules s.filter)
@@ -295,12 +312,14 @@ module _ {T W : Type 0} (rules : FilterRules T W) where
 
       ended : (next : Result Bool (Cause W))
           → ((ask : Ask T) → AskedTo rules answer (AskedFrom rules s.filter) ask
-          → AskedTo rules next (AskedFrom rules s.filter) ask) → OnTrue rules next (GoesAhead rules s.filter t.filter)
+          → AskedTo rules next (AskedFrom rules s.filter) ask)
+          → OnTrue rules next (NoneGaveUp rules (turn.asks ∷ [])) → OnTrue rules next (GoesAhead rules s.filter t.filter)
           → StepAnswers rules 0 s.filter next t.filter → ForwardsNext rules s next t
-      ended next so more answers = record {
+      ended next so whole more answers = record {
         goes = Goes-weaker rules (AskedTo rules answer (AskedFrom rules s.filter))
             (AskedTo rules next (AskedFrom rules s.filter)) so (option_map_or flushed_last (result_err next) 0) s t
             (goes (option_map_or flushed_last (result_err next) 0));
+        whole = whole;
         once = once;
         flushes = flushes;
         quiet = quiet;
@@ -312,7 +331,7 @@ module _ {T W : Type 0} (rules : FilterRules T W) where
 
     module _ (s m t : Linked T) (p : LinkFlushes rules s (Ok tt) m) where
       pub no_more : TakesTurn rules m (Ok false) t → ForwardsNext rules s (Ok false) t
-      no_more turn = ended s m t p (Ok false) turn (Ok false) (λ ask is. is) tt (
+      no_more turn = ended s m t p (Ok false) turn (Ok false) (λ ask is. is) tt tt (
         none_forwarded rules lawful s.filter t.filter (moves s m t p (Ok false) turn),
         lawful.ends_after s.filter m.filter t.filter [] (Ok tt) p.flushes.moves.hands
             (StaysOpen-none rules s.filter m.filter p.flushes.told) turn.answers.0,
@@ -321,7 +340,7 @@ module _ {T W : Type 0} (rules : FilterRules T W) where
       )
 
       pub wrong_next : (why : W) → TakesTurn rules m (Err (asked.Wrong why)) t → ForwardsNext rules s (Err (Wrong why)) t
-      wrong_next why turn = ended s m t p (Err (asked.Wrong why)) turn (Err (Wrong why)) (λ ask is. is) tt (
+      wrong_next why turn = ended s m t p (Err (asked.Wrong why)) turn (Err (Wrong why)) (λ ask is. is) tt tt (
         none_forwarded rules lawful s.filter t.filter (moves s m t p (Err (asked.Wrong why)) turn),
         lawful.ends_after s.filter m.filter t.filter [] (Err why) p.flushes.moves.hands
             (StaysOpen-none rules s.filter m.filter p.flushes.told) turn.answers.0,
@@ -331,7 +350,7 @@ module _ {T W : Type 0} (rules : FilterRules T W) where
 
       not_read : (why : AskError W) (e : Error) → TakesTurn rules m (Err why) t → GivesUp rules m.filter e t.filter
           → ForwardsNext rules s (Err (Read e)) t
-      not_read why e turn up = ended s m t p (Err why) turn (Err (Read e)) (λ ask is. is) tt (
+      not_read why e turn up = ended s m t p (Err why) turn (Err (Read e)) (λ ask is. is) tt tt (
         none_forwarded rules lawful s.filter t.filter (moves s m t p (Err why) turn),
         up.0,
         turn.sent,
@@ -353,6 +372,8 @@ module _ {T W : Type 0} (rules : FilterRules T W) where
         came : SoFar rules (AskedFrom rules s.filter) 0 s t
         came = record {
           goes = goes s m t p (Ok true) turn 0;
+          whole = All-cons (λ turn. ¬ (EndsInterrupted rules turn)) turn.asks [] turn.whole
+              (All-nil (λ turn. ¬ (EndsInterrupted rules turn)));
           once = once s m t p (Ok true) turn;
           still = StaysOpen-joins rules s.filter m.filter t.filter (StaysOpen-none rules s.filter m.filter p.flushes.told)
               turn.once turn.answers.2;
@@ -368,6 +389,7 @@ module _ {T W : Type 0} (rules : FilterRules T W) where
             let so = asked_after s.filter t.filter (moves s m t p (Ok true) turn) came.once came.still in
             record {
               goes = goes_on Such 0 s t u came so answer next;
+              whole = whole_on Such 0 s t u came so answer next;
               once = once_on Such 0 s t u came so answer next;
               flushes = elim (flushes s m t p (Ok true) turn) [
                 | inl same ↦ inl (unflushed ∙ same)

@@ -4,7 +4,7 @@ use Rattle.std.proofs.lemmas.Grind.{flat_map-append}
 use Rattle.std.proofs.lemmas.List.Elements.{All-append, All-cons, All-head, All-nil, All-tail, All-weaker}
 use Rattle.forward.specs.Filter.{AsksOnce, FilterRules, IsLawful, Moves, StaysOpen, WasAsked}
 use Rattle.forward.specs.Forward.{Forwarded, ForwardedFirst}
-use Rattle.forward.specs.Link.{Ask, AreTurns, AskedBefore, AsksAlong, Goes, IsAsk, IsTurn, Linked, NotAsked, states_of}
+use Rattle.forward.specs.Link.{Ask, AreTurns, AskedBefore, AsksAlong, EndsInterrupted, GivesUpLast, Goes, IsAsk, IsTurn, Linked, NoneGaveUp, NotAsked, states_of}
 use Rattle.forward.specs.Prompt.{AsksGiveOrFail}
 use Rattle.forward.specs.PromptLaws.{AsksGiveOrFail-joins, AsksGiveOrFail-none, WritesOn-none, WritesOn-joins}
 
@@ -99,7 +99,7 @@ module _ {T W : Type 0} (rules : FilterRules T W) where
         second.writes;
   }
 
-  along_after : (a b c : T) (asks : List (Ask T)) → NotAsked rules a b → AsksAlong rules b asks c → AsksAlong rules a asks c
+  pub along_after : (a b c : T) (asks : List (Ask T)) → NotAsked rules a b → AsksAlong rules b asks c → AsksAlong rules a asks c
   along_after a b c [] first second = NotAsked-joins a b c first second
   along_after a b c (ask ∷ asks) first second = (NotAsked-joins a b ask.before first second.0, second.1, second.2)
 
@@ -121,22 +121,37 @@ module _ {T W : Type 0} (rules : FilterRules T W) where
       ∙ ap (λ l. s ++ l) (sym (flat_map-append (λ ask. ask.before ∷ ask.after ∷ []) asks more))
 
   abbrev turns_none : AreTurns rules []
-  turns_none = record { turns = []; each = All-nil (IsTurn rules); equal = refl }
+  turns_none = record { turns = []; each = All-nil (IsTurn rules); equal = refl; last = tt }
 
   abbrev one_turn : (asks : List (Ask T)) → IsTurn rules asks → AreTurns rules asks
   one_turn asks turn = record {
     turns = asks ∷ [];
     each = All-cons (IsTurn rules) asks [] turn (All-nil (IsTurn rules));
     equal = sym (append-nil asks);
+    last = tt;
   }
 
-  abbrev turns_join : (asks more : List (Ask T)) → AreTurns rules asks → AreTurns rules more → AreTurns rules (asks ++ more)
-  turns_join asks more first second = record {
+  abbrev Whole : List (Ask T) → Type 0
+  Whole turn = ¬ (EndsInterrupted rules turn)
+
+  -- behind turns of which none gave up
+  pub last_join : (turns more : List (List (Ask T))) → NoneGaveUp rules turns → GivesUpLast rules more
+      → GivesUpLast rules (turns ++ more)
+  last_join [] more whole last = last
+  last_join (turn ∷ []) [] whole last = tt
+  last_join (turn ∷ []) (next ∷ more) whole last = (All-head Whole turn [] whole, last)
+  last_join (turn ∷ next ∷ turns) more whole last =
+      (All-head Whole turn (next ∷ turns) whole, last_join (next ∷ turns) more (All-tail Whole turn (next ∷ turns) whole) last)
+
+  abbrev turns_join : (asks more : List (Ask T)) → (first : AreTurns rules asks) → NoneGaveUp rules first.turns
+      → AreTurns rules more → AreTurns rules (asks ++ more)
+  turns_join asks more first whole second = record {
     turns = first.turns ++ second.turns;
     each = All-append (IsTurn rules) first.turns second.turns first.each second.each;
     equal =
         ap (λ l. l ++ more) first.equal ∙ ap (λ l. flat_map (λ turn. turn) first.turns ++ l) second.equal
         ∙ sym (flat_map-append (λ turn. turn) first.turns second.turns);
+    last = last_join first.turns second.turns whole second.last;
   }
 
   abbrev pub Asked : Ask T → Type 0
@@ -152,7 +167,7 @@ module _ {T W : Type 0} (rules : FilterRules T W) where
 
   module _ (Such : Ask T → Type 0) where
     -- the stream was not asked
-    pub Goes-unasked : (more : ℕ) (s t : Linked T) → NotAsked rules s.filter t.filter → t.states ≡ s.states
+    abbrev pub Goes-unasked : (more : ℕ) (s t : Linked T) → NotAsked rules s.filter t.filter → t.states ≡ s.states
         → (rules.written t.filter).writes.flushes ≤ (rules.written s.filter).writes.flushes + more → Goes rules Such more s t
     Goes-unasked more s t none same flushes = record {
       asks = [];
@@ -164,11 +179,11 @@ module _ {T W : Type 0} (rules : FilterRules T W) where
       flushes = omega (arith, flushes);
     }
 
-    pub Goes-none : (s : Linked T) → Goes rules Such 0 s s
+    abbrev pub Goes-none : (s : Linked T) → Goes rules Such 0 s s
     Goes-none s = Goes-unasked 0 s s (NotAsked-none s.filter) refl (omega arith)
 
     -- the writer was flushed at most, and then it was asked in one turn
-    pub Goes-turn : (more : ℕ) (s m t : Linked T) → NotAsked rules s.filter m.filter → m.states ≡ s.states
+    abbrev pub Goes-turn : (more : ℕ) (s m t : Linked T) → NotAsked rules s.filter m.filter → m.states ≡ s.states
         → (rules.written m.filter).writes.flushes ≤ (rules.written s.filter).writes.flushes + 1
         → rules.written t.filter ≡ rules.written m.filter → (asks : List (Ask T)) → t.states ≡ m.states ++ states_of asks
         → AsksAlong rules m.filter asks t.filter → IsTurn rules asks → All Such asks → AskedBefore rules asks
@@ -184,13 +199,14 @@ module _ {T W : Type 0} (rules : FilterRules T W) where
     }
 
     -- asks of the stream alone, and then others
-    pub Goes-joins : (First : Ask T → Type 0) → ((ask : Ask T) → First ask → Such ask × Asked ask) → (more : ℕ) (s t u : Linked T)
-        → Goes rules First 0 s t → Goes rules Such more t u → Goes rules Such more s u
-    Goes-joins First so more s t u first second = record {
+    abbrev pub Goes-joins : (First : Ask T → Type 0) → ((ask : Ask T) → First ask → Such ask × Asked ask)
+        → (more : ℕ) (s t u : Linked T) → (first : Goes rules First 0 s t) → NoneGaveUp rules first.turns.turns
+        → Goes rules Such more t u → Goes rules Such more s u
+    Goes-joins First so more s t u first whole second = record {
       asks = first.asks ++ second.asks;
       noted = noted_on s.states t.states u.states first.asks second.asks first.noted second.noted;
       along = AsksAlong-joins s.filter t.filter u.filter first.asks second.asks first.along second.along;
-      turns = turns_join first.asks second.asks first.turns second.turns;
+      turns = turns_join first.asks second.asks first.turns whole second.turns;
       each = All-append Such first.asks second.asks (All-weaker First Such (λ ask is. (so ask is).0) first.asks first.each)
           second.each;
       asked = asked_join first.asks second.asks (All-weaker First Asked (λ ask is. (so ask is).1) first.asks first.each)
@@ -203,7 +219,7 @@ module _ {T W : Type 0} (rules : FilterRules T W) where
       );
     }
 
-    pub Goes-weaker : (Other : Ask T → Type 0) → ((ask : Ask T) → Such ask → Other ask) → (more : ℕ)
+    abbrev pub Goes-weaker : (Other : Ask T → Type 0) → ((ask : Ask T) → Such ask → Other ask) → (more : ℕ)
         → (s t : Linked T) → Goes rules Such more s t → Goes rules Other more s t
     Goes-weaker Other so more s t goes = record {
       asks = goes.asks;

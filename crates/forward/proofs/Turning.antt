@@ -5,8 +5,8 @@ use Rattle.std.proofs.lemmas.List.Elements.{All-nil, All-push, All-weaker}
 use Rattle.std.specs.declared.io.Error.{Error}
 use Rattle.redux_buffer.specs.Faults.{IsInterrupt, interrupt_limit, OnlyInterrupts, OnlyInterrupts-none}
 use Rattle.forward.specs.Filter.{AsksOnce, FailedToRead, FilterRules, IsLawful, Moves, StaysOpen, WasAsked}
-use Rattle.forward.specs.Link.{Ask, AskedBefore, AsksAlong, Gave, IsIdle, IsInterrupted, IsTurn, IsTurnBehind, LinkAsks, Linked, states_of}
-use Rattle.forward.specs.Steps.{AlsoAsked, AskTurnAnswers, AskedFrom, AskedTo, ReadsOnlyInterrupted, RowGoes, TakesTurn}
+use Rattle.forward.specs.Link.{Ask, AskedBefore, AsksAlong, EndsInterrupted, Gave, IsIdle, IsInterrupted, IsTurn, IsTurnBehind, LinkAsks, Linked, states_of}
+use Rattle.forward.specs.Steps.{AlsoAsked, AskTurnAnswers, AskedFrom, AskedTo, OnTrue, ReadsOnlyInterrupted, RowGoes, TakesTurn}
 use Rattle.forward.specs.StreamsLaws.{gave_up, one_more, only_more}
 use Rattle.forward.specs.declared.error.AskError.{AskError}
 use Rattle.forward.specs.declared.error.AskError.TheVariants.{Wrong, Io, IoBehind}
@@ -173,6 +173,12 @@ module _ {T W : Type 0} (rules : FilterRules T W) where
       row_fits most (Err (Io e)) with goes = omega (arith, goes.1, goes.2)
       row_fits most (Err (IoBehind e)) with goes = omega (arith, goes.1)
 
+    -- asks that end by this one end interrupted where it is
+    ends_last : (asks : List (Ask T)) (ask : Ask T) → EndsInterrupted rules (asks ++ ask ∷ []) → IsInterrupted rules ask
+    ends_last [] ask is = is
+    ends_last (one ∷ []) ask is = is
+    ends_last (one ∷ next ∷ asks) ask is = ends_last (next ∷ asks) ask is
+
     -- a call that met no fault wasn't interrupted, and one that did met just that
     not_interrupted : (xs : List Error) (e : Error) → xs ≡ xs ++ e ∷ [] → ⊥
     not_interrupted xs e same = omega (arith, ap length same, length-append xs (e ∷ []))
@@ -234,6 +240,14 @@ module _ {T W : Type 0} (rules : FilterRules T W) where
       each (Ok false) next = each_from count t u before (Ok false) next
       each (Err e) next = each_from count t u before (Err e) next
 
+      whole : (answer : Result Bool (AskError W)) (next : LinkAsks rules t answer u)
+          → OnTrue rules answer (¬ (EndsInterrupted rules (all count t u before answer next)))
+      whole (Ok true) next = λ ends.
+          let is = ends_last before.asks (last count t u before (Ok true) next) ends in
+          not_interrupted _ is.error (sym next.asks.answers.1 ∙ is.failed)
+      whole (Ok false) next = tt
+      whole (Err e) next = tt
+
       -- the last ask of a turn
       pub turn_ends : (answer : Result Bool (AskError W)) → LinkAsks rules t answer u → RowGoes answer count None
           → TakesTurn rules s answer u
@@ -242,6 +256,7 @@ module _ {T W : Type 0} (rules : FilterRules T W) where
         noted = noted count t u before answer next;
         along = along count t u before answer next;
         turn = before.turn (last count t u before answer next ∷ []) (often answer next ends);
+        whole = whole answer next;
         each = each answer next;
         asked = asked count t u before answer next;
         told = next.asks.told ∙ before.told;

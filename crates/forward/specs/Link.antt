@@ -69,11 +69,28 @@ module _ {T W : Type 0} (rules : FilterRules T W) where
   AskedBefore (ask ∷ []) = Unit {0}
   AskedBefore (ask ∷ next ∷ more) = WasAsked rules ask.before ask.after × AskedBefore (next ∷ more)
 
-  -- asks go by turns
+  -- the last of these was interrupted
+  abbrev pub EndsInterrupted : List (Ask T) → Type 0
+  EndsInterrupted [] = ⊥
+  EndsInterrupted (ask ∷ []) = IsInterrupted ask
+  EndsInterrupted (ask ∷ next ∷ more) = EndsInterrupted (next ∷ more)
+
+  -- no turn ended by an interruption
+  abbrev pub NoneGaveUp : List (List (Ask T)) → Type 0
+  NoneGaveUp turns = All (λ turn. ¬ (EndsInterrupted turn)) turns
+
+  -- a turn that ended by one is the last
+  abbrev pub GivesUpLast : List (List (Ask T)) → Type 0
+  GivesUpLast [] = Unit {0}
+  GivesUpLast (turn ∷ []) = Unit {0}
+  GivesUpLast (turn ∷ next ∷ more) = ¬ (EndsInterrupted turn) × GivesUpLast (next ∷ more)
+
+  -- asks go by turns, of which one that ended by an interruption is the last
   pub record AreTurns (asks : List (Ask T)) : Type 0 where
     pub turns : List (List (Ask T))
     pub each : All IsTurn turns
     pub equal : asks ≡ flat_map (λ turn. turn) turns
+    pub last : GivesUpLast turns
 
   -- what calls do to a link: each ask that was made is noted, and is such a one; the stream was asked in each but the last of
   -- all; and the writer was flushed once for each turn of them at most, and so many times more

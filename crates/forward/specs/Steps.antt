@@ -7,7 +7,7 @@ use Rattle.std.specs.declared.io.Error.{Error}
 use Rattle.redux_buffer.specs.Faults.{IsInterrupt, interrupt_limit, OnlyInterrupts}
 use Rattle.forward.specs.Filter.{AsksOnce, FilterRules, FlushesOnce, Moves, StaysOpen, StaysSent, WasAsked}
 use Rattle.forward.specs.Forward.{Forwarded, NoneFailed, StopsBy, flushed_last}
-use Rattle.forward.specs.Link.{Ask, AskedBefore, AsksAlong, Goes, IsTurn, Linked, states_of}
+use Rattle.forward.specs.Link.{Ask, AskedBefore, AsksAlong, EndsInterrupted, Goes, IsTurn, Linked, NoneGaveUp, states_of}
 use Rattle.forward.specs.Streams.{ReadGaveUp}
 use Rattle.forward.specs.declared.error.AskError.{AskError}
 use Rattle.forward.specs.declared.error.AskError.TheVariants.{Wrong, Io, IoBehind}
@@ -57,12 +57,19 @@ module _ {T W : Type 0} (rules : FilterRules T W) where
   AskTurnAnswers s (Err (Io e)) t = GivesUp s e t
   AskTurnAnswers s (Err (IoBehind e)) t = GivesUp s e t
 
+  -- the fact holds where there was a payload
+  abbrev pub OnTrue : {E : Type 0} → Result Bool E → Type 0 → Type 0
+  OnTrue (Ok true) fact = fact
+  OnTrue (Ok false) fact = Unit {0}
+  OnTrue (Err cause) fact = Unit {0}
+
   -- what one turn of asks does
   pub record TakesTurn (s : Linked T) (answer : Result Bool (AskError W)) (t : Linked T) : Type 0 where
     pub asks : List (Ask T)
     pub noted : t.states ≡ s.states ++ states_of asks
     pub along : AsksAlong rules s.filter asks t.filter
     pub turn : IsTurn rules asks
+    pub whole : OnTrue answer (¬ (EndsInterrupted rules asks))
     pub each : All (AskedTo answer (AskedFrom s.filter)) asks
     pub asked : AskedBefore rules asks
     pub told : rules.written t.filter ≡ rules.written s.filter
@@ -77,12 +84,6 @@ module _ {T W : Type 0} (rules : FilterRules T W) where
   StepAnswers count s (Ok true) t = Forwarded rules (count + 1) s t × NoneFailed rules s t × StaysOpen rules s t
   StepAnswers count s (Ok false) t = Forwarded rules count s t × rules.ends s (Ok tt) t × rules.sent t × NoneFailed rules s t
   StepAnswers count s (Err cause) t = StopsBy rules count s cause t
-
-  -- the fact holds where a payload went over
-  abbrev pub OnTrue : Result Bool (Cause W) → Type 0 → Type 0
-  OnTrue (Ok true) fact = fact
-  OnTrue (Ok false) fact = Unit {0}
-  OnTrue (Err cause) fact = Unit {0}
 
   -- nothing was flushed, and where all had been sent it still is
   abbrev pub IsQuiet : T → T → Type 0
@@ -99,6 +100,7 @@ module _ {T W : Type 0} (rules : FilterRules T W) where
     pub flushes : FlushesOnce rules s.filter t.filter
     pub quiet : rules.drops → rules.sent s.filter
         → (rules.written t.filter).writes.flushes ≡ (rules.written s.filter).writes.flushes
+    pub whole : OnTrue answer (NoneGaveUp rules goes.turns.turns)
     pub more : OnTrue answer (GoesAhead s.filter t.filter)
     pub received : length (rules.written s.filter).writes.received ≤ length (rules.written t.filter).writes.received
     pub ready : rules.ready t.filter
