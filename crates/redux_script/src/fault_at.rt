@@ -1,5 +1,5 @@
 //! A stream that goes wrong at one call.
-ghost use Rattle.std.specs.Prelude.{◌≡◌, ◌<◌, ℕ, None, Ok, IfOk, OnErr, length, take};
+ghost use Rattle.std.specs.Prelude.{◌≡◌, ◌<◌, ℕ, None, Ok, IfOk, OnErr, length, take, drop};
 ghost use Rattle.std.specs.Io.{ReadsAtMost, WritesAtMost};
 ghost use Rattle.std.specs.Io.KnownBytes.{Consumes, IsAtEnd, Keeps, ReadConsumes, WriteAppends};
 ghost use Rattle.std.specs.Io.Seek.{SeekMoves};
@@ -90,7 +90,7 @@ impl<S> FaultAt<S> {
 // What is left is not told as `remaining`, since an answer `Ok(0)` need not be the end.
 impl<S: Read> Read for FaultAt<S> {
     ghost use Rattle.redux_script.specs.FaultAt.{fault_progress, fault_stream, fault_reply, with_call, ServesWithin, FailsBy};
-    ghost use Rattle.redux_script.specs.Script.Reply.{Serves};
+    ghost use Rattle.redux_script.specs.Script.Reply.{Fails, Serves};
 
     fn read(&mut self, buf: &mut [u8]) -> io::Result<usize>
         ensures bound { ReadsAtMost result buf.new }
@@ -105,6 +105,9 @@ impl<S: Read> Read for FaultAt<S> {
         ensures err { OnErr result (Keeps (S.remaining (fault_stream self.old)) (S.remaining (fault_stream self.new))) }
         ensures end { result ≡ Ok 0 → 0 < length buf.old → (most : ℕ)
             → fault_reply (fault_progress self.old) ≡ Serves most → 0 < most → IsAtEnd (S.remaining (fault_stream self.new)) }
+        ensures untouched { (kind : ErrorKind) → fault_reply (fault_progress self.old) ≡ Fails kind → buf.new ≡ buf.old }
+        ensures beyond { (most : ℕ) → fault_reply (fault_progress self.old) ≡ Serves most
+            → drop most buf.new ≡ drop most buf.old }
     {
         let most = self.next(buf.len())?;
         if most == 0 && !buf.is_empty() {
