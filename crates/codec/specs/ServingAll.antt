@@ -1,5 +1,5 @@
 -- What a server does that goes on where reads are interrupted, and what it did over several calls.
-use Rattle.std.specs.Prelude.{◌≡◌, ℕ, ◌+◌, ◌^◌, ◌≤◌, ◌⊎◌, List, Bool, true, Option, IfErr}
+use Rattle.std.specs.Prelude.{◌≡◌, ℕ, ◌+◌, ◌^◌, ◌≤◌, ◌⊎◌, List, ◌++◌, Bool, true, Option, IfErr}
 use Rattle.std.specs.declared.io.ErrorKind.TheVariants.{TimedOut}
 use Rattle.std.specs.IoError.{error_kind}
 use Rattle.buffer_redux.specs.BufWriter.{FlushedAlong, WritesAlong}
@@ -68,5 +68,5 @@ module _ {S D W I A T P : Type 0} (remaining : S → Option (List ℕ)) (tells :
       pub more : Bool
       pub last : Server S D A T P
       pub exchanged : Exchanged s exchanges more last
-      pub fails : ((latest : List Exchange) × FailedBy remaining tells trace g item_of Answers Fails e latest more last t)
-          ⊎ ((last ≡ t) × IsTimeout e)
+      pub fails : ((latest earlier : List Exchange) × (exchanges ≡ latest ++ earlier)
+          × FailedBy remaining tells trace g item_of Answers Fails e latest more last t) ⊎ ((last ≡ t) × IsTimeout e)

@@ -177,7 +177,7 @@ module _ {S D W I A T P : Type 0} (remaining : S → Option (List ℕ)) (tells :
       last = stops.last;
       exchanged = Exchanged-joins joins s f.between stops.last f.resumes.exchanges stops.exchanges stops.more
           f.resumes.exchanged (record { taken = stops.taken; service = stops.service; along = stops.along });
-      fails = inl (stops.exchanges, stops.fails);
+      fails = inl (stops.exchanges, f.resumes.exchanges, refl, stops.fails);
     }
     | inr (same, many, gave_up) ↦ record {
       exchanges = f.resumes.exchanges;
