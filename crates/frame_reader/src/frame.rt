@@ -1,5 +1,5 @@
 //! Frames as pieces: which bytes are one, and which are written.
-ghost use Rattle.std.specs.Prelude.{◌<◌, ◌≤◌, ◌^◌, length};
+ghost use Rattle.std.specs.Prelude.{◌≡◌, ℕ, ◌+◌, ◌<◌, ◌≤◌, ◌^◌, length};
 ghost use Rattle.frame_reader.specs.Frames.{AreBytes, BeginsWith};
 
 use codec::{Codec, Decoder, Encoder, End, Found, HeaderBytes, Span};
@@ -24,6 +24,7 @@ pub enum FrameFault {
 }
 
 impl Decoder for Frames {
+    ghost use Rattle.codec.specs.Decoding.{Decodes};
     ghost use Rattle.frame_reader.specs.Framed.{framed};
     ghost use Rattle.frame_reader.specs.FramedLaws.{framed_lawful};
 
@@ -40,7 +41,11 @@ impl Decoder for Frames {
     fn no_note(&self) {}
 
     #[inline(always)]
-    fn decode(&self, bytes: &[u8], _seen: usize, _note: &mut ()) -> Found<FrameFault> {
+    fn decode(&self, bytes: &[u8], _seen: usize, _note: &mut ()) -> Found<FrameFault>
+        ensures finds { Decodes (framed self.now.max) bytes.now result }
+        ensures header { length bytes.now < 2 → result ≡ Found.More 2 }
+        ensures whole { (n len : ℕ) → result ≡ Found.More n → BeginsWith len bytes.now → n ≡ 2 + len }
+    {
         if bytes.len() < HEADER {
             return Found::More(HEADER);
         }
