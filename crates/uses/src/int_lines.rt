@@ -1,5 +1,7 @@
 //! Reads the numbers of a text, one on each line.
-ghost use Rattle.std.specs.Prelude.{IfOk, vec_items};
+ghost use Rattle.std.specs.Prelude.{◌≡◌, ◌<◌, ◌^◌, ℕ, IfOk, IfErr, vec_items};
+ghost use Rattle.std.specs.IoError.{error_kind};
+ghost use Rattle.std.specs.declared.io.ErrorKind.TheVariants.{InvalidData};
 ghost use Rattle.uses.specs.IntLines.{ReadsAsNumber, AreNumbers, AreKnownNumbers};
 
 use buffer_redux::BufReader;
@@ -32,7 +34,9 @@ pub fn read_numbers<R: BufRead + Drop>(alloc: Global, reader: R) -> io::Result<V
 
 // The number that a line tells.
 fn number_of(line: &str) -> io::Result<u64>
-    ensures { IfOk result (ReadsAsNumber line.now) }
+    ensures number { IfOk result (ReadsAsNumber line.now) }
+    ensures refused { IfErr result (λ e. (error_kind e ≡ InvalidData)
+        × ((n : ℕ) → n < 2 ^ 64 → ¬ (ReadsAsNumber line.now n))) }
 {
     match line.parse::<u64>() {
         Ok(n) => Ok(n),
