@@ -53,7 +53,7 @@ SendsThenTakes e s payload (Err (Io x)) t = SendsAll s (Err x) t
 SendsThenTakes e s payload (Err (Refused w)) t = ⊥
 
 -- what one call of `write_piece` does. Where the piece fits behind what is buffered, it stands there, and the inner writer isn't
--- called; else all that is buffered is sent first. The inner writer isn't flushed
+-- called; else all that is buffered is sent first. So the inner writer isn't flushed
 pub record WritesPiece {S E W : Type 0} (trace : S → S → Type 0) (e : Encoding W) (s : WriterState S E) (payload : List ℕ)
     (answer : WriteAnswer W) (t : WriterState S E) : Type 0 where
   pub went : PiecesTaken trace e s (accepted payload answer) t
@@ -61,7 +61,6 @@ pub record WritesPiece {S E W : Type 0} (trace : S → S → Type 0) (e : Encodi
   pub fits : e.takes payload → length (coded e payload) ≤ room s.writer
       → (answer ≡ Ok tt) × (t.writer.log ≡ s.writer.log) × (unsent t ≡ unsent s ++ coded e payload)
   pub full : e.takes payload → room s.writer < length (coded e payload) → SendsThenTakes e s payload answer t
-  pub not_flushed : t.writer.log.writes.flushed ≡ s.writer.log.writes.flushed
   pub whole : IsPieceWriter e.most t
 
 -- what one call of `write_buffered` does: where the piece fits behind what is buffered, what `write_piece` does, and else

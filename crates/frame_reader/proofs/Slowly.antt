@@ -45,7 +45,6 @@ module _ {S : Type 0} (tells : S → StreamLog) (trace : S → S → Type 0)
           ap (λ l. l.writes.received) there.1 ∙ sent.ok.received,
           there.2 ∙ ap (λ l. l ++ coded (framed_out max) payload) sent.ok.empty,
         );
-        not_flushed = p.not_flushed ∙ sent.not_flushed;
         whole = p.whole;
       }
 
