@@ -133,7 +133,7 @@ entering reader limits head said = record {
   known = 0;
 }
 
--- the reader stands in front of a body, behind its head, which was the next piece; no byte was moved for it
+-- the reader stands in front of a body, behind its head, which was the next piece; going in moved none
 pub record Begun {S : Type 0} (remaining : S → Option (List ℕ)) (s : ReaderState S Heads) (b : InBody S) : Type 0 where
   pub behind : ReaderState S Heads
   pub next : NextPiece remaining (heads s.decoder.0) s (Ok (Some b.head)) behind
