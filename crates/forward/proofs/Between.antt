@@ -10,7 +10,7 @@ module _ {T W : Type 0} (rules : FilterRules T W) where
   -- `count` payloads went over, by asks of this kind, in each of which the stream was asked
   pub record SoFar (Such : Ask T → Type 0) (count : ℕ) (first s : Linked T) : Type 0 where
     pub goes : Goes rules (AlsoAsked rules Such) 0 first s
-    pub whole : NoneGaveUp rules goes.turns.turns
+    pub not_given_up : NoneGaveUp rules goes.turns.turns
     pub once : AsksOnce rules first.filter s.filter
     pub still : StaysOpen rules first.filter s.filter
     pub forwarded : Forwarded rules count first.filter s.filter

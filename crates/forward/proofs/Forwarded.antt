@@ -12,7 +12,7 @@ use Rattle.forward.specs.StreamsLaws.{MetNoFault-none}
 use Rattle.forward.specs.declared.error.Cause.{Cause}
 use Rattle.forward.specs.declared.error.Cause.TheVariants.{Count}
 use Rattle.forward.proofs.Between.{Paced, SoFar}
-use Rattle.forward.proofs.Forwarding.{answers_on, goes_on, once_on, whole_on}
+use Rattle.forward.proofs.Forwarding.{answers_on, goes_on, once_on, not_given_up_on}
 use Rattle.forward.proofs.Moving.{AsksOnce-none, Goes-none, Goes-weaker, Moves-none, Moves-on, none_forwarded, StaysOpen-joins, StaysOpen-none}
 
 module _ {T W : Type 0} (rules : FilterRules T W) (lawful : IsLawful rules) where
@@ -23,7 +23,7 @@ module _ {T W : Type 0} (rules : FilterRules T W) (lawful : IsLawful rules) wher
     pub so_far_none : rules.ready first.filter → SoFar rules Prompt 0 first first
     so_far_none ready = record {
       goes = Goes-none rules (AlsoAsked rules Prompt) first;
-      whole = All-nil (λ turn. ¬ (EndsInterrupted rules turn));
+      not_given_up = All-nil (λ turn. ¬ (EndsInterrupted rules turn));
       once = AsksOnce-none rules first.filter first.filter refl (λ closed. closed);
       still = StaysOpen-none rules first.filter first.filter refl;
       forwarded = none_forwarded rules lawful first.filter first.filter (Moves-none rules lawful first.filter);
@@ -103,7 +103,7 @@ module _ {T W : Type 0} (rules : FilterRules T W) (lawful : IsLawful rules) wher
           let answers = all_answers (Ok true) next in
           record {
             goes = all_goes (Ok true) next;
-            whole = whole_on rules lawful Prompt count first s t before prompt_of (Ok true) next;
+            not_given_up = not_given_up_on rules lawful Prompt count first s t before prompt_of (Ok true) next;
             once = all_once (Ok true) next;
             still = answers.2;
             forwarded = answers.0;

@@ -105,25 +105,25 @@ module _ {T W : Type 0} (rules : FilterRules T W) where
       )
       behind (Err Count) once next = absurd (omega (arith, next.1))
 
-      whole : (answer : Result Bool (Cause W)) (turns : List (List (Ask T))) → OnTrue rules answer (NoneGaveUp rules turns)
+      not_given_up : (answer : Result Bool (Cause W)) (turns : List (List (Ask T))) → OnTrue rules answer (NoneGaveUp rules turns)
           → OnTrue rules answer (NoneGaveUp rules (before.goes.turns.turns ++ turns))
-      whole (Ok true) turns next =
-          All-append (λ turn. ¬ (EndsInterrupted rules turn)) before.goes.turns.turns turns before.whole next
-      whole (Ok false) turns next = tt
-      whole (Err cause) turns next = tt
+      not_given_up (Ok true) turns next =
+          All-append (λ turn. ¬ (EndsInterrupted rules turn)) before.goes.turns.turns turns before.not_given_up next
+      not_given_up (Ok false) turns next = tt
+      not_given_up (Err cause) turns next = tt
 
       module _ (answer : Result Bool (Cause W)) (next : ForwardsNext rules s answer t) where
         abbrev pub goes_on : Goes rules (AskedTo rules answer Such) (option_map_or flushed_last (result_err answer) 0) first t
         goes_on =
             let more = option_map_or flushed_last (result_err answer) 0 in
             Goes-joins rules (AskedTo rules answer Such) (AlsoAsked rules Such) (also_asked Such answer) more
-            first s t before.goes before.whole
+            first s t before.goes before.not_given_up
             (Goes-weaker rules (AskedTo rules answer (AskedFrom rules s.filter)) (AskedTo rules answer Such)
             (so_asked (AskedFrom rules s.filter) Such so answer) more s t next.goes)
 
         -- no turn gave up where a payload came
-        pub whole_on : OnTrue rules answer (NoneGaveUp rules goes_on.turns.turns)
-        whole_on = whole answer next.goes.turns.turns next.whole
+        pub not_given_up_on : OnTrue rules answer (NoneGaveUp rules goes_on.turns.turns)
+        not_given_up_on = not_given_up answer next.goes.turns.turns next.not_given_up
 
         pub once_on : AsksOnce rules first.filter t.filter
         once_on = AsksOnce-joins rules first.filter s.filter t.filter before.once before.still next.once
@@ -174,7 +174,7 @@ module _ {T W : Type 0} (rules : FilterRules T W) where
       pub passed : LinkPasses rules s (Ok true) m → ForwardsNext rules s (Ok true) m
       passed p = record {
         goes = unasked (AlsoAsked rules (AskedFrom rules s.filter)) 0 (Ok true) p;
-        whole = All-nil (λ turn. ¬ (EndsInterrupted rules turn));
+        not_given_up = All-nil (λ turn. ¬ (EndsInterrupted rules turn));
         once = unasked_once (Ok true) p;
         flushes = inl p.passes.flushes;
         quiet = λ drops sent. p.passes.flushes;
@@ -191,7 +191,7 @@ module _ {T W : Type 0} (rules : FilterRules T W) where
       pub not_passed : (e : Error) → LinkPasses rules s (Err e) m → ForwardsNext rules s (Err (Write e)) m
       not_passed e p = record {
         goes = unasked (AskedFrom rules s.filter) 1 (Err e) p;
-        whole = tt;
+        not_given_up = tt;
         once = unasked_once (Err e) p;
         flushes = inl p.passes.flushes;
         quiet = λ drops sent. p.passes.flushes;
@@ -210,7 +210,7 @@ module _ {T W : Type 0} (rules : FilterRules T W) where
       none_passed : (Such : Ask T → Type 0) → LinkPasses rules s (Ok false) m → SoFar rules Such 0 s m
       none_passed Such p = record {
         goes = unasked (AlsoAsked rules Such) 0 (Ok false) p;
-        whole = All-nil (λ turn. ¬ (EndsInterrupted rules turn));
+        not_given_up = All-nil (λ turn. ¬ (EndsInterrupted rules turn));
         once = unasked_once (Ok false) p;
         still = StaysOpen-none rules s.filter m.filter p.passes.told;
         forwarded = none_forwarded rules lawful s.filter m.filter p.passes.answers.0;
@@ -227,7 +227,7 @@ module _ {T W : Type 0} (rules : FilterRules T W) where
           let less = lawful.taken_on s.filter m.filter [] p.passes.answers.0.takes in
           record {
             goes = goes_on Such 0 s m t before so answer next;
-            whole = whole_on Such 0 s m t before so answer next;
+            not_given_up = not_given_up_on Such 0 s m t before so answer next;
             once = once_on Such 0 s m t before so answer next;
             flushes = elim next.flushes [
               | inl same ↦ inl (same ∙ p.passes.flushes)
@@ -252,7 +252,7 @@ module _ {T W : Type 0} (rules : FilterRules T W) where
       not_flushed e p = record {
         goes = Goes-unasked rules (AskedFrom rules s.filter) 1 s m (flush_unasked (Err e) p) p.noted
             (once_more s.filter m.filter p.flushes.flushes);
-        whole = tt;
+        not_given_up = tt;
         once = flush_once (Err e) p;
         flushes = p.flushes.flushes;
         quiet = p.flushes.quiet;
@@ -315,11 +315,11 @@ module _ {T W : Type 0} (rules : FilterRules T W) where
           → AskedTo rules next (AskedFrom rules s.filter) ask)
           → OnTrue rules next (NoneGaveUp rules (turn.asks ∷ [])) → OnTrue rules next (GoesAhead rules s.filter t.filter)
           → StepAnswers rules 0 s.filter next t.filter → ForwardsNext rules s next t
-      ended next so whole more answers = record {
+      ended next so not_given_up more answers = record {
         goes = Goes-weaker rules (AskedTo rules answer (AskedFrom rules s.filter))
             (AskedTo rules next (AskedFrom rules s.filter)) so (option_map_or flushed_last (result_err next) 0) s t
             (goes (option_map_or flushed_last (result_err next) 0));
-        whole = whole;
+        not_given_up = not_given_up;
         once = once;
         flushes = flushes;
         quiet = quiet;
@@ -372,7 +372,7 @@ module _ {T W : Type 0} (rules : FilterRules T W) where
         came : SoFar rules (AskedFrom rules s.filter) 0 s t
         came = record {
           goes = goes s m t p (Ok true) turn 0;
-          whole = All-cons (λ turn. ¬ (EndsInterrupted rules turn)) turn.asks [] turn.whole
+          not_given_up = All-cons (λ turn. ¬ (EndsInterrupted rules turn)) turn.asks [] turn.not_given_up
               (All-nil (λ turn. ¬ (EndsInterrupted rules turn)));
           once = once s m t p (Ok true) turn;
           still = StaysOpen-joins rules s.filter m.filter t.filter (StaysOpen-none rules s.filter m.filter p.flushes.told)
@@ -389,7 +389,7 @@ module _ {T W : Type 0} (rules : FilterRules T W) where
             let so = asked_after s.filter t.filter (moves s m t p (Ok true) turn) came.once came.still in
             record {
               goes = goes_on Such 0 s t u came so answer next;
-              whole = whole_on Such 0 s t u came so answer next;
+              not_given_up = not_given_up_on Such 0 s t u came so answer next;
               once = once_on Such 0 s t u came so answer next;
               flushes = elim (flushes s m t p (Ok true) turn) [
                 | inl same ↦ inl (unflushed ∙ same)

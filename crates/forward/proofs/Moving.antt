@@ -137,21 +137,23 @@ module _ {T W : Type 0} (rules : FilterRules T W) where
   -- behind turns of which none gave up
   pub last_join : (turns more : List (List (Ask T))) → NoneGaveUp rules turns → GivesUpLast rules more
       → GivesUpLast rules (turns ++ more)
-  last_join [] more whole last = last
-  last_join (turn ∷ []) [] whole last = tt
-  last_join (turn ∷ []) (next ∷ more) whole last = (All-head Whole turn [] whole, last)
-  last_join (turn ∷ next ∷ turns) more whole last =
-      (All-head Whole turn (next ∷ turns) whole, last_join (next ∷ turns) more (All-tail Whole turn (next ∷ turns) whole) last)
+  last_join [] more not_given_up last = last
+  last_join (turn ∷ []) [] not_given_up last = tt
+  last_join (turn ∷ []) (next ∷ more) not_given_up last = (All-head Whole turn [] not_given_up, last)
+  last_join (turn ∷ next ∷ turns) more not_given_up last = (
+    All-head Whole turn (next ∷ turns) not_given_up,
+    last_join (next ∷ turns) more (All-tail Whole turn (next ∷ turns) not_given_up) last,
+  )
 
   abbrev turns_join : (asks more : List (Ask T)) → (first : AreTurns rules asks) → NoneGaveUp rules first.turns
       → AreTurns rules more → AreTurns rules (asks ++ more)
-  turns_join asks more first whole second = record {
+  turns_join asks more first not_given_up second = record {
     turns = first.turns ++ second.turns;
     each = All-append (IsTurn rules) first.turns second.turns first.each second.each;
     equal =
         ap (λ l. l ++ more) first.equal ∙ ap (λ l. flat_map (λ turn. turn) first.turns ++ l) second.equal
         ∙ sym (flat_map-append (λ turn. turn) first.turns second.turns);
-    last = last_join first.turns second.turns whole second.last;
+    last = last_join first.turns second.turns not_given_up second.last;
   }
 
   abbrev pub Asked : Ask T → Type 0
@@ -202,11 +204,11 @@ module _ {T W : Type 0} (rules : FilterRules T W) where
     abbrev pub Goes-joins : (First : Ask T → Type 0) → ((ask : Ask T) → First ask → Such ask × Asked ask)
         → (more : ℕ) (s t u : Linked T) → (first : Goes rules First 0 s t) → NoneGaveUp rules first.turns.turns
         → Goes rules Such more t u → Goes rules Such more s u
-    Goes-joins First so more s t u first whole second = record {
+    Goes-joins First so more s t u first not_given_up second = record {
       asks = first.asks ++ second.asks;
       noted = noted_on s.states t.states u.states first.asks second.asks first.noted second.noted;
       along = AsksAlong-joins s.filter t.filter u.filter first.asks second.asks first.along second.along;
-      turns = turns_join first.asks second.asks first.turns whole second.turns;
+      turns = turns_join first.asks second.asks first.turns not_given_up second.turns;
       each = All-append Such first.asks second.asks (All-weaker First Such (λ ask is. (so ask is).0) first.asks first.each)
           second.each;
       asked = asked_join first.asks second.asks (All-weaker First Asked (λ ask is. (so ask is).1) first.asks first.each)

@@ -240,13 +240,13 @@ module _ {T W : Type 0} (rules : FilterRules T W) where
       each (Ok false) next = each_from count t u before (Ok false) next
       each (Err e) next = each_from count t u before (Err e) next
 
-      whole : (answer : Result Bool (AskError W)) (next : LinkAsks rules t answer u)
+      not_given_up : (answer : Result Bool (AskError W)) (next : LinkAsks rules t answer u)
           → OnTrue rules answer (¬ (EndsInterrupted rules (all count t u before answer next)))
-      whole (Ok true) next = λ ends.
+      not_given_up (Ok true) next = λ ends.
           let is = ends_last before.asks (last count t u before (Ok true) next) ends in
           not_interrupted _ is.error (sym next.asks.answers.1 ∙ is.failed)
-      whole (Ok false) next = tt
-      whole (Err e) next = tt
+      not_given_up (Ok false) next = tt
+      not_given_up (Err e) next = tt
 
       -- the last ask of a turn
       pub turn_ends : (answer : Result Bool (AskError W)) → LinkAsks rules t answer u → RowGoes answer count None
@@ -256,7 +256,7 @@ module _ {T W : Type 0} (rules : FilterRules T W) where
         noted = noted count t u before answer next;
         along = along count t u before answer next;
         turn = before.turn (last count t u before answer next ∷ []) (often answer next ends);
-        whole = whole answer next;
+        not_given_up = not_given_up answer next;
         each = each answer next;
         asked = asked count t u before answer next;
         told = next.asks.told ∙ before.told;

@@ -81,7 +81,7 @@ module _ {T W : Type 0} (rules : FilterRules T W) where
 
   -- what an answer of `pass` says. Something was taken in, but for a payload that was dropped; where there was room for it, the
   -- writer was let be, as where there was none. Where the writer failed, or one was refused, no more are lost than may be, and
-  -- the writer was given no memory
+  -- the writer was given no memory; at Ok no clause says so where it was sent first
   abbrev pub PassAnswers : T → Result Bool Error → T → Type 0
   PassAnswers s (Ok true) t =
       (payload : List ℕ) × Moves s (payload ∷ []) (payload ∷ []) t × WritesOnlyInterrupted s t

@@ -69,7 +69,7 @@ module _ {T W : Type 0} (rules : FilterRules T W) where
     pub noted : t.states ≡ s.states ++ states_of asks
     pub along : AsksAlong rules s.filter asks t.filter
     pub turn : IsTurn rules asks
-    pub whole : OnTrue answer (¬ (EndsInterrupted rules asks))
+    pub not_given_up : OnTrue answer (¬ (EndsInterrupted rules asks))
     pub each : All (AskedTo answer (AskedFrom s.filter)) asks
     pub asked : AskedBefore rules asks
     pub told : rules.written t.filter ≡ rules.written s.filter
@@ -100,7 +100,7 @@ module _ {T W : Type 0} (rules : FilterRules T W) where
     pub flushes : FlushesOnce rules s.filter t.filter
     pub quiet : rules.drops → rules.sent s.filter
         → (rules.written t.filter).writes.flushes ≡ (rules.written s.filter).writes.flushes
-    pub whole : OnTrue answer (NoneGaveUp rules goes.turns.turns)
+    pub not_given_up : OnTrue answer (NoneGaveUp rules goes.turns.turns)
     pub more : OnTrue answer (GoesAhead s.filter t.filter)
     pub received : length (rules.written s.filter).writes.received ≤ length (rules.written t.filter).writes.received
     pub ready : rules.ready t.filter

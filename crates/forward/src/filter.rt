@@ -13,7 +13,8 @@ pub trait Filter {
     // What its states are.
     ghost rules: { FilterRules Self Self.Wrong };
 
-    /// Moves the next payload that is there, and returns whether there was one. The stream isn't asked.
+    /// Moves the next payload that is there, and returns whether there was one. The stream isn't asked. Where it fails, the
+    /// writer is given no memory.
     fn pass(&mut self) -> io::Result<bool>
         requires { rules.ready self.old }
         ensures { FilterPasses rules self.old result self.new };

@@ -11,7 +11,7 @@ use std::io;
 /// Takes in the first bytes, and then the second: all of them, or nothing. Where they don't fit behind what is buffered, that is
 /// sent before, once, and only where they are more than the capacity, the buffer grows, within its limit. Nothing is flushed.
 ///
-/// An `Err` is that of the send, or the growth was refused, where nothing is buffered any more. The capacity is as it was then.
+/// An `Err` is that of the send, or the growth was refused, where nothing is buffered any more. It leaves the capacity as it was.
 pub fn put_both<W: TellWrite>(
     writer: &mut BufWriter<W>,
     first: &[u8],
