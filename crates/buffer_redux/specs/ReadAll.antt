@@ -16,7 +16,7 @@ pub record HandedFront {S P : Type 0} (remaining : S → Option (List ℕ)) (rul
   pub in_order : ReadsInOrder s handed t
   pub keeps : ReaderKeeps remaining rules s t
 
--- one read, which left the slice so, with all that `read` promises
+-- one read, which left the slice so, with what `read` promises, of which the rest follows
 pub record OneRead {S P : Type 0} (remaining : S → Option (List ℕ)) (rules : ReadRules P)
     (s : Buffered S P) (slice : List ℕ) (answer : Result ℕ Error) (t : Buffered S P) : Type 0 where
   pub whole : IsBlock s.block

@@ -12,7 +12,7 @@ use Rattle.redux_buffer.specs.GivesRemaining.{GivesRemaining, GivesRemaining-non
 use Rattle.redux_buffer.specs.LogGrows.{ReadLogGrows, ReadLogGrows-none, ReadLogGrows-joins}
 use Rattle.redux_buffer.specs.StreamLog.{StreamLog}
 use Rattle.buffer_redux.specs.Policy.{ReadRules, ReadClaims, std_read_rules}
-use Rattle.buffer_redux.specs.Buffered.{Buffered, Makes, with_block}
+use Rattle.buffer_redux.specs.Buffered.{Buffered, Makes}
 use Rattle.buffer_redux.specs.BufReader.{ReadsInOrder, InnerGives, RanDry, FillsToMinimum, Fills, FillBuf, ReaderConsumes, ReaderKeeps, ReadsAlong, ReadsToEnd}
 use Rattle.buffer_redux.specs.Remaining.{ahead, may_stop, reader_remaining}
 use Rattle.buffer_redux.specs.Unbuffer.{HandsOutInOrder, unbuffered, Unbuffered}
@@ -258,17 +258,6 @@ module _ {S P : Type 0} (remaining : S → Option (List ℕ)) (rules : ReadRules
     grows = ReadLogGrows-joins a.log.reads b.log.reads c.log.reads p.grows q.grows;
     capacity = le_trans p.capacity q.capacity;
     claims = q.claims ∙ p.claims;
-  }
-
-  -- what touches the buffer alone hands out nothing
-  pub ReadsAlong-block : (s t : Buffered S P) → ReadsInOrder s [] t → s.block.capacity ≤ t.block.capacity
-      → t ≡ with_block s t.block → ReadsAlong remaining rules s [] t
-  ReadsAlong-block s t order capacity others = record {
-    in_order = order;
-    known = subst (InnerGives remaining s) (sym others) (InnerGives-none remaining s);
-    grows = subst (λ x. ReadLogGrows s.log.reads x.log.reads) (sym others) (ReadLogGrows-none s.log.reads);
-    capacity = capacity;
-    claims = ap (λ x. rules.claims x.policy) others;
   }
 
   -- a trace that hands out nothing more

@@ -1,22 +1,11 @@
 -- Laws of copying turn by turn, for the proofs of those who make the turns.
-use Rattle.std.proofs.Common.{◌≡◌, ℕ, ◌+◌, Result, Ok, Err, inl, inr, subst, le_trans, arith, refl, sym, [], append-nil, ◌∙◌, ◌++◌, ap, append_assoc, length-append}
+use Rattle.std.proofs.Common.{◌≡◌, ℕ, ◌+◌, Result, Ok, Err, inl, inr, subst, le_trans, arith, ◌∙◌, ◌++◌, ap, append_assoc, length-append}
 use Rattle.std.specs.declared.io.Error.{Error}
 use Rattle.redux_buffer.specs.StreamLog.{StreamLog, FillLog, WriteLog}
 use Rattle.redux_buffer.specs.Faults.{OnlyInterrupts-joins, FaultAfterInterrupts-after, MetInterrupts-joins}
 use Rattle.redux_buffer.specs.Copy.{MovedBy, CopiesOn, LastWrite, CopyEnded, StreamFailed, TakesNothing, TurnAnswers, CopyBuf}
 
--- no turn moves nothing, and two turns one after the other move what both do
-pub MovedBy-none : (from : FillLog) (to : WriteLog) → MovedBy 0 from from to to
-MovedBy-none from to = record {
-  bytes = [];
-  count = refl;
-  consumed = sym (append-nil from.consumed);
-  consumes = omega arith;
-  received = sym (append-nil to.received);
-  not_flushed = refl;
-  flushes = refl;
-}
-
+-- two turns one after the other move what both do
 pub MovedBy-joins : (n k : ℕ) (a b c : FillLog) (x y z : WriteLog)
     → MovedBy n a b x y → MovedBy k b c y z → MovedBy (n + k) a c x z
 MovedBy-joins n k a b c x y z p q = record {
