@@ -1,5 +1,5 @@
 -- What the service is given is the payload and the item of the piece that the fetch handed out.
-use Rattle.std.proofs.Common.{Ok, ap, ◌∙◌}
+use Rattle.std.proofs.Common.{Ok, ap, inl, refl, ◌∙◌}
 use Rattle.codec.specs.Serving.{server}
 use Rattle.codec.proofs.Turning.{answer_failed, service_failed, took_piece}
 use Rattle.codec.proofs.serving.turn.Goals as goal
@@ -47,3 +47,6 @@ returns-in-Err-Failed g c =
     c.fetch_item.ensures.first c.lent.result.now
     c.lent.ensures c.answer.new.self c.answer.new.writer _ c.in-Err-Failed.why c.in-Err-Failed.field-0-is
     c.in-Err-Failed.ensures
+
+pub returns-in-Err : goal.returns-in-Err
+returns-in-Err g c = inl (record { first = c.in-Err.ensures.first; service = refl })

@@ -29,6 +29,10 @@ returns-in-Err-clause-calls g c =
 pub returns-in-Err-clause-capacity : goal.returns-in-Err-clause-capacity
 returns-in-Err-clause-capacity g c = c.write_line.ensures.capacity ∙ c.loop-line.invariant.same_capacity
 
+pub returns-in-Err-clause-trace : goal.returns-in-Err-clause-trace
+returns-in-Err-clause-trace g c =
+    g.met.W.TellWrite.trace_joins _ _ _ c.loop-line.invariant.wrote.went c.write_line.ensures.trace
+
 pub returns-in-Err-clause-caused : goal.returns-in-Err-clause-caused
 returns-in-Err-clause-caused g c = WriterStopped-after _ _ _ _ c.loop-line.invariant.grows c.in-Err.ensures.caused
 

@@ -11,6 +11,7 @@ invariant-loop-call g l = record {
   answers : List WriterAnswer;
   gained : l.run.answers.items ≡ l.initial.run.answers.items ++ answers;
   count : length answers ≡ l.call-index;
-  run : Runs (WriterStep g.W.Tell.log g.W.TellWrite.trace g.P.WriterPolicy.rules) l.initial.writer (take l.call-index l.calls) answers l.writer;
+  run : Runs (WriterStep g.W.Tell.log g.W.TellWrite.trace g.P.WriterPolicy.rules) l.initial.writer
+      (take l.call-index l.calls) answers l.writer;
   whole : IsBlock l.writer.block;
 }

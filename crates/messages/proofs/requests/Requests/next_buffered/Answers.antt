@@ -1,5 +1,5 @@
 -- The head that the step lent is still buffered, so the body begins behind it; without one none begins there.
-use Rattle.std.proofs.Common.{◌≡◌, ◌++◌, ap, rules, subst, sym}
+use Rattle.std.proofs.Common.{◌≡◌, ◌++◌, ap, false, inl, inr, rules, subst, sym}
 use Rattle.codec.specs.Grammar.{Begins}
 use Rattle.codec.specs.PieceReader.{rest}
 use Rattle.messages.specs.Heads.{heads}
@@ -7,6 +7,12 @@ use Rattle.messages.specs.Messages.{Begun}
 use Rattle.messages.specs.MessagesLaws.{Enters-begun, lent_still}
 use Rattle.messages.proofs.Said.{begun_front}
 use Rattle.messages.proofs.requests.Requests.next_buffered.Goals as goal
+
+pub invariant_of-self : goal.invariant_of-self
+invariant_of-self g c =
+    let told : c.step_buffered.new.self.ended ≡ false =
+    elim c.in-Some.ensures.next.0.answers.1 [ inl is ↦ is.1 | inr last ↦ absurd last.0 ] in
+    (c.self.invariant.0, told)
 
 pub enter-requires : goal.enter-requires
 enter-requires g c = record {
