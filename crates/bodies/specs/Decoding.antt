@@ -113,7 +113,7 @@ decoding_rules remaining = record {
   has = λ s. 0 < s.held;
   lacks = λ s. (s.held ≡ 0) × NoneBuffered s.source;
   waits = λ s. (s.held ≡ 0) × (s.source.reader.block.bytes ≡ []);
-  -- no clause of a read of payload says that it asks where none is buffered
+  -- where a body can be ended, a read of payload asks where none is buffered; nothing here rests on that
   finds = λ s. Unit {0};
   sent = λ s. AllSent s.target;
   taken = λ s. taken_in s.target;

@@ -186,7 +186,8 @@ module _ {S Q C P W : Type 0} (remaining : S → Option (List ℕ)) (rules : Rea
     (out : List ℕ)
     (answer : Result ℕ (BodyError W)) (r' : Buffered S Q) (q : Progress P) (k' : ℕ)
     (hands : HandsOn remaining rules (grammar c) k r p out answer r' q k')
-    (known : IsKnown (grammar c) q.place k' r'.block.bytes) (left : 0 < k → IfOk answer (λ n. (n ≡ min k (length out)) × (k' ≡ k - n))) (calls' : StreamLog)
+    (known : IsKnown (grammar c) q.place k' r'.block.bytes)
+    (left : 0 < k → IfOk answer (λ n. (n ≡ min k (length out)) × (k' ≡ k - n))) (calls' : StreamLog)
     (noted : calls' ≡ after_payload calls out answer) where
   pub reads_payload : ReadsPayload remaining rules (grammar d.coding) d out answer (seen r' c q calls' k')
   reads_payload = subst (λ x. ReadsPayload remaining rules (grammar x.coding) x out answer (seen r' c q calls' k')) view

@@ -2,8 +2,8 @@
 use Rattle.std.specs.Prelude.{◌≡◌, ℕ, ◌+◌, ◌<◌, ◌≤◌, ◌⊎◌, List, ◌++◌, length}
 use Rattle.buffer_redux.specs.Unbuffer.{Unbuffered}
 
--- the stream was asked, also for the last time, only where what was left, then what had come, was such; and at most once more than
--- bytes had come then
+-- the stream was asked, also for the last time, only where what was left, then what had come, was such, and at most once more
+-- than bytes had come then
 pub record AskedOver {R : Type 0} (Such : List ℕ → Type 0) (s t : Unbuffered R) : Type 0 where
   pub came : List ℕ
   pub given : t.log.reads.given ≡ s.log.reads.given ++ (came ++ t.log.reads.latest)

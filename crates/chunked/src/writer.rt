@@ -28,10 +28,10 @@ mod past;
 
 /// A writer of one body, into a buffered writer of yours. [`finish`](ChunkedWriter::finish) ends the body, and hands that back.
 ///
-/// Each write makes one chunk; an empty slice makes none. One that fits the buffer goes into it whole or not at all. Of another
-/// payload that doesn't fit goes past the buffer, and further writes go on in it until none of it is
-/// [`due`](ChunkedWriter::due). The writer takes no memory. One that is dropped drops the buffered writer, which sends what it holds: the body has no end then, so a
-/// reader can tell that it is cut short.
+/// Each write makes one chunk; an empty slice makes none. One that fits the buffer goes into it whole or not at all. Where the
+/// buffer is too small for one, payload that doesn't fit goes past it, and further writes go on in the chunk until none of it is
+/// [`due`](ChunkedWriter::due). The writer takes no memory. One that is dropped drops the buffered writer, which sends what it
+/// holds: the body has no end then, so a reader can tell that it is cut short.
 ///
 /// ```
 /// let inner = BufWriter::new(alloc, Told::new(Vec::new(alloc)))?;
