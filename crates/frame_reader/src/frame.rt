@@ -42,9 +42,9 @@ impl Decoder for Frames {
 
     #[inline(always)]
     fn decode(&self, bytes: &[u8], _seen: usize, _note: &mut ()) -> Found<FrameFault>
-        ensures finds { Decodes (framed self.now.max) bytes.now result }
         ensures header { length bytes.now < 2 → result ≡ Found.More 2 }
         ensures whole { (n len : ℕ) → result ≡ Found.More n → BeginsWith len bytes.now → n ≡ 2 + len }
+        ensures finds { Decodes (framed self.now.max) bytes.now result }
     {
         if bytes.len() < HEADER {
             return Found::More(HEADER);
