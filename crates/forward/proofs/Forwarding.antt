@@ -1,14 +1,13 @@
 -- What is done for one payload, behind those that went over before.
-use Rattle.std.proofs.Common.{inl, inr, length, ◌≡◌, ◌⊎◌, ℕ, ◌+◌, ◌≤◌, List, [], ◌∷◌, ◌++◌, Bool, true, false, Result, Ok, Err, refl, sym, ap, subst, ◌∙◌, arith, length-append}
+use Rattle.std.proofs.Common.{inl, inr, length, ◌≡◌, ◌⊎◌, ℕ, ◌+◌, ◌≤◌, List, [], ◌∷◌, ◌++◌, Bool, true, false, Result, Ok, Err, refl, sym, ap, subst, ◌∙◌, arith}
 use Rattle.std.proofs.lemmas.List.Elements.{All-append, All-cons, All-nil}
 use Rattle.std.specs.Option.{option_map_or}
 use Rattle.std.specs.Result.{result_err}
 use Rattle.std.specs.declared.io.Error.{Error}
 use Rattle.redux_buffer.specs.Faults.{MetInterrupts, OnlyInterrupts, OnlyInterrupts-joins, OnlyInterrupts-same}
-use Rattle.forward.specs.Filter.{AsksOnce, FilterRules, FlushesOnce, IsLawful, Moves, StaysOpen, WasAsked, WritesOnlyInterrupted}
+use Rattle.forward.specs.Filter.{AsksOnce, FilterRules, FlushesOnce, IsLawful, Moves, StaysOpen, WritesOnlyInterrupted}
 use Rattle.forward.specs.Forward.{NoneFailed, flushed_last}
 use Rattle.forward.specs.Link.{Ask, EndsInterrupted, Goes, LinkFlushes, LinkPasses, Linked, NoneGaveUp, NotAsked}
-use Rattle.forward.specs.Prompt.{WritesOn}
 use Rattle.forward.specs.Steps.{AlsoAsked, AskedFrom, AskedTo, ForwardsNext, GivesUp, GoesAhead, IsQuiet, OnTrue, ReadsOnlyInterrupted, StepAnswers, TakesTurn}
 use Rattle.forward.specs.Streams.{ReadGaveUp}
 use Rattle.forward.specs.StreamsLaws.{MetNoFault-joins, ReadFailed-after, WriterFailed-after}
@@ -17,7 +16,7 @@ use Rattle.forward.specs.declared.error.AskError.TheVariants as asked
 use Rattle.forward.specs.declared.error.Cause.{Cause}
 use Rattle.forward.specs.declared.error.Cause.TheVariants.{Wrong, Read, Write, Count}
 use Rattle.forward.proofs.Between.{SoFar}
-use Rattle.forward.proofs.Moving.{AsksOnce-joins, AsksOnce-none, first_joins, forwarded_joins, forwarded_on, Goes-joins, Goes-turn, Goes-unasked, Goes-weaker, Moves-on, none_first, none_forwarded, StaysOpen-joins, StaysOpen-none}
+use Rattle.forward.proofs.Moving.{AsksOnce-joins, AsksOnce-none, first_joins, forwarded_joins, forwarded_on, Goes-joins, Goes-turn, Goes-unasked, Goes-weaker, Moves-on, none_first, none_forwarded, StaysOpen-joins, StaysOpen-none, also_asked, longer, so_asked}
 
 module _ {T W : Type 0} (rules : FilterRules T W) where
   -- the writer was flushed once at most
@@ -25,28 +24,6 @@ module _ {T W : Type 0} (rules : FilterRules T W) where
       → (rules.written t).writes.flushes ≤ (rules.written s).writes.flushes + 1
   once_more s t (inl same) = omega (arith, same)
   once_more s t (inr one) = omega (arith, one.0)
-
-  -- what was received goes on
-  longer : (s t : T) → WritesOn (rules.written s).writes (rules.written t).writes
-      → length (rules.written s).writes.received ≤ length (rules.written t).writes.received
-  longer s t writes = omega (
-    arith,
-    ap length writes.received.equal,
-    length-append (rules.written s).writes.received writes.received.more,
-  )
-
-  -- asks that came to an answer are such others
-  pub so_asked : {E : Type 0} (Such Other : Ask T → Type 0) → ((ask : Ask T) → Such ask → Other ask) → (answer : Result Bool E)
-      (ask : Ask T) → AskedTo rules answer Such ask → AskedTo rules answer Other ask
-  so_asked Such Other so (Ok true) ask is = (so ask is.0, is.1)
-  so_asked Such Other so (Ok false) ask is = so ask is
-  so_asked Such Other so (Err e) ask is = so ask is
-
-  pub also_asked : {E : Type 0} (Such : Ask T → Type 0) (answer : Result Bool E) (ask : Ask T) → AlsoAsked rules Such ask
-      → AskedTo rules answer Such ask × WasAsked rules ask.before ask.after
-  also_asked Such (Ok true) ask is = (is, is.1)
-  also_asked Such (Ok false) ask is = is
-  also_asked Such (Err e) ask is = is
 
   met_writes : (s t : T) → rules.read t ≡ rules.read s → WritesOnlyInterrupted rules s t → NoneFailed rules s t
   met_writes s t told met = record {
@@ -116,10 +93,10 @@ module _ {T W : Type 0} (rules : FilterRules T W) where
         abbrev pub goes_on : Goes rules (AskedTo rules answer Such) (option_map_or flushed_last (result_err answer) 0) first t
         goes_on =
             let more = option_map_or flushed_last (result_err answer) 0 in
-            Goes-joins rules (AskedTo rules answer Such) (AlsoAsked rules Such) (also_asked Such answer) more
+            Goes-joins rules (AskedTo rules answer Such) (AlsoAsked rules Such) (also_asked rules Such answer) more
             first s t before.goes before.not_given_up
             (Goes-weaker rules (AskedTo rules answer (AskedFrom rules s.filter)) (AskedTo rules answer Such)
-            (so_asked (AskedFrom rules s.filter) Such so answer) more s t next.goes)
+            (so_asked rules (AskedFrom rules s.filter) Such so answer) more s t next.goes)
 
         -- no turn gave up where a payload came
         pub not_given_up_on : OnTrue rules answer (NoneGaveUp rules goes_on.turns.turns)
@@ -179,7 +156,7 @@ module _ {T W : Type 0} (rules : FilterRules T W) where
         flushes = inl p.passes.flushes;
         quiet = λ drops sent. p.passes.flushes;
         more = elim p.passes.answers.3 [ inl more ↦ inl more | inr (drops, still) ↦ inr (drops, inl (p.passes.flushes, still)) ];
-        received = longer s.filter m.filter p.passes.writes;
+        received = longer rules s.filter m.filter p.passes.writes;
         ready = p.passes.ready;
         answers = (
           record { payloads = p.passes.answers.0 ∷ []; moves = p.passes.answers.1; all = refl },
@@ -196,7 +173,7 @@ module _ {T W : Type 0} (rules : FilterRules T W) where
         flushes = inl p.passes.flushes;
         quiet = λ drops sent. p.passes.flushes;
         more = tt;
-        received = longer s.filter m.filter p.passes.writes;
+        received = longer rules s.filter m.filter p.passes.writes;
         ready = p.passes.ready;
         answers = (
           none_first rules lawful s.filter m.filter p.passes.answers.0 p.passes.answers.1 p.passes.answers.3,
@@ -237,7 +214,7 @@ module _ {T W : Type 0} (rules : FilterRules T W) where
             more = more_after s.filter m.filter t.filter less
                 (λ drops quiet. inl (quiet.0 ∙ p.passes.flushes, λ sent. quiet.1 (p.passes.answers.4 drops sent))) answer
                 next.more;
-            received = omega (arith, longer s.filter m.filter p.passes.writes, next.received);
+            received = omega (arith, longer rules s.filter m.filter p.passes.writes, next.received);
             ready = next.ready;
             answers = answers_on Such 0 s m t before so answer next;
           }
@@ -257,7 +234,7 @@ module _ {T W : Type 0} (rules : FilterRules T W) where
         flushes = p.flushes.flushes;
         quiet = p.flushes.quiet;
         more = tt;
-        received = longer s.filter m.filter p.flushes.writes;
+        received = longer rules s.filter m.filter p.flushes.writes;
         ready = p.flushes.ready;
         answers = (
           none_first rules lawful s.filter m.filter [] p.flushes.moves (omega arith),
@@ -274,7 +251,7 @@ module _ {T W : Type 0} (rules : FilterRules T W) where
       abbrev goes : (more : ℕ) → Goes rules (AskedTo rules answer (AskedFrom rules s.filter)) more s t
       goes more = Goes-weaker rules (AskedTo rules answer (AskedFrom rules m.filter))
           (AskedTo rules answer (AskedFrom rules s.filter))
-          (so_asked (AskedFrom rules m.filter) (AskedFrom rules s.filter)
+          (so_asked rules (AskedFrom rules m.filter) (AskedFrom rules s.filter)
           (asked_after s.filter m.filter p.flushes.moves (flush_once s m (Ok tt) p)
           (StaysOpen-none rules s.filter m.filter p.flushes.told)) answer) more s t
           (Goes-turn rules (AskedTo rules answer (AskedFrom rules m.filter)) more s m t (flush_unasked s m (Ok tt) p) p.noted
@@ -304,7 +281,7 @@ module _ {T W : Type 0} (rules : FilterRules T W) where
       ]
 
       received : length (rules.written s.filter).writes.received ≤ length (rules.written t.filter).writes.received
-      received = omega (arith, longer s.filter m.filter p.flushes.writes, ap (λ l. length l.writes.received) turn.told)
+      received = omega (arith, longer rules s.filter m.filter p.flushes.writes, ap (λ l. length l.writes.received) turn.told)
 
       quiet : rules.drops → rules.sent s.filter
           → (rules.written t.filter).writes.flushes ≡ (rules.written s.filter).writes.flushes

@@ -1,14 +1,37 @@
 -- How calls of a filter, and of a link, follow one another.
-use Rattle.std.proofs.Common.{◌≡◌, ℕ, ◌+◌, ◌≤◌, inl, inr, List, [], ◌∷◌, ◌++◌, length, refl, sym, ap, subst, ◌∙◌, arith, append-nil, append_assoc, length-append, All, flat_map}
+use Rattle.std.proofs.Common.{◌≡◌, ℕ, ◌+◌, ◌≤◌, Bool, true, false, Result, Ok, Err, inl, inr, List, [], ◌∷◌, ◌++◌, length, refl, sym, ap, subst, ◌∙◌, arith, append-nil, append_assoc, length-append, All, flat_map}
 use Rattle.std.proofs.lemmas.Grind.{flat_map-append}
 use Rattle.std.proofs.lemmas.List.Elements.{All-append, All-cons, All-head, All-nil, All-tail, All-weaker}
 use Rattle.forward.specs.Filter.{AsksOnce, FilterRules, IsLawful, Moves, StaysOpen, WasAsked}
 use Rattle.forward.specs.Forward.{Forwarded, ForwardedFirst}
 use Rattle.forward.specs.Link.{Ask, AreTurns, AskedBefore, AsksAlong, EndsInterrupted, GivesUpLast, Goes, IsAsk, IsTurn, Linked, NoneGaveUp, NotAsked, states_of}
-use Rattle.forward.specs.Prompt.{AsksGiveOrFail}
+use Rattle.forward.specs.Prompt.{AsksGiveOrFail, WritesOn}
+use Rattle.forward.specs.Steps.{AlsoAsked, AskedTo}
 use Rattle.forward.specs.PromptLaws.{AsksGiveOrFail-joins, AsksGiveOrFail-none, WritesOn-none, WritesOn-joins}
 
 module _ {T W : Type 0} (rules : FilterRules T W) where
+  -- what was received goes on
+  pub longer : (s t : T) → WritesOn (rules.written s).writes (rules.written t).writes
+      → length (rules.written s).writes.received ≤ length (rules.written t).writes.received
+  longer s t writes = omega (
+    arith,
+    ap length writes.received.equal,
+    length-append (rules.written s).writes.received writes.received.more,
+  )
+
+  -- asks that came to an answer are such others
+  pub so_asked : {E : Type 0} (Such Other : Ask T → Type 0) → ((ask : Ask T) → Such ask → Other ask) → (answer : Result Bool E)
+      (ask : Ask T) → AskedTo rules answer Such ask → AskedTo rules answer Other ask
+  so_asked Such Other so (Ok true) ask is = (so ask is.0, is.1)
+  so_asked Such Other so (Ok false) ask is = so ask is
+  so_asked Such Other so (Err e) ask is = so ask is
+
+  pub also_asked : {E : Type 0} (Such : Ask T → Type 0) (answer : Result Bool E) (ask : Ask T) → AlsoAsked rules Such ask
+      → AskedTo rules answer Such ask × WasAsked rules ask.before ask.after
+  also_asked Such (Ok true) ask is = (is, is.1)
+  also_asked Such (Ok false) ask is = is
+  also_asked Such (Err e) ask is = is
+
   module _ (lawful : IsLawful rules) where
     pub Moves-none : (s : T) → Moves rules s [] [] s
     Moves-none s = record { hands = lawful.hands_none s; takes = lawful.takes_none s }

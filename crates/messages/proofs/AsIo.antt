@@ -14,7 +14,8 @@ use Rattle.chunked.specs.declared.error.Malformed.{Malformed}
 use Rattle.chunked.specs.declared.place.Place.{Place}
 use Rattle.messages.specs.declared.error.BodyError.{BodyError}
 use Rattle.messages.specs.Messages.{AskedIn, BecomesIo, EachReadGave, Fails, HandsMost, HasRoom, IsNamed, IsRest, Reader, ReaderTakes, body_error, body_rules, has_line, left_in, room_of, stream_of}
-use Rattle.messages.proofs.Going.{body_asked, body_done, body_fails, body_kept, body_named, body_room, body_take}
+use Rattle.messages.proofs.Asking.{body_asked}
+use Rattle.messages.proofs.Going.{body_done, body_fails, body_kept, body_named, body_room, body_take}
 use Rattle.messages.proofs.Handing.{hands_most}
 
 abbrev Reads : {R : Type 0} → (R → Option (List ℕ)) → Reader R → List ℕ → Result ℕ Error → Reader R → Type 0

@@ -1,11 +1,9 @@
--- What calls of the reader of a body take of it and of its stream, where they ask that, and why they fail.
-use Rattle.std.proofs.Common.{◌≡◌, ℕ, zero, suc, ◌+◌, ◌<◌, ◌≤◌, List, [], ◌∷◌, ◌++◌, length, take, ◌⊎◌, inl, inr, Option, Result, Ok, Err, sym, ap, subst, ◌∙◌, arith, refl, append-nil, length-append, replicate}
-use Rattle.std.proofs.lemmas.List.{length-replicate, length-take-le, nil_from_length}
-use Rattle.body_reader.specs.Asking.{AskedWhere}
-use Rattle.body_reader.specs.AskingLaws.{AskedWhere-of}
+-- What calls of the reader of a body take of it and of its stream, and why they fail.
+use Rattle.std.proofs.Common.{◌≡◌, ℕ, suc, ◌+◌, ◌<◌, ◌≤◌, List, [], ◌∷◌, ◌++◌, length, ◌⊎◌, inl, inr, Option, Err, sym, ap, subst, ◌∙◌, arith, refl, append-nil, length-append, replicate}
+use Rattle.std.proofs.lemmas.List.{length-replicate, nil_from_length}
 use Rattle.body_reader.specs.Between as between
 use Rattle.body_reader.specs.Between.{LeavesRoom}
-use Rattle.body_reader.specs.BodyReader.{BodyWent, Breaks, Drains, EndsEarly, IsBodyReader, NoPayload, ReadsPayload, TookWholeBody, handed_of}
+use Rattle.body_reader.specs.BodyReader.{BodyWent, Breaks, Drains, EndsEarly, IsBodyReader, NoPayload, TookWholeBody, handed_of}
 use Rattle.body_reader.specs.BodyReaderLaws.{BodyWent-leads}
 use Rattle.body_reader.specs.Coding.{Agree, AskedFor, IsDone, IsLawful, IsOpen, Leads, LeadsOpen, heeded}
 use Rattle.body_reader.specs.CodingLaws.{Agree-nothing, Leads-done, Leads-whole}
@@ -21,7 +19,7 @@ use Rattle.body_reader.specs.declared.sized.Sized.{Sized as OfLength}
 use Rattle.buffer_redux.specs.Block.{Block, OnKind, OnlyRingMoves, Plain}
 use Rattle.buffer_redux.specs.Policy.{std_read_rules}
 use Rattle.buffer_redux.specs.declared.policy.StdPolicy.{StdPolicy}
-use Rattle.buffer_redux.specs.Unbuffer.{StreamWent, Unbuffered, unbuffered}
+use Rattle.buffer_redux.specs.Unbuffer.{Unbuffered, unbuffered}
 use Rattle.buffer_redux.specs.UnbufferLaws.{ReadsAlong-stream}
 use Rattle.chunked.specs.Coding.{chunked}
 use Rattle.chunked.specs.CodingLaws.{chunked_lawful}
@@ -34,7 +32,7 @@ use Rattle.chunked.specs.declared.place.Place.{Place}
 use Rattle.chunked.specs.declared.place.Place.TheVariants.{Data, Done}
 use Rattle.chunked.proofs.Alive.{Completes-some}
 use Rattle.messages.specs.MessagesLaws.{same_room}
-use Rattle.messages.specs.Messages.{AskedIn, AsksForMore, Backward, BeginsRest, BodyCoding, Bytes, Chunks, Fails, FinishFails, GoesWrong, HasNextPayload, HasRoom, IsNamed, IsRest, Onward, Reader, ReaderTakes, Rest, RunsShort, TakesWholeRest, Unended, body_error, body_rules, has_line, left_in, rest_of, room_of, stream_of, sure_of}
+use Rattle.messages.specs.Messages.{AskedIn, Backward, BeginsRest, BodyCoding, Bytes, Chunks, Fails, FinishFails, GoesWrong, HasNextPayload, HasRoom, IsNamed, IsRest, Onward, Reader, ReaderTakes, Rest, RunsShort, TakesWholeRest, body_error, body_rules, has_line, left_in, rest_of, room_of, stream_of, sure_of}
 use Rattle.messages.specs.declared.error.BodyError.TheVariants.{Wrong, Io as Fault}
 use Rattle.std.specs.declared.io.Error.{Error}
 
@@ -53,7 +51,7 @@ completes_is (coding.First c) (side.Second place) is wire payload it = absurd is
 completes_is (coding.Second c) (side.Second place) is wire payload it = it
 completes_is (coding.Second c) (side.First left) is wire payload it = absurd is
 
-lawful : (c : BodyCoding) → IsLawful (body_rules c)
+pub lawful : (c : BodyCoding) → IsLawful (body_rules c)
 lawful = either_lawful (λ c. sized c.0) (λ c. chunked c.0) (λ c. sized_lawful c.0) (λ c. chunked_lawful c.0)
 
 -- what follows isn't heeded, and a byte is looked at
@@ -105,7 +103,7 @@ module _ (c : BodyCoding) (line : has_line c) (p : Side ℕ Place) (is : (body_r
       let further = o.settles_nothing.further end.0 end.1 end.2 agree in
       (end.0, end.1, omega (arith, further), rest_is c o.place o.is_place end.0 end.1 end.2)
 
-  goes_on : BeginsRest (rest_of c p) handed bytes
+  pub goes_on : BeginsRest (rest_of c p) handed bytes
   goes_on = subst (BeginsRest (rest_of c p) handed) (sym all_wire) (record {
     rest = rest_of c o.place;
     onward = onward_is c p o.place o.wire handed o.shown is o.is_place o.leads;
@@ -119,7 +117,7 @@ sure_is (coding.First c) (side.Second q) is = absurd is
 sure_is (coding.Second c) (side.First left) is = absurd is
 sure_is (coding.Second c) (side.Second q) is = refl
 
-asked_in : (c : BodyCoding) → has_line c → (p : Side ℕ Place) → (body_rules c).is_place p → (slice offer : ℕ)
+pub asked_in : (c : BodyCoding) → has_line c → (p : Side ℕ Place) → (body_rules c).is_place p → (slice offer : ℕ)
     (bytes : List ℕ) → AskedFor (body_rules c) p slice offer bytes → AskedIn (rest_of c p) slice offer bytes
 asked_in c line p is slice offer bytes asked =
     let o = asked.leads in
@@ -157,7 +155,7 @@ first_byte limits (Data (suc left)) settled b rest payload c = front_byte limits
 first_byte limits Done settled b rest payload c = absurd (let odd : b ∷ rest ≡ [] = c.1 in cc)
 first_byte limits place settled b rest payload c = absurd settled
 
-other_byte : (b : ℕ) (payload more : List ℕ) → payload ≡ b ∷ more
+pub other_byte : (b : ℕ) (payload more : List ℕ) → payload ≡ b ∷ more
     → (payload ≡ []) ⊎ ((later : List ℕ) × (payload ≡ suc b ∷ later)) → ⊥
 other_byte b payload more is (inl none) = let odd : [] ≡ b ∷ more = sym none ∙ is in cc
 other_byte b payload more is (inr other) =
@@ -194,7 +192,7 @@ module _ {S : Type 0} (u : Unbuffered S) where
     ap length (no_byte c o.place o.shown o.settles_nothing),
   )
 
-  ready_is : (c : BodyCoding) → has_line c → (p : Side ℕ Place) → (body_rules c).is_place p → HasNextPayload u (rest_of c p)
+  pub ready_is : (c : BodyCoding) → has_line c → (p : Side ℕ Place) → (body_rules c).is_place p → HasNextPayload u (rest_of c p)
       → IsDone (body_rules c) p ⊎ Settle c p
   ready_is (coding.First c) line (side.First n) is (inl none) = inl (sym none, refl)
   ready_is (coding.First c) line (side.First n) is (inr some) = inr (λ more o.
@@ -377,110 +375,4 @@ module _ {R : Type 0} {remaining : R → Option (List ℕ)} {s t : Reader R} (is
   drain_fails = elim drains.answers [
     | inl fails ↦ inl (body_fails is drains.whole drains.went e fails)
     | inr many ↦ inr (many.0, many_is many.0 many.1, many.2, many.3)
-  ]
-
--- where the stream is asked
-module _ {R : Type 0} {s : Reader R} (is : IsBodyReader (body_rules s.coding) s) (line : has_line s.coding) where
-  pub body_asked : (slice : ℕ) (t : Reader R)
-      → AskedWhere (AskedFor (body_rules s.coding) s.place slice (stream_of t).log.reads.offer) (stream_of s) (stream_of t)
-      → AskedWhere (AskedIn (left_in s) slice (stream_of t).log.reads.offer) (stream_of s) (stream_of t)
-  body_asked slice t =
-      let offer = (stream_of t).log.reads.offer in
-      AskedWhere-of (AskedFor (body_rules s.coding) s.place slice offer) (AskedIn (left_in s) slice offer) (stream_of s)
-      (stream_of t) (λ more asked. asked_in s.coding line s.place is.place slice offer (s.reader.block.bytes ++ more) asked)
-
-  pub drain_asked : {remaining : R → Option (List ℕ)} {answer : Result (Unit {0}) (Unread (Side (Unit {0}) Malformed))}
-      {t : Reader R} → Drains remaining std_read_rules (body_rules s.coding) s answer t
-      → AskedWhere (Unended (left_in s)) (stream_of s) (unbuffered t.reader)
-  drain_asked {remaining} {answer} {t} drains =
-      AskedWhere-of (λ bytes. (dropped : List ℕ) × LeadsOpen (body_rules s.coding) s.place dropped bytes)
-      (Unended (left_in s)) (stream_of s) (unbuffered t.reader)
-      (λ more o. (o.0, goes_on s.coding line s.place is.place o.0 (s.reader.block.bytes ++ more) o.1)) drains.asked
-
-  pub body_idle : {remaining : R → Option (List ℕ)} {out : List ℕ} {answer : Result ℕ (Unread (Side (Unit {0}) Malformed))}
-      {t : Reader R}
-      → ReadsPayload remaining std_read_rules (body_rules s.coding) s out answer t → HasNextPayload (stream_of s) (left_in s)
-      → (stream_of t).log ≡ (stream_of s).log
-  body_idle {remaining} {out} {answer} {t} reads ready = elim (ready_is (stream_of s) s.coding line s.place is.place ready) [
-    | inl done ↦ ap (λ b. b.log) (reads.idle (inl (Leads-whole (body_rules s.coding) s.taken (handed_of s) s.place
-        (heeded (body_rules s.coding) s.reader.block.bytes) is.leads done)))
-    | inr settles ↦ elim reads.asked [
-      | inl same ↦ same
-      | inr over ↦ absurd (settles over.came over.such.leads)
-    ]
-  ]
-
--- no byte holds no payload
-other_front : (left h : ℕ) (more : List ℕ) → replicate {A = ℕ} left (suc h) ≡ h ∷ more → ⊥
-other_front zero h more is = let odd : [] ≡ h ∷ more = is in cc
-other_front (suc left) h more is =
-    let same : suc h ∷ replicate {A = ℕ} left (suc h) ≡ h ∷ more = is in
-    let head : suc h ≡ h = cc in
-    omega (arith, head)
-
-no_payload : (c : BodyCoding) → has_line c → (p : Side ℕ Place) → (body_rules c).is_place p → (handed : List ℕ) (r : Rest)
-    → Backward (rest_of c p) [] handed r → handed ≡ []
-no_payload c line p is [] r back = refl
-no_payload (coding.First c) line (side.First left) is (h ∷ handed) r back =
-    let rest = replicate {A = ℕ} left (suc h) in
-    let of = back rest rest (length-replicate left (suc h), refl) in
-    absurd (other_front left h (handed ++ of.0) of.1)
-no_payload (coding.First c) line (side.Second q) is (h ∷ handed) r back = absurd is
-no_payload (coding.Second c) line (side.Second q) is (h ∷ handed) r back =
-    let end = Completes-some c.0 (suc h) line q is in
-    let of = back end.rest end.payload end.completes in
-    absurd (other_byte h end.payload (handed ++ of.0) of.1 end.plain)
-no_payload (coding.Second c) line (side.First left) is (h ∷ handed) r back = absurd is
-
--- where nothing was left, and nobody was asked, nothing was taken
-nothing_came : {S : Type 0} (remaining : S → Option (List ℕ)) (s t : Unbuffered S) (wire : List ℕ)
-    → StreamWent remaining s wire t → t.log ≡ s.log → s.left ≡ [] → (wire ≡ []) × (t.left ≡ [])
-nothing_came remaining s t wire went same none =
-    let few : length wire + length t.left ≡ 0 = omega (
-      arith,
-      ap length went.order.equal,
-      length-append wire t.left,
-      length-append s.left went.order.got,
-      ap length none,
-      ap length went.order.given,
-      length-append s.log.reads.given went.order.got,
-      ap (λ l. length l.reads.given) same,
-    ) in
-    (nil_from_length wire (omega (arith, few)), nil_from_length t.left (omega (arith, few)))
-
--- so a read of a body that goes on asks the stream then
-module _ {R : Type 0} {remaining : R → Option (List ℕ)} {s t : Reader R} (is : IsBodyReader (body_rules s.coding) s)
-    (room : HasRoom s) {out : List ℕ} where
-  never_unasked : (answer : Result ℕ (Unread (Side (Unit {0}) Malformed)))
-      → ReadsPayload remaining std_read_rules (body_rules s.coding) s out answer t
-      → (stream_of t).log ≡ (stream_of s).log → (stream_of s).left ≡ [] → 0 < length out → ¬ (¬ (IsRest (left_in s) [] []))
-  never_unasked (Ok n) reads same none some goes_on =
-      let took = (body_take is reads.whole reads.went room).0 in
-      let empty = nothing_came remaining (stream_of s) (stream_of t) took.wire took.went same none in
-      let handed : take n out ≡ [] = no_payload s.coding room.1 s.place is.place (take n out) (left_in t)
-      (subst (λ l. Backward (left_in s) l (take n out) (left_in t)) empty.0 took.backward) in
-      let none_of : n ≡ 0 = omega (arith, ap length handed, length-take-le n out reads.answers.0) in
-      let ended = body_done is reads.whole reads.went (reads.answers.2 none_of some) in
-      goes_on (subst (λ l. IsRest (left_in s) [] (l ++ [])) handed
-      (subst (λ l. IsRest (left_in s) (l ++ []) (take n out ++ [])) empty.0 (took.onward [] [] ended)))
-  never_unasked (Err (unread.Wrong why right)) reads same none some goes_on =
-      let took = (body_take is reads.whole reads.went room).0 in
-      let empty = nothing_came remaining (stream_of s) (stream_of t) took.wire took.went same none in
-      (lawful s.coding).none_wrong t.place why reads.whole.place
-      (subst (λ l. (body_rules s.coding).wrong t.place l why) empty.1 reads.answers.2.name)
-  never_unasked (Err (unread.Truncated right)) reads same none some goes_on =
-      omega (arith, reads.answers.1.1, ap (λ l. l.reads.zero_reads) same)
-  never_unasked (Err (unread.Io e)) reads same none some goes_on = omega (
-    arith,
-    ap length reads.answers.0.0,
-    length-append s.reader.log.reads.faults (e ∷ []),
-    ap (λ l. length l.reads.faults) same,
-  )
-
-  pub body_asks : (answer : Result ℕ (Unread (Side (Unit {0}) Malformed)))
-      → ReadsPayload remaining std_read_rules (body_rules s.coding) s out answer t
-      → AsksForMore (stream_of s) (left_in s) out (stream_of t)
-  body_asks answer reads none some goes_on = elim reads.asked [
-    | inl same ↦ absurd (never_unasked answer reads same none some goes_on)
-    | inr over ↦ over.some
   ]

@@ -1,4 +1,5 @@
 pub mod AsIo
+pub mod Asking
 pub mod Going
 pub mod Handing
 pub mod Said

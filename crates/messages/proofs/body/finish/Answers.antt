@@ -1,7 +1,8 @@
 -- What the drain did, told of the rest of the body: all of that went, or a part, and why no more.
 use Rattle.std.proofs.Common.{ap, inl, inr, subst, sym}
 use Rattle.messages.specs.Messages.{IsNamed}
-use Rattle.messages.proofs.Going.{body_end, body_kept, body_named, body_room, body_still, body_take, drain_asked, drain_fails}
+use Rattle.messages.proofs.Asking.{drain_asked}
+use Rattle.messages.proofs.Going.{body_end, body_kept, body_named, body_room, body_still, body_take, drain_fails}
 use Rattle.messages.proofs.body.finish.Goals as goal
 
 pub returns-in-Ok-clause-room : goal.returns-in-Ok-clause-room

@@ -1,7 +1,8 @@
 -- What the reader did, told of the rest of the body: what it took leads to what is left of that.
 use Rattle.std.proofs.Common.{◌≡◌, Err, Ok, ap, inr}
 use Rattle.buffer_redux.specs.Unbuffer.{unbuffered}
-use Rattle.messages.proofs.Going.{body_asked, body_asks, body_done, body_fails, body_idle, body_kept, body_named, body_room, body_take}
+use Rattle.messages.proofs.Asking.{body_asked, body_asks, body_idle}
+use Rattle.messages.proofs.Going.{body_done, body_fails, body_kept, body_named, body_room, body_take}
 use Rattle.messages.proofs.Handing.{hands_most}
 use Rattle.messages.proofs.body.read.Goals as goal
 

@@ -1,0 +1,126 @@
+-- Where calls of the reader of a body ask its stream, and where they don't.
+use Rattle.std.proofs.Common.{◌≡◌, ℕ, zero, suc, ◌+◌, ◌<◌, List, [], ◌∷◌, ◌++◌, length, take, inl, inr, Option, Result, Ok, Err, ap, subst, arith, refl, length-append, replicate}
+use Rattle.std.proofs.lemmas.List.{length-replicate, length-take-le, nil_from_length}
+use Rattle.body_reader.specs.Asking.{AskedWhere}
+use Rattle.body_reader.specs.AskingLaws.{AskedWhere-of}
+use Rattle.body_reader.specs.BodyReader.{Drains, IsBodyReader, ReadsPayload, handed_of}
+use Rattle.body_reader.specs.declared.error.BodyError.{BodyError as Unread}
+use Rattle.body_reader.specs.declared.error.BodyError.TheVariants as unread
+use Rattle.body_reader.specs.declared.either.Either.TheVariants as coding
+use Rattle.body_reader.specs.declared.either.Side.{Side}
+use Rattle.body_reader.specs.declared.either.Side.TheVariants as side
+use Rattle.body_reader.specs.Coding.{AskedFor, LeadsOpen, heeded}
+use Rattle.body_reader.specs.CodingLaws.{Leads-whole}
+use Rattle.buffer_redux.specs.Policy.{std_read_rules}
+use Rattle.buffer_redux.specs.Unbuffer.{StreamWent, Unbuffered, unbuffered}
+use Rattle.chunked.specs.declared.error.Malformed.{Malformed}
+use Rattle.chunked.specs.declared.place.Place.{Place}
+use Rattle.chunked.proofs.Alive.{Completes-some}
+use Rattle.messages.specs.Messages.{AskedIn, AsksForMore, Backward, BodyCoding, HasNextPayload, HasRoom, IsRest, Reader, Rest, Unended, body_rules, has_line, left_in, rest_of, stream_of}
+use Rattle.messages.proofs.Going.{asked_in, body_done, body_take, goes_on, lawful, other_byte, ready_is}
+
+-- where the stream is asked
+module _ {R : Type 0} {s : Reader R} (is : IsBodyReader (body_rules s.coding) s) (line : has_line s.coding) where
+  pub body_asked : (slice : ℕ) (t : Reader R)
+      → AskedWhere (AskedFor (body_rules s.coding) s.place slice (stream_of t).log.reads.offer) (stream_of s) (stream_of t)
+      → AskedWhere (AskedIn (left_in s) slice (stream_of t).log.reads.offer) (stream_of s) (stream_of t)
+  body_asked slice t =
+      let offer = (stream_of t).log.reads.offer in
+      AskedWhere-of (AskedFor (body_rules s.coding) s.place slice offer) (AskedIn (left_in s) slice offer) (stream_of s)
+      (stream_of t) (λ more asked. asked_in s.coding line s.place is.place slice offer (s.reader.block.bytes ++ more) asked)
+
+  pub drain_asked : {remaining : R → Option (List ℕ)} {answer : Result (Unit {0}) (Unread (Side (Unit {0}) Malformed))}
+      {t : Reader R} → Drains remaining std_read_rules (body_rules s.coding) s answer t
+      → AskedWhere (Unended (left_in s)) (stream_of s) (unbuffered t.reader)
+  drain_asked {remaining} {answer} {t} drains =
+      AskedWhere-of (λ bytes. (dropped : List ℕ) × LeadsOpen (body_rules s.coding) s.place dropped bytes)
+      (Unended (left_in s)) (stream_of s) (unbuffered t.reader)
+      (λ more o. (o.0, goes_on s.coding line s.place is.place o.0 (s.reader.block.bytes ++ more) o.1)) drains.asked
+
+  pub body_idle : {remaining : R → Option (List ℕ)} {out : List ℕ} {answer : Result ℕ (Unread (Side (Unit {0}) Malformed))}
+      {t : Reader R}
+      → ReadsPayload remaining std_read_rules (body_rules s.coding) s out answer t → HasNextPayload (stream_of s) (left_in s)
+      → (stream_of t).log ≡ (stream_of s).log
+  body_idle {remaining} {out} {answer} {t} reads ready = elim (ready_is (stream_of s) s.coding line s.place is.place ready) [
+    | inl done ↦ ap (λ b. b.log) (reads.idle (inl (Leads-whole (body_rules s.coding) s.taken (handed_of s) s.place
+        (heeded (body_rules s.coding) s.reader.block.bytes) is.leads done)))
+    | inr settles ↦ elim reads.asked [
+      | inl same ↦ same
+      | inr over ↦ absurd (settles over.came over.such.leads)
+    ]
+  ]
+
+-- no byte holds no payload
+other_front : (left h : ℕ) (more : List ℕ) → replicate {A = ℕ} left (suc h) ≡ h ∷ more → ⊥
+other_front zero h more is = let odd : [] ≡ h ∷ more = is in cc
+other_front (suc left) h more is =
+    let same : suc h ∷ replicate {A = ℕ} left (suc h) ≡ h ∷ more = is in
+    let head : suc h ≡ h = cc in
+    omega (arith, head)
+
+no_payload : (c : BodyCoding) → has_line c → (p : Side ℕ Place) → (body_rules c).is_place p → (handed : List ℕ) (r : Rest)
+    → Backward (rest_of c p) [] handed r → handed ≡ []
+no_payload c line p is [] r back = refl
+no_payload (coding.First c) line (side.First left) is (h ∷ handed) r back =
+    let rest = replicate {A = ℕ} left (suc h) in
+    let of = back rest rest (length-replicate left (suc h), refl) in
+    absurd (other_front left h (handed ++ of.0) of.1)
+no_payload (coding.First c) line (side.Second q) is (h ∷ handed) r back = absurd is
+no_payload (coding.Second c) line (side.Second q) is (h ∷ handed) r back =
+    let end = Completes-some c.0 (suc h) line q is in
+    let of = back end.rest end.payload end.completes in
+    absurd (other_byte h end.payload (handed ++ of.0) of.1 end.plain)
+no_payload (coding.Second c) line (side.First left) is (h ∷ handed) r back = absurd is
+
+-- where nothing was left, and nobody was asked, nothing was taken
+nothing_came : {S : Type 0} (remaining : S → Option (List ℕ)) (s t : Unbuffered S) (wire : List ℕ)
+    → StreamWent remaining s wire t → t.log ≡ s.log → s.left ≡ [] → (wire ≡ []) × (t.left ≡ [])
+nothing_came remaining s t wire went same none =
+    let few : length wire + length t.left ≡ 0 = omega (
+      arith,
+      ap length went.order.equal,
+      length-append wire t.left,
+      length-append s.left went.order.got,
+      ap length none,
+      ap length went.order.given,
+      length-append s.log.reads.given went.order.got,
+      ap (λ l. length l.reads.given) same,
+    ) in
+    (nil_from_length wire (omega (arith, few)), nil_from_length t.left (omega (arith, few)))
+
+-- so a read of a body that goes on asks the stream then
+module _ {R : Type 0} {remaining : R → Option (List ℕ)} {s t : Reader R} (is : IsBodyReader (body_rules s.coding) s)
+    (room : HasRoom s) {out : List ℕ} where
+  never_unasked : (answer : Result ℕ (Unread (Side (Unit {0}) Malformed)))
+      → ReadsPayload remaining std_read_rules (body_rules s.coding) s out answer t
+      → (stream_of t).log ≡ (stream_of s).log → (stream_of s).left ≡ [] → 0 < length out → ¬ (¬ (IsRest (left_in s) [] []))
+  never_unasked (Ok n) reads same none some goes_on =
+      let took = (body_take is reads.whole reads.went room).0 in
+      let empty = nothing_came remaining (stream_of s) (stream_of t) took.wire took.went same none in
+      let handed : take n out ≡ [] = no_payload s.coding room.1 s.place is.place (take n out) (left_in t)
+      (subst (λ l. Backward (left_in s) l (take n out) (left_in t)) empty.0 took.backward) in
+      let none_of : n ≡ 0 = omega (arith, ap length handed, length-take-le n out reads.answers.0) in
+      let ended = body_done is reads.whole reads.went (reads.answers.2 none_of some) in
+      goes_on (subst (λ l. IsRest (left_in s) [] (l ++ [])) handed
+      (subst (λ l. IsRest (left_in s) (l ++ []) (take n out ++ [])) empty.0 (took.onward [] [] ended)))
+  never_unasked (Err (unread.Wrong why right)) reads same none some goes_on =
+      let took = (body_take is reads.whole reads.went room).0 in
+      let empty = nothing_came remaining (stream_of s) (stream_of t) took.wire took.went same none in
+      (lawful s.coding).none_wrong t.place why reads.whole.place
+      (subst (λ l. (body_rules s.coding).wrong t.place l why) empty.1 reads.answers.2.name)
+  never_unasked (Err (unread.Truncated right)) reads same none some goes_on =
+      omega (arith, reads.answers.1.1, ap (λ l. l.reads.zero_reads) same)
+  never_unasked (Err (unread.Io e)) reads same none some goes_on = omega (
+    arith,
+    ap length reads.answers.0.0,
+    length-append s.reader.log.reads.faults (e ∷ []),
+    ap (λ l. length l.reads.faults) same,
+  )
+
+  pub body_asks : (answer : Result ℕ (Unread (Side (Unit {0}) Malformed)))
+      → ReadsPayload remaining std_read_rules (body_rules s.coding) s out answer t
+      → AsksForMore (stream_of s) (left_in s) out (stream_of t)
+  body_asks answer reads none some goes_on = elim reads.asked [
+    | inl same ↦ absurd (never_unasked answer reads same none some goes_on)
+    | inr over ↦ over.some
+  ]
