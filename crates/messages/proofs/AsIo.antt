@@ -13,8 +13,8 @@ use Rattle.buffer_redux.specs.Unbuffer.{unbuffered}
 use Rattle.chunked.specs.declared.error.Malformed.{Malformed}
 use Rattle.chunked.specs.declared.place.Place.{Place}
 use Rattle.messages.specs.declared.error.BodyError.{BodyError}
-use Rattle.messages.specs.Messages.{AskedIn, BecomesIo, EachReadGave, Fails, HandsMost, HasRoom, IsNamed, IsRest, Reader, ReaderTakes, body_error, body_rules, has_line, left_in, room_of, stream_of}
-use Rattle.messages.proofs.Asking.{body_asked}
+use Rattle.messages.specs.Messages.{AskedIn, AsksForMore, BecomesIo, EachReadGave, Fails, HandsMost, HasRoom, IsNamed, IsRest, Reader, ReaderTakes, body_error, body_rules, has_line, left_in, room_of, stream_of}
+use Rattle.messages.proofs.Asking.{body_asked, body_asks}
 use Rattle.messages.proofs.Going.{body_done, body_fails, body_kept, body_named, body_room, body_take}
 use Rattle.messages.proofs.Handing.{hands_most}
 
@@ -66,6 +66,11 @@ module _ {R : Type 0} (remaining : R → Option (List ℕ)) (s t : Reader R) (is
       → AskedWhere (AskedIn (left_in s) (length out) (stream_of t).log.reads.offer) (stream_of s) (stream_of t)
   io_asked (Ok n) reads line = body_asked is line (length out) t reads.asked
   io_asked (Err e) (why, reads, becomes) line = body_asked is line (length out) t reads.asked
+
+  pub io_asks : (answer : Result ℕ Error) → Reads remaining s out answer t → HasRoom s
+      → AsksForMore (stream_of s) (left_in s) out (stream_of t)
+  io_asks (Ok n) reads room = body_asks is room (Ok n) reads
+  io_asks (Err e) (why, reads, becomes) room = body_asks is room (Err why) reads
 
   pub io_most : (answer : Result ℕ Error) → Reads remaining s out answer t
       → IfOk answer (λ n. 0 < n → HandsMost (left_in s) s.taken s.known out n t.taken t.known (stream_of t).left)

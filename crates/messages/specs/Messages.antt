@@ -289,6 +289,7 @@ pub record ReadsAsIo {S : Type 0} (remaining : S → Option (List ℕ)) (s : InB
   pub ended : answer ≡ Ok 0 → 0 < length out → IsRest t.rest [] []
   pub fails : IfErr answer (λ e. (why : BodyError) × Fails s.stream why t.stream t.rest × BecomesIo why e)
   pub asked : AskedWhere (AskedIn s.rest (length out) t.stream.log.reads.offer) s.stream t.stream
+  pub asks : AsksForMore s.stream s.rest out t.stream
   pub all : IfOk answer (λ n. 0 < n → HandsMost s.rest s.taken s.known out n t.taken t.known t.stream.left)
   -- a slice that is empty asks for nothing
   pub none : length out ≡ 0 → (answer ≡ Ok 0) × (t.stream ≡ s.stream)

@@ -5,7 +5,7 @@ ghost use Rattle.std.specs.Io.KnownBytes.{ReadConsumes};
 ghost use Rattle.body_reader.specs.Asking.{AskedWhere};
 ghost use Rattle.body_reader.specs.Between.{handed_out};
 ghost use Rattle.buffer_redux.specs.StreamLog.{after_read};
-ghost use Rattle.messages.specs.Messages.{AskedIn, BecomesIo, EachReadGave, Fails, HandsMost, HasRoom, IsRest, ReaderTakes, ReadsAsIo, left_in, room_of, stream_of};
+ghost use Rattle.messages.specs.Messages.{AskedIn, AsksForMore, BecomesIo, EachReadGave, Fails, HandsMost, HasRoom, IsRest, ReaderTakes, ReadsAsIo, left_in, room_of, stream_of};
 
 use crate::body::{Body, BodyCoding};
 use crate::error::BodyError;
@@ -60,6 +60,7 @@ fn read_told<R: TellRead>(
         × Fails (stream_of reader.old) why (stream_of reader.new) (left_in reader.new) × BecomesIo why e) }
     ensures asked { AskedWhere (AskedIn (left_in reader.old) (length out.new) (stream_of reader.new).log.reads.offer)
         (stream_of reader.old) (stream_of reader.new) }
+    ensures asks { AsksForMore (stream_of reader.old) (left_in reader.old) out.new (stream_of reader.new) }
     ensures all { IfOk result (λ n. 0 < n → HandsMost (left_in reader.old) reader.old.taken reader.old.known out.new n
         reader.new.taken reader.new.known (stream_of reader.new).left) }
     ensures none { length out.new ≡ 0 → (result ≡ Ok 0) × (stream_of reader.new ≡ stream_of reader.old) }

@@ -1,5 +1,5 @@
 -- What a read as std's did, told of the rest of the body; what its calls tell changes none of that.
-use Rattle.messages.proofs.AsIo.{io_asked, io_ended, io_fails, io_gave, io_most, io_none, io_room, io_take}
+use Rattle.messages.proofs.AsIo.{io_asked, io_asks, io_ended, io_fails, io_gave, io_most, io_none, io_room, io_take}
 use Rattle.messages.proofs.body.tells.read_told.Goals as goal
 
 pub returns : goal.returns
@@ -22,6 +22,7 @@ returns g c =
       gave = io_gave remaining s t is out answer reads;
       fails = io_fails remaining s t is out answer reads;
       asked = io_asked remaining s t is out answer reads c.requires.1;
+      asks = io_asks remaining s t is out answer reads c.requires;
       all = io_most remaining s t is out answer reads;
       none = io_none remaining s t is out answer reads;
     }

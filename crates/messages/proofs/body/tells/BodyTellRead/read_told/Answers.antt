@@ -29,6 +29,7 @@ returns-clause-read g c =
       ended = reads.ended;
       fails = reads.fails;
       asked = reads.asked;
+      asks = reads.asks;
       all = reads.all;
       none = reads.none;
     })
