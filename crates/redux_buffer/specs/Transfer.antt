@@ -1,11 +1,12 @@
 -- What goes between a buffer and a stream.
-use Rattle.std.specs.Prelude.{◌≡◌, ℕ, ◌+◌, ◌*◌, ◌≤◌, ◌<◌, List, ◌++◌, length, min, take, Result, Ok, MatchResult, IfErr, OnOk, OnErr}
+use Rattle.std.specs.Prelude.{◌≡◌, ℕ, ◌+◌, ◌*◌, ◌≤◌, ◌<◌, ◌⊎◌, List, ◌++◌, length, min, take, Result, Ok, Err, MatchResult, IfErr, OnOk, OnErr}
 use Rattle.std.specs.Io.{ReadsAtMost, WritesAtMost}
 use Rattle.std.specs.List.{All}
 use Rattle.std.specs.declared.io.Error.{Error}
 use Rattle.redux_buffer.specs.Block.{Block, Extends, ConsumesFirst, OnlyRingMoves, usable}
 use Rattle.redux_buffer.specs.StreamLog.{StreamLog, portion, with_zero, with_short, with_fault, after_read, after_write}
 use Rattle.redux_buffer.specs.Faults.{IsInterrupt, OnlyInterrupted, interrupt_limit, SendFailed}
+use Rattle.redux_buffer.specs.Retried.{Retried}
 
 -- one read into the whole tail, which left it as out; what was given stands behind the bytes
 pub record ReadsOnce (old : Block) (log : StreamLog) (answer : Result ℕ Error) (new : Block)
@@ -43,6 +44,24 @@ pub record Offers {W : Type 0} (tells : W → StreamLog) (trace : W → W → Ty
   pub bound : WritesAtMost answer bs
   pub told : tells t ≡ after_write (tells s) bs answer
   pub traced : trace s t
+
+-- a row of writes begins where a call does, or behind a write that took bytes
+abbrev pub BeginsRow : {W : Type 0} → (W → StreamLog) → (W → W → Type 0) → W → W → Type 0
+BeginsRow {W} tells trace w begun =
+    (begun ≡ w) ⊎ ((before : W) × (bs : List ℕ) × (n : ℕ) × (0 < n) × Offers tells trace bs before (Ok n) begun)
+
+-- the row of writes that a call ended in: of the same bytes, the last with this answer, and each before it interrupted
+pub record LastRow {W : Type 0} (tells : W → StreamLog) (trace : W → W → Type 0) (answer : Result ℕ Error) (w w' : W)
+    : Type 0 where
+  pub begun : W
+  pub went : trace w begun
+  pub begins : BeginsRow tells trace w begun
+  pub bytes : List ℕ
+  pub row : Retried (Offers tells trace bytes) begun answer w'
+
+-- the row of writes that a call with this error ended in: its last write answered the error, or took nothing
+abbrev pub FailedRow : {W : Type 0} → (W → StreamLog) → (W → W → Type 0) → Error → W → W → Type 0
+FailedRow tells trace e w w' = LastRow tells trace (Err e) w w' ⊎ LastRow tells trace (Ok 0) w w'
 
 -- a write of bs, asked again where it was interrupted, up to the limit, and `Interrupted` is answered only then
 pub record WritesRetried (bs : List ℕ) (log : StreamLog) (answer : Result ℕ Error) (log' : StreamLog) : Type 0 where

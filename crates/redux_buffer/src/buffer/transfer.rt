@@ -1,10 +1,11 @@
 //! What a buffer reads from and writes to a stream.
-ghost use Rattle.std.specs.Prelude.{◌≡◌, ℕ, ◌+◌, ◌<◌, ◌≤◌, ◌⊎◌, ◌++◌, length, min, take, drop, Ok, IfOk, MatchResult, OnOk, OnErr, ⊤};
+ghost use Rattle.std.specs.Prelude.{◌≡◌, ℕ, ◌+◌, ◌<◌, ◌≤◌, ◌⊎◌, ◌++◌, length, min, take, drop, Ok, IfOk, IfErr, MatchResult, OnOk, OnErr, ⊤};
 ghost use Rattle.std.specs.Io.{WritesAtMost};
 ghost use Rattle.std.specs.Io.KnownBytes.{IsAtEnd};
 ghost use Rattle.redux_buffer.specs.Block.{IsBlock, LeavesBytes, OnlyRingMoves, usable};
 ghost use Rattle.redux_buffer.specs.GivesRemaining.{GivesRemaining};
-ghost use Rattle.redux_buffer.specs.Transfer.{Offers, ReadsFrom, WritesTo, WritesRetried, Sends};
+ghost use Rattle.redux_buffer.specs.Retried.{Retried};
+ghost use Rattle.redux_buffer.specs.Transfer.{Offers, ReadsFrom, WritesTo, WritesRetried, Sends, FailedRow};
 
 use crate::buffer::Buffer;
 use crate::retry::{Attempt, retried};
@@ -67,6 +68,7 @@ impl Buffer {
             → (result ≡ Ok tt) × (wrt.new ≡ wrt.old) × (self.new ≡ self.old) }
         ensures trace { W.trace wrt.old wrt.new }
         ensures sent { Sends max self.old (W.log wrt.old) result self.new (W.log wrt.new) }
+        ensures row { IfErr result (λ e. FailedRow W.log W.trace e wrt.old wrt.new) }
         ensures whole { IsBlock self.new }
     {
         let mut left = max.min(self.len());
@@ -93,6 +95,7 @@ impl Buffer {
             → (result ≡ Ok tt) × (wrt.new ≡ wrt.old) × (self.new ≡ self.old) }
         ensures trace { W.trace wrt.old wrt.new }
         ensures sent { Sends (length self.old.bytes) self.old (W.log wrt.old) result self.new (W.log wrt.new) }
+        ensures row { IfErr result (λ e. FailedRow W.log W.trace e wrt.old wrt.new) }
         ensures whole { IsBlock self.new }
     {
         let len = self.len();
@@ -127,6 +130,7 @@ impl<W: TellWrite> Attempt<W> for Offer<'_> {
 #[inline(always)]
 fn write_retried<W: TellWrite>(wrt: &mut W, bytes: &[u8]) -> io::Result<usize>
     ensures bound { WritesAtMost result bytes.now }
+    ensures retried { Retried (Offers W.log W.trace bytes.now) wrt.old result wrt.new }
     ensures wrote { WritesRetried bytes.now (W.log wrt.old) result (W.log wrt.new) }
     ensures trace { W.trace wrt.old wrt.new }
 {

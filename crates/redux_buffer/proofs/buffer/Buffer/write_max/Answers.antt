@@ -1,5 +1,5 @@
 -- What a write took follows what was sent before; only one that leaves nothing took all that it was offered.
-use Rattle.std.proofs.Common.{◌≡◌, ◌≤◌, ◌<◌, ◌+◌, ◌-◌, [], ◌++◌, length, arith, rules, ap, ◌∙◌, length-append, length-drop, length-take-le}
+use Rattle.std.proofs.Common.{◌≡◌, ◌≤◌, ◌<◌, ◌+◌, ◌-◌, [], ◌++◌, length, arith, rules, ap, ◌∙◌, inl, inr, refl, length-append, length-drop, length-take-le}
 use Rattle.redux_buffer.specs.Faults.{OnlyInterrupted-none}
 use Rattle.redux_buffer.proofs.Sending.{Sent-more, only_more, short_more, whole_more, sends_failed, sends_nothing}
 use Rattle.redux_buffer.proofs.buffer.Buffer.write_max.Goals as goal
@@ -22,6 +22,22 @@ returns-in-Ok-eq0-clause-sent g c =
     sends_nothing inv.count inv.interrupts left _ _ _ _ _ inv.sent inv.only inv.few c.args.max c.in-Ok-eq0.field-0 c.from.result
     (inv.short (omega arith)) (omega (arith, inv.rest)) c.in-Ok-eq0.field-0-test (omega (arith, size)) c.from.ensures wrote
 
+pub returns-in-Err-clause-row : goal.returns-in-Err-clause-row
+returns-in-Err-clause-row g c =
+    let inv = c.loop-left.invariant in
+    inl (record { begun = c.loop-left.wrt; went = inv.trace; begins = inv.begins; bytes = _; row = c.in-Err.ensures.retried })
+
+pub returns-in-Ok-eq0-clause-row : goal.returns-in-Ok-eq0-clause-row
+returns-in-Ok-eq0-clause-row g c =
+    let inv = c.loop-left.invariant in
+    inr (record {
+      begun = c.loop-left.wrt;
+      went = inv.trace;
+      begins = inv.begins;
+      bytes = _;
+      row = rw c.in-Ok-eq0.field-0-test at c.in-Ok-eq0.ensures.retried;
+    })
+
 pub loop-left-init : goal.loop-left-init
 loop-left-init g c = record {
   count = 0;
@@ -36,6 +52,7 @@ loop-left-init g c = record {
   short = λ _. (omega arith, omega arith);
   last = λ _ some. absurd (omega (arith, some));
   trace = search rules;
+  begins = inl refl;
   whole = search rules;
 }
 
@@ -67,5 +84,6 @@ loop-left-preserved g c =
           (inv.short (omega (arith, some, fits))) wrote (omega (arith, none, size));
       untouched = λ none. absurd (omega (arith, none, some));
       trace = g.met.W.TellWrite.trace_joins _ _ _ inv.trace c.in-Ok.ensures.trace;
+      begins = inr (c.in-Ok.ensures.retried.last, _, n, some, c.in-Ok.ensures.retried.went);
       whole = c.consume.ensures.whole;
     }

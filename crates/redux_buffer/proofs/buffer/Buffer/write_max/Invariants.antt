@@ -2,7 +2,7 @@ use Rattle.std.proofs.Common.{◌≡◌, ◌<◌, ◌≤◌, ◌+◌, ◌*◌, �
 use Rattle.std.specs.declared.io.Error.{Error}
 use Rattle.redux_buffer.specs.Block.{IsBlock}
 use Rattle.redux_buffer.specs.Faults.{OnlyInterrupted}
-use Rattle.redux_buffer.specs.Transfer.{Sent}
+use Rattle.redux_buffer.specs.Transfer.{BeginsRow, Sent}
 use Rattle.redux_buffer.proofs.Sending.{WholeWrites}
 use Rattle.redux_buffer.proofs.buffer.Buffer.write_max.Given as goal
 
@@ -20,6 +20,7 @@ invariant-loop-left g l = record {
   last : l.left ≡ 0 → 0 < count → WholeWrites 1 (g.W.Tell.log l.initial.wrt).writes (g.W.Tell.log l.wrt).writes;
   untouched : count ≡ 0 → (l.wrt ≡ l.initial.wrt) × (l.self ≡ l.initial.self);
   trace : g.W.TellWrite.trace l.initial.wrt l.wrt;
+  begins : BeginsRow g.W.Tell.log g.W.TellWrite.trace l.initial.wrt l.wrt;
   whole : IsBlock l.self;
 }
 

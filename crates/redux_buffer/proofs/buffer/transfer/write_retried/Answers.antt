@@ -8,6 +8,7 @@ returns g c =
     let joins = g.met.W.TellWrite.trace_joins in
     let r = c.retried.ensures.retried in record {
       bound = r.went.bound;
+      retried = r;
       wrote = wrote_retried _ _ none joins _ _ _ _ r;
       trace = traced_retried _ _ none joins _ _ _ _ r;
     }
