@@ -78,7 +78,6 @@ module _ {W : Type 0} (tells : W → StreamLog) (trace call : W → W → Type 0
         called = λ same. absurd (omega (arith, same, length-append from.fills.faults (e ∷ [])));
         no_write = λ more. refl;
         none_ended = tt;
-        ended_once = omega arith;
         one_fault = omega (arith, length-append from.fills.faults (e ∷ []));
       }
 
@@ -142,7 +141,6 @@ module _ {W : Type 0} (tells : W → StreamLog) (trace call : W → W → Type 0
         called = λ same. called;
         no_write = λ more. absurd (omega (arith, more));
         none_ended = tt;
-        ended_once = ends.1;
         one_fault = omega (arith, ap length faults, length-append (tells w).writes.faults (e ∷ []));
       }
 

@@ -30,7 +30,7 @@ abbrev pub WritesEachFill : FillLog → FillLog → WriteLog → WriteLog → Ty
 WritesEachFill from from' to to' =
     to'.asks + from.asks + length from'.faults ≡ to.asks + from'.asks + length from.faults
 
--- a fill that showed nothing had no consume: there was one for each write that failed, and so many more at most
+-- a fill that showed nothing had no consume: there was at most one for each write that failed, and so many more
 abbrev pub EndsShown : ℕ → FillLog → FillLog → WriteLog → WriteLog → Type 0
 EndsShown n from from' to to' = from'.zero_fills + length to.faults ≤ from.zero_fills + length to'.faults + n
 
@@ -118,7 +118,6 @@ pub record CopyTurn {W : Type 0} (tells : W → StreamLog) (trace call : W → W
   pub called : length from'.faults ≡ length from.faults → call w w'
   pub no_write : length from.faults < length from'.faults → w' ≡ w
   pub none_ended : IfOk result (λ n. 0 < n → from'.zero_fills ≡ from.zero_fills)
-  pub ended_once : from'.zero_fills ≤ from.zero_fills + 1
   pub one_fault : MatchResult result
       (λ _. faults_met from' (tells w').writes ≡ faults_met from (tells w).writes)
       (λ _. faults_met from' (tells w').writes ≡ faults_met from (tells w).writes + 1)
@@ -133,6 +132,24 @@ pub record CopyRetried {W : Type 0} (tells : W → StreamLog) (trace call : W �
   pub few : MatchResult result
       (λ _. faults_met from' (tells w').writes ≤ faults_met from (tells w).writes + interrupt_limit)
       (λ _. faults_met from' (tells w').writes ≤ faults_met from (tells w).writes + interrupt_limit + 1)
+
+-- a turn begins where a copy does, or behind one that moved bytes
+abbrev pub BeginsTurn : {B W : Type 0} → (B → StreamLog) → (W → StreamLog) → (W → W → Type 0) → (W → W → Type 0)
+    → B → B → W → W → Type 0
+BeginsTurn {B} {W} shows tells trace call b source w target =
+    ((source ≡ b) × (target ≡ w))
+    ⊎ ((m : B) × (v : W) × (n : ℕ) × (0 < n)
+    × CopyTurn tells trace call (Ok n) (shows m).fills (shows source).fills v target)
+
+-- the turn that a copy ended in with this answer, begun again where it was interrupted
+pub record LastTurn {B W : Type 0} (shows : B → StreamLog) (tells : W → StreamLog) (reads : B → B → Type 0)
+    (trace call : W → W → Type 0) (answer : Result ℕ Error) (b b' : B) (w w' : W) : Type 0 where
+  pub source : B
+  pub target : W
+  pub read : reads b source
+  pub wrote : trace w target
+  pub begins : BeginsTurn shows tells trace call b source w target
+  pub turn : CopyRetried tells trace call answer (shows source).fills (shows b').fills target w'
 
 -- a whole copy: at Ok it ended, and the total is the number of bytes that went over; at an `Err` some went over, and
 -- `Interrupted` comes only after more such faults than the limit; and each fill and each write was one of a turn. The faults were

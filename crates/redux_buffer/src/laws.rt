@@ -1,6 +1,6 @@
 //! Laws of the buffer, each as the contract of a function over its calls.
-ghost use Rattle.std.specs.Prelude.{◌≡◌, ◌+◌, ◌-◌, ◌≤◌, [], length, min, take, drop};
-ghost use Rattle.redux_buffer.specs.Block.{Ring, IsBlock, LeavesBytes, OnlyRingMoves, usable};
+ghost use Rattle.std.specs.Prelude.{◌≡◌, ◌+◌, ◌≤◌, [], length, min, take, drop};
+ghost use Rattle.redux_buffer.specs.Block.{Ring, IsBlock, OnlyRingMoves, usable};
 
 use crate::buffer::Buffer;
 
@@ -21,15 +21,6 @@ pub fn ring_law(buffer: &Buffer)
     ensures { buffer.now.kind ≡ Ring → buffer.now.moved ≤ buffer.now.consumed }
 {
     buffer.is_block();
-}
-
-/// Making room where all free space is usable changes nothing, as it is after making room.
-pub fn make_room_again(buffer: &mut Buffer)
-    requires { usable buffer.old ≡ buffer.old.capacity - length buffer.old.bytes }
-    ensures same { LeavesBytes buffer.old buffer.new }
-    ensures moved { buffer.new.moved ≡ buffer.old.moved }
-{
-    buffer.make_room();
 }
 
 /// What is copied into an empty buffer and out of it again are the bytes that fitted. Those that fit only the buffer stay

@@ -26,6 +26,31 @@ returns-in_err-taken-clause-copied g c =
           ∙ before.still takes;
     })
 
+pub returns-in_err-taken-clause-last : goal.returns-in_err-taken-clause-last
+returns-in_err-taken-clause-last g c =
+    let p = err_from_is_err_and c.from_residual.result c.from_residual.ensures.1 in
+    let before = c.turns.invariant in
+    rw (p.1, p.2) (inl (record {
+      source = c.turns.b;
+      target = c.turns.w;
+      read = before.reader;
+      wrote = before.writer;
+      begins = before.begins;
+      turn = c.in_err-taken.ensures.retried;
+    }))
+
+pub returns-then-taken-eq0-clause-last : goal.returns-then-taken-eq0-clause-last
+returns-then-taken-eq0-clause-last g c =
+    let before = c.turns.invariant in
+    record {
+      source = c.turns.b;
+      target = c.turns.w;
+      read = before.reader;
+      wrote = before.writer;
+      begins = before.begins;
+      turn = rw c.if-taken-eq0.true at c.in_ok-taken.ensures.retried;
+    }
+
 pub returns-then-taken-eq0-clause-copied : goal.returns-then-taken-eq0-clause-copied
 returns-then-taken-eq0-clause-copied g c =
     let before = c.turns.invariant in
@@ -67,11 +92,25 @@ turns-preserved g c =
       few = omega (arith, c.in-Some.ensures.some, before.few, turn.few, some);
       reader = g.met.B.TellBufRead.trace_joins _ _ _ before.reader c.in_ok-taken.ensures.reader;
       writer = g.met.W.TellWrite.trace_joins _ _ _ before.writer c.in_ok-taken.ensures.writer;
+      begins =
+          let last = c.in_ok-taken.ensures.last in
+          inr (last.0, last.1, c.in_ok-taken.taken, omega (arith, some), last.2);
       still = λ takes.
           turn.answers.none_ended (TakesNothing-after _ _ _ g.met.W.TellWrite.trace_joins before.writer takes)
           (omega (arith, some))
           ∙ before.still takes;
     }
+
+pub returns-in-None-clause-last : goal.returns-in-None-clause-last
+returns-in-None-clause-last g c =
+    let before = c.turns.invariant in
+    let turn = c.in_ok-taken.ensures.retried in
+    inr (record {
+      other = c.from.ensures;
+      count = c.turns.total + c.in_ok-taken.taken;
+      large = c.in-None.ensures.none;
+      copies = CopiesOn-joins before.copies (turn.answers.copies (omega (arith, c.if-taken-eq0.false)));
+    })
 
 pub returns-in-None-clause-copied : goal.returns-in-None-clause-copied
 returns-in-None-clause-copied g c =

@@ -4,6 +4,15 @@ use Rattle.redux_buffer.specs.CopyLaws.{CopiesOn-after, TakesNothing-after, Turn
 use Rattle.redux_buffer.proofs.Turning.{last_retried}
 use Rattle.redux_buffer.proofs.copy.copy_retried.Goals as goal
 
+pub returns-in-Ok-clause-last : goal.returns-in-Ok-clause-last
+returns-in-Ok-clause-last g c = (c.loop.b, c.loop.w, c.in-Ok.ensures.turn)
+
+pub returns-then-ne-clause-last : goal.returns-then-ne-clause-last
+returns-then-ne-clause-last g c = (c.loop.b, c.loop.w, c.in-Err.ensures.turn)
+
+pub returns-clause-last : goal.returns-clause-last
+returns-clause-last g c = (c.loop.b, c.loop.w, c.copy_turn-2.ensures.turn)
+
 pub returns-in-Ok-clause-retried : goal.returns-in-Ok-clause-retried
 returns-in-Ok-clause-retried g c =
     let before = c.loop.invariant in

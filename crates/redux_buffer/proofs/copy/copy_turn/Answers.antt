@@ -49,6 +49,5 @@ returns-clause-turn g c =
       called = search rules;
       no_write = search rules;
       none_ended = search rules;
-      ended_once = search rules;
       one_fault = search rules;
     }
