@@ -1,5 +1,5 @@
 -- What contracts see of streams in memory.
-use Rattle.std.specs.Prelude.{◌≡◌, ℕ, List, [], ◌∷◌, ◌++◌, length}
+use Rattle.std.specs.Prelude.{◌≡◌, ℕ, List, [], ◌∷◌, ◌++◌, length, vec_capacity}
 use Rattle.std.proofs.Common.{arith, inl, inr, refl, subst, sym, ◌∙◌, append-nil}
 use Rattle.std.proofs.lemmas.List.{take_at, drop_at}
 use Rattle.std.proofs.lemmas.List.Elements.{All-head, All-take, All-drop}
@@ -20,6 +20,10 @@ reader_log r = r.calls.log
 -- what was told of the bytes that were written
 abbrev pub writer_log : MemoryWriter → StreamLog
 writer_log w = w.calls.log
+
+-- how many bytes its vector has room for
+abbrev pub room_held : MemoryWriter → ℕ
+room_held w = vec_capacity w.bytes
 
 -- no read has failed
 pub reader-faultless : (r : MemoryReader) → (reader_log r).reads.faults ≡ []

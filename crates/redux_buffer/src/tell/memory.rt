@@ -67,11 +67,12 @@ pub struct MemoryWriter {
 }
 
 impl MemoryWriter {
-    ghost use Rattle.redux_buffer.specs.Memory.{writer_log};
+    ghost use Rattle.redux_buffer.specs.Memory.{room_held, writer_log};
 
     /// A writer behind no bytes. It takes no memory yet.
     pub fn new(alloc: Global) -> MemoryWriter
-        ensures { writer_log result ≡ no_calls }
+        ensures log { writer_log result ≡ no_calls }
+        ensures none { room_held result ≡ 0 }
     {
         MemoryWriter {
             bytes: Vec::new(alloc),
