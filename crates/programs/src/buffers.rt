@@ -15,8 +15,7 @@ use std::io::Write;
 pub const GREATEST_CAPACITY: usize = 1048576;
 
 /// A buffered reader and a buffered writer of these capacities over the two streams, of rings the next multiples of 4096. Where
-/// one is refused, both streams come
-/// back, and none was called.
+/// one is refused, both streams come back, and none was called.
 pub fn buffered<R: TellRead, W: TellWrite>(
     alloc: Global,
     ring: bool,
