@@ -1,16 +1,16 @@
 -- What each step of a write keeps.
-use Rattle.std.proofs.Common.{◌≡◌, ℕ, ◌≤◌, List, [], ◌∷◌, ◌++◌, length, min, take, drop, take_all, Result, Ok, Err, sym, ap, ◌∙◌, arith, inl, inr, append-nil, append_assoc, length-drop, subst}
+use Rattle.std.proofs.Common.{◌≡◌, ℕ, ◌≤◌, List, [], ◌∷◌, ◌++◌, length, min, take, drop, take_all, Result, Ok, Err, IfErr, refl, sym, ap, ◌∙◌, arith, inl, inr, append-nil, append_assoc, length-drop, subst}
 use Rattle.std.proofs.lemmas.Bool.{cases_lt}
 use Rattle.std.proofs.lemmas.List.{drop_all, nil_from_length}
 use Rattle.std.specs.declared.io.Error.{Error}
 use Rattle.redux_buffer.specs.Block.{Block, IsBlock, usable}
 use Rattle.redux_buffer.specs.GoesOn.{GoesOn}
-use Rattle.redux_buffer.specs.LogGrows.{WriteLogGrows, WriteLogGrows-none, WriteLogGrows-joins, WriteLogGrows-write}
-use Rattle.redux_buffer.specs.StreamLog.{StreamLog, portion}
-use Rattle.redux_buffer.specs.Transfer.{Sends}
+use Rattle.redux_buffer.specs.LogGrows.{WriteLogGrows, WriteLogGrows-none, WriteLogGrows-flush, WriteLogGrows-joins, WriteLogGrows-write}
+use Rattle.redux_buffer.specs.StreamLog.{StreamLog, after_flush, portion}
+use Rattle.redux_buffer.specs.Transfer.{FailedRow, Sends}
 use Rattle.buffer_redux.specs.Policy.{WriteRules}
-use Rattle.buffer_redux.specs.Buffered.{Buffered, InnerWent, with_policy}
-use Rattle.buffer_redux.specs.BufWriter.{FlushesAmount, TakesIn, CopiesIn, Prepared, Finished, WritesInOrder, WasSent}
+use Rattle.buffer_redux.specs.Buffered.{Buffered, InnerWent, with_inner, with_policy}
+use Rattle.buffer_redux.specs.BufWriter.{FlushesAmount, TakesIn, CopiesIn, Prepared, Finished, WritesInOrder, WasFlushed, WasSent}
 use Rattle.buffer_redux.specs.WriterLaws.{flush_ways, ways_in, WritesInOrder-joins, WritesInOrder-sends}
 
 -- sending lets the log go on
@@ -81,8 +81,9 @@ module _ {S P : Type 0} where
   -- what a send and a failed flush promise, of their sending
   pub was_sent : (tells : S → StreamLog) (trace : S → S → Type 0) (s t : Buffered S P)
       (answer : Result (Unit {0}) Error) → Sends (length s.block.bytes) s.block s.log answer t.block t.log
+      → IfErr answer (λ e. FailedRow tells trace e s.inner t.inner)
       → t.policy ≡ s.policy → IsBlock t.block → InnerWent tells trace s t → WasSent tells trace s answer t
-  was_sent tells trace s t (Ok _) f policy whole went =
+  was_sent tells trace s t (Ok _) f row policy whole went =
       let all : length s.block.bytes ≤ f.count = omega (arith, f.whole) in
       record {
         sends = f;
@@ -93,23 +94,114 @@ module _ {S P : Type 0} where
           met = record { interrupts = f.interrupts; only = f.ok };
         };
         caused = tt;
+        row = tt;
         not_flushed = f.sent.flushed;
         policy = policy;
         capacity = f.sent.dropped.capacity;
         whole = whole;
         went = went;
       }
-  was_sent tells trace s t (Err e) f policy whole went = record {
+  was_sent tells trace s t (Err e) f row policy whole went = record {
     sends = f;
     in_order = WritesInOrder-sends s t (length s.block.bytes) (Err e) f;
     ok = tt;
     caused = record { interrupts = f.interrupts; cause = f.failed.cause };
+    row = row;
     not_flushed = f.sent.flushed;
     policy = policy;
     capacity = f.sent.dropped.capacity;
     whole = whole;
     went = went;
   }
+
+  module _ (tells : S → StreamLog) (trace : S → S → Type 0) (s : Buffered S P) where
+    -- what a flush promises whose sending failed
+    pub not_sent : (t : Buffered S P) (e : Error) → WasSent tells trace s (Err e) t → WasFlushed tells trace s (Err e) t
+    not_sent t e sent = record {
+      steps = record { policy = sent.policy; sent_log = t.log; sending = Err e; sends = sent.sends; ended = (refl, refl) };
+      in_order = sent.in_order;
+      ok = tt;
+      caused = sent.caused;
+      row = sent.row;
+      not_flushed = sent.not_flushed;
+      grows = sends_grow (length s.block.bytes) s.block t.block s.log t.log (Err e) sent.sends;
+      capacity = sent.capacity;
+      kind = sent.sends.sent.dropped.kind;
+      whole = sent.whole;
+      went = sent.went;
+    }
+
+    -- what one promises that flushed the inner writer behind it, which is i now
+    module _ (m : Buffered S P) (i : S) (x : Unit {0}) (sent : WasSent tells trace s (Ok x) m)
+        (went : trace s.inner i) where
+      -- that is the writer
+      abbrev flushed : Buffered S P
+      flushed = with_inner tells m i
+
+      flushed_went : InnerWent tells trace s flushed
+      flushed_went = record { calls = went; told_before = sent.went.told_before; told_after = refl; noted = sent.went.noted }
+
+      flush_grows : (answer : Result (Unit {0}) Error) → tells i ≡ after_flush m.log answer
+          → WriteLogGrows s.log.writes (tells i).writes
+      flush_grows answer told = WriteLogGrows-joins s.log.writes m.log.writes (tells i).writes
+          (sends_grow (length s.block.bytes) s.block m.block s.log m.log (Ok x) sent.sends)
+          (subst (λ l. WriteLogGrows m.log.writes l.writes) (sym told) (WriteLogGrows-flush m.log answer))
+
+      flush_order : (answer : Result (Unit {0}) Error) → tells i ≡ after_flush m.log answer → WritesInOrder s [] flushed
+      flush_order answer told = record {
+        sent = sent.in_order.sent;
+        received = ap (λ l. l.writes.received) told ∙ sent.in_order.received;
+        equal = sent.in_order.equal;
+        consumed = sent.in_order.consumed;
+      }
+
+      pub was_flushed : (answer : Result (Unit {0}) Error) → tells i ≡ after_flush m.log answer
+          → WasFlushed tells trace s answer flushed
+      was_flushed (Ok y) told = record {
+        steps = record { policy = sent.policy; sent_log = m.log; sending = Ok x; sends = sent.sends; ended = told };
+        in_order = flush_order (Ok y) told;
+        ok = record {
+          empty = sent.ok.empty;
+          received = ap (λ l. l.writes.received) told ∙ sent.ok.received;
+          flushed = ap (λ l. l.writes.flushed) told ∙ sym (ap (λ l. l.writes.received) told);
+          met = record {
+            interrupts = sent.ok.met.interrupts;
+            only = record {
+              interrupted = sent.ok.met.only.interrupted;
+              faults = ap (λ l. l.writes.faults) told ∙ sent.ok.met.only.faults;
+              zero_writes = ap (λ l. l.writes.zero_writes) told ∙ sent.ok.met.only.zero_writes;
+            };
+          };
+        };
+        caused = tt;
+        row = tt;
+        not_flushed = tt;
+        grows = flush_grows (Ok y) told;
+        capacity = sent.capacity;
+        kind = sent.sends.sent.dropped.kind;
+        whole = sent.whole;
+        went = flushed_went;
+      }
+      was_flushed (Err e) told = record {
+        steps = record { policy = sent.policy; sent_log = m.log; sending = Ok x; sends = sent.sends; ended = told };
+        in_order = flush_order (Err e) told;
+        ok = tt;
+        caused = record {
+          interrupts = sent.ok.met.interrupts;
+          cause = inr (record {
+            interrupted = sent.ok.met.only.interrupted;
+            faults = ap (λ l. l.writes.faults) told ∙ ap (λ l. l ++ e ∷ []) sent.ok.met.only.faults;
+            zero_writes = ap (λ l. l.writes.zero_writes) told ∙ sent.ok.met.only.zero_writes;
+          });
+        };
+        row = tt;
+        not_flushed = ap (λ l. l.writes.flushed) told ∙ sent.not_flushed;
+        grows = flush_grows (Err e) told;
+        capacity = sent.capacity;
+        kind = sent.sends.sent.dropped.kind;
+        whole = sent.whole;
+        went = flushed_went;
+      }
 
   -- what every step of a write keeps
   pub record StepKeeps (s : Buffered S P) (accepted : List ℕ) (t : Buffered S P) : Type 0 where

@@ -8,7 +8,7 @@ use Rattle.redux_buffer.specs.Block.{Block, IsBlock, Extends, MakesRoom, usable}
 use Rattle.redux_buffer.specs.LogGrows.{WriteLogGrows}
 use Rattle.redux_buffer.specs.StreamLog.{StreamLog, WriteLog, Readies, SeekTells, portion, after_write, after_flush}
 use Rattle.redux_buffer.specs.Faults.{IsInterrupt, MetInterrupts, SendErrorCaused}
-use Rattle.redux_buffer.specs.Transfer.{DoesNothing, Sends}
+use Rattle.redux_buffer.specs.Transfer.{DoesNothing, FailedRow, Sends}
 use Rattle.buffer_redux.specs.declared.policy.FlushAmt.{FlushAmt}
 use Rattle.buffer_redux.specs.Policy.{WriteRules, BeforeWrite, AfterWrite}
 use Rattle.buffer_redux.specs.Buffered.{Buffered, GoesPast, StaysInside, GoesDirect, InnerWent, with_policy}
@@ -150,6 +150,7 @@ pub record WasSent {S P : Type 0} (tells : S → StreamLog) (trace : S → S →
     met : MetInterrupts s.log.writes t.log.writes;
   })
   pub caused : IfErr answer (λ e. SendErrorCaused s.log.writes t.log.writes e)
+  pub row : IfErr answer (λ e. FailedRow tells trace e s.inner t.inner)
   pub not_flushed : t.log.writes.flushed ≡ s.log.writes.flushed
   pub policy : t.policy ≡ s.policy
   pub capacity : t.block.capacity ≡ s.block.capacity
@@ -181,6 +182,7 @@ pub record WasFlushed {S P : Type 0} (tells : S → StreamLog) (trace : S → S 
   pub in_order : WritesInOrder s [] t
   pub ok : OnOk answer (IsFlushed s t)
   pub caused : IfErr answer (λ e. SendErrorCaused s.log.writes t.log.writes e)
+  pub row : IfErr steps.sending (λ e. FailedRow tells trace e s.inner t.inner)
   pub not_flushed : OnErr answer (t.log.writes.flushed ≡ s.log.writes.flushed)
   pub grows : WriteLogGrows s.log.writes t.log.writes
   pub capacity : t.block.capacity ≡ s.block.capacity

@@ -1,11 +1,11 @@
 -- What the calls promise that take a buffered writer apart.
-use Rattle.std.specs.Prelude.{◌≡◌, [], length, Result, MatchResult}
+use Rattle.std.specs.Prelude.{◌≡◌, [], length, Result, IfErr, MatchResult}
 use Rattle.std.specs.Borrow.{MutBor}
 use Rattle.std.specs.declared.io.Error.{Error}
 use Rattle.redux_buffer.specs.Block.{Block, Clears}
 use Rattle.redux_buffer.specs.Faults.{SendErrorCaused}
 use Rattle.redux_buffer.specs.StreamLog.{StreamLog}
-use Rattle.redux_buffer.specs.Transfer.{Sends}
+use Rattle.redux_buffer.specs.Transfer.{FailedRow, Sends}
 use Rattle.buffer_redux.specs.Buffered.{Buffered, InnerWent, with_block, with_inner}
 use Rattle.buffer_redux.specs.BufWriter.{WritesInOrder, WasFlushed}
 
@@ -24,6 +24,7 @@ pub record SendsOrHandles {S P : Type 0} (tells : S → StreamLog) (trace : S �
   pub sending : Result (Unit {0}) Error
   pub sent : Buffered S P
   pub sends : Sends (length s.block.bytes) s.block s.log sending sent.block sent.log
+  pub row : IfErr sending (λ e. FailedRow tells trace e s.inner sent.inner)
   pub went : InnerWent tells trace s sent
   pub ended : MatchResult sending (λ _. (inner ≡ sent.inner) × (b ≡ sent.block)) (λ e. record {
     lent_inner : MutBor S;

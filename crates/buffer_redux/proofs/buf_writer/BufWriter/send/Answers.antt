@@ -9,6 +9,6 @@ pub returns : goal.returns
 returns g c =
     let w = c.write_all.ensures in
     let sent : WasSent g.W.Tell.log g.W.TellWrite.trace c.args.self.now c.write_all.result _ =
-    rw (← c.self.view_is) (was_sent _ _ _ _ _ w.sent refl w.whole
+    rw (← c.self.view_is) (was_sent _ _ _ _ _ w.sent w.row refl w.whole
     (record { calls = w.trace; told_before = refl; told_after = refl; noted = refl })) in
     record { all = on_ok_weaker c.write_all.result (λ is. (is.empty, is.received)) sent.ok; sent = sent }
