@@ -41,15 +41,24 @@ module _ (at : ℕ) (out new : List ℕ) (within : at ≤ length out) where
       ∙ ap (λ l. new ++ l) (drop_all (length out - at) (drop at out) (omega (arith, length-drop at out)))
       ∙ append-nil new
 
-  pub put_length : length new ≡ length out - at → length (put_from at out new) ≡ length out
-  put_length part = omega (
+  put_is : put_from at out new ≡ take at out ++ new
+  put_is =
+      sym (take-append-drop at (put_from at out new))
+      ∙ ap (λ l. l ++ drop at (put_from at out new)) put_front ∙ ap (λ l. take at out ++ l) put_behind
+
+  put_take : (n : ℕ) → take (at + n) (put_from at out new) ≡ take at out ++ take n new
+  put_take n =
+      take-add at n (put_from at out new) ∙ ap (λ l. l ++ take n (drop at (put_from at out new))) put_front
+      ∙ ap (λ l. take at out ++ take n l) put_behind
+
+  pub put_length : length new ≡ length (drop at out) → length (put_from at out new) ≡ length out
+  put_length same = omega (
     arith,
-    ap length (sym (take-append-drop at (put_from at out new))),
-    length-append (take at (put_from at out new)) (drop at (put_from at out new)),
-    ap length put_front,
-    ap length put_behind,
+    ap length put_is,
+    length-append (take at out) new,
     length-take-le at out within,
-    part,
+    length-drop at out,
+    same,
     within,
   )
 
@@ -90,170 +99,166 @@ module _ {S P : Type 0} (remaining : S → Option (List ℕ)) (rules : ReadRules
     keeps = keeps_joins s m t p.keeps q.keeps;
   }
 
-  -- `turns` turns handed these bytes out, into a slice of `room` bytes
-  pub record Turned (s : Buffered S P) (room turns : ℕ) (handed : List ℕ) (t : Buffered S P) : Type 0 where
-    pub within : length handed ≤ room
-    pub run : ReadTurns remaining rules room turns handed s t
-    pub front : HandedFront remaining rules s handed t
+  -- `turns` turns filled the first `at` bytes of a slice that held `was`, and left it as `out`
+  pub record Turned (s : Buffered S P) (was : List ℕ) (turns at : ℕ) (out : List ℕ) (t : Buffered S P) : Type 0 where
+    pub within : at ≤ length out
+    pub run : ReadTurns remaining rules was turns at out s t
+    pub front : HandedFront remaining rules s (take at out) t
 
-  pub turned_none : (s : Buffered S P) (room : ℕ) → IsBlock s.block → Turned s room 0 [] s
-  turned_none s room whole = record { within = omega arith; run = (refl, refl); front = front_none s whole }
+  pub turned_none : (s : Buffered S P) (out : List ℕ) → IsBlock s.block → Turned s out 0 0 out s
+  turned_none s out whole = record { within = omega arith; run = (refl, refl, refl); front = front_none s whole }
 
-  module _ (s : Buffered S P) (room turns : ℕ) (handed : List ℕ) (m : Buffered S P)
-      (before : Turned s room turns handed m) where
+  module _ (s : Buffered S P) (was : List ℕ) (turns at : ℕ) (out : List ℕ) (m : Buffered S P)
+      (before : Turned s was turns at out m) where
     -- one more read into what is left of the slice
-    module _ (slice : List ℕ) (answer : Result ℕ Error) (t : Buffered S P) (fewer : length handed < room)
-        (offered : length slice ≡ room - length handed) (one : OneRead remaining rules m slice answer t) where
-      pub turned_more : (n : ℕ) → GoesBy answer n → Turned s room (turns + 1) (handed ++ take n slice) t
+    module _ (new : List ℕ) (answer : Result ℕ Error) (t : Buffered S P) (fewer : at < length out)
+        (one : OneRead remaining rules m (drop at out) answer new t) where
+      within : at ≤ length out
+      within = omega (arith, fewer)
+
+      joined : HandedFront remaining rules s (take at out ++ portion new answer) t
+      joined = front_joins s m t (take at out) (portion new answer) before.front one.front
+
+      pub turned_more : (n : ℕ) → GoesBy answer n → Turned s was (turns + 1) (at + n) (put_from at out new) t
       turned_more n goes =
-          let took = taken_by answer n goes slice one.bound in
-          let same : handed ++ portion slice answer ≡ handed ++ take n slice = ap (λ l. handed ++ l) took.1 in
+          let took = taken_by answer n goes new one.bound in
           record {
             within = omega (
               arith,
               took.0,
-              fewer,
-              offered,
-              length-append handed (take n slice),
-              length-take-le n slice took.0,
+              within,
+              put_length at out new within one.steps.size,
+              length-drop at out,
+              one.steps.size,
             );
-            run = subst (λ k. ReadTurns remaining rules room k (handed ++ take n slice) s t) (one_more turns) (
-              handed,
+            run = subst (λ k. ReadTurns remaining rules was k (at + n) (put_from at out new) s t) (one_more turns) (
+              at,
+              out,
               m,
               before.run,
-              fewer,
-              slice,
-              offered,
-              answer,
-              one,
-              n,
-              goes,
-              sym same,
+              record {
+                fewer = fewer;
+                answer = answer;
+                slice = new;
+                read = one;
+                further = n;
+                goes = goes;
+                adds = refl;
+                stands = put_is at out new within;
+              },
             );
-            front = subst (λ l. HandedFront remaining rules s l t) same
-                (front_joins s m t handed (portion slice answer) before.front one.front);
+            front = subst (λ l. HandedFront remaining rules s l t)
+                (ap (λ l. take at out ++ l) took.1 ∙ sym (put_take at out new within n)) joined;
           }
 
-      pub ended_failed : (out : List ℕ) (at : ℕ) → length out ≡ room → at ≤ length out → take at out ≡ handed
-          → (e : Error) → EndsBy UnexpectedEof answer e → ReadsExactly remaining rules s (Err e) out t
-      ended_failed out at long within same e ends =
-          let count : length handed ≡ at = ap length (sym same) ∙ length-take-le at out within in
+      pub ended_failed : (e : Error) → EndsBy UnexpectedEof answer e
+          → ReadsExactly remaining rules s was (Err e) (put_from at out new) t
+      ended_failed e ends =
+          let same = put_length at out new within one.steps.size in
           record {
             turns = turns;
             count = at;
-            within = within;
+            within = omega (arith, within, same);
+            left = out;
             last = m;
-            run = rw (long, same) before.run;
-            first = rw same before.front;
-            front = rw same (subst (λ l. HandedFront remaining rules s l t)
-                (ap (λ l. handed ++ l) (none_taken UnexpectedEof answer e ends slice) ∙ append-nil handed)
-                (front_joins s m t handed (portion slice answer) before.front one.front));
-            ended = inl (omega (arith, fewer, count, long), slice, omega (arith, offered, count, long), answer, one, ends);
+            run = before.run;
+            first = rw (put_front at out new within) before.front;
+            front = subst (λ l. HandedFront remaining rules s l t)
+                (ap (λ l. take at out ++ l) (none_taken UnexpectedEof answer e ends new) ∙ append-nil (take at out)
+                ∙ sym (put_front at out new within))
+                joined;
+            ended = inl (record {
+              fewer = omega (arith, fewer, same);
+              answer = answer;
+              ends = ends;
+              slice = new;
+              read = one;
+              stands = put_is at out new within;
+            });
           }
 
-    module _ (out : List ℕ) (at : ℕ) (long : length out ≡ room) (within : at ≤ length out)
-        (same : take at out ≡ handed) where
-      pub ended_all : length out ≤ at → ReadsExactly remaining rules s (Ok tt) out m
-      ended_all enough = record {
-        turns = turns;
-        count = at;
-        within = within;
-        last = m;
-        run = rw (long, same) before.run;
-        first = rw same before.front;
-        front = rw same before.front;
-        ended = (omega (arith, enough, within), refl);
-      }
+    pub ended_all : length out ≤ at → ReadsExactly remaining rules s was (Ok tt) out m
+    ended_all enough = record {
+      turns = turns;
+      count = at;
+      within = before.within;
+      left = out;
+      last = m;
+      run = before.run;
+      first = before.front;
+      front = before.front;
+      ended = (omega (arith, enough, before.within), refl, refl);
+    }
 
-      pub ended_late : (e : Error) → GaveUp turns at (length out) e → ReadsExactly remaining rules s (Err e) out m
-      ended_late e late = record {
-        turns = turns;
-        count = at;
-        within = within;
-        last = m;
-        run = rw (long, same) before.run;
-        first = rw same before.front;
-        front = rw same before.front;
-        ended = inr (late, refl);
-      }
+    pub ended_late : (e : Error) → GaveUp turns at (length out) e → ReadsExactly remaining rules s was (Err e) out m
+    ended_late e late = record {
+      turns = turns;
+      count = at;
+      within = before.within;
+      left = out;
+      last = m;
+      run = before.run;
+      first = before.front;
+      front = before.front;
+      ended = inr (late, refl, refl);
+    }
 
   -- no byte, and the first read into a slice that has some
-  pub all_none : (s : Buffered S P) → IsBlock s.block → ReadsExactly remaining rules s (Ok tt) [] s
-  all_none s whole = ended_all s 0 0 [] s (turned_none s 0 whole) [] 0 refl (le_refl 0) refl (le_refl 0)
+  pub all_none : (s : Buffered S P) → IsBlock s.block → ReadsExactly remaining rules s [] (Ok tt) [] s
+  all_none s whole = ended_all s [] 0 0 [] s (turned_none s [] whole) (le_refl 0)
 
-  module _ (s : Buffered S P) (out : List ℕ) (answer : Result ℕ Error) (t : Buffered S P) (some : 0 < length out)
-      (one : OneRead remaining rules s out answer t) where
-    pub first_more : (n : ℕ) → GoesBy answer n → Turned s (length out) 1 (take n out) t
-    first_more n goes = turned_more s (length out) 0 [] s (turned_none s (length out) one.whole) out answer t some
-        (omega arith) one n goes
+  module _ (s : Buffered S P) (was : List ℕ) (answer : Result ℕ Error) (out : List ℕ) (t : Buffered S P)
+      (some : 0 < length out) (one : OneRead remaining rules s was answer out t) where
+    has : 0 < length was
+    has = omega (arith, some, one.steps.size)
 
-    pub first_failed : (e : Error) → EndsBy UnexpectedEof answer e → ReadsExactly remaining rules s (Err e) out t
-    first_failed e ends = ended_failed s (length out) 0 [] s (turned_none s (length out) one.whole) out answer t some
-        (omega arith) one out 0 refl (omega arith) refl e ends
+    all_put : put_from 0 was out ≡ out
+    all_put = put_is 0 was out (omega arith)
 
-  pub all_at_once : (s : Buffered S P) (out : List ℕ) (n : ℕ) (t : Buffered S P) → 0 < length out → n ≡ length out
-      → OneRead remaining rules s out (Ok n) t → ReadsExactly remaining rules s (Ok tt) out t
-  all_at_once s out n t some full one =
-      ended_all s (length out) 1 (take n out) t
-      (first_more s out (Ok n) t some one n (omega (arith, some, full), refl)) out n refl (omega (arith, full)) refl
+    pub first_more : (n : ℕ) → GoesBy answer n → Turned s was 1 n out t
+    first_more n goes =
+        let same : 0 + n ≡ n = omega arith in
+        subst (λ k. Turned s was 1 k out t) same (subst (λ l. Turned s was 1 (0 + n) l t) all_put
+        (turned_more s was 0 0 was s (turned_none s was one.whole) out answer t has one n goes))
+
+    pub first_failed : (e : Error) → EndsBy UnexpectedEof answer e → ReadsExactly remaining rules s was (Err e) out t
+    first_failed e ends = subst (λ l. ReadsExactly remaining rules s was (Err e) l t) all_put
+        (ended_failed s was 0 0 was s (turned_none s was one.whole) out answer t has one e ends)
+
+  pub all_at_once : (s : Buffered S P) (was : List ℕ) (n : ℕ) (out : List ℕ) (t : Buffered S P) → 0 < length out
+      → n ≡ length out → OneRead remaining rules s was (Ok n) out t → ReadsExactly remaining rules s was (Ok tt) out t
+  all_at_once s was n out t some full one =
+      ended_all s was 1 n out t (first_more s was (Ok n) out t some one n (omega (arith, some, full), refl))
       (omega (arith, full))
-
-  -- a read into the slice from `at` on
-  module _ (s : Buffered S P) (out : List ℕ) (turns at : ℕ) (m : Buffered S P)
-      (before : Turned s (length out) turns (take at out) m) (fewer : at < length out)
-      (new : List ℕ) (part : length new ≡ length out - at) (answer : Result ℕ Error) (t : Buffered S P)
-      (one : OneRead remaining rules m new answer t) where
-    handed_length : length (take at out) ≡ at
-    handed_length = length-take-le at out (omega (arith, fewer))
-
-    pub slice_goes_on : (n : ℕ) → GoesBy answer n
-        → Turned s (length (put_from at out new)) (turns + 1) (take (at + n) (put_from at out new)) t
-    slice_goes_on n goes =
-        let out' = put_from at out new in
-        let within : at ≤ length out = omega (arith, fewer) in
-        let handed : take (at + n) out' ≡ take at out ++ take n new =
-        take-add at n out' ∙ ap (λ l. l ++ take n (drop at out')) (put_front at out new within)
-        ∙ ap (λ l. take at out ++ take n l) (put_behind at out new within) in
-        rw (put_length at out new within part, handed) (turned_more s (length out) turns (take at out) m before new answer t
-        (omega (arith, handed_length, fewer)) (omega (arith, handed_length, part)) one n goes)
-
-    pub slice_ended : (e : Error) → EndsBy UnexpectedEof answer e
-        → ReadsExactly remaining rules s (Err e) (put_from at out new) t
-    slice_ended e ends =
-        let within : at ≤ length out = omega (arith, fewer) in
-        ended_failed s (length out) turns (take at out) m before new answer t
-        (omega (arith, handed_length, fewer)) (omega (arith, handed_length, part)) one (put_from at out new) at
-        (put_length at out new within part) (omega (arith, within, put_length at out new within part))
-        (put_front at out new within) e ends
 
   -- all that `read` promises
   pub one_read : (s : Buffered S P) (out : List ℕ) (answer : Result ℕ Error) (out' : List ℕ) (t : Buffered S P)
-      → length out' ≡ length out → IsBlock s.block → ReadsAtMost answer out' → Reads rules s out answer out' t
+      → IsBlock s.block → ReadsAtMost answer out' → Reads rules s out answer out' t
       → ReadsInOrder s (portion out' answer) t → ReaderKeeps remaining rules s t → ReadErrorCaused rules s answer t
       → (answer ≡ Ok 0 → 0 < length out → EmptyReadCaused rules s t)
-      → OneRead remaining rules s out' answer t
-  one_read s out answer out' t same whole bound steps in_order keeps caused empty = record {
+      → OneRead remaining rules s out answer out' t
+  one_read s out answer out' t whole bound steps in_order keeps caused empty = record {
     whole = whole;
     bound = bound;
-    steps = (out, steps);
+    steps = steps;
     front = record { in_order = in_order; keeps = keeps };
     caused = caused;
-    empty = λ is some. empty is (omega (arith, some, same));
+    empty = λ is some. empty is (omega (arith, some, steps.size));
   }
 
   -- all that `read_exact` promises, as its clauses say it
-  module _ (s : Buffered S P) (out : List ℕ) (t : Buffered S P) where
-    beginning : {answer : Result (Unit {0}) Error} → ReadsExactly remaining rules s answer out t
+  module _ (s : Buffered S P) (was out : List ℕ) (t : Buffered S P) where
+    beginning : {answer : Result (Unit {0}) Error} → ReadsExactly remaining rules s was answer out t
         → (count : ℕ) × (count ≤ length out) × ReadsInOrder s (take count out) t
     beginning r = (r.count, r.within, r.front.in_order)
 
-    pub exact_says : (answer : Result (Unit {0}) Error) → ReadsExactly remaining rules s answer out t → record {
+    pub exact_says : (answer : Result (Unit {0}) Error) → ReadsExactly remaining rules s was answer out t → record {
       in_order : OnOk answer (ReadsInOrder s out t);
       beginning : (count : ℕ) × (count ≤ length out) × ReadsInOrder s (take count out) t;
       bytes : OnOk answer (Consumes (reader_remaining remaining rules s) (reader_remaining remaining rules t) out);
       retried : IfErr answer (λ e. error_kind e ≢ Interrupted);
       whole : IsBlock t.block;
-      steps : ReadsExactly remaining rules s answer out t;
+      steps : ReadsExactly remaining rules s was answer out t;
     }
     exact_says (Ok _) r =
         let keeps = r.front.keeps in
@@ -272,7 +277,7 @@ module _ {S P : Type 0} (remaining : S → Option (List ℕ)) (rules : ReadRules
       beginning = beginning r;
       bytes = tt;
       retried = elim r.ended [
-        | inl failed ↦ not_interrupted UnexpectedEof (λ odd. cc) failed.3 e failed.5
+        | inl failed ↦ not_interrupted UnexpectedEof (λ odd. cc) failed.answer e failed.ends
         | inr late ↦ λ odd. (let two = sym late.0.timed_out ∙ odd in cc)
       ];
       whole = r.front.keeps.whole;

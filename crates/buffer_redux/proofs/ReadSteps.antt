@@ -298,8 +298,7 @@ module _ {S P : Type 0} (remaining : S → Option (List ℕ)) (rules : ReadRules
 
   pub one_read_says : (answer : Result ℕ Error) (out' : List ℕ) (t : Buffered S P) → IsBlock s.block
       → ReadsInside remaining rules s out answer out' t → StaysInside s.block (length out)
-      → OneRead remaining rules s out' answer t
+      → OneRead remaining rules s out answer out' t
   one_read_says answer out' t whole r inside =
       let a = says answer out' t r inside in
-      one_read remaining rules s out answer out' t (keeps_length answer out' t r inside) whole a.bound a.steps a.in_order
-      a.keeps a.caused a.empty
+      one_read remaining rules s out answer out' t whole a.bound a.steps a.in_order a.keeps a.caused a.empty

@@ -1,5 +1,5 @@
 -- What a read of a whole slice promises: a read after another, into what is left of it, where one was short or interrupted.
-use Rattle.std.specs.Prelude.{◌≡◌, ℕ, ◌-◌, ◌<◌, ◌≤◌, ◌⊎◌, List, [], ◌++◌, length, take, Result, Ok, Option, MatchResult, zero, suc}
+use Rattle.std.specs.Prelude.{◌≡◌, ℕ, ◌+◌, ◌<◌, ◌≤◌, ◌⊎◌, List, ◌++◌, length, take, drop, Result, Ok, Option, MatchResult, zero, suc}
 use Rattle.std.specs.Io.{ReadsAtMost}
 use Rattle.std.specs.declared.io.Error.{Error}
 use Rattle.std.specs.declared.io.ErrorKind.TheVariants.{UnexpectedEof}
@@ -16,39 +16,50 @@ pub record HandedFront {S P : Type 0} (remaining : S → Option (List ℕ)) (rul
   pub in_order : ReadsInOrder s handed t
   pub keeps : ReaderKeeps remaining rules s t
 
--- one read, which left the slice so, with what `read` promises, of which the rest follows
+-- one read into a slice that held `was`, which left it as `slice`, with what `read` promises, of which the rest follows
 pub record OneRead {S P : Type 0} (remaining : S → Option (List ℕ)) (rules : ReadRules P)
-    (s : Buffered S P) (slice : List ℕ) (answer : Result ℕ Error) (t : Buffered S P) : Type 0 where
+    (s : Buffered S P) (was : List ℕ) (answer : Result ℕ Error) (slice : List ℕ) (t : Buffered S P) : Type 0 where
   pub whole : IsBlock s.block
   pub bound : ReadsAtMost answer slice
-  pub steps : (before : List ℕ) × Reads rules s before answer slice t
+  pub steps : Reads rules s was answer slice t
   pub front : HandedFront remaining rules s (portion slice answer) t
   pub caused : ReadErrorCaused rules s answer t
   pub empty : answer ≡ Ok 0 → 0 < length slice → EmptyReadCaused rules s t
 
--- this many turns handed these bytes out, one after another: each was a read into what was left of a slice of `room` bytes,
--- and was gone on from
-abbrev pub ReadTurns : {S P : Type 0} → (S → Option (List ℕ)) → ReadRules P → ℕ → ℕ → List ℕ → Buffered S P
+-- this many turns, one after another, filled the first `count` bytes of a slice that held `was`, and left it as `out`: each was
+-- a read into what was left of it, and was gone on from
+abbrev pub ReadTurns : {S P : Type 0} → (S → Option (List ℕ)) → ReadRules P → List ℕ → ℕ → ℕ → List ℕ → Buffered S P
     → Buffered S P → Type 0
-ReadTurns remaining rules room zero handed s t = (handed ≡ []) × (s ≡ t)
-ReadTurns {S} {P} remaining rules room (suc k) handed s t = (before : List ℕ) × (m : Buffered S P)
-    × ReadTurns remaining rules room k before s m
-    × (length before < room) × (slice : List ℕ) × (length slice ≡ room - length before)
-    × (answer : Result ℕ Error) × OneRead remaining rules m slice answer t
-    × (further : ℕ) × GoesBy answer further × (handed ≡ before ++ portion slice answer)
+ReadTurns remaining rules was zero count out s t = (count ≡ 0) × (out ≡ was) × (s ≡ t)
+ReadTurns {S} {P} remaining rules was (suc k) count out s t = (before : ℕ) × (left : List ℕ) × (m : Buffered S P)
+    × ReadTurns remaining rules was k before left s m × record {
+      fewer : before < length left;
+      answer : Result ℕ Error;
+      slice : List ℕ;
+      read : OneRead remaining rules m (drop before left) answer slice t;
+      further : ℕ;
+      goes : GoesBy answer further;
+      adds : count ≡ before + further;
+      stands : out ≡ take before left ++ slice;
+    }
 
--- what `read_exact(out)` does, which left the slice as out: turns handed its first `count` bytes out. At `Ok` these are
--- all; at `Err` one more read ended it, which handed nothing out, or there were too many turns
+-- what `read_exact` does, whose slice held `was` and holds `out`: turns filled its first `count` bytes, and left it as `left`.
+-- At `Ok` these are all; at `Err` one more read ended it, which handed nothing out, or there were too many turns
 pub record ReadsExactly {S P : Type 0} (remaining : S → Option (List ℕ)) (rules : ReadRules P)
-    (s : Buffered S P) (answer : Result (Unit {0}) Error) (out : List ℕ) (t : Buffered S P) : Type 0 where
+    (s : Buffered S P) (was : List ℕ) (answer : Result (Unit {0}) Error) (out : List ℕ) (t : Buffered S P) : Type 0 where
   pub turns : ℕ
   pub count : ℕ
   pub within : count ≤ length out
+  pub left : List ℕ
   pub last : Buffered S P
-  pub run : ReadTurns remaining rules (length out) turns (take count out) s last
+  pub run : ReadTurns remaining rules was turns count left s last
   pub first : HandedFront remaining rules s (take count out) last
   pub front : HandedFront remaining rules s (take count out) t
-  pub ended : MatchResult answer (λ _. (count ≡ length out) × (t ≡ last))
-      (λ e. ((count < length out) × (slice : List ℕ) × (length slice ≡ length out - count)
-      × (end : Result ℕ Error) × OneRead remaining rules last slice end t × EndsBy UnexpectedEof end e)
-      ⊎ (GaveUp turns count (length out) e × (t ≡ last)))
+  pub ended : MatchResult answer (λ _. (count ≡ length out) × (out ≡ left) × (t ≡ last)) (λ e. record {
+    fewer : count < length out;
+    answer : Result ℕ Error;
+    ends : EndsBy UnexpectedEof answer e;
+    slice : List ℕ;
+    read : OneRead remaining rules last (drop count left) answer slice t;
+    stands : out ≡ take count left ++ slice;
+  } ⊎ (GaveUp turns count (length out) e × (out ≡ left) × (t ≡ last)))

@@ -321,7 +321,7 @@ impl<R: TellRead, P: ReaderPolicy> Read for BufReader<R, P> {
             (reader_remaining R.remaining P.rules self.new) out.new) }
         ensures retried { IfErr result (λ e. error_kind e ≢ ErrorKind.Interrupted) }
         ensures whole { IsBlock self.new.block }
-        ensures steps { ReadsExactly R.remaining P.rules self.old result out.new self.new }
+        ensures steps { ReadsExactly R.remaining P.rules self.old out.old result out.new self.new }
     {
         // The first test is for the compiler alone: an empty buffer has fewer bytes than any slice that isn't empty, but of that
         // it asks again in the policy.

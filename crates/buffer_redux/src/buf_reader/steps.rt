@@ -1,5 +1,5 @@
 //! The parts of a read: filling the buffer, handing bytes out, and reading on until a slice is full.
-ghost use Rattle.std.specs.Prelude.{◌≡◌, ◌<◌, ◌≤◌, Ok, Err, length, take};
+ghost use Rattle.std.specs.Prelude.{◌≡◌, ℕ, ◌<◌, ◌≤◌, List, Ok, Err, length, take};
 ghost use Rattle.std.specs.Io.{ReadsAtMost};
 ghost use Rattle.std.specs.Io.KnownBytes.{IsAtEnd};
 ghost use Rattle.redux_buffer.specs.Block.{IsBlock, usable};
@@ -103,8 +103,8 @@ impl<R: TellRead, P: ReaderPolicy> BufReader<R, P> {
     fn read_on(&mut self, answer: io::Result<usize>, out: &mut [u8]) -> io::Result<()>
         requires bound { ReadsAtMost answer out.old }
         requires some { 0 < length out.old }
-        ensures exact { (s : Buffered R P) → OneRead R.remaining P.rules s out.old answer self.old
-            → ReadsExactly R.remaining P.rules s result out.new self.new }
+        ensures exact { (s : Buffered R P) (was : List ℕ) → OneRead R.remaining P.rules s was answer out.old self.old
+            → ReadsExactly R.remaining P.rules s was result out.new self.new }
     {
         let mut at = progress(answer, ErrorKind::UnexpectedEof)?;
         for _ in 1..u64::MAX {
@@ -123,7 +123,7 @@ impl<R: TellRead, P: ReaderPolicy> BufReader<R, P> {
     #[cold]
     #[inline(never)]
     fn read_rest(&mut self, out: &mut [u8]) -> io::Result<()>
-        ensures exact { ReadsExactly R.remaining P.rules self.old result out.new self.new }
+        ensures exact { ReadsExactly R.remaining P.rules self.old out.old result out.new self.new }
     {
         if out.is_empty() {
             let _ = &self.buf;
@@ -135,7 +135,7 @@ impl<R: TellRead, P: ReaderPolicy> BufReader<R, P> {
 
     #[inline(always)]
     pub(super) fn read_rest_apart(&mut self, out: &mut [u8]) -> io::Result<()>
-        ensures exact { ReadsExactly R.remaining P.rules self.old result out.new self.new }
+        ensures exact { ReadsExactly R.remaining P.rules self.old out.old result out.new self.new }
     {
         self.read_rest(out)
     }
@@ -146,7 +146,7 @@ impl<R: TellRead, P: ReaderPolicy> BufReader<R, P> {
     fn read_ordered(&mut self, out: &mut [u8]) -> io::Result<()>
         requires some { 0 < length out.old }
         ensures exact { (s : Buffered R P) → AskedRead P.rules read_now s self.old → 0 < length s.block.bytes
-            → ReadsExactly R.remaining P.rules s result out.new self.new }
+            → ReadsExactly R.remaining P.rules s out.old result out.new self.new }
     {
         if self.buf.usable_space() > 0 {
             let answer = self.read_slowly(out);
@@ -160,7 +160,7 @@ impl<R: TellRead, P: ReaderPolicy> BufReader<R, P> {
     pub(super) fn read_ordered_apart(&mut self, out: &mut [u8]) -> io::Result<()>
         requires some { 0 < length out.old }
         ensures exact { (s : Buffered R P) → AskedRead P.rules read_now s self.old → 0 < length s.block.bytes
-            → ReadsExactly R.remaining P.rules s result out.new self.new }
+            → ReadsExactly R.remaining P.rules s out.old result out.new self.new }
     {
         self.read_ordered(out)
     }
@@ -169,8 +169,8 @@ impl<R: TellRead, P: ReaderPolicy> BufReader<R, P> {
     #[inline(always)]
     pub(super) fn read_on_apart(&mut self, e: io::Error, out: &mut [u8]) -> io::Result<()>
         requires some { 0 < length out.old }
-        ensures exact { (s : Buffered R P) → OneRead R.remaining P.rules s out.old (Err e) self.old
-            → ReadsExactly R.remaining P.rules s result out.new self.new }
+        ensures exact { (s : Buffered R P) → OneRead R.remaining P.rules s out.old (Err e) out.old self.old
+            → ReadsExactly R.remaining P.rules s out.old result out.new self.new }
     {
         self.read_on(Err(e), out)
     }

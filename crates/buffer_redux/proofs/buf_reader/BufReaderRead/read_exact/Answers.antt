@@ -37,7 +37,7 @@ has_some g c = omega (
 )
 
 pub returns-then-is_empty : goal.returns-then-is_empty
-returns-then-is_empty g c = exact_says _ _ _ _ _ _ c.read_rest_apart.ensures.exact
+returns-then-is_empty g c = exact_says _ _ _ _ _ _ _ c.read_rest_apart.ensures.exact
 
 -- the policy wants more
 pub returns-then-more : goal.returns-then-more
@@ -46,7 +46,7 @@ returns-then-more g c =
     let table = g.P.ReaderPolicy.rules in
     let m = asked_reader g before in
     let is = subst (λ a. AskedRead table a c.args.self.now m) c.in-Ok.is (asked g before) in
-    exact_says _ _ _ _ _ _ (c.read_ordered_apart.ensures.exact c.args.self.now
+    exact_says _ _ _ _ _ _ _ (c.read_ordered_apart.ensures.exact c.args.self.now
     (asked_so table c.args.self.now m c.in-Ok.field-0 true c.if-more.true is) (has_some g before))
 
 -- the policy wants no more
@@ -77,8 +77,8 @@ returns-else-more g c =
       c.len.ensures.value,
       ap (λ x. length x.block.bytes) c.self.view_is,
     ) in
-    exact_says remaining table c.args.self.now out t (Ok tt) (all_at_once remaining table c.args.self.now out n t
-    (omega (arith, same, offers_some g before)) long one)
+    exact_says remaining table c.args.self.now c.args.out.now out t (Ok tt) (all_at_once remaining table c.args.self.now
+    c.args.out.now n out t (omega (arith, same, offers_some g before)) long one)
 
 -- the policy returned an error
 pub returns-in-Err : goal.returns-in-Err
@@ -88,7 +88,7 @@ returns-in-Err g c =
     let remaining = g.R.TellRead.remaining in
     let m = asked_reader g before in
     let is = subst (λ a. AskedRead table a c.args.self.now m) c.in-Err.is (asked g before) in
-    exact_says _ _ _ _ _ _ (c.read_on_apart.ensures.exact c.args.self.now (one_read_says remaining table c.args.self.now
+    exact_says _ _ _ _ _ _ _ (c.read_on_apart.ensures.exact c.args.self.now (one_read_says remaining table c.args.self.now
     c.args.out.now (Err c.in-Err.e) c.args.out.now m (rw (← c.self-2.view_is) c.self-2.invariant)
     (refused_did remaining table c.args.self.now m c.in-Err.e is, refl)
     (inl (has_some g before))))
