@@ -1,5 +1,5 @@
 -- Which seeks a seek of a buffered reader makes, and what it does to the reader.
-use Rattle.std.specs.Prelude.{◌≡◌, ℕ, ℤ, pos, ◌-◌, ◌^◌, ◌-ℤ◌, neg_ℤ, nat_le, int_le, ◌⊎◌, length, Option, None, Some, Result, Ok, Err, MatchResult, OnOk, OnErr, if◌then◌else◌}
+use Rattle.std.specs.Prelude.{◌≡◌, ℕ, pos, ◌-◌, ◌^◌, ◌-ℤ◌, neg_ℤ, nat_le, int_le, ◌⊎◌, length, Option, None, Some, Result, Ok, Err, MatchResult, OnOk, OnErr, if◌then◌else◌}
 use Rattle.std.specs.declared.io.Error.{Error}
 use Rattle.std.specs.declared.io.traits.SeekFrom.{SeekFrom}
 use Rattle.std.specs.declared.io.traits.SeekFrom.TheVariants.{Start, End, Current}
@@ -48,10 +48,12 @@ abbrev pub reader_position : {S P : Type 0} → (S → Option ℕ) → Buffered 
 reader_position position r = option_and_then
     (λ place. if nat_le (length r.block.bytes) place then Some (place - length r.block.bytes) else None) (position r.inner)
 
--- one seek from where the reader stands, as a seek is planned, and its answer without the place
-pub record SeeksBy {S P : Type 0} (readies : Readies) (offset : ℤ) (s : Buffered S P)
-    (answer : Result (Unit {0}) Error) (t : Buffered S P) : Type 0 where
-  pub place : Result ℕ Error
-  pub answered : MatchResult place (λ _. answer ≡ Ok tt) (λ e. answer ≡ Err e)
-  pub seeks : Seeks readies (plan_for (Current offset) (length s.block.bytes)) s place t
-  pub leaves : SeekLeaves s place t
+-- a seek's answer without the place
+abbrev pub WithoutPlace : (Result ℕ Error → Type 0) → Result (Unit {0}) Error → Type 0
+WithoutPlace sought answer =
+    (place : Result ℕ Error) × sought place × MatchResult place (λ _. answer ≡ Ok tt) (λ e. answer ≡ Err e)
+
+-- one seek, as it is planned from where the reader stands, and its answer without the place
+abbrev pub SeeksTo : {S P : Type 0} → Readies → SeekFrom → Buffered S P → Result (Unit {0}) Error → Buffered S P → Type 0
+SeeksTo readies to s answer t =
+    WithoutPlace (λ place. Seeks readies (plan_for to (length s.block.bytes)) s place t × SeekLeaves s place t) answer

@@ -4,11 +4,11 @@ ghost use Rattle.std.specs.Io.KnownBytes.{Keeps};
 ghost use Rattle.std.specs.IoError.{error_kind};
 ghost use Rattle.std.specs.declared.io.Error.{Error};
 ghost use Rattle.std.specs.declared.io.ErrorKind.TheVariants.{InvalidData};
-ghost use Rattle.std.specs.declared.io.traits.SeekFrom.TheVariants.{Current};
-ghost use Rattle.std.specs.Io.Seek.{MovesBy, SeekMoves, StaysAt};
+ghost use Rattle.std.specs.declared.io.traits.SeekFrom.TheVariants.{Current, Start};
+ghost use Rattle.std.specs.Io.Seek.{MovesBy, MovesTo, SeekMoves, StaysAt};
 ghost use Rattle.redux_buffer.specs.Block.{IsBlock, ConsumesFirst, OnlyRingMoves};
 ghost use Rattle.redux_buffer.specs.StreamLog.{with_fault, SeekTells};
-ghost use Rattle.buffer_redux.specs.Seek.{plan_for, reader_position, Seeks, SeeksBy, SeeksOnce, SeekLeaves};
+ghost use Rattle.buffer_redux.specs.Seek.{plan_for, reader_position, Seeks, SeeksOnce, SeeksTo, SeekLeaves};
 ghost use Rattle.buffer_redux.specs.Sparing.{Spared};
 ghost use Rattle.buffer_redux.specs.Buffered.{with_block};
 
@@ -62,9 +62,7 @@ impl<R: TellSeek, P> BufReader<R, P> {
         self.buf.clear();
         Ok(position)
     }
-}
 
-impl<R: TellSeek, P> BufReader<R, P> {
     // A relative seek that leaves the buffer.
     #[cold]
     #[inline(never)]
@@ -72,7 +70,7 @@ impl<R: TellSeek, P> BufReader<R, P> {
         ensures moves { MovesBy (reader_position R.stream_position self.old)
             (reader_position R.stream_position self.new) offset result }
         ensures bytes { Keeps (R.stream_bytes self.old.inner) (R.stream_bytes self.new.inner) }
-        ensures far { SeeksBy R.readies offset self.old result self.new }
+        ensures far { SeeksTo R.readies (Current offset) self.old result self.new }
         ensures spared { (keep : ℕ) → Spared keep self.old self.new }
         ensures whole { IsBlock self.new.block }
     {
@@ -85,7 +83,7 @@ impl<R: TellSeek, P> BufReader<R, P> {
         ensures moves { MovesBy (reader_position R.stream_position self.old)
             (reader_position R.stream_position self.new) offset result }
         ensures bytes { Keeps (R.stream_bytes self.old.inner) (R.stream_bytes self.new.inner) }
-        ensures far { SeeksBy R.readies offset self.old result self.new }
+        ensures far { SeeksTo R.readies (Current offset) self.old result self.new }
         ensures spared { (keep : ℕ) → Spared keep self.old self.new }
         ensures whole { IsBlock self.new.block }
     {
@@ -121,6 +119,20 @@ impl<R: TellSeek, P> Seek for BufReader<R, P> {
         }
     }
 
+    /// A [`seek`](Seek::seek) to the first byte.
+    fn rewind(&mut self) -> io::Result<()>
+        ensures moves { MovesTo (reader_position R.stream_position self.old)
+            (reader_position R.stream_position self.new) 0 result }
+        ensures bytes { Keeps (R.stream_bytes self.old.inner) (R.stream_bytes self.new.inner) }
+        ensures seeks { SeeksTo R.readies (Start 0) self.old result self.new }
+        ensures spared { (keep : ℕ) → Spared keep self.old self.new }
+        ensures caused { self.new.log.seeks.faults ≡ with_fault self.old.log.seeks.faults result }
+        ensures whole { IsBlock self.new.block }
+    {
+        self.seek(SeekFrom::Start(0))?;
+        Ok(())
+    }
+
     /// Goes on by `offset` bytes, or back by as many. Forward within what is buffered it drops just those bytes and asks
     /// nobody; else it is a [`seek`](Seek::seek). The policy is not asked.
     #[inline(always)]
@@ -132,7 +144,7 @@ impl<R: TellSeek, P> Seek for BufReader<R, P> {
             × ConsumesFirst n self.old.block self.new.block × OnlyRingMoves self.old.block self.new.block
             × (self.new ≡ with_block self.old self.new.block) }
         ensures far { ¬ ((n : ℕ) × (offset ≡ pos n) × (n ≤ length self.old.block.bytes))
-            → SeeksBy R.readies offset self.old result self.new }
+            → SeeksTo R.readies (Current offset) self.old result self.new }
         ensures spared { (keep : ℕ) → Spared keep self.old self.new }
         ensures caused { self.new.log.seeks.faults ≡ with_fault self.old.log.seeks.faults result }
         ensures whole { IsBlock self.new.block }

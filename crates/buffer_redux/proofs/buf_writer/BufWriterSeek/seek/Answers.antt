@@ -1,6 +1,6 @@
 -- Behind an Ok flush all is received and flushed, and just one seek was asked for: the flush makes none.
 use Rattle.std.proofs.Common.{◌≡◌, ℕ, List, [], ◌∷◌, ◌++◌, Result, Ok, Err, inl, inr, refl, sym, ap, ◌∙◌, rules}
-use Rattle.std.specs.Prelude.{MatchResult}
+use Rattle.std.specs.Prelude.{IsErrAnd, MatchResult, OnOk, ◌⊎◌}
 use Rattle.std.proofs.lemmas.Result.{err_from_is_err_and}
 use Rattle.std.specs.declared.io.Error.{Error}
 use Rattle.std.specs.declared.io.traits.SeekFrom.{SeekFrom}
@@ -89,3 +89,15 @@ returns-clause-sought g c =
       capacity = search rules;
       whole = search rules;
     }
+
+-- so at Ok all is received and flushed
+done : {S P : Type 0} (s t : Buffered S P) (X : Type 0) (Y : Error → Type 0) (answer : Result ℕ Error)
+    → ((IsFlushed s t × X) ⊎ IsErrAnd answer Y)
+    → OnOk answer ((t.block.bytes ≡ []) × (t.log.writes.received ≡ s.log.writes.received ++ s.block.bytes)
+    × (t.log.writes.flushed ≡ t.log.writes.received))
+done s t X Y (Ok n) (inl all) = (all.0.empty, all.0.received, all.0.flushed)
+done s t X Y (Ok n) (inr odd) = absurd odd
+done s t X Y (Err e) asked = tt
+
+pub returns-clause-all : goal.returns-clause-all
+returns-clause-all g c = done _ _ _ _ c.seek_told.result (returns-clause-sought g c).asked
