@@ -18,7 +18,7 @@ use Rattle.buffer_redux.specs.BufReader.{ReadsInOrder, ReaderKeeps, ReadErrorCau
 use Rattle.buffer_redux.specs.ReaderLaws.{ReadsInOrder-none, ReadsInOrder-joins, InnerGives-none, InnerGives-joins, remaining_gives}
 use Rattle.buffer_redux.specs.Remaining.{reader_remaining}
 use Rattle.buffer_redux.specs.Sparing.{Spared-none, Spared-joins}
-use Rattle.buffer_redux.specs.ReadAll.{ReadTurns, HandedFront, ReadsExactly, OneRead}
+use Rattle.buffer_redux.specs.ReadAll.{ReadTurns, FillsSlice, HandedFront, ReadsExactly, OneRead}
 use Rattle.buffer_redux.proofs.WriteAll.{one_more, none_taken, not_interrupted}
 
 -- how many bytes a turn took that was gone on from
@@ -62,6 +62,164 @@ module _ (at : ℕ) (out new : List ℕ) (within : at ≤ length out) where
     within,
   )
 
+-- `turns` turns filled the first `at` bytes of a slice that held `was`, and left it as `out`
+pub record Turned {T : Type 0} (reads : T → List ℕ → Result ℕ Error → List ℕ → T → Type 0) (handed : T → List ℕ → T → Type 0)
+    (s : T) (was : List ℕ) (turns at : ℕ) (out : List ℕ) (t : T) : Type 0 where
+  pub within : at ≤ length out
+  pub run : ReadTurns reads was turns at out s t
+  pub front : handed s (take at out) t
+
+-- what each read tells of its slice
+pub record SliceRead {T : Type 0} (handed : T → List ℕ → T → Type 0) (s : T) (was : List ℕ) (answer : Result ℕ Error)
+    (slice : List ℕ) (t : T) : Type 0 where
+  pub bound : ReadsAtMost answer slice
+  pub size : length slice ≡ length was
+  pub front : handed s (portion slice answer) t
+
+pub turned_none : {T : Type 0} (reads : T → List ℕ → Result ℕ Error → List ℕ → T → Type 0) (handed : T → List ℕ → T → Type 0)
+    (s : T) (out : List ℕ) → handed s [] s → Turned reads handed s out 0 0 out s
+turned_none reads handed s out none = record { within = omega arith; run = (refl, refl, refl); front = none }
+
+module _ {T : Type 0} (reads : T → List ℕ → Result ℕ Error → List ℕ → T → Type 0) (handed : T → List ℕ → T → Type 0)
+    (joins : (s m t : T) (a b : List ℕ) → handed s a m → handed m b t → handed s (a ++ b) t)
+    (tells : (s : T) (was : List ℕ) (answer : Result ℕ Error) (slice : List ℕ) (t : T) → reads s was answer slice t
+    → SliceRead handed s was answer slice t) where
+  module _ (s : T) (was : List ℕ) (turns at : ℕ) (out : List ℕ) (m : T) (before : Turned reads handed s was turns at out m) where
+    -- one more read into what is left of the slice
+    module _ (new : List ℕ) (answer : Result ℕ Error) (t : T) (fewer : at < length out)
+        (one : reads m (drop at out) answer new t) where
+      within : at ≤ length out
+      within = omega (arith, fewer)
+
+      told : SliceRead handed m (drop at out) answer new t
+      told = tells m (drop at out) answer new t one
+
+      joined : handed s (take at out ++ portion new answer) t
+      joined = joins s m t (take at out) (portion new answer) before.front told.front
+
+      pub turned_more : (n : ℕ) → GoesBy answer n → Turned reads handed s was (turns + 1) (at + n) (put_from at out new) t
+      turned_more n goes =
+          let took = taken_by answer n goes new told.bound in
+          record {
+            within = omega (
+              arith,
+              took.0,
+              within,
+              put_length at out new within told.size,
+              length-drop at out,
+              told.size,
+            );
+            run = subst (λ k. ReadTurns reads was k (at + n) (put_from at out new) s t) (one_more turns) (
+              at,
+              out,
+              m,
+              before.run,
+              record {
+                fewer = fewer;
+                answer = answer;
+                slice = new;
+                read = one;
+                further = n;
+                goes = goes;
+                adds = refl;
+                stands = put_is at out new within;
+              },
+            );
+            front = subst (λ l. handed s l t)
+                (ap (λ l. take at out ++ l) took.1 ∙ sym (put_take at out new within n)) joined;
+          }
+
+      pub ended_failed : (e : Error) → EndsBy UnexpectedEof answer e
+          → FillsSlice reads handed s was (Err e) (put_from at out new) t
+      ended_failed e ends =
+          let same = put_length at out new within told.size in
+          record {
+            turns = turns;
+            count = at;
+            within = omega (arith, within, same);
+            left = out;
+            last = m;
+            run = before.run;
+            first = rw (put_front at out new within) before.front;
+            front = subst (λ l. handed s l t)
+                (ap (λ l. take at out ++ l) (none_taken UnexpectedEof answer e ends new) ∙ append-nil (take at out)
+                ∙ sym (put_front at out new within))
+                joined;
+            ended = inl (record {
+              fewer = omega (arith, fewer, same);
+              answer = answer;
+              ends = ends;
+              slice = new;
+              read = one;
+              stands = put_is at out new within;
+            });
+          }
+
+  module _ (s : T) (was : List ℕ) (none : handed s [] s) (answer : Result ℕ Error) (out : List ℕ) (t : T)
+      (some : 0 < length out) (one : reads s was answer out t) where
+    has : 0 < length was
+    has = omega (arith, some, (tells s was answer out t one).size)
+
+    all_put : put_from 0 was out ≡ out
+    all_put = put_is 0 was out (omega arith)
+
+    pub first_more : (n : ℕ) → GoesBy answer n → Turned reads handed s was 1 n out t
+    first_more n goes =
+        let same : 0 + n ≡ n = omega arith in
+        subst (λ k. Turned reads handed s was 1 k out t) same
+        (subst (λ l. Turned reads handed s was 1 (0 + n) l t) all_put
+        (turned_more s was 0 0 was s (turned_none reads handed s was none) out answer t has one n goes))
+
+    pub first_failed : (e : Error) → EndsBy UnexpectedEof answer e → FillsSlice reads handed s was (Err e) out t
+    first_failed e ends = subst (λ l. FillsSlice reads handed s was (Err e) l t) all_put
+        (ended_failed s was 0 0 was s (turned_none reads handed s was none) out answer t has one e ends)
+
+module _ {T : Type 0} (reads : T → List ℕ → Result ℕ Error → List ℕ → T → Type 0) (handed : T → List ℕ → T → Type 0)
+    (s : T) (was : List ℕ) (turns at : ℕ) (out : List ℕ) (m : T) (before : Turned reads handed s was turns at out m) where
+  pub ended_all : length out ≤ at → FillsSlice reads handed s was (Ok tt) out m
+  ended_all enough = record {
+    turns = turns;
+    count = at;
+    within = before.within;
+    left = out;
+    last = m;
+    run = before.run;
+    first = before.front;
+    front = before.front;
+    ended = (omega (arith, enough, before.within), refl, refl);
+  }
+
+  pub ended_late : (e : Error) → GaveUp turns at (length out) e → FillsSlice reads handed s was (Err e) out m
+  ended_late e late = record {
+    turns = turns;
+    count = at;
+    within = before.within;
+    left = out;
+    last = m;
+    run = before.run;
+    first = before.front;
+    front = before.front;
+    ended = inr (late, refl, refl);
+  }
+
+-- no such read ends as `Interrupted`
+pub not_retried : {T : Type 0} (reads : T → List ℕ → Result ℕ Error → List ℕ → T → Type 0) (handed : T → List ℕ → T → Type 0)
+    (s : T) (was : List ℕ) (answer : Result (Unit {0}) Error) (out : List ℕ) (t : T) → FillsSlice reads handed s was answer out t
+    → IfErr answer (λ e. error_kind e ≢ Interrupted)
+not_retried reads handed s was (Ok _) out t r = tt
+not_retried reads handed s was (Err e) out t r = elim r.ended [
+  | inl failed ↦ not_interrupted UnexpectedEof (λ odd. cc) failed.answer e failed.ends
+  | inr late ↦ λ odd. (let two = sym late.0.timed_out ∙ odd in cc)
+]
+
+-- at Ok all of the slice was handed out
+pub all_handed : {T : Type 0} (reads : T → List ℕ → Result ℕ Error → List ℕ → T → Type 0) (handed : T → List ℕ → T → Type 0)
+    (s : T) (was : List ℕ) (answer : Result (Unit {0}) Error) (out : List ℕ) (t : T) → FillsSlice reads handed s was answer out t
+    → OnOk answer (handed s out t)
+all_handed reads handed s was (Ok _) out t r =
+    subst (λ l. handed s l t) (take_all r.count out (omega (arith, r.ended.0))) r.front
+all_handed reads handed s was (Err e) out t r = tt
+
 module _ {S P : Type 0} (remaining : S → Option (List ℕ)) (rules : ReadRules P) where
   keeps_none : (s : Buffered S P) → IsBlock s.block → ReaderKeeps remaining rules s s
   keeps_none s whole = record {
@@ -99,136 +257,19 @@ module _ {S P : Type 0} (remaining : S → Option (List ℕ)) (rules : ReadRules
     keeps = keeps_joins s m t p.keeps q.keeps;
   }
 
-  -- `turns` turns filled the first `at` bytes of a slice that held `was`, and left it as `out`
-  pub record Turned (s : Buffered S P) (was : List ℕ) (turns at : ℕ) (out : List ℕ) (t : Buffered S P) : Type 0 where
-    pub within : at ≤ length out
-    pub run : ReadTurns remaining rules was turns at out s t
-    pub front : HandedFront remaining rules s (take at out) t
+  -- a read tells of its slice what joins it to others
+  pub one_tells : (s : Buffered S P) (was : List ℕ) (answer : Result ℕ Error) (slice : List ℕ) (t : Buffered S P)
+      → OneRead remaining rules s was answer slice t → SliceRead (HandedFront remaining rules) s was answer slice t
+  one_tells s was answer slice t one = record { bound = one.bound; size = one.steps.size; front = one.front }
 
-  pub turned_none : (s : Buffered S P) (out : List ℕ) → IsBlock s.block → Turned s out 0 0 out s
-  turned_none s out whole = record { within = omega arith; run = (refl, refl, refl); front = front_none s whole }
-
-  module _ (s : Buffered S P) (was : List ℕ) (turns at : ℕ) (out : List ℕ) (m : Buffered S P)
-      (before : Turned s was turns at out m) where
-    -- one more read into what is left of the slice
-    module _ (new : List ℕ) (answer : Result ℕ Error) (t : Buffered S P) (fewer : at < length out)
-        (one : OneRead remaining rules m (drop at out) answer new t) where
-      within : at ≤ length out
-      within = omega (arith, fewer)
-
-      joined : HandedFront remaining rules s (take at out ++ portion new answer) t
-      joined = front_joins s m t (take at out) (portion new answer) before.front one.front
-
-      pub turned_more : (n : ℕ) → GoesBy answer n → Turned s was (turns + 1) (at + n) (put_from at out new) t
-      turned_more n goes =
-          let took = taken_by answer n goes new one.bound in
-          record {
-            within = omega (
-              arith,
-              took.0,
-              within,
-              put_length at out new within one.steps.size,
-              length-drop at out,
-              one.steps.size,
-            );
-            run = subst (λ k. ReadTurns remaining rules was k (at + n) (put_from at out new) s t) (one_more turns) (
-              at,
-              out,
-              m,
-              before.run,
-              record {
-                fewer = fewer;
-                answer = answer;
-                slice = new;
-                read = one;
-                further = n;
-                goes = goes;
-                adds = refl;
-                stands = put_is at out new within;
-              },
-            );
-            front = subst (λ l. HandedFront remaining rules s l t)
-                (ap (λ l. take at out ++ l) took.1 ∙ sym (put_take at out new within n)) joined;
-          }
-
-      pub ended_failed : (e : Error) → EndsBy UnexpectedEof answer e
-          → ReadsExactly remaining rules s was (Err e) (put_from at out new) t
-      ended_failed e ends =
-          let same = put_length at out new within one.steps.size in
-          record {
-            turns = turns;
-            count = at;
-            within = omega (arith, within, same);
-            left = out;
-            last = m;
-            run = before.run;
-            first = rw (put_front at out new within) before.front;
-            front = subst (λ l. HandedFront remaining rules s l t)
-                (ap (λ l. take at out ++ l) (none_taken UnexpectedEof answer e ends new) ∙ append-nil (take at out)
-                ∙ sym (put_front at out new within))
-                joined;
-            ended = inl (record {
-              fewer = omega (arith, fewer, same);
-              answer = answer;
-              ends = ends;
-              slice = new;
-              read = one;
-              stands = put_is at out new within;
-            });
-          }
-
-    pub ended_all : length out ≤ at → ReadsExactly remaining rules s was (Ok tt) out m
-    ended_all enough = record {
-      turns = turns;
-      count = at;
-      within = before.within;
-      left = out;
-      last = m;
-      run = before.run;
-      first = before.front;
-      front = before.front;
-      ended = (omega (arith, enough, before.within), refl, refl);
-    }
-
-    pub ended_late : (e : Error) → GaveUp turns at (length out) e → ReadsExactly remaining rules s was (Err e) out m
-    ended_late e late = record {
-      turns = turns;
-      count = at;
-      within = before.within;
-      left = out;
-      last = m;
-      run = before.run;
-      first = before.front;
-      front = before.front;
-      ended = inr (late, refl, refl);
-    }
-
-  -- no byte, and the first read into a slice that has some
   pub all_none : (s : Buffered S P) → IsBlock s.block → ReadsExactly remaining rules s [] (Ok tt) [] s
-  all_none s whole = ended_all s [] 0 0 [] s (turned_none s [] whole) (le_refl 0)
-
-  module _ (s : Buffered S P) (was : List ℕ) (answer : Result ℕ Error) (out : List ℕ) (t : Buffered S P)
-      (some : 0 < length out) (one : OneRead remaining rules s was answer out t) where
-    has : 0 < length was
-    has = omega (arith, some, one.steps.size)
-
-    all_put : put_from 0 was out ≡ out
-    all_put = put_is 0 was out (omega arith)
-
-    pub first_more : (n : ℕ) → GoesBy answer n → Turned s was 1 n out t
-    first_more n goes =
-        let same : 0 + n ≡ n = omega arith in
-        subst (λ k. Turned s was 1 k out t) same (subst (λ l. Turned s was 1 (0 + n) l t) all_put
-        (turned_more s was 0 0 was s (turned_none s was one.whole) out answer t has one n goes))
-
-    pub first_failed : (e : Error) → EndsBy UnexpectedEof answer e → ReadsExactly remaining rules s was (Err e) out t
-    first_failed e ends = subst (λ l. ReadsExactly remaining rules s was (Err e) l t) all_put
-        (ended_failed s was 0 0 was s (turned_none s was one.whole) out answer t has one e ends)
+  all_none s whole = ended_all _ _ s [] 0 0 [] s (turned_none _ _ s [] (front_none s whole)) (le_refl 0)
 
   pub all_at_once : (s : Buffered S P) (was : List ℕ) (n : ℕ) (out : List ℕ) (t : Buffered S P) → 0 < length out
       → n ≡ length out → OneRead remaining rules s was (Ok n) out t → ReadsExactly remaining rules s was (Ok tt) out t
   all_at_once s was n out t some full one =
-      ended_all s was 1 n out t (first_more s was (Ok n) out t some one n (omega (arith, some, full), refl))
+      ended_all _ _ s was 1 n out t (first_more _ _ front_joins one_tells s was (front_none s one.whole) (Ok n) out t some one n
+      (omega (arith, some, full), refl))
       (omega (arith, full))
 
   -- all that `read` promises
@@ -252,6 +293,18 @@ module _ {S P : Type 0} (remaining : S → Option (List ℕ)) (rules : ReadRules
         → (count : ℕ) × (count ≤ length out) × ReadsInOrder s (take count out) t
     beginning r = (r.count, r.within, r.front.in_order)
 
+    in_order : (answer : Result (Unit {0}) Error) → ReadsExactly remaining rules s was answer out t
+        → OnOk answer (ReadsInOrder s out t)
+    in_order (Ok u) r = (all_handed _ _ s was (Ok u) out t r).in_order
+    in_order (Err e) r = tt
+
+    known : (answer : Result (Unit {0}) Error) → ReadsExactly remaining rules s was answer out t
+        → OnOk answer (Consumes (reader_remaining remaining rules s) (reader_remaining remaining rules t) out)
+    known (Ok u) r =
+        let keeps = r.front.keeps in
+        remaining_gives remaining rules s t out (in_order (Ok u) r) keeps.known keeps.claims keeps.capacity
+    known (Err e) r = tt
+
     pub exact_says : (answer : Result (Unit {0}) Error) → ReadsExactly remaining rules s was answer out t → record {
       in_order : OnOk answer (ReadsInOrder s out t);
       beginning : (count : ℕ) × (count ≤ length out) × ReadsInOrder s (take count out) t;
@@ -260,26 +313,13 @@ module _ {S P : Type 0} (remaining : S → Option (List ℕ)) (rules : ReadRules
       whole : IsBlock t.block;
       steps : ReadsExactly remaining rules s was answer out t;
     }
-    exact_says (Ok _) r =
+    exact_says answer r =
         let keeps = r.front.keeps in
-        let in_order : ReadsInOrder s out t =
-        subst (λ l. ReadsInOrder s l t) (take_all r.count out (omega (arith, r.ended.0))) r.front.in_order in
         record {
-          in_order = in_order;
+          in_order = in_order answer r;
           beginning = beginning r;
-          bytes = remaining_gives remaining rules s t out in_order keeps.known keeps.claims keeps.capacity;
-          retried = tt;
+          bytes = known answer r;
+          retried = not_retried _ _ s was answer out t r;
           whole = keeps.whole;
           steps = r;
         }
-    exact_says (Err e) r = record {
-      in_order = tt;
-      beginning = beginning r;
-      bytes = tt;
-      retried = elim r.ended [
-        | inl failed ↦ not_interrupted UnexpectedEof (λ odd. cc) failed.answer e failed.ends
-        | inr late ↦ λ odd. (let two = sym late.0.timed_out ∙ odd in cc)
-      ];
-      whole = r.front.keeps.whole;
-      steps = r;
-    }

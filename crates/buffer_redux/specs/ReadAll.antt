@@ -10,6 +10,44 @@ use Rattle.buffer_redux.specs.AllBytes.{GoesBy, EndsBy, GaveUp}
 use Rattle.buffer_redux.specs.Buffered.{Buffered}
 use Rattle.buffer_redux.specs.BufReader.{Reads, ReadsInOrder, ReaderKeeps, ReadErrorCaused, EmptyReadCaused}
 
+-- this many turns, one after another, filled the first `count` bytes of a slice that held `was`, and left it as `out`: each was
+-- a read into what was left of it, and was gone on from
+abbrev pub ReadTurns : {T : Type 0} → (T → List ℕ → Result ℕ Error → List ℕ → T → Type 0) → List ℕ → ℕ → ℕ → List ℕ → T → T
+    → Type 0
+ReadTurns reads was zero count out s t = (count ≡ 0) × (out ≡ was) × (s ≡ t)
+ReadTurns {T} reads was (suc k) count out s t =
+    (before : ℕ) × (left : List ℕ) × (m : T) × ReadTurns reads was k before left s m × record {
+      fewer : before < length left;
+      answer : Result ℕ Error;
+      slice : List ℕ;
+      read : reads m (drop before left) answer slice t;
+      further : ℕ;
+      goes : GoesBy answer further;
+      adds : count ≡ before + further;
+      stands : out ≡ take before left ++ slice;
+    }
+
+-- what `read_exact` does by such reads, whose slice held `was` and holds `out`: turns filled its first `count` bytes, and left it
+-- as `left`. At `Ok` these are all; at `Err` one more read ended it, which handed nothing out, or there were too many turns
+pub record FillsSlice {T : Type 0} (reads : T → List ℕ → Result ℕ Error → List ℕ → T → Type 0) (handed : T → List ℕ → T → Type 0)
+    (s : T) (was : List ℕ) (answer : Result (Unit {0}) Error) (out : List ℕ) (t : T) : Type 0 where
+  pub turns : ℕ
+  pub count : ℕ
+  pub within : count ≤ length out
+  pub left : List ℕ
+  pub last : T
+  pub run : ReadTurns reads was turns count left s last
+  pub first : handed s (take count out) last
+  pub front : handed s (take count out) t
+  pub ended : MatchResult answer (λ _. (count ≡ length out) × (out ≡ left) × (t ≡ last)) (λ e. record {
+    fewer : count < length out;
+    answer : Result ℕ Error;
+    ends : EndsBy UnexpectedEof answer e;
+    slice : List ℕ;
+    read : reads last (drop count left) answer slice t;
+    stands : out ≡ take count left ++ slice;
+  } ⊎ (GaveUp turns count (length out) e × (out ≡ left) × (t ≡ last)))
+
 -- just these bytes were handed out, and none was lost or changed place
 pub record HandedFront {S P : Type 0} (remaining : S → Option (List ℕ)) (rules : ReadRules P)
     (s : Buffered S P) (handed : List ℕ) (t : Buffered S P) : Type 0 where
@@ -26,40 +64,7 @@ pub record OneRead {S P : Type 0} (remaining : S → Option (List ℕ)) (rules :
   pub caused : ReadErrorCaused rules s answer t
   pub empty : answer ≡ Ok 0 → 0 < length slice → EmptyReadCaused rules s t
 
--- this many turns, one after another, filled the first `count` bytes of a slice that held `was`, and left it as `out`: each was
--- a read into what was left of it, and was gone on from
-abbrev pub ReadTurns : {S P : Type 0} → (S → Option (List ℕ)) → ReadRules P → List ℕ → ℕ → ℕ → List ℕ → Buffered S P
-    → Buffered S P → Type 0
-ReadTurns remaining rules was zero count out s t = (count ≡ 0) × (out ≡ was) × (s ≡ t)
-ReadTurns {S} {P} remaining rules was (suc k) count out s t = (before : ℕ) × (left : List ℕ) × (m : Buffered S P)
-    × ReadTurns remaining rules was k before left s m × record {
-      fewer : before < length left;
-      answer : Result ℕ Error;
-      slice : List ℕ;
-      read : OneRead remaining rules m (drop before left) answer slice t;
-      further : ℕ;
-      goes : GoesBy answer further;
-      adds : count ≡ before + further;
-      stands : out ≡ take before left ++ slice;
-    }
-
--- what `read_exact` does, whose slice held `was` and holds `out`: turns filled its first `count` bytes, and left it as `left`.
--- At `Ok` these are all; at `Err` one more read ended it, which handed nothing out, or there were too many turns
-pub record ReadsExactly {S P : Type 0} (remaining : S → Option (List ℕ)) (rules : ReadRules P)
-    (s : Buffered S P) (was : List ℕ) (answer : Result (Unit {0}) Error) (out : List ℕ) (t : Buffered S P) : Type 0 where
-  pub turns : ℕ
-  pub count : ℕ
-  pub within : count ≤ length out
-  pub left : List ℕ
-  pub last : Buffered S P
-  pub run : ReadTurns remaining rules was turns count left s last
-  pub first : HandedFront remaining rules s (take count out) last
-  pub front : HandedFront remaining rules s (take count out) t
-  pub ended : MatchResult answer (λ _. (count ≡ length out) × (out ≡ left) × (t ≡ last)) (λ e. record {
-    fewer : count < length out;
-    answer : Result ℕ Error;
-    ends : EndsBy UnexpectedEof answer e;
-    slice : List ℕ;
-    read : OneRead remaining rules last (drop count left) answer slice t;
-    stands : out ≡ take count left ++ slice;
-  } ⊎ (GaveUp turns count (length out) e × (out ≡ left) × (t ≡ last)))
+-- what `read_exact` of a buffered reader does
+abbrev pub ReadsExactly : {S P : Type 0} → (S → Option (List ℕ)) → ReadRules P → Buffered S P → List ℕ
+    → Result (Unit {0}) Error → List ℕ → Buffered S P → Type 0
+ReadsExactly remaining rules = FillsSlice (OneRead remaining rules) (HandedFront remaining rules)
