@@ -1,5 +1,6 @@
 pub mod Testing
 pub mod Turning
+pub mod Unbuffering
 pub mod SparingFacts
 pub mod FillFacts
 pub mod FillClaims

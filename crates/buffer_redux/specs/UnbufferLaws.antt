@@ -9,7 +9,7 @@ use Rattle.buffer_redux.specs.BufReader.{ReadsAlong}
 use Rattle.buffer_redux.specs.BufWriter.{WritesInOrder}
 use Rattle.buffer_redux.specs.Policy.{ReadRules}
 use Rattle.buffer_redux.specs.WriterLaws.{WritesInOrder-joins}
-use Rattle.buffer_redux.specs.Unbuffer.{StreamWent, Unbuffered, unbuffer_remaining, unbuffered}
+use Rattle.buffer_redux.specs.Unbuffer.{HandsOutInOrder, StreamWent, Unbuffered, unbuffer_remaining, unbuffered}
 
 -- known bytes are those that went, and then what is left
 pub left_then : (left left' : Option (List ℕ)) (bytes lost : List ℕ) → left ≡ Some bytes → Consumes left left' lost
@@ -18,10 +18,24 @@ left_then None left' bytes lost is went = cc
 left_then (Some x) None bytes lost is went = absurd went
 left_then (Some x) (Some y) bytes lost is went = (y, refl, (let same : x ≡ bytes = cc in sym same ∙ went))
 
+module _ {R : Type 0} where
+  pub HandsOutInOrder-none : (s : Unbuffered R) → HandsOutInOrder s [] s
+  HandsOutInOrder-none s =
+      record { got = []; given = sym (append-nil s.log.reads.given); equal = sym (append-nil s.left) }
+
+  pub HandsOutInOrder-joins : (s m t : Unbuffered R) (h k : List ℕ) → HandsOutInOrder s h m → HandsOutInOrder m k t
+      → HandsOutInOrder s (h ++ k) t
+  HandsOutInOrder-joins s m t h k a b = record {
+    got = a.got ++ b.got;
+    given = b.given ∙ ap (λ l. l ++ b.got) a.given ∙ append_assoc s.log.reads.given a.got b.got;
+    equal = append_assoc h k t.left ∙ ap (λ l. h ++ l) b.equal ∙ sym (append_assoc h m.left b.got)
+        ∙ ap (λ l. l ++ b.got) a.equal ∙ append_assoc s.left a.got b.got;
+  }
+
 module _ {R : Type 0} (remaining : R → Option (List ℕ)) where
   pub StreamWent-none : (s : Unbuffered R) → StreamWent remaining s [] s
   StreamWent-none s = record {
-    order = record { got = []; given = sym (append-nil s.log.reads.given); equal = sym (append-nil s.left) };
+    order = HandsOutInOrder-none s;
     known = GivesRemaining-none (remaining s.inner) s.log.reads;
     grows = ReadLogGrows-none s.log.reads;
   }
@@ -29,13 +43,7 @@ module _ {R : Type 0} (remaining : R → Option (List ℕ)) where
   pub StreamWent-joins : (s m t : Unbuffered R) (h k : List ℕ) → StreamWent remaining s h m → StreamWent remaining m k t
       → StreamWent remaining s (h ++ k) t
   StreamWent-joins s m t h k a b = record {
-    order = record {
-      got = a.order.got ++ b.order.got;
-      given = b.order.given ∙ ap (λ l. l ++ b.order.got) a.order.given
-          ∙ append_assoc s.log.reads.given a.order.got b.order.got;
-      equal = append_assoc h k t.left ∙ ap (λ l. h ++ l) b.order.equal ∙ sym (append_assoc h m.left b.order.got)
-          ∙ ap (λ l. l ++ b.order.got) a.order.equal ∙ append_assoc s.left a.order.got b.order.got;
-    };
+    order = HandsOutInOrder-joins s m t h k a.order b.order;
     known = GivesRemaining-joins (remaining s.inner) s.log.reads (remaining m.inner) m.log.reads (remaining t.inner)
         t.log.reads a.known b.known;
     grows = ReadLogGrows-joins s.log.reads m.log.reads t.log.reads a.grows b.grows;
