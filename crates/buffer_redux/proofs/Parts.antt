@@ -13,7 +13,7 @@ use Rattle.redux_buffer.specs.StreamLog.{StreamLog}
 use Rattle.buffer_redux.specs.Buffered.{Buffered, with_block}
 use Rattle.buffer_redux.specs.BufWriter.{WasSent, WritesAlong}
 use Rattle.buffer_redux.specs.Policy.{std_write_rules}
-use Rattle.buffer_redux.specs.WriteParts.{Appends, MakesPlace, PartsRefused, WritesParts}
+use Rattle.buffer_redux.specs.WriteParts.{JustAppends, MakesPlace, PartsRefused, WritesParts}
 use Rattle.buffer_redux.specs.WritesAlongLaws.{WasSent-along, WritesAlong-block, WritesAlong-joins, WritesAlong-none, WritesAlong-then}
 
 -- the bytes of all parts
@@ -79,7 +79,7 @@ module _ {S P : Type 0} (tells : S → StreamLog) (trace : S → S → Type 0) (
     consumed = omega (arith, kept);
   }) up kind same
 
-  put_along : (s t : Buffered S P) (bytes : List ℕ) → Appends s bytes t → WritesAlong tells trace std_write_rules s bytes t
+  put_along : (s t : Buffered S P) (bytes : List ℕ) → JustAppends s bytes t → WritesAlong tells trace std_write_rules s bytes t
   put_along s t bytes p =
       block_along s t bytes p.others p.added.bytes p.added.consumed (omega (arith, p.added.capacity)) p.added.kind
 
@@ -130,7 +130,7 @@ module _ {S P : Type 0} (tells : S → StreamLog) (trace : S → S → Type 0) (
       no_fit fit = absurd (omega (arith, is, few, fit))
 
       -- the parts moved in, once there was room
-      pub parts_moved : (m t : Buffered S P) → MakesPlace tells trace len s (Ok tt) m → Appends m bytes t
+      pub parts_moved : (m t : Buffered S P) → MakesPlace tells trace len s (Ok tt) m → JustAppends m bytes t
           → WritesParts tells trace s bytes (Ok tt) t
       parts_moved m t p put = record {
         along = WritesAlong-joins tells trace std_write_rules joins s m t [] bytes

@@ -24,7 +24,7 @@ pub record PutsIn {S P : Type 0} (s : Buffered S P) (bytes : List ℕ) (t : Buff
   pub whole : IsBlock t.block
 
 -- the buffer appended these bytes, and nothing else was done: none of a plain buffer was moved
-pub record Appends {S P : Type 0} (s : Buffered S P) (bytes : List ℕ) (t : Buffered S P) : Type 0 where
+pub record JustAppends {S P : Type 0} (s : Buffered S P) (bytes : List ℕ) (t : Buffered S P) : Type 0 where
   pub others : t ≡ with_block s t.block
   pub added : Extends bytes s.block t.block
   pub whole : IsBlock t.block
@@ -59,9 +59,9 @@ module _ {S P : Type 0} (tells : S → StreamLog) (trace : S → S → Type 0) w
   pub record WritesParts (s : Buffered S P) (bytes : List ℕ) (answer : Result (Unit {0}) Error) (t : Buffered S P) : Type 0 where
     pub along : MatchResult answer (λ _. WritesAlong tells trace std_write_rules s bytes t)
         (λ e. WritesAlong tells trace std_write_rules s [] t)
-    pub fits : length bytes ≤ usable s.block → (answer ≡ Ok tt) × Appends s bytes t
+    pub fits : length bytes ≤ usable s.block → (answer ≡ Ok tt) × JustAppends s bytes t
     pub full : usable s.block < length bytes → MatchResult answer
-        (λ _. (m : Buffered S P) × MakesPlace (min (length bytes) (2 ^ 64 - 1)) s (Ok tt) m × Appends m bytes t)
+        (λ _. (m : Buffered S P) × MakesPlace (min (length bytes) (2 ^ 64 - 1)) s (Ok tt) m × JustAppends m bytes t)
         (λ e. MakesPlace (min (length bytes) (2 ^ 64 - 1)) s (Err e) t)
     pub caused : IfErr answer (λ e. PartsRefused (length bytes) s e t)
     pub whole : IsBlock t.block

@@ -9,7 +9,7 @@ use Rattle.redux_buffer.specs.GrowError.{GrowthFailed}
 use Rattle.redux_buffer.specs.StreamLog.{StreamLog}
 use Rattle.buffer_redux.specs.Buffered.{Buffered, with_block}
 use Rattle.buffer_redux.specs.BufWriter.{WasSent, WritesInOrder}
-use Rattle.buffer_redux.specs.WriteParts.{Appends, MakesPlace, PutsIn, WritesParts}
+use Rattle.buffer_redux.specs.WriteParts.{JustAppends, MakesPlace, PutsIn, WritesParts}
 
 -- bytes behind others are both
 pub PutsIn-joins : {S P : Type 0} (s m t : Buffered S P) (a b : List ℕ) → PutsIn s a m → PutsIn m b t → PutsIn s (a ++ b) t
@@ -70,7 +70,7 @@ module _ {S P : Type 0} (tells : S → StreamLog) (trace : S → S → Type 0) (
   ]
     where
       sent : (count : ℕ) (answer : Result (Unit {0}) Error) → MatchResult answer
-          (λ _. (m : Buffered S P) × MakesPlace tells trace count s (Ok tt) m × Appends m bytes t)
+          (λ _. (m : Buffered S P) × MakesPlace tells trace count s (Ok tt) m × JustAppends m bytes t)
           (λ e. MakesPlace tells trace count s (Err e) t)
           → (sending : Result (Unit {0}) Error) × (left : Buffered S P) × WasSent tells trace s sending left
           × (t.log ≡ left.log) × ((e : Error) → sending ≡ Err e → answer ≡ Err e)
@@ -112,7 +112,7 @@ module _ {S P : Type 0} (tells : S → StreamLog) (trace : S → S → Type 0) (
   ]
     where
       behind : (count : ℕ) (answer : Result (Unit {0}) Error) → MatchResult answer
-          (λ _. (m : Buffered S P) × MakesPlace tells trace count s (Ok tt) m × Appends m bytes t)
+          (λ _. (m : Buffered S P) × MakesPlace tells trace count s (Ok tt) m × JustAppends m bytes t)
           (λ e. MakesPlace tells trace count s (Err e) t) → t.block.limit ≡ s.block.limit
       behind count (Ok x) (m, p, put) =
           put.added.limit ∙ (place_told count (Ok tt) m p).1 ∙ p.sent.sends.sent.dropped.limit

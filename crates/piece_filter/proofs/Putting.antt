@@ -11,7 +11,7 @@ use Rattle.buffer_redux.specs.GrowError.{GrowthFailed}
 use Rattle.buffer_redux.specs.Faults.{MetInterrupts, MetInterrupts-none, SendErrorCaused, SendErrorCaused-after}
 use Rattle.buffer_redux.specs.StreamLog.{StreamLog, WriteLog}
 use Rattle.buffer_redux.specs.Transfer.{Sends}
-use Rattle.buffer_redux.specs.WriteParts.{Appends, MakesPlace, PartsRefused, WritesParts}
+use Rattle.buffer_redux.specs.WriteParts.{JustAppends, MakesPlace, PartsRefused, WritesParts}
 use Rattle.buffer_redux.specs.WritePartsLaws.{WritesParts-limit, WritesParts-sent}
 use Rattle.buffer_redux.specs.WriterLaws.{WritesInOrder-joins}
 use Rattle.buffer_redux.specs.declared.policy.StdPolicy.{StdPolicy}
@@ -108,7 +108,7 @@ module _ {W : Type 0} (tells : W → StreamLog) (trace : W → W → Type 0) (m 
       where
         by_answer : (answer : Result (Unit {0}) Error) → MatchResult answer
             (λ _. (q : Buffered W StdPolicy) × MakesPlace tells trace (min (length bytes) (2 ^ 64 - 1)) m (Ok tt) q
-            × Appends q bytes t)
+            × JustAppends q bytes t)
             (λ e. MakesPlace tells trace (min (length bytes) (2 ^ 64 - 1)) m (Err e) t)
             → t.block.capacity ≤ m.block.capacity + length bytes + 4095
         by_answer (Ok _) (q, place, puts) = omega (

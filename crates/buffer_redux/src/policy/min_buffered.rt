@@ -1,7 +1,6 @@
 //! A policy that looks ahead.
-ghost use Rattle.std.specs.Prelude.{◌≡◌, ℕ, ◌≤◌};
+ghost use Rattle.std.specs.Prelude.{◌≡◌};
 ghost use Rattle.buffer_redux.specs.MinBuffered.{min_read_rules};
-ghost use Rattle.buffer_redux.specs.Policy.{ClaimsToSpare};
 
 use crate::policy::{DoRead, ReaderPolicy};
 use redux_buffer::Buffer;
@@ -26,10 +25,9 @@ use std::io;
 pub struct MinBuffered(pub usize);
 
 impl MinBuffered {
-    /// Another number of bytes, from the next call on. Numbers that are at least as large are spared from then on.
+    /// Another number of bytes, from the next call on.
     pub fn set_min(&mut self, min: usize)
         ensures number { self.new ≡ record { 0 = min } }
-        ensures spared { (keep : ℕ) → min ≤ keep → ClaimsToSpare (min_read_rules.claims self.new).spares keep }
     {
         self.0 = min;
     }
