@@ -6,20 +6,20 @@ use Rattle.std.specs.Io.KnownBytes.{Consumes, ReadConsumes}
 use Rattle.std.specs.declared.io.Error.{Error}
 use Rattle.redux_buffer.specs.LogGrows.{ReadLogGrows, ReadLogGrows-none, ReadLogGrows-joins}
 use Rattle.redux_buffer.specs.StreamLog.{portion, after_read}
-use Rattle.buffer_redux.specs.Unbuffer.{Unbuffered, unbuffer_remaining, HandsOut, HandsOutInOrder, UnbufferReads}
+use Rattle.buffer_redux.specs.Unbuffer.{Unbuffered, unbuffer_remaining, UnbufferHands, HandsOutInOrder, UnbufferReads}
 use Rattle.buffer_redux.specs.UnbufferLaws.{HandsOutInOrder-none, HandsOutInOrder-joins}
 use Rattle.buffer_redux.proofs.ReadAll.{SliceRead}
 
 module _ {R : Type 0} (remaining : R → Option (List ℕ)) where
-  pub hands_none : (s : Unbuffered R) → HandsOut remaining s [] s
+  pub hands_none : (s : Unbuffered R) → UnbufferHands remaining s [] s
   hands_none s = record {
     order = HandsOutInOrder-none s;
     known = Consumes-nil (unbuffer_remaining remaining s);
     grows = ReadLogGrows-none s.log.reads;
   }
 
-  pub hands_joins : (s m t : Unbuffered R) (a b : List ℕ) → HandsOut remaining s a m → HandsOut remaining m b t
-      → HandsOut remaining s (a ++ b) t
+  pub hands_joins : (s m t : Unbuffered R) (a b : List ℕ) → UnbufferHands remaining s a m → UnbufferHands remaining m b t
+      → UnbufferHands remaining s (a ++ b) t
   hands_joins s m t a b p q = record {
     order = HandsOutInOrder-joins s m t a b p.order q.order;
     known = Consumes-trans (unbuffer_remaining remaining s) (unbuffer_remaining remaining m) (unbuffer_remaining remaining t) a b
@@ -28,7 +28,7 @@ module _ {R : Type 0} (remaining : R → Option (List ℕ)) where
   }
 
   pub hands_tells : (s : Unbuffered R) (was : List ℕ) (answer : Result ℕ Error) (slice : List ℕ) (t : Unbuffered R)
-      → UnbufferReads remaining s was answer slice t → SliceRead (HandsOut remaining) s was answer slice t
+      → UnbufferReads remaining s was answer slice t → SliceRead (UnbufferHands remaining) s was answer slice t
   hands_tells s was answer slice t r = record { bound = r.bound; size = r.size; front = r.handed }
 
   known : (s t : Unbuffered R) (answer : Result ℕ Error) (slice : List ℕ)

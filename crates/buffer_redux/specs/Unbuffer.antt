@@ -35,7 +35,7 @@ pub record HandsOutInOrder {R : Type 0} (s : Unbuffered R) (handed : List ℕ) (
   pub equal : handed ++ t.left ≡ s.left ++ got
 
 -- just these bytes were handed out, and none was lost or changed place
-pub record HandsOut {R : Type 0} (remaining : R → Option (List ℕ)) (s : Unbuffered R) (handed : List ℕ) (t : Unbuffered R)
+pub record UnbufferHands {R : Type 0} (remaining : R → Option (List ℕ)) (s : Unbuffered R) (handed : List ℕ) (t : Unbuffered R)
     : Type 0 where
   pub order : HandsOutInOrder s handed t
   pub known : Consumes (unbuffer_remaining remaining s) (unbuffer_remaining remaining t) handed
@@ -47,7 +47,7 @@ pub record UnbufferReads {R : Type 0} (remaining : R → Option (List ℕ)) (s :
     (answer : Result ℕ Error) (slice : List ℕ) (t : Unbuffered R) : Type 0 where
   pub bound : ReadsAtMost answer slice
   pub size : length slice ≡ length was
-  pub handed : HandsOut remaining s (portion slice answer) t
+  pub handed : UnbufferHands remaining s (portion slice answer) t
   pub left : 0 < length s.left → (answer ≡ Ok (min (length s.left) (length was)))
       × (t ≡ record s { left = drop (length was) s.left }) × (drop (length s.left) slice ≡ drop (length s.left) was)
   pub asked : length s.left ≡ 0 → (t.left ≡ []) × (t.log ≡ after_read s.log slice answer)

@@ -6,7 +6,7 @@ ghost use Rattle.std.specs.IoError.{error_kind};
 ghost use Rattle.redux_buffer.specs.LogGrows.{ReadLogGrows};
 ghost use Rattle.redux_buffer.specs.StreamLog.{portion, after_read};
 ghost use Rattle.buffer_redux.specs.ReadAll.{FillsSlice};
-ghost use Rattle.buffer_redux.specs.Unbuffer.{unbuffered, unbuffer_remaining, HandsOut, HandsOutInOrder, UnbufferReads};
+ghost use Rattle.buffer_redux.specs.Unbuffer.{unbuffered, unbuffer_remaining, UnbufferHands, HandsOutInOrder, UnbufferReads};
 
 use crate::all_bytes::progress;
 use crate::buf_reader::BufReader;
@@ -137,7 +137,7 @@ impl<R: TellRead> Read for Unbuffer<R> {
         ensures bytes { OnOk result (Consumes (unbuffer_remaining R.remaining self.old)
             (unbuffer_remaining R.remaining self.new) out.new) }
         ensures retried { IfErr result (λ e. error_kind e ≢ ErrorKind.Interrupted) }
-        ensures steps { FillsSlice (UnbufferReads R.remaining) (HandsOut R.remaining)
+        ensures steps { FillsSlice (UnbufferReads R.remaining) (UnbufferHands R.remaining)
             self.old out.old result out.new self.new }
     {
         let mut at = 0;

@@ -259,6 +259,24 @@ fn of_a_writer(rt: HostRuntime) -> Result<(), Fail> {
     Ok(())
 }
 
+// Where the other calls of `Seek` go, each of which flushes first.
+fn goes_about<W: TellWrite + TellSeek>(wrt: &mut BufWriter<W>) -> io::Result<u64> {
+    write_all(wrt, &[0, 1, 2, 3, 4])?;
+    wrt.rewind()?;
+    write_all(wrt, &[9])?;
+    wrt.seek_relative(2)?;
+    write_all(wrt, &[8])?;
+    wrt.stream_position()
+}
+
+#[test]
+fn of_a_writer_about(rt: HostRuntime) -> Result<(), Fail> {
+    let mut wrt = placed(rt.alloc(), 3, &[], usize::MAX)?;
+    assert!(rt; kind(goes_about(&mut wrt)) == Ok(4));
+    assert!(rt; content(&wrt) == ([9, 1, 2, 8, 4].as_slice(), 9, 0));
+    Ok(drop(wrt))
+}
+
 // A seek comes after a flush, and none where that fails: which call fails, what the seek then returns, what the stream has,
 // and how many calls it had.
 type Vain = (usize, Result<u64, ErrorKind>, &'static [u8], usize);

@@ -96,3 +96,28 @@ fn reads_by_rows(rt: HostRuntime) -> Result<(), Fail> {
     }
     Ok(())
 }
+
+fn read_exact<R: TellRead>(rdr: &mut Unbuffer<R>, out: &mut [u8]) -> Result<(), ErrorKind> {
+    kind(rdr.read_exact(out))
+}
+
+// Whether three bytes come out whole, and then of two the front.
+fn is_exact<R: TellRead>(rdr: &mut Unbuffer<R>) -> bool {
+    let mut out = [0; 3];
+    let whole = read_exact(rdr, &mut out);
+    let is_whole = whole == Ok(()) && out == [1, 2, 7];
+    let short = read_exact(rdr, &mut out);
+    is_whole && short == Err(ErrorKind::UnexpectedEof) && out == [8, 9, 7]
+}
+
+fn exactly(mut rdr: Unbuffer<Source>) -> bool {
+    is_exact(&mut rdr)
+}
+
+#[test]
+fn reads_exactly(rt: HostRuntime) -> Result<(), Fail> {
+    let script = [Answer::Interrupt(1)];
+    let rdr = of_four(rt.alloc(), &[1, 2], &[7, 8, 9], &script)?;
+    assert!(rt; exactly(unbuffered(rdr)));
+    Ok(())
+}
