@@ -1,10 +1,8 @@
 //! The buffered writer.
-ghost use Rattle.std.specs.Prelude.{None, ◌≡◌, ◌≢◌, pos, ◌<◌, ◌≤◌, ◌^◌, [], ◌++◌, length, Ok, IfErr, true, OnOk, OnErr, IfOk, IsOk};
+ghost use Rattle.std.specs.Prelude.{◌≡◌, ◌≢◌, ◌<◌, ◌≤◌, ◌^◌, [], ◌++◌, length, Ok, IfErr, true, OnOk, OnErr, IfOk, IsOk};
 ghost use Rattle.std.specs.Borrow.{sem, Lends};
 ghost use Rattle.std.specs.Io.{WritesAtMost};
 ghost use Rattle.std.specs.Io.KnownBytes.{Appends, Keeps, WriteAppends};
-ghost use Rattle.std.specs.Io.Seek.{SeekMoves};
-ghost use Rattle.std.specs.declared.io.traits.SeekFrom.TheVariants.{Current, Start};
 ghost use Rattle.std.specs.IoError.{error_kind};
 ghost use Rattle.redux_buffer.specs.Block.{Plain, Ring, IsBlock, Reserves, MakesRoom};
 ghost use Rattle.redux_buffer.specs.Block.{capacity_for, round, usable};
@@ -13,21 +11,21 @@ ghost use Rattle.redux_buffer.specs.StreamLog.{portion};
 ghost use Rattle.buffer_redux.specs.contracts.buf_writer.BufWriter.{the_row};
 ghost use Rattle.buffer_redux.specs.Buffered.{over_buffer, with_block, with_inner, with_policy, InnerWent, Makes};
 ghost use Rattle.buffer_redux.specs.BufWriter.{writer_contents, FlushesAmount, TakesIn, Finished, Writes};
-ghost use Rattle.buffer_redux.specs.BufWriter.{WritesSteadily, WritesInOrder, WriterKeeps, WriteErrorCaused, EmptyWriteCaused, WasSent, WasFlushed, WriterStopped, WasSought};
-ghost use Rattle.buffer_redux.specs.Seek.{WithoutPlace};
+ghost use Rattle.buffer_redux.specs.BufWriter.{WritesSteadily, WritesInOrder, WriterKeeps, WriteErrorCaused, EmptyWriteCaused, WasSent, WasFlushed, WriterStopped};
 ghost use Rattle.buffer_redux.specs.WriteAll.{TookBeginning, WritesAll};
 
 use crate::errors::MakeError;
 use crate::policy::{FlushAmt, StdPolicy, WriterPolicy};
 use redux_buffer::laws::block_law;
-use redux_buffer::tell::{CallLog, TellSeek, TellWrite};
+use redux_buffer::tell::{CallLog, TellWrite};
 use redux_buffer::{Buffer, DEFAULT_BUF_SIZE, GrowError};
 use std::alloc::Global;
-use std::io::{ErrorKind, Seek, SeekFrom, Write};
+use std::io::{ErrorKind, Write};
 use std::marker::Model;
 use std::{fmt, io};
 
 mod parts;
+mod seek;
 mod steps;
 mod tells;
 mod text;
@@ -348,55 +346,6 @@ impl<W: TellWrite, P: WriterPolicy> Write for BufWriter<W, P> {
     {
         self.send()?;
         self.inner.flush_told()
-    }
-}
-
-/// Flushes, and then asks the inner writer to seek to the same place. Where the flush fails, its error is returned, and no
-/// seek is made.
-impl<W: TellWrite + TellSeek, P: WriterPolicy> Seek for BufWriter<W, P> {
-    fn seek(&mut self, to: SeekFrom) -> io::Result<u64>
-        ensures moves { SeekMoves None None None to result }
-        ensures bytes { Keeps None None }
-        ensures all { OnOk result ((self.new.block.bytes ≡ [])
-            × (self.new.log.writes.received ≡ self.old.log.writes.received ++ self.old.block.bytes)
-            × (self.new.log.writes.flushed ≡ self.new.log.writes.received)) }
-        ensures sought { WasSought W.log W.trace W.readies self.old to result self.new }
-    {
-        self.flush()?;
-        self.inner.seek_told(to)
-    }
-
-    /// A [`seek`](Seek::seek) to the first byte.
-    fn rewind(&mut self) -> io::Result<()>
-        ensures all { OnOk result ((self.new.block.bytes ≡ [])
-            × (self.new.log.writes.received ≡ self.old.log.writes.received ++ self.old.block.bytes)
-            × (self.new.log.writes.flushed ≡ self.new.log.writes.received)) }
-        ensures sought { WithoutPlace (λ place. WasSought W.log W.trace W.readies self.old (Start 0) place self.new) result }
-    {
-        self.seek(SeekFrom::Start(0))?;
-        Ok(())
-    }
-
-    /// A [`seek`](Seek::seek) by `offset` bytes from where the inner writer stands.
-    fn seek_relative(&mut self, offset: i64) -> io::Result<()>
-        ensures all { OnOk result ((self.new.block.bytes ≡ [])
-            × (self.new.log.writes.received ≡ self.old.log.writes.received ++ self.old.block.bytes)
-            × (self.new.log.writes.flushed ≡ self.new.log.writes.received)) }
-        ensures sought { WithoutPlace
-            (λ place. WasSought W.log W.trace W.readies self.old (Current offset) place self.new) result }
-    {
-        self.seek(SeekFrom::Current(offset))?;
-        Ok(())
-    }
-
-    /// A [`seek`](Seek::seek) to where the inner writer stands, which tells the place.
-    fn stream_position(&mut self) -> io::Result<u64>
-        ensures all { OnOk result ((self.new.block.bytes ≡ [])
-            × (self.new.log.writes.received ≡ self.old.log.writes.received ++ self.old.block.bytes)
-            × (self.new.log.writes.flushed ≡ self.new.log.writes.received)) }
-        ensures sought { WasSought W.log W.trace W.readies self.old (Current (pos 0)) result self.new }
-    {
-        self.seek(SeekFrom::Current(0))
     }
 }
 

@@ -7,7 +7,7 @@ use Rattle.std.specs.declared.io.traits.SeekFrom.{SeekFrom}
 use Rattle.redux_buffer.specs.StreamLog.{StreamLog, SeekLog, Readies, SeekTells, after_flush}
 use Rattle.buffer_redux.specs.Buffered.{Buffered}
 use Rattle.buffer_redux.specs.BufWriter.{Flushes, IsFlushed}
-use Rattle.buffer_redux.proofs.buf_writer.BufWriterSeek.seek.Goals as goal
+use Rattle.buffer_redux.proofs.buf_writer.seek.BufWriterSeek.seek.Goals as goal
 
 -- a flush makes no seek
 flush_seeks : (sending answer : Result (Unit {0}) Error) (old sent new : StreamLog) → sent.seeks ≡ old.seeks
