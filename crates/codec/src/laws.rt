@@ -1,6 +1,7 @@
 //! Laws, each as the contract of a function over the calls. A law of calls assumes their exact relations, so no fact of few
 //! words stands in front.
-ghost use Rattle.std.specs.Prelude.{◌≡◌, ◌*◌, ◌^◌, ◌≤◌, ℕ, List, [], ◌∷◌, ◌++◌, IfErr, IfOk, IsOk, None, Ok, false};
+ghost use Rattle.std.specs.Prelude.{◌≡◌, ◌*◌, ◌^◌, ◌≤◌, ℕ, List, [], ◌∷◌, ◌++◌, IfErr, IfOk, IsOk, None, Ok};
+ghost use Rattle.buffer_redux.specs.Block.{Block};
 ghost use Rattle.buffer_redux.specs.BufWriter.{WritesInOrder};
 ghost use Rattle.buffer_redux.specs.GrowError.{FitsWithin};
 ghost use Rattle.buffer_redux.specs.MakeError.{growth};
@@ -9,8 +10,8 @@ ghost use Rattle.buffer_redux.specs.Unbuffer.{StreamWent, unbuffered};
 ghost use Rattle.codec.specs.Encoding.{all_coded};
 ghost use Rattle.piece_reader.specs.KnownPieces.{HasLeft, NextKnown};
 ghost use Rattle.piece_reader.specs.NextPiece.{NextAnswer, NextPiece, PiecesWent};
-ghost use Rattle.codec.specs.PieceWriter.{WriterState, IsUnused, unsent};
-ghost use Rattle.piece_reader.specs.PieceReader.{ReaderState, IsFresh, TakenApart, left_of, rest, room_for};
+ghost use Rattle.codec.specs.PieceWriter.{WriterState, IsMadeOver, IsUnused, unsent};
+ghost use Rattle.piece_reader.specs.PieceReader.{ReaderState, IsFresh, IsOver, TakenApart, left_of, rest, room_for};
 ghost use Rattle.piece_reader.specs.Runs.{Cuts, NextRuns, NoneTold, RunWent, all_handed};
 ghost use Rattle.piece_reader.specs.Texts.{HasPieces, Splits};
 ghost use Rattle.codec.specs.WritePiece.{PiecesTaken};
@@ -91,8 +92,8 @@ pub fn handed_over<R: TellRead, D: Decoder, E: Decoder>(
 ) -> Result<PieceReader<R, E>, MakeError<(Buffer, R, E)>>
     ensures rest { IfOk result (λ next. (rest next ≡ rest reader) × (next.reader.inner ≡ reader.reader.inner)) }
     ensures left { IfOk result (λ next. left_of next ≡ left_of reader) }
-    ensures decoder { IfOk result (λ next. next.decoder ≡ decoder) }
-    ensures told { IfOk result (λ next. next.ended ≡ false) }
+    ensures over { IfOk result (λ next. (stream : R) × (buffer : Block) × TakenApart R.log reader stream buffer
+        × IsOver R.log (E.grammar decoder).most buffer stream decoder next) }
     ensures handed_back { IfErr result (λ e. TakenApart R.log reader e.0.1 e.0.0 × (e.0.2 ≡ decoder)) }
     ensures within { FitsWithin (growth result) (room_for reader.reader.block.capacity (E.grammar decoder).most) (2 ^ 62) }
     ensures kept { 3 * (E.grammar decoder).most ≤ reader.reader.block.capacity → IsOk result }
@@ -113,7 +114,7 @@ pub fn written_over<W: TellWrite, E: Encoder, F: Encoder>(
     encoder: F,
 ) -> Result<PieceWriter<W, F>, MakeError<(Buffer, W, F)>>
     ensures left { IfOk result (λ next. unbuffered next.writer ≡ unbuffered writer.writer) }
-    ensures encoder { IfOk result (λ next. next.encoder ≡ encoder) }
+    ensures over { IfOk result (IsMadeOver W.log (F.encoding encoder).most writer.writer.block writer.writer.inner encoder) }
     ensures handed_back { IfErr result (λ e. (e.0.0 ≡ writer.writer.block) × (e.0.1 ≡ writer.writer.inner) × (e.0.2 ≡ encoder)) }
     ensures within { FitsWithin (growth result) (room_for writer.writer.block.capacity (F.encoding encoder).most) (2 ^ 62) }
     ensures kept { 3 * (F.encoding encoder).most ≤ writer.writer.block.capacity → IsOk result }

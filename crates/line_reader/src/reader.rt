@@ -245,7 +245,7 @@ impl<R: TellRead> LineReader<R> {
     /// The stream is read only where no whole line is buffered, and each end of it is told once: by the call after the one
     /// that lent a last line without an end, which reads nothing then. A call after a `None` asks the stream again.
     ///
-    /// An `Err` says why there is no line, and leaves what came of it: the next call looks at it again. So a `TooLong` is
+    /// An `Err` says why there is no line, and leaves what came of it: the next call goes on from there. So a `TooLong` is
     /// returned each time, until [`skip_line`](LineReader::skip_line) drops the line.
     ///
     /// A line that `skip_line` failed in is dropped first, through its end, however often the stream fails in it: so what is

@@ -1,5 +1,5 @@
 //! The decoder of pieces that have a header.
-ghost use Rattle.std.specs.Prelude.{◌≡◌, ◌↔◌, IsTrue};
+ghost use Rattle.std.specs.Prelude.{◌≡◌, ◌↔◌, ◌+◌, ◌≤◌, ℕ, IsTrue, length, take};
 
 use crate::decoder::{Decoder, End, Found, Span};
 use crate::header::Header;
@@ -11,6 +11,8 @@ use crate::length_prefixed::LengthPrefixed;
 pub struct ByHeader<H: LengthPrefixed>(pub H);
 
 impl<H: LengthPrefixed> Decoder for ByHeader<H> {
+    ghost use Rattle.piece_reader.specs.declared.header.Header.TheVariants.{Sized};
+    ghost use Rattle.piece_reader.specs.Decoding.{Decodes, OnMore};
     ghost use Rattle.piece_reader.specs.HeaderFormat.{length_prefixed};
     ghost use Rattle.piece_reader.specs.HeaderFormatLaws.{length_prefixed_lawful};
 
@@ -32,7 +34,15 @@ impl<H: LengthPrefixed> Decoder for ByHeader<H> {
     }
 
     #[inline(always)]
-    fn decode(&self, bytes: &[u8], seen: usize, note: &mut H::Note) -> Found<HeaderError> {
+    fn decode(&self, bytes: &[u8], seen: usize, note: &mut H::Note) -> Found<HeaderError>
+        requires within { seen ≤ length bytes.now }
+        requires noted { H.notes self.now.0 (take seen bytes.now) note.old }
+        ensures whole { (n len used : ℕ) → result ≡ Found.More n
+            → (H.header_format self.now.0).header bytes.now ≡ Sized len used
+            → n ≡ used + len + length (H.header_format self.now.0).tail }
+        ensures finds { Decodes (length_prefixed (H.header_format self.now.0)) bytes.now result }
+        ensures leaves { OnMore result (H.notes self.now.0 bytes.now note.new) }
+    {
         match self.0.header(bytes, seen, note) {
             Header::Short => Found::More(1 + bytes.len()),
             Header::Bad => Found::Wrong(HeaderError::NoHeader),

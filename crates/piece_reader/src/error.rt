@@ -2,7 +2,7 @@
 use std::error::Error;
 use std::{fmt, io};
 
-/// Why there is no next piece. What came of it stays buffered, and the next call looks at it again.
+/// Why there is no next piece. What came of it stays buffered, and the next call goes on from there.
 ///
 /// ```
 /// let lines = Delimited { end: b'\n', max: 4 };

@@ -299,7 +299,7 @@ impl<R: TellRead, D: Decoder> PieceReader<R, D> {
     /// The stream is read only where what is buffered settles nothing, and each end of it is told once: by the call after the
     /// one that handed out a last piece, which reads nothing then. A call after a `None` asks the stream again.
     ///
-    /// An `Err` says why there is no piece, and leaves what came of it: the next call looks at it again.
+    /// An `Err` says why there is no piece, and leaves what came of it: the next call goes on from there.
     #[inline(always)]
     pub fn step(&mut self) -> Result<Option<Span>, NextError<D::Wrong>>
         ensures lends { IfOk result (λ found. IfSome found

@@ -5,6 +5,10 @@ use Rattle.piece_reader.specs.PieceReader.{left_of}
 use Rattle.codec.proofs.Handover.{on_ok}
 use Rattle.codec.proofs.laws.handed_over.Goals as goal
 
+pub returns-clause-over : goal.returns-clause-over
+returns-clause-over g c = on_ok _ _ (λ next is. (_, _, c.into_inner_with_buffer-inner.ensures.apart, is)) c.with_buffer.result
+    c.with_buffer.ensures.made
+
 pub returns-clause-went : goal.returns-clause-went
 returns-clause-went g c =
     on_ok (λ next. left_of next ≡ left_of c.args.reader) _
