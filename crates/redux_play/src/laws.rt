@@ -6,9 +6,9 @@ mod sparing;
 mod unsent;
 mod writes;
 
-pub use ahead::{look_ahead, next_byte, peek, read_until_dry};
+pub use ahead::{look_ahead, next_byte, peek};
 pub use known::{copy_known, flush_known};
-pub use rebuilding::{rebuild_reader, rebuild_reader_under, rebuild_writer, rebuild_writer_under};
+pub use rebuilding::{rebuild_reader_under, rebuild_writer_under};
 pub use redux_buffer::laws::{block_law, copy_through, potential, ring_law};
 pub use sparing::{play_sparing, spare_between};
 pub use unsent::{drop_unsent, drop_unsent_lines, keep_unsent, keep_unsent_lines};

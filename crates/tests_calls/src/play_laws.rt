@@ -1,14 +1,14 @@
 //! The laws of readers and writers that make calls, each by one.
 use crate::fixtures::of_four;
 use buffer_redux::policy::{
-    FlushAtLeast, FlushExact, FlushOn, FlushOnNewline, MinBuffered, WriterPolicy,
+    FlushAtLeast, FlushExact, FlushOn, FlushOnNewline, MinBuffered, StdPolicy, WriterPolicy,
 };
 use buffer_redux::tell::{TellRead, TellSeek, Told};
 use buffer_redux::{BufReader, BufWriter, LineWriter};
 use redux_play::laws;
 use redux_script::Answer;
 use std::alloc::Global;
-use std::io::{Cursor, ErrorKind, SeekFrom};
+use std::io::{Cursor, ErrorKind, Read, SeekFrom};
 use std::test::Fail;
 use tests_common::{
     Source, Target, kind, line_writer, reader, reader_under, taken, taken_lines, target, writer,
@@ -23,8 +23,8 @@ fn looks<R: TellRead>(rdr: &mut BufReader<R, MinBuffered>) -> [Answered; 4] {
     [
         kind(laws::look_ahead(rdr)),
         kind(laws::look_ahead(rdr)),
-        kind(laws::read_until_dry(rdr, &mut out)),
-        kind(laws::read_until_dry(rdr, &mut out)),
+        kind(rdr.read(&mut out)),
+        kind(rdr.read(&mut out)),
     ]
 }
 
@@ -69,14 +69,14 @@ fn spared(rt: HostRuntime) -> Result<(), Fail> {
 
 // What is buffered in a reader that was taken apart and built again, and then once more under a policy that looks ahead.
 fn rebuilt(rdr: BufReader<Source>) -> bool {
-    let again = laws::rebuild_reader(rdr);
+    let again = laws::rebuild_reader_under(rdr, StdPolicy);
     let held = again.buf_len();
     let under = laws::rebuild_reader_under(again, MinBuffered(3));
     (held, under.buf_len(), under.policy().0) == (2, 2, 3)
 }
 
 fn rebuilt_writer(wrt: BufWriter<Target>) -> bool {
-    let again = laws::rebuild_writer(wrt);
+    let again = laws::rebuild_writer_under(wrt, StdPolicy);
     let held = again.buf_len();
     let under = laws::rebuild_writer_under(again, FlushAtLeast(3));
     (held, under.buf_len(), under.policy().0, taken(&under).len()) == (2, 2, 3, 0)

@@ -1,10 +1,8 @@
 //! What a reader shows under a minimum, and when it answers that nothing is left.
 ghost use Rattle.std.specs.Prelude.{◌≡◌, ◌<◌, [], length, take, Ok, None, IfOk, IfSome, OnOk, is_ok, slice_get};
 ghost use Rattle.std.specs.Io.KnownBytes.{Keeps};
-ghost use Rattle.redux_buffer.specs.StreamLog.{portion};
 ghost use Rattle.buffer_redux.specs.MinBuffered.{min_read_rules};
-ghost use Rattle.buffer_redux.specs.BufReader.{Fills, FillsToMinimum, RanDry, ReadErrorCaused, ReadsInOrder};
-ghost use Rattle.buffer_redux.specs.BufReader.{Reads, ReadsAlong, ReadsToEnd, ReaderKeeps};
+ghost use Rattle.buffer_redux.specs.BufReader.{Fills, FillsToMinimum, ReadErrorCaused, ReadsAlong, ReadsInOrder, ReadsToEnd};
 ghost use Rattle.buffer_redux.specs.ReaderLaws.{WantsBytes};
 ghost use Rattle.buffer_redux.specs.Remaining.{reader_remaining};
 ghost use Rattle.redux_play.specs.NextByte.{TakesByte};
@@ -14,7 +12,7 @@ use buffer_redux::BufReader;
 use buffer_redux::policy::{MinBuffered, ReaderPolicy};
 use redux_buffer::tell::TellRead;
 use std::io;
-use std::io::{BufRead, Read};
+use std::io::BufRead;
 
 /// How many bytes `fill_buf` shows under [`MinBuffered`]. An `Ok` is at least the minimum, or the source gave none when
 /// it was asked in this call. It is asked no more often than bytes were missing at first, at an `Err` too, wherever the
@@ -35,26 +33,11 @@ pub fn look_ahead<R: TellRead>(reader: &mut BufReader<R, MinBuffered>) -> io::Re
     Ok(reader.fill_buf()?.len())
 }
 
-/// Under [`MinBuffered`] of 1 or more, a `read` into some room answers `Ok(0)` only where the source gave none when it
-/// was asked in this call.
-pub fn read_until_dry<R: TellRead>(
-    reader: &mut BufReader<R, MinBuffered>,
-    out: &mut [u8],
-) -> io::Result<usize>
-    ensures ran_dry { result ≡ Ok 0 → 0 < length out.old → 0 < reader.old.policy.0 → RanDry reader.old reader.new }
-    ensures in_order { ReadsInOrder reader.old (portion out.new result) reader.new }
-    ensures caused { ReadErrorCaused min_read_rules reader.old result reader.new }
-    ensures steps { Reads min_read_rules reader.old out.old result out.new reader.new }
-    ensures keeps { ReaderKeeps R.remaining min_read_rules reader.old reader.new }
-{
-    reader.read(out)
-}
-
 /// The byte that stands next, which stays buffered, or `None` where a fill shows nothing. Under a policy that wants bytes, as
 /// `StdPolicy` and a minimum of 1 or more do, and with some capacity, that is the end.
 pub fn peek<R: TellRead, P: ReaderPolicy>(reader: &mut BufReader<R, P>) -> io::Result<Option<u8>>
-    ensures fills { Fills P.rules reader.old result reader.new }
     ensures shown { IfOk result (λ found. found ≡ slice_get reader.new.block.bytes 0) }
+    ensures fills { Fills P.rules reader.old result reader.new }
     ensures along { ReadsAlong R.remaining P.rules reader.old [] reader.new }
     ensures end { result ≡ Ok None → WantsBytes (P.rules.claims reader.old.policy) → 0 < reader.old.block.capacity
         → ReadsToEnd R.remaining P.rules reader.old [] reader.new }

@@ -9,25 +9,8 @@ use buffer_redux::policy::{ReaderPolicy, WriterPolicy};
 use buffer_redux::{BufReader, BufWriter};
 use redux_buffer::tell::{Tell, TellWrite};
 
-/// A reader that is taken apart and built again is the reader that it was, but that no call of its own is noted.
-pub fn rebuild_reader<R: Tell>(reader: BufReader<R>) -> BufReader<R>
-    ensures { result ≡ with_calls reader no_calls }
-{
-    let (inner, buf) = reader.into_inner_with_buffer();
-    BufReader::with_buffer(buf, inner)
-}
-
-/// A writer that is taken apart and built again is the writer that it was, but that no call of its own is noted. Nothing
-/// was sent.
-pub fn rebuild_writer<W: TellWrite>(writer: BufWriter<W>) -> BufWriter<W>
-    ensures { result ≡ with_calls writer no_calls }
-{
-    let (inner, buf) = writer.into_inner_with_buffer();
-    BufWriter::with_buffer(buf, inner)
-}
-
-/// A reader that is taken apart, built again and put under another policy. What was handed out up to here, and what is
-/// buffered, is in order as before, so a further run goes on with it.
+/// A reader that is taken apart, built again and put under another policy is the reader that it was, but for that, and that no
+/// call of its own is noted. So a further run goes on with it.
 pub fn rebuild_reader_under<R: Tell, P: Drop, Q: ReaderPolicy>(
     reader: BufReader<R, P>,
     policy: Q,
@@ -40,8 +23,8 @@ pub fn rebuild_reader_under<R: Tell, P: Drop, Q: ReaderPolicy>(
     BufReader::with_buffer(buf, inner).set_policy(policy)
 }
 
-/// A writer that is taken apart, built again and put under another policy. What was accepted up to here is in order as
-/// before, and nothing was sent.
+/// A writer that is taken apart, built again and put under another policy is the writer that it was, but for that, and that no
+/// call of its own is noted. Nothing was sent.
 pub fn rebuild_writer_under<W: TellWrite, P: Drop, Q: WriterPolicy>(
     writer: BufWriter<W, P>,
     policy: Q,
