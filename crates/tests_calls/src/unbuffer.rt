@@ -4,7 +4,7 @@ use buffer_redux::tell::{Tell, TellRead};
 use buffer_redux::{BufReader, Unbuffer};
 use redux_script::Answer;
 use std::alloc::Global;
-use std::io::ErrorKind;
+use std::io::{ErrorKind, Read};
 use std::test::Fail;
 use tests_common::{Source, first, kind, read};
 
