@@ -1,5 +1,5 @@
 //! A log that keeps the bytes which its device doesn't take, and sends them later.
-ghost use Rattle.std.specs.Prelude.{◌≡◌, ◌+◌, ◌≤◌, ◌⊎◌, ℕ, [], ◌++◌, IfErr, OnOk, length, take};
+ghost use Rattle.std.specs.Prelude.{◌≡◌, ◌+◌, ◌<◌, ◌≤◌, ◌⊎◌, ℕ, [], ◌++◌, IfErr, OnErr, OnOk, length, take};
 ghost use Rattle.buffer_redux.specs.Buffered.{over_buffer};
 ghost use Rattle.buffer_redux.specs.BufWriter.{WritesInOrder};
 ghost use Rattle.buffer_redux.specs.Unwrapping.{KeepsUnsent};
@@ -16,6 +16,8 @@ use std::io::{ErrorKind, Write};
 pub fn put<W: TellWrite>(log: &mut LineWriter<W>, text: &[u8]) -> (usize, io::Result<()>)
     ensures taken { WritesInOrder log.old (take result.0 text.now) log.new }
     ensures all { OnOk result.1 (result.0 ≡ length text.now) }
+    ensures within { result.0 ≤ length text.now }
+    ensures some { OnErr result.1 (result.0 < length text.now) }
     ensures caused { IfErr result.1 (DeviceFailed log.old.log.writes log.new.log.writes) }
     ensures flushes { log.new.log.writes.flushes ≡ log.old.log.writes.flushes }
 {
