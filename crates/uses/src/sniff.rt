@@ -1,6 +1,6 @@
 //! Tells a format by the first sixteen bytes of a stream, and hands the whole stream on.
-ghost use Rattle.std.specs.Prelude.{◌≡◌, ◌+◌, ◌≤◌, ◌⊎◌, [], IfSome, IfOk, OnOk, length, take};
-ghost use Rattle.buffer_redux.specs.BufReader.{ReadErrorCaused, ReadsInOrder, RanDry};
+ghost use Rattle.std.specs.Prelude.{◌≡◌, ◌+◌, ◌≤◌, ◌⊎◌, [], IfSome, IfOk, OnOk, is_ok, length, take};
+ghost use Rattle.buffer_redux.specs.BufReader.{FillsToMinimum, ReadErrorCaused, ReadsInOrder, RanDry};
 ghost use Rattle.buffer_redux.specs.MinBuffered.{min_read_rules};
 ghost use Rattle.buffer_redux.specs.Remaining.{reader_remaining};
 ghost use Rattle.buffer_redux.specs.Told.{told_stream};
@@ -34,6 +34,9 @@ pub fn open<R: Read + Drop>(
     ensures format { IfOk result (λ p. IfSome (R.remaining from) (λ xs. p.0 ≡ format_of (take 16 xs))) }
     ensures whole { IfOk result (λ p. Keeps (R.remaining from)
         (reader_remaining (λ t. R.remaining (told_stream t)) min_read_rules p.1)) }
+    ensures policy { IfOk result (λ p. p.1.policy ≡ record { 0 = 16 }) }
+    ensures capacity { IfOk result (λ p. p.1.block.capacity ≡ 8192) }
+    ensures asks { IfOk result (λ p. p.1.log.reads.asks ≤ 16) }
 {
     let mut reader = BufReader::new(alloc, Told::new(from))?.set_policy(MinBuffered(HEAD));
     let format = sniff(&mut reader)?;
@@ -45,9 +48,11 @@ pub fn sniff<R: TellRead>(reader: &mut BufReader<R, MinBuffered>) -> io::Result<
     requires enough { 16 ≤ reader.old.policy.0 }
     ensures format { IfOk result (λ f. f ≡ format_of (take 16 reader.new.block.bytes)) }
     ensures shown { OnOk result ((16 ≤ length reader.new.block.bytes) ⊎ RanDry reader.old reader.new) }
+    ensures ahead { FillsToMinimum reader.old.policy.0 reader.old (is_ok result) reader.new }
     ensures caused { ReadErrorCaused min_read_rules reader.old result reader.new }
     ensures once { reader.new.log.reads.zero_reads ≤ reader.old.log.reads.zero_reads + 1 }
     ensures kept { ReadsInOrder reader.old [] reader.new }
+    ensures policy { reader.new.policy ≡ reader.old.policy }
     ensures known { IfSome (reader_remaining R.remaining min_read_rules reader.old)
         (λ xs. IfOk result (λ f. f ≡ format_of (take 16 xs))) }
     ensures left { Keeps (reader_remaining R.remaining min_read_rules reader.old)

@@ -1,14 +1,26 @@
 -- A fill under a minimum of 16 bytes or more shows the first 16 that are left, or all, and drops none.
-use Rattle.std.proofs.Common.{◌≡◌, ℕ, List, Option, IfSome, take, refl, ap, ◌∙◌}
+use Rattle.std.proofs.Common.{◌≡◌, ℕ, List, Option, IfSome, take, unwrap_or, refl, ap, ◌∙◌}
 use Rattle.std.proofs.lemmas.List.{take_min}
 use Rattle.std.proofs.lemmas.Option.{IfSome_then}
 use Rattle.buffer_redux.specs.MinBuffered.{min_read_rules}
 use Rattle.buffer_redux.specs.Remaining.{reader_remaining}
 use Rattle.buffer_redux.specs.ReaderLaws.{FillBuf-first, FillBuf-keeps}
+use Rattle.buffer_redux.specs.Policy.{ReadClaims}
+use Rattle.buffer_redux.specs.declared.policy.min_buffered.MinBuffered.{MinBuffered}
 use Rattle.uses.specs.Sniff.{format_of}
 use Rattle.buffer_redux.specs.EmptyReads.{fill_once}
 use Rattle.uses.proofs.sniff.sniff.Goals as goal
 use Rattle.uses.proofs.sniff.sniff.Goals.{After-reader-2-1}
+
+abbrev of_claims : ReadClaims → MinBuffered
+of_claims c = record { 0 = unwrap_or {T = ℕ} c.minimum 0 }
+
+-- the claims tell the policy
+pub returns-clause-policy : goal.returns-clause-policy
+returns-clause-policy g c = ap of_claims c.fill_buf.follows.holds-at-none.fills.claims
+
+pub returns-in_err-shown-clause-policy : goal.returns-in_err-shown-clause-policy
+returns-in_err-shown-clause-policy g c = ap of_claims c.fill_buf.follows.holds-at-none.fills.claims
 
 -- by the first sixteen bytes that are shown
 by_shown : (g : _) (c : After-reader-2-1 g)
