@@ -16,10 +16,9 @@ pub fn matching<R: TellRead + Drop, W: TellWrite>(
     writer: &mut LineSender<W>,
     word: &str,
 ) -> io::Result<()>
-    ensures all { 0 < reader.block.capacity
-        → IfOk result (λ _. FiltersAll R.remaining W.log W.trace word.now reader writer.old writer.new) }
-    ensures some { 0 < reader.block.capacity
-        → IfErr result (λ e. FiltersSome R.remaining W.log W.trace word.now reader writer.old e writer.new) }
+    requires capacity { 0 < reader.block.capacity }
+    ensures all { IfOk result (λ _. FiltersAll R.remaining W.log W.trace word.now reader writer.old writer.new) }
+    ensures some { IfErr result (λ e. FiltersSome R.remaining W.log W.trace word.now reader writer.old e writer.new) }
 {
     for line in reader.lines(alloc) {
         let line = line?;

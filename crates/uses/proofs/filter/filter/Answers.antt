@@ -15,7 +15,7 @@ returns g c =
     let read = c.in_ok-reader.ensures.made in
     let made = c.in_ok-new.ensures.made.made in
     let s = c.new-lines.result in
-    let all = c.in_ok-matching.ensures.all (omega (arith, read.made.new.capacity)) in
+    let all = c.in_ok-matching.ensures.all in
     let left = Makes-left (λ t. g.R.Read.remaining (told_stream t)) std_read_rules told_log Plain 8192 (2 ^ 62) c.new.result
     c.in_ok-reader.reader read (WantsBytes-std c.in_ok-reader.reader.policy) (omega arith)
     ∙ ap g.R.Read.remaining c.new.ensures.stream in

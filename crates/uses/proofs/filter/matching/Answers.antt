@@ -21,7 +21,7 @@ use Rattle.uses.proofs.filter.matching.Goals as goal
 pub loop-line-init : goal.loop-line-init
 loop-line-init g c = rw (c.into_iter-line-iterator.ensures.into_iter_gives ∙ c.lines-line-items.ensures) (record {
   lines = [];
-  went = λ some. record {
+  went = record {
     hands = HandsLinePieces-none _ _ _;
     out = [];
     goes_on = refl;
@@ -64,11 +64,11 @@ loop-line-preserved g c =
     let reads = rw i.byte at whole.went.reads in
     record {
       lines = i.lines ++ line ∷ [];
-      went = λ some. FiltersLines-more g.R.TellRead.remaining g.W.Tell.log trace g.met.W.TellWrite.trace_joins word
-          c.args.reader c.args.writer.now i.lines s.reader m (i.went some) line t.reader goes.0 v
+      went = FiltersLines-more g.R.TellRead.remaining g.W.Tell.log trace g.met.W.TellWrite.trace_joins word
+          c.args.reader c.args.writer.now i.lines s.reader m i.went line t.reader goes.0 v
           (HandsLinePieces-line g.R.TellRead.remaining std_read_rules i.lines c.args.reader s t i.byte i.begun
-          (WantsBytes-std s.reader.policy) (omega (arith, some, (i.went some).hands.along.capacity)) line
-          (i.went some).hands whole)
+          (WantsBytes-std s.reader.policy) (omega (arith, c.requires.capacity, i.went.hands.along.capacity)) line
+          i.went.hands whole)
           goes.1 goes.2 goes.3;
       byte = whole.went.byte ∙ i.byte;
       begun = whole.begun;
@@ -85,25 +85,25 @@ returns g c =
     let s = c.loop-line.line-iterator in
     let none = rw c.in-None.is at c.next.ensures.steps in
     record {
-      all = λ some. FiltersAll-flushed g.R.TellRead.remaining g.W.Tell.log g.W.TellWrite.trace
+      all = FiltersAll-flushed g.R.TellRead.remaining g.W.Tell.log g.W.TellWrite.trace
           g.met.W.TellWrite.trace_joins c.args.word.now c.args.reader c.args.writer.now i.lines s.reader c.loop-line.writer
-          (i.went some) c.flush.new.self
+          i.went c.flush.new.self
           (Ended-lines g.R.TellRead.remaining std_read_rules i.lines c.args.reader s c.next.new.self i.byte i.begun
-          (WantsBytes-std s.reader.policy) (omega (arith, some, (i.went some).hands.along.capacity)) i.turns none)
+          (WantsBytes-std s.reader.policy) (omega (arith, c.requires.capacity, i.went.hands.along.capacity)) i.turns none)
           (FirstKnown-all _ _ i.lines s.left i.known i.turns
           (Ended-known g.R.TellRead.remaining std_read_rules s c.next.new.self i.begun none))
           c.flush.result c.flush.ensures.flushed;
-      some = λ some. FiltersSome-flushed g.R.TellRead.remaining g.W.Tell.log g.W.TellWrite.trace
+      some = FiltersSome-flushed g.R.TellRead.remaining g.W.Tell.log g.W.TellWrite.trace
           g.met.W.TellWrite.trace_joins c.args.word.now c.args.reader c.args.writer.now i.lines s.reader c.loop-line.writer
-          (i.went some) c.flush.new.self
+          i.went c.flush.new.self
           (Ended-lines g.R.TellRead.remaining std_read_rules i.lines c.args.reader s c.next.new.self i.byte i.begun
-          (WantsBytes-std s.reader.policy) (omega (arith, some, (i.went some).hands.along.capacity)) i.turns none)
+          (WantsBytes-std s.reader.policy) (omega (arith, c.requires.capacity, i.went.hands.along.capacity)) i.turns none)
           c.flush.result c.flush.ensures.flushed;
     }
 
 -- the next line wasn't read
 pub returns-in_err-line-clause-some : goal.returns-in_err-line-clause-some
-returns-in_err-line-clause-some g c some =
+returns-in_err-line-clause-some g c =
     let i = c.loop-line.invariant in
     let p = err_from_is_err_and c.from_residual.result c.from_residual.ensures.1 in
     let s = c.loop-line.line-iterator in
@@ -111,13 +111,13 @@ returns-in_err-line-clause-some g c some =
       lines = i.lines;
       last = s.reader;
       writer = c.loop-line.writer;
-      went = i.went some;
+      went = i.went;
       fails = inl (s, c.next.new.self, refl, i.byte, i.begun, rw (c.in-Some.is, c.in_err-line.was) at c.next.ensures.steps, refl);
     })
 
 -- the write of the next line, which has the word, failed
 pub returns-in_err-writeln-clause-some : goal.returns-in_err-writeln-clause-some
-returns-in_err-writeln-clause-some g c some =
+returns-in_err-writeln-clause-some g c =
     let i = c.loop-line.invariant in
     let p = err_from_is_err_and c.from_residual-in_err-writeln.result c.from_residual-in_err-writeln.ensures.1 in
     let s = c.loop-line.line-iterator in
@@ -130,13 +130,13 @@ returns-in_err-writeln-clause-some g c some =
       lines = i.lines;
       last = s.reader;
       writer = c.loop-line.writer;
-      went = i.went some;
+      went = i.went;
       fails = inr (inl (
         line,
         c.next.new.self.reader,
         HandsLinePieces-line g.R.TellRead.remaining std_read_rules i.lines c.args.reader s c.next.new.self i.byte i.begun
-            (WantsBytes-std s.reader.policy) (omega (arith, some, (i.went some).hands.along.capacity)) line
-            (i.went some).hands whole,
+            (WantsBytes-std s.reader.policy) (omega (arith, c.requires.capacity, i.went.hands.along.capacity)) line
+            i.went.hands whole,
         there,
         rw text at c.in_err-writeln.ensures.steps,
       ));

@@ -1,4 +1,4 @@
-use Rattle.std.proofs.Common.{◌≡◌, ℕ, ◌+◌, ◌^◌, ◌<◌, List, [], length}
+use Rattle.std.proofs.Common.{◌≡◌, ℕ, ◌+◌, ◌^◌, List, [], length}
 use Rattle.buffer_redux.specs.Policy.{std_read_rules}
 use Rattle.buffer_redux.specs.Remaining.{reader_remaining}
 use Rattle.uses.specs.Filter.{FiltersLines}
@@ -9,7 +9,7 @@ use Rattle.uses.proofs.filter.matching.Given as goal
 abbrev pub invariant-loop-line : goal.invariant-loop-line
 invariant-loop-line g l = record {
   lines : List (List ℕ);
-  went : 0 < l.fn.reader.block.capacity → FiltersLines g.R.TellRead.remaining g.W.Tell.log g.W.TellWrite.trace l.fn.word
+  went : FiltersLines g.R.TellRead.remaining g.W.Tell.log g.W.TellWrite.trace l.fn.word
       l.fn.reader l.initial.writer lines l.line-iterator.reader l.writer;
   byte : l.line-iterator.byte ≡ 10;
   begun : l.line-iterator.begun ≡ [];
