@@ -3,7 +3,7 @@ use Rattle.std.proofs.Common.{◌≡◌, ◌+◌, suc, rules, arith, inl, inr, l
 use Rattle.std.proofs.lemmas.Result.{err_from_is_err_and}
 use Rattle.std.specs.Io.Iter.{u64_saturate}
 use Rattle.buffer_redux.specs.CopyLaws.{MovedBy-still, CopiesOn-joins, CopyEnded-after, StreamFailed-after}
-use Rattle.uses.proofs.Reporting.{Tells-of}
+use Rattle.uses.proofs.Reporting.{Tells-of, rises}
 use Rattle.uses.proofs.progress.copy_with_progress.Goals as goal
 
 pub loop-preserved : goal.loop-preserved
@@ -12,7 +12,8 @@ loop-preserved g c =
     let turn = c.in_ok-taken.ensures in
     let moved = turn.turn.answers.copies (omega (arith, c.if-taken-eq0.false)) in
     let total : c.saturating_add-total.result ≡ u64_saturate (before.count + c.in_ok-taken.taken) =
-    omega (arith, before.total, c.saturating_add-total.ensures) in record {
+    omega (arith, before.total, c.saturating_add-total.ensures) in
+    let rise = rises before.count c.in_ok-taken.taken (omega (arith, c.if-taken-eq0.false)) in record {
       count = before.count + c.in_ok-taken.taken;
       copies = CopiesOn-joins before.copies moved;
       total = total;
@@ -20,7 +21,7 @@ loop-preserved g c =
       made = omega (arith, before.made, moved.fills, turn.turn.one_fill, turn.turn.one_fault);
       none = omega (arith, before.none, turn.turn.one_fault);
       turns = omega (arith, before.turns, c.if-taken-eq0.false);
-      told = (_, _, before.told, omega arith, rw total at c.report.ensures);
+      told = (_, _, before.told, rise, rw total at c.report.ensures);
       reader = g.met.B.TellBufRead.trace_joins _ _ _ before.reader turn.reader;
       writer = g.met.W.TellWrite.trace_joins _ _ _ before.writer turn.writer;
     }
