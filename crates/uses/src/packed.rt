@@ -2,7 +2,7 @@
 ghost use Rattle.std.specs.Prelude.{◌≡◌, true, OnOk, IfOk, IfErr, vec_items};
 ghost use Rattle.buffer_redux.specs.Buffered.{InnerWent};
 ghost use Rattle.buffer_redux.specs.Faults.{IsMemory};
-ghost use Rattle.buffer_redux.specs.BufWriter.{FrontAlong, WritesInOrder, WriterStopped};
+ghost use Rattle.buffer_redux.specs.BufWriter.{FrontAlong, LeavesCapacity, WritesInOrder, WriterStopped};
 ghost use Rattle.uses.specs.Records.{with_length, with_lengths, IsShort, AreShort};
 
 use buffer_redux::BufWriter;
@@ -36,6 +36,7 @@ pub fn pack_record<W: TellWrite, P: WriterPolicy>(
     ensures caused { (P.rules.claims writer.old.policy).steady ≡ true
         → IfErr result (WriterStopped writer.old.log.writes writer.new.log.writes) }
     ensures flushes { writer.new.log.writes.flushes ≡ writer.old.log.writes.flushes }
+    ensures capacity { LeavesCapacity P.rules → writer.new.block.capacity ≡ writer.old.block.capacity }
     ensures front { FrontAlong W.log W.trace P.rules writer.old (with_length bytes.now) result writer.new }
     ensures went { InnerWent W.log W.trace writer.old writer.new }
 {

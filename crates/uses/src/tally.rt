@@ -1,6 +1,6 @@
 //! Counts lines by `read_until`, and writes a count beside a line.
 ghost use Rattle.std.specs.Prelude.{◌≡◌, ◌<◌, ◌⊎◌, true, IfOk, IfErr};
-ghost use Rattle.buffer_redux.specs.BufWriter.{FrontAlong, WriterStopped};
+ghost use Rattle.buffer_redux.specs.BufWriter.{FrontAlong, LeavesCapacity, WriterStopped};
 ghost use Rattle.buffer_redux.specs.Faults.{IsMemory};
 ghost use Rattle.buffer_redux.specs.ReaderLaws.{WantsBytes};
 ghost use Rattle.uses.specs.Tally.{ReadsPieces, StopsInPieces, tally_text};
@@ -47,6 +47,7 @@ pub fn write_tally<W: TellWrite, P: WriterPolicy>(
         → IfErr result (λ e. WriterStopped writer.old.log.writes writer.new.log.writes e
         ⊎ (IsMemory e × (writer.new ≡ writer.old))) }
     ensures flushes { writer.new.log.writes.flushes ≡ writer.old.log.writes.flushes }
+    ensures capacity { LeavesCapacity P.rules → writer.new.block.capacity ≡ writer.old.block.capacity }
 {
     let head = format!(in alloc; "{count} ")?;
     writer.write_all(head.as_bytes())?;

@@ -52,3 +52,10 @@ returns-in_err-write_all-clause-flushes g c = c.in_err-write_all.ensures.steps.f
 pub returns-clause-flushes : goal.returns-clause-flushes
 returns-clause-flushes g c =
     omega (arith, c.in_ok-write_all.ensures.steps.front.keeps.flushes, c.write_all-2.ensures.steps.front.keeps.flushes)
+
+pub returns-in_err-write_all-clause-capacity : goal.returns-in_err-write_all-clause-capacity
+returns-in_err-write_all-clause-capacity g c leaves = c.in_err-write_all.ensures.steps.front.keeps.same_capacity leaves
+
+pub returns-clause-capacity : goal.returns-clause-capacity
+returns-clause-capacity g c leaves = c.write_all-2.ensures.steps.front.keeps.same_capacity leaves
+    ∙ c.in_ok-write_all.ensures.steps.front.keeps.same_capacity leaves
