@@ -11,7 +11,7 @@ use buffer_redux::BufWriter;
 use buffer_redux::tell::{TellRead, TellWrite};
 use chunked::{ChunkedError, ChunkedReader};
 use forward::{AskError, Filter};
-use programs::{make_room, put};
+use programs::make_room;
 use std::io;
 use std::io::Write;
 
@@ -98,7 +98,7 @@ fn write_piece<W: TellWrite>(target: &mut BufWriter<W>, piece: &[u8]) -> io::Res
     ensures { WritesPayload target.old piece.now result target.new }
 {
     make_room(target, piece.len())?;
-    put(target, piece);
+    target.put(piece);
     Ok(())
 }
 

@@ -13,7 +13,7 @@ use buffer_redux::tell::{TellRead, TellWrite};
 use codec::Span;
 use forward::{AskError, Filter};
 use frame_reader::{FrameError, FrameReader};
-use programs::{make_room, put};
+use programs::make_room;
 use std::io;
 use std::io::Write;
 
@@ -89,7 +89,7 @@ fn print_line<W: TellWrite>(target: &mut BufWriter<W>, line: &[u8]) -> io::Resul
         → target.new.log ≡ target.old.log }
 {
     make_room(target, line.len() + 1)?;
-    put(target, line);
-    put(target, b"\n");
+    target.put(line);
+    target.put(b"\n");
     Ok(())
 }

@@ -1,15 +1,16 @@
 //! The buffers of a run.
-ghost use Rattle.std.specs.Prelude.{◌≡◌, ◌+◌, ◌<◌, ◌≤◌, [], ◌++◌, length, IfOk, IfErr, OnOk};
-ghost use Rattle.buffer_redux.specs.Block.{IsNew, Plain, usable};
-ghost use Rattle.buffer_redux.specs.BufWriter.{WritesInOrder};
-ghost use Rattle.buffer_redux.specs.Faults.{IsInterrupt, MetInterrupts, SendErrorCaused, interrupt_limit};
+ghost use Rattle.std.specs.Prelude.{◌≡◌, ◌+◌, ◌<◌, ◌≤◌, [], length, IfOk, IfErr, OnOk, MatchResult, Ok};
+ghost use Rattle.buffer_redux.specs.Block.{IsNew, MakesRoom, Plain, usable};
+ghost use Rattle.buffer_redux.specs.Buffered.{Buffered, with_block};
+ghost use Rattle.buffer_redux.specs.BufWriter.{WasSent, WritesInOrder};
+ghost use Rattle.buffer_redux.specs.declared.policy.StdPolicy.{StdPolicy};
+ghost use Rattle.buffer_redux.specs.Faults.{MetInterrupts, SendErrorCaused};
 ghost use Rattle.programs.specs.Streams.{RefusedBeforeCalls, capacity_asked, kind_asked};
 
 use buffer_redux::tell::{TellRead, TellWrite};
 use buffer_redux::{BufReader, BufWriter, GrowError, MakeError};
 use std::alloc::Global;
 use std::io;
-use std::io::Write;
 
 /// The greatest capacity of a buffer, in bytes.
 pub const GREATEST_CAPACITY: usize = 1048576;
@@ -90,38 +91,22 @@ pub fn make_room<W: TellWrite>(target: &mut BufWriter<W>, whole: usize) -> io::R
     requires plain { target.old.block.kind ≡ Plain }
     requires inside { whole ≤ target.old.block.capacity }
     ensures none { WritesInOrder target.old [] target.new }
-    ensures fits { length target.old.block.bytes + whole ≤ target.old.block.capacity
-        → target.new.log ≡ target.old.log }
     ensures not_flushed { target.new.log.writes.flushed ≡ target.old.log.writes.flushed }
     ensures flushes { target.new.log.writes.flushes ≡ target.old.log.writes.flushes }
     ensures room { OnOk result (whole ≤ usable target.new.block) }
-    ensures all { OnOk result (target.old.block.capacity < length target.old.block.bytes + whole
-        → target.new.block.bytes ≡ []) }
-    ensures free { OnOk result (length target.new.block.bytes + usable target.new.block ≡ target.new.block.capacity) }
     ensures met { OnOk result (MetInterrupts target.old.log.writes target.new.log.writes) }
     ensures caused { IfErr result (λ e. SendErrorCaused target.old.log.writes target.new.log.writes e) }
-    ensures often { IfErr result (λ e. IsInterrupt e
-        → length target.old.log.writes.faults + interrupt_limit + 1 ≤ length target.new.log.writes.faults) }
     ensures kind { target.new.block.kind ≡ target.old.block.kind }
     ensures capacity { target.new.block.capacity ≡ target.old.block.capacity }
+    ensures fits { length target.old.block.bytes + whole ≤ target.old.block.capacity → (result ≡ Ok tt)
+        × MakesRoom target.old.block target.new.block × (target.new ≡ with_block target.old target.new.block) }
+    ensures sends { target.old.block.capacity < length target.old.block.bytes + whole → (m : Buffered W StdPolicy)
+        × WasSent W.log W.trace target.old result m × MatchResult result
+        (λ _. MakesRoom m.block target.new.block × (target.new ≡ with_block m target.new.block)) (λ _. target.new ≡ m) }
 {
     if target.capacity() - target.buf_len() < whole {
         target.send()?;
     }
     target.make_room();
     Ok(())
-}
-
-/// Copies bytes in, for which there is room.
-pub fn put<W: TellWrite>(target: &mut BufWriter<W>, bytes: &[u8])
-    requires room { length bytes.now ≤ usable target.old.block }
-    requires inside { length bytes.now < target.old.block.capacity }
-    ensures taken { WritesInOrder target.old bytes.now target.new }
-    ensures added { target.new.block.bytes ≡ target.old.block.bytes ++ bytes.now }
-    ensures told { target.new.log ≡ target.old.log }
-    ensures usable { usable target.old.block ≤ usable target.new.block + length bytes.now }
-    ensures kind { target.new.block.kind ≡ target.old.block.kind }
-    ensures capacity { target.new.block.capacity ≡ target.old.block.capacity }
-{
-    let _ = target.write(bytes);
 }
