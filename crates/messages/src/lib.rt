@@ -24,3 +24,4 @@ pub use error::BodyError;
 pub use head::{Extent, Heads, MAX_FIELDS, MAX_HEAD, ParsedHead, read_head, read_head_within};
 pub use limits::Limits;
 pub use requests::{Requests, Stop};
+pub use version::blank_len;

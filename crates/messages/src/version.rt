@@ -1,9 +1,10 @@
-//! Which version of HTTP the first line of a head names.
+//! Where the first line of a head begins, and which version of HTTP it names.
 ghost use Rattle.std.specs.Prelude.{◌≡◌, ◌<◌, ◌≤◌, IfSome, IsTrue, length};
 ghost use Rattle.std.specs.List.{prefix_len};
 ghost use Rattle.messages.specs.Versions.{first_len, has_later_version, has_other_version, is_end, is_later_version, is_other_version, later_at};
 
-pub(crate) fn blank_len(bytes: &[u8]) -> usize
+/// How many ends of lines stand in front, in bytes: in front of a head they say nothing (RFC 9112, section 2.2).
+pub fn blank_len(bytes: &[u8]) -> usize
     ensures value { result ≡ prefix_len is_end bytes.now }
     ensures within { result ≤ length bytes.now }
 {

@@ -101,17 +101,14 @@ disappointed true = codes "HTTP/1.1 417 Expectation Failed\r\nContent-Length: 0\
 disappointed false = codes "HTTP/1.1 417 Expectation Failed\r\nContent-Length: 0\r\nConnection: close\r\n\r\n"
 
 -- a line begins with a method that is known (RFC 9110, section 9.3, and RFC 5789)
-abbrev pub begins : List ℕ → List ℕ → Bool
-begins line name = starts_with nat_eq line name
-
 abbrev pub begins_often : List ℕ → Bool
-begins_often line =
-    begins line (codes "GET ") || (begins line (codes "HEAD ") || (begins line (codes "POST ") || begins line (codes "PUT ")))
+begins_often line = starts_with nat_eq line (codes "GET ") || (starts_with nat_eq line (codes "HEAD ")
+    || (starts_with nat_eq line (codes "POST ") || starts_with nat_eq line (codes "PUT ")))
 
 abbrev pub begins_known : List ℕ → Bool
-begins_known line =
-    begins_often line || (begins line (codes "DELETE ")
-    || (begins line (codes "OPTIONS ") || (begins line (codes "TRACE ") || begins line (codes "PATCH "))))
+begins_known line = begins_often line
+    || (starts_with nat_eq line (codes "DELETE ") || (starts_with nat_eq line (codes "OPTIONS ")
+    || (starts_with nat_eq line (codes "TRACE ") || starts_with nat_eq line (codes "PATCH "))))
 
 -- a head's first line, behind empty ones
 abbrev pub is_known : List ℕ → Bool

@@ -13,7 +13,6 @@ mod taking;
 mod writing;
 
 ghost use Rattle.std.specs.Prelude.{◌≡◌, ℕ, true, false, [], IsTrue, IfOk, Ok, OnOk};
-ghost use Rattle.std.specs.IoError.{error_kind};
 ghost use Rattle.std.specs.declared.io.Error.{Error};
 ghost use Rattle.redux_buffer.specs.Faults.{IsInterrupt};
 ghost use Rattle.buffer_redux.specs.Buffered.{Buffered};
@@ -29,11 +28,11 @@ ghost use Rattle.requests.specs.Answers.{AnswersTurn, EndsSent, EndsUntaken, Ser
 
 use crate::taking::{Untaken, take_whole};
 use crate::writing::{
-    Refusal, answer_whole, blank_len, call_for_body, is_known, refusal_of, refuse, send_held,
+    Refusal, answer_whole, call_for_body, is_known, refusal_of, refuse, send_held,
 };
 use buffer_redux::BufWriter;
 use buffer_redux::tell::{Tell, TellRead, TellWrite, Told};
-use messages::{BadHead, Body, BodyError, Requests, Stop};
+use messages::{BadHead, Body, BodyError, Requests, Stop, blank_len};
 use std::io;
 use std::io::{ErrorKind, Write};
 
@@ -103,7 +102,7 @@ fn send_last<W: TellWrite>(ending: Ending, writer: &mut BufWriter<W>) -> io::Res
     match ending {
         Ending::Over => send_held(writer),
         Ending::Many => match send_held(writer) {
-            Ok(()) => Err(too_many()),
+            Ok(()) => Err(io::Error::from(ErrorKind::Other)),
             Err(e) => Err(e),
         },
         Ending::Unread(e) => Err(e),
@@ -198,15 +197,9 @@ fn is_blank_end(stop: &Stop, left: &[u8]) -> bool
         → result ≡ only_line_ends left.now }
 {
     match stop {
-        Stop::Bad(BadHead::CutShort(_)) => is_blank(left),
+        Stop::Bad(BadHead::CutShort(_)) => blank_len(left) == left.len(),
         _ => false,
     }
-}
-
-fn is_blank(left: &[u8]) -> bool
-    ensures { result ≡ only_line_ends left.now }
-{
-    blank_len(left) == left.len()
 }
 
 fn ending_of(sending: io::Result<()>) -> Ending
@@ -277,12 +270,6 @@ fn answer_called<R: TellRead, W: TellWrite>(
             Err((Place::Inside(body), ending))
         }
     }
-}
-
-fn too_many() -> io::Error
-    ensures { error_kind result ≡ ErrorKind.Other }
-{
-    io::Error::from(ErrorKind::Other)
 }
 
 // Refuses a body that isn't whole, or is too large, where that isn't the stream's fault.

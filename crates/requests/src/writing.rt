@@ -1,14 +1,13 @@
 //! What is written: answers, refusals and calls for bodies; and what is held is sent.
-ghost use Rattle.std.specs.Prelude.{◌≡◌, ◌≤◌, ◌++◌, codes, length, map};
-ghost use Rattle.std.specs.List.{concat, prefix_len};
-ghost use Rattle.messages.specs.Versions.{is_end};
+ghost use Rattle.std.specs.Prelude.{◌≡◌, ◌++◌, codes, map};
+ghost use Rattle.std.specs.List.{concat};
 ghost use Rattle.requests.specs.Sending.{IsHeld, PutsText, SendsForRoom, SendsHeld};
 ghost use Rattle.requests.specs.Answers.{answered, begins_known, begins_often, called, declined, disappointed, granted, has_body, is_known, refusal, refusal_of, success, waits};
 
 use crate::limits::is_large;
 use buffer_redux::BufWriter;
 use buffer_redux::tell::{Tell, TellWrite};
-use messages::{BadHead, Extent, ParsedHead};
+use messages::{BadHead, Extent, ParsedHead, blank_len};
 use std::io;
 use std::io::Write;
 
@@ -27,15 +26,6 @@ pub(crate) enum Refusal {
     Unknown,
     // 505.
     OtherVersion,
-}
-
-pub(crate) fn blank_len(left: &[u8]) -> usize
-    ensures value { result ≡ prefix_len is_end left.now }
-    ensures within { result ≤ length left.now }
-{
-    left.iter()
-        .take_while(|b| **b == b'\r' || **b == b'\n')
-        .count()
 }
 
 // Whether the method of a head is known.
