@@ -1,9 +1,10 @@
 -- Which bodies are too large.
-use Rattle.std.proofs.Common.{◌≡◌, ℕ, ◌+◌, ◌-◌, ◌*◌, ◌^◌, ◌≤◌, ◌||◌, nat_lt, min, Bool, false, List, Option, ◌++◌, length, sym, ap, inl, inr, ◌∙◌, refl, arith}
+use Rattle.std.proofs.Common.{◌≡◌, ℕ, ◌+◌, ◌-◌, ◌*◌, ◌^◌, ◌≤◌, ◌||◌, nat_lt, min, Bool, false, List, [], Option, ◌++◌, length, sym, ap, subst, inl, inr, ◌∙◌, refl, arith}
 use Rattle.std.proofs.lemmas.Bool.{cases_lt, le-ltb, lt-ltb}
 use Rattle.messages.specs.declared.head.Extent.{Extent}
 use Rattle.messages.specs.declared.head.Extent.TheVariants.{Sized, Chunked}
-use Rattle.messages.specs.Messages.{InBody, InsideGoes}
+use Rattle.messages.specs.Limits.{usual}
+use Rattle.messages.specs.Messages.{Backward, InBody, InsideGoes, body_of}
 use Rattle.requests.specs.Large.{IsNewlyLarge, is_large, max_payload}
 
 -- a count of what was taken ends far beyond that
@@ -30,8 +31,22 @@ tested e e' m q taken payload b is same count len = sym (is ∙ ap (λ x. is_lar
     ∙ large_counted e' (length taken) (length payload))
 
 -- what was read is no older than the last read, where it wasn't too large before that
-pub fresh_behind : {S : Type 0} {remaining : S → Option (List ℕ)} {m t : InBody S} (extent : Extent) (most : ℕ)
-    (payload last : List ℕ) → is_large extent (length m.taken) (length payload) ≡ false → InsideGoes remaining m last t
-    → length last ≤ most → IsNewlyLarge extent most t.taken (payload ++ last)
-fresh_behind {S} {remaining} {m} extent most payload last small goes few =
-    inr (m.taken, goes.takes.wire, payload, last, goes.taken, refl, few, small)
+pub fresh_behind : {S : Type 0} {remaining : S → Option (List ℕ)} {b m t : InBody S} (most : ℕ) (payload last : List ℕ)
+    → b.taken ≡ [] → b.rest ≡ body_of usual b.said.extent → InsideGoes remaining b payload m
+    → is_large b.said.extent (length m.taken) (length payload) ≡ false → InsideGoes remaining m last t → length last ≤ most
+    → IsNewlyLarge b.said.extent most t.taken (payload ++ last)
+fresh_behind {b = b} {m = m} most payload last first whole goes small more few =
+    let wire : goes.takes.wire ≡ m.taken = sym (goes.taken ∙ ap (λ l. l ++ goes.takes.wire) first) in
+    inr (
+      m.taken,
+      more.takes.wire,
+      payload,
+      last,
+      m.rest,
+      more.taken,
+      refl,
+      few,
+      subst (λ r. Backward r m.taken payload m.rest) whole
+          (subst (λ l. Backward b.rest l payload m.rest) wire goes.takes.backward),
+      small,
+    )

@@ -202,6 +202,10 @@ module _ {R : Type 0} {remaining : R → Option (List ℕ)} {s : ReaderState R H
   pub begun_once : (t : Unbuffered R) → EndsOnce b.stream.log.reads t.log.reads → EndsOnce (left_of s).log.reads t.log.reads
   begun_once t once = omega (arith, once, begun_steady.ends)
 
+  -- all of its body is to come
+  pub begun_whole : s.decoder.0 ≡ usual → b.rest ≡ body_of usual b.said.extent
+  begun_whole same = begun.rest ∙ ap (λ l. body_of l b.said.extent) (begun.limits ∙ same)
+
   -- a part of it was taken
   pub is_part : {t : InBody R} {handed : List ℕ} → b.limits ≡ usual → (goes : InsideGoes remaining b handed t)
       → IsPartTaken (Inside t) (b.head ++ goes.takes.wire) handed

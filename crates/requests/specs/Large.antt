@@ -2,6 +2,8 @@
 use Rattle.std.specs.Prelude.{◌≡◌, ℕ, ◌+◌, ◌*◌, ◌≤◌, ◌⊎◌, ◌||◌, nat_lt, Bool, false, List, [], ◌++◌, length, IsTrue}
 use Rattle.messages.specs.declared.head.Extent.{Extent}
 use Rattle.messages.specs.declared.head.Extent.TheVariants.{Sized, Chunked}
+use Rattle.messages.specs.Limits.{usual}
+use Rattle.messages.specs.Messages.{Backward, Rest, body_of}
 
 -- the most payload, of 2 ^ 40 bytes
 abbrev pub max_payload : ℕ
@@ -13,11 +15,13 @@ abbrev pub is_large : Extent → ℕ → ℕ → Bool
 is_large (Sized all) taken payload = nat_lt max_payload payload || nat_lt max_payload all
 is_large Chunked taken payload = nat_lt max_payload payload || nat_lt (16384 + 6 * payload) taken
 
--- it wasn't before the last read, which handed out this much payload at most; or nothing was read
+-- it wasn't before the last read, which handed out this much payload at most: each body that begins with what had been taken then
+-- has the payload before that in front; or nothing was read
 abbrev pub IsNewlyLarge : Extent → ℕ → List ℕ → List ℕ → Type 0
 IsNewlyLarge extent most taken handed = ((taken ≡ []) × (handed ≡ []))
-    ⊎ ((before : List ℕ) × (wire : List ℕ) × (payload : List ℕ) × (last : List ℕ) × (taken ≡ before ++ wire)
-    × (handed ≡ payload ++ last) × (length last ≤ most) × (is_large extent (length before) (length payload) ≡ false))
+    ⊎ ((before : List ℕ) × (wire : List ℕ) × (payload : List ℕ) × (last : List ℕ) × (rest : Rest) × (taken ≡ before ++ wire)
+    × (handed ≡ payload ++ last) × (length last ≤ most) × Backward (body_of usual extent) before payload rest
+    × (is_large extent (length before) (length payload) ≡ false))
 
 -- what was taken of a body is too large with this payload, as soon as that was read
 pub record TurnsLarge (extent : Extent) (taken handed : List ℕ) : Type 0 where

@@ -22,7 +22,7 @@ ghost use Rattle.codec.specs.PieceReader.{IsSettled, ReaderState, left_of};
 ghost use Rattle.messages.specs.declared.head.Heads.{Heads};
 ghost use Rattle.messages.specs.Heads.{heads};
 ghost use Rattle.messages.specs.Limits.{usual};
-ghost use Rattle.messages.specs.Messages.{Begun, stop_answer};
+ghost use Rattle.messages.specs.Messages.{Begun, body_of, stop_answer};
 ghost use Rattle.requests.specs.Sending.{IsHeld, SendsUnless, WritesOnlyHeld, WritesPromptly};
 ghost use Rattle.requests.specs.Answers.{AnswersTurn, EndsSent, EndsUntaken, ServesRequests, called, ending_of, only_line_ends, sending_of, waits};
 
@@ -228,6 +228,7 @@ fn answer_body<R: TellRead, W: TellWrite>(
     requires held { IsHeld writer.old }
     requires first { body.taken ≡ [] }
     requires limits { body.limits ≡ usual }
+    requires rest { body.rest ≡ body_of usual body.said.extent }
     ensures limits { IfOk result (λ next. next.decoder.0 ≡ usual) }
     ensures turns { (s : ReaderState R Heads) (w : Buffered W StdPolicy) → Begun R.remaining s body
         → WritesPromptly W.log W.trace (left_of s, w) [] (Ok tt) (body.stream, writer.old)
@@ -247,6 +248,7 @@ fn answer_called<R: TellRead, W: TellWrite>(
     requires held { IsHeld writer.old }
     requires first { body.taken ≡ [] }
     requires limits { body.limits ≡ usual }
+    requires rest { body.rest ≡ body_of usual body.said.extent }
     ensures limits { IfOk result (λ next. next.decoder.0 ≡ usual) }
     ensures turns { (s : ReaderState R Heads) (w : Buffered W StdPolicy) → Begun R.remaining s body
         → WritesPromptly W.log W.trace (left_of s, w) (called (waits body.said)) (Ok tt) (body.stream, writer.old)

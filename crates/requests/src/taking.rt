@@ -4,7 +4,7 @@ ghost use Rattle.body_reader.specs.Asking.{AskedWhere};
 ghost use Rattle.body_reader.specs.Between.{handed_out};
 ghost use Rattle.codec.specs.PieceReader.{left_of};
 ghost use Rattle.messages.specs.Limits.{usual};
-ghost use Rattle.messages.specs.Messages.{AskedIn, AsksForMore, InsideGoes, IsRest};
+ghost use Rattle.messages.specs.Messages.{AskedIn, AsksForMore, InsideGoes, IsRest, body_of};
 ghost use Rattle.requests.specs.Answers.{FailsOn, FailsToRead, ReadsSome, ReadsSteadily, TakeFails, TakesWhole, sent_till, sent_with, unfinished};
 ghost use Rattle.requests.specs.Large.{is_large};
 ghost use Rattle.requests.specs.Sending.{IsHeld, SendsUnless, WritesPromptly};
@@ -38,6 +38,7 @@ pub fn take_whole<R: TellRead, W: TellWrite>(
     requires held { IsHeld writer.old }
     requires first { body.taken ≡ [] }
     requires limits { body.limits ≡ usual }
+    requires rest { body.rest ≡ body_of usual body.said.extent }
     ensures limits { IfOk result (λ r. r.1.decoder.0 ≡ usual) }
     ensures whole { IfOk result (λ r. TakesWhole R.remaining body (left_of r.1) r.0) }
     ensures steady { IfOk result (λ r. ReadsSteadily body.stream (left_of r.1)) }
@@ -75,6 +76,7 @@ fn payload_len<R: TellRead, W: TellWrite>(
 ) -> Result<u64, Untaken>
     requires held { IsHeld writer.old }
     requires first { body.old.taken ≡ [] }
+    requires rest { body.old.rest ≡ body_of usual body.old.said.extent }
     ensures goes { (payload : List ℕ) × InsideGoes R.remaining body.old payload body.new
         × MatchResult result (λ len. len ≡ length payload)
         (λ e. TakeFails body.old.stream payload e body.new writer.new) }

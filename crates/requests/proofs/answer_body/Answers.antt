@@ -15,6 +15,7 @@ answer_called-requires g c = record {
   held = c.in-Ok.ensures.puts.held c.requires.held;
   first = c.requires.first;
   limits = c.requires.limits;
+  rest = c.requires.rest;
 }
 
 pub returns-in-Ok-clause-turns : goal.returns-in-Ok-clause-turns

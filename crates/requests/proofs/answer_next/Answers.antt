@@ -8,7 +8,7 @@ use Rattle.requests.specs.Answers.{IsSentLast}
 use Rattle.requests.specs.Sending.{WritesPromptly}
 use Rattle.requests.proofs.Answering.{FailsLast-of, RunsToLast-stopped, none_answered}
 use Rattle.requests.proofs.Coming.{comes, open_where, usually}
-use Rattle.requests.proofs.Reading.{none_met}
+use Rattle.requests.proofs.Reading.{begun_whole, none_met}
 use Rattle.requests.proofs.Sending.{PutsText-none, WritesPromptly-unsent}
 use Rattle.requests.proofs.answer_next.Goals as goal
 
@@ -21,6 +21,7 @@ answer_body-requires g c =
       held = came.writes.puts.held c.requires.held;
       first = c.in-Ok-next.ensures.next.taken;
       limits = c.in-Ok-next.ensures.next.limits ∙ c.requires.limits;
+      rest = begun_whole c.in-Ok-next.ensures.next c.requires.limits;
     }
 
 pub returns-in-Ok-next-clause-turns : goal.returns-in-Ok-next-clause-turns

@@ -85,7 +85,7 @@ returns-then-is_large-2-clause-goes g c =
         subst (λ x. TurnsLarge x.extent taken (before.payload ++ last)) (sym more.0.said) (record {
           large = tested _ extent _ _ taken (before.payload ++ last) _ c.is_large-in-loop-read.ensures
               (ap (λ x. x.extent) c.said-extent.ensures.value) c.taken-in-loop-read.ensures more.1 ∙ c.if-is_large-2.true;
-          fresh = fresh_behind extent 4096 before.payload last before.small read.goes
+          fresh = fresh_behind 4096 before.payload last c.requires.first c.requires.rest before.goes before.small read.goes
               (omega (arith, length-take-le c.in-Ok.count out read.bound, read.bound, c.read_on.auto.out));
         }),
       ),
