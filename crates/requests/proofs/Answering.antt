@@ -177,12 +177,12 @@ module _ {W : Type 0} {tells : W → StreamLog} {trace : W → W → Type 0} whe
         torn_answered {v} {w'} (Body (Truncated due)) ending (once, reads, torn) on (answer, is, puts, sends) =
             subst (λ x. RunsToLast remaining tells trace (left_of s) w (Inside t) x w') (sym is)
             (refused_torn BadRequest answer once reads torn on puts sends)
-        torn_answered {v} {w'} (Body (Io e)) ending (once, fails, all) on (is, same) =
+        torn_answered {v} {w'} (Body (Io e)) ending (once, fails, all, had) on (is, same) =
             subst (λ x. RunsToLast remaining tells trace (left_of s) w (Inside t) x w') (sym is)
             (subst (RunsToLast remaining tells trace (left_of s) w (Inside t) (Unread e)) (sym same)
             (RunsToLast-stopped handed (Inside t) (is_part begun limits goes) (begun_once begun t.stream once) (Unread e)
             (unrefused (Ok tt) (IsSentLast [] (b.head ++ goes.takes.wire) None (Inside t)) on)
-            (FailsInRead-still (begun_steady begun) e t.stream fails, all)))
+            (FailsInRead-still (begun_steady begun) e t.stream fails, all, had)))
         torn_answered {v} {w'} Large ending (reads, large) on (answer, is, puts, sends) =
             subst (λ x. RunsToLast remaining tells trace (left_of s) w (Inside t) x w') (sym is)
             (refused_torn LargeBody answer (omega (arith, reads.ends)) reads.faults (inr (refl, large)) on puts sends)
@@ -310,5 +310,5 @@ module _ {W : Type 0} {tells : W → StreamLog} {trace : W → W → Type 0} whe
                   subst (λ n. IsMany n s (stream_at place)) both
                   (IsMany-still a.reads (length a.messages) (length b.messages + length b.handed) (stream_at place) met many)),
             )
-            ends (Unread e) (fails, all) = (FailsInRead-still a.reads e (stream_at place) fails, all)
+            ends (Unread e) (fails, all, had) = (FailsInRead-still a.reads e (stream_at place) fails, all, had)
             ends (stop.Unsent e) met = joined a.reads (stream_at place) met

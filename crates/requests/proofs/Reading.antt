@@ -1,6 +1,6 @@
 -- What reads of a run met.
 use Rattle.std.proofs.Common.{◌≡◌, ℕ, ◌+◌, ◌<◌, ◌≤◌, true, false, List, [], ◌∷◌, ◌++◌, All, length, Option, None, Some, IfSome, Result, Ok, Err, IfOk, IfErr, ◌⊎◌, sym, ap, subst, inl, inr, ◌∙◌, refl, arith, append_assoc, append-nil, length-append}
-use Rattle.std.proofs.lemmas.List.{nil_from_length}
+use Rattle.std.proofs.lemmas.List.{append_cancel_left, nil_from_length}
 use Rattle.std.proofs.lemmas.List.Elements.{All-append, All-cons, All-nil}
 use Rattle.std.specs.declared.io.Error.{Error}
 use Rattle.redux_buffer.specs.Faults.{FaultAfterInterrupts, FaultAfterInterrupts-after, IsInterrupt, OnlyInterrupts, OnlyInterrupts-joins, OnlyInterrupts-none}
@@ -22,8 +22,8 @@ use Rattle.messages.specs.declared.bad_head.BadHead.{BadHead}
 use Rattle.messages.specs.declared.head.Heads.{Heads}
 use Rattle.messages.specs.Heads.{IsHead, heads}
 use Rattle.messages.specs.Limits.{usual}
-use Rattle.messages.specs.Messages.{BeginsRest, Begun, Bytes, Chunks, EachReadGave, Fails, FinishFails, GoesWrong, InBody, InsideGoes, IsRest, Message, Onward, Rest, TakesWholeRest, Unended, body_of}
-use Rattle.messages.specs.MessagesLaws.{Begun-gave}
+use Rattle.messages.specs.Messages.{AskedIn, BeginsRest, Begun, Bytes, Chunks, EachReadGave, Fails, FinishFails, GoesWrong, InBody, InsideGoes, IsRest, Message, Onward, Rest, TakesWholeRest, Unended, body_of}
+use Rattle.messages.specs.MessagesLaws.{Begun-gave, Onward-joins}
 use Rattle.programs.specs.Streams.{AllSent, EndsOnce}
 use Rattle.requests.specs.declared.Place.{Place}
 use Rattle.requests.specs.declared.writing.Refusal.{Refusal}
@@ -31,7 +31,7 @@ use Rattle.requests.specs.declared.Place.TheVariants.{Before, Inside}
 use Rattle.requests.specs.declared.taking.Untaken.{Untaken}
 use Rattle.requests.specs.declared.taking.Untaken.TheVariants.{Body, Large, Unsent, Many}
 use Rattle.requests.specs.Large.{is_large}
-use Rattle.requests.specs.Answers.{EndedBeforeHead, FailsInRead, FailsOn, FailsToRead, IsMany, IsPartTaken, IsToBeRefused, MayFollow, NoMoreAnswered, ReadsSome, ReadsSteadily, TakeFails, TakesWhole, faults_of, sent_till, sent_with, unfinished}
+use Rattle.requests.specs.Answers.{EndedBeforeHead, FailsInRead, FailsOn, FailsToRead, HadToAsk, IsMany, IsPartTaken, IsToBeRefused, MayFollow, NoMoreAnswered, ReadsSome, ReadsSteadily, TakeFails, TakesWhole, faults_of, sent_till, sent_with, unfinished}
 
 -- no fault was met, or one
 pub none_met : {a b : List Error} → b ≡ a → OnlyInterrupts a b
@@ -118,23 +118,24 @@ module _ {S : Type 0} {s m : Unbuffered S} (steady : ReadsSteadily s m) where
       omega (arith, ap length fault.0, ap length same, length-append (faults_of m) (e ∷ []))
 
   -- why a read in a body failed is why the whole isn't taken
-  pub TakeFails-of : {W : Type 0} (handed : List ℕ) (b : InBody S) (w : Buffered W StdPolicy) (e : Untaken) → FailsOn m e b w
-      → TakeFails s handed e b w
-  TakeFails-of handed b w (Body (Wrong why)) (((gave, torn), hard), sent) =
+  pub TakeFails-of : {W : Type 0} (handed : List ℕ) (b : InBody S) (w : Buffered W StdPolicy) (e : Untaken)
+      → (b.stream.log ≡ m.log) ⊎ HadToAsk (Inside b) → FailsOn m e b w → TakeFails s handed e b w
+  TakeFails-of handed b w (Body (Wrong why)) asked (((gave, torn), hard), sent) =
       (omega (arith, steady.ends, gave.1), joined b.stream (none_met gave.0), inl (refl, inl (why, torn)))
-  TakeFails-of handed b w (Body (Truncated due)) (((none, end, left, cut, so_many), hard), sent) = (
+  TakeFails-of handed b w (Body (Truncated due)) asked (((none, end, left, cut, so_many), hard), sent) = (
     omega (arith, steady.ends, end),
     joined b.stream (none_met none),
     inl (refl, inr (omega (arith, steady.ends, end), left, cut)),
   )
-  TakeFails-of handed b w (Body (Io e)) (((fault, none), hard), sent) = (
+  TakeFails-of handed b w (Body (Io e)) asked (((fault, none), hard), sent) = (
     omega (arith, steady.ends, none),
     (failed_behind (faults_of s) (faults_of m) (faults_of b.stream) e steady.faults fault, hard e refl),
     elim sent [ inl same ↦ absurd (no_fault b e (fault, none) (ap (λ l. l.reads.faults) same)) | inr all ↦ all ],
+    elim asked [ inl same ↦ absurd (no_fault b e (fault, none) (ap (λ l. l.reads.faults) same)) | inr had ↦ had ],
   )
-  TakeFails-of handed b w (Unsent e) gave = steadily (steady_none gave)
-  TakeFails-of handed b w Large odd = elim odd [ ]
-  TakeFails-of handed b w Many odd = elim odd [ ]
+  TakeFails-of handed b w (Unsent e) asked gave = steadily (steady_none gave)
+  TakeFails-of handed b w Large asked odd = elim odd [ ]
+  TakeFails-of handed b w Many asked odd = elim odd [ ]
 
   pub TakeFails-behind : {W : Type 0} (handed more : List ℕ) (b : InBody S) (w : Buffered W StdPolicy) (why : BodyError)
       → FinishFails m more why b.stream b.rest → EachReadGave m b.stream → TakeFails s (handed ++ more) (unfinished why) b w
@@ -185,6 +186,68 @@ module _ {S : Type 0} (s m : Unbuffered S) (t : InBody S) (same : m.log ≡ s.lo
   sent_so (Err (Unsent e)) f = elim f [ ]
   sent_so (Err Large) f = elim f [ ]
   sent_so (Err Many) f = elim f [ ]
+
+-- a read behind bytes that were no payload, and for which nothing was asked, asks where they and what comes begin the rest
+pub asked_before : {S : Type 0} {remaining : S → Option (List ℕ)} {slice offer : ℕ} {b m : InBody S} (t : Unbuffered S)
+    → m.stream.log ≡ b.stream.log → InsideGoes remaining b [] m → AskedWhere (AskedIn m.rest slice offer) m.stream t
+    → AskedWhere (BeginsRest b.rest []) b.stream t
+asked_before t same goes (inl none) = inl (none ∙ same)
+asked_before {b = b} {m = m} t same goes (inr over) =
+    let order = goes.takes.went.order in
+    let none : order.got ≡ [] = nil_from_length order.got (omega (
+      arith,
+      ap length order.given,
+      length-append b.stream.log.reads.given order.got,
+      ap (λ l. length l.reads.given) same,
+    )) in
+    let left : goes.takes.wire ++ m.stream.left ≡ b.stream.left =
+    order.equal ∙ ap (λ l. b.stream.left ++ l) none ∙ append-nil b.stream.left in
+    let on = over.such.goes_on in
+    inr (record {
+      came = over.came;
+      given = over.given ∙ ap (λ l. l.reads.given ++ (over.came ++ t.log.reads.latest)) same;
+      such = record {
+        rest = on.rest;
+        onward = subst (λ l. Onward b.rest l [] on.rest)
+            (sym (append_assoc goes.takes.wire m.stream.left over.came) ∙ ap (λ l. l ++ over.came) left)
+            (Onward-joins b.rest m.rest on.rest goes.takes.wire (m.stream.left ++ over.came) [] [] goes.takes.onward on.onward);
+        more = on.more;
+      };
+      some = omega (arith, over.some, ap (λ l. l.reads.asks) same);
+      asks = omega (arith, over.asks, ap (λ l. l.reads.asks) same);
+    })
+
+-- where such a read was made behind some of a body, that goes on
+pub had_to_ask : {S : Type 0} {remaining : S → Option (List ℕ)} {b m t : InBody S} {payload handed : List ℕ} → b.taken ≡ []
+    → b.rest ≡ body_of usual b.said.extent → InsideGoes remaining b payload m → InsideGoes remaining m handed t
+    → AskedWhere (BeginsRest m.rest []) m.stream t.stream → (t.stream.log ≡ m.stream.log) ⊎ HadToAsk (Inside t)
+had_to_ask first whole before more (inl same) = inl same
+had_to_ask {b = b} {m = m} {t = t} {payload = payload} first whole before more (inr over) =
+    let order = more.takes.went.order in
+    let latest = t.stream.log.reads.latest in
+    let got : order.got ≡ over.came ++ latest =
+    append_cancel_left m.stream.log.reads.given order.got (over.came ++ latest) (sym order.given ∙ over.given) in
+    let wire : before.takes.wire ≡ m.taken = sym (before.taken ∙ ap (λ l. l ++ before.takes.wire) first) in
+    let onward : Onward (body_of usual t.said.extent) m.taken payload m.rest =
+    subst (λ x. Onward (body_of usual x.extent) m.taken payload m.rest) (sym (more.said ∙ before.said))
+    (subst (λ l. Onward (body_of usual b.said.extent) l payload m.rest) wire
+    (subst (λ r. Onward r before.takes.wire payload m.rest) whole before.takes.onward)) in
+    inr (
+      m.taken ++ (m.stream.left ++ over.came),
+      ap (λ l. l ++ t.stream.left) more.taken ∙ append_assoc m.taken more.takes.wire t.stream.left
+          ∙ ap (λ l. m.taken ++ l)
+          (order.equal ∙ ap (λ l. m.stream.left ++ l) got ∙ sym (append_assoc m.stream.left over.came latest))
+          ∙ sym (append_assoc m.taken (m.stream.left ++ over.came) latest),
+      (
+        payload ++ [],
+        record {
+          rest = over.such.rest;
+          onward = Onward-joins (body_of usual t.said.extent) m.rest over.such.rest m.taken (m.stream.left ++ over.came) payload []
+              onward over.such.onward;
+          more = over.such.more;
+        },
+      ),
+    )
 
 -- a call that goes into no message takes nothing
 pub nothing_went : {R : Type 0} {remaining : R → Option (List ℕ)} {s t : ReaderState R Heads} {answer : NextAnswer BadHead}

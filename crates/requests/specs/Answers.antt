@@ -23,7 +23,7 @@ use Rattle.messages.specs.declared.head.ParsedHead.{ParsedHead}
 use Rattle.messages.specs.Heads.{IsHead, heads}
 use Rattle.messages.specs.declared.head.Heads.{Heads}
 use Rattle.messages.specs.Limits.{usual}
-use Rattle.messages.specs.Messages.{EachReadGave, Fails, GoesWrong, InBody, InTurn, IsMessage, IsRest, Message, Onward, body_of}
+use Rattle.messages.specs.Messages.{EachReadGave, Fails, GoesWrong, InBody, InTurn, IsMessage, IsRest, Message, Onward, Unended, body_of}
 use Rattle.messages.specs.Versions.{is_end}
 use Rattle.programs.specs.Streams.{AllSent, EndsOnce}
 use Rattle.requests.specs.declared.writing.Refusal.{Refusal}
@@ -206,6 +206,13 @@ IsPartTaken (Inside body) taken handed = (taken ≡ body.head ++ body.taken) × 
 abbrev pub FailsInRead : {S : Type 0} → Unbuffered S → Error → Unbuffered S → Type 0
 FailsInRead s e t = FaultAfterInterrupts (faults_of s) (faults_of t) e × (error_kind e ≢ Interrupted)
 
+-- a stream that failed had to be asked: what is left begins a head; or what was there of a body before the last read begins it,
+-- and it goes on
+abbrev pub HadToAsk : {S : Type 0} → Place S → Type 0
+HadToAsk (Before requests) = IsOpen (heads usual) (rest requests)
+HadToAsk (Inside body) = (there : List ℕ) × (body.taken ++ body.stream.left ≡ there ++ body.stream.log.reads.latest)
+    × Unended (body_of usual body.said.extent) there
+
 -- with the interruptions that were met, these are more than are counted
 abbrev pub IsMany : {S : Type 0} → ℕ → Unbuffered S → Unbuffered S → Type 0
 IsMany count s t = 2 ^ 64 ≤ count + (length (faults_of t) - length (faults_of s)) + 1
@@ -229,7 +236,7 @@ FailsOn s e b w' = ⊥
 -- why a body isn't taken whole, of which this payload was: so, or it is wrong, or too large, or more than is counted
 abbrev pub TakeFails : {S W : Type 0} → Unbuffered S → List ℕ → Untaken → InBody S → Buffered W StdPolicy → Type 0
 TakeFails s handed (Body (Io e)) b w' =
-    EndsOnce s.log.reads b.stream.log.reads × FailsInRead s e b.stream × AllSent w'
+    EndsOnce s.log.reads b.stream.log.reads × FailsInRead s e b.stream × AllSent w' × HadToAsk (Inside b)
 TakeFails s handed (Body wrong) b w' =
     EndsOnce s.log.reads b.stream.log.reads × OnlyInterrupts (faults_of s) (faults_of b.stream)
     × IsToBeRefused s (Inside b) handed BadRequest
@@ -325,15 +332,16 @@ module _ {R W : Type 0} (remaining : R → Option (List ℕ)) (tells : W → Str
     pub keep : All (MayFollow true) messages
     pub reads : ReadsSteadily s t
 
-  -- why a run ends: a read failed, and all had been sent; or reads were at most interrupted, and it is over, or these are more
-  -- than are counted, or sending failed
+  -- why a run ends: a read failed that had to be made, and all had been sent; or reads were at most interrupted, and it is over,
+  -- or these are more than are counted, or sending failed
   abbrev pub RunEndsBy : Unbuffered R → List Message → List ℕ → List ℕ → Option Refusal → Place R → Buffered W StdPolicy
       → Ending → Type 0
   RunEndsBy s messages taken handed refuses place w' Over =
       OnlyInterrupts (faults_of s) (faults_of (stream_at place)) × NoMoreAnswered messages taken refuses s place
   RunEndsBy s messages taken handed refuses place w' stop.Many = OnlyInterrupts (faults_of s) (faults_of (stream_at place))
       × IsMany (length messages + length handed) s (stream_at place)
-  RunEndsBy s messages taken handed refuses place w' (Unread e) = FailsInRead s e (stream_at place) × AllSent w'
+  RunEndsBy s messages taken handed refuses place w' (Unread e) =
+      FailsInRead s e (stream_at place) × AllSent w' × HadToAsk place
   RunEndsBy s messages taken handed refuses place w' (stop.Unsent e) =
       OnlyInterrupts (faults_of s) (faults_of (stream_at place))
 

@@ -4,8 +4,8 @@
 //! `100-continue`; 100 before it, where the client waits for that. What comes and is no request is refused by the status that RFC
 //! 9112 has for it (`refusal_of`); 400 is for a body that is none, or ends early, and 413 for one that is too large (`is_large`);
 //! and then no more comes. It ends behind a request after which none may follow, and where the stream does. It asks the stream
-//! only where all that it answered was sent, and sends only there, for room, and at the end (`Prompt`); where sending fails,
-//! nothing was taken behind what failed (`IsSentLast`).
+//! only where what it has settles nothing (`HadToAsk`), and all that it answered was sent, and sends only there, for room, and at
+//! the end (`Prompt`); where sending fails, nothing was taken behind what failed (`IsSentLast`).
 #![tactic(auto)]
 
 mod limits;

@@ -4,7 +4,7 @@ ghost use Rattle.body_reader.specs.Asking.{AskedWhere};
 ghost use Rattle.body_reader.specs.Between.{handed_out};
 ghost use Rattle.codec.specs.PieceReader.{left_of};
 ghost use Rattle.messages.specs.Limits.{usual};
-ghost use Rattle.messages.specs.Messages.{AskedIn, AsksForMore, InsideGoes, IsRest, body_of};
+ghost use Rattle.messages.specs.Messages.{AskedIn, AsksForMore, BeginsRest, InsideGoes, IsRest, body_of};
 ghost use Rattle.requests.specs.Answers.{FailsOn, FailsToRead, ReadsSome, ReadsSteadily, TakeFails, TakesWhole, sent_till, sent_with, unfinished};
 ghost use Rattle.requests.specs.Large.{is_large};
 ghost use Rattle.requests.specs.Sending.{IsHeld, SendsUnless, WritesPromptly};
@@ -119,6 +119,7 @@ fn read_on<R: TellRead, W: TellWrite>(
     ensures goes { InsideGoes R.remaining body.old (handed_out out.new result) body.new }
     ensures reads { IfOk result (λ n. ReadsSome body.old.stream n body.new) }
     ensures fails { IfErr result (λ e. FailsOn body.old.stream e body.new writer.new) }
+    ensures asked { AskedWhere (BeginsRest body.old.rest []) body.old.stream body.new.stream }
     ensures writes { WritesPromptly W.log W.trace (body.old.stream, writer.old) [] (sent_with result)
         (body.new.stream, writer.new) }
 {

@@ -112,4 +112,5 @@ returns-in-Io-clause-turns g c = λ s w told next comes.
         ))
         | inr all ↦ all
       ],
+      answers.1,
     )

@@ -5,7 +5,7 @@ use Rattle.messages.specs.Messages.{InBody, InsideGoes}
 use Rattle.messages.specs.MessagesLaws.{InsideGoes-joins, InsideGoes-none}
 use Rattle.requests.specs.Large.{TurnsLarge, is_large}
 use Rattle.requests.proofs.Large.{fresh_behind, tested}
-use Rattle.requests.proofs.Reading.{TakeFails-of, steadily, steady_none}
+use Rattle.requests.proofs.Reading.{TakeFails-of, had_to_ask, steadily, steady_none}
 use Rattle.requests.proofs.Sending.{WritesPromptly-after, WritesPromptly-none}
 use Rattle.requests.proofs.taking.payload_len.Goals as goal
 
@@ -126,6 +126,7 @@ returns-in-Err-clause-goes g c =
       before.payload ++ [],
       InsideGoes-joins _ _ _ _ _ [] before.goes c.in-Err.ensures.goes,
       TakeFails-of before.steady (before.payload ++ []) c.read_on.new.body c.read_on.new.writer c.in-Err.e
+          (had_to_ask c.requires.first c.requires.rest before.goes c.in-Err.ensures.goes c.in-Err.ensures.asked)
           c.in-Err.ensures.fails,
     )
 

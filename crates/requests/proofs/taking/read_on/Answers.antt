@@ -5,7 +5,7 @@ use Rattle.messages.specs.Messages.{InBody, InsideGoes}
 use Rattle.messages.specs.MessagesLaws.{InsideGoes-joins}
 use Rattle.requests.specs.Sending.{WritesPromptly}
 use Rattle.requests.proofs.Coming.{comes_inside, unsent_empty}
-use Rattle.requests.proofs.Reading.{fails_since, reads_since, sent_so}
+use Rattle.requests.proofs.Reading.{asked_before, fails_since, reads_since, sent_so}
 use Rattle.requests.proofs.Sending.{WritesPromptly-read}
 use Rattle.requests.proofs.taking.read_on.Goals as goal
 
@@ -33,6 +33,7 @@ returns-in-Ok g c =
     let t = c.read.new.body in
     let s = c.args.body.now.stream in
     let zero : c.read_buffered-count.result ≡ 0 = omega (arith, c.if-count-gt0.false) in
+    let goes = read_none c.read_buffered-count.new.out zero none.goes in
     let comes = comes_inside g.met.W.TellWrite.trace_none g.met.W.TellWrite.trace_joins c.read_buffered-count.result
     c.read_buffered-count.new.out c.read.new.out c.args.body.now.stream m t c.args.writer.now c.send_unless_shown.new.writer
     none.unasked c.in-Ok.ensures zero (search rules) (λ done. let odd = c.is_done.ensures.ended.1 done in absurd (cc)) none.all
@@ -40,9 +41,10 @@ returns-in-Ok g c =
     record {
       bound = c.read.ensures.bound;
       goes = InsideGoes-joins g.R.TellRead.remaining c.args.body.now m t [] (handed_out c.read.new.out c.read.result)
-          (read_none c.read_buffered-count.new.out zero none.goes) c.read.ensures.goes;
+          goes c.read.ensures.goes;
       reads = reads_since s m.stream t none.unasked c.read.result c.read.ensures.reads;
       fails = fails_since s m.stream t none.unasked c.read.result comes.asked c.read.ensures.fails;
+      asked = asked_before t.stream none.unasked goes c.read.ensures.asked;
       writes = subst (λ r. WritesPromptly g.W.Tell.log g.W.TellWrite.trace (c.args.body.now.stream, c.args.writer.now) [] r
           (t.stream, c.send_unless_shown.new.writer))
           (sym (sent_so s m.stream t none.unasked c.read.result c.read.ensures.fails)) comes.writes;
