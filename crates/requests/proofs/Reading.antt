@@ -242,8 +242,8 @@ had_to_ask {b = b} {m = m} {t = t} {payload = payload} first whole before more (
         payload ++ [],
         record {
           rest = over.such.rest;
-          onward = Onward-joins (body_of usual t.said.extent) m.rest over.such.rest m.taken (m.stream.left ++ over.came) payload []
-              onward over.such.onward;
+          onward = Onward-joins (body_of usual t.said.extent) m.rest over.such.rest m.taken (m.stream.left ++ over.came)
+              payload [] onward over.such.onward;
           more = over.such.more;
         },
       ),

@@ -10,13 +10,15 @@ pub returns-in_err-at : goal.returns-in_err-at
 returns-in_err-at g c = record {
   exact = λ s was one.
       let p = err_from_is_err_and c.from_residual.result c.from_residual.ensures.1 in
-      rw (p.1, p.2) (first_failed _ _ (front_joins _ _) (one_tells _ _) s was (front_none _ _ s one.whole) _ _ _ c.requires.some one _ c.in_err-at.ensures);
+      rw (p.1, p.2) (first_failed _ _ (front_joins _ _) (one_tells _ _) s was (front_none _ _ s one.whole) _ _ _ c.requires.some
+      one _ c.in_err-at.ensures);
 }
 
 pub loop-init : goal.loop-init
 loop-init g c = record {
   within = (taken_by c.args.answer c.in_ok-at.at c.in_ok-at.ensures c.args.out.now c.requires.bound).0;
-  turned = λ s was one. first_more _ _ (front_joins _ _) (one_tells _ _) s was (front_none _ _ s one.whole) _ _ _ c.requires.some one c.in_ok-at.at c.in_ok-at.ensures;
+  turned = λ s was one. first_more _ _ (front_joins _ _) (one_tells _ _) s was (front_none _ _ s one.whole) _ _ _ c.requires.some
+      one c.in_ok-at.at c.in_ok-at.ensures;
 }
 
 -- the slice that is read into is what is left, and keeps its length
@@ -45,7 +47,8 @@ loop-preserved g c =
       within = within g c;
       turned = λ s was first.
           let before = c.loop.invariant.turned s was first in
-          turned_more _ _ (front_joins remaining table) (one_tells remaining table) s was c.loop.counter c.loop.at c.loop.out c.loop.self before c.read.new.out
+          turned_more _ _ (front_joins remaining table) (one_tells remaining table) s was c.loop.counter c.loop.at c.loop.out
+          c.loop.self before c.read.new.out
           c.read.result c.read.new.self c.if-at-out.false
           (subst (λ l. OneRead remaining table c.loop.self l c.read.result c.read.new.out c.read.new.self)
           (between_to_end c.loop.out c.loop.at (length c.loop.out) (le_refl _))
@@ -68,7 +71,8 @@ returns-in_err-at-2 g c =
       exact = λ s was first.
           let before = c.loop.invariant.turned s was first in
           let p = err_from_is_err_and c.from_residual-in_err-at-2.result c.from_residual-in_err-at-2.ensures.1 in
-          rw (p.1, p.2) (ended_failed _ _ (front_joins remaining table) (one_tells remaining table) s was c.loop.counter c.loop.at c.loop.out c.loop.self before
+          rw (p.1, p.2) (ended_failed _ _ (front_joins remaining table) (one_tells remaining table) s was c.loop.counter c.loop.at
+          c.loop.out c.loop.self before
           c.read.new.out c.read.result c.read.new.self c.if-at-out.false
           (subst (λ l. OneRead remaining table c.loop.self l c.read.result c.read.new.out c.read.new.self)
           (between_to_end c.loop.out c.loop.at (length c.loop.out) (le_refl _))
