@@ -6,9 +6,9 @@ use Rattle.body_reader.specs.declared.error.BodyError.{BodyError}
 use Rattle.body_reader.specs.declared.error.CollectError.{CollectError}
 use Rattle.body_reader.specs.declared.error.CollectError.TheVariants.{Body, TooLong, Memory}
 use Rattle.body_reader.specs.Between.{EachGave}
-use Rattle.body_reader.specs.BodyReader.{BodyState, Collects, FillsPayload, IsBodyReader, NotCollected, TookWholeBody}
+use Rattle.body_reader.specs.BodyReader.{BodyState, Collects, ConsumesPayload, FillsPayload, IsBodyReader, NotCollected, TookWholeBody}
 use Rattle.body_reader.specs.Coding.{Grammar, IsLawful}
-use Rattle.body_reader.proofs.Taking.{Consumed, Taken, filled_asked, filled_ended, filled_gave, filled_pieces, filled_went, fills_here, stops_after, taken_more, taken_none}
+use Rattle.body_reader.proofs.Taking.{Taken, filled_asked, filled_ended, filled_gave, filled_pieces, filled_went, fills_here, stops_after, taken_more, taken_none}
 
 -- so much was collected so far
 pub record Collected {S Q C P W : Type 0} (remaining : S → Option (List ℕ)) (rules : ReadRules Q) (g : Grammar P W) (most : ℕ)
@@ -78,8 +78,8 @@ module _ {S Q C P W : Type 0} {remaining : S → Option (List ℕ)} {rules : Rea
     )
 
     -- or it goes on, one piece more
-    pub collected_more : 0 < n → IsLawful (grammar s.coding) → (t : BodyState S Q C P) → Consumed remaining rules grammar n f t
-        → length all + f.known ≤ most
+    pub collected_more : 0 < n → IsLawful (grammar s.coding) → (t : BodyState S Q C P)
+        → ConsumesPayload remaining rules (grammar f.coding) n f t → length all + f.known ≤ most
         → Collected remaining rules (grammar s.coding) most s before t (all ++ take f.known f.reader.block.bytes)
     collected_more some lawful t takes fits =
         let piece = take f.known f.reader.block.bytes in

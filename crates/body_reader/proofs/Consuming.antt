@@ -1,15 +1,17 @@
 -- Payload that is known to be buffered is consumed.
-use Rattle.std.proofs.Common.{◌≡◌, ℕ, ◌≤◌, List, ◌++◌, length, take, Option, Ok, ap, subst, ◌∙◌, arith}
+use Rattle.std.proofs.Common.{◌≡◌, ℕ, ◌<◌, ◌≤◌, List, ◌++◌, length, min, take, Option, Ok, ap, refl, subst, sym, ◌∙◌, arith}
 use Rattle.std.proofs.Math.Seq.{take-length}
 use Rattle.std.proofs.lemmas.List.{length-take-le}
 use Rattle.buffer_redux.specs.Buffered.{Buffered}
+use Rattle.buffer_redux.specs.BufReader.{ReaderConsumes}
 use Rattle.buffer_redux.specs.Policy.{ReadRules}
 use Rattle.buffer_redux.specs.StreamLog.{StreamLog, after_read}
 use Rattle.body_reader.specs.declared.progress.Progress.{Progress}
 use Rattle.body_reader.specs.Between.{TakesFront}
-use Rattle.body_reader.specs.BodyReader.{IsBodyReader}
+use Rattle.body_reader.specs.BodyReader.{BodyState, BodyWent, ConsumesPayload, IsBodyReader}
+use Rattle.body_reader.specs.BodyReaderLaws.{BodyWent-none}
 use Rattle.body_reader.specs.Coding.{Grammar}
-use Rattle.body_reader.proofs.Payload.{seen, state_is}
+use Rattle.body_reader.proofs.Payload.{seen, state_is, state_went}
 
 module _ {S Q C P W : Type 0} (remaining : S → Option (List ℕ)) (rules : ReadRules Q) (g : Grammar P W)
     (r : Buffered S Q) (c : C) (p : Progress P) (calls : StreamLog) (k : ℕ) (is : IsBodyReader g (seen r c p calls k))
@@ -26,3 +28,48 @@ module _ {S Q C P W : Type 0} (remaining : S → Option (List ℕ)) (rules : Rea
   pub consumed_is : IsBodyReader g (seen r' c q calls' k')
   consumed_is = state_is remaining rules g r c p calls k r' q calls' k' (take n r.block.bytes) (take n r.block.bytes) front.takes
       given is front.known
+
+  pub consumes : (count : ℕ) → 0 < n → n ≡ min count k
+      → ConsumesPayload remaining rules g count (seen r c p calls k) (seen r' c q calls' k')
+  consumes count some all = record {
+    went = subst (λ j. BodyWent remaining rules g (seen r c p calls k) (take j r.block.bytes) (seen r' c q calls' k')) all
+        (state_went remaining rules g r c p calls k r' q calls' k' (take n r.block.bytes) (take n r.block.bytes) front.takes
+        given);
+    consumed = λ _. subst (λ j. ReaderConsumes rules j r r') all front.consumed;
+    left = omega (arith, front.left, all);
+    idle = λ none. absurd (omega (arith, none, all, some));
+    told = front.consumed.told;
+    noted = (
+      (λ _. subst (λ j. calls' ≡ after_read calls (take j r.block.bytes) (Ok j)) all noted),
+      (λ none. absurd (omega (arith, none, all, some))),
+    );
+    whole = consumed_is;
+  }
+
+module _ {S Q C P W : Type 0} (remaining : S → Option (List ℕ)) (rules : ReadRules Q) where
+  -- none is
+  pub consumes_none : (g : Grammar P W) (count : ℕ) (d : BodyState S Q C P) → IsBodyReader g d → min count d.known ≡ 0
+      → ConsumesPayload remaining rules g count d d
+  consumes_none g count d is none = record {
+    went = subst (λ j. BodyWent remaining rules g d (take j d.reader.block.bytes) d) (sym none)
+        (BodyWent-none remaining rules g d);
+    consumed = λ some. absurd (omega (arith, some, none));
+    left = omega (arith, none);
+    idle = λ _. refl;
+    told = refl;
+    noted = (λ some. absurd (omega (arith, some, none)), λ _. refl);
+    whole = is;
+  }
+
+  -- as the reader is seen
+  pub consumes_seen : (grammar : C → Grammar P W) (count : ℕ) (s d : BodyState S Q C P) (t : BodyState S Q C P) → s ≡ d
+      → ConsumesPayload remaining rules (grammar s.coding) count s t
+      → ConsumesPayload remaining rules (grammar d.coding) count d t
+  consumes_seen grammar count s d t same consumes =
+      subst (λ x. ConsumesPayload remaining rules (grammar x.coding) count x t) same consumes
+
+  pub none_seen : (grammar : C → Grammar P W) (count : ℕ) (s d : BodyState S Q C P) → s ≡ d
+      → ConsumesPayload remaining rules (grammar s.coding) count s s
+      → ConsumesPayload remaining rules (grammar d.coding) count d d
+  none_seen grammar count s d same consumes =
+      subst (λ x. ConsumesPayload remaining rules (grammar x.coding) count x x) same consumes

@@ -7,9 +7,9 @@ use Rattle.std.specs.declared.io.ErrorKind.TheVariants.{Other}
 use Rattle.buffer_redux.specs.Policy.{ReadRules}
 use Rattle.body_reader.specs.declared.error.BodyError.{BodyError}
 use Rattle.body_reader.specs.declared.error.BodyError.TheVariants.{Io}
-use Rattle.body_reader.specs.BodyReader.{BodyState, Drains, FillsPayload, IsBodyReader}
+use Rattle.body_reader.specs.BodyReader.{BodyState, ConsumesPayload, Drains, FillsPayload, IsBodyReader}
 use Rattle.body_reader.specs.Coding.{Grammar, IsLawful}
-use Rattle.body_reader.proofs.Taking.{Consumed, Taken, filled_asked, filled_ended, filled_gave, filled_pieces, filled_went, fills_here, stops_after, taken_more, taken_none}
+use Rattle.body_reader.proofs.Taking.{Taken, filled_asked, filled_ended, filled_gave, filled_pieces, filled_went, fills_here, stops_after, taken_more, taken_none}
 
 -- this much was dropped so far, in so many pieces
 pub record Dropped {S Q C P W : Type 0} (remaining : S → Option (List ℕ)) (rules : ReadRules Q) (g : Grammar P W)
@@ -65,7 +65,7 @@ module _ {S Q C P W : Type 0} {remaining : S → Option (List ℕ)} {rules : Rea
 
   -- one piece more
   pub dropped_more : {n : ℕ} {f : BodyState S Q C P} → FillsPayload remaining rules (grammar m.coding) m (Ok n) f → 0 < n
-      → IsLawful (grammar s.coding) → (t : BodyState S Q C P) → Consumed remaining rules grammar n f t
+      → IsLawful (grammar s.coding) → (t : BodyState S Q C P) → ConsumesPayload remaining rules (grammar f.coding) n f t
       → Dropped remaining rules (grammar s.coding) s (count + 1) t
   dropped_more {n} {f} fills some lawful t takes = record {
     payload = so.payload ++ take f.known f.reader.block.bytes;

@@ -178,7 +178,8 @@ module _ {S Q P W : Type 0} (remaining : S → Option (List ℕ)) (rules : ReadR
   -- behind what is no payload, which failed, or came to the end
   module _ (known after : ℕ) (s : Buffered S Q) (p : Progress P) (out : List ℕ) (m : Buffered S Q) (q : Progress P)
       (room : 0 < length out) where
-    never : {t : Buffered S Q} {answer : Result ℕ (BodyError W)} → length out ≡ 0 → (answer ≡ Ok 0) × (t ≡ s)
+    never : {t : Buffered S Q} {r : Progress P} {answer : Result ℕ (BodyError W)} → length out ≡ 0
+        → (answer ≡ Ok 0) × (t ≡ s) × (r ≡ p) × (after ≡ known)
     never none = absurd (omega (arith, none, room))
 
     -- what an Ok means behind other calls

@@ -1,6 +1,7 @@
 -- What a call of a reader of a body comes to, seen by contracts.
 use Rattle.std.proofs.Common.{◌≡◌, ℕ, zero, suc, ◌-◌, ◌<◌, ◌≤◌, ◌⊎◌, List, [], ◌++◌, length, min, take, Option, Result, IfOk, MatchResult, Ok, Err, sym, ap, subst, ◌∙◌, inl, inr, refl, arith, append-nil, length-append}
 use Rattle.buffer_redux.specs.Buffered.{Buffered}
+use Rattle.buffer_redux.specs.BufReader.{ReaderConsumes}
 use Rattle.buffer_redux.specs.Policy.{ReadRules}
 use Rattle.buffer_redux.specs.StreamLog.{StreamLog, after_read}
 use Rattle.body_reader.specs.declared.error.BodyError.{BodyError}
@@ -119,7 +120,8 @@ module _ {S Q C P W : Type 0} (remaining : S → Option (List ℕ)) (rules : Rea
     (out : List ℕ)
     (answer : Result ℕ (BodyError W)) (r' : Buffered S Q) (q : Progress P) (k' : ℕ)
     (hands : HandsOn remaining rules g k r p out answer r' q k') (known : IsKnown g q.place k' r'.block.bytes)
-    (left : 0 < k → IfOk answer (λ n. (n ≡ min k (length out)) × (k' ≡ k - n))) where
+    (left : 0 < k → IfOk answer (λ n. (n ≡ min k (length out)) × (k' ≡ k - n)))
+    (consumed : 0 < k → IfOk answer (λ n. 0 < n → ReaderConsumes rules n r r')) where
   abbrev after : BodyState S Q C P
   after = seen r' c q (after_payload calls out answer) k'
 
@@ -156,11 +158,27 @@ module _ {S Q C P W : Type 0} (remaining : S → Option (List ℕ)) (rules : Rea
   full_handed (Ok n) ends = ends.1.2
   full_handed (Err e) ends = tt
 
-  idle : (TookWholeBody g (seen r c p calls k) ⊎ (length out ≡ 0)) → r' ≡ r
-  idle (inl whole) = (hands.0.idle (Leads-done g lawful p.taken.log.fills.consumed calls.reads.given p.place
-      (heeded g r.block.bytes)
-      is.leads is.place whole)).0
-  idle (inr none) = (hands.1 none).1
+  -- in a place where a body ended none is known
+  known_there : (j : ℕ) (x : P) (bytes : List ℕ) → IsKnown g x j bytes → IsDone g x → j ≡ 0
+  known_there zero x bytes known' done = refl
+  known_there (suc j) x bytes known' done = absurd ((known'.1 (omega arith)).goes_on done)
+
+  nothing_done : (r' ≡ r) × (q ≡ p) × (k' ≡ k) → after ≡ record (seen r c p calls k) { calls = after_payload calls out answer }
+  nothing_done (reader, place, few) = cc
+
+  idle : (TookWholeBody g (seen r c p calls k) ⊎ (length out ≡ 0))
+      → after ≡ record (seen r c p calls k) { calls = after_payload calls out answer }
+  idle (inl whole) =
+      let done = Leads-done g lawful p.taken.log.fills.consumed calls.reads.given p.place (heeded g r.block.bytes) is.leads
+      is.place whole in
+      let at = hands.0.idle done in
+      nothing_done (
+        at.0,
+        at.1,
+        known_there k' q.place r'.block.bytes known (subst (λ x. IsDone g x.place) (sym at.1) done)
+            ∙ sym (known_there k p.place r.block.bytes is.known done),
+      )
+  idle (inr none) = let at = hands.1 none in nothing_done (at.1, at.2, at.3)
 
   pub payload_read : ReadsPayload remaining rules g (seen r c p calls k) out answer after
   unfolding state_went
@@ -173,6 +191,7 @@ module _ {S Q C P W : Type 0} (remaining : S → Option (List ℕ)) (rules : Rea
     full = full_handed answer hands.0.ends;
     left = left;
     knows = knows_told answer hands.0.ends;
+    consumed = consumed;
     idle = idle;
     empty = λ none. (hands.1 none).0;
     noted = noted_after calls out answer;
@@ -187,16 +206,17 @@ module _ {S Q C P W : Type 0} (remaining : S → Option (List ℕ)) (rules : Rea
     (answer : Result ℕ (BodyError W)) (r' : Buffered S Q) (q : Progress P) (k' : ℕ)
     (hands : HandsOn remaining rules (grammar c) k r p out answer r' q k')
     (known : IsKnown (grammar c) q.place k' r'.block.bytes)
-    (left : 0 < k → IfOk answer (λ n. (n ≡ min k (length out)) × (k' ≡ k - n))) (calls' : StreamLog)
+    (left : 0 < k → IfOk answer (λ n. (n ≡ min k (length out)) × (k' ≡ k - n)))
+    (consumed : 0 < k → IfOk answer (λ n. 0 < n → ReaderConsumes rules n r r')) (calls' : StreamLog)
     (noted : calls' ≡ after_payload calls out answer) where
   pub reads_payload : ReadsPayload remaining rules (grammar d.coding) d out answer (seen r' c q calls' k')
   reads_payload = subst (λ x. ReadsPayload remaining rules (grammar x.coding) x out answer (seen r' c q calls' k')) view
       (subst (λ l. ReadsPayload remaining rules (grammar c) (seen r c p calls k) out answer (seen r' c q l k')) (sym noted)
-      (payload_read remaining rules (grammar c) (lawful c) r c p calls k is out answer r' q k' hands known left))
+      (payload_read remaining rules (grammar c) (lawful c) r c p calls k is out answer r' q k' hands known left consumed))
 
   pub still_reader : IsBodyReader (grammar c) (seen r' c q calls' k')
   still_reader = subst (λ l. IsBodyReader (grammar c) (seen r' c q l k')) (sym noted)
-      (payload_read remaining rules (grammar c) (lawful c) r c p calls k is out answer r' q k' hands known left).whole
+      (payload_read remaining rules (grammar c) (lawful c) r c p calls k is out answer r' q k' hands known left consumed).whole
 
 -- a fill
 module _ {S Q C P W : Type 0} (remaining : S → Option (List ℕ)) (rules : ReadRules Q) (g : Grammar P W) (lawful : IsLawful g)

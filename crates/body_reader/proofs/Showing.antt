@@ -12,8 +12,8 @@ use Rattle.body_reader.specs.Between.{AllShown, FindsKnown, HandsShown, KnowsAll
 use Rattle.body_reader.specs.BetweenLaws.{TakesBytes-joins, TakesBytes-none}
 use Rattle.body_reader.specs.BodyReader.{BodyState, Breaks, EndsEarly, HandsBuffered, IsBodyReader, NotedIfSome, TookWholeBody}
 use Rattle.body_reader.specs.BodyReaderLaws.{NotedIfSome-given}
-use Rattle.body_reader.specs.Coding.{Grammar, IsKnown, IsLawful, Looks, heeded}
-use Rattle.body_reader.specs.CodingLaws.{IsOpenBelow-open, Leads-whole, open_at}
+use Rattle.body_reader.specs.Coding.{Grammar, IsDone, IsKnown, IsLawful, Looks, heeded}
+use Rattle.body_reader.specs.CodingLaws.{IsOpenBelow-open, Leads-done, Leads-whole, open_at}
 use Rattle.body_reader.proofs.Filling.{Carries-fewer, all_shown}
 use Rattle.body_reader.proofs.Handing.{knows_behind, knows_rest}
 use Rattle.body_reader.proofs.Payload.{breaks_so, early, seen, state_is, state_went}
@@ -36,6 +36,7 @@ module _ {S Q P W : Type 0} (remaining : S → Option (List ℕ)) (rules : ReadR
     told = refl;
     known = known;
     kept = λ _. refl;
+    idle = λ _. (refl, refl, refl);
     all = λ unknown. absurd (omega (arith, unknown, some));
     none = λ none. absurd (omega (arith, none, some));
   }
@@ -43,13 +44,17 @@ module _ {S Q P W : Type 0} (remaining : S → Option (List ℕ)) (rules : ReadR
   module _ (lawful : IsLawful g) (s : Buffered S Q) (p : Progress P) (before : ℕ) (unknown : before ≡ 0) (l : Look P W)
       (t : Buffered S Q) (q : Progress P) (passes : PassesOn remaining rules g s p l t q) where
     found : (k : ℕ) → IsKnown g q.place k t.block.bytes → (0 < k → AllShown g q.place k t.block.bytes)
-        → (k ≡ 0 → NoneShown remaining rules g q.place t.block.bytes) → FindsKnown remaining rules g s p before t q k
-    found k known all none = record {
+        → (k ≡ 0 → NoneShown remaining rules g q.place t.block.bytes) → (IsDone g q.place → k ≡ 0)
+        → FindsKnown remaining rules g s p before t q k
+    found k known all none ended = record {
       wire = passes.wire;
       takes = passes.takes;
       told = passes.told;
       known = known;
       kept = λ some. absurd (omega (arith, some, unknown));
+      idle = λ done.
+          let at = passes.idle done in
+          (at.0, at.1, omega (arith, unknown, ended (subst (λ x. IsDone g x.place) (sym at.1) done)));
       all = λ _. all;
       none = none;
     }
@@ -65,7 +70,7 @@ module _ {S Q P W : Type 0} (remaining : S → Option (List ℕ)) (rules : ReadR
           (λ some. Carries-fewer g q.place sure k t.block.bytes carries some (omega (arith, count))),
         ) (λ _. all_shown remaining rules g q.place t.block.bytes sure k looks count)
         (λ none. inr (inl (open_at g lawful q.place passes.takes.place carries.goes_on t.block.bytes
-        (omega (arith, none, count, carries.some)))))
+        (omega (arith, none, count, carries.some))))) (λ done. absurd (carries.goes_on done))
 
     -- or none does
     none_so : (m : Look P W) → Looks g q.place t.block.bytes m → ((n : ℕ) (r : P) → m ≢ look.Passed n r)
@@ -79,7 +84,7 @@ module _ {S Q P W : Type 0} (remaining : S → Option (List ℕ)) (rules : ReadR
     pub none_found : ((n : ℕ) → l ≢ look.Payload n) → (k : ℕ) → k ≡ 0
         → FindsKnown remaining rules g s p before t q k
     none_found never k none = found k (omega (arith, none), λ some. absurd (omega (arith, some, none)))
-        (λ some. absurd (omega (arith, some, none))) (λ _. none_so l passes.looks passes.no_more never)
+        (λ some. absurd (omega (arith, some, none))) (λ _. none_so l passes.looks passes.no_more never) (λ _. none)
 
   -- so much was handed out so far
   pub record Shown (s : Buffered S Q) (p : Progress P) (before : ℕ) (out : List ℕ) (handed : ℕ) (m : Buffered S Q)
@@ -93,7 +98,7 @@ module _ {S Q P W : Type 0} (remaining : S → Option (List ℕ)) (rules : ReadR
     pub knows : before < handed
         → KnowsBehind g p.place p.taken.log.fills.consumed q.taken.log.fills.consumed (take handed out) k m.block.bytes
     pub first : handed < length out → 0 < k → handed ≡ 0
-    pub idle : length out ≡ 0 → (m ≡ s) × (q ≡ p)
+    pub idle : (IsDone g p.place ⊎ (length out ≡ 0)) → (handed ≡ 0) × (m ≡ s) × (q ≡ p) × (k ≡ before)
 
   pub shown_none : (s : Buffered S Q) (p : Progress P) (out : List ℕ) (k : ℕ) → g.is_place p.place
       → IsKnown g p.place k s.block.bytes → Shown s p k out 0 s p k
@@ -106,7 +111,7 @@ module _ {S Q P W : Type 0} (remaining : S → Option (List ℕ)) (rules : ReadR
     left = λ _. omega arith;
     knows = λ more. absurd (omega (arith, more));
     first = λ _ _. refl;
-    idle = λ _. (refl, refl);
+    idle = λ _. (refl, refl, refl, refl);
   }
 
   module _ (s : Buffered S Q) (p : Progress P) (before : ℕ) (out : List ℕ) (handed : ℕ) (m : Buffered S Q) (q : Progress P)
@@ -131,7 +136,13 @@ module _ {S Q P W : Type 0} (remaining : S → Option (List ℕ)) (rules : ReadR
         known = finds.known;
         left = λ few. omega (arith, so.left few, none_before k finds.kept none, none);
         knows = λ _ full. absurd (omega (arith, room, full));
-        idle = λ empty. absurd (omega (arith, room, empty));
+        idle = λ either. elim either [
+          | inl done ↦
+              let first = so.idle (inl done) in
+              let then = finds.idle (subst (λ x. IsDone g x.place) (sym first.2) done) in
+              (first.0, then.0 ∙ first.1, then.1 ∙ first.2, then.2 ∙ first.3)
+          | inr empty ↦ absurd (omega (arith, room, empty))
+        ];
         all = inr (finds.none none);
       }
 
@@ -148,6 +159,13 @@ module _ {S Q P W : Type 0} (remaining : S → Option (List ℕ)) (rules : ReadR
       unknown n (suc j) few beyond left first kept =
           let none = first (omega arith) in
           absurd (omega (arith, few, beyond, none, left (omega (arith, none)), kept (omega arith)))
+
+      -- where the body ended none is found
+      goes_on : 0 < k' → ¬ IsDone g p.place
+      goes_on some done =
+          let first = so.idle (inl done) in
+          let here = subst (λ x. IsDone g x.place) (sym first.2) done in
+          (finds.known.1 some).goes_on (subst (λ x. IsDone g x.place) (sym (finds.idle here).1) here)
 
       more : (n : ℕ) (rest : List ℕ) (t : Buffered S Q) (u : Progress P) (k'' : ℕ) → 0 < n → n ≡ min k' (length rest)
           → take n rest ≡ take n f.block.bytes → TakesFront remaining rules g n f r k' t u k''
@@ -191,7 +209,10 @@ module _ {S Q P W : Type 0} (remaining : S → Option (List ℕ)) (rules : ReadR
               long,
               length-append (take handed out) rest,
             ));
-            idle = λ empty. absurd (omega (arith, some, count, empty, length-append (take handed out) rest));
+            idle = λ either. elim either [
+              | inl done ↦ absurd (goes_on (omega (arith, some, count)) done)
+              | inr empty ↦ absurd (omega (arith, some, count, empty, length-append (take handed out) rest))
+            ];
           }
 
       pub shown_more : (n : ℕ) (rest : List ℕ) (t : Buffered S Q) (u : Progress P) (k'' : ℕ) → 0 < n → n ≡ min k' (length rest)
@@ -222,6 +243,15 @@ module _ {S Q C P W : Type 0} (remaining : S → Option (List ℕ)) (rules : Rea
   none_left (inr (inr (why, wrong))) =
       inr (inr (why, breaks_so remaining rules g r c p calls k r' q calls' k' lawful shown_is why wrong))
 
+  -- where the body ended, or into an empty slice, nothing is done
+  same : (handed ≡ 0) × (r' ≡ r) × (q ≡ p) × (k' ≡ k) → seen r' c q calls' k' ≡ seen r c p calls k
+  same (none, reader, place, known) = let calls = noted.1 none in cc
+
+  idle : (TookWholeBody g (seen r c p calls k) ⊎ (length out ≡ 0)) → seen r' c q calls' k' ≡ seen r c p calls k
+  idle (inl whole) = same (hands.idle (inl (Leads-done g lawful p.taken.log.fills.consumed calls.reads.given p.place
+      (heeded g r.block.bytes) is.leads is.place whole)))
+  idle (inr none) = same (hands.idle (inr none))
+
   pub shown_reads : HandsBuffered remaining rules g (seen r c p calls k) out handed (seen r' c q calls' k')
   shown_reads = record {
     went = state_went remaining rules g r c p calls k r' q calls' k' hands.wire (take handed out) hands.takes given;
@@ -230,7 +260,7 @@ module _ {S Q C P W : Type 0} (remaining : S → Option (List ℕ)) (rules : Rea
     all = elim hands.all [ inl all ↦ inl all | inr none ↦ inr (none_left none) ];
     left = hands.left;
     knows = hands.knows;
-    empty = λ none. ((hands.idle none).0, ap (λ x. x.place) (hands.idle none).1);
+    idle = idle;
     noted = noted;
     whole = shown_is;
   }

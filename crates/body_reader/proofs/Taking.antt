@@ -1,5 +1,5 @@
 -- Pieces of payload are taken, one after another.
-use Rattle.std.proofs.Common.{◌≡◌, ℕ, zero, suc, ◌-◌, ◌<◌, List, [], ◌++◌, min, take, Option, Result, Ok, subst, sym, ◌∙◌, arith, inl, inr, refl, append-nil}
+use Rattle.std.proofs.Common.{◌≡◌, ℕ, zero, suc, ◌<◌, List, [], ◌++◌, min, take, Option, Result, Ok, subst, sym, ◌∙◌, arith, inl, inr, refl, append-nil}
 use Rattle.buffer_redux.specs.BufReader.{ReaderConsumes}
 use Rattle.buffer_redux.specs.Policy.{ReadRules}
 use Rattle.buffer_redux.specs.StreamLog.{after_read}
@@ -10,7 +10,7 @@ use Rattle.body_reader.specs.Asking.{AskedWhere}
 use Rattle.body_reader.specs.AskingLaws.{AskedWhere-on, AskedWhere-same}
 use Rattle.body_reader.specs.Between.{EachGave}
 use Rattle.body_reader.specs.BetweenLaws.{EachGave-joins, EachGave-none, EachGave-same, FaultedOnce-after, GaveNothingOnce-after}
-use Rattle.body_reader.specs.BodyReader.{BodyState, BodyWent, FillsPayload, InPieces, IsBodyReader, NoPayload, TakesManyPieces, TookWholeBody, handed_of}
+use Rattle.body_reader.specs.BodyReader.{BodyState, BodyWent, ConsumesPayload, FillsPayload, InPieces, IsBodyReader, NoPayload, TakesManyPieces, TookWholeBody, handed_of}
 use Rattle.body_reader.specs.BodyReaderLaws.{BodyWent-joins, BodyWent-leads, BodyWent-none}
 use Rattle.body_reader.specs.Coding.{Grammar, IsLawful, LeadsOpen, heeded}
 use Rattle.body_reader.specs.CodingLaws.{Leads-done, LeadsOpen-behind}
@@ -18,16 +18,6 @@ use Rattle.body_reader.specs.CodingLaws.{Leads-done, LeadsOpen-behind}
 -- these bytes lead on from where a reader stands, with some payload in them, and what follows of them settles nothing
 abbrev pub Unsettled : {S Q C P W : Type 0} → Grammar P W → BodyState S Q C P → List ℕ → Type 0
 Unsettled g s bytes = (taken : List ℕ) × LeadsOpen g s.place taken bytes
-
--- payload was consumed: so much of what is known, or all
-pub record Consumed {S Q C P W : Type 0} (remaining : S → Option (List ℕ)) (rules : ReadRules Q) (grammar : C → Grammar P W)
-    (n : ℕ) (f t : BodyState S Q C P) : Type 0 where
-  pub went : BodyWent remaining rules (grammar f.coding) f (take (min n f.known) f.reader.block.bytes) t
-  pub consumed : 0 < min n f.known → ReaderConsumes rules (min n f.known) f.reader t.reader
-  pub noted : 0 < min n f.known
-      → t.calls ≡ after_read f.calls (take (min n f.known) f.reader.block.bytes) (Ok (min n f.known))
-  pub left : t.known ≡ f.known - n
-  pub whole : IsBodyReader (grammar t.coding) t
 
 -- so much was taken so far, with this payload in it
 pub record Taken {S Q C P W : Type 0} (remaining : S → Option (List ℕ)) (rules : ReadRules Q) (g : Grammar P W)
@@ -103,8 +93,8 @@ module _ {S Q C P W : Type 0} {remaining : S → Option (List ℕ)} {rules : Rea
     filled_gave = EachGave-joins s.reader m.reader f.reader so.gave fills'.answers.1
 
     -- one piece more
-    pub taken_more : 0 < n → IsLawful g → (t : BodyState S Q C P) → Consumed remaining rules grammar n f t
-        → Taken remaining rules g s (payload ++ take f.known f.reader.block.bytes) t
+    pub taken_more : 0 < n → IsLawful g → (t : BodyState S Q C P)
+        → ConsumesPayload remaining rules (grammar f.coding) n f t → Taken remaining rules g s (payload ++ take f.known f.reader.block.bytes) t
     taken_more some lawful t takes =
         let bytes = f.reader.block.bytes in
         let piece = take f.known bytes in
@@ -130,7 +120,7 @@ module _ {S Q C P W : Type 0} {remaining : S → Option (List ℕ)} {rules : Rea
               fills = fills_here fills';
               went = goes;
               consumed = consumed;
-              noted = subst (λ k. t.calls ≡ after_read f.calls (take k bytes) (Ok k)) all (takes.noted more);
+              noted = subst (λ k. t.calls ≡ after_read f.calls (take k bytes) (Ok k)) all (takes.noted.0 more);
               none_left = omega (arith, takes.left, fills'.answers.0);
             },
           );
@@ -139,5 +129,5 @@ module _ {S Q C P W : Type 0} {remaining : S → Option (List ℕ)} {rules : Rea
           ended = λ whole. absurd (not_whole remaining rules g lawful f (fills_here fills').whole
               (omega (arith, some, fills'.answers.0)) (subst (TookWholeBody g) (sym (filled_ended fills' whole)) whole));
           first = so.first;
-          whole = subst (λ c. IsBodyReader (grammar c) t) (takes.went.coding ∙ here) takes.whole;
+          whole = subst (λ c. IsBodyReader (grammar c) t) here takes.whole;
         }

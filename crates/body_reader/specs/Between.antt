@@ -170,6 +170,7 @@ module _ {S Q P W : Type 0} (remaining : S → Option (List ℕ)) (rules : ReadR
     pub told : t.log ≡ s.log
     pub known : IsKnown g q.place after t.block.bytes
     pub kept : 0 < before → after ≡ before
+    pub idle : IsDone g p.place → (t ≡ s) × (q ≡ p) × (after ≡ before)
     pub all : before ≡ 0 → 0 < after → AllShown g q.place after t.block.bytes
     pub none : after ≡ 0 → NoneShown q.place t.block.bytes
 
@@ -184,7 +185,7 @@ module _ {S Q P W : Type 0} (remaining : S → Option (List ℕ)) (rules : ReadR
     pub left : handed ≤ before → after ≡ before - handed
     pub knows : before < handed → handed ≡ length out
         → KnowsBehind g p.place p.taken.log.fills.consumed q.taken.log.fills.consumed (take handed out) after t.block.bytes
-    pub idle : length out ≡ 0 → (t ≡ s) × (q ≡ p)
+    pub idle : (IsDone g p.place ⊎ (length out ≡ 0)) → (handed ≡ 0) × (t ≡ s) × (q ≡ p) × (after ≡ before)
     pub all : (handed ≡ length out) ⊎ NoneShown q.place t.block.bytes
 
   -- handing payload out into a slice, which is left so: no less than can be, and what a look told stays known. None comes into
@@ -195,7 +196,7 @@ module _ {S Q P W : Type 0} (remaining : S → Option (List ℕ)) (rules : ReadR
       × ((n ≡ length out) ⊎ (after ≡ 0))
       × (before ≡ 0 → 0 < n → KnowsAll g p.place p.taken.log.fills.consumed q.taken.log.fills.consumed [] (take n out) after
       t.block.bytes)) t q
-      × (length out ≡ 0 → (answer ≡ Ok 0) × (t ≡ s))
+      × (length out ≡ 0 → (answer ≡ Ok 0) × (t ≡ s) × (q ≡ p) × (after ≡ before))
 
 -- an error as one of std's streams
 abbrev pub BecomesIo : {W : Type 0} → BodyError W → Error → Type 0

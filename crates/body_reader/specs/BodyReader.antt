@@ -101,7 +101,8 @@ module _ {S Q C P W : Type 0} (remaining : S → Option (List ℕ)) (rules : Rea
     pub left : 0 < s.known → IfOk answer (λ n. (n ≡ min s.known (length out)) × (t.known ≡ s.known - n))
     pub knows : s.known ≡ 0 → IfOk answer
         (λ n. 0 < n → KnowsAll g s.place s.taken t.taken [] (take n out) t.known t.reader.block.bytes)
-    pub idle : (TookWholeBody g s ⊎ (length out ≡ 0)) → t.reader ≡ s.reader
+    pub consumed : 0 < s.known → IfOk answer (λ n. 0 < n → ReaderConsumes rules n s.reader t.reader)
+    pub idle : (TookWholeBody g s ⊎ (length out ≡ 0)) → t ≡ record s { calls = t.calls }
     pub empty : length out ≡ 0 → answer ≡ Ok 0
     pub noted : MatchResult answer (λ n. t.calls ≡ after_read s.calls out (Ok n)) (λ _. t.calls ≡ s.calls)
     pub whole : IsBodyReader g t
@@ -117,6 +118,17 @@ module _ {S Q C P W : Type 0} (remaining : S → Option (List ℕ)) (rules : Rea
     pub asked : AsksOpen remaining rules g s.reader s.place t.reader
     pub still : (0 < s.known ⊎ TookWholeBody g s) → t ≡ s
     pub noted : t.calls ≡ s.calls
+    pub whole : IsBodyReader g t
+
+  -- so many bytes of payload were taken, or all that are known: the policy is told of them once, and they are noted as a read.
+  -- Where there are none nothing is done
+  pub record ConsumesPayload (count : ℕ) (s t : BodyState S Q C P) : Type 0 where
+    pub went : BodyWent s (take (min count s.known) s.reader.block.bytes) t
+    pub consumed : 0 < min count s.known → ReaderConsumes rules (min count s.known) s.reader t.reader
+    pub left : t.known ≡ s.known - count
+    pub idle : min count s.known ≡ 0 → t ≡ s
+    pub told : t.reader.log ≡ s.reader.log
+    pub noted : NotedIfSome s.calls (take (min count s.known) s.reader.block.bytes) (min count s.known) t.calls
     pub whole : IsBodyReader g t
 
   -- a piece of payload was taken: all that a fill showed, and it is noted as one read
@@ -182,8 +194,8 @@ module _ {S Q C P W : Type 0} (remaining : S → Option (List ℕ)) (rules : Rea
 
   -- what `read_buffered` does, which left the slice as out: payload that is buffered is handed out, as much as the slice takes.
   -- Less comes only where the body ended, or what is buffered settles nothing, or is wrong. The stream isn't asked. Of what was
-  -- known just what wasn't handed out stays known, or, where more was handed out, of what the last look told. Into an empty slice
-  -- nothing is done, and where nothing is handed out no read is noted
+  -- known just what wasn't handed out stays known, or, where more was handed out, of what the last look told. Once the body
+  -- ended, or into an empty slice, nothing is done, and where nothing is handed out no read is noted
   pub record HandsBuffered (s : BodyState S Q C P) (out : List ℕ) (handed : ℕ) (t : BodyState S Q C P) : Type 0 where
     pub went : BodyWent s (take handed out) t
     pub told : t.reader.log ≡ s.reader.log
@@ -192,7 +204,7 @@ module _ {S Q C P W : Type 0} (remaining : S → Option (List ℕ)) (rules : Rea
     pub left : handed ≤ s.known → t.known ≡ s.known - handed
     pub knows : s.known < handed → handed ≡ length out
         → KnowsBehind g s.place s.taken t.taken (take handed out) t.known t.reader.block.bytes
-    pub empty : length out ≡ 0 → (t.reader ≡ s.reader) × (t.place ≡ s.place)
+    pub idle : (TookWholeBody g s ⊎ (length out ≡ 0)) → t ≡ s
     pub noted : NotedIfSome s.calls out handed t.calls
     pub whole : IsBodyReader g t
 

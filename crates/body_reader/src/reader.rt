@@ -4,12 +4,11 @@ ghost use Rattle.std.specs.Borrow.{Lends, sem};
 ghost use Rattle.body_reader.specs.contracts.reader.BodyReader.{the_row};
 ghost use Rattle.buffer_redux.specs.Block.{Reserves, capacity_for};
 ghost use Rattle.buffer_redux.specs.Buffered.{over_buffer, with_inner};
-ghost use Rattle.buffer_redux.specs.BufReader.{ReaderConsumes, ReadsInOrder};
+ghost use Rattle.buffer_redux.specs.BufReader.{ReadsInOrder};
 ghost use Rattle.buffer_redux.specs.GrowError.{FitsWithin};
 ghost use Rattle.buffer_redux.specs.MakeError.{growth};
-ghost use Rattle.buffer_redux.specs.StreamLog.{after_read};
 ghost use Rattle.body_reader.specs.Coding.{IsBody};
-ghost use Rattle.body_reader.specs.BodyReader.{BodyState, BodyWent, Collects, Drains, FillsPayload, HandsBuffered, IsBodyReader, LooksBehind, NotedIfSome, ReadsPayload, begun, taken_count};
+ghost use Rattle.body_reader.specs.BodyReader.{BodyState, Collects, ConsumesPayload, Drains, FillsPayload, HandsBuffered, IsBodyReader, LooksBehind, NotedIfSome, ReadsPayload, begun, taken_count};
 
 mod streams;
 
@@ -235,16 +234,8 @@ impl<R: TellRead, C: Coding, P: ReaderPolicy> BodyReader<R, C, P> {
     /// Proceeds on behind the first `count` bytes that [`piece`](BodyReader::piece) lends, or behind all.
     pub fn consume_payload(&mut self, count: usize)
         ensures taken { self.new.taken ≡ self.old.taken ++ take (min count self.old.known) self.old.reader.block.bytes }
-        ensures noted { 0 < min count self.old.known → self.new.calls ≡ after_read self.old.calls
-            (take (min count self.old.known) self.old.reader.block.bytes) (Ok (min count self.old.known)) }
-        ensures idle { min count self.old.known ≡ 0 → self.new ≡ self.old }
         ensures left { self.new.known ≡ self.old.known - count }
-        ensures consumed { 0 < min count self.old.known
-            → ReaderConsumes P.rules (min count self.old.known) self.old.reader self.new.reader }
-        ensures told { self.new.reader.log ≡ self.old.reader.log }
-        ensures went { BodyWent R.remaining P.rules (C.grammar self.old.coding) self.old
-            (take (min count self.old.known) self.old.reader.block.bytes) self.new }
-        ensures whole { IsBodyReader (C.grammar self.new.coding) self.new }
+        ensures consumes { ConsumesPayload R.remaining P.rules (C.grammar self.old.coding) count self.old self.new }
     {
         let count = count.min(self.known);
         if count == 0 {

@@ -1,6 +1,7 @@
 //! The steps of a reader of a body, over the buffered reader.
 ghost use Rattle.std.specs.Prelude.{[], ◌≡◌, ℕ, ◌-◌, ◌<◌, ◌≤◌, length, min, take, drop, IfOk};
 ghost use Rattle.buffer_redux.specs.Buffered.{GoesPast};
+ghost use Rattle.buffer_redux.specs.BufReader.{ReaderConsumes};
 ghost use Rattle.body_reader.specs.Coding.{Carries, IsKnown, Looks};
 ghost use Rattle.body_reader.specs.Between.{BeginsRead, FindsKnown, HandsOn, HandsShown, PassesOn, ShowsOn, SkipsOn, TakesFront};
 
@@ -259,6 +260,7 @@ pub(crate) fn read_on<R: TellRead, P: ReaderPolicy, C: Coding>(
         reader.new progress.new known.new }
     ensures known { IsKnown (C.grammar coding.now) progress.new.place known.new reader.new.block.bytes }
     ensures left { 0 < known.old → IfOk result (λ n. (n ≡ min known.old (length out.new)) × (known.new ≡ known.old - n)) }
+    ensures consumed { 0 < known.old → IfOk result (λ n. 0 < n → ReaderConsumes P.rules n reader.old reader.new) }
 {
     if out.is_empty() {
         return Ok(0);

@@ -1,7 +1,6 @@
 //! The reader of parts.
-ghost use Rattle.std.specs.Prelude.{[], ◌≡◌, ◌≢◌, ◌<◌, ◌≤◌, ◌+◌, ◌-◌, ◌⊎◌, ◌∷◌, ◌++◌, length, min, take, vec_items, Ok, IfErr, IfOk, IfSome, MatchBool};
-ghost use Rattle.buffer_redux.specs.StreamLog.{after_read};
-ghost use Rattle.body_reader.specs.BodyReader.{BodyWent, FillsPayload, IsBodyReader, ReadsPayload, TookWholeBody};
+ghost use Rattle.std.specs.Prelude.{[], ◌≡◌, ◌≢◌, ◌<◌, ◌≤◌, ◌+◌, ◌⊎◌, ◌∷◌, ◌++◌, length, min, take, vec_items, Ok, IfErr, IfOk, IfSome, MatchBool};
+ghost use Rattle.body_reader.specs.BodyReader.{ConsumesPayload, FillsPayload, IsBodyReader, ReadsPayload, TookWholeBody};
 ghost use Rattle.multipart.specs.Multipart.{AreCodings, CollectsHead, EndsHead, GoesOnFromHead, IsBegun, IsForm, LeavesText, NextPart, NoReaderMade, codes};
 
 use crate::error::{NewError, PartError};
@@ -233,16 +232,10 @@ impl<R: TellRead, P: ReaderPolicy> Multipart<R, P> {
     pub fn consume(&mut self, count: usize)
         ensures taken { self.old.stand ≡ Stand.Part → self.new.body.taken
             ≡ self.old.body.taken ++ take (min count self.old.body.known) self.old.body.reader.block.bytes }
-        ensures noted { self.old.stand ≡ Stand.Part → 0 < min count self.old.body.known
-            → self.new.body.calls ≡ after_read self.old.body.calls
-            (take (min count self.old.body.known) self.old.body.reader.block.bytes) (Ok (min count self.old.body.known)) }
-        ensures idle { min count self.old.body.known ≡ 0 → self.new ≡ self.old }
-        ensures left { self.old.stand ≡ Stand.Part → self.new.body.known ≡ self.old.body.known - count }
-        ensures told { self.new.body.reader.log ≡ self.old.body.reader.log }
         ensures none { self.old.stand ≢ Stand.Part → self.new ≡ self.old }
         ensures within { self.new ≡ record self.old { body = self.new.body } }
-        ensures went { self.old.stand ≡ Stand.Part → BodyWent R.remaining P.rules (codes self.old.body.coding) self.old.body
-            (take (min count self.old.body.known) self.old.body.reader.block.bytes) self.new.body }
+        ensures consumes { self.old.stand ≡ Stand.Part → ConsumesPayload R.remaining P.rules (codes self.old.body.coding) count
+            self.old.body self.new.body }
     {
         if matches!(self.stand, Stand::Part) {
             self.body.consume_payload(count);

@@ -1,13 +1,12 @@
 //! The reader of a body, as a stream of std's.
-ghost use Rattle.std.specs.Prelude.{None, Some, [], ◌≡◌, ℕ, List, ◌-◌, ◌<◌, ◌++◌, length, min, take, IfOk, IfSome, Ok};
+ghost use Rattle.std.specs.Prelude.{None, Some, [], ◌≡◌, ℕ, List, ◌-◌, ◌++◌, length, min, take, IfOk, IfSome};
 ghost use Rattle.std.specs.Borrow.{sem};
 ghost use Rattle.std.specs.Io.{ReadsAtMost, StartsWith};
 ghost use Rattle.std.specs.Io.BufRead.{Rests};
 ghost use Rattle.std.specs.Io.KnownBytes.{ReadConsumes};
 ghost use Rattle.body_reader.specs.contracts.reader.BodyReader.{the_row};
-ghost use Rattle.buffer_redux.specs.BufReader.{ReaderConsumes};
 ghost use Rattle.buffer_redux.specs.StreamLog.{StreamLog, after_read};
-ghost use Rattle.body_reader.specs.BodyReader.{BodyWent, FillsAsIo, IsBodyReader, ReadsAsIo};
+ghost use Rattle.body_reader.specs.BodyReader.{ConsumesPayload, FillsAsIo, IsBodyReader, ReadsAsIo};
 
 use crate::coding::Coding;
 use crate::reader::BodyReader;
@@ -75,16 +74,8 @@ where
 
     fn consume(&mut self, amount: usize)
         ensures taken { self.new.taken ≡ self.old.taken ++ take (min amount self.old.known) self.old.reader.block.bytes }
-        ensures noted { 0 < min amount self.old.known → self.new.calls ≡ after_read self.old.calls
-            (take (min amount self.old.known) self.old.reader.block.bytes) (Ok (min amount self.old.known)) }
-        ensures idle { min amount self.old.known ≡ 0 → self.new ≡ self.old }
-        ensures went { BodyWent R.remaining P.rules (C.grammar self.old.coding) self.old
-            (take (min amount self.old.known) self.old.reader.block.bytes) self.new }
         ensures left { self.new.known ≡ self.old.known - amount }
-        ensures consumed { 0 < min amount self.old.known
-            → ReaderConsumes P.rules (min amount self.old.known) self.old.reader self.new.reader }
-        ensures told { self.new.reader.log ≡ self.old.reader.log }
-        ensures whole { IsBodyReader (C.grammar self.new.coding) self.new }
+        ensures consumes { ConsumesPayload R.remaining P.rules (C.grammar self.old.coding) amount self.old self.new }
     {
         self.consume_payload(amount)
     }

@@ -59,21 +59,13 @@ loop-came-preserved g c =
     let s = c.args.self.now in
     let t = c.consume_payload.new.self in
     let fills = c.in_ok-came.ensures.fills in
-    let consumes = c.consume_payload.ensures in
     let same = added c.extend_from_slice.result (vec_items c.loop-came.out) c.piece.result.now
     (vec_items c.extend_from_slice.new.self) c.extend_from_slice.ensures.items
     (sym c.is_err.ensures.value ∙ c.if-is_err.false) in
     let piece = ap (λ l. vec_items c.loop-came.out ++ l) c.piece.ensures in
     subst (Collected remaining rules' (grammar s.coding) c.args.most s (vec_items c.args.out.now) t) (sym (same ∙ piece))
     (collected_more grammar c.loop-came.invariant fills (omega (arith, c.if-came-eq0.false)) (g.met.C.Coding.lawful s.coding) t
-    (record {
-      went = consumes.went;
-      consumed = consumes.consumed;
-      noted = consumes.noted;
-      left = consumes.left;
-      whole = consumes.whole;
-    })
-    (omega (
+    c.consume_payload.ensures.consumes (omega (
       arith,
       fills.answers.0,
       c.if-came-eq0.false,

@@ -19,15 +19,8 @@ returns-then-count-eq0 g c =
 
 pub loop-piece-preserved : goal.loop-piece-preserved
 loop-piece-preserved g c =
-    let consumes = c.consume_payload.ensures in
     dropped_more g.C.Coding.grammar c.loop-piece.invariant c.in_ok-count.ensures.fills (omega (arith, c.if-count-eq0.false))
-    (g.met.C.Coding.lawful c.args.self.now.coding) c.consume_payload.new.self (record {
-      went = consumes.went;
-      consumed = consumes.consumed;
-      noted = consumes.noted;
-      left = consumes.left;
-      whole = consumes.whole;
-    })
+    (g.met.C.Coding.lawful c.args.self.now.coding) c.consume_payload.new.self c.consume_payload.ensures.consumes
 
 pub returns-clause-drains : goal.returns-clause-drains
 returns-clause-drains g c =
