@@ -8,6 +8,7 @@ use Rattle.buffer_redux.specs.Buffered.{Buffered}
 use Rattle.buffer_redux.specs.BufReader.{ReadsInOrder, ReadsIntoBuf}
 use Rattle.buffer_redux.specs.Peek.{ReadsAhead}
 use Rattle.buffer_redux.specs.Policy.{ReadRules}
+use Rattle.buffer_redux.specs.Potential.{of_plain}
 use Rattle.buffer_redux.specs.Sparing.{Spared}
 use Rattle.buffer_redux.specs.StreamLog.{zero_of_none, zero_of_some}
 use Rattle.body_reader.specs.declared.coding.Look.TheVariants.{Payload}
@@ -168,6 +169,10 @@ module _ {S Q P W : Type 0} (remaining : S → Option (List ℕ)) (rules : ReadR
             kind = once.added.kind;
             room = λ _. (once.added.capacity, once.added.limit);
             still = λ _ same. absurd (omega (arith, same, ap (λ l. l.reads.asks) once.told));
+            unmoved = λ _ _ plain. omega (
+              arith,
+              of_plain s.block.kind (t.block.moved ≡ s.block.moved) (s.block.moved ≤ t.block.moved) plain once.added.moved,
+            );
             spared = λ keep high claims. spared keep;
           })
 

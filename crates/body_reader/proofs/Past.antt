@@ -44,6 +44,7 @@ module _ {S Q P W : Type 0} (remaining : S → Option (List ℕ)) (rules : ReadR
       kind = keeps.kind;
       room = λ _. (ap (λ b. b.capacity) same, ap (λ b. b.limit) same);
       still = λ _ _. subst (OnlyRingMoves s.block) (sym same) (OnlyRingMoves-none s.block);
+      unmoved = λ _ _ _. omega (arith, ap (λ b. b.moved) same);
       spared = λ keep high claims. keeps.sparing keep claims;
     }
 

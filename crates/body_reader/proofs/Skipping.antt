@@ -7,6 +7,7 @@ use Rattle.buffer_redux.specs.Buffered.{Buffered}
 use Rattle.buffer_redux.specs.BufReader.{ReaderConsumes, ReaderKeeps}
 use Rattle.buffer_redux.specs.Peek.{ReadsAhead}
 use Rattle.buffer_redux.specs.Policy.{ReadRules}
+use Rattle.buffer_redux.specs.Potential.{of_plain}
 use Rattle.buffer_redux.specs.ReaderLaws.{ReaderConsumes-along}
 use Rattle.body_reader.specs.declared.coding.Look.{Look}
 use Rattle.body_reader.specs.declared.coding.Look.TheVariants as look
@@ -39,6 +40,11 @@ consumes_keeps remaining rules least n s t gone keeps = record {
   still = λ leaves _.
       let same = leaves s.policy gone.left (min n (length s.block.bytes)) t.policy t.block gone.told_policy.allowed in
       subst (λ k. OnKind s.block.kind (k ≡ s.block.moved) (s.block.moved ≤ k)) (sym same) gone.moved;
+  unmoved = λ leaves _ plain. omega (
+    arith,
+    leaves s.policy gone.left (min n (length s.block.bytes)) t.policy t.block gone.told_policy.allowed,
+    of_plain s.block.kind (gone.left.moved ≡ s.block.moved) (s.block.moved ≤ gone.left.moved) plain gone.moved,
+  );
   spared = λ keep high claims. keeps.sparing keep claims;
 }
 

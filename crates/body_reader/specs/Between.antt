@@ -3,7 +3,7 @@ use Rattle.std.specs.Prelude.{◌≡◌, ◌≢◌, ℕ, ◌+◌, ◌-◌, ◌*�
 use Rattle.std.specs.IoError.{error_kind}
 use Rattle.std.specs.declared.io.Error.{Error}
 use Rattle.std.specs.declared.io.ErrorKind.TheVariants.{InvalidData, UnexpectedEof}
-use Rattle.buffer_redux.specs.Block.{Block, OnlyRingMoves}
+use Rattle.buffer_redux.specs.Block.{Block, OnlyRingMoves, Plain}
 use Rattle.buffer_redux.specs.Buffered.{Buffered}
 use Rattle.buffer_redux.specs.BufReader.{ReaderConsumes, ReadsAlong}
 use Rattle.buffer_redux.specs.Policy.{ClaimsToSpare, ReadRules}
@@ -42,12 +42,13 @@ abbrev pub LeavesPlaces : {Q : Type 0} → ReadRules Q → Type 0
 LeavesPlaces {Q} rules = (p : Q) (b : Block) (n : ℕ) (p' : Q) (b' : Block) → rules.after_consume p b n p' b' → b'.moved ≡ b.moved
 
 -- the buffer keeps its kind; its capacity and limit, unless the policy changes them; a plain one its bytes where they stand,
--- unless the policy moves them, where the stream wasn't asked; and each number is spared that the policy claims to spare, and is
--- at least this one
+-- unless the policy moves them, where the stream wasn't asked, or this number, which a look needs, is 1 at most; and each number
+-- is spared that the policy claims to spare, and is at least this one
 pub record KeepsBuffer {S Q : Type 0} (rules : ReadRules Q) (least : ℕ) (s t : Buffered S Q) : Type 0 where
   pub kind : t.block.kind ≡ s.block.kind
   pub room : LeavesRoom rules → (t.block.capacity ≡ s.block.capacity) × (t.block.limit ≡ s.block.limit)
   pub still : LeavesPlaces rules → t.log.reads.asks ≡ s.log.reads.asks → OnlyRingMoves s.block t.block
+  pub unmoved : LeavesPlaces rules → least ≤ 1 → s.block.kind ≡ Plain → t.block.moved ≤ s.block.moved
   pub spared : (keep : ℕ) → least ≤ keep → ClaimsToSpare (rules.claims s.policy).spares keep → Spared keep s t
 
 -- these bytes were taken through the buffer

@@ -1,5 +1,6 @@
 -- Laws of what a reader of a body does with its buffered reader.
 use Rattle.std.proofs.Common.{◌≡◌, ℕ, ◌+◌, ◌<◌, ◌≤◌, List, [], ◌∷◌, ◌++◌, length, min, Option, Result, MatchResult, Ok, Err, ◌⊎◌, inl, inr, sym, ap, subst, ◌∙◌, refl, arith, append_assoc, append-nil, length-append}
+use Rattle.std.specs.Prelude.{⊤}
 use Rattle.std.specs.declared.io.Error.{Error}
 use Rattle.buffer_redux.specs.Block.{OnlyRingMoves}
 use Rattle.buffer_redux.specs.BlockLaws.{OnlyRingMoves-joins, OnlyRingMoves-none}
@@ -7,6 +8,7 @@ use Rattle.buffer_redux.specs.Buffered.{Buffered}
 use Rattle.buffer_redux.specs.BufReader.{ReadsAlong}
 use Rattle.buffer_redux.specs.Peek.{AskedAhead, ReadsAhead}
 use Rattle.buffer_redux.specs.Policy.{ClaimsToSpare, ReadRules}
+use Rattle.buffer_redux.specs.Potential.{of_plain}
 use Rattle.buffer_redux.specs.ReaderLaws.{ReadsAlong-none, ReadsAlong-joins, ReadsAlong-then}
 use Rattle.buffer_redux.specs.Sparing.{Spared-none, Spared-joins}
 use Rattle.buffer_redux.specs.Unbuffer.{unbuffered}
@@ -49,6 +51,7 @@ module _ {S Q : Type 0} (rules : ReadRules Q) (least : ℕ) where
     kind = refl;
     room = λ _. (refl, refl);
     still = λ _ _. OnlyRingMoves-none s.block;
+    unmoved = λ _ _ _. omega arith;
     spared = λ keep high claims. Spared-none keep s;
   }
 
@@ -62,6 +65,7 @@ module _ {S Q : Type 0} (rules : ReadRules Q) (least : ℕ) where
         let none : m.log.reads.asks ≡ s.log.reads.asks = omega (arith, same, first.grows.asks, then.grows.asks) in
         OnlyRingMoves-joins s.block m.block t.block x.kind (x.still leaves none)
         (y.still leaves (omega (arith, same, first.grows.asks, then.grows.asks)));
+    unmoved = λ leaves few plain. omega (arith, x.unmoved leaves few plain, y.unmoved leaves few (x.kind ∙ plain));
     spared = λ keep high claimed. Spared-joins keep s m t (x.spared keep high claimed)
         (y.spared keep high (subst (λ c. ClaimsToSpare c.spares keep) (sym first.claims) claimed));
   }
@@ -102,6 +106,17 @@ module _ {S Q A : Type 0} (remaining : S → Option (List ℕ)) (rules : ReadRul
           subst (λ x. OnlyRingMoves s.block x.block) (sym (unasked remaining rules n s answer t ahead none))
           (OnlyRingMoves-none s.block)
       | inr over ↦ absurd (omega (arith, over.some, same))
+    ];
+    unmoved = λ _ small plain. elim ahead.asked [
+      | inl none ↦ omega (arith, ap (λ x. x.block.moved) (unasked remaining rules n s answer t ahead none))
+      | inr over ↦ omega (
+        arith,
+        of_plain s.block.kind (t.block.moved ≤ s.block.moved + length s.block.bytes) ⊤ plain ahead.moves.once,
+        over.few,
+        few,
+        small,
+        length-append s.block.bytes over.came,
+      )
     ];
     spared = λ keep high claims. ahead.sparing keep (omega (arith, few, high));
   }
