@@ -9,7 +9,6 @@ use Rattle.body_reader.specs.declared.error.BodyError.TheVariants as unread
 use Rattle.body_reader.specs.declared.either.Side.{Side}
 use Rattle.body_reader.specs.declared.either.Side.TheVariants as side
 use Rattle.buffer_redux.specs.Policy.{std_read_rules}
-use Rattle.buffer_redux.specs.Unbuffer.{unbuffered}
 use Rattle.chunked.specs.declared.error.Malformed.{Malformed}
 use Rattle.chunked.specs.declared.place.Place.{Place}
 use Rattle.messages.specs.declared.error.BodyError.{BodyError}
@@ -78,8 +77,8 @@ module _ {R : Type 0} (remaining : R → Option (List ℕ)) (s t : Reader R) (is
   io_most (Err e) reads = tt
 
   pub io_none : (answer : Result ℕ Error) → Reads remaining s out answer t → length out ≡ 0
-      → (answer ≡ Ok 0) × (stream_of t ≡ stream_of s)
+      → (answer ≡ Ok 0) × (t ≡ record s { calls = t.calls })
   io_none (Ok n) reads none =
       let zero : n ≡ 0 = (let same = reads.empty none in cc) in
-      (ap Ok zero, ap (λ b. unbuffered b) (reads.idle (inr none)))
+      (ap Ok zero, reads.idle (inr none))
   io_none (Err e) (why, reads, becomes) none = absurd (subst (λ r. OnOk r ⊥) (reads.empty none) tt)

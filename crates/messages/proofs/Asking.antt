@@ -1,23 +1,22 @@
 -- Where calls of the reader of a body ask its stream, and where they don't.
-use Rattle.std.proofs.Common.{◌≡◌, ℕ, zero, suc, ◌+◌, ◌<◌, List, [], ◌∷◌, ◌++◌, length, take, inl, inr, Option, Result, Ok, Err, ap, subst, arith, refl, length-append, replicate}
+use Rattle.std.proofs.Common.{◌≡◌, ℕ, zero, suc, ◌+◌, ◌<◌, ◌⊎◌, ◌∙◌, List, [], ◌∷◌, ◌++◌, length, take, inl, inr, Option, Result, Ok, Err, ap, subst, sym, arith, refl, length-append, replicate}
 use Rattle.std.proofs.lemmas.List.{length-replicate, length-take-le, nil_from_length}
 use Rattle.body_reader.specs.Asking.{AskedWhere}
 use Rattle.body_reader.specs.AskingLaws.{AskedWhere-of}
-use Rattle.body_reader.specs.BodyReader.{Drains, IsBodyReader, ReadsPayload, handed_of}
+use Rattle.body_reader.specs.BodyReader.{Drains, IsBodyReader, ReadsPayload}
 use Rattle.body_reader.specs.declared.error.BodyError.{BodyError as Unread}
 use Rattle.body_reader.specs.declared.error.BodyError.TheVariants as unread
 use Rattle.body_reader.specs.declared.either.Either.TheVariants as coding
 use Rattle.body_reader.specs.declared.either.Side.{Side}
 use Rattle.body_reader.specs.declared.either.Side.TheVariants as side
-use Rattle.body_reader.specs.Coding.{AskedFor, LeadsOpen, heeded}
-use Rattle.body_reader.specs.CodingLaws.{Leads-whole}
+use Rattle.body_reader.specs.Coding.{AskedFor, LeadsOpen}
 use Rattle.buffer_redux.specs.Policy.{std_read_rules}
 use Rattle.buffer_redux.specs.Unbuffer.{StreamWent, Unbuffered, unbuffered}
 use Rattle.chunked.specs.declared.error.Malformed.{Malformed}
 use Rattle.chunked.specs.declared.place.Place.{Place}
 use Rattle.chunked.proofs.Alive.{Completes-some}
-use Rattle.messages.specs.Messages.{AskedIn, AsksForMore, Backward, BodyCoding, HasNextPayload, HasRoom, IsRest, Reader, Rest, Unended, body_rules, has_line, left_in, rest_of, stream_of}
-use Rattle.messages.proofs.Going.{asked_in, body_done, body_take, goes_on, lawful, other_byte, ready_is}
+use Rattle.messages.specs.Messages.{AskedIn, AsksForMore, Backward, BodyCoding, HasRoom, IsRest, Reader, Rest, Unended, body_rules, has_line, left_in, rest_of, stream_of}
+use Rattle.messages.proofs.Going.{asked_in, body_done, body_take, goes_on, lawful}
 
 -- where the stream is asked
 module _ {R : Type 0} {s : Reader R} (is : IsBodyReader (body_rules s.coding) s) (line : has_line s.coding) where
@@ -37,25 +36,20 @@ module _ {R : Type 0} {s : Reader R} (is : IsBodyReader (body_rules s.coding) s)
       (Unended (left_in s)) (stream_of s) (unbuffered t.reader)
       (λ more o. (o.0, goes_on s.coding line s.place is.place o.0 (s.reader.block.bytes ++ more) o.1)) drains.asked
 
-  pub body_idle : {remaining : R → Option (List ℕ)} {out : List ℕ} {answer : Result ℕ (Unread (Side (Unit {0}) Malformed))}
-      {t : Reader R}
-      → ReadsPayload remaining std_read_rules (body_rules s.coding) s out answer t → HasNextPayload (stream_of s) (left_in s)
-      → (stream_of t).log ≡ (stream_of s).log
-  body_idle {remaining} {out} {answer} {t} reads ready = elim (ready_is (stream_of s) s.coding line s.place is.place ready) [
-    | inl done ↦ ap (λ b. b.log) (reads.idle (inl (Leads-whole (body_rules s.coding) s.taken (handed_of s) s.place
-        (heeded (body_rules s.coding) s.reader.block.bytes) is.leads done)))
-    | inr settles ↦ elim reads.asked [
-      | inl same ↦ same
-      | inr over ↦ absurd (settles over.came over.such.leads)
-    ]
-  ]
-
 -- no byte holds no payload
 other_front : (left h : ℕ) (more : List ℕ) → replicate {A = ℕ} left (suc h) ≡ h ∷ more → ⊥
 other_front zero h more is = let odd : [] ≡ h ∷ more = is in cc
 other_front (suc left) h more is =
     let same : suc h ∷ replicate {A = ℕ} left (suc h) ≡ h ∷ more = is in
     let head : suc h ≡ h = cc in
+    omega (arith, head)
+
+other_byte : (b : ℕ) (payload more : List ℕ) → payload ≡ b ∷ more
+    → (payload ≡ []) ⊎ ((later : List ℕ) × (payload ≡ suc b ∷ later)) → ⊥
+other_byte b payload more is (inl none) = let odd : [] ≡ b ∷ more = sym none ∙ is in cc
+other_byte b payload more is (inr other) =
+    let same : b ∷ more ≡ suc b ∷ other.0 = sym is ∙ other.1 in
+    let head : b ≡ suc b = cc in
     omega (arith, head)
 
 no_payload : (c : BodyCoding) → has_line c → (p : Side ℕ Place) → (body_rules c).is_place p → (handed : List ℕ) (r : Rest)

@@ -1,11 +1,11 @@
 -- What calls of the reader of a body take of it and of its stream, and why they fail.
-use Rattle.std.proofs.Common.{◌≡◌, ℕ, suc, ◌+◌, ◌<◌, ◌≤◌, List, [], ◌∷◌, ◌++◌, length, ◌⊎◌, inl, inr, Option, Err, sym, ap, subst, ◌∙◌, arith, refl, append-nil, length-append, replicate}
-use Rattle.std.proofs.lemmas.List.{length-replicate, nil_from_length}
+use Rattle.std.proofs.Common.{◌≡◌, ℕ, zero, suc, ◌+◌, ◌<◌, ◌≤◌, List, [], ◌++◌, length, take, ◌⊎◌, inl, inr, Option, Err, sym, ap, subst, ◌∙◌, arith, refl, append-nil, length-append, replicate}
+use Rattle.std.proofs.lemmas.List.{length-replicate, length-take-le, nil_from_length}
 use Rattle.body_reader.specs.Between as between
-use Rattle.body_reader.specs.Between.{LeavesRoom}
-use Rattle.body_reader.specs.BodyReader.{BodyWent, Breaks, Drains, EndsEarly, IsBodyReader, NoPayload, TookWholeBody, handed_of}
+use Rattle.body_reader.specs.Between.{LeavesPlaces, LeavesRoom}
+use Rattle.body_reader.specs.BodyReader.{BodyWent, Breaks, Drains, EndsEarly, InPieces, IsBodyReader, NoPayload, TakesManyPieces, TakesPiece, TookWholeBody, handed_of}
 use Rattle.body_reader.specs.BodyReaderLaws.{BodyWent-leads}
-use Rattle.body_reader.specs.Coding.{Agree, AskedFor, IsDone, IsLawful, IsOpen, Leads, LeadsOpen, heeded}
+use Rattle.body_reader.specs.Coding.{Agree, AskedFor, Grammar, IsDone, IsLawful, IsOpen, Leads, LeadsOpen, heeded}
 use Rattle.body_reader.specs.CodingLaws.{Agree-nothing, Leads-done, Leads-whole}
 use Rattle.body_reader.specs.EitherLaws.{either_lawful}
 use Rattle.body_reader.specs.Sized.{sized}
@@ -15,24 +15,18 @@ use Rattle.body_reader.specs.declared.error.BodyError.TheVariants as unread
 use Rattle.body_reader.specs.declared.either.Either.TheVariants as coding
 use Rattle.body_reader.specs.declared.either.Side.{Side}
 use Rattle.body_reader.specs.declared.either.Side.TheVariants as side
-use Rattle.body_reader.specs.declared.sized.Sized.{Sized as OfLength}
-use Rattle.buffer_redux.specs.Block.{Block, OnKind, OnlyRingMoves, Plain}
 use Rattle.buffer_redux.specs.Policy.{std_read_rules}
+use Rattle.buffer_redux.specs.StreamLog.{zero_of_some}
 use Rattle.buffer_redux.specs.declared.policy.StdPolicy.{StdPolicy}
 use Rattle.buffer_redux.specs.Unbuffer.{Unbuffered, unbuffered}
 use Rattle.buffer_redux.specs.UnbufferLaws.{ReadsAlong-stream}
 use Rattle.chunked.specs.Coding.{chunked}
 use Rattle.chunked.specs.CodingLaws.{chunked_lawful}
-use Rattle.chunked.specs.Place.{Completes, CompletesData, IsDataOrDone}
-use Rattle.chunked.specs.Body.{line_end}
-use Rattle.chunked.specs.declared.coding.Chunked.{Chunked as InChunks}
 use Rattle.chunked.specs.declared.error.Malformed.{Malformed}
-use Rattle.chunked.specs.declared.limits.Limits.{Limits}
 use Rattle.chunked.specs.declared.place.Place.{Place}
-use Rattle.chunked.specs.declared.place.Place.TheVariants.{Data, Done}
 use Rattle.chunked.proofs.Alive.{Completes-some}
 use Rattle.messages.specs.MessagesLaws.{same_room}
-use Rattle.messages.specs.Messages.{AskedIn, Backward, BeginsRest, BodyCoding, Bytes, Chunks, Fails, FinishFails, GoesWrong, HasNextPayload, HasRoom, IsNamed, IsRest, Onward, Reader, ReaderTakes, Rest, RunsShort, TakesWholeRest, body_error, body_rules, has_line, left_in, rest_of, room_of, stream_of, sure_of}
+use Rattle.messages.specs.Messages.{AskedIn, Backward, BeginsRest, BodyCoding, Bytes, Chunks, Fails, FinishFails, GoesWrong, HasRoom, IsNamed, IsRest, NotesEach, Onward, Reader, ReaderTakes, Rest, RunsShort, TakesWholeRest, body_error, body_rules, has_line, left_in, rest_of, room_of, stream_of, sure_of}
 use Rattle.messages.specs.declared.error.BodyError.TheVariants.{Wrong, Io as Fault}
 use Rattle.std.specs.declared.io.Error.{Error}
 
@@ -130,81 +124,6 @@ asked_in c line p is slice offer bytes asked =
       enough = omega (arith, asked.enough (none_shown c line p is [] bytes o), sure_is c o.place o.is_place);
     })
 
--- bytes of a body of a length hold payload
-none_of_length : (c : OfLength) (n : ℕ) (p : Side ℕ Place) (wire bytes : List ℕ) → (body_rules (coding.First c)).is_place p
-    → Leads (body_rules (coding.First c)) (side.First n) wire [] p (heeded (body_rules (coding.First c)) bytes)
-    → length wire ≡ 0
-none_of_length c n (side.First m) wire bytes is leads =
-    let rest = replicate {A = ℕ} m 0 in
-    let same = leads.onward rest rest (unheeded (coding.First c) bytes rest) (length-replicate m 0, refl) in
-    omega (arith, ap length same.1, length-append wire rest)
-none_of_length c n (side.Second q) wire bytes is leads = absurd is
-
--- and so does a byte of a chunk
-front_byte : (limits : Limits) (left b : ℕ) (rest payload front : List ℕ)
-    → (c : CompletesData limits (suc left) (b ∷ rest) payload) → c.front ≡ front → (more : List ℕ) × (payload ≡ b ∷ more)
-front_byte limits left b rest payload [] c is = absurd (omega (arith, c.many, ap length is))
-front_byte limits left b rest payload (x ∷ front) c is =
-    let same : b ∷ rest ≡ x ∷ (front ++ line_end c.behind) = c.equal ∙ ap (λ l. l ++ line_end c.behind) is in
-    let head : x ≡ b = cc in
-    (front ++ c.later, c.both ∙ ap (λ l. l ++ c.later) is ∙ ap (λ z. z ∷ (front ++ c.later)) head)
-
-first_byte : (limits : Limits) (place : Place) → IsDataOrDone place → (b : ℕ) (rest payload : List ℕ)
-    → Completes limits place (b ∷ rest) payload → (more : List ℕ) × (payload ≡ b ∷ more)
-first_byte limits (Data (suc left)) settled b rest payload c = front_byte limits left b rest payload c.front c refl
-first_byte limits Done settled b rest payload c = absurd (let odd : b ∷ rest ≡ [] = c.1 in cc)
-first_byte limits place settled b rest payload c = absurd settled
-
-pub other_byte : (b : ℕ) (payload more : List ℕ) → payload ≡ b ∷ more
-    → (payload ≡ []) ⊎ ((later : List ℕ) × (payload ≡ suc b ∷ later)) → ⊥
-other_byte b payload more is (inl none) = let odd : [] ≡ b ∷ more = sym none ∙ is in cc
-other_byte b payload more is (inr other) =
-    let same : b ∷ more ≡ suc b ∷ other.0 = sym is ∙ other.1 in
-    let head : b ≡ suc b = cc in
-    omega (arith, head)
-
-none_of_chunks : (c : InChunks) → 0 < c.0.line → (place : Place) → IsDataOrDone place → (p : Side ℕ Place)
-    (wire bytes : List ℕ) → (body_rules (coding.Second c)).is_place p
-    → Leads (body_rules (coding.Second c)) (side.Second place) wire [] p (heeded (body_rules (coding.Second c)) bytes)
-    → length wire ≡ 0
-none_of_chunks c line place settled (side.First m) wire bytes is leads = absurd is
-none_of_chunks c line place settled (side.Second q) [] bytes is leads = refl
-none_of_chunks c line place settled (side.Second q) (b ∷ wire) bytes is leads =
-    let end = Completes-some c.0 (suc b) line q is in
-    let first = first_byte c.0 place settled b (wire ++ end.rest) end.payload
-    (leads.onward end.rest end.payload (unheeded (coding.Second c) bytes end.rest) end.completes) in
-    absurd (other_byte b end.payload first.0 first.1 end.plain)
-
--- so bytes of which the next is payload, or behind which none is, settle something
-module _ {S : Type 0} (u : Unbuffered S) where
-  abbrev Settle : BodyCoding → Side ℕ Place → Type 0
-  Settle c p = (more : List ℕ) → LeadsOpen (body_rules c) p [] (u.left ++ more) → ⊥
-
-  no_taken : (c : BodyCoding) (p : Side ℕ Place) (more : List ℕ) (o : LeadsOpen (body_rules c) p [] (u.left ++ more))
-      → length o.wire ≡ 0 → 0 < length u.left → ⊥
-  no_taken c p more o none some = omega (
-    arith,
-    none,
-    some,
-    ap length o.equal,
-    length-append u.left more,
-    length-append o.wire o.shown,
-    ap length (no_byte c o.place o.shown o.settles_nothing),
-  )
-
-  pub ready_is : (c : BodyCoding) → has_line c → (p : Side ℕ Place) → (body_rules c).is_place p → HasNextPayload u (rest_of c p)
-      → IsDone (body_rules c) p ⊎ Settle c p
-  ready_is (coding.First c) line (side.First n) is (inl none) = inl (sym none, refl)
-  ready_is (coding.First c) line (side.First n) is (inr some) = inr (λ more o.
-      no_taken (coding.First c) (side.First n) more o (none_of_length c n o.place o.wire o.shown o.is_place o.leads) some)
-  ready_is (coding.First c) line (side.Second q) is ready = absurd is
-  ready_is (coding.Second c) line (side.Second q) is (inl done) =
-      inl (subst (λ x. Completes c.0 x [] []) (sym done) (refl, refl))
-  ready_is (coding.Second c) line (side.Second q) is (inr held) = inr (λ more o.
-      no_taken (coding.Second c) (side.Second q) more o
-      (none_of_chunks c line q held.0 o.place o.wire o.shown o.is_place o.leads) held.1)
-  ready_is (coding.Second c) line (side.First n) is ready = absurd is
-
 -- what is wrong
 wrong_is : (c : BodyCoding) (p : Side ℕ Place) → (body_rules c).is_place p → (bytes : List ℕ) (name : Malformed)
     → (body_rules c).wrong p bytes (side.Second name) → GoesWrong (rest_of c p) bytes name
@@ -253,9 +172,13 @@ short_is c p is bytes (inr (side.Second name, wrong)) = inr (name, wrong_is c p 
 std_leaves : LeavesRoom {Q = StdPolicy} std_read_rules
 std_leaves p b n p' b' left = (ap (λ b. b.capacity) left.1, ap (λ b. b.limit) left.1)
 
--- a plain block keeps its bytes where they stand
-pub plain_unmoved : (old new : Block) → old.kind ≡ Plain → OnlyRingMoves old new → new.moved ≡ old.moved
-plain_unmoved old new plain = subst (λ k. OnKind k (new.moved ≡ old.moved) (old.moved ≤ new.moved)) plain
+std_stays : LeavesPlaces {Q = StdPolicy} std_read_rules
+std_stays p b n p' b' left = ap (λ b. b.moved) left.1
+
+-- a look at a body needs one byte
+one_needed : (c : BodyCoding) → (body_rules c).ahead ≡ 1
+one_needed (coding.First c) = refl
+one_needed (coding.Second c) = refl
 
 -- calls of the reader
 module _ {R : Type 0} {remaining : R → Option (List ℕ)} {s t : Reader R} (is : IsBodyReader (body_rules s.coding) s)
@@ -270,10 +193,12 @@ module _ {R : Type 0} {remaining : R → Option (List ℕ)} {s t : Reader R} (is
   leads : Leads (body_rules s.coding) s.place went.wire handed t.place (heeded (body_rules s.coding) t.reader.block.bytes)
   leads = BodyWent-leads remaining std_read_rules (body_rules s.coding) s t handed is is' went
 
-  pub body_still : HasRoom s → t.reader.log.reads.asks ≡ s.reader.log.reads.asks
-      → t.reader.block.moved ≡ s.reader.block.moved
-  body_still room same = plain_unmoved s.reader.block t.reader.block room.0.kind
-      (went.keeps.still (λ p b n p' b' leaves. ap (λ b. b.moved) leaves.1) same)
+  -- so nothing is moved
+  pub body_still : HasRoom s → t.reader.block.moved ≡ s.reader.block.moved
+  body_still room =
+      let least : (body_rules s.coding).ahead ≤ 1 = omega (arith, one_needed s.coding) in
+      let kept = (went.keeps.spared 1 least (omega arith)).plain room.0.kind (omega (arith, room.0.capacity)) in
+      omega (arith, kept.moved, went.keeps.unmoved std_stays least room.0.kind)
 
   pub body_take : HasRoom s → ReaderTakes remaining s handed t
   body_take room = (
@@ -374,5 +299,54 @@ module _ {R : Type 0} {remaining : R → Option (List ℕ)} {s t : Reader R} (is
   pub drain_fails : FinishFails (stream_of s) drains.payload (body_error t.place e) (stream_of t) (left_in t)
   drain_fails = elim drains.answers [
     | inl fails ↦ inl (body_fails is drains.whole drains.went e fails)
-    | inr many ↦ inr (many.0, many_is many.0 many.1, many.2, many.3)
+    | inr many ↦ inr (many.0, many_is many.0 many.1, many.2, many.3, (many.4.faults, many.4.zero_reads))
+  ]
+
+-- each piece that is dropped is noted as a read of some bytes
+module _ {R : Type 0} (remaining : R → Option (List ℕ)) (g : Grammar (Side ℕ Place) (Side (Unit {0}) Malformed)) where
+  piece_noted : {s t : Reader R} → TakesPiece remaining std_read_rules g s t → NotesEach s.calls t.calls
+  piece_noted {s} {t} piece =
+      let filled = piece.filled in
+      let n = filled.known in
+      let bytes = filled.reader.block.bytes in
+      let some : 0 < n = omega (arith, piece.some, piece.fills.answers.0) in
+      let long : length (take n bytes) ≡ n = length-take-le n bytes piece.fills.whole.known.0 in
+      let before = piece.fills.noted in
+      let noted = piece.noted in
+      record {
+        faults = ap (λ l. l.reads.faults) noted ∙ ap (λ l. l.reads.faults) before;
+        zero_reads = ap (λ l. l.reads.zero_reads) noted
+            ∙ zero_of_some n (take n bytes) filled.calls.reads.zero_reads (inl some) ∙ ap (λ l. l.reads.zero_reads) before;
+        asks = omega (
+          arith,
+          some,
+          ap (λ l. l.reads.asks) noted,
+          ap (λ l. length l.reads.given) noted,
+          length-append filled.calls.reads.given (take n (take n bytes)),
+          length-take-le n (take n bytes) (omega (arith, long)),
+          ap (λ l. l.reads.asks) before,
+          ap (λ l. length l.reads.given) before,
+        );
+      }
+
+  many_noted : (count : ℕ) (s t : Reader R) → TakesManyPieces remaining std_read_rules g count s t
+      → NotesEach s.calls t.calls
+  many_noted zero s t same =
+      subst (λ x. NotesEach s.calls x.calls) same (record { faults = refl; zero_reads = refl; asks = omega arith })
+  many_noted (suc count) s t (m, pieces, piece) =
+      let before = many_noted count s m pieces in
+      let last = piece_noted piece in
+      record {
+        faults = last.faults ∙ before.faults;
+        zero_reads = last.zero_reads ∙ before.zero_reads;
+        asks = omega (arith, last.asks, before.asks);
+      }
+
+  pub pieces_noted : {s t : Reader R} → InPieces remaining std_read_rules g s t → NotesEach s.calls t.calls
+  pieces_noted {s} {t} in_pieces = elim in_pieces.end [
+    | inl same ↦
+        subst (λ x. NotesEach s.calls x.calls) same
+        (many_noted in_pieces.count s in_pieces.last in_pieces.pieces)
+    | inr fill ↦
+        subst (NotesEach s.calls) (sym fill.1.noted) (many_noted in_pieces.count s in_pieces.last in_pieces.pieces)
   ]

@@ -27,8 +27,8 @@ use Rattle.chunked.specs.declared.coding.Chunked.{Chunked as InChunks}
 use Rattle.chunked.specs.declared.error.Malformed.{Malformed}
 use Rattle.chunked.specs.declared.limits.Limits.{Limits as ChunkLimits}
 use Rattle.chunked.specs.declared.place.Place.{Place}
-use Rattle.chunked.specs.declared.place.Place.TheVariants.{Line, Done}
-use Rattle.chunked.specs.Place.{Completes, IsDataOrDone}
+use Rattle.chunked.specs.declared.place.Place.TheVariants.{Line}
+use Rattle.chunked.specs.Place.{Completes}
 use Rattle.codec.specs.declared.NextError.TheVariants as why
 use Rattle.codec.specs.NextPiece.{NextAnswer, NextPiece}
 use Rattle.codec.specs.PieceReader.{ReaderState, left_of}
@@ -175,11 +175,6 @@ pub record TakesFromRest {S : Type 0} (remaining : S → Option (List ℕ)) (s :
   pub onward : Onward r wire handed r'
   pub backward : Backward r wire handed r'
 
--- the next byte of payload is left of a buffer, or none is to come
-abbrev pub HasNextPayload : {S : Type 0} → Unbuffered S → Rest → Type 0
-HasNextPayload s (Bytes n) = (n ≡ 0) ⊎ (0 < length s.left)
-HasNextPayload s (Chunks limits place) = (place ≡ Done) ⊎ (IsDataOrDone place × (0 < length s.left))
-
 -- where nothing is left of the buffer, bytes are asked for, and the body goes on, the stream is asked
 abbrev pub AsksForMore : {S : Type 0} → Unbuffered S → Rest → List ℕ → Unbuffered S → Type 0
 AsksForMore s r out t = s.left ≡ [] → 0 < length out → ¬ (IsRest r [] []) → s.log.reads.asks < t.log.reads.asks
@@ -187,6 +182,12 @@ AsksForMore s r out t = s.left ≡ [] → 0 < length out → ¬ (IsRest r [] [])
 -- no read of the stream failed, or gave nothing though it was asked for something
 abbrev pub EachReadGave : {S : Type 0} → Unbuffered S → Unbuffered S → Type 0
 EachReadGave s t = (t.log.reads.faults ≡ s.log.reads.faults) × (t.log.reads.zero_reads ≡ s.log.reads.zero_reads)
+
+-- each read that was noted since gave bytes
+pub record NotesEach (before after : StreamLog) : Type 0 where
+  pub faults : after.reads.faults ≡ before.reads.faults
+  pub zero_reads : after.reads.zero_reads ≡ before.reads.zero_reads
+  pub asks : after.reads.asks + length before.reads.given ≤ before.reads.asks + length after.reads.given
 
 -- no beginning of these bytes is that, however they go on
 abbrev pub NeverBecomes : Rest → List ℕ → Type 0
@@ -244,10 +245,12 @@ body_error (side.First due) (unread.Truncated right) = Truncated (Some due)
 body_error (side.Second place) (unread.Truncated right) = Truncated None
 body_error place (unread.Io e) = Fault e
 
--- why a body wasn't finished, of which this payload was dropped: none comes; or it is of more pieces than are counted
+-- why a body wasn't finished, of which this payload was dropped: none comes; or it is of more pieces than are counted, and each
+-- read gave some
 abbrev pub FinishFails : {S : Type 0} → Unbuffered S → List ℕ → BodyError → Unbuffered S → Rest → Type 0
 FinishFails s handed why t r =
-    Fails s why t r ⊎ ((e : Error) × (why ≡ Fault e) × (error_kind e ≡ Other) × (2 ^ 64 - 1 ≤ length handed))
+    Fails s why t r
+    ⊎ ((e : Error) × (why ≡ Fault e) × (error_kind e ≡ Other) × (2 ^ 64 - 1 ≤ length handed) × EachReadGave s t)
 
 -- all of that was taken, and what stands behind the body is left
 pub record TakesWholeRest {S : Type 0} (remaining : S → Option (List ℕ)) (s : Unbuffered S) (r : Rest) (t : Unbuffered S)
@@ -258,14 +261,14 @@ pub record TakesWholeRest {S : Type 0} (remaining : S → Option (List ℕ)) (s 
   pub is : IsRest r wire payload
   pub gave : EachReadGave s t
 
--- a call of a reader in a body, which keeps the limits, the head and what that says, and how much its buffer takes, did so; where
--- the stream wasn't asked, no byte was moved
+-- a call of a reader in a body, which keeps the limits, the head and what that says, and how much its buffer takes, did so; no
+-- byte was moved in the buffer
 pub record InsideGoes {S : Type 0} (remaining : S → Option (List ℕ)) (s : InBody S) (handed : List ℕ) (t : InBody S)
     : Type 0 where
   pub takes : TakesFromRest remaining s.stream s.rest handed t.stream t.rest
   pub taken : t.taken ≡ s.taken ++ takes.wire
   pub room : t.room ≡ s.room
-  pub moved : t.stream.log.reads.asks ≡ s.stream.log.reads.asks → t.moved ≡ s.moved
+  pub moved : t.moved ≡ s.moved
   pub told : t.calls.reads.given ≡ s.calls.reads.given ++ handed
   pub limits : t.limits ≡ s.limits
   pub head : t.head ≡ s.head
@@ -292,7 +295,7 @@ pub record ReadsAsIo {S : Type 0} (remaining : S → Option (List ℕ)) (s : InB
   pub asks : AsksForMore s.stream s.rest out t.stream
   pub all : IfOk answer (λ n. 0 < n → HandsMost s.rest s.taken s.known out n t.taken t.known t.stream.left)
   -- a slice that is empty asks for nothing
-  pub none : length out ≡ 0 → (answer ≡ Ok 0) × (t.stream ≡ s.stream)
+  pub none : length out ≡ 0 → (answer ≡ Ok 0) × (t ≡ record s { calls = t.calls })
 
 -- a head, and a payload
 abbrev pub Message : Type 0
@@ -339,12 +342,12 @@ stream_of d = unbuffered d.reader
 abbrev pub left_in : {S : Type 0} → Reader S → Rest
 left_in d = rest_of d.coding d.place
 
--- it took these bytes so, and where the stream wasn't asked, no byte was moved in its buffer
+-- it took these bytes so, and no byte was moved in its buffer
 abbrev pub ReaderTakes : {S : Type 0} → (S → Option (List ℕ)) → Reader S → List ℕ → Reader S → Type 0
 ReaderTakes remaining d handed d' =
     (takes : TakesFromRest remaining (stream_of d) (left_in d) handed (stream_of d') (left_in d'))
     × (d'.taken ≡ d.taken ++ takes.wire)
-    × (d'.reader.log.reads.asks ≡ d.reader.log.reads.asks → d'.reader.block.moved ≡ d.reader.block.moved)
+    × (d'.reader.block.moved ≡ d.reader.block.moved)
 
 -- a plain buffer in which three heads fit, and which grows no further: a reader of heads keeps it, and takes no memory
 pub record IsRoomy (b : Block) : Type 0 where

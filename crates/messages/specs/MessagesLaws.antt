@@ -180,7 +180,7 @@ module _ {S : Type 0} (remaining : S → Option (List ℕ)) where
     takes = TakesFromRest-none b.stream b.rest;
     taken = sym (append-nil b.taken);
     room = refl;
-    moved = λ same. refl;
+    moved = refl;
     limits = refl;
     told = sym (append-nil b.calls.reads.given);
     head = refl;
@@ -194,9 +194,7 @@ module _ {S : Type 0} (remaining : S → Option (List ℕ)) where
     takes = TakesFromRest-joins s.stream m.stream t.stream s.rest m.rest t.rest h k a.takes b.takes;
     taken = b.taken ∙ ap (λ l. l ++ b.takes.wire) a.taken ∙ append_assoc s.taken a.takes.wire b.takes.wire;
     room = b.room ∙ a.room;
-    moved = λ same.
-        b.moved (omega (arith, same, a.takes.went.grows.asks, b.takes.went.grows.asks))
-        ∙ a.moved (omega (arith, same, a.takes.went.grows.asks, b.takes.went.grows.asks));
+    moved = b.moved ∙ a.moved;
     told = b.told ∙ ap (λ l. l ++ k) a.told ∙ append_assoc s.calls.reads.given h k;
     limits = b.limits ∙ a.limits;
     head = b.head ∙ a.head;

@@ -9,7 +9,7 @@ ghost use Rattle.buffer_redux.specs.Unbuffer.{unbuffered};
 ghost use Rattle.codec.specs.PieceReader.{left_of, rest};
 ghost use Rattle.messages.specs.contracts.body.Body.{the_row};
 ghost use Rattle.messages.specs.Heads.{IsHead};
-ghost use Rattle.messages.specs.Messages.{AskedIn, AsksForMore, Bytes, EachReadGave, Fails, FinishFails, HandsMost, HasNextPayload, HasRoom, InsideGoes, IsRest, IsRoomy, ReaderTakes, RunsShort, TakesWholeRest, Unended, body_of, body_rules, entering, has_line, left_in, rest_of, room_of, stream_of, with_stream};
+ghost use Rattle.messages.specs.Messages.{AskedIn, AsksForMore, Bytes, EachReadGave, Fails, FinishFails, HandsMost, HasRoom, InsideGoes, IsRest, IsRoomy, NotesEach, ReaderTakes, RunsShort, TakesWholeRest, Unended, body_of, body_rules, entering, has_line, left_in, rest_of, room_of, stream_of, with_stream};
 
 mod tells;
 
@@ -183,8 +183,7 @@ impl<R: TellRead> Body<R> {
         ensures asks { AsksForMore self.old.stream self.old.rest out.new self.new.stream }
         ensures all { IfOk result (λ n. 0 < n → HandsMost self.old.rest self.old.taken self.old.known out.new n
             self.new.taken self.new.known self.new.stream.left) }
-        ensures idle { HasNextPayload self.old.stream self.old.rest → self.new.stream.log ≡ self.old.stream.log }
-        ensures none { length out.new ≡ 0 → (result ≡ Ok 0) × (self.new.stream ≡ self.old.stream) }
+        ensures none { length out.new ≡ 0 → (result ≡ Ok 0) × (self.new ≡ record self.old { calls = self.new.calls }) }
     {
         read(&mut self.reader, out)
     }
@@ -203,8 +202,7 @@ impl<R: TellRead> Body<R> {
     }
 
     /// Goes on to the next head: takes what is left of the body, and drops its payload. The stream is asked for no byte behind
-    /// it. An `Err` hands the reader back, in the body still. The buffer is kept, and takes no memory; where the body has ended,
-    /// or the stream isn't asked, no byte is moved in it.
+    /// it. An `Err` hands the reader back, in the body still. The buffer is kept: it takes no memory, and no byte is moved in it.
     pub fn finish(self) -> Result<Requests<R>, (Self, BodyError)>
         ensures in_order { IfOk result (λ next. (wire : List ℕ) × (got : List ℕ)
             × (next.reader.log.reads.given ≡ self.stream.log.reads.given ++ got)
@@ -213,8 +211,9 @@ impl<R: TellRead> Body<R> {
             (λ e. (handed : List ℕ) × InsideGoes R.remaining self handed e.0
             × FinishFails self.stream handed e.1 e.0.stream e.0.rest) }
         ensures room { IfOk result (λ next. room_of next.reader.block ≡ self.room) }
-        ensures moved { IfOk result (λ next. next.reader.log ≡ self.stream.log → next.reader.block.moved ≡ self.moved) }
+        ensures moved { IfOk result (λ next. next.reader.block.moved ≡ self.moved) }
         ensures limits { IfOk result (λ next. next.decoder ≡ record { 0 = self.limits }) }
+        ensures noted { IfErr result (λ e. NotesEach self.calls e.0.calls) }
         ensures asked { MatchResult result (λ next. AskedWhere (Unended self.rest) self.stream (left_of next))
             (λ e. AskedWhere (Unended self.rest) self.stream e.0.stream) }
     {
@@ -288,9 +287,7 @@ fn read<R: TellRead>(
     ensures asks { AsksForMore (stream_of reader.old) (left_in reader.old) out.new (stream_of reader.new) }
     ensures all { IfOk result (λ n. 0 < n → HandsMost (left_in reader.old) reader.old.taken reader.old.known out.new n
         reader.new.taken reader.new.known (stream_of reader.new).left) }
-    ensures idle { HasNextPayload (stream_of reader.old) (left_in reader.old)
-        → (stream_of reader.new).log ≡ (stream_of reader.old).log }
-    ensures none { length out.new ≡ 0 → (result ≡ Ok 0) × (stream_of reader.new ≡ stream_of reader.old) }
+    ensures none { length out.new ≡ 0 → (result ≡ Ok 0) × (reader.new ≡ record reader.old { calls = reader.new.calls }) }
 {
     let _ = reader.get_ref();
     match reader.read_payload(out) {
@@ -327,7 +324,8 @@ fn finish<R: TellRead>(
         × ReaderTakes R.remaining reader handed e.0
         × FinishFails (stream_of reader) handed e.1 (stream_of e.0) (left_in e.0)
         × (handed_of e.0 ≡ handed_of reader ++ handed)) }
-    ensures moved { IfOk result (λ rest. rest.log ≡ reader.reader.log → rest.block.moved ≡ reader.reader.block.moved) }
+    ensures moved { IfOk result (λ rest. rest.block.moved ≡ reader.reader.block.moved) }
+    ensures noted { IfErr result (λ e. NotesEach reader.calls e.0.calls) }
     ensures asked { MatchResult result
         (λ rest. AskedWhere (Unended (left_in reader)) (stream_of reader) (unbuffered rest))
         (λ e. AskedWhere (Unended (left_in reader)) (stream_of reader) (stream_of e.0)) }

@@ -63,7 +63,7 @@ fn read_told<R: TellRead>(
     ensures asks { AsksForMore (stream_of reader.old) (left_in reader.old) out.new (stream_of reader.new) }
     ensures all { IfOk result (λ n. 0 < n → HandsMost (left_in reader.old) reader.old.taken reader.old.known out.new n
         reader.new.taken reader.new.known (stream_of reader.new).left) }
-    ensures none { length out.new ≡ 0 → (result ≡ Ok 0) × (stream_of reader.new ≡ stream_of reader.old) }
+    ensures none { length out.new ≡ 0 → (result ≡ Ok 0) × (reader.new ≡ record reader.old { calls = reader.new.calls }) }
 {
     let _ = reader.get_ref();
     reader.read_told(out)

@@ -1,8 +1,8 @@
 -- What the drain did, told of the rest of the body: all of that went, or a part, and why no more.
-use Rattle.std.proofs.Common.{ap, inl, inr, subst, sym}
+use Rattle.std.proofs.Common.{inl, inr, subst, sym}
 use Rattle.messages.specs.Messages.{IsNamed}
 use Rattle.messages.proofs.Asking.{drain_asked}
-use Rattle.messages.proofs.Going.{body_end, body_kept, body_named, body_room, body_still, body_take, drain_fails}
+use Rattle.messages.proofs.Going.{body_end, body_kept, body_named, body_room, body_still, body_take, drain_fails, pieces_noted}
 use Rattle.messages.proofs.body.finish.Goals as goal
 
 pub returns-in-Ok-clause-room : goal.returns-in-Ok-clause-room
@@ -23,7 +23,7 @@ returns-in-Ok-clause-ends g c =
 pub returns-in-Ok-clause-moved : goal.returns-in-Ok-clause-moved
 returns-in-Ok-clause-moved g c =
     let left = c.in-Ok.ensures.drains in
-    rw left.2 (λ same. body_still c.get_ref.ensures.whole left.1.whole left.1.went c.requires (ap (λ l. l.reads.asks) same))
+    rw left.2 (body_still c.get_ref.ensures.whole left.1.whole left.1.went c.requires)
 
 pub returns-in-Ok-clause-asked : goal.returns-in-Ok-clause-asked
 returns-in-Ok-clause-asked g c =
@@ -56,6 +56,9 @@ returns-in-Err-clause-ends g c =
       drain_fails c.get_ref.ensures.whole drains,
       drains.went.handed,
     )
+
+pub returns-in-Err-clause-noted : goal.returns-in-Err-clause-noted
+returns-in-Err-clause-noted g c = pieces_noted _ _ c.in-Err.ensures.drains.pieces
 
 pub returns-in-Err-clause-asked : goal.returns-in-Err-clause-asked
 returns-in-Err-clause-asked g c = drain_asked c.get_ref.ensures.whole c.requires.1 c.in-Err.ensures.drains

@@ -1,7 +1,6 @@
 -- What the reader did, told of the rest of the body: what it took leads to what is left of that.
 use Rattle.std.proofs.Common.{◌≡◌, Err, Ok, ap, inr}
-use Rattle.buffer_redux.specs.Unbuffer.{unbuffered}
-use Rattle.messages.proofs.Asking.{body_asked, body_asks, body_idle}
+use Rattle.messages.proofs.Asking.{body_asked, body_asks}
 use Rattle.messages.proofs.Going.{body_done, body_fails, body_kept, body_named, body_room, body_take}
 use Rattle.messages.proofs.Handing.{hands_most}
 use Rattle.messages.proofs.body.read.Goals as goal
@@ -45,14 +44,11 @@ returns-in-Ok-clause-all g c =
     hands_most g.R.TellRead.remaining c.args.reader.now c.read_payload.new.self c.get_ref.ensures.whole c.read_payload.new.out
     c.in-Ok.count c.in-Ok.ensures.reads
 
-pub returns-in-Ok-clause-idle : goal.returns-in-Ok-clause-idle
-returns-in-Ok-clause-idle g c = body_idle c.get_ref.ensures.whole c.requires.1 c.in-Ok.ensures.reads
-
 pub returns-in-Ok-clause-none : goal.returns-in-Ok-clause-none
 returns-in-Ok-clause-none g c = λ none.
     let reads = c.in-Ok.ensures.reads in
     let zero : c.in-Ok.count ≡ 0 = (let same = reads.empty none in cc) in
-    (ap Ok zero, ap (λ b. unbuffered b) (reads.idle (inr none)))
+    (ap Ok zero, reads.idle (inr none))
 
 pub unread-requires : goal.unread-requires
 unread-requires g c =
@@ -86,9 +82,6 @@ returns-in-Err-clause-fails g c =
 pub returns-in-Err-clause-asked : goal.returns-in-Err-clause-asked
 returns-in-Err-clause-asked g c =
     body_asked c.get_ref.ensures.whole c.requires.1 _ c.read_payload.new.self c.in-Err.ensures.reads.asked
-
-pub returns-in-Err-clause-idle : goal.returns-in-Err-clause-idle
-returns-in-Err-clause-idle g c = body_idle c.get_ref.ensures.whole c.requires.1 c.in-Err.ensures.reads
 
 pub returns-in-Err-clause-asks : goal.returns-in-Err-clause-asks
 returns-in-Err-clause-asks g c = body_asks c.get_ref.ensures.whole c.requires (Err c.in-Err.e) c.in-Err.ensures.reads

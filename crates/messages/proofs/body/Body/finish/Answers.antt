@@ -24,9 +24,8 @@ returns-in-Ok-with_buffer-clause-moved g c =
     let kept = made.kept (ap (λ b. b.kind) i.block ∙ roomy.kind)
     (let fits : 3 * 16384 ≤ c.into_inner_with_buffer-inner.result.1.capacity =
     omega (arith, roomy.capacity, ap (λ b. b.capacity) i.block) in fits) in
-    rw (c.before-in-Ok-with_buffer.ensures, ← c.self.view_is) (λ same.
-    ap (λ b. b.moved) kept ∙ ap (λ b. b.moved) i.block
-    ∙ c.in-Ok.ensures.moved (sym i.log ∙ sym (ap (λ u. u.log) made.left) ∙ same))
+    rw (c.before-in-Ok-with_buffer.ensures, ← c.self.view_is)
+    (ap (λ b. b.moved) kept ∙ ap (λ b. b.moved) i.block ∙ c.in-Ok.ensures.moved)
 
 pub returns-in-Err : goal.returns-in-Err
 returns-in-Err g c =
@@ -50,5 +49,6 @@ returns-in-Err g c =
       room = tt;
       moved = tt;
       limits = tt;
+      noted = c.in-Err.ensures.noted;
       asked = c.in-Err.ensures.asked;
     })

@@ -1,5 +1,7 @@
 -- What a read as std's did, told of the rest of the body; what its calls tell changes none of that.
+use Rattle.std.proofs.Common.{ap}
 use Rattle.messages.proofs.AsIo.{io_asked, io_asks, io_ended, io_fails, io_gave, io_most, io_none, io_room, io_take}
+use Rattle.messages.specs.Messages.{Reader}
 use Rattle.messages.proofs.body.tells.read_told.Goals as goal
 
 pub returns : goal.returns
@@ -24,5 +26,7 @@ returns g c =
       asked = io_asked remaining s t is out answer reads c.requires.1;
       asks = io_asks remaining s t is out answer reads c.requires;
       all = io_most remaining s t is out answer reads;
-      none = io_none remaining s t is out answer reads;
+      none = λ none.
+          let same = io_none remaining s t is out answer reads none in
+          (same.0, ap {A = Reader g.row.R.Denot} (λ d. record d { calls = c.read_told.new.self.calls }) same.1);
     }

@@ -3,6 +3,7 @@ use Rattle.std.proofs.Common.{◌≡◌, ℕ, List, ◌++◌, Result, Ok, Err, a
 use Rattle.std.specs.declared.io.Error.{Error}
 use Rattle.body_reader.specs.Between.{handed_out}
 use Rattle.buffer_redux.specs.StreamLog.{StreamLog, after_read}
+use Rattle.messages.proofs.Said.{seen_same}
 use Rattle.messages.proofs.body.tells.BodyTellRead.read_told.Goals as goal
 
 -- what a read tells as given is what it handed out
@@ -13,6 +14,7 @@ told log log' out (Err e) same = ap (λ l. l.reads.given) same
 
 pub returns-clause-read : goal.returns-clause-read
 returns-clause-read g c =
+    let i = c.self.inside in
     let reads = c.read_told.ensures in
     rw (← c.self.view_is) (record {
       goes = record {
@@ -31,5 +33,7 @@ returns-clause-read g c =
       asked = reads.asked;
       asks = reads.asks;
       all = reads.all;
-      none = reads.none;
+      none = λ none.
+          let same = reads.none none in
+          (same.0, seen_same c.read_told.new.reader i.reader i.limits i.head.bytes i.said same.1);
     })
