@@ -27,7 +27,7 @@ use std::{fmt, io, mem};
 /// [`finish`](BodyReader::finish) hands it back.
 ///
 /// It takes no memory, and asks the buffered reader for nothing behind the payload that a call hands out but what its coding has
-/// to see, nor once the body ended.
+/// to see, nor once the body ended, but in [`is_at_end`](BodyReader::is_at_end).
 #[derive(Drop)]
 pub struct BodyReader<R: Tell, C: Coding, P = StdPolicy> {
     reader: BufReader<R, P>,
