@@ -7,14 +7,12 @@ use Rattle.std.specs.Char.{digit_value}
 use Rattle.chunked.specs.declared.extension.Within.TheVariants.{Behind}
 use Rattle.chunked.specs.declared.limits.Limits.{Limits}
 use Rattle.chunked.specs.declared.place.Place.{Place}
-use Rattle.chunked.specs.declared.place.Place.TheVariants.{Line, Size, SizeFeed, Data, DataFeed}
-use Rattle.chunked.specs.Body.{IsBodyOfChunks}
+use Rattle.chunked.specs.declared.place.Place.TheVariants.{Line, Size, SizeFeed, Data}
 use Rattle.chunked.specs.CodingLaws.{within_none, within_on}
 use Rattle.chunked.specs.Place.{Comes, CompletesData, IsDataOrDone, IsPlace, PassesAlong}
 use Rattle.chunked.specs.PlaceLaws.{PassesAlong-joins, PassesAlong-none}
 use Rattle.chunked.proofs.Extending.{extension_return}
 use Rattle.chunked.proofs.Passing.{line_digit, quiet, size_as_extension, size_digit}
-use Rattle.chunked.proofs.PassingOn.{data_return}
 
 -- so many digits write a number that isn't too large
 pub few_digits : (size k : ℕ) → size < 16 ^ k → k ≤ 14 → size < 2 ^ 58
