@@ -143,9 +143,9 @@ module _ {S : Type 0} {s m : Unbuffered S} (steady : ReadsSteadily s m) where
       (omega (arith, steady.ends, gave.1), joined b.stream (none_met gave.0), inl (refl, inl (why, torn)))
   TakeFails-behind handed more b w (Truncated due) (inl (none, end, left, cut, many)) same = absurd (omega (arith, end, same.1))
   TakeFails-behind handed more b w (Io e) (inl fails) same = absurd (no_fault b e fails same.0)
-  TakeFails-behind handed more b w (Wrong why) (inr (e, is, other, many)) same = absurd (cc)
-  TakeFails-behind handed more b w (Truncated due) (inr (e, is, other, many)) same = absurd (cc)
-  TakeFails-behind handed more b w (Io why) (inr (e, is, other, many)) same =
+  TakeFails-behind handed more b w (Wrong why) (inr (e, is, other, many, gave)) same = absurd (cc)
+  TakeFails-behind handed more b w (Truncated due) (inr (e, is, other, many, gave)) same = absurd (cc)
+  TakeFails-behind handed more b w (Io why) (inr (e, is, other, many, gave)) same =
       (steadily (steady_none same), omega (arith, many, length-append handed more))
 
 -- why a read fails is said of what it asked

@@ -39,7 +39,7 @@ returns-in-Err-clause-turns g c = λ s w begun writes.
       };
       taken = sym (append-nil b.taken);
       room = refl;
-      moved = λ same. refl;
+      moved = refl;
       limits = refl;
       told = sym (append-nil b.calls.reads.given);
       head = refl;
