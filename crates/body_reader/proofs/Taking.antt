@@ -94,7 +94,8 @@ module _ {S Q C P W : Type 0} {remaining : S → Option (List ℕ)} {rules : Rea
 
     -- one piece more
     pub taken_more : 0 < n → IsLawful g → (t : BodyState S Q C P)
-        → ConsumesPayload remaining rules (grammar f.coding) n f t → Taken remaining rules g s (payload ++ take f.known f.reader.block.bytes) t
+        → ConsumesPayload remaining rules (grammar f.coding) n f t
+        → Taken remaining rules g s (payload ++ take f.known f.reader.block.bytes) t
     taken_more some lawful t takes =
         let bytes = f.reader.block.bytes in
         let piece = take f.known bytes in
