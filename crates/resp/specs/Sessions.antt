@@ -21,9 +21,6 @@ pub record SessionState : Type 0 where
 abbrev pub session : Waiting → Values → SessionState
 session waiting values = record { waiting = waiting; values = values }
 
-abbrev pub state_of : Session → SessionState
-state_of s = session s.request (held s.store)
-
 -- what answers, over this request and this store
 abbrev pub session_of : Global → Waiting → Store → Session
 session_of alloc request store = record { alloc = alloc; request = request; store = store }
@@ -48,10 +45,6 @@ RepliesTo m old Whole reply more t new = RepliesWhole m old reply more t new
 RepliesTo m old (Bad why) reply more t new = (reply ≡ refusal_reply why) × (more ≡ false) × (t ≡ m) × Same old new
 
 -- a piece is fed to the request, and then this is replied
-abbrev pub RepliesToPiece : SessionState → RespItem → List ℕ → List ℕ → Bool → SessionState → Type 0
-RepliesToPiece s item payload reply more t = (fed : Fed) × (between : Waiting) × Feeds s.waiting item payload fed between
-    × RepliesTo between s.values fed reply more t.waiting t.values
-
--- the same, of what answers
 abbrev pub RepliesBy : Session → RespItem → List ℕ → List ℕ → Bool → Session → Type 0
-RepliesBy s item payload reply more t = RepliesToPiece (state_of s) item payload reply more (state_of t)
+RepliesBy s item payload reply more t = (fed : Fed) × (between : Waiting) × Feeds s.request item payload fed between
+    × RepliesTo between (held s.store) fed reply more t.request (held t.store)
