@@ -112,8 +112,11 @@ module _ {W : Type 0} (tells : W → StreamLog) (trace : W → W → Type 0) (no
     wrote_retried = Interrupts-end r.count bs answer (tells s) (tells r.last) (tells t)
         (interrupts r.count s r.last r.interrupted).0 r.most r.often r.went.told
 
+    pub traced_last : trace s r.last
+    traced_last = (interrupts r.count s r.last r.interrupted).1
+
     pub traced_retried : trace s t
-    traced_retried = joins s r.last t (interrupts r.count s r.last r.interrupted).1 r.went.traced
+    traced_retried = joins s r.last t traced_last r.went.traced
 
 -- n writes took all that they were offered, and every other one fell short
 abbrev pub WholeWrites : ℕ → WriteLog → WriteLog → Type 0

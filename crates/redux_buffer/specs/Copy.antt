@@ -133,12 +133,12 @@ pub record CopyRetried {W : Type 0} (tells : W → StreamLog) (trace call : W �
       (λ _. faults_met from' (tells w').writes ≤ faults_met from (tells w).writes + interrupt_limit)
       (λ _. faults_met from' (tells w').writes ≤ faults_met from (tells w).writes + interrupt_limit + 1)
 
--- a turn begins where a copy does, or behind one that moved bytes
-abbrev pub BeginsTurn : {B W : Type 0} → (B → StreamLog) → (W → StreamLog) → (W → W → Type 0) → (W → W → Type 0)
-    → B → B → W → W → Type 0
-BeginsTurn {B} {W} shows tells trace call b source w target =
+-- a turn begins where a copy does, or behind one of its turns that moved bytes
+abbrev pub BeginsTurn : {B W : Type 0} → (B → StreamLog) → (W → StreamLog) → (B → B → Type 0) → (W → W → Type 0)
+    → (W → W → Type 0) → B → B → W → W → Type 0
+BeginsTurn {B} {W} shows tells reads trace call b source w target =
     ((source ≡ b) × (target ≡ w))
-    ⊎ ((m : B) × (v : W) × (n : ℕ) × (0 < n)
+    ⊎ ((m : B) × (v : W) × reads b m × trace w v × reads m source × trace v target × (n : ℕ) × (0 < n)
     × CopyTurn tells trace call (Ok n) (shows m).fills (shows source).fills v target)
 
 -- the turn that a copy ended in with this answer, begun again where it was interrupted
@@ -148,7 +148,7 @@ pub record LastTurn {B W : Type 0} (shows : B → StreamLog) (tells : W → Stre
   pub target : W
   pub read : reads b source
   pub wrote : trace w target
-  pub begins : BeginsTurn shows tells trace call b source w target
+  pub begins : BeginsTurn shows tells reads trace call b source w target
   pub turn : CopyRetried tells trace call answer (shows source).fills (shows b').fills target w'
 
 -- a whole copy: at Ok it ended, and the total is the number of bytes that went over; at an `Err` some went over, and

@@ -45,10 +45,11 @@ pub record Offers {W : Type 0} (tells : W → StreamLog) (trace : W → W → Ty
   pub told : tells t ≡ after_write (tells s) bs answer
   pub traced : trace s t
 
--- a row of writes begins where a call does, or behind a write that took bytes
+-- a row of writes begins where a call does, or behind one of its writes that took bytes
 abbrev pub BeginsRow : {W : Type 0} → (W → StreamLog) → (W → W → Type 0) → W → W → Type 0
 BeginsRow {W} tells trace w begun =
-    (begun ≡ w) ⊎ ((before : W) × (bs : List ℕ) × (n : ℕ) × (0 < n) × Offers tells trace bs before (Ok n) begun)
+    (begun ≡ w) ⊎ ((before : W) × trace w before × (bs : List ℕ) × (n : ℕ) × (0 < n)
+    × Offers tells trace bs before (Ok n) begun)
 
 -- the row of writes that a call ended in: of the same bytes, the last with this answer, and each before it interrupted
 pub record LastRow {W : Type 0} (tells : W → StreamLog) (trace : W → W → Type 0) (answer : Result ℕ Error) (w w' : W)

@@ -49,7 +49,8 @@ pub fn add_total(total: u64, n: usize) -> Option<u64>
 
 // A turn, begun again where it was interrupted, `INTERRUPT_LIMIT` times at the most.
 fn copy_retried<B: TellBufRead, W: TellWrite>(b: &mut B, w: &mut W) -> io::Result<usize>
-    ensures last { (m : B) × (v : W) × CopyTurn W.log W.trace W.call result (B.log m).fills (B.log b.new).fills v w.new }
+    ensures last { (m : B) × (v : W) × B.trace b.old m × W.trace w.old v × B.trace m b.new × W.trace v w.new
+        × CopyTurn W.log W.trace W.call result (B.log m).fills (B.log b.new).fills v w.new }
     ensures retried { CopyRetried W.log W.trace W.call result (B.log b.old).fills (B.log b.new).fills w.old w.new }
     ensures reader { B.trace b.old b.new }
     ensures writer { W.trace w.old w.new }

@@ -93,8 +93,18 @@ turns-preserved g c =
       reader = g.met.B.TellBufRead.trace_joins _ _ _ before.reader c.in_ok-taken.ensures.reader;
       writer = g.met.W.TellWrite.trace_joins _ _ _ before.writer c.in_ok-taken.ensures.writer;
       begins =
-          let last = c.in_ok-taken.ensures.last in
-          inr (last.0, last.1, c.in_ok-taken.taken, omega (arith, some), last.2);
+          let (m, v, read, wrote, reads, writes, turn) = c.in_ok-taken.ensures.last in
+          inr (
+            m,
+            v,
+            g.met.B.TellBufRead.trace_joins _ _ _ before.reader read,
+            g.met.W.TellWrite.trace_joins _ _ _ before.writer wrote,
+            reads,
+            writes,
+            c.in_ok-taken.taken,
+            omega (arith, some),
+            turn,
+          );
       still = λ takes.
           turn.answers.none_ended (TakesNothing-after _ _ _ g.met.W.TellWrite.trace_joins before.writer takes)
           (omega (arith, some))

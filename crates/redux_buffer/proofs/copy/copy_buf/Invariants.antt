@@ -10,7 +10,8 @@ invariant-turns g l = record {
       ≤ faults_met (g.B.Tell.log l.initial.b).fills (g.W.Tell.log l.initial.w).writes + 64 * l.total;
   reader : g.B.TellBufRead.trace l.initial.b l.b;
   writer : g.W.TellWrite.trace l.initial.w l.w;
-  begins : BeginsTurn g.B.Tell.log g.W.Tell.log g.W.TellWrite.trace g.W.TellWrite.call l.initial.b l.b l.initial.w l.w;
+  begins : BeginsTurn g.B.Tell.log g.W.Tell.log g.B.TellBufRead.trace g.W.TellWrite.trace
+      g.W.TellWrite.call l.initial.b l.b l.initial.w l.w;
   still : TakesNothing g.W.Tell.log g.W.TellWrite.trace g.W.TellWrite.call l.initial.w
       → (g.B.Tell.log l.b).fills.zero_fills ≡ (g.B.Tell.log l.initial.b).fills.zero_fills;
 }

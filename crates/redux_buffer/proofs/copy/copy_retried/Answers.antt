@@ -5,13 +5,22 @@ use Rattle.redux_buffer.proofs.Turning.{last_retried}
 use Rattle.redux_buffer.proofs.copy.copy_retried.Goals as goal
 
 pub returns-in-Ok-clause-last : goal.returns-in-Ok-clause-last
-returns-in-Ok-clause-last g c = (c.loop.b, c.loop.w, c.in-Ok.ensures.turn)
+returns-in-Ok-clause-last g c = 
+    let before = c.loop.invariant in
+    let turn = c.in-Ok.ensures in
+    (c.loop.b, c.loop.w, before.reader, before.writer, turn.reader, turn.writer, turn.turn)
 
 pub returns-then-ne-clause-last : goal.returns-then-ne-clause-last
-returns-then-ne-clause-last g c = (c.loop.b, c.loop.w, c.in-Err.ensures.turn)
+returns-then-ne-clause-last g c = 
+    let before = c.loop.invariant in
+    let turn = c.in-Err.ensures in
+    (c.loop.b, c.loop.w, before.reader, before.writer, turn.reader, turn.writer, turn.turn)
 
 pub returns-clause-last : goal.returns-clause-last
-returns-clause-last g c = (c.loop.b, c.loop.w, c.copy_turn-2.ensures.turn)
+returns-clause-last g c = 
+    let before = c.loop.invariant in
+    let turn = c.copy_turn-2.ensures in
+    (c.loop.b, c.loop.w, before.reader, before.writer, turn.reader, turn.writer, turn.turn)
 
 pub returns-in-Ok-clause-retried : goal.returns-in-Ok-clause-retried
 returns-in-Ok-clause-retried g c =

@@ -1,7 +1,7 @@
 -- What a write took follows what was sent before; only one that leaves nothing took all that it was offered.
 use Rattle.std.proofs.Common.{◌≡◌, ◌≤◌, ◌<◌, ◌+◌, ◌-◌, [], ◌++◌, length, arith, rules, ap, ◌∙◌, inl, inr, refl, length-append, length-drop, length-take-le}
 use Rattle.redux_buffer.specs.Faults.{OnlyInterrupted-none}
-use Rattle.redux_buffer.proofs.Sending.{Sent-more, only_more, short_more, whole_more, sends_failed, sends_nothing}
+use Rattle.redux_buffer.proofs.Sending.{Sent-more, only_more, short_more, traced_last, whole_more, sends_failed, sends_nothing}
 use Rattle.redux_buffer.proofs.buffer.Buffer.write_max.Goals as goal
 
 pub returns-in-Err-clause-sent : goal.returns-in-Err-clause-sent
@@ -84,6 +84,10 @@ loop-left-preserved g c =
           (inv.short (omega (arith, some, fits))) wrote (omega (arith, none, size));
       untouched = λ none. absurd (omega (arith, none, some));
       trace = g.met.W.TellWrite.trace_joins _ _ _ inv.trace c.in-Ok.ensures.trace;
-      begins = inr (c.in-Ok.ensures.retried.last, _, n, some, c.in-Ok.ensures.retried.went);
+      begins =
+          let r = c.in-Ok.ensures.retried in
+          let joins = g.met.W.TellWrite.trace_joins in
+          let reached = joins _ _ _ inv.trace (traced_last _ _ g.met.W.TellWrite.trace_none joins _ _ _ _ r) in
+          inr (r.last, reached, _, n, some, r.went);
       whole = c.consume.ensures.whole;
     }
