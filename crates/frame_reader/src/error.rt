@@ -2,7 +2,7 @@
 use std::error::Error;
 use std::{fmt, io};
 
-/// Why there is no next frame. What came of it stays buffered, and the next call looks at it again.
+/// Why there is no next frame. What came of it stays buffered, and the next call goes on from there.
 ///
 /// ```
 /// let mut reader = FrameReader::new(alloc, Told::new(b"\x00\x02h".as_slice()), 100)?;

@@ -191,7 +191,7 @@ impl<R: TellRead> FrameReader<R> {
     /// Lends the payload of the next frame out of the buffer; the next call drops it. `None` where the stream ended behind
     /// the last frame. The stream is read only where no whole frame is buffered.
     ///
-    /// An `Err` says why there is no frame, and leaves what came of it: the next call looks at it again. So a `TooLong` is
+    /// An `Err` says why there is no frame, and leaves what came of it: the next call goes on from there. So a `TooLong` is
     /// returned each time.
     #[inline(always)]
     pub fn next(&mut self) -> Result<Option<&[u8]>, FrameError>

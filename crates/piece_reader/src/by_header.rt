@@ -6,7 +6,8 @@ use crate::header::Header;
 use crate::header_error::HeaderError;
 use crate::length_prefixed::LengthPrefixed;
 
-/// The decoder of pieces that have a header. A length above the greatest is refused before anything is added to it.
+/// The decoder of pieces that have a header. A length above the greatest is refused before anything is added to it. Once the
+/// header is there, it asks for the whole piece.
 #[derive(Clone, Copy, Debug, Drop)]
 pub struct ByHeader<H: LengthPrefixed>(pub H);
 

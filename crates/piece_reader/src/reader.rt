@@ -1,5 +1,5 @@
 //! The reader of pieces.
-ghost use Rattle.std.specs.Prelude.{◌≡◌, ℕ, ◌+◌, ◌*◌, ◌<◌, ◌≤◌, ◌^◌, List, [], ◌++◌, drop, length, take, Ok, Err, Some, None, ◌↔◌, IfOk, IfErr, IfSome, IsOk, IsTrue, true};
+ghost use Rattle.std.specs.Prelude.{◌≡◌, ℕ, ◌+◌, ◌*◌, ◌<◌, ◌≤◌, ◌^◌, List, [], ◌++◌, drop, length, take, Ok, Err, Some, None, ◌↔◌, IfOk, IfErr, IfSome, IsOk, true};
 ghost use Rattle.std.specs.Borrow.{Lends, sem};
 ghost use Rattle.buffer_redux.specs.Block.{Plain};
 ghost use Rattle.buffer_redux.specs.Buffered.{with_inner, with_policy};
@@ -8,9 +8,9 @@ ghost use Rattle.buffer_redux.specs.MakeError.{growth};
 ghost use Rattle.piece_reader.specs.contracts.reader.PieceReader.{the_row};
 ghost use Rattle.piece_reader.specs.declared.error.NextError.TheVariants.{Wrong};
 ghost use Rattle.piece_reader.specs.Decoding.{IsLent, bytes_at};
-ghost use Rattle.piece_reader.specs.Grammar.{Begins, IsOpenBelow};
-ghost use Rattle.piece_reader.specs.PieceReader.{IsOver, IsPieceReader, IsFresh, IsSettled, Skips, TakenApart, rest, room_for};
-ghost use Rattle.piece_reader.specs.NextPiece.{HandsBytes, NextBuffered, NextPiece, Refills, buffered_answer, load_answer};
+ghost use Rattle.piece_reader.specs.Grammar.{IsOpenBelow};
+ghost use Rattle.piece_reader.specs.PieceReader.{IsOver, IsPieceReader, IsFresh, Skips, TakenApart, rest, room_for};
+ghost use Rattle.piece_reader.specs.NextPiece.{HandsBytes, NextBuffered, NextPiece, buffered_answer, load_answer};
 
 mod asking;
 mod saying;
