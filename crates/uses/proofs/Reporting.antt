@@ -9,9 +9,9 @@ pub Tells-of : {F : Type 0} {step : F → ℕ → F → Type 0} {report : F} {ca
 Tells-of {step = step} {report = report} {count = count} k last same told =
     record { last = last; told = subst (λ n. Reports step report n (u64_saturate count) last) same told }
 
-pub rises : (n k : ℕ) → 0 < k
-    → (u64_saturate n < u64_saturate (n + k)) ⊎ (u64_saturate (n + k) ≡ 2 ^ 64 - 1)
-rises n k some = elim (cases_lt (n + k) (2 ^ 64 - 1)) [
+pub rises : (n k : ℕ) → 0 < k → (u64_saturate n < u64_saturate (n + k))
+    ⊎ ((u64_saturate n ≡ u64_saturate (n + k)) × (u64_saturate (n + k) ≡ 2 ^ 64 - 1))
+rises n k some = elim (cases_lt n (2 ^ 64 - 1)) [
   | inl less ↦ inl (omega (arith, less, some))
-  | inr much ↦ inr (omega (arith, much))
+  | inr much ↦ inr (omega (arith, much), omega (arith, much))
 ]

@@ -9,8 +9,8 @@ use Rattle.std.specs.Io.Iter.{u64_saturate}
 -- k calls of a callback with numbers that rise, unless they can't any more, the last of them n
 abbrev pub Reports : {F : Type 0} → (F → ℕ → F → Type 0) → F → ℕ → ℕ → F → Type 0
 Reports step f zero n g = (n ≡ 0) × (g ≡ f)
-Reports {F} step f (suc k) n g = (m : ℕ) × (before : F) × Reports step f k m before × ((m < n) ⊎ (n ≡ 2 ^ 64 - 1))
-    × step before n g
+Reports {F} step f (suc k) n g = (m : ℕ) × (before : F) × Reports step f k m before
+    × ((m < n) ⊎ ((m ≡ n) × (n ≡ 2 ^ 64 - 1))) × step before n g
 
 -- in so many calls the callback was last told of so many bytes
 pub record Tells {F : Type 0} (step : F → ℕ → F → Type 0) (report : F) (calls count : ℕ) : Type 0 where
