@@ -86,7 +86,7 @@ pub fn buffered_writer<W: TellWrite>(
 }
 
 /// Sends all that is buffered where so many more bytes don't fit, and makes all free space usable. Nothing is flushed.
-/// An interrupted write is answered only behind `INTERRUPT_LIMIT` others.
+/// An interrupted write is answered only behind `INTERRUPT_LIMIT` others in a row.
 pub fn make_room<W: TellWrite>(target: &mut BufWriter<W>, whole: usize) -> io::Result<()>
     requires plain { target.old.block.kind ≡ Plain }
     requires inside { whole ≤ target.old.block.capacity }

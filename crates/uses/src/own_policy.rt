@@ -9,8 +9,7 @@ use buffer_redux::{BufReader, Buffer};
 use std::io;
 use std::io::BufRead;
 
-/// Has sixteen bytes in sight, as far as there are so many. It fails only where a buffer
-/// that is too small for them can't grow.
+/// Has sixteen bytes in sight, as far as there are so many. It fails only where a buffer that is too small for them can't grow.
 #[derive(Drop)]
 pub struct HeaderFirst;
 
@@ -32,7 +31,8 @@ impl ReaderPolicy for HeaderFirst {
     fn after_consume(&mut self, _buffer: &mut Buffer, _amt: usize) {}
 }
 
-/// Whether sixteen bytes are in sight; if not, the stream has ended. They stay in the reader.
+/// Whether sixteen bytes are in sight; if not, the stream has ended. They stay in the reader; where they are there, nobody
+/// is asked.
 pub fn sees_header<R: TellRead>(reader: &mut BufReader<R, HeaderFirst>) -> io::Result<bool>
     ensures seen { IfOk result (λ seen. IsTrue seen ↔ 16 ≤ length reader.new.block.bytes) }
     ensures ended { result ≡ Ok false → RanDry reader.old reader.new }

@@ -26,7 +26,8 @@ pub enum Format {
     Other,
 }
 
-/// The format of a stream, and the stream with all its bytes.
+/// The format of a stream, and the stream with all its bytes, in a reader that waits for sixteen. The stream was asked
+/// sixteen times at most.
 pub fn open<R: Read + Drop>(
     alloc: Global,
     from: R,
@@ -43,7 +44,8 @@ pub fn open<R: Read + Drop>(
     Ok((format, reader))
 }
 
-/// The format that the next bytes tell. They stay in the reader.
+/// The format that the next bytes tell. They stay in the reader, which asks nobody where its minimum is there, and keeps
+/// that.
 pub fn sniff<R: TellRead>(reader: &mut BufReader<R, MinBuffered>) -> io::Result<Format>
     requires enough { 16 ≤ reader.old.policy.0 }
     ensures format { IfOk result (λ f. f ≡ format_of (take 16 reader.new.block.bytes)) }
