@@ -1,5 +1,5 @@
 -- Which bodies are too large.
-use Rattle.std.proofs.Common.{◌≡◌, ℕ, ◌+◌, ◌-◌, ◌*◌, ◌^◌, ◌≤◌, ◌||◌, nat_lt, min, Bool, false, List, [], Option, ◌++◌, length, sym, ap, subst, inl, inr, ◌∙◌, refl, arith}
+use Rattle.std.proofs.Common.{◌≡◌, ℕ, ◌+◌, ◌-◌, ◌*◌, ◌^◌, ◌≤◌, ◌⊎◌, ◌||◌, nat_lt, min, Bool, false, List, [], Option, ◌++◌, length, sym, ap, subst, inl, inr, ◌∙◌, refl, arith}
 use Rattle.std.proofs.lemmas.Bool.{cases_lt, le-ltb, lt-ltb}
 use Rattle.messages.specs.declared.head.Extent.{Extent}
 use Rattle.messages.specs.declared.head.Extent.TheVariants.{Sized, Chunked}
@@ -31,11 +31,12 @@ tested e e' m q taken payload b is same count len = sym (is ∙ ap (λ x. is_lar
     ∙ large_counted e' (length taken) (length payload))
 
 -- what was read is no older than the last read, where it wasn't too large before that
-pub fresh_behind : {S : Type 0} {remaining : S → Option (List ℕ)} {b m t : InBody S} (most : ℕ) (payload last : List ℕ)
+pub fresh_behind : {S : Type 0} {remaining : S → Option (List ℕ)} {b m t : InBody S} (payload last : List ℕ)
     → b.taken ≡ [] → b.rest ≡ body_of usual b.said.extent → InsideGoes remaining b payload m
-    → is_large b.said.extent (length m.taken) (length payload) ≡ false → InsideGoes remaining m last t → length last ≤ most
-    → IsNewlyLarge b.said.extent most t.taken (payload ++ last)
-fresh_behind {b = b} {m = m} most payload last first whole goes small more few =
+    → is_large b.said.extent (length m.taken) (length payload) ≡ false → InsideGoes remaining m last t
+    → (last ≡ []) ⊎ ((last ≡ t.calls.reads.latest) × (length last ≤ 4096))
+    → IsNewlyLarge b.said.extent t.calls.reads.latest t.taken (payload ++ last)
+fresh_behind {b = b} {m = m} payload last first whole goes small more noted =
     let wire : goes.takes.wire ≡ m.taken = sym (goes.taken ∙ ap (λ l. l ++ goes.takes.wire) first) in
     inr (
       m.taken,
@@ -45,7 +46,7 @@ fresh_behind {b = b} {m = m} most payload last first whole goes small more few =
       m.rest,
       more.taken,
       refl,
-      few,
+      noted,
       subst (λ r. Backward r m.taken payload m.rest) whole
           (subst (λ l. Backward b.rest l payload m.rest) wire goes.takes.backward),
       small,

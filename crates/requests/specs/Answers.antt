@@ -170,7 +170,7 @@ IsToBeRefused s (Inside body) handed why = ((why ≡ BadRequest)
     × (((name : Malformed) × GoesWrong body.rest body.stream.left name)
     ⊎ ((ends_of s < ends_of body.stream) × (body.stream.left ≡ [])
     × ((payload : List ℕ) → ¬ (IsRest body.rest [] payload)))))
-    ⊎ ((why ≡ LargeBody) × TurnsLarge body.said.extent body.taken handed)
+    ⊎ ((why ≡ LargeBody) × TurnsLarge body.said.extent body.calls.reads.latest body.taken handed)
 
 -- the stream ended, and nothing is left but empty lines, where a head would begin
 abbrev pub EndedBeforeHead : {S : Type 0} → Unbuffered S → Place S → Type 0
@@ -240,7 +240,7 @@ TakeFails s handed (Body (Io e)) b w' =
 TakeFails s handed (Body wrong) b w' =
     EndsOnce s.log.reads b.stream.log.reads × OnlyInterrupts (faults_of s) (faults_of b.stream)
     × IsToBeRefused s (Inside b) handed BadRequest
-TakeFails s handed Large b w' = ReadsSteadily s b.stream × TurnsLarge b.said.extent b.taken handed
+TakeFails s handed Large b w' = ReadsSteadily s b.stream × TurnsLarge b.said.extent b.calls.reads.latest b.taken handed
 TakeFails s handed (Unsent e) b w' = ReadsSteadily s b.stream
 TakeFails s handed Many b w' = ReadsSteadily s b.stream × IsMany (length handed) s b.stream
 

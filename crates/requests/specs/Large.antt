@@ -15,15 +15,16 @@ abbrev pub is_large : Extent → ℕ → ℕ → Bool
 is_large (Sized all) taken payload = nat_lt max_payload payload || nat_lt max_payload all
 is_large Chunked taken payload = nat_lt max_payload payload || nat_lt (16384 + 6 * payload) taken
 
--- it wasn't before the last read, which handed out this much payload at most: each body that begins with what had been taken then
--- has the payload before that in front; or nothing was read
-abbrev pub IsNewlyLarge : Extent → ℕ → List ℕ → List ℕ → Type 0
-IsNewlyLarge extent most taken handed = ((taken ≡ []) × (handed ≡ []))
+-- it wasn't before the last read, which handed this out, or nothing: each body that begins with what had been taken then has the
+-- payload before that in front; or nothing was read
+abbrev pub IsNewlyLarge : Extent → List ℕ → List ℕ → List ℕ → Type 0
+IsNewlyLarge extent latest taken handed = ((taken ≡ []) × (handed ≡ []))
     ⊎ ((before : List ℕ) × (wire : List ℕ) × (payload : List ℕ) × (last : List ℕ) × (rest : Rest) × (taken ≡ before ++ wire)
-    × (handed ≡ payload ++ last) × (length last ≤ most) × Backward (body_of usual extent) before payload rest
+    × (handed ≡ payload ++ last) × ((last ≡ []) ⊎ ((last ≡ latest) × (length last ≤ 4096)))
+    × Backward (body_of usual extent) before payload rest
     × (is_large extent (length before) (length payload) ≡ false))
 
 -- what was taken of a body is too large with this payload, as soon as that was read
-pub record TurnsLarge (extent : Extent) (taken handed : List ℕ) : Type 0 where
+pub record TurnsLarge (extent : Extent) (latest taken handed : List ℕ) : Type 0 where
   pub large : IsTrue (is_large extent (length taken) (length handed))
-  pub fresh : IsNewlyLarge extent 4096 taken handed
+  pub fresh : IsNewlyLarge extent latest taken handed

@@ -1,5 +1,5 @@
 //! Bodies are taken whole, and their payload counted.
-ghost use Rattle.std.specs.Prelude.{◌≡◌, ℕ, ◌<◌, ◌≤◌, false, List, [], length, IfErr, IfOk, MatchResult, Ok, OnOk};
+ghost use Rattle.std.specs.Prelude.{◌≡◌, ℕ, ◌<◌, ◌≤◌, false, List, [], length, take, IfErr, IfOk, MatchResult, Ok, OnOk};
 ghost use Rattle.body_reader.specs.Asking.{AskedWhere};
 ghost use Rattle.body_reader.specs.Between.{handed_out};
 ghost use Rattle.codec.specs.PieceReader.{left_of};
@@ -116,6 +116,7 @@ fn read_on<R: TellRead, W: TellWrite>(
     requires some { 0 < length out.old }
     requires held { IsHeld writer.old }
     ensures bound { IfOk result (λ n. n ≤ length out.new) }
+    ensures noted { IfOk result (λ n. 0 < n → body.new.calls.reads.latest ≡ take n out.new) }
     ensures goes { InsideGoes R.remaining body.old (handed_out out.new result) body.new }
     ensures reads { IfOk result (λ n. ReadsSome body.old.stream n body.new) }
     ensures fails { IfErr result (λ e. FailsOn body.old.stream e body.new writer.new) }
@@ -140,6 +141,7 @@ fn read_on<R: TellRead, W: TellWrite>(
 fn read<R: TellRead>(body: &mut Body<R>, out: &mut [u8]) -> Result<usize, Untaken>
     requires { 0 < length out.old }
     ensures bound { IfOk result (λ n. n ≤ length out.new) }
+    ensures noted { IfOk result (λ n. 0 < n → body.new.calls.reads.latest ≡ take n out.new) }
     ensures goes { InsideGoes R.remaining body.old (handed_out out.new result) body.new }
     ensures reads { IfOk result (λ n. ReadsSome body.old.stream n body.new) }
     ensures fails { IfErr result (λ e. FailsToRead body.old.stream e body.new) }

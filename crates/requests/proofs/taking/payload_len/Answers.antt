@@ -1,5 +1,5 @@
 -- The payload of each read joins what came before, which wasn't too large before the last read.
-use Rattle.std.proofs.Common.{◌≡◌, ◌∙◌, ℕ, ◌+◌, ◌≤◌, List, [], ◌++◌, length, take, Option, ap, arith, inl, inr, length-append, refl, subst, sym}
+use Rattle.std.proofs.Common.{◌≡◌, ◌∙◌, ℕ, zero, suc, ◌+◌, ◌<◌, ◌≤◌, ◌⊎◌, List, [], ◌++◌, length, take, Option, ap, arith, inl, inr, length-append, refl, subst, sym}
 use Rattle.std.proofs.lemmas.List.{length-take-le}
 use Rattle.messages.specs.Messages.{InBody, InsideGoes}
 use Rattle.messages.specs.MessagesLaws.{InsideGoes-joins, InsideGoes-none}
@@ -17,6 +17,14 @@ on {R} {remaining} {b} {m} {t} {payload} {len} out count before many bound goes 
   InsideGoes-joins remaining b m t payload (take count out) before goes,
   omega (arith, many, length-append payload (take count out), length-take-le count out bound),
 )
+
+-- a read handed out what it noted, or nothing
+latest_of : {latest : List ℕ} (count : ℕ) (out : List ℕ) → count ≤ length out → count ≤ 4096
+    → (0 < count → latest ≡ take count out)
+    → (take count out ≡ []) ⊎ ((take count out ≡ latest) × (length (take count out) ≤ 4096))
+latest_of zero out bound few noted = inl refl
+latest_of (suc n) out bound few noted =
+    inr (sym (noted (omega arith)), omega (arith, length-take-le (suc n) out bound, few))
 
 pub returns-then-is_large-clause-goes : goal.returns-then-is_large-clause-goes
 returns-then-is_large-clause-goes g c =
@@ -77,16 +85,17 @@ returns-then-is_large-2-clause-goes g c =
     let more = on out c.in-Ok.count before.goes before.many read.bound read.goes in
     let last = take c.in-Ok.count out in
     let extent = c.args.body.now.said.extent in
-    let taken = c.read_on.new.body.taken in (
+    let taken = c.read_on.new.body.taken in
+    let latest = c.read_on.new.body.calls.reads.latest in (
       before.payload ++ last,
       more.0,
       (
         steadily before.steady read.reads.steady,
-        subst (λ x. TurnsLarge x.extent taken (before.payload ++ last)) (sym more.0.said) (record {
+        subst (λ x. TurnsLarge x.extent latest taken (before.payload ++ last)) (sym more.0.said) (record {
           large = tested _ extent _ _ taken (before.payload ++ last) _ c.is_large-in-loop-read.ensures
               (ap (λ x. x.extent) c.said-extent.ensures.value) c.taken-in-loop-read.ensures more.1 ∙ c.if-is_large-2.true;
-          fresh = fresh_behind 4096 before.payload last c.requires.first c.requires.rest before.goes before.small read.goes
-              (omega (arith, length-take-le c.in-Ok.count out read.bound, read.bound, c.read_on.auto.out));
+          fresh = fresh_behind before.payload last c.requires.first c.requires.rest before.goes before.small read.goes
+              (latest_of c.in-Ok.count out read.bound (omega (arith, read.bound, c.read_on.auto.out)) read.noted);
         }),
       ),
     )

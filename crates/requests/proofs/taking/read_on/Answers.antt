@@ -40,6 +40,7 @@ returns-in-Ok g c =
     c.read.ensures.asked (search rules) c.read.ensures.asks in
     record {
       bound = c.read.ensures.bound;
+      noted = c.read.ensures.noted;
       goes = InsideGoes-joins g.R.TellRead.remaining c.args.body.now m t [] (handed_out c.read.new.out c.read.result)
           goes c.read.ensures.goes;
       reads = reads_since s m.stream t none.unasked c.read.result c.read.ensures.reads;
