@@ -163,7 +163,8 @@ module _ {S Q P W : Type 0} (remaining : S → Option (List ℕ)) (rules : ReadR
   abbrev pub NoneShown : P → List ℕ → Type 0
   NoneShown p bytes = IsDone g p ⊎ (IsOpen g p bytes ⊎ ((why : W) × g.wrong p bytes why))
 
-  -- taking what is buffered and no payload, up to payload that is known, or none is shown; nobody is asked
+  -- taking what is buffered and no payload, up to payload that is known, or none is shown; nobody is asked, and once the body
+  -- ended nothing is done
   pub record FindsKnown (s : Buffered S Q) (p : Progress P) (before : ℕ) (t : Buffered S Q) (q : Progress P) (after : ℕ)
       : Type 0 where
     pub wire : List ℕ
@@ -175,7 +176,8 @@ module _ {S Q P W : Type 0} (remaining : S → Option (List ℕ)) (rules : ReadR
     pub all : before ≡ 0 → 0 < after → AllShown g q.place after t.block.bytes
     pub none : after ≡ 0 → NoneShown q.place t.block.bytes
 
-  -- handing out of what is buffered into a slice, which is left so, as much as it takes; nobody is asked
+  -- handing out of what is buffered into a slice, which is left so, as much as it takes; nobody is asked. Once the body ended, or
+  -- where it is empty, nothing is done
   pub record HandsShown (s : Buffered S Q) (p : Progress P) (before : ℕ) (out : List ℕ) (handed : ℕ) (t : Buffered S Q)
       (q : Progress P) (after : ℕ) : Type 0 where
     pub wire : List ℕ
@@ -190,7 +192,7 @@ module _ {S Q P W : Type 0} (remaining : S → Option (List ℕ)) (rules : ReadR
     pub all : (handed ≡ length out) ⊎ NoneShown q.place t.block.bytes
 
   -- handing payload out into a slice, which is left so: no less than can be, and what a look told stays known. None comes into
-  -- one that isn't empty only where the body ended
+  -- one that isn't empty only where the body ended; where it is empty nothing is done
   abbrev pub HandsOn : ℕ → Buffered S Q → Progress P → List ℕ → Result ℕ (BodyError W) → Buffered S Q → Progress P → ℕ → Type 0
   HandsOn before s p out answer t q after = Proceeds (length out) s p (handed_out out answer) answer
       (λ n. (n ≤ length out) × (n ≡ 0 → 0 < length out → IsDone g q.place)

@@ -87,8 +87,9 @@ module _ {S Q C P W : Type 0} (remaining : S → Option (List ℕ)) (rules : Rea
 
   -- what one call of `read_payload` does, which left the slice as out. The stream is asked only where nothing was settled, and
   -- no payload left, and for as much as surely is payload and fits the slice; past the buffer for no less than that holds. No
-  -- less is handed out than can be, nor than is known: what was known, or a look told, and isn't handed out stays known. Once
-  -- the body ended, or where the slice is empty, the buffered reader isn't called. An Ok read is noted, and no other
+  -- less is handed out than can be, nor than is known: what was known, or a look told, and isn't handed out stays known. Where
+  -- some was known the policy is told once of what is handed out. An Ok read is noted, and no other. Once the body ended, or
+  -- where the slice is empty, nothing else is done
   pub record ReadsPayload (s : BodyState S Q C P) (out : List ℕ) (answer : Result ℕ (BodyError W)) (t : BodyState S Q C P)
       : Type 0 where
     pub went : BodyWent s (handed_out out answer) t

@@ -1,5 +1,5 @@
 //! The steps of a reader of a body, over the buffered reader.
-ghost use Rattle.std.specs.Prelude.{[], ◌≡◌, ℕ, ◌-◌, ◌<◌, ◌≤◌, length, min, take, drop, IfOk};
+ghost use Rattle.std.specs.Prelude.{◌≡◌, ℕ, ◌-◌, ◌<◌, ◌≤◌, length, min, take, IfOk};
 ghost use Rattle.buffer_redux.specs.Buffered.{GoesPast};
 ghost use Rattle.buffer_redux.specs.BufReader.{ReaderConsumes};
 ghost use Rattle.body_reader.specs.Coding.{Carries, IsKnown, Looks};

@@ -183,7 +183,7 @@ AsksForMore s r out t = s.left ≡ [] → 0 < length out → ¬ (IsRest r [] [])
 abbrev pub EachReadGave : {S : Type 0} → Unbuffered S → Unbuffered S → Type 0
 EachReadGave s t = (t.log.reads.faults ≡ s.log.reads.faults) × (t.log.reads.zero_reads ≡ s.log.reads.zero_reads)
 
--- each read that was noted since gave bytes
+-- no read was noted since that failed or came to the end, nor more of them than bytes
 pub record NotesEach (before after : StreamLog) : Type 0 where
   pub faults : after.reads.faults ≡ before.reads.faults
   pub zero_reads : after.reads.zero_reads ≡ before.reads.zero_reads
