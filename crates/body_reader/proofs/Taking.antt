@@ -1,8 +1,6 @@
 -- Pieces of payload are taken, one after another.
 use Rattle.std.proofs.Common.{◌≡◌, ℕ, zero, suc, ◌<◌, List, [], ◌++◌, min, take, Option, Result, Ok, subst, sym, ◌∙◌, arith, inl, inr, refl, append-nil}
-use Rattle.buffer_redux.specs.BufReader.{ReaderConsumes}
 use Rattle.buffer_redux.specs.Policy.{ReadRules}
-use Rattle.buffer_redux.specs.StreamLog.{after_read}
 use Rattle.buffer_redux.specs.Unbuffer.{unbuffered}
 use Rattle.body_reader.specs.declared.error.BodyError.{BodyError}
 use Rattle.body_reader.specs.declared.error.BodyError.TheVariants.{Wrong, Truncated, Io}
@@ -98,37 +96,23 @@ module _ {S Q C P W : Type 0} {remaining : S → Option (List ℕ)} {rules : Rea
         → Taken remaining rules g s (payload ++ take f.known f.reader.block.bytes) t
     taken_more some lawful t takes =
         let bytes = f.reader.block.bytes in
-        let piece = take f.known bytes in
-        let here = fills'.went.coding ∙ so.went.coding in
+        let here : ConsumesPayload remaining rules g n f t =
+        subst (λ c. ConsumesPayload remaining rules (grammar c) n f t) (fills'.went.coding ∙ so.went.coding) takes in
         let all : min n f.known ≡ f.known = omega (arith, fills'.answers.0) in
-        let more : 0 < min n f.known = omega (arith, some, fills'.answers.0) in
-        let goes : BodyWent remaining rules g f piece t =
-        subst (λ c. BodyWent remaining rules (grammar c) f piece t) here
-        (subst (λ k. BodyWent remaining rules (grammar f.coding) f (take k bytes) t) all takes.went) in
-        let consumed : ReaderConsumes rules f.known f.reader t.reader =
-        subst (λ k. ReaderConsumes rules k f.reader t.reader) all (takes.consumed more) in
         record {
-          went = BodyWent-joins remaining rules g s f t payload piece (filled_went fills') goes;
-          gave = EachGave-joins s.reader f.reader t.reader filled_gave (EachGave-same f.reader t.reader consumed.told);
+          went = BodyWent-joins remaining rules g s f t payload (take f.known bytes) (filled_went fills')
+              (subst (λ k. BodyWent remaining rules g f (take k bytes) t) all here.went);
+          gave = EachGave-joins s.reader f.reader t.reader filled_gave (EachGave-same f.reader t.reader here.told);
           count = suc so.count;
           pieces = (
             m,
             so.pieces,
-            record {
-              shown = n;
-              filled = f;
-              some = some;
-              fills = fills_here fills';
-              went = goes;
-              consumed = consumed;
-              noted = subst (λ k. t.calls ≡ after_read f.calls (take k bytes) (Ok k)) all (takes.noted.0 more);
-              none_left = omega (arith, takes.left, fills'.answers.0);
-            },
+            record { shown = n; filled = f; some = some; fills = fills_here fills'; consumes = here },
           );
           asked = AskedWhere-same (Unsettled g s) (unbuffered s.reader) (unbuffered f.reader) (unbuffered t.reader)
-              consumed.told (filled_asked fills');
+              here.told (filled_asked fills');
           ended = λ whole. absurd (not_whole remaining rules g lawful f (fills_here fills').whole
               (omega (arith, some, fills'.answers.0)) (subst (TookWholeBody g) (sym (filled_ended fills' whole)) whole));
           first = so.first;
-          whole = subst (λ c. IsBodyReader (grammar c) t) here takes.whole;
+          whole = here.whole;
         }

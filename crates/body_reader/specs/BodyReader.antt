@@ -138,10 +138,7 @@ module _ {S Q C P W : Type 0} (remaining : S → Option (List ℕ)) (rules : Rea
     pub filled : BodyState S Q C P
     pub some : 0 < shown
     pub fills : FillsPayload s (Ok shown) filled
-    pub went : BodyWent filled (take filled.known filled.reader.block.bytes) t
-    pub consumed : ReaderConsumes rules filled.known filled.reader t.reader
-    pub noted : t.calls ≡ after_read filled.calls (take filled.known filled.reader.block.bytes) (Ok filled.known)
-    pub none_left : t.known ≡ 0
+    pub consumes : ConsumesPayload shown filled t
 
   -- so many pieces, one after another
   abbrev pub TakesManyPieces : ℕ → BodyState S Q C P → BodyState S Q C P → Type 0

@@ -1,5 +1,5 @@
 -- What calls of the reader of a body take of it and of its stream, and why they fail.
-use Rattle.std.proofs.Common.{◌≡◌, ℕ, zero, suc, ◌+◌, ◌<◌, ◌≤◌, List, [], ◌++◌, length, take, ◌⊎◌, inl, inr, Option, Err, sym, ap, subst, ◌∙◌, arith, refl, append-nil, length-append, replicate}
+use Rattle.std.proofs.Common.{◌≡◌, ℕ, zero, suc, ◌+◌, ◌<◌, ◌≤◌, List, [], ◌++◌, length, min, take, ◌⊎◌, inl, inr, Option, Err, sym, ap, subst, ◌∙◌, arith, refl, append-nil, length-append, replicate}
 use Rattle.std.proofs.lemmas.List.{length-replicate, length-take-le, nil_from_length}
 use Rattle.body_reader.specs.Between as between
 use Rattle.body_reader.specs.Between.{LeavesPlaces, LeavesRoom}
@@ -307,12 +307,12 @@ module _ {R : Type 0} (remaining : R → Option (List ℕ)) (g : Grammar (Side �
   piece_noted : {s t : Reader R} → TakesPiece remaining std_read_rules g s t → NotesEach s.calls t.calls
   piece_noted {s} {t} piece =
       let filled = piece.filled in
-      let n = filled.known in
+      let n = min piece.shown filled.known in
       let bytes = filled.reader.block.bytes in
       let some : 0 < n = omega (arith, piece.some, piece.fills.answers.0) in
-      let long : length (take n bytes) ≡ n = length-take-le n bytes piece.fills.whole.known.0 in
+      let long : length (take n bytes) ≡ n = length-take-le n bytes (omega (arith, piece.fills.whole.known.0)) in
       let before = piece.fills.noted in
-      let noted = piece.noted in
+      let noted = piece.consumes.noted.0 some in
       record {
         faults = ap (λ l. l.reads.faults) noted ∙ ap (λ l. l.reads.faults) before;
         zero_reads = ap (λ l. l.reads.zero_reads) noted
