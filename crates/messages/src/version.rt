@@ -3,7 +3,7 @@ ghost use Rattle.std.specs.Prelude.{◌≡◌, ◌<◌, ◌≤◌, IfSome, IsTru
 ghost use Rattle.std.specs.List.{prefix_len};
 ghost use Rattle.messages.specs.Versions.{first_len, has_later_version, has_other_version, is_end, is_later_version, is_other_version, later_at};
 
-/// How many ends of lines stand in front, in bytes: in front of a head they say nothing (RFC 9112, section 2.2).
+/// How many bytes in front are CR or LF: in front of a head they say nothing (RFC 9112, section 2.2).
 pub fn blank_len(bytes: &[u8]) -> usize
     ensures value { result ≡ prefix_len is_end bytes.now }
     ensures within { result ≤ length bytes.now }
