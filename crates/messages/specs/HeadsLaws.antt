@@ -1,28 +1,26 @@
 -- Laws of heads.
-use Rattle.std.specs.Prelude.{◌≡◌, ℕ, ◌≤◌, Bool, true, false, if◌then◌else◌, ◌&&◌, List, [], ◌∷◌, ◌++◌, length, take}
+use Rattle.std.specs.Prelude.{◌≡◌, ℕ, ◌≤◌, Bool, true, false, ◌&&◌, List, [], ◌∷◌, ◌++◌, length, take}
 use Rattle.std.proofs.Common.{sym, ap, subst, inl, inr, ◌∙◌, arith, refl, append_assoc, length-append}
 use Rattle.std.proofs.lemmas.Bool.{true≢false}
 use Rattle.std.proofs.lemmas.List.{length-drop}
 use Rattle.codec.specs.declared.HeaderError.{HeaderError}
 use Rattle.codec.specs.declared.scan.ScanStep.{ScanStep}
 use Rattle.codec.specs.declared.scan.ScanStep.TheVariants.{More, Sized, Bad}
-use Rattle.codec.specs.Grammar.{Begins, IsLawful, IsOpen}
+use Rattle.codec.specs.Grammar.{Begins, IsLawful}
 use Rattle.codec.specs.ScanningLaws.{scanned_headers}
 use Rattle.http1.specs.declared.fields.KnownFields.{KnownFields}
 use Rattle.http1.specs.declared.framing.MethodKind.{MethodKind}
 use Rattle.http1.specs.Framing.{method_kind, request_framing}
 use Rattle.http1.specs.Message.{known_of}
 use Rattle.httparse.proofs.GrammarLemmas.{request_unique}
-use Rattle.httparse.specs.Grammar.{RequestHead}
 use Rattle.messages.specs.declared.bad_head.BadHead.{BadHead}
 use Rattle.messages.specs.declared.bad_head.BadHead.TheVariants.{BareEnd, LongLine, LongHead, ManyFields, CutShort, Version, Tunnel, Coding, Refused}
-use Rattle.messages.specs.declared.head.ParsedHead.{ParsedHead}
 use Rattle.messages.specs.declared.limits.Limits.{Limits}
 use Rattle.messages.specs.declared.lines.Before.{Before}
 use Rattle.messages.specs.declared.lines.Before.TheVariants.{Start, StartReturn, First, FirstReturn, Feed, Text, Return, EmptyReturn}
-use Rattle.messages.specs.Faults.{IsFew, IsHeadFault, ends_chunked, has_many_lines, head_fault, is_connect, lines_fault, said_fault, text_fault}
+use Rattle.messages.specs.Faults.{IsHeadFault, ends_chunked, has_many_lines, head_fault, is_connect, lines_fault, said_fault}
 use Rattle.messages.specs.Heads.{IsHead, IsNoHead, heads}
-use Rattle.messages.specs.Lines.{fault_on, fault_then, line_fault, lines, texts, too_long, turn}
+use Rattle.messages.specs.Lines.{fault_on, fault_then, lines, texts, too_long, turn}
 use Rattle.messages.specs.LinesLaws.{line_fault_stays, lines_small, texts_lawful}
 use Rattle.messages.specs.Versions.{as_known, behind_blank, first_line, has_other_version}
 
@@ -123,23 +121,6 @@ whole_fault limits bytes e (inr (none, is)) = ap is_cut is ∙ whole_text limits
 pub never_cut : (limits : Limits) (bytes : List ℕ) (have : ℕ) → ¬ (IsNoHead limits bytes (CutShort have))
 never_cut limits bytes have (inl (why, bad, is)) = absurd (true≢false (ap is_cut is ∙ whole_lines Start (take 16384 bytes)))
 never_cut limits bytes have (inr (b, none, is)) = absurd (true≢false (whole_fault limits (as_known b.piece) (CutShort have) is))
-
--- what settles nothing of heads settles nothing of lines
-pub open_texts : (limits : Limits) (bytes : List ℕ) → IsOpen (heads limits) bytes → IsOpen texts bytes
-open_texts limits bytes o = record {
-  no_piece = λ b.
-      let no_head : (said : ParsedHead) → ¬ (IsHead limits b.piece said) = λ said is. o.no_piece (record {
-        piece = b.piece;
-        payload = b.piece;
-        more = b.more;
-        is = record { same = refl; none = b.payload; text = b.is; said = said; is = is };
-        equal = b.equal;
-      }) in
-      let none : (h : RequestHead) → ¬ (IsFew limits (as_known b.piece) h) = λ h few.
-      o.not_wrong (head_fault h) (inr (b, no_head, inl (h, few, refl))) in
-      o.not_wrong (text_fault limits (as_known b.piece)) (inr (b, no_head, inr (none, refl)));
-  not_wrong = λ why wrong. o.not_wrong (line_fault bytes) (inl (why, wrong, refl));
-}
 
 pub heads_lawful : (limits : Limits) → IsLawful (heads limits)
 heads_lawful limits = record {

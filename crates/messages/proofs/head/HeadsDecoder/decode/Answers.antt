@@ -5,7 +5,7 @@ use Rattle.codec.specs.Decoding.{bytes_at}
 use Rattle.codec.specs.Grammar.{IsOpenBelow}
 use Rattle.messages.specs.Faults.{IsHeadFault}
 use Rattle.messages.specs.Heads.{heads}
-use Rattle.messages.specs.HeadsLaws.{open_texts, text_few}
+use Rattle.messages.specs.HeadsLaws.{text_few}
 use Rattle.messages.specs.Lines.{texts}
 use Rattle.messages.specs.declared.limits.Limits.{Limits}
 use Rattle.messages.specs.Versions.{as_known}
@@ -47,6 +47,3 @@ returns-in-More-clause-finds c =
 
 pub returns-in-Wrong-clause-finds : goal.returns-in-Wrong-clause-finds
 returns-in-Wrong-clause-finds c = inl (c.in-Wrong.field-0, c.in-Wrong.ensures.finds, c.line_fault.ensures)
-
-pub decode-requires-clause-open : goal.decode-requires-clause-open
-decode-requires-clause-open c = open_texts c.args.self.now.0 (take c.args.seen c.args.bytes.now) c.requires.open
