@@ -4,8 +4,9 @@
 usage, at the top of the repository: python3 tests/edits.py [--after-ci SECONDS] [--anew] [--lanes N] [CRATE | EDIT ..]
 
 An edit stands in tests/edits/CRATE/, or in crates/CRATE/must-fail/, where `rt ci` tries it too. It is a file as that reads
-it, with a line `# fn: PATH` in front, which names the function whose proof it breaks, as `rt check` does below the crate. One
-in tests/edits/CRATE/laws/ changes a definition, and no body: it breaks a law that this has to keep.
+it, with a line `# fn: PATH` in front, which names the function whose proof it breaks, as `rt check` does below the crate. A line
+`# clause: NAME` behind it names the clause that refuses it, alone: answers for other clauses are left out, and a goal of this has
+to be left. One in tests/edits/CRATE/laws/ changes a definition, and no body: it breaks a law that this has to keep.
 
 A function is proved against the contracts of those that it calls. So edits of different functions stand in one check, and
 each has its verdict in the line of its own function: one that tells of goals of its own is a refusal. 'It calls X, which is
@@ -50,7 +51,7 @@ KEPT = "kept: "
 # The parts of a function's line that tell of other functions.
 OTHERS = re.compile(r"(no proof: )?it (calls|passes|waits|uses) ")
 
-Edit = collections.namedtuple("Edit", "crate path fn pairs each_time")
+Edit = collections.namedtuple("Edit", "crate path fn pairs each_time clause")
 
 
 def kit_library():
@@ -70,11 +71,13 @@ def kit_library():
 def read(path):
     """The edit of a file."""
     lines = path.read_text(encoding="utf-8").split("\n")
-    fn, file, old, pairs = "", "", "", []
+    fn, clause, file, old, pairs = "", "", "", "", []
     for line in lines:
         key, _, value = line.partition(": " if not line.startswith("new:") else ":")
         if key == "# fn":
             fn = value.strip()
+        elif key == "# clause":
+            clause = value.strip()
         elif key == "file":
             file = value.strip()
         elif key == "old":
@@ -82,7 +85,7 @@ def read(path):
         elif key == "new":
             pairs.append((file, old, value.removeprefix(" ")))
     crate = path.parent.parent.name if path.parent.name in ("must-fail", "laws") else path.parent.name
-    return Edit(crate, path, fn, tuple(pairs), "# each time" in lines)
+    return Edit(crate, path, fn, tuple(pairs), "# each time" in lines, clause)
 
 
 def applied(edits):
@@ -99,6 +102,10 @@ def applied(edits):
                 break
             mine[file] = mine[file].replace(old, new)
         else:
+            answers = f"{folder_of(edit)}Answers.antt"
+            path = TOP / "crates" / edit.crate / answers
+            if edit.clause and answers not in mine and path.is_file():
+                mine[answers] = answers_of(edit.clause, path.read_text(encoding="utf-8"))
             if edit.pairs:
                 texts = mine
             else:
@@ -184,13 +191,47 @@ def ended(said):
     return found[-1] if found else ""
 
 
+def folder_of(edit):
+    """The folder of the answers of the edit's function."""
+    return f"proofs/{edit.fn.replace('::', '/')}/"
+
+
+def is_of(clause, goal):
+    """Whether a goal is one of the clause. That of what is lent names no clause."""
+    return "clause-" not in goal if clause == "writes_back" else bool(re.search(rf"clause-{clause}(-|$)", goal))
+
+
+def answers_of(clause, text):
+    """A file of answers without those of other clauses."""
+    kept, is_kept = [], True
+    for line in text.split("\n"):
+        if goal := re.match(r"(?:pub )?(returns[\w-]*)", line):
+            is_kept = "clause-" not in goal[1] or is_of(clause, goal[1])
+        elif line and line[0] not in " -":
+            is_kept = True
+        kept += [line] if is_kept else []
+    return "\n".join(kept)
+
+
+def left_of(edit, said):
+    """The goals of the edit's function that are left: those that nothing proves, and those that an answer doesn't."""
+    folder = re.escape(folder_of(edit))
+    yield from re.findall(r"`(returns[\w-]*)`", lines_of(said).get(f"{edit.crate}::{edit.fn}", ""))
+    for file, line in re.findall(rf"(?m)^(?:\./)?({folder}\w+\.antt):(\d+):\d+: error", said):
+        text = (TOP / "crates" / edit.crate / file).read_text(encoding="utf-8")
+        above = (answers_of(edit.clause, text) if edit.clause and file.endswith("Answers.antt") else text).split("\n")[: int(line)]
+        yield from [it[1] for it in map(re.compile(r"(?:pub )?(returns[\w-]*)").match, reversed(above)) if it][:1]
+
+
 def refusal(edit, said):
-    """Why the edit's function is refused, or None where its line doesn't say so."""
+    """Why the edit's function is refused, or None where its line doesn't say so, or not by the clause that the edit names."""
     line = lines_of(said).get(f"{edit.crate}::{edit.fn}", "")
     own = [it for it in re.split(r"; (?=it |`search`)", line) if not OTHERS.match(it)]
     if not own or own[0].startswith("proved"):
         return None
-    folder = f"proofs/{edit.fn.replace('::', '/')}/"
+    if edit.clause:
+        return next((f"`{it}` is left" for it in left_of(edit, said) if is_of(edit.clause, it)), None)
+    folder = folder_of(edit)
     # A message goes on in lines that begin with spaces.
     told = [it for it in re.sub(r"\n +", " ", said).split("\n") if folder in it.partition(": error")[0] and ": error" in it]
     if told and all(NAMES.match(it) for it in told) and not any("`search` did not prove" in it for it in own):
@@ -207,7 +248,8 @@ def unread(said, texts):
     """Whether the edited text didn't reach the prover."""
     at = [re.match(r"(?:\./)?(\S+?):\d+:\d+: error: (?:(`[^`]*`): )?(.*)", it) for it in said.split("\n")]
     odd = r"is not in scope|has no field|is no name|operand is missing|expected the end|cannot continue"
-    wrong = [it[0] for it in at if it and (it[1] in texts or it[1].startswith(("src/", "specs/")))
+    edited = [it for it in texts if not it.endswith("/Answers.antt")]
+    wrong = [it[0] for it in at if it and (it[1] in edited or it[1].startswith(("src/", "specs/")))
              and (not it[2] or re.search(odd, re.sub(r"`[^`]*`", "", it[3])))]
     return wrong[0] if wrong else "" if ended(said) else said.strip()[:300]
 
@@ -243,7 +285,7 @@ class Refusals:
             self.found = {}
 
     def sum(self, edit):
-        return hashlib.sha256(repr((self.stamp, edit.fn, edit.pairs)).encode()).hexdigest()
+        return hashlib.sha256(repr((self.stamp, edit.fn, edit.clause, edit.pairs)).encode()).hexdigest()
 
     def of(self, edits):
         return {it: (True, f"{KEPT}{self.found[self.sum(it)]}") for it in edits if self.sum(it) in self.found}
@@ -315,7 +357,7 @@ class Crate:
                 return True, why
         if ended(said) == "proved":
             return False, "NOT REFUSED: the crate is still proved with this edit"
-        return False, f"BAD EDIT: another function than {edit.fn} is refused"
+        return False, f"BAD EDIT: another function than {edit.fn} is refused, or another clause than {edit.clause or 'one of its own'}"
 
     def try_group(self, copy, group):
         settled = self.together(copy, group)
