@@ -5,19 +5,19 @@ use Rattle.redux_buffer.proofs.Turning.{last_retried}
 use Rattle.redux_buffer.proofs.copy.copy_retried.Goals as goal
 
 pub returns-in-Ok-clause-last : goal.returns-in-Ok-clause-last
-returns-in-Ok-clause-last g c = 
+returns-in-Ok-clause-last g c =
     let before = c.loop.invariant in
     let turn = c.in-Ok.ensures in
     (c.loop.b, c.loop.w, before.reader, before.writer, turn.reader, turn.writer, turn.turn)
 
 pub returns-then-ne-clause-last : goal.returns-then-ne-clause-last
-returns-then-ne-clause-last g c = 
+returns-then-ne-clause-last g c =
     let before = c.loop.invariant in
     let turn = c.in-Err.ensures in
     (c.loop.b, c.loop.w, before.reader, before.writer, turn.reader, turn.writer, turn.turn)
 
 pub returns-clause-last : goal.returns-clause-last
-returns-clause-last g c = 
+returns-clause-last g c =
     let before = c.loop.invariant in
     let turn = c.copy_turn-2.ensures in
     (c.loop.b, c.loop.w, before.reader, before.writer, turn.reader, turn.writer, turn.turn)
