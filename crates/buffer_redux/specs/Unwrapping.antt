@@ -41,14 +41,17 @@ pub record SendsOrHandles {S P : Type 0} (tells : S → StreamLog) (trace : S �
 -- all bytes were sent, or those stay that a fault left unsent, and the inner writer tells of no other call. So no byte
 -- was lost: what was received since, then what is left, is what was buffered, and bytes are left only where sending
 -- failed with an error of this cause
-pub record KeepsUnsent {S P : Type 0} (tells : S → StreamLog) (s : Buffered S P) (inner : S) (b : Block) : Type 0 where
+pub record KeepsUnsent {S P : Type 0} (tells : S → StreamLog) (trace : S → S → Type 0) (s : Buffered S P) (inner : S)
+    (b : Block) : Type 0 where
   pub sending : Result (Unit {0}) Error
   pub sends : Sends (length s.block.bytes) s.block s.log sending b (tells inner)
+  pub row : IfErr sending (λ e. FailedRow tells trace e s.inner inner)
   pub in_order : WritesInOrder s [] (with_inner tells (with_block s b) inner)
   pub why : MatchResult sending (λ _. b.bytes ≡ []) (λ e. SendErrorCaused s.log.writes (tells inner).writes e)
 
 -- all bytes were sent, or those that a fault left unsent were dropped, and the buffer keeps its capacity
-pub record DropsUnsent {S P : Type 0} (tells : S → StreamLog) (s : Buffered S P) (inner : S) (b : Block) : Type 0 where
+pub record DropsUnsent {S P : Type 0} (tells : S → StreamLog) (trace : S → S → Type 0) (s : Buffered S P) (inner : S)
+    (b : Block) : Type 0 where
   pub unsent : Block
-  pub kept : KeepsUnsent tells s inner unsent
+  pub kept : KeepsUnsent tells trace s inner unsent
   pub dropped : MatchResult kept.sending (λ _. b ≡ unsent) (λ _. Clears unsent b)

@@ -49,7 +49,7 @@ module _ {S P : Type 0} (tells : S → StreamLog) (trace : S → S → Type 0)
 
   -- what sending left, before the handler was called
   sending_keeps : (inner : S) (b : Block) (f : SendsOrHandles tells trace handler s inner b)
-      → KeepsUnsent tells s f.sent.inner f.sent.block
+      → KeepsUnsent tells trace s f.sent.inner f.sent.block
   sending_keeps inner b f =
       let left : Buffered S P = with_inner tells (with_block s f.sent.block) f.sent.inner in
       let sends : Sends (length s.block.bytes) s.block s.log f.sending left.block left.log =
@@ -57,18 +57,19 @@ module _ {S P : Type 0} (tells : S → StreamLog) (trace : S → S → Type 0)
       record {
         sending = f.sending;
         sends = sends;
+        row = f.row;
         in_order = WritesInOrder-sends s left (length s.block.bytes) f.sending sends;
         why = why_left f.sending left.block left.log sends;
       }
 
   pub keeps_unsent : Leaves handler (λ b b'. b' ≡ b)
-      → (inner : S) (b : Block) → SendsOrHandles tells trace handler s inner b → KeepsUnsent tells s inner b
+      → (inner : S) (b : Block) → SendsOrHandles tells trace handler s inner b → KeepsUnsent tells trace s inner b
   keeps_unsent leaves inner b f =
       let left = parts_left (λ b b'. b' ≡ b) leaves inner b f in
       rw (left.0, same_left f.sending f.sent.block b left.1) (sending_keeps inner b f)
 
   pub drops_unsent : Leaves handler Clears
-      → (inner : S) (b : Block) → SendsOrHandles tells trace handler s inner b → DropsUnsent tells s inner b
+      → (inner : S) (b : Block) → SendsOrHandles tells trace handler s inner b → DropsUnsent tells trace s inner b
   unfolding sending_keeps
   drops_unsent leaves inner b f =
       let left = parts_left Clears leaves inner b f in

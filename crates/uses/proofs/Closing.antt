@@ -11,8 +11,8 @@ use Rattle.buffer_redux.specs.declared.policy.writers.FlushOnNewline.{FlushOnNew
 use Rattle.uses.specs.FullLog.{ClosesAgain}
 use Rattle.uses.specs.Stops.{FailedTimes}
 
-module _ {S : Type 0} (tells : S → StreamLog) where
-  closed_tried : (s : Buffered S FlushOnNewline) (device : S) (left : Block) → KeepsUnsent tells s device left
+module _ {S : Type 0} (tells : S → StreamLog) (trace : S → S → Type 0) where
+  closed_tried : (s : Buffered S FlushOnNewline) (device : S) (left : Block) → KeepsUnsent tells trace s device left
       → (left.bytes ≡ []) ⊎ FailedTimes 1 s.log.writes (tells device).writes
   closed_tried s device left closed = of closed.sending closed.why
     where
@@ -34,7 +34,7 @@ module _ {S : Type 0} (tells : S → StreamLog) where
           ])
 
   pub ClosesAgain-tried : (k : ℕ) (log : Buffered S FlushOnNewline) (device : S) (left : Block)
-      → ClosesAgain tells k log device left
+      → ClosesAgain tells trace k log device left
       → (left.bytes ≡ []) ⊎ FailedTimes (k + 1) log.log.writes (tells device).writes
   ClosesAgain-tried zero log device left closed = closed_tried log device left closed
   ClosesAgain-tried (suc k) log device left (before, last, run, some, closed) =
@@ -47,7 +47,7 @@ module _ {S : Type 0} (tells : S → StreamLog) where
       ]
 
   pub ClosesAgain-kept : (k : ℕ) (log : Buffered S FlushOnNewline) (device : S) (left : Block)
-      → ClosesAgain tells k log device left
+      → ClosesAgain tells trace k log device left
       → (tells device).writes.received ++ left.bytes ≡ log.log.writes.received ++ log.block.bytes
   ClosesAgain-kept zero log device left closed = WritesInOrder-contents _ _ [] closed.in_order ∙ append-nil _
   ClosesAgain-kept (suc k) log device left (before, last, run, some, closed) =

@@ -34,7 +34,7 @@ pub fn put<W: TellWrite>(log: &mut LineWriter<W>, text: &[u8]) -> (usize, io::Re
 
 /// Sends what the log holds. What the device doesn't take comes back beside it.
 pub fn close<W: TellWrite>(log: LineWriter<W>) -> (W, Buffer)
-    ensures { KeepsUnsent W.log log result.0 result.1 }
+    ensures { KeepsUnsent W.log W.trace log result.0 result.1 }
 {
     keep_unsent_lines(log)
 }
@@ -50,7 +50,7 @@ pub fn reopen<W: TellWrite>(device: W, unsent: Buffer) -> LineWriter<W>
 pub fn close_patiently<W: TellWrite>(log: LineWriter<W>, tries: u32) -> (W, Buffer)
     ensures tried { (result.1.bytes ≡ []) ⊎ FailedTimes (tries + 1) log.log.writes (W.log result.0).writes }
     ensures often { (again : ℕ) × (again ≤ tries) × ((result.1.bytes ≡ []) ⊎ (again ≡ tries))
-        × ClosesAgain W.log again log result.0 result.1 }
+        × ClosesAgain W.log W.trace again log result.0 result.1 }
     ensures none_lost { (W.log result.0).writes.received ++ result.1.bytes ≡ log.log.writes.received ++ log.block.bytes }
 {
     let (mut device, mut unsent) = close(log);

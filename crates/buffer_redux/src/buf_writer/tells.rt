@@ -5,7 +5,7 @@ ghost use Rattle.std.specs.Io.KnownBytes.{Keeps};
 ghost use Rattle.std.specs.Io.Seek.{SeekMoves};
 ghost use Rattle.redux_buffer.specs.Block.{IsBlock};
 ghost use Rattle.redux_buffer.specs.StreamLog.{after_write, after_flush, SeekTells};
-ghost use Rattle.buffer_redux.specs.BufWriter.{Writes, Flushes, WasSought};
+ghost use Rattle.buffer_redux.specs.BufWriter.{Writes, WasFlushed, WasSought};
 ghost use Rattle.buffer_redux.specs.Buffered.{with_calls};
 ghost use Rattle.buffer_redux.specs.WriterTells.{writer_log, flushes_received, WriterCalled, WriterWent, WriterWent-none, WriterWent-joins, WriterWent-grows};
 
@@ -44,8 +44,7 @@ impl<W: TellWrite, P: WriterPolicy> TellWrite for BufWriter<W, P> {
         ensures told { writer_log self.new ≡ after_flush (writer_log self.old) result }
         ensures trace { WriterWent W.trace P.rules self.old self.new }
         ensures call { WriterCalled P.rules self.old self.new }
-        ensures steps { Flushes self.old result self.new }
-        ensures whole { IsBlock self.new.block }
+        ensures flushed { WasFlushed W.log W.trace self.old result (with_calls self.new self.old.own_calls) }
     {
         let answer = self.flush();
         self.calls.note(&Call::Flush(&answer));

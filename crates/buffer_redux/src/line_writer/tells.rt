@@ -3,7 +3,8 @@ ghost use Rattle.std.specs.Prelude.{◌≡◌, [], ◌++◌, OnOk};
 ghost use Rattle.std.specs.Io.{WritesAtMost};
 ghost use Rattle.redux_buffer.specs.Block.{IsBlock};
 ghost use Rattle.redux_buffer.specs.StreamLog.{after_write, after_flush};
-ghost use Rattle.buffer_redux.specs.BufWriter.{Writes, Flushes};
+ghost use Rattle.buffer_redux.specs.BufWriter.{Writes, WasFlushed};
+ghost use Rattle.buffer_redux.specs.Buffered.{with_calls};
 ghost use Rattle.buffer_redux.specs.LineWriter.{line_rules};
 ghost use Rattle.buffer_redux.specs.WriterTells.{writer_log, WriterCalled, WriterWent, WriterWent-none, WriterWent-joins, WriterWent-grows};
 
@@ -39,8 +40,7 @@ impl<W: TellWrite> TellWrite for LineWriter<W> {
         ensures told { writer_log self.new ≡ after_flush (writer_log self.old) result }
         ensures trace { WriterWent W.trace line_rules self.old self.new }
         ensures call { WriterCalled line_rules self.old self.new }
-        ensures steps { Flushes self.old result self.new }
-        ensures whole { IsBlock self.new.block }
+        ensures flushed { WasFlushed W.log W.trace self.old result (with_calls self.new self.old.own_calls) }
     {
         self.writer.flush_told()
     }

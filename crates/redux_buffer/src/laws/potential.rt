@@ -5,12 +5,12 @@
 //! no more bytes than were appended.
 //!
 //! Each function is its call, and says beside that what became of the bytes.
-ghost use Rattle.std.specs.Prelude.{◌≡◌, ◌*◌, ◌≤◌, ℕ, ◌++◌, length, min, take, drop, MatchResult, OnOk, OnErr, IsOk, IsOkUnless};
+ghost use Rattle.std.specs.Prelude.{◌≡◌, ◌*◌, ◌≤◌, ℕ, ◌++◌, length, min, take, drop, MatchResult, IfErr, OnOk, OnErr, IsOk, IsOkUnless};
 ghost use Rattle.redux_buffer.specs.Block.{Plain, ConsumesFirst, Clears, Reserves, Extends, PushesBytes};
 ghost use Rattle.redux_buffer.specs.Block.{MakesRoom, usable, capacity_for, capacity_to_push, limit_of, with_limit};
 ghost use Rattle.redux_buffer.specs.GrowError.{FitsWithin};
 ghost use Rattle.redux_buffer.specs.Potential.{PlainRises, potential};
-ghost use Rattle.redux_buffer.specs.Transfer.{ReadsFrom, WritesTo, Sends};
+ghost use Rattle.redux_buffer.specs.Transfer.{FailedRow, ReadsFrom, WritesTo, Sends};
 
 use crate::buffer::Buffer;
 use crate::grow_error::GrowError;
@@ -110,6 +110,7 @@ pub fn write_to<W: TellWrite>(buffer: &mut Buffer, wrt: &mut W) -> io::Result<us
 pub fn write_max<W: TellWrite>(buffer: &mut Buffer, max: usize, wrt: &mut W) -> io::Result<()>
     ensures potential { PlainRises 0 buffer.old buffer.new }
     ensures sent { Sends max buffer.old (W.log wrt.old) result buffer.new (W.log wrt.new) }
+    ensures row { IfErr result (λ e. FailedRow W.log W.trace e wrt.old wrt.new) }
     ensures trace { W.trace wrt.old wrt.new }
 {
     buffer.write_max(max, wrt)
@@ -120,6 +121,7 @@ pub fn write_all<W: TellWrite>(buffer: &mut Buffer, wrt: &mut W) -> io::Result<(
     ensures potential { PlainRises 0 buffer.old buffer.new }
     ensures sent { Sends (length buffer.old.bytes) buffer.old (W.log wrt.old) result
         buffer.new (W.log wrt.new) }
+    ensures row { IfErr result (λ e. FailedRow W.log W.trace e wrt.old wrt.new) }
     ensures trace { W.trace wrt.old wrt.new }
 {
     buffer.write_all(wrt)

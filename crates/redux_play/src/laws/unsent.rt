@@ -8,7 +8,7 @@ use redux_buffer::tell::TellWrite;
 
 /// What could not be sent is handed back by a handler that leaves it, so no byte is lost.
 pub fn keep_unsent<W: TellWrite, P: Drop>(writer: BufWriter<W, P>) -> (W, Buffer)
-    ensures { KeepsUnsent W.log writer result.0 result.1 }
+    ensures { KeepsUnsent W.log W.trace writer result.0 result.1 }
 {
     writer.finish(|_inner, _unsent, _fault| {})
 }
@@ -17,14 +17,14 @@ pub fn keep_unsent<W: TellWrite, P: Drop>(writer: BufWriter<W, P>) -> (W, Buffer
 /// dropped only where sending failed.
 pub fn drop_unsent<W: TellWrite, P: Drop>(writer: BufWriter<W, P>) -> (W, Buffer)
     ensures empty { result.1.bytes ≡ [] }
-    ensures dropped { DropsUnsent W.log writer result.0 result.1 }
+    ensures dropped { DropsUnsent W.log W.trace writer result.0 result.1 }
 {
     writer.finish(|_inner, unsent, _fault| unsent.clear())
 }
 
 /// [`keep_unsent`] of a [`LineWriter`].
 pub fn keep_unsent_lines<W: TellWrite>(lines: LineWriter<W>) -> (W, Buffer)
-    ensures { KeepsUnsent W.log lines result.0 result.1 }
+    ensures { KeepsUnsent W.log W.trace lines result.0 result.1 }
 {
     lines.finish(|_inner, _unsent, _fault| {})
 }
@@ -32,7 +32,7 @@ pub fn keep_unsent_lines<W: TellWrite>(lines: LineWriter<W>) -> (W, Buffer)
 /// [`drop_unsent`] of a [`LineWriter`].
 pub fn drop_unsent_lines<W: TellWrite>(lines: LineWriter<W>) -> (W, Buffer)
     ensures empty { result.1.bytes ≡ [] }
-    ensures dropped { DropsUnsent W.log lines result.0 result.1 }
+    ensures dropped { DropsUnsent W.log W.trace lines result.0 result.1 }
 {
     lines.finish(|_inner, unsent, _fault| unsent.clear())
 }

@@ -7,5 +7,5 @@ abbrev pub invariant-loop : goal.invariant-loop
 invariant-loop g l = record {
   again : ℕ;
   counted : again ≡ l.counter;
-  run : ClosesAgain g.W.Tell.log again l.fn.log l.device l.unsent;
+  run : ClosesAgain g.W.Tell.log g.W.TellWrite.trace again l.fn.log l.device l.unsent;
 }

@@ -31,12 +31,6 @@ returns-clause-trace g c =
     (λ steady. flush_fails s m answer flush.grows flush.caused)
     (λ tells. flush_met s m answer flush.ok flush.caused)
 
-pub returns-clause-steps : goal.returns-clause-steps
-returns-clause-steps g c =
-    let s = c.args.self.now in
-    let answer = c.flush-answer.result in
-    flushes_noted _ _ s answer (subst (Flushes s answer) (sym c.self.view_is) c.flush-answer.ensures.flushed.steps)
-
 pub returns-clause-call : goal.returns-clause-call
 returns-clause-call g c =
     let s = c.args.self.now in
@@ -45,7 +39,11 @@ returns-clause-call g c =
     let flush = c.flush-answer.ensures.flushed in
     let noted : c.note.new.self.log ≡ after_flush s.own_calls answer = search rules in
     record {
-      steps = inr (answer, returns-clause-steps g c, noted);
+      steps = inr (
+        answer,
+        flushes_noted _ _ s answer (subst (Flushes s answer) (sym c.self.view_is) flush.steps),
+        noted,
+      );
       fault = λ steady e is.
           subst (λ l. SendErrorCaused s.log.writes l e) (sym (ap (λ x. x.log.writes) c.self.view_is))
           (flush_fault s m answer e flush.caused (sym (ap (λ l. l.writes.faults) noted) ∙ is));
