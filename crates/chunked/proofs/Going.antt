@@ -4,7 +4,7 @@ use Rattle.std.proofs.lemmas.Bool.{cases_lt}
 use Rattle.std.proofs.lemmas.List.{length-take, length-take-le, take_all}
 use Rattle.std.specs.declared.io.Error.{Error}
 use Rattle.buffer_redux.specs.Block.{IsBlock, MakesRoom}
-use Rattle.buffer_redux.specs.Buffered.{Buffered, GoesDirect, with_block}
+use Rattle.buffer_redux.specs.Buffered.{Buffered, GoesDirect, InnerWent, with_block}
 use Rattle.buffer_redux.specs.StreamLog.{StreamLog, after_write, portion}
 use Rattle.buffer_redux.specs.WriteParts.{PutsIn, room}
 use Rattle.buffer_redux.specs.declared.policy.StdPolicy.{StdPolicy}
@@ -71,7 +71,7 @@ module _ {S : Type 0} (tells : S → StreamLog) (trace : S → S → Type 0) (no
     ]
 
     pub goes_past : room m < length part + 2 → (answer : Result ℕ Error) → GoesDirect after_write m part answer t
-        → trace m.inner t.inner → TakesSome tells trace s part answer t
+        → InnerWent tells trace m t → TakesSome tells trace s part answer t
     goes_past none answer direct calls = record {
       sending = Ok tt;
       spaced = m;
@@ -116,7 +116,7 @@ module _ {S : Type 0} (tells : S → StreamLog) (trace : S → S → Type 0) (no
 
   -- past an empty buffer
   past_went : (s t : Buffered S StdPolicy) (part : List ℕ) (answer : Result ℕ Error) → IsBlock s.block → s.block.bytes ≡ []
-      → GoesDirect after_write s part answer t → trace s.inner t.inner → WentIn trace s (portion part answer) t
+      → GoesDirect after_write s part answer t → InnerWent tells trace s t → WentIn trace s (portion part answer) t
   past_went s t part answer whole empty direct calls = record {
     in_order = record {
       sent = portion part answer;
@@ -125,7 +125,8 @@ module _ {S : Type 0} (tells : S → StreamLog) (trace : S → S → Type 0) (no
           ∙ append-nil (portion part answer) ∙ ap (λ l. l ++ portion part answer) (sym empty);
       consumed = omega (arith, ap (λ b. b.consumed) direct.block);
     };
-    went = calls;
+    went = calls.calls;
+    noted = calls.noted;
     capacity = ap (λ b. b.capacity) direct.block;
     limit = ap (λ b. b.limit) direct.block;
     whole = subst IsBlock (sym direct.block) whole;
@@ -155,7 +156,7 @@ module _ {S : Type 0} (tells : S → StreamLog) (trace : S → S → Type 0) (no
     empty_there large = (made.full (omega (arith, large))).ok.empty
 
     put_past : s.block.capacity < length part + 2 → (answer : Result ℕ Error) → GoesDirect after_write m part answer t
-        → trace m.inner t.inner → PartWent s part answer t
+        → InnerWent tells trace m t → PartWent s part answer t
     put_past large answer direct calls = record {
       went = went_on tells trace none joins s m t [] (portion part answer) spaced
           (past_went m t part answer spaced.whole (empty_there large) direct calls);

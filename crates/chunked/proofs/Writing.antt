@@ -42,6 +42,7 @@ pub record WentIn {S : Type 0} (trace : S → S → Type 0) (s : Buffered S StdP
     : Type 0 where
   pub in_order : WritesInOrder s bytes t
   pub went : trace s.inner t.inner
+  pub noted : t.own_calls ≡ s.own_calls
   pub capacity : t.block.capacity ≡ s.block.capacity
   pub limit : t.block.limit ≡ s.block.limit
   pub whole : IsBlock t.block
@@ -53,6 +54,7 @@ module _ {S : Type 0} (tells : S → StreamLog) (trace : S → S → Type 0) (no
   went_on s m t a b p q = record {
     in_order = WritesInOrder-joins s m t a b p.in_order q.in_order;
     went = joins s.inner m.inner t.inner p.went q.went;
+    noted = q.noted ∙ p.noted;
     capacity = q.capacity ∙ p.capacity;
     limit = q.limit ∙ p.limit;
     whole = q.whole;
@@ -62,6 +64,7 @@ module _ {S : Type 0} (tells : S → StreamLog) (trace : S → S → Type 0) (no
   puts_went s t bytes puts = record {
     in_order = PutsIn-order s t bytes puts;
     went = subst (trace s.inner) (ap (λ x. x.inner) (sym puts.others)) (none s.inner);
+    noted = ap (λ x. x.own_calls) puts.others;
     capacity = puts.capacity;
     limit = puts.limit;
     whole = puts.whole;
@@ -72,6 +75,7 @@ module _ {S : Type 0} (tells : S → StreamLog) (trace : S → S → Type 0) (no
   sent_went s t answer sent = record {
     in_order = sent.in_order;
     went = sent.went.calls;
+    noted = sent.went.noted;
     capacity = sent.capacity;
     limit = sent.sends.sent.dropped.limit;
     whole = sent.whole;
@@ -84,6 +88,7 @@ module _ {S : Type 0} (tells : S → StreamLog) (trace : S → S → Type 0) (no
     | inr there ↦ subst (λ x. WentIn trace s [] x) (sym (made.fits there).1) (record {
       in_order = WritesInOrder-none s;
       went = none s.inner;
+      noted = refl;
       capacity = refl;
       limit = refl;
       whole = whole;
@@ -116,6 +121,7 @@ module _ {S : Type 0} (tells : S → StreamLog) (trace : S → S → Type 0) (no
     wire = wire;
     accepted = accepted;
     calls = went.went;
+    noted = went.noted;
     capacity = went.capacity;
     limit = went.limit;
   }
@@ -234,6 +240,7 @@ module _ {S : Type 0} (tells : S → StreamLog) (trace : S → S → Type 0) (no
     still_went = payload_went s Still [] [] (record {
       in_order = WritesInOrder-none s.writer;
       went = none s.writer.inner;
+      noted = refl;
       capacity = refl;
       limit = refl;
       whole = is.block;
@@ -304,6 +311,7 @@ module _ {S : Type 0} (tells : S → StreamLog) (trace : S → S → Type 0) (no
           wire = went.wire;
           accepted = ap (λ l. l.writes.received) told ∙ sym (append-nil (accepted_of s));
           calls = went.calls;
+          noted = went.noted;
           capacity = went.capacity;
           limit = went.limit;
         };

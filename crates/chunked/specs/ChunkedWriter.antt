@@ -3,7 +3,7 @@ use Rattle.std.specs.Prelude.{◌≡◌, ℕ, zero, suc, ◌+◌, ◌-◌, ◌^�
 use Rattle.std.specs.List.{All, AllByRecursion}
 use Rattle.std.specs.declared.io.Error.{Error}
 use Rattle.buffer_redux.specs.Block.{IsBlock}
-use Rattle.buffer_redux.specs.Buffered.{Buffered, GoesDirect}
+use Rattle.buffer_redux.specs.Buffered.{Buffered, GoesDirect, InnerWent}
 use Rattle.buffer_redux.specs.BufWriter.{WasSent, WritesInOrder}
 use Rattle.buffer_redux.specs.LogGrows.{WriteLogGrows}
 use Rattle.buffer_redux.specs.StreamLog.{StreamLog, after_write, no_calls, portion}
@@ -47,14 +47,15 @@ pub record IsChunkedWriter {S : Type 0} (c : ChunkedWriterState S) : Type 0 wher
 abbrev pub unbegun : {S : Type 0} → Buffered S StdPolicy → ChunkedWriterState S
 unbegun writer = record { writer = writer; wire = []; calls = no_calls; due = 0 }
 
--- what any calls do, one after another: the buffered writer took in these bytes of the body, in order, with this payload, and no
--- memory is taken
+-- what any calls do, one after another: the buffered writer took in these bytes of the body, in order, with this payload, and
+-- notes no call as its own, and no memory is taken
 pub record PayloadWent {S : Type 0} (trace : S → S → Type 0) (s : ChunkedWriterState S) (bytes payload : List ℕ)
     (t : ChunkedWriterState S) : Type 0 where
   pub in_order : WritesInOrder s.writer bytes t.writer
   pub wire : t.wire ≡ s.wire ++ bytes
   pub accepted : accepted_of t ≡ accepted_of s ++ payload
   pub calls : trace s.writer.inner t.writer.inner
+  pub noted : t.writer.own_calls ≡ s.writer.own_calls
   pub capacity : t.writer.block.capacity ≡ s.writer.block.capacity
   pub limit : t.writer.block.limit ≡ s.writer.block.limit
 
@@ -104,7 +105,7 @@ module _ {S : Type 0} (tells : S → StreamLog) (trace : S → S → Type 0) whe
     pub makes_space : MakesSpace (length part + 2) s sending spaced
     pub inside : sending ≡ Ok tt → length part + 2 ≤ s.block.capacity → (answer ≡ Ok (length part)) × PutsIn spaced part t
     pub past : sending ≡ Ok tt → s.block.capacity < length part + 2
-        → GoesDirect after_write spaced part answer t × trace spaced.inner t.inner
+        → GoesDirect after_write spaced part answer t × InnerWent tells trace spaced t
     pub failed : (e : Error) → sending ≡ Err e → (answer ≡ Err e) × (t ≡ spaced)
 
   -- payload goes on in the chunk that was begun, as much as is due of it at most, and behind its last byte the end of the line

@@ -25,6 +25,7 @@ module _ {S : Type 0} (trace : S → S → Type 0) (none : (x : S) → trace x x
     wire = sym (append-nil s.wire);
     accepted = sym (append-nil (accepted_of s));
     calls = none s.writer.inner;
+    noted = refl;
     capacity = refl;
     limit = refl;
   }
@@ -37,6 +38,7 @@ module _ {S : Type 0} (trace : S → S → Type 0) (none : (x : S) → trace x x
     wire = q.wire ∙ ap (λ l. l ++ more) p.wire ∙ append_assoc s.wire bytes more;
     accepted = q.accepted ∙ ap (λ l. l ++ later) p.accepted ∙ append_assoc (accepted_of s) payload later;
     calls = joins s.writer.inner m.writer.inner t.writer.inner p.calls q.calls;
+    noted = q.noted ∙ p.noted;
     capacity = q.capacity ∙ p.capacity;
     limit = q.limit ∙ p.limit;
   }
@@ -81,6 +83,7 @@ NotFinished-went tells trace s fields e t n = record {
     wire = n.wire ∙ sym (append-nil s.wire);
     accepted = ap (λ l. l.writes.received) n.calls ∙ sym (append-nil (accepted_of s));
     calls = n.sends.went.calls;
+    noted = n.sends.went.noted;
     capacity = n.sends.capacity;
     limit = n.sends.sends.sent.dropped.limit;
   };

@@ -1,5 +1,5 @@
 -- What doesn't fit once space was made doesn't fit the capacity, so it goes past the buffer, and else inside.
-use Rattle.std.proofs.Common.{[], ap, subst, ◌∙◌, arith, refl}
+use Rattle.std.proofs.Common.{[], ap, subst, sym, ◌∙◌, arith, refl}
 use Rattle.buffer_redux.specs.StreamLog.{after_write}
 use Rattle.buffer_redux.specs.WritePartsLaws.{PutsIn-joins}
 use Rattle.chunked.proofs.Going.{goes_inside, goes_past, puts_roomy, takes_nothing}
@@ -17,7 +17,12 @@ returns-then-capacity-buf_len-clause-takes g c =
       bound = c.write_told.ensures.bound;
       told = c.write_told.ensures.told ∙ ap (λ l. after_write l part c.write_told.result) c.get_mut.ensures.log;
     })
-    (subst (λ x. g.W.TellWrite.trace x c.write_told.new.self) c.get_mut.ensures.inner c.write_told.ensures.trace)
+    (record {
+      calls = subst (λ x. g.W.TellWrite.trace x c.write_told.new.self) c.get_mut.ensures.inner c.write_told.ensures.trace;
+      told_before = sym c.get_mut.ensures.log ∙ ap g.W.Tell.log c.get_mut.ensures.inner;
+      told_after = refl;
+      noted = refl;
+    })
 
 pub returns-else-capacity-buf_len-clause-takes : goal.returns-else-capacity-buf_len-clause-takes
 returns-else-capacity-buf_len-clause-takes g c =
