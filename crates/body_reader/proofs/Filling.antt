@@ -174,6 +174,7 @@ module _ {S Q P W : Type 0} (remaining : S → Option (List ℕ)) (rules : ReadR
               of_plain s.block.kind (t.block.moved ≡ s.block.moved) (s.block.moved ≤ t.block.moved) plain once.added.moved,
             );
             spared = λ keep high claims. spared keep;
+            noted = reads.noted;
           })
 
     pub show_fails : (e : Error) → ReadsIntoBuf remaining s (Err e) t → ShowsOn remaining rules g slice s p (Err (Io e)) t p

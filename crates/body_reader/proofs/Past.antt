@@ -46,6 +46,7 @@ module _ {S Q P W : Type 0} (remaining : S → Option (List ℕ)) (rules : ReadR
       still = λ _ _. subst (OnlyRingMoves s.block) (sym same) (OnlyRingMoves-none s.block);
       unmoved = λ _ _ _. omega (arith, ap (λ b. b.moved) same);
       spared = λ keep high claims. keeps.sparing keep claims;
+      noted = keeps.noted;
     }
 
     is_open : (bytes : List ℕ) → bytes ≡ [] → IsOpen g p.place bytes

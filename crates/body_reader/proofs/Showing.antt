@@ -3,6 +3,7 @@ use Rattle.std.proofs.Common.{◌≡◌, ◌≢◌, ℕ, zero, suc, ◌+◌, ◌
 use Rattle.std.proofs.Math.Seq.{take-append-add}
 use Rattle.std.proofs.lemmas.List.{drop_all, length-drop, length-take-le}
 use Rattle.buffer_redux.specs.Buffered.{Buffered}
+use Rattle.buffer_redux.specs.BufReader.{ReaderConsumes}
 use Rattle.buffer_redux.specs.Policy.{ReadRules}
 use Rattle.buffer_redux.specs.StreamLog.{StreamLog}
 use Rattle.body_reader.specs.declared.coding.Look.{Look}
@@ -35,7 +36,7 @@ module _ {S Q P W : Type 0} (remaining : S → Option (List ℕ)) (rules : ReadR
     takes = TakesBytes-none remaining rules g s p place;
     told = refl;
     known = known;
-    kept = λ _. refl;
+    kept = λ _. (refl, refl);
     idle = λ _. (refl, refl, refl);
     all = λ unknown. absurd (omega (arith, unknown, some));
     none = λ none. absurd (omega (arith, none, some));
@@ -95,6 +96,8 @@ module _ {S Q P W : Type 0} (remaining : S → Option (List ℕ)) (rules : ReadR
     pub within : handed ≤ length out
     pub known : IsKnown g q.place k m.block.bytes
     pub left : handed ≤ before → k ≡ before - handed
+    pub fresh : handed ≡ 0 → (m ≡ s) × (k ≡ before)
+    pub consumed : 0 < handed → handed ≤ before → ReaderConsumes rules handed s m
     pub knows : before < handed
         → KnowsBehind g p.place p.taken.log.fills.consumed q.taken.log.fills.consumed (take handed out) k m.block.bytes
     pub first : handed < length out → 0 < k → handed ≡ 0
@@ -109,6 +112,8 @@ module _ {S Q P W : Type 0} (remaining : S → Option (List ℕ)) (rules : ReadR
     within = omega arith;
     known = known;
     left = λ _. omega arith;
+    fresh = λ _. (refl, refl);
+    consumed = λ some. absurd (omega (arith, some));
     knows = λ more. absurd (omega (arith, more));
     first = λ _ _. refl;
     idle = λ _. (refl, refl, refl, refl);
@@ -116,10 +121,27 @@ module _ {S Q P W : Type 0} (remaining : S → Option (List ℕ)) (rules : ReadR
 
   module _ (s : Buffered S Q) (p : Progress P) (before : ℕ) (out : List ℕ) (handed : ℕ) (m : Buffered S Q) (q : Progress P)
       (k : ℕ) (so : Shown s p before out handed m q k) where
+    -- the slice is full
+    pub full_shown : length out ≤ handed → HandsShown remaining rules g s p before out handed m q k
+    full_shown full =
+        let all : handed ≡ length out = omega (arith, full, so.within) in record {
+          wire = so.wire;
+          takes = so.takes;
+          told = so.told;
+          within = so.within;
+          known = so.known;
+          left = so.left;
+          consumed = λ some few. subst (λ n. ReaderConsumes rules n s m) all
+              (so.consumed (omega (arith, all, some)) (omega (arith, all, few)));
+          knows = λ beyond _. so.knows beyond;
+          idle = so.idle;
+          all = inl all;
+        }
+
     module _ (room : handed < length out) (f : Buffered S Q) (r : Progress P) (k' : ℕ)
         (finds : FindsKnown remaining rules g m q k f r k') where
       -- where none is found none was known
-      none_before : (j : ℕ) → (0 < j → k' ≡ j) → k' ≡ 0 → j ≡ 0
+      none_before : (j : ℕ) → (0 < j → (f ≡ m) × (k' ≡ j)) → k' ≡ 0 → j ≡ 0
       none_before zero kept none = refl
       none_before (suc j) kept none = omega (arith, kept (omega arith), none)
 
@@ -135,6 +157,13 @@ module _ {S Q P W : Type 0} (remaining : S → Option (List ℕ)) (rules : ReadR
         within = so.within;
         known = finds.known;
         left = λ few. omega (arith, so.left few, none_before k finds.kept none, none);
+        consumed = λ _ enough. absurd (omega (
+          arith,
+          room,
+          enough,
+          so.left (omega (arith, room, enough)),
+          none_before k finds.kept none,
+        ));
         knows = λ _ full. absurd (omega (arith, room, full));
         idle = λ either. elim either [
           | inl done ↦
@@ -147,14 +176,14 @@ module _ {S Q P W : Type 0} (remaining : S → Option (List ℕ)) (rules : ReadR
       }
 
       -- what is left of what was known, where no more was handed out
-      less : (n k'' : ℕ) → 0 < n → k'' ≡ k' - n → (j : ℕ) → (0 < j → k' ≡ j) → j ≡ before - handed → handed + n ≤ before
+      less : (n k'' : ℕ) → 0 < n → k'' ≡ k' - n → (j : ℕ) → (0 < j → (f ≡ m) × (k' ≡ j)) → j ≡ before - handed → handed + n ≤ before
           → k'' ≡ before - (handed + n)
       less n k'' some is zero kept was few = absurd (omega (arith, some, was, few))
       less n k'' some is (suc j) kept was few = omega (arith, is, kept (omega arith), was, few)
 
       -- where more is handed out than was known, the last of it was looked for
       unknown : (n j : ℕ) → n ≤ k' → before < handed + n → (handed ≤ before → j ≡ before - handed) → (0 < j → handed ≡ 0)
-          → (0 < j → k' ≡ j) → j ≡ 0
+          → (0 < j → (f ≡ m) × (k' ≡ j)) → j ≡ 0
       unknown n zero few beyond left first kept = refl
       unknown n (suc j) few beyond left first kept =
           let none = first (omega arith) in
@@ -187,6 +216,13 @@ module _ {S Q P W : Type 0} (remaining : S → Option (List ℕ)) (rules : ReadR
             within = omega (arith, count, long, length-append (take handed out) rest);
             known = front.known;
             left = λ few. less n k'' some front.left k finds.kept (so.left (omega (arith, few))) few;
+            fresh = λ none. absurd (omega (arith, none, some));
+            consumed = λ _ few.
+                let known : 0 < k = omega (arith, some, few, so.left (omega (arith, few))) in
+                let none : handed ≡ 0 = so.first room known in
+                let same : f ≡ s = (finds.kept known).0 ∙ (so.fresh none).0 in
+                let all : n ≡ handed + n = omega (arith, none) in
+                subst (λ j. ReaderConsumes rules j s t) all (subst (λ x. ReaderConsumes rules n x t) same front.consumed);
             knows = λ beyond.
                 let shows = finds.all (unknown n k (omega (arith, count)) beyond so.left (so.first room) finds.kept)
                 (omega (arith, some, count)) in (
@@ -259,6 +295,7 @@ module _ {S Q C P W : Type 0} (remaining : S → Option (List ℕ)) (rules : Rea
     bound = hands.within;
     all = elim hands.all [ inl all ↦ inl all | inr none ↦ inr (none_left none) ];
     left = hands.left;
+    consumed = hands.consumed;
     knows = hands.knows;
     idle = idle;
     noted = noted;

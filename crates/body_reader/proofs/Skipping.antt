@@ -46,6 +46,7 @@ consumes_keeps remaining rules least n s t gone keeps = record {
     of_plain s.block.kind (gone.left.moved ≡ s.block.moved) (s.block.moved ≤ gone.left.moved) plain gone.moved,
   );
   spared = λ keep high claims. keeps.sparing keep claims;
+  noted = keeps.noted;
 }
 
 pub consumes_parts : {S Q : Type 0} (rules : ReadRules Q) (n : ℕ) (s t : Buffered S Q) → n ≤ length s.block.bytes

@@ -42,14 +42,15 @@ abbrev pub LeavesPlaces : {Q : Type 0} → ReadRules Q → Type 0
 LeavesPlaces {Q} rules = (p : Q) (b : Block) (n : ℕ) (p' : Q) (b' : Block) → rules.after_consume p b n p' b' → b'.moved ≡ b.moved
 
 -- the buffer keeps its kind; its capacity and limit, unless the policy changes them; a plain one its bytes where they stand,
--- unless the policy moves them, where the stream wasn't asked, or this number, which a look needs, is 1 at most; and each number
--- is spared that the policy claims to spare, and is at least this one
+-- unless the policy moves them, where the stream wasn't asked, or this number, which a look needs, is 1 at most; each number is
+-- spared that the policy claims to spare, and is at least this one; and the buffered reader notes no call as its own
 pub record KeepsBuffer {S Q : Type 0} (rules : ReadRules Q) (least : ℕ) (s t : Buffered S Q) : Type 0 where
   pub kind : t.block.kind ≡ s.block.kind
   pub room : LeavesRoom rules → (t.block.capacity ≡ s.block.capacity) × (t.block.limit ≡ s.block.limit)
   pub still : LeavesPlaces rules → t.log.reads.asks ≡ s.log.reads.asks → OnlyRingMoves s.block t.block
   pub unmoved : LeavesPlaces rules → least ≤ 1 → s.block.kind ≡ Plain → t.block.moved ≤ s.block.moved
   pub spared : (keep : ℕ) → least ≤ keep → ClaimsToSpare (rules.claims s.policy).spares keep → Spared keep s t
+  pub noted : t.own_calls ≡ s.own_calls
 
 -- these bytes were taken through the buffer
 abbrev pub TakenThrough : {S Q : Type 0} → Buffered S Q → List ℕ → Buffered S Q → Type 0
@@ -171,13 +172,13 @@ module _ {S Q P W : Type 0} (remaining : S → Option (List ℕ)) (rules : ReadR
     pub takes : TakesBytes s p wire [] t q
     pub told : t.log ≡ s.log
     pub known : IsKnown g q.place after t.block.bytes
-    pub kept : 0 < before → after ≡ before
+    pub kept : 0 < before → (t ≡ s) × (after ≡ before)
     pub idle : IsDone g p.place → (t ≡ s) × (q ≡ p) × (after ≡ before)
     pub all : before ≡ 0 → 0 < after → AllShown g q.place after t.block.bytes
     pub none : after ≡ 0 → NoneShown q.place t.block.bytes
 
-  -- handing out of what is buffered into a slice, which is left so, as much as it takes; nobody is asked. Once the body ended, or
-  -- where it is empty, nothing is done
+  -- handing out of what is buffered into a slice, which is left so, as much as it takes; nobody is asked. Where so much was known
+  -- the policy is told of it once. Once the body ended, or where the slice is empty, nothing is done
   pub record HandsShown (s : Buffered S Q) (p : Progress P) (before : ℕ) (out : List ℕ) (handed : ℕ) (t : Buffered S Q)
       (q : Progress P) (after : ℕ) : Type 0 where
     pub wire : List ℕ
@@ -186,6 +187,7 @@ module _ {S Q P W : Type 0} (remaining : S → Option (List ℕ)) (rules : ReadR
     pub within : handed ≤ length out
     pub known : IsKnown g q.place after t.block.bytes
     pub left : handed ≤ before → after ≡ before - handed
+    pub consumed : 0 < length out → length out ≤ before → ReaderConsumes rules (length out) s t
     pub knows : before < handed → handed ≡ length out
         → KnowsBehind g p.place p.taken.log.fills.consumed q.taken.log.fills.consumed (take handed out) after t.block.bytes
     pub idle : (IsDone g p.place ⊎ (length out ≡ 0)) → (handed ≡ 0) × (t ≡ s) × (q ≡ p) × (after ≡ before)

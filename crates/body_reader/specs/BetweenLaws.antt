@@ -53,6 +53,7 @@ module _ {S Q : Type 0} (rules : ReadRules Q) (least : ℕ) where
     still = λ _ _. OnlyRingMoves-none s.block;
     unmoved = λ _ _ _. omega arith;
     spared = λ keep high claims. Spared-none keep s;
+    noted = refl;
   }
 
   pub KeepsBuffer-joins : {remaining : S → Option (List ℕ)} (s m t : Buffered S Q) (a b : List ℕ)
@@ -68,6 +69,7 @@ module _ {S Q : Type 0} (rules : ReadRules Q) (least : ℕ) where
     unmoved = λ leaves few plain. omega (arith, x.unmoved leaves few plain, y.unmoved leaves few (x.kind ∙ plain));
     spared = λ keep high claimed. Spared-joins keep s m t (x.spared keep high claimed)
         (y.spared keep high (subst (λ c. ClaimsToSpare c.spares keep) (sym first.claims) claimed));
+    noted = y.noted ∙ x.noted;
   }
 
 -- reading ahead, where nothing was asked for
@@ -119,6 +121,7 @@ module _ {S Q A : Type 0} (remaining : S → Option (List ℕ)) (rules : ReadRul
       )
     ];
     spared = λ keep high claims. ahead.sparing keep (omega (arith, few, high));
+    noted = ahead.noted;
   }
 
   pub ReadsAhead-asked : AskedWhere (λ bytes. length bytes < n) (unbuffered s) (unbuffered t)

@@ -191,15 +191,17 @@ module _ {S Q C P W : Type 0} (remaining : S → Option (List ℕ)) (rules : Rea
     pub whole : IsBodyReader g t
 
   -- what `read_buffered` does, which left the slice as out: payload that is buffered is handed out, as much as the slice takes.
-  -- Less comes only where the body ended, or what is buffered settles nothing, or is wrong. The stream isn't asked. Of what was
-  -- known just what wasn't handed out stays known, or, where more was handed out, of what the last look told. Once the body
-  -- ended, or into an empty slice, nothing is done, and where nothing is handed out no read is noted
+  -- Less comes only where the body ended, or what is buffered settles nothing, or is wrong. The stream isn't asked. Where so much
+  -- was known the policy is told of it once. Of what was known just what wasn't handed out stays known, or, where more was handed
+  -- out, of what the last look told. Once the body ended, or into an empty slice, nothing is done, and where nothing is handed
+  -- out no read is noted
   pub record HandsBuffered (s : BodyState S Q C P) (out : List ℕ) (handed : ℕ) (t : BodyState S Q C P) : Type 0 where
     pub went : BodyWent s (take handed out) t
     pub told : t.reader.log ≡ s.reader.log
     pub bound : handed ≤ length out
     pub all : (handed ≡ length out) ⊎ (TookWholeBody g t ⊎ (EndsEarly g t ⊎ ((why : W) × Breaks g why t)))
     pub left : handed ≤ s.known → t.known ≡ s.known - handed
+    pub consumed : 0 < length out → length out ≤ s.known → ReaderConsumes rules (length out) s.reader t.reader
     pub knows : s.known < handed → handed ≡ length out
         → KnowsBehind g s.place s.taken t.taken (take handed out) t.known t.reader.block.bytes
     pub idle : (TookWholeBody g s ⊎ (length out ≡ 0)) → t ≡ s
