@@ -6,9 +6,10 @@ use Rattle.body_reader.specs.declared.error.BodyError.{BodyError}
 use Rattle.body_reader.specs.declared.error.CollectError.{CollectError}
 use Rattle.body_reader.specs.declared.error.CollectError.TheVariants.{Body, TooLong, Memory}
 use Rattle.body_reader.specs.Between.{EachGave}
+use Rattle.body_reader.specs.BetweenLaws.{StopsFor-after}
 use Rattle.body_reader.specs.BodyReader.{BodyState, Collects, ConsumesPayload, FillsPayload, IsBodyReader, NotCollected, TookWholeBody}
 use Rattle.body_reader.specs.Coding.{Grammar, IsLawful}
-use Rattle.body_reader.proofs.Taking.{Taken, filled_asked, filled_ended, filled_gave, filled_pieces, filled_went, fills_here, stops_after, taken_more, taken_none}
+use Rattle.body_reader.proofs.Taking.{Taken, filled_asked, filled_ended, filled_gave, filled_pieces, filled_went, fills_here, taken_more, taken_none}
 
 -- so much was collected so far
 pub record Collected {S Q C P W : Type 0} (remaining : S → Option (List ℕ)) (rules : ReadRules Q) (g : Grammar P W) (most : ℕ)
@@ -52,7 +53,8 @@ module _ {S Q C P W : Type 0} {remaining : S → Option (List ℕ)} {rules : Rea
   pub collects_none : {w : BodyError W} {f : BodyState S Q C P} → FillsPayload remaining rules (grammar m.coding) m (Err w) f
       → Collects remaining rules (grammar s.coding) most s before (Err (Body w)) f all
   collects_none {w} {f} fills =
-      ends fills (Err (Body w)) (stops_after grammar so.taken w f (fills_here grammar so.taken fills).answers)
+      ends fills (Err (Body w))
+      (StopsFor-after _ _ _ s.reader m.reader f.reader so.taken.gave w (fills_here grammar so.taken fills).answers)
 
   module _ {n : ℕ} {f : BodyState S Q C P} (fills : FillsPayload remaining rules (grammar m.coding) m (Ok n) f) where
     -- the body ended

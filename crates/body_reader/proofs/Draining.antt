@@ -7,9 +7,10 @@ use Rattle.std.specs.declared.io.ErrorKind.TheVariants.{Other}
 use Rattle.buffer_redux.specs.Policy.{ReadRules}
 use Rattle.body_reader.specs.declared.error.BodyError.{BodyError}
 use Rattle.body_reader.specs.declared.error.BodyError.TheVariants.{Io}
+use Rattle.body_reader.specs.BetweenLaws.{StopsFor-after}
 use Rattle.body_reader.specs.BodyReader.{BodyState, ConsumesPayload, Drains, FillsPayload, IsBodyReader}
 use Rattle.body_reader.specs.Coding.{Grammar, IsLawful}
-use Rattle.body_reader.proofs.Taking.{Taken, filled_asked, filled_ended, filled_gave, filled_pieces, filled_went, fills_here, stops_after, taken_more, taken_none}
+use Rattle.body_reader.proofs.Taking.{Taken, filled_asked, filled_ended, filled_gave, filled_pieces, filled_went, fills_here, taken_more, taken_none}
 
 -- this much was dropped so far, in so many pieces
 pub record Dropped {S Q C P W : Type 0} (remaining : S → Option (List ℕ)) (rules : ReadRules Q) (g : Grammar P W)
@@ -44,7 +45,7 @@ module _ {S Q C P W : Type 0} {remaining : S → Option (List ℕ)} {rules : Rea
   not_drained {e} {f} fills = record {
     payload = so.payload;
     went = filled_went grammar so.taken fills;
-    answers = inl (stops_after grammar so.taken e f (fills_here grammar so.taken fills).answers);
+    answers = inl (StopsFor-after _ _ _ s.reader m.reader f.reader so.taken.gave e (fills_here grammar so.taken fills).answers);
     pieces = filled_pieces grammar so.taken fills;
     asked = filled_asked grammar so.taken fills;
     ended = λ whole. ap (λ x. x.reader) (filled_ended grammar so.taken fills whole);

@@ -201,12 +201,12 @@ module _ {S Q P W : Type 0} (remaining : S → Option (List ℕ)) (rules : ReadR
           asked = asks (Ok 0) reads;
           through = inl (omega (arith, o.added.consumed));
           ends = (
+            refl,
             (
               ap (λ l. l.reads.faults) o.told,
               ap (λ l. l.reads.zero_reads) o.told
                   ∙ zero_of_none 0 o.out s.log.reads.zero_reads refl (omega (arith, o.offered, room)),
             ),
-            refl,
             is_open t.block.bytes (o.added.bytes ∙ append-nil s.block.bytes ∙ empty),
           );
           idle = λ done. absurd (carries.goes_on done);

@@ -120,12 +120,12 @@ module _ {S Q P W : Type 0} (remaining : S → Option (List ℕ)) (rules : ReadR
               asked = asked (Ok 0) direct;
               through = inl (omega (arith, ap (λ b. b.consumed) direct.block));
               ends = (
+                refl,
                 (
                   ap (λ l. l.reads.faults) direct.told,
                   ap (λ l. l.reads.zero_reads) direct.told
                       ∙ zero_of_none 0 lent s.log.reads.zero_reads refl (omega (arith, long, carries.some)),
                 ),
-                refl,
                 none_left direct.block,
               );
               idle = λ done. absurd (carries.goes_on done);

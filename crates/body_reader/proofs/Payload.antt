@@ -110,8 +110,8 @@ module _ {S Q C P W : Type 0} (remaining : S → Option (List ℕ)) (rules : Rea
 
   pub stops : IsLawful g → IsBodyReader g (seen r' c q calls' k') → (e : BodyError W) → PayloadFails remaining rules g r e r' q
       → NoPayload g (seen r c p calls k) e (seen r' c q calls' k')
-  stops lawful now (Wrong why count) (well, right, wrong) = (right ∙ q.counted, well, breaks_so lawful now why wrong)
-  stops lawful now (Truncated count) (met, right, is) = (right ∙ q.counted, met, early now is)
+  stops lawful now (Wrong why count) (right, well, wrong) = (right ∙ q.counted, well, breaks_so lawful now why wrong)
+  stops lawful now (Truncated count) (right, met, is) = (right ∙ q.counted, met, early now is)
   stops lawful now (Io e) (fault, is) = (fault, early now is)
 
 -- a read of payload

@@ -207,7 +207,7 @@ module _ {S Q P W : Type 0} (remaining : S → Option (List ℕ)) (rules : ReadR
           takes = skipped_there.takes;
           asked = skipped_there.asked slice;
           through = inl skipped_there.through;
-          ends = (skipped_there.gave, refl, looks.0);
+          ends = (refl, skipped_there.gave, looks.0);
           idle = skipped_there.still;
         }
 
@@ -269,8 +269,8 @@ module _ {S Q P W : Type 0} (remaining : S → Option (List ℕ)) (rules : ReadR
             asked = asks_then n is (Ok a) u ahead' slice;
             through = inl (through_still n is (Ok a) u ahead');
             ends = (
-              GaveNothingOnce-after s t u skipped_there.gave (ReadsAhead-ended remaining rules n t u a so' few),
               refl,
+              GaveNothingOnce-after s t u skipped_there.gave (ReadsAhead-ended remaining rules n t u a so' few),
               ReadsAhead-open remaining rules g r.place n t (Ok a) u (lacks n is (Ok a) u ahead') so' few,
             );
             idle = never_done n is (Ok a) u ahead';

@@ -3,12 +3,11 @@ use Rattle.std.proofs.Common.{◌≡◌, ℕ, zero, suc, ◌<◌, List, [], ◌+
 use Rattle.buffer_redux.specs.Policy.{ReadRules}
 use Rattle.buffer_redux.specs.Unbuffer.{unbuffered}
 use Rattle.body_reader.specs.declared.error.BodyError.{BodyError}
-use Rattle.body_reader.specs.declared.error.BodyError.TheVariants.{Wrong, Truncated, Io}
 use Rattle.body_reader.specs.Asking.{AskedWhere}
 use Rattle.body_reader.specs.AskingLaws.{AskedWhere-on, AskedWhere-same}
 use Rattle.body_reader.specs.Between.{EachGave}
-use Rattle.body_reader.specs.BetweenLaws.{EachGave-joins, EachGave-none, EachGave-same, FaultedOnce-after, GaveNothingOnce-after}
-use Rattle.body_reader.specs.BodyReader.{BodyState, BodyWent, ConsumesPayload, FillsPayload, InPieces, IsBodyReader, NoPayload, TakesManyPieces, TookWholeBody, handed_of}
+use Rattle.body_reader.specs.BetweenLaws.{EachGave-joins, EachGave-none, EachGave-same}
+use Rattle.body_reader.specs.BodyReader.{BodyState, BodyWent, ConsumesPayload, FillsPayload, InPieces, IsBodyReader, TakesManyPieces, TookWholeBody, handed_of}
 use Rattle.body_reader.specs.BodyReaderLaws.{BodyWent-joins, BodyWent-leads, BodyWent-none}
 use Rattle.body_reader.specs.Coding.{Grammar, IsLawful, LeadsOpen, heeded}
 use Rattle.body_reader.specs.CodingLaws.{Leads-done, LeadsOpen-behind}
@@ -80,11 +79,6 @@ module _ {S Q C P W : Type 0} {remaining : S → Option (List ℕ)} {rules : Rea
 
     pub filled_pieces : InPieces remaining rules g s f
     filled_pieces = record { count = so.count; last = m; pieces = so.pieces; end = inr (answer, fills_here) }
-
-  pub stops_after : (e : BodyError W) (f : BodyState S Q C P) → NoPayload g m e f → NoPayload g s e f
-  stops_after (Wrong why right) f stops = (stops.0, EachGave-joins s.reader m.reader f.reader so.gave stops.1, stops.2)
-  stops_after (Truncated right) f stops = (stops.0, GaveNothingOnce-after s.reader m.reader f.reader so.gave stops.1, stops.2)
-  stops_after (Io e) f stops = (FaultedOnce-after s.reader m.reader f.reader so.gave e stops.0, stops.1)
 
   module _ {n : ℕ} {f : BodyState S Q C P} (fills' : FillsPayload remaining rules (grammar m.coding) m (Ok n) f) where
     pub filled_gave : EachGave s.reader f.reader

@@ -32,6 +32,13 @@ abbrev pub FaultedOnce : {S Q : Type 0} → Buffered S Q → Error → Buffered 
 FaultedOnce s e t =
     (t.log.reads.faults ≡ s.log.reads.faults ++ e ∷ []) × (t.log.reads.zero_reads ≡ s.log.reads.zero_reads)
 
+-- why there is no further payload: the next bytes are wrong; or the stream gave nothing, or failed, where it was asked. Told is
+-- how many bytes were taken, and what is bad, or else that the bytes settle nothing, is so
+abbrev pub StopsFor : {S Q W : Type 0} → ℕ → (W → Type 0) → Type 0 → Buffered S Q → BodyError W → Buffered S Q → Type 0
+StopsFor count Bad SettlesNothing s (Wrong why right) t = (right ≡ count) × EachGave s t × Bad why
+StopsFor count Bad SettlesNothing s (Truncated right) t = (right ≡ count) × GaveNothingOnce s t × SettlesNothing
+StopsFor count Bad SettlesNothing s (Io e) t = FaultedOnce s e t × SettlesNothing
+
 -- such a policy leaves capacity and limit as they are, where it is told of a drop
 abbrev pub LeavesRoom : {Q : Type 0} → ReadRules Q → Type 0
 LeavesRoom {Q} rules = (p : Q) (b : Block) (n : ℕ) (p' : Q) (b' : Block) → rules.after_consume p b n p' b'
@@ -124,9 +131,7 @@ module _ {S Q P W : Type 0} (remaining : S → Option (List ℕ)) (rules : ReadR
 
   -- why there is no further payload
   abbrev pub PayloadFails : Buffered S Q → BodyError W → Buffered S Q → Progress P → Type 0
-  PayloadFails s (Wrong why count) t q = EachGave s t × (count ≡ q.count) × g.wrong q.place t.block.bytes why
-  PayloadFails s (Truncated count) t q = GaveNothingOnce s t × (count ≡ q.count) × IsOpen g q.place t.block.bytes
-  PayloadFails s (Io e) t q = FaultedOnce s e t × IsOpen g q.place t.block.bytes
+  PayloadFails s e t q = StopsFor q.count (g.wrong q.place t.block.bytes) (IsOpen g q.place t.block.bytes) s e t
 
   -- payload comes next, surely so many bytes, or none since the body ended
   abbrev pub Settles : P → List ℕ → ℕ → Type 0

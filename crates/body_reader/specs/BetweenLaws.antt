@@ -17,7 +17,7 @@ use Rattle.body_reader.specs.declared.error.BodyError.TheVariants.{Wrong, Trunca
 use Rattle.body_reader.specs.declared.progress.Progress.{Progress}
 use Rattle.body_reader.specs.Asking.{AskedWhere}
 use Rattle.body_reader.specs.AskingLaws.{AskedOver-on, AskedWhere-of, AskedWhere-same}
-use Rattle.body_reader.specs.Between.{AsksWithRoom, AsksOpen, EachGave, PayloadFails, FaultedOnce, Proceeds, KeepsBuffer, GaveNothingOnce, TakenThrough, TakesBytes}
+use Rattle.body_reader.specs.Between.{AsksWithRoom, AsksOpen, EachGave, PayloadFails, FaultedOnce, Proceeds, KeepsBuffer, GaveNothingOnce, StopsFor, TakenThrough, TakesBytes}
 use Rattle.body_reader.specs.Coding.{AskedFor, Grammar, IsDone, IsOpen, IsOpenBelow, LeadsOpen, heeded}
 use Rattle.body_reader.specs.CodingLaws.{AskedFor-behind, AskedFor-here, Leads-none, Leads-still, Leads-then}
 
@@ -44,6 +44,13 @@ GaveNothingOnce-after s m t gave met = (met.0 ∙ gave.faults, omega (arith, met
 
 pub FaultedOnce-after : {S Q : Type 0} (s m t : Buffered S Q) → EachGave s m → (e : Error) → FaultedOnce m e t → FaultedOnce s e t
 FaultedOnce-after s m t gave e fault = (fault.0 ∙ ap (λ l. l ++ e ∷ []) gave.faults, fault.1 ∙ gave.zero_reads)
+
+-- a failure behind reads that gave
+module _ {S Q W : Type 0} (count : ℕ) (Bad : W → Type 0) (Open : Type 0) (s m t : Buffered S Q) (gave : EachGave s m) where
+  pub StopsFor-after : (e : BodyError W) → StopsFor count Bad Open m e t → StopsFor count Bad Open s e t
+  StopsFor-after (Wrong why right) stops = (stops.0, EachGave-joins s m t gave stops.1, stops.2)
+  StopsFor-after (Truncated right) stops = (stops.0, GaveNothingOnce-after s m t gave stops.1, stops.2)
+  StopsFor-after (Io e) stops = (FaultedOnce-after s m t gave e stops.0, stops.1)
 
 module _ {S Q : Type 0} (rules : ReadRules Q) (least : ℕ) where
   pub KeepsBuffer-none : (s : Buffered S Q) → KeepsBuffer rules least s s
@@ -212,13 +219,6 @@ module _ {S Q P W : Type 0} (remaining : S → Option (List ℕ)) (rules : ReadR
     keeps = KeepsBuffer-joins rules g.ahead s m t a [] x.along still x.keeps keeps;
   }
 
-  -- a failure behind reads that gave
-  pub PayloadFails-after : (s m t : Buffered S Q) (q : Progress P) → EachGave s m → (e : BodyError W)
-      → PayloadFails remaining rules g m e t q → PayloadFails remaining rules g s e t q
-  PayloadFails-after s m t q gave (Wrong why count) (well, right, wrong) = (EachGave-joins s m t gave well, right, wrong)
-  PayloadFails-after s m t q gave (Truncated count) (met, right, is) = (GaveNothingOnce-after s m t gave met, right, is)
-  PayloadFails-after s m t q gave (Io e) (fault, is) = (FaultedOnce-after s m t gave e fault, is)
-
   -- where no payload is handed out all is taken through the buffer
   pub Proceeds-through : {A : Type 0} (room : ℕ) (s : Buffered S Q) (p : Progress P) (answer : Result A (BodyError W))
       (Means : A → Type 0) (t : Buffered S Q) (q : Progress P) (goes : Proceeds remaining rules g room s p [] answer Means t q)
@@ -266,7 +266,7 @@ module _ {S Q P W : Type 0} (remaining : S → Option (List ℕ)) (rules : ReadR
           → MatchResult a (λ x. EachGave m t × Means x) (λ e. PayloadFails remaining rules g m e t r)
           → MatchResult a (λ x. EachGave s t × Means x) (λ e. PayloadFails remaining rules g s e t r)
       ends_after (Ok x) ends = (EachGave-joins s m t gave ends.0, ends.1)
-      ends_after (Err e) ends = PayloadFails-after s m t r gave e ends
+      ends_after (Err e) ends = StopsFor-after _ _ _ s m t gave e ends
 
       pub Proceeds-after : Proceeds remaining rules g room s p handed answer Means t r
       Proceeds-after = record {

@@ -10,11 +10,11 @@ use Rattle.buffer_redux.specs.Policy.{ReadRules}
 use Rattle.buffer_redux.specs.StreamLog.{StreamLog, after_read, no_calls}
 use Rattle.buffer_redux.specs.Unbuffer.{unbuffered}
 use Rattle.body_reader.specs.declared.error.BodyError.{BodyError}
-use Rattle.body_reader.specs.declared.error.BodyError.TheVariants.{Wrong, Truncated, Io}
+use Rattle.body_reader.specs.declared.error.BodyError.TheVariants.{Io}
 use Rattle.body_reader.specs.declared.error.CollectError.{CollectError}
 use Rattle.body_reader.specs.declared.error.CollectError.TheVariants as collect
 use Rattle.body_reader.specs.Asking.{AskedWhere}
-use Rattle.body_reader.specs.Between.{AllShown, AsksOpen, AsksWithRoom, BecomesIo, EachGave, FaultedOnce, GaveNothingOnce, KeepsBuffer, KnowsAll, KnowsBehind, TakenThrough, handed_out}
+use Rattle.body_reader.specs.Between.{AllShown, AsksOpen, AsksWithRoom, BecomesIo, EachGave, FaultedOnce, GaveNothingOnce, KeepsBuffer, KnowsAll, KnowsBehind, StopsFor, TakenThrough, handed_out}
 use Rattle.body_reader.specs.Coding.{Grammar, IsBody, IsKnown, IsOpen, Leads, LeadsOpen, heeded}
 
 -- the buffered reader; the coding; where in the body the reader stands; the bytes of it that were taken so far; what it handed
@@ -68,11 +68,9 @@ module _ {S Q C P W : Type 0} (g : Grammar P W) where
     pub settles_nothing : IsOpen g t.place t.reader.block.bytes
     pub none : (body payload xs : List ℕ) → IsBody g body payload → ¬ (body ++ xs ≡ t.taken ++ t.reader.block.bytes)
 
-  -- why there is no further payload: the next bytes are wrong; or the stream gave nothing, or failed, where it was asked
+  -- why there is no further payload
   abbrev pub NoPayload : BodyState S Q C P → BodyError W → BodyState S Q C P → Type 0
-  NoPayload s (Wrong why right) t = (right ≡ taken_count t) × EachGave s.reader t.reader × Breaks why t
-  NoPayload s (Truncated right) t = (right ≡ taken_count t) × GaveNothingOnce s.reader t.reader × EndsEarly t
-  NoPayload s (Io e) t = FaultedOnce s.reader e t.reader × EndsEarly t
+  NoPayload s e t = StopsFor (taken_count t) (λ why. Breaks why t) (EndsEarly t) s.reader e t.reader
 
 module _ {S Q C P W : Type 0} (remaining : S → Option (List ℕ)) (rules : ReadRules Q) (g : Grammar P W) where
   -- what any calls do, one after another, that handed out this payload: some bytes were taken out of the buffered reader, in
