@@ -1,6 +1,7 @@
 -- What a whole run of `decode` comes to.
 use Rattle.std.proofs.Common.{◌≡◌, ℕ, inl, inr, List, [], ◌++◌, length, length-append, ◌≤◌, Option, Result, Ok, Err, OnOk, refl, sym, ap, subst, ◌∙◌, arith, append_assoc, append-nil}
-use Rattle.std.proofs.lemmas.Grind.{flat_map-append}
+use Rattle.std.specs.List.{concat}
+use Rattle.std.proofs.lemmas.List.Folds.{concat-append}
 use Rattle.std.specs.Global.{Vec}
 use Rattle.buffer_redux.specs.ReaderLaws.{ReadsInOrder-fresh}
 use Rattle.buffer_redux.specs.WriterLaws.{WritesInOrder-fresh}
@@ -15,7 +16,7 @@ use Rattle.bodies.specs.Words.{Error, Buffered, StreamLog, StdPolicy, IsBodyOfCh
 use Rattle.bodies.specs.Decode.{DecodeRan, DecodesBody, Moved, MovedAll}
 use Rattle.bodies.specs.Decoding.{MayDecode, PayloadEnds, decoding_rules, held_payload}
 use Rattle.bodies.specs.DecodingLaws.{none_held}
-use Rattle.bodies.specs.Filters.{IsErrorOf, joined}
+use Rattle.bodies.specs.Filters.{IsErrorOf}
 use Rattle.bodies.specs.FiltersLaws.{each_some}
 use Rattle.bodies.specs.declared.decoding.Decoding.{Decoding}
 use Rattle.bodies.specs.declared.error.RunError.TheVariants.{NotChunked, Truncated, Behind, Io}
@@ -40,15 +41,15 @@ module _ {R W : Type 0} (remaining : R → Option (List ℕ)) (limits : Limits) 
 
   -- these pieces went over, and some may be lost
   module _ (p lost handed : List (List ℕ)) (all : handed ≡ p ++ lost) (moves : Moves rules begin handed p t) where
-    parted : moves.hands.payload ≡ joined p ++ (joined lost ++ held_payload t)
+    parted : moves.hands.payload ≡ concat p ++ (concat lost ++ held_payload t)
     parted = sym (ap (λ l. l ++ moves.hands.payload) (none_held remaining begin refl)) ∙ moves.hands.order
-        ∙ ap (λ l. l ++ held_payload t) (ap (λ l. joined l) all ∙ flat_map-append (λ x. x) p lost)
-        ∙ append_assoc (joined p) (joined lost) (held_payload t)
+        ∙ ap (λ l. l ++ held_payload t) (ap (λ l. concat l) all ∙ concat-append p lost)
+        ∙ append_assoc (concat p) (concat lost) (held_payload t)
 
     abbrev moved : Moved limits first.log t.source.reader.log u.log t.target.log
     moved =
         let went = moves.hands.went in
-        let left = joined lost ++ held_payload t in
+        let left = concat lost ++ held_payload t in
         record {
           wire = t.source.taken;
           payload = moves.hands.payload;
@@ -65,8 +66,8 @@ module _ {R W : Type 0} (remaining : R → Option (List ℕ)) (limits : Limits) 
           unsent = t.target.block.bytes ++ left;
           received =
               sym (append_assoc t.target.log.writes.received t.target.block.bytes left)
-              ∙ ap (λ l. l ++ left) (WritesInOrder-fresh u t.target (joined p) none' moves.takes)
-              ∙ append_assoc u.log.writes.received (joined p) left ∙ ap (λ l. u.log.writes.received ++ l) (sym parted);
+              ∙ ap (λ l. l ++ left) (WritesInOrder-fresh u t.target (concat p) none' moves.takes)
+              ∙ append_assoc u.log.writes.received (concat p) left ∙ ap (λ l. u.log.writes.received ++ l) (sym parted);
         }
 
   -- all that was handed out went over
@@ -81,7 +82,7 @@ module _ {R W : Type 0} (remaining : R → Option (List ℕ)) (limits : Limits) 
       over.all,
       each_some over.payloads over.moves.hands.some,
       ap length (parted over.payloads [] over.payloads (sym (append-nil over.payloads)) over.moves),
-      length-append (joined over.payloads) (held_payload t),
+      length-append (concat over.payloads) (held_payload t),
     )
 
     -- what went over was sent

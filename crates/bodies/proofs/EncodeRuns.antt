@@ -1,8 +1,8 @@
 -- What a whole run of `encode` comes to.
 use Rattle.std.proofs.Common.{◌≡◌, ℕ, ◌+◌, ◌<◌, inl, inr, List, [], ◌++◌, length, length-append, Option, Result, Ok, Err, OnOk, refl, sym, ap, subst, ◌∙◌, arith, append_assoc, append-nil}
-use Rattle.std.proofs.lemmas.Grind.{flat_map-append}
+use Rattle.std.proofs.lemmas.List.Folds.{concat-append}
 use Rattle.std.proofs.lemmas.List.Elements.{All-weaker}
-use Rattle.std.specs.List.{flat_map}
+use Rattle.std.specs.List.{concat, flat_map}
 use Rattle.buffer_redux.specs.ReaderLaws.{ReadsInOrder-fresh}
 use Rattle.buffer_redux.specs.WriterLaws.{WritesInOrder-joins, WritesInOrder-none}
 use Rattle.chunked.specs.BodyLaws.{IsBodyOfChunks-same}
@@ -14,7 +14,7 @@ use Rattle.programs.specs.StreamsLaws.{MetNoFault-joins, WriterFailed-after}
 use Rattle.bodies.specs.Words.{Error, WritesInOrder, Buffered, OnlyInterrupts-none, StreamLog, StdPolicy, IsBodyOfChunks, IsCarried, IsChunks, body_end, unbegun, Limits, FilterRules, Moves, AllSent, RefusedBeforeCalls, RunError, chunk}
 use Rattle.bodies.specs.Encode.{EncodeRan, Encodes, EndsBody, IsCut, IsUnended, IsEncodedBody, Moved, MovedAll, IsBodyBeginning}
 use Rattle.bodies.specs.Encoding.{encoding_rules}
-use Rattle.bodies.specs.Filters.{IsErrorOf, joined}
+use Rattle.bodies.specs.Filters.{IsErrorOf}
 use Rattle.bodies.specs.FiltersLaws.{each_some}
 use Rattle.bodies.specs.declared.encoding.Encoding.{Encoding}
 use Rattle.bodies.specs.declared.error.RunError.TheVariants.{Io}
@@ -80,11 +80,11 @@ module _ {R W : Type 0} (remaining : R → Option (List ℕ)) (trace : W → W �
 
     abbrev moved : Moved first.log t.source.log u.log v.log
     moved = record {
-      payload = joined p;
-      rest = joined lost ++ t.source.block.bytes;
-      given = ReadsInOrder-fresh first t.source (joined (p ++ lost)) none moves.hands.in_order
-          ∙ ap (λ l. first.log.reads.given ++ (l ++ t.source.block.bytes)) (flat_map-append (λ x. x) p lost)
-          ∙ ap (λ l. first.log.reads.given ++ l) (append_assoc (joined p) (joined lost) t.source.block.bytes);
+      payload = concat p;
+      rest = concat lost ++ t.source.block.bytes;
+      given = ReadsInOrder-fresh first t.source (concat (p ++ lost)) none moves.hands.in_order
+          ∙ ap (λ l. first.log.reads.given ++ (l ++ t.source.block.bytes)) (concat-append p lost)
+          ∙ ap (λ l. first.log.reads.given ++ l) (append_assoc (concat p) (concat lost) t.source.block.bytes);
       sent = order.sent;
       unsent = v.block.bytes;
       received = order.received;
@@ -93,18 +93,18 @@ module _ {R W : Type 0} (remaining : R → Option (List ℕ)) (trace : W → W �
     part : order.sent ++ v.block.bytes ≡ flat_map chunk p ++ end
     part = order.equal ∙ ap (λ l. l ++ (flat_map chunk p ++ end)) none'
 
-    is_chunks : IsChunks (flat_map chunk p) (joined p)
+    is_chunks : IsChunks (flat_map chunk p) (concat p)
     is_chunks = record { payloads = p; carried = moves.takes.carried; equal = refl; joined = refl }
 
     -- the body's end wasn't taken in, or was
     not_ended : end ≡ [] → IsUnended moved
     not_ended nothing =
-        unended moved (subst (λ l. IsChunks l (joined p))
+        unended moved (subst (λ l. IsChunks l (concat p))
         (sym (part ∙ ap (λ l. flat_map chunk p ++ l) nothing ∙ append-nil (flat_map chunk p))) is_chunks)
 
-    is_written : end ≡ body_end [] → IsEncodedBody (order.sent ++ v.block.bytes) (joined p)
-    is_written all = subst (λ l. IsEncodedBody l (joined p)) (sym (part ∙ ap (λ l. flat_map chunk p ++ l) all))
-        (written (flat_map chunk p) (joined p) is_chunks)
+    is_written : end ≡ body_end [] → IsEncodedBody (order.sent ++ v.block.bytes) (concat p)
+    is_written all = subst (λ l. IsEncodedBody l (concat p)) (sym (part ∙ ap (λ l. flat_map chunk p ++ l) all))
+        (written (flat_map chunk p) (concat p) is_chunks)
 
   -- all that was handed out went over
   module _ (count : ℕ) (over : Forwarded rules count begin t) where
@@ -127,7 +127,7 @@ module _ {R W : Type 0} (remaining : R → Option (List ℕ)) (trace : W → W �
       ended once (Ok _) end = (
         moved_all end.end v end.taken left end.answers.1,
         (let sent = (order over.payloads [] none_lost end.end v end.taken).sent in
-            subst (λ l. IsEncodedBody l (joined over.payloads)) (ap (λ l. sent ++ l) end.answers.1.empty ∙ append-nil sent)
+            subst (λ l. IsEncodedBody l (concat over.payloads)) (ap (λ l. sent ++ l) end.answers.1.empty ∙ append-nil sent)
             (is_written over.payloads [] none_lost end.end v end.taken end.answers.0)),
         once,
         MetNoFault-joins first.log t.source.log t.source.log u.log t.target.writer.log v.log met

@@ -1,6 +1,6 @@
 -- A filter that hands out the payload of a body.
 use Rattle.std.specs.Prelude.{◌≡◌, ℕ, ◌+◌, ◌-◌, ◌<◌, ◌≤◌, ◌⊎◌, List, [], ◌++◌, length, take, Bool, true, false, Result, Ok, Err, MatchResult, Option}
-use Rattle.std.specs.List.{All}
+use Rattle.std.specs.List.{concat, All}
 use Rattle.buffer_redux.specs.Block.{Plain}
 use Rattle.body_reader.specs.declared.error.BodyError.{BodyError}
 use Rattle.body_reader.specs.declared.error.BodyError.TheVariants as body
@@ -12,7 +12,7 @@ use Rattle.forward.specs.declared.error.AskError.TheVariants.{Wrong}
 use Rattle.forward.specs.declared.error.AskError.TheVariants as ask
 use Rattle.bodies.specs.Words.{Error, Flushes, RanDry, WritesInOrder, Buffered, MetInterrupts, SendErrorCaused, std_read_rules, StdPolicy, BodyState, BodyWent, BreaksAt, IsBodyOfChunks, IsBodyReader, TookWholeBody, LooksBehind, chunked, handed_of, taken_count, FilterRules, AllSent, IsStill, taken_in, RunError}
 use Rattle.bodies.specs.Decode.{IsDue}
-use Rattle.bodies.specs.Filters.{Asked, joined}
+use Rattle.bodies.specs.Filters.{Asked}
 use Rattle.bodies.specs.declared.decoding.Decoding.{Decoding}
 use Rattle.bodies.specs.declared.error.RunError.TheVariants.{NotChunked, Truncated, Behind}
 
@@ -46,7 +46,7 @@ pub record HandsPayloadPieces {R W : Type 0} (remaining : R → Option (List ℕ
     (t : Decoding R W) : Type 0 where
   pub payload : List ℕ
   pub went : BodyWent remaining std_read_rules (chunked s.source.coding.0) s.source payload t.source
-  pub order : held_payload s ++ payload ≡ joined pieces ++ held_payload t
+  pub order : held_payload s ++ payload ≡ concat pieces ++ held_payload t
   pub some : All (λ piece. 0 < length piece) pieces
 
 -- no payload can be handed out of what is buffered: the body ended, or there is none, or the next byte is wrong
@@ -109,7 +109,7 @@ decoding_rules remaining = record {
   written = λ s. s.target.log;
   ready = λ s. MayDecode s;
   hands = HandsPayloadPieces remaining;
-  takes = λ s pieces t. WritesInOrder s.target (joined pieces) t.target;
+  takes = λ s pieces t. WritesInOrder s.target (concat pieces) t.target;
   has = λ s. 0 < s.held;
   lacks = λ s. (s.held ≡ 0) × NoneBuffered s.source;
   waits = λ s. (s.held ≡ 0) × (s.source.reader.block.bytes ≡ []);

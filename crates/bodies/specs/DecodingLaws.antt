@@ -1,13 +1,13 @@
 -- The payload of a body is handed out in order, and what is due is sent with it.
 use Rattle.std.proofs.Common.{◌≡◌, ℕ, ◌<◌, inl, inr, List, [], ◌++◌, length, take, Option, Result, Ok, Err, refl, sym, ap, subst, ◌∙◌, arith, append-nil, append_assoc}
-use Rattle.std.proofs.lemmas.Grind.{flat_map-append}
+use Rattle.std.specs.List.{concat}
+use Rattle.std.proofs.lemmas.List.Folds.{concat-append}
 use Rattle.std.proofs.lemmas.List.Elements.{All-append, All-nil}
 use Rattle.buffer_redux.specs.WriterLaws.{WritesInOrder-joins, WritesInOrder-none}
 use Rattle.body_reader.specs.BodyReaderLaws.{BodyWent-joins, BodyWent-none}
 use Rattle.bodies.specs.Words.{WritesInOrder, std_read_rules, BodyWent, chunked, handed_of, AsksSent, FilterRules, NeverGaveNothing, IsLawful, Moves, StaysOpen, AllSent, sent_all, taken_more, RunError}
 use Rattle.bodies.specs.Decode.{IsDue}
 use Rattle.bodies.specs.Decoding.{AsksPromptly, HandsPayloadPieces, PayloadEnds, decoding_rules, held_payload}
-use Rattle.bodies.specs.Filters.{joined}
 use Rattle.bodies.specs.FiltersLaws.{asked_after}
 use Rattle.bodies.specs.declared.decoding.Decoding.{Decoding}
 use Rattle.bodies.specs.declared.error.RunError.TheVariants.{NotChunked, Truncated, Behind}
@@ -39,16 +39,16 @@ module _ {R W : Type 0} (remaining : R → Option (List ℕ)) where
         f.went (subst (λ x. BodyWent remaining std_read_rules (chunked x.0) b.source g.payload c.source) f.went.coding g.went);
     order =
         sym (append_assoc (held_payload a) f.payload g.payload)
-        ∙ ap (λ l. l ++ g.payload) f.order ∙ append_assoc (joined p) (held_payload b) g.payload
-        ∙ ap (λ l. joined p ++ l) g.order ∙ sym (append_assoc (joined p) (joined q) (held_payload c))
-        ∙ ap (λ l. l ++ held_payload c) (sym (flat_map-append (λ piece. piece) p q));
+        ∙ ap (λ l. l ++ g.payload) f.order ∙ append_assoc (concat p) (held_payload b) g.payload
+        ∙ ap (λ l. concat p ++ l) g.order ∙ sym (append_assoc (concat p) (concat q) (held_payload c))
+        ∙ ap (λ l. l ++ held_payload c) (sym (concat-append p q));
     some = All-append (λ piece. 0 < length piece) p q f.some g.some;
   }
 
-  takes_joins : (a b c : Decoding R W) (p q : List (List ℕ)) → WritesInOrder a.target (joined p) b.target
-      → WritesInOrder b.target (joined q) c.target → WritesInOrder a.target (joined (p ++ q)) c.target
-  takes_joins a b c p q f g = subst (λ l. WritesInOrder a.target l c.target) (sym (flat_map-append (λ piece. piece) p q))
-      (WritesInOrder-joins a.target b.target c.target (joined p) (joined q) f g)
+  takes_joins : (a b c : Decoding R W) (p q : List (List ℕ)) → WritesInOrder a.target (concat p) b.target
+      → WritesInOrder b.target (concat q) c.target → WritesInOrder a.target (concat (p ++ q)) c.target
+  takes_joins a b c p q f g = subst (λ l. WritesInOrder a.target l c.target) (sym (concat-append p q))
+      (WritesInOrder-joins a.target b.target c.target (concat p) (concat q) f g)
 
   ends_after : (a b c : Decoding R W) (how : Result (Unit {0}) RunError) → NeverGaveNothing filter_rules a b
       → PayloadEnds b.source how c.source
@@ -70,10 +70,10 @@ module _ {R W : Type 0} (remaining : R → Option (List ℕ)) where
   -- what was handed out went over
   pub handed_joined : (s t : Decoding R W) (p : List (List ℕ)) (hands : HandsPayloadPieces remaining s p t) → s.held ≡ 0
       → t.held ≡ 0
-      → hands.payload ≡ joined p
+      → hands.payload ≡ concat p
   handed_joined s t p hands none none' =
-      sym (ap (λ l. l ++ hands.payload) (none_held s none)) ∙ hands.order ∙ ap (λ l. joined p ++ l) (none_held t none')
-      ∙ append-nil (joined p)
+      sym (ap (λ l. l ++ hands.payload) (none_held s none)) ∙ hands.order ∙ ap (λ l. concat p ++ l) (none_held t none')
+      ∙ append-nil (concat p)
 
   asks_sent : (first s t : Decoding R W) (p : List (List ℕ)) → filter_rules.fresh first → Moves filter_rules first p p s
       → NeverGaveNothing filter_rules first s
@@ -83,7 +83,7 @@ module _ {R W : Type 0} (remaining : R → Option (List ℕ)) where
       let m = s.source in
       let due : List ℕ → Type 0 = λ bytes. IsDue m.coding.0 (m.taken ++ bytes) (handed_of m) in
       let before = first.source.taken in
-      let payload : handed_of m ≡ handed_of first.source ++ joined p =
+      let payload : handed_of m ≡ handed_of first.source ++ concat p =
       went.handed ∙ ap (λ l. handed_of first.source ++ l) (handed_joined first s p moves.hands fresh.held lacks) in
       elim (asked_after due m.reader t.source.reader asks first.source.reader went.wire fresh.buffered went.along.in_order
       gives.give) [
@@ -91,12 +91,12 @@ module _ {R W : Type 0} (remaining : R → Option (List ℕ)) where
         | inr (bytes, is_due, last) ↦ inr (record {
           before = went.wire ++ bytes;
           asked = last;
-          due = joined p;
-          is_due = subst (λ l. IsDue first.source.coding.0 l (handed_of first.source ++ joined p))
+          due = concat p;
+          is_due = subst (λ l. IsDue first.source.coding.0 l (handed_of first.source ++ concat p))
               (ap (λ l. l ++ bytes) went.taken ∙ append_assoc before went.wire bytes)
               (subst (IsDue first.source.coding.0 (m.taken ++ bytes)) payload
               (subst (λ c. IsDue c.0 (m.taken ++ bytes) (handed_of m)) went.coding is_due));
-          sent = sent_all first.target s.target (joined p) moves.takes fresh.target sent;
+          sent = sent_all first.target s.target (concat p) moves.takes fresh.target sent;
         })
       ]
 
@@ -110,7 +110,7 @@ module _ {R W : Type 0} (remaining : R → Option (List ℕ)) where
     waits_lacks = λ s waits. (waits.0, inr (inl waits.1));
     waits_fresh = λ s waits sent. record { buffered = waits.1; target = sent.empty; held = waits.0 };
     received_taken = λ s. omega arith;
-    taken_on = λ s t p taken. omega (arith, taken_more s.target t.target (joined p) taken);
+    taken_on = λ s t p taken. omega (arith, taken_more s.target t.target (concat p) taken);
     asks_sent = λ first s t p fresh moves still lacks.
         asks_sent first s t p fresh moves (still_open first s still) lacks.0;
   }

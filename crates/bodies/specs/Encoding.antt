@@ -1,8 +1,9 @@
 -- A filter that makes what is given chunks.
 use Rattle.std.specs.Prelude.{◌≡◌, ℕ, ◌+◌, ◌-◌, ◌<◌, ◌≤◌, List, [], length, MatchResult, Option}
+use Rattle.std.specs.List.{concat}
 use Rattle.bodies.specs.Words.{Flushes, ReadsAlong, std_read_rules, ChunksWent, IsChunkedWriter, FilterRules, AllSent, IsStill, around, room, taken_in, RunError}
 use Rattle.bodies.specs.Encode.{IsDue}
-use Rattle.bodies.specs.Filters.{Asked, joined}
+use Rattle.bodies.specs.Filters.{Asked}
 use Rattle.bodies.specs.declared.encoding.Encoding.{Encoding}
 
 -- what each call of the filter wants
@@ -19,7 +20,7 @@ encoding_rules remaining trace = record {
   read = λ s. s.source.log;
   written = λ s. s.target.writer.log;
   ready = λ s. MayEncode s;
-  hands = λ s payloads t. ReadsAlong remaining std_read_rules s.source (joined payloads) t.source;
+  hands = λ s payloads t. ReadsAlong remaining std_read_rules s.source (concat payloads) t.source;
   takes = λ s payloads t. ChunksWent trace s.target payloads t.target;
   has = λ s. 0 < length s.source.block.bytes;
   lacks = λ s. s.source.block.bytes ≡ [];

@@ -1,22 +1,22 @@
 -- What is given is handed out in order, and what is due is sent with it.
 use Rattle.std.proofs.Common.{◌≡◌, ℕ, inl, inr, List, [], ◌++◌, Option, Result, Ok, Err, refl, sym, ap, subst, ◌∙◌, arith, append-nil}
-use Rattle.std.proofs.lemmas.Grind.{flat_map-append}
-use Rattle.std.specs.List.{flat_map}
+use Rattle.std.proofs.lemmas.List.Folds.{concat-append}
+use Rattle.std.specs.List.{concat, flat_map}
 use Rattle.buffer_redux.specs.ReaderLaws.{ReadsAlong-joins, ReadsAlong-none}
 use Rattle.chunked.specs.ChunkedWriterLaws.{ChunksWent-joins, ChunksWent-none}
 use Rattle.bodies.specs.Words.{ReadsAlong, std_read_rules, AsksSent, IsLawful, Moves, StaysOpen, AskedLast, AllSent, sent_all, taken_more, RunError, chunk}
 use Rattle.bodies.specs.Encoding.{encoding_rules}
-use Rattle.bodies.specs.Filters.{Asked, joined}
+use Rattle.bodies.specs.Filters.{Asked}
 use Rattle.bodies.specs.FiltersLaws.{asked_after}
 use Rattle.bodies.specs.declared.encoding.Encoding.{Encoding}
 
 module _ {R W : Type 0} (remaining : R → Option (List ℕ)) (trace : W → W → Type 0) where
-  hands_joins : (a b c : Encoding R W) (p q : List (List ℕ)) → ReadsAlong remaining std_read_rules a.source (joined p) b.source
-      → ReadsAlong remaining std_read_rules b.source (joined q) c.source
-      → ReadsAlong remaining std_read_rules a.source (joined (p ++ q)) c.source
+  hands_joins : (a b c : Encoding R W) (p q : List (List ℕ)) → ReadsAlong remaining std_read_rules a.source (concat p) b.source
+      → ReadsAlong remaining std_read_rules b.source (concat q) c.source
+      → ReadsAlong remaining std_read_rules a.source (concat (p ++ q)) c.source
   hands_joins a b c p q f g =
-      subst (λ l. ReadsAlong remaining std_read_rules a.source l c.source) (sym (flat_map-append (λ x. x) p q))
-      (ReadsAlong-joins remaining std_read_rules a.source b.source c.source (joined p) (joined q) f g)
+      subst (λ l. ReadsAlong remaining std_read_rules a.source l c.source) (sym (concat-append p q))
+      (ReadsAlong-joins remaining std_read_rules a.source b.source c.source (concat p) (concat q) f g)
 
   ends_after : (a b c : Encoding R W) (how : Result (Unit {0}) RunError) → StaysOpen (encoding_rules remaining trace) a b
       → (encoding_rules remaining trace).ends b how c → (encoding_rules remaining trace).ends a how c
@@ -30,12 +30,12 @@ module _ {R W : Type 0} (remaining : R → Option (List ℕ)) (trace : W → W �
       → AsksSent (encoding_rules remaining trace) first s t
   asks_sent first s t p fresh moves (inr closed) sent asked = absurd closed
   asks_sent first s t p fresh moves (inl gives) sent asked =
-      elim (asked_after (λ bytes. bytes ≡ []) s.source t.source asked first.source (joined p) fresh.0 moves.hands.in_order
+      elim (asked_after (λ bytes. bytes ≡ []) s.source t.source asked first.source (concat p) fresh.0 moves.hands.in_order
       gives.give) [
         | inl same ↦ inl same
         | inr (bytes, none, last) ↦ inr (record {
-          before = joined p;
-          asked = subst (λ l. AskedLast l first.source.log t.source.log) (ap (λ l. joined p ++ l) none ∙ append-nil (joined p))
+          before = concat p;
+          asked = subst (λ l. AskedLast l first.source.log t.source.log) (ap (λ l. concat p ++ l) none ∙ append-nil (concat p))
               last;
           due = flat_map chunk p;
           is_due = record { payloads = p; carried = moves.takes.carried; equal = refl; joined = refl };

@@ -1,5 +1,5 @@
 -- What the filters of both runs say.
-use Rattle.std.specs.Prelude.{◌≡◌, ℕ, List, flat_map}
+use Rattle.std.specs.Prelude.{◌≡◌, ℕ, List}
 use Rattle.std.specs.IoError.{error_kind}
 use Rattle.std.specs.declared.io.ErrorKind.TheVariants.{Other}
 use Rattle.buffer_redux.specs.LogGrows.{ReadLogGrows}
@@ -14,10 +14,6 @@ use Rattle.bodies.specs.declared.error.RunError.TheVariants.{Read, Write, Io}
 pub record Asked {R : Type 0} (Such : List ℕ → Type 0) (s t : Buffered R StdPolicy) : Type 0 where
   pub asked : AskedWhere Such (unbuffered s) (unbuffered t)
   pub grows : ReadLogGrows s.log.reads t.log.reads
-
--- payloads, one behind the other
-abbrev pub joined : List (List ℕ) → List ℕ
-joined payloads = flat_map (λ payload. payload) payloads
 
 -- the error that a run of the program fails with, by what stopped it
 abbrev pub IsErrorOf : Cause RunError → RunError → Type 0

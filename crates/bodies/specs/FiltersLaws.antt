@@ -1,5 +1,6 @@
 -- How many bytes payloads have; asks behind what was taken; and one fill.
 use Rattle.std.proofs.Common.{◌≡◌, zero, suc, ◌+◌, ◌<◌, ◌≤◌, ◌==◌, ◌⊎◌, inl, inr, true, false, ℕ, List, [], ◌∷◌, ◌++◌, All, length, length-append, Result, Ok, Err, ap, sym, subst, ◌∙◌, arith, append_assoc}
+use Rattle.std.specs.List.{concat}
 use Rattle.std.proofs.lemmas.Bool.Decides.{nat_tests}
 use Rattle.std.proofs.lemmas.List.{nil_from_length}
 use Rattle.std.proofs.lemmas.List.Elements.{All-head, All-tail}
@@ -11,16 +12,16 @@ use Rattle.buffer_redux.specs.declared.policy.DoRead.{DoRead}
 use Rattle.programs.specs.PromptLaws.{AskedLast-after}
 use Rattle.bodies.specs.Words.{Error, Fills, ReadsInOrder, Buffered, std_read_rules, StdPolicy, AskedLast, AsksGiveOrFail}
 use Rattle.bodies.specs.FillLaws.{fill_asks}
-use Rattle.bodies.specs.Filters.{Asked, joined}
+use Rattle.bodies.specs.Filters.{Asked}
 
 -- payloads that aren't empty have a byte each
-pub each_some : (payloads : List (List ℕ)) → All (λ p. 0 < length p) payloads → length payloads ≤ length (joined payloads)
+pub each_some : (payloads : List (List ℕ)) → All (λ p. 0 < length p) payloads → length payloads ≤ length (concat payloads)
 each_some [] some = omega arith
 each_some (payload ∷ payloads) some = omega (
   arith,
   All-head (λ p. 0 < length p) payload payloads some,
   each_some payloads (All-tail (λ p. 0 < length p) payload payloads some),
-  length-append payload (joined payloads),
+  length-append payload (concat payloads),
 )
 
 module _ {R : Type 0} (Such : List ℕ → Type 0) (s t : Buffered R StdPolicy) (asked : Asked Such s t) where

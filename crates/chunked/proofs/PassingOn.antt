@@ -1,6 +1,6 @@
 -- Which bytes lead on in a chunk and in the trailers.
 use Rattle.std.proofs.Common.{◌≡◌, ℕ, ◌-◌, ◌<◌, ◌≤◌, List, [], ◌∷◌, ◌++◌, codes, length, sym, ap, subst, ◌∙◌, arith, inl, refl, append_assoc, length-append}
-use Rattle.std.specs.List.{AllByRecursion, flat_map}
+use Rattle.std.specs.List.{concat, AllByRecursion}
 use Rattle.chunked.specs.declared.limits.Limits.{Limits}
 use Rattle.chunked.specs.declared.place.Place.TheVariants.{Data, DataFeed, Fields, FieldName, FieldValue, FieldFeed, LastFeed}
 use Rattle.chunked.specs.Token.{IsTokenByte, IsValueByte}
@@ -110,9 +110,9 @@ module _ (limits : Limits) where
   fields_first_back b room rest ((x ∷ f) ∷ fields) byte t same =
       let all : b ∷ rest ≡ x ∷ (f ++ line_end (fields_bytes fields)) = t.equal ∙ ap fields_bytes same in
       let lines : AllByRecursion IsField ((x ∷ f) ∷ fields) = subst (λ fs. AllByRecursion IsField fs) same t.lines in
-      let few : length ((x ∷ f) ++ flat_map (λ g. g) fields) ≤ room =
-      subst (λ fs. length (flat_map (λ g. g) fs) ≤ room) same t.few in
-      let sum = length-append (x ∷ f) (flat_map (λ g. g) fields) in
+      let few : length ((x ∷ f) ++ concat fields) ≤ room =
+      subst (λ fs. length (concat fs) ≤ room) same t.few in
+      let sum = length-append (x ∷ f) (concat fields) in
       record {
         text = f;
         behind = fields_bytes fields;
@@ -137,7 +137,7 @@ module _ (limits : Limits) where
               f.fits,
               fits,
               f.goes_on.few,
-              length-append (b ∷ f.text) (flat_map (λ g. g) f.goes_on.fields),
+              length-append (b ∷ f.text) (concat f.goes_on.fields),
             );
           },
         ))

@@ -3,7 +3,7 @@ use Rattle.std.proofs.Common.{◌≡◌, ℕ, zero, suc, ◌+◌, ◌^◌, ◌<�
 use Rattle.std.proofs.lemmas.Bool.{cases_lt}
 use Rattle.std.proofs.lemmas.List.{take_all}
 use Rattle.std.proofs.lemmas.List.Elements.{All-nil, All-cons}
-use Rattle.std.specs.List.{All, AllByRecursion, flat_map}
+use Rattle.std.specs.List.{concat, All, AllByRecursion, flat_map}
 use Rattle.std.specs.declared.io.Error.{Error}
 use Rattle.buffer_redux.specs.Block.{Block, IsBlock, Kind, Plain, Ring, limit_of}
 use Rattle.buffer_redux.specs.Buffered.{Buffered}
@@ -181,7 +181,7 @@ module _ {S : Type 0} (tells : S → StreamLog) (trace : S → S → Type 0) (no
       chunks : ChunksWent trace s (payload ∷ []) Left
       chunks = record {
         carried = one;
-        went = subst (λ l. PayloadWent trace s l (flat_map (λ p. p) (payload ∷ [])) Left) (sym (append-nil (chunk payload)))
+        went = subst (λ l. PayloadWent trace s l (concat (payload ∷ [])) Left) (sym (append-nil (chunk payload)))
             (subst (λ l. PayloadWent trace s (chunk payload) l Left) (all ∙ sym (append-nil payload)) went);
         due = refl;
       }

@@ -1,6 +1,6 @@
 -- Bodies in the chunked coding.
-use Rattle.std.specs.Prelude.{◌≡◌, ◌≢◌, ℕ, ◌^◌, ◌<◌, ◌≤◌, List, [], ◌∷◌, ◌++◌, length, flat_map}
-use Rattle.std.specs.List.{AllByRecursion}
+use Rattle.std.specs.Prelude.{◌≡◌, ◌≢◌, ℕ, ◌^◌, ◌<◌, ◌≤◌, List, [], ◌∷◌, ◌++◌, length}
+use Rattle.std.specs.List.{concat, AllByRecursion}
 use Rattle.std.specs.Str.Parse.{IsNumeral, digits_value}
 use Rattle.chunked.specs.declared.limits.Limits.{Limits}
 use Rattle.chunked.specs.Token.{IsTokenByte, IsValueByte}
@@ -42,7 +42,7 @@ pub record IsTrailers (limit : ℕ) (bytes : List ℕ) : Type 0 where
   pub fields : List (List ℕ)
   pub equal : bytes ≡ fields_bytes fields
   pub lines : AllByRecursion IsField fields
-  pub few : length (flat_map (λ field. field) fields) ≤ limit
+  pub few : length (concat fields) ≤ limit
 
 -- these bytes begin with the line of this size, behind which these stand
 pub record BeginsSize (limits : Limits) (size : ℕ) (bytes behind : List ℕ) : Type 0 where
@@ -62,4 +62,4 @@ HasChunks limits (payload ∷ later) bytes =
 pub record IsBodyOfChunks (limits : Limits) (bytes payload : List ℕ) : Type 0 where
   pub payloads : List (List ℕ)
   pub chunks : HasChunks limits payloads bytes
-  pub equal : payload ≡ flat_map (λ p. p) payloads
+  pub equal : payload ≡ concat payloads

@@ -1,9 +1,9 @@
 -- Laws of bodies: what a text of a line ends at, and that a text is a body in one way.
-use Rattle.std.specs.Prelude.{◌≡◌, ℕ, ◌<◌, List, [], ◌∷◌, ◌++◌, length, take, drop, flat_map}
+use Rattle.std.specs.Prelude.{◌≡◌, ℕ, ◌<◌, List, [], ◌∷◌, ◌++◌, length, take, drop}
 use Rattle.std.proofs.Common.{sym, ap, subst, ◌∙◌, arith, inl, inr, refl, append_assoc}
 use Rattle.std.proofs.lemmas.List.{take_at, drop_at}
 use Rattle.std.specs.Char.{digit_value}
-use Rattle.std.specs.List.{AllByRecursion}
+use Rattle.std.specs.List.{concat, AllByRecursion}
 use Rattle.std.specs.Str.Parse.{AllDigits, digits_value}
 use Rattle.chunked.specs.declared.limits.Limits.{Limits}
 use Rattle.chunked.specs.Extension.{IsExtension}
@@ -148,4 +148,4 @@ pub IsBodyOfChunks-same : (l m : Limits) (a b p q xs ys : List ℕ) → IsBodyOf
     → (a ≡ b) × (p ≡ q) × (xs ≡ ys)
 IsBodyOfChunks-same l m a b p q xs ys h k same =
     let found = chunks_same l m h.payloads k.payloads a b xs ys h.chunks k.chunks same in
-    (found.0, h.equal ∙ ap (λ ps. flat_map (λ x. x) ps) found.1 ∙ sym k.equal, found.2)
+    (found.0, h.equal ∙ ap (λ ps. concat ps) found.1 ∙ sym k.equal, found.2)

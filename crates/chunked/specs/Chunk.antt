@@ -2,7 +2,7 @@
 use Rattle.std.specs.Prelude.{◌≡◌, ℕ, zero, suc, ◌+◌, ◌^◌, ◌<◌, List, [], ◌∷◌, ◌++◌, length, map, flat_map}
 use Rattle.std.specs.Char.{digit_char}
 use Rattle.std.specs.Int.Digits.{digits_of}
-use Rattle.std.specs.List.{All}
+use Rattle.std.specs.List.{concat, All}
 use Rattle.chunked.specs.Body.{fields_bytes, line_end}
 
 -- a size in hexadecimal digits, which are lower-case and begin with no 0
@@ -35,7 +35,7 @@ pub record IsChunks (bytes payload : List ℕ) : Type 0 where
   pub payloads : List (List ℕ)
   pub carried : All IsCarried payloads
   pub equal : bytes ≡ flat_map chunk payloads
-  pub joined : payload ≡ flat_map (λ p. p) payloads
+  pub joined : payload ≡ concat payloads
 
 -- these bytes are chunks, and then the beginning of one of which so many bytes are still to come, which carry this payload
 pub record HasBegun (due : ℕ) (bytes payload : List ℕ) : Type 0 where

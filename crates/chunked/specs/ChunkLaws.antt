@@ -1,5 +1,6 @@
 -- Laws of what a writer of a body writes: chunks, and then its end, are a body.
 use Rattle.std.specs.Prelude.{◌≡◌, ℕ, ◌+◌, ◌-◌, ◌^◌, ◌<◌, ◌≤◌, List, [], ◌∷◌, ◌++◌, length, map, flat_map}
+use Rattle.std.proofs.lemmas.List.Folds.{concat-append}
 use Rattle.std.proofs.Common.{sym, ap, subst, ◌∙◌, arith, refl, append_assoc, append-nil, length-append}
 use Rattle.std.proofs.lemmas.Bool.Decides.{nat_tests}
 use Rattle.std.proofs.lemmas.Int.Digits.{length-digits_of_step, length-digits_of-le, all_below_base_digits_of, number_digits_of, digits_value_is}
@@ -8,7 +9,7 @@ use Rattle.std.proofs.lemmas.List.Concat.{flat_map-append}
 use Rattle.std.proofs.lemmas.List.Elements.{All-nil, All-cons, All-append, All-head, All-tail}
 use Rattle.std.specs.Char.{digit_char, digit_value}
 use Rattle.std.specs.Int.Digits.{digits_of, AllBelowBase, number_from_digits}
-use Rattle.std.specs.List.{All, AllByRecursion}
+use Rattle.std.specs.List.{concat, All, AllByRecursion}
 use Rattle.std.specs.Str.Parse.{AllDigits}
 use Rattle.chunked.specs.declared.limits.Limits.{Limits}
 use Rattle.chunked.specs.Body.{line_end, IsField, IsSizeLine, HasChunks, IsBodyOfChunks, fields_bytes}
@@ -69,18 +70,18 @@ pub IsChunks-none : IsChunks [] []
 IsChunks-none = record { payloads = []; carried = All-nil IsCarried; equal = refl; joined = refl }
 
 pub IsChunks-joins : (bytes payload : List ℕ) (more : List (List ℕ)) → IsChunks bytes payload → All IsCarried more
-    → IsChunks (bytes ++ flat_map chunk more) (payload ++ flat_map (λ p. p) more)
+    → IsChunks (bytes ++ flat_map chunk more) (payload ++ concat more)
 IsChunks-joins bytes payload more h carried = record {
   payloads = h.payloads ++ more;
   carried = All-append IsCarried h.payloads more h.carried carried;
   equal = ap (λ l. l ++ flat_map chunk more) h.equal ∙ sym (flat_map-append chunk h.payloads more);
-  joined = ap (λ l. l ++ flat_map (λ p. p) more) h.joined ∙ sym (flat_map-append (λ p. p) h.payloads more);
+  joined = ap (λ l. l ++ concat more) h.joined ∙ sym (concat-append h.payloads more);
 }
 
 pub IsChunks-behind : (a x b y : List ℕ) → IsChunks a x → IsChunks b y → IsChunks (a ++ b) (x ++ y)
 IsChunks-behind a x b y h k =
     subst (λ p. IsChunks (a ++ b) (x ++ p)) (sym k.joined)
-    (subst (λ l. IsChunks (a ++ l) (x ++ flat_map (λ p. p) k.payloads)) (sym k.equal)
+    (subst (λ l. IsChunks (a ++ l) (x ++ concat k.payloads)) (sym k.equal)
     (IsChunks-joins a x k.payloads h k.carried))
 
 -- a chunk is begun behind whole ones; and payload goes on in it, to its end or not
@@ -142,14 +143,14 @@ module _ (due : ℕ) (bytes payload more : List ℕ) (h : HasBegun due bytes pay
       ∙ append_assoc h.before (chunk_begun (due - length more) whole) (line_end [])
       ∙ ap (λ l. h.before ++ l) last
       ∙ ap (λ l. h.before ++ l) (sym (append-nil (chunk whole))) in
-      let carries : payload ++ more ≡ h.carried ++ flat_map (λ p. p) (whole ∷ []) =
+      let carries : payload ++ more ≡ h.carried ++ concat (whole ∷ []) =
       joined ∙ ap (λ l. h.carried ++ l) (sym (append-nil whole)) in
       subst (λ l. IsChunks l (payload ++ more)) (sym wire)
       (subst (λ l. IsChunks (h.before ++ flat_map chunk (whole ∷ [])) l) (sym carries)
       (IsChunks-joins h.before h.carried (whole ∷ []) h.chunks (All-cons IsCarried whole [] is (All-nil IsCarried))))
 
 module _ (limits : Limits) (line : 16 ≤ limits.line) (fields : List (List ℕ)) (lines : AllByRecursion IsField fields)
-    (few : length (flat_map (λ f. f) fields) ≤ limits.trailers) where
+    (few : length (concat fields) ≤ limits.trailers) where
   has_chunks : (payloads : List (List ℕ)) → All IsCarried payloads
       → HasChunks limits payloads (flat_map chunk payloads ++ body_end fields)
   has_chunks [] carried = (

@@ -1,6 +1,6 @@
 -- What contracts see of a writer of a body, and what its calls promise.
 use Rattle.std.specs.Prelude.{◌≡◌, ℕ, zero, suc, ◌+◌, ◌-◌, ◌^◌, ◌<◌, ◌≤◌, List, [], ◌∷◌, ◌++◌, length, min, take, flat_map, Result, Ok, Err, MatchResult}
-use Rattle.std.specs.List.{All, AllByRecursion}
+use Rattle.std.specs.List.{concat, All, AllByRecursion}
 use Rattle.std.specs.declared.io.Error.{Error}
 use Rattle.buffer_redux.specs.Block.{IsBlock}
 use Rattle.buffer_redux.specs.Buffered.{Buffered, GoesDirect, InnerWent}
@@ -63,7 +63,7 @@ pub record PayloadWent {S : Type 0} (trace : S → S → Type 0) (s : ChunkedWri
 pub record ChunksWent {S : Type 0} (trace : S → S → Type 0) (s : ChunkedWriterState S) (payloads : List (List ℕ))
     (t : ChunkedWriterState S) : Type 0 where
   pub carried : All IsCarried payloads
-  pub went : PayloadWent trace s (flat_map chunk payloads) (flat_map (λ p. p) payloads) t
+  pub went : PayloadWent trace s (flat_map chunk payloads) (concat payloads) t
   pub due : t.due ≡ s.due
 
 -- the payloads of the chunks that an answer took in: of one, or of none
@@ -157,7 +157,7 @@ module _ {S : Type 0} (tells : S → StreamLog) (trace : S → S → Type 0) whe
 
 -- what limits let through that was written with these trailers: the line of a size with 16 digits, and the lines
 abbrev pub LetsThrough : List (List ℕ) → Limits → Type 0
-LetsThrough fields limits = (16 ≤ limits.line) × (length (flat_map (λ f. f) fields) ≤ limits.trailers)
+LetsThrough fields limits = (16 ≤ limits.line) × (length (concat fields) ≤ limits.trailers)
 
 -- what finishing with these trailers does, where no chunk lacks payload: each is a line that trailers may have, the end of the
 -- body went in whole behind the chunks, and what was taken in since the writer was made is a body, whose payload is what was

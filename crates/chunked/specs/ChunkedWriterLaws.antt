@@ -1,5 +1,7 @@
 -- Laws of a writer of a body: traces of calls join.
 use Rattle.std.specs.Prelude.{◌≡◌, ℕ, List, [], ◌++◌, flat_map}
+use Rattle.std.specs.List.{concat}
+use Rattle.std.proofs.lemmas.List.Folds.{concat-append}
 use Rattle.std.proofs.Common.{sym, ap, subst, ◌∙◌, refl, append_assoc, append-nil}
 use Rattle.std.proofs.lemmas.List.Concat.{flat_map-append}
 use Rattle.std.proofs.lemmas.List.Elements.{All-nil, All-append}
@@ -51,9 +53,9 @@ module _ {S : Type 0} (trace : S → S → Type 0) (none : (x : S) → trace x x
       → ChunksWent trace s (ps ++ qs) t
   ChunksWent-joins s m t ps qs p q = record {
     carried = All-append IsCarried ps qs p.carried q.carried;
-    went = subst (λ l. PayloadWent trace s l (flat_map (λ x. x) (ps ++ qs)) t) (sym (flat_map-append chunk ps qs))
-        (subst (λ l. PayloadWent trace s (flat_map chunk ps ++ flat_map chunk qs) l t) (sym (flat_map-append (λ x. x) ps qs))
-        (PayloadWent-joins s m t (flat_map chunk ps) (flat_map chunk qs) (flat_map (λ x. x) ps) (flat_map (λ x. x) qs) p.went
+    went = subst (λ l. PayloadWent trace s l (concat (ps ++ qs)) t) (sym (flat_map-append chunk ps qs))
+        (subst (λ l. PayloadWent trace s (flat_map chunk ps ++ flat_map chunk qs) l t) (sym (concat-append ps qs))
+        (PayloadWent-joins s m t (flat_map chunk ps) (flat_map chunk qs) (concat ps) (concat qs) p.went
         q.went));
     due = q.due ∙ p.due;
   }

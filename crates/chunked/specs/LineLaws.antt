@@ -1,7 +1,7 @@
 -- What completes a body goes on from byte to byte.
 use Rattle.std.proofs.Common.{◌≡◌, ℕ, zero, suc, ◌-◌, ◌<◌, ◌≤◌, List, [], ◌∷◌, ◌++◌, length, sym, ap, subst, ◌∙◌, arith, refl, append_assoc, length-append, zero-add}
 use Rattle.std.specs.Char.{digit_value}
-use Rattle.std.specs.List.{flat_map, AllByRecursion}
+use Rattle.std.specs.List.{concat, AllByRecursion}
 use Rattle.std.specs.Str.Parse.{AllDigits, digits_value_after}
 use Rattle.chunked.specs.declared.limits.Limits.{Limits}
 use Rattle.chunked.specs.Body.{line_end, IsSizeLine, HasChunks, IsBodyOfChunks, IsTextByte}
@@ -43,7 +43,7 @@ module _ (limits : Limits) where
   begins_chunk (x ∷ p) behind later payload some both body =
       record { front = x ∷ p; later = later; behind = behind; many = refl; equal = refl; both = both; body = body }
 
-  begins : (bytes payload : List ℕ) (ps : List (List ℕ)) → HasChunks limits ps bytes → payload ≡ flat_map (λ p. p) ps
+  begins : (bytes payload : List ℕ) (ps : List (List ℕ)) → HasChunks limits ps bytes → payload ≡ concat ps
       → BeginsLine limits bytes payload
   begins bytes payload [] (behind, h, trailers) is = record {
     size = 0;
@@ -59,7 +59,7 @@ module _ (limits : Limits) where
     behind = p ++ line_end behind;
     size_line = h.size_line;
     equal = h.equal;
-    goes_on = begins_chunk p behind (flat_map (λ p. p) ps) payload some is
+    goes_on = begins_chunk p behind (concat ps) payload some is
         (record { payloads = ps; chunks = more; equal = refl });
   }
 

@@ -1,7 +1,7 @@
 -- What is wrong with a byte in a place completes no body.
 use Rattle.std.proofs.Common.{◌≡◌, ℕ, ◌+◌, ◌*◌, ◌<◌, ◌≤◌, ◌⊎◌, ◌^◌, List, [], ◌∷◌, ◌++◌, codes, length, sym, ap, subst, ◌∙◌, arith, inl, inr, refl, length-append}
 use Rattle.std.specs.Char.{digit_value}
-use Rattle.std.specs.List.{AllByRecursion, flat_map}
+use Rattle.std.specs.List.{concat, AllByRecursion}
 use Rattle.std.specs.Str.Parse.{AllDigits, digits_value_after}
 use Rattle.chunked.specs.declared.error.Malformed.{Malformed}
 use Rattle.chunked.specs.declared.error.Malformed.TheVariants.{NoSize, BadSize, BadField, SizeTooLarge, LineTooLong, TrailersTooLong, BareReturn, BareFeed, ChunkTooLong}
@@ -87,13 +87,13 @@ module _ (limits : Limits) where
   trailers_first b room rest ((x ∷ f) ∷ fields) t is =
       let all : b ∷ rest ≡ x ∷ (f ++ line_end (fields_bytes fields)) = t.equal ∙ ap fields_bytes is in
       let head : x ≡ b = cc in
-      let few : length ((x ∷ f) ++ flat_map (λ g. g) fields) ≤ room =
-      subst (λ fs. length (flat_map (λ g. g) fs) ≤ room) is t.few in
+      let few : length ((x ∷ f) ++ concat fields) ≤ room =
+      subst (λ fs. length (concat fs) ≤ room) is t.few in
       let begins = IsField-first x f (subst (λ fs. AllByRecursion IsField fs) is t.lines).0 in
       let long = ap length begins.equal ∙ length-append begins.more (58 ∷ begins.value) in
       inr (
         subst IsTokenByte head begins.byte,
-        omega (arith, few, long, length-append (x ∷ f) (flat_map (λ g. g) fields)),
+        omega (arith, few, long, length-append (x ∷ f) (concat fields)),
       )
 
   -- in a name, and in a value
