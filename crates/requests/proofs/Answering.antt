@@ -1,12 +1,13 @@
 -- Answers, one after another.
-use Rattle.std.proofs.Common.{◌≡◌, ◌⊎◌, ℕ, ◌+◌, Bool, true, false, List, [], ◌∷◌, ◌++◌, length, Option, None, Some, IfSome, Result, Ok, Err, OnOk, IfErr, sym, ap, subst, inl, inr, ◌∙◌, refl, arith, append_assoc, append-nil, length-append}
-use Rattle.std.proofs.lemmas.List.Elements.{All-nil}
+use Rattle.std.proofs.Common.{◌≡◌, ◌⊎◌, ℕ, ◌+◌, Bool, true, false, List, [], ◌∷◌, ◌++◌, length, Option, None, Some, Result, Ok, Err, IfErr, sym, ap, subst, inl, inr, ◌∙◌, refl, arith, append_assoc, append-nil, length-append}
+use Rattle.std.proofs.lemmas.List.Elements.{All-append, All-nil}
 use Rattle.std.specs.declared.io.Error.{Error}
 use Rattle.redux_buffer.specs.Faults.{OnlyInterrupts}
 use Rattle.buffer_redux.specs.Buffered.{Buffered}
 use Rattle.buffer_redux.specs.StreamLog.{StreamLog}
 use Rattle.buffer_redux.specs.Unbuffer.{StreamWent, Unbuffered}
 use Rattle.buffer_redux.specs.UnbufferLaws.{StreamWent-joins}
+use Rattle.buffer_redux.specs.WriteParts.{WritesParts}
 use Rattle.buffer_redux.specs.declared.policy.StdPolicy.{StdPolicy}
 use Rattle.codec.specs.PieceReader.{ReaderState, left_of}
 use Rattle.messages.specs.declared.error.BodyError.TheVariants.{Wrong, Truncated, Io}
@@ -26,11 +27,11 @@ use Rattle.requests.specs.declared.taking.Untaken.{Untaken}
 use Rattle.requests.specs.declared.writing.Refusal.{Refusal}
 use Rattle.requests.specs.declared.writing.Refusal.TheVariants.{BadRequest, LargeBody}
 use Rattle.requests.specs.declared.taking.Untaken.TheVariants.{Body, Large, Unsent, Many}
-use Rattle.requests.specs.Answers.{AnswersMessages, EndsUntaken, RunEndsBy, Continues, FailsLast, IsSentLast, IsLastAnswer, IsAnswer, IsMany, NoMoreAnswered, IsPartTaken, IsTaken, IsToBeRefused, MayFollow, RunsToLast, TakeFails, TakesWhole, answered, call_at, called, ending_of, faults_of, is_known, refusal, refused, sending_of, sent_till, stream_at, waits}
+use Rattle.requests.specs.Answers.{AnswersMessages, EndsUntaken, RunEndsBy, Continues, FailsLast, IsSentLast, IsLastAnswer, IsAnswer, IsMany, IsPartTaken, IsTaken, IsToBeRefused, MayFollow, RunsToLast, TakeFails, TakesWhole, answered, call_at, called, ending_of, faults_of, is_known, refusal, sending_of, sent_till, stream_at, waits}
 use Rattle.requests.specs.Large.{is_large}
-use Rattle.requests.specs.Sending.{PutsText, SendsForRoom, WritesPromptly}
-use Rattle.requests.proofs.Reading.{IsMany-still, NoMoreAnswered-still, IsToBeRefused-still, each_wrong, FailsInRead-still, begun_once, begun_steady, is_part, joined}
-use Rattle.requests.proofs.Sending.{PutsText-after, WritesPromptly-after, WritesPromptly-put, on_ok}
+use Rattle.requests.specs.Sending.{PutsText, WritesPromptly}
+use Rattle.requests.proofs.Reading.{Closes-after, IsMany-still, NoMoreAnswered-still, IsToBeRefused-still, each_wrong, FailsInRead-still, begun_once, begun_steady, is_part, joined}
+use Rattle.requests.proofs.Sending.{PutsText-after, WritesPromptly-after, WritesPromptly-parts}
 
 regroup : (a b more : List ℕ) → (a ++ []) ++ (b ++ more) ≡ (a ++ b) ++ more
 regroup a b more = ap (λ l. l ++ (b ++ more)) (append-nil a) ∙ sym (append_assoc a b more)
@@ -79,37 +80,6 @@ module _ {W : Type 0} {tells : W → StreamLog} {trace : W → W → Type 0} whe
     module _ {messages : List Message} {s : Unbuffered R} {w w' : Buffered W StdPolicy} {taken : List ℕ}
         (handed : List ℕ) (place : Place R) (part : IsPartTaken place taken handed)
         (once : EndsOnce s.log.reads (stream_at place).log.reads) where
-      -- a run that is over behind this, unless that wasn't taken in
-      pub RunsToLast-ended : (refuses : Option Refusal) (sending : Result (Unit {0}) Error)
-          → AnswersMessages remaining tells trace messages s w taken (call_at place ++ refused refuses)
-          (IsSentLast messages taken refuses place) (stream_at place) sending w'
-          → IfSome refuses (IsToBeRefused s place handed)
-          → OnlyInterrupts (faults_of s) (faults_of (stream_at place))
-          → OnOk sending (NoMoreAnswered messages taken refuses s place)
-          → RunsToLast remaining tells trace s w place (ending_of sending) w'
-      RunsToLast-ended refuses (Ok x) answers wrong met over = record {
-        messages = messages;
-        taken = taken;
-        handed = handed;
-        part = part;
-        refuses = refuses;
-        answers = answers;
-        once = once;
-        wrong = wrong;
-        ends = (met, over);
-      }
-      RunsToLast-ended refuses (Err e) answers wrong met over = record {
-        messages = messages;
-        taken = taken;
-        handed = handed;
-        part = part;
-        refuses = refuses;
-        answers = answers;
-        once = once;
-        wrong = wrong;
-        ends = met;
-      }
-
       -- nothing is refused, and this is why no more is read
       pub RunsToLast-stopped : (ending : Ending)
           → AnswersMessages remaining tells trace messages s w taken (call_at place ++ []) (IsSentLast messages taken None place)
@@ -128,6 +98,43 @@ module _ {W : Type 0} {tells : W → StreamLog} {trace : W → W → Type 0} whe
         ends = ends;
       }
 
+    -- what comes is refused, before a message went
+    pub RunsToLast-refused : {s : Unbuffered R} {w w' : Buffered W StdPolicy} {taken : List ℕ} (handed : List ℕ) (place : Place R)
+        → IsPartTaken place taken handed → EndsOnce s.log.reads (stream_at place).log.reads → (why : Refusal)
+        (sending : Result (Unit {0}) Error)
+        → AnswersMessages remaining tells trace [] s w taken (call_at place ++ refusal why) (IsSentLast [] taken (Some why) place)
+        (stream_at place) sending w'
+        → IsToBeRefused s place handed why → OnlyInterrupts (faults_of s) (faults_of (stream_at place))
+        → RunsToLast remaining tells trace s w place (ending_of sending) w'
+    RunsToLast-refused {s} {w} {w'} {taken} handed place part once why sending answers wrong met = ended sending answers
+      where
+        ended : (sending : Result (Unit {0}) Error)
+            → AnswersMessages remaining tells trace [] s w taken (call_at place ++ refusal why)
+            (IsSentLast [] taken (Some why) place) (stream_at place) sending w'
+            → RunsToLast remaining tells trace s w place (ending_of sending) w'
+        ended (Ok x) answers = record {
+          messages = [];
+          taken = taken;
+          handed = handed;
+          part = part;
+          refuses = Some why;
+          answers = answers;
+          once = once;
+          wrong = wrong;
+          ends = (met, inr (All-nil (MayFollow true), inl refl));
+        }
+        ended (Err e) answers = record {
+          messages = [];
+          taken = taken;
+          handed = handed;
+          part = part;
+          refuses = Some why;
+          answers = answers;
+          once = once;
+          wrong = wrong;
+          ends = (met, inl (All-nil (MayFollow true)));
+        }
+
     module _ (joins : (u v x : W) → trace u v → trace v x → trace u x) where
       -- one did in part, and this is why
       module _ {s : ReaderState R Heads} {b t : InBody R} {handed : List ℕ} (begun : Begun remaining s b)
@@ -137,23 +144,23 @@ module _ {W : Type 0} {tells : W → StreamLog} {trace : W → W → Type 0} whe
         refused_torn : {v w' : Buffered W StdPolicy} (why : Refusal) (answer : Result (Unit {0}) Error)
             → EndsOnce b.stream.log.reads t.stream.log.reads → OnlyInterrupts (faults_of b.stream) (faults_of t.stream)
             → IsToBeRefused b.stream (Inside t) handed why → WritesPromptly tells trace (b.stream, u) [] (Ok tt) (t.stream, v)
-            → PutsText tells trace v (refusal why) answer w' → SendsForRoom tells trace v w'
+            → WritesParts tells trace v (refusal why) answer w'
             → RunsToLast remaining tells trace (left_of s) w (Inside t) (ending_of answer) w'
-        refused_torn {v} {w'} why answer once reads torn on puts sends =
+        refused_torn {v} {w'} why answer once reads torn on parts =
             let at : call_at (Inside t) ≡ called (waits b.said) = ap (λ x. called (waits x)) goes.said in
             let Last = IsSentLast [] (b.head ++ goes.takes.wire) (Some why) (Inside t) in
             let first : WritesPromptly tells trace (left_of s, w) (call_at (Inside t)) (Ok tt) (t.stream, v) =
             subst (λ l. WritesPromptly tells trace (left_of s, w) l (Ok tt) (t.stream, v))
             (append-nil (called (waits b.said)) ∙ sym at)
             (WritesPromptly-after joins (left_of s, w) (b.stream, u) (t.stream, v) (called (waits b.said)) [] (Ok tt) call on) in
-            RunsToLast-ended handed (Inside t) (is_part begun limits goes) (begun_once begun t.stream once) (Some why) answer
+            let then = WritesPromptly-parts t.stream parts in
+            RunsToLast-refused handed (Inside t) (is_part begun limits goes) (begun_once begun t.stream once) why answer
             (part_answered begun goes
             (WritesPromptly-after joins (left_of s, w) (t.stream, v) (t.stream, w') (call_at (Inside t))
-            (refusal why) answer first
-            (WritesPromptly-put t.stream puts sends))
-            (FailsLast-of Last answer refl (inr refl) first.puts puts))
+            (refusal why) answer first then)
+            (FailsLast-of Last answer refl (inr refl) first.puts then.puts))
             (IsToBeRefused-still (begun_steady begun) (Inside t) handed why torn)
-            (joined (begun_steady begun) t.stream reads) (on_ok answer (inr (All-nil (MayFollow true), inl refl)))
+            (joined (begun_steady begun) t.stream reads)
 
         -- where nothing is refused
         unrefused : {v : Buffered W StdPolicy} (sending : Result (Unit {0}) Error) (Last : List ℕ → Type 0)
@@ -171,28 +178,28 @@ module _ {W : Type 0} {tells : W → StreamLog} {trace : W → W → Type 0} whe
         pub torn_answered : {v w' : Buffered W StdPolicy} (why : Untaken) (ending : Ending) → TakeFails b.stream handed why t v
             → WritesPromptly tells trace (b.stream, u) [] (sent_till why) (t.stream, v) → EndsUntaken tells trace v why ending w'
             → RunsToLast remaining tells trace (left_of s) w (Inside t) ending w'
-        torn_answered {v} {w'} (Body (Wrong why)) ending (once, reads, torn) on (answer, is, puts, sends) =
+        torn_answered {v} {w'} (Body (Wrong why)) ending (once, reads, torn) on (answer, is, parts) =
             subst (λ x. RunsToLast remaining tells trace (left_of s) w (Inside t) x w') (sym is)
-            (refused_torn BadRequest answer once reads torn on puts sends)
-        torn_answered {v} {w'} (Body (Truncated due)) ending (once, reads, torn) on (answer, is, puts, sends) =
+            (refused_torn BadRequest answer once reads torn on parts)
+        torn_answered {v} {w'} (Body (Truncated due)) ending (once, reads, torn) on (answer, is, parts) =
             subst (λ x. RunsToLast remaining tells trace (left_of s) w (Inside t) x w') (sym is)
-            (refused_torn BadRequest answer once reads torn on puts sends)
+            (refused_torn BadRequest answer once reads torn on parts)
         torn_answered {v} {w'} (Body (Io e)) ending (once, fails, all, had) on (is, same) =
             subst (λ x. RunsToLast remaining tells trace (left_of s) w (Inside t) x w') (sym is)
             (subst (RunsToLast remaining tells trace (left_of s) w (Inside t) (Unread e)) (sym same)
             (RunsToLast-stopped handed (Inside t) (is_part begun limits goes) (begun_once begun t.stream once) (Unread e)
             (unrefused (Ok tt) (IsSentLast [] (b.head ++ goes.takes.wire) None (Inside t)) on)
-            (FailsInRead-still (begun_steady begun) e t.stream fails, all, had)))
-        torn_answered {v} {w'} Large ending (reads, large) on (answer, is, puts, sends) =
+            (FailsInRead-still (begun_steady begun) e t.stream fails, All-nil (MayFollow true), all, had)))
+        torn_answered {v} {w'} Large ending (reads, large) on (answer, is, parts) =
             subst (λ x. RunsToLast remaining tells trace (left_of s) w (Inside t) x w') (sym is)
-            (refused_torn LargeBody answer (omega (arith, reads.ends)) reads.faults (inr (refl, large)) on puts sends)
+            (refused_torn LargeBody answer (omega (arith, reads.ends)) reads.faults (inr (refl, large)) on parts)
         torn_answered {v} {w'} (Unsent e) ending reads on (is, same) =
             subst (λ x. RunsToLast remaining tells trace (left_of s) w (Inside t) x w') (sym is)
             (subst (RunsToLast remaining tells trace (left_of s) w (Inside t) (stop.Unsent e)) (sym same)
             (RunsToLast-stopped handed (Inside t) (is_part begun limits goes)
             (begun_once begun t.stream (omega (arith, reads.ends))) (stop.Unsent e)
             (unrefused (Err e) (IsSentLast [] (b.head ++ goes.takes.wire) None (Inside t)) on)
-            (joined (begun_steady begun) t.stream reads.faults)))
+            (joined (begun_steady begun) t.stream reads.faults, inl (All-nil (MayFollow true)))))
         torn_answered {v} {w'} Many ending (reads, many) on (is, same) =
             subst (λ x. RunsToLast remaining tells trace (left_of s) w (Inside t) x w') (sym is)
             (subst (RunsToLast remaining tells trace (left_of s) w (Inside t) stop.Many) (sym same)
@@ -200,6 +207,7 @@ module _ {W : Type 0} {tells : W → StreamLog} {trace : W → W → Type 0} whe
             (begun_once begun t.stream (omega (arith, reads.ends))) stop.Many
             (unrefused (Ok tt) (IsSentLast [] (b.head ++ goes.takes.wire) None (Inside t)) on) (
               joined (begun_steady begun) t.stream reads.faults,
+              All-nil (MayFollow true),
               IsMany-still (begun_steady begun) 0 (length handed) t.stream reads.faults many,
             )))
 
@@ -209,13 +217,13 @@ module _ {W : Type 0} {tells : W → StreamLog} {trace : W → W → Type 0} whe
           → (whole : TakesWhole remaining b t len) → said ≡ b.said → known ≡ is_known b.head
           → WritesPromptly tells trace (left_of s, w) (called (waits b.said)) (Ok tt) (b.stream, u)
           → WritesPromptly tells trace (b.stream, u) [] (Ok tt) (t, v)
-          → PutsText tells trace v (answered known said len) sending w' → SendsForRoom tells trace v w'
+          → WritesParts tells trace v (answered known said len) sending w'
           → AnswersMessages remaining tells trace ((b.head, whole.1) ∷ []) (left_of s) w [] []
           (IsLastAnswer ((b.head, whole.1) ∷ [])) t
           sending w'
       one_answered {s} {b} {t} {len} {known} {said} {w} {u} {v} {w'} {sending} begun limits (wire, payload, went, is, many, small)
           same
-          method call on puts sends =
+          method call on parts =
           let bytes = b.head ++ wire in
           let message = subst (λ l. (m : IsMessage l (b.head ++ wire) b.head payload) × (m.wire ≡ wire) × (m.text.said ≡ b.said))
           limits
@@ -232,11 +240,10 @@ module _ {W : Type 0} {tells : W → StreamLog} {trace : W → W → Type 0} whe
           let first : WritesPromptly tells trace (left_of s, w) (called (waits b.said)) (Ok tt) (t, v) =
           subst (λ l. WritesPromptly tells trace (left_of s, w) l (Ok tt) (t, v)) (append-nil (called (waits b.said)))
           (WritesPromptly-after joins (left_of s, w) (b.stream, u) (t, v) (called (waits b.said)) [] (Ok tt) call on) in
-          let says : PutsText tells trace v (answered (is_known b.head) b.said (length payload)) sending w' =
-          subst (λ l. PutsText tells trace v l sending w') answer puts in
+          let says = WritesPromptly-parts t (subst (λ l. WritesParts tells trace v l sending w') answer parts) in
           let both : WritesPromptly tells trace (left_of s, w) text sending (t, w') =
           WritesPromptly-after joins (left_of s, w) (t, v) (t, w') (called (waits b.said))
-          (answered (is_known b.head) b.said (length payload)) sending first (WritesPromptly-put t says sends) in
+          (answered (is_known b.head) b.said (length payload)) sending first says in
           record {
             bytes = bytes;
             are = InTurn-one IsTaken (b.head, payload) bytes (message.0, taken);
@@ -246,7 +253,7 @@ module _ {W : Type 0} {tells : W → StreamLog} {trace : W → W → Type 0} whe
             answers = InTurn-one IsAnswer (b.head, payload) text (b.said, head, refl);
             writes = subst (λ l. WritesPromptly tells trace (left_of s, w) l sending (t, w')) (sym (append-nil text)) both;
             fails = FailsLast-of (IsLastAnswer ((b.head, payload) ∷ [])) sending (append-nil text)
-                (inr ([], (b.head, payload), b.said, refl, head, refl)) first.puts says;
+                (inr ([], (b.head, payload), b.said, refl, head, refl)) first.puts says.puts;
           }
 
       -- some did, and then more
@@ -303,12 +310,24 @@ module _ {W : Type 0} {tells : W → StreamLog} {trace : W → W → Type 0} whe
               joined a.reads (stream_at place) met,
               NoMoreAnswered-still a.reads a.messages b.messages b.taken b.refuses place a.keep is,
             )
-            ends stop.Many (met, many) = (
+            ends stop.Many (met, keep, many) = (
               joined a.reads (stream_at place) met,
+              All-append (MayFollow true) a.messages b.messages a.keep keep,
               (let both : length a.messages + (length b.messages + length b.handed)
                   ≡ length (a.messages ++ b.messages) + length b.handed = omega (arith, length-append a.messages b.messages) in
                   subst (λ n. IsMany n s (stream_at place)) both
                   (IsMany-still a.reads (length a.messages) (length b.messages + length b.handed) (stream_at place) met many)),
             )
-            ends (Unread e) (fails, all, had) = (FailsInRead-still a.reads e (stream_at place) fails, all, had)
-            ends (stop.Unsent e) met = joined a.reads (stream_at place) met
+            ends (Unread e) (fails, keep, all, had) = (
+              FailsInRead-still a.reads e (stream_at place) fails,
+              All-append (MayFollow true) a.messages b.messages a.keep keep,
+              all,
+              had,
+            )
+            ends (stop.Unsent e) (met, follow) = (
+              joined a.reads (stream_at place) met,
+              elim follow [
+                | inl keep ↦ inl (All-append (MayFollow true) a.messages b.messages a.keep keep)
+                | inr closes ↦ inr (Closes-after a.messages b.messages a.keep closes)
+              ],
+            )

@@ -4,7 +4,7 @@ use Rattle.std.proofs.lemmas.List.{nil_from_length}
 use Rattle.std.specs.declared.io.Error.{Error}
 use Rattle.buffer_redux.specs.Buffered.{Buffered}
 use Rattle.buffer_redux.specs.StreamLog.{StreamLog}
-use Rattle.buffer_redux.specs.Unbuffer.{Unbuffered}
+use Rattle.buffer_redux.specs.Unbuffer.{HandsOutInOrder, Unbuffered}
 use Rattle.buffer_redux.specs.declared.policy.StdPolicy.{StdPolicy}
 use Rattle.body_reader.specs.Asking.{AskedWhere}
 use Rattle.body_reader.specs.AskingLaws.{AskedWhere-of}
@@ -12,6 +12,7 @@ use Rattle.codec.specs.declared.NextError.TheVariants as why
 use Rattle.codec.specs.Grammar.{IsOpen}
 use Rattle.codec.specs.NextPiece.{HandsBytes, NextAnswer, NextPiece, NoEnd, empty_reads}
 use Rattle.codec.specs.NextPieceLaws.{AsksNone-settled}
+use Rattle.codec.specs.PiecesWentLaws.{PiecesWent-stream}
 use Rattle.codec.specs.PieceReader.{IsSettled, ReaderState, left_of, rest}
 use Rattle.messages.specs.declared.bad_head.BadHead.{BadHead}
 use Rattle.messages.specs.declared.head.Heads.{Heads}
@@ -120,7 +121,9 @@ module _ {R W : Type 0} {remaining : R → Option (List ℕ)} {tells : W → Str
       let still : IsSettled (heads usual) s → t.reader.log ≡ s.reader.log = λ settled.
       AsksNone-settled remaining (heads usual) (heads_lawful usual) s settled answer t next in
       record {
-        writes = WritesPromptly-asked none (left_of s) (left_of t) w v sends (open_where s) (asks_where s t answer next) still;
+        writes = WritesPromptly-asked none (left_of s) (left_of t) w v
+            (PiecesWent-stream remaining (heads usual).most s t next.bytes next.went).order sends (open_where s)
+            (asks_where s t answer next) still;
         asked = elim (sent_then w v sends) [ inl settled ↦ inl (still settled) | inr all ↦ inr all ];
       }
 
@@ -131,25 +134,26 @@ open_behind m lacks = open_empty m.left (nil_from_length m.left (omega (arith, l
 module _ {R W : Type 0} {tells : W → StreamLog} {trace : W → W → Type 0} (none : (u : W) → trace u u)
     (joins : (u v x : W) → trace u v → trace v x → trace u x) where
   -- what was held couldn't be sent where no more of a body is buffered
-  pub unsent_empty : (e : Error) (s m : Unbuffered R) (w v : Buffered W StdPolicy) → m.log ≡ s.log
+  pub unsent_empty : {bytes : List ℕ} (e : Error) (s m : Unbuffered R) (w v : Buffered W StdPolicy)
+      → HandsOutInOrder s bytes m → m.log ≡ s.log
       → SendsUnless tells trace (0 < length m.left) w (Err e) v → WritesPromptly tells trace (s, w) [] (Err e) (m, v)
-  unsent_empty e s m w v same sends =
-      WritesPromptly-after joins (s, w) (m, w) (m, v) [] [] (Err e) (WritesPromptly-read none w (inl same))
+  unsent_empty e s m w v order same sends =
+      WritesPromptly-after joins (s, w) (m, w) (m, v) [] [] (Err e) (WritesPromptly-read none w order same)
       (WritesPromptly-unsent none m w v e sends (open_behind m))
 
   -- or it was, and then the stream was asked for more
-  pub comes_inside : {slice : ℕ} (count : ℕ) (out into : List ℕ) (s : Unbuffered R) (m t : InBody R)
-      (w v : Buffered W StdPolicy)
+  pub comes_inside : {slice : ℕ} {first then : List ℕ} (count : ℕ) (out into : List ℕ) (s : Unbuffered R) (m t : InBody R)
+      (w v : Buffered W StdPolicy) → HandsOutInOrder s first m.stream → HandsOutInOrder m.stream then t.stream
       → m.stream.log ≡ s.log → SendsUnless tells trace (0 < length m.stream.left) w (Ok tt) v → count ≡ 0 → 0 < length out
       → (¬ (IsRest m.rest [] [])) → RunsShort (length out) count m.rest m.stream.left
       → AskedWhere (AskedIn m.rest slice t.stream.log.reads.offer) m.stream t.stream
       → 0 < length into → AsksForMore m.stream m.rest into t.stream → WritesOnlyHeld tells trace (s, w) (t.stream, v)
-  comes_inside count out into s m t w v same sends zero some goes_on short asked room asks =
+  comes_inside count out into s m t w v order on same sends zero some goes_on short asked room asks =
       let still = shown_unasked count out m t zero some goes_on short asked in
       record {
         writes = WritesPromptly-after joins (s, w) (m.stream, w) (t.stream, v) [] [] (Ok tt)
-            (WritesPromptly-read none w (inl same))
-            (WritesPromptly-asked none m.stream t.stream w v sends (open_behind m.stream)
+            (WritesPromptly-read none w order same)
+            (WritesPromptly-asked none m.stream t.stream w v on sends (open_behind m.stream)
             (λ lacks. asks (nil_from_length m.stream.left (omega (arith, lacks))) room goes_on) still);
         asked = elim (sent_then w v sends) [ inl shown ↦ inl (still shown ∙ same) | inr all ↦ inr all ];
       }

@@ -31,7 +31,7 @@ use Rattle.requests.specs.declared.Place.TheVariants.{Before, Inside}
 use Rattle.requests.specs.declared.taking.Untaken.{Untaken}
 use Rattle.requests.specs.declared.taking.Untaken.TheVariants.{Body, Large, Unsent, Many}
 use Rattle.requests.specs.Large.{is_large}
-use Rattle.requests.specs.Answers.{EndedBeforeHead, FailsInRead, FailsOn, FailsToRead, HadToAsk, IsMany, IsPartTaken, IsToBeRefused, MayFollow, NoMoreAnswered, ReadsSome, ReadsSteadily, TakeFails, TakesWhole, faults_of, sent_till, sent_with, unfinished}
+use Rattle.requests.specs.Answers.{Closes, EndedBeforeHead, FailsInRead, FailsOn, FailsToRead, HadToAsk, IsMany, IsPartTaken, IsToBeRefused, MayFollow, NoMoreAnswered, ReadsSome, ReadsSteadily, TakeFails, TakesWhole, faults_of, sent_till, sent_with, unfinished}
 
 -- no fault was met, or one
 pub none_met : {a b : List Error} → b ≡ a → OnlyInterrupts a b
@@ -56,6 +56,20 @@ steady_none gave = record { faults = none_met gave.0; ends = gave.1 }
 
 pub no_shorter : {a b : List Error} → OnlyInterrupts a b → length a ≤ length b
 no_shorter {a} {b} reads = omega (arith, ap length reads.faults, length-append a reads.interrupts)
+
+-- none may follow the last of more messages
+pub Closes-after : (ms ns : List Message) → All (MayFollow true) ms → Closes ns → Closes (ms ++ ns)
+Closes-after ms ns keep closes = record {
+  before = ms ++ closes.before;
+  last = closes.last;
+  all = ap (λ l. ms ++ l) closes.all ∙ sym (append_assoc ms closes.before (closes.last ∷ []));
+  keep = All-append (MayFollow true) ms closes.before keep closes.keep;
+  close = closes.close;
+}
+
+-- or of one
+pub Closes-one : {m : Message} → MayFollow false m → Closes (m ∷ [])
+Closes-one {m} close = record { before = []; last = m; all = refl; keep = All-nil (MayFollow true); close = close }
 
 -- what was met from here on was met since
 module _ {S : Type 0} {s m : Unbuffered S} (steady : ReadsSteadily s m) where
@@ -87,18 +101,8 @@ module _ {S : Type 0} {s m : Unbuffered S} (steady : ReadsSteadily s m) where
   pub NoMoreAnswered-still : (ms ns : List Message) (taken : List ℕ) (refuses : Option Refusal) (place : Place S)
       → All (MayFollow true) ms
       → NoMoreAnswered ns taken refuses m place → NoMoreAnswered (ms ++ ns) taken refuses s place
-  NoMoreAnswered-still ms ns taken refuses place keep (inl (closes, none, not, ends)) = inl (
-    record {
-      before = ms ++ closes.before;
-      last = closes.last;
-      all = ap (λ l. ms ++ l) closes.all ∙ sym (append_assoc ms closes.before (closes.last ∷ []));
-      keep = All-append (MayFollow true) ms closes.before keep closes.keep;
-      close = closes.close;
-    },
-    none,
-    not,
-    ends ∙ steady.ends,
-  )
+  NoMoreAnswered-still ms ns taken refuses place keep (inl (closes, none, not, ends)) =
+      inl (Closes-after ms ns keep closes, none, not, ends ∙ steady.ends)
   NoMoreAnswered-still ms ns taken refuses place keep (inr (more, inl is)) =
       inr (All-append (MayFollow true) ms ns keep more, inl is)
   NoMoreAnswered-still ms ns taken refuses place keep (inr (more, inr ended)) =

@@ -1,5 +1,5 @@
 -- What is written and sent, one after another.
-use Rattle.std.proofs.Common.{◌≡◌, ℕ, ◌<◌, ◌≤◌, ◌⊎◌, List, [], ◌∷◌, ◌++◌, length, Result, Ok, Err, OnOk, IfErr, sym, ap, subst, inl, inr, refl, arith, length-append}
+use Rattle.std.proofs.Common.{◌≡◌, ℕ, ◌<◌, ◌⊎◌, List, [], ◌∷◌, ◌++◌, length, Result, Ok, Err, OnOk, IfErr, sym, ap, subst, inl, inr, refl, arith, append-nil, length-append}
 use Rattle.std.proofs.lemmas.Bool.{cases_lt}
 use Rattle.std.proofs.lemmas.List.{nil_from_length}
 use Rattle.std.specs.declared.io.Error.{Error}
@@ -8,11 +8,11 @@ use Rattle.buffer_redux.specs.BufWriter.{WasFlushed}
 use Rattle.buffer_redux.specs.Buffered.{Buffered}
 use Rattle.buffer_redux.specs.Policy.{std_write_rules}
 use Rattle.buffer_redux.specs.StreamLog.{StreamLog}
-use Rattle.buffer_redux.specs.Unbuffer.{Unbuffered}
+use Rattle.buffer_redux.specs.Unbuffer.{HandsOutInOrder, Unbuffered}
 use Rattle.buffer_redux.specs.Block.{usable}
 use Rattle.buffer_redux.specs.WriteParts.{WritesParts}
 use Rattle.buffer_redux.specs.WritePartsLaws.{WritesParts-met}
-use Rattle.buffer_redux.specs.WritesAlongLaws.{BegunAlong-more, BegunAlong-of, FrontAlong-after, WasFlushed-along, WritesAlong-none}
+use Rattle.buffer_redux.specs.WritesAlongLaws.{BegunAlong-of, FrontAlong-after, WasFlushed-along, WritesAlong-none}
 use Rattle.buffer_redux.specs.declared.policy.StdPolicy.{StdPolicy}
 use Rattle.codec.specs.Grammar.{IsOpen}
 use Rattle.messages.specs.Heads.{heads}
@@ -33,33 +33,21 @@ open_empty bytes none = subst (IsOpen (heads usual)) (sym none) (record {
   not_wrong = (heads_lawful usual).nothing;
 })
 
-pub on_ok : {P : Type 0} (answer : Result (Unit {0}) Error) → P → OnOk answer P
-on_ok (Ok x) p = p
-on_ok (Err e) p = tt
-
 -- steps behind others
 StepsAlong-joins : {R W : Type 0} (tells : W → StreamLog) (trace : W → W → Type 0) (a m b : Both R W)
-    (first then : List (Both R W))
-    → StepsAlong tells trace a first m → StepsAlong tells trace m then b → StepsAlong tells trace a (then ++ first) b
-StepsAlong-joins tells trace a m b first [] p q = subst (StepsAlong tells trace a first) q p
-StepsAlong-joins tells trace a m b first (x ∷ earlier) p (before, step) =
-    (StepsAlong-joins tells trace a m x first earlier p before, step)
+    (answer : Result (Unit {0}) Error) (first then : List (Both R W))
+    → StepsAlong tells trace a first (Ok tt) m → StepsAlong tells trace m then answer b
+    → StepsAlong tells trace a (then ++ first) answer b
+StepsAlong-joins tells trace a m b answer first [] p (same, well) =
+    subst (λ r. StepsAlong tells trace a first r b) (sym well) (subst (StepsAlong tells trace a first (Ok tt)) same p)
+StepsAlong-joins tells trace a m b answer first (x ∷ earlier) p (before, step) =
+    (StepsAlong-joins tells trace a m x (Ok tt) first earlier p before, step)
+
+-- where nothing is read nothing is lost
+none_read : {R : Type 0} (s : Unbuffered R) → (bytes : List ℕ) × HandsOutInOrder s bytes s
+none_read s = ([], record { got = []; given = sym (append-nil s.log.reads.given); equal = sym (append-nil s.left) })
 
 module _ {W : Type 0} {tells : W → StreamLog} {trace : W → W → Type 0} where
-  -- a beginning of some text is one of more
-  pub PutsText-more : {w w' : Buffered W StdPolicy} {text : List ℕ} {e : Error} (more : List ℕ)
-      → PutsText tells trace w text (Err e) w' → PutsText tells trace w (text ++ more) (Err e) w'
-  PutsText-more {w} {w'} {text} {e} more p = record {
-    front = BegunAlong-more tells trace std_write_rules w w' text more p.front;
-    held = tt;
-    met = tt;
-    why = longer p.why;
-  }
-    where
-      longer : PutStops text w e w' → PutStops (text ++ more) w e w'
-      longer (inl stopped) = inl stopped
-      longer (inr (room, few, refused)) = inr (room, omega (arith, few, length-append text more), refused)
-
   -- a flush
   pub PutsText-flushed : (w v : Buffered W StdPolicy) (answer : Result (Unit {0}) Error) → WasFlushed tells trace w answer v
       → PutsText tells trace w [] answer v
@@ -147,49 +135,64 @@ module _ {W : Type 0} {tells : W → StreamLog} {trace : W → W → Type 0} whe
         later (Err e) (inr (room, few, refused)) = inr (room, omega (arith, few, length-append a b), refused)
 
   module _ {R : Type 0} where
-    pub Prompt-one : (a b : Both R W) → IsStep tells trace a b → Prompt tells trace a b
-    Prompt-one a b step = record { between = a ∷ []; steps = (refl, step) }
+    Prompt-one : (a : Both R W) (answer : Result (Unit {0}) Error) (b : Both R W) → IsStep tells trace a answer b
+        → Prompt tells trace a answer b
+    Prompt-one a answer b step = record { between = a ∷ []; steps = ((refl, refl), step) }
 
-    pub Prompt-joins : (a m b : Both R W) → Prompt tells trace a m → Prompt tells trace m b → Prompt tells trace a b
-    Prompt-joins a m b p q = record {
+    Prompt-joins : (a m : Both R W) (answer : Result (Unit {0}) Error) (b : Both R W) → Prompt tells trace a (Ok tt) m
+        → Prompt tells trace m answer b → Prompt tells trace a answer b
+    Prompt-joins a m answer b p q = record {
       between = q.between ++ p.between;
-      steps = StepsAlong-joins tells trace a m b p.between q.between p.steps q.steps;
+      steps = StepsAlong-joins tells trace a m b answer p.between q.between p.steps q.steps;
     }
 
-    -- text that was taken in while nobody was asked
-    pub WritesPromptly-put : (s : Unbuffered R) {w w' : Buffered W StdPolicy} {text : List ℕ} {putting : Result (Unit {0}) Error}
-        → PutsText tells trace w text putting w' → SendsForRoom tells trace w w'
+    -- text that was written while nobody was asked
+    pub WritesPromptly-parts : (s : Unbuffered R) {w w' : Buffered W StdPolicy} {text : List ℕ}
+        {putting : Result (Unit {0}) Error} → WritesParts tells trace w text putting w'
         → WritesPromptly tells trace (s, w) text putting (s, w')
-    WritesPromptly-put s {w} {w'} puts sends =
-        record { puts = puts; prompt = Prompt-one (s, w) (s, w') (inl (refl, sends)) }
+    WritesPromptly-parts s {w} {w'} {text} {putting} parts = record {
+      puts = PutsText-parts w w' text putting parts;
+      prompt = Prompt-one (s, w) putting (s, w') (none_read s, inl (refl, (text, inr parts)));
+    }
 
     module _ (none : (u : W) → trace u u) where
       pub WritesPromptly-none : (a : Both R W) → WritesPromptly tells trace a [] (Ok tt) a
-      WritesPromptly-none a = record { puts = PutsText-none none a.1; prompt = record { between = []; steps = refl } }
+      WritesPromptly-none a = record { puts = PutsText-none none a.1; prompt = record { between = []; steps = (refl, refl) } }
 
-      -- the stream went on while nothing was written
-      pub WritesPromptly-read : {s t : Unbuffered R} (w : Buffered W StdPolicy)
-          → (t.log ≡ s.log) ⊎ (AllSent w × (s.log.reads.asks ≤ t.log.reads.asks))
-          → WritesPromptly tells trace (s, w) [] (Ok tt) (t, w)
-      WritesPromptly-read {s} {t} w (inl same) =
-          record { puts = PutsText-none none w; prompt = Prompt-one (s, w) (t, w) (inl (same, (refl, inl refl))) }
-      WritesPromptly-read {s} {t} w (inr (sent, more)) =
-          record { puts = PutsText-none none w; prompt = Prompt-one (s, w) (t, w) (inr (inl (sent, refl, more))) }
+      -- or there was none
+      pub WritesPromptly-put : (s : Unbuffered R) {w w' : Buffered W StdPolicy} {text : List ℕ}
+          {putting : Result (Unit {0}) Error} → SendsForRoom tells trace w text putting w'
+          → WritesPromptly tells trace (s, w) text putting (s, w')
+      WritesPromptly-put s {w} {w'} {text} {putting} (inl (lacks, well, same)) =
+          subst (λ l. WritesPromptly tells trace (s, w) l putting (s, w')) (sym lacks)
+          (subst (λ r. WritesPromptly tells trace (s, w) [] r (s, w')) (sym well)
+          (subst (λ v. WritesPromptly tells trace (s, w) [] (Ok tt) (s, v)) (sym same) (WritesPromptly-none (s, w))))
+      WritesPromptly-put s (inr parts) = WritesPromptly-parts s parts
+
+      -- the stream handed out some of what it has, and nothing was written
+      pub WritesPromptly-read : {s t : Unbuffered R} {bytes : List ℕ} (w : Buffered W StdPolicy) → HandsOutInOrder s bytes t
+          → t.log ≡ s.log → WritesPromptly tells trace (s, w) [] (Ok tt) (t, w)
+      WritesPromptly-read {s} {t} {bytes} w order same = record {
+        puts = PutsText-none none w;
+        prompt = Prompt-one (s, w) (Ok tt) (t, w) ((bytes, order), inl (same, ([], inl (refl, refl, refl))));
+      }
 
       -- what was held was sent, where the stream is to be asked, and then that was asked
-      pub WritesPromptly-asked : {P : Type 0} (s t : Unbuffered R) (w v : Buffered W StdPolicy)
-          → SendsUnless tells trace P w (Ok tt) v → ((¬ P) → IsOpen (heads usual) s.left)
+      pub WritesPromptly-asked : {P : Type 0} (s t : Unbuffered R) {bytes : List ℕ} (w v : Buffered W StdPolicy)
+          → HandsOutInOrder s bytes t → SendsUnless tells trace P w (Ok tt) v → ((¬ P) → IsOpen (heads usual) s.left)
           → ((¬ P) → s.log.reads.asks < t.log.reads.asks) → (P → t.log ≡ s.log)
           → WritesPromptly tells trace (s, w) [] (Ok tt) (t, v)
-      WritesPromptly-asked s t w v (inl (settled, well, same)) open' asks still =
+      WritesPromptly-asked s t w v order (inl (settled, well, same)) open' asks still =
           subst (λ x. WritesPromptly tells trace (s, w) [] (Ok tt) (t, x)) (sym same)
-          (WritesPromptly-read w (inl (still settled)))
-      WritesPromptly-asked s t w v (inr (unsettled, inl (all, well, same))) open' asks still =
-          subst (λ x. WritesPromptly tells trace (s, w) [] (Ok tt) (t, x)) (sym same)
-          (WritesPromptly-read w (inr (all, omega (arith, asks unsettled))))
-      WritesPromptly-asked s t w v (inr (unsettled, inr (some, flushed))) open' asks still = record {
+          (WritesPromptly-read w order (still settled))
+      WritesPromptly-asked s t {bytes} w v order (inr (unsettled, inl (all, well, same))) open' asks still = record {
+        puts = subst (PutsText tells trace w [] (Ok tt)) (sym same) (PutsText-none none w);
+        prompt = Prompt-one (s, w) (Ok tt) (t, v) ((bytes, order), inr (inl (all, refl, same, asks unsettled)));
+      }
+      WritesPromptly-asked s t {bytes} w v order (inr (unsettled, inr (some, flushed))) open' asks still = record {
         puts = PutsText-flushed w v (Ok tt) flushed;
-        prompt = Prompt-one (s, w) (t, v) (inr (inr (open' unsettled, some, (Ok tt, flushed, asks unsettled))));
+        prompt = Prompt-one (s, w) (Ok tt) (t, v)
+            ((bytes, order), inr (inr (open' unsettled, some, flushed, asks unsettled)));
       }
 
       -- that failed, and the stream wasn't asked
@@ -200,7 +203,7 @@ module _ {W : Type 0} {tells : W → StreamLog} {trace : W → W → Type 0} whe
       WritesPromptly-unsent s w v e (inr (unsettled, inl (all, well, same))) open' = absurd (cc)
       WritesPromptly-unsent s w v e (inr (unsettled, inr (some, flushed))) open' = record {
         puts = PutsText-flushed w v (Err e) flushed;
-        prompt = Prompt-one (s, w) (s, v) (inr (inr (open' unsettled, some, (Err e, flushed, refl))));
+        prompt = Prompt-one (s, w) (Err e) (s, v) (none_read s, inr (inr (open' unsettled, some, flushed, refl)));
       }
 
     module _ (joins : (u v x : W) → trace u v → trace v x → trace u x) where
@@ -209,7 +212,7 @@ module _ {W : Type 0} {tells : W → StreamLog} {trace : W → W → Type 0} whe
           → WritesPromptly tells trace a (x ++ y) putting b
       WritesPromptly-after a m b x y putting p q = record {
         puts = PutsText-after joins a.1 m.1 b.1 x y putting p.puts q.puts;
-        prompt = Prompt-joins a m b p.prompt q.prompt;
+        prompt = Prompt-joins a m putting b p.prompt q.prompt;
       }
 
 -- what was to be sent was, where the stream was asked

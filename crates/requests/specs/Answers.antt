@@ -9,6 +9,7 @@ use Rattle.redux_buffer.specs.Faults.{FaultAfterInterrupts, OnlyInterrupts}
 use Rattle.buffer_redux.specs.Buffered.{Buffered}
 use Rattle.buffer_redux.specs.StreamLog.{StreamLog}
 use Rattle.buffer_redux.specs.Unbuffer.{StreamWent, Unbuffered}
+use Rattle.buffer_redux.specs.WriteParts.{WritesParts}
 use Rattle.buffer_redux.specs.declared.policy.StdPolicy.{StdPolicy}
 use Rattle.chunked.specs.declared.error.Malformed.{Malformed}
 use Rattle.codec.specs.Grammar.{IsOpen}
@@ -36,7 +37,7 @@ use Rattle.requests.specs.declared.Ending.TheVariants.{Over, Unread}
 use Rattle.requests.specs.declared.taking.Untaken.{Untaken}
 use Rattle.requests.specs.declared.taking.Untaken.TheVariants.{Body, Large, Unsent, Many}
 use Rattle.requests.specs.Large.{TurnsLarge, is_large}
-use Rattle.requests.specs.Sending.{PutsText, SendsForRoom, SendsHeld, WritesPromptly}
+use Rattle.requests.specs.Sending.{PutsText, SendsHeld, WritesPromptly}
 
 -- a call for a body, and a refusal, each where there is one
 abbrev pub called : Bool → List ℕ
@@ -297,9 +298,9 @@ abbrev pub EndsUntaken : {W : Type 0} → (W → StreamLog) → (W → W → Typ
     → Buffered W StdPolicy → Type 0
 EndsUntaken tells trace w (Body (Io e)) ending w' = (ending ≡ Unread e) × (w' ≡ w)
 EndsUntaken tells trace w (Body wrong) ending w' = (answer : Result (Unit {0}) Error) × (ending ≡ ending_of answer)
-    × PutsText tells trace w (refusal BadRequest) answer w' × SendsForRoom tells trace w w'
+    × WritesParts tells trace w (refusal BadRequest) answer w'
 EndsUntaken tells trace w Large ending w' = (answer : Result (Unit {0}) Error) × (ending ≡ ending_of answer)
-    × PutsText tells trace w (refusal LargeBody) answer w' × SendsForRoom tells trace w w'
+    × WritesParts tells trace w (refusal LargeBody) answer w'
 EndsUntaken tells trace w (Unsent e) ending w' = (ending ≡ stop.Unsent e) × (w' ≡ w)
 EndsUntaken tells trace w Many ending w' = (ending ≡ stop.Many) × (w' ≡ w)
 
@@ -333,17 +334,17 @@ module _ {R W : Type 0} (remaining : R → Option (List ℕ)) (tells : W → Str
     pub reads : ReadsSteadily s t
 
   -- why a run ends: a read failed that had to be made, and all had been sent; or reads were at most interrupted, and it is over,
-  -- or these are more than are counted, or sending failed
+  -- or these are more than are counted, or sending failed; and nothing was answered behind a message behind which none may follow
   abbrev pub RunEndsBy : Unbuffered R → List Message → List ℕ → List ℕ → Option Refusal → Place R → Buffered W StdPolicy
       → Ending → Type 0
   RunEndsBy s messages taken handed refuses place w' Over =
       OnlyInterrupts (faults_of s) (faults_of (stream_at place)) × NoMoreAnswered messages taken refuses s place
   RunEndsBy s messages taken handed refuses place w' stop.Many = OnlyInterrupts (faults_of s) (faults_of (stream_at place))
-      × IsMany (length messages + length handed) s (stream_at place)
+      × All (MayFollow true) messages × IsMany (length messages + length handed) s (stream_at place)
   RunEndsBy s messages taken handed refuses place w' (Unread e) =
-      FailsInRead s e (stream_at place) × AllSent w' × HadToAsk place
+      FailsInRead s e (stream_at place) × All (MayFollow true) messages × AllSent w' × HadToAsk place
   RunEndsBy s messages taken handed refuses place w' (stop.Unsent e) =
-      OnlyInterrupts (faults_of s) (faults_of (stream_at place))
+      OnlyInterrupts (faults_of s) (faults_of (stream_at place)) × (All (MayFollow true) messages ⊎ Closes messages)
 
   -- a run, but for what is sent last: behind the answers were written the call for a body that the client waits for, and a
   -- refusal of what is wrong, by its status; so there is no 200 but for a whole message. The end is asked for once

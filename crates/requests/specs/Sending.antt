@@ -3,12 +3,11 @@ use Rattle.std.specs.Prelude.{◌≡◌, ℕ, ◌<◌, ◌≤◌, ◌⊎◌, Lis
 use Rattle.std.specs.declared.io.Error.{Error}
 use Rattle.redux_buffer.specs.Faults.{MetInterrupts, SendErrorCaused}
 use Rattle.redux_buffer.specs.GrowError.{GrowthFailed}
-use Rattle.buffer_redux.specs.Block.{usable}
 use Rattle.buffer_redux.specs.BufWriter.{FrontAlong, WasFlushed}
 use Rattle.buffer_redux.specs.Buffered.{Buffered}
 use Rattle.buffer_redux.specs.Policy.{std_write_rules}
 use Rattle.buffer_redux.specs.StreamLog.{StreamLog}
-use Rattle.buffer_redux.specs.Unbuffer.{Unbuffered}
+use Rattle.buffer_redux.specs.Unbuffer.{HandsOutInOrder, Unbuffered}
 use Rattle.buffer_redux.specs.WriteParts.{WritesParts}
 use Rattle.buffer_redux.specs.declared.policy.StdPolicy.{StdPolicy}
 use Rattle.codec.specs.Grammar.{IsOpen}
@@ -20,11 +19,11 @@ use Rattle.programs.specs.Streams.{AllSent}
 abbrev pub IsHeld : {W : Type 0} → Buffered W StdPolicy → Type 0
 IsHeld w = w.block.bytes ≡ [] → AllSent w
 
--- nothing was flushed; and nothing was sent, unless a text was written that didn't fit behind what is buffered
-abbrev pub SendsForRoom : {W : Type 0} → (W → StreamLog) → (W → W → Type 0) → Buffered W StdPolicy → Buffered W StdPolicy → Type 0
-SendsForRoom tells trace w w' = (w'.log.writes.flushes ≡ w.log.writes.flushes)
-    × ((w'.log ≡ w.log) ⊎ ((text : List ℕ) × (writing : Result (Unit {0}) Error) × (usable w.block < length text)
-    × WritesParts tells trace w text writing w'))
+-- this text was written, and nothing was sent but for room, or flushed; or there is none, and nothing was done
+abbrev pub SendsForRoom : {W : Type 0} → (W → StreamLog) → (W → W → Type 0) → Buffered W StdPolicy → List ℕ
+    → Result (Unit {0}) Error → Buffered W StdPolicy → Type 0
+SendsForRoom tells trace w text putting w' =
+    ((text ≡ []) × (putting ≡ Ok tt) × (w' ≡ w)) ⊎ WritesParts tells trace w text putting w'
 
 -- why text wasn't taken in, or sent: the writer failed, and before that met nothing but interruptions; or room for it was refused
 abbrev pub PutStops : {W : Type 0} → List ℕ → Buffered W StdPolicy → Error → Buffered W StdPolicy → Type 0
@@ -56,31 +55,31 @@ abbrev pub Both : Type 0 → Type 0 → Type 0
 Both R W = Unbuffered R × Buffered W StdPolicy
 
 module _ {R W : Type 0} (tells : W → StreamLog) (trace : W → W → Type 0) where
-  -- the stream isn't asked, nothing flushed, and nothing sent but for room; or it is asked, where all that was written was
+  -- none of the stream's bytes was lost. It isn't asked, and some text is written; or it is asked, where all that was written was
   -- received and flushed; or what is held is sent, where what is buffered of the stream settles nothing, and then the stream is
   -- asked, or that failed, and nothing else is done
-  abbrev pub IsStep : Both R W → Both R W → Type 0
-  IsStep (s, w) (t, v) = ((t.log ≡ s.log) × SendsForRoom tells trace w v)
-      ⊎ (AllSent w × (v ≡ w) × (s.log.reads.asks ≤ t.log.reads.asks))
-      ⊎ (IsOpen (heads usual) s.left × (0 < length w.block.bytes)
-      × ((sending : Result (Unit {0}) Error) × WasFlushed tells trace w sending v
-      × MatchResult sending (λ _. s.log.reads.asks < t.log.reads.asks) (λ e. t ≡ s)))
+  abbrev pub IsStep : Both R W → Result (Unit {0}) Error → Both R W → Type 0
+  IsStep (s, w) answer (t, v) = ((bytes : List ℕ) × HandsOutInOrder s bytes t)
+      × (((t.log ≡ s.log) × ((text : List ℕ) × SendsForRoom tells trace w text answer v))
+      ⊎ (AllSent w × (answer ≡ Ok tt) × (v ≡ w) × (s.log.reads.asks < t.log.reads.asks))
+      ⊎ (IsOpen (heads usual) s.left × (0 < length w.block.bytes) × WasFlushed tells trace w answer v
+      × MatchResult answer (λ _. s.log.reads.asks < t.log.reads.asks) (λ e. t ≡ s)))
 
-  -- such steps, by way of these, of which the last is first
-  abbrev pub StepsAlong : Both R W → List (Both R W) → Both R W → Type 0
-  StepsAlong a [] b = a ≡ b
-  StepsAlong a (m ∷ earlier) b = StepsAlong a earlier m × IsStep m b
+  -- such steps, by way of these, of which the last is first; each went well but the last, which was answered so
+  abbrev pub StepsAlong : Both R W → List (Both R W) → Result (Unit {0}) Error → Both R W → Type 0
+  StepsAlong a [] answer b = (a ≡ b) × (answer ≡ Ok tt)
+  StepsAlong a (m ∷ earlier) answer b = StepsAlong a earlier (Ok tt) m × IsStep m answer b
 
   -- the stream was asked only where nothing was held back, and each flush sends something, and stands directly before an ask,
   -- unless it fails
-  pub record Prompt (a b : Both R W) : Type 0 where
+  pub record Prompt (a : Both R W) (answer : Result (Unit {0}) Error) (b : Both R W) : Type 0 where
     pub between : List (Both R W)
-    pub steps : StepsAlong a between b
+    pub steps : StepsAlong a between answer b
 
   -- and meanwhile this text was taken in
   pub record WritesPromptly (a : Both R W) (text : List ℕ) (putting : Result (Unit {0}) Error) (b : Both R W) : Type 0 where
     pub puts : PutsText tells trace a.1 text putting b.1
-    pub prompt : Prompt a b
+    pub prompt : Prompt a putting b
 
   -- nothing was written but what had been held, and where the stream was asked that had been sent
   pub record WritesOnlyHeld (a b : Both R W) : Type 0 where

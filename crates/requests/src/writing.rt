@@ -1,7 +1,8 @@
 //! What is written: answers, refusals and calls for bodies; and what is held is sent.
 ghost use Rattle.std.specs.Prelude.{◌≡◌, ◌++◌, codes, map};
 ghost use Rattle.std.specs.List.{concat};
-ghost use Rattle.requests.specs.Sending.{IsHeld, PutsText, SendsForRoom, SendsHeld};
+ghost use Rattle.buffer_redux.specs.WriteParts.{WritesParts};
+ghost use Rattle.requests.specs.Sending.{IsHeld, SendsForRoom, SendsHeld};
 ghost use Rattle.requests.specs.Answers.{answered, begins_known, begins_often, called, declined, disappointed, granted, has_body, is_known, refusal, refusal_of, success, waits};
 
 use crate::limits::is_large;
@@ -58,8 +59,7 @@ pub(crate) fn answer_whole<W: TellWrite>(
     said: ParsedHead,
     writer: &mut BufWriter<W>,
 ) -> io::Result<()>
-    ensures puts { PutsText W.log W.trace writer.old (answered known said len) result writer.new }
-    ensures sends { SendsForRoom W.log W.trace writer.old writer.new }
+    ensures { WritesParts W.log W.trace writer.old (answered known said len) result writer.new }
 {
     if !known {
         return put(writer, &[declined(said.keeps)]);
@@ -93,8 +93,7 @@ fn declined(keeps: bool) -> &'static [u8]
 
 // Says how many bytes of payload there were, and whether another request may follow.
 fn accept<W: TellWrite>(len: u64, said: ParsedHead, writer: &mut BufWriter<W>) -> io::Result<()>
-    ensures puts { PutsText W.log W.trace writer.old (granted said len) result writer.new }
-    ensures sends { SendsForRoom W.log W.trace writer.old writer.new }
+    ensures { WritesParts W.log W.trace writer.old (granted said len) result writer.new }
 {
     let head = success(said.keeps);
     if said.bare {
@@ -122,9 +121,8 @@ fn put_line<'a, W: TellWrite>(
     number: &'a [u8],
     writer: &mut BufWriter<W>,
 ) -> io::Result<()>
-    ensures puts { PutsText W.log W.trace writer.old (head.now ++ (blanks.now ++ (number.now ++ codes "\n"))) result
+    ensures { WritesParts W.log W.trace writer.old (head.now ++ (blanks.now ++ (number.now ++ codes "\n"))) result
         writer.new }
-    ensures sends { SendsForRoom W.log W.trace writer.old writer.new }
 {
     put(writer, &[head, blanks, number, b"\n"])
 }
@@ -133,8 +131,7 @@ pub(crate) fn call_for_body<W: TellWrite>(
     said: ParsedHead,
     writer: &mut BufWriter<W>,
 ) -> io::Result<()>
-    ensures puts { PutsText W.log W.trace writer.old (called (waits said)) result writer.new }
-    ensures sends { SendsForRoom W.log W.trace writer.old writer.new }
+    ensures { SendsForRoom W.log W.trace writer.old (called (waits said)) result writer.new }
 {
     if waits(said) {
         put(writer, &[b"HTTP/1.1 100 Continue\r\n\r\n"])
@@ -171,8 +168,7 @@ pub(crate) fn refusal_of(why: BadHead) -> Refusal
 }
 
 pub(crate) fn refuse<W: TellWrite>(why: Refusal, writer: &mut BufWriter<W>) -> io::Result<()>
-    ensures puts { PutsText W.log W.trace writer.old (refusal why) result writer.new }
-    ensures sends { SendsForRoom W.log W.trace writer.old writer.new }
+    ensures { WritesParts W.log W.trace writer.old (refusal why) result writer.new }
 {
     put(writer, &[refusal_text(why)])
 }
@@ -203,8 +199,7 @@ fn refusal_text(why: Refusal) -> &'static [u8]
 }
 
 fn put<W: TellWrite>(writer: &mut BufWriter<W>, parts: &[&[u8]]) -> io::Result<()>
-    ensures puts { PutsText W.log W.trace writer.old (concat (map (λ part. part.now) parts.now)) result writer.new }
-    ensures sends { SendsForRoom W.log W.trace writer.old writer.new }
+    ensures { WritesParts W.log W.trace writer.old (concat (map (λ part. part.now) parts.now)) result writer.new }
 {
     writer.write_parts(parts)
 }

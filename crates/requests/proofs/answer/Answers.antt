@@ -1,9 +1,10 @@
 -- A head that is buffered is begun with nobody asked, and without one the reader stands where it stood.
-use Rattle.std.proofs.Common.{inl}
+use Rattle.messages.specs.MessagesLaws.{Begun-went}
 use Rattle.requests.proofs.Sending.{WritesPromptly-read}
 use Rattle.requests.proofs.answer.Goals as goal
 
 pub returns-in-Ok-clause-turns : goal.returns-in-Ok-clause-turns
 returns-in-Ok-clause-turns g c =
     c.answer_body.ensures.turns c.args.requests c.args.writer.now c.in-Ok.ensures.begun
-    (WritesPromptly-read g.met.W.TellWrite.trace_none c.args.writer.now (inl c.in-Ok.ensures.unasked))
+    (WritesPromptly-read g.met.W.TellWrite.trace_none c.args.writer.now
+    (Begun-went g.R.TellRead.remaining c.args.requests c.in-Ok.body c.in-Ok.ensures.begun).order c.in-Ok.ensures.unasked)

@@ -1,13 +1,22 @@
 -- A message that was taken whole is answered behind the call; of another a part is all that went.
-use Rattle.std.proofs.Common.{[], ◌∷◌, true, ap, sym, subst, ◌∙◌, refl, inl, arith}
+use Rattle.std.proofs.Common.{◌≡◌, ◌⊎◌, All, Bool, List, ℕ, [], ◌∷◌, true, false, inr, ap, sym, subst, ◌∙◌, refl, inl, arith}
 use Rattle.std.proofs.lemmas.List.Elements.{All-cons, All-nil}
 use Rattle.messages.specs.Heads.{IsHead}
+use Rattle.messages.specs.Limits.{usual}
+use Rattle.messages.specs.declared.head.ParsedHead.{ParsedHead}
 use Rattle.requests.specs.declared.Ending.TheVariants.{Over, Unsent}
 use Rattle.requests.specs.declared.Place.TheVariants.{Before}
-use Rattle.requests.specs.Answers.{MayFollow, is_known}
+use Rattle.requests.specs.Answers.{Closes, MayFollow, is_known}
 use Rattle.requests.proofs.Answering.{RunsToLast-stopped, one_answered, torn_answered}
-use Rattle.requests.proofs.Reading.{begun_steady, no_shorter, steadily}
+use Rattle.requests.proofs.Reading.{Closes-one, begun_steady, no_shorter, steadily}
 use Rattle.requests.proofs.answer_called.Goals as goal
+
+-- another may follow a message, or none
+follows : (head payload : List ℕ) (said : ParsedHead) (keeps : Bool) → IsHead usual head said → said.keeps ≡ keeps
+    → All (MayFollow true) ((head, payload) ∷ []) ⊎ Closes ((head, payload) ∷ [])
+follows head payload said true is same =
+    inl (All-cons (MayFollow true) (head, payload) [] (said, is, same) (All-nil (MayFollow true)))
+follows head payload said false is same = inr (Closes-one (said, is, same))
 
 pub returns-then-said-clause-turns : goal.returns-then-said-clause-turns
 returns-then-said-clause-turns g c = λ s w begun call.
@@ -20,7 +29,7 @@ returns-then-said-clause-turns g c = λ s w begun call.
         messages = (b.head, whole.1) ∷ [];
         answers = one_answered g.met.W.TellWrite.trace_joins begun c.requires.limits whole c.said-said.ensures.value
             (c.is_known-known.ensures ∙ ap is_known c.head.ensures) call c.in-Ok.ensures.writes
-            c.in-Ok-answer_whole.ensures.puts c.in-Ok-answer_whole.ensures.sends;
+            c.in-Ok-answer_whole.ensures;
         keep = All-cons (MayFollow true) (b.head, whole.1) [] (b.said, head, keeps) (All-nil (MayFollow true));
         reads = reads;
       },
@@ -36,16 +45,10 @@ returns-else-said-clause-turns g c = λ s w begun call.
     RunsToLast-stopped [] (Before c.in-Ok.requests) (refl, refl) (omega (arith, reads.ends)) Over
     (one_answered g.met.W.TellWrite.trace_joins begun c.requires.limits whole c.said-said.ensures.value
     (c.is_known-known.ensures ∙ ap is_known c.head.ensures) call c.in-Ok.ensures.writes
-    c.in-Ok-answer_whole.ensures.puts c.in-Ok-answer_whole.ensures.sends) (
+    c.in-Ok-answer_whole.ensures) (
       reads.faults,
       inl (
-        record {
-          before = [];
-          last = (b.head, whole.1);
-          all = refl;
-          keep = All-nil (MayFollow true);
-          close = (b.said, head, sym (ap (λ x. x.keeps) c.said-said.ensures.value) ∙ c.if-said.false);
-        },
+        Closes-one (b.said, head, sym (ap (λ x. x.keeps) c.said-said.ensures.value) ∙ c.if-said.false),
         refl,
         refl,
         reads.ends,
@@ -54,11 +57,13 @@ returns-else-said-clause-turns g c = λ s w begun call.
 
 pub returns-in-Err-answer_whole-clause-turns : goal.returns-in-Err-answer_whole-clause-turns
 returns-in-Err-answer_whole-clause-turns g c = λ s w begun call.
+    let b = c.args.body in
+    let head = subst (λ l. IsHead l b.head b.said) c.requires.limits begun.is in
     let reads = steadily (begun_steady begun) c.in-Ok.ensures.steady in
     RunsToLast-stopped [] (Before c.in-Ok.requests) (refl, refl) (omega (arith, reads.ends)) (Unsent c.in-Err-answer_whole.e)
     (one_answered g.met.W.TellWrite.trace_joins begun c.requires.limits c.in-Ok.ensures.whole c.said-said.ensures.value
     (c.is_known-known.ensures ∙ ap is_known c.head.ensures) call c.in-Ok.ensures.writes
-    c.in-Err-answer_whole.ensures.puts c.in-Err-answer_whole.ensures.sends) reads.faults
+    c.in-Err-answer_whole.ensures) (reads.faults, follows _ _ _ _ head refl)
 
 pub returns-in-Err-clause-turns : goal.returns-in-Err-clause-turns
 returns-in-Err-clause-turns g c = λ s w begun call.

@@ -1,10 +1,11 @@
 -- Where no head is settled what is held is sent first, so the stream is asked with nothing held.
-use Rattle.std.proofs.Common.{[], Ok, Err, None, sym, subst, ◌∙◌, inl, refl, arith}
+use Rattle.std.proofs.Common.{true, [], Ok, Err, None, sym, subst, ◌∙◌, inl, refl, arith}
+use Rattle.std.proofs.lemmas.List.Elements.{All-nil}
 use Rattle.buffer_redux.specs.UnbufferLaws.{StreamWent-none}
 use Rattle.codec.specs.PieceReader.{left_of}
 use Rattle.requests.specs.declared.Ending.TheVariants.{Unsent}
 use Rattle.requests.specs.declared.Place.TheVariants.{Before}
-use Rattle.requests.specs.Answers.{IsSentLast}
+use Rattle.requests.specs.Answers.{IsSentLast, MayFollow}
 use Rattle.requests.specs.Sending.{WritesPromptly}
 use Rattle.requests.proofs.Answering.{FailsLast-of, RunsToLast-stopped, none_answered}
 use Rattle.requests.proofs.Coming.{comes, open_where, usually}
@@ -48,4 +49,4 @@ returns-in-Err-clause-turns g c =
     RunsToLast-stopped [] (Before c.args.requests) (refl, refl) (omega arith) (Unsent c.in-Err.e)
     (none_answered (StreamWent-none g.R.TellRead.remaining s) sent
     (FailsLast-of (IsSentLast [] [] None (Before c.args.requests)) (Err c.in-Err.e) refl (inl refl)
-    (PutsText-none g.met.W.TellWrite.trace_none c.args.writer.now) sent.puts)) (none_met refl)
+    (PutsText-none g.met.W.TellWrite.trace_none c.args.writer.now) sent.puts)) (none_met refl, inl (All-nil (MayFollow true)))

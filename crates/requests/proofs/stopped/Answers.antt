@@ -10,9 +10,9 @@ use Rattle.requests.specs.declared.Ending.TheVariants.{Over, Unread}
 use Rattle.requests.specs.declared.Place.TheVariants.{Before}
 use Rattle.requests.specs.Answers.{IsSentLast, MayFollow, RunsToLast, ends_of, faults_of, only_line_ends, refusal_of}
 use Rattle.messages.specs.declared.requests.Stop.TheVariants.{Bad}
-use Rattle.requests.proofs.Answering.{FailsLast-of, RunsToLast-ended, RunsToLast-stopped, none_answered}
+use Rattle.requests.proofs.Answering.{FailsLast-of, RunsToLast-refused, RunsToLast-stopped, none_answered}
 use Rattle.requests.proofs.Reading.{failed_behind, interrupted_once, none_met, nothing_went}
-use Rattle.requests.proofs.Sending.{WritesPromptly-after, WritesPromptly-put, on_ok}
+use Rattle.requests.proofs.Sending.{WritesPromptly-after, WritesPromptly-parts}
 use Rattle.requests.proofs.stopped.Goals as goal
 
 -- an end that no call had told before was met in this one
@@ -71,16 +71,16 @@ returns-in-Bad-clause-turns g c = λ s w told next comes.
     let why = c.refusal_of.result in
     let v = c.args.writer.now in
     let t = left_of c.args.requests in
+    let then = WritesPromptly-parts t c.refuse.ensures in
     subst (λ x. RunsToLast g.R.TellRead.remaining g.W.Tell.log g.W.TellWrite.trace (left_of s) w (Before c.args.requests) x
-    c.refuse.new.writer) (sym c.ending_of-ending.ensures) (RunsToLast-ended [] (Before c.args.requests) (refl, refl)
+    c.refuse.new.writer) (sym c.ending_of-ending.ensures) (RunsToLast-refused [] (Before c.args.requests) (refl, refl)
     (elim bad.answers.3 [
       | inl wrong ↦ omega (arith, wrong.1)
       | inr cut ↦ omega (arith, met_end s c.args.requests told cut.3)
-    ]) (Some why) sending (none_answered (nothing_went bad bad.answers.0)
+    ]) why sending (none_answered (nothing_went bad bad.answers.0)
     (WritesPromptly-after g.met.W.TellWrite.trace_joins (left_of s, w) (t, v) (t, c.refuse.new.writer) [] _ sending comes.writes
-    (WritesPromptly-put t c.refuse.ensures.puts c.refuse.ensures.sends))
-    (FailsLast-of (IsSentLast [] [] (Some why) (Before c.args.requests)) sending refl (inr refl) comes.writes.puts
-    c.refuse.ensures.puts))
+    then)
+    (FailsLast-of (IsSentLast [] [] (Some why) (Before c.args.requests)) sending refl (inr refl) comes.writes.puts then.puts))
     (elim bad.answers.3 [
       | inl wrong ↦ inl (_, wrong.0, c.refusal_of.ensures)
       | inr cut ↦ inr (
@@ -91,7 +91,7 @@ returns-in-Bad-clause-turns g c = λ s w told next comes.
         cut.1,
       )
     ])
-    (none_met bad.answers.1) (on_ok sending (inr (All-nil (MayFollow true), inl refl))))
+    (none_met bad.answers.1))
 
 pub returns-in-Io-clause-turns : goal.returns-in-Io-clause-turns
 returns-in-Io-clause-turns g c = λ s w told next comes.
@@ -103,6 +103,7 @@ returns-in-Io-clause-turns g c = λ s w told next comes.
         failed_behind _ _ _ c.in-Io.e (OnlyInterrupts-none (faults_of (left_of s))) answers.2,
         λ is. absurd (let odd = c.is_interrupt.ensures.no c.in-Io.e c.in-Io.is is in cc),
       ),
+      All-nil (MayFollow true),
       elim comes.asked [
         | inl same ↦ absurd (omega (
           arith,

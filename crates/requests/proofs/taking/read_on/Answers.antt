@@ -1,5 +1,5 @@
 -- The stream is asked only where nothing buffered is payload, and what was held was sent then.
-use Rattle.std.proofs.Common.{◌≡◌, ℕ, [], take, Option, List, ap, arith, inl, rules, subst, sym}
+use Rattle.std.proofs.Common.{◌≡◌, ℕ, [], take, Option, List, ap, arith, rules, subst, sym}
 use Rattle.body_reader.specs.Between.{handed_out}
 use Rattle.messages.specs.Messages.{InBody, InsideGoes}
 use Rattle.messages.specs.MessagesLaws.{InsideGoes-joins}
@@ -16,7 +16,8 @@ read_none {R} {remaining} {b} {m} out none goes =
 
 pub returns-then-count-gt0-clause-writes : goal.returns-then-count-gt0-clause-writes
 returns-then-count-gt0-clause-writes g c =
-    WritesPromptly-read g.met.W.TellWrite.trace_none c.args.writer.now (inl c.read_buffered-count.ensures.unasked)
+    WritesPromptly-read g.met.W.TellWrite.trace_none c.args.writer.now
+    c.read_buffered-count.ensures.goes.takes.went.order c.read_buffered-count.ensures.unasked
 
 pub returns-then-is_done-clause-goes : goal.returns-then-is_done-clause-goes
 returns-then-is_done-clause-goes g c =
@@ -24,7 +25,8 @@ returns-then-is_done-clause-goes g c =
 
 pub returns-then-is_done-clause-writes : goal.returns-then-is_done-clause-writes
 returns-then-is_done-clause-writes g c =
-    WritesPromptly-read g.met.W.TellWrite.trace_none c.args.writer.now (inl c.read_buffered-count.ensures.unasked)
+    WritesPromptly-read g.met.W.TellWrite.trace_none c.args.writer.now
+    c.read_buffered-count.ensures.goes.takes.went.order c.read_buffered-count.ensures.unasked
 
 pub returns-in-Ok : goal.returns-in-Ok
 returns-in-Ok g c =
@@ -36,7 +38,7 @@ returns-in-Ok g c =
     let goes = read_none c.read_buffered-count.new.out zero none.goes in
     let comes = comes_inside g.met.W.TellWrite.trace_none g.met.W.TellWrite.trace_joins c.read_buffered-count.result
     c.read_buffered-count.new.out c.read.new.out c.args.body.now.stream m t c.args.writer.now c.send_unless_shown.new.writer
-    none.unasked c.in-Ok.ensures zero (search rules) (λ done. let odd = c.is_done.ensures.ended.1 done in absurd (cc)) none.all
+    none.goes.takes.went.order c.read.ensures.goes.takes.went.order none.unasked c.in-Ok.ensures zero (search rules) (λ done. let odd = c.is_done.ensures.ended.1 done in absurd (cc)) none.all
     c.read.ensures.asked (search rules) c.read.ensures.asks in
     record {
       bound = c.read.ensures.bound;
@@ -59,4 +61,4 @@ pub returns-in-Err-clause-writes : goal.returns-in-Err-clause-writes
 returns-in-Err-clause-writes g c =
     unsent_empty g.met.W.TellWrite.trace_none g.met.W.TellWrite.trace_joins c.in-Err.e c.args.body.now.stream
     c.read_buffered-count.new.self.stream c.args.writer.now c.send_unless_shown.new.writer
-    c.read_buffered-count.ensures.unasked c.in-Err.ensures
+    c.read_buffered-count.ensures.goes.takes.went.order c.read_buffered-count.ensures.unasked c.in-Err.ensures

@@ -1,5 +1,5 @@
 -- Where no more of the body comes it has ended, so to finish it the stream is asked for nothing.
-use Rattle.std.proofs.Common.{[], ◌++◌, Ok, inl}
+use Rattle.std.proofs.Common.{[], ◌++◌, Ok}
 use Rattle.codec.specs.PieceReader.{left_of}
 use Rattle.messages.specs.MessagesLaws.{InsideGoes-joins}
 use Rattle.requests.proofs.Reading.{TakeFails-behind, unasked, unasked_log, unfinished_sent, whole_taken}
@@ -19,7 +19,8 @@ returns-in-Ok-finish-clause-writes g c =
     let v = c.payload_len.new.writer in
     WritesPromptly-after g.met.W.TellWrite.trace_joins (c.args.body.stream, c.args.writer.now) (m.stream, v) (t, v) [] [] (Ok tt)
     c.in-Ok.ensures.writes (WritesPromptly-read g.met.W.TellWrite.trace_none v
-    (inl (unasked_log m.stream t m.rest c.in-Ok.ensures.ended c.in-Ok-finish.ensures.asked)))
+    c.in-Ok-finish.ensures.ends.went.order
+    (unasked_log m.stream t m.rest c.in-Ok.ensures.ended c.in-Ok-finish.ensures.asked))
 
 pub returns-in-Err-finish-clause-part : goal.returns-in-Err-finish-clause-part
 returns-in-Err-finish-clause-part g c =
@@ -42,4 +43,5 @@ returns-in-Err-finish-clause-writes g c =
     (WritesPromptly-after g.met.W.TellWrite.trace_joins (c.args.body.stream, c.args.writer.now) (m.stream, v) (t.stream, v) [] []
     (Ok tt)
     c.in-Ok.ensures.writes (WritesPromptly-read g.met.W.TellWrite.trace_none v
-    (inl (unasked_log m.stream t.stream m.rest c.in-Ok.ensures.ended c.in-Err-finish.ensures.asked))))
+    c.in-Err-finish.ensures.ends.1.takes.went.order
+    (unasked_log m.stream t.stream m.rest c.in-Ok.ensures.ended c.in-Err-finish.ensures.asked)))
