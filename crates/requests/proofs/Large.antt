@@ -15,7 +15,7 @@ same_test n p few = elim (cases_lt (16384 + 6 * p) n) [
   | inr less ↦ le-ltb (16384 + 6 * p) (min n (2 ^ 64 - 1)) (omega (arith, less)) ∙ sym (le-ltb (16384 + 6 * p) n less)
 ]
 
-pub large_counted : (extent : Extent) (n p : ℕ) → is_large extent (min n (2 ^ 64 - 1)) p ≡ is_large extent n p
+large_counted : (extent : Extent) (n p : ℕ) → is_large extent (min n (2 ^ 64 - 1)) p ≡ is_large extent n p
 large_counted (Sized all) n p = refl
 large_counted Chunked n p = elim (cases_lt max_payload p) [
   | inl over ↦ ap (λ b. b || nat_lt (16384 + 6 * p) (min n (2 ^ 64 - 1))) (lt-ltb max_payload p over)

@@ -153,7 +153,7 @@ module _ {S : Type 0} {s m : Unbuffered S} (steady : ReadsSteadily s m) where
       (steadily (steady_none same), omega (arith, many, length-append handed more))
 
 -- why a read fails is said of what it asked
-pub Fails-asked : {S : Type 0} (s m : Unbuffered S) (e : BodyError) (t : Unbuffered S) (r : Rest) → m.log ≡ s.log
+Fails-asked : {S : Type 0} (s m : Unbuffered S) (e : BodyError) (t : Unbuffered S) (r : Rest) → m.log ≡ s.log
     → Fails m e t r → Fails s e t r
 Fails-asked s m (Wrong why) t r same (gave, torn) =
     ((gave.0 ∙ ap (λ l. l.reads.faults) same, gave.1 ∙ ap (λ l. l.reads.zero_reads) same), torn)

@@ -49,7 +49,7 @@ none_read s = ([], record { got = []; given = sym (append-nil s.log.reads.given)
 
 module _ {W : Type 0} {tells : W → StreamLog} {trace : W → W → Type 0} where
   -- a flush
-  pub PutsText-flushed : (w v : Buffered W StdPolicy) (answer : Result (Unit {0}) Error) → WasFlushed tells trace w answer v
+  PutsText-flushed : (w v : Buffered W StdPolicy) (answer : Result (Unit {0}) Error) → WasFlushed tells trace w answer v
       → PutsText tells trace w [] answer v
   PutsText-flushed w v (Ok x) f = record {
     front = WasFlushed-along tells trace std_write_rules w (Ok x) v f;
@@ -66,7 +66,7 @@ module _ {W : Type 0} {tells : W → StreamLog} {trace : W → W → Type 0} whe
   }
 
   -- parts
-  pub PutsText-parts : (w v : Buffered W StdPolicy) (bytes : List ℕ) (answer : Result (Unit {0}) Error)
+  PutsText-parts : (w v : Buffered W StdPolicy) (bytes : List ℕ) (answer : Result (Unit {0}) Error)
       → WritesParts tells trace w bytes answer v → PutsText tells trace w bytes answer v
   PutsText-parts w v bytes (Ok x) p = record {
     front = p.along;

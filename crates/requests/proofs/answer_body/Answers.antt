@@ -12,13 +12,9 @@ use Rattle.requests.proofs.Reading.{begun_steady, is_part}
 use Rattle.requests.proofs.Sending.{WritesPromptly-after, WritesPromptly-put}
 use Rattle.requests.proofs.answer_body.Goals as goal
 
-pub answer_called-requires : goal.answer_called-requires
-answer_called-requires g c = record {
-  held = (WritesPromptly-put g.met.W.TellWrite.trace_none c.args.body.stream c.in-Ok.ensures).puts.held c.requires.held;
-  first = c.requires.first;
-  limits = c.requires.limits;
-  rest = c.requires.rest;
-}
+pub answer_called-requires-clause-held : goal.answer_called-requires-clause-held
+answer_called-requires-clause-held g c =
+    (WritesPromptly-put g.met.W.TellWrite.trace_none c.args.body.stream c.in-Ok.ensures).puts.held c.requires.held
 
 pub returns-in-Ok-clause-turns : goal.returns-in-Ok-clause-turns
 returns-in-Ok-clause-turns g c = λ s w begun writes.

@@ -1,5 +1,5 @@
 -- Where no head is settled what is held is sent first, so the stream is asked with nothing held.
-use Rattle.std.proofs.Common.{true, [], Ok, Err, None, sym, subst, ◌∙◌, inl, refl, arith}
+use Rattle.std.proofs.Common.{true, [], Ok, Err, None, sym, subst, inl, refl, arith}
 use Rattle.std.proofs.lemmas.List.Elements.{All-nil}
 use Rattle.buffer_redux.specs.UnbufferLaws.{StreamWent-none}
 use Rattle.codec.specs.PieceReader.{left_of}
@@ -13,17 +13,14 @@ use Rattle.requests.proofs.Reading.{begun_whole, none_met}
 use Rattle.requests.proofs.Sending.{PutsText-none, WritesPromptly-unsent}
 use Rattle.requests.proofs.answer_next.Goals as goal
 
-pub answer_body-requires : goal.answer_body-requires
-answer_body-requires g c =
-    let came = comes g.met.W.TellWrite.trace_none c.args.requests c.args.writer.now
+pub answer_body-requires-clause-held : goal.answer_body-requires-clause-held
+answer_body-requires-clause-held g c =
+    (comes g.met.W.TellWrite.trace_none c.args.requests c.args.writer.now
     c.send_to_ask.new.writer c.in-Ok.ensures _ c.in-Ok-next.ensures.next.behind
-    (usually c.requires.limits c.in-Ok-next.ensures.next.next) in
-    record {
-      held = came.writes.puts.held c.requires.held;
-      first = c.in-Ok-next.ensures.next.taken;
-      limits = c.in-Ok-next.ensures.next.limits ∙ c.requires.limits;
-      rest = begun_whole c.in-Ok-next.ensures.next c.requires.limits;
-    }
+    (usually c.requires.limits c.in-Ok-next.ensures.next.next)).writes.puts.held c.requires.held
+
+pub answer_body-requires-clause-rest : goal.answer_body-requires-clause-rest
+answer_body-requires-clause-rest g c = begun_whole c.in-Ok-next.ensures.next c.requires.limits
 
 pub returns-in-Ok-next-clause-turns : goal.returns-in-Ok-next-clause-turns
 returns-in-Ok-next-clause-turns g c =
