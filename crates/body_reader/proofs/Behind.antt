@@ -13,7 +13,7 @@ use Rattle.body_reader.specs.Asking.{AskedWhere}
 use Rattle.body_reader.specs.AskingLaws.{AskedWhere-of}
 use Rattle.body_reader.specs.Between.{TakesBytes}
 use Rattle.body_reader.specs.BetweenLaws.{ReadsAhead-asked, ReadsAhead-ended, ReadsAhead-failed, ReadsAhead-gave, ReadsAhead-keeps, TakesBytes-none, TakesBytes-still}
-use Rattle.body_reader.specs.BodyReader.{BodyState, BodyWent, IsBodyReader, LooksBehind}
+use Rattle.body_reader.specs.BodyReader.{BodyWent, IsBodyReader, LooksBehind}
 use Rattle.body_reader.specs.Coding.{Carries, Grammar, IsKnown, IsLawful}
 use Rattle.body_reader.proofs.Filling.{Carries-less, one_ahead}
 use Rattle.body_reader.proofs.Handing.{some_of}
@@ -104,10 +104,3 @@ module _ {S Q C P W A : Type 0} (remaining : S → Option (List ℕ)) (rules : R
         still = refl;
         whole = behind_is (Ok a) ahead';
       }
-
--- as the reader is seen
-pub behind_seen : {S Q C P W : Type 0} (remaining : S → Option (List ℕ)) (rules : ReadRules Q) (grammar : C → Grammar P W)
-    (s d : BodyState S Q C P) (answer : Result Bool Error) (t : BodyState S Q C P) → s ≡ d
-    → LooksBehind remaining rules (grammar s.coding) s answer t → LooksBehind remaining rules (grammar d.coding) d answer t
-behind_seen remaining rules grammar s d answer t same looks =
-    subst (λ x. LooksBehind remaining rules (grammar x.coding) x answer t) same looks

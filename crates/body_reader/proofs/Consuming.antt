@@ -60,16 +60,3 @@ module _ {S Q C P W : Type 0} (remaining : S → Option (List ℕ)) (rules : Rea
     noted = (λ some. absurd (omega (arith, some, none)), λ _. refl);
     whole = is;
   }
-
-  -- as the reader is seen
-  pub consumes_seen : (grammar : C → Grammar P W) (count : ℕ) (s d : BodyState S Q C P) (t : BodyState S Q C P) → s ≡ d
-      → ConsumesPayload remaining rules (grammar s.coding) count s t
-      → ConsumesPayload remaining rules (grammar d.coding) count d t
-  consumes_seen grammar count s d t same consumes =
-      subst (λ x. ConsumesPayload remaining rules (grammar x.coding) count x t) same consumes
-
-  pub none_seen : (grammar : C → Grammar P W) (count : ℕ) (s d : BodyState S Q C P) → s ≡ d
-      → ConsumesPayload remaining rules (grammar s.coding) count s s
-      → ConsumesPayload remaining rules (grammar d.coding) count d d
-  none_seen grammar count s d same consumes =
-      subst (λ x. ConsumesPayload remaining rules (grammar x.coding) count x x) same consumes

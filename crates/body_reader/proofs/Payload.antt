@@ -302,14 +302,5 @@ fill_known remaining rules g d is some = record {
 }
 
 -- as the reader is seen
-pub fills_seen : {S Q C P W : Type 0} (remaining : S → Option (List ℕ)) (rules : ReadRules Q) (grammar : C → Grammar P W)
-    (s d : BodyState S Q C P) (answer : Result ℕ (BodyError W)) (t : BodyState S Q C P) → s ≡ d
-    → FillsPayload remaining rules (grammar s.coding) s answer t → FillsPayload remaining rules (grammar d.coding) d answer t
-fills_seen remaining rules grammar s d answer t same fills =
-    subst (λ x. FillsPayload remaining rules (grammar x.coding) x answer t) same fills
-
-pub known_seen : {S Q C P W : Type 0} (remaining : S → Option (List ℕ)) (rules : ReadRules Q) (grammar : C → Grammar P W)
-    (s d : BodyState S Q C P) (answer : Result ℕ (BodyError W)) → s ≡ d
-    → FillsPayload remaining rules (grammar s.coding) s answer s → FillsPayload remaining rules (grammar d.coding) d answer d
-known_seen remaining rules grammar s d answer same fills =
-    subst (λ x. FillsPayload remaining rules (grammar x.coding) x answer x) same fills
+pub as_seen : {A B D : Type 0} (F : A → B → D → Type 0) (s d : A) (b : B) (t : D) → s ≡ d → F s b t → F d b t
+as_seen F s d b t same h = subst (λ x. F x b t) same h

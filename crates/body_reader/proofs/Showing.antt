@@ -11,7 +11,7 @@ use Rattle.body_reader.specs.declared.coding.Look.TheVariants as look
 use Rattle.body_reader.specs.declared.progress.Progress.{Progress}
 use Rattle.body_reader.specs.Between.{AllShown, FindsKnown, HandsShown, KnowsAll, KnowsBehind, NoneShown, PassesOn, TakesBytes, TakesFront}
 use Rattle.body_reader.specs.BetweenLaws.{TakesBytes-joins, TakesBytes-none}
-use Rattle.body_reader.specs.BodyReader.{BodyState, Breaks, EndsEarly, HandsBuffered, IsBodyReader, NotedIfSome, TookWholeBody}
+use Rattle.body_reader.specs.BodyReader.{Breaks, EndsEarly, HandsBuffered, IsBodyReader, NotedIfSome, TookWholeBody}
 use Rattle.body_reader.specs.BodyReaderLaws.{NotedIfSome-given}
 use Rattle.body_reader.specs.Coding.{Grammar, IsDone, IsKnown, IsLawful, Looks, heeded}
 use Rattle.body_reader.specs.CodingLaws.{IsOpenBelow-open, Leads-done, Leads-whole, open_at}
@@ -301,11 +301,3 @@ module _ {S Q C P W : Type 0} (remaining : S → Option (List ℕ)) (rules : Rea
     noted = noted;
     whole = shown_is;
   }
-
--- as the reader is seen
-pub buffered_seen : {S Q C P W : Type 0} (remaining : S → Option (List ℕ)) (rules : ReadRules Q) (grammar : C → Grammar P W)
-    (s d : BodyState S Q C P) (out : List ℕ) (handed : ℕ) (t : BodyState S Q C P) → s ≡ d
-    → HandsBuffered remaining rules (grammar s.coding) s out handed t
-    → HandsBuffered remaining rules (grammar d.coding) d out handed t
-buffered_seen remaining rules grammar s d out handed t same reads =
-    subst (λ x. HandsBuffered remaining rules (grammar x.coding) x out handed t) same reads

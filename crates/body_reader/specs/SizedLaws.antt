@@ -1,19 +1,8 @@
 -- Laws of bodies that have so many bytes.
-use Rattle.std.proofs.Common.{◌≡◌, ℕ, ◌-◌, ◌≤◌, List, [], ◌++◌, length, replicate, take, sym, ap, ◌∙◌, arith, refl, append-nil, length-append}
-use Rattle.std.proofs.lemmas.List.{length-replicate, nil_from_length, take_at}
-use Rattle.body_reader.specs.Coding.{IsLawful, Leads}
+use Rattle.std.proofs.Common.{◌≡◌, ℕ, [], replicate, take, sym, ap, ◌∙◌, arith, append-nil}
+use Rattle.std.proofs.lemmas.List.{length-replicate, take_at}
+use Rattle.body_reader.specs.Coding.{IsLawful}
 use Rattle.body_reader.specs.Sized.{sized}
-
--- bytes of payload lead on
-pub sized_leads : (n left : ℕ) (bytes follow : List ℕ) → length bytes ≤ left
-    → Leads (sized n) left bytes bytes (left - length bytes) follow
-sized_leads n left bytes follow few = record {
-  onward = λ rest payload agree c.
-      (omega (arith, c.0, few, length-append bytes rest), ap (λ l. bytes ++ l) c.1);
-  back = λ rest whole agree c. (rest, c.1, (omega (arith, c.0, few, length-append bytes rest), refl));
-  within = λ rest payload past c same.
-      nil_from_length past (omega (arith, c.0, few, ap length same, length-append rest past));
-}
 
 pub sized_lawful : (n : ℕ) → IsLawful (sized n)
 sized_lawful n = record {

@@ -102,18 +102,6 @@ module _ {S : Type 0} (tells : S → StreamLog) (trace : S → S → Type 0) (no
     failed = λ e' is. (let same : ◌≡◌ {A = Result (Unit {0}) Error} (Err e) (Err e') = is in cc, refl);
   }
 
-  -- the same of a writer that is known by another name
-  pub same_whole : (v s : ChunkedWriterState S) → v ≡ s → IsChunkedWriter v → IsChunkedWriter s
-  same_whole v s same h = subst IsChunkedWriter same h
-
-  pub same_on : (v s t : ChunkedWriterState S) (payload : List ℕ) (answer : Result ℕ Error) → v ≡ s
-      → WentOn tells trace v payload answer t → WentOn tells trace s payload answer t
-  same_on v s t payload answer same h = subst (λ c. WentOn tells trace c payload answer t) same h
-
-  pub same_begins : (v s t : ChunkedWriterState S) (size : ℕ) (answer : Result (Unit {0}) Error) → v ≡ s
-      → CopiesSizeLine tells trace size v answer t → CopiesSizeLine tells trace size s answer t
-  same_begins v s t size answer same h = subst (λ c. CopiesSizeLine tells trace size c answer t) same h
-
   -- past an empty buffer
   past_went : (s t : Buffered S StdPolicy) (part : List ℕ) (answer : Result ℕ Error) → IsBlock s.block → s.block.bytes ≡ []
       → GoesDirect after_write s part answer t → InnerWent tells trace s t → WentIn trace s (portion part answer) t

@@ -20,6 +20,10 @@ use Rattle.chunked.specs.ChunkedWriter.{ChunkedWriterState, ChunkingWent, Chunks
 use Rattle.chunked.specs.Trailers.{IsTrailer}
 use Rattle.chunked.specs.TrailersLaws.{trailers_are_fields}
 
+-- as the writer is seen
+pub as_seen : {A B D : Type 0} (F : A → B → D → Type 0) (s d : A) (b : B) (t : D) → s ≡ d → F s b t → F d b t
+as_seen F s d b t same h = subst (λ x. F x b t) same h
+
 -- a slice that isn't empty has some byte
 pub some_of : (n : ℕ) → (n == 0) ≡ false → 0 < n
 some_of zero is = absurd (let odd = is in cc)
@@ -266,11 +270,6 @@ module _ {S : Type 0} (tells : S → StreamLog) (trace : S → S → Type 0) (no
         capacity = is.capacity;
       };
     }
-
-  -- the same of a writer that is known by another name
-  pub same_writer : (v s t : ChunkedWriterState S) (payload : List ℕ) (answer : Result ℕ Error) → v ≡ s
-      → WritesChunk tells trace v payload answer t → WritesChunk tells trace s payload answer t
-  same_writer v s t payload answer same h = subst (λ c. WritesChunk tells trace c payload answer t) same h
 
   -- the end of the body went in behind the chunks
   pub finishes : (v s : ChunkedWriterState S) → v ≡ s → (is : IsChunkedWriter v) → v.due ≡ 0 → (m t : Buffered S StdPolicy)

@@ -1,12 +1,12 @@
 -- Laws of places: traces of bytes join, and what is wrong completes no body.
 use Rattle.std.specs.Prelude.{◌≡◌, ℕ, List, [], ◌∷◌, ◌++◌}
-use Rattle.std.proofs.Common.{sym, ap, subst, ◌∙◌, arith, refl, append_assoc, append-nil, length-append}
+use Rattle.std.proofs.Common.{sym, ap, subst, ◌∙◌, arith, refl, append_assoc, length-append}
 use Rattle.chunked.specs.declared.error.Malformed.{Malformed}
 use Rattle.chunked.specs.declared.error.Malformed.TheVariants.{NoSize, BadSize, BadField, SizeTooLarge, LineTooLong, TrailersTooLong, BareReturn, BareFeed, ChunkTooLong}
 use Rattle.chunked.specs.declared.limits.Limits.{Limits}
 use Rattle.chunked.specs.declared.place.Place.{Place}
 use Rattle.chunked.specs.declared.place.Place.TheVariants.{Line, Size, Extension, SizeFeed, Data, DataFeed, Fields, FieldName, FieldValue, FieldFeed, LastFeed, Done}
-use Rattle.chunked.specs.Body.{HasChunks, IsBodyOfChunks, fields_bytes, line_end}
+use Rattle.chunked.specs.Body.{HasChunks, fields_bytes, line_end}
 use Rattle.chunked.specs.Place.{Completes, IsWrong, LeadsAlong, PassesAlong}
 
 module _ (limits : Limits) where
@@ -36,13 +36,6 @@ module _ (limits : Limits) where
     leads = LeadsAlong-joins p q r a b [] [] x.leads y.leads;
     few = omega (arith, x.few, y.few, length-append a b);
   }
-
-  -- what leads from the beginning of a body to its end is a body
-  pub LeadsAlong-whole : (bytes payload : List ℕ) → LeadsAlong limits Line bytes payload Done
-      → IsBodyOfChunks limits bytes payload
-  LeadsAlong-whole bytes payload leads =
-      subst (λ l. IsBodyOfChunks limits bytes l) (append-nil payload)
-      (subst (λ l. IsBodyOfChunks limits l (payload ++ [])) (append-nil bytes) (leads.onward [] [] (refl, refl)))
 
 -- behind a body nothing is wrong
 pub IsWrong-done : (limits : Limits) (b : ℕ) (why : Malformed) → IsWrong limits Done b why → ⊥

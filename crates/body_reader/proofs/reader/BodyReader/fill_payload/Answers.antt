@@ -1,11 +1,13 @@
 -- What is known stays so with nothing done; else the step's clause, read through the reader's view.
-use Rattle.std.proofs.Common.{◌≡◌, arith}
-use Rattle.body_reader.proofs.Payload.{fill_known, filled, filled_is, fills_seen, known_seen, not_filled, not_filled_is}
+use Rattle.std.proofs.Common.{◌≡◌, Ok, arith, subst}
+use Rattle.body_reader.specs.BodyReader.{FillsPayload}
+use Rattle.body_reader.proofs.Payload.{as_seen, fill_known, filled, filled_is, not_filled, not_filled_is}
 use Rattle.body_reader.proofs.reader.BodyReader.fill_payload.Goals as goal
 
 pub returns-then-self-gt0-clause-fills : goal.returns-then-self-gt0-clause-fills
 returns-then-self-gt0-clause-fills g c =
-    known_seen g.R.TellRead.remaining g.P.ReaderPolicy.rules g.C.Coding.grammar _ c.args.self.now _ c.self.view_is
+    subst (λ x. FillsPayload g.R.TellRead.remaining g.P.ReaderPolicy.rules (g.C.Coding.grammar x.coding) x (Ok c.self.inside.known) x)
+    c.self.view_is
     (fill_known g.R.TellRead.remaining g.P.ReaderPolicy.rules (g.C.Coding.grammar c.self.inside.coding) _ c.self.invariant
     c.if-self-gt0.true)
 
@@ -28,7 +30,7 @@ invariant_of-self-in-Err g c =
 pub returns-in-Ok-clause-fills : goal.returns-in-Ok-clause-fills
 returns-in-Ok-clause-fills g c =
     let none : c.self.inside.known ≡ 0 = omega (arith, c.if-self-gt0.false) in
-    fills_seen g.R.TellRead.remaining g.P.ReaderPolicy.rules g.C.Coding.grammar _ c.args.self.now _ _ c.self.view_is
+    as_seen (λ x. FillsPayload g.R.TellRead.remaining g.P.ReaderPolicy.rules (g.C.Coding.grammar x.coding) x) _ _ _ _ c.self.view_is
     (filled g.R.TellRead.remaining g.P.ReaderPolicy.rules (g.C.Coding.grammar c.self.inside.coding)
     (g.met.C.Coding.lawful c.self.inside.coding) c.self.inside.reader c.self.inside.coding c.self.inside.progress
     c.self.inside.calls.log c.self.inside.known c.self.invariant c.fill_on.new.reader c.fill_on.new.progress none c.in-Ok.known
@@ -41,7 +43,7 @@ returns-in-Ok-clause-count g c =
 pub returns-in-Err-clause-fills : goal.returns-in-Err-clause-fills
 returns-in-Err-clause-fills g c =
     let none : c.self.inside.known ≡ 0 = omega (arith, c.if-self-gt0.false) in
-    fills_seen g.R.TellRead.remaining g.P.ReaderPolicy.rules g.C.Coding.grammar _ c.args.self.now _ _ c.self.view_is
+    as_seen (λ x. FillsPayload g.R.TellRead.remaining g.P.ReaderPolicy.rules (g.C.Coding.grammar x.coding) x) _ _ _ _ c.self.view_is
     (not_filled g.R.TellRead.remaining g.P.ReaderPolicy.rules (g.C.Coding.grammar c.self.inside.coding)
     (g.met.C.Coding.lawful c.self.inside.coding) c.self.inside.reader c.self.inside.coding c.self.inside.progress
     c.self.inside.calls.log c.self.inside.known c.self.invariant c.fill_on.new.reader c.fill_on.new.progress none c.in-Err.e

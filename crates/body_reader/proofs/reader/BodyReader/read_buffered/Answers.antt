@@ -1,5 +1,7 @@
 -- Nobody was asked, so what was taken and what is left are together what was buffered.
-use Rattle.body_reader.proofs.Showing.{buffered_seen, shown_is, shown_reads}
+use Rattle.body_reader.specs.BodyReader.{HandsBuffered}
+use Rattle.body_reader.proofs.Payload.{as_seen}
+use Rattle.body_reader.proofs.Showing.{shown_is, shown_reads}
 use Rattle.body_reader.proofs.Said.{buffered_says}
 use Rattle.body_reader.proofs.reader.BodyReader.read_buffered.Goals as goal
 
@@ -15,8 +17,9 @@ invariant_of-self g c =
 pub returns : goal.returns
 returns g c =
     let i = c.self.inside in
-    buffered_says _ _ (buffered_seen g.R.TellRead.remaining g.P.ReaderPolicy.rules g.C.Coding.grammar _ c.args.self.now _ _ _
-    c.self.view_is
+    buffered_says _ _ (as_seen
+    (λ x n t. HandsBuffered g.R.TellRead.remaining g.P.ReaderPolicy.rules (g.C.Coding.grammar x.coding) x c.hand_buffered-count.new.out n t)
+    _ _ _ _ c.self.view_is
     (shown_reads g.R.TellRead.remaining g.P.ReaderPolicy.rules (g.C.Coding.grammar i.coding)
     (g.met.C.Coding.lawful i.coding) i.reader i.coding i.progress i.calls.log i.known c.self.invariant
     c.hand_buffered-count.new.out c.hand_buffered-count.result c.hand_buffered-count.new.reader

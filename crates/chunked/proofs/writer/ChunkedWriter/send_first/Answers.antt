@@ -1,8 +1,8 @@
 -- All is sent since there is no space, and then a chunk that fits the capacity has room.
 use Rattle.std.proofs.Common.{◌≡◌, ◌+◌, ◌<◌, ◌≤◌, length, Ok, ap, ◌∙◌, arith}
 use Rattle.buffer_redux.specs.WriteParts.{room}
-use Rattle.chunked.specs.ChunkedWriter.{around}
-use Rattle.chunked.proofs.Writing.{same_writer, sent_first, whole, wrote}
+use Rattle.chunked.specs.ChunkedWriter.{WritesChunk, around}
+use Rattle.chunked.proofs.Writing.{as_seen, sent_first, whole, wrote}
 use Rattle.chunked.proofs.writer.ChunkedWriter.send_first.Goals as goal
 
 pub invariant_of-self : goal.invariant_of-self
@@ -33,8 +33,7 @@ returns-in-Ok-clause-writes g c =
     let m = c.send.new.self in
     let spaced = sent_first g.W.Tell.log g.W.TellWrite.trace g.met.W.TellWrite.trace_none g.met.W.TellWrite.trace_joins
     v.writer m (around + length payload) (Ok tt) full c.in-Ok.ensures.sent in
-    same_writer g.W.Tell.log g.W.TellWrite.trace g.met.W.TellWrite.trace_none g.met.W.TellWrite.trace_joins _ _ _ _ _
-    c.self.view_is
+    as_seen (λ x. WritesChunk g.W.Tell.log g.W.TellWrite.trace x c.args.payload.now) _ _ _ _ c.self.view_is
     (wrote g.W.Tell.log g.W.TellWrite.trace g.met.W.TellWrite.trace_none g.met.W.TellWrite.trace_joins _ c.self.invariant
     between payload c.requires.some small m c.put_chunk.new.writer spaced c.put_chunk.ensures.put _ c.put_chunk.ensures.wire _
     c.note.ensures)

@@ -1,15 +1,14 @@
 -- A chunk that the capacity has no room for is begun, and its payload goes on in it, unless the line didn't go in.
 use Rattle.std.proofs.Common.{◌≡◌, ◌+◌, ◌<◌, length, Ok, Err, ap, subst, arith}
-use Rattle.chunked.specs.ChunkedWriter.{CopiesSizeLine, around}
-use Rattle.chunked.proofs.Going.{not_begun, same_whole, wrote_begun}
+use Rattle.chunked.specs.ChunkedWriter.{CopiesSizeLine, IsChunkedWriter, around}
+use Rattle.chunked.proofs.Going.{not_begun, wrote_begun}
 use Rattle.chunked.proofs.writer.ChunkedWriter.write_cold.Goals as goal
 
 pub returns-in-Ok-clause-writes : goal.returns-in-Ok-clause-writes
 returns-in-Ok-clause-writes g c =
     let s = c.args.self.now in
     let payload = c.args.payload.now in
-    let is = same_whole g.W.Tell.log g.W.TellWrite.trace g.met.W.TellWrite.trace_none g.met.W.TellWrite.trace_joins _ s
-    c.self.view_is c.self.invariant in
+    let is = subst IsChunkedWriter c.self.view_is c.self.invariant in
     let between : s.due ≡ 0 = omega (arith, c.if-self-gt0.false, ap (λ x. x.due) c.self.view_is) in
     let large : s.writer.block.capacity < around + length payload = omega (
       arith,
@@ -27,8 +26,7 @@ pub returns-in-Err-clause-writes : goal.returns-in-Err-clause-writes
 returns-in-Err-clause-writes g c =
     let s = c.args.self.now in
     let payload = c.args.payload.now in
-    let is = same_whole g.W.Tell.log g.W.TellWrite.trace g.met.W.TellWrite.trace_none g.met.W.TellWrite.trace_joins _ s
-    c.self.view_is c.self.invariant in
+    let is = subst IsChunkedWriter c.self.view_is c.self.invariant in
     let between : s.due ≡ 0 = omega (arith, c.if-self-gt0.false, ap (λ x. x.due) c.self.view_is) in
     let large : s.writer.block.capacity < around + length payload = omega (
       arith,

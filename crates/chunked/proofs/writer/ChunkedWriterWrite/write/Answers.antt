@@ -1,14 +1,13 @@
 -- An empty payload makes no chunk, and one with room behind what is buffered goes in whole, with nothing sent.
 use Rattle.std.proofs.Common.{◌≡◌, ◌+◌, ◌<◌, ◌≤◌, length, sym, ◌∙◌, arith}
 use Rattle.buffer_redux.specs.WriteParts.{room}
-use Rattle.chunked.specs.ChunkedWriter.{around}
-use Rattle.chunked.proofs.Writing.{had_space, none_of, same_writer, some_of, whole, wrote, wrote_nothing}
+use Rattle.chunked.specs.ChunkedWriter.{WritesChunk, around}
+use Rattle.chunked.proofs.Writing.{as_seen, had_space, none_of, some_of, whole, wrote, wrote_nothing}
 use Rattle.chunked.proofs.writer.ChunkedWriterWrite.write.Goals as goal
 
 pub returns-then-is_empty-clause-writes : goal.returns-then-is_empty-clause-writes
 returns-then-is_empty-clause-writes g c =
-    same_writer g.W.Tell.log g.W.TellWrite.trace g.met.W.TellWrite.trace_none g.met.W.TellWrite.trace_joins _ _ _ _ _
-    c.self.view_is
+    as_seen (λ x. WritesChunk g.W.Tell.log g.W.TellWrite.trace x c.args.payload.now) _ _ _ _ c.self.view_is
     (wrote_nothing g.W.Tell.log g.W.TellWrite.trace g.met.W.TellWrite.trace_none g.met.W.TellWrite.trace_joins _
     c.self.invariant c.args.payload.now (none_of _ (sym c.is_empty.ensures ∙ c.if-is_empty.true)) _ c.note.ensures)
 
@@ -38,8 +37,7 @@ returns-clause-writes g c =
     let small : around + length payload ≤ v.writer.block.capacity = omega (arith, there) in
     let spaced = had_space g.W.Tell.log g.W.TellWrite.trace g.met.W.TellWrite.trace_none g.met.W.TellWrite.trace_joins
     v.writer (around + length payload) there in
-    same_writer g.W.Tell.log g.W.TellWrite.trace g.met.W.TellWrite.trace_none g.met.W.TellWrite.trace_joins _ _ _ _ _
-    c.self.view_is
+    as_seen (λ x. WritesChunk g.W.Tell.log g.W.TellWrite.trace x c.args.payload.now) _ _ _ _ c.self.view_is
     (wrote g.W.Tell.log g.W.TellWrite.trace g.met.W.TellWrite.trace_none g.met.W.TellWrite.trace_joins _ c.self.invariant
     between payload some small v.writer c.put_chunk.new.writer spaced c.put_chunk.ensures.put _ c.put_chunk.ensures.wire _
     c.note-2.ensures)
