@@ -1,7 +1,7 @@
 -- As many bytes as a look needs fit the buffer, so fewer are shown only where the stream gave none.
 use Rattle.std.proofs.Common.{arith}
 use Rattle.std.proofs.lemmas.Result.{err_from_is_err_and}
-use Rattle.body_reader.proofs.Skipping.{lacks_here, shows_here, skipped_less, skipped_more, skipped_none, skips_cut, skips_done, skips_fails, skips_payload, skips_wrong}
+use Rattle.body_reader.proofs.Skipping.{shows_here, skipped_more, skipped_none, skips_cut, skips_done, skips_fails, skips_payload, skips_wrong}
 use Rattle.body_reader.proofs.steps.skip.Goals as goal
 
 pub loop-sure-init : goal.loop-sure-init
@@ -35,12 +35,3 @@ loop-sure-preserved g c =
     let count = shows_here _ _ _ _ _ _ _ c.loop-sure.invariant _ _ _ c.pass.ensures c.in-More.need c.in-More.is _ _ found.1 in
     skipped_more _ _ _ _ _ _ _ c.loop-sure.invariant _ _ _ c.pass.ensures _ c.in-More.is _ _ found.0
     (omega (arith, c.if-shown-need.false, count))
-
-pub loop-sure-smaller : goal.loop-sure-smaller
-loop-sure-smaller g c =
-    let found = rw c.in_ok-shown-in-More.was at c.peek.follows.holds-at-none in
-    let n = c.in-More.need in
-    let count = shows_here _ _ _ _ _ _ _ c.loop-sure.invariant _ _ _ c.pass.ensures n c.in-More.is _ _ found.1 in
-    let short = lacks_here _ _ _ _ _ _ _ c.loop-sure.invariant _ _ _ c.pass.ensures n c.in-More.is in
-    skipped_less _ _ _ _ _ _ _ c.loop-sure.invariant _ _ _ c.pass.ensures n c.peek.follows.lender-at-none
-    (omega (arith, c.if-shown-need.false, count)) short.0 short.1
