@@ -1,5 +1,5 @@
 -- Answers, one after another.
-use Rattle.std.proofs.Common.{◌≡◌, ◌⊎◌, ℕ, ◌+◌, Bool, true, false, List, [], ◌∷◌, ◌++◌, length, Option, None, Some, Result, Ok, Err, IfErr, sym, ap, subst, inl, inr, ◌∙◌, refl, arith, append_assoc, append-nil, length-append}
+use Rattle.std.proofs.Common.{IfSome, ◌≡◌, ◌⊎◌, ℕ, ◌+◌, Bool, true, false, List, [], ◌∷◌, ◌++◌, length, Option, None, Some, Result, Ok, Err, IfErr, sym, ap, subst, inl, inr, ◌∙◌, refl, arith, append_assoc, append-nil, length-append}
 use Rattle.std.proofs.lemmas.List.Elements.{All-append, All-nil}
 use Rattle.std.specs.declared.io.Error.{Error}
 use Rattle.redux_buffer.specs.Faults.{OnlyInterrupts}
@@ -27,7 +27,7 @@ use Rattle.requests.specs.declared.taking.Untaken.{Untaken}
 use Rattle.requests.specs.declared.writing.Refusal.{Refusal}
 use Rattle.requests.specs.declared.writing.Refusal.TheVariants.{BadRequest, LargeBody}
 use Rattle.requests.specs.declared.taking.Untaken.TheVariants.{Body, Large, Unsent, Many}
-use Rattle.requests.specs.Answers.{AnswersMessages, EndsUntaken, RunEndsBy, Continues, FailsLast, IsSentLast, IsLastAnswer, IsAnswer, IsMany, IsPartTaken, IsTaken, IsToBeRefused, MayFollow, RunsToLast, TakeFails, TakesWhole, answered, call_at, called, ending_of, faults_of, is_known, refusal, sending_of, sent_till, stream_at, waits}
+use Rattle.requests.specs.Answers.{AnswersMessages, EndsUntaken, RunEndsBy, Continues, FailsLast, IsSentLast, IsLastAnswer, IsAnswer, IsMany, IsPartTaken, IsTaken, IsToBeRefused, MayFollow, RunsToLast, TakeFails, TakesWhole, answered, call_at, called, ending_of, faults_of, is_known, refusal, refused, sending_of, sent_till, stream_at, waits}
 use Rattle.requests.specs.Large.{is_large}
 use Rattle.requests.specs.Sending.{PutsText, WritesPromptly}
 use Rattle.requests.proofs.Reading.{Closes-after, IsMany-still, NoMoreAnswered-still, IsToBeRefused-still, each_wrong, FailsInRead-still, begun_once, begun_steady, is_part, joined}
@@ -77,63 +77,44 @@ module _ {W : Type 0} {tells : W → StreamLog} {trace : W → W → Type 0} whe
           none_answered (StreamWent-joins remaining (left_of s) b.stream t.stream b.head goes.takes.wire
           (Begun-went remaining s b begun) goes.takes.went) writes fails
 
-    module _ {messages : List Message} {s : Unbuffered R} {w w' : Buffered W StdPolicy} {taken : List ℕ}
-        (handed : List ℕ) (place : Place R) (part : IsPartTaken place taken handed)
-        (once : EndsOnce s.log.reads (stream_at place).log.reads) where
-      -- nothing is refused, and this is why no more is read
-      pub RunsToLast-stopped : (ending : Ending)
-          → AnswersMessages remaining tells trace messages s w taken (call_at place ++ []) (IsSentLast messages taken None place)
-          (stream_at place) (sending_of ending) w'
-          → RunEndsBy remaining tells trace s messages taken handed None place w' ending
+    module _ {s : Unbuffered R} {w w' : Buffered W StdPolicy} {taken : List ℕ} (handed : List ℕ) (place : Place R)
+        (part : IsPartTaken place taken handed) (once : EndsOnce s.log.reads (stream_at place).log.reads) where
+      RunsToLast-by : {messages : List Message} (refuses : Option Refusal) → IfSome refuses (IsToBeRefused s place handed)
+          → (ending : Ending)
+          → AnswersMessages remaining tells trace messages s w taken (call_at place ++ refused refuses)
+          (IsSentLast messages taken refuses place) (stream_at place) (sending_of ending) w'
+          → RunEndsBy remaining tells trace s messages taken handed refuses place w' ending
           → RunsToLast remaining tells trace s w place ending w'
-      RunsToLast-stopped ending answers ends = record {
+      RunsToLast-by {messages} refuses wrong ending answers ends = record {
         messages = messages;
         taken = taken;
         handed = handed;
         part = part;
-        refuses = None;
+        refuses = refuses;
         answers = answers;
         once = once;
-        wrong = tt;
+        wrong = wrong;
         ends = ends;
       }
 
-    -- what comes is refused, before a message went
-    pub RunsToLast-refused : {s : Unbuffered R} {w w' : Buffered W StdPolicy} {taken : List ℕ} (handed : List ℕ) (place : Place R)
-        → IsPartTaken place taken handed → EndsOnce s.log.reads (stream_at place).log.reads → (why : Refusal)
-        (sending : Result (Unit {0}) Error)
-        → AnswersMessages remaining tells trace [] s w taken (call_at place ++ refusal why) (IsSentLast [] taken (Some why) place)
-        (stream_at place) sending w'
-        → IsToBeRefused s place handed why → OnlyInterrupts (faults_of s) (faults_of (stream_at place))
-        → RunsToLast remaining tells trace s w place (ending_of sending) w'
-    RunsToLast-refused {s} {w} {w'} {taken} handed place part once why sending answers wrong met = ended sending answers
-      where
-        ended : (sending : Result (Unit {0}) Error)
-            → AnswersMessages remaining tells trace [] s w taken (call_at place ++ refusal why)
-            (IsSentLast [] taken (Some why) place) (stream_at place) sending w'
-            → RunsToLast remaining tells trace s w place (ending_of sending) w'
-        ended (Ok x) answers = record {
-          messages = [];
-          taken = taken;
-          handed = handed;
-          part = part;
-          refuses = Some why;
-          answers = answers;
-          once = once;
-          wrong = wrong;
-          ends = (met, inr (All-nil (MayFollow true), inl refl));
-        }
-        ended (Err e) answers = record {
-          messages = [];
-          taken = taken;
-          handed = handed;
-          part = part;
-          refuses = Some why;
-          answers = answers;
-          once = once;
-          wrong = wrong;
-          ends = (met, inl (All-nil (MayFollow true)));
-        }
+      -- nothing is refused, and this is why no more is read
+      pub RunsToLast-stopped : {messages : List Message} (ending : Ending)
+          → AnswersMessages remaining tells trace messages s w taken (call_at place ++ []) (IsSentLast messages taken None place)
+          (stream_at place) (sending_of ending) w'
+          → RunEndsBy remaining tells trace s messages taken handed None place w' ending
+          → RunsToLast remaining tells trace s w place ending w'
+      RunsToLast-stopped ending answers ends = RunsToLast-by None tt ending answers ends
+
+      -- what comes is refused, before a message went
+      pub RunsToLast-refused : (why : Refusal) (sending : Result (Unit {0}) Error)
+          → AnswersMessages remaining tells trace [] s w taken (call_at place ++ refusal why)
+          (IsSentLast [] taken (Some why) place) (stream_at place) sending w'
+          → IsToBeRefused s place handed why → OnlyInterrupts (faults_of s) (faults_of (stream_at place))
+          → RunsToLast remaining tells trace s w place (ending_of sending) w'
+      RunsToLast-refused why (Ok x) answers wrong met =
+          RunsToLast-by (Some why) wrong Over answers (met, inr (All-nil (MayFollow true), inl refl))
+      RunsToLast-refused why (Err e) answers wrong met =
+          RunsToLast-by (Some why) wrong (stop.Unsent e) answers (met, inl (All-nil (MayFollow true)))
 
     module _ (joins : (u v x : W) → trace u v → trace v x → trace u x) where
       -- one did in part, and this is why
