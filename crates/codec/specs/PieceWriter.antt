@@ -31,7 +31,6 @@ pub record IsUnused {S E : Type 0} (tells : S → StreamLog) (least most : ℕ) 
   pub log : f.writer.log ≡ tells stream
   pub encoder : f.encoder ≡ maker
   pub capacity : f.writer.block.capacity ≡ room_for least most
-  pub limit : f.writer.block.limit ≡ room_for least most
 
 -- made over this buffer and stream: just what the buffer has is not sent yet, and no byte was moved. A plain buffer in which
 -- three pieces fit is the writer's

@@ -8,7 +8,7 @@ use Rattle.std.specs.declared.io.ErrorKind.TheVariants.{Other}
 use Rattle.piece_reader.specs.DelimitedLaws.{isnt_end}
 use Rattle.piece_reader.specs.NextPiece.{AskedWhere, AsksGive, NoEnd, NoFault, PiecesWent, Refills}
 use Rattle.piece_reader.specs.NextPieceLaws.{AskedWhere-told, MetEnd-joins, still_going}
-use Rattle.piece_reader.specs.PiecesWentLaws.{PiecesWent-inside, PiecesWent-joins, PiecesWent-none}
+use Rattle.piece_reader.specs.PiecesWentLaws.{PiecesWent-inside, PiecesWent-joins, PiecesWent-none, Skips-left}
 use Rattle.piece_reader.specs.PieceReader.{ReaderState, rest}
 use Rattle.line_reader.specs.declared.line.Lines.{Lines}
 use Rattle.line_reader.specs.CallsLaws.{lines_join}
@@ -74,7 +74,8 @@ module _ {S : Type 0} (remaining : S → Option (List ℕ)) (s m : ReaderState S
         let front = take at.0 (rest m) in
         let inside : at.0 < length (rest m) = omega (arith, drops.inside, at.1) in
         let size = length-take-le at.0 (rest m) (omega (arith, inside)) in
-        let left : rest t ≡ drop (1 + at.0) (rest m) = drops.skips.left ∙ ap (λ n. drop n (rest m)) at.1 in
+        let left : rest t ≡ drop (1 + at.0) (rest m) =
+        Skips-left (lined m.decoder.max) m count t drops.skips ∙ ap (λ n. drop n (rest m)) at.1 in
         let split : with_newline front ++ rest t ≡ rest m =
         append_assoc front (newline ∷ []) (rest t) ∙ ap (λ l. front ++ newline ∷ l) left ∙ at.2.equal in
         record {
@@ -107,7 +108,7 @@ module _ {S : Type 0} (remaining : S → Option (List ℕ)) (s m : ReaderState S
     -- no end was there: all that was left is gone
     module _ (is : found ≡ false) where
       pub none_left : rest t ≡ []
-      none_left = drops.skips.left
+      none_left = Skips-left (lined m.decoder.max) m count t drops.skips
           ∙ nil_from_length (drop count (rest m)) (omega (arith, length-drop count (rest m), (drops.none is).0))
 
       pub skip_all : SkipHead remaining s t (dropped + count)

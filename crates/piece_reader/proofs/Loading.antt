@@ -10,14 +10,14 @@ use Rattle.piece_reader.specs.declared.error.NextError.{NextError}
 use Rattle.piece_reader.specs.declared.error.NextError.TheVariants.{Wrong, Io}
 use Rattle.piece_reader.specs.Decoding.{bytes_at}
 use Rattle.piece_reader.specs.Grammar.{Grammar, IsLawful, IsOpen, IsOpenBelow}
-use Rattle.piece_reader.specs.NextPiece.{load_answer, AsksGive, AskedWhere, NextAnswer, NextPiece, MetEnd, NoEnd, PiecesWent, StaysLooked}
-use Rattle.piece_reader.specs.NextPieceLaws.{AskedWhere-told, MetEnd-joins, MetEnd-once, seen_inside, still_going}
+use Rattle.piece_reader.specs.NextPiece.{load_answer, AsksGive, AskedWhere, NextAnswer, NextPiece, MetEnd, NoEnd, OffersMore, PiecesWent, StaysLooked}
+use Rattle.piece_reader.specs.NextPieceLaws.{AskedWhere-told, MetEnd-joins, MetEnd-once, OffersMore-told, seen_inside, still_going}
 use Rattle.piece_reader.specs.PiecesWentLaws.{PiecesWent-joins, PiecesWent-inside}
 use Rattle.piece_reader.specs.PieceReader.{ReaderState, IsPieceReader, rest}
 use Rattle.piece_reader.specs.StaysLeftLaws.{NextPiece-looked}
 use Rattle.piece_reader.specs.Steps.{AsksFor, Takes, TakesEnd}
 use Rattle.piece_reader.proofs.Reading.{rest_whole}
-use Rattle.piece_reader.proofs.Headers.{HeaderBytes, HeaderBytes-none, HeaderBytes-told, HeaderBytes-more, asked_on, still_open, went_on}
+use Rattle.piece_reader.proofs.Headers.{HeaderBytes, HeaderBytes-none, HeaderBytes-told, HeaderBytes-more, asked_on, offered_on, still_open, went_on}
 
 -- where an end was met nothing was asked that gave none
 gave_end : {S D : Type 0} {Such : List ℕ → Type 0} (s t : ReaderState S D) → AskedWhere Such s t → MetEnd s t → NoEnd s t
@@ -78,6 +78,7 @@ module _ {S D W : Type 0} (remaining : S → Option (List ℕ)) (g : Grammar W) 
           went = PiecesWent-joins remaining g.most s m w [] bytes h.went inside;
           answers = (h.faults, inl (takes.0.is, open_m, h.no_end));
           asked = AskedWhere-told (IsOpen g) s m w refl h.asked;
+          offered = OffersMore-told s m w refl h.offered;
           gave = λ _ _. h.asks;
           told = λ ended. (let odd : true ≡ false = sym ended ∙ sym h.ended ∙ open_m in cc);
           looked = tt;
@@ -109,6 +110,7 @@ module _ {S D W : Type 0} (remaining : S → Option (List ℕ)) (g : Grammar W) 
         went = h.went;
         answers = (refl, h.faults, open_m, inl (wrong, h.no_end));
         asked = h.asked;
+        offered = h.offered;
         gave = λ _ _. h.asks;
         told = λ ended. (let odd : true ≡ false = sym ended ∙ sym h.ended ∙ open_m in cc);
         looked = record {
@@ -171,6 +173,7 @@ module _ {S D W : Type 0} (remaining : S → Option (List ℕ)) (g : Grammar W) 
             f.2 ∙ h.header.no_end,
           );
           asked = asked_on remaining g s m h.header need h.lacks (Err e) t a;
+          offered = offered_on remaining g s m h.header need h.lacks (Err e) t a;
           gave = λ _ none. absurd (omega (
             arith,
             ap length none,
@@ -199,6 +202,9 @@ module _ {S D W : Type 0} (remaining : S → Option (List ℕ)) (g : Grammar W) 
       asked : AskedWhere (IsOpen g) s t
       asked = asked_on remaining g s m h.header need h.lacks (Ok false) t a
 
+      offered : OffersMore s t
+      offered = offered_on remaining g s m h.header need h.lacks (Ok false) t a
+
       still_ended : 0 < length (rest t) → s.ended ≡ true → t.ended ≡ true
       still_ended left ended = a.ended ∙ h.header.ended ∙ ended
 
@@ -213,6 +219,7 @@ module _ {S D W : Type 0} (remaining : S → Option (List ℕ)) (g : Grammar W) 
             went = PiecesWent-joins remaining g.most s t w [] [] went inside;
             answers = (refl, none, (a.end refl).2 ∙ h.header.faults, refl, ends);
             asked = AskedWhere-told (IsOpen g) s t w refl asked;
+            offered = OffersMore-told s t w refl offered;
             gave = λ none _. gave_end s t asked ends none;
             told = λ _. refl;
             looked = tt;
@@ -235,6 +242,7 @@ module _ {S D W : Type 0} (remaining : S → Option (List ℕ)) (g : Grammar W) 
             went = PiecesWent-joins remaining g.most s t w [] (rest t) went inside;
             answers = ((a.end refl).2 ∙ h.header.faults, inr (last, end_open, some, none, refl, ends));
             asked = AskedWhere-told (IsOpen g) s t w refl asked;
+            offered = OffersMore-told s t w refl offered;
             gave = λ none _. gave_end s t asked ends none;
             told = λ ended. absurd (omega (arith, some, ap length (a.whole.ended (still_ended some ended))));
             looked = tt;
@@ -250,6 +258,7 @@ module _ {S D W : Type 0} (remaining : S → Option (List ℕ)) (g : Grammar W) 
           inr (cut, end_open, some, ends),
         );
         asked = asked;
+        offered = offered;
         gave = λ none _. gave_end s t asked ends none;
         told = λ ended. absurd (omega (arith, some, ap length (a.whole.ended (still_ended some ended))));
         looked = still_looked (Ok false) t a (a.end refl).0;

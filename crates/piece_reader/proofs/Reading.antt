@@ -1,16 +1,18 @@
 -- What one fill does to a reader of pieces.
-use Rattle.std.proofs.Common.{◌≡◌, ℕ, zero, suc, ◌+◌, ◌<◌, ◌≤◌, List, [], ◌∷◌, ◌++◌, length, drop, take, Bool, true, false, Option, Result, Ok, Err, refl, sym, ap, subst, ◌∙◌, arith, inl, inr, append-nil, append_assoc, length-append, length-take-le, ◌⊎◌}
+use Rattle.std.proofs.Common.{◌≡◌, ℕ, zero, suc, ◌+◌, ◌*◌, ◌<◌, ◌≤◌, List, [], ◌∷◌, ◌++◌, length, drop, take, Bool, true, false, Option, Result, Ok, Err, refl, sym, ap, subst, ◌∙◌, arith, inl, inr, append-nil, append_assoc, length-append, length-take-le, ◌⊎◌}
+use Rattle.std.proofs.lemmas.Bool.{cases_lt}
 use Rattle.std.proofs.lemmas.List.{take-append-le}
 use Rattle.std.specs.Borrow.{Bor}
 use Rattle.std.specs.declared.io.Error.{Error}
+use Rattle.buffer_redux.specs.Block.{Block, IsBlock, OnKind, Plain, usable}
 use Rattle.buffer_redux.specs.BufReader.{FillBuf, Fills, PolicyGave}
 use Rattle.buffer_redux.specs.Buffered.{Buffered, with_policy}
 use Rattle.buffer_redux.specs.Fill.{Filled, Turns}
-use Rattle.buffer_redux.specs.MinBuffered.{min_read_rules}
+use Rattle.buffer_redux.specs.MinBuffered.{ReadiesFor, min_read_rules}
 use Rattle.buffer_redux.specs.MinBufferedLaws.{number_of, none_before_fault, none_where_enough, once_at_end, enough_never_dry}
 use Rattle.buffer_redux.specs.declared.policy.MinBuffered.{MinBuffered}
 use Rattle.piece_reader.specs.Grammar.{Grammar, IsOpen}
-use Rattle.piece_reader.specs.NextPiece.{AskedWhere, PiecesWent, Faulted}
+use Rattle.piece_reader.specs.NextPiece.{AskedWhere, Faulted, OffersMore, OffersOver, PiecesWent}
 use Rattle.piece_reader.specs.NextPieceLaws.{MetEnd-now}
 use Rattle.piece_reader.specs.PieceReader.{ReaderState, IsPieceReader, rest}
 use Rattle.piece_reader.specs.Steps.{AsksFor}
@@ -27,6 +29,7 @@ pub record TurnsGave {S : Type 0} (k : ℕ) (s m : Buffered S MinBuffered) : Typ
   pub asks : m.log.reads.asks ≡ s.log.reads.asks + k
   pub many : k ≤ length got
   pub policy : m.policy ≡ s.policy
+  pub capacity : s.block.capacity ≤ m.block.capacity
 
 pub turns_gave : {S : Type 0} (k : ℕ) (s m : Buffered S MinBuffered) → Turns min_read_rules k s m → TurnsGave k s m
 turns_gave zero s m same = record {
@@ -36,6 +39,7 @@ turns_gave zero s m same = record {
   asks = omega (arith, ap (λ x. x.log.reads.asks) same);
   many = omega arith;
   policy = ap (λ x. x.policy) (sym same);
+  capacity = omega (arith, ap (λ x. x.block.capacity) same);
 }
 turns_gave (suc k) s t (m, run, count, some, turn) =
     let before = turns_gave k s m run in
@@ -50,60 +54,88 @@ turns_gave (suc k) s t (m, run, count, some, turn) =
       asks = omega (arith, ap (λ l. l.reads.asks) turn.read.told, before.asks);
       many = omega (arith, before.many, size, some, length-append before.got more);
       policy = turn.asked.allowed.0 ∙ before.policy;
+      capacity = omega (arith, before.capacity, turn.asked.law.capacity, turn.read.added.capacity);
     }
 
--- the log of a fill: nothing was asked; or the stream was asked, the last time where fewer bytes than the policy's number
--- were there, and each ask but the last gave a byte
+-- room for n bytes behind fewer than n, in a buffer of twice as many
+room_readied : (n : ℕ) (b b' : Block) → ReadiesFor n b b' → length b.bytes < n → 2 * n ≤ b.capacity → n ≤ usable b'
+room_readied n b b' readies few twice = elim (cases_lt (usable b) n) [
+  | inl less ↦ omega (arith, (readies.behind less (omega (arith, few, twice))).usable, few, twice)
+  | inr many ↦ omega (arith, many, ap (λ x. usable x) (readies.enough many))
+]
+
+-- the log of a fill that asked: the last time where fewer bytes than the policy's number were there, and for so many; and each
+-- ask but the last gave a byte
 pub record AsksFew {S : Type 0} (s t : Buffered S MinBuffered) : Type 0 where
   pub came : List ℕ
-  pub last : List ℕ
-  pub given : t.log.reads.given ≡ s.log.reads.given ++ (came ++ last)
-  pub latest : t.log.reads.latest ≡ last
+  pub given : t.log.reads.given ≡ s.log.reads.given ++ (came ++ t.log.reads.latest)
   pub few : length (s.block.bytes ++ came) < s.policy.0
-  pub some : s.log.reads.asks < t.log.reads.asks
+  pub offer : s.policy.0 ≤ t.log.reads.offer
+  pub whole : s.block.bytes ++ came ≡ [] → t.log.reads.offer ≡ s.block.capacity
   pub asks : t.log.reads.asks ≤ s.log.reads.asks + length came + 1
 
 module _ {S : Type 0} (s : Buffered S MinBuffered) where
-  -- one ask more, after these turns
-  asked_after : (k : ℕ) (m t : Buffered S MinBuffered) → Turns min_read_rules k s m → length m.block.bytes < m.policy.0
-      → (last : List ℕ) → t.log.reads.given ≡ m.log.reads.given ++ last → t.log.reads.latest ≡ last
-      → t.log.reads.asks ≡ m.log.reads.asks + 1 → AsksFew s t
-  asked_after k m t run few last given latest asks =
-      let before = turns_gave k s m run in record {
+  -- how a fill asked that did
+  pub asked_few : {A : Type 0} (answer : Result A Error) (t : Buffered S MinBuffered) → Fills min_read_rules s answer t
+      → s.log.reads.asks < t.log.reads.asks → 2 * s.policy.0 ≤ s.block.capacity → IsBlock s.block → s.block.kind ≡ Plain
+      → AsksFew s t
+  asked_few answer t fills some twice block plain =
+      let last = fills.last some in
+      let before = turns_gave last.count s last.before last.turns in
+      let told = last.told ∙ last.ordered.read.told in
+      let wants = last.ordered.asked.allowed.1 in
+      let number : last.before.policy.0 ≡ s.policy.0 = ap (λ p. p.0) before.policy in
+      let there : last.before.log.reads.given ++ t.log.reads.latest
+      ≡ s.log.reads.given ++ (before.got ++ t.log.reads.latest) =
+      ap (λ l. l ++ t.log.reads.latest) before.given
+      ∙ append_assoc s.log.reads.given before.got t.log.reads.latest in
+      record {
         came = before.got;
-        last = last;
-        given = given ∙ ap (λ l. l ++ last) before.given ∙ append_assoc s.log.reads.given before.got last;
-        latest = latest;
-        few = omega (arith, few, ap length before.bytes, ap (λ p. p.0) before.policy);
-        some = omega (arith, asks, before.asks);
-        asks = omega (arith, asks, before.asks, before.many);
+        given = ap (λ l. l.reads.given) told
+            ∙ ap (λ l. last.before.log.reads.given ++ l) (sym (ap (λ l. l.reads.latest) told)) ∙ there;
+        few = omega (arith, wants.0, ap length before.bytes, number);
+        offer = omega (
+          arith,
+          number,
+          last.offer,
+          room_readied last.before.policy.0 last.before.block last.ordered.seen wants.1 wants.0
+              (omega (arith, number, twice, before.capacity)),
+        );
+        whole = λ none.
+            let empty : length s.block.bytes ≡ 0 =
+            omega (arith, ap length none, length-append s.block.bytes before.got) in
+            let first : last.count ≡ 0 = omega (arith, last.saw, ap length before.bytes, ap length none) in
+            let same : s ≡ last.before = subst (λ k. Turns min_read_rules k s last.before) first last.turns in
+            let all : usable s.block ≡ s.block.capacity =
+            subst (λ k. OnKind k (length s.block.bytes ≡ 0 → usable s.block ≡ s.block.capacity)
+            (length s.block.bytes + usable s.block ≡ s.block.capacity)) plain block.space empty in
+            let here : usable last.before.block ≡ s.block.capacity = ap (λ x. usable x.block) (sym same) ∙ all in
+            let kept = wants.1.enough (omega (arith, here, number, twice)) in
+            last.offer ∙ ap (λ b. usable b) kept ∙ here;
+        asks = omega (arith, last.asks, before.many);
       }
 
-  -- nothing since
+  -- nothing was asked, or something
   asked_turns : (k : ℕ) (m t : Buffered S MinBuffered) → Turns min_read_rules k s m → t.log ≡ m.log
-      → (t.log ≡ s.log) ⊎ AsksFew s t
+      → (t.log ≡ s.log) ⊎ (s.log.reads.asks < t.log.reads.asks)
   asked_turns zero m t same told = inl (told ∙ ap (λ x. x.log) (sym same))
-  asked_turns (suc k) m t (v, run, count, some, turn) told =
-      inr (asked_after k v t run turn.asked.allowed.1.0 (take count turn.read.out)
-      (ap (λ l. l.reads.given) told ∙ ap (λ l. l.reads.given) turn.read.told)
-      (ap (λ l. l.reads.latest) told ∙ ap (λ l. l.reads.latest) turn.read.told)
-      (ap (λ l. l.reads.asks) told ∙ ap (λ l. l.reads.asks) turn.read.told))
+  asked_turns (suc k) m t run told =
+      inr (omega (arith, ap (λ l. l.reads.asks) told, (turns_gave (suc k) s m run).asks))
 
-  -- how a whole fill asked
-  pub fill_asked : {A : Type 0} (answer : Result A Error) (t : Buffered S MinBuffered)
-      → Filled min_read_rules s answer t → (t.log ≡ s.log) ⊎ AsksFew s t
+  asked_after : (k : ℕ) (m t : Buffered S MinBuffered) → Turns min_read_rules k s m
+      → t.log.reads.asks ≡ m.log.reads.asks + 1 → s.log.reads.asks < t.log.reads.asks
+  asked_after k m t run asks = omega (arith, asks, (turns_gave k s m run).asks)
+
+  fill_asked : {A : Type 0} (answer : Result A Error) (t : Buffered S MinBuffered)
+      → Filled min_read_rules s answer t → (t.log ≡ s.log) ⊎ (s.log.reads.asks < t.log.reads.asks)
   fill_asked (Ok a) t f = elim f.ends [
     | inl declined ↦ asked_turns f.count f.last t f.turns declined.told
     | inr (inl full) ↦ asked_turns f.count f.last t f.turns full.1.told
-    | inr (inr dry) ↦ inr (asked_after f.count f.last t f.turns dry.asked.allowed.1.0 (take 0 dry.read.out)
-        (ap (λ l. l.reads.given) dry.read.told) (ap (λ l. l.reads.latest) dry.read.told) (ap (λ l. l.reads.asks) dry.read.told))
+    | inr (inr dry) ↦ inr (asked_after f.count f.last t f.turns (ap (λ l. l.reads.asks) dry.read.told))
   ]
   fill_asked (Err e) t f = elim f.ends [
     | inl refused ↦ asked_turns f.count f.last t f.turns refused.told
-    | inr fault ↦
-        let told = fault.read.told in
-        inr (asked_after f.count f.last t f.turns fault.asked.allowed.1.0 [] (ap (λ l. l.reads.given) told)
-        (ap (λ l. l.reads.latest) told) (ap (λ l. l.reads.asks) told))
+    | inr fault ↦ inr (asked_after f.count f.last t f.turns (ap (λ l. l.reads.asks) fault.read.told))
   ]
 
   -- where enough came, each ask gave a byte
@@ -129,6 +161,37 @@ module _ {S : Type 0} (s : Buffered S MinBuffered) where
         | inr (inl full) ↦ quiet full.1.told
         | inr (inr dry) ↦ absurd (enough_never_dry s t a fills dry many)
       ]
+
+  -- a fill that found too few, and didn't fail for the policy, asked
+  asks_on : (t : Buffered S MinBuffered) → (t.log ≡ s.log) ⊎ (s.log.reads.asks < t.log.reads.asks) → ¬ (t.log ≡ s.log)
+      → s.log.reads.asks < t.log.reads.asks
+  asks_on t (inl same) odd = absurd (odd same)
+  asks_on t (inr some) odd = some
+
+  asks_enough : {A : Type 0} (a : A) (t : Buffered S MinBuffered) → Fills min_read_rules s (Ok a) t
+      → length s.block.bytes < s.policy.0 → s.log.reads.asks < t.log.reads.asks
+  asks_enough a t fills few = asks_on t (fill_asked (Ok a) t fills.filled) (λ same. elim (fills.ahead.enough refl) [
+    | inl many ↦ omega (
+      arith,
+      many,
+      few,
+      ap length fills.in_order.equal,
+      length-append s.block.bytes fills.in_order.got,
+      ap length fills.in_order.given,
+      length-append s.log.reads.given fills.in_order.got,
+      ap (λ l. length l.reads.given) same,
+    )
+    | inr dry ↦ omega (arith, dry, ap (λ l. l.reads.zero_reads) same)
+  ])
+
+  asks_failed : {A : Type 0} (e : Error) (t : Buffered S MinBuffered) → Fills {A = A} min_read_rules s (Err e) t
+      → t.log.reads.faults ≡ s.log.reads.faults ++ e ∷ [] → s.log.reads.asks < t.log.reads.asks
+  asks_failed e t fills fault = asks_on t (fill_asked (Err e) t fills.filled) (λ same. omega (
+    arith,
+    ap length fault,
+    length-append s.log.reads.faults (e ∷ []),
+    ap (λ l. length l.reads.faults) same,
+  ))
 
 module _ {S D W : Type 0} (remaining : S → Option (List ℕ)) (g : Grammar W) (n : ℕ) (s : ReaderState S D)
     (whole : IsPieceReader g s) (handed : s.handed ≡ 0) (few : length (rest s) < n) (most : n ≤ g.most)
@@ -173,33 +236,54 @@ module _ {S D W : Type 0} (remaining : S → Option (List ℕ)) (g : Grammar W) 
         ended = λ is. (let odd : true ≡ false = sym is ∙ not_ended in cc);
       }
 
-  went : PiecesWent remaining g.most s [] filled
-  went =
+  went : s.reader.log.reads.asks < t.log.reads.asks → PiecesWent remaining g.most s [] filled
+  went some =
       let held = (f.fills.sparing g.most (omega (arith, number, most))).plain whole.plain whole.capacity in
       record {
         hands = record { got = f.fills.in_order.got; given = f.fills.in_order.given; equal = rest_grown };
         known = f.known;
         grows = f.fills.grows;
         held = record { moved = held.moved; held = held.held };
+        still = λ none. absurd (omega (arith, some, none));
         capacity = capacity;
         limit = f.fills.ahead.limit;
         decoder = refl;
       }
 
-  asked : AskedWhere (λ bytes. length bytes < n) s filled
-  asked = elim (fill_asked (with_policy s.reader p) answer t f.fills.filled) [
-    | inl same ↦ inl same
-    | inr over ↦ inr (record {
-      not_ended = not_ended;
-      came = over.came;
-      last = over.last;
-      given = over.given;
-      latest = over.latest;
-      such = omega (arith, over.few, number, ap (λ l. length (l ++ over.came)) (rest_whole s handed));
-      some = over.some;
-      asks = over.asks;
-    })
-  ]
+  few_asked : s.reader.log.reads.asks < t.log.reads.asks → AsksFew (with_policy s.reader p) t
+  few_asked some = asked_few (with_policy s.reader p) answer t f.fills some
+      (omega (arith, number, most, whole.capacity)) whole.block whole.plain
+
+  asked_over : (Such : List ℕ → Type 0) (some : s.reader.log.reads.asks < t.log.reads.asks)
+      → Such (rest s ++ (few_asked some).came) → AskedWhere Such s filled
+  asked_over Such some such =
+      let few = few_asked some in
+      inr (record {
+        not_ended = not_ended;
+        came = few.came;
+        last = t.log.reads.latest;
+        given = few.given;
+        latest = refl;
+        such = such;
+        some = some;
+        asks = few.asks;
+      })
+
+  there : (came : List ℕ) → rest s ++ came ≡ s.reader.block.bytes ++ came
+  there came = ap (λ l. l ++ came) (rest_whole s handed)
+
+  asked : s.reader.log.reads.asks < t.log.reads.asks → AskedWhere (λ bytes. length bytes < n) s filled
+  asked some =
+      let few = few_asked some in
+      asked_over (λ bytes. length bytes < n) some (omega (arith, few.few, number, ap length (there few.came)))
+
+  offered : s.reader.log.reads.asks < t.log.reads.asks → OffersMore s filled
+  offered some =
+      let few = few_asked some in
+      asked_over (OffersOver s.reader.block.capacity t.log.reads.offer) some (
+        omega (arith, few.few, few.offer, ap length (there few.came)),
+        λ none. few.whole (sym (there few.came) ∙ none),
+      )
 
 -- where the read didn't fail, so many bytes came, or the stream ended
 pub AsksFor-ok : {S D W : Type 0} (remaining : S → Option (List ℕ)) (g : Grammar W) (n : ℕ) (s : ReaderState S D)
@@ -211,12 +295,15 @@ pub AsksFor-ok : {S D W : Type 0} (remaining : S → Option (List ℕ)) (g : Gra
 AsksFor-ok {S} {D} remaining g n s whole handed few most not_ended p number bytes t f some more less =
     let v : ReaderState S D = record s { reader = t } in
     let left : length (rest v) ≡ length t.block.bytes = ap length (rest_whole v handed) in
+    let wants : length s.reader.block.bytes < p.0 = omega (arith, few, number, ap length (rest_whole s handed)) in
+    let asking = asks_enough (with_policy s.reader p) bytes t f.fills wants in
     record {
-      went = went remaining g n s whole handed few most not_ended p number (Ok bytes) t f;
+      went = went remaining g n s whole handed few most not_ended p number (Ok bytes) t f asking;
       handed = handed;
       seen = refl;
       ended = refl;
-      asked = asked remaining g n s whole handed few most not_ended p number (Ok bytes) t f;
+      asked = asked remaining g n s whole handed few most not_ended p number (Ok bytes) t f asking;
+      offered = offered remaining g n s whole handed few most not_ended p number (Ok bytes) t f asking;
       more = λ is.
           let came : some ≡ true = cc in
           let many : p.0 ≤ length t.block.bytes = omega (arith, number, more came) in (
@@ -250,26 +337,28 @@ pub AsksFor-err : {S D W : Type 0} (remaining : S → Option (List ℕ)) (g : Gr
     → AsksFor remaining g n s (Err e) (record s { reader = t })
 AsksFor-err {S} {D} remaining g n s whole handed few most not_ended p number e t f =
     let v : ReaderState S D = record s { reader = t } in
+    let fault : t.log.reads.faults ≡ s.reader.log.reads.faults ++ e ∷ [] = elim f.fills.caused [
+      | inl met ↦ met
+      | inr gave ↦ absurd (no_policy_error e (with_policy s.reader p) t
+          (omega (
+            arith,
+            claimed remaining g n s whole handed few most not_ended p number (Err e) t f,
+            capacity remaining g n s whole handed few most not_ended p number (Err e) t f,
+            holds remaining g n s whole handed few most not_ended p number (Err e) t f,
+          )) gave)
+    ] in
+    let asking = asks_failed (with_policy s.reader p) e t f.fills fault in
     record {
-      went = went remaining g n s whole handed few most not_ended p number (Err e) t f;
+      went = went remaining g n s whole handed few most not_ended p number (Err e) t f asking;
       handed = handed;
       seen = refl;
       ended = refl;
-      asked = asked remaining g n s whole handed few most not_ended p number (Err e) t f;
+      asked = asked remaining g n s whole handed few most not_ended p number (Err e) t f asking;
+      offered = offered remaining g n s whole handed few most not_ended p number (Err e) t f asking;
       more = λ other. cc;
       end = λ other. cc;
       failed = λ e' is.
-          let same : e ≡ e' = cc in
-          let fault : t.log.reads.faults ≡ s.reader.log.reads.faults ++ e ∷ [] = elim f.fills.caused [
-            | inl met ↦ met
-            | inr gave ↦ absurd (no_policy_error e (with_policy s.reader p) t
-                (omega (
-                  arith,
-                  claimed remaining g n s whole handed few most not_ended p number (Err e) t f,
-                  capacity remaining g n s whole handed few most not_ended p number (Err e) t f,
-                  holds remaining g n s whole handed few most not_ended p number (Err e) t f,
-                )) gave)
-          ] in (
+          let same : e ≡ e' = cc in (
             omega (arith, f.fills.ahead.few refl, number, ap length (rest_whole v handed)),
             not_ended,
             none_before_fault (with_policy s.reader p) t e f.fills,

@@ -3,8 +3,8 @@ use Rattle.std.proofs.Common.{◌≡◌, ◌↔◌, ℕ, ◌<◌, List, [], ◌�
 use Rattle.std.proofs.lemmas.List.{nil_from_length}
 use Rattle.std.specs.declared.io.Error.{Error}
 use Rattle.piece_reader.specs.Grammar.{Grammar}
-use Rattle.piece_reader.specs.NextPiece.{AskedWhere, Faulted, PiecesWent, Refills}
-use Rattle.piece_reader.specs.NextPieceLaws.{AskedWhere-told, MetEnd-joins, still_going}
+use Rattle.piece_reader.specs.NextPiece.{AskedWhere, Faulted, OffersMore, OffersOver, PiecesWent, Refills}
+use Rattle.piece_reader.specs.NextPieceLaws.{AskedWhere-told, MetEnd-joins, OffersMore-told, still_going}
 use Rattle.piece_reader.specs.PiecesWentLaws.{PiecesWent-inside, PiecesWent-joins}
 use Rattle.piece_reader.specs.PieceReader.{IsPieceReader, ReaderState, rest}
 use Rattle.piece_reader.specs.Steps.{AsksFor}
@@ -26,18 +26,30 @@ module _ {S D W : Type 0} (remaining : S → Option (List ℕ)) (g : Grammar W) 
   header : HeaderBytes remaining g s m
   header = HeaderBytes-told remaining g s s (HeaderBytes-none remaining g s) m went told ended
 
-  asked_over : (t : ReaderState S D) → AskedWhere (λ bytes. length bytes < 1) m t → AskedWhere (λ bytes. bytes ≡ []) s t
-  asked_over t (inl same) = inl (same ∙ told)
-  asked_over t (inr over) = inr (record {
+  asked_over : (P Q : List ℕ → Type 0) (t : ReaderState S D) → ((more : List ℕ) → P (rest m ++ more) → Q (rest s ++ more))
+      → AskedWhere P m t → AskedWhere Q s t
+  asked_over P Q t so (inl same) = inl (same ∙ told)
+  asked_over P Q t so (inr over) = inr (record {
     not_ended = sym ended ∙ over.not_ended;
     came = over.came;
     last = over.last;
     given = over.given ∙ ap (λ l. l.reads.given ++ (over.came ++ over.last)) told;
     latest = over.latest;
-    such = nil_from_length (rest s ++ over.came) (omega (arith, over.such, ap (λ l. length (l ++ over.came)) left));
+    such = so over.came over.such;
     some = omega (arith, over.some, ap (λ l. l.reads.asks) told);
     asks = omega (arith, over.asks, ap (λ l. l.reads.asks) told);
   })
+
+  asked_empty : (t : ReaderState S D) → AskedWhere (λ bytes. length bytes < 1) m t → AskedWhere (λ bytes. bytes ≡ []) s t
+  asked_empty t = asked_over (λ bytes. length bytes < 1) (λ bytes. bytes ≡ []) t
+      (λ more few. nil_from_length (rest s ++ more) (omega (arith, few, ap (λ l. length (l ++ more)) left)))
+
+  offered_over : (t : ReaderState S D) → OffersMore m t → OffersMore s t
+  offered_over t =
+      let offer = t.reader.log.reads.offer in
+      asked_over (OffersOver m.reader.block.capacity offer) (OffersOver s.reader.block.capacity offer) t
+      (λ more over. subst (λ l. OffersOver s.reader.block.capacity offer (l ++ more)) left
+      (over.0, λ none. over.1 none ∙ went.capacity))
 
   -- what changes where the end alone is noted behind the answer
   module _ (t : ReaderState S D) (came flag : Bool) where
@@ -50,7 +62,10 @@ module _ {S D W : Type 0} (remaining : S → Option (List ℕ)) (g : Grammar W) 
         (PiecesWent-inside remaining g.most t noted [] refl refl refl)
 
     asked_then : AsksFor remaining g 1 m (Ok came) t → AskedWhere (λ bytes. bytes ≡ []) s noted
-    asked_then a = AskedWhere-told (λ bytes. bytes ≡ []) s t noted refl (asked_over t a.asked)
+    asked_then a = AskedWhere-told (λ bytes. bytes ≡ []) s t noted refl (asked_empty t a.asked)
+
+    offered_then : AsksFor remaining g 1 m (Ok came) t → OffersMore s noted
+    offered_then a = OffersMore-told s t noted refl (offered_over t a.offered)
 
     still_whole : AsksFor remaining g 1 m (Ok came) t → (flag ≡ true → rest t ≡ []) → IsPieceReader g noted
     still_whole a none_left = record {
@@ -70,6 +85,7 @@ module _ {S D W : Type 0} (remaining : S → Option (List ℕ)) (g : Grammar W) 
         let going : t.ended ≡ false = still_going t.ended (rest t) a.whole.ended (omega (arith, more.0)) in record {
           went = went_on a;
           asked = asked_then a;
+          offered = offered_then a;
           more = λ _. (
             omega (arith, more.0),
             sym ended ∙ sym a.ended ∙ going,
@@ -88,6 +104,7 @@ module _ {S D W : Type 0} (remaining : S → Option (List ℕ)) (g : Grammar W) 
         let empty : rest t ≡ [] = nil_from_length (rest t) (omega (arith, end.0)) in record {
           went = went_on a;
           asked = asked_then a;
+          offered = offered_then a;
           more = λ odd. (let no : true ≡ false = cc in cc);
           end = λ _. (
             empty,
@@ -104,7 +121,8 @@ module _ {S D W : Type 0} (remaining : S → Option (List ℕ)) (g : Grammar W) 
     fails e a =
         let f = a.failed e refl in record {
           went = PiecesWent-joins remaining g.most s m t [] [] went a.went;
-          asked = asked_over t a.asked;
+          asked = asked_empty t a.asked;
+          offered = offered_over t a.offered;
           more = λ odd. cc;
           end = λ odd. cc;
           failed = λ e' is. (

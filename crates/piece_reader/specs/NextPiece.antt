@@ -21,13 +21,14 @@ pub record HandsBytes {S D : Type 0} (s : ReaderState S D) (bytes : List ℕ) (t
 
 -- what any calls do, one after another, that handed out these bytes: pieces, each with all that it takes. No byte is lost; of
 -- what the inner reader is known to have left, just what it gave is gone; no more bytes are moved than are given, over all
--- calls since the reader was made; and no memory is taken
+-- calls since the reader was made, and none where the stream isn't asked; and no memory is taken
 pub record PiecesWent {S D : Type 0} (remaining : S → Option (List ℕ)) (most : ℕ) (s : ReaderState S D) (bytes : List ℕ)
     (t : ReaderState S D) : Type 0 where
   pub hands : HandsBytes s bytes t
   pub known : InnerGives remaining s.reader t.reader
   pub grows : ReadLogGrows s.reader.log.reads t.reader.log.reads
   pub held : PotentialHeld most s.reader t.reader
+  pub still : t.reader.log.reads.asks ≡ s.reader.log.reads.asks → t.reader.block.moved ≡ s.reader.block.moved
   pub capacity : t.reader.block.capacity ≡ s.reader.block.capacity
   pub limit : t.reader.block.limit ≡ s.reader.block.limit
   pub decoder : t.decoder ≡ s.decoder
@@ -47,6 +48,14 @@ pub record AskedOver {S D : Type 0} (Such : List ℕ → Type 0) (s t : ReaderSt
 -- the stream wasn't asked, or only where what was there was such
 abbrev pub AskedWhere : {S D : Type 0} → (List ℕ → Type 0) → ReaderState S D → ReaderState S D → Type 0
 AskedWhere Such s t = (t.reader.log ≡ s.reader.log) ⊎ AskedOver Such s t
+
+-- such an offer has room for more bytes than are there; and where none are it is the whole buffer
+abbrev pub OffersOver : ℕ → ℕ → List ℕ → Type 0
+OffersOver capacity offer bytes = (length bytes < offer) × (bytes ≡ [] → offer ≡ capacity)
+
+-- the stream wasn't asked, or the last ask offered more than was there, and the whole buffer where nothing was
+abbrev pub OffersMore : {S D : Type 0} → ReaderState S D → ReaderState S D → Type 0
+OffersMore s t = AskedWhere (OffersOver s.reader.block.capacity t.reader.log.reads.offer) s t
 
 -- no fault was met
 abbrev pub NoFault : {S D : Type 0} → ReaderState S D → ReaderState S D → Type 0
@@ -113,14 +122,16 @@ pub record StaysLooked {S D W : Type 0} (g : Grammar W) (s t : ReaderState S D) 
   pub all : IsOpen g (rest s) → length (rest s) ≤ t.seen
   pub shows : IsOpen g (rest t) → ShowsOpen g t.seen (rest t)
 
--- what one call of `next` does. The stream is asked only where what is buffered settles nothing, and each ask gave a byte,
--- unless an end or a fault was met; an end that no call has told yet is told; and an `Err` leaves what was looked at
+-- what one call of `next` does. The stream is asked only where what is buffered settles nothing, the last time for more bytes
+-- than that has, and each ask gave a byte, unless an end or a fault was met; an end that no call has told yet is told; and an
+-- `Err` leaves what was looked at
 pub record NextPiece {S D W : Type 0} (remaining : S → Option (List ℕ)) (g : Grammar W) (s : ReaderState S D)
     (answer : NextAnswer W) (t : ReaderState S D) : Type 0 where
   pub bytes : List ℕ
   pub went : PiecesWent remaining g.most s bytes t
   pub answers : NextAnswers g s answer bytes t
   pub asked : AskedWhere (IsOpen g) s t
+  pub offered : OffersMore s t
   pub gave : NoEnd s t → NoFault s t → AsksGive s t
   pub told : s.ended ≡ true → answer ≡ Ok None
   pub looked : OnErr answer (StaysLooked g s t)
@@ -151,6 +162,7 @@ pub record Refills {S D W : Type 0} (remaining : S → Option (List ℕ)) (g : G
     (answer : Result Bool Error) (t : ReaderState S D) : Type 0 where
   pub went : PiecesWent remaining g.most s [] t
   pub asked : AskedWhere (λ bytes. bytes ≡ []) s t
+  pub offered : OffersMore s t
   pub more : answer ≡ Ok true → (0 < length (rest t)) × (s.ended ≡ false) × (t.ended ≡ false) × NoEnd s t × NoFault s t
   pub end : answer ≡ Ok false → (rest t ≡ []) × (t.ended ≡ true) × MetEnd s t × NoFault s t
   pub failed : (e : Error) → answer ≡ Err e

@@ -9,7 +9,7 @@ use Rattle.piece_reader.specs.declared.error.NextError.TheVariants.{Wrong, Io}
 use Rattle.piece_reader.specs.Decoding.{bytes_at}
 use Rattle.piece_reader.specs.Grammar.{Begins, Grammar, IsLawful, IsOpen}
 use Rattle.piece_reader.specs.GrammarLaws.{open_not}
-use Rattle.piece_reader.specs.NextPiece.{AskedWhere, AsksNone, MetEnd, NextAnswer, NextAnswers, NextPiece, NoEnd, empty_reads, load_answer}
+use Rattle.piece_reader.specs.NextPiece.{AskedWhere, AsksNone, MetEnd, NextAnswer, NextAnswers, NextPiece, NoEnd, OffersMore, OffersOver, empty_reads, load_answer}
 use Rattle.piece_reader.specs.PiecesWentLaws.{PiecesWent-none, PiecesWent-unasked}
 use Rattle.piece_reader.specs.PieceReader.{ReaderState, IsPieceReader, IsSettled, rest}
 
@@ -121,6 +121,11 @@ AskedWhere-told Such s m t told (inr over) = inr (record {
   asks = omega (arith, over.asks, ap (λ l. l.reads.asks) told);
 })
 
+pub OffersMore-told : {S D : Type 0} (s m t : ReaderState S D) → t.reader.log ≡ m.reader.log → OffersMore s m → OffersMore s t
+OffersMore-told s m t told offered =
+    AskedWhere-told (OffersOver s.reader.block.capacity t.reader.log.reads.offer) s m t told
+    (subst (λ l. AskedWhere (OffersOver s.reader.block.capacity l.reads.offer) s m) (sym told) offered)
+
 -- an end of the stream that was met: before, which no call had told yet, or now
 module _ {S D : Type 0} (s t : ReaderState S D) where
   abbrev End : Bool → Type 0
@@ -163,6 +168,7 @@ NextPiece-refused remaining g s whole some e wrong =
       went = PiecesWent-none remaining g.most s;
       answers = (refl, refl, going, inl (wrong, refl));
       asked = inl refl;
+      offered = inl refl;
       gave = λ _ _. omega arith;
       told = λ ended. (let odd : true ≡ false = sym ended ∙ going in cc);
       looked = record {

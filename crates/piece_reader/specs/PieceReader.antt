@@ -51,7 +51,6 @@ pub record IsFresh {S D : Type 0} (tells : S → StreamLog) (least most : ℕ) (
   pub ended : f.ended ≡ false
   pub potential : potential most f.reader.block ≡ 0
   pub capacity : f.reader.block.capacity ≡ room_for least most
-  pub limit : f.reader.block.limit ≡ room_for least most
 
 -- made over this buffer and stream: just what they have is left, and no byte was moved. A plain buffer in which three pieces fit
 -- is the reader's
@@ -73,7 +72,6 @@ IsSettled {S} {D} {W} g f = (f.ended ≡ true) ⊎ Begins g (rest f) ⊎ ((e : W
 -- the first bytes that were left were dropped, and nothing else was done
 pub record Skips {S D W : Type 0} (g : Grammar W) (s : ReaderState S D) (count : ℕ) (t : ReaderState S D) : Type 0 where
   pub same : t ≡ record s { handed = s.handed + count; seen = 0 }
-  pub left : rest t ≡ drop count (rest s)
   pub whole : IsPieceReader g t
 
 -- a reader of pieces was taken apart into the inner reader and a buffer with the bytes that weren't handed out, which may not

@@ -1,7 +1,7 @@
 -- How calls of a reader of pieces join, and what follows since it was made.
 use Rattle.std.specs.Prelude.{◌≡◌, ℕ, List, [], ◌++◌, length, drop, take, Option}
 use Rattle.std.proofs.Common.{sym, ap, subst, ◌∙◌, arith, refl, length-drop, le_refl, append_assoc, append-nil}
-use Rattle.std.proofs.lemmas.List.{append_cancel_left, append_cancel_right, nil_from_length, take-append-drop}
+use Rattle.std.proofs.lemmas.List.{append_cancel_left, append_cancel_right, drop-drop, nil_from_length, take-append-drop}
 use Rattle.buffer_redux.specs.Block.{Block}
 use Rattle.buffer_redux.specs.BufReader.{InnerGives}
 use Rattle.buffer_redux.specs.LogGrows.{ReadLogGrows, ReadLogGrows-none, ReadLogGrows-joins}
@@ -45,6 +45,11 @@ HandsBytes-joins s m t h k a b = record {
       ∙ ap (λ l. l ++ b.got) a.equal ∙ append_assoc (rest s) a.got b.got;
 }
 
+-- what was skipped isn't left
+pub Skips-left : {S D W : Type 0} (g : Grammar W) (s : ReaderState S D) (count : ℕ) (t : ReaderState S D) → Skips g s count t
+    → rest t ≡ drop count (rest s)
+Skips-left g s count t skips = ap (λ x. rest x) skips.same ∙ sym (drop-drop count s.handed s.reader.block.bytes)
+
 module _ {S D : Type 0} (remaining : S → Option (List ℕ)) (most : ℕ) where
   pub PiecesWent-none : (s : ReaderState S D) → PiecesWent remaining most s [] s
   PiecesWent-none s = record {
@@ -52,6 +57,7 @@ module _ {S D : Type 0} (remaining : S → Option (List ℕ)) (most : ℕ) where
     known = InnerGives-none remaining s.reader;
     grows = ReadLogGrows-none s.reader.log.reads;
     held = record { moved = le_refl _; held = le_refl _ };
+    still = λ _. refl;
     capacity = refl;
     limit = refl;
     decoder = refl;
@@ -67,6 +73,8 @@ module _ {S D : Type 0} (remaining : S → Option (List ℕ)) (most : ℕ) where
       moved = omega (arith, p.held.moved, q.held.moved);
       held = omega (arith, p.held.held, q.held.held);
     };
+    still = λ none. q.still (omega (arith, none, p.grows.asks, q.grows.asks))
+        ∙ p.still (omega (arith, none, p.grows.asks, q.grows.asks));
     capacity = q.capacity ∙ p.capacity;
     limit = q.limit ∙ p.limit;
     decoder = q.decoder ∙ p.decoder;
@@ -86,6 +94,7 @@ module _ {S D : Type 0} (remaining : S → Option (List ℕ)) (most : ℕ) where
         known = subst (λ r. InnerGives remaining s.reader r) (sym same) none.known;
         grows = subst (λ r. ReadLogGrows s.reader.log.reads r.log.reads) (sym same) none.grows;
         held = subst (λ r. PotentialHeld most s.reader r) (sym same) (record { moved = le_refl _; held = le_refl _ });
+        still = λ _. ap (λ r. r.block.moved) same;
         capacity = ap (λ r. r.block.capacity) same;
         limit = ap (λ r. r.block.limit) same;
         decoder = decoder;
@@ -95,7 +104,8 @@ module _ {S D : Type 0} (remaining : S → Option (List ℕ)) (most : ℕ) where
   pub Skips-went : {W : Type 0} (g : Grammar W) (s : ReaderState S D) (count : ℕ) (t : ReaderState S D) → Skips g s count t
       → PiecesWent remaining most s (take count (rest s)) t
   Skips-went g s count t skips = PiecesWent-inside s t (take count (rest s)) (ap (λ x. x.reader) skips.same)
-      (ap (λ x. x.decoder) skips.same) (ap (λ l. take count (rest s) ++ l) skips.left ∙ take-append-drop count (rest s))
+      (ap (λ x. x.decoder) skips.same)
+      (ap (λ l. take count (rest s) ++ l) (Skips-left g s count t skips) ∙ take-append-drop count (rest s))
 
   -- calls that leave the log as it is hand out what is there
   pub PiecesWent-unasked : (s t : ReaderState S D) (bytes : List ℕ) → PiecesWent remaining most s bytes t

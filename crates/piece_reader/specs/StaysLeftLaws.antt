@@ -4,15 +4,28 @@ use Rattle.std.proofs.Common.{sym, ap, subst, inl, inr, arith}
 use Rattle.piece_reader.specs.declared.decoder.Span.{Span}
 use Rattle.piece_reader.specs.declared.error.NextError.{NextError}
 use Rattle.piece_reader.specs.declared.error.NextError.TheVariants.{Wrong, Io}
-use Rattle.piece_reader.specs.Grammar.{Grammar}
+use Rattle.piece_reader.specs.Grammar.{Grammar, IsOpen}
 use Rattle.piece_reader.specs.Items.{NextItem}
-use Rattle.piece_reader.specs.NextPiece.{NextAnswer, NextAnswers, NextBuffered, NextPiece, PiecesWent, StaysLeft, StaysLooked}
+use Rattle.piece_reader.specs.NextPiece.{AskedWhere, NextAnswer, NextAnswers, NextBuffered, NextPiece, OffersOver, PiecesWent, StaysLeft, StaysLooked}
 use Rattle.piece_reader.specs.PiecesWentLaws.{HandsBytes-looked, HandsBytes-same, PiecesWent-inside}
 use Rattle.piece_reader.specs.PieceReader.{IsSettled, ReaderState, rest}
 
 -- what a call does is what it would have done with fewer bytes looked at
 module _ {S D W : Type 0} (remaining : S → Option (List ℕ)) (g : Grammar W) (s t : ReaderState S D) (seen : ℕ)
     (more : s.seen ≤ seen) where
+  asked : (Such : List ℕ → Type 0) → AskedWhere Such (record s { seen = seen }) t → AskedWhere Such s t
+  asked Such (inl same) = inl same
+  asked Such (inr over) = inr (record {
+    not_ended = over.not_ended;
+    came = over.came;
+    last = over.last;
+    given = over.given;
+    latest = over.latest;
+    such = over.such;
+    some = over.some;
+    asks = over.asks;
+  })
+
   answers : (answer : NextAnswer W) (bytes : List ℕ) → NextAnswers g (record s { seen = seen }) answer bytes t
       → NextAnswers g s answer bytes t
   answers (Ok (Some payload)) bytes a = a
@@ -36,24 +49,14 @@ module _ {S D W : Type 0} (remaining : S → Option (List ℕ)) (g : Grammar W) 
           known = went.known;
           grows = went.grows;
           held = went.held;
+          still = went.still;
           capacity = went.capacity;
           limit = went.limit;
           decoder = went.decoder;
         };
         answers = answers answer next.bytes next.answers;
-        asked = elim next.asked [
-          | inl same ↦ inl same
-          | inr over ↦ inr (record {
-            not_ended = over.not_ended;
-            came = over.came;
-            last = over.last;
-            given = over.given;
-            latest = over.latest;
-            such = over.such;
-            some = over.some;
-            asks = over.asks;
-          })
-        ];
+        asked = asked (IsOpen g) next.asked;
+        offered = asked (OffersOver s.reader.block.capacity t.reader.log.reads.offer) next.offered;
         gave = next.gave;
         told = next.told;
         looked = looked answer next.looked;

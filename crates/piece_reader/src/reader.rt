@@ -29,7 +29,7 @@ use std::marker::Model;
 /// A reader of the pieces that a decoder finds.
 ///
 /// It lends each payload out of a plain buffer, in which three pieces fit. The makers take its memory, and no other call
-/// takes any. In a buffer of its own it moves no more bytes than it reads.
+/// takes any. In a buffer of its own it moves no more bytes than it reads; a call that doesn't ask the stream moves none.
 ///
 /// ```
 /// let lines = Delimited { end: b'\n', max: 9 };
