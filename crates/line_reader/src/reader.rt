@@ -168,9 +168,9 @@ impl<R: Tell> LineReader<R> {
     /// The inner reader, and the buffer with the bytes that weren't handed out. It may not grow, but by its
     /// [`set_limit`](Buffer::set_limit).
     ///
-    /// The last part is whether the stream ended behind a line that had no end, which no call has told yet: a reader that is made
-    /// of the others doesn't know that, and would ask the stream again. That a line [`is_skipping`](LineReader::is_skipping) is
-    /// forgotten: ask before.
+    /// The last part is whether the stream ended, which no call has told yet ([`has_ended`](LineReader::has_ended)): a reader
+    /// that is made of the others doesn't know that, and would ask the stream again. That a line
+    /// [`is_skipping`](LineReader::is_skipping) is forgotten: ask before.
     pub fn into_inner_with_buffer(self) -> (R, Buffer, bool)
         ensures left { (result.0 ≡ self.pieces.reader.inner) × (result.1.bytes ≡ rest self.pieces) }
         ensures ended { result.2 ≡ self.pieces.ended }
@@ -199,9 +199,9 @@ impl<R: Tell> LineReader<R> {
         self.skipping
     }
 
-    /// Whether the stream ended behind the line that was handed out or skipped last, which no call has told yet: then that line
-    /// lacked its end. It may be a part of a longer one, so who acts on lines asks this between [`step`](LineReader::step) and
-    /// [`lent`](LineReader::lent).
+    /// Whether the stream ended behind what was handed out or skipped last, which no call has told yet. Behind a
+    /// [`next`](LineReader::next) or [`step`](LineReader::step) that handed a line out this says that the line lacked its end.
+    /// It may be a part of a longer one, so who acts on lines asks this between `step` and [`lent`](LineReader::lent).
     pub fn has_ended(&self) -> bool
         ensures value { result ≡ self.now.pieces.ended }
         ensures whole { IsLineReader self.now }
