@@ -64,15 +64,22 @@ fn write_line<W: TellWrite>(writer: &mut LineWriter<W>, line: &[u8]) -> io::Resu
     Ok(())
 }
 
-/// Lines that are written, each with an end, and flushed are read again, each of them whole, in order, and no other. An `Err` is
-/// want of memory, or of a buffer for lines of `max` bytes, which no memory holds.
-pub fn round_trip(alloc: Global, lines: &[Vec<u8>], max: usize) -> io::Result<Vec<Vec<u8>>>
+/// Lines that are written, each with an end, and flushed are read again, each of them whole, in order, and no other: the text
+/// that was written, and the lines that were read of it. An `Err` is want of memory, or of a buffer for lines of `max` bytes,
+/// which no memory holds.
+pub fn round_trip(
+    alloc: Global,
+    lines: &[Vec<u8>],
+    max: usize,
+) -> io::Result<(Vec<u8>, Vec<Vec<u8>>)>
     requires { All (FitsLine max) (map (λ v. v.items) lines.now) }
-    ensures same { IfOk result (λ kept. map (λ v. v.items) kept.items ≡ map (λ v. v.items) lines.now) }
+    ensures written { IfOk result (λ both. both.0.items ≡ with_newlines (map (λ v. v.items) lines.now)) }
+    ensures same { IfOk result (λ both. map (λ v. v.items) both.1.items ≡ map (λ v. v.items) lines.now) }
     ensures refused { IfErr result (BufferRefused (1 + max)) }
 {
     let bytes = written(alloc, lines)?;
-    read_back(alloc, bytes.as_slice(), lines, max)
+    let read = read_back(alloc, bytes.as_slice(), lines, max)?;
+    Ok((bytes, read))
 }
 
 // The lines, each with its end.

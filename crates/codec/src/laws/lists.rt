@@ -17,14 +17,16 @@ use piece_reader::{Decoder, PieceReader};
 use std::alloc::Global;
 use std::io;
 
-/// Payloads that are written and flushed are read again, each of them whole, in order, and no other. A `Refused` is why one of
-/// them isn't taken, and an `Io` is want of memory, or of a buffer for the pieces, which no memory holds.
+/// Payloads that are written and flushed are read again, each of them whole, in order, and no other: what was written, and the
+/// payloads that were read of it. A `Refused` is why one of them isn't taken, and an `Io` is want of memory, or of a buffer for
+/// the pieces, which no memory holds.
 pub fn round_trip<C: Codec + Copy>(
     alloc: Global,
     codec: C,
     payloads: &[Vec<u8>],
-) -> Result<Vec<Vec<u8>>, WritePieceError<C::Refusal>>
-    ensures same { IfOk result (λ kept. map (λ v. v.items) kept.items ≡ map (λ v. v.items) payloads.now) }
+) -> Result<(Vec<u8>, Vec<Vec<u8>>), WritePieceError<C::Refusal>>
+    ensures written { IfOk result (λ both. both.0.items ≡ all_coded (C.encoding codec) (map (λ v. v.items) payloads.now)) }
+    ensures same { IfOk result (λ both. map (λ v. v.items) both.1.items ≡ map (λ v. v.items) payloads.now) }
     ensures fit { OnOk result (All (C.encoding codec).takes (map (λ v. v.items) payloads.now)) }
     ensures fault { IfErr result (λ e. All (C.encoding codec).takes (map (λ v. v.items) payloads.now) → IsFault e) }
     ensures reason { IfErr result (IfRefused (RefusesOne (C.encoding codec) (map (λ v. v.items) payloads.now))) }
@@ -33,7 +35,8 @@ pub fn round_trip<C: Codec + Copy>(
 {
     let bytes = written(alloc, codec, payloads)?;
     written_text(&codec);
-    Ok(read_back(alloc, codec, bytes.as_slice(), payloads)?)
+    let read = read_back(alloc, codec, bytes.as_slice(), payloads)?;
+    Ok((bytes, read))
 }
 
 // The pieces of the payloads.
