@@ -1,4 +1,6 @@
 //! How a run ends, and what the program says of it.
+ghost use Rattle.std.specs.Prelude.{◌≡◌};
+
 use crate::error::RunError;
 use body_reader::BodyError;
 use multipart::PartError;
@@ -10,8 +12,12 @@ use std::fmt;
 pub enum Ending {
     /// As that of any program may.
     Usual(Usual),
-    /// The body is wrong, or too much.
-    Wrong(&'static str),
+    /// A boundary isn't alone in its line.
+    Boundary,
+    /// The head of a part is too long.
+    LongHead,
+    /// There are too many parts.
+    ManyParts,
     /// The input ended within the body.
     Truncated,
     /// No part has the name.
@@ -19,8 +25,12 @@ pub enum Ending {
 }
 
 impl Ending {
+    ghost use Rattle.parts.specs.Ending.{EndsAs, PartEndsAs, status_of};
+
     /// How a run ends that returned this.
-    pub fn of(answer: &Result<(), RunError>) -> Ending {
+    pub fn of(answer: &Result<(), RunError>) -> Ending
+        ensures { EndsAs answer.now result }
+    {
         match answer {
             Ok(()) => Ending::Usual(Usual::Done),
             Err(RunError::Parts(e)) => Ending::of_parts(e),
@@ -30,25 +40,30 @@ impl Ending {
             Err(RunError::Body(_)) => Ending::Truncated,
             Err(RunError::Write(e)) => Ending::Usual(Usual::of_fault_or(e, Usual::WriteFailed)),
             Err(RunError::Missing) => Ending::Missing,
+            Err(RunError::Many) => Ending::Usual(Usual::Failed),
         }
     }
 
-    fn of_parts(e: &PartError) -> Ending {
+    fn of_parts(e: &PartError) -> Ending
+        ensures { PartEndsAs e.now result }
+    {
         match e {
             PartError::Truncated => Ending::Truncated,
             PartError::Io(e) => Ending::Usual(Usual::of_fault_or(e, Usual::ReadFailed)),
-            PartError::Boundary => Ending::Wrong("a boundary is not alone in its line"),
-            PartError::LongHead => Ending::Wrong("the head of a part is too long"),
-            PartError::ManyParts => Ending::Wrong("there are too many parts"),
+            PartError::Boundary => Ending::Boundary,
+            PartError::LongHead => Ending::LongHead,
+            PartError::ManyParts => Ending::ManyParts,
             PartError::Memory => Ending::Usual(Usual::Memory),
         }
     }
 
     /// The status that the process ends with.
-    pub fn status(&self) -> u8 {
+    pub fn status(&self) -> u8
+        ensures { result ≡ status_of self.now }
+    {
         match self {
             Ending::Usual(ending) => ending.status(),
-            Ending::Wrong(_) => 4,
+            Ending::Boundary | Ending::LongHead | Ending::ManyParts => 4,
             Ending::Truncated => 5,
             Ending::Missing => 6,
         }
@@ -57,6 +72,11 @@ impl Ending {
 
 /// The line for standard error; of a run that is done there is none.
 impl fmt::Display for Ending {
+    ghost use Rattle.std.specs.Prelude.{Some};
+    ghost use Rattle.parts.specs.Ending.{line_of};
+
+    ghost output = { λ ending. Some (line_of ending) };
+
     fn fmt<W: fmt::Write>(&self, f: &mut fmt::Formatter<W>) -> fmt::Result {
         match self {
             Ending::Usual(ending) => {
@@ -67,7 +87,9 @@ impl fmt::Display for Ending {
                 };
                 write!(f, "{said}")
             }
-            Ending::Wrong(why) => write!(f, "parts: {why}"),
+            Ending::Boundary => f.write_str("parts: a boundary is not alone in its line"),
+            Ending::LongHead => f.write_str("parts: the head of a part is too long"),
+            Ending::ManyParts => f.write_str("parts: there are too many parts"),
             Ending::Truncated => f.write_str("parts: the input ends within the body"),
             Ending::Missing => f.write_str("parts: no part has this name"),
         }

@@ -14,6 +14,8 @@ pub enum RunError {
     Write(io::Error),
     /// No part has the name.
     Missing,
+    /// There were more parts, or more pieces of one, than a run counts.
+    Many,
 }
 
 impl From<PartError> for RunError {

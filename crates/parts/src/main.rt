@@ -6,6 +6,8 @@
 
 mod ending;
 mod error;
+mod get;
+mod list;
 mod run;
 
 use crate::ending::Ending;
@@ -21,7 +23,7 @@ fn outcome(rt: &HostRuntime) -> Ending {
         Err(e) => return Ending::Usual(Usual::of_fault(&e)),
     };
     let (reader, writer) = (Told::new(rt.stdin()), Told::new(rt.stdout()));
-    run::run_asked(rt.alloc(), words.as_slice(), reader, writer)
+    run::run_asked(rt.alloc(), words.as_slice(), reader, writer).0
 }
 
 fn main(rt: HostRuntime) -> ExitCode {

@@ -1,12 +1,16 @@
 //! A run as words ask for it, over any two streams that tell.
+ghost use Rattle.std.specs.Prelude.{◌≡◌, ◌↔◌, [], IfSome, IsTrue, MatchOption, None, map, string_bytes};
+ghost use Rattle.parts.specs.Asked.{FlushedUnless, GetDid, IsBoundary, WasEnded, NoneAsked, RunDid, get_words, list_words};
+
 use crate::ending::Ending;
 use crate::error::RunError;
+use crate::get::get;
+use crate::list::list;
 use buffer_redux::tell::{TellRead, TellWrite};
 use buffer_redux::{BufReader, BufWriter};
-use multipart::{Limits, Multipart, NewError, field, parameter};
-use programs::Ending as Usual;
+use multipart::{Limits, Multipart, Stand};
+use programs::{Ending as Usual, buffered};
 use std::alloc::Global;
-use std::io;
 use std::io::Write;
 
 // How many bytes the buffers have.
@@ -19,125 +23,119 @@ const LIMITS: Limits = Limits {
 };
 
 /// Does what these words ask for, which stand behind the program's name. Where they ask for nothing that it knows, neither stream
-/// is called.
-pub fn run_asked<R: TellRead + Drop, W: TellWrite + Drop>(
+/// is called. Both streams come back.
+pub fn run_asked<R: TellRead, W: TellWrite>(
     alloc: Global,
     words: &[String],
     reader: R,
     writer: W,
-) -> Ending {
-    let (boundary, name) = match words {
-        [what, boundary] if what.as_str() == "list" => (boundary, None),
-        [what, boundary, name] if what.as_str() == "get" => (boundary, Some(name)),
-        _ => return Ending::Usual(Usual::Usage),
+) -> (Ending, R, W)
+    ensures { RunDid R.remaining W.log W.trace (map string_bytes words.now) result.0 (R.log reader) (R.log result.1)
+        (W.log writer) (W.log result.2) }
+{
+    let Some((boundary, name)) = asked(words) else {
+        return (Ending::Usual(Usual::Usage), reader, writer);
     };
-    let Ok(source) = BufReader::with_capacity(alloc, CAPACITY, reader) else {
-        return Ending::Usual(Usual::Memory);
+    let (source, target) = match buffered(alloc, false, (CAPACITY, CAPACITY), reader, writer) {
+        Ok(buffers) => buffers,
+        Err((_, reader, writer)) => return (Ending::Usual(Usual::Memory), reader, writer),
     };
-    let mut parts = match Multipart::new(alloc, source, boundary.as_bytes(), LIMITS) {
-        Ok(parts) => parts,
-        Err((_, NewError::Memory)) => return Ending::Usual(Usual::Memory),
-        Err(_) => return Ending::Usual(Usual::Usage),
-    };
-    let Ok(mut target) = BufWriter::with_capacity(alloc, CAPACITY, writer) else {
-        return Ending::Usual(Usual::Memory);
-    };
-    let answer = match name {
-        None => list(&mut parts, &mut target),
-        Some(name) => get(&mut parts, name.as_bytes(), &mut target),
-    };
-    let flushed = target.flush();
-    match (answer, flushed) {
-        (Ok(()), Err(e)) => Ending::of(&Err(RunError::Write(e))),
-        (answer, _) => Ending::of(&answer),
-    }
-}
-
-// Prints a line for each part.
-fn list<R: TellRead, W: TellWrite>(
-    parts: &mut Multipart<R>,
-    target: &mut BufWriter<W>,
-) -> Result<(), RunError> {
-    for _part in 0..u64::MAX {
-        if !parts.next_part()? {
-            return Ok(());
+    match Multipart::new(alloc, source, boundary, LIMITS) {
+        Ok(parts) => match name {
+            None => run_list(parts, target),
+            Some(name) => run_get(parts, name, target),
+        },
+        Err((source, _)) => {
+            let (writer, _) = target.into_inner_with_buffer();
+            (Ending::Usual(Usual::Memory), source.into_inner(), writer)
         }
-        put_said(parts.head(), target)?;
-        let len = text_len(parts)?;
-        writeln!(target, "\t{len}")?;
-    }
-    Ok(())
-}
-
-// Writes what a head says.
-fn put_said<W: TellWrite>(head: &[u8], target: &mut BufWriter<W>) -> io::Result<()> {
-    let said = field(head, b"Content-Disposition");
-    put_or(named(said, b"name"), target)?;
-    target.write_all(b"\t")?;
-    put_or(named(said, b"filename"), target)?;
-    target.write_all(b"\t")?;
-    put_or(field(head, b"Content-Type"), target)
-}
-
-// A parameter of a value that may be missing.
-fn named<'a>(value: Option<&'a [u8]>, name: &[u8]) -> Option<&'a [u8]> {
-    match value {
-        Some(value) => parameter(value, name),
-        None => None,
     }
 }
 
-fn put_or<W: TellWrite>(said: Option<&[u8]>, target: &mut BufWriter<W>) -> io::Result<()> {
-    match said {
-        Some(said) => target.write_all(said),
-        None => target.write_all(b"-"),
-    }
-}
-
-// How many bytes the text of the part has.
-fn text_len<R: TellRead>(parts: &mut Multipart<R>) -> Result<u64, RunError> {
-    let mut len = 0u64;
-    for _piece in 0..u64::MAX {
-        let count = parts.fill()?;
-        if count == 0 {
-            break;
+// What words ask for: the boundary, and the name of the part that is wanted, or none where parts are to be listed.
+fn asked(words: &[String]) -> Option<(&[u8], Option<&[u8]>)>
+    ensures boundary { IfSome result (λ a. IsBoundary a.0.now) }
+    ensures some { IfSome result (λ a. MatchOption a.1 (map string_bytes words.now ≡ list_words a.0.now)
+        (λ name. map string_bytes words.now ≡ get_words a.0.now name.now)) }
+    ensures none { result ≡ None → NoneAsked (map string_bytes words.now) }
+{
+    match words {
+        [what, boundary] if what.as_str() == "list" && is_boundary(boundary) => {
+            Some((boundary.as_bytes(), None))
         }
-        len = len.saturating_add(count as u64);
-        parts.consume(count);
+        [what, boundary, name] if what.as_str() == "get" && is_boundary(boundary) => {
+            Some((boundary.as_bytes(), Some(name.as_bytes())))
+        }
+        _ => None,
     }
-    Ok(len)
 }
 
-// Writes the text of the first part of this name.
-fn get<R: TellRead, W: TellWrite>(
-    parts: &mut Multipart<R>,
+// Whether a word is a boundary: it has 1 to 70 bytes.
+fn is_boundary(word: &str) -> bool
+    ensures { IsTrue result ↔ IsBoundary word.now }
+{
+    !word.is_empty() && word.len() <= 70
+}
+
+// Lists these parts.
+fn run_list<R: TellRead, W: TellWrite>(
+    parts: Multipart<R>,
+    target: BufWriter<W>,
+) -> (Ending, R, W) {
+    let (mut parts, mut target) = (parts, target);
+    let answer = list(&mut parts, &mut target);
+    ended(answer, parts, target)
+}
+
+// Writes the text of the part of this name.
+fn run_get<R: TellRead, W: TellWrite>(
+    parts: Multipart<R>,
     name: &[u8],
-    target: &mut BufWriter<W>,
-) -> Result<(), RunError> {
-    for _part in 0..u64::MAX {
-        if !parts.next_part()? {
-            return Err(RunError::Missing);
-        }
-        let said = named(field(parts.head(), b"Content-Disposition"), b"name");
-        if said == Some(name) {
-            return put_text(parts, target);
-        }
-    }
-    Err(RunError::Missing)
+    target: BufWriter<W>,
+) -> (Ending, R, W)
+    requires stands { parts.stand ≡ Stand.Preamble }
+    requires none { parts.parts ≡ 0 }
+    requires begins { parts.body.taken ≡ [] }
+    requires unread { parts.body.reader.block.bytes ≡ [] }
+    requires unwritten { target.block.bytes ≡ [] }
+    ensures { GetDid R.remaining W.log W.trace parts target result.0 (R.log result.1) (W.log result.2) }
+{
+    let (mut parts, mut target) = (parts, target);
+    let answer = get(&mut parts, name, &mut target);
+    ended(answer, parts, target)
 }
 
-// Writes the text of the part.
-fn put_text<R: TellRead, W: TellWrite>(
-    parts: &mut Multipart<R>,
+// Flushes what was written, and says how the run ends. Both streams come back.
+fn ended<R: TellRead, W: TellWrite>(
+    answer: Result<(), RunError>,
+    parts: Multipart<R>,
+    target: BufWriter<W>,
+) -> (Ending, R, W)
+    ensures over { WasEnded W.log W.trace answer target result.0 (W.log result.2) }
+    ensures read { R.log result.1 ≡ parts.body.reader.log }
+{
+    let mut target = target;
+    let answer = flushed(answer, &mut target);
+    let (writer, _) = target.into_inner_with_buffer();
+    (
+        Ending::of(&answer),
+        parts.into_inner_torn().into_inner(),
+        writer,
+    )
+}
+
+// Flushes what was written, unless a write failed.
+fn flushed<W: TellWrite>(
+    answer: Result<(), RunError>,
     target: &mut BufWriter<W>,
-) -> Result<(), RunError> {
-    for _piece in 0..u64::MAX {
-        let count = parts.fill()?;
-        if count == 0 {
-            break;
+) -> Result<(), RunError>
+    ensures { FlushedUnless W.log W.trace answer target.old result target.new }
+{
+    match answer {
+        Err(RunError::Write(e)) => Err(RunError::Write(e)),
+        answer => {
+            target.flush()?;
+            answer
         }
-        target.write_all(parts.piece())?;
-        parts.consume(count);
     }
-    Ok(())
 }

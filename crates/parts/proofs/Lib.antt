@@ -1,0 +1,5 @@
+mod Getting
+mod Passing
+mod Putting
+mod Running
+mod Words

@@ -1,0 +1,290 @@
+-- From the text of a part to the next part.
+use Rattle.std.proofs.Common.{◌≡◌, Bool, IsTrue, ℕ, suc, List, [], ◌++◌, Option, Result, Ok, Err, true, false, inl, inr, ◌⊎◌, sym, ap, subst, ◌∙◌, refl, arith, append-nil, append_assoc}
+use Rattle.body_reader.specs.declared.error.BodyError.{BodyError}
+use Rattle.body_reader.specs.declared.error.BodyError.TheVariants as why
+use Rattle.body_reader.specs.declared.error.CollectError.{CollectError}
+use Rattle.body_reader.specs.declared.error.CollectError.TheVariants as collect
+use Rattle.body_reader.specs.declared.just_or_until.JustOr.{JustOr}
+use Rattle.body_reader.specs.declared.just_or_until.JustOrUntil.{JustOrUntil}
+use Rattle.body_reader.specs.Between.{EachGave}
+use Rattle.body_reader.specs.BetweenLaws.{EachGave-joins, FaultedOnce-after, GaveNothingOnce-after}
+use Rattle.body_reader.specs.BodyReader.{BodyState, BodyWent, Collects, Drains, NoPayload, TookWholeBody, begun, handed_of}
+use Rattle.body_reader.specs.Coding.{IsBody}
+use Rattle.buffer_redux.specs.BufReader.{ReadsInOrder}
+use Rattle.buffer_redux.specs.Buffered.{Buffered}
+use Rattle.buffer_redux.specs.Policy.{std_read_rules}
+use Rattle.buffer_redux.specs.ReaderLaws.{ReadsInOrder-joins}
+use Rattle.buffer_redux.specs.declared.policy.StdPolicy.{StdPolicy}
+use Rattle.multipart.specs.declared.error.PartError.{PartError}
+use Rattle.multipart.specs.declared.error.PartError.TheVariants as part
+use Rattle.multipart.specs.declared.reader.Stand.TheVariants.{Preamble, Head, Part}
+use Rattle.multipart.specs.Head.{is_opening}
+use Rattle.multipart.specs.Multipart.{EndsHead, FormState, GoesOnFromHead, LeavesText, NextPart, PassesText, codes, head_error, part_error, turned}
+use Rattle.buffer_redux.specs.BufWriter.{StoppedAlong, WritesAlong}
+use Rattle.buffer_redux.specs.Policy.{std_write_rules}
+use Rattle.buffer_redux.specs.StreamLog.{StreamLog}
+use Rattle.parts.specs.declared.error.RunError.{RunError}
+use Rattle.parts.specs.declared.error.RunError.TheVariants as Run
+use Rattle.parts.specs.Sections.{GetAnswers, InPart, InText, NextFails, PassedAll, PutsPart}
+
+module _ {S : Type 0} (remaining : S → Option (List ℕ)) (texts heads : JustOrUntil) (first : Buffered S StdPolicy) where
+  abbrev Body : Type 0
+  Body = BodyState S StdPolicy JustOrUntil JustOr
+
+  -- what was taken so far came in order
+  pub order_on : (before : List ℕ) (c : JustOrUntil) (s t : Body) (payload : List ℕ)
+      → BodyWent remaining std_read_rules (codes c) s payload t → ReadsInOrder first (before ++ s.taken) s.reader
+      → ReadsInOrder first (before ++ t.taken) t.reader
+  order_on before c s t payload went order =
+      subst (λ l. ReadsInOrder first l t.reader)
+      (append_assoc before s.taken went.wire ∙ ap (λ l. before ++ l) (sym went.taken))
+      (ReadsInOrder-joins first s.reader t.reader (before ++ s.taken) went.wire order went.along.in_order)
+
+  -- why no payload came, as an error of the whole
+  no_payload : (m : Buffered S StdPolicy) (c : JustOrUntil) (s t : Body) (w : BodyError (Unit {0})) (most : ℕ)
+      → EachGave first s.reader → NoPayload (codes c) s w t → NextFails texts heads most first (part_error w) t.reader
+  no_payload m c s t (why.Wrong x right) most gave none = absurd (none.2.name)
+  no_payload m c s t (why.Truncated right) most gave none = GaveNothingOnce-after first s.reader t.reader gave none.1
+  no_payload m c s t (why.Io e) most gave none = inl (FaultedOnce-after first s.reader t.reader gave e none.0)
+
+  module _ (count : ℕ) (before : List ℕ) (s : FormState S StdPolicy) (is : InText texts heads first count before s)
+      (gave : EachGave first s.body.reader) where
+    -- a text that doesn't end
+    pub text_fails : (e : PartError) (t : FormState S StdPolicy) → LeavesText remaining std_read_rules s (Err e) t
+        → NextFails texts heads s.limits.parts first e t.body.reader
+        × ((handed : List ℕ) × ReadsInOrder first handed t.body.reader)
+    text_fails e t (w, drains, same, within) = (
+      subst (λ x. NextFails texts heads s.limits.parts first x t.body.reader) (sym same) (elim drains.answers [
+        | inl none ↦ no_payload first s.body.coding s.body t.body w s.limits.parts gave none
+        | inr many ↦
+            subst (λ x. NextFails texts heads s.limits.parts first (part_error x) t.body.reader) (sym many.1)
+            (inr (many.2, EachGave-joins first s.body.reader t.body.reader gave many.4))
+      ]),
+      (before ++ t.body.taken, order_on before s.body.coding s.body t.body drains.payload drains.went is.order),
+    )
+
+    module _ (b : Body) (drains : Drains remaining std_read_rules (codes s.body.coding) s.body (Ok tt) b) where
+      abbrev behind : FormState S StdPolicy
+      behind = turned (record s { body = b; head = [] }) Head
+
+      text_whole : IsBody (codes texts) b.taken (handed_of b)
+      text_whole = subst (λ c. TookWholeBody (codes c) b) is.coding drains.answers.1
+
+      text_order : ReadsInOrder first (before ++ b.taken) b.reader
+      text_order = order_on before s.body.coding s.body b drains.payload drains.went is.order
+
+      text_gave : EachGave first b.reader
+      text_gave = EachGave-joins first s.body.reader b.reader gave drains.answers.0
+
+      -- a head, which is whole or not
+      module _ (a : Body) (payload : List ℕ)
+          (went : BodyWent remaining std_read_rules (codes s.other) (begun (codes s.other) b.reader s.other) payload a) where
+        head_order : ReadsInOrder first ((before ++ b.taken) ++ a.taken) a.reader
+        head_order = order_on (before ++ b.taken) s.other (begun (codes s.other) b.reader s.other) a payload went
+            (subst (λ l. ReadsInOrder first l b.reader) (sym (append-nil (before ++ b.taken))) text_order)
+
+        head_gave : EachGave b.reader a.reader → EachGave first a.reader
+        head_gave gave' = EachGave-joins first b.reader a.reader text_gave gave'
+
+      -- what comes of going on behind the text
+      abbrev Comes : Result Bool PartError → FormState S StdPolicy → Type 0
+      Comes (Ok true) t = (more : List ℕ) × InText texts heads first (suc count) more t × EachGave first t.body.reader
+          × (handed_of t.body ≡ []) × (t.stand ≡ Part) × (t.limits ≡ s.limits)
+      Comes (Ok false) t = PassedAll texts heads first t.body.reader
+      Comes (Err e) t = NextFails texts heads s.limits.parts first e t.body.reader
+          × ((handed : List ℕ) × ReadsInOrder first handed t.body.reader)
+
+      module _ (a : Body) (head : List ℕ)
+          (collects : Collects remaining std_read_rules (codes s.other) s.limits.head
+          (begun (codes s.other) b.reader s.other) [] (Ok tt) a head) where
+        abbrev taken_head : FormState S StdPolicy
+        taken_head = record behind { body = a; head = head }
+
+        said_is : head ≡ handed_of a
+        said_is = collects.collected ∙ sym collects.went.handed
+
+        head_whole : IsBody (codes heads) a.taken (handed_of a)
+        head_whole = subst (λ c. TookWholeBody (codes c) a) is.other collects.answers.1
+
+        order_all : ReadsInOrder first ((before ++ b.taken) ++ a.taken) a.reader
+        order_all = head_order a collects.payload collects.went
+
+        gave_all : EachGave first a.reader
+        gave_all = head_gave a collects.payload collects.went collects.answers.0
+
+        ends : (answer : Result Bool PartError) (t : FormState S StdPolicy) → EndsHead taken_head answer t → Comes answer t
+        ends (Ok true) t end = subst (Comes (Ok true)) (sym end.3) (
+          (before ++ b.taken) ++ a.taken,
+          record {
+            stands = inr refl;
+            coding = drains.went.coding ∙ is.coding;
+            other = collects.went.coding ∙ is.other;
+            counted = omega (arith, is.counted);
+            parts = (
+              before,
+              b.taken,
+              a.taken,
+              handed_of b,
+              append_assoc before b.taken a.taken,
+              is.parts,
+              text_whole,
+              record {
+                said = handed_of a;
+                whole = head_whole;
+                opens = subst (λ l. IsTrue (is_opening l)) said_is end.1;
+                no_end = end.0;
+              },
+            );
+            order = subst (λ l. ReadsInOrder first l a.reader) (sym (append-nil ((before ++ b.taken) ++ a.taken))) order_all;
+          },
+          gave_all,
+          refl,
+          refl,
+          refl,
+        )
+        ends (Ok false) t end = subst (Comes (Ok false)) (sym end.1) (record {
+          count = count;
+          before = before;
+          text = b.taken;
+          dropped = handed_of b;
+          parts = is.parts;
+          whole = text_whole;
+          order = subst (λ l. ReadsInOrder first l a.reader)
+              (append_assoc before b.taken a.taken ∙ ap (λ l. before ++ (b.taken ++ l)) end.0) order_all;
+          gave = gave_all;
+        })
+        ends (Err part.Boundary) t end = subst (Comes (Err part.Boundary)) (sym end.2) (
+          record {
+            before = before ++ b.taken;
+            head = a.taken;
+            said = handed_of a;
+            whole = head_whole;
+            no_end = end.0;
+            no_opening = subst (λ l. ¬ IsTrue (is_opening l)) said_is end.1;
+            order = order_all;
+            gave = gave_all;
+          },
+          ((before ++ b.taken) ++ a.taken, order_all),
+        )
+        ends (Err part.ManyParts) t end = subst (Comes (Err part.ManyParts)) (sym end.3) (
+          (
+            (
+              count,
+              before,
+              b.taken ++ a.taken,
+              is.parts,
+              subst (λ l. ReadsInOrder first l a.reader) (append_assoc before b.taken a.taken) order_all,
+              omega (arith, is.counted, end.2),
+            ),
+            gave_all,
+          ),
+          ((before ++ b.taken) ++ a.taken, order_all),
+        )
+        ends (Err part.Truncated) t end = absurd end
+        ends (Err (part.Io e)) t end = absurd end
+        ends (Err part.LongHead) t end = absurd end
+        ends (Err part.Memory) t end = absurd end
+
+      -- a head that wasn't collected
+      module _ (a : Body) (head : List ℕ) where
+        no_head : (w : CollectError (Unit {0})) → Collects remaining std_read_rules (codes s.other) s.limits.head
+            (begun (codes s.other) b.reader s.other) [] (Err w) a head
+            → NextFails texts heads s.limits.parts first (head_error w) a.reader
+        no_head (collect.Body x) collects =
+            no_payload first s.other (begun (codes s.other) b.reader s.other) a x s.limits.parts text_gave collects.answers
+        no_head collect.TooLong collects = head_gave a collects.payload collects.went collects.answers.0
+        no_head collect.Memory collects = head_gave a collects.payload collects.went collects.answers.0
+
+      goes_on : (answer : Result Bool PartError) (t : FormState S StdPolicy)
+          → GoesOnFromHead remaining std_read_rules behind answer t → Comes answer t
+      goes_on answer t (a, head, inl (collects, end)) = ends a head collects answer t end
+      goes_on answer t (a, head, inr (e, same, (w, collects, because), within)) =
+          subst (λ x. Comes x t) (sym same) (subst (Comes (Err e)) (sym within) (
+            subst (λ x. NextFails texts heads s.limits.parts first x a.reader) (sym because) (no_head a head w collects),
+            ((before ++ b.taken) ++ a.taken, head_order a collects.payload collects.went),
+          ))
+
+    -- what comes of going on to the next part
+    abbrev pub NextComes : Result Bool PartError → FormState S StdPolicy → Type 0
+    NextComes (Ok true) t = (more : List ℕ) × InText texts heads first (suc count) more t × EachGave first t.body.reader
+        × (handed_of t.body ≡ []) × (t.stand ≡ Part) × (t.limits ≡ s.limits)
+    NextComes (Ok false) t = PassedAll texts heads first t.body.reader
+    NextComes (Err e) t = NextFails texts heads s.limits.parts first e t.body.reader
+        × ((handed : List ℕ) × ReadsInOrder first handed t.body.reader)
+
+    passes : (answer : Result Bool PartError) (t : FormState S StdPolicy)
+        → PassesText remaining std_read_rules s answer t → NextComes answer t
+    passes (Ok true) t (inl (m, (b, drains, same), goes)) =
+        goes_on b drains (Ok true) t (subst (λ x. GoesOnFromHead remaining std_read_rules x (Ok true) t) same goes)
+    passes (Ok false) t (inl (m, (b, drains, same), goes)) =
+        goes_on b drains (Ok false) t (subst (λ x. GoesOnFromHead remaining std_read_rules x (Ok false) t) same goes)
+    passes (Err e) t (inl (m, (b, drains, same), goes)) =
+        goes_on b drains (Err e) t (subst (λ x. GoesOnFromHead remaining std_read_rules x (Err e) t) same goes)
+    passes answer t (inr (e, same, leaves)) = subst (λ x. NextComes x t) (sym same) (text_fails e t leaves)
+
+    pub next_comes : (answer : Result Bool PartError) (t : FormState S StdPolicy)
+        → NextPart remaining std_read_rules s.stand s answer t → NextComes answer t
+    next_comes answer t next = elim is.stands [
+      | inl preamble ↦ passes answer t (subst (λ x. NextPart remaining std_read_rules x s answer t) preamble next)
+      | inr part ↦ passes answer t (subst (λ x. NextPart remaining std_read_rules x s answer t) part next)
+    ]
+
+-- the text of a part that was just begun was written
+module _ {S T : Type 0} (remaining : S → Option (List ℕ)) (tells : T → StreamLog) (trace : T → T → Type 0)
+    (s m t : FormState S StdPolicy) (w u v : Buffered T StdPolicy) (count : ℕ) (before : List ℕ)
+    (is : InText s.body.coding s.other s.body.reader (suc count) before m) (gave : EachGave s.body.reader m.body.reader)
+    (fresh : handed_of m.body ≡ []) (still : u ≡ w) where
+  module _ (answer : Result (Unit {0}) RunError) (puts : PutsPart remaining tells trace m u answer t v) where
+    in_part : InPart s t
+    in_part = record {
+      count = count;
+      before = before;
+      inside = record {
+        stands = subst (λ x. (x ≡ Preamble) ⊎ (x ≡ Part)) (sym (ap (λ x. x.stand) puts.within)) is.stands;
+        coding = puts.went.coding ∙ is.coding;
+        other = ap (λ x. x.other) puts.within ∙ is.other;
+        counted = ap (λ x. x.parts) puts.within ∙ is.counted;
+        parts = is.parts;
+        order = order_on remaining s.body.coding s.other s.body.reader before m.body.coding m.body t.body puts.payload
+            puts.went is.order;
+      };
+    }
+
+    all_handed : handed_of t.body ≡ puts.payload
+    all_handed = puts.went.handed ∙ ap (λ l. l ++ puts.payload) fresh
+
+  pub put_comes : (answer : Result (Unit {0}) RunError) → PutsPart remaining tells trace m u answer t v
+      → GetAnswers remaining tells trace s w answer t v
+  put_comes (Ok _) puts = (
+    in_part (Ok tt) puts,
+    subst (λ c. TookWholeBody (codes c) t.body) is.coding puts.answers.0,
+    EachGave-joins s.body.reader m.body.reader t.body.reader gave puts.answers.1,
+    subst (λ l. WritesAlong tells trace std_write_rules w l v) (sym (all_handed (Ok tt) puts))
+        (subst (λ x. WritesAlong tells trace std_write_rules x puts.payload v) still puts.answers.2),
+  )
+  put_comes (Err (Run.Body y)) puts = let from = puts.answers.0 in (
+    in_part (Err (Run.Body y)) puts,
+    (
+      from,
+      EachGave-joins s.body.reader m.body.reader from.reader gave puts.answers.1,
+      subst (λ c. NoPayload (codes c) from y t.body) is.coding puts.answers.2,
+    ),
+    subst (λ l. WritesAlong tells trace std_write_rules w l v) (sym (all_handed (Err (Run.Body y)) puts))
+        (subst (λ x. WritesAlong tells trace std_write_rules x puts.payload v) still puts.answers.3),
+  )
+  put_comes (Err (Run.Write e)) puts = (
+    in_part (Err (Run.Write e)) puts,
+    EachGave-joins s.body.reader m.body.reader t.body.reader gave puts.answers.0,
+    subst (λ l. StoppedAlong tells trace std_write_rules w l e v) (sym (all_handed (Err (Run.Write e)) puts))
+        (subst (λ x. StoppedAlong tells trace std_write_rules x puts.payload e v) still puts.answers.1),
+  )
+  put_comes (Err Run.Many) puts = (
+    EachGave-joins s.body.reader m.body.reader t.body.reader gave puts.answers.0,
+    (
+      puts.payload,
+      subst (λ x. WritesAlong tells trace std_write_rules x puts.payload v) still puts.answers.2,
+      inl puts.answers.1,
+    ),
+  )
+  put_comes (Err (Run.Parts y)) puts = absurd puts.answers
+  put_comes (Err Run.Missing) puts = absurd puts.answers

@@ -1,0 +1,116 @@
+-- What a run does that words ask for.
+use Rattle.std.specs.Prelude.{◌≡◌, ◌<◌, ◌≤◌, ◌⊎◌, ℕ, suc, List, [], ◌∷◌, ◌++◌, codes as text_codes, length, Option, Result, Ok, Err, OnOk, MatchResult}
+use Rattle.std.specs.declared.io.Error.{Error}
+use Rattle.body_reader.specs.Coding.{IsBody}
+use Rattle.body_reader.specs.declared.just_or_until.JustOrUntil.{JustOrUntil}
+use Rattle.buffer_redux.specs.BufWriter.{WasFlushed}
+use Rattle.buffer_redux.specs.Buffered.{Buffered}
+use Rattle.buffer_redux.specs.StreamLog.{StreamLog}
+use Rattle.buffer_redux.specs.declared.policy.StdPolicy.{StdPolicy}
+use Rattle.multipart.specs.Multipart.{AreCodings, FormState, IsBegun, codes}
+use Rattle.multipart.specs.declared.reader.Limits.{Limits}
+use Rattle.programs.specs.Streams.{ReceivedFlushed}
+use Rattle.parts.specs.Ending.{EndsAs}
+use Rattle.parts.specs.Sections.{GetAnswers, PartsBegin}
+use Rattle.parts.specs.declared.error.RunError.{RunError}
+use Rattle.parts.specs.declared.error.RunError.TheVariants as Why
+use Rattle.programs.specs.declared.ending.Ending.TheVariants.{Memory, Usage}
+use Rattle.parts.specs.declared.ending.Ending.{Ending}
+use Rattle.parts.specs.declared.ending.Ending.TheVariants.{Usual}
+
+-- the words that ask for the list of the parts, and for the part of a name
+abbrev pub list_words : List ℕ → List (List ℕ)
+list_words boundary = text_codes "list" ∷ boundary ∷ []
+
+abbrev pub get_words : List ℕ → List ℕ → List (List ℕ)
+get_words boundary name = text_codes "get" ∷ boundary ∷ name ∷ []
+
+-- a boundary has 1 to 70 bytes
+pub record IsBoundary (boundary : List ℕ) : Type 0 where
+  pub some : 0 < length boundary
+  pub few : length boundary ≤ 70
+
+-- these words are neither
+pub record NoneAsked (words : List (List ℕ)) : Type 0 where
+  pub list : (boundary : List ℕ) → IsBoundary boundary → ¬ (words ≡ list_words boundary)
+  pub get : (boundary name : List ℕ) → IsBoundary boundary → ¬ (words ≡ get_words boundary name)
+
+-- the limits of a run: heads of 16384 bytes, and so many parts
+abbrev pub run_limits : Limits
+run_limits = record { head = 16384; parts = 1000000 }
+
+-- what was given is bytes in which some parts begin, then the whole text of the last of them, and then the rest
+pub record GavePart (texts heads : JustOrUntil) (payload : List ℕ) (read read' : StreamLog) : Type 0 where
+  pub count : ℕ
+  pub before : List ℕ
+  pub text : List ℕ
+  pub rest : List ℕ
+  pub parts : PartsBegin texts heads (suc count) before
+  pub whole : IsBody (codes texts) text payload
+  pub given : read'.reads.given ≡ read.reads.given ++ (before ++ (text ++ rest))
+
+-- a part's payload, which is what stands between the boundary in front and the one behind, was received and flushed, and nothing
+-- else
+pub record GotPart (texts heads : JustOrUntil) (read read' written written' : StreamLog) : Type 0 where
+  pub payload : List ℕ
+  pub gave : GavePart texts heads payload read read'
+  pub received : written'.writes.received ≡ written.writes.received ++ payload
+  pub flushed : ReceivedFlushed written'
+
+module _ {T : Type 0} (tells : T → StreamLog) (trace : T → T → Type 0) where
+  -- behind such an answer the writer was flushed, and a fault of that is the answer
+  pub record FlushedBehind (answer : Result (Unit {0}) RunError) (u : Buffered T StdPolicy) (last : Result (Unit {0}) RunError)
+      (v : Buffered T StdPolicy) : Type 0 where
+    pub flush : Result (Unit {0}) Error
+    pub flushes : WasFlushed tells trace u flush v
+    pub last_is : MatchResult flush (λ _. last ≡ answer) (λ e. last ≡ Err (Why.Write e))
+
+  -- the writer was flushed, unless a write failed
+  abbrev pub FlushedUnless : Result (Unit {0}) RunError → Buffered T StdPolicy → Result (Unit {0}) RunError
+      → Buffered T StdPolicy → Type 0
+  FlushedUnless (Ok x) u last v = FlushedBehind (Ok x) u last v
+  FlushedUnless (Err (Why.Parts e)) u last v = FlushedBehind (Err (Why.Parts e)) u last v
+  FlushedUnless (Err (Why.Body e)) u last v = FlushedBehind (Err (Why.Body e)) u last v
+  FlushedUnless (Err (Why.Write e)) u last v = (last ≡ Err (Why.Write e)) × (v ≡ u)
+  FlushedUnless (Err Why.Missing) u last v = FlushedBehind (Err Why.Missing) u last v
+  FlushedUnless (Err Why.Many) u last v = FlushedBehind (Err Why.Many) u last v
+
+  -- how a run with this answer was ended: it said so, and the writer was left so
+  pub record WasEnded (answer : Result (Unit {0}) RunError) (v : Buffered T StdPolicy) (ending : Ending) (written' : StreamLog)
+      : Type 0 where
+    pub last : Result (Unit {0}) RunError
+    pub w : Buffered T StdPolicy
+    pub flushed : FlushedUnless answer v last w
+    pub written_to : written' ≡ w.log
+    pub ends : EndsAs last ending
+
+module _ {S T : Type 0} (remaining : S → Option (List ℕ)) (tells : T → StreamLog) (trace : T → T → Type 0) where
+  -- what a run did that wanted a part of a body with this boundary, and that ended so: at Done the text of one went over
+  pub record GetDid (s : FormState S StdPolicy) (u : Buffered T StdPolicy) (ending : Ending) (read' written' : StreamLog)
+      : Type 0 where
+    pub answer : Result (Unit {0}) RunError
+    pub t : FormState S StdPolicy
+    pub v : Buffered T StdPolicy
+    pub did : GetAnswers remaining tells trace s u answer t v
+    pub read_to : read' ≡ t.body.reader.log
+    pub over : WasEnded tells trace answer v ending written'
+    pub got : OnOk over.last (GotPart s.body.coding s.other s.body.reader.log read' u.log written')
+
+  -- the same from the streams on, through buffers that are empty at first; or these were refused
+  pub record GetRan (boundary : List ℕ) (ending : Ending) (read read' written written' : StreamLog) : Type 0 where
+    pub s : FormState S StdPolicy
+    pub u : Buffered T StdPolicy
+    pub begun : IsBegun s.body.reader boundary run_limits s
+    pub codings : AreCodings s.body.coding s.other
+    pub none_read : s.body.reader.block.bytes ≡ []
+    pub none_written : u.block.bytes ≡ []
+    pub read_from : s.body.reader.log ≡ read
+    pub written_from : u.log ≡ written
+    pub did : GetDid s u ending read' written'
+
+  -- what a run did that these words asked for, and that ended so; other words call no stream
+  pub record RunDid (words : List (List ℕ)) (ending : Ending) (read read' written written' : StreamLog) : Type 0 where
+    pub usage : NoneAsked words → (ending ≡ Usual Usage) × (read' ≡ read) × (written' ≡ written)
+    pub get : (boundary name : List ℕ) → IsBoundary boundary → words ≡ get_words boundary name
+        → ((ending ≡ Usual Memory) × (read' ≡ read) × (written' ≡ written))
+        ⊎ GetRan boundary ending read read' written written'

@@ -1,0 +1,127 @@
+-- What stands in a multipart body, and how a run goes along in one.
+use Rattle.std.specs.IoError.{error_kind}
+use Rattle.std.specs.declared.io.ErrorKind.TheVariants.{Other}
+use Rattle.multipart.specs.declared.error.PartError.{PartError}
+use Rattle.multipart.specs.declared.error.PartError.TheVariants as part
+use Rattle.std.specs.Prelude.{◌≡◌, ◌≢◌, ℕ, zero, suc, ◌^◌, ◌+◌, ◌≤◌, ◌⊎◌, List, [], ◌++◌, length, Option, Result, Ok, Err, IsTrue}
+use Rattle.body_reader.specs.Between.{EachGave, FaultedOnce, GaveNothingOnce}
+use Rattle.body_reader.specs.BodyReader.{BodyState, BodyWent, NoPayload, TookWholeBody, handed_of}
+use Rattle.body_reader.specs.Coding.{IsBody}
+use Rattle.body_reader.specs.declared.just_or_until.JustOr.{JustOr}
+use Rattle.body_reader.specs.declared.just_or_until.JustOrUntil.{JustOrUntil}
+use Rattle.buffer_redux.specs.BufReader.{ReadsInOrder}
+use Rattle.buffer_redux.specs.BufWriter.{StoppedAlong, WritesAlong}
+use Rattle.buffer_redux.specs.Buffered.{Buffered}
+use Rattle.buffer_redux.specs.Policy.{std_read_rules, std_write_rules}
+use Rattle.buffer_redux.specs.StreamLog.{StreamLog}
+use Rattle.buffer_redux.specs.declared.policy.StdPolicy.{StdPolicy}
+use Rattle.multipart.specs.Head.{is_opening}
+use Rattle.multipart.specs.Multipart.{FormState, codes, hyphens}
+use Rattle.multipart.specs.declared.reader.Stand.TheVariants.{Preamble, Part}
+use Rattle.parts.specs.declared.error.RunError.{RunError}
+use Rattle.parts.specs.declared.error.RunError.TheVariants.{Body, Many, Missing, Parts, Write}
+
+module _ (texts heads : JustOrUntil) where
+  -- a head that leads into a part
+  pub record LeadsIn (bytes : List ℕ) : Type 0 where
+    pub said : List ℕ
+    pub whole : IsBody (codes heads) bytes said
+    pub opens : IsTrue (is_opening said)
+    pub no_end : bytes ≢ hyphens
+
+  -- so many parts begin in these bytes, the last one behind them: behind each text a head follows
+  abbrev pub PartsBegin : ℕ → List ℕ → Type 0
+  PartsBegin zero bytes = bytes ≡ []
+  PartsBegin (suc count) bytes = (before : List ℕ) × (text : List ℕ) × (head : List ℕ) × (dropped : List ℕ)
+      × (bytes ≡ before ++ (text ++ head)) × PartsBegin count before × IsBody (codes texts) text dropped × LeadsIn head
+
+  -- in the text of a part, so many of which began, or before the first boundary
+  pub record InText {S Q : Type 0} (first : Buffered S Q) (count : ℕ) (before : List ℕ) (t : FormState S Q) : Type 0 where
+    pub stands : (t.stand ≡ Preamble) ⊎ (t.stand ≡ Part)
+    pub coding : t.body.coding ≡ texts
+    pub other : t.other ≡ heads
+    pub counted : t.parts ≡ count
+    pub parts : PartsBegin count before
+    pub order : ReadsInOrder first (before ++ t.body.taken) t.body.reader
+
+  -- behind the last boundary, and its two hyphens
+  pub record PassedAll {S Q : Type 0} (first t : Buffered S Q) : Type 0 where
+    pub count : ℕ
+    pub before : List ℕ
+    pub text : List ℕ
+    pub dropped : List ℕ
+    pub parts : PartsBegin count before
+    pub whole : IsBody (codes texts) text dropped
+    pub order : ReadsInOrder first (before ++ (text ++ hyphens)) t
+    pub gave : EachGave first t
+
+  -- a head that begins otherwise than the line of a boundary ends was taken last
+  pub record TookWrongHead {S Q : Type 0} (first t : Buffered S Q) : Type 0 where
+    pub before : List ℕ
+    pub head : List ℕ
+    pub said : List ℕ
+    pub whole : IsBody (codes heads) head said
+    pub no_end : head ≢ hyphens
+    pub no_opening : ¬ IsTrue (is_opening said)
+    pub order : ReadsInOrder first (before ++ head) t
+    pub gave : EachGave first t
+
+  -- why no part comes next: the stream ended, or failed, or a text is longer than a run counts; the head is wrong, is too long,
+  -- or leads into a part more than these; or memory for it was refused
+  abbrev pub NextFails : {S Q : Type 0} → ℕ → Buffered S Q → PartError → Buffered S Q → Type 0
+  NextFails most first part.Truncated t = GaveNothingOnce first t
+  NextFails most first (part.Io e) t = FaultedOnce first e t ⊎ ((error_kind e ≡ Other) × EachGave first t)
+  NextFails most first part.Boundary t = TookWrongHead first t
+  NextFails most first part.LongHead t = EachGave first t
+  NextFails most first part.ManyParts t = ((count : ℕ) × (before : List ℕ) × (text : List ℕ) × PartsBegin count before
+      × ReadsInOrder first (before ++ text) t × (most ≤ count)) × EachGave first t
+  NextFails most first part.Memory t = EachGave first t
+
+-- in a part, to which the bytes before it lead
+pub record InPart {S : Type 0} (s t : FormState S StdPolicy) : Type 0 where
+  pub count : ℕ
+  pub before : List ℕ
+  pub inside : InText s.body.coding s.other s.body.reader (suc count) before t
+
+module _ {S T : Type 0} (remaining : S → Option (List ℕ)) (tells : T → StreamLog) (trace : T → T → Type 0) where
+  -- what comes of writing the text of a part, of which so much came: all of it was accepted, unless a write failed
+  abbrev pub PutAnswers : FormState S StdPolicy → Buffered T StdPolicy → List ℕ → Result (Unit {0}) RunError
+      → FormState S StdPolicy → Buffered T StdPolicy → Type 0
+  PutAnswers s u payload (Ok _) t v = TookWholeBody (codes s.body.coding) t.body × EachGave s.body.reader t.body.reader
+      × WritesAlong tells trace std_write_rules u payload v
+  PutAnswers s u payload (Err (Body why)) t v = (m : BodyState S StdPolicy JustOrUntil JustOr)
+      × EachGave s.body.reader m.reader × NoPayload (codes s.body.coding) m why t.body
+      × WritesAlong tells trace std_write_rules u payload v
+  PutAnswers s u payload (Err (Write e)) t v = EachGave s.body.reader t.body.reader
+      × StoppedAlong tells trace std_write_rules u payload e v
+  PutAnswers s u payload (Err Many) t v = EachGave s.body.reader t.body.reader × (2 ^ 64 ≤ length payload + 1)
+      × WritesAlong tells trace std_write_rules u payload v
+  PutAnswers s u payload (Err (Parts why)) t v = ⊥
+  PutAnswers s u payload (Err Missing) t v = ⊥
+
+  -- the text of the part was written
+  pub record PutsPart (s : FormState S StdPolicy) (u : Buffered T StdPolicy) (answer : Result (Unit {0}) RunError)
+      (t : FormState S StdPolicy) (v : Buffered T StdPolicy) : Type 0 where
+    pub payload : List ℕ
+    pub within : t ≡ record s { body = t.body }
+    pub went : BodyWent remaining std_read_rules (codes s.body.coding) s.body payload t.body
+    pub answers : PutAnswers s u payload answer t v
+
+  -- what comes of writing the text of a wanted part, from before the first boundary on
+  abbrev pub GetAnswers : FormState S StdPolicy → Buffered T StdPolicy → Result (Unit {0}) RunError
+      → FormState S StdPolicy → Buffered T StdPolicy → Type 0
+  GetAnswers s u (Ok _) t v = InPart s t × TookWholeBody (codes s.body.coding) t.body × EachGave s.body.reader t.body.reader
+      × WritesAlong tells trace std_write_rules u (handed_of t.body) v
+  GetAnswers s u (Err Missing) t v = PassedAll s.body.coding s.other s.body.reader t.body.reader × (v ≡ u)
+  GetAnswers s u (Err (Body why)) t v = InPart s t × ((m : BodyState S StdPolicy JustOrUntil JustOr)
+      × EachGave s.body.reader m.reader × NoPayload (codes s.body.coding) m why t.body)
+      × WritesAlong tells trace std_write_rules u (handed_of t.body) v
+  GetAnswers s u (Err (Write e)) t v = InPart s t × EachGave s.body.reader t.body.reader
+      × StoppedAlong tells trace std_write_rules u (handed_of t.body) e v
+  GetAnswers s u (Err (Parts why)) t v =
+      NextFails s.body.coding s.other s.limits.parts s.body.reader why t.body.reader × (v ≡ u)
+      × ((handed : List ℕ) × ReadsInOrder s.body.reader handed t.body.reader)
+  GetAnswers s u (Err Many) t v = EachGave s.body.reader t.body.reader × ((payload : List ℕ)
+      × WritesAlong tells trace std_write_rules u payload v × ((2 ^ 64 ≤ length payload + 1)
+      ⊎ ((count : ℕ) × (before : List ℕ) × (2 ^ 64 ≤ count + 1)
+      × InText s.body.coding s.other s.body.reader count before t)))

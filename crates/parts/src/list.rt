@@ -1,0 +1,55 @@
+//! What the parts are, over any two streams that tell.
+use crate::error::RunError;
+use crate::get::named;
+use buffer_redux::BufWriter;
+use buffer_redux::tell::{TellRead, TellWrite};
+use multipart::{Multipart, field};
+use std::io;
+use std::io::Write;
+
+/// Prints a line for each part.
+pub(crate) fn list<R: TellRead, W: TellWrite>(
+    parts: &mut Multipart<R>,
+    target: &mut BufWriter<W>,
+) -> Result<(), RunError> {
+    for _part in 0..u64::MAX {
+        if !parts.next_part()? {
+            return Ok(());
+        }
+        put_said(parts.head(), target)?;
+        let len = text_len(parts)?;
+        writeln!(target, "\t{len}")?;
+    }
+    Err(RunError::Many)
+}
+
+// Writes what a head says.
+fn put_said<W: TellWrite>(head: &[u8], target: &mut BufWriter<W>) -> io::Result<()> {
+    let said = field(head, b"Content-Disposition");
+    put_or(named(said, b"name"), target)?;
+    target.write_all(b"\t")?;
+    put_or(named(said, b"filename"), target)?;
+    target.write_all(b"\t")?;
+    put_or(field(head, b"Content-Type"), target)
+}
+
+fn put_or<W: TellWrite>(said: Option<&[u8]>, target: &mut BufWriter<W>) -> io::Result<()> {
+    match said {
+        Some(said) => target.write_all(said),
+        None => target.write_all(b"-"),
+    }
+}
+
+// How many bytes the text of the part has.
+fn text_len<R: TellRead>(parts: &mut Multipart<R>) -> Result<u64, RunError> {
+    let mut len = 0u64;
+    for _piece in 0..u64::MAX {
+        let count = parts.fill()?;
+        if count == 0 {
+            return Ok(len);
+        }
+        len = len.saturating_add(count as u64);
+        parts.consume(count);
+    }
+    Err(RunError::Many)
+}
