@@ -1,5 +1,5 @@
 -- From the text of a part to the next part.
-use Rattle.std.proofs.Common.{◌≡◌, Bool, IsTrue, ℕ, suc, List, [], ◌++◌, Option, Result, Ok, Err, true, false, inl, inr, ◌⊎◌, sym, ap, subst, ◌∙◌, refl, arith, append-nil, append_assoc}
+use Rattle.std.proofs.Common.{◌≡◌, length, Bool, IsTrue, ℕ, suc, List, [], ◌++◌, Option, Result, Ok, Err, true, false, inl, inr, ◌⊎◌, sym, ap, subst, ◌∙◌, refl, arith, append-nil, append_assoc}
 use Rattle.body_reader.specs.declared.error.BodyError.{BodyError}
 use Rattle.body_reader.specs.declared.error.BodyError.TheVariants as why
 use Rattle.body_reader.specs.declared.error.CollectError.{CollectError}
@@ -9,7 +9,7 @@ use Rattle.body_reader.specs.declared.just_or_until.JustOrUntil.{JustOrUntil}
 use Rattle.body_reader.specs.Between.{EachGave}
 use Rattle.body_reader.specs.BetweenLaws.{EachGave-joins, FaultedOnce-after, GaveNothingOnce-after}
 use Rattle.body_reader.specs.BodyReader.{BodyState, BodyWent, Collects, Drains, NoPayload, TookWholeBody, begun, handed_of}
-use Rattle.body_reader.specs.Coding.{IsBody}
+use Rattle.body_reader.specs.Coding.{IsBody, Leads, heeded}
 use Rattle.buffer_redux.specs.BufReader.{ReadsInOrder}
 use Rattle.buffer_redux.specs.Buffered.{Buffered}
 use Rattle.buffer_redux.specs.Policy.{std_read_rules}
@@ -17,6 +17,7 @@ use Rattle.buffer_redux.specs.ReaderLaws.{ReadsInOrder-joins}
 use Rattle.buffer_redux.specs.declared.policy.StdPolicy.{StdPolicy}
 use Rattle.multipart.specs.declared.error.PartError.{PartError}
 use Rattle.multipart.specs.declared.error.PartError.TheVariants as part
+use Rattle.multipart.specs.declared.reader.Limits.{Limits}
 use Rattle.multipart.specs.declared.reader.Stand.TheVariants.{Preamble, Head, Part}
 use Rattle.multipart.specs.Head.{is_opening}
 use Rattle.multipart.specs.Multipart.{EndsHead, FormState, GoesOnFromHead, LeavesText, NextPart, PassesText, codes, head_error, part_error, turned}
@@ -41,7 +42,7 @@ module _ {S : Type 0} (remaining : S → Option (List ℕ)) (texts heads : JustO
       (ReadsInOrder-joins first s.reader t.reader (before ++ s.taken) went.wire order went.along.in_order)
 
   -- why no payload came, as an error of the whole
-  no_payload : (m : Buffered S StdPolicy) (c : JustOrUntil) (s t : Body) (w : BodyError (Unit {0})) (most : ℕ)
+  no_payload : (m : Buffered S StdPolicy) (c : JustOrUntil) (s t : Body) (w : BodyError (Unit {0})) (most : Limits)
       → EachGave first s.reader → NoPayload (codes c) s w t → NextFails texts heads most first (part_error w) t.reader
   no_payload m c s t (why.Wrong x right) most gave none = absurd (none.2.name)
   no_payload m c s t (why.Truncated right) most gave none = GaveNothingOnce-after first s.reader t.reader gave none.1
@@ -51,13 +52,13 @@ module _ {S : Type 0} (remaining : S → Option (List ℕ)) (texts heads : JustO
       (gave : EachGave first s.body.reader) where
     -- a text that doesn't end
     pub text_fails : (e : PartError) (t : FormState S StdPolicy) → LeavesText remaining std_read_rules s (Err e) t
-        → NextFails texts heads s.limits.parts first e t.body.reader
+        → NextFails texts heads s.limits first e t.body.reader
         × ((handed : List ℕ) × ReadsInOrder first handed t.body.reader)
     text_fails e t (w, drains, same, within) = (
-      subst (λ x. NextFails texts heads s.limits.parts first x t.body.reader) (sym same) (elim drains.answers [
-        | inl none ↦ no_payload first s.body.coding s.body t.body w s.limits.parts gave none
+      subst (λ x. NextFails texts heads s.limits first x t.body.reader) (sym same) (elim drains.answers [
+        | inl none ↦ no_payload first s.body.coding s.body t.body w s.limits gave none
         | inr many ↦
-            subst (λ x. NextFails texts heads s.limits.parts first (part_error x) t.body.reader) (sym many.1)
+            subst (λ x. NextFails texts heads s.limits first (part_error x) t.body.reader) (sym many.1)
             (inr (many.2, EachGave-joins first s.body.reader t.body.reader gave many.4))
       ]),
       (before ++ t.body.taken, order_on before s.body.coding s.body t.body drains.payload drains.went is.order),
@@ -91,7 +92,7 @@ module _ {S : Type 0} (remaining : S → Option (List ℕ)) (texts heads : JustO
       Comes (Ok true) t = (more : List ℕ) × InText texts heads first (suc count) more t × EachGave first t.body.reader
           × (handed_of t.body ≡ []) × (t.stand ≡ Part) × (t.limits ≡ s.limits)
       Comes (Ok false) t = PassedAll texts heads first t.body.reader
-      Comes (Err e) t = NextFails texts heads s.limits.parts first e t.body.reader
+      Comes (Err e) t = NextFails texts heads s.limits first e t.body.reader
           × ((handed : List ℕ) × ReadsInOrder first handed t.body.reader)
 
       module _ (a : Body) (head : List ℕ)
@@ -189,10 +190,25 @@ module _ {S : Type 0} (remaining : S → Option (List ℕ)) (texts heads : JustO
       module _ (a : Body) (head : List ℕ) where
         no_head : (w : CollectError (Unit {0})) → Collects remaining std_read_rules (codes s.other) s.limits.head
             (begun (codes s.other) b.reader s.other) [] (Err w) a head
-            → NextFails texts heads s.limits.parts first (head_error w) a.reader
+            → NextFails texts heads s.limits first (head_error w) a.reader
         no_head (collect.Body x) collects =
-            no_payload first s.other (begun (codes s.other) b.reader s.other) a x s.limits.parts text_gave collects.answers
-        no_head collect.TooLong collects = head_gave a collects.payload collects.went collects.answers.0
+            no_payload first s.other (begun (codes s.other) b.reader s.other) a x s.limits text_gave collects.answers
+        no_head collect.TooLong collects = record {
+          before = before ++ b.taken;
+          head = a.taken;
+          said = handed_of a;
+          place = a.place;
+          leads = subst (λ c. Leads (codes c) (codes c).first a.taken (handed_of a) a.place
+              (heeded (codes c) a.reader.block.bytes)) is.other collects.whole.leads;
+          long = omega (
+            arith,
+            collects.answers.2,
+            collects.whole.known.0,
+            ap length (collects.collected ∙ sym collects.went.handed),
+          );
+          order = head_order a collects.payload collects.went;
+          gave = head_gave a collects.payload collects.went collects.answers.0;
+        }
         no_head collect.Memory collects = head_gave a collects.payload collects.went collects.answers.0
 
       goes_on : (answer : Result Bool PartError) (t : FormState S StdPolicy)
@@ -200,7 +216,7 @@ module _ {S : Type 0} (remaining : S → Option (List ℕ)) (texts heads : JustO
       goes_on answer t (a, head, inl (collects, end)) = ends a head collects answer t end
       goes_on answer t (a, head, inr (e, same, (w, collects, because), within)) =
           subst (λ x. Comes x t) (sym same) (subst (Comes (Err e)) (sym within) (
-            subst (λ x. NextFails texts heads s.limits.parts first x a.reader) (sym because) (no_head a head w collects),
+            subst (λ x. NextFails texts heads s.limits first x a.reader) (sym because) (no_head a head w collects),
             ((before ++ b.taken) ++ a.taken, head_order a collects.payload collects.went),
           ))
 
@@ -209,7 +225,7 @@ module _ {S : Type 0} (remaining : S → Option (List ℕ)) (texts heads : JustO
     NextComes (Ok true) t = (more : List ℕ) × InText texts heads first (suc count) more t × EachGave first t.body.reader
         × (handed_of t.body ≡ []) × (t.stand ≡ Part) × (t.limits ≡ s.limits)
     NextComes (Ok false) t = PassedAll texts heads first t.body.reader
-    NextComes (Err e) t = NextFails texts heads s.limits.parts first e t.body.reader
+    NextComes (Err e) t = NextFails texts heads s.limits first e t.body.reader
         × ((handed : List ℕ) × ReadsInOrder first handed t.body.reader)
 
     passes : (answer : Result Bool PartError) (t : FormState S StdPolicy)

@@ -3,10 +3,10 @@ use Rattle.std.specs.IoError.{error_kind}
 use Rattle.std.specs.declared.io.ErrorKind.TheVariants.{Other}
 use Rattle.multipart.specs.declared.error.PartError.{PartError}
 use Rattle.multipart.specs.declared.error.PartError.TheVariants as part
-use Rattle.std.specs.Prelude.{◌≡◌, ◌≢◌, ℕ, zero, suc, ◌^◌, ◌+◌, ◌≤◌, ◌⊎◌, List, [], ◌++◌, length, Option, Result, Ok, Err, IsTrue}
+use Rattle.std.specs.Prelude.{◌≡◌, ◌≢◌, ℕ, zero, suc, ◌^◌, ◌+◌, ◌<◌, ◌≤◌, ◌⊎◌, List, [], ◌++◌, length, Option, Result, Ok, Err, IsTrue}
 use Rattle.body_reader.specs.Between.{EachGave, FaultedOnce, GaveNothingOnce}
 use Rattle.body_reader.specs.BodyReader.{BodyState, BodyWent, NoPayload, TookWholeBody, handed_of}
-use Rattle.body_reader.specs.Coding.{IsBody}
+use Rattle.body_reader.specs.Coding.{IsBody, Leads, heeded}
 use Rattle.body_reader.specs.declared.just_or_until.JustOr.{JustOr}
 use Rattle.body_reader.specs.declared.just_or_until.JustOrUntil.{JustOrUntil}
 use Rattle.buffer_redux.specs.BufReader.{ReadsInOrder}
@@ -17,6 +17,7 @@ use Rattle.buffer_redux.specs.StreamLog.{StreamLog}
 use Rattle.buffer_redux.specs.declared.policy.StdPolicy.{StdPolicy}
 use Rattle.multipart.specs.Head.{is_opening}
 use Rattle.multipart.specs.Multipart.{FormState, codes, hyphens}
+use Rattle.multipart.specs.declared.reader.Limits.{Limits}
 use Rattle.multipart.specs.declared.reader.Stand.TheVariants.{Preamble, Part}
 use Rattle.parts.specs.declared.error.RunError.{RunError}
 use Rattle.parts.specs.declared.error.RunError.TheVariants.{Body, Many, Missing, Parts, Write}
@@ -66,16 +67,27 @@ module _ (texts heads : JustOrUntil) where
     pub order : ReadsInOrder first (before ++ head) t
     pub gave : EachGave first t
 
+  -- so much came of a head that it, and then what is buffered, is longer than this
+  pub record TookLongHead {S Q : Type 0} (most : ℕ) (first t : Buffered S Q) : Type 0 where
+    pub before : List ℕ
+    pub head : List ℕ
+    pub said : List ℕ
+    pub place : JustOr
+    pub leads : Leads (codes heads) (codes heads).first head said place (heeded (codes heads) t.block.bytes)
+    pub long : most < length said + length t.block.bytes
+    pub order : ReadsInOrder first (before ++ head) t
+    pub gave : EachGave first t
+
   -- why no part comes next: the stream ended, or failed, or a text is longer than a run counts; the head is wrong, is too long,
   -- or leads into a part more than these; or memory for it was refused
-  abbrev pub NextFails : {S Q : Type 0} → ℕ → Buffered S Q → PartError → Buffered S Q → Type 0
-  NextFails most first part.Truncated t = GaveNothingOnce first t
-  NextFails most first (part.Io e) t = FaultedOnce first e t ⊎ ((error_kind e ≡ Other) × EachGave first t)
-  NextFails most first part.Boundary t = TookWrongHead first t
-  NextFails most first part.LongHead t = EachGave first t
-  NextFails most first part.ManyParts t = ((count : ℕ) × (before : List ℕ) × (text : List ℕ) × PartsBegin count before
-      × ReadsInOrder first (before ++ text) t × (most ≤ count)) × EachGave first t
-  NextFails most first part.Memory t = EachGave first t
+  abbrev pub NextFails : {S Q : Type 0} → Limits → Buffered S Q → PartError → Buffered S Q → Type 0
+  NextFails limits first part.Truncated t = GaveNothingOnce first t
+  NextFails limits first (part.Io e) t = FaultedOnce first e t ⊎ ((error_kind e ≡ Other) × EachGave first t)
+  NextFails limits first part.Boundary t = TookWrongHead first t
+  NextFails limits first part.LongHead t = TookLongHead limits.head first t
+  NextFails limits first part.ManyParts t = ((count : ℕ) × (before : List ℕ) × (text : List ℕ) × PartsBegin count before
+      × ReadsInOrder first (before ++ text) t × (limits.parts ≤ count)) × EachGave first t
+  NextFails limits first part.Memory t = EachGave first t
 
 -- in a part, to which the bytes before it lead
 pub record InPart {S : Type 0} (s t : FormState S StdPolicy) : Type 0 where
@@ -119,7 +131,7 @@ module _ {S T : Type 0} (remaining : S → Option (List ℕ)) (tells : T → Str
   GetAnswers s u (Err (Write e)) t v = InPart s t × EachGave s.body.reader t.body.reader
       × StoppedAlong tells trace std_write_rules u (handed_of t.body) e v
   GetAnswers s u (Err (Parts why)) t v =
-      NextFails s.body.coding s.other s.limits.parts s.body.reader why t.body.reader × (v ≡ u)
+      NextFails s.body.coding s.other s.limits s.body.reader why t.body.reader × (v ≡ u)
       × ((handed : List ℕ) × ReadsInOrder s.body.reader handed t.body.reader)
   GetAnswers s u (Err Many) t v = EachGave s.body.reader t.body.reader × ((payload : List ℕ)
       × WritesAlong tells trace std_write_rules u payload v × ((2 ^ 64 ≤ length payload + 1)

@@ -36,7 +36,7 @@ returns-in_err-next_part g c =
     let comes = next_comes g.R.TellRead.remaining s.body.coding s.other s.body.reader c.loop-part._part i.before
     c.loop-part.parts i.inside i.gave (Err c.in_err-next_part.field-0.0) c.next_part.new.self c.in_err-next_part.ensures.next in
     rw (p.1, p.2) (
-      subst (λ l. NextFails s.body.coding s.other l.parts s.body.reader c.in_err-next_part.field-0.0
+      subst (λ l. NextFails s.body.coding s.other l s.body.reader c.in_err-next_part.field-0.0
           c.next_part.new.self.body.reader) i.limits comes.0,
       i.still,
       comes.1,
