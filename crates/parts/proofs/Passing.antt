@@ -1,5 +1,5 @@
 -- From the text of a part to the next part.
-use Rattle.std.proofs.Common.{◌≡◌, length, Bool, IsTrue, ℕ, suc, List, [], ◌++◌, Option, Result, Ok, Err, true, false, inl, inr, ◌⊎◌, sym, ap, subst, ◌∙◌, refl, arith, append-nil, append_assoc}
+use Rattle.std.proofs.Common.{◌≡◌, ◌≢◌, ◌<◌, length, length-append, Bool, IsTrue, ℕ, suc, List, [], ◌++◌, Option, Result, Ok, Err, true, false, inl, inr, ◌⊎◌, sym, ap, subst, ◌∙◌, refl, arith, append-nil, append_assoc}
 use Rattle.body_reader.specs.declared.error.BodyError.{BodyError}
 use Rattle.body_reader.specs.declared.error.BodyError.TheVariants as why
 use Rattle.body_reader.specs.declared.error.CollectError.{CollectError}
@@ -7,9 +7,9 @@ use Rattle.body_reader.specs.declared.error.CollectError.TheVariants as collect
 use Rattle.body_reader.specs.declared.just_or_until.JustOr.{JustOr}
 use Rattle.body_reader.specs.declared.just_or_until.JustOrUntil.{JustOrUntil}
 use Rattle.body_reader.specs.Between.{EachGave}
-use Rattle.body_reader.specs.BetweenLaws.{EachGave-joins, FaultedOnce-after, GaveNothingOnce-after}
-use Rattle.body_reader.specs.BodyReader.{BodyState, BodyWent, Collects, Drains, NoPayload, TookWholeBody, begun, handed_of}
-use Rattle.body_reader.specs.Coding.{IsBody, Leads, heeded}
+use Rattle.body_reader.specs.BetweenLaws.{EachGave-joins, FaultedOnce-after, GaveNothingOnce-after, StopsFor-after}
+use Rattle.body_reader.specs.BodyReader.{BodyState, BodyWent, Collects, Drains, IsBodyReader, NoPayload, TookWholeBody, begun, handed_of}
+use Rattle.body_reader.specs.Coding.{IsBody}
 use Rattle.buffer_redux.specs.BufReader.{ReadsInOrder}
 use Rattle.buffer_redux.specs.Buffered.{Buffered}
 use Rattle.buffer_redux.specs.Policy.{std_read_rules}
@@ -20,13 +20,13 @@ use Rattle.multipart.specs.declared.error.PartError.TheVariants as part
 use Rattle.multipart.specs.declared.reader.Limits.{Limits}
 use Rattle.multipart.specs.declared.reader.Stand.TheVariants.{Preamble, Head, Part}
 use Rattle.multipart.specs.Head.{is_opening}
-use Rattle.multipart.specs.Multipart.{EndsHead, FormState, GoesOnFromHead, LeavesText, NextPart, PassesText, codes, head_error, part_error, turned}
+use Rattle.multipart.specs.Multipart.{hyphens, EndsHead, FormState, GoesOnFromHead, LeavesText, NextPart, PassesText, codes, head_error, part_error, turned}
 use Rattle.buffer_redux.specs.BufWriter.{StoppedAlong, WritesAlong}
 use Rattle.buffer_redux.specs.Policy.{std_write_rules}
 use Rattle.buffer_redux.specs.StreamLog.{StreamLog}
 use Rattle.parts.specs.declared.error.RunError.{RunError}
 use Rattle.parts.specs.declared.error.RunError.TheVariants as Run
-use Rattle.parts.specs.Sections.{GetAnswers, InPart, InText, NextFails, PassedAll, PutsPart}
+use Rattle.parts.specs.Sections.{BehindText, GetAnswers, InHead, InPart, InSection, InText, LeadsIn, NextFails, PassedAll, PutsPart}
 
 module _ {S : Type 0} (remaining : S → Option (List ℕ)) (texts heads : JustOrUntil) (first : Buffered S StdPolicy) where
   abbrev Body : Type 0
@@ -42,27 +42,52 @@ module _ {S : Type 0} (remaining : S → Option (List ℕ)) (texts heads : JustO
       (ReadsInOrder-joins first s.reader t.reader (before ++ s.taken) went.wire order went.along.in_order)
 
   -- why no payload came, as an error of the whole
-  no_payload : (m : Buffered S StdPolicy) (c : JustOrUntil) (s t : Body) (w : BodyError (Unit {0})) (most : Limits)
-      → EachGave first s.reader → NoPayload (codes c) s w t → NextFails texts heads most first (part_error w) t.reader
-  no_payload m c s t (why.Wrong x right) most gave none = absurd (none.2.name)
-  no_payload m c s t (why.Truncated right) most gave none = GaveNothingOnce-after first s.reader t.reader gave none.1
-  no_payload m c s t (why.Io e) most gave none = inl (FaultedOnce-after first s.reader t.reader gave e none.0)
+  no_payload : (s : Body) (t : FormState S StdPolicy) (w : BodyError (Unit {0})) (most : Limits)
+      → InSection texts heads first t → EachGave first s.reader → NoPayload (codes t.body.coding) s w t.body
+      → NextFails texts heads most first (part_error w) t
+  no_payload s t (why.Wrong x right) most inside gave none = absurd (none.2.name)
+  no_payload s t (why.Truncated right) most inside gave none =
+      (inside, none.2, GaveNothingOnce-after first s.reader t.body.reader gave none.1)
+  no_payload s t (why.Io e) most inside gave none =
+      (inside, inl (none.1, FaultedOnce-after first s.reader t.body.reader gave e none.0))
 
   module _ (count : ℕ) (before : List ℕ) (s : FormState S StdPolicy) (is : InText texts heads first count before s)
       (gave : EachGave first s.body.reader) where
+    -- further in the text
+    pub in_text : (t : FormState S StdPolicy) (payload : List ℕ) → t ≡ record s { body = t.body }
+        → BodyWent remaining std_read_rules (codes s.body.coding) s.body payload t.body → InText texts heads first count before t
+    in_text t payload within went = record {
+      stands = subst (λ x. (x ≡ Preamble) ⊎ (x ≡ Part)) (sym (ap (λ x. x.stand) within)) is.stands;
+      coding = went.coding ∙ is.coding;
+      other = ap (λ x. x.other) within ∙ is.other;
+      counted = ap (λ x. x.parts) within ∙ is.counted;
+      parts = is.parts;
+      order = order_on before s.body.coding s.body t.body payload went is.order;
+    }
+
     -- a text that doesn't end
     pub text_fails : (e : PartError) (t : FormState S StdPolicy) → LeavesText remaining std_read_rules s (Err e) t
-        → NextFails texts heads s.limits first e t.body.reader
-        × ((handed : List ℕ) × ReadsInOrder first handed t.body.reader)
-    text_fails e t (w, drains, same, within) = (
-      subst (λ x. NextFails texts heads s.limits first x t.body.reader) (sym same) (elim drains.answers [
-        | inl none ↦ no_payload first s.body.coding s.body t.body w s.limits gave none
-        | inr many ↦
-            subst (λ x. NextFails texts heads s.limits first (part_error x) t.body.reader) (sym many.1)
-            (inr (many.2, EachGave-joins first s.body.reader t.body.reader gave many.4))
-      ]),
-      (before ++ t.body.taken, order_on before s.body.coding s.body t.body drains.payload drains.went is.order),
-    )
+        → NextFails texts heads s.limits first e t
+    text_fails e t (w, drains, same, within) =
+        let inside : InSection texts heads first t = inl (count, before, in_text t drains.payload within drains.went) in
+        subst (λ x. NextFails texts heads s.limits first x t) (sym same) (elim drains.answers [
+          | inl none ↦ no_payload s.body t w s.limits inside gave
+              (subst (λ c. NoPayload (codes c) s.body w t.body) (sym drains.went.coding) none)
+          | inr many ↦
+              subst (λ x. NextFails texts heads s.limits first (part_error x) t) (sym many.1) (
+                inside,
+                inr (
+                  many.2,
+                  omega (
+                    arith,
+                    many.3,
+                    ap length drains.went.handed,
+                    length-append (handed_of s.body) drains.payload,
+                  ),
+                  EachGave-joins first s.body.reader t.body.reader gave many.4,
+                ),
+              )
+        ])
 
     module _ (b : Body) (drains : Drains remaining std_read_rules (codes s.body.coding) s.body (Ok tt) b) where
       abbrev behind : FormState S StdPolicy
@@ -84,6 +109,17 @@ module _ {S : Type 0} (remaining : S → Option (List ℕ)) (texts heads : JustO
         head_order = order_on (before ++ b.taken) s.other (begun (codes s.other) b.reader s.other) a payload went
             (subst (λ l. ReadsInOrder first l b.reader) (sym (append-nil (before ++ b.taken))) text_order)
 
+        abbrev behind_text : BehindText texts heads first a.taken a.reader
+        behind_text = record {
+          count = count;
+          before = before;
+          text = b.taken;
+          dropped = handed_of b;
+          parts = is.parts;
+          whole = text_whole;
+          order = subst (λ l. ReadsInOrder first l a.reader) (append_assoc before b.taken a.taken) head_order;
+        }
+
         head_gave : EachGave b.reader a.reader → EachGave first a.reader
         head_gave gave' = EachGave-joins first b.reader a.reader text_gave gave'
 
@@ -92,8 +128,7 @@ module _ {S : Type 0} (remaining : S → Option (List ℕ)) (texts heads : JustO
       Comes (Ok true) t = (more : List ℕ) × InText texts heads first (suc count) more t × EachGave first t.body.reader
           × (handed_of t.body ≡ []) × (t.stand ≡ Part) × (t.limits ≡ s.limits)
       Comes (Ok false) t = PassedAll texts heads first t.body.reader
-      Comes (Err e) t = NextFails texts heads s.limits first e t.body.reader
-          × ((handed : List ℕ) × ReadsInOrder first handed t.body.reader)
+      Comes (Err e) t = NextFails texts heads s.limits first e t
 
       module _ (a : Body) (head : List ℕ)
           (collects : Collects remaining std_read_rules (codes s.other) s.limits.head
@@ -113,6 +148,14 @@ module _ {S : Type 0} (remaining : S → Option (List ℕ)) (texts heads : JustO
         gave_all : EachGave first a.reader
         gave_all = head_gave a collects.payload collects.went collects.answers.0
 
+        leads_in : IsTrue (is_opening head) → a.taken ≢ hyphens → LeadsIn texts heads a.taken
+        leads_in opens no_end = record {
+          said = handed_of a;
+          whole = head_whole;
+          opens = subst (λ l. IsTrue (is_opening l)) said_is opens;
+          no_end = no_end;
+        }
+
         ends : (answer : Result Bool PartError) (t : FormState S StdPolicy) → EndsHead taken_head answer t → Comes answer t
         ends (Ok true) t end = subst (Comes (Ok true)) (sym end.3) (
           (before ++ b.taken) ++ a.taken,
@@ -129,12 +172,7 @@ module _ {S : Type 0} (remaining : S → Option (List ℕ)) (texts heads : JustO
               append_assoc before b.taken a.taken,
               is.parts,
               text_whole,
-              record {
-                said = handed_of a;
-                whole = head_whole;
-                opens = subst (λ l. IsTrue (is_opening l)) said_is end.1;
-                no_end = end.0;
-              },
+              leads_in end.1 end.0,
             );
             order = subst (λ l. ReadsInOrder first l a.reader) (sym (append-nil ((before ++ b.taken) ++ a.taken))) order_all;
           },
@@ -143,43 +181,23 @@ module _ {S : Type 0} (remaining : S → Option (List ℕ)) (texts heads : JustO
           refl,
           refl,
         )
-        ends (Ok false) t end = subst (Comes (Ok false)) (sym end.1) (record {
-          count = count;
-          before = before;
-          text = b.taken;
-          dropped = handed_of b;
-          parts = is.parts;
-          whole = text_whole;
-          order = subst (λ l. ReadsInOrder first l a.reader)
-              (append_assoc before b.taken a.taken ∙ ap (λ l. before ++ (b.taken ++ l)) end.0) order_all;
-          gave = gave_all;
-        })
+        ends (Ok false) t end = subst (Comes (Ok false)) (sym end.1) (
+          subst (λ l. BehindText texts heads first l a.reader) end.0 (behind_text a collects.payload collects.went),
+          gave_all,
+        )
         ends (Err part.Boundary) t end = subst (Comes (Err part.Boundary)) (sym end.2) (
           record {
-            before = before ++ b.taken;
-            head = a.taken;
-            said = handed_of a;
+            behind = behind_text a collects.payload collects.went;
             whole = head_whole;
             no_end = end.0;
             no_opening = subst (λ l. ¬ IsTrue (is_opening l)) said_is end.1;
-            order = order_all;
-            gave = gave_all;
           },
-          ((before ++ b.taken) ++ a.taken, order_all),
+          gave_all,
         )
         ends (Err part.ManyParts) t end = subst (Comes (Err part.ManyParts)) (sym end.3) (
-          (
-            (
-              count,
-              before,
-              b.taken ++ a.taken,
-              is.parts,
-              subst (λ l. ReadsInOrder first l a.reader) (append_assoc before b.taken a.taken) order_all,
-              omega (arith, is.counted, end.2),
-            ),
-            gave_all,
-          ),
-          ((before ++ b.taken) ++ a.taken, order_all),
+          (behind_text a collects.payload collects.went, omega (arith, is.counted, end.2)),
+          leads_in end.1 end.0,
+          gave_all,
         )
         ends (Err part.Truncated) t end = absurd end
         ends (Err (part.Io e)) t end = absurd end
@@ -188,45 +206,48 @@ module _ {S : Type 0} (remaining : S → Option (List ℕ)) (texts heads : JustO
 
       -- a head that wasn't collected
       module _ (a : Body) (head : List ℕ) where
+        abbrev left_head : FormState S StdPolicy
+        left_head = record behind { body = a; head = head }
+
+        in_head : (w : CollectError (Unit {0})) → Collects remaining std_read_rules (codes s.other) s.limits.head
+            (begun (codes s.other) b.reader s.other) [] (Err w) a head → 0 < a.known → InHead texts heads first left_head
+        in_head w collects some = record {
+          behind = behind_text a collects.payload collects.went;
+          inside = subst (λ c. IsBodyReader (codes c) a) is.other collects.whole;
+          some = some;
+        }
+
         no_head : (w : CollectError (Unit {0})) → Collects remaining std_read_rules (codes s.other) s.limits.head
             (begun (codes s.other) b.reader s.other) [] (Err w) a head
-            → NextFails texts heads s.limits first (head_error w) a.reader
-        no_head (collect.Body x) collects =
-            no_payload first s.other (begun (codes s.other) b.reader s.other) a x s.limits text_gave collects.answers
-        no_head collect.TooLong collects = record {
-          before = before ++ b.taken;
-          head = a.taken;
-          said = handed_of a;
-          place = a.place;
-          leads = subst (λ c. Leads (codes c) (codes c).first a.taken (handed_of a) a.place
-              (heeded (codes c) a.reader.block.bytes)) is.other collects.whole.leads;
-          long = omega (
-            arith,
-            collects.answers.2,
-            collects.whole.known.0,
-            ap length (collects.collected ∙ sym collects.went.handed),
-          );
-          order = head_order a collects.payload collects.went;
-          gave = head_gave a collects.payload collects.went collects.answers.0;
-        }
-        no_head collect.Memory collects = head_gave a collects.payload collects.went collects.answers.0
+            → NextFails texts heads s.limits first (head_error w) left_head
+        no_head (collect.Body x) collects = no_payload (begun (codes s.other) b.reader s.other) left_head x s.limits
+            (inr (behind_text a collects.payload collects.went)) text_gave
+            (subst (λ c. NoPayload (codes c) (begun (codes s.other) b.reader s.other) x a) (sym collects.went.coding)
+            collects.answers)
+        no_head collect.TooLong collects = (
+          in_head collect.TooLong collects collects.answers.1,
+          omega (arith, collects.answers.2, ap length (collects.collected ∙ sym collects.went.handed)),
+          head_gave a collects.payload collects.went collects.answers.0,
+        )
+        no_head collect.Memory collects = (
+          in_head collect.Memory collects collects.answers.1,
+          omega (arith, collects.answers.2, ap length (collects.collected ∙ sym collects.went.handed)),
+          head_gave a collects.payload collects.went collects.answers.0,
+        )
 
       goes_on : (answer : Result Bool PartError) (t : FormState S StdPolicy)
           → GoesOnFromHead remaining std_read_rules behind answer t → Comes answer t
       goes_on answer t (a, head, inl (collects, end)) = ends a head collects answer t end
       goes_on answer t (a, head, inr (e, same, (w, collects, because), within)) =
-          subst (λ x. Comes x t) (sym same) (subst (Comes (Err e)) (sym within) (
-            subst (λ x. NextFails texts heads s.limits first x a.reader) (sym because) (no_head a head w collects),
-            ((before ++ b.taken) ++ a.taken, head_order a collects.payload collects.went),
-          ))
+          subst (λ x. Comes x t) (sym same) (subst (Comes (Err e)) (sym within)
+          (subst (λ x. NextFails texts heads s.limits first x (left_head a head)) (sym because) (no_head a head w collects)))
 
     -- what comes of going on to the next part
     abbrev pub NextComes : Result Bool PartError → FormState S StdPolicy → Type 0
     NextComes (Ok true) t = (more : List ℕ) × InText texts heads first (suc count) more t × EachGave first t.body.reader
         × (handed_of t.body ≡ []) × (t.stand ≡ Part) × (t.limits ≡ s.limits)
     NextComes (Ok false) t = PassedAll texts heads first t.body.reader
-    NextComes (Err e) t = NextFails texts heads s.limits first e t.body.reader
-        × ((handed : List ℕ) × ReadsInOrder first handed t.body.reader)
+    NextComes (Err e) t = NextFails texts heads s.limits first e t
 
     passes : (answer : Result Bool PartError) (t : FormState S StdPolicy)
         → PassesText remaining std_read_rules s answer t → NextComes answer t
@@ -255,15 +276,8 @@ module _ {S T : Type 0} (remaining : S → Option (List ℕ)) (tells : T → Str
     in_part = record {
       count = count;
       before = before;
-      inside = record {
-        stands = subst (λ x. (x ≡ Preamble) ⊎ (x ≡ Part)) (sym (ap (λ x. x.stand) puts.within)) is.stands;
-        coding = puts.went.coding ∙ is.coding;
-        other = ap (λ x. x.other) puts.within ∙ is.other;
-        counted = ap (λ x. x.parts) puts.within ∙ is.counted;
-        parts = is.parts;
-        order = order_on remaining s.body.coding s.other s.body.reader before m.body.coding m.body t.body puts.payload
-            puts.went is.order;
-      };
+      inside = in_text remaining s.body.coding s.other s.body.reader (suc count) before m is gave t puts.payload puts.within
+          puts.went;
     }
 
     all_handed : handed_of t.body ≡ puts.payload
@@ -278,15 +292,12 @@ module _ {S T : Type 0} (remaining : S → Option (List ℕ)) (tells : T → Str
     subst (λ l. WritesAlong tells trace std_write_rules w l v) (sym (all_handed (Ok tt) puts))
         (subst (λ x. WritesAlong tells trace std_write_rules x puts.payload v) still puts.answers.2),
   )
-  put_comes (Err (Run.Body y)) puts = let from = puts.answers.0 in (
+  put_comes (Err (Run.Body y)) puts = (
     in_part (Err (Run.Body y)) puts,
-    (
-      from,
-      EachGave-joins s.body.reader m.body.reader from.reader gave puts.answers.1,
-      subst (λ c. NoPayload (codes c) from y t.body) is.coding puts.answers.2,
-    ),
+    StopsFor-after _ _ _ s.body.reader m.body.reader t.body.reader gave y
+        (subst (λ c. NoPayload (codes c) m.body y t.body) is.coding puts.answers.0),
     subst (λ l. WritesAlong tells trace std_write_rules w l v) (sym (all_handed (Err (Run.Body y)) puts))
-        (subst (λ x. WritesAlong tells trace std_write_rules x puts.payload v) still puts.answers.3),
+        (subst (λ x. WritesAlong tells trace std_write_rules x puts.payload v) still puts.answers.1),
   )
   put_comes (Err (Run.Write e)) puts = (
     in_part (Err (Run.Write e)) puts,
@@ -296,10 +307,11 @@ module _ {S T : Type 0} (remaining : S → Option (List ℕ)) (tells : T → Str
   )
   put_comes (Err Run.Many) puts = (
     EachGave-joins s.body.reader m.body.reader t.body.reader gave puts.answers.0,
-    (
-      puts.payload,
-      subst (λ x. WritesAlong tells trace std_write_rules x puts.payload v) still puts.answers.2,
-      inl puts.answers.1,
+    inl (
+      in_part (Err Run.Many) puts,
+      omega (arith, puts.answers.1, ap length (all_handed (Err Run.Many) puts)),
+      subst (λ l. WritesAlong tells trace std_write_rules w l v) (sym (all_handed (Err Run.Many) puts))
+          (subst (λ x. WritesAlong tells trace std_write_rules x puts.payload v) still puts.answers.2),
     ),
   )
   put_comes (Err (Run.Parts y)) puts = absurd puts.answers

@@ -3,11 +3,10 @@ use Rattle.std.specs.IoError.{error_kind}
 use Rattle.std.specs.declared.io.ErrorKind.TheVariants.{Other}
 use Rattle.multipart.specs.declared.error.PartError.{PartError}
 use Rattle.multipart.specs.declared.error.PartError.TheVariants as part
-use Rattle.std.specs.Prelude.{◌≡◌, ◌≢◌, ℕ, zero, suc, ◌^◌, ◌+◌, ◌<◌, ◌≤◌, ◌⊎◌, List, [], ◌++◌, length, Option, Result, Ok, Err, IsTrue}
+use Rattle.std.specs.Prelude.{◌≡◌, ◌≢◌, ℕ, zero, suc, ◌^◌, ◌+◌, ◌-◌, ◌<◌, ◌≤◌, ◌⊎◌, List, [], ◌++◌, length, Option, Result, Ok, Err, IsTrue}
 use Rattle.body_reader.specs.Between.{EachGave, FaultedOnce, GaveNothingOnce}
-use Rattle.body_reader.specs.BodyReader.{BodyState, BodyWent, NoPayload, TookWholeBody, handed_of}
-use Rattle.body_reader.specs.Coding.{IsBody, Leads, heeded}
-use Rattle.body_reader.specs.declared.just_or_until.JustOr.{JustOr}
+use Rattle.body_reader.specs.BodyReader.{BodyWent, EndsEarly, IsBodyReader, NoPayload, TookWholeBody, handed_of}
+use Rattle.body_reader.specs.Coding.{IsBody}
 use Rattle.body_reader.specs.declared.just_or_until.JustOrUntil.{JustOrUntil}
 use Rattle.buffer_redux.specs.BufReader.{ReadsInOrder}
 use Rattle.buffer_redux.specs.BufWriter.{StoppedAlong, WritesAlong}
@@ -45,49 +44,53 @@ module _ (texts heads : JustOrUntil) where
     pub parts : PartsBegin count before
     pub order : ReadsInOrder first (before ++ t.body.taken) t.body.reader
 
-  -- behind the last boundary, and its two hyphens
-  pub record PassedAll {S Q : Type 0} (first t : Buffered S Q) : Type 0 where
+  -- behind the text in front of a boundary, and so many parts, these bytes were taken last
+  pub record BehindText {S Q : Type 0} (first : Buffered S Q) (wire : List ℕ) (t : Buffered S Q) : Type 0 where
     pub count : ℕ
     pub before : List ℕ
     pub text : List ℕ
     pub dropped : List ℕ
     pub parts : PartsBegin count before
     pub whole : IsBody (codes texts) text dropped
-    pub order : ReadsInOrder first (before ++ (text ++ hyphens)) t
-    pub gave : EachGave first t
+    pub order : ReadsInOrder first (before ++ (text ++ wire)) t
+
+  -- behind the last boundary, and its two hyphens
+  abbrev pub PassedAll : {S Q : Type 0} → Buffered S Q → Buffered S Q → Type 0
+  PassedAll first t = BehindText first hyphens t × EachGave first t
+
+  -- in a text, or in the head behind one
+  abbrev pub InSection : {S Q : Type 0} → Buffered S Q → FormState S Q → Type 0
+  InSection first t =
+      ((count : ℕ) × (before : List ℕ) × InText first count before t) ⊎ BehindText first t.body.taken t.body.reader
 
   -- a head that begins otherwise than the line of a boundary ends was taken last
-  pub record TookWrongHead {S Q : Type 0} (first t : Buffered S Q) : Type 0 where
-    pub before : List ℕ
-    pub head : List ℕ
-    pub said : List ℕ
-    pub whole : IsBody (codes heads) head said
-    pub no_end : head ≢ hyphens
-    pub no_opening : ¬ IsTrue (is_opening said)
-    pub order : ReadsInOrder first (before ++ head) t
-    pub gave : EachGave first t
+  pub record TookWrongHead {S Q : Type 0} (first : Buffered S Q) (t : FormState S Q) : Type 0 where
+    pub behind : BehindText first t.body.taken t.body.reader
+    pub whole : IsBody (codes heads) t.body.taken (handed_of t.body)
+    pub no_end : t.body.taken ≢ hyphens
+    pub no_opening : ¬ IsTrue (is_opening (handed_of t.body))
 
-  -- so much came of a head that it, and then what is buffered, is longer than this
-  pub record TookLongHead {S Q : Type 0} (most : ℕ) (first t : Buffered S Q) : Type 0 where
-    pub before : List ℕ
-    pub head : List ℕ
-    pub said : List ℕ
-    pub place : JustOr
-    pub leads : Leads (codes heads) (codes heads).first head said place (heeded (codes heads) t.block.bytes)
-    pub long : most < length said + length t.block.bytes
-    pub order : ReadsInOrder first (before ++ head) t
-    pub gave : EachGave first t
+  -- in a head, of which more is buffered
+  pub record InHead {S Q : Type 0} (first : Buffered S Q) (t : FormState S Q) : Type 0 where
+    pub behind : BehindText first t.body.taken t.body.reader
+    pub inside : IsBodyReader (codes heads) t.body
+    pub some : 0 < t.body.known
 
-  -- why no part comes next: the stream ended, or failed, or a text is longer than a run counts; the head is wrong, is too long,
-  -- or leads into a part more than these; or memory for it was refused
-  abbrev pub NextFails : {S Q : Type 0} → Limits → Buffered S Q → PartError → Buffered S Q → Type 0
-  NextFails limits first part.Truncated t = GaveNothingOnce first t
-  NextFails limits first (part.Io e) t = FaultedOnce first e t ⊎ ((error_kind e ≡ Other) × EachGave first t)
-  NextFails limits first part.Boundary t = TookWrongHead first t
-  NextFails limits first part.LongHead t = TookLongHead limits.head first t
-  NextFails limits first part.ManyParts t = ((count : ℕ) × (before : List ℕ) × (text : List ℕ) × PartsBegin count before
-      × ReadsInOrder first (before ++ text) t × (limits.parts ≤ count)) × EachGave first t
-  NextFails limits first part.Memory t = EachGave first t
+  -- why no part comes next: the stream ended within a text or a head, or failed there, or the text is longer than a run counts;
+  -- the head is wrong, is too long, or leads into a part more than these; or memory for it was refused
+  abbrev pub NextFails : {S Q : Type 0} → Limits → Buffered S Q → PartError → FormState S Q → Type 0
+  NextFails limits first part.Truncated t =
+      InSection first t × EndsEarly (codes t.body.coding) t.body × GaveNothingOnce first t.body.reader
+  NextFails limits first (part.Io e) t = InSection first t
+      × ((EndsEarly (codes t.body.coding) t.body × FaultedOnce first e t.body.reader)
+      ⊎ ((error_kind e ≡ Other) × (2 ^ 64 - 1 ≤ length (handed_of t.body)) × EachGave first t.body.reader))
+  NextFails limits first part.Boundary t = TookWrongHead first t × EachGave first t.body.reader
+  NextFails limits first part.LongHead t =
+      InHead first t × (limits.head < length (handed_of t.body) + t.body.known) × EachGave first t.body.reader
+  NextFails limits first part.ManyParts t = ((behind : BehindText first t.body.taken t.body.reader) × (limits.parts ≤ behind.count))
+      × LeadsIn t.body.taken × EachGave first t.body.reader
+  NextFails limits first part.Memory t =
+      InHead first t × (length (handed_of t.body) + t.body.known ≤ limits.head) × EachGave first t.body.reader
 
 -- in a part, to which the bytes before it lead
 pub record InPart {S : Type 0} (s t : FormState S StdPolicy) : Type 0 where
@@ -101,8 +104,7 @@ module _ {S T : Type 0} (remaining : S → Option (List ℕ)) (tells : T → Str
       → FormState S StdPolicy → Buffered T StdPolicy → Type 0
   PutAnswers s u payload (Ok _) t v = TookWholeBody (codes s.body.coding) t.body × EachGave s.body.reader t.body.reader
       × WritesAlong tells trace std_write_rules u payload v
-  PutAnswers s u payload (Err (Body why)) t v = (m : BodyState S StdPolicy JustOrUntil JustOr)
-      × EachGave s.body.reader m.reader × NoPayload (codes s.body.coding) m why t.body
+  PutAnswers s u payload (Err (Body why)) t v = NoPayload (codes s.body.coding) s.body why t.body
       × WritesAlong tells trace std_write_rules u payload v
   PutAnswers s u payload (Err (Write e)) t v = EachGave s.body.reader t.body.reader
       × StoppedAlong tells trace std_write_rules u payload e v
@@ -125,15 +127,14 @@ module _ {S T : Type 0} (remaining : S → Option (List ℕ)) (tells : T → Str
   GetAnswers s u (Ok _) t v = InPart s t × TookWholeBody (codes s.body.coding) t.body × EachGave s.body.reader t.body.reader
       × WritesAlong tells trace std_write_rules u (handed_of t.body) v
   GetAnswers s u (Err Missing) t v = PassedAll s.body.coding s.other s.body.reader t.body.reader × (v ≡ u)
-  GetAnswers s u (Err (Body why)) t v = InPart s t × ((m : BodyState S StdPolicy JustOrUntil JustOr)
-      × EachGave s.body.reader m.reader × NoPayload (codes s.body.coding) m why t.body)
+  GetAnswers s u (Err (Body why)) t v = InPart s t × NoPayload (codes s.body.coding) s.body why t.body
       × WritesAlong tells trace std_write_rules u (handed_of t.body) v
   GetAnswers s u (Err (Write e)) t v = InPart s t × EachGave s.body.reader t.body.reader
       × StoppedAlong tells trace std_write_rules u (handed_of t.body) e v
   GetAnswers s u (Err (Parts why)) t v =
-      NextFails s.body.coding s.other s.limits s.body.reader why t.body.reader × (v ≡ u)
-      × ((handed : List ℕ) × ReadsInOrder s.body.reader handed t.body.reader)
-  GetAnswers s u (Err Many) t v = EachGave s.body.reader t.body.reader × ((payload : List ℕ)
-      × WritesAlong tells trace std_write_rules u payload v × ((2 ^ 64 ≤ length payload + 1)
-      ⊎ ((count : ℕ) × (before : List ℕ) × (2 ^ 64 ≤ count + 1)
+      NextFails s.body.coding s.other s.limits s.body.reader why t × (v ≡ u)
+  GetAnswers s u (Err Many) t v = EachGave s.body.reader t.body.reader
+      × ((InPart s t × (2 ^ 64 ≤ length (handed_of t.body) + 1)
+      × WritesAlong tells trace std_write_rules u (handed_of t.body) v)
+      ⊎ ((v ≡ u) × ((count : ℕ) × (before : List ℕ) × (2 ^ 64 ≤ count + 1)
       × InText s.body.coding s.other s.body.reader count before t)))

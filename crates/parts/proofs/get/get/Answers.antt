@@ -3,10 +3,7 @@ use Rattle.std.proofs.Common.{◌≡◌, ◌+◌, suc, [], Ok, Err, true, false,
 use Rattle.std.proofs.lemmas.Result.{err_from_is_err_and}
 use Rattle.body_reader.specs.BetweenLaws.{EachGave-none}
 use Rattle.buffer_redux.specs.BufReader.{ReadsInOrder}
-use Rattle.buffer_redux.specs.Policy.{std_write_rules}
 use Rattle.buffer_redux.specs.ReaderLaws.{ReadsInOrder-none}
-use Rattle.buffer_redux.specs.WritesAlongLaws.{WritesAlong-none}
-use Rattle.buffer_redux.specs.BufWriter.{WritesAlong}
 use Rattle.parts.specs.Sections.{InText, NextFails}
 use Rattle.parts.proofs.Passing.{next_comes, put_comes}
 use Rattle.parts.proofs.get.get.Goals as goal
@@ -36,10 +33,9 @@ returns-in_err-next_part g c =
     let comes = next_comes g.R.TellRead.remaining s.body.coding s.other s.body.reader c.loop-part._part i.before
     c.loop-part.parts i.inside i.gave (Err c.in_err-next_part.field-0.0) c.next_part.new.self c.in_err-next_part.ensures.next in
     rw (p.1, p.2) (
-      subst (λ l. NextFails s.body.coding s.other l s.body.reader c.in_err-next_part.field-0.0
-          c.next_part.new.self.body.reader) i.limits comes.0,
+      subst (λ l. NextFails s.body.coding s.other l s.body.reader c.in_err-next_part.field-0.0 c.next_part.new.self) i.limits
+          comes,
       i.still,
-      comes.1,
     )
 
 pub returns-then-not-branch : goal.returns-then-not-branch
@@ -84,10 +80,5 @@ pub returns : goal.returns
 returns g c =
     let i = c.loop-part.invariant in (
       i.gave,
-      (
-        [],
-        subst (λ v. WritesAlong g.W.Tell.log g.W.TellWrite.trace std_write_rules c.args.target.now [] v) (sym i.still)
-            (WritesAlong-none g.W.Tell.log g.W.TellWrite.trace std_write_rules g.met.W.TellWrite.trace_none _),
-        inr (c.loop-part._part, i.before, omega (arith, c.loop-part-test.false), i.inside),
-      ),
+      inr (i.still, (c.loop-part._part, i.before, omega (arith, c.loop-part-test.false), i.inside)),
     )

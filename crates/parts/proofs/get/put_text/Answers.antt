@@ -1,7 +1,7 @@
 -- Each piece that a fill shows is written and then consumed, so what was accepted is what came of the text.
 use Rattle.std.proofs.Common.{[], ◌++◌, refl, ap, subst, ◌∙◌, arith, take, length-append}
 use Rattle.std.proofs.lemmas.Result.{err_from_is_err_and}
-use Rattle.body_reader.specs.BetweenLaws.{EachGave-joins, EachGave-none}
+use Rattle.body_reader.specs.BetweenLaws.{EachGave-joins, EachGave-none, StopsFor-after}
 use Rattle.body_reader.specs.BodyReader.{NoPayload, TookWholeBody}
 use Rattle.body_reader.specs.BodyReaderLaws.{BodyWent-none}
 use Rattle.buffer_redux.specs.Policy.{std_read_rules, std_write_rules}
@@ -32,9 +32,8 @@ returns-in_err-count g c =
       within = within_on c.args.parts.now m t i.within c.in_err-count.ensures.within;
       went = went_still g.R.TellRead.remaining c.args.parts.now.body m.body t.body i.payload i.went fills.went;
       answers = (
-        m.body,
-        i.gave,
-        subst (λ x. NoPayload (codes x) m.body c.in_err-count.field-0.0 t.body) i.went.coding fills.answers,
+        StopsFor-after _ _ _ c.args.parts.now.body.reader m.body.reader t.body.reader i.gave c.in_err-count.field-0.0
+            (subst (λ x. NoPayload (codes x) m.body c.in_err-count.field-0.0 t.body) i.went.coding fills.answers),
         i.along,
       );
     })
