@@ -49,7 +49,7 @@ pub record AskedOver {S D : Type 0} (Such : List ℕ → Type 0) (s t : ReaderSt
 abbrev pub AskedWhere : {S D : Type 0} → (List ℕ → Type 0) → ReaderState S D → ReaderState S D → Type 0
 AskedWhere Such s t = (t.reader.log ≡ s.reader.log) ⊎ AskedOver Such s t
 
--- such an offer has room for more bytes than are there; and where none are it is the whole buffer
+-- an offer of so many bytes has room for more than these; and where these are none it is the whole buffer
 abbrev pub OffersOver : ℕ → ℕ → List ℕ → Type 0
 OffersOver capacity offer bytes = (length bytes < offer) × (bytes ≡ [] → offer ≡ capacity)
 

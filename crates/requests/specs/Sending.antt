@@ -55,9 +55,9 @@ abbrev pub Both : Type 0 → Type 0 → Type 0
 Both R W = Unbuffered R × Buffered W StdPolicy
 
 module _ {R W : Type 0} (tells : W → StreamLog) (trace : W → W → Type 0) where
-  -- none of the stream's bytes was lost. It isn't asked, and some text is written; or it is asked, where all that was written was
-  -- received and flushed; or what is held is sent, where what is buffered of the stream settles nothing, and then the stream is
-  -- asked, or that failed, and nothing else is done
+  -- none of the stream's bytes was lost. It isn't asked, and a text is written, or none; or it is asked, where all that was
+  -- written was received and flushed; or what is held is sent, where what is buffered of the stream settles nothing, and then the
+  -- stream is asked, or that failed, and nothing else is done
   abbrev pub IsStep : Both R W → Result (Unit {0}) Error → Both R W → Type 0
   IsStep (s, w) answer (t, v) = ((bytes : List ℕ) × HandsOutInOrder s bytes t)
       × (((t.log ≡ s.log) × ((text : List ℕ) × SendsForRoom tells trace w text answer v))
