@@ -1,7 +1,6 @@
--- What was received of the wanted part.
-use Rattle.std.proofs.Common.{◌≡◌, ℕ, List, [], ◌++◌, Option, Result, Ok, Err, OnOk, MatchResult, sym, ap, subst, ◌∙◌, append_assoc}
-use Rattle.std.specs.declared.io.Error.{Error}
-use Rattle.buffer_redux.specs.BufWriter.{FlushedAlong, WasFlushed, WritesAlong}
+-- What was received of the wanted part, or of a list.
+use Rattle.std.proofs.Common.{◌≡◌, ℕ, List, [], ◌++◌, Option, Result, Ok, Err, OnOk, ap, ◌∙◌, append_assoc}
+use Rattle.buffer_redux.specs.BufWriter.{FlushedAlong, WasFlushed}
 use Rattle.buffer_redux.specs.Buffered.{Buffered}
 use Rattle.buffer_redux.specs.Policy.{std_write_rules}
 use Rattle.buffer_redux.specs.ReaderLaws.{ReadsInOrder-fresh}
@@ -9,23 +8,17 @@ use Rattle.buffer_redux.specs.StreamLog.{StreamLog}
 use Rattle.buffer_redux.specs.WritesAlongLaws.{FlushedAlong-of}
 use Rattle.buffer_redux.specs.declared.policy.StdPolicy.{StdPolicy}
 use Rattle.body_reader.specs.BodyReader.{TookWholeBody, handed_of}
-use Rattle.multipart.specs.Multipart.{FormState, codes}
-use Rattle.parts.specs.Asked.{FlushedUnless, GotPart}
-use Rattle.parts.specs.Sections.{GetAnswers, InPart}
+use Rattle.multipart.specs.Multipart.{FormState, codes, hyphens}
+use Rattle.parts.specs.Asked.{FlushedUnless, GotPart, ListedAll}
+use Rattle.parts.proofs.Flushing.{at_done}
+use Rattle.parts.specs.Sections.{GetAnswers, InPart, ListAnswers, BehindText}
 use Rattle.parts.specs.declared.error.RunError.{RunError}
-use Rattle.parts.specs.declared.error.RunError.TheVariants as Why
 
 module _ {S T : Type 0} (remaining : S → Option (List ℕ)) (tells : T → StreamLog) (trace : T → T → Type 0)
     (joins : (a b c : T) → trace a b → trace b c → trace a c) (s t : FormState S StdPolicy) (u v w : Buffered T StdPolicy)
     (unread : s.body.reader.block.bytes ≡ []) (unwritten : u.block.bytes ≡ []) where
   abbrev Got : Type 0
   Got = GotPart s.body.coding s.other s.body.reader.log t.body.reader.log u.log w.log
-
-  -- behind an error none is to be received
-  failed : (y : RunError) (last : Result (Unit {0}) RunError) (flush : Result (Unit {0}) Error)
-      → MatchResult flush (λ _. last ≡ Err y) (λ e. last ≡ Err (Why.Write e)) → OnOk last Got
-  failed y last (Ok x) same = subst (λ l. OnOk l Got) (sym same) tt
-  failed y last (Err e) same = subst (λ l. OnOk l Got) (sym same) tt
 
   all : InPart s t → TookWholeBody (codes s.body.coding) t.body
       → FlushedAlong tells trace std_write_rules u (handed_of t.body) w → Got
@@ -46,19 +39,42 @@ module _ {S T : Type 0} (remaining : S → Option (List ℕ)) (tells : T → Str
     flushed = flushed.flushed;
   }
 
-  went : InPart s t → TookWholeBody (codes s.body.coding) t.body
-      → WritesAlong tells trace std_write_rules u (handed_of t.body) v → (x : Unit {0}) (last : Result (Unit {0}) RunError)
-      (flush : Result (Unit {0}) Error) → WasFlushed tells trace v flush w
-      → MatchResult flush (λ _. last ≡ Ok x) (λ e. last ≡ Err (Why.Write e)) → OnOk last Got
-  went part whole along x last (Ok y) flushes same = subst (λ l. OnOk l Got) (sym same)
-      (all part whole (FlushedAlong-of tells trace std_write_rules joins u v w (handed_of t.body) y along flushes))
-  went part whole along x last (Err e) flushes same = subst (λ l. OnOk l Got) (sym same) tt
+  went : (answer : Result (Unit {0}) RunError) → GetAnswers remaining tells trace s u answer t v
+      → OnOk answer ((y : Unit {0}) → WasFlushed tells trace v (Ok y) w → Got)
+  went (Ok x) did = λ y flushes. all did.0 did.1
+      (FlushedAlong-of tells trace std_write_rules joins u v w (handed_of t.body) y did.3 flushes)
+  went (Err e) did = tt
 
   pub got : (answer last : Result (Unit {0}) RunError) → GetAnswers remaining tells trace s u answer t v
       → FlushedUnless tells trace answer v last w → OnOk last Got
-  got (Ok x) last did f = went did.0 did.1 did.3 x last f.flush f.flushes f.last_is
-  got (Err (Why.Parts e)) last did f = failed (Why.Parts e) last f.flush f.last_is
-  got (Err (Why.Body e)) last did f = failed (Why.Body e) last f.flush f.last_is
-  got (Err (Why.Write e)) last did f = subst (λ l. OnOk l Got) (sym f.0) tt
-  got (Err Why.Missing) last did f = failed Why.Missing last f.flush f.last_is
-  got (Err Why.Many) last did f = failed Why.Many last f.flush f.last_is
+  got answer last did f = at_done tells trace v w Got answer last (went answer did) f
+
+  -- and of a list
+  abbrev Listed : Type 0
+  Listed = ListedAll s.body.coding s.other s.body.reader.log t.body.reader.log u.log w.log
+
+  passed : (behind : BehindText s.body.coding s.other s.body.reader hyphens t.body.reader) (said : List ℕ)
+      → FlushedAlong tells trace std_write_rules u said w → Listed
+  passed behind said flushed = record {
+    count = behind.count;
+    before = behind.before;
+    text = behind.text;
+    dropped = behind.dropped;
+    rest = t.body.reader.block.bytes;
+    said = said;
+    parts = behind.parts;
+    whole = behind.whole;
+    given = ReadsInOrder-fresh s.body.reader t.body.reader (behind.before ++ (behind.text ++ hyphens)) unread behind.order;
+    received = flushed.received ∙ ap (λ l. u.log.writes.received ++ (l ++ said)) unwritten;
+    flushed = flushed.flushed;
+  }
+
+  listed_all : (answer : Result (Unit {0}) RunError) → ListAnswers remaining tells trace s u answer t v
+      → OnOk answer ((y : Unit {0}) → WasFlushed tells trace v (Ok y) w → Listed)
+  listed_all (Ok x) did = λ y flushes. passed did.0.0 did.1.said
+      (FlushedAlong-of tells trace std_write_rules joins u v w did.1.said y did.1.all flushes)
+  listed_all (Err e) did = tt
+
+  pub listed : (answer last : Result (Unit {0}) RunError) → ListAnswers remaining tells trace s u answer t v
+      → FlushedUnless tells trace answer v last w → OnOk last Listed
+  listed answer last did f = at_done tells trace v w Listed answer last (listed_all answer did) f

@@ -1,4 +1,6 @@
+mod Flushing
 mod Getting
+mod Listing
 mod Passing
 mod Putting
 mod Running

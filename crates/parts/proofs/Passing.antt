@@ -51,25 +51,27 @@ module _ {S : Type 0} (remaining : S → Option (List ℕ)) (texts heads : JustO
   no_payload s t (why.Io e) most inside gave none =
       (inside, inl (none.1, FaultedOnce-after first s.reader t.body.reader gave e none.0))
 
+  -- calls in the text stay in it
+  pub inside_on : (count : ℕ) (before : List ℕ) (m t : FormState S StdPolicy) (payload : List ℕ)
+      → InText texts heads first count before m → t ≡ record m { body = t.body }
+      → BodyWent remaining std_read_rules (codes m.body.coding) m.body payload t.body
+      → InText texts heads first count before t
+  inside_on count before m t payload is within went = record {
+    stands = subst (λ x. (x ≡ Preamble) ⊎ (x ≡ Part)) (sym (ap (λ x. x.stand) within)) is.stands;
+    coding = went.coding ∙ is.coding;
+    other = ap (λ x. x.other) within ∙ is.other;
+    counted = ap (λ x. x.parts) within ∙ is.counted;
+    parts = is.parts;
+    order = order_on before m.body.coding m.body t.body payload went is.order;
+  }
+
   module _ (count : ℕ) (before : List ℕ) (s : FormState S StdPolicy) (is : InText texts heads first count before s)
       (gave : EachGave first s.body.reader) where
-    -- further in the text
-    pub in_text : (t : FormState S StdPolicy) (payload : List ℕ) → t ≡ record s { body = t.body }
-        → BodyWent remaining std_read_rules (codes s.body.coding) s.body payload t.body → InText texts heads first count before t
-    in_text t payload within went = record {
-      stands = subst (λ x. (x ≡ Preamble) ⊎ (x ≡ Part)) (sym (ap (λ x. x.stand) within)) is.stands;
-      coding = went.coding ∙ is.coding;
-      other = ap (λ x. x.other) within ∙ is.other;
-      counted = ap (λ x. x.parts) within ∙ is.counted;
-      parts = is.parts;
-      order = order_on before s.body.coding s.body t.body payload went is.order;
-    }
-
     -- a text that doesn't end
     pub text_fails : (e : PartError) (t : FormState S StdPolicy) → LeavesText remaining std_read_rules s (Err e) t
         → NextFails texts heads s.limits first e t
     text_fails e t (w, drains, same, within) =
-        let inside : InSection texts heads first t = inl (count, before, in_text t drains.payload within drains.went) in
+        let inside : InSection texts heads first t = inl (count, before, inside_on count before s t drains.payload is within drains.went) in
         subst (λ x. NextFails texts heads s.limits first x t) (sym same) (elim drains.answers [
           | inl none ↦ no_payload s.body t w s.limits inside gave
               (subst (λ c. NoPayload (codes c) s.body w t.body) (sym drains.went.coding) none)
@@ -276,7 +278,7 @@ module _ {S T : Type 0} (remaining : S → Option (List ℕ)) (tells : T → Str
     in_part = record {
       count = count;
       before = before;
-      inside = in_text remaining s.body.coding s.other s.body.reader (suc count) before m is gave t puts.payload puts.within
+      inside = inside_on remaining s.body.coding s.other s.body.reader (suc count) before m t puts.payload is puts.within
           puts.went;
     }
 

@@ -1,5 +1,5 @@
 -- The text of a part, piece by piece.
-use Rattle.std.proofs.Common.{◌≡◌, ◌≤◌, ℕ, List, [], ◌++◌, length, min, take, Option, Ok, ap, subst, ◌∙◌, arith, append-nil}
+use Rattle.std.proofs.Common.{◌≡◌, ℕ, List, [], ◌++◌, length, min, take, Option, Ok, ap, subst, ◌∙◌, arith, append-nil}
 use Rattle.std.proofs.lemmas.List.{length-take-le}
 use Rattle.body_reader.specs.declared.just_or_until.JustOr.{JustOr}
 use Rattle.body_reader.specs.declared.just_or_until.JustOrUntil.{JustOrUntil}
@@ -39,8 +39,8 @@ module _ {S : Type 0} (remaining : S → Option (List ℕ)) where
     pub piece_gave : EachGave m.reader t.reader
     piece_gave = EachGave-joins m.reader f.reader t.reader q.answers.1 (EachGave-same f.reader t.reader r.told)
 
-    pub piece_some : n ≤ length (take f.known f.reader.block.bytes)
-    piece_some = omega (arith, q.answers.0, length-take-le f.known f.reader.block.bytes q.whole.known.0)
+    pub piece_len : length (take f.known f.reader.block.bytes) ≡ n
+    piece_len = omega (arith, q.answers.0, length-take-le f.known f.reader.block.bytes q.whole.known.0)
 
 -- the rest of a form stays
 pub within_on : {S : Type 0} (s m t : FormState S StdPolicy) → m ≡ record s { body = m.body }

@@ -7,11 +7,11 @@ use Rattle.buffer_redux.specs.BufWriter.{WasFlushed}
 use Rattle.buffer_redux.specs.Buffered.{Buffered}
 use Rattle.buffer_redux.specs.StreamLog.{StreamLog}
 use Rattle.buffer_redux.specs.declared.policy.StdPolicy.{StdPolicy}
-use Rattle.multipart.specs.Multipart.{AreCodings, FormState, IsBegun, codes}
+use Rattle.multipart.specs.Multipart.{AreCodings, FormState, IsBegun, codes, hyphens}
 use Rattle.multipart.specs.declared.reader.Limits.{Limits}
 use Rattle.programs.specs.Streams.{ReceivedFlushed}
 use Rattle.parts.specs.Ending.{EndsAs}
-use Rattle.parts.specs.Sections.{GetAnswers, PartsBegin}
+use Rattle.parts.specs.Sections.{GetAnswers, ListAnswers, PartsBegin}
 use Rattle.parts.specs.declared.error.RunError.{RunError}
 use Rattle.parts.specs.declared.error.RunError.TheVariants as Why
 use Rattle.programs.specs.declared.ending.Ending.TheVariants.{Memory, Usage}
@@ -57,6 +57,21 @@ pub record GotPart (texts heads : JustOrUntil) (read read' written written' : St
   pub received : written'.writes.received ≡ written.writes.received ++ payload
   pub flushed : ReceivedFlushed written'
 
+-- the whole body was given, to its end: so many parts begin, then come the whole text of the last of them, and two hyphens; and
+-- some text was received and flushed
+pub record ListedAll (texts heads : JustOrUntil) (read read' written written' : StreamLog) : Type 0 where
+  pub count : ℕ
+  pub before : List ℕ
+  pub text : List ℕ
+  pub dropped : List ℕ
+  pub rest : List ℕ
+  pub said : List ℕ
+  pub parts : PartsBegin texts heads count before
+  pub whole : IsBody (codes texts) text dropped
+  pub given : read'.reads.given ≡ read.reads.given ++ ((before ++ (text ++ hyphens)) ++ rest)
+  pub received : written'.writes.received ≡ written.writes.received ++ said
+  pub flushed : ReceivedFlushed written'
+
 module _ {T : Type 0} (tells : T → StreamLog) (trace : T → T → Type 0) where
   -- behind such an answer the writer was flushed, and a fault of that is the answer
   pub record FlushedBehind (answer : Result (Unit {0}) RunError) (u : Buffered T StdPolicy) (last : Result (Unit {0}) RunError)
@@ -84,20 +99,23 @@ module _ {T : Type 0} (tells : T → StreamLog) (trace : T → T → Type 0) whe
     pub written_to : written' ≡ w.log
     pub ends : EndsAs last ending
 
-module _ {S T : Type 0} (remaining : S → Option (List ℕ)) (tells : T → StreamLog) (trace : T → T → Type 0) where
-  -- what a run did that wanted a part of a body with this boundary, and that ended so: at Done the text of one went over
-  pub record GetDid (s : FormState S StdPolicy) (u : Buffered T StdPolicy) (ending : Ending) (read' written' : StreamLog)
+module _ {S T : Type 0} (tells : T → StreamLog) (trace : T → T → Type 0)
+    (Answers : FormState S StdPolicy → Buffered T StdPolicy → Result (Unit {0}) RunError → FormState S StdPolicy
+    → Buffered T StdPolicy → Type 0)
+    (Sent : JustOrUntil → JustOrUntil → StreamLog → StreamLog → StreamLog → StreamLog → Type 0) where
+  -- what a run did of which this comes, and that ended so: at Done so much was sent
+  pub record DidSo (s : FormState S StdPolicy) (u : Buffered T StdPolicy) (ending : Ending) (read' written' : StreamLog)
       : Type 0 where
     pub answer : Result (Unit {0}) RunError
     pub t : FormState S StdPolicy
     pub v : Buffered T StdPolicy
-    pub did : GetAnswers remaining tells trace s u answer t v
+    pub did : Answers s u answer t v
     pub read_to : read' ≡ t.body.reader.log
     pub over : WasEnded tells trace answer v ending written'
-    pub got : OnOk over.last (GotPart s.body.coding s.other s.body.reader.log read' u.log written')
+    pub sent : OnOk over.last (Sent s.body.coding s.other s.body.reader.log read' u.log written')
 
-  -- the same from the streams on, through buffers that are empty at first; or these were refused
-  pub record GetRan (boundary : List ℕ) (ending : Ending) (read read' written written' : StreamLog) : Type 0 where
+  -- the same of a body with this boundary from the streams on, through buffers that are empty at first
+  pub record RanSo (boundary : List ℕ) (ending : Ending) (read read' written written' : StreamLog) : Type 0 where
     pub s : FormState S StdPolicy
     pub u : Buffered T StdPolicy
     pub begun : IsBegun s.body.reader boundary run_limits s
@@ -106,11 +124,33 @@ module _ {S T : Type 0} (remaining : S → Option (List ℕ)) (tells : T → Str
     pub none_written : u.block.bytes ≡ []
     pub read_from : s.body.reader.log ≡ read
     pub written_from : u.log ≡ written
-    pub did : GetDid s u ending read' written'
+    pub did : DidSo s u ending read' written'
+
+-- the buffers of a run were refused
+pub record RanNot (ending : Ending) (read read' written written' : StreamLog) : Type 0 where
+  pub memory : ending ≡ Usual Memory
+  pub read_same : read' ≡ read
+  pub written_same : written' ≡ written
+
+module _ {S T : Type 0} (remaining : S → Option (List ℕ)) (tells : T → StreamLog) (trace : T → T → Type 0) where
+  -- a run that wanted a part: at Done the text of one went over
+  abbrev pub GetDid : FormState S StdPolicy → Buffered T StdPolicy → Ending → StreamLog → StreamLog → Type 0
+  GetDid = DidSo tells trace (GetAnswers remaining tells trace) GotPart
+
+  abbrev pub GetRan : List ℕ → Ending → StreamLog → StreamLog → StreamLog → StreamLog → Type 0
+  GetRan = RanSo tells trace (GetAnswers remaining tells trace) GotPart
+
+  -- a run that listed the parts: at Done all of the body was passed
+  abbrev pub ListDid : FormState S StdPolicy → Buffered T StdPolicy → Ending → StreamLog → StreamLog → Type 0
+  ListDid = DidSo tells trace (ListAnswers remaining tells trace) ListedAll
+
+  abbrev pub ListRan : List ℕ → Ending → StreamLog → StreamLog → StreamLog → StreamLog → Type 0
+  ListRan = RanSo tells trace (ListAnswers remaining tells trace) ListedAll
 
   -- what a run did that these words asked for, and that ended so; other words call no stream
   pub record RunDid (words : List (List ℕ)) (ending : Ending) (read read' written written' : StreamLog) : Type 0 where
     pub usage : NoneAsked words → (ending ≡ Usual Usage) × (read' ≡ read) × (written' ≡ written)
+    pub list : (boundary : List ℕ) → IsBoundary boundary → words ≡ list_words boundary
+        → RanNot ending read read' written written' ⊎ ListRan boundary ending read read' written written'
     pub get : (boundary name : List ℕ) → IsBoundary boundary → words ≡ get_words boundary name
-        → ((ending ≡ Usual Memory) × (read' ≡ read) × (written' ≡ written))
-        ⊎ GetRan boundary ending read read' written written'
+        → RanNot ending read read' written written' ⊎ GetRan boundary ending read read' written written'

@@ -1,15 +1,16 @@
 -- What stands in a multipart body, and how a run goes along in one.
 use Rattle.std.specs.IoError.{error_kind}
+use Rattle.std.specs.declared.io.Error.{Error}
 use Rattle.std.specs.declared.io.ErrorKind.TheVariants.{Other}
 use Rattle.multipart.specs.declared.error.PartError.{PartError}
 use Rattle.multipart.specs.declared.error.PartError.TheVariants as part
-use Rattle.std.specs.Prelude.{◌≡◌, ◌≢◌, ℕ, zero, suc, ◌^◌, ◌+◌, ◌-◌, ◌<◌, ◌≤◌, ◌⊎◌, List, [], ◌++◌, length, Option, Result, Ok, Err, IsTrue}
+use Rattle.std.specs.Prelude.{◌≡◌, ◌≢◌, ℕ, zero, suc, ◌^◌, ◌+◌, ◌-◌, ◌<◌, ◌≤◌, ◌⊎◌, List, [], ◌++◌, length, min, Option, Result, Ok, Err, IsTrue}
 use Rattle.body_reader.specs.Between.{EachGave, FaultedOnce, GaveNothingOnce}
 use Rattle.body_reader.specs.BodyReader.{BodyWent, EndsEarly, IsBodyReader, NoPayload, TookWholeBody, handed_of}
 use Rattle.body_reader.specs.Coding.{IsBody}
 use Rattle.body_reader.specs.declared.just_or_until.JustOrUntil.{JustOrUntil}
 use Rattle.buffer_redux.specs.BufReader.{ReadsInOrder}
-use Rattle.buffer_redux.specs.BufWriter.{StoppedAlong, WritesAlong}
+use Rattle.buffer_redux.specs.BufWriter.{AllAlong, StoppedAlong, WritesAlong}
 use Rattle.buffer_redux.specs.Buffered.{Buffered}
 use Rattle.buffer_redux.specs.Policy.{std_read_rules, std_write_rules}
 use Rattle.buffer_redux.specs.StreamLog.{StreamLog}
@@ -138,3 +139,43 @@ module _ {S T : Type 0} (remaining : S → Option (List ℕ)) (tells : T → Str
       × WritesAlong tells trace std_write_rules u (handed_of t.body) v)
       ⊎ ((v ≡ u) × ((count : ℕ) × (before : List ℕ) × (2 ^ 64 ≤ count + 1)
       × InText s.body.coding s.other s.body.reader count before t)))
+
+module _ {T : Type 0} (tells : T → StreamLog) (trace : T → T → Type 0) where
+  -- some text was accepted, or a beginning of it before the writer failed
+  pub record PutsSome (u : Buffered T StdPolicy) (answer : Result (Unit {0}) Error) (v : Buffered T StdPolicy) : Type 0 where
+    pub said : List ℕ
+    pub all : AllAlong tells trace std_write_rules u said answer v
+
+-- what comes of taking the text of a part, of which so much came: all of it, and its length, as far as a `u64` counts
+abbrev pub LenAnswers : {S : Type 0} → FormState S StdPolicy → List ℕ → Result ℕ RunError → FormState S StdPolicy → Type 0
+LenAnswers s payload (Ok len) t = TookWholeBody (codes s.body.coding) t.body × EachGave s.body.reader t.body.reader
+    × (len ≡ min (length payload) (2 ^ 64 - 1))
+LenAnswers s payload (Err (Body why)) t = NoPayload (codes s.body.coding) s.body why t.body
+LenAnswers s payload (Err Many) t = EachGave s.body.reader t.body.reader × (2 ^ 64 ≤ length payload + 1)
+LenAnswers s payload (Err (Write e)) t = ⊥
+LenAnswers s payload (Err (Parts why)) t = ⊥
+LenAnswers s payload (Err Missing) t = ⊥
+
+module _ {S : Type 0} (remaining : S → Option (List ℕ)) where
+  -- the text of the part was taken
+  pub record TakesText (s : FormState S StdPolicy) (answer : Result ℕ RunError) (t : FormState S StdPolicy) : Type 0 where
+    pub payload : List ℕ
+    pub within : t ≡ record s { body = t.body }
+    pub went : BodyWent remaining std_read_rules (codes s.body.coding) s.body payload t.body
+    pub answers : LenAnswers s payload answer t
+
+module _ {S T : Type 0} (remaining : S → Option (List ℕ)) (tells : T → StreamLog) (trace : T → T → Type 0) where
+  -- what comes of listing the parts, from before the first boundary on: all of the body was passed
+  abbrev pub ListAnswers : FormState S StdPolicy → Buffered T StdPolicy → Result (Unit {0}) RunError
+      → FormState S StdPolicy → Buffered T StdPolicy → Type 0
+  ListAnswers s u (Ok x) t v = PassedAll s.body.coding s.other s.body.reader t.body.reader × PutsSome tells trace u (Ok x) v
+  ListAnswers s u (Err (Parts why)) t v =
+      NextFails s.body.coding s.other s.limits s.body.reader why t × PutsSome tells trace u (Ok tt) v
+  ListAnswers s u (Err (Body why)) t v =
+      InPart s t × NoPayload (codes s.body.coding) s.body why t.body × PutsSome tells trace u (Ok tt) v
+  ListAnswers s u (Err (Write e)) t v = InPart s t × EachGave s.body.reader t.body.reader × PutsSome tells trace u (Err e) v
+  ListAnswers s u (Err Many) t v = EachGave s.body.reader t.body.reader × PutsSome tells trace u (Ok tt) v
+      × ((InPart s t × (2 ^ 64 ≤ length (handed_of t.body) + 1))
+      ⊎ ((count : ℕ) × (before : List ℕ) × (2 ^ 64 ≤ count + 1)
+      × InText s.body.coding s.other s.body.reader count before t))
+  ListAnswers s u (Err Missing) t v = ⊥

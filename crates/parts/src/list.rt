@@ -1,9 +1,12 @@
 //! What the parts are, over any two streams that tell.
+ghost use Rattle.std.specs.Prelude.{◌≡◌, []};
+ghost use Rattle.parts.specs.Sections.{ListAnswers, PutsSome, TakesText};
+
 use crate::error::RunError;
 use crate::get::named;
 use buffer_redux::BufWriter;
 use buffer_redux::tell::{TellRead, TellWrite};
-use multipart::{Multipart, field};
+use multipart::{Multipart, Stand, field};
 use std::io;
 use std::io::Write;
 
@@ -11,20 +14,27 @@ use std::io::Write;
 pub(crate) fn list<R: TellRead, W: TellWrite>(
     parts: &mut Multipart<R>,
     target: &mut BufWriter<W>,
-) -> Result<(), RunError> {
+) -> Result<(), RunError>
+    requires stands { parts.old.stand ≡ Stand.Preamble }
+    requires none { parts.old.parts ≡ 0 }
+    requires begins { parts.old.body.taken ≡ [] }
+    ensures { ListAnswers R.remaining W.log W.trace parts.old target.old result parts.new target.new }
+{
     for _part in 0..u64::MAX {
         if !parts.next_part()? {
             return Ok(());
         }
         put_said(parts.head(), target)?;
         let len = text_len(parts)?;
-        writeln!(target, "\t{len}")?;
+        put_len(len, target)?;
     }
     Err(RunError::Many)
 }
 
 // Writes what a head says.
-fn put_said<W: TellWrite>(head: &[u8], target: &mut BufWriter<W>) -> io::Result<()> {
+fn put_said<W: TellWrite>(head: &[u8], target: &mut BufWriter<W>) -> io::Result<()>
+    ensures { PutsSome W.log W.trace target.old result target.new }
+{
     let said = field(head, b"Content-Disposition");
     put_or(named(said, b"name"), target)?;
     target.write_all(b"\t")?;
@@ -33,15 +43,30 @@ fn put_said<W: TellWrite>(head: &[u8], target: &mut BufWriter<W>) -> io::Result<
     put_or(field(head, b"Content-Type"), target)
 }
 
-fn put_or<W: TellWrite>(said: Option<&[u8]>, target: &mut BufWriter<W>) -> io::Result<()> {
+fn put_or<W: TellWrite>(said: Option<&[u8]>, target: &mut BufWriter<W>) -> io::Result<()>
+    ensures { PutsSome W.log W.trace target.old result target.new }
+{
     match said {
         Some(said) => target.write_all(said),
         None => target.write_all(b"-"),
     }
 }
 
+// Ends a line by how long the text is.
+fn put_len<W: TellWrite>(len: u64, target: &mut BufWriter<W>) -> io::Result<()>
+    ensures { PutsSome W.log W.trace target.old result target.new }
+{
+    let mut digits = itoa::Buffer::new();
+    target.write_all(b"\t")?;
+    target.write_all(digits.format(len).as_bytes())?;
+    target.write_all(b"\n")
+}
+
 // How many bytes the text of the part has.
-fn text_len<R: TellRead>(parts: &mut Multipart<R>) -> Result<u64, RunError> {
+fn text_len<R: TellRead>(parts: &mut Multipart<R>) -> Result<u64, RunError>
+    requires { parts.old.stand ≡ Stand.Part }
+    ensures { TakesText R.remaining parts.old result parts.new }
+{
     let mut len = 0u64;
     for _piece in 0..u64::MAX {
         let count = parts.fill()?;

@@ -1,6 +1,6 @@
 //! A run as words ask for it, over any two streams that tell.
 ghost use Rattle.std.specs.Prelude.{◌≡◌, ◌↔◌, [], IfSome, IsTrue, MatchOption, None, map, string_bytes};
-ghost use Rattle.parts.specs.Asked.{FlushedUnless, GetDid, IsBoundary, WasEnded, NoneAsked, RunDid, get_words, list_words};
+ghost use Rattle.parts.specs.Asked.{FlushedUnless, GetDid, IsBoundary, ListDid, WasEnded, NoneAsked, RunDid, get_words, list_words};
 
 use crate::ending::Ending;
 use crate::error::RunError;
@@ -78,10 +78,14 @@ fn is_boundary(word: &str) -> bool
 }
 
 // Lists these parts.
-fn run_list<R: TellRead, W: TellWrite>(
-    parts: Multipart<R>,
-    target: BufWriter<W>,
-) -> (Ending, R, W) {
+fn run_list<R: TellRead, W: TellWrite>(parts: Multipart<R>, target: BufWriter<W>) -> (Ending, R, W)
+    requires stands { parts.stand ≡ Stand.Preamble }
+    requires none { parts.parts ≡ 0 }
+    requires begins { parts.body.taken ≡ [] }
+    requires unread { parts.body.reader.block.bytes ≡ [] }
+    requires unwritten { target.block.bytes ≡ [] }
+    ensures { ListDid R.remaining W.log W.trace parts target result.0 (R.log result.1) (W.log result.2) }
+{
     let (mut parts, mut target) = (parts, target);
     let answer = list(&mut parts, &mut target);
     ended(answer, parts, target)

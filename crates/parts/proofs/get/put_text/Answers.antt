@@ -7,7 +7,7 @@ use Rattle.body_reader.specs.BodyReaderLaws.{BodyWent-none}
 use Rattle.buffer_redux.specs.Policy.{std_read_rules, std_write_rules}
 use Rattle.buffer_redux.specs.WritesAlongLaws.{StoppedAlong-after, WritesAll-all, WritesAlong-joins, WritesAlong-none}
 use Rattle.multipart.specs.Multipart.{codes}
-use Rattle.parts.proofs.Putting.{piece_gave, piece_on, piece_some, went_still, within_on}
+use Rattle.parts.proofs.Putting.{piece_gave, piece_len, piece_on, went_still, within_on}
 use Rattle.parts.proofs.get.put_text.Goals as goal
 
 pub loop-piece-init : goal.loop-piece-init
@@ -104,7 +104,7 @@ loop-piece-preserved g c =
         arith,
         i.pieces,
         c.if-count-eq0.false,
-        piece_some remaining s.body m.body f.body t.body i.payload _ i.went fills consumes,
+        piece_len remaining s.body m.body f.body t.body i.payload _ i.went fills consumes,
         length-append i.payload (take f.body.known f.body.reader.block.bytes),
       );
     }

@@ -1,5 +1,5 @@
 -- The words say whose part is wanted, and the run begins at empty buffers.
-use Rattle.std.proofs.Common.{ap, subst, sym, ◌∙◌, List, ℕ}
+use Rattle.std.proofs.Common.{ap, inr, subst, sym, ◌∙◌, List, ℕ}
 use Rattle.std.specs.Borrow.{Bor}
 use Rattle.multipart.specs.Multipart.{HasHead, IsBegun}
 use Rattle.parts.specs.Asked.{run_limits}
@@ -25,8 +25,21 @@ returns-in-Err-new g c =
 
 pub returns-in-None : goal.returns-in-None
 returns-in-None g c =
+    let new = c.in-Ok-new.ensures in
+    let parts = c.in-Ok-new.parts in
+    let over = new.over.0 in
     list_did g.R.TellRead.remaining g.W.Tell.log g.W.TellWrite.trace _ c.in-Some.boundary.now c.in-Some.ensures.boundary
-    _ _ _ _ _ (rw c.in-None.is at c.in-Some.ensures.some)
+    _ _ _ _ _ (rw c.in-None.is at c.in-Some.ensures.some) (inr (record {
+      s = parts;
+      u = c.in-Ok.buffers.1;
+      begun = subst (λ r. IsBegun r c.in-Some.boundary.now run_limits parts) (sym over) new.begun;
+      codings = subst (λ x. HasHead x parts) new.begun.stand new.whole;
+      none_read = ap (λ r. r.block.bytes) over ∙ c.in-Ok.ensures.source.bytes;
+      none_written = c.in-Ok.ensures.target.bytes;
+      read_from = ap (λ r. r.log) over ∙ c.in-Ok.ensures.read;
+      written_from = c.in-Ok.ensures.written;
+      did = c.run_list.ensures;
+    }))
 
 pub returns-in-Some-name : goal.returns-in-Some-name
 returns-in-Some-name g c =
@@ -34,7 +47,7 @@ returns-in-Some-name g c =
     let parts = c.in-Ok-new.parts in
     let over = new.over.0 in
     get_did g.R.TellRead.remaining g.W.Tell.log g.W.TellWrite.trace _ c.in-Some.boundary.now c.in-Some.ensures.boundary
-    _ _ _ _ _ c.in-Some-name.name.now (rw c.in-Some-name.is at c.in-Some.ensures.some) (record {
+    _ _ _ _ _ c.in-Some-name.name.now (rw c.in-Some-name.is at c.in-Some.ensures.some) (inr (record {
       s = parts;
       u = c.in-Ok.buffers.1;
       begun = subst (λ r. IsBegun r c.in-Some.boundary.now run_limits parts) (sym over) new.begun;
@@ -44,4 +57,4 @@ returns-in-Some-name g c =
       read_from = ap (λ r. r.log) over ∙ c.in-Ok.ensures.read;
       written_from = c.in-Ok.ensures.written;
       did = c.run_get.ensures;
-    })
+    }))

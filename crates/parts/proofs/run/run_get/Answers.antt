@@ -15,5 +15,5 @@ returns g c =
       did = c.get-answer.ensures;
       read_to = c.ended.ensures.read;
       over = over;
-      got = rw (c.ended.ensures.read, over.written_to) is;
+      sent = rw (c.ended.ensures.read, over.written_to) is;
     }
