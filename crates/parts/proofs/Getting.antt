@@ -10,8 +10,9 @@ use Rattle.buffer_redux.specs.declared.policy.StdPolicy.{StdPolicy}
 use Rattle.body_reader.specs.BodyReader.{TookWholeBody, handed_of}
 use Rattle.multipart.specs.Multipart.{FormState, codes, hyphens}
 use Rattle.parts.specs.Asked.{FlushedUnless, GotPart, ListedAll}
+use Rattle.redux_buffer.specs.Faults.{MetInterrupts, MetInterrupts-joins}
 use Rattle.parts.proofs.Flushing.{at_done}
-use Rattle.parts.specs.Sections.{GetAnswers, InPart, ListAnswers, BehindText}
+use Rattle.parts.specs.Sections.{GetAnswers, InPart, BehindText, ListAnswers}
 use Rattle.parts.specs.declared.error.RunError.{RunError}
 
 module _ {S T : Type 0} (remaining : S → Option (List ℕ)) (tells : T → StreamLog) (trace : T → T → Type 0)
@@ -54,8 +55,8 @@ module _ {S T : Type 0} (remaining : S → Option (List ℕ)) (tells : T → Str
   Listed = ListedAll s.body.coding s.other s.body.reader.log t.body.reader.log u.log w.log
 
   passed : (behind : BehindText s.body.coding s.other s.body.reader hyphens t.body.reader) (said : List ℕ)
-      → FlushedAlong tells trace std_write_rules u said w → Listed
-  passed behind said flushed = record {
+      → FlushedAlong tells trace std_write_rules u said w → MetInterrupts u.log.writes w.log.writes → Listed
+  passed behind said flushed met = record {
     count = behind.count;
     before = behind.before;
     text = behind.text;
@@ -67,12 +68,14 @@ module _ {S T : Type 0} (remaining : S → Option (List ℕ)) (tells : T → Str
     given = ReadsInOrder-fresh s.body.reader t.body.reader (behind.before ++ (behind.text ++ hyphens)) unread behind.order;
     received = flushed.received ∙ ap (λ l. u.log.writes.received ++ (l ++ said)) unwritten;
     flushed = flushed.flushed;
+    met = met;
   }
 
   listed_all : (answer : Result (Unit {0}) RunError) → ListAnswers remaining tells trace s u answer t v
       → OnOk answer ((y : Unit {0}) → WasFlushed tells trace v (Ok y) w → Listed)
   listed_all (Ok x) did = λ y flushes. passed did.0.0 did.1.said
       (FlushedAlong-of tells trace std_write_rules joins u v w did.1.said y did.1.all flushes)
+      (MetInterrupts-joins u.log.writes v.log.writes w.log.writes did.1.met flushes.ok.met)
   listed_all (Err e) did = tt
 
   pub listed : (answer last : Result (Unit {0}) RunError) → ListAnswers remaining tells trace s u answer t v

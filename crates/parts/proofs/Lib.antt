@@ -1,6 +1,7 @@
 mod Flushing
 mod Getting
 mod Listing
+mod Meeting
 mod Passing
 mod Putting
 mod Running

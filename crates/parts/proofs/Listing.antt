@@ -6,6 +6,7 @@ use Rattle.body_reader.specs.BodyReader.{NoPayload, handed_of}
 use Rattle.multipart.specs.Multipart.{FormState, codes}
 use Rattle.parts.specs.declared.error.RunError.{RunError}
 use Rattle.parts.specs.declared.error.RunError.TheVariants as Run
+use Rattle.parts.proofs.Meeting.{all_met, met_on}
 use Rattle.parts.proofs.Passing.{inside_on}
 use Rattle.std.specs.declared.io.Error.{Error}
 use Rattle.buffer_redux.specs.Buffered.{Buffered}
@@ -23,6 +24,7 @@ module _ {T : Type 0} (tells : T → StreamLog) (trace : T → T → Type 0) whe
   puts_all u bytes answer v all = record {
     said = bytes;
     all = WritesAll-all tells trace std_write_rules u bytes answer v all refl;
+    met = all_met tells trace u bytes answer v all;
   }
 
   -- and some more
@@ -32,6 +34,7 @@ module _ {T : Type 0} (tells : T → StreamLog) (trace : T → T → Type 0) whe
   puts_then joins u m v answer p q = record {
     said = p.said ++ q.said;
     all = AllAlong-after tells trace std_write_rules joins u m v p.said q.said answer p.all q.all;
+    met = met_on u m v answer p.met q.met;
   }
 
 -- the text of a part that was just begun wasn't taken whole

@@ -1,6 +1,7 @@
 -- What a run does that words ask for.
 use Rattle.std.specs.Prelude.{◌≡◌, ◌<◌, ◌≤◌, ◌⊎◌, ℕ, suc, List, [], ◌∷◌, ◌++◌, codes as text_codes, length, Option, Result, Ok, Err, OnOk, MatchResult}
 use Rattle.std.specs.declared.io.Error.{Error}
+use Rattle.redux_buffer.specs.Faults.{MetInterrupts}
 use Rattle.body_reader.specs.Coding.{IsBody}
 use Rattle.body_reader.specs.declared.just_or_until.JustOrUntil.{JustOrUntil}
 use Rattle.buffer_redux.specs.BufWriter.{WasFlushed}
@@ -58,7 +59,7 @@ pub record GotPart (texts heads : JustOrUntil) (read read' written written' : St
   pub flushed : ReceivedFlushed written'
 
 -- the whole body was given, to its end: so many parts begin, then come the whole text of the last of them, and two hyphens; and
--- some text was received and flushed
+-- some text was received and flushed, and no write failed but that some were interrupted
 pub record ListedAll (texts heads : JustOrUntil) (read read' written written' : StreamLog) : Type 0 where
   pub count : ℕ
   pub before : List ℕ
@@ -71,6 +72,7 @@ pub record ListedAll (texts heads : JustOrUntil) (read read' written written' : 
   pub given : read'.reads.given ≡ read.reads.given ++ ((before ++ (text ++ hyphens)) ++ rest)
   pub received : written'.writes.received ≡ written.writes.received ++ said
   pub flushed : ReceivedFlushed written'
+  pub met : MetInterrupts written.writes written'.writes
 
 module _ {T : Type 0} (tells : T → StreamLog) (trace : T → T → Type 0) where
   -- behind such an answer the writer was flushed, and a fault of that is the answer

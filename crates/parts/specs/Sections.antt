@@ -4,7 +4,8 @@ use Rattle.std.specs.declared.io.Error.{Error}
 use Rattle.std.specs.declared.io.ErrorKind.TheVariants.{Other}
 use Rattle.multipart.specs.declared.error.PartError.{PartError}
 use Rattle.multipart.specs.declared.error.PartError.TheVariants as part
-use Rattle.std.specs.Prelude.{◌≡◌, ◌≢◌, ℕ, zero, suc, ◌^◌, ◌+◌, ◌-◌, ◌<◌, ◌≤◌, ◌⊎◌, List, [], ◌++◌, length, min, Option, Result, Ok, Err, IsTrue}
+use Rattle.std.specs.Prelude.{◌≡◌, ◌≢◌, ℕ, zero, suc, ◌^◌, ◌+◌, ◌-◌, ◌<◌, ◌≤◌, ◌⊎◌, List, [], ◌++◌, length, min, Option, Result, Ok, Err, OnOk, IsTrue}
+use Rattle.redux_buffer.specs.Faults.{MetInterrupts}
 use Rattle.body_reader.specs.Between.{EachGave, FaultedOnce, GaveNothingOnce}
 use Rattle.body_reader.specs.BodyReader.{BodyWent, EndsEarly, IsBodyReader, NoPayload, TookWholeBody, handed_of}
 use Rattle.body_reader.specs.Coding.{IsBody}
@@ -141,10 +142,11 @@ module _ {S T : Type 0} (remaining : S → Option (List ℕ)) (tells : T → Str
       × InText s.body.coding s.other s.body.reader count before t)))
 
 module _ {T : Type 0} (tells : T → StreamLog) (trace : T → T → Type 0) where
-  -- some text was accepted, or a beginning of it before the writer failed
+  -- some text was accepted, and no write failed but that some were interrupted; or a beginning of it before the writer failed
   pub record PutsSome (u : Buffered T StdPolicy) (answer : Result (Unit {0}) Error) (v : Buffered T StdPolicy) : Type 0 where
     pub said : List ℕ
     pub all : AllAlong tells trace std_write_rules u said answer v
+    pub met : OnOk answer (MetInterrupts u.log.writes v.log.writes)
 
 -- what comes of taking the text of a part, of which so much came: all of it, and its length, as far as a `u64` counts
 abbrev pub LenAnswers : {S : Type 0} → FormState S StdPolicy → List ℕ → Result ℕ RunError → FormState S StdPolicy → Type 0

@@ -6,6 +6,7 @@ use Rattle.buffer_redux.specs.BufReader.{ReadsInOrder}
 use Rattle.buffer_redux.specs.Policy.{std_write_rules}
 use Rattle.buffer_redux.specs.ReaderLaws.{ReadsInOrder-none}
 use Rattle.buffer_redux.specs.WritesAlongLaws.{WritesAlong-none}
+use Rattle.redux_buffer.specs.Faults.{MetInterrupts-none}
 use Rattle.parts.specs.Sections.{InText, NextFails}
 use Rattle.parts.proofs.Listing.{len_fails, puts_then}
 use Rattle.parts.proofs.Passing.{inside_on, next_comes}
@@ -27,6 +28,7 @@ loop-part-init g c = record {
   wrote = record {
     said = [];
     all = WritesAlong-none g.W.Tell.log g.W.TellWrite.trace std_write_rules g.met.W.TellWrite.trace_none _;
+    met = MetInterrupts-none _;
   };
   limits = refl;
 }
