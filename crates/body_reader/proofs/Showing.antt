@@ -176,7 +176,8 @@ module _ {S Q P W : Type 0} (remaining : S → Option (List ℕ)) (rules : ReadR
       }
 
       -- what is left of what was known, where no more was handed out
-      less : (n k'' : ℕ) → 0 < n → k'' ≡ k' - n → (j : ℕ) → (0 < j → (f ≡ m) × (k' ≡ j)) → j ≡ before - handed → handed + n ≤ before
+      less : (n k'' : ℕ) → 0 < n → k'' ≡ k' - n → (j : ℕ) → (0 < j → (f ≡ m) × (k' ≡ j)) → j ≡ before - handed
+          → handed + n ≤ before
           → k'' ≡ before - (handed + n)
       less n k'' some is zero kept was few = absurd (omega (arith, some, was, few))
       less n k'' some is (suc j) kept was few = omega (arith, is, kept (omega arith), was, few)

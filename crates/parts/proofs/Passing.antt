@@ -71,7 +71,8 @@ module _ {S : Type 0} (remaining : S → Option (List ℕ)) (texts heads : JustO
     pub text_fails : (e : PartError) (t : FormState S StdPolicy) → LeavesText remaining std_read_rules s (Err e) t
         → NextFails texts heads s.limits first e t
     text_fails e t (w, drains, same, within) =
-        let inside : InSection texts heads first t = inl (count, before, inside_on count before s t drains.payload is within drains.went) in
+        let inside : InSection texts heads first t =
+        inl (count, before, inside_on count before s t drains.payload is within drains.went) in
         subst (λ x. NextFails texts heads s.limits first x t) (sym same) (elim drains.answers [
           | inl none ↦ no_payload s.body t w s.limits inside gave
               (subst (λ c. NoPayload (codes c) s.body w t.body) (sym drains.went.coding) none)

@@ -89,7 +89,8 @@ module _ (texts heads : JustOrUntil) where
   NextFails limits first part.Boundary t = TookWrongHead first t × EachGave first t.body.reader
   NextFails limits first part.LongHead t =
       InHead first t × (limits.head < length (handed_of t.body) + t.body.known) × EachGave first t.body.reader
-  NextFails limits first part.ManyParts t = ((behind : BehindText first t.body.taken t.body.reader) × (limits.parts ≤ behind.count))
+  NextFails limits first part.ManyParts t =
+      ((behind : BehindText first t.body.taken t.body.reader) × (limits.parts ≤ behind.count))
       × LeadsIn t.body.taken × EachGave first t.body.reader
   NextFails limits first part.Memory t =
       InHead first t × (length (handed_of t.body) + t.body.known ≤ limits.head) × EachGave first t.body.reader

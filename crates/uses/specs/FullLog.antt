@@ -10,4 +10,5 @@ use Rattle.buffer_redux.specs.declared.policy.writers.FlushOnNewline.{FlushOnNew
 abbrev pub ClosesAgain : {S : Type 0} → (S → StreamLog) → (S → S → Type 0) → ℕ → Buffered S FlushOnNewline → S → Block → Type 0
 ClosesAgain tells trace zero log device unsent = KeepsUnsent tells trace log device unsent
 ClosesAgain {S} tells trace (suc k) log device unsent = (before : S) × (left : Block) × ClosesAgain tells trace k log before left
-    × (0 < length left.bytes) × KeepsUnsent tells trace (over_buffer {P = FlushOnNewline} tells (record {}) left before) device unsent
+    × (0 < length left.bytes)
+    × KeepsUnsent tells trace (over_buffer {P = FlushOnNewline} tells (record {}) left before) device unsent

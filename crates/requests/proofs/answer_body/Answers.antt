@@ -42,4 +42,5 @@ returns-in-Err-clause-turns g c = λ s w begun writes.
     (b.stream, c.call_for_body.new.writer) []
     (called (waits b.said) ++ []) (Err c.in-Err.e) writes put)
     (FailsLast-of (IsSentLast [] (b.head ++ none.takes.wire) None (Inside b)) (Err c.in-Err.e) refl
-    (inr (append-nil _, ap (λ l. b.head ++ l) empty ∙ append-nil b.head)) writes.puts put.puts)) ((begun_steady begun).faults, inl (All-nil (MayFollow true)))
+    (inr (append-nil _, ap (λ l. b.head ++ l) empty ∙ append-nil b.head)) writes.puts put.puts))
+    ((begun_steady begun).faults, inl (All-nil (MayFollow true)))

@@ -57,6 +57,7 @@ returns g c =
       ending = Many;
       held = c.loop-message.writer;
       runs = RunsToLast-stopped [] (Before c.loop-message.next) (refl, refl) (omega (arith, before.goes.reads.ends)) Many
-          before.goes.answers (before.goes.reads.faults, before.goes.keep, omega (arith, before.turns, c.loop-message-test.false));
+          before.goes.answers
+          (before.goes.reads.faults, before.goes.keep, omega (arith, before.turns, c.loop-message-test.false));
       last = c.send_last-answer-2.ensures;
     }

@@ -38,7 +38,8 @@ returns-in-Ok g c =
     let goes = read_none c.read_buffered-count.new.out zero none.goes in
     let comes = comes_inside g.met.W.TellWrite.trace_none g.met.W.TellWrite.trace_joins c.read_buffered-count.result
     c.read_buffered-count.new.out c.read.new.out c.args.body.now.stream m t c.args.writer.now c.send_unless_shown.new.writer
-    none.goes.takes.went.order c.read.ensures.goes.takes.went.order none.unasked c.in-Ok.ensures zero (search rules) (λ done. let odd = c.is_done.ensures.ended.1 done in absurd (cc)) none.all
+    none.goes.takes.went.order c.read.ensures.goes.takes.went.order none.unasked c.in-Ok.ensures zero (search rules)
+    (λ done. let odd = c.is_done.ensures.ended.1 done in absurd (cc)) none.all
     c.read.ensures.asked (search rules) c.read.ensures.asks in
     record {
       bound = c.read.ensures.bound;

@@ -22,7 +22,8 @@ loop-preserved g c =
 pub returns : goal.returns
 returns g c =
     let closed = c.loop.invariant in
-    let tried = ClosesAgain-tried g.W.Tell.log g.W.TellWrite.trace closed.again c.args.log c.loop.device c.loop.unsent closed.run in
+    let tried = ClosesAgain-tried g.W.Tell.log g.W.TellWrite.trace closed.again c.args.log c.loop.device c.loop.unsent
+    closed.run in
     let all : (c.loop.unsent.bytes ≡ []) ⊎ (closed.again ≡ c.args.tries) =
     elim c.loop-test.branch [
       | else-loop-test w ↦ inr (omega (arith, closed.counted, w.loop-test.false))
@@ -35,5 +36,6 @@ returns g c =
         | inr often ↦ elim all [ inl none ↦ inl none | inr is ↦ inr (omega (arith, often, is)) ]
       ];
       often = (closed.again, omega (arith, closed.counted), all, closed.run);
-      none_lost = ClosesAgain-kept g.W.Tell.log g.W.TellWrite.trace closed.again c.args.log c.loop.device c.loop.unsent closed.run;
+      none_lost = ClosesAgain-kept g.W.Tell.log g.W.TellWrite.trace closed.again c.args.log c.loop.device c.loop.unsent
+          closed.run;
     }

@@ -10,7 +10,8 @@ returns-in_err-peek-clause-looks g c =
     let i = c.self.inside in
     let found = rw c.in_err-peek.was at c.peek.follows.holds-at-none in
     let p = err_from_is_err_and c.from_residual.result c.from_residual.ensures.1 in
-    rw (p.1, p.2) (as_seen (λ x. LooksBehind g.R.TellRead.remaining g.P.ReaderPolicy.rules (g.C.Coding.grammar x.coding) x) _ _ _ _
+    rw (p.1, p.2)
+    (as_seen (λ x. LooksBehind g.R.TellRead.remaining g.P.ReaderPolicy.rules (g.C.Coding.grammar x.coding) x) _ _ _ _
     c.self.view_is (looks_failed g.R.TellRead.remaining g.P.ReaderPolicy.rules (g.C.Coding.grammar i.coding)
     (g.met.C.Coding.lawful i.coding) i.reader i.coding i.progress i.calls.log i.known c.self.invariant _ _ found.0))
 
@@ -18,7 +19,8 @@ pub returns-clause-looks : goal.returns-clause-looks
 returns-clause-looks g c =
     let i = c.self.inside in
     let found = rw c.in_ok-peek.was at c.peek.follows.holds-at-none in
-    as_seen (λ x. LooksBehind g.R.TellRead.remaining g.P.ReaderPolicy.rules (g.C.Coding.grammar x.coding) x) _ _ _ _ c.self.view_is
+    as_seen (λ x. LooksBehind g.R.TellRead.remaining g.P.ReaderPolicy.rules (g.C.Coding.grammar x.coding) x) _ _ _ _
+    c.self.view_is
     (looks_told g.R.TellRead.remaining g.P.ReaderPolicy.rules (g.C.Coding.grammar i.coding)
     (g.met.C.Coding.lawful i.coding) i.reader i.coding i.progress i.calls.log i.known c.self.invariant _ _ found.0 _ found.1 _
     c.is_empty.ensures)

@@ -18,7 +18,8 @@ pub returns : goal.returns
 returns g c =
     let i = c.self.inside in
     buffered_says _ _ (as_seen
-    (λ x n t. HandsBuffered g.R.TellRead.remaining g.P.ReaderPolicy.rules (g.C.Coding.grammar x.coding) x c.hand_buffered-count.new.out n t)
+    (λ x n t. HandsBuffered g.R.TellRead.remaining g.P.ReaderPolicy.rules (g.C.Coding.grammar x.coding) x
+    c.hand_buffered-count.new.out n t)
     _ _ _ _ c.self.view_is
     (shown_reads g.R.TellRead.remaining g.P.ReaderPolicy.rules (g.C.Coding.grammar i.coding)
     (g.met.C.Coding.lawful i.coding) i.reader i.coding i.progress i.calls.log i.known c.self.invariant
