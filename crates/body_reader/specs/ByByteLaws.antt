@@ -167,9 +167,6 @@ module _ {P W : Type 0} (t : TurnRules P W) where
       let head : x ≡ y = (let same = agree.2 in cc) in
       let odd : Wrong why ≡ Passed c.0 = sym wrong.1 ∙ ap (λ b. t.turn p b) head ∙ c.1 in cc
 
-  none_wrong : (p : P) (why : W) → ¬ IsWrongTurn t p [] why
-  none_wrong p why wrong = wrong
-
   -- no bytes begin with two bodies
   only_one : (p : P) (a b x y xs ys : List ℕ) → CompletesByTurns t p a x → CompletesByTurns t p b y → a ++ xs ≡ b ++ ys
       → (a ≡ b) × (x ≡ y)
@@ -203,7 +200,7 @@ module _ {P W : Type 0} (t : TurnRules P W) where
     some = omega arith;
     begins = tt;
     nothing = λ p payload is c. c.1;
-    none_wrong = λ p why is. none_wrong p why;
+    none_wrong = λ p why is wrong. wrong;
     never = λ p shown why rest payload is. never p shown why rest payload;
     sure = λ p n is carries. absurd (none_sure lawful p n carries);
     one = only_one t.first;

@@ -17,10 +17,6 @@ overlaps (h ∷ a) x (k ∷ b) y same =
       | inr found ↦ inr (found.0, ap (λ l. h ∷ l) found.1 ∙ ap (λ c. c ∷ (b ++ found.0)) head, found.2)
     ]
 
-pub nothing_in : (m rest : List ℕ) → m ++ rest ≡ [] → m ≡ []
-nothing_in [] rest same = refl
-nothing_in (x ∷ m) rest same = cc
-
 pub Agree-less : (a more b : List ℕ) → Agree (a ++ more) b → Agree a b
 Agree-less a more b agree = (more ++ agree.0, agree.1, sym (append_assoc a more agree.0) ∙ agree.2)
 
@@ -34,7 +30,7 @@ Agree-front a b c agree = (
 pub Agree-nothing : (a : List ℕ) → Agree a []
 Agree-nothing a = ([], a, append-nil a)
 
-nothing_behind : (rest past : List ℕ) → rest ++ past ≡ [] → past ≡ []
+pub nothing_behind : (rest past : List ℕ) → rest ++ past ≡ [] → past ≡ []
 nothing_behind [] past same = same
 nothing_behind (x ∷ rest) past same = cc
 

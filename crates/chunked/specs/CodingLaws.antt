@@ -4,7 +4,7 @@ use Rattle.std.proofs.lemmas.List.{drop_more, length-replicate, nil_from_length}
 use Rattle.body_reader.specs.declared.Look.TheVariants as look
 use Rattle.body_reader.specs.BodyReader.{BodyState, IsBodyReader, handed_of}
 use Rattle.body_reader.specs.Coding as body
-use Rattle.body_reader.specs.CodingLaws.{IsOpenBelow-one, overlaps}
+use Rattle.body_reader.specs.CodingLaws.{IsOpenBelow-one, nothing_behind, overlaps}
 use Rattle.chunked.specs.declared.coding.Chunked.{Chunked}
 use Rattle.chunked.specs.declared.error.Malformed.{Malformed}
 use Rattle.chunked.specs.declared.limits.Limits.{Limits}
@@ -94,15 +94,11 @@ module _ (limits : Limits) where
   within_none p [] payload past c same = sym same
   within_none p (x ∷ rest) payload past c same = cc
 
-  tail_none : (m past : List ℕ) → m ++ past ≡ [] → past ≡ []
-  tail_none [] past same = same
-  tail_none (x ∷ m) past same = cc
-
   one_more : (q : Place) (b : ℕ) (m payload past : List ℕ) → ¬ IsDataOrDone q → Completes limits q m payload
       → b ∷ [] ≡ m ++ past → past ≡ []
   one_more q b [] payload past goes_on c same =
       absurd (goes_on (subst IsDataOrDone (sym (Completes-nothing limits q payload c)) tt))
-  one_more q b (x ∷ m) payload past goes_on c same = tail_none m past (let rest : m ++ past ≡ [] = cc in rest)
+  one_more q b (x ∷ m) payload past goes_on c same = nothing_behind m past (let rest : m ++ past ≡ [] = cc in rest)
 
   pub within_on : (p q : Place) (a : List ℕ) (b : ℕ) → LeadsAlong limits p a [] q → ¬ IsDataOrDone q → Within limits p a
       → Within limits p (a ++ b ∷ [])
@@ -134,11 +130,6 @@ module _ (limits : Limits) where
   pub settled_some : (left : ℕ) → IsDataOrDone (Data left) → 0 < left
   settled_some zero settled = absurd settled
   settled_some (suc left) settled = omega arith
-
-  pub settled_done : (p : Place) → IsDataOrDone p → ((left : ℕ) → p ≢ Data left) → p ≡ Done
-  settled_done (Data left) settled no_data = absurd (no_data left refl)
-  settled_done Done settled no_data = refl
-  settled_done p settled no_data = absurd settled
 
   pub open_of : (p : Place) → ¬ IsDataOrDone p → p ≢ Done
   open_of p goes_on is = goes_on (subst IsDataOrDone (sym is) tt)

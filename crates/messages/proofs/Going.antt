@@ -175,10 +175,12 @@ std_leaves p b n p' b' left = (ap (λ b. b.capacity) left.1, ap (λ b. b.limit) 
 std_stays : LeavesPlaces {Q = StdPolicy} std_read_rules
 std_stays p b n p' b' left = ap (λ b. b.moved) left.1
 
--- a look at a body needs one byte
-one_needed : (c : BodyCoding) → (body_rules c).ahead ≡ 1
-one_needed (coding.First c) = refl
-one_needed (coding.Second c) = refl
+-- nothing is left of a body that was taken whole
+none_left : {R : Type 0} (c : BodyCoding) (d : Reader R) → IsBodyReader (body_rules c) d → TookWholeBody (body_rules c) d
+    → IsRest (rest_of c d.place) [] []
+none_left c d is whole = rest_is c d.place is.place [] []
+    (Leads-done (body_rules c) (lawful c) d.taken (handed_of d) d.place (heeded (body_rules c) d.reader.block.bytes) is.leads
+    is.place whole)
 
 -- calls of the reader
 module _ {R : Type 0} {remaining : R → Option (List ℕ)} {s t : Reader R} (is : IsBodyReader (body_rules s.coding) s)
@@ -196,7 +198,7 @@ module _ {R : Type 0} {remaining : R → Option (List ℕ)} {s t : Reader R} (is
   -- so nothing is moved
   pub body_still : HasRoom s → t.reader.block.moved ≡ s.reader.block.moved
   body_still room =
-      let least : (body_rules s.coding).ahead ≤ 1 = omega (arith, one_needed s.coding) in
+      let least : (body_rules s.coding).ahead ≤ 1 = omega (arith, one_ahead s.coding) in
       let kept = (went.keeps.spared 1 least (omega arith)).plain room.0.kind (omega (arith, room.0.capacity)) in
       omega (arith, kept.moved, went.keeps.unmoved std_stays least room.0.kind)
 
@@ -228,12 +230,8 @@ module _ {R : Type 0} {remaining : R → Option (List ℕ)} {s t : Reader R} (is
   pub body_kept : room_of t.reader.block ≡ room_of s.reader.block
   body_kept = let kept = went.keeps.room std_leaves in same_room t.reader.block s.reader.block kept.0 kept.1
 
-  done : TookWholeBody (body_rules s.coding) t → IsDone (body_rules s.coding) t.place
-  done = Leads-done (body_rules s.coding) (lawful s.coding) t.taken (handed_of t) t.place
-      (heeded (body_rules s.coding) t.reader.block.bytes) is'.leads is'.place
-
   pub body_done : TookWholeBody (body_rules s.coding) t → IsRest (left_in t) [] []
-  body_done whole = keep (λ r. IsRest r [] []) (rest_is s.coding t.place is'.place [] [] (done whole))
+  body_done whole = keep (λ r. IsRest r [] []) (none_left s.coding t is' whole)
 
   pub body_end : TookWholeBody (body_rules s.coding) t → between.EachGave s.reader t.reader
       → TakesWholeRest remaining (stream_of s) (left_in s) (unbuffered t.reader)
@@ -243,7 +241,7 @@ module _ {R : Type 0} {remaining : R → Option (List ℕ)} {s t : Reader R} (is
     went = ReadsAlong-stream remaining std_read_rules s.reader went.wire t.reader went.along;
     is = subst (λ l. IsRest (left_in s) l (handed ++ [])) (append-nil went.wire)
         (onward_is s.coding s.place t.place went.wire handed t.reader.block.bytes is.place is'.place leads [] []
-        (rest_is s.coding t.place is'.place [] [] (done whole)));
+        (none_left s.coding t is' whole));
     gave = (gave.faults, gave.zero_reads);
   }
 
@@ -282,9 +280,7 @@ module _ {R : Type 0} {remaining : R → Option (List ℕ)} {s t : Reader R} (is
 -- whether a body ended
 module _ {R : Type 0} {d : Reader R} (is : IsBodyReader (body_rules d.coding) d) where
   pub ended_is : TookWholeBody (body_rules d.coding) d → IsRest (left_in d) [] []
-  ended_is whole = rest_is d.coding d.place is.place [] []
-      (Leads-done (body_rules d.coding) (lawful d.coding) d.taken (handed_of d) d.place
-      (heeded (body_rules d.coding) d.reader.block.bytes) is.leads is.place whole)
+  ended_is = none_left d.coding d is
 
   pub is_ended : IsRest (left_in d) [] [] → TookWholeBody (body_rules d.coding) d
   is_ended rest = Leads-whole (body_rules d.coding) d.taken (handed_of d) d.place
@@ -293,13 +289,10 @@ module _ {R : Type 0} {d : Reader R} (is : IsBodyReader (body_rules d.coding) d)
 -- why the rest of one can't be dropped
 module _ {R : Type 0} {remaining : R → Option (List ℕ)} {s t : Reader R} (is : IsBodyReader (body_rules s.coding) s)
     {e : Unread (Side (Unit {0}) Malformed)} (drains : Drains remaining std_read_rules (body_rules s.coding) s (Err e) t) where
-  many_is : (why : Error) → e ≡ unread.Io why → body_error t.place e ≡ Fault why
-  many_is why same = ap (body_error t.place) same
-
   pub drain_fails : FinishFails (stream_of s) drains.payload (body_error t.place e) (stream_of t) (left_in t)
   drain_fails = elim drains.answers [
     | inl fails ↦ inl (body_fails is drains.whole drains.went e fails)
-    | inr many ↦ inr (many.0, many_is many.0 many.1, many.2, many.3, (many.4.faults, many.4.zero_reads))
+    | inr many ↦ inr (many.0, ap (body_error t.place) many.1, many.2, many.3, (many.4.faults, many.4.zero_reads))
   ]
 
 -- each piece that is dropped is noted as a read of some bytes
