@@ -13,11 +13,11 @@ use Rattle.body_reader.specs.Asking.{AskedWhere}
 use Rattle.body_reader.specs.AskingLaws.{AskedWhere-of}
 use Rattle.body_reader.specs.Between.{TakesBytes}
 use Rattle.body_reader.specs.BetweenLaws.{ReadsAhead-asked, ReadsAhead-ended, ReadsAhead-failed, ReadsAhead-gave, ReadsAhead-keeps, TakesBytes-none, TakesBytes-still}
-use Rattle.body_reader.specs.BodyReader.{BodyWent, IsBodyReader, LooksBehind}
+use Rattle.body_reader.specs.BodyReader.{BodyWent, IsBodyReader, LooksBehind, seen}
 use Rattle.body_reader.specs.Coding.{Carries, Grammar, IsKnown, IsLawful}
 use Rattle.body_reader.proofs.Filling.{Carries-less, one_ahead}
 use Rattle.body_reader.proofs.Handing.{some_of}
-use Rattle.body_reader.proofs.Payload.{seen, state_is, state_went}
+use Rattle.body_reader.proofs.Payload.{state_is, state_went}
 
 -- what is known stays so where more is shown
 known_more : {P W : Type 0} (g : Grammar P W) (p : P) (k : ℕ) (bytes got all : List ℕ) → bytes ++ got ≡ all

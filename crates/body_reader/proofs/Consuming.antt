@@ -8,10 +8,10 @@ use Rattle.buffer_redux.specs.Policy.{ReadRules}
 use Rattle.buffer_redux.specs.StreamLog.{StreamLog, after_read}
 use Rattle.body_reader.specs.declared.progress.Progress.{Progress}
 use Rattle.body_reader.specs.Between.{TakesFront}
-use Rattle.body_reader.specs.BodyReader.{BodyState, BodyWent, ConsumesPayload, IsBodyReader}
+use Rattle.body_reader.specs.BodyReader.{BodyState, BodyWent, ConsumesPayload, IsBodyReader, seen}
 use Rattle.body_reader.specs.BodyReaderLaws.{BodyWent-none}
 use Rattle.body_reader.specs.Coding.{Grammar}
-use Rattle.body_reader.proofs.Payload.{seen, state_is, state_went}
+use Rattle.body_reader.proofs.Payload.{state_is, state_went}
 
 module _ {S Q C P W : Type 0} (remaining : S → Option (List ℕ)) (rules : ReadRules Q) (g : Grammar P W)
     (r : Buffered S Q) (c : C) (p : Progress P) (calls : StreamLog) (k : ℕ) (is : IsBodyReader g (seen r c p calls k))

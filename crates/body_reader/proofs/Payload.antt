@@ -8,22 +8,11 @@ use Rattle.body_reader.specs.declared.error.BodyError.{BodyError}
 use Rattle.body_reader.specs.declared.error.BodyError.TheVariants.{Wrong, Truncated, Io}
 use Rattle.body_reader.specs.declared.progress.Progress.{Progress}
 use Rattle.body_reader.specs.Between.{EachGave, HandsOn, KnowsAll, PayloadFails, ShowsOn, TakesBytes, handed_out}
-use Rattle.body_reader.specs.BodyReader.{BodyState, BodyWent, Breaks, EndsEarly, FillsPayload, IsBodyReader, TookWholeBody, ReadsPayload, NoPayload}
+use Rattle.body_reader.specs.BodyReader.{BodyState, BodyWent, Breaks, EndsEarly, FillsPayload, IsBodyReader, TookWholeBody, ReadsPayload, NoPayload, seen}
 use Rattle.body_reader.specs.BodyReaderLaws.{BodyWent-none}
 use Rattle.body_reader.specs.BetweenLaws.{AsksWithRoom-open, EachGave-none}
 use Rattle.body_reader.specs.Coding.{Grammar, IsDone, IsKnown, IsLawful, IsOpen, Leads, heeded}
 use Rattle.body_reader.specs.CodingLaws.{Leads-done, Leads-left, Leads-then, Leads-whole}
-
--- a reader of a body, by its parts
-abbrev pub seen : {S Q C P : Type 0} → Buffered S Q → C → Progress P → StreamLog → ℕ → BodyState S Q C P
-seen r c p calls known = record {
-  reader = r;
-  coding = c;
-  place = p.place;
-  taken = p.taken.log.fills.consumed;
-  calls = calls;
-  known = known;
-}
 
 -- an Ok read is noted
 abbrev pub after_payload : {W : Type 0} → StreamLog → List ℕ → Result ℕ (BodyError W) → StreamLog

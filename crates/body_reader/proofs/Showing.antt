@@ -11,13 +11,13 @@ use Rattle.body_reader.specs.declared.coding.Look.TheVariants as look
 use Rattle.body_reader.specs.declared.progress.Progress.{Progress}
 use Rattle.body_reader.specs.Between.{AllShown, FindsKnown, HandsShown, KnowsAll, KnowsBehind, NoneShown, PassesOn, TakesBytes, TakesFront}
 use Rattle.body_reader.specs.BetweenLaws.{TakesBytes-joins, TakesBytes-none}
-use Rattle.body_reader.specs.BodyReader.{Breaks, EndsEarly, HandsBuffered, IsBodyReader, NotedIfSome, TookWholeBody}
+use Rattle.body_reader.specs.BodyReader.{Breaks, EndsEarly, HandsBuffered, IsBodyReader, NotedIfSome, TookWholeBody, seen}
 use Rattle.body_reader.specs.BodyReaderLaws.{NotedIfSome-given}
 use Rattle.body_reader.specs.Coding.{Grammar, IsDone, IsKnown, IsLawful, Looks, heeded}
 use Rattle.body_reader.specs.CodingLaws.{IsOpenBelow-open, Leads-done, Leads-whole, open_at}
 use Rattle.body_reader.proofs.Filling.{Carries-fewer, all_shown}
 use Rattle.body_reader.proofs.Handing.{knows_behind, knows_rest}
-use Rattle.body_reader.proofs.Payload.{breaks_so, early, seen, state_is, state_went}
+use Rattle.body_reader.proofs.Payload.{breaks_so, early, state_is, state_went}
 use Rattle.body_reader.proofs.Skipping.{consumes_parts}
 use borrow.Rule.Slice.PartMut.{put_mid}
 

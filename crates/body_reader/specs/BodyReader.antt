@@ -13,6 +13,7 @@ use Rattle.body_reader.specs.declared.error.BodyError.{BodyError}
 use Rattle.body_reader.specs.declared.error.BodyError.TheVariants.{Io}
 use Rattle.body_reader.specs.declared.error.CollectError.{CollectError}
 use Rattle.body_reader.specs.declared.error.CollectError.TheVariants as collect
+use Rattle.body_reader.specs.declared.progress.Progress.{Progress}
 use Rattle.body_reader.specs.Asking.{AskedWhere}
 use Rattle.body_reader.specs.Between.{AllShown, AsksOpen, AsksWithRoom, BecomesIo, EachGave, FaultedOnce, GaveNothingOnce, KeepsBuffer, KnowsAll, KnowsBehind, StopsFor, TakenThrough, handed_out}
 use Rattle.body_reader.specs.Coding.{Grammar, IsBody, IsKnown, IsOpen, Leads, LeadsOpen, heeded}
@@ -26,6 +27,11 @@ pub record BodyState (S Q C P : Type 0) : Type 0 where
   pub taken : List ℕ
   pub calls : StreamLog
   pub known : ℕ
+
+-- by its parts
+abbrev pub seen : {S Q C P : Type 0} → Buffered S Q → C → Progress P → StreamLog → ℕ → BodyState S Q C P
+seen r c p calls known =
+    record { reader = r; coding = c; place = p.place; taken = p.taken.log.fills.consumed; calls = calls; known = known }
 
 -- the payload that was handed out so far
 abbrev pub handed_of : {S Q C P : Type 0} → BodyState S Q C P → List ℕ

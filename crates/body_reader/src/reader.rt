@@ -40,27 +40,13 @@ pub struct BodyReader<R: Tell, C: Coding, P = StdPolicy> {
 }
 
 impl<R: Tell, C: Coding, P> Model for BodyReader<R, C, P> {
-    ghost use Rattle.body_reader.specs.BodyReader.{BodyState, IsBodyReader};
+    ghost use Rattle.body_reader.specs.BodyReader.{BodyState, IsBodyReader, seen};
 
     ghost Value = { BodyState R P C C.Place };
 
-    ghost view = { λ b. record {
-      reader = b.reader;
-      coding = b.coding;
-      place = b.progress.place;
-      taken = b.progress.taken.log.fills.consumed;
-      calls = b.calls.log;
-      known = b.known;
-    } };
+    ghost view = { λ b. seen b.reader b.coding b.progress b.calls.log b.known };
 
-    ghost invariant = { λ b. IsBodyReader (C.grammar b.coding) (record {
-      reader = b.reader;
-      coding = b.coding;
-      place = b.progress.place;
-      taken = b.progress.taken.log.fills.consumed;
-      calls = b.calls.log;
-      known = b.known;
-    }) };
+    ghost invariant = { λ b. IsBodyReader (C.grammar b.coding) (seen b.reader b.coding b.progress b.calls.log b.known) };
 }
 
 impl<R: Tell, C: Coding> BodyReader<R, C> {

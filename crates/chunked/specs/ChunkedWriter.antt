@@ -22,6 +22,10 @@ pub record ChunkedWriterState (S : Type 0) : Type 0 where
   pub calls : StreamLog
   pub due : ℕ
 
+-- by its parts, of which one is a log of what was received
+abbrev pub seen : {S : Type 0} → Buffered S StdPolicy → StreamLog → StreamLog → ℕ → ChunkedWriterState S
+seen writer wire calls due = record { writer = writer; wire = wire.writes.received; calls = calls; due = due }
+
 -- the payload that was taken in so far
 abbrev pub accepted_of : {S : Type 0} → ChunkedWriterState S → List ℕ
 accepted_of c = c.calls.writes.received

@@ -53,23 +53,13 @@ pub struct ChunkedWriter<W: TellWrite> {
 }
 
 impl<W: TellWrite> Model for ChunkedWriter<W> {
-    ghost use Rattle.chunked.specs.ChunkedWriter.{ChunkedWriterState, IsChunkedWriter};
+    ghost use Rattle.chunked.specs.ChunkedWriter.{ChunkedWriterState, IsChunkedWriter, seen};
 
     ghost Value = { ChunkedWriterState W };
 
-    ghost view = { λ c. record {
-      writer = c.writer;
-      wire = c.wire.log.writes.received;
-      calls = c.calls.log;
-      due = c.due;
-    } };
+    ghost view = { λ c. seen c.writer c.wire.log c.calls.log c.due };
 
-    ghost invariant = { λ c. IsChunkedWriter (record {
-      writer = c.writer;
-      wire = c.wire.log.writes.received;
-      calls = c.calls.log;
-      due = c.due;
-    }) };
+    ghost invariant = { λ c. IsChunkedWriter (seen c.writer c.wire.log c.calls.log c.due) };
 }
 
 impl<W: TellWrite> ChunkedWriter<W> {

@@ -9,21 +9,6 @@ use Rattle.messages.specs.declared.limits.Limits.{Limits}
 use Rattle.messages.specs.Messages.{Begun, Bytes, InBody, IsRest, Reader, Rest, TakesWholeRest, left_in, room_of, stream_of}
 use Rattle.messages.specs.MessagesLaws.{Begun-went}
 
--- a body, by its parts
-abbrev pub seen : {S : Type 0} → Reader S → Limits → List ℕ → ParsedHead → InBody S
-seen d limits head said = record {
-  stream = stream_of d;
-  room = room_of d.reader.block;
-  moved = d.reader.block.moved;
-  calls = d.calls;
-  limits = limits;
-  head = head;
-  said = said;
-  rest = left_in d;
-  taken = d.taken;
-  known = d.known;
-}
-
 -- a body of a length ended where no byte is left of it
 pub sized_ended : (r : Rest) (answer : Bool) → (IsTrue answer ↔ IsRest r [] []) → (n : ℕ) → r ≡ Bytes n
     → (IsTrue answer ↔ n ≡ 0)

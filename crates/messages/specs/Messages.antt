@@ -342,6 +342,21 @@ stream_of d = unbuffered d.reader
 abbrev pub left_in : {S : Type 0} → Reader S → Rest
 left_in d = rest_of d.coding d.place
 
+-- a reader in a body, by its parts
+abbrev pub seen : {S : Type 0} → Reader S → Limits → List ℕ → ParsedHead → InBody S
+seen d limits head said = record {
+  stream = stream_of d;
+  room = room_of d.reader.block;
+  moved = d.reader.block.moved;
+  calls = d.calls;
+  limits = limits;
+  head = head;
+  said = said;
+  rest = left_in d;
+  taken = d.taken;
+  known = d.known;
+}
+
 -- it took these bytes so, and no byte was moved in its buffer
 abbrev pub ReaderTakes : {S : Type 0} → (S → Option (List ℕ)) → Reader S → List ℕ → Reader S → Type 0
 ReaderTakes remaining d handed d' =

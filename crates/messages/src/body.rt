@@ -41,22 +41,11 @@ pub struct Body<R: Tell> {
 impl<R: Tell> Model for Body<R> {
     ghost use Rattle.std.specs.Prelude.{◌≡◌};
     ghost use Rattle.messages.specs.Heads.{IsHead};
-    ghost use Rattle.messages.specs.Messages.{HasRoom, InBody, left_in, room_of, stream_of};
+    ghost use Rattle.messages.specs.Messages.{HasRoom, InBody, seen};
 
     ghost Value = { InBody R };
 
-    ghost view = { λ b. record {
-      stream = stream_of b.reader;
-      room = room_of b.reader.reader.block;
-      moved = b.reader.reader.block.moved;
-      calls = b.reader.calls;
-      limits = b.limits;
-      head = b.head.bytes;
-      said = b.said;
-      rest = left_in b.reader;
-      taken = b.reader.taken;
-      known = b.reader.known;
-    } };
+    ghost view = { λ b. seen b.reader b.limits b.head.bytes b.said };
 
     ghost invariant = { λ b. (b.head.capacity ≡ 16384) × IsHead b.limits b.head.bytes b.said × HasRoom b.reader };
 }
