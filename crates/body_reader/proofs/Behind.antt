@@ -12,7 +12,7 @@ use Rattle.body_reader.specs.declared.progress.Progress.{Progress}
 use Rattle.body_reader.specs.Asking.{AskedWhere}
 use Rattle.body_reader.specs.AskingLaws.{AskedWhere-of}
 use Rattle.body_reader.specs.Between.{TakesBytes}
-use Rattle.body_reader.specs.BetweenLaws.{ReadsAhead-asked, ReadsAhead-ended, ReadsAhead-failed, ReadsAhead-gave, ReadsAhead-keeps, TakesBytes-none, TakesBytes-still}
+use Rattle.body_reader.specs.BetweenLaws.{ReadsAhead-asked, ReadsAhead-ended, ReadsAhead-failed, ReadsAhead-gave, ReadsAhead-keeps, TakesBytes-still}
 use Rattle.body_reader.specs.BodyReader.{BodyWent, IsBodyReader, LooksBehind, seen}
 use Rattle.body_reader.specs.Coding.{Carries, Grammar, IsKnown, IsLawful}
 use Rattle.body_reader.proofs.Filling.{Carries-less, one_ahead}
@@ -35,7 +35,7 @@ module _ {S Q C P W A : Type 0} (remaining : S → Option (List ℕ)) (rules : R
     ahead = one_ahead remaining rules r answer r' (omega (arith, is.room, lawful.some)) ahead'
 
     takes : TakesBytes remaining rules g r p [] [] r' p
-    takes = TakesBytes-still remaining rules g r p r p r' [] [] (TakesBytes-none remaining rules g r p is.place) ahead.along
+    takes = TakesBytes-still remaining rules g r p r' is.place ahead.along
         (ReadsAhead-keeps remaining rules 1 r answer r' ahead g.ahead lawful.some)
 
     pub behind_is : IsBodyReader g (seen r' c p calls k)

@@ -10,15 +10,14 @@ use Rattle.buffer_redux.specs.Peek.{ReadsAhead}
 use Rattle.buffer_redux.specs.Policy.{ReadRules}
 use Rattle.buffer_redux.specs.Potential.{of_plain}
 use Rattle.buffer_redux.specs.Sparing.{Spared}
-use Rattle.buffer_redux.specs.StreamLog.{zero_of_none, zero_of_some}
 use Rattle.body_reader.specs.declared.coding.Look.TheVariants.{Payload}
 use Rattle.body_reader.specs.declared.error.BodyError.{BodyError}
 use Rattle.body_reader.specs.declared.error.BodyError.TheVariants.{Truncated, Io}
 use Rattle.body_reader.specs.declared.progress.Progress.{Progress}
-use Rattle.body_reader.specs.Between.{AllShown, AsksWithRoom, Proceeds, Settles, ShowsOn, SkipsOn, TakesBytes}
-use Rattle.body_reader.specs.BetweenLaws.{AsksWithRoom-then, EachGave-none, Proceeds-after, Proceeds-through, TakesBytes-none, TakesBytes-still}
-use Rattle.body_reader.specs.Coding.{Carries, Grammar, IsDone, IsLawful, IsOpen, Looks}
-use Rattle.body_reader.specs.CodingLaws.{open_at}
+use Rattle.body_reader.specs.Between.{AllShown, Proceeds, Settles, ShowsOn, SkipsOn, TakenThrough, TakesBytes}
+use Rattle.body_reader.specs.BetweenLaws.{EachGave-none, EachGave-once, TakesBytes-still, Way-none}
+use Rattle.body_reader.specs.Coding.{Carries, Grammar, IsDone, IsLawful, Looks}
+use Rattle.body_reader.proofs.Once.{once_dry, once_fails, once_way}
 
 -- fewer bytes are payload too, also where more are shown
 pub Carries-less : {P W : Type 0} (g : Grammar P W) (p : P) (sure n : ℕ) (shown got : List ℕ) → Carries g p sure shown → 0 < n
@@ -53,32 +52,12 @@ pub room_of_empty : (b : Block) → IsBlock b → length b.bytes ≡ 0 → usabl
 room_of_empty b is none = room_so b.kind b is.space none
 
 module _ {S Q P W : Type 0} (remaining : S → Option (List ℕ)) (rules : ReadRules Q) (g : Grammar P W) where
-  -- a failure means the same, whatever an Ok would
-  pub Proceeds-err : {A B : Type 0} (slice : ℕ) (s : Buffered S Q) (p : Progress P) (handed : List ℕ) (e : BodyError W)
-      (M : A → Type 0) (N : B → Type 0) (t : Buffered S Q) (q : Progress P)
-      → Proceeds remaining rules g slice s p handed (Err e) M t q → Proceeds remaining rules g slice s p handed (Err e) N t q
-  Proceeds-err slice s p handed e M N t q goes = record {
-    wire = goes.wire;
-    takes = goes.takes;
-    asked = goes.asked;
-    through = goes.through;
-    ends = goes.ends;
-    idle = goes.idle;
-  }
-
   -- an Ok means what follows of what it means
   pub Proceeds-of : {A : Type 0} (slice : ℕ) (s : Buffered S Q) (p : Progress P) (handed : List ℕ)
       (answer : Result A (BodyError W)) (M N : A → Type 0) (t : Buffered S Q) (q : Progress P) → ((a : A) → M a → N a)
       → Proceeds remaining rules g slice s p handed answer M t q → Proceeds remaining rules g slice s p handed answer N t q
-  Proceeds-of slice s p handed (Ok a) M N t q so goes = record {
-    wire = goes.wire;
-    takes = goes.takes;
-    asked = goes.asked;
-    through = goes.through;
-    ends = (goes.ends.0, so a goes.ends.1);
-    idle = goes.idle;
-  }
-  Proceeds-of slice s p handed (Err e) M N t q so goes = Proceeds-err slice s p handed e M N t q goes
+  Proceeds-of slice s p handed (Ok a) M N t q so goes = (goes.0, (goes.1.0, so a goes.1.1))
+  Proceeds-of slice s p handed (Err e) M N t q so goes = goes
 
   pub ended_here : (p : P) (shown : List ℕ) → Settles remaining rules g p shown 0 → IsDone g p
   ended_here p shown (inl done) = done.1
@@ -101,7 +80,7 @@ module _ {S Q P W : Type 0} (remaining : S → Option (List ℕ)) (rules : ReadR
   -- where payload comes next some is known
   pub show_some : (slice : ℕ) (s : Buffered S Q) (p : Progress P) (sure : ℕ) → Carries g p.place sure s.block.bytes
       → (t : Buffered S Q) (n : ℕ) → ShowsOn remaining rules g slice s p (Ok n) t p → 0 < n
-  show_some slice s p sure carries t zero shows = absurd (carries.goes_on (shows.ends.1.1 refl))
+  show_some slice s p sure carries t zero shows = absurd (carries.goes_on (shows.1.1.1 refl))
   show_some slice s p sure carries t (suc n) shows = omega arith
 
   -- payload is buffered
@@ -110,13 +89,9 @@ module _ {S Q P W : Type 0} (remaining : S → Option (List ℕ)) (rules : ReadR
       → n ≡ min sure (length s.block.bytes) → ShowsOn remaining rules g slice s p (Ok n) s p
   show_held slice s p place sure looks held n is =
       let carries = looks.0 in
-      let some : 0 < n = omega (arith, is, held, carries.some) in
-      record {
-        wire = [];
-        takes = TakesBytes-none remaining rules g s p place;
-        asked = inl refl;
-        through = inl (omega arith);
-        ends = (
+      let some : 0 < n = omega (arith, is, held, carries.some) in (
+        Way-none remaining rules g slice s p place,
+        (
           EachGave-none s,
           (
             (
@@ -126,9 +101,8 @@ module _ {S Q P W : Type 0} (remaining : S → Option (List ℕ)) (rules : ReadR
             (λ none. absurd (omega (arith, none, some))),
             (λ _. all_shown p.place s.block.bytes sure n looks is),
           ),
-        );
-        idle = λ _. (refl, refl);
-      }
+        ),
+      )
 
   -- payload is read into the buffer, which is empty
   module _ (lawful : IsLawful g) (s : Buffered S Q) (p : Progress P) (place : g.is_place p.place) (sure : ℕ)
@@ -138,28 +112,11 @@ module _ {S Q P W : Type 0} (remaining : S → Option (List ℕ)) (rules : ReadR
     carries : Carries g p.place sure s.block.bytes
     carries = looks.0
 
-    is_open : (bytes : List ℕ) → bytes ≡ [] → IsOpen g p.place bytes
-    is_open bytes none = open_at g lawful p.place place carries.goes_on bytes (omega (arith, ap length none))
-
     module _ (answer : Result ℕ Error) (reads : ReadsIntoBuf remaining s answer t) where
-      asks : AsksWithRoom remaining rules g slice s p.place t
-      asks =
-          let once = reads.read.read room in
-          AsksWithRoom-then remaining rules g slice s p s p t [] (TakesBytes-none remaining rules g s p place) (EachGave-none s)
-          (inl refl)
-          (omega (arith, fits, looks.1, once.offered, ap (λ l. l.reads.offer) once.told))
-          (inr (record {
-            came = [];
-            given = ap (λ l. l.reads.given) once.told ∙ ap (λ l. s.log.reads.given ++ l.reads.latest) (sym once.told);
-            such = is_open (s.block.bytes ++ []) (append-nil s.block.bytes ∙ empty);
-            some = omega (arith, ap (λ l. l.reads.asks) once.told);
-            asks = omega (arith, ap (λ l. l.reads.asks) once.told);
-          }))
-
       still : TakesBytes remaining rules g s p [] [] t p
       still =
           let once = reads.read.read room in
-          TakesBytes-still remaining rules g s p s p t [] [] (TakesBytes-none remaining rules g s p place) (record {
+          TakesBytes-still remaining rules g s p t place (record {
             in_order = order;
             known = reads.known;
             grows = reads.grows;
@@ -177,67 +134,41 @@ module _ {S Q P W : Type 0} (remaining : S → Option (List ℕ)) (rules : ReadR
             noted = reads.noted;
           })
 
+      offers : min slice (g.sure p.place) ≤ length (reads.read.read room).out
+      offers = omega (arith, fits, looks.1, (reads.read.read room).offered)
+
+      through : TakenThrough s [] t
+      through = omega (arith, (reads.read.read room).added.consumed)
+
     pub show_fails : (e : Error) → ReadsIntoBuf remaining s (Err e) t → ShowsOn remaining rules g slice s p (Err (Io e)) t p
     show_fails e reads =
         let o = reads.read.read room in
-        record {
-          wire = [];
-          takes = still (Err e) reads;
-          asked = asks (Err e) reads;
-          through = inl (omega (arith, o.added.consumed));
-          ends = (
-            (ap (λ l. l.reads.faults) o.told, ap (λ l. l.reads.zero_reads) o.told),
-            is_open t.block.bytes (o.added.bytes ∙ append-nil s.block.bytes ∙ empty),
-          );
-          idle = λ done. absurd (carries.goes_on done);
-        }
+        once_fails remaining rules g lawful s p place carries.goes_on empty slice o.out (offers (Err e) reads) t
+        (still (Err e) reads) (through (Err e) reads) (o.added.bytes ∙ append-nil s.block.bytes ∙ empty) e o.told
 
     pub show_dry : ReadsIntoBuf remaining s (Ok 0) t → ShowsOn remaining rules g slice s p (Err (Truncated p.count)) t p
     show_dry reads =
         let o = reads.read.read room in
-        record {
-          wire = [];
-          takes = still (Ok 0) reads;
-          asked = asks (Ok 0) reads;
-          through = inl (omega (arith, o.added.consumed));
-          ends = (
-            refl,
-            (
-              ap (λ l. l.reads.faults) o.told,
-              ap (λ l. l.reads.zero_reads) o.told
-                  ∙ zero_of_none 0 o.out s.log.reads.zero_reads refl (omega (arith, o.offered, room)),
-            ),
-            is_open t.block.bytes (o.added.bytes ∙ append-nil s.block.bytes ∙ empty),
-          );
-          idle = λ done. absurd (carries.goes_on done);
-        }
+        once_dry remaining rules g lawful s p place carries.goes_on empty slice o.out (offers (Ok 0) reads) t
+        (still (Ok 0) reads) (through (Ok 0) reads) (o.added.bytes ∙ append-nil s.block.bytes ∙ empty) o.told
+        (omega (arith, o.offered, room))
 
     pub show_well : (came : ℕ) → ReadsIntoBuf remaining s (Ok came) t → 0 < came → (n : ℕ) → n ≡ min sure came
         → ShowsOn remaining rules g slice s p (Ok n) t p
     show_well came reads more n is =
         let o = reads.read.read room in
         let some : 0 < n = omega (arith, is, more, carries.some) in
-        let long : length (take came o.out) ≡ came = length-take-le came o.out o.bound.0 in
-        let all : length t.block.bytes ≡ came =
-        omega (arith, ap length o.added.bytes, length-append s.block.bytes (take came o.out), ap length empty, long) in
-        record {
-          wire = [];
-          takes = still (Ok came) reads;
-          asked = asks (Ok came) reads;
-          through = inl (omega (arith, o.added.consumed));
-          ends = (
-            record {
-              faults = ap (λ l. l.reads.faults) o.told;
-              zero_reads = ap (λ l. l.reads.zero_reads) o.told ∙ zero_of_some came o.out s.log.reads.zero_reads (inl more);
-              asks = omega (
-                arith,
-                more,
-                ap (λ l. l.reads.asks) o.told,
-                ap (λ l. length l.reads.given) o.told,
-                length-append s.log.reads.given (take came o.out),
-                long,
-              );
-            },
+        let all : length t.block.bytes ≡ came = omega (
+          arith,
+          ap length o.added.bytes,
+          length-append s.block.bytes (take came o.out),
+          ap length empty,
+          length-take-le came o.out o.bound.0,
+        ) in (
+          once_way remaining rules g lawful s p place carries.goes_on empty slice o.out (offers (Ok came) reads) t
+              (still (Ok came) reads) (through (Ok came) reads) (Ok came) o.told,
+          (
+            EachGave-once s t o.out came o.told more o.bound.0,
             (
               (
                 omega (arith, is, all),
@@ -256,35 +187,20 @@ module _ {S Q P W : Type 0} (remaining : S → Option (List ℕ)) (rules : ReadR
                 )),
               ) (omega (arith, is, all))),
             ),
-          );
-          idle = λ done. absurd (carries.goes_on done);
-        }
+          ),
+        )
 
-  module _ (slice : ℕ) (s : Buffered S Q) (p : Progress P) (m : Buffered S Q) (q : Progress P) where
-    -- the body ended
-    pub fill_ended : SkipsOn remaining rules g slice s p (Ok 0) m q → ShowsOn remaining rules g slice s p (Ok 0) m q
-    fill_ended skips = record {
-      wire = skips.wire;
-      takes = skips.takes;
-      asked = skips.asked;
-      through = skips.through;
-      ends = (
-        skips.ends.0,
-        (
-          (omega arith, λ some. absurd (omega (arith, some))),
-          (λ _. ended_here q.place m.block.bytes skips.ends.1),
-          (λ some. absurd (omega (arith, some))),
-        ),
-      );
-      idle = skips.idle;
-    }
-
-    -- behind what is no payload
-    pub behind_skipped : {A : Type 0} (sure : ℕ) → 0 < sure → SkipsOn remaining rules g slice s p (Ok sure) m q
-        → (handed : List ℕ) → (answer : Result A (BodyError W)) → (M : A → Type 0) (t : Buffered S Q) (r : Progress P)
-        → Proceeds remaining rules g slice m q handed answer M t r → Proceeds remaining rules g slice s p handed answer M t r
-    behind_skipped sure some skips handed answer M t r goes =
-        Proceeds-after remaining rules g slice s p m q t skips.wire skips.takes skips.ends.0 skips.asked handed answer M r goes
-        (λ done. absurd ((payload_here q.place m.block.bytes sure some skips.ends.1).0.goes_on
-        (subst (λ x. IsDone g x.place) (sym (skips.idle done).1) done)))
-        (Proceeds-through remaining rules g slice s p (Ok sure) _ m q skips)
+  -- the body ended
+  pub fill_ended : (slice : ℕ) (s : Buffered S Q) (p : Progress P) (m : Buffered S Q) (q : Progress P)
+      → SkipsOn remaining rules g slice s p (Ok 0) m q → ShowsOn remaining rules g slice s p (Ok 0) m q
+  fill_ended slice s p m q skips = (
+    skips.0,
+    (
+      skips.1.0,
+      (
+        (omega arith, λ some. absurd (omega (arith, some))),
+        (λ _. ended_here q.place m.block.bytes skips.1.1),
+        (λ some. absurd (omega (arith, some))),
+      ),
+    ),
+  )

@@ -8,11 +8,11 @@ use Rattle.buffer_redux.specs.Policy.{ReadRules}
 use Rattle.body_reader.specs.declared.coding.Look.{Look}
 use Rattle.body_reader.specs.declared.error.BodyError.{BodyError}
 use Rattle.body_reader.specs.declared.progress.Progress.{Progress}
-use Rattle.body_reader.specs.Between.{AllShown, AsksWithRoom, EachGave, ShowsOn, HandsOn, KnowsAll, PassesOn, Proceeds, SkipsOn, TakenThrough, TakesBytes, TakesFront, handed_out}
-use Rattle.body_reader.specs.BetweenLaws.{EachGave-same, Proceeds-after, Proceeds-through}
+use Rattle.body_reader.specs.Between.{AllShown, EachGave, HandsOn, KnowsAll, PassesOn, PayloadFails, SkipsOn, TakesBytes, TakesFront, Way, handed_out}
+use Rattle.body_reader.specs.BetweenLaws.{EachGave-same, PassesOn-way, Proceeds-after}
 use Rattle.body_reader.specs.Coding.{Carries, Grammar, IsDone, IsKnown, Leads, heeded}
 use Rattle.body_reader.specs.CodingLaws.{Leads-none, Leads-then}
-use Rattle.body_reader.proofs.Filling.{Proceeds-err, Proceeds-of, ended_here, payload_here}
+use Rattle.body_reader.proofs.Filling.{Proceeds-of, ended_here}
 use Rattle.body_reader.proofs.Skipping.{Notes, consumes_left, consumes_parts, consumes_through, takes_front}
 
 pub some_of : (n : ℕ) → false ≡ (n == 0) → 0 < n
@@ -139,12 +139,15 @@ module _ {S Q P W : Type 0} (remaining : S → Option (List ℕ)) (rules : ReadR
         → (before ≡ 0 → KnowsAll g p.place p.taken.log.fills.consumed q.taken.log.fills.consumed [] (take n out) k' t.block.bytes)
         → HandsOn remaining rules g before s p out (Ok n) t q k'
     hands_these before knows = (
-      record {
-        wire = take n s.block.bytes;
-        takes = subst (λ l. TakesBytes remaining rules g s p (take n s.block.bytes) l t q) (sym same) taken.takes;
-        asked = inl taken.consumed.told;
-        through = inl (consumes_through rules n s t (omega (arith, is, known.0)) taken.consumed);
-        ends = (
+      (
+        record {
+          wire = take n s.block.bytes;
+          takes = subst (λ l. TakesBytes remaining rules g s p (take n s.block.bytes) l t q) (sym same) taken.takes;
+          asked = inl taken.consumed.told;
+          through = inl (consumes_through rules n s t (omega (arith, is, known.0)) taken.consumed);
+          idle = λ done. absurd ((known.1 some).goes_on done);
+        },
+        (
           EachGave-same s t taken.consumed.told,
           (
             omega (arith, is),
@@ -152,9 +155,8 @@ module _ {S Q P W : Type 0} (remaining : S → Option (List ℕ)) (rules : ReadR
             full,
             (λ unknown _. knows unknown),
           ),
-        );
-        idle = λ done. absurd ((known.1 some).goes_on done);
-      },
+        ),
+      ),
       λ none. absurd (omega (arith, none, room)),
     )
 
@@ -189,79 +191,47 @@ module _ {S Q P W : Type 0} (remaining : S → Option (List ℕ)) (rules : ReadR
         × (known ≡ 0 → 0 < n → KnowsAll g at.place at.taken.log.fills.consumed r.taken.log.fills.consumed [] (take n out) after
         t.block.bytes)
 
-    pub hands_failed : {A : Type 0} (e : BodyError W) (M : A → Type 0)
-        → Proceeds remaining rules g (length out) s p [] (Err e) M m q → HandsOn remaining rules g known s p out (Err e) m q after
-    hands_failed e M goes =
-        (Proceeds-err remaining rules g (length out) s p [] e M (Handed p m q) m q goes, never)
+    pub hands_failed : (e : BodyError W) → Way remaining rules g (length out) s p [] m q → PayloadFails remaining rules g s e m q
+        → HandsOn remaining rules g known s p out (Err e) m q after
+    hands_failed e way fails = ((way, fails), never)
 
-    -- behind calls that took bytes without payload, and of which each read gave some
-    hands_after : (wire : List ℕ) → TakesBytes remaining rules g s p wire [] m q → EachGave s m
-        → AsksWithRoom remaining rules g (length out) s p.place m → TakenThrough s wire m
-        → (answer : Result ℕ (BodyError W)) (t : Buffered S Q) (r : Progress P)
-        → HandsOn remaining rules g known m q out answer t r after
-        → (IsDone g p.place → (t ≡ s) × (r ≡ p)) → HandsOn remaining rules g known s p out answer t r after
-    hands_after wire takes gave asked through answer t r hands idle = (
-      Proceeds-after remaining rules g (length out) s p m q t wire takes gave asked (handed_out out answer) answer
-          (Handed p t r) r
+    -- behind a way without payload, on which each read gave some
+    pub hands_after : Way remaining rules g (length out) s p [] m q → EachGave s m → (answer : Result ℕ (BodyError W))
+        → (t : Buffered S Q) (r : Progress P) → HandsOn remaining rules g known m q out answer t r after
+        → HandsOn remaining rules g known s p out answer t r after
+    hands_after way gave answer t r hands = (
+      Proceeds-after remaining rules g (length out) s p m q t way gave (handed_out out answer) answer (Handed p t r) r
           (Proceeds-of remaining rules g (length out) m q (handed_out out answer) answer (Handed q t r) (Handed p t r) t r
           (λ n means. (
             means.0,
             means.1,
             means.2,
-            (λ none some. knows_behind s p m q t r wire [] hands.0.wire (handed_out out answer) [] (take n out) after takes
-                hands.0.takes (means.3 none some)),
-          )) hands.0) idle through,
+            (λ none some. knows_behind s p m q t r way.wire [] hands.0.0.wire (handed_out out answer) [] (take n out) after
+                way.takes hands.0.0.takes (means.3 none some)),
+          )) hands.0),
       never,
     )
 
     pub hands_passed : (l : Look P W) → PassesOn remaining rules g s p l m q → (answer : Result ℕ (BodyError W))
         → (t : Buffered S Q) (r : Progress P) → HandsOn remaining rules g known m q out answer t r after
         → HandsOn remaining rules g known s p out answer t r after
-    hands_passed l passes answer t r hands =
-        hands_after passes.wire passes.takes (EachGave-same s m passes.told) (inl passes.told) passes.through answer t r hands
-        (λ done. (
-        let first = passes.idle done in
-        let then = hands.0.idle (subst (λ x. IsDone g x.place) (sym first.1) done) in
-        (then.0 ∙ first.0, then.1 ∙ first.1)
-        ))
+    hands_passed l passes =
+        hands_after (PassesOn-way remaining rules g (length out) s p l m q passes) (EachGave-same s m passes.told)
 
     pub hands_ended : after ≡ 0 → SkipsOn remaining rules g (length out) s p (Ok 0) m q
         → HandsOn remaining rules g known s p out (Ok 0) m q after
     hands_ended unknown skips = (
-      record {
-        wire = skips.wire;
-        takes = skips.takes;
-        asked = skips.asked;
-        through = skips.through;
-        ends = (
-          skips.ends.0,
+      (
+        skips.0,
+        (
+          skips.1.0,
           (
             omega arith,
-            (λ _ _. ended_here remaining rules g q.place m.block.bytes skips.ends.1),
+            (λ _ _. ended_here remaining rules g q.place m.block.bytes skips.1.1),
             inr unknown,
             (λ _ some. absurd (omega (arith, some))),
           ),
-        );
-        idle = skips.idle;
-      },
+        ),
+      ),
       never,
     )
-
-    pub hands_behind : (sure : ℕ) → 0 < sure → SkipsOn remaining rules g (length out) s p (Ok sure) m q
-        → (answer : Result ℕ (BodyError W)) → (t : Buffered S Q) (r : Progress P)
-        → HandsOn remaining rules g known m q out answer t r after → HandsOn remaining rules g known s p out answer t r after
-    hands_behind sure some skips answer t r hands =
-        hands_after skips.wire skips.takes skips.ends.0 skips.asked
-        (Proceeds-through remaining rules g (length out) s p (Ok sure) _ m q skips)
-        answer t r hands
-        (λ done. absurd ((payload_here remaining rules g q.place m.block.bytes sure some skips.ends.1).0.goes_on
-        (subst (λ x. IsDone g x.place) (sym (skips.idle done).1) done)))
-
-    -- and behind a fill
-    pub hands_filled : (k : ℕ) → 0 < k → ShowsOn remaining rules g (length out) s p (Ok k) m q
-        → (answer : Result ℕ (BodyError W)) → (t : Buffered S Q) (r : Progress P)
-        → HandsOn remaining rules g known m q out answer t r after → HandsOn remaining rules g known s p out answer t r after
-    hands_filled k some fills answer t r hands =
-        hands_after fills.wire fills.takes fills.ends.0 fills.asked
-        (Proceeds-through remaining rules g (length out) s p (Ok k) _ m q fills) answer t r hands
-        (λ done. absurd ((fills.ends.1.0.1 some).goes_on (subst (λ x. IsDone g x.place) (sym (fills.idle done).1) done)))

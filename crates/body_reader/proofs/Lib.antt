@@ -1,5 +1,6 @@
 pub mod Skipping
 pub mod Handing
+pub mod Once
 pub mod Past
 pub mod Payload
 pub mod Taking

@@ -1,5 +1,5 @@
 -- Payload is read past the buffer.
-use Rattle.std.proofs.Common.{◌≡◌, ℕ, ◌<◌, ◌≤◌, List, [], ◌++◌, length, min, take, drop, Option, Result, Ok, Err, sym, ap, subst, ◌∙◌, arith, inl, inr, refl, append-nil, length-append, length-drop}
+use Rattle.std.proofs.Common.{◌≡◌, ℕ, ◌<◌, ◌≤◌, List, [], ◌++◌, length, min, take, drop, Option, Result, Ok, Err, sym, ap, subst, ◌∙◌, arith, inl, inr, append-nil, length-append, length-drop}
 use Rattle.std.proofs.lemmas.List.{length-take-le, nil_from_length, take-append-le}
 use Rattle.std.specs.declared.io.Error.{Error}
 use Rattle.buffer_redux.specs.Block.{OnlyRingMoves}
@@ -8,13 +8,14 @@ use Rattle.buffer_redux.specs.Buffered.{Buffered, GoesDirect, GoesPast}
 use Rattle.buffer_redux.specs.BufReader.{ReaderKeeps, ReadsAlong, ReadsInOrder}
 use Rattle.buffer_redux.specs.Policy.{ReadRules}
 use Rattle.buffer_redux.specs.ReaderLaws.{ReaderKeeps-along}
-use Rattle.buffer_redux.specs.StreamLog.{after_read, zero_of_none, zero_of_some}
+use Rattle.buffer_redux.specs.StreamLog.{after_read}
 use Rattle.body_reader.specs.declared.error.BodyError.TheVariants.{Truncated, Io}
 use Rattle.body_reader.specs.declared.progress.Progress.{Progress}
-use Rattle.body_reader.specs.Between.{AsksWithRoom, HandsOn, KeepsBuffer, TakesBytes}
-use Rattle.body_reader.specs.BetweenLaws.{AsksWithRoom-then, EachGave-none, TakesBytes-none}
-use Rattle.body_reader.specs.Coding.{Carries, Grammar, IsLawful, IsOpen, Leads, heeded}
-use Rattle.body_reader.specs.CodingLaws.{Leads-none, open_at}
+use Rattle.body_reader.specs.Between.{HandsOn, KeepsBuffer, TakesBytes}
+use Rattle.body_reader.specs.BetweenLaws.{EachGave-once, TakesBytes-none}
+use Rattle.body_reader.specs.Coding.{Carries, Grammar, IsLawful, Leads, heeded}
+use Rattle.body_reader.specs.CodingLaws.{Leads-none}
+use Rattle.body_reader.proofs.Once.{once_asks, once_dry, once_fails}
 use Rattle.body_reader.proofs.Skipping.{Notes}
 
 -- one read past the buffer, into the first bytes of a slice, which it left so
@@ -49,9 +50,6 @@ module _ {S Q P W : Type 0} (remaining : S → Option (List ℕ)) (rules : ReadR
       noted = keeps.noted;
     }
 
-    is_open : (bytes : List ℕ) → bytes ≡ [] → IsOpen g p.place bytes
-    is_open bytes none = open_at g lawful p.place place carries.goes_on bytes (omega (arith, ap length none))
-
     pub past_carries : (n : ℕ) → n ≤ length lent → Went (Ok n) → ReadsInOrder s (take n lent) t
         → g.carries p.place (take n out) t.block.bytes
     past_carries n within goes order =
@@ -63,18 +61,8 @@ module _ {S Q P W : Type 0} (remaining : S → Option (List ℕ)) (rules : ReadR
       room : length out ≡ length slice
       room = omega (arith, long, fits, length-append lent (drop most slice), length-drop most slice)
 
-      asked : (answer : Result ℕ Error) → GoesDirect after_read s lent answer t
-          → AsksWithRoom remaining rules g (length out) s p.place t
-      asked answer direct =
-          AsksWithRoom-then remaining rules g (length out) s p s p t [] (TakesBytes-none remaining rules g s p place)
-          (EachGave-none s) (inl refl) (omega (arith, offers, room, long, ap (λ l. l.reads.offer) direct.told))
-          (inr (record {
-            came = [];
-            given = ap (λ l. l.reads.given) direct.told ∙ ap (λ l. s.log.reads.given ++ l.reads.latest) (sym direct.told);
-            such = is_open (s.block.bytes ++ []) (append-nil s.block.bytes ∙ empty);
-            some = omega (arith, ap (λ l. l.reads.asks) direct.told);
-            asks = omega (arith, ap (λ l. l.reads.asks) direct.told);
-          }))
+      offered : min (length out) (g.sure p.place) ≤ length lent
+      offered = omega (arith, offers, room, long)
 
       still : t.block ≡ s.block → ReadsInOrder s [] t → TakesBytes remaining rules g s p [] [] t p
       still same order = record {
@@ -86,9 +74,6 @@ module _ {S Q P W : Type 0} (remaining : S → Option (List ℕ)) (rules : ReadR
         keeps = buffer_kept same;
       }
 
-      none_left : t.block ≡ s.block → IsOpen g p.place t.block.bytes
-      none_left same = is_open t.block.bytes (ap (λ b. b.bytes) same ∙ empty)
-
       some : 0 < length out
       some = omega (arith, carries.some, room, fits)
 
@@ -96,17 +81,9 @@ module _ {S Q P W : Type 0} (remaining : S → Option (List ℕ)) (rules : ReadR
           → HandsOn remaining rules g known s p out (Err (Io e)) t p known
       past_fails e goes order =
           let direct = went (Err e) goes in (
-            record {
-              wire = [];
-              takes = still direct.block order;
-              asked = asked (Err e) direct;
-              through = inl (omega (arith, ap (λ b. b.consumed) direct.block));
-              ends = (
-                (ap (λ l. l.reads.faults) direct.told, ap (λ l. l.reads.zero_reads) direct.told),
-                none_left direct.block,
-              );
-              idle = λ done. absurd (carries.goes_on done);
-            },
+            once_fails remaining rules g lawful s p place carries.goes_on empty (length out) lent offered t
+                (still direct.block order) (omega (arith, ap (λ b. b.consumed) direct.block))
+                (ap (λ b. b.bytes) direct.block ∙ empty) e direct.told,
             λ none. absurd (omega (arith, none, some)),
           )
 
@@ -114,22 +91,9 @@ module _ {S Q P W : Type 0} (remaining : S → Option (List ℕ)) (rules : ReadR
           → HandsOn remaining rules g known s p out (Err (Truncated p.count)) t p known
       past_dry goes order =
           let direct = went (Ok 0) goes in (
-            record {
-              wire = [];
-              takes = still direct.block order;
-              asked = asked (Ok 0) direct;
-              through = inl (omega (arith, ap (λ b. b.consumed) direct.block));
-              ends = (
-                refl,
-                (
-                  ap (λ l. l.reads.faults) direct.told,
-                  ap (λ l. l.reads.zero_reads) direct.told
-                      ∙ zero_of_none 0 lent s.log.reads.zero_reads refl (omega (arith, long, carries.some)),
-                ),
-                none_left direct.block,
-              );
-              idle = λ done. absurd (carries.goes_on done);
-            },
+            once_dry remaining rules g lawful s p place carries.goes_on empty (length out) lent offered t
+                (still direct.block order) (omega (arith, ap (λ b. b.consumed) direct.block))
+                (ap (λ b. b.bytes) direct.block ∙ empty) direct.told (omega (arith, long, carries.some)),
             λ none. absurd (omega (arith, none, some)),
           )
 
@@ -140,35 +104,28 @@ module _ {S Q P W : Type 0} (remaining : S → Option (List ℕ)) (rules : ReadR
       past_given n given within goes order there q notes leads is_place =
           let direct = went (Ok n) goes in
           let same : take n out ≡ take n lent = take-append-le n lent (drop most slice) within in (
-            record {
-              wire = take n out;
-              takes = record {
-                along = subst (λ l. ReadsAlong remaining rules s l t) (sym same)
-                    (ReaderKeeps-along remaining rules s (take n lent) t order keeps);
-                leads = subst (λ x. Leads g p.place (take n out) (take n out) x (heeded g t.block.bytes)) (sym notes.place) leads;
-                taken = notes.taken;
-                place = subst g.is_place (sym notes.place) is_place;
-                keeps = buffer_kept direct.block;
-              };
-              asked = asked (Ok n) direct;
-              through = inr (
-                omega (arith, given, ap length same, length-take-le n lent within),
-                omega (arith, past.1, long, ap (λ l. l.reads.offer) direct.told),
-              );
-              ends = (
-                record {
-                  faults = ap (λ l. l.reads.faults) direct.told;
-                  zero_reads = ap (λ l. l.reads.zero_reads) direct.told
-                      ∙ zero_of_some n lent s.log.reads.zero_reads (inl given);
-                  asks = omega (
-                    arith,
-                    given,
-                    ap (λ l. l.reads.asks) direct.told,
-                    ap (λ l. length l.reads.given) direct.told,
-                    length-append s.log.reads.given (take n lent),
-                    length-take-le n lent within,
-                  );
-                },
+            (
+              record {
+                wire = take n out;
+                takes = record {
+                  along = subst (λ l. ReadsAlong remaining rules s l t) (sym same)
+                      (ReaderKeeps-along remaining rules s (take n lent) t order keeps);
+                  leads = subst (λ x. Leads g p.place (take n out) (take n out) x (heeded g t.block.bytes)) (sym notes.place)
+                      leads;
+                  taken = notes.taken;
+                  place = subst g.is_place (sym notes.place) is_place;
+                  keeps = buffer_kept direct.block;
+                };
+                asked = once_asks remaining rules g lawful s p place carries.goes_on empty (length out) lent offered t (Ok n)
+                    direct.told;
+                through = inr (
+                  omega (arith, given, ap length same, length-take-le n lent within),
+                  omega (arith, past.1, long, ap (λ l. l.reads.offer) direct.told),
+                );
+                idle = λ done. absurd (carries.goes_on done);
+              },
+              (
+                EachGave-once s t lent n direct.told given within,
                 (
                   omega (arith, within, length-append lent (drop most slice)),
                   (λ none _. absurd (omega (arith, none, given))),
@@ -187,8 +144,7 @@ module _ {S Q P W : Type 0} (remaining : S → Option (List ℕ)) (rules : ReadR
                     ));
                   }),
                 ),
-              );
-              idle = λ done. absurd (carries.goes_on done);
-            },
+              ),
+            ),
             λ none. absurd (omega (arith, none, some)),
           )

@@ -115,8 +115,8 @@ module _ {S Q C P W : Type 0} (remaining : S → Option (List ℕ)) (rules : Rea
   after = seen r' c q (after_payload calls out answer) k'
 
   still : IsBodyReader g after
-  still = state_is remaining rules g r c p calls k r' q (after_payload calls out answer) k' hands.0.wire (handed_out out answer)
-      hands.0.takes (given_after calls out answer) is known
+  still = state_is remaining rules g r c p calls k r' q (after_payload calls out answer) k' hands.0.0.wire (handed_out out answer)
+      hands.0.0.takes (given_after calls out answer) is known
 
   abbrev Ends : Result ℕ (BodyError W) → Type 0
   Ends a = MatchResult a (λ n. EachGave r r' × ((n ≤ length out) × (n ≡ 0 → 0 < length out → IsDone g q.place)
@@ -160,7 +160,7 @@ module _ {S Q C P W : Type 0} (remaining : S → Option (List ℕ)) (rules : Rea
   idle (inl whole) =
       let done = Leads-done g lawful p.taken.log.fills.consumed calls.reads.given p.place (heeded g r.block.bytes) is.leads
       is.place whole in
-      let at = hands.0.idle done in
+      let at = hands.0.0.idle done in
       nothing_done (
         at.0,
         at.1,
@@ -172,14 +172,14 @@ module _ {S Q C P W : Type 0} (remaining : S → Option (List ℕ)) (rules : Rea
   pub payload_read : ReadsPayload remaining rules g (seen r c p calls k) out answer after
   unfolding state_went
   payload_read = record {
-    went = state_went remaining rules g r c p calls k r' q (after_payload calls out answer) k' hands.0.wire
-        (handed_out out answer) hands.0.takes (given_after calls out answer);
-    answers = answered answer hands.0.ends;
-    asked = hands.0.asked;
-    through = elim hands.0.through [ inl all ↦ inl all | inr past ↦ inr past.1 ];
-    full = full_handed answer hands.0.ends;
+    went = state_went remaining rules g r c p calls k r' q (after_payload calls out answer) k' hands.0.0.wire
+        (handed_out out answer) hands.0.0.takes (given_after calls out answer);
+    answers = answered answer hands.0.1;
+    asked = hands.0.0.asked;
+    through = elim hands.0.0.through [ inl all ↦ inl all | inr past ↦ inr past.1 ];
+    full = full_handed answer hands.0.1;
     left = left;
-    knows = knows_told answer hands.0.ends;
+    knows = knows_told answer hands.0.1;
     consumed = consumed;
     idle = idle;
     empty = λ none. (hands.1 none).0;
@@ -213,12 +213,12 @@ module _ {S Q C P W : Type 0} (remaining : S → Option (List ℕ)) (rules : Rea
     (r' : Buffered S Q) (q : Progress P) (none : k ≡ 0) where
   filled_state : (answer : Result ℕ (BodyError W)) → ShowsOn remaining rules g 0 r p answer r' q → (n : ℕ)
       → IsKnown g q.place n r'.block.bytes → IsBodyReader g (seen r' c q calls n)
-  filled_state answer fills n known = state_is remaining rules g r c p calls k r' q calls n fills.wire [] fills.takes
+  filled_state answer fills n known = state_is remaining rules g r c p calls k r' q calls n fills.0.wire [] fills.0.takes
       (sym (append-nil calls.reads.given)) is known
 
   filled_went : (answer : Result ℕ (BodyError W)) → ShowsOn remaining rules g 0 r p answer r' q → (n : ℕ)
       → BodyWent remaining rules g (seen r c p calls k) [] (seen r' c q calls n)
-  filled_went answer fills n = state_went remaining rules g r c p calls k r' q calls n fills.wire [] fills.takes
+  filled_went answer fills n = state_went remaining rules g r c p calls k r' q calls n fills.0.wire [] fills.0.takes
       (sym (append-nil calls.reads.given))
 
   done : TookWholeBody g (seen r c p calls k) → IsDone g p.place
@@ -228,14 +228,14 @@ module _ {S Q C P W : Type 0} (remaining : S → Option (List ℕ)) (rules : Rea
   -- where the body ended nothing is done
   none_known : (n : ℕ) → ShowsOn remaining rules g 0 r p (Ok n) r' q → IsDone g p.place → n ≡ k
   none_known zero fills at = sym none
-  none_known (suc n) fills at = absurd ((fills.ends.1.0.1 (omega arith)).goes_on
-      (subst (λ x. IsDone g x.place) (sym (fills.idle at).1) at))
+  none_known (suc n) fills at = absurd ((fills.1.1.0.1 (omega arith)).goes_on
+      (subst (λ x. IsDone g x.place) (sym (fills.0.idle at).1) at))
 
   same : (n : ℕ) → (r' ≡ r) × (q ≡ p) → n ≡ k → seen r' c q calls n ≡ seen r c p calls k
   same n both known = cc
 
   pub filled_is : (n : ℕ) → ShowsOn remaining rules g 0 r p (Ok n) r' q → IsBodyReader g (seen r' c q calls n)
-  filled_is n fills = filled_state (Ok n) fills n fills.ends.1.0
+  filled_is n fills = filled_state (Ok n) fills n fills.1.1.0
 
   pub filled : (n : ℕ) → ShowsOn remaining rules g 0 r p (Ok n) r' q
       → FillsPayload remaining rules g (seen r c p calls k) (Ok n) (seen r' c q calls n)
@@ -243,16 +243,16 @@ module _ {S Q C P W : Type 0} (remaining : S → Option (List ℕ)) (rules : Rea
     went = filled_went (Ok n) fills n;
     answers = (
       refl,
-      fills.ends.0,
+      fills.1.0,
       (λ zero. Leads-whole g q.taken.log.fills.consumed calls.reads.given q.place (heeded g r'.block.bytes)
           (filled_is n fills).leads
-          (fills.ends.1.1 zero)),
+          (fills.1.1.1 zero)),
     );
-    all = λ some _. fills.ends.1.2 some;
-    asked = AsksWithRoom-open remaining rules g 0 r p.place r' fills.asked;
+    all = λ some _. fills.1.1.2 some;
+    asked = AsksWithRoom-open remaining rules g 0 r p.place r' fills.0.asked;
     still = λ either. elim either [
       | inl some ↦ absurd (omega (arith, some, none))
-      | inr whole ↦ same n (fills.idle (done whole)) (none_known n fills (done whole))
+      | inr whole ↦ same n (fills.0.idle (done whole)) (none_known n fills (done whole))
     ];
     noted = refl;
     whole = filled_is n fills;
@@ -266,12 +266,12 @@ module _ {S Q C P W : Type 0} (remaining : S → Option (List ℕ)) (rules : Rea
       → FillsPayload remaining rules g (seen r c p calls k) (Err e) (seen r' c q calls k)
   not_filled e fills = record {
     went = filled_went (Err e) fills k;
-    answers = stops remaining rules g r c p calls k r' q calls k lawful (not_filled_is e fills) e fills.ends;
+    answers = stops remaining rules g r c p calls k r' q calls k lawful (not_filled_is e fills) e fills.1;
     all = tt;
-    asked = AsksWithRoom-open remaining rules g 0 r p.place r' fills.asked;
+    asked = AsksWithRoom-open remaining rules g 0 r p.place r' fills.0.asked;
     still = λ either. elim either [
       | inl some ↦ absurd (omega (arith, some, none))
-      | inr whole ↦ same k (fills.idle (done whole)) refl
+      | inr whole ↦ same k (fills.0.idle (done whole)) refl
     ];
     noted = refl;
     whole = not_filled_is e fills;

@@ -13,8 +13,8 @@ use Rattle.body_reader.specs.declared.coding.Look.{Look}
 use Rattle.body_reader.specs.declared.coding.Look.TheVariants as look
 use Rattle.body_reader.specs.declared.error.BodyError.TheVariants.{Wrong, Truncated, Io}
 use Rattle.body_reader.specs.declared.progress.Progress.{Progress}
-use Rattle.body_reader.specs.Between.{AsksWithRoom, EachGave, KeepsBuffer, PassesOn, SkipsOn, TakenThrough, TakesBytes, spend}
-use Rattle.body_reader.specs.BetweenLaws.{AsksWithRoom-same, AsksWithRoom-then, EachGave-joins, EachGave-none, EachGave-same, FaultedOnce-after, GaveNothingOnce-after, ReadsAhead-asks, ReadsAhead-ended, ReadsAhead-failed, ReadsAhead-gave, ReadsAhead-keeps, ReadsAhead-open, TakesBytes-joins, TakesBytes-none, TakesBytes-still}
+use Rattle.body_reader.specs.Between.{EachGave, KeepsBuffer, PassesOn, SkipsOn, TakenThrough, TakesBytes, Way, spend}
+use Rattle.body_reader.specs.BetweenLaws.{AsksWithRoom-here, EachGave-joins, EachGave-none, EachGave-same, FaultedOnce-after, GaveNothingOnce-after, PassesOn-way, ReadsAhead-asks, ReadsAhead-ended, ReadsAhead-failed, ReadsAhead-gave, ReadsAhead-keeps, ReadsAhead-open, TakesBytes-joins, TakesBytes-none, TakesBytes-still, Way-joins, Way-none}
 use Rattle.body_reader.specs.Coding.{Grammar, IsDone, IsOpenBelow, Leads, Looks, heeded}
 use Rattle.body_reader.specs.CodingLaws.{IsOpenBelow-open}
 
@@ -92,16 +92,12 @@ pub record Passed {S Q P W : Type 0} (remaining : S → Option (List ℕ)) (rule
   pub spends : spend g q.place m.block.bytes ≤ spend g p.place s.block.bytes
   pub idle : IsDone g p.place → (m ≡ s) × (q ≡ p)
 
--- the same, and each read gave some
+-- so far bytes were taken which are no payload, and each read gave some
 pub record Skipped {S Q P W : Type 0} (remaining : S → Option (List ℕ)) (rules : ReadRules Q) (g : Grammar P W)
     (s : Buffered S Q) (p : Progress P) (m : Buffered S Q) (q : Progress P) : Type 0 where
-  pub wire : List ℕ
-  pub takes : TakesBytes remaining rules g s p wire [] m q
+  pub way : (slice : ℕ) → Way remaining rules g slice s p [] m q
   pub gave : EachGave s m
-  pub asked : (slice : ℕ) → AsksWithRoom remaining rules g slice s p.place m
-  pub through : TakenThrough s wire m
   pub room : g.ahead ≤ m.block.capacity
-  pub still : IsDone g p.place → (m ≡ s) × (q ≡ p)
 
 module _ {S Q P W : Type 0} (remaining : S → Option (List ℕ)) (rules : ReadRules Q) (g : Grammar P W) where
   pub passed_none : (s : Buffered S Q) (p : Progress P) → g.is_place p.place → Passed remaining rules g s p s p
@@ -147,69 +143,36 @@ module _ {S Q P W : Type 0} (remaining : S → Option (List ℕ)) (rules : ReadR
 
   pub skipped_none : (s : Buffered S Q) (p : Progress P) → g.is_place p.place → g.ahead ≤ s.block.capacity
       → Skipped remaining rules g s p s p
-  skipped_none s p place room = record {
-    wire = [];
-    takes = TakesBytes-none remaining rules g s p place;
-    gave = EachGave-none s;
-    asked = λ slice. inl refl;
-    through = omega arith;
-    room = room;
-    still = λ _. (refl, refl);
-  }
+  skipped_none s p place room =
+      record { way = λ slice. Way-none remaining rules g slice s p place; gave = EachGave-none s; room = room }
 
   module _ (s : Buffered S Q) (p : Progress P) (m : Buffered S Q) (q : Progress P) (so : Skipped remaining rules g s p m q)
       (l : Look P W) (t : Buffered S Q) (r : Progress P) (passes : PassesOn remaining rules g m q l t r) where
     -- all that is buffered was passed
     skipped_there : Skipped remaining rules g s p t r
     skipped_there = record {
-      wire = so.wire ++ passes.wire;
-      takes = TakesBytes-joins remaining rules g s p m q t r so.wire [] passes.wire [] so.takes passes.takes;
+      way = λ slice. Way-joins remaining rules g slice s p m q t (so.way slice) so.gave [] r
+          (PassesOn-way remaining rules g slice m q l t r passes);
       gave = EachGave-joins s m t so.gave (EachGave-same m t passes.told);
-      asked = λ slice. AsksWithRoom-same remaining rules g slice s p.place m t passes.told (so.asked slice);
-      through = omega (arith, so.through, passes.through, length-append so.wire passes.wire);
       room = omega (arith, so.room, passes.takes.along.capacity);
-      still = λ done. (
-          let first = so.still done in
-          let then = passes.idle (subst (λ x. IsDone g x.place) (sym first.1) done) in
-          (then.0 ∙ first.0, then.1 ∙ first.1)
-          );
     }
 
     -- payload comes next
     pub skips_payload : (sure : ℕ) → l ≡ look.Payload sure → (slice : ℕ) → SkipsOn remaining rules g slice s p (Ok sure) t r
-    skips_payload sure is slice = record {
-      wire = skipped_there.wire;
-      takes = skipped_there.takes;
-      asked = skipped_there.asked slice;
-      through = inl skipped_there.through;
-      ends = (skipped_there.gave, inr (subst (Looks g r.place t.block.bytes) is passes.looks));
-      idle = skipped_there.still;
-    }
+    skips_payload sure is slice =
+        (skipped_there.way slice, (skipped_there.gave, inr (subst (Looks g r.place t.block.bytes) is passes.looks)))
 
     -- the body ended
     pub skips_done : l ≡ look.Ended → (slice : ℕ) → SkipsOn remaining rules g slice s p (Ok 0) t r
-    skips_done is slice = record {
-      wire = skipped_there.wire;
-      takes = skipped_there.takes;
-      asked = skipped_there.asked slice;
-      through = inl skipped_there.through;
-      ends = (skipped_there.gave, inl (refl, subst (Looks g r.place t.block.bytes) is passes.looks));
-      idle = skipped_there.still;
-    }
+    skips_done is slice =
+        (skipped_there.way slice, (skipped_there.gave, inl (refl, subst (Looks g r.place t.block.bytes) is passes.looks)))
 
     -- what comes next is wrong
     pub skips_wrong : (why : W) → l ≡ look.Wrong why → (slice : ℕ)
         → SkipsOn remaining rules g slice s p (Err (Wrong why r.count)) t r
     skips_wrong why is slice =
         let looks : Looks g r.place t.block.bytes (look.Wrong why) = subst (Looks g r.place t.block.bytes) is passes.looks in
-        record {
-          wire = skipped_there.wire;
-          takes = skipped_there.takes;
-          asked = skipped_there.asked slice;
-          through = inl skipped_there.through;
-          ends = (refl, skipped_there.gave, looks.0);
-          idle = skipped_there.still;
-        }
+        (skipped_there.way slice, (refl, skipped_there.gave, looks.0))
 
     -- there are too few bytes
     module _ (n : ℕ) (is : l ≡ look.More n) {A : Type 0} (answer : Result A Error) (u : Buffered S Q)
@@ -226,67 +189,48 @@ module _ {S Q P W : Type 0} (remaining : S → Option (List ℕ)) (rules : ReadR
       ahead : ReadsAhead remaining rules n t answer u
       ahead = subst (λ k. ReadsAhead remaining rules k t answer u) fits ahead'
 
-      takes_still : TakesBytes remaining rules g s p skipped_there.wire [] u r
-      takes_still = TakesBytes-still remaining rules g s p t r u skipped_there.wire [] skipped_there.takes ahead.along
-          (ReadsAhead-keeps remaining rules n t answer u ahead g.ahead lacks.most)
-
-      through_still : TakenThrough s skipped_there.wire u
-      through_still = omega (arith, skipped_there.through, ahead.consumed)
-
-      asks_then : (slice : ℕ) → AsksWithRoom remaining rules g slice s p.place u
-      asks_then slice = AsksWithRoom-then remaining rules g slice s p t r u skipped_there.wire skipped_there.takes
-          skipped_there.gave (skipped_there.asked slice) (omega (arith, looks.1))
-          (ReadsAhead-asks remaining rules g r.place n t answer u lacks ahead)
-
-      never_done : IsDone g p.place → (u ≡ s) × (r ≡ p)
-      never_done done = absurd ((IsOpenBelow-open g r.place n t.block.bytes lacks).goes_on
-          (subst (λ x. IsDone g x.place) (sym (skipped_there.still done).1) done))
+      way_ahead : (slice : ℕ) → Way remaining rules g slice s p [] u r
+      way_ahead slice = Way-joins remaining rules g slice s p t r u (skipped_there.way slice) skipped_there.gave [] r (record {
+        wire = [];
+        takes = TakesBytes-still remaining rules g t r u passes.takes.place ahead.along
+            (ReadsAhead-keeps remaining rules n t answer u ahead g.ahead lacks.most);
+        asked = AsksWithRoom-here remaining rules g slice t r.place u passes.takes.place (omega (arith, looks.1))
+            (ReadsAhead-asks remaining rules g r.place n t answer u lacks ahead);
+        through = inl (omega (arith, ahead.consumed));
+        idle = λ done. absurd ((IsOpenBelow-open g r.place n t.block.bytes lacks).goes_on done);
+      })
 
     module _ (n : ℕ) (is : l ≡ look.More n) {A : Type 0} (u : Buffered S Q) where
       pub skips_fails : (e : Error) → ReadsAhead {A = A} remaining rules (min n t.block.capacity) t (Err e) u
           → (slice : ℕ) → SkipsOn remaining rules g slice s p (Err (Io e)) u r
       skips_fails e ahead' slice =
-          let a = ahead n is (Err e) u ahead' in
-          record {
-            wire = skipped_there.wire;
-            takes = takes_still n is (Err e) u ahead';
-            asked = asks_then n is (Err e) u ahead' slice;
-            through = inl (through_still n is (Err e) u ahead');
-            ends = (
+          let a = ahead n is (Err e) u ahead' in (
+            way_ahead n is (Err e) u ahead' slice,
+            (
               FaultedOnce-after s t u skipped_there.gave e (ReadsAhead-failed {A = A} remaining rules n t u e a),
               ReadsAhead-open remaining rules g r.place n t (Err e) u (lacks n is (Err e) u ahead') a a.ended.0,
-            );
-            idle = never_done n is (Err e) u ahead';
-          }
+            ),
+          )
 
       pub skips_cut : (a : A) → ReadsAhead remaining rules (min n t.block.capacity) t (Ok a) u → length u.block.bytes < n
           → (slice : ℕ) → SkipsOn remaining rules g slice s p (Err (Truncated r.count)) u r
       skips_cut a ahead' few slice =
-          let so' = ahead n is (Ok a) u ahead' in
-          record {
-            wire = skipped_there.wire;
-            takes = takes_still n is (Ok a) u ahead';
-            asked = asks_then n is (Ok a) u ahead' slice;
-            through = inl (through_still n is (Ok a) u ahead');
-            ends = (
+          let so' = ahead n is (Ok a) u ahead' in (
+            way_ahead n is (Ok a) u ahead' slice,
+            (
               refl,
               GaveNothingOnce-after s t u skipped_there.gave (ReadsAhead-ended remaining rules n t u a so' few),
               ReadsAhead-open remaining rules g r.place n t (Ok a) u (lacks n is (Ok a) u ahead') so' few,
-            );
-            idle = never_done n is (Ok a) u ahead';
-          }
+            ),
+          )
 
       pub skipped_more : (a : A) → ReadsAhead remaining rules (min n t.block.capacity) t (Ok a) u → n ≤ length u.block.bytes
           → Skipped remaining rules g s p u r
       skipped_more a ahead' enough = record {
-        wire = skipped_there.wire;
-        takes = takes_still n is (Ok a) u ahead';
+        way = way_ahead n is (Ok a) u ahead';
         gave = EachGave-joins s t u skipped_there.gave
             (ReadsAhead-gave remaining rules n t u a (ahead n is (Ok a) u ahead') enough);
-        asked = asks_then n is (Ok a) u ahead';
-        through = through_still n is (Ok a) u ahead';
         room = omega (arith, skipped_there.room, ahead'.capacity);
-        still = never_done n is (Ok a) u ahead';
       }
 
     pub skipped_less : (n : ℕ) (u : Buffered S Q) → n ≤ length u.block.bytes → length t.block.bytes < n → n ≤ g.ahead

@@ -137,16 +137,21 @@ module _ {S Q P W : Type 0} (remaining : S → Option (List ℕ)) (rules : ReadR
   abbrev pub Settles : P → List ℕ → ℕ → Type 0
   Settles p shown sure = ((sure ≡ 0) × IsDone g p) ⊎ Looks g p shown (Payload sure)
 
-  -- what a call does that hands out this payload, for a slice that takes so many, and what its answer means. It takes all through
-  -- the buffer, or asks for no less payload than that holds
-  pub record Proceeds {A : Type 0} (room : ℕ) (s : Buffered S Q) (p : Progress P) (handed : List ℕ)
-      (answer : Result A (BodyError W)) (Means : A → Type 0) (t : Buffered S Q) (q : Progress P) : Type 0 where
-    pub wire : List ℕ
-    pub takes : TakesBytes s p wire handed t q
-    pub asked : AsksWithRoom room s p.place t
-    pub through : TakenThrough s wire t ⊎ ((0 < length handed) × (s.block.capacity ≤ t.log.reads.offer))
-    pub ends : MatchResult answer (λ a. EachGave s t × Means a) (λ e. PayloadFails s e t q)
-    pub idle : IsDone g p.place → (t ≡ s) × (q ≡ p)
+  -- a way on that hands out this payload, for a slice that takes so many. It takes all through the buffer, or asks for no less
+  -- payload than that holds; once the body ended nothing is done
+  pub record Way (room : ℕ) (s : Buffered S Q) (p : Progress P) (handed : List ℕ) (t : Buffered S Q) (q : Progress P) : Type 0
+    where
+      pub wire : List ℕ
+      pub takes : TakesBytes s p wire handed t q
+      pub asked : AsksWithRoom room s p.place t
+      pub through : TakenThrough s wire t ⊎ ((0 < length handed) × (s.block.capacity ≤ t.log.reads.offer))
+      pub idle : IsDone g p.place → (t ≡ s) × (q ≡ p)
+
+  -- what a call does that goes such a way, and what its answer means
+  abbrev pub Proceeds : {A : Type 0} → ℕ → Buffered S Q → Progress P → List ℕ → Result A (BodyError W) → (A → Type 0)
+      → Buffered S Q → Progress P → Type 0
+  Proceeds room s p handed answer Means t q =
+      Way room s p handed t q × MatchResult answer (λ a. EachGave s t × Means a) (λ e. PayloadFails s e t q)
 
   -- taking all that is no payload: how many bytes of payload surely come next
   abbrev pub SkipsOn : ℕ → Buffered S Q → Progress P → Result ℕ (BodyError W) → Buffered S Q → Progress P → Type 0

@@ -1,5 +1,6 @@
 -- Laws of what a reader of a body does with its buffered reader.
-use Rattle.std.proofs.Common.{◌≡◌, ℕ, ◌+◌, ◌<◌, ◌≤◌, List, [], ◌∷◌, ◌++◌, length, min, Option, Result, MatchResult, Ok, Err, ◌⊎◌, inl, inr, sym, ap, subst, ◌∙◌, refl, arith, append_assoc, append-nil, length-append}
+use Rattle.std.proofs.Common.{◌≡◌, ℕ, ◌+◌, ◌<◌, ◌≤◌, List, [], ◌∷◌, ◌++◌, length, min, take, Option, Result, Ok, Err, ◌⊎◌, inl, inr, sym, ap, subst, ◌∙◌, refl, arith, append_assoc, append-nil, length-append}
+use Rattle.std.proofs.lemmas.List.{length-take-le}
 use Rattle.std.specs.Prelude.{⊤}
 use Rattle.std.specs.declared.io.Error.{Error}
 use Rattle.buffer_redux.specs.Block.{OnlyRingMoves}
@@ -9,17 +10,19 @@ use Rattle.buffer_redux.specs.BufReader.{ReadsAlong}
 use Rattle.buffer_redux.specs.Peek.{AskedAhead, ReadsAhead}
 use Rattle.buffer_redux.specs.Policy.{ClaimsToSpare, ReadRules}
 use Rattle.buffer_redux.specs.Potential.{of_plain}
-use Rattle.buffer_redux.specs.ReaderLaws.{ReadsAlong-none, ReadsAlong-joins, ReadsAlong-then}
+use Rattle.buffer_redux.specs.ReaderLaws.{ReadsAlong-none, ReadsAlong-joins}
 use Rattle.buffer_redux.specs.Sparing.{Spared-none, Spared-joins}
+use Rattle.buffer_redux.specs.StreamLog.{after_read, zero_of_some}
 use Rattle.buffer_redux.specs.Unbuffer.{unbuffered}
+use Rattle.body_reader.specs.declared.coding.Look.{Look}
 use Rattle.body_reader.specs.declared.error.BodyError.{BodyError}
 use Rattle.body_reader.specs.declared.error.BodyError.TheVariants.{Wrong, Truncated, Io}
 use Rattle.body_reader.specs.declared.progress.Progress.{Progress}
 use Rattle.body_reader.specs.Asking.{AskedWhere}
 use Rattle.body_reader.specs.AskingLaws.{AskedOver-on, AskedWhere-of, AskedWhere-same}
-use Rattle.body_reader.specs.Between.{AsksWithRoom, AsksOpen, EachGave, PayloadFails, FaultedOnce, Proceeds, KeepsBuffer, GaveNothingOnce, StopsFor, TakenThrough, TakesBytes}
+use Rattle.body_reader.specs.Between.{AsksWithRoom, AsksOpen, EachGave, FaultedOnce, PassesOn, Proceeds, KeepsBuffer, GaveNothingOnce, StopsFor, TakenThrough, TakesBytes, Way}
 use Rattle.body_reader.specs.Coding.{AskedFor, Grammar, IsDone, IsOpen, IsOpenBelow, LeadsOpen, heeded}
-use Rattle.body_reader.specs.CodingLaws.{AskedFor-behind, AskedFor-here, Leads-none, Leads-still, Leads-then}
+use Rattle.body_reader.specs.CodingLaws.{AskedFor-behind, AskedFor-here, Leads-none, Leads-then}
 
 pub EachGave-none : {S Q : Type 0} (s : Buffered S Q) → EachGave s s
 EachGave-none s = record { faults = refl; zero_reads = refl; asks = omega arith }
@@ -37,6 +40,22 @@ EachGave-same s t same = record {
   faults = ap (λ l. l.reads.faults) same;
   zero_reads = ap (λ l. l.reads.zero_reads) same;
   asks = omega (arith, ap (λ l. l.reads.asks) same, ap (λ l. length l.reads.given) same);
+}
+
+-- one read gave some
+pub EachGave-once : {S Q : Type 0} (s t : Buffered S Q) (out : List ℕ) (n : ℕ) → t.log ≡ after_read s.log out (Ok n) → 0 < n
+    → n ≤ length out → EachGave s t
+EachGave-once s t out n told some few = record {
+  faults = ap (λ l. l.reads.faults) told;
+  zero_reads = ap (λ l. l.reads.zero_reads) told ∙ zero_of_some n out s.log.reads.zero_reads (inl some);
+  asks = omega (
+    arith,
+    some,
+    ap (λ l. l.reads.asks) told,
+    ap (λ l. length l.reads.given) told,
+    length-append s.log.reads.given (take n out),
+    length-take-le n out few,
+  );
 }
 
 pub GaveNothingOnce-after : {S Q : Type 0} (s m t : Buffered S Q) → EachGave s m → GaveNothingOnce m t → GaveNothingOnce s t
@@ -184,15 +203,20 @@ module _ {S Q A P W : Type 0} (remaining : S → Option (List ℕ)) (rules : Rea
       subst (IsOpen g p) equal (lacks.is_open ahead.along.in_order.got (omega (arith, few, ap length equal)))
 
 module _ {S Q P W : Type 0} (remaining : S → Option (List ℕ)) (rules : ReadRules Q) (g : Grammar P W) where
-  -- no call takes nothing, and two traces of calls join
-  pub TakesBytes-none : (s : Buffered S Q) (p : Progress P) → g.is_place p.place → TakesBytes remaining rules g s p [] [] s p
-  TakesBytes-none s p place = record {
-    along = ReadsAlong-none remaining rules s;
-    leads = Leads-none g p.place (heeded g s.block.bytes);
+  -- calls of the buffered reader that hand out nothing take nothing
+  pub TakesBytes-still : (s : Buffered S Q) (p : Progress P) (t : Buffered S Q) → g.is_place p.place
+      → ReadsAlong remaining rules s [] t → KeepsBuffer rules g.ahead s t → TakesBytes remaining rules g s p [] [] t p
+  TakesBytes-still s p t place still keeps = record {
+    along = still;
+    leads = Leads-none g p.place (heeded g t.block.bytes);
     taken = sym (append-nil p.taken.log.fills.consumed);
     place = place;
-    keeps = KeepsBuffer-none rules g.ahead s;
+    keeps = keeps;
   }
+
+  -- no call takes nothing, and two traces of calls join
+  pub TakesBytes-none : (s : Buffered S Q) (p : Progress P) → g.is_place p.place → TakesBytes remaining rules g s p [] [] s p
+  TakesBytes-none s p place = TakesBytes-still s p s place (ReadsAlong-none remaining rules s) (KeepsBuffer-none rules g.ahead s)
 
   pub TakesBytes-joins : (s : Buffered S Q) (p : Progress P) (m : Buffered S Q) (q : Progress P) (t : Buffered S Q)
       (r : Progress P)
@@ -207,26 +231,10 @@ module _ {S Q P W : Type 0} (remaining : S → Option (List ℕ)) (rules : ReadR
     keeps = KeepsBuffer-joins rules g.ahead s m t a b x.along y.along x.keeps y.keeps;
   }
 
-  -- calls of the buffered reader that hand out nothing take nothing
-  pub TakesBytes-still : (s : Buffered S Q) (p : Progress P) (m : Buffered S Q) (q : Progress P) (t : Buffered S Q) (a h : List ℕ)
-      → TakesBytes remaining rules g s p a h m q → ReadsAlong remaining rules m [] t → KeepsBuffer rules g.ahead m t
-      → TakesBytes remaining rules g s p a h t q
-  TakesBytes-still s p m q t a h x still keeps = record {
-    along = ReadsAlong-then remaining rules s m t a x.along still;
-    leads = Leads-still g p.place q.place a h m.block.bytes still.in_order.got t.block.bytes still.in_order.equal x.leads;
-    taken = x.taken;
-    place = x.place;
-    keeps = KeepsBuffer-joins rules g.ahead s m t a [] x.along still x.keeps keeps;
-  }
-
   -- where no payload is handed out all is taken through the buffer
-  pub Proceeds-through : {A : Type 0} (room : ℕ) (s : Buffered S Q) (p : Progress P) (answer : Result A (BodyError W))
-      (Means : A → Type 0) (t : Buffered S Q) (q : Progress P) (goes : Proceeds remaining rules g room s p [] answer Means t q)
-      → TakenThrough s goes.wire t
-  Proceeds-through room s p answer Means t q goes = elim goes.through [
-    | inl all ↦ all
-    | inr past ↦ absurd (omega (arith, past.0))
-  ]
+  pub Way-through : (room : ℕ) (s : Buffered S Q) (p : Progress P) (t : Buffered S Q) (q : Progress P)
+      (way : Way remaining rules g room s p [] t q) → TakenThrough s way.wire t
+  Way-through room s p t q way = elim way.through [ inl all ↦ all | inr past ↦ absurd (omega (arith, past.0)) ]
 
   pub AsksWithRoom-open : (room : ℕ) (s : Buffered S Q) (p : P) (t : Buffered S Q) → AsksWithRoom remaining rules g room s p t
       → AsksOpen remaining rules g s p t
@@ -234,49 +242,65 @@ module _ {S Q P W : Type 0} (remaining : S → Option (List ℕ)) (rules : ReadR
       AskedWhere-of (AskedFor g p room t.log.reads.offer) (LeadsOpen g p []) (unbuffered s) (unbuffered t)
       (λ more asked. asked.leads)
 
-  pub AsksWithRoom-same : (room : ℕ) (s : Buffered S Q) (p : P) (m t : Buffered S Q) → t.log ≡ m.log
-      → AsksWithRoom remaining rules g room s p m → AsksWithRoom remaining rules g room s p t
-  AsksWithRoom-same room s p m t same asks =
-      AskedWhere-same (AskedFor g p room t.log.reads.offer) (unbuffered s) (unbuffered m) (unbuffered t) same
-      (subst (λ l. AskedWhere (AskedFor g p room l.reads.offer) (unbuffered s) (unbuffered m)) (sym same) asks)
+  pub AsksWithRoom-here : (room : ℕ) (s : Buffered S Q) (p : P) (t : Buffered S Q) → g.is_place p
+      → min room (g.sure p) ≤ t.log.reads.offer → AskedWhere (IsOpen g p) (unbuffered s) (unbuffered t)
+      → AsksWithRoom remaining rules g room s p t
+  AsksWithRoom-here room s p t place enough =
+      AskedWhere-of (IsOpen g p) (AskedFor g p room t.log.reads.offer) (unbuffered s) (unbuffered t)
+      (λ more is. AskedFor-here g p room t.log.reads.offer (s.block.bytes ++ more) place is enough)
 
-  -- calls behind some that took bytes without payload, of which each gave some, ask where nothing was settled
-  module _ (room : ℕ) (s : Buffered S Q) (p : Progress P) (m : Buffered S Q) (q : Progress P) (t : Buffered S Q) (wire : List ℕ)
-      (takes : TakesBytes remaining rules g s p wire [] m q) (gave : EachGave s m)
-      (before : AsksWithRoom remaining rules g room s p.place m) where
-    pub AsksWithRoom-joins : AsksWithRoom remaining rules g room m q.place t → AsksWithRoom remaining rules g room s p.place t
-    AsksWithRoom-joins (inl same) = AsksWithRoom-same room s p.place m t same before
-    AsksWithRoom-joins (inr over) = inr (AskedOver-on (AskedFor g p.place room m.log.reads.offer)
-        (AskedFor g p.place room t.log.reads.offer) (AskedFor g q.place room t.log.reads.offer) s m t wire takes.along.in_order
-        gave (λ more asked. AskedFor-behind g p.place q.place room t.log.reads.offer wire m.block.bytes more takes.leads asked)
-        before over)
+  -- no call goes nowhere
+  pub Way-none : (room : ℕ) (s : Buffered S Q) (p : Progress P) → g.is_place p.place → Way remaining rules g room s p [] s p
+  Way-none room s p place = record {
+    wire = [];
+    takes = TakesBytes-none s p place;
+    asked = inl refl;
+    through = inl (omega arith);
+    idle = λ _. (refl, refl);
+  }
 
-    pub AsksWithRoom-then : min room (g.sure q.place) ≤ t.log.reads.offer
-        → AskedWhere (IsOpen g q.place) (unbuffered m) (unbuffered t) → AsksWithRoom remaining rules g room s p.place t
-    AsksWithRoom-then enough asks =
-        AsksWithRoom-joins (AskedWhere-of (IsOpen g q.place) (AskedFor g q.place room t.log.reads.offer)
-        (unbuffered m) (unbuffered t)
-        (λ more is. AskedFor-here g q.place room t.log.reads.offer (m.block.bytes ++ more) takes.place is enough) asks)
+  -- nobody was asked
+  pub PassesOn-way : (room : ℕ) (s : Buffered S Q) (p : Progress P) (l : Look P W) (t : Buffered S Q) (q : Progress P)
+      → PassesOn remaining rules g s p l t q → Way remaining rules g room s p [] t q
+  PassesOn-way room s p l t q passes = record {
+    wire = passes.wire;
+    takes = passes.takes;
+    asked = inl passes.told;
+    through = inl passes.through;
+    idle = passes.idle;
+  }
 
-    -- and go on so
-    module _ {A : Type 0} (handed : List ℕ) (answer : Result A (BodyError W)) (Means : A → Type 0) (r : Progress P)
-        (goes : Proceeds remaining rules g room m q handed answer Means t r) (idle : IsDone g p.place → (t ≡ s) × (r ≡ p))
-        (through : TakenThrough s wire m) where
-      ends_after : (a : Result A (BodyError W))
-          → MatchResult a (λ x. EachGave m t × Means x) (λ e. PayloadFails remaining rules g m e t r)
-          → MatchResult a (λ x. EachGave s t × Means x) (λ e. PayloadFails remaining rules g s e t r)
-      ends_after (Ok x) ends = (EachGave-joins s m t gave ends.0, ends.1)
-      ends_after (Err e) ends = StopsFor-after _ _ _ s m t gave e ends
+  -- behind a way without payload, on which each read gave some
+  module _ (room : ℕ) (s : Buffered S Q) (p : Progress P) (m : Buffered S Q) (q : Progress P) (t : Buffered S Q)
+      (before : Way remaining rules g room s p [] m q) (gave : EachGave s m) where
+    asks_on : AsksWithRoom remaining rules g room m q.place t → AsksWithRoom remaining rules g room s p.place t
+    asks_on (inl same) =
+        AskedWhere-same (AskedFor g p.place room t.log.reads.offer) (unbuffered s) (unbuffered m) (unbuffered t) same
+        (subst (λ l. AskedWhere (AskedFor g p.place room l.reads.offer) (unbuffered s) (unbuffered m)) (sym same) before.asked)
+    asks_on (inr over) = inr (AskedOver-on (AskedFor g p.place room m.log.reads.offer)
+        (AskedFor g p.place room t.log.reads.offer) (AskedFor g q.place room t.log.reads.offer) s m t before.wire
+        before.takes.along.in_order gave
+        (λ more asked. AskedFor-behind g p.place q.place room t.log.reads.offer before.wire m.block.bytes more before.takes.leads
+        asked) before.asked over)
 
-      pub Proceeds-after : Proceeds remaining rules g room s p handed answer Means t r
-      Proceeds-after = record {
-        wire = wire ++ goes.wire;
-        takes = TakesBytes-joins s p m q t r wire [] goes.wire handed takes goes.takes;
-        asked = AsksWithRoom-joins goes.asked;
-        through = elim goes.through [
-          | inl all ↦ inl (omega (arith, through, all, length-append wire goes.wire))
-          | inr past ↦ inr (past.0, omega (arith, takes.along.capacity, past.1))
-        ];
-        ends = ends_after answer goes.ends;
-        idle = idle;
-      }
+    pub Way-joins : (handed : List ℕ) (r : Progress P) → Way remaining rules g room m q handed t r
+        → Way remaining rules g room s p handed t r
+    Way-joins handed r way = record {
+      wire = before.wire ++ way.wire;
+      takes = TakesBytes-joins s p m q t r before.wire [] way.wire handed before.takes way.takes;
+      asked = asks_on way.asked;
+      through = elim way.through [
+        | inl all ↦ inl (omega (arith, Way-through room s p m q before, all, length-append before.wire way.wire))
+        | inr past ↦ inr (past.0, omega (arith, before.takes.along.capacity, past.1))
+      ];
+      idle = λ done.
+          let first = before.idle done in
+          let then = way.idle (subst (λ x. IsDone g x.place) (sym first.1) done) in
+          (then.0 ∙ first.0, then.1 ∙ first.1);
+    }
+
+    pub Proceeds-after : {A : Type 0} (handed : List ℕ) (answer : Result A (BodyError W)) (Means : A → Type 0) (r : Progress P)
+        → Proceeds remaining rules g room m q handed answer Means t r
+        → Proceeds remaining rules g room s p handed answer Means t r
+    Proceeds-after handed (Ok a) Means r goes = (Way-joins handed r goes.0, (EachGave-joins s m t gave goes.1.0, goes.1.1))
+    Proceeds-after handed (Err e) Means r goes = (Way-joins handed r goes.0, StopsFor-after _ _ _ s m t gave e goes.1)

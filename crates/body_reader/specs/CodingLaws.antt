@@ -111,13 +111,6 @@ module _ {P W : Type 0} (g : Grammar P W) where
       Leads-joins p q r a b h k (heeded g after)
       (subst (Leads g p a h q) (sym on.1) (Leads-more p q a h (heeded g before) on.0 x)) y
 
-  -- and where nothing was taken since
-  pub Leads-still : (p q : P) (a h before got after : List ℕ) → after ≡ before ++ got → Leads g p a h q (heeded g before)
-      → Leads g p a h q (heeded g after)
-  Leads-still p q a h before got after same x =
-      let on = heeded_on [] before got after same in
-      subst (Leads g p a h q) (sym on.1) (Leads-more p q a h (heeded g before) on.0 x)
-
   -- what leads from the beginning of a body to its end is a body
   pub Leads-whole : (bytes payload : List ℕ) (q : P) (follow : List ℕ) → Leads g g.first bytes payload q follow → IsDone g q
       → IsBody g bytes payload

@@ -1,13 +1,14 @@
 -- What was skipped is no payload, so what is shown behind it is what the whole fill shows.
 use Rattle.std.proofs.Common.{arith}
 use Rattle.std.proofs.lemmas.Result.{err_from_is_err_and}
-use Rattle.body_reader.proofs.Filling.{Proceeds-err, behind_skipped, fill_ended, payload_here}
+use Rattle.body_reader.specs.BetweenLaws.{Proceeds-after}
+use Rattle.body_reader.proofs.Filling.{fill_ended, payload_here}
 use Rattle.body_reader.proofs.steps.fill_on.Goals as goal
 
 pub returns-in_err-sure : goal.returns-in_err-sure
 returns-in_err-sure g c =
     let p = err_from_is_err_and c.from_residual.result c.from_residual.ensures.1 in
-    rw (p.1, p.2) (Proceeds-err _ _ _ _ _ _ _ _ _ _ _ _ (c.in_err-sure.ensures 0))
+    rw (p.1, p.2) (c.in_err-sure.ensures 0)
 
 pub returns-then-sure-eq0 : goal.returns-then-sure-eq0
 returns-then-sure-eq0 g c =
@@ -16,14 +17,14 @@ returns-then-sure-eq0 g c =
 pub show-requires : goal.show-requires
 show-requires g c =
     let skips = c.in_ok-sure.ensures 0 in record {
-      place = skips.takes.place;
-      room = omega (arith, c.requires.room, skips.takes.along.capacity);
+      place = skips.0.takes.place;
+      room = omega (arith, c.requires.room, skips.0.takes.along.capacity);
       sure = payload_here g.R.TellRead.remaining g.P.ReaderPolicy.rules (g.C.Coding.grammar c.args.coding.now)
           c.skip.new.progress.place c.skip.new.reader.block.bytes c.in_ok-sure.sure (omega (arith, c.if-sure-eq0.false))
-          skips.ends.1;
+          skips.1.1;
     }
 
 pub returns : goal.returns
 returns g c =
-    behind_skipped _ _ _ _ _ _ _ _ c.in_ok-sure.sure (omega (arith, c.if-sure-eq0.false)) (c.in_ok-sure.ensures 0) _ _ _ _ _
-    (c.show.ensures 0 (omega arith))
+    let skips = c.in_ok-sure.ensures 0 in
+    Proceeds-after _ _ _ _ _ _ _ _ _ skips.0 skips.1.0 _ _ _ _ (c.show.ensures 0 (omega arith))

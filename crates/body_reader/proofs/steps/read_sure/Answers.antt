@@ -2,7 +2,7 @@
 use Rattle.std.proofs.Common.{◌<◌, ◌≤◌, length, arith}
 use Rattle.body_reader.specs.Coding.{IsKnown}
 use Rattle.body_reader.proofs.Filling.{Carries-fewer, all_shown, show_some}
-use Rattle.body_reader.proofs.Handing.{hands_filled, hands_shown}
+use Rattle.body_reader.proofs.Handing.{hands_after, hands_shown}
 use Rattle.body_reader.proofs.steps.read_sure.Goals as goal
 
 pub returns-then-held-gt0-clause-hands : goal.returns-then-held-gt0-clause-hands
@@ -24,6 +24,9 @@ returns-then-held-gt0-clause-hands g c =
     (all_shown g.R.TellRead.remaining g.P.ReaderPolicy.rules grammar p.place s.block.bytes c.args.sure k c.requires.sure
     (omega (arith, c.min.ensures, c.buf_len-held.ensures.value))) c.args.known.now
 
+pub returns-then-most-capacity-clause-hands : goal.returns-then-most-capacity-clause-hands
+returns-then-most-capacity-clause-hands g c = c.read_past.ensures _ c.requires.begins.none
+
 pub returns-clause-hands : goal.returns-clause-hands
 returns-clause-hands g c =
     let remaining = g.R.TellRead.remaining in
@@ -35,8 +38,8 @@ returns-clause-hands g c =
     (omega (arith, c.min-most.ensures, c.if-most-capacity.false, c.capacity.ensures.value)) in
     let some = show_some remaining rules' grammar (length hands.new.out) c.args.reader.now c.args.progress.now c.args.sure
     c.requires.sure.0 c.show.new.reader _ fills in
-    hands_filled remaining rules' grammar c.args.known.now hands.new.known c.args.reader.now c.args.progress.now hands.new.out
-    c.show.new.reader c.args.progress.now room _ some fills _ hands.new.reader hands.new.progress
+    hands_after remaining rules' grammar c.args.known.now hands.new.known c.args.reader.now c.args.progress.now hands.new.out
+    c.show.new.reader c.args.progress.now room fills.0 fills.1.0 _ hands.new.reader hands.new.progress
     (hands_shown remaining rules' grammar hands.result c.show.new.reader c.args.progress.now _ hands.new.reader
-    hands.new.progress hands.new.known hands.new.out hands.ensures.took fills.ends.1.0 some hands.ensures.count room
-    hands.ensures.bytes (fills.ends.1.2 some) c.args.known.now)
+    hands.new.progress hands.new.known hands.new.out hands.ensures.took fills.1.1.0 some hands.ensures.count room
+    hands.ensures.bytes (fills.1.1.2 some) c.args.known.now)

@@ -7,6 +7,9 @@ use Rattle.body_reader.proofs.steps.skip.Goals as goal
 pub loop-sure-init : goal.loop-sure-init
 loop-sure-init g c = skipped_none _ _ _ _ _ c.requires.place c.requires.room
 
+pub pass-requires : goal.pass-requires
+pass-requires g c = record { place = (c.loop-sure.invariant.way 0).takes.place }
+
 pub returns-in-Payload : goal.returns-in-Payload
 returns-in-Payload g c = skips_payload _ _ _ _ _ _ _ c.loop-sure.invariant _ _ _ c.pass.ensures _ c.in-Payload.is
 
