@@ -26,6 +26,14 @@ pub record Grammar (P W : Type 0) : Type 1 where
 abbrev pub heeded : {P W : Type 0} → Grammar P W → List ℕ → List ℕ
 heeded g follow = if g.heeds then follow else []
 
+-- what a look says, where a place is told so, and what is wrong so
+abbrev pub look_as : {P Q V W : Type 0} → (P → Q) → (V → W) → Look P V → Look Q W
+look_as at name (Payload n) = Payload n
+look_as at name (Passed n p) = Passed n (at p)
+look_as at name (More n) = More n
+look_as at name (Wrong why) = Wrong (name why)
+look_as at name Ended = Ended
+
 module _ {P W : Type 0} (g : Grammar P W) where
   -- behind a body
   abbrev pub IsDone : P → Type 0

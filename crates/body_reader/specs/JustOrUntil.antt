@@ -1,8 +1,5 @@
 -- Bodies that are just some bytes, or else end at a delimiter.
 use Rattle.std.specs.Prelude.{◌≡◌, ℕ, ◌⊎◌, List, [], ◌++◌, length, true, ⊤}
-use Rattle.body_reader.specs.declared.coding.Look.{Look}
-use Rattle.body_reader.specs.declared.coding.Look.TheVariants as look
-use Rattle.body_reader.specs.declared.until.Part.{Part}
 use Rattle.body_reader.specs.declared.until.Part.TheVariants.{Inside}
 use Rattle.body_reader.specs.Coding.{Agree, Grammar}
 use Rattle.body_reader.specs.Until.{EndsPart, IsClear, most_left}
@@ -39,11 +36,3 @@ just_or_until just needle room = record {
   sure = λ place. 0;
   heeds = true;
 }
-
--- what a look for the delimiter says
-abbrev pub until_of : Look Part (Unit {0}) → Look JustOr (Unit {0})
-until_of (look.Payload sure) = look.Payload sure
-until_of (look.Passed count part) = look.Passed count (at.Until part)
-until_of (look.More need) = look.More need
-until_of (look.Wrong why) = look.Wrong why
-until_of look.Ended = look.Ended

@@ -1,38 +1,34 @@
 -- Laws of bodies that are just some bytes, or else end at a delimiter.
-use Rattle.std.proofs.Common.{◌≡◌, ℕ, ◌+◌, ◌<◌, ◌≤◌, List, [], ◌∷◌, ◌++◌, length, take, drop, inl, inr, sym, ap, refl, subst, ◌∙◌, arith, append_assoc, append-nil, length-append}
+use Rattle.std.proofs.Common.{◌≡◌, ℕ, ◌+◌, ◌<◌, ◌≤◌, List, [], ◌++◌, length, take, drop, inl, inr, sym, ap, refl, subst, ◌∙◌, arith, append_assoc, append-nil, length-append}
 use Rattle.std.proofs.lemmas.List.{nil_from_length, take-append-drop, take_at}
 use Rattle.body_reader.specs.declared.coding.Look.{Look}
 use Rattle.body_reader.specs.declared.coding.Look.TheVariants as look
 use Rattle.body_reader.specs.declared.until.Part.{Part}
 use Rattle.body_reader.specs.declared.until.Part.TheVariants.{Inside}
-use Rattle.body_reader.specs.Coding.{Agree, Carries, IsDone, IsLawful, IsOpen, IsOpenBelow, Leads, Looks, PassesOver}
-use Rattle.body_reader.specs.CodingLaws.{Agree-front, Agree-less, Agree-nothing, overlaps}
-use Rattle.body_reader.specs.Until.{EndsPart, IsClear, most_left, until}
+use Rattle.body_reader.specs.AlikeLaws.{Alike, alike_leads, alike_looks}
+use Rattle.body_reader.specs.Coding.{Agree, Carries, IsDone, IsLawful, IsOpen, IsOpenBelow, Leads, Looks, PassesOver, look_as}
+use Rattle.body_reader.specs.CodingLaws.{overlaps}
+use Rattle.body_reader.specs.Until.{EndsPart, IsClear, until}
 use Rattle.body_reader.specs.UntilLaws.{clear_leads, clear_still, clear_unsure, until_lawful}
 use Rattle.body_reader.specs.declared.just_or_until.JustOr.{JustOr}
 use Rattle.body_reader.specs.declared.just_or_until.JustOr.TheVariants as at
-use Rattle.body_reader.specs.JustOrUntil.{EndsJust, IsSurePayload, just_or_until, most_passed, until_of}
+use Rattle.body_reader.specs.JustOrUntil.{EndsJust, IsSurePayload, just_or_until}
 
 module _ (just needle : List ℕ) (room : ℕ) (some : 0 < length just) (shorter : length just < length needle)
     (fits : length needle ≤ room) where
-  -- where what goes on as these bytes is the same in both
-  pub record Alike (place : JustOr) (part : Part) (shown : List ℕ) : Type 0 where
-    pub there : (rest payload : List ℕ) → Agree shown rest → EndsPart needle part rest payload
-        → EndsJust just needle place rest payload
-    pub back : (rest payload : List ℕ) → Agree shown rest → EndsJust just needle place rest payload
-        → EndsPart needle part rest payload
-    pub carried : (bytes follow more : List ℕ) → bytes ++ follow ≡ shown ++ more → IsClear needle part bytes follow
-        → IsSurePayload just needle place bytes follow
-    pub clear : (bytes follow : List ℕ) → IsSurePayload just needle place bytes follow → IsClear needle part bytes follow
-    pub between : most_passed needle place ≡ most_left needle part
+  abbrev pub Like : JustOr → Part → List ℕ → Type 0
+  Like = Alike (until needle) (just_or_until just needle room) at.Until (λ why. why)
 
-  pub alike_until : (part : Part) (shown : List ℕ) → Alike (at.Until part) part shown
+  pub alike_until : (part : Part) (shown : List ℕ) → Like (at.Until part) part shown
   alike_until part shown = record {
     there = λ rest payload agree c. c;
     back = λ rest payload agree c. c;
     carried = λ bytes follow more same clear. clear;
     clear = λ bytes follow clear. clear;
     between = refl;
+    sure = refl;
+    named = λ bytes why wrong. wrong;
+    wrong = λ bytes why wrong. (why, wrong);
   }
 
   -- what goes on as bytes that neither begin the others nor begin with them
@@ -43,7 +39,7 @@ module _ (just needle : List ℕ) (room : ℕ) (some : 0 < length just) (shorter
     sym (append_assoc just more agree.1) ∙ ap (λ l. l ++ agree.1) (sym same) ∙ sym agree.2,
   )
 
-  pub alike_start : (shown : List ℕ) → ¬ Agree just shown → Alike at.Start Inside shown
+  pub alike_start : (shown : List ℕ) → ¬ Agree just shown → Like at.Start Inside shown
   alike_start shown apart = record {
     there = λ rest payload agree c. inr ((λ more same. differs shown rest more apart agree same), c);
     back = λ rest payload agree c. elim c [
@@ -56,87 +52,23 @@ module _ (just needle : List ℕ) (room : ℕ) (some : 0 < length just) (shorter
     );
     clear = λ bytes follow text. text.1;
     between = refl;
+    sure = refl;
+    named = λ bytes why wrong. wrong;
+    wrong = λ bytes why wrong. (why, wrong);
   }
 
-  alike_more : (place : JustOr) (part : Part) (shown more : List ℕ) → Alike place part shown
-      → Alike place part (shown ++ more)
-  alike_more place part shown more like = record {
-    there = λ rest payload agree c. like.there rest payload (Agree-less shown more rest agree) c;
-    back = λ rest payload agree c. like.back rest payload (Agree-less shown more rest agree) c;
-    carried = λ bytes follow later same clear.
-        like.carried bytes follow (more ++ later) (same ∙ append_assoc shown more later) clear;
-    clear = like.clear;
-    between = like.between;
-  }
-
-  pub alike_leads : (place : JustOr) (part q : Part) (wire handed follow : List ℕ) → Alike place part (wire ++ follow)
+  like_leads : (place : JustOr) (part q : Part) (wire handed follow : List ℕ) → Like place part (wire ++ follow)
       → Leads (until needle) part wire handed q follow
       → Leads (just_or_until just needle room) place wire handed (at.Until q) follow
-  alike_leads place part q wire handed follow like leads = record {
-    onward = λ rest payload agree c.
-        like.there (wire ++ rest) (handed ++ payload) (Agree-front wire follow rest agree) (leads.onward rest payload agree c);
-    back = λ rest whole agree c.
-        leads.back rest whole agree (like.back (wire ++ rest) whole (Agree-front wire follow rest agree) c);
-    within = λ rest payload past c same. leads.within rest payload past
-        (like.back rest payload
-        ([], past ++ follow, append-nil (wire ++ follow) ∙ ap (λ l. l ++ follow) same ∙ append_assoc rest past follow) c) same;
-  }
+  like_leads = alike_leads (until needle) (just_or_until just needle room) at.Until (λ why. why) fits (λ q is. tt) alike_until
+      (λ follow. refl)
 
-  goes_on : (place : JustOr) (part : Part) (shown : List ℕ) → Alike place part shown → ¬ IsDone (until needle) part
-      → ¬ IsDone (just_or_until just needle room) place
-  goes_on place part shown like on done = on (like.back [] [] (Agree-nothing shown) done)
-
-  alike_open : (place : JustOr) (part : Part) (shown : List ℕ) → Alike place part shown → IsOpen (until needle) part shown
-      → IsOpen (just_or_until just needle room) place shown
-  alike_open place part shown like open' = record {
-    few = omega (arith, open'.few, fits);
-    goes_on = goes_on place part shown like open'.goes_on;
-    no_payload = λ byte follow same text. open'.no_payload byte follow same (like.clear (byte ∷ []) follow text);
-    not_wrong = λ why wrong. wrong;
-    further = λ rest payload c agree. open'.further rest payload (like.back rest payload agree c) agree;
-  }
-
-  pub alike_looks : (place : JustOr) (part : Part) (shown : List ℕ) → Alike place part shown → (l : Look Part (Unit {0}))
-      → Looks (until needle) part shown l → Looks (just_or_until just needle room) place shown (until_of l)
-  alike_looks place part shown like (look.Payload n) looks = (
-    record {
-      some = looks.0.some;
-      goes_on = goes_on place part shown like looks.0.goes_on;
-      carries = λ bytes follow more few same.
-          like.carried bytes follow more same (looks.0.carries bytes follow more few same);
-    },
-    omega arith,
-    elim looks.2 [
-      | inl same ↦ inl same
-      | inr all ↦ inr (λ m within c. all m within (record {
-        some = c.some;
-        goes_on = looks.0.goes_on;
-        carries = λ bytes follow more few same. like.clear bytes follow (c.carries bytes follow more few same);
-      }))
-    ],
-  )
-  alike_looks place part shown like (look.Passed n q) looks = (
-    looks.0,
-    looks.1,
-    record {
-      leads = alike_leads place part q (take n shown) [] (drop n shown)
-          (subst (Alike place part) (sym (take-append-drop n shown)) like) looks.2.leads;
-      few = omega (arith, looks.2.few, like.between);
-    },
-    tt,
-    λ done. looks.4 (like.back [] [] (Agree-nothing shown) done),
-  )
-  alike_looks place part shown like (look.More n) looks = (
-    record {
-      few = looks.0.few;
-      most = omega (arith, looks.0.most, fits);
-      is_open = λ more short'. alike_open place part (shown ++ more) (alike_more place part shown more like)
-          (looks.0.is_open more short');
-    },
-    refl,
-  )
-  alike_looks place part shown like (look.Wrong why) looks = absurd looks.0
-  alike_looks place part shown like look.Ended looks = like.there [] [] (Agree-nothing shown) looks
+  pub like_looks : (place : JustOr) (part : Part) (shown : List ℕ) → Like place part shown → (l : Look Part (Unit {0}))
+      → Looks (until needle) part shown l
+      → Looks (just_or_until just needle room) place shown (look_as at.Until (λ why. why) l)
+  like_looks place part shown like = alike_looks (until needle) (just_or_until just needle room) at.Until (λ why. why) fits
+      (λ q is. tt) alike_until (λ follow. refl) place part shown like
+      (λ n. subst (Like place part) (sym (take-append-drop n shown)) like)
 
   -- what begins with just the bytes is these
   just_passes : (follow : List ℕ) → PassesOver (just_or_until just needle room) at.Start just at.Just follow
@@ -220,9 +152,9 @@ module _ (just needle : List ℕ) (room : ℕ) (some : 0 < length just) (shorter
   -- payload leads on, and what stands behind it is payload still
   pub text_leads : (place : JustOr) (bytes follow : List ℕ) → IsSurePayload just needle place bytes follow
       → Leads (just_or_until just needle room) place bytes bytes (at.Until Inside) follow
-  text_leads at.Start bytes follow text = alike_leads at.Start Inside Inside bytes bytes follow
+  text_leads at.Start bytes follow text = like_leads at.Start Inside Inside bytes bytes follow
       (alike_start (bytes ++ follow) text.0) (clear_leads needle (omega (arith, shorter)) Inside bytes follow text.1)
-  text_leads (at.Until part) bytes follow text = alike_leads (at.Until part) part Inside bytes bytes follow
+  text_leads (at.Until part) bytes follow text = like_leads (at.Until part) part Inside bytes bytes follow
       (alike_until part (bytes ++ follow)) (clear_leads needle (omega (arith, shorter)) part bytes follow text)
   text_leads at.Just bytes follow text = absurd text
 

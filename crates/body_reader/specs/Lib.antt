@@ -13,6 +13,7 @@ pub mod BodyReaderLaws
 pub mod Given
 pub mod Either
 pub mod EitherLaws
+pub mod AlikeLaws
 pub mod JustOrUntil
 pub mod JustOrUntilLaws
 pub mod ByByte

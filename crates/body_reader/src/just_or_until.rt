@@ -1,6 +1,6 @@
 //! The coding of a body that is just some bytes, or else ends at a delimiter.
 ghost use Rattle.std.specs.Prelude.{◌≡◌, ◌<◌, ◌≤◌, length};
-ghost use Rattle.body_reader.specs.JustOrUntil.{until_of};
+ghost use Rattle.body_reader.specs.Coding.{look_as};
 
 use crate::coding::{Coding, Look};
 use crate::until::{Part, Until};
@@ -73,7 +73,7 @@ impl Coding for JustOrUntil {
 
 // What a look for the delimiter says.
 fn until_of(look: Look<Part, ()>) -> Look<JustOr, ()>
-    ensures { result ≡ until_of look }
+    ensures { result ≡ look_as JustOr.Until (λ why. why) look }
 {
     match look {
         Look::Payload(sure) => Look::Payload(sure),

@@ -7,7 +7,7 @@ use Rattle.body_reader.specs.declared.just_or_until.JustOr.TheVariants as at
 use Rattle.body_reader.specs.declared.until.Part.TheVariants.{Inside}
 use Rattle.body_reader.specs.Coding.{IsOpenBelow, Looks}
 use Rattle.body_reader.specs.JustOrUntil.{just_or_until}
-use Rattle.body_reader.specs.JustOrUntilLaws.{alike_looks, alike_start, alike_until, apart, looks_begun, looks_just}
+use Rattle.body_reader.specs.JustOrUntilLaws.{like_looks, alike_start, alike_until, apart, looks_begun, looks_just}
 use Rattle.body_reader.proofs.just_or_until.JustOrUntilCoding.look.Goals as goal
 
 -- what begins a text and isn't it is shorter
@@ -66,7 +66,7 @@ returns-else-starts_with-2 c =
     (λ more is. (let yes = second more (same ∙ is) in
     let odd : false ≡ true = sym c.if-starts_with-2.false ∙ yes in cc)) in
     rw (c.in-Start.is, c.until_of.ensures)
-    (alike_looks s.just.items s.until.delimiter.items s.room s.some s.shorter s.fits at.Start Inside shown
+    (like_looks s.just.items s.until.delimiter.items s.room s.some s.shorter s.fits at.Start Inside shown
     (alike_start s.just.items s.until.delimiter.items s.room s.some s.shorter s.fits shown differs) c.look.result c.look.ensures)
 
 pub returns-in-Until : goal.returns-in-Until
@@ -75,6 +75,6 @@ returns-in-Until c =
     let shown = c.args.shown.now in
     let part = c.in-Until.part in
     rw (c.in-Until.is, c.until_of-in-Until.ensures)
-    (alike_looks s.just.items s.until.delimiter.items s.room s.some s.shorter s.fits (at.Until part) part shown
+    (like_looks s.just.items s.until.delimiter.items s.room s.some s.shorter s.fits (at.Until part) part shown
     (alike_until s.just.items s.until.delimiter.items s.room s.some s.shorter s.fits part shown) c.look-in-Until.result
     c.look-in-Until.ensures)
