@@ -20,10 +20,6 @@ use Rattle.chunked.specs.ChunkedWriter.{ChunkedWriterState, ChunkingWent, Chunks
 use Rattle.chunked.specs.Trailers.{IsTrailer}
 use Rattle.chunked.specs.TrailersLaws.{trailers_are_fields}
 
--- as the writer is seen
-pub as_seen : {A B D : Type 0} (F : A → B → D → Type 0) (s d : A) (b : B) (t : D) → s ≡ d → F s b t → F d b t
-as_seen F s d b t same h = subst (λ x. F x b t) same h
-
 -- a slice that isn't empty has some byte
 pub some_of : (n : ℕ) → (n == 0) ≡ false → 0 < n
 some_of zero is = absurd (let odd = is in cc)

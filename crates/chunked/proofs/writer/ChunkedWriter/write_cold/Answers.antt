@@ -3,38 +3,34 @@ use Rattle.std.proofs.Common.{◌≡◌, ◌+◌, ◌<◌, length, Ok, Err, ap, 
 use Rattle.chunked.specs.ChunkedWriter.{CopiesSizeLine, IsChunkedWriter, around}
 use Rattle.chunked.proofs.Going.{not_begun, wrote_begun}
 use Rattle.chunked.proofs.writer.ChunkedWriter.write_cold.Goals as goal
+use Rattle.chunked.proofs.writer.ChunkedWriter.write_cold.Goals.{After-begin}
+
+between : (g : _) (c : After-begin g) → c.args.self.now.due ≡ 0
+between g c = omega (arith, c.if-self-gt0.false, ap (λ x. x.due) c.self.view_is)
+
+large : (g : _) (c : After-begin g) → c.args.self.now.writer.block.capacity < around + length c.args.payload.now
+large g c = omega (
+  arith,
+  c.if-payload-capacity.false,
+  c.capacity.ensures.value,
+  ap (λ x. x.writer.block.capacity) c.self.view_is,
+)
 
 pub returns-in-Ok-clause-writes : goal.returns-in-Ok-clause-writes
 returns-in-Ok-clause-writes g c =
+    let at = (goal.at.returns-in-Ok-clause-writes g c).After-begin in
     let s = c.args.self.now in
-    let payload = c.args.payload.now in
-    let is = subst IsChunkedWriter c.self.view_is c.self.invariant in
-    let between : s.due ≡ 0 = omega (arith, c.if-self-gt0.false, ap (λ x. x.due) c.self.view_is) in
-    let large : s.writer.block.capacity < around + length payload = omega (
-      arith,
-      c.if-payload-capacity.false,
-      c.capacity.ensures.value,
-      ap (λ x. x.writer.block.capacity) c.self.view_is,
-    ) in
-    wrote_begun g.W.Tell.log g.W.TellWrite.trace g.met.W.TellWrite.trace_none g.met.W.TellWrite.trace_joins s payload
-    c.requires.some is between large c.begin.new.self
-    (subst (λ k. CopiesSizeLine g.W.Tell.log g.W.TellWrite.trace k s (Ok tt) c.begin.new.self) c.min.ensures
-    c.in-Ok.ensures.begins)
-    c.go_on-in-Ok.result c.go_on-in-Ok.new.self c.go_on-in-Ok.ensures.went
+    wrote_begun g.W.Tell.log g.W.TellWrite.trace g.met.W.TellWrite.trace_none g.met.W.TellWrite.trace_joins s
+    c.args.payload.now c.requires.some (subst IsChunkedWriter c.self.view_is c.self.invariant) (between g at) (large g at)
+    c.begin.new.self (subst (λ k. CopiesSizeLine g.W.Tell.log g.W.TellWrite.trace k s (Ok tt) c.begin.new.self) c.min.ensures
+    c.in-Ok.ensures.begins) c.go_on-in-Ok.result c.go_on-in-Ok.new.self c.go_on-in-Ok.ensures.went
 
 pub returns-in-Err-clause-writes : goal.returns-in-Err-clause-writes
 returns-in-Err-clause-writes g c =
+    let at = (goal.at.returns-in-Err-clause-writes g c).After-begin in
     let s = c.args.self.now in
-    let payload = c.args.payload.now in
-    let is = subst IsChunkedWriter c.self.view_is c.self.invariant in
-    let between : s.due ≡ 0 = omega (arith, c.if-self-gt0.false, ap (λ x. x.due) c.self.view_is) in
-    let large : s.writer.block.capacity < around + length payload = omega (
-      arith,
-      c.if-payload-capacity.false,
-      c.capacity.ensures.value,
-      ap (λ x. x.writer.block.capacity) c.self.view_is,
-    ) in
-    not_begun g.W.Tell.log g.W.TellWrite.trace g.met.W.TellWrite.trace_none g.met.W.TellWrite.trace_joins s payload
-    c.requires.some is between large c.in-Err.e c.begin.new.self
+    not_begun g.W.Tell.log g.W.TellWrite.trace g.met.W.TellWrite.trace_none g.met.W.TellWrite.trace_joins s
+    c.args.payload.now c.requires.some (subst IsChunkedWriter c.self.view_is c.self.invariant) (between g at) (large g at)
+    c.in-Err.e c.begin.new.self
     (subst (λ k. CopiesSizeLine g.W.Tell.log g.W.TellWrite.trace k s (Err c.in-Err.e) c.begin.new.self) c.min.ensures
     c.in-Err.ensures.begins) c.in-Err.ensures.whole
