@@ -42,30 +42,22 @@ IsField-text text f =
     subst (AllByRecursion IsTextByte) (sym f.equal)
     (text_both f.name (58 ∷ f.value) (all_text IsTokenByte token_is_text f.name f.token.0) colon)
 
--- one has a byte of a name, and a colon behind that
-pub record BeginsName (first : ℕ) (text : List ℕ) : Type 0 where
+-- one has a byte of a name, and then this: the rest of the name, a colon, and a value
+pub record BehindFirst (text : List ℕ) : Type 0 where
   pub more : List ℕ
   pub value : List ℕ
-  pub byte : IsTokenByte first
   pub equal : text ≡ more ++ 58 ∷ value
   pub token : AllByRecursion IsTokenByte more
   pub all : AllByRecursion IsValueByte value
 
 field_first : (first : ℕ) (text name value : List ℕ) → first ∷ text ≡ name ++ 58 ∷ value → AllByRecursion IsTokenByte name
-    → 0 < length name → AllByRecursion IsValueByte value → BeginsName first text
+    → 0 < length name → AllByRecursion IsValueByte value → IsTokenByte first × BehindFirst text
 field_first first text [] value same token some all = absurd (omega (arith, some))
 field_first first text (x ∷ name) value same token some all =
     let head : x ≡ first = cc in
-    record {
-      more = name;
-      value = value;
-      byte = subst IsTokenByte head token.0;
-      equal = cc;
-      token = token.1;
-      all = all;
-    }
+    (subst IsTokenByte head token.0, record { more = name; value = value; equal = cc; token = token.1; all = all })
 
-pub IsField-first : (first : ℕ) (text : List ℕ) → IsField (first ∷ text) → BeginsName first text
+pub IsField-first : (first : ℕ) (text : List ℕ) → IsField (first ∷ text) → IsTokenByte first × BehindFirst text
 IsField-first first text f = field_first first text f.name f.value f.equal f.token.0 f.token.1 f.all
 
 pub IsField-none : IsField [] → ⊥
@@ -76,68 +68,53 @@ IsField-none f = omega (arith, f.token.1, nothing f.name f.value f.equal)
     nothing (x ∷ name) value same = cc
 
 -- whichever byte of a token it begins with
-pub IsField-of : (first : ℕ) (text : List ℕ) → BeginsName first text → IsField (first ∷ text)
-IsField-of first text b = record {
+pub IsField-of : (first : ℕ) (text : List ℕ) → IsTokenByte first → BehindFirst text → IsField (first ∷ text)
+IsField-of first text byte b = record {
   name = first ∷ b.more;
   value = b.value;
   equal = ap (λ l. first ∷ l) b.equal;
-  token = ((b.byte, b.token), omega arith);
+  token = ((byte, b.token), omega arith);
   all = b.all;
 }
 
 pub other_first : (a b : ℕ) (text : List ℕ) → IsTokenByte b → IsField (a ∷ text) → IsField (b ∷ text)
-other_first a b text byte f =
-    let begins = IsField-first a text f in
-    IsField-of b text (record {
-      more = begins.more;
-      value = begins.value;
-      byte = byte;
-      equal = begins.equal;
-      token = begins.token;
-      all = begins.all;
-    })
+other_first a b text byte f = IsField-of b text byte (IsField-first a text f).1
 
 -- what stands behind such a byte: one more of the name, or the colon and the value
 pub IsField-longer : (a b : ℕ) (text : List ℕ) → IsTokenByte b → IsField (a ∷ text) → IsField (a ∷ (b ∷ text))
 IsField-longer a b text byte f =
     let begins = IsField-first a text f in
-    IsField-of a (b ∷ text) (record {
-      more = b ∷ begins.more;
-      value = begins.value;
-      byte = begins.byte;
-      equal = ap (λ l. b ∷ l) begins.equal;
-      token = (byte, begins.token);
-      all = begins.all;
+    IsField-of a (b ∷ text) begins.0 (record {
+      more = b ∷ begins.1.more;
+      value = begins.1.value;
+      equal = ap (λ l. b ∷ l) begins.1.equal;
+      token = (byte, begins.1.token);
+      all = begins.1.all;
     })
 
 -- the next byte of a line whose name begins so
 abbrev NextOfName : ℕ → ℕ → List ℕ → Type 0
 NextOfName a b text = (IsTokenByte b × IsField (a ∷ text)) ⊎ ((b ≡ 58) × AllByRecursion IsValueByte text)
 
-next_of_name : (a b : ℕ) (text more : List ℕ) → (begins : BeginsName a (b ∷ text)) → begins.more ≡ more → NextOfName a b text
-next_of_name a b text [] begins is =
+next_of_name : (a b : ℕ) (text more : List ℕ) → IsTokenByte a → (begins : BehindFirst (b ∷ text)) → begins.more ≡ more
+    → NextOfName a b text
+next_of_name a b text [] first begins is =
     let same : b ∷ text ≡ 58 ∷ begins.value = begins.equal ∙ ap (λ l. l ++ 58 ∷ begins.value) is in
     let tails : begins.value ≡ text = cc in
     inr (cc, subst (AllByRecursion IsValueByte) tails begins.all)
-next_of_name a b text (x ∷ more) begins is =
+next_of_name a b text (x ∷ more) first begins is =
     let same : b ∷ text ≡ x ∷ (more ++ 58 ∷ begins.value) = begins.equal ∙ ap (λ l. l ++ 58 ∷ begins.value) is in
     let head : x ≡ b = cc in
     let token : AllByRecursion IsTokenByte (x ∷ more) = subst (AllByRecursion IsTokenByte) is begins.token in
     inl (
       subst IsTokenByte head token.0,
-      IsField-of a text (record {
-        more = more;
-        value = begins.value;
-        byte = begins.byte;
-        equal = cc;
-        token = token.1;
-        all = begins.all;
-      }),
+      IsField-of a text first
+          (record { more = more; value = begins.value; equal = cc; token = token.1; all = begins.all }),
     )
 
 pub IsField-next : (a b : ℕ) (text : List ℕ) → IsField (a ∷ (b ∷ text)) → NextOfName a b text
 IsField-next a b text f =
-    let begins = IsField-first a (b ∷ text) f in next_of_name a b text begins.more begins refl
+    let begins = IsField-first a (b ∷ text) f in next_of_name a b text begins.1.more begins.0 begins.1 refl
 
 pub IsField-shorter : (a b : ℕ) (text : List ℕ) → IsTokenByte b → IsField (a ∷ (b ∷ text)) → IsField (a ∷ text)
 IsField-shorter a b text byte f = elim (IsField-next a b text f) [
@@ -154,4 +131,4 @@ IsField-value a text f = elim (IsField-next a 58 text f) [
 
 pub IsField-valued : (a : ℕ) (text : List ℕ) → IsTokenByte a → AllByRecursion IsValueByte text → IsField (a ∷ (58 ∷ text))
 IsField-valued a text byte all =
-    IsField-of a (58 ∷ text) (record { more = []; value = text; byte = byte; equal = refl; token = tt; all = all })
+    IsField-of a (58 ∷ text) byte (record { more = []; value = text; equal = refl; token = tt; all = all })

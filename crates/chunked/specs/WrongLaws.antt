@@ -90,9 +90,9 @@ module _ (limits : Limits) where
       let few : length ((x ∷ f) ++ concat fields) ≤ room =
       subst (λ fs. length (concat fs) ≤ room) is t.few in
       let begins = IsField-first x f (subst (λ fs. AllByRecursion IsField fs) is t.lines).0 in
-      let long = ap length begins.equal ∙ length-append begins.more (58 ∷ begins.value) in
+      let long = ap length begins.1.equal ∙ length-append begins.1.more (58 ∷ begins.1.value) in
       inr (
-        subst IsTokenByte head begins.byte,
+        subst IsTokenByte head begins.0,
         omega (arith, few, long, length-append (x ∷ f) (concat fields)),
       )
 
@@ -102,14 +102,14 @@ module _ (limits : Limits) where
       → (b ≡ 58) ⊎ (IsTokenByte b × (2 ≤ room))
   name_first b room rest [] f is =
       let begins = IsField-first 97 [] (subst (λ t. IsField (97 ∷ t)) is f.is_rest) in
-      absurd (omega (arith, ap length begins.equal, length-append begins.more (58 ∷ begins.value)))
+      absurd (omega (arith, ap length begins.1.equal, length-append begins.1.more (58 ∷ begins.1.value)))
   name_first b room rest (x ∷ text) f is =
       let same : b ∷ rest ≡ x ∷ (text ++ line_end f.behind) = f.equal ∙ ap (λ l. l ++ line_end f.behind) is in
       let head : x ≡ b = cc in
       elim (IsField-next 97 x text (subst (λ t. IsField (97 ∷ t)) is f.is_rest)) [
         | inl token ↦
             let begins = IsField-first 97 text token.1 in
-            let long = ap length begins.equal ∙ length-append begins.more (58 ∷ begins.value) in
+            let long = ap length begins.1.equal ∙ length-append begins.1.more (58 ∷ begins.1.value) in
             inr (subst IsTokenByte head token.0, omega (arith, long, f.fits, ap length is))
         | inr colon ↦ inl (sym head ∙ colon.0)
       ]
