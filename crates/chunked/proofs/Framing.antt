@@ -29,7 +29,7 @@ module _ (limits : Limits) where
   comes_none p place = record { passes = PassesAlong-none limits p; place = place; short = within_none limits p }
 
   -- a byte more
-  comes_more : (p q r : Place) (shown : List ℕ) (at b : ℕ) → at < length shown → slice_index shown at ≡ b
+  pub comes_more : (p q r : Place) (shown : List ℕ) (at b : ℕ) → at < length shown → slice_index shown at ≡ b
       → Comes limits p (take at shown) q → ¬ IsDataOrDone q → PassesAlong limits q (b ∷ []) r → IsPlace r
       → Comes limits p (take (at + 1) shown) r
   comes_more p q r shown at b held is comes goes_on passes place =

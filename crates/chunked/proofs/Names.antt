@@ -1,5 +1,5 @@
 -- A byte that is wrong has one name.
-use Rattle.std.proofs.Common.{◌≡◌, ℕ, ◌∷◌, inl, inr, refl, arith, ◌<◌}
+use Rattle.std.proofs.Common.{◌≡◌, ◌≢◌, ℕ, ◌∷◌, inl, inr, refl, arith, ◌<◌}
 use Rattle.std.specs.Char.{digit_value}
 use Rattle.chunked.specs.declared.error.Malformed.{Malformed}
 use Rattle.chunked.specs.declared.error.Malformed.TheVariants.{NoSize, BadSize, BadField, SizeTooLarge, LineTooLong, TrailersTooLong, BareReturn, BareFeed, ChunkTooLong}
@@ -12,7 +12,9 @@ use Rattle.chunked.specs.WithinLaws.{CompletesExtension-text}
 use Rattle.chunked.specs.BodyLaws.{digit_is_text, extension_no_digit}
 use Rattle.chunked.specs.FieldLaws.{token_is_text, value_is_text}
 use Rattle.chunked.specs.Within.{RunsOver}
-use Rattle.chunked.specs.Place.{IsWrong}
+use Rattle.chunked.specs.Token.{IsTokenByte, IsValueByte}
+use Rattle.chunked.specs.Body.{IsTextByte}
+use Rattle.chunked.specs.Place.{IsWrong, WrongInLine}
 
 module _ (l : Limits) (b : ℕ) where
   over_no_feed : (within : Within) (room : ℕ) → RunsOver within room b → b ≡ 10 → ⊥
@@ -87,50 +89,21 @@ module _ (l : Limits) (b : ℕ) where
     in_size w v h k = absurd h
 
   -- in the trailers
-  in_fields : (room : ℕ) (w v : Malformed) → IsWrong l (Fields room) b w → IsWrong l (Fields room) b v → w ≡ v
-  in_fields room TrailersTooLong TrailersTooLong h k = refl
-  in_fields room TrailersTooLong BareFeed h k = absurd ((token_is_text b h.0).1 k)
-  in_fields room TrailersTooLong BadField h k = absurd (k.0 h.0)
-  in_fields room BareFeed TrailersTooLong h k = absurd ((token_is_text b k.0).1 h)
-  in_fields room BareFeed BareFeed h k = refl
-  in_fields room BareFeed BadField h k = absurd (k.1.1 h)
-  in_fields room BadField TrailersTooLong h k = absurd (h.0 k.0)
-  in_fields room BadField BareFeed h k = absurd (h.1.1 k)
-  in_fields room BadField BadField h k = refl
-  in_fields room TrailersTooLong v h k = absurd k
-  in_fields room BareFeed v h k = absurd k
-  in_fields room BadField v h k = absurd k
-  in_fields room w v h k = absurd h
-
-  in_name : (room : ℕ) (w v : Malformed) → IsWrong l (FieldName room) b w → IsWrong l (FieldName room) b v → w ≡ v
-  in_name room TrailersTooLong TrailersTooLong h k = refl
-  in_name room TrailersTooLong BareFeed h k = absurd ((token_is_text b h.0).1 k)
-  in_name room TrailersTooLong BadField h k = absurd (k.0 h.0)
-  in_name room BareFeed TrailersTooLong h k = absurd ((token_is_text b k.0).1 h)
-  in_name room BareFeed BareFeed h k = refl
-  in_name room BareFeed BadField h k = absurd (k.2 h)
-  in_name room BadField TrailersTooLong h k = absurd (h.0 k.0)
-  in_name room BadField BareFeed h k = absurd (h.2 k)
-  in_name room BadField BadField h k = refl
-  in_name room TrailersTooLong v h k = absurd k
-  in_name room BareFeed v h k = absurd k
-  in_name room BadField v h k = absurd k
-  in_name room w v h k = absurd h
-
-  in_value : (room : ℕ) (w v : Malformed) → IsWrong l (FieldValue room) b w → IsWrong l (FieldValue room) b v → w ≡ v
-  in_value room TrailersTooLong TrailersTooLong h k = refl
-  in_value room TrailersTooLong BareFeed h k = absurd ((value_is_text b h.0).1 k)
-  in_value room TrailersTooLong BadField h k = absurd (k.0 h.0)
-  in_value room BareFeed TrailersTooLong h k = absurd ((value_is_text b k.0).1 h)
-  in_value room BareFeed BareFeed h k = refl
-  in_value room BareFeed BadField h k = absurd (k.1.1 h)
-  in_value room BadField TrailersTooLong h k = absurd (h.0 k.0)
-  in_value room BadField BareFeed h k = absurd (h.1.1 k)
-  in_value room BadField BadField h k = refl
-  in_value room TrailersTooLong v h k = absurd k
-  in_value room BareFeed v h k = absurd k
-  in_value room BadField v h k = absurd k
-  in_value room w v h k = absurd h
+  in_line : (Over Bad : Type 0) → (Over → ¬ (b ≡ 10)) → (Over → ¬ Bad) → (Bad → ¬ (b ≡ 10)) → (w v : Malformed)
+      → WrongInLine Over b Bad w → WrongInLine Over b Bad v → w ≡ v
+  in_line Over Bad no_feed no_bad bad TrailersTooLong TrailersTooLong h k = refl
+  in_line Over Bad no_feed no_bad bad TrailersTooLong BareFeed h k = absurd (no_feed h k)
+  in_line Over Bad no_feed no_bad bad TrailersTooLong BadField h k = absurd (no_bad h k)
+  in_line Over Bad no_feed no_bad bad BareFeed TrailersTooLong h k = absurd (no_feed k h)
+  in_line Over Bad no_feed no_bad bad BareFeed BareFeed h k = refl
+  in_line Over Bad no_feed no_bad bad BareFeed BadField h k = absurd (bad k h)
+  in_line Over Bad no_feed no_bad bad BadField TrailersTooLong h k = absurd (no_bad k h)
+  in_line Over Bad no_feed no_bad bad BadField BareFeed h k = absurd (bad h k)
+  in_line Over Bad no_feed no_bad bad BadField BadField h k = refl
+  in_line Over Bad no_feed no_bad bad TrailersTooLong v h k = absurd k
+  in_line Over Bad no_feed no_bad bad BareFeed v h k = absurd k
+  in_line Over Bad no_feed no_bad bad BadField v h k = absurd k
+  in_line Over Bad no_feed no_bad bad w v h k = absurd h
 
   pub one_name : (p : Place) (w v : Malformed) → IsWrong l p b w → IsWrong l p b v → w ≡ v
   one_name Line NoSize NoSize h k = refl
@@ -147,9 +120,15 @@ module _ (l : Limits) (b : ℕ) where
   one_name (Data left) ChunkTooLong v h k = absurd k
   one_name DataFeed BareReturn BareReturn h k = refl
   one_name DataFeed BareReturn v h k = absurd k
-  one_name (Fields room) w v h k = in_fields room w v h k
-  one_name (FieldName room) w v h k = in_name room w v h k
-  one_name (FieldValue room) w v h k = in_value room w v h k
+  one_name (Fields room) w v h k =
+      in_line (IsTokenByte b × (room < 2)) (¬ IsTokenByte b × IsTextByte b)
+      (λ h k. (token_is_text b h.0).1 k) (λ h k. k.0 h.0) (λ h k. h.1.1 k) w v h k
+  one_name (FieldName room) w v h k =
+      in_line (IsTokenByte b × (room < 2)) (¬ IsTokenByte b × (b ≢ 58) × (b ≢ 10))
+      (λ h k. (token_is_text b h.0).1 k) (λ h k. k.0 h.0) (λ h k. h.2 k) w v h k
+  one_name (FieldValue room) w v h k =
+      in_line (IsValueByte b × (room ≡ 0)) (¬ IsValueByte b × IsTextByte b)
+      (λ h k. (value_is_text b h.0).1 k) (λ h k. k.0 h.0) (λ h k. h.1.1 k) w v h k
   one_name (FieldFeed room) BareReturn BareReturn h k = refl
   one_name (FieldFeed room) BareReturn v h k = absurd k
   one_name LastFeed BareReturn BareReturn h k = refl

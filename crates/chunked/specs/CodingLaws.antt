@@ -167,19 +167,6 @@ module _ (limits : Limits) where
     not_done p open',
   )
 
-  pub looks_passed : (p : Place) (shown : List ℕ) (r : Reached) → p ≢ Done → Advances limits p shown r → 0 < r.taken
-      → body.Looks (chunked limits) p shown (look.Passed r.taken r.place)
-  looks_passed p shown r open' reached some = (
-    some,
-    reached.within,
-    record {
-      leads = leads_on p (take r.taken shown) [] r.place [] reached.passes.leads reached.short;
-      few = reached.passes.few;
-    },
-    reached.place,
-    not_done p open',
-  )
-
   -- where nothing was taken, and nothing is wrong, nothing was shown
   pub looks_wrong : (p : Place) (shown : List ℕ) (r : Reached) (why : Malformed) → p ≢ Done → Advances limits p shown r
       → r.taken ≡ 0 → r.wrong ≡ Some why → body.Looks (chunked limits) p shown (look.Wrong why)

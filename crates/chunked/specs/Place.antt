@@ -84,6 +84,13 @@ pub record LeadsAlong (limits : Limits) (p : Place) (wire handed : List ℕ) (q 
   pub back : (rest whole : List ℕ) → Completes limits p (wire ++ rest) whole
       → (payload : List ℕ) × (whole ≡ handed ++ payload) × Completes limits q rest payload
 
+-- what is wrong with a byte in the trailers: it goes over their room, or is a bare LF, or a bad one
+abbrev pub WrongInLine : Type 0 → ℕ → Type 0 → Malformed → Type 0
+WrongInLine Over b Bad TrailersTooLong = Over
+WrongInLine Over b Bad BareFeed = b ≡ 10
+WrongInLine Over b Bad BadField = Bad
+WrongInLine Over b Bad why = ⊥
+
 -- what is wrong with the next byte in a place. There is nothing else that can be, and no byte is wrong in two ways
 abbrev pub IsWrong : Limits → Place → ℕ → Malformed → Type 0
 IsWrong limits Line b NoSize = ¬ (digit_value b < 16)
@@ -99,15 +106,10 @@ IsWrong limits (Extension within size room) b BadSize = EndsNoExtension within b
 IsWrong limits (SizeFeed size) b BareReturn = b ≢ 10
 IsWrong limits (Data left) b ChunkTooLong = (left ≡ 0) × (b ≢ 13)
 IsWrong limits DataFeed b BareReturn = b ≢ 10
-IsWrong limits (Fields room) b TrailersTooLong = IsTokenByte b × (room < 2)
-IsWrong limits (Fields room) b BareFeed = b ≡ 10
-IsWrong limits (Fields room) b BadField = ¬ IsTokenByte b × IsTextByte b
-IsWrong limits (FieldName room) b TrailersTooLong = IsTokenByte b × (room < 2)
-IsWrong limits (FieldName room) b BareFeed = b ≡ 10
-IsWrong limits (FieldName room) b BadField = ¬ IsTokenByte b × (b ≢ 58) × (b ≢ 10)
-IsWrong limits (FieldValue room) b TrailersTooLong = IsValueByte b × (room ≡ 0)
-IsWrong limits (FieldValue room) b BareFeed = b ≡ 10
-IsWrong limits (FieldValue room) b BadField = ¬ IsValueByte b × IsTextByte b
+IsWrong limits (Fields room) b why = WrongInLine (IsTokenByte b × (room < 2)) b (¬ IsTokenByte b × IsTextByte b) why
+IsWrong limits (FieldName room) b why =
+    WrongInLine (IsTokenByte b × (room < 2)) b (¬ IsTokenByte b × (b ≢ 58) × (b ≢ 10)) why
+IsWrong limits (FieldValue room) b why = WrongInLine (IsValueByte b × (room ≡ 0)) b (¬ IsValueByte b × IsTextByte b) why
 IsWrong limits (FieldFeed room) b BareReturn = b ≢ 10
 IsWrong limits LastFeed b BareReturn = b ≢ 10
 IsWrong limits p b why = ⊥
@@ -167,10 +169,8 @@ pub record Comes (limits : Limits) (p : Place) (wire : List ℕ) (q : Place) : T
 -- all were taken
 pub record Advances (limits : Limits) (p : Place) (shown : List ℕ) (r : Reached) : Type 0 where
   pub within : r.taken ≤ length shown
-  pub passes : PassesAlong limits p (take r.taken shown) r.place
-  pub place : IsPlace r.place
+  pub comes : Comes limits p (take r.taken shown) r.place
   pub wrong : IfSome r.wrong (λ why. (r.taken < length shown) × IsWrong limits r.place (slice_index shown r.taken) why)
   pub all : r.wrong ≡ None → IsDataOrDone r.place ⊎ (r.taken ≡ length shown)
   pub some : ¬ IsDataOrDone p → 0 < length shown → r.wrong ≡ None → 0 < r.taken
   pub begun : (0 < r.taken) ⊎ (r.place ≡ p)
-  pub short : Within limits p (take r.taken shown)

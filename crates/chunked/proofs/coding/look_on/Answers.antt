@@ -3,7 +3,7 @@ use Rattle.std.proofs.Common.{arith, sym}
 use Rattle.std.proofs.lemmas.Bool.{eqb-true}
 use Rattle.std.proofs.lemmas.List.{nil_from_length}
 use Rattle.chunked.specs.declared.place.Place.TheVariants.{Data}
-use Rattle.chunked.specs.CodingLaws.{looks_comes, looks_none, looks_passed, looks_wrong, open_of}
+use Rattle.chunked.specs.CodingLaws.{looks_comes, looks_none, looks_wrong, open_of}
 use Rattle.chunked.proofs.coding.look_on.Goals as goal
 
 pub returns-then-is_empty : goal.returns-then-is_empty
@@ -18,8 +18,9 @@ returns-in-Some c =
 
 pub returns-then-reached-gt0 : goal.returns-then-reached-gt0
 returns-then-reached-gt0 c =
-    looks_passed c.args.limits.now c.args.place c.args.shown.now c.advance-reached.result
-    (open_of c.args.limits.now c.args.place c.requires.open) c.advance-reached.ensures (omega arith)
+    looks_comes c.args.limits.now c.args.place c.args.shown.now c.advance-reached.result.taken c.advance-reached.result.place
+    (open_of c.args.limits.now c.args.place c.requires.open) (omega arith) c.advance-reached.ensures.within
+    c.advance-reached.ensures.comes
 
 pub returns : goal.returns
 returns c =

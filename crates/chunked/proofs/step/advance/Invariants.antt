@@ -1,15 +1,13 @@
 use Rattle.std.proofs.Common.{◌≡◌, ◌<◌, ◌≤◌, ◌-◌, ◌⊎◌, length, take}
-use Rattle.chunked.specs.Place.{IsPlace, PassesAlong, Within}
+use Rattle.chunked.specs.Place.{Comes}
 use Rattle.chunked.proofs.step.advance.Given as goal
 
 -- the bytes that were taken lead here
 abbrev pub invariant-loop-taken : goal.invariant-loop-taken
 invariant-loop-taken l = record {
   within : l.taken ≤ length l.shown;
-  passes : PassesAlong l.limits l.fn.start (take l.taken l.shown) l.place;
-  place : IsPlace l.place;
+  comes : Comes l.limits l.fn.start (take l.taken l.shown) l.place;
   begun : (0 < l.taken) ⊎ (l.place ≡ l.fn.start);
-  short : Within l.limits l.fn.start (take l.taken l.shown);
 }
 
 abbrev pub decreases-loop-taken : goal.decreases-loop-taken
