@@ -89,7 +89,7 @@ module _ {R : Type 0} {remaining : R → Option (List ℕ)} {s t : Reader R} (is
       → ReadsPayload remaining std_read_rules (body_rules s.coding) s out answer t
       → (stream_of t).log ≡ (stream_of s).log → (stream_of s).left ≡ [] → 0 < length out → ¬ (¬ (IsRest (left_in s) [] []))
   never_unasked (Ok n) reads same none some goes_on =
-      let took = (body_take is reads.whole reads.went room).0 in
+      let took = body_take is reads.whole reads.went in
       let empty = nothing_came remaining (stream_of s) (stream_of t) took.wire took.went same none in
       let handed : take n out ≡ [] = no_payload s.coding room.1 s.place is.place (take n out) (left_in t)
       (subst (λ l. Backward (left_in s) l (take n out) (left_in t)) empty.0 took.backward) in
@@ -98,7 +98,7 @@ module _ {R : Type 0} {remaining : R → Option (List ℕ)} {s t : Reader R} (is
       goes_on (subst (λ l. IsRest (left_in s) [] (l ++ [])) handed
       (subst (λ l. IsRest (left_in s) (l ++ []) (take n out ++ [])) empty.0 (took.onward [] [] ended)))
   never_unasked (Err (unread.Wrong why right)) reads same none some goes_on =
-      let took = (body_take is reads.whole reads.went room).0 in
+      let took = body_take is reads.whole reads.went in
       let empty = nothing_came remaining (stream_of s) (stream_of t) took.wire took.went same none in
       (lawful s.coding).none_wrong t.place why reads.whole.place
       (subst (λ l. (body_rules s.coding).wrong t.place l why) empty.1 reads.answers.2.name)

@@ -16,7 +16,7 @@ use Rattle.body_reader.specs.declared.either.Either.TheVariants as coding
 use Rattle.body_reader.specs.declared.either.Side.{Side}
 use Rattle.body_reader.specs.declared.either.Side.TheVariants as side
 use Rattle.buffer_redux.specs.Policy.{std_read_rules}
-use Rattle.buffer_redux.specs.StreamLog.{zero_of_some}
+use Rattle.buffer_redux.specs.StreamLog.{StreamLog, zero_of_some}
 use Rattle.buffer_redux.specs.declared.policy.StdPolicy.{StdPolicy}
 use Rattle.buffer_redux.specs.Unbuffer.{Unbuffered, unbuffered}
 use Rattle.buffer_redux.specs.UnbufferLaws.{ReadsAlong-stream}
@@ -26,7 +26,9 @@ use Rattle.chunked.specs.declared.error.Malformed.{Malformed}
 use Rattle.chunked.specs.declared.place.Place.{Place}
 use Rattle.chunked.proofs.Alive.{Completes-some}
 use Rattle.messages.specs.MessagesLaws.{same_room}
-use Rattle.messages.specs.Messages.{AskedIn, Backward, BeginsRest, BodyCoding, Bytes, Chunks, Fails, FinishFails, GoesWrong, HasRoom, IsNamed, IsRest, NotesEach, Onward, Reader, ReaderTakes, Rest, RunsShort, TakesWholeRest, body_error, body_rules, has_line, left_in, rest_of, room_of, stream_of, sure_of}
+use Rattle.messages.specs.Messages.{AskedIn, Backward, BeginsRest, BodyCoding, Bytes, Chunks, Fails, FinishFails, GoesWrong, HasRoom, InsideGoes, IsNamed, IsRest, NotesEach, Onward, Reader, Rest, RunsShort, TakesFromRest, TakesWholeRest, body_error, body_rules, has_line, left_in, rest_of, room_of, seen, stream_of, sure_of}
+use Rattle.messages.specs.declared.head.ParsedHead.{ParsedHead}
+use Rattle.messages.specs.declared.limits.Limits.{Limits}
 use Rattle.messages.specs.declared.error.BodyError.TheVariants.{Wrong, Io as Fault}
 use Rattle.std.specs.declared.io.Error.{Error}
 
@@ -202,19 +204,15 @@ module _ {R : Type 0} {remaining : R → Option (List ℕ)} {s t : Reader R} (is
       let kept = (went.keeps.spared 1 least (omega arith)).plain room.0.kind (omega (arith, room.0.capacity)) in
       omega (arith, kept.moved, went.keeps.unmoved std_stays least room.0.kind)
 
-  pub body_take : HasRoom s → ReaderTakes remaining s handed t
-  body_take room = (
-    record {
-      wire = went.wire;
-      went = ReadsAlong-stream remaining std_read_rules s.reader went.wire t.reader went.along;
-      onward = keep (Onward (left_in s) went.wire handed)
-          (onward_is s.coding s.place t.place went.wire handed t.reader.block.bytes is.place is'.place leads);
-      backward = keep (Backward (left_in s) went.wire handed)
-          (backward_is s.coding s.place t.place went.wire handed t.reader.block.bytes is.place is'.place leads);
-    },
-    went.taken,
-    body_still room,
-  )
+  pub body_take : TakesFromRest remaining (stream_of s) (left_in s) handed (stream_of t) (left_in t)
+  body_take = record {
+    wire = went.wire;
+    went = ReadsAlong-stream remaining std_read_rules s.reader went.wire t.reader went.along;
+    onward = keep (Onward (left_in s) went.wire handed)
+        (onward_is s.coding s.place t.place went.wire handed t.reader.block.bytes is.place is'.place leads);
+    backward = keep (Backward (left_in s) went.wire handed)
+        (backward_is s.coding s.place t.place went.wire handed t.reader.block.bytes is.place is'.place leads);
+  }
 
   pub body_room : HasRoom s → HasRoom t
   body_room (roomy, line) =
@@ -229,6 +227,22 @@ module _ {R : Type 0} {remaining : R → Option (List ℕ)} {s t : Reader R} (is
 
   pub body_kept : room_of t.reader.block ≡ room_of s.reader.block
   body_kept = let kept = went.keeps.room std_leaves in same_room t.reader.block s.reader.block kept.0 kept.1
+
+  -- as the body is seen, where this is told of the payload
+  pub body_goes : HasRoom s → (calls : StreamLog) → calls.reads.given ≡ handed_of s ++ handed → (limits : Limits) (head : List ℕ)
+      (said : ParsedHead)
+      → InsideGoes remaining (seen s limits head said) handed (seen (record t { calls = calls }) limits head said)
+  unfolding body_take
+  body_goes room calls told limits head said = record {
+    takes = body_take;
+    taken = went.taken;
+    room = body_kept;
+    moved = body_still room;
+    told = told;
+    limits = refl;
+    head = refl;
+    said = refl;
+  }
 
   pub body_done : TookWholeBody (body_rules s.coding) t → IsRest (left_in t) [] []
   body_done whole = keep (λ r. IsRest r [] []) (none_left s.coding t is' whole)

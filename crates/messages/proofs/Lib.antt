@@ -1,4 +1,4 @@
-pub mod AsIo
+pub mod Reading
 pub mod Asking
 pub mod Going
 pub mod Handing

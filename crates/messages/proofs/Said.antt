@@ -4,9 +4,7 @@ use Rattle.std.proofs.lemmas.List.{nil_from_length}
 use Rattle.buffer_redux.specs.Unbuffer.{Unbuffered}
 use Rattle.codec.specs.PieceReader.{ReaderState, left_of, rest}
 use Rattle.messages.specs.declared.head.Heads.{Heads}
-use Rattle.messages.specs.declared.head.ParsedHead.{ParsedHead}
-use Rattle.messages.specs.declared.limits.Limits.{Limits}
-use Rattle.messages.specs.Messages.{Begun, Bytes, InBody, IsRest, Reader, Rest, TakesWholeRest, left_in, room_of, stream_of}
+use Rattle.messages.specs.Messages.{Begun, Bytes, InBody, IsRest, Rest, TakesWholeRest}
 use Rattle.messages.specs.MessagesLaws.{Begun-went}
 
 -- a body of a length ended where no byte is left of it
@@ -45,8 +43,3 @@ begun_front remaining s b begun same =
       length-append s.reader.log.reads.given order.0,
     )) in
     order.2 ∙ ap (λ l. rest s ++ l) none ∙ append-nil (rest s)
-
--- where its reader is the same but for the calls that it notes, so is a body
-pub seen_same : {S : Type 0} (d e : Reader S) (limits : Limits) (head : List ℕ) (said : ParsedHead)
-    → d ≡ record e { calls = d.calls } → seen d limits head said ≡ record (seen e limits head said) { calls = d.calls }
-seen_same d e limits head said same = ap (λ x. seen x limits head said) same

@@ -284,18 +284,22 @@ BecomesIo (Wrong name) e = error_kind e ≡ InvalidData
 BecomesIo (Truncated due) e = error_kind e ≡ UnexpectedEof
 BecomesIo (Fault same) e = e ≡ same
 
--- what a read as one of std's does: an error is the stream's own, or its kind tells why no payload comes
-pub record ReadsAsIo {S : Type 0} (remaining : S → Option (List ℕ)) (s : InBody S) (out : List ℕ) (answer : Result ℕ Error)
-    (t : InBody S) : Type 0 where
+-- what a read of a body does, and why no payload comes is told so
+pub record ReadsBody {S E : Type 0} (Why : Unbuffered S → E → Unbuffered S → Rest → Type 0) (remaining : S → Option (List ℕ))
+    (s : InBody S) (out : List ℕ) (answer : Result ℕ E) (t : InBody S) : Type 0 where
   pub goes : InsideGoes remaining s (handed_out out answer) t
   pub gave : OnOk answer (EachReadGave s.stream t.stream)
   pub ended : answer ≡ Ok 0 → 0 < length out → IsRest t.rest [] []
-  pub fails : IfErr answer (λ e. (why : BodyError) × Fails s.stream why t.stream t.rest × BecomesIo why e)
+  pub fails : IfErr answer (λ e. Why s.stream e t.stream t.rest)
   pub asked : AskedWhere (AskedIn s.rest (length out) t.stream.log.reads.offer) s.stream t.stream
   pub asks : AsksForMore s.stream s.rest out t.stream
   pub all : IfOk answer (λ n. 0 < n → HandsMost s.rest s.taken s.known out n t.taken t.known t.stream.left)
   -- a slice that is empty asks for nothing
   pub none : length out ≡ 0 → (answer ≡ Ok 0) × (t ≡ record s { calls = t.calls })
+
+-- as one of std's does: an error is the stream's own, or its kind tells why no payload comes
+abbrev pub ReadsAsIo : {S : Type 0} → (S → Option (List ℕ)) → InBody S → List ℕ → Result ℕ Error → InBody S → Type 0
+ReadsAsIo = ReadsBody (λ s e t r. (why : BodyError) × Fails s why t r × BecomesIo why e)
 
 -- a head, and a payload
 abbrev pub Message : Type 0
@@ -356,13 +360,6 @@ seen d limits head said = record {
   taken = d.taken;
   known = d.known;
 }
-
--- it took these bytes so, and no byte was moved in its buffer
-abbrev pub ReaderTakes : {S : Type 0} → (S → Option (List ℕ)) → Reader S → List ℕ → Reader S → Type 0
-ReaderTakes remaining d handed d' =
-    (takes : TakesFromRest remaining (stream_of d) (left_in d) handed (stream_of d') (left_in d'))
-    × (d'.taken ≡ d.taken ++ takes.wire)
-    × (d'.reader.block.moved ≡ d.reader.block.moved)
 
 -- a plain buffer in which three heads fit, and which grows no further: a reader of heads keeps it, and takes no memory
 pub record IsRoomy (b : Block) : Type 0 where

@@ -3,13 +3,13 @@ ghost use Rattle.std.specs.Prelude.{◌≡◌, ◌-◌, ◌^◌, ◌<◌, ◌≤
 ghost use Rattle.std.specs.Borrow.{Lends, sem};
 ghost use Rattle.body_reader.specs.Asking.{AskedWhere};
 ghost use Rattle.body_reader.specs.Between.{handed_out};
-ghost use Rattle.body_reader.specs.BodyReader.{NotedIfSome, handed_of};
+ghost use Rattle.body_reader.specs.BodyReader.{NotedIfSome};
 ghost use Rattle.buffer_redux.specs.StreamLog.{after_read};
 ghost use Rattle.buffer_redux.specs.Unbuffer.{unbuffered};
 ghost use Rattle.codec.specs.PieceReader.{left_of, rest};
 ghost use Rattle.messages.specs.contracts.body.Body.{the_row};
 ghost use Rattle.messages.specs.Heads.{IsHead};
-ghost use Rattle.messages.specs.Messages.{AskedIn, AsksForMore, Bytes, EachReadGave, Fails, FinishFails, HandsMost, HasRoom, InsideGoes, IsRest, IsRoomy, NotesEach, ReaderTakes, RunsShort, TakesWholeRest, Unended, body_of, body_rules, entering, has_line, left_in, rest_of, room_of, stream_of, with_stream};
+ghost use Rattle.messages.specs.Messages.{AskedIn, AsksForMore, Bytes, EachReadGave, Fails, FinishFails, HandsMost, HasRoom, InsideGoes, IsRest, IsRoomy, NotesEach, ReadsBody, RunsShort, TakesWholeRest, Unended, body_of, body_rules, entering, has_line, left_in, rest_of, room_of, seen, stream_of, with_stream};
 
 mod tells;
 
@@ -263,20 +263,10 @@ fn read<R: TellRead>(
     requires { HasRoom reader.old }
     ensures bound { IfOk result (λ n. n ≤ length out.new) }
     ensures room { HasRoom reader.new }
-    ensures kept { room_of reader.new.reader.block ≡ room_of reader.old.reader.block }
-    ensures told { handed_of reader.new ≡ handed_of reader.old ++ handed_out out.new result }
     ensures noted { MatchResult result (λ n. reader.new.calls ≡ after_read reader.old.calls out.new (Ok n))
         (λ _. reader.new.calls ≡ reader.old.calls) }
-    ensures takes { ReaderTakes R.remaining reader.old (handed_out out.new result) reader.new }
-    ensures ended { result ≡ Ok 0 → 0 < length out.new → IsRest (left_in reader.new) [] [] }
-    ensures gave { OnOk result (EachReadGave (stream_of reader.old) (stream_of reader.new)) }
-    ensures fails { IfErr result (λ e. Fails (stream_of reader.old) e (stream_of reader.new) (left_in reader.new)) }
-    ensures asked { AskedWhere (AskedIn (left_in reader.old) (length out.new) (stream_of reader.new).log.reads.offer)
-        (stream_of reader.old) (stream_of reader.new) }
-    ensures asks { AsksForMore (stream_of reader.old) (left_in reader.old) out.new (stream_of reader.new) }
-    ensures all { IfOk result (λ n. 0 < n → HandsMost (left_in reader.old) reader.old.taken reader.old.known out.new n
-        reader.new.taken reader.new.known (stream_of reader.new).left) }
-    ensures none { length out.new ≡ 0 → (result ≡ Ok 0) × (reader.new ≡ record reader.old { calls = reader.new.calls }) }
+    ensures reads { (limits : Limits) (head : List ℕ) (said : ParsedHead)
+        → ReadsBody Fails R.remaining (seen reader.old limits head said) out.new result (seen reader.new limits head said) }
 {
     let _ = reader.get_ref();
     match reader.read_payload(out) {
@@ -290,9 +280,9 @@ fn read_buffered<R: TellRead>(reader: &mut BodyReader<R, BodyCoding>, out: &mut 
     requires { HasRoom reader.old }
     ensures bound { result ≤ length out.new }
     ensures room { HasRoom reader.new }
-    ensures kept { room_of reader.new.reader.block ≡ room_of reader.old.reader.block }
     ensures noted { NotedIfSome reader.old.calls out.new result reader.new.calls }
-    ensures takes { ReaderTakes R.remaining reader.old (take result out.new) reader.new }
+    ensures goes { (limits : Limits) (head : List ℕ) (said : ParsedHead)
+        → InsideGoes R.remaining (seen reader.old limits head said) (take result out.new) (seen reader.new limits head said) }
     ensures unasked { (stream_of reader.new).log ≡ (stream_of reader.old).log }
     ensures all { RunsShort (length out.new) result (left_in reader.new) (stream_of reader.new).left }
 {
@@ -306,13 +296,12 @@ fn finish<R: TellRead>(
 ) -> Result<BufReader<R>, (BodyReader<R, BodyCoding>, BodyError)>
     requires { HasRoom reader }
     ensures room { MatchResult result (λ rest. IsRoomy rest.block) (λ e. HasRoom e.0) }
-    ensures kept { MatchResult result (λ rest. room_of rest.block ≡ room_of reader.reader.block)
-        (λ e. room_of e.0.reader.block ≡ room_of reader.reader.block) }
+    ensures kept { IfOk result (λ rest. room_of rest.block ≡ room_of reader.reader.block) }
     ensures ends { MatchResult result (λ rest. TakesWholeRest R.remaining (stream_of reader) (left_in reader) (unbuffered rest))
         (λ e. (handed : List ℕ)
-        × ReaderTakes R.remaining reader handed e.0
-        × FinishFails (stream_of reader) handed e.1 (stream_of e.0) (left_in e.0)
-        × (handed_of e.0 ≡ handed_of reader ++ handed)) }
+        × ((limits : Limits) (head : List ℕ) (said : ParsedHead)
+        → InsideGoes R.remaining (seen reader limits head said) handed (seen e.0 limits head said))
+        × FinishFails (stream_of reader) handed e.1 (stream_of e.0) (left_in e.0)) }
     ensures moved { IfOk result (λ rest. rest.block.moved ≡ reader.reader.block.moved) }
     ensures noted { IfErr result (λ e. NotesEach reader.calls e.0.calls) }
     ensures asked { MatchResult result

@@ -1,14 +1,13 @@
 //! A body as a stream of std's, which tells its reads.
-ghost use Rattle.std.specs.Prelude.{◌≡◌, ◌<◌, [], length, IfErr, IfOk, None, Ok, OnOk};
+ghost use Rattle.std.specs.Prelude.{◌≡◌, ℕ, List, None};
 ghost use Rattle.std.specs.Io.{ReadsAtMost};
 ghost use Rattle.std.specs.Io.KnownBytes.{ReadConsumes};
-ghost use Rattle.body_reader.specs.Asking.{AskedWhere};
-ghost use Rattle.body_reader.specs.Between.{handed_out};
 ghost use Rattle.buffer_redux.specs.StreamLog.{after_read};
-ghost use Rattle.messages.specs.Messages.{AskedIn, AsksForMore, BecomesIo, EachReadGave, Fails, HandsMost, HasRoom, IsRest, ReaderTakes, ReadsAsIo, left_in, room_of, stream_of};
+ghost use Rattle.messages.specs.declared.head.ParsedHead.{ParsedHead};
+ghost use Rattle.messages.specs.declared.limits.Limits.{Limits};
+ghost use Rattle.messages.specs.Messages.{HasRoom, ReadsAsIo, seen};
 
 use crate::body::{Body, BodyCoding};
-use crate::error::BodyError;
 use body_reader::BodyReader;
 use buffer_redux::tell::{Tell, TellRead};
 use std::io;
@@ -51,19 +50,9 @@ fn read_told<R: TellRead>(
     requires { HasRoom reader.old }
     ensures bound { ReadsAtMost result out.new }
     ensures room { HasRoom reader.new }
-    ensures kept { room_of reader.new.reader.block ≡ room_of reader.old.reader.block }
     ensures told { reader.new.calls ≡ after_read reader.old.calls out.new result }
-    ensures takes { ReaderTakes R.remaining reader.old (handed_out out.new result) reader.new }
-    ensures ended { result ≡ Ok 0 → 0 < length out.new → IsRest (left_in reader.new) [] [] }
-    ensures gave { OnOk result (EachReadGave (stream_of reader.old) (stream_of reader.new)) }
-    ensures fails { IfErr result (λ e. (why : BodyError)
-        × Fails (stream_of reader.old) why (stream_of reader.new) (left_in reader.new) × BecomesIo why e) }
-    ensures asked { AskedWhere (AskedIn (left_in reader.old) (length out.new) (stream_of reader.new).log.reads.offer)
-        (stream_of reader.old) (stream_of reader.new) }
-    ensures asks { AsksForMore (stream_of reader.old) (left_in reader.old) out.new (stream_of reader.new) }
-    ensures all { IfOk result (λ n. 0 < n → HandsMost (left_in reader.old) reader.old.taken reader.old.known out.new n
-        reader.new.taken reader.new.known (stream_of reader.new).left) }
-    ensures none { length out.new ≡ 0 → (result ≡ Ok 0) × (reader.new ≡ record reader.old { calls = reader.new.calls }) }
+    ensures reads { (limits : Limits) (head : List ℕ) (said : ParsedHead)
+        → ReadsAsIo R.remaining (seen reader.old limits head said) out.new result (seen reader.new limits head said) }
 {
     let _ = reader.get_ref();
     reader.read_told(out)

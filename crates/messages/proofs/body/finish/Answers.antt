@@ -2,7 +2,7 @@
 use Rattle.std.proofs.Common.{inl, inr, subst, sym}
 use Rattle.messages.specs.Messages.{IsNamed}
 use Rattle.messages.proofs.Asking.{drain_asked}
-use Rattle.messages.proofs.Going.{body_end, body_kept, body_named, body_room, body_still, body_take, drain_fails, pieces_noted}
+use Rattle.messages.proofs.Going.{body_end, body_goes, body_kept, body_named, body_room, body_still, drain_fails, pieces_noted}
 use Rattle.messages.proofs.body.finish.Goals as goal
 
 pub returns-in-Ok-clause-room : goal.returns-in-Ok-clause-room
@@ -42,19 +42,14 @@ returns-in-Err-clause-room g c =
     let drains = c.in-Err.ensures.drains in
     body_room c.get_ref.ensures.whole drains.whole drains.went c.requires
 
-pub returns-in-Err-clause-kept : goal.returns-in-Err-clause-kept
-returns-in-Err-clause-kept g c =
-    let drains = c.in-Err.ensures.drains in
-    body_kept c.get_ref.ensures.whole drains.whole drains.went
-
 pub returns-in-Err-clause-ends : goal.returns-in-Err-clause-ends
 returns-in-Err-clause-ends g c =
     let drains = c.in-Err.ensures.drains in
     rw (c.unread.ensures, c.place-place.ensures) (
       drains.payload,
-      body_take c.get_ref.ensures.whole drains.whole drains.went c.requires,
+      λ limits head said.
+          body_goes c.get_ref.ensures.whole drains.whole drains.went c.requires _ drains.went.handed limits head said,
       drain_fails c.get_ref.ensures.whole drains,
-      drains.went.handed,
     )
 
 pub returns-in-Err-clause-noted : goal.returns-in-Err-clause-noted

@@ -1,11 +1,11 @@
 -- What the reader did, told of the rest of the body: what it took leads to what is left of that.
-use Rattle.messages.proofs.Going.{body_short, body_take}
+use Rattle.messages.proofs.Going.{body_goes, body_short}
 use Rattle.messages.proofs.body.read_buffered.Goals as goal
 
-pub returns-clause-takes : goal.returns-clause-takes
-returns-clause-takes g c =
+pub returns-clause-goes : goal.returns-clause-goes
+returns-clause-goes g c = λ limits head said.
     let reads = c.read_buffered.ensures.reads in
-    body_take c.get_ref.ensures.whole reads.whole reads.went c.requires
+    body_goes c.get_ref.ensures.whole reads.whole reads.went c.requires _ reads.went.handed limits head said
 
 pub returns-clause-all : goal.returns-clause-all
 returns-clause-all g c =

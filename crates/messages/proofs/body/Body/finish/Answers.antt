@@ -30,22 +30,10 @@ returns-in-Ok-with_buffer-clause-moved g c =
 pub returns-in-Err : goal.returns-in-Err
 returns-in-Err g c =
     let failed = c.in-Err.ensures.ends in
+    let i = c.self.inside in
     rw (← c.self.view_is) (record {
       in_order = tt;
-      ends = (
-        failed.0,
-        record {
-          takes = failed.1.0;
-          taken = failed.1.1;
-          room = c.in-Err.ensures.kept;
-          moved = failed.1.2;
-          told = failed.3;
-          limits = refl;
-          head = refl;
-          said = refl;
-        },
-        failed.2,
-      );
+      ends = (failed.0, failed.1 i.limits i.head.bytes i.said, failed.2);
       room = tt;
       moved = tt;
       limits = tt;
