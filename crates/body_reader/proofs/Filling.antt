@@ -16,7 +16,7 @@ use Rattle.body_reader.specs.declared.error.BodyError.TheVariants.{Truncated, Io
 use Rattle.body_reader.specs.declared.progress.Progress.{Progress}
 use Rattle.body_reader.specs.Between.{AllShown, Proceeds, Settles, ShowsOn, SkipsOn, TakenThrough, TakesBytes}
 use Rattle.body_reader.specs.BetweenLaws.{EachGave-none, EachGave-once, TakesBytes-still, Way-none}
-use Rattle.body_reader.specs.Coding.{Carries, Grammar, IsDone, IsLawful, Looks}
+use Rattle.body_reader.specs.Coding.{Carries, Grammar, IsDone, IsLawful, IsNextPayload, Looks}
 use Rattle.body_reader.proofs.Once.{once_dry, once_fails, once_way}
 
 -- fewer bytes are payload too, also where more are shown
@@ -69,12 +69,12 @@ module _ {S Q P W : Type 0} (remaining : S → Option (List ℕ)) (rules : ReadR
   payload_here p shown sure more (inr looks) = looks
 
   -- all that is buffered is shown, or all that surely is payload
-  pub all_shown : (p : P) (shown : List ℕ) (sure n : ℕ) → Looks g p shown (Payload sure) → n ≡ min sure (length shown)
+  pub all_shown : (p : P) (shown : List ℕ) (sure n : ℕ) → IsNextPayload g p sure shown → n ≡ min sure (length shown)
       → AllShown g p n shown
   all_shown p shown sure n looks is = elim (cases_lt (length shown) sure) [
     | inl more ↦ inl (omega (arith, is, more))
     | inr less ↦
-        let same : sure ≡ n = omega (arith, is, less) in inr (subst (λ k. Looks g p shown (Payload k)) same looks)
+        let same : sure ≡ n = omega (arith, is, less) in inr (subst (λ k. IsNextPayload g p k shown) same looks)
   ]
 
   -- where payload comes next some is known
@@ -99,7 +99,7 @@ module _ {S Q P W : Type 0} (remaining : S → Option (List ℕ)) (rules : ReadR
               (λ _. Carries-fewer g p.place sure n s.block.bytes carries some (omega (arith, is))),
             ),
             (λ none. absurd (omega (arith, none, some))),
-            (λ _. all_shown p.place s.block.bytes sure n looks is),
+            (λ _. all_shown p.place s.block.bytes sure n (looks.0, looks.1, looks.2) is),
           ),
         ),
       )

@@ -69,7 +69,7 @@ module _ {S Q P W : Type 0} (remaining : S → Option (List ℕ)) (rules : ReadR
         found k (
           omega (arith, count),
           (λ some. Carries-fewer g q.place sure k t.block.bytes carries some (omega (arith, count))),
-        ) (λ _. all_shown remaining rules g q.place t.block.bytes sure k looks count)
+        ) (λ _. all_shown remaining rules g q.place t.block.bytes sure k (looks.0, looks.1, looks.2) count)
         (λ none. inr (inl (open_at g lawful q.place passes.takes.place carries.goes_on t.block.bytes
         (omega (arith, none, count, carries.some))))) (λ done. absurd (carries.goes_on done))
 

@@ -16,7 +16,7 @@ use Rattle.body_reader.specs.declared.progress.Progress.{Progress}
 use Rattle.body_reader.specs.Between.{EachGave, KeepsBuffer, PassesOn, SkipsOn, TakenThrough, TakesBytes, Way, spend}
 use Rattle.body_reader.specs.BetweenLaws.{AsksWithRoom-here, EachGave-joins, EachGave-none, EachGave-same, FaultedOnce-after, GaveNothingOnce-after, PassesOn-way, ReadsAhead-asks, ReadsAhead-ended, ReadsAhead-failed, ReadsAhead-gave, ReadsAhead-keeps, ReadsAhead-open, TakesBytes-joins, TakesBytes-none, TakesBytes-still, Way-joins, Way-none}
 use Rattle.body_reader.specs.Coding.{Grammar, IsDone, IsOpenBelow, Leads, Looks, heeded}
-use Rattle.body_reader.specs.CodingLaws.{IsOpenBelow-open}
+use Rattle.body_reader.specs.CodingLaws.{IsOpen-goes_on, IsOpenBelow-open}
 
 -- these bytes were noted, which lead there
 pub record Notes {P : Type 0} (p : Progress P) (there : P) (bytes : List ℕ) (q : Progress P) : Type 0 where
@@ -197,7 +197,7 @@ module _ {S Q P W : Type 0} (remaining : S → Option (List ℕ)) (rules : ReadR
         asked = AsksWithRoom-here remaining rules g slice t r.place u passes.takes.place (omega (arith, looks.1))
             (ReadsAhead-asks remaining rules g r.place n t answer u lacks ahead);
         through = inl (omega (arith, ahead.consumed));
-        idle = λ done. absurd ((IsOpenBelow-open g r.place n t.block.bytes lacks).goes_on done);
+        idle = λ done. absurd (IsOpen-goes_on g r.place t.block.bytes (IsOpenBelow-open g r.place n t.block.bytes lacks) done);
       })
 
     module _ (n : ℕ) (is : l ≡ look.More n) {A : Type 0} (u : Buffered S Q) where

@@ -2,7 +2,7 @@
 use Rattle.std.proofs.Common.{◌≡◌, ℕ, ◌≤◌, List, [], ◌++◌, take, drop, inl, inr, ap, sym, subst, ◌∙◌, arith, append_assoc, append-nil}
 use Rattle.body_reader.specs.declared.coding.Look.{Look}
 use Rattle.body_reader.specs.declared.coding.Look.TheVariants as look
-use Rattle.body_reader.specs.Coding.{Agree, Carries, Grammar, IsAllPayload, IsDone, Leads, Looks, heeded, look_as}
+use Rattle.body_reader.specs.Coding.{Agree, Carries, Grammar, IsAllPayload, IsDone, IsRight, Leads, Looks, heeded, look_as}
 use Rattle.body_reader.specs.CodingLaws.{Agree-front, Agree-less, Agree-nothing}
 
 module _ {P V R X : Type 0} (g : Grammar P V) (h : Grammar R X) (at : P → R) (name : V → X) where
@@ -52,6 +52,9 @@ module _ {P V R X : Type 0} (g : Grammar P V) (h : Grammar R X) (at : P → R) (
       goes_on : ¬ IsDone g p → ¬ IsDone h r
       goes_on on done = on (like.back [] [] (Agree-nothing shown) done)
 
+      right : IsRight g p shown → IsRight h r shown
+      right not why wrong = let named = like.wrong shown why wrong in not named.0 named.1
+
       pub alike_sure : (n : ℕ) (bytes : List ℕ) → Carries h r n bytes → Carries g p n bytes
       alike_sure n bytes c = record {
         some = c.some;
@@ -74,6 +77,7 @@ module _ {P V R X : Type 0} (g : Grammar P V) (h : Grammar R X) (at : P → R) (
         },
         omega (arith, looks.1, like.sure),
         all_alike n looks.2,
+        right looks.3,
       )
       alike_looks front (look.Passed n q) looks = (
         looks.0,
@@ -85,6 +89,7 @@ module _ {P V R X : Type 0} (g : Grammar P V) (h : Grammar R X) (at : P → R) (
         },
         is_place q looks.3,
         goes_on looks.4,
+        right looks.5,
       )
       alike_looks front (look.More n) looks = (
         record {
@@ -94,10 +99,12 @@ module _ {P V R X : Type 0} (g : Grammar P V) (h : Grammar R X) (at : P → R) (
               let o = looks.0.is_open more short in
               record {
                 few = omega (arith, o.few, fits);
-                goes_on = goes_on o.goes_on;
-                no_payload = λ byte follow same c. o.no_payload byte follow same (like.clear _ follow c);
-                not_wrong = λ why wrong. (let named = like.wrong (shown ++ more) why wrong in o.not_wrong named.0 named.1);
                 further = λ rest payload c agree. o.further rest payload ((more_alike more).back rest payload agree c) agree;
+                behind = o.behind;
+                payload = o.payload;
+                completes = (more_alike more).there ((shown ++ more) ++ o.behind) o.payload
+                    (o.behind, [], sym (append-nil ((shown ++ more) ++ o.behind))) o.completes;
+                unknown = o.unknown;
               }
               );
         },

@@ -15,7 +15,7 @@ use Rattle.body_reader.specs.declared.error.BodyError.{BodyError}
 use Rattle.body_reader.specs.declared.error.BodyError.TheVariants.{Wrong, Truncated, Io}
 use Rattle.body_reader.specs.declared.progress.Progress.{Progress}
 use Rattle.body_reader.specs.Asking.{AskedWhere}
-use Rattle.body_reader.specs.Coding.{AskedFor, Grammar, IsDone, IsKnown, IsOpen, Leads, LeadsOpen, Looks, heeded}
+use Rattle.body_reader.specs.Coding.{AskedFor, Grammar, IsDone, IsKnown, IsNextPayload, IsOpen, Leads, LeadsOpen, Looks, heeded}
 
 -- each read that was made gave bytes
 pub record EachGave {S Q : Type 0} (s t : Buffered S Q) : Type 0 where
@@ -83,7 +83,7 @@ pub record BeginsRead {S Q P W : Type 0} (g : Grammar P W) (s : Buffered S Q) (p
 module _ {P W : Type 0} (g : Grammar P W) where
   -- so many bytes are all that are buffered, or as many as a look says are payload
   abbrev pub AllShown : P → ℕ → List ℕ → Type 0
-  AllShown p n bytes = (n ≡ length bytes) ⊎ Looks g p bytes (Payload n)
+  AllShown p n bytes = (n ≡ length bytes) ⊎ IsNextPayload g p n bytes
 
   -- of the bytes that were taken the last are payload, behind some in which there is this payload, and so many of what is left
   -- are known to be: together all that there is, or that a look says

@@ -13,17 +13,18 @@ pub record TurnRules (P W : Type 0) : Type 0 where
   pub between : P → ℕ
 
 module _ {P W : Type 0} (t : TurnRules P W) where
-  -- a byte that is no payload leads on; and in each place some byte is none
-  pub record AreLawful : Type 0 where
-    pub nearer : (p q : P) (byte : ℕ) → t.turn p byte ≡ Passed q → t.between q < t.between p
-    pub other : (p : P) → (byte : ℕ) × ((q : P) → t.turn p byte ≢ Payload q)
-
   -- each byte leads on, and its payload are those that are payload
   abbrev pub CompletesByTurns : P → List ℕ → List ℕ → Type 0
   CompletesByTurns p [] payload = (t.is_end p ≡ true) × (payload ≡ [])
   CompletesByTurns p (byte ∷ rest) payload = (t.is_end p ≡ false)
       × (((q : P) × (later : List ℕ) × (t.turn p byte ≡ Payload q) × (payload ≡ byte ∷ later) × CompletesByTurns q rest later)
       ⊎ ((q : P) × (t.turn p byte ≡ Passed q) × CompletesByTurns q rest payload))
+
+  -- a byte that is no payload leads on; in each place some byte is none; and from each some bytes lead to the end
+  pub record AreLawful : Type 0 where
+    pub nearer : (p q : P) (byte : ℕ) → t.turn p byte ≡ Passed q → t.between q < t.between p
+    pub other : (p : P) → (byte : ℕ) × ((q : P) → t.turn p byte ≢ Payload q)
+    pub alive : (p : P) → (rest payload : List ℕ) × CompletesByTurns p rest payload
 
   -- each of these bytes is payload, and they lead from the one place to the other
   abbrev pub LeadsByPayload : P → List ℕ → P → Type 0

@@ -1,10 +1,12 @@
 -- Laws of bodies in which a byte and its place say what it is.
-use Rattle.std.proofs.Common.{◌≡◌, ℕ, zero, suc, ◌<◌, ◌≤◌, ◌==◌, List, [], ◌∷◌, ◌++◌, length, take, drop, true, false, inl, inr, refl, sym, ap, subst, ◌∙◌, arith, append_assoc, append-nil, length-append, length-take-le, slice_index, take-append-drop}
+use Rattle.std.proofs.Common.{◌≡◌, ◌≢◌, ℕ, zero, suc, ◌<◌, ◌≤◌, ◌==◌, List, [], ◌∷◌, ◌++◌, length, take, drop, Bool, true, false, if◌then◌else◌, Option, Some, None, inl, inr, refl, sym, ap, subst, ◌∙◌, arith, append_assoc, append-nil, length-append, length-take-le, slice_index, take-append-drop}
+use Rattle.std.proofs.lemmas.Bool.{eqb-true}
 use Rattle.std.proofs.lemmas.List.{nil_from_length}
 use Rattle.body_reader.specs.declared.coding.Look.TheVariants as look
+use Rattle.body_reader.specs.declared.by_byte.Turn.{Turn}
 use Rattle.body_reader.specs.declared.by_byte.Turn.TheVariants.{Payload, Passed, Wrong}
 use Rattle.body_reader.specs.Coding.{Agree, Carries, IsDone, IsLawful, Leads, Looks}
-use Rattle.body_reader.specs.CodingLaws.{Leads-joins, Leads-none, overlaps}
+use Rattle.body_reader.specs.CodingLaws.{IsOpenBelow-one, Leads-joins, Leads-none, overlaps}
 use Rattle.body_reader.specs.ByByte.{AreLawful, CompletesByTurns, IsWrongTurn, LeadsByPayload, NoPayloadNext, Ran, TurnRules, by_byte}
 
 module _ {P W : Type 0} (t : TurnRules P W) where
@@ -38,6 +40,15 @@ module _ {P W : Type 0} (t : TurnRules P W) where
   kept_leads p q byte follow open' is = record {
     onward = λ rest payload agree c. (open', inl (q, payload, is, refl, c));
     back = λ rest whole agree c. kept_back p q byte rest whole is c;
+    within = λ rest payload past c same. one_within p byte rest payload past open' c same;
+  }
+
+  -- and so does one that is none
+  passed_leads : (p q : P) (byte : ℕ) (follow : List ℕ) → t.is_end p ≡ false → t.turn p byte ≡ Passed q
+      → Leads (by_byte t) p (byte ∷ []) [] q follow
+  passed_leads p q byte follow open' is = record {
+    onward = λ rest payload agree c. (open', inr (q, is, c));
+    back = λ rest whole agree c. (whole, refl, passed_back p q byte rest whole is c);
     within = λ rest payload past c same. one_within p byte rest payload past open' c same;
   }
 
@@ -136,6 +147,12 @@ module _ {P W : Type 0} (t : TurnRules P W) where
         (r, subst (λ l. LeadsByPayload t p l r) (sym (found.1 ∙ ap (λ l. a ++ l) none ∙ append-nil a)) k)
   ]
 
+  -- nothing is wrong where the next byte isn't
+  right_turn : (p : P) (shown : List ℕ) → (length shown == 0) ≡ false → ((why : W) → t.turn p (slice_index shown 0) ≢ Wrong why)
+      → (why : W) → ¬ IsWrongTurn t p shown why
+  right_turn p [] more right why wrong = wrong
+  right_turn p (byte ∷ shown) more right why wrong = right why wrong.1
+
   pub looks_payload : (p : P) (shown : List ℕ) (n : ℕ) (r q : P) → (length shown == 0) ≡ false → t.is_end p ≡ false
       → t.turn p (slice_index shown 0) ≡ Payload q → Ran t p shown n r → Looks (by_byte t) p shown (look.Payload n)
   looks_payload p shown n r q more open' is ran = (
@@ -152,6 +169,7 @@ module _ {P W : Type 0} (t : TurnRules P W) where
         let all = c.carries (take m shown) (drop m shown) [] (omega (arith, length-take-le m shown within))
         (take-append-drop m shown ∙ sym (append-nil shown)) in
         ran_most shown p r n m ran.keeps ran.stops within all.0 all.1),
+    right_turn p shown more (λ why odd. (let both : Payload q ≡ Wrong why = sym is ∙ odd in cc)),
   )
 
   -- what can't stand there completes no body
@@ -166,6 +184,15 @@ module _ {P W : Type 0} (t : TurnRules P W) where
   never p (x ∷ shown) why (y ∷ rest) payload wrong (_, inr c) agree =
       let head : x ≡ y = (let same = agree.2 in cc) in
       let odd : Wrong why ≡ Passed c.0 = sym wrong.1 ∙ ap (λ b. t.turn p b) head ∙ c.1 in cc
+
+  -- it is wrong for one reason, however it goes on
+  reason : (p : P) (shown : List ℕ) (why other : W) → IsWrongTurn t p shown why → IsWrongTurn t p shown other → why ≡ other
+  reason p [] why other wrong so = absurd wrong
+  reason p (byte ∷ shown) why other wrong so = let both : Wrong why ≡ Wrong other = sym wrong.1 ∙ so.1 in cc
+
+  stays : (p : P) (shown more : List ℕ) (why : W) → IsWrongTurn t p shown why → IsWrongTurn t p (shown ++ more) why
+  stays p [] more why wrong = absurd wrong
+  stays p (byte ∷ shown) more why wrong = wrong
 
   -- no bytes begin with two bodies
   only_one : (p : P) (a b x y xs ys : List ℕ) → CompletesByTurns t p a x → CompletesByTurns t p b y → a ++ xs ≡ b ++ ys
@@ -199,9 +226,62 @@ module _ {P W : Type 0} (t : TurnRules P W) where
   by_byte_lawful lawful = record {
     some = omega arith;
     begins = tt;
+    alive = λ p is. lawful.alive p;
     nothing = λ p payload is c. c.1;
-    none_wrong = λ p why is wrong. wrong;
     never = λ p shown why rest payload is. never p shown why rest payload;
+    reason = λ p shown why other is. reason p shown why other;
+    stays = λ p shown more why is. stays p shown more why;
     sure = λ p n is carries. absurd (none_sure lawful p n carries);
     one = only_one t.first;
   }
+
+  -- what a look answers where the next byte is no payload, or none is shown
+  pub looks_passed : AreLawful t → (p q : P) (shown : List ℕ) → (length shown == 0) ≡ false → t.is_end p ≡ false
+      → t.turn p (slice_index shown 0) ≡ Passed q → Looks (by_byte t) p shown (look.Passed 1 q)
+  looks_passed lawful p q [] more open' is = let odd : true ≡ false = more in cc
+  looks_passed lawful p q (byte ∷ shown) more open' is = (
+    omega arith,
+    omega arith,
+    record { leads = passed_leads p q byte [] open' is; few = omega (arith, lawful.nearer p q byte is) },
+    tt,
+    not_done p open',
+    right_turn p (byte ∷ shown) more (λ why odd. (let both : Passed q ≡ Wrong why = sym is ∙ odd in cc)),
+  )
+
+  pub looks_none : AreLawful t → (p : P) (shown : List ℕ) → (length shown == 0) ≡ true → t.is_end p ≡ false
+      → Looks (by_byte t) p shown (look.More 1)
+  looks_none lawful p [] none open' =
+      (IsOpenBelow-one (by_byte t) (by_byte_lawful lawful) p tt (not_done p open') [] (omega arith), refl)
+  looks_none lawful p (byte ∷ shown) none open' = absurd (omega (arith, eqb-true (length (byte ∷ shown)) 0 none))
+
+  -- whether these bytes lead from a place to the end
+  abbrev pub place_behind : Turn P W → Option P
+  place_behind (Payload q) = Some q
+  place_behind (Passed q) = Some q
+  place_behind (Wrong why) = None
+
+  abbrev pub ends_from : Option P → List ℕ → Bool
+  ends_from None bytes = false
+  ends_from (Some p) [] = t.is_end p
+  ends_from (Some p) (byte ∷ bytes) = if t.is_end p then false else ends_from (place_behind (t.turn p byte)) bytes
+
+  abbrev LeadsToEnd : P → List ℕ → Type 0
+  LeadsToEnd p bytes = (payload : List ℕ) × CompletesByTurns t p bytes payload
+
+  ends_on : (p : P) (byte : ℕ) (bytes : List ℕ) → ((q : P) → ends_from (Some q) bytes ≡ true → LeadsToEnd q bytes)
+      → (end : Bool) → t.is_end p ≡ end → (turn : Turn P W) → t.turn p byte ≡ turn
+      → (if end then false else ends_from (place_behind turn) bytes) ≡ true → LeadsToEnd p (byte ∷ bytes)
+  ends_on p byte bytes onward true at turn here is = let odd : false ≡ true = is in cc
+  ends_on p byte bytes onward false at (Payload q) here is =
+      let later = onward q is in (byte ∷ later.0, (at, inl (q, later.0, here, refl, later.1)))
+  ends_on p byte bytes onward false at (Passed q) here is = let later = onward q is in (later.0, (at, inr (q, here, later.1)))
+  ends_on p byte bytes onward false at (Wrong why) here is = let odd : false ≡ true = is in cc
+
+  ends : (p : P) (bytes : List ℕ) → ends_from (Some p) bytes ≡ true → LeadsToEnd p bytes
+  ends p [] is = ([], (is, refl))
+  ends p (byte ∷ bytes) is = ends_on p byte bytes (λ q. ends q bytes) (t.is_end p) refl (t.turn p byte) refl is
+
+  -- so it can be completed from there
+  pub reaches : (p : P) (bytes : List ℕ) → ends_from (Some p) bytes ≡ true
+      → (rest payload : List ℕ) × CompletesByTurns t p rest payload
+  reaches p bytes is = let found = ends p bytes is in (bytes, found.0, found.1)

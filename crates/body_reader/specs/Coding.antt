@@ -1,5 +1,5 @@
 -- What a coding says of bytes.
-use Rattle.std.specs.Prelude.{◌≡◌, ℕ, ◌+◌, ◌<◌, ◌≤◌, ◌⊎◌, List, [], ◌∷◌, ◌++◌, length, min, take, drop, Bool, if◌then◌else◌}
+use Rattle.std.specs.Prelude.{◌≡◌, ◌≢◌, ℕ, ◌+◌, ◌<◌, ◌≤◌, ◌⊎◌, List, [], ◌∷◌, ◌++◌, length, min, take, drop, Bool, if◌then◌else◌}
 use Rattle.body_reader.specs.declared.coding.Look.{Look}
 use Rattle.body_reader.specs.declared.coding.Look.TheVariants.{Payload, Passed, More, Wrong, Ended}
 
@@ -57,14 +57,19 @@ module _ {P W : Type 0} (g : Grammar P W) where
     pub leads : Leads p wire [] q follow
     pub few : g.between q + length wire ≤ g.between p
 
-  -- the bytes settle nothing: they are fewer than a look may need, the body goes on, what stands first isn't surely payload,
-  -- nothing is wrong, and what completes the body and agrees with them goes on behind them
+  -- nothing is wrong with these bytes
+  abbrev pub IsRight : P → List ℕ → Type 0
+  IsRight p bytes = (why : W) → ¬ g.wrong p bytes why
+
+  -- the bytes settle nothing: they are fewer than a look may need; what completes the body and agrees with them goes on behind
+  -- them; and something does, with a payload that none of them begins, so none is known to be payload
   pub record IsOpen (p : P) (bytes : List ℕ) : Type 0 where
     pub few : length bytes < g.ahead
-    pub goes_on : ¬ IsDone p
-    pub no_payload : (byte : ℕ) (follow : List ℕ) → bytes ≡ byte ∷ follow → ¬ g.carries p (byte ∷ []) follow
-    pub not_wrong : (why : W) → ¬ g.wrong p bytes why
     pub further : (rest payload : List ℕ) → g.completes p rest payload → Agree bytes rest → length bytes < length rest
+    pub behind : List ℕ
+    pub payload : List ℕ
+    pub completes : g.completes p (bytes ++ behind) payload
+    pub unknown : (front : List ℕ) (byte : ℕ) (back later : List ℕ) → bytes ≡ front ++ byte ∷ back → payload ≢ byte ∷ later
 
   -- however they go on, fewer than n bytes settle nothing
   pub record IsOpenBelow (p : P) (n : ℕ) (bytes : List ℕ) : Type 0 where
@@ -103,24 +108,31 @@ module _ {P W : Type 0} (g : Grammar P W) where
   abbrev pub IsAllPayload : P → ℕ → List ℕ → Type 0
   IsAllPayload p n shown = (n ≡ g.sure p) ⊎ ((m : ℕ) → m ≤ length shown → Carries p m shown → m ≤ n)
 
+  -- the next n bytes are payload, and no more of those that are shown, or as many as surely are
+  abbrev pub IsNextPayload : P → ℕ → List ℕ → Type 0
+  IsNextPayload p n shown = Carries p n shown × (g.sure p ≤ n) × IsAllPayload p n shown
+
   -- what each answer of a look means
   abbrev pub Looks : P → List ℕ → Look P W → Type 0
-  Looks p shown (Payload n) = Carries p n shown × (g.sure p ≤ n) × IsAllPayload p n shown
-  Looks p shown (Passed n q) =
-      (0 < n) × (n ≤ length shown) × PassesOver p (take n shown) q (heeded g (drop n shown)) × g.is_place q × ¬ IsDone p
+  Looks p shown (Payload n) = Carries p n shown × (g.sure p ≤ n) × IsAllPayload p n shown × IsRight p shown
+  Looks p shown (Passed n q) = (0 < n) × (n ≤ length shown) × PassesOver p (take n shown) q (heeded g (drop n shown))
+      × g.is_place q × (¬ IsDone p) × IsRight p shown
   Looks p shown (More n) = IsOpenBelow p n shown × (g.sure p ≡ 0)
   Looks p shown (Wrong why) = g.wrong p shown why × ¬ IsDone p
   Looks p shown Ended = IsDone p
 
-  -- a look may need some byte; a body begins at a place; no byte holds no payload, and isn't wrong; what is wrong neither begins
-  -- what completes a body nor goes on with it; no more bytes surely are payload than it says; and no body begins another, and
-  -- each has one payload
+  -- a look may need some byte; a body begins at a place; from each place something completes it; no byte holds no payload; what
+  -- is wrong neither begins what completes a body nor goes on with it, is so for one reason, and stays so however it goes on; no
+  -- more bytes surely are payload than it says; and no body begins another, and each has one payload
   pub record IsLawful : Type 0 where
     pub some : 0 < g.ahead
     pub begins : g.is_place g.first
+    pub alive : (p : P) → g.is_place p → (rest payload : List ℕ) × g.completes p rest payload
     pub nothing : (p : P) (payload : List ℕ) → g.is_place p → g.completes p [] payload → payload ≡ []
-    pub none_wrong : (p : P) (why : W) → g.is_place p → ¬ g.wrong p [] why
     pub never : (p : P) (shown : List ℕ) (why : W) (rest payload : List ℕ) → g.is_place p → g.wrong p shown why
         → g.completes p rest payload → ¬ Agree shown rest
+    pub reason : (p : P) (shown : List ℕ) (why other : W) → g.is_place p → g.wrong p shown why → g.wrong p shown other
+        → why ≡ other
+    pub stays : (p : P) (shown more : List ℕ) (why : W) → g.is_place p → g.wrong p shown why → g.wrong p (shown ++ more) why
     pub sure : (p : P) (n : ℕ) → g.is_place p → Carries p n [] → n ≤ g.sure p
     pub one : (a b x y xs ys : List ℕ) → IsBody a x → IsBody b y → a ++ xs ≡ b ++ ys → (a ≡ b) × (x ≡ y)

@@ -1,5 +1,5 @@
 -- Laws of places: traces of bytes join, and what is wrong completes no body.
-use Rattle.std.proofs.Common.{◌≡◌, ◌⊎◌, ℕ, ◌<◌, ◌≤◌, Bool, true, false, if◌then◌else◌, List, [], ◌∷◌, ◌++◌, length, min, arith, inl, inr, sym, ap, subst, ◌∙◌, refl, append_assoc, append-nil}
+use Rattle.std.proofs.Common.{◌≡◌, ◌⊎◌, ℕ, ◌<◌, ◌≤◌, Bool, true, false, if◌then◌else◌, List, [], ◌∷◌, ◌++◌, length, min, arith, inl, inr, sym, ap, subst, ◌∙◌, refl, append_assoc, append-nil, length-append}
 use Rattle.body_reader.specs.declared.coding.Look.{Look}
 use Rattle.body_reader.specs.declared.coding.Look.TheVariants.{Payload, Passed, More, Wrong, Ended}
 use Rattle.body_reader.specs.Coding.{Agree, AskedFor, Grammar, IsBody, IsDone, IsLawful, IsOpen, IsOpenBelow, Leads, LeadsOpen, Looks, heeded}
@@ -212,12 +212,13 @@ module _ {P W : Type 0} (g : Grammar P W) where
 
   -- where the body goes on, no byte settles nothing
   pub open_at : IsLawful g → (p : P) → g.is_place p → ¬ IsDone g p → (bytes : List ℕ) → length bytes < 1 → IsOpen g p bytes
-  open_at lawful p place goes_on [] few = record {
+  open_at lawful p place goes_on [] few = let end = lawful.alive p place in record {
     few = lawful.some;
-    goes_on = goes_on;
-    no_payload = λ byte follow same. (λ _. let odd : [] ≡ byte ∷ follow = same in cc);
-    not_wrong = λ why. lawful.none_wrong p why place;
     further = λ rest payload c agree. some rest payload c;
+    behind = end.0;
+    payload = end.1;
+    completes = end.2;
+    unknown = λ front byte back later same first. omega (arith, ap length same, length-append front (byte ∷ back));
   }
     where
       some : (rest payload : List ℕ) → g.completes p rest payload → 0 < length rest
@@ -234,10 +235,38 @@ module _ {P W : Type 0} (g : Grammar P W) where
     is_open = λ more short. open_at lawful p place goes_on (bytes ++ more) short;
   }
 
+  -- behind bytes that settle nothing the body goes on
+  pub IsOpen-goes_on : (p : P) (bytes : List ℕ) → IsOpen g p bytes → ¬ IsDone g p
+  IsOpen-goes_on p bytes is done = omega (arith, is.further [] [] done (Agree-nothing bytes))
+
+  -- no byte isn't wrong
+  pub none_wrong : IsLawful g → (p : P) (why : W) → g.is_place p → ¬ g.wrong p [] why
+  none_wrong lawful p why place wrong =
+      let end = lawful.alive p place in
+      lawful.never p [] why end.0 end.1 place wrong end.2 (end.0, [], sym (append-nil end.0))
+
   -- behind a body a look says so
   pub looks_done : (p : P) (shown : List ℕ) (l : Look P W) → IsDone g p → Looks g p shown l → l ≡ Ended
   looks_done p shown (Payload n) done looks = absurd (looks.0.goes_on done)
   looks_done p shown (Passed n q) done looks = absurd (looks.4 done)
-  looks_done p shown (More n) done looks = absurd ((IsOpenBelow-open p n shown looks.0).goes_on done)
+  looks_done p shown (More n) done looks = absurd (IsOpen-goes_on p shown (IsOpenBelow-open p n shown looks.0) done)
   looks_done p shown (Wrong why) done looks = absurd (looks.1 done)
   looks_done p shown Ended done looks = refl
+
+  -- where something is wrong a look says what, also where more is shown
+  looks_wrong : IsLawful g → (p : P) (shown : List ℕ) (why : W) (l : Look P W) → g.is_place p → g.wrong p shown why
+      → Looks g p shown l → l ≡ Wrong why
+  looks_wrong lawful p shown why (Payload n) place wrong looks = absurd (looks.3 why wrong)
+  looks_wrong lawful p shown why (Passed n q) place wrong looks = absurd (looks.5 why wrong)
+  looks_wrong lawful p shown why (More n) place wrong looks =
+      let o = IsOpenBelow-open p n shown looks.0 in
+      absurd (lawful.never p shown why (shown ++ o.behind) o.payload place wrong o.completes
+      (o.behind, [], sym (append-nil (shown ++ o.behind))))
+  looks_wrong lawful p shown why (Wrong other) place wrong looks = ap Wrong (lawful.reason p shown other why place looks.0 wrong)
+  looks_wrong lawful p shown why Ended place wrong looks =
+      absurd (lawful.never p shown why [] [] place wrong looks (Agree-nothing shown))
+
+  pub stays_wrong : IsLawful g → (p : P) (shown more : List ℕ) (why : W) (l : Look P W) → g.is_place p → g.wrong p shown why
+      → Looks g p (shown ++ more) l → l ≡ Wrong why
+  stays_wrong lawful p shown more why l place wrong looks =
+      looks_wrong lawful p (shown ++ more) why l place (lawful.stays p shown more why place wrong) looks

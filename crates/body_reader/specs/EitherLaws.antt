@@ -1,5 +1,5 @@
 -- Laws of bodies of one of two codings.
-use Rattle.std.proofs.Common.{◌≡◌, ℕ, ◌≤◌, List, [], ◌++◌, take, drop, arith, refl}
+use Rattle.std.proofs.Common.{◌≡◌, ℕ, ◌≤◌, List, [], ◌++◌, take, drop, ap, arith, refl}
 use Rattle.body_reader.specs.declared.coding.Look.{Look}
 use Rattle.body_reader.specs.declared.either.Either.{Either}
 use Rattle.body_reader.specs.declared.either.Either.TheVariants as which
@@ -39,11 +39,23 @@ module _ {P V : Type 0} (Q W : Type 0) (g : Grammar P V) where
       let named = first_named p shown why wrong in lawful.never p shown named.0 rest payload is named.1 c
   first_never lawful (Second q) shown why rest payload is wrong c = absurd is
 
-  first_none_wrong : IsLawful g → (place : Side P Q) (why : Side V W) → (of_first {Q = Q} {W = W} g).is_place place
-      → ¬ (of_first {Q = Q} {W = W} g).wrong place [] why
-  first_none_wrong lawful (First p) why is wrong =
-      let named = first_named p [] why wrong in lawful.none_wrong p named.0 is named.1
-  first_none_wrong lawful (Second q) why is wrong = absurd is
+  first_alive : IsLawful g → (place : Side P Q) → (of_first {Q = Q} {W = W} g).is_place place
+      → (rest payload : List ℕ) × (of_first {Q = Q} {W = W} g).completes place rest payload
+  first_alive lawful (First p) is = lawful.alive p is
+  first_alive lawful (Second q) is = absurd is
+
+  first_reason : IsLawful g → (place : Side P Q) (shown : List ℕ) (why other : Side V W) → (of_first {Q = Q} {W = W} g).is_place place
+      → (of_first {Q = Q} {W = W} g).wrong place shown why → (of_first {Q = Q} {W = W} g).wrong place shown other → why ≡ other
+  first_reason lawful (First p) shown (First why) (First other) is wrong so = ap First (lawful.reason p shown why other is wrong so)
+  first_reason lawful (First p) shown (First why) (Second other) is wrong so = absurd so
+  first_reason lawful (First p) shown (Second why) other is wrong so = absurd wrong
+  first_reason lawful (Second q) shown why other is wrong so = absurd is
+
+  first_stays : IsLawful g → (place : Side P Q) (shown more : List ℕ) (why : Side V W) → (of_first {Q = Q} {W = W} g).is_place place
+      → (of_first {Q = Q} {W = W} g).wrong place shown why → (of_first {Q = Q} {W = W} g).wrong place (shown ++ more) why
+  first_stays lawful (First p) shown more (First why) is wrong = lawful.stays p shown more why is wrong
+  first_stays lawful (First p) shown more (Second why) is wrong = absurd wrong
+  first_stays lawful (Second q) shown more why is wrong = absurd is
 
   first_nothing : IsLawful g → (place : Side P Q) (payload : List ℕ) → (of_first {Q = Q} {W = W} g).is_place place
       → (of_first {Q = Q} {W = W} g).completes place [] payload → payload ≡ []
@@ -60,9 +72,11 @@ module _ {P V : Type 0} (Q W : Type 0) (g : Grammar P V) where
   first_lawful lawful = record {
     some = lawful.some;
     begins = lawful.begins;
+    alive = first_alive lawful;
     nothing = first_nothing lawful;
-    none_wrong = first_none_wrong lawful;
     never = first_never lawful;
+    reason = first_reason lawful;
+    stays = first_stays lawful;
     sure = first_sure lawful;
     one = lawful.one;
   }
@@ -97,11 +111,23 @@ module _ {Q W : Type 0} (P V : Type 0) (g : Grammar Q W) where
       let named = second_named q shown why wrong in lawful.never q shown named.0 rest payload is named.1 c
   second_never lawful (First p) shown why rest payload is wrong c = absurd is
 
-  second_none_wrong : IsLawful g → (place : Side P Q) (why : Side V W) → (of_second {P = P} {V = V} g).is_place place
-      → ¬ (of_second {P = P} {V = V} g).wrong place [] why
-  second_none_wrong lawful (Second q) why is wrong =
-      let named = second_named q [] why wrong in lawful.none_wrong q named.0 is named.1
-  second_none_wrong lawful (First p) why is wrong = absurd is
+  second_alive : IsLawful g → (place : Side P Q) → (of_second {P = P} {V = V} g).is_place place
+      → (rest payload : List ℕ) × (of_second {P = P} {V = V} g).completes place rest payload
+  second_alive lawful (Second q) is = lawful.alive q is
+  second_alive lawful (First p) is = absurd is
+
+  second_reason : IsLawful g → (place : Side P Q) (shown : List ℕ) (why other : Side V W) → (of_second {P = P} {V = V} g).is_place place
+      → (of_second {P = P} {V = V} g).wrong place shown why → (of_second {P = P} {V = V} g).wrong place shown other → why ≡ other
+  second_reason lawful (Second q) shown (Second why) (Second other) is wrong so = ap Second (lawful.reason q shown why other is wrong so)
+  second_reason lawful (Second q) shown (Second why) (First other) is wrong so = absurd so
+  second_reason lawful (Second q) shown (First why) other is wrong so = absurd wrong
+  second_reason lawful (First p) shown why other is wrong so = absurd is
+
+  second_stays : IsLawful g → (place : Side P Q) (shown more : List ℕ) (why : Side V W) → (of_second {P = P} {V = V} g).is_place place
+      → (of_second {P = P} {V = V} g).wrong place shown why → (of_second {P = P} {V = V} g).wrong place (shown ++ more) why
+  second_stays lawful (Second q) shown more (Second why) is wrong = lawful.stays q shown more why is wrong
+  second_stays lawful (Second q) shown more (First why) is wrong = absurd wrong
+  second_stays lawful (First p) shown more why is wrong = absurd is
 
   second_nothing : IsLawful g → (place : Side P Q) (payload : List ℕ) → (of_second {P = P} {V = V} g).is_place place
       → (of_second {P = P} {V = V} g).completes place [] payload → payload ≡ []
@@ -118,9 +144,11 @@ module _ {Q W : Type 0} (P V : Type 0) (g : Grammar Q W) where
   second_lawful lawful = record {
     some = lawful.some;
     begins = lawful.begins;
+    alive = second_alive lawful;
     nothing = second_nothing lawful;
-    none_wrong = second_none_wrong lawful;
     never = second_never lawful;
+    reason = second_reason lawful;
+    stays = second_stays lawful;
     sure = second_sure lawful;
     one = lawful.one;
   }

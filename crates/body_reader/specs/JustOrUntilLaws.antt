@@ -1,5 +1,5 @@
 -- Laws of bodies that are just some bytes, or else end at a delimiter.
-use Rattle.std.proofs.Common.{◌≡◌, ℕ, ◌+◌, ◌<◌, ◌≤◌, List, [], ◌++◌, length, take, drop, inl, inr, sym, ap, refl, subst, ◌∙◌, arith, append_assoc, append-nil, length-append}
+use Rattle.std.proofs.Common.{◌≡◌, ℕ, ◌+◌, ◌<◌, ◌≤◌, List, [], ◌∷◌, ◌++◌, length, take, drop, inl, inr, sym, ap, refl, subst, ◌∙◌, arith, append_assoc, append-nil, length-append}
 use Rattle.std.proofs.lemmas.List.{nil_from_length, take-append-drop, take_at}
 use Rattle.body_reader.specs.declared.coding.Look.{Look}
 use Rattle.body_reader.specs.declared.coding.Look.TheVariants as look
@@ -9,7 +9,7 @@ use Rattle.body_reader.specs.AlikeLaws.{Alike, alike_leads, alike_looks}
 use Rattle.body_reader.specs.Coding.{Agree, Carries, IsDone, IsLawful, IsOpen, IsOpenBelow, Leads, Looks, PassesOver, look_as}
 use Rattle.body_reader.specs.CodingLaws.{overlaps}
 use Rattle.body_reader.specs.Until.{EndsPart, IsClear, until}
-use Rattle.body_reader.specs.UntilLaws.{clear_leads, clear_still, clear_unsure, until_lawful}
+use Rattle.body_reader.specs.UntilLaws.{clear_leads, clear_still, clear_unsure, part_alive, until_lawful}
 use Rattle.body_reader.specs.declared.just_or_until.JustOr.{JustOr}
 use Rattle.body_reader.specs.declared.just_or_until.JustOr.TheVariants as at
 use Rattle.body_reader.specs.JustOrUntil.{EndsJust, IsSurePayload, just_or_until}
@@ -113,6 +113,7 @@ module _ (just needle : List ℕ) (room : ℕ) (some : 0 < length just) (shorter
         (just_passes (drop (length just) shown)),
     tt,
     start_goes_on,
+    λ why wrong. wrong,
   )
 
   -- the beginning of just the bytes settles nothing
@@ -120,14 +121,14 @@ module _ (just needle : List ℕ) (room : ℕ) (some : 0 < length just) (shorter
       → IsOpen (just_or_until just needle room) at.Start shown
   begun_open shown rest is few = record {
     few = omega (arith, few, shorter, fits);
-    goes_on = start_goes_on;
-    no_payload = λ byte follow same text.
-        text.0 ([], rest, append-nil just ∙ is ∙ ap (λ l. l ++ rest) same);
-    not_wrong = λ why wrong. wrong;
     further = λ more payload c agree. elim c [
       | inl here ↦ omega (arith, few, ap length here.0)
       | inr there ↦ omega (arith, few, shorter, ap length there.1.0, length-append payload needle)
     ];
+    behind = rest;
+    payload = [];
+    completes = inl (sym is, refl);
+    unknown = λ front byte back later same first. (let odd : [] ≡ byte ∷ later = first in cc);
   }
 
   pub looks_begun : (shown rest : List ℕ) → just ≡ shown ++ rest → length shown < length just
@@ -189,6 +190,11 @@ module _ (just needle : List ℕ) (room : ℕ) (some : 0 < length just) (shorter
   just_nothing (at.Until part) payload c = (until_lawful needle (omega (arith, shorter))).nothing part payload tt c
   just_nothing at.Just payload c = c.1
 
+  just_alive : (place : JustOr) → (rest payload : List ℕ) × EndsJust just needle place rest payload
+  just_alive at.Start = (just, [], inl (refl, refl))
+  just_alive (at.Until part) = part_alive needle (omega (arith, shorter)) part
+  just_alive at.Just = ([], [], (refl, refl))
+
   just_unsure : (place : JustOr) (n : ℕ) → ¬ Carries (just_or_until just needle room) place n []
   just_unsure at.Start n c = clear_unsure needle (omega (arith, shorter)) Inside n c.some
       (λ bytes follow more few same. (c.carries bytes follow more few same).1)
@@ -199,9 +205,11 @@ module _ (just needle : List ℕ) (room : ℕ) (some : 0 < length just) (shorter
   just_or_until_lawful = record {
     some = omega (arith, shorter, fits);
     begins = tt;
+    alive = λ place is. just_alive place;
     nothing = λ place payload is c. just_nothing place payload c;
-    none_wrong = λ place why is wrong. wrong;
     never = λ place shown why rest payload is wrong c agree. wrong;
+    reason = λ place shown why other is wrong. absurd wrong;
+    stays = λ place shown more why is wrong. wrong;
     sure = λ place n is c. absurd (just_unsure place n c);
     one = λ a b x y xs ys p q same. only_one a b x y xs ys p q same;
   }

@@ -126,6 +126,7 @@ module _ (needle : List ℕ) (some : 0 < length needle) where
         (end_passes (drop (length needle) shown)),
     tt,
     inside_open,
+    λ why wrong. wrong,
   )
 
   looks_payload : (shown : List ℕ) (n : ℕ) → 0 < n
@@ -210,17 +211,23 @@ module _ (needle : List ℕ) (some : 0 < length needle) where
       (subst (OccursAt (shown ++ rest) needle) (length-take-le at shown begins.within)
       (subst (λ l. OccursAt l needle (length front)) equal (OccursAt-last front needle)))
 
+  -- just the delimiter ends it
+  just_ends : EndsPart needle Inside needle []
+  just_ends = (refl, λ k low high occurs. omega (arith, high))
+
+  pub part_alive : (place : Part) → (rest payload : List ℕ) × EndsPart needle place rest payload
+  part_alive Inside = (needle, [], just_ends)
+  part_alive Behind = ([], [], (refl, refl))
+
   -- where it may begin at once, nothing is settled until a byte more is shown
   front_open : (shown rest : List ℕ) → needle ≡ shown ++ rest → length shown < length needle → IsOpen (until needle) Inside shown
   front_open shown rest is few = record {
     few = few;
-    goes_on = inside_open;
-    no_payload = λ byte follow same clear.
-        let whole : (byte ∷ []) ++ (follow ++ rest) ≡ needle = ap (λ l. l ++ rest) (sym same) ∙ sym is in
-        clear (follow ++ rest) (rest, [], sym (append-nil (follow ++ rest))) 0 (omega arith) (omega arith)
-        (subst (λ l. OccursAt l needle 0) (sym whole) (OccursAt-self needle));
-    not_wrong = λ why wrong. wrong;
     further = λ more payload c agree. omega (arith, few, ap length c.0, length-append payload needle);
+    behind = rest;
+    payload = [];
+    completes = subst (λ l. EndsPart needle Inside l []) is just_ends;
+    unknown = λ front byte back later same first. (let odd : [] ≡ byte ∷ later = first in cc);
   }
 
   no_more : (shown more : List ℕ) → length (shown ++ more) < length shown + 1 → shown ≡ shown ++ more
@@ -284,9 +291,11 @@ module _ (needle : List ℕ) (some : 0 < length needle) where
   until_lawful = record {
     some = some;
     begins = tt;
+    alive = λ place is. part_alive place;
     nothing = λ place payload is c. until_nothing place payload c;
-    none_wrong = λ place why is wrong. wrong;
     never = λ place shown why rest payload is wrong c agree. wrong;
+    reason = λ place shown why other is wrong. absurd wrong;
+    stays = λ place shown more why is wrong. wrong;
     sure = λ place n is c. absurd (clear_unsure place n c.some c.carries);
     one = λ a b x y xs ys p q same. only_one a b x y xs ys p q same;
   }

@@ -16,8 +16,8 @@ pub enum Turn<P, W> {
 }
 
 /// A coding in which a byte and its place say what it is, whatever follows; and in which no byte is payload whatever it is, as
-/// each is where a length stands in front. [`ByByte`] reads its bodies, and nothing is left to prove but that what is no payload
-/// leads on.
+/// each is where a length stands in front. [`ByByte`] reads its bodies, and little is left to prove: what is no payload leads on,
+/// and from each place some bytes lead to the end.
 pub trait ByteCoding: Drop {
     /// Where in a body one stands.
     type Place: Copy;
@@ -39,7 +39,7 @@ pub trait ByteCoding: Drop {
     fn turn(&self, place: Self::Place, byte: u8) -> Turn<Self::Place, Self::Wrong>
         ensures { result ≡ (turns self.now).turn place byte };
 
-    // What is no payload leads on, and no byte is payload whatever it is.
+    // What is no payload leads on, no byte is payload whatever it is, and each place leads to the end.
     ghost lawful: { (c : Self) → AreLawful (turns c) };
 }
 

@@ -58,7 +58,7 @@ module _ (limits : Limits) where
       (subst (λ n. Comes limits p (take (at + 1) shown) (Size n (limits.line - 1))) value
       (comes_more p Line (Size (digit_value byte) (limits.line - 1)) shown at byte held refl
       (subst (λ n. Comes limits p (take n shown) Line) (sym here) first) (λ settled. settled)
-      (line_digit limits byte digits (omega (arith, room))) (omega (arith, digits))))
+      (line_digit limits byte digits) (omega (arith, digits))))
   reads_digit p shown begins at size digit first order (inr comes) held room small digits is =
       let byte = slice_index shown at in
       let left : limits.line - (at - begins) - 1 ≡ limits.line - (at + 1 - begins) = omega (arith, order) in

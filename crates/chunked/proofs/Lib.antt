@@ -6,8 +6,6 @@ pub mod Extending
 pub mod Passing
 pub mod PassingOn
 pub mod Framing
-pub mod Alive
 mod Written
 mod Fields
 pub mod Colons
-mod Names

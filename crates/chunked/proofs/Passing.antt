@@ -81,13 +81,13 @@ module _ (limits : Limits) where
   quiet p q wire on off = record { onward = on; back = λ rest whole c. (whole, refl, off rest whole c) }
 
   -- a digit begins a size, and goes on with it
-  pub line_digit : (b : ℕ) → digit_value b < 16 → 0 < limits.line
+  pub line_digit : (b : ℕ) → digit_value b < 16
       → PassesAlong limits Line (b ∷ []) (Size (digit_value b) (limits.line - 1))
-  line_digit b digit some = record {
+  line_digit b digit = record {
     leads = quiet Line (Size (digit_value b) (limits.line - 1)) (b ∷ [])
-        (λ rest payload c. first_digit limits b rest payload digit some c)
+        (λ rest payload c. first_digit limits b rest payload digit c)
         (λ rest payload c. digit_first limits b rest payload c);
-    few = omega (arith, some);
+    few = omega arith;
   }
 
   further_digit : (b number room : ℕ) (rest payload digits : List ℕ)

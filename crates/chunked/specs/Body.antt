@@ -1,5 +1,5 @@
 -- Bodies in the chunked coding.
-use Rattle.std.specs.Prelude.{◌≡◌, ◌≢◌, ℕ, ◌^◌, ◌<◌, ◌≤◌, List, [], ◌∷◌, ◌++◌, length}
+use Rattle.std.specs.Prelude.{◌≡◌, ◌≢◌, ℕ, ◌^◌, ◌<◌, ◌≤◌, List, [], ◌∷◌, ◌++◌, length, max}
 use Rattle.std.specs.List.{concat, AllByRecursion}
 use Rattle.std.specs.Str.Parse.{IsNumeral, digits_value}
 use Rattle.chunked.specs.declared.limits.Limits.{Limits}
@@ -25,6 +25,10 @@ pub record IsSizeLine (limit size : ℕ) (text : List ℕ) : Type 0 where
   pub follows : IsExtension extension
   pub fits : length text ≤ limit
 
+-- how many bytes the line of a size may have: one digit it always may
+abbrev pub line_room : Limits → ℕ
+line_room limits = max limits.line 1
+
 -- a line of the trailers: a name, which is a token, a colon, and a value
 pub record IsField (text : List ℕ) : Type 0 where
   pub name : List ℕ
@@ -47,7 +51,7 @@ pub record IsTrailers (limit : ℕ) (bytes : List ℕ) : Type 0 where
 -- these bytes begin with the line of this size, behind which these stand
 pub record BeginsSize (limits : Limits) (size : ℕ) (bytes behind : List ℕ) : Type 0 where
   pub text : List ℕ
-  pub size_line : IsSizeLine limits.line size text
+  pub size_line : IsSizeLine (line_room limits) size text
   pub equal : bytes ≡ text ++ line_end behind
 
 -- chunks of these payloads, one behind the other: each is the line of its size, which isn't 0, as many bytes, and the end of a

@@ -12,7 +12,7 @@ use Rattle.std.specs.Int.Digits.{digits_of, AllBelowBase, number_from_digits}
 use Rattle.std.specs.List.{concat, All, AllByRecursion}
 use Rattle.std.specs.Str.Parse.{AllDigits}
 use Rattle.chunked.specs.declared.limits.Limits.{Limits}
-use Rattle.chunked.specs.Body.{line_end, IsField, IsSizeLine, HasChunks, IsBodyOfChunks, fields_bytes}
+use Rattle.chunked.specs.Body.{line_room, line_end, IsField, IsSizeLine, HasChunks, IsBodyOfChunks, fields_bytes}
 use Rattle.chunked.specs.Chunk.{HasBegun, IsCarried, IsChunks, body_end, chunk, chunk_begun, size_digits}
 
 -- a digit that is written is read as what it was
@@ -155,7 +155,7 @@ module _ (limits : Limits) (line : 16 ≤ limits.line) (fields : List (List ℕ)
       → HasChunks limits payloads (flat_map chunk payloads ++ body_end fields)
   has_chunks [] carried = (
     fields_bytes fields,
-    record { text = 48 ∷ []; size_line = zero_line limits.line (omega (arith, line)); equal = refl },
+    record { text = 48 ∷ []; size_line = zero_line (line_room limits) (omega arith); equal = refl },
     record { fields = fields; equal = refl; lines = lines; few = few },
   )
   has_chunks (p ∷ payloads) carried =
@@ -164,7 +164,7 @@ module _ (limits : Limits) (line : 16 ≤ limits.line) (fields : List (List ℕ)
         later,
         record {
           text = size_digits (length p);
-          size_line = size_digits-line limits.line (length p) is.0 is.1 line;
+          size_line = size_digits-line (line_room limits) (length p) is.0 is.1 (omega (arith, line));
           equal = append_assoc (chunk p) (flat_map chunk payloads) (body_end fields)
               ∙ append_assoc (size_digits (length p)) (line_end (p ++ line_end [])) later
               ∙ ap (λ l. size_digits (length p) ++ line_end l) (append_assoc p (line_end []) later);

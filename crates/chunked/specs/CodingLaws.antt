@@ -7,15 +7,18 @@ use Rattle.body_reader.specs.Coding as body
 use Rattle.body_reader.specs.CodingLaws.{IsOpenBelow-one, nothing_behind, overlaps}
 use Rattle.chunked.specs.declared.coding.Chunked.{Chunked}
 use Rattle.chunked.specs.declared.error.Malformed.{Malformed}
+use Rattle.chunked.specs.declared.error.Malformed.TheVariants.{ChunkTooLong}
 use Rattle.chunked.specs.declared.limits.Limits.{Limits}
 use Rattle.chunked.specs.declared.place.Place.{Place}
 use Rattle.chunked.specs.declared.place.Place.TheVariants.{Line, Data, Done}
 use Rattle.chunked.specs.declared.step.Reached.{Reached}
 use Rattle.chunked.specs.Body.{line_end}
+use Rattle.chunked.specs.AliveLaws.{Completes-some}
 use Rattle.chunked.specs.BodyLaws.{IsBodyOfChunks-same}
 use Rattle.chunked.specs.Coding.{BreaksAt, IsWrongNext, chunked, chunk_left}
 use Rattle.chunked.specs.Place.{Advances, Comes, Completes, IsDataOrDone, IsPlace, IsWrong, LeadsAlong, Within}
 use Rattle.chunked.specs.PlaceLaws.{Completes-nothing, IsWrong-done}
+use Rattle.chunked.specs.NamesLaws.{one_name}
 use Rattle.chunked.specs.WrongLaws.{IsWrong-none}
 
 module _ (limits : Limits) where
@@ -74,11 +77,16 @@ module _ (limits : Limits) where
   chunked_lawful = record {
     some = omega arith;
     begins = tt;
+    alive = λ p is. let end = Completes-some limits 0 p is in (end.rest, end.payload, end.completes);
     nothing = λ p payload is c. nothing p payload c;
-    none_wrong = λ p why is wrong. (let odd : [] ≡ wrong.0 ∷ wrong.1 = wrong.2 in cc);
     never = λ p shown why rest payload is wrong c agree.
         never p wrong.0 why rest payload wrong.1 agree.0 agree.1 wrong.3 c
         (ap (λ l. l ++ agree.0) (sym wrong.2) ∙ agree.2);
+    reason = λ p shown why other is wrong so.
+        let same : so.0 ∷ so.1 ≡ wrong.0 ∷ wrong.1 = sym so.2 ∙ wrong.2 in
+        let head : so.0 ≡ wrong.0 = cc in
+        one_name limits wrong.0 p why other wrong.3 (subst (λ b. IsWrong limits p b other) head so.3);
+    stays = λ p shown more why is wrong. (wrong.0, wrong.1 ++ more, ap (λ l. l ++ more) wrong.2, wrong.3);
     sure = λ p n is c. no_more p n c;
     one = λ a b x y xs ys p q same. let found = IsBodyOfChunks-same limits limits a b x y xs ys p q same in (found.0, found.1);
   }
@@ -134,6 +142,20 @@ module _ (limits : Limits) where
   pub open_of : (p : Place) → ¬ IsDataOrDone p → p ≢ Done
   open_of p goes_on is = goes_on (subst IsDataOrDone (sym is) tt)
 
+  -- nothing is wrong where payload comes next, nor where the next bytes lead on
+  data_right : (left b : ℕ) (why : Malformed) → 0 < left → ¬ IsWrong limits (Data left) b why
+  data_right left b ChunkTooLong some wrong = omega (arith, some, wrong.0)
+  data_right left b why some wrong = wrong
+
+  leads_right : (p q : Place) (n : ℕ) (shown : List ℕ) → 0 < n → LeadsAlong limits p (take n shown) [] q → IsPlace q
+      → body.IsRight (chunked limits) p shown
+  leads_right p q zero shown some leads place why wrong = omega (arith, some)
+  leads_right p q (suc k) shown some leads place why wrong =
+      let end = Completes-some limits 0 q place in
+      IsWrong-none limits p wrong.0 why (take k wrong.1 ++ end.rest) end.payload wrong.3
+      (subst (λ l. Completes limits p (take (suc k) l ++ end.rest) end.payload) wrong.2
+      (leads.onward end.rest end.payload end.completes))
+
   -- what a look answers
   pub looks_data : (left : ℕ) (shown : List ℕ) → 0 < left
       → body.Looks (chunked limits) (Data left) shown (look.Payload left)
@@ -145,6 +167,7 @@ module _ (limits : Limits) where
     },
     omega arith,
     inl refl,
+    λ why wrong. data_right left wrong.0 why some wrong.3,
   )
 
   pub looks_none : (p : Place) (shown : List ℕ) → IsPlace p → ¬ IsDataOrDone p → shown ≡ []
@@ -165,6 +188,7 @@ module _ (limits : Limits) where
     },
     comes.place,
     not_done p open',
+    leads_right p q n shown some comes.passes.leads comes.place,
   )
 
   -- where nothing was taken, and nothing is wrong, nothing was shown

@@ -10,10 +10,12 @@ pub mod Place
 pub mod PlaceLaws
 pub mod LineLaws
 pub mod WrongLaws
-pub mod Coding
-pub mod CodingLaws
+pub mod NamesLaws
 pub mod Chunk
 pub mod ChunkLaws
+pub mod AliveLaws
+pub mod Coding
+pub mod CodingLaws
 pub mod Trailers
 pub mod TrailersLaws
 pub mod ChunkedWriter

@@ -4,7 +4,7 @@ use Rattle.std.specs.Char.{digit_value}
 use Rattle.std.specs.List.{concat, AllByRecursion}
 use Rattle.std.specs.Str.Parse.{AllDigits, digits_value_after}
 use Rattle.chunked.specs.declared.limits.Limits.{Limits}
-use Rattle.chunked.specs.Body.{line_end, IsSizeLine, HasChunks, IsBodyOfChunks, IsTextByte}
+use Rattle.chunked.specs.Body.{line_end, line_room, IsSizeLine, HasChunks, IsBodyOfChunks, IsTextByte}
 use Rattle.chunked.specs.Place.{BehindSize, CompletesSize}
 
 -- a front that is no longer than another's is its beginning
@@ -31,7 +31,7 @@ pub record BeginsLine (limits : Limits) (bytes payload : List ℕ) : Type 0 wher
   pub size : ℕ
   pub text : List ℕ
   pub behind : List ℕ
-  pub size_line : IsSizeLine limits.line size text
+  pub size_line : IsSizeLine (line_room limits) size text
   pub equal : bytes ≡ text ++ line_end behind
   pub goes_on : BehindSize limits size behind payload
 
@@ -66,7 +66,7 @@ module _ (limits : Limits) where
   pub line_of : (bytes payload : List ℕ) → IsBodyOfChunks limits bytes payload → BeginsLine limits bytes payload
   line_of bytes payload h = begins bytes payload h.payloads h.chunks h.equal
 
-  pub body_of : (size : ℕ) (bytes payload text behind : List ℕ) → IsSizeLine limits.line size text
+  pub body_of : (size : ℕ) (bytes payload text behind : List ℕ) → IsSizeLine (line_room limits) size text
       → bytes ≡ text ++ line_end behind → BehindSize limits size behind payload → IsBodyOfChunks limits bytes payload
   body_of zero bytes payload text behind size_line is (none, trailers) = record {
     payloads = [];
@@ -79,7 +79,7 @@ module _ (limits : Limits) where
       c.behind,
       record {
         text = text;
-        size_line = subst (λ size. IsSizeLine limits.line size text) (sym c.many) size_line;
+        size_line = subst (λ size. IsSizeLine (line_room limits) size text) (sym c.many) size_line;
         equal = is ∙ ap (λ l. text ++ line_end l) c.equal;
       },
       omega (arith, c.many),
@@ -89,9 +89,9 @@ module _ (limits : Limits) where
   }
 
   -- the first digit of a size
-  pub first_digit : (b : ℕ) (rest payload : List ℕ) → digit_value b < 16 → 0 < limits.line
+  pub first_digit : (b : ℕ) (rest payload : List ℕ) → digit_value b < 16
       → CompletesSize limits (digit_value b) (limits.line - 1) rest payload → IsBodyOfChunks limits (b ∷ rest) payload
-  first_digit b rest payload digit some c =
+  first_digit b rest payload digit c =
       body_of c.size (b ∷ rest) payload (b ∷ (c.digits ++ c.extension)) c.behind (record {
         digits = b ∷ c.digits;
         extension = c.extension;
@@ -100,11 +100,11 @@ module _ (limits : Limits) where
         value = value_first b c.digits ∙ c.value;
         small = c.small;
         follows = c.follows;
-        fits = omega (arith, c.fits, some, length-append c.digits c.extension);
+        fits = omega (arith, c.fits, length-append c.digits c.extension);
       }) (ap (λ l. b ∷ l) (c.equal ∙ sym (append_assoc c.digits c.extension (line_end c.behind)))) c.goes_on
 
   first_digit_of : (b : ℕ) (rest payload : List ℕ) (size : ℕ) (text behind digits extension : List ℕ)
-      → (h : IsSizeLine limits.line size text) → h.digits ≡ digits → (b ∷ rest ≡ text ++ line_end behind)
+      → (h : IsSizeLine (line_room limits) size text) → h.digits ≡ digits → (b ∷ rest ≡ text ++ line_end behind)
       → BehindSize limits size behind payload → CompletesSize limits (digit_value b) (limits.line - 1) rest payload
   first_digit_of b rest payload size text behind [] extension h is same goes_on =
       absurd (omega (arith, h.numeral.0, ap length is))

@@ -5,7 +5,7 @@ use Rattle.std.specs.Str.Parse.{AllDigits, digits_value_after}
 use Rattle.chunked.specs.Token.{IsTokenByte, IsValueByte}
 use Rattle.chunked.specs.Extension.{IsExtension}
 use Rattle.chunked.specs.Within.{CompletesExtension, EndsNoExtension, RunsOver}
-use Rattle.chunked.specs.Body.{line_end, IsTextByte, IsField, IsTrailers, IsBodyOfChunks}
+use Rattle.chunked.specs.Body.{line_end, line_room, IsTextByte, IsField, IsTrailers, IsBodyOfChunks}
 use Rattle.chunked.specs.declared.error.Malformed.{Malformed}
 use Rattle.chunked.specs.declared.error.Malformed.TheVariants.{NoSize, BadSize, BadField, SizeTooLarge, LineTooLong, TrailersTooLong, BareReturn, BareFeed, ChunkTooLong}
 use Rattle.chunked.specs.declared.limits.Limits.{Limits}
@@ -94,7 +94,6 @@ WrongInLine Over b Bad why = ⊥
 -- what is wrong with the next byte in a place. There is nothing else that can be, and no byte is wrong in two ways
 abbrev pub IsWrong : Limits → Place → ℕ → Malformed → Type 0
 IsWrong limits Line b NoSize = ¬ (digit_value b < 16)
-IsWrong limits Line b LineTooLong = (digit_value b < 16) × (limits.line ≡ 0)
 IsWrong limits (Size number room) b SizeTooLarge = (digit_value b < 16) × (2 ^ 62 ≤ number * 16 + digit_value b)
 IsWrong limits (Size number room) b LineTooLong =
     (((digit_value b < 16) × (number * 16 + digit_value b < 2 ^ 62)) × (room ≡ 0)) ⊎ RunsOver Behind room b
@@ -116,13 +115,13 @@ IsWrong limits p b why = ⊥
 
 -- how many bytes there may be at most, from here to the next of payload or to the end of the body
 abbrev pub most_between : Limits → Place → ℕ
-most_between limits Line = limits.line + 3 * limits.trailers + 4
+most_between limits Line = line_room limits + 3 * limits.trailers + 4
 most_between limits (Size number room) = room + 3 * limits.trailers + 4
 most_between limits (Extension within size room) = room + 3 * limits.trailers + 4
 most_between limits (SizeFeed size) = 3 * limits.trailers + 3
-most_between limits (Data zero) = limits.line + 3 * limits.trailers + 6
+most_between limits (Data zero) = line_room limits + 3 * limits.trailers + 6
 most_between limits (Data (suc left)) = 0
-most_between limits DataFeed = limits.line + 3 * limits.trailers + 5
+most_between limits DataFeed = line_room limits + 3 * limits.trailers + 5
 most_between limits (Fields room) = 3 * room + 2
 most_between limits (FieldName room) = 3 * room + 4
 most_between limits (FieldValue room) = 3 * room + 4

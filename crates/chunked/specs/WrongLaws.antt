@@ -13,7 +13,7 @@ use Rattle.chunked.specs.Within.{CompletesExtension}
 use Rattle.chunked.specs.WithinLaws.{CompletesExtension-text}
 use Rattle.chunked.specs.declared.extension.Within.{Within}
 use Rattle.chunked.specs.declared.extension.Within.TheVariants.{Behind}
-use Rattle.chunked.specs.Body.{line_end, IsSizeLine, IsTrailers, IsField, IsBodyOfChunks, fields_bytes}
+use Rattle.chunked.specs.Body.{line_end, line_room, IsSizeLine, IsTrailers, IsField, IsBodyOfChunks, fields_bytes}
 use Rattle.chunked.specs.BodyLaws.{digit_is_text, extension_no_digit}
 use Rattle.chunked.specs.FieldLaws.{IsField-first, IsField-next, IsField-none, IsField-value, token_is_text, token_plain, value_is_text}
 use Rattle.chunked.specs.Place.{Completes, CompletesData, CompletesSize, EndsLine, IsWrong, LineFeedThen}
@@ -35,19 +35,15 @@ OfSize number b room =
     ((digit_value b < 16) × (0 < room) × (number * 16 + digit_value b < 2 ^ 62)) ⊎ OfExtension Behind b room
 
 module _ (limits : Limits) where
-  first_of_line : (b : ℕ) (rest text behind digits : List ℕ) (size : ℕ) → (h : IsSizeLine limits.line size text)
-      → h.digits ≡ digits → b ∷ rest ≡ text ++ line_end behind → (digit_value b < 16) × (0 < limits.line)
+  first_of_line : (b : ℕ) (rest text behind digits : List ℕ) (size : ℕ) → (h : IsSizeLine (line_room limits) size text)
+      → h.digits ≡ digits → b ∷ rest ≡ text ++ line_end behind → digit_value b < 16
   first_of_line b rest text behind [] size h is same = absurd (omega (arith, h.numeral.0, ap length is))
   first_of_line b rest text behind (d ∷ digits) size h is same =
       let whole : b ∷ rest ≡ d ∷ ((digits ++ h.extension) ++ line_end behind) =
       same ∙ ap (λ l. l ++ line_end behind) (h.equal ∙ ap (λ l. l ++ h.extension) is) in
-      let head : d ≡ b = cc in (
-        subst (λ d. digit_value d < 16) head (subst (λ ds. AllDigits 16 ds) is h.numeral.1).0,
-        omega (arith, h.fits, ap length h.equal, length-append h.digits h.extension, ap length is),
-      )
+      let head : d ≡ b = cc in subst (λ d. digit_value d < 16) head (subst (λ ds. AllDigits 16 ds) is h.numeral.1).0
 
-  line_first : (b : ℕ) (rest payload : List ℕ) → IsBodyOfChunks limits (b ∷ rest) payload
-      → (digit_value b < 16) × (0 < limits.line)
+  line_first : (b : ℕ) (rest payload : List ℕ) → IsBodyOfChunks limits (b ∷ rest) payload → digit_value b < 16
   line_first b rest payload body =
       let line = line_of limits (b ∷ rest) payload body in
       first_of_line b rest line.text line.behind line.size_line.digits line.size line.size_line refl line.equal
@@ -195,8 +191,7 @@ module _ (limits : Limits) where
   -- by each name
   pub IsWrong-none : (p : Place) (b : ℕ) (why : Malformed) (rest payload : List ℕ) → IsWrong limits p b why
       → Completes limits p (b ∷ rest) payload → ⊥
-  IsWrong-none Line b NoSize rest payload wrong c = wrong (line_first b rest payload c).0
-  IsWrong-none Line b LineTooLong rest payload wrong c = omega (arith, wrong.1, (line_first b rest payload c).1)
+  IsWrong-none Line b NoSize rest payload wrong c = wrong (line_first b rest payload c)
   IsWrong-none (Size number room) b why rest payload wrong c =
       wrong_size number room b why wrong (size_first b number room rest payload c.digits c refl)
   IsWrong-none (Extension within size room) b why rest payload wrong c =

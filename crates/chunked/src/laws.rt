@@ -42,7 +42,7 @@ pub fn one_name()
 /// The bytes that were taken are right: some body begins with them. And each body that does has a payload that begins with
 /// what was handed out.
 pub fn taken_begins<R: TellRead, P: ReaderPolicy>(reader: &ChunkedReader<R, P>)
-    ensures right { 0 < reader.now.coding.0.line → (rest payload : List ℕ)
+    ensures right { (rest payload : List ℕ)
         × IsBodyOfChunks reader.now.coding.0 (reader.now.taken ++ rest) (handed_of reader.now ++ payload) }
     ensures payload { (rest whole : List ℕ) → IsBodyOfChunks reader.now.coding.0 (reader.now.taken ++ rest) whole
         → (payload : List ℕ) × (whole ≡ handed_of reader.now ++ payload) }

@@ -43,8 +43,7 @@ fn begin_size(limits: &Limits, byte: u8) -> Result<Place, Malformed>
 {
     match digit(byte) {
         None => Err(Malformed::NoSize),
-        Some(_) if limits.line == 0 => Err(Malformed::LineTooLong),
-        Some(digit) => Ok(Place::Size(u64::from(digit), limits.line - 1)),
+        Some(digit) => Ok(Place::Size(u64::from(digit), limits.line.saturating_sub(1))),
     }
 }
 

@@ -10,11 +10,12 @@ use Rattle.body_reader.specs.declared.either.Either.TheVariants as coding
 use Rattle.body_reader.specs.declared.either.Side.{Side}
 use Rattle.body_reader.specs.declared.either.Side.TheVariants as side
 use Rattle.body_reader.specs.Coding.{AskedFor, LeadsOpen}
+use Rattle.body_reader.specs.CodingLaws.{none_wrong}
 use Rattle.buffer_redux.specs.Policy.{std_read_rules}
 use Rattle.buffer_redux.specs.Unbuffer.{StreamWent, Unbuffered, unbuffered}
 use Rattle.chunked.specs.declared.error.Malformed.{Malformed}
 use Rattle.chunked.specs.declared.place.Place.{Place}
-use Rattle.chunked.proofs.Alive.{Completes-some}
+use Rattle.chunked.specs.AliveLaws.{Completes-some}
 use Rattle.messages.specs.Messages.{AskedIn, AsksForMore, Backward, BodyCoding, HasRoom, IsRest, Reader, Rest, Unended, body_rules, has_line, left_in, rest_of, stream_of}
 use Rattle.messages.proofs.Going.{asked_in, body_done, body_take, goes_on, lawful}
 
@@ -61,7 +62,7 @@ no_payload (coding.First c) line (side.First left) is (h ∷ handed) r back =
     absurd (other_front left h (handed ++ of.0) of.1)
 no_payload (coding.First c) line (side.Second q) is (h ∷ handed) r back = absurd is
 no_payload (coding.Second c) line (side.Second q) is (h ∷ handed) r back =
-    let end = Completes-some c.0 (suc h) line q is in
+    let end = Completes-some c.0 (suc h) q is in
     let of = back end.rest end.payload end.completes in
     absurd (other_byte h end.payload (handed ++ of.0) of.1 end.plain)
 no_payload (coding.Second c) line (side.First left) is (h ∷ handed) r back = absurd is
@@ -100,7 +101,7 @@ module _ {R : Type 0} {remaining : R → Option (List ℕ)} {s t : Reader R} (is
   never_unasked (Err (unread.Wrong why right)) reads same none some goes_on =
       let took = body_take is reads.whole reads.went in
       let empty = nothing_came remaining (stream_of s) (stream_of t) took.wire took.went same none in
-      (lawful s.coding).none_wrong t.place why reads.whole.place
+      none_wrong (body_rules s.coding) (lawful s.coding) t.place why reads.whole.place
       (subst (λ l. (body_rules s.coding).wrong t.place l why) empty.1 reads.answers.2.name)
   never_unasked (Err (unread.Truncated right)) reads same none some goes_on =
       omega (arith, reads.answers.1.1, ap (λ l. l.reads.zero_reads) same)

@@ -24,7 +24,7 @@ use Rattle.chunked.specs.Coding.{chunked}
 use Rattle.chunked.specs.CodingLaws.{chunked_lawful}
 use Rattle.chunked.specs.declared.error.Malformed.{Malformed}
 use Rattle.chunked.specs.declared.place.Place.{Place}
-use Rattle.chunked.proofs.Alive.{Completes-some}
+use Rattle.chunked.specs.AliveLaws.{Completes-some}
 use Rattle.messages.specs.MessagesLaws.{same_room}
 use Rattle.messages.specs.Messages.{AskedIn, Backward, BeginsRest, BodyCoding, Bytes, Chunks, Fails, FinishFails, GoesWrong, HasRoom, InsideGoes, IsNamed, IsRest, NotesEach, Onward, Reader, Rest, RunsShort, TakesFromRest, TakesWholeRest, body_error, body_rules, has_line, left_in, rest_of, room_of, seen, stream_of, sure_of}
 use Rattle.messages.specs.declared.head.ParsedHead.{ParsedHead}
@@ -80,7 +80,7 @@ some_rest (coding.First c) line (side.First left) is =
     (replicate left 0, replicate left 0, (length-replicate left 0, refl))
 some_rest (coding.First c) line (side.Second place) is = absurd is
 some_rest (coding.Second c) line (side.Second place) is =
-    let end = Completes-some c.0 0 line place is in (end.rest, end.payload, end.completes)
+    let end = Completes-some c.0 0 place is in (end.rest, end.payload, end.completes)
 some_rest (coding.Second c) line (side.First left) is = absurd is
 
 -- where bytes settle nothing the body goes on behind them

@@ -1,6 +1,7 @@
 -- Laws of the coding of texts of mails.
-use Rattle.std.proofs.Common.{◌≡◌, ◌≢◌, ℕ, ◌<◌, arith}
-use Rattle.body_reader.specs.ByByte.{AreLawful}
+use Rattle.std.proofs.Common.{◌≡◌, ◌≢◌, ℕ, ◌<◌, List, [], ◌∷◌, arith, refl}
+use Rattle.body_reader.specs.ByByte.{AreLawful, CompletesByTurns}
+use Rattle.body_reader.specs.ByByteLaws.{reaches}
 use Rattle.body_reader.specs.declared.by_byte.Turn.TheVariants.{Payload, Passed}
 use Rattle.tests_bodies.specs.declared.dot_stuffed.Place.{Place}
 use Rattle.tests_bodies.specs.declared.dot_stuffed.Place.TheVariants as at
@@ -18,5 +19,14 @@ other at.Return = (0, λ q is. grind arith)
 other at.LastReturn = (0, λ q is. grind arith)
 other p = (10, λ q is. grind arith)
 
+-- from each place some bytes lead to the end
+alive : (p : Place) → (rest payload : List ℕ) × CompletesByTurns dot_stuffed p rest payload
+alive at.Line = reaches dot_stuffed at.Line (46 ∷ 13 ∷ 10 ∷ []) refl
+alive at.Within = reaches dot_stuffed at.Within (13 ∷ 10 ∷ 46 ∷ 13 ∷ 10 ∷ []) refl
+alive at.Return = reaches dot_stuffed at.Return (10 ∷ 46 ∷ 13 ∷ 10 ∷ []) refl
+alive at.Dot = reaches dot_stuffed at.Dot (13 ∷ 10 ∷ []) refl
+alive at.LastReturn = reaches dot_stuffed at.LastReturn (10 ∷ []) refl
+alive at.Done = reaches dot_stuffed at.Done [] refl
+
 pub dot_stuffed_lawful : AreLawful dot_stuffed
-dot_stuffed_lawful = record { nearer = nearer; other = other }
+dot_stuffed_lawful = record { nearer = nearer; other = other; alive = alive }

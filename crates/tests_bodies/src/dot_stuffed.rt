@@ -52,35 +52,12 @@ impl ByteCoding for DotStuffed {
 
     fn turn(&self, place: Place, byte: u8) -> Turn<Place, Alone> {
         match place {
-            Place::Line => {
-                if byte == b'.' {
-                    Turn::Passed(Place::Dot)
-                } else {
-                    in_line(byte)
-                }
-            }
-            Place::Dot => {
-                if byte == b'\r' {
-                    Turn::Passed(Place::LastReturn)
-                } else {
-                    in_line(byte)
-                }
-            }
-            Place::Return => {
-                if byte == b'\n' {
-                    Turn::Payload(Place::Line)
-                } else {
-                    Turn::Wrong(Alone::Return)
-                }
-            }
-            Place::LastReturn => {
-                if byte == b'\n' {
-                    Turn::Passed(Place::Done)
-                } else {
-                    Turn::Wrong(Alone::Return)
-                }
-            }
-            Place::Within | Place::Done => in_line(byte),
+            Place::Line if byte == b'.' => Turn::Passed(Place::Dot),
+            Place::Dot if byte == b'\r' => Turn::Passed(Place::LastReturn),
+            Place::Return if byte == b'\n' => Turn::Payload(Place::Line),
+            Place::LastReturn if byte == b'\n' => Turn::Passed(Place::Done),
+            Place::Return | Place::LastReturn => Turn::Wrong(Alone::Return),
+            Place::Line | Place::Within | Place::Dot | Place::Done => in_line(byte),
         }
     }
 

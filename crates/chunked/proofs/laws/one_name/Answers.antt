@@ -1,5 +1,5 @@
 -- The law that what is wrong with a byte in a place excludes all else that may be.
-use Rattle.chunked.proofs.Names.{one_name}
+use Rattle.chunked.specs.NamesLaws.{one_name}
 use Rattle.chunked.proofs.laws.one_name.Goals as goal
 
 pub returns : goal.returns

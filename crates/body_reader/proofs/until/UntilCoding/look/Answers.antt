@@ -35,6 +35,7 @@ returns-in-Some c =
       omega arith,
       subst (λ p. IsAllPayload (until needle) p c.in-Some.at shown) (sym c.in-Inside.is)
           (all_found needle c.args.self.now.some shown c.in-Some.at here),
+      λ why wrong. wrong,
     )
 
 pub returns-then-at-eq0 : goal.returns-then-at-eq0
@@ -66,4 +67,5 @@ returns-else-at-eq0 c =
       omega arith,
       subst (λ p. IsAllPayload (until needle) p at shown) (sym c.in-Inside.is)
           (all_begun needle c.args.self.now.some shown at begins),
+      λ why wrong. wrong,
     )

@@ -107,11 +107,7 @@ module _ (l : Limits) (b : ℕ) where
 
   pub one_name : (p : Place) (w v : Malformed) → IsWrong l p b w → IsWrong l p b v → w ≡ v
   one_name Line NoSize NoSize h k = refl
-  one_name Line NoSize LineTooLong h k = absurd (h k.0)
   one_name Line NoSize v h k = absurd k
-  one_name Line LineTooLong NoSize h k = absurd (k h.0)
-  one_name Line LineTooLong LineTooLong h k = refl
-  one_name Line LineTooLong v h k = absurd k
   one_name (Size number room) w v h k = in_size number room w v h k
   one_name (Extension within size room) w v h k = in_extension within size room w v h k
   one_name (SizeFeed size) BareReturn BareReturn h k = refl

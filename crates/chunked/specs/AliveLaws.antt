@@ -4,7 +4,7 @@ use Rattle.std.proofs.lemmas.List.{length-replicate}
 use Rattle.chunked.specs.declared.limits.Limits.{Limits}
 use Rattle.chunked.specs.declared.place.Place.{Place}
 use Rattle.chunked.specs.declared.place.Place.TheVariants.{Line, Size, Extension, SizeFeed, Data, DataFeed, Fields, FieldName, FieldValue, FieldFeed, LastFeed, Done}
-use Rattle.chunked.specs.Body.{line_end, IsBodyOfChunks, IsTrailers}
+use Rattle.chunked.specs.Body.{line_end, line_room, IsBodyOfChunks, IsTrailers}
 use Rattle.chunked.specs.ChunkLaws.{zero_line}
 use Rattle.chunked.specs.FieldLaws.{IsField-valued}
 use Rattle.chunked.specs.Place.{BehindSize, Completes, CompletesData, IsPlace}
@@ -13,12 +13,12 @@ module _ (limits : Limits) where
   no_trailers : (room : ℕ) → IsTrailers room (line_end [])
   no_trailers room = record { fields = []; equal = refl; lines = tt; few = omega arith }
 
-  least_body : 0 < limits.line → IsBodyOfChunks limits (48 ∷ line_end (line_end [])) []
-  least_body some = record {
+  least_body : IsBodyOfChunks limits (48 ∷ line_end (line_end [])) []
+  least_body = record {
     payloads = [];
     chunks = (
       line_end [],
-      record { text = 48 ∷ []; size_line = zero_line limits.line some; equal = refl },
+      record { text = 48 ∷ []; size_line = zero_line (line_room limits) (omega arith); equal = refl },
       no_trailers limits.trailers,
     );
     equal = refl;
@@ -27,16 +27,16 @@ module _ (limits : Limits) where
 -- with payload of such a byte
 module _ (limits : Limits) (filler : ℕ) where
   -- any payload of this length, and then the least body
-  data_some : 0 < limits.line → (left : ℕ)
+  data_some : (left : ℕ)
       → CompletesData limits left (replicate left filler ++ line_end (48 ∷ line_end (line_end []))) (replicate left filler ++ [])
-  data_some some left = record {
+  data_some left = record {
     front = replicate left filler;
     later = [];
     behind = 48 ∷ line_end (line_end []);
     many = length-replicate left filler;
     equal = refl;
     both = refl;
-    body = least_body limits some;
+    body = least_body limits;
   }
 
   -- no payload, or one that begins with that byte
@@ -60,28 +60,28 @@ module _ (limits : Limits) (filler : ℕ) where
     pub goes_on : BehindSize limits size rest payload
     pub plain : Plain payload
 
-  size_some : 0 < limits.line → (size : ℕ) → CompletedSize size
-  size_some some zero = record {
+  size_some : (size : ℕ) → CompletedSize size
+  size_some zero = record {
     rest = line_end [];
     payload = [];
     goes_on = (refl, no_trailers limits limits.trailers);
     plain = inl refl;
   }
-  size_some some (suc n) = record {
+  size_some (suc n) = record {
     rest = replicate (suc n) filler ++ line_end (48 ∷ line_end (line_end []));
     payload = replicate (suc n) filler ++ [];
-    goes_on = data_some some (suc n);
+    goes_on = data_some (suc n);
     plain = filled (suc n);
   }
 
-  pub Completes-some : 0 < limits.line → (p : Place) → IsPlace p → Completed p
-  Completes-some some Line is = record {
+  pub Completes-some : (p : Place) → IsPlace p → Completed p
+  Completes-some Line is = record {
     rest = 48 ∷ line_end (line_end []);
     payload = [];
-    completes = least_body limits some;
+    completes = least_body limits;
     plain = inl refl;
   }
-  Completes-some some (Size number room) is = let goes = size_some some number in record {
+  Completes-some (Size number room) is = let goes = size_some number in record {
     rest = line_end goes.rest;
     payload = goes.payload;
     completes = record {
@@ -99,7 +99,7 @@ module _ (limits : Limits) (filler : ℕ) where
     };
     plain = goes.plain;
   }
-  Completes-some some (Extension within size room) is = let goes = size_some some size in record {
+  Completes-some (Extension within size room) is = let goes = size_some size in record {
     rest = is.1.0 ++ line_end goes.rest;
     payload = goes.payload;
     completes = (
@@ -116,31 +116,31 @@ module _ (limits : Limits) (filler : ℕ) where
     );
     plain = goes.plain;
   }
-  Completes-some some (SizeFeed size) is = let goes = size_some some size in record {
+  Completes-some (SizeFeed size) is = let goes = size_some size in record {
     rest = 10 ∷ goes.rest;
     payload = goes.payload;
     completes = ((goes.rest, refl, goes.goes_on), is);
     plain = goes.plain;
   }
-  Completes-some some (Data left) is = record {
+  Completes-some (Data left) is = record {
     rest = replicate left filler ++ line_end (48 ∷ line_end (line_end []));
     payload = replicate left filler ++ [];
-    completes = data_some some left;
+    completes = data_some left;
     plain = filled left;
   }
-  Completes-some some DataFeed is = record {
+  Completes-some DataFeed is = record {
     rest = 10 ∷ (48 ∷ line_end (line_end []));
     payload = [];
-    completes = (48 ∷ line_end (line_end []), refl, least_body limits some);
+    completes = (48 ∷ line_end (line_end []), refl, least_body limits);
     plain = inl refl;
   }
-  Completes-some some (Fields room) is = record {
+  Completes-some (Fields room) is = record {
     rest = line_end [];
     payload = [];
     completes = (refl, no_trailers limits room);
     plain = inl refl;
   }
-  Completes-some some (FieldName room) is = record {
+  Completes-some (FieldName room) is = record {
     rest = 58 ∷ line_end (line_end []);
     payload = [];
     completes = (
@@ -157,7 +157,7 @@ module _ (limits : Limits) (filler : ℕ) where
     );
     plain = inl refl;
   }
-  Completes-some some (FieldValue room) is = record {
+  Completes-some (FieldValue room) is = record {
     rest = line_end (line_end []);
     payload = [];
     completes = (
@@ -174,12 +174,12 @@ module _ (limits : Limits) (filler : ℕ) where
     );
     plain = inl refl;
   }
-  Completes-some some (FieldFeed room) is =
+  Completes-some (FieldFeed room) is =
       record {
         rest = 10 ∷ line_end [];
         payload = [];
         completes = (refl, (line_end [], refl, no_trailers limits room));
         plain = inl refl;
       }
-  Completes-some some LastFeed is = record { rest = 10 ∷ []; payload = []; completes = (refl, refl); plain = inl refl }
-  Completes-some some Done is = record { rest = []; payload = []; completes = (refl, refl); plain = inl refl }
+  Completes-some LastFeed is = record { rest = 10 ∷ []; payload = []; completes = (refl, refl); plain = inl refl }
+  Completes-some Done is = record { rest = []; payload = []; completes = (refl, refl); plain = inl refl }
