@@ -250,7 +250,8 @@ def unread(said, texts):
     odd = r"is not in scope|has no field|is no name|operand is missing|expected the end|cannot continue"
     edited = [it for it in texts if not it.endswith("/Answers.antt")]
     wrong = [it[0] for it in at if it and (it[1] in edited or it[1].startswith(("src/", "specs/")))
-             and (not it[2] or re.search(odd, re.sub(r"`[^`]*`", "", it[3])))]
+             and (not it[2] or re.search(odd, re.sub(r"`[^`]*`", "", it[3])))
+             and not re.match(r"\d+ declarations? that depend", it[3])]
     return wrong[0] if wrong else "" if ended(said) else said.strip()[:300]
 
 

@@ -1,3 +1,4 @@
 pub mod DotStuffed
 pub mod DotStuffedLaws
 pub mod Lines
+pub mod Refused
