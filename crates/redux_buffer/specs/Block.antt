@@ -138,8 +138,9 @@ pub record Clears (old new : Block) : Type 0 where
   pub consumed : new.consumed ≡ old.consumed + length old.bytes
   pub moved : new.moved ≡ old.moved
 
--- there is usable space for a more bytes, and what was added to it is zeros
+-- there is usable space for a more bytes, and what was added to it is zeros; nothing changes where there was enough
 pub record Reserves (a : ℕ) (old new : Block) : Type 0 where
+  pub idle : a ≤ usable old → new ≡ old
   pub bytes : new.bytes ≡ old.bytes
   pub capacity : new.capacity ≡ capacity_for old a
   pub usable : usable new ≡ usable old + (new.capacity - old.capacity)
@@ -149,8 +150,10 @@ pub record Reserves (a : ℕ) (old new : Block) : Type 0 where
   pub consumed : new.consumed ≡ old.consumed
   pub moved : new.moved ≡ old.moved
 
--- all free space is usable. A plain block counts its bytes as moved to the front, unless they stood there; a ring moves none
+-- all free space is usable, and nothing changes where it was. A plain block counts its bytes as moved to the front, unless they
+-- stood there; a ring moves none
 pub record MakesRoom (old new : Block) : Type 0 where
+  pub idle : usable old ≡ old.capacity - length old.bytes → new ≡ old
   pub bytes : new.bytes ≡ old.bytes
   pub moved : new.moved ≡ old.moved + by_kind old.kind
       (if old.capacity - usable old - length old.bytes == 0 then 0 else length old.bytes) 0

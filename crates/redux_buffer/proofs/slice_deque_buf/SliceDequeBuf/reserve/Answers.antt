@@ -42,6 +42,7 @@ returns-then-self-gt0-clause-grown c =
       kind = search rules;
       consumed = search rules;
       moved = search rules;
+      idle = λ few. absurd (omega (arith, few, old));
     })
 
 -- the storage once it grew in place
@@ -92,6 +93,7 @@ returns-clause-grown c =
       kind = search rules;
       consumed = search rules;
       moved = search rules;
+      idle = λ few. absurd (omega (arith, few, old));
     })
 
 pub returns-clause-whole : goal.returns-clause-whole

@@ -1,5 +1,5 @@
 -- An empty buffer begins at 0, and its new block is zeros alone; any other grows by zeros behind its tail.
-use Rattle.std.proofs.Common.{◌≡◌, ◌+◌, ◌-◌, ◌∙◌, length, replicate, ap, arith, rules}
+use Rattle.std.proofs.Common.{◌≡◌, ◌+◌, ◌-◌, ◌∙◌, length, length-drop, replicate, ap, arith, rules}
 use Rattle.std.proofs.lemmas.Grind.{common_steps}
 use Rattle.redux_buffer.proofs.Ranges.{zeros_left}
 use Rattle.redux_buffer.proofs.std_buf.StdBuf.reserve.Goals as goal
@@ -21,4 +21,5 @@ returns-clause-grown c =
       kind = search rules;
       consumed = search rules;
       moved = search rules;
+      idle = λ few. absurd (omega (arith, few, length-drop b.end b.buf));
     })
