@@ -9,6 +9,7 @@ use crate::buf_impl::BufImpl;
 use crate::grow_error::GrowError;
 use crate::{DEFAULT_BUF_SIZE, MAX_CAPACITY, MAX_RING, RING_UNIT};
 use std::alloc::Global;
+use std::fmt;
 use std::marker::Model;
 
 mod transfer;
@@ -27,7 +28,7 @@ mod transfer;
 /// buffer.make_room();
 /// assert!(rt; buffer.usable_space() == 1);
 /// ```
-#[derive(Debug, Drop)]
+#[derive(Drop)]
 pub struct Buffer {
     imp: BufImpl,
     limit: usize,
@@ -348,5 +349,15 @@ impl Buffer {
     {
         let len = self.len();
         self.imp.consume(len);
+    }
+}
+
+/// How much is buffered of which capacity; not the bytes.
+impl fmt::Debug for Buffer {
+    fn fmt<W: fmt::Write>(&self, f: &mut fmt::Formatter<W>) -> fmt::Result {
+        f.debug_struct("buffer_redux::Buffer")
+            .field("capacity", &self.capacity())
+            .field("len", &self.len())
+            .finish()
     }
 }

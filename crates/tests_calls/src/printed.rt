@@ -1,10 +1,10 @@
 //! What is printed of buffers, of readers and writers, and of a refusal.
-use buffer_redux::policy::MinBuffered;
+use buffer_redux::policy::{FlushAtLeast, FlushExact, FlushOn, FlushOnNewline, MinBuffered, StdPolicy};
 use buffer_redux::tell::Told;
 use buffer_redux::{BufReader, Count, GrowError, Unbuffer};
 use std::alloc::Global;
 use std::test::Fail;
-use tests_common::{display, empty, line_writer, reader, reader_under, shown};
+use tests_common::{display, holding, line_writer, reader, reader_under, shown};
 
 #[test]
 fn refusals(rt: HostRuntime) -> Result<(), Fail> {
@@ -19,12 +19,19 @@ fn refusals(rt: HostRuntime) -> Result<(), Fail> {
 
 #[test]
 fn buffers(rt: HostRuntime) -> Result<(), Fail> {
-    let text = shown(rt.alloc(), empty(rt.alloc(), false, 1)?)?;
-    assert!(rt;
-        text.as_str()
-            == "Buffer { imp: Std(StdBuf { buf: RawBuf { buf: [0] }, pos: 0, end: 0, stop: 1, consumed: Count, moved: Count }), \
-limit: 4611686018427387904 }"
-    );
+    let text = shown(rt.alloc(), holding(rt.alloc(), 4, &[7])?)?;
+    assert!(rt; text.as_str() == "buffer_redux::Buffer { capacity: 4, len: 1 }");
+    Ok(())
+}
+
+// What policies are by default.
+#[test]
+fn policies(rt: HostRuntime) -> Result<(), Fail> {
+    assert!(rt; shown(rt.alloc(), StdPolicy::default())?.as_str() == "StdPolicy");
+    assert!(rt; shown(rt.alloc(), FlushAtLeast::default())?.as_str() == "FlushAtLeast(0)");
+    assert!(rt; shown(rt.alloc(), FlushExact::default())?.as_str() == "FlushExact(0)");
+    assert!(rt; shown(rt.alloc(), FlushOn::default())?.as_str() == "FlushOn(0)");
+    assert!(rt; shown(rt.alloc(), FlushOnNewline::default())?.as_str() == "FlushOnNewline");
     Ok(())
 }
 

@@ -1,10 +1,10 @@
 //! When the bytes of a ring move, as its head shows, which is printed.
 use redux_buffer::tell::{TellRead, Told};
-use redux_buffer::{Buffer, SliceDequeBuf};
+use redux_buffer::SliceDequeBuf;
 use std::alloc::{AllocError, Global};
 use std::io;
 use std::test::Fail;
-use tests_common::{debug, empty};
+use tests_common::debug;
 
 #[derive(Clone, Copy)]
 enum Step {
@@ -110,23 +110,25 @@ static READS: [(usize, &str, &str); 6] = [
     (0, "head: 0,", "head: 0,"),
 ];
 
-fn take_in<R: TellRead>(buf: &mut Buffer, rdr: &mut R) -> io::Result<usize> {
-    buf.read_from(rdr)
+fn take_in<R: TellRead>(ring: &mut SliceDequeBuf, rdr: &mut R) -> io::Result<usize> {
+    let n = rdr.read_told(ring.write_buf())?;
+    ring.bytes_written(n);
+    Ok(n)
 }
 
 // Whether the first byte stands there.
-fn stands(alloc: Global, buf: &Buffer, head: &str) -> Result<bool, AllocError> {
-    Ok(debug(alloc, buf)?.contains(head))
+fn stands(alloc: Global, ring: &SliceDequeBuf, head: &str) -> Result<bool, AllocError> {
+    Ok(debug(alloc, ring)?.contains(head))
 }
 
 #[test]
 fn heads_of_reads(rt: HostRuntime) -> Result<(), Fail> {
-    let mut buf = empty(rt.alloc(), true, 4096)?;
+    let mut ring = SliceDequeBuf::with_capacity(rt.alloc(), 4096)?;
     let mut rdr = Told::new([9; 16384].as_slice());
     for (count, read, consumed) in READS {
-        assert!(rt; take_in(&mut buf, &mut rdr)? == count && stands(rt.alloc(), &buf, read)?);
-        buf.consume(4000);
-        assert!(rt; stands(rt.alloc(), &buf, consumed)?);
+        assert!(rt; take_in(&mut ring, &mut rdr)? == count && stands(rt.alloc(), &ring, read)?);
+        ring.consume(4000);
+        assert!(rt; stands(rt.alloc(), &ring, consumed)?);
     }
     Ok(())
 }
