@@ -213,14 +213,30 @@ def answers_of(clause, text):
     return "\n".join(kept)
 
 
+def told_of(edit, said):
+    """What is said of errors in the proof files of the edit's function: the file, the line, and the whole message."""
+    # A message goes on in lines that begin with spaces.
+    lines = re.sub(r"\n +", " ", said).split("\n")
+    found = [re.match(rf"(?:\./)?({re.escape(folder_of(edit))}\w+\.antt):(\d+):\d+: error", it) for it in lines]
+    return [(at[1], int(at[2]), line) for at, line in zip(found, lines) if at]
+
+
+def goal_at(edit, file, line):
+    """The goal whose answer stands at that line, if one does."""
+    text = (TOP / "crates" / edit.crate / file).read_text(encoding="utf-8")
+    above = (answers_of(edit.clause, text) if edit.clause and file.endswith("Answers.antt") else text).split("\n")[:line]
+    begun = next((it for it in reversed(above) if it and it[0] not in " -"), "")
+    goal = re.match(r"(?:pub )?(returns[\w-]*)", begun)
+    return goal[1] if goal else ""
+
+
 def left_of(edit, said):
-    """The goals of the edit's function that are left: those that nothing proves, and those that an answer doesn't."""
-    folder = re.escape(folder_of(edit))
-    yield from re.findall(r"`(returns[\w-]*)`", lines_of(said).get(f"{edit.crate}::{edit.fn}", ""))
-    for file, line in re.findall(rf"(?m)^(?:\./)?({folder}\w+\.antt):(\d+):\d+: error", said):
-        text = (TOP / "crates" / edit.crate / file).read_text(encoding="utf-8")
-        above = (answers_of(edit.clause, text) if edit.clause and file.endswith("Answers.antt") else text).split("\n")[: int(line)]
-        yield from [it[1] for it in map(re.compile(r"(?:pub )?(returns[\w-]*)").match, reversed(above)) if it][:1]
+    """The goals of the edit's function that are left: those that nothing proves, and those that an answer doesn't. Not those whose
+    answer names what the edit took away."""
+    told = [(goal_at(edit, file, line), message) for file, line, message in told_of(edit, said)]
+    unread = [goal for goal, message in told if NAMES.match(message)]
+    left = re.findall(r"`(returns[\w-]*)`", lines_of(said).get(f"{edit.crate}::{edit.fn}", "")) + [goal for goal, _ in told]
+    return [goal for goal in left if goal not in unread]
 
 
 def refusal(edit, said):
@@ -231,9 +247,7 @@ def refusal(edit, said):
         return None
     if edit.clause:
         return next((f"`{it}` is left" for it in left_of(edit, said) if is_of(edit.clause, it)), None)
-    folder = folder_of(edit)
-    # A message goes on in lines that begin with spaces.
-    told = [it for it in re.sub(r"\n +", " ", said).split("\n") if folder in it.partition(": error")[0] and ": error" in it]
+    told = [message for _, _, message in told_of(edit, said)]
     if told and all(NAMES.match(it) for it in told) and not any("`search` did not prove" in it for it in own):
         return f"only because a proof file names what the edit took away: {told[0]}"
     return next((it for it in told if not NAMES.match(it)), line)
