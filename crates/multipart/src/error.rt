@@ -13,7 +13,7 @@ pub enum PartError {
     Truncated,
     /// The stream failed.
     Io(io::Error),
-    /// A boundary goes on with something else than blanks and the end of its line. Each further call says so.
+    /// A boundary goes on neither with two hyphens nor with blanks and the end of its line. Each further call says so.
     Boundary,
     /// A head has more bytes than the limit. Each further call says so.
     LongHead,

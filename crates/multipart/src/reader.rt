@@ -246,7 +246,8 @@ impl<R: TellRead, P: ReaderPolicy> Multipart<R, P> {
     /// further call goes on where this one stopped.
     ///
     /// The stream is asked only where what is buffered settles nothing: for no byte behind the empty line of a head, nor behind
-    /// the two hyphens of the last boundary.
+    /// the two hyphens of the last boundary. But behind any other boundary a head is read to its end, or to the limit, also where
+    /// only an error can come of it, since more stands in its line, or there are `limits.parts` parts already.
     pub fn next_part(&mut self) -> Result<bool, PartError>
         ensures stands { IfOk result (λ more. MatchBool more
             ((self.new.stand ≡ Stand.Part) × (self.new.parts ≡ self.old.parts + 1))
