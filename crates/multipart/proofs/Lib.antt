@@ -1,1 +1,2 @@
-pub mod Turning
+mod Parting
+mod Turning

@@ -1,15 +1,87 @@
--- How a head begins.
-use Rattle.std.specs.Prelude.{ℕ, ◌+◌, ◌==◌, List, length, slice_index, Bool, ◌&&◌, ◌||◌, nat_lt}
-use Rattle.std.specs.List.{prefix_len}
+-- How a head begins, its fields, and the parameters of a value.
+use Rattle.std.specs.Prelude.{ℕ, ◌+◌, ◌-◌, ◌==◌, ◌||◌, ◌&&◌, List, [], ◌∷◌, length, take, drop, Bool, false, not, if◌then◌else◌, nat_eq, Option, slice_index, slice_index_or, find, position, take_while}
+use Rattle.std.specs.Borrow.{Bor}
+use Rattle.std.specs.Char.{is_ascii_whitespace}
+use Rattle.std.specs.List.{filter_map, onto_first, prefix_len, starts_with, suffix_len}
+use Rattle.std.specs.Option.{option_map}
+use Rattle.std.specs.Str.{str_eq_ignore_ascii_case}
+use Rattle.multipart.specs.declared.head.Place.{Place}
+use Rattle.multipart.specs.declared.head.Place.TheVariants.{Outside, Quoted, Escaped}
 
 abbrev pub is_blank : ℕ → Bool
 is_blank byte = (byte == 32) || (byte == 9)
 
--- the text has this byte there
-abbrev pub has_byte_at : List ℕ → ℕ → ℕ → Bool
-has_byte_at text at byte = nat_lt at (length text) && (slice_index text at == byte)
+abbrev pub crlf : List ℕ
+crlf = 13 ∷ 10 ∷ []
 
 -- with blanks or none, and then the end of a line, or nothing
 abbrev pub is_opening : List ℕ → Bool
-is_opening head = let len = prefix_len is_blank head in
-    (len == length head) || (has_byte_at head len 13 && has_byte_at head (len + 1) 10)
+is_opening head = let rest = drop (prefix_len is_blank head) head in (length rest == 0) || starts_with nat_eq rest crlf
+
+-- CR LF that no blank follows ends a line
+abbrev pub ends_line : List ℕ → Bool
+ends_line text = starts_with nat_eq text crlf && not (is_blank (slice_index text 2))
+
+-- the lines of a head
+abbrev pub head_lines : List ℕ → List (List ℕ)
+head_lines [] = [] ∷ []
+head_lines (byte ∷ []) = (byte ∷ []) ∷ []
+head_lines (byte ∷ next ∷ rest) =
+    if ends_line (byte ∷ next ∷ rest) then [] ∷ head_lines rest else onto_first byte (head_lines (next ∷ rest))
+
+-- without ASCII white space around it
+abbrev pub trimmed : List ℕ → List ℕ
+trimmed text = let front = drop (prefix_len is_ascii_whitespace text) text in
+    take (length front - suffix_len is_ascii_whitespace front) front
+
+-- what stands before the first such byte, and what behind it
+abbrev pub split_once : ℕ → List ℕ → Option (List ℕ × List ℕ)
+split_once byte text = option_map (λ at. (take at text, drop (at + 1) text)) (position (λ here. here == byte) text)
+
+-- a line as a field: its name before the first colon, its value behind it
+abbrev pub as_field : List ℕ → Option (List ℕ × List ℕ)
+as_field line = option_map (λ f. (f.0, trimmed f.1)) (split_once 58 line)
+
+-- of parts, those that are a name and what is said of it, what the first of this name says, whatever the case of its letters
+abbrev pub first_among : (List ℕ → Option (List ℕ × List ℕ)) → List ℕ → List (List ℕ) → Option (List ℕ)
+first_among as_pair name parts =
+    option_map (λ pair. pair.1) (find (λ pair. str_eq_ignore_ascii_case pair.0 name) (filter_map as_pair parts))
+
+-- the value of the first field of this name
+abbrev pub field_of : List ℕ → List ℕ → Option (List ℕ)
+field_of head name = first_among as_field name (head_lines head)
+
+-- where the byte behind one stands: a quote begins and ends quotes, and in them a backslash takes the next byte with it
+abbrev pub place_behind : Place → ℕ → Place
+place_behind Outside byte = if byte == 34 then Quoted else Outside
+place_behind Quoted byte = if byte == 34 then Outside else (if byte == 92 then Escaped else Quoted)
+place_behind Escaped byte = Quoted
+
+-- what began so is closed: a piece by `;` outside of quotes, and what stands in them by a quote
+abbrev pub closes : Place → Place → ℕ → Bool
+closes Outside Outside byte = byte == 59
+closes Quoted Quoted byte = byte == 34
+closes began place byte = false
+
+-- a text cut where it is closed
+abbrev pub cut : Place → Place → List ℕ → List (List ℕ)
+cut began place [] = [] ∷ []
+cut began place (byte ∷ rest) = if closes began place byte then [] ∷ cut began began rest
+    else onto_first byte (cut began (place_behind place byte) rest)
+
+-- what is said behind `=`: what stands in quotes, or up to a blank
+abbrev pub unquoted : List ℕ → List ℕ
+unquoted text = if starts_with nat_eq text (34 ∷ []) then slice_index_or (cut Quoted Quoted (drop 1 text)) 0 []
+    else take_while (λ byte. not (is_blank byte)) text
+
+-- a piece as a parameter: its name before the first `=`, and what it says behind it
+abbrev pub as_parameter : List ℕ → Option (List ℕ × List ℕ)
+as_parameter piece = option_map (λ p. (trimmed p.0, unquoted p.1)) (split_once 61 piece)
+
+-- what the first parameter of this name says: they stand behind the first `;`
+abbrev pub parameter_of : List ℕ → List ℕ → Option (List ℕ)
+parameter_of value name = first_among as_parameter name (drop 1 (cut Outside Outside value))
+
+-- what two lent texts are
+abbrev pub texts_of : Bor (List ℕ) × Bor (List ℕ) → List ℕ × List ℕ
+texts_of lent = (lent.0.now, lent.1.now)

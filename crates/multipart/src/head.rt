@@ -1,7 +1,8 @@
 //! Fields in the head of a part, and what their parameters say.
-ghost use Rattle.std.specs.Prelude.{◌≡◌, ◌≤◌, length};
+ghost use Rattle.std.specs.Prelude.{◌≡◌, ◌<◌, ◌≤◌, ◌==◌, [], ◌∷◌, length, not, position, IfSome};
 ghost use Rattle.std.specs.List.{prefix_len};
-ghost use Rattle.multipart.specs.Head.{has_byte_at, is_blank, is_opening};
+ghost use Rattle.std.specs.Option.{option_copied, option_map, option_map_or};
+ghost use Rattle.multipart.specs.Head.{as_field, as_parameter, texts_of, cut, ends_line, field_of, is_blank, closes, is_opening, head_lines, parameter_of, place_behind, split_once, unquoted};
 
 // Whether a byte is a space or a tab.
 fn is_blank(byte: u8) -> bool
@@ -18,120 +19,170 @@ fn blanks_len(text: &[u8]) -> usize
     text.iter().take_while(|byte| is_blank(**byte)).count()
 }
 
-fn has_at(text: &[u8], at: usize, byte: u8) -> bool
-    ensures { result ≡ has_byte_at text.now at byte }
-{
-    at < text.len() && text[at] == byte
-}
-
 /// Whether a head begins as the line of a boundary ends: with blanks or none, and then the end of the line, or nothing.
 pub(crate) fn is_opening(head: &[u8]) -> bool
     ensures { result ≡ is_opening head.now }
 {
-    let len = blanks_len(head);
-    len == head.len() || has_at(head, len, b'\r') && has_at(head, len + 1, b'\n')
+    let rest = &head[blanks_len(head)..];
+    rest.is_empty() || rest.starts_with(b"\r\n")
 }
 
-// How many bytes stand before the first CR LF that no blank follows.
-fn line_len(bytes: &[u8]) -> usize
-    ensures { result ≤ length bytes.now }
+// Whether a line ends here: by CR LF that no blank follows.
+fn ends_line(text: &[u8]) -> bool
+    ensures { result ≡ ends_line text.now }
 {
-    for (i, _byte) in bytes.iter().enumerate() {
-        let ends = match &bytes[i..] {
-            [b'\r', b'\n', next, ..] => !is_blank(*next),
-            [b'\r', b'\n'] => true,
-            _ => false,
-        };
-        if ends {
-            return i;
+    text.starts_with(b"\r\n") && !(text.len() > 2 && is_blank(text[2]))
+}
+
+// The first line, and what stands behind its end, if it has one.
+fn split_line(text: &[u8]) -> (&[u8], Option<&[u8]>)
+    ensures parts { head_lines text.now ≡ result.0.now ∷ option_map_or (λ rest. head_lines rest.now) result.1 [] }
+    ensures shorter { IfSome result.1 (λ rest. length rest.now < length text.now) }
+{
+    for i in 0..text.len() {
+        if ends_line(&text[i..]) {
+            return (&text[..i], Some(&text[i + 2..]));
         }
     }
-    bytes.len()
+    (text, None)
 }
 
-// A line as a field: its name, and what stands behind the colon, with no blanks around it.
-fn as_field(line: &[u8]) -> Option<(&[u8], &[u8])> {
-    let colon = line.iter().position(|byte| *byte == b':')?;
-    let (name, rest) = line.split_at(colon);
-    match rest {
-        [_, value @ ..] => Some((name, value.trim_ascii())),
-        [] => None,
+// What stands before the first such byte, and what behind it.
+fn split_once(text: &[u8], byte: u8) -> Option<(&[u8], &[u8])>
+    ensures { option_map texts_of result ≡ split_once byte text.now }
+{
+    match place_of(text, byte) {
+        Some(at) => Some((&text[..at], &text[at + 1..])),
+        None => None,
     }
+}
+
+// Where the first such byte stands.
+fn place_of(text: &[u8], byte: u8) -> Option<usize>
+    ensures value { result ≡ position (λ here. here == byte) text.now }
+    ensures within { IfSome result (λ at. at < length text.now) }
+{
+    text.iter().position(|here| *here == byte)
+}
+
+// A line as a field: its name, and its value.
+fn as_field(line: &[u8]) -> Option<(&[u8], &[u8])>
+    ensures { option_map texts_of result ≡ as_field line.now }
+{
+    let (name, value) = split_once(line, b':')?;
+    Some((name, value.trim_ascii()))
 }
 
 /// The value of the first field of this name, whatever the case of its letters, in a head as
 /// [`head`](crate::Multipart::head) lends it.
-pub fn field<'a>(head: &'a [u8], name: &[u8]) -> Option<&'a [u8]> {
-    let mut left = head;
-    for _ in 0..head.len() {
-        let len = line_len(left);
-        if let Some((found, value)) = as_field(&left[..len]) {
+pub fn field<'a>(head: &'a [u8], name: &[u8]) -> Option<&'a [u8]>
+    ensures value { option_copied result ≡ field_of head.now name.now }
+{
+    let mut left = Some(head);
+    while let Some(text) = left {
+        let (line, rest) = split_line(text);
+        if let Some((found, value)) = as_field(line) {
             if found.eq_ignore_ascii_case(name) {
                 return Some(value);
             }
         }
-        match &left[len..] {
-            [_, _, rest @ ..] => left = rest,
-            _ => return None,
-        }
+        left = rest;
     }
     None
+}
+
+// Where a byte of a value stands.
+#[derive(Clone, Copy)]
+enum Place {
+    // Outside of quotes.
+    Outside,
+    // In quotes.
+    Quoted,
+    // In quotes, behind a backslash, which takes it with it.
+    Escaped,
+}
+
+impl Place {
+    // Whether this byte closes what began there: `;` a piece outside of quotes, and a quote what stands in them.
+    fn closes(self, began: Place, byte: u8) -> bool
+        ensures { result ≡ closes began self byte }
+    {
+        match (began, self) {
+            (Place::Outside, Place::Outside) => byte == b';',
+            (Place::Quoted, Place::Quoted) => byte == b'"',
+            _ => false,
+        }
+    }
+
+    // Where the byte behind this one stands.
+    fn behind(self, byte: u8) -> Place
+        ensures { result ≡ place_behind self byte }
+    {
+        match self {
+            Place::Outside if byte == b'"' => Place::Quoted,
+            Place::Outside => Place::Outside,
+            Place::Quoted if byte == b'"' => Place::Outside,
+            Place::Quoted if byte == b'\\' => Place::Escaped,
+            Place::Quoted | Place::Escaped => Place::Quoted,
+        }
+    }
+}
+
+// What stands before the byte that closes what begins there, and what behind it, if one does.
+fn split_closed(text: &[u8], began: Place) -> (&[u8], Option<&[u8]>)
+    ensures parts { cut began began text.now ≡ result.0.now ∷ option_map_or (λ rest. cut began began rest.now) result.1 [] }
+    ensures shorter { IfSome result.1 (λ rest. length rest.now < length text.now) }
+{
+    let mut place = began;
+    for (i, byte) in text.iter().enumerate() {
+        if place.closes(began, *byte) {
+            return (&text[..i], Some(&text[i + 1..]));
+        }
+        place = place.behind(*byte);
+    }
+    (text, None)
+}
+
+// What is said behind `=`: what stands in quotes, as it stands, or up to a blank.
+fn unquoted(text: &[u8]) -> &[u8]
+    ensures { result.now ≡ unquoted text.now }
+{
+    if text.starts_with(b"\"") {
+        return split_closed(&text[1..], Place::Quoted).0;
+    }
+    &text[..word_len(text)]
+}
+
+// How many bytes stand before the first blank.
+fn word_len(text: &[u8]) -> usize
+    ensures value { result ≡ prefix_len (λ byte. not (is_blank byte)) text.now }
+    ensures within { result ≤ length text.now }
+{
+    text.iter().take_while(|byte| !is_blank(**byte)).count()
+}
+
+// A piece as a parameter: its name, and what it says.
+fn as_parameter(piece: &[u8]) -> Option<(&[u8], &[u8])>
+    ensures { option_map texts_of result ≡ as_parameter piece.now }
+{
+    let (name, said) = split_once(piece, b'=')?;
+    Some((name.trim_ascii(), unquoted(said)))
 }
 
 /// What a parameter of a field's value says, as `name` of `form-data; name="a"`: what stands between its quotes, as it stands,
 /// or up to the next `;` or blank.
-pub fn parameter<'a>(value: &'a [u8], name: &[u8]) -> Option<&'a [u8]> {
-    let mut left = value;
-    for _ in 0..value.len() {
-        let at = left.iter().position(|byte| *byte == b';')?;
-        left = left[at + 1..].trim_ascii_start();
-        let key = left
-            .iter()
-            .take_while(|byte| !matches!(**byte, b'=' | b';'))
-            .count();
-        let (found, rest) = left.split_at(key);
-        let Some(said) = said_of(rest) else {
-            continue;
-        };
-        if found.trim_ascii().eq_ignore_ascii_case(name) {
-            return Some(said.0);
+pub fn parameter<'a>(value: &'a [u8], name: &[u8]) -> Option<&'a [u8]>
+    ensures value { option_copied result ≡ parameter_of value.now name.now }
+{
+    let (_, mut left) = split_closed(value, Place::Outside);
+    while let Some(text) = left {
+        let (piece, rest) = split_closed(text, Place::Outside);
+        if let Some((found, said)) = as_parameter(piece) {
+            if found.eq_ignore_ascii_case(name) {
+                return Some(said);
+            }
         }
-        left = said.1;
+        left = rest;
     }
     None
-}
-
-// What stands behind `=`, and what follows it.
-fn said_of(rest: &[u8]) -> Option<(&[u8], &[u8])> {
-    match rest {
-        [b'=', b'"', text @ ..] => {
-            let len = quoted_len(text);
-            Some((&text[..len], &text[len..]))
-        }
-        [b'=', text @ ..] => {
-            let len = text
-                .iter()
-                .take_while(|byte| !is_blank(**byte) && **byte != b';')
-                .count();
-            Some((&text[..len], &text[len..]))
-        }
-        _ => None,
-    }
-}
-
-// How many bytes stand before the quote that ends a text; a backslash takes the byte behind it with it.
-fn quoted_len(text: &[u8]) -> usize
-    ensures { result ≤ length text.now }
-{
-    let mut escaped = false;
-    for (i, byte) in text.iter().enumerate() {
-        if escaped {
-            escaped = false;
-        } else if *byte == b'\\' {
-            escaped = true;
-        } else if *byte == b'"' {
-            return i;
-        }
-    }
-    text.len()
 }
