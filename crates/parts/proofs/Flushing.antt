@@ -25,8 +25,5 @@ module _ {T : Type 0} (tells : T → StreamLog) (trace : T → T → Type 0) (v 
       → OnOk answer ((y : Unit {0}) → WasFlushed tells trace v (Ok y) w → Sent)
       → FlushedUnless tells trace answer v last w → OnOk last Sent
   at_done (Ok x) last all f = went all x last f.flush f.flushes f.last_is
-  at_done (Err (Why.Parts e)) last all f = failed (Why.Parts e) last f.flush f.last_is
-  at_done (Err (Why.Body e)) last all f = failed (Why.Body e) last f.flush f.last_is
   at_done (Err (Why.Write e)) last all f = subst (λ l. OnOk l Sent) (sym f.0) tt
-  at_done (Err Why.Missing) last all f = failed Why.Missing last f.flush f.last_is
-  at_done (Err Why.Many) last all f = failed Why.Many last f.flush f.last_is
+  at_done (Err y) last all f = failed y last f.flush f.last_is

@@ -1,5 +1,5 @@
 -- What was received of the wanted part, or of a list.
-use Rattle.std.proofs.Common.{◌≡◌, ℕ, List, [], ◌++◌, Option, Result, Ok, Err, OnOk, ap, ◌∙◌, append_assoc}
+use Rattle.std.proofs.Common.{◌≡◌, ℕ, List, [], ◌++◌, Result, Ok, Err, OnOk, ap, ◌∙◌, append_assoc}
 use Rattle.buffer_redux.specs.BufWriter.{FlushedAlong, WasFlushed}
 use Rattle.buffer_redux.specs.Buffered.{Buffered}
 use Rattle.buffer_redux.specs.Policy.{std_write_rules}
@@ -12,72 +12,81 @@ use Rattle.multipart.specs.Multipart.{FormState, codes, hyphens}
 use Rattle.parts.specs.Asked.{FlushedUnless, GotPart, ListedAll}
 use Rattle.redux_buffer.specs.Faults.{MetInterrupts, MetInterrupts-joins}
 use Rattle.parts.proofs.Flushing.{at_done}
-use Rattle.parts.specs.Sections.{GetAnswers, InPart, BehindText, ListAnswers}
+use Rattle.parts.specs.Sections.{BehindText, GetAnswers, InNamed, ListAnswers, Turn, list_lines}
 use Rattle.parts.specs.declared.error.RunError.{RunError}
 
-module _ {S T : Type 0} (remaining : S → Option (List ℕ)) (tells : T → StreamLog) (trace : T → T → Type 0)
-    (joins : (a b c : T) → trace a b → trace b c → trace a c) (s t : FormState S StdPolicy) (u v w : Buffered T StdPolicy)
-    (unread : s.body.reader.block.bytes ≡ []) (unwritten : u.block.bytes ≡ []) where
-  abbrev Got : Type 0
-  Got = GotPart s.body.coding s.other s.body.reader.log t.body.reader.log u.log w.log
+module _ {S T : Type 0} (tells : T → StreamLog) (trace : T → T → Type 0) (joins : (a b c : T) → trace a b → trace b c → trace a c)
+    (s t : FormState S StdPolicy) (u v w : Buffered T StdPolicy) (unread : s.body.reader.block.bytes ≡ [])
+    (unwritten : u.block.bytes ≡ []) where
+  -- what was accepted was received
+  received : (said : List ℕ) → FlushedAlong tells trace std_write_rules u said w
+      → w.log.writes.received ≡ u.log.writes.received ++ said
+  received said flushed = flushed.received ∙ ap (λ l. u.log.writes.received ++ (l ++ said)) unwritten
 
-  all : InPart s t → TookWholeBody (codes s.body.coding) t.body
-      → FlushedAlong tells trace std_write_rules u (handed_of t.body) w → Got
-  all part whole flushed = record {
-    payload = handed_of t.body;
-    gave = record {
-      count = part.count;
-      before = part.before;
-      text = t.body.taken;
-      rest = t.body.reader.block.bytes;
-      parts = part.inside.parts;
-      whole = whole;
-      given = ReadsInOrder-fresh s.body.reader t.body.reader (part.before ++ t.body.taken) unread part.inside.order
-          ∙ ap (λ l. s.body.reader.log.reads.given ++ l)
-          (append_assoc part.before t.body.taken t.body.reader.block.bytes);
-    };
-    received = flushed.received ∙ ap (λ l. u.log.writes.received ++ (l ++ handed_of t.body)) unwritten;
-    flushed = flushed.flushed;
-  }
+  module _ (name : List ℕ) where
+    abbrev Got : Type 0
+    Got = GotPart name s.body.coding s.other s.body.reader.log t.body.reader.log u.log w.log
 
-  went : (answer : Result (Unit {0}) RunError) → GetAnswers remaining tells trace s u answer t v
-      → OnOk answer ((y : Unit {0}) → WasFlushed tells trace v (Ok y) w → Got)
-  went (Ok x) did = λ y flushes. all did.0 did.1
-      (FlushedAlong-of tells trace std_write_rules joins u v w (handed_of t.body) y did.3 flushes)
-  went (Err e) did = tt
+    all : InNamed name s t → TookWholeBody (codes s.body.coding) t.body
+        → FlushedAlong tells trace std_write_rules u (handed_of t.body) w → Got
+    all is whole flushed = record {
+      payload = handed_of t.body;
+      gave = record {
+        turn = is.part.turn;
+        earlier = is.part.earlier;
+        before = is.part.before;
+        text = t.body.taken;
+        rest = t.body.reader.block.bytes;
+        parts = is.part.inside.parts;
+        named = is.named;
+        first = is.first;
+        whole = whole;
+        given = ReadsInOrder-fresh s.body.reader t.body.reader (is.part.before ++ t.body.taken) unread is.part.inside.order
+            ∙ ap (λ l. s.body.reader.log.reads.given ++ l)
+            (append_assoc is.part.before t.body.taken t.body.reader.block.bytes);
+      };
+      received = received (handed_of t.body) flushed;
+      flushed = flushed.flushed;
+    }
 
-  pub got : (answer last : Result (Unit {0}) RunError) → GetAnswers remaining tells trace s u answer t v
-      → FlushedUnless tells trace answer v last w → OnOk last Got
-  got answer last did f = at_done tells trace v w Got answer last (went answer did) f
+    went : (answer : Result (Unit {0}) RunError) → GetAnswers tells trace name s u answer t v
+        → OnOk answer ((y : Unit {0}) → WasFlushed tells trace v (Ok y) w → Got)
+    went (Ok x) did = λ y flushes. all did.0 did.1
+        (FlushedAlong-of tells trace std_write_rules joins u v w (handed_of t.body) y did.3 flushes)
+    went (Err e) did = tt
+
+    pub got : (answer last : Result (Unit {0}) RunError) → GetAnswers tells trace name s u answer t v
+        → FlushedUnless tells trace answer v last w → OnOk last Got
+    got answer last did f = at_done tells trace v w Got answer last (went answer did) f
 
   -- and of a list
   abbrev Listed : Type 0
   Listed = ListedAll s.body.coding s.other s.body.reader.log t.body.reader.log u.log w.log
 
-  passed : (behind : BehindText s.body.coding s.other s.body.reader hyphens t.body.reader) (said : List ℕ)
-      → FlushedAlong tells trace std_write_rules u said w → MetInterrupts u.log.writes w.log.writes → Listed
-  passed behind said flushed met = record {
-    count = behind.count;
+  passed : (turns : List Turn) (text : List ℕ)
+      → (behind : BehindText s.body.coding s.other s.body.reader turns text hyphens t.body.reader)
+      → FlushedAlong tells trace std_write_rules u (list_lines turns text) w → MetInterrupts u.log.writes w.log.writes → Listed
+  passed turns text behind flushed met = record {
+    turns = turns;
     before = behind.before;
-    text = behind.text;
-    dropped = behind.dropped;
+    bytes = behind.bytes;
+    text = text;
     rest = t.body.reader.block.bytes;
-    said = said;
     parts = behind.parts;
     whole = behind.whole;
-    given = ReadsInOrder-fresh s.body.reader t.body.reader (behind.before ++ (behind.text ++ hyphens)) unread behind.order;
-    received = flushed.received ∙ ap (λ l. u.log.writes.received ++ (l ++ said)) unwritten;
+    given = ReadsInOrder-fresh s.body.reader t.body.reader (behind.before ++ (behind.bytes ++ hyphens)) unread behind.order;
+    received = received (list_lines turns text) flushed;
     flushed = flushed.flushed;
     met = met;
   }
 
-  listed_all : (answer : Result (Unit {0}) RunError) → ListAnswers remaining tells trace s u answer t v
+  listed_all : (answer : Result (Unit {0}) RunError) → ListAnswers tells trace s u answer t v
       → OnOk answer ((y : Unit {0}) → WasFlushed tells trace v (Ok y) w → Listed)
-  listed_all (Ok x) did = λ y flushes. passed did.0.0 did.1.said
-      (FlushedAlong-of tells trace std_write_rules joins u v w did.1.said y did.1.all flushes)
-      (MetInterrupts-joins u.log.writes v.log.writes w.log.writes did.1.met flushes.ok.met)
+  listed_all (Ok x) (turns, text, behind, puts) = λ y flushes. passed turns text behind.0
+      (FlushedAlong-of tells trace std_write_rules joins u v w (list_lines turns text) y puts.all flushes)
+      (MetInterrupts-joins u.log.writes v.log.writes w.log.writes puts.met flushes.ok.met)
   listed_all (Err e) did = tt
 
-  pub listed : (answer last : Result (Unit {0}) RunError) → ListAnswers remaining tells trace s u answer t v
+  pub listed : (answer last : Result (Unit {0}) RunError) → ListAnswers tells trace s u answer t v
       → FlushedUnless tells trace answer v last w → OnOk last Listed
   listed answer last did f = at_done tells trace v w Listed answer last (listed_all answer did) f

@@ -1,5 +1,5 @@
 -- From the text of a part to the next part.
-use Rattle.std.proofs.Common.{◌≡◌, ◌≢◌, ◌<◌, length, length-append, Bool, IsTrue, ℕ, suc, List, [], ◌++◌, Option, Result, Ok, Err, true, false, inl, inr, ◌⊎◌, sym, ap, subst, ◌∙◌, refl, arith, append-nil, append_assoc}
+use Rattle.std.proofs.Common.{◌≡◌, ◌≢◌, ◌<◌, length, length-append, Bool, IsTrue, ℕ, List, [], ◌∷◌, ◌++◌, Option, Result, Ok, Err, true, false, inl, inr, ◌⊎◌, sym, ap, subst, ◌∙◌, refl, arith, append-nil, append_assoc}
 use Rattle.body_reader.specs.declared.error.BodyError.{BodyError}
 use Rattle.body_reader.specs.declared.error.BodyError.TheVariants as why
 use Rattle.body_reader.specs.declared.error.CollectError.{CollectError}
@@ -9,7 +9,8 @@ use Rattle.body_reader.specs.declared.just_or_until.JustOrUntil.{JustOrUntil}
 use Rattle.body_reader.specs.Between.{EachGave}
 use Rattle.body_reader.specs.BetweenLaws.{EachGave-joins, FaultedOnce-after, GaveNothingOnce-after, StopsFor-after}
 use Rattle.body_reader.specs.BodyReader.{BodyState, BodyWent, Collects, Drains, IsBodyReader, NoPayload, TookWholeBody, begun, handed_of}
-use Rattle.body_reader.specs.Coding.{IsBody}
+use Rattle.body_reader.specs.Coding.{Grammar, IsBody}
+use Rattle.body_reader.specs.CodingLaws.{Leads-left}
 use Rattle.buffer_redux.specs.BufReader.{ReadsInOrder}
 use Rattle.buffer_redux.specs.Buffered.{Buffered}
 use Rattle.buffer_redux.specs.Policy.{std_read_rules}
@@ -26,58 +27,103 @@ use Rattle.buffer_redux.specs.Policy.{std_write_rules}
 use Rattle.buffer_redux.specs.StreamLog.{StreamLog}
 use Rattle.parts.specs.declared.error.RunError.{RunError}
 use Rattle.parts.specs.declared.error.RunError.TheVariants as Run
-use Rattle.parts.specs.Sections.{BehindText, GetAnswers, InHead, InPart, InSection, InText, LeadsIn, NextFails, PassedAll, PutsPart}
+use Rattle.parts.specs.Sections.{BehindText, GetAnswers, InHead, InNamed, InPart, InSection, InText, SaysName, LeadsIn, NextFails, NoneNamed, PassedAll, PutsPart, Turn}
 
-module _ {S : Type 0} (remaining : S → Option (List ℕ)) (texts heads : JustOrUntil) (first : Buffered S StdPolicy) where
-  abbrev Body : Type 0
-  Body = BodyState S StdPolicy JustOrUntil JustOr
+-- what comes of going on behind a text
+abbrev pub ComesBehind : {S : Type 0} → JustOrUntil → JustOrUntil → Buffered S StdPolicy → List Turn → List ℕ → Limits
+    → Result Bool PartError → FormState S StdPolicy → Type 0
+ComesBehind texts heads first turns text limits (Ok true) t = (more : List ℕ)
+    × InText texts heads first (record { text = text; head = t.head } ∷ turns) more t × EachGave first t.body.reader
+    × (handed_of t.body ≡ []) × (t.stand ≡ Part) × (t.limits ≡ limits)
+ComesBehind texts heads first turns text limits (Ok false) t = PassedAll texts heads first turns text t.body.reader
+ComesBehind texts heads first turns text limits (Err e) t = NextFails texts heads first turns text limits e t
 
+abbrev Body : Type 0 → Type 0
+Body S = BodyState S StdPolicy JustOrUntil JustOr
+
+module _ {S : Type 0} (remaining : S → Option (List ℕ)) where
   -- what was taken so far came in order
-  pub order_on : (before : List ℕ) (c : JustOrUntil) (s t : Body) (payload : List ℕ)
+  pub order_on : (first : Buffered S StdPolicy) (before : List ℕ) (c : JustOrUntil) (s t : Body S) (payload : List ℕ)
       → BodyWent remaining std_read_rules (codes c) s payload t → ReadsInOrder first (before ++ s.taken) s.reader
       → ReadsInOrder first (before ++ t.taken) t.reader
-  order_on before c s t payload went order =
+  order_on first before c s t payload went order =
       subst (λ l. ReadsInOrder first l t.reader)
       (append_assoc before s.taken went.wire ∙ ap (λ l. before ++ l) (sym went.taken))
       (ReadsInOrder-joins first s.reader t.reader (before ++ s.taken) went.wire order went.along.in_order)
 
+  -- behind a whole text nothing is handed out
+  pub still : (g : Grammar JustOr (Unit {0})) (s t : Body S) (answer : Result (Unit {0}) (BodyError (Unit {0})))
+      → Drains remaining std_read_rules g s answer t → TookWholeBody g s → handed_of t ≡ handed_of s
+  still g s t answer drains whole =
+      let order = drains.went.along.in_order in
+      let same = drains.ended whole in
+      let none : drains.went.wire ≡ [] = empty drains.went.wire (omega (
+        arith,
+        ap (λ r. length r.log.reads.given) same,
+        ap (λ r. length r.block.bytes) same,
+        ap length order.given,
+        ap length order.equal,
+        length-append s.reader.log.reads.given order.got,
+        length-append s.reader.block.bytes order.got,
+        length-append drains.went.wire t.reader.block.bytes,
+      )) in
+      let taken : s.taken ≡ t.taken = sym (drains.went.taken ∙ ap (λ l. s.taken ++ l) none ∙ append-nil s.taken) in
+      let left = Leads-left g t.taken (handed_of t) t.place t.reader.block.bytes drains.whole.leads s.taken (handed_of s) whole
+      t.reader.block.bytes [] (ap (λ l. l ++ t.reader.block.bytes) taken
+      ∙ ap (λ l. t.taken ++ l) (sym (append-nil t.reader.block.bytes))) in
+      let more : drains.payload ≡ [] = empty drains.payload (omega (
+        arith,
+        ap length left.front,
+        ap length drains.went.handed,
+        length-append (handed_of t) left.later,
+        length-append (handed_of s) drains.payload,
+      )) in
+      drains.went.handed ∙ ap (λ l. handed_of s ++ l) more ∙ append-nil (handed_of s)
+    where
+      empty : (l : List ℕ) → length l ≡ 0 → l ≡ []
+      empty [] none = refl
+      empty (x ∷ xs) none = absurd (omega (arith, none))
+
+module _ {S : Type 0} (remaining : S → Option (List ℕ)) (texts heads : JustOrUntil) (first : Buffered S StdPolicy)
+    (turns : List Turn) where
   -- why no payload came, as an error of the whole
-  no_payload : (s : Body) (t : FormState S StdPolicy) (w : BodyError (Unit {0})) (most : Limits)
-      → InSection texts heads first t → EachGave first s.reader → NoPayload (codes t.body.coding) s w t.body
-      → NextFails texts heads most first (part_error w) t
-  no_payload s t (why.Wrong x right) most inside gave none = absurd (none.2.name)
-  no_payload s t (why.Truncated right) most inside gave none =
+  no_payload : (text : List ℕ) (s : Body S) (t : FormState S StdPolicy) (w : BodyError (Unit {0})) (most : Limits)
+      → InSection texts heads first turns text t → EachGave first s.reader → NoPayload (codes t.body.coding) s w t.body
+      → NextFails texts heads first turns text most (part_error w) t
+  no_payload text s t (why.Wrong x right) most inside gave none = absurd (none.2.name)
+  no_payload text s t (why.Truncated right) most inside gave none =
       (inside, none.2, GaveNothingOnce-after first s.reader t.body.reader gave none.1)
-  no_payload s t (why.Io e) most inside gave none =
+  no_payload text s t (why.Io e) most inside gave none =
       (inside, inl (none.1, FaultedOnce-after first s.reader t.body.reader gave e none.0))
 
   -- calls in the text stay in it
-  pub inside_on : (count : ℕ) (before : List ℕ) (m t : FormState S StdPolicy) (payload : List ℕ)
-      → InText texts heads first count before m → t ≡ record m { body = t.body }
+  pub inside_on : (before : List ℕ) (m t : FormState S StdPolicy) (payload : List ℕ)
+      → InText texts heads first turns before m → t ≡ record m { body = t.body }
       → BodyWent remaining std_read_rules (codes m.body.coding) m.body payload t.body
-      → InText texts heads first count before t
-  inside_on count before m t payload is within went = record {
+      → InText texts heads first turns before t
+  inside_on before m t payload is within went = record {
     stands = subst (λ x. (x ≡ Preamble) ⊎ (x ≡ Part)) (sym (ap (λ x. x.stand) within)) is.stands;
     coding = went.coding ∙ is.coding;
     other = ap (λ x. x.other) within ∙ is.other;
     counted = ap (λ x. x.parts) within ∙ is.counted;
     parts = is.parts;
-    order = order_on before m.body.coding m.body t.body payload went is.order;
+    order = order_on remaining first before m.body.coding m.body t.body payload went is.order;
   }
 
-  module _ (count : ℕ) (before : List ℕ) (s : FormState S StdPolicy) (is : InText texts heads first count before s)
+  module _ (before : List ℕ) (s : FormState S StdPolicy) (is : InText texts heads first turns before s)
       (gave : EachGave first s.body.reader) where
     -- a text that doesn't end
     pub text_fails : (e : PartError) (t : FormState S StdPolicy) → LeavesText remaining std_read_rules s (Err e) t
-        → NextFails texts heads s.limits first e t
+        → NextFails texts heads first turns (handed_of t.body) s.limits e t
     text_fails e t (w, drains, same, within) =
-        let inside : InSection texts heads first t =
-        inl (count, before, inside_on count before s t drains.payload is within drains.went) in
-        subst (λ x. NextFails texts heads s.limits first x t) (sym same) (elim drains.answers [
-          | inl none ↦ no_payload s.body t w s.limits inside gave
+        let text = handed_of t.body in
+        let inside : InSection texts heads first turns text t =
+        inl (before, inside_on before s t drains.payload is within drains.went, refl) in
+        subst (λ x. NextFails texts heads first turns text s.limits x t) (sym same) (elim drains.answers [
+          | inl none ↦ no_payload text s.body t w s.limits inside gave
               (subst (λ c. NoPayload (codes c) s.body w t.body) (sym drains.went.coding) none)
           | inr many ↦
-              subst (λ x. NextFails texts heads s.limits first (part_error x) t) (sym many.1) (
+              subst (λ x. NextFails texts heads first turns text s.limits (part_error x) t) (sym many.1) (
                 inside,
                 inr (
                   many.2,
@@ -92,7 +138,7 @@ module _ {S : Type 0} (remaining : S → Option (List ℕ)) (texts heads : JustO
               )
         ])
 
-    module _ (b : Body) (drains : Drains remaining std_read_rules (codes s.body.coding) s.body (Ok tt) b) where
+    module _ (b : Body S) (drains : Drains remaining std_read_rules (codes s.body.coding) s.body (Ok tt) b) where
       abbrev behind : FormState S StdPolicy
       behind = turned (record s { body = b; head = [] }) Head
 
@@ -100,24 +146,22 @@ module _ {S : Type 0} (remaining : S → Option (List ℕ)) (texts heads : JustO
       text_whole = subst (λ c. TookWholeBody (codes c) b) is.coding drains.answers.1
 
       text_order : ReadsInOrder first (before ++ b.taken) b.reader
-      text_order = order_on before s.body.coding s.body b drains.payload drains.went is.order
+      text_order = order_on remaining first before s.body.coding s.body b drains.payload drains.went is.order
 
       text_gave : EachGave first b.reader
       text_gave = EachGave-joins first s.body.reader b.reader gave drains.answers.0
 
       -- a head, which is whole or not
-      module _ (a : Body) (payload : List ℕ)
+      module _ (a : Body S) (payload : List ℕ)
           (went : BodyWent remaining std_read_rules (codes s.other) (begun (codes s.other) b.reader s.other) payload a) where
         head_order : ReadsInOrder first ((before ++ b.taken) ++ a.taken) a.reader
-        head_order = order_on (before ++ b.taken) s.other (begun (codes s.other) b.reader s.other) a payload went
+        head_order = order_on remaining first (before ++ b.taken) s.other (begun (codes s.other) b.reader s.other) a payload went
             (subst (λ l. ReadsInOrder first l b.reader) (sym (append-nil (before ++ b.taken))) text_order)
 
-        abbrev behind_text : BehindText texts heads first a.taken a.reader
+        abbrev behind_text : BehindText texts heads first turns (handed_of b) a.taken a.reader
         behind_text = record {
-          count = count;
           before = before;
-          text = b.taken;
-          dropped = handed_of b;
+          bytes = b.taken;
           parts = is.parts;
           whole = text_whole;
           order = subst (λ l. ReadsInOrder first l a.reader) (append_assoc before b.taken a.taken) head_order;
@@ -128,12 +172,9 @@ module _ {S : Type 0} (remaining : S → Option (List ℕ)) (texts heads : JustO
 
       -- what comes of going on behind the text
       abbrev Comes : Result Bool PartError → FormState S StdPolicy → Type 0
-      Comes (Ok true) t = (more : List ℕ) × InText texts heads first (suc count) more t × EachGave first t.body.reader
-          × (handed_of t.body ≡ []) × (t.stand ≡ Part) × (t.limits ≡ s.limits)
-      Comes (Ok false) t = PassedAll texts heads first t.body.reader
-      Comes (Err e) t = NextFails texts heads s.limits first e t
+      Comes answer t = ComesBehind texts heads first turns (handed_of b) s.limits answer t
 
-      module _ (a : Body) (head : List ℕ)
+      module _ (a : Body S) (head : List ℕ)
           (collects : Collects remaining std_read_rules (codes s.other) s.limits.head
           (begun (codes s.other) b.reader s.other) [] (Ok tt) a head) where
         abbrev taken_head : FormState S StdPolicy
@@ -151,9 +192,8 @@ module _ {S : Type 0} (remaining : S → Option (List ℕ)) (texts heads : JustO
         gave_all : EachGave first a.reader
         gave_all = head_gave a collects.payload collects.went collects.answers.0
 
-        leads_in : IsTrue (is_opening head) → a.taken ≢ hyphens → LeadsIn texts heads a.taken
+        leads_in : IsTrue (is_opening head) → a.taken ≢ hyphens → LeadsIn texts heads (handed_of a) a.taken
         leads_in opens no_end = record {
-          said = handed_of a;
           whole = head_whole;
           opens = subst (λ l. IsTrue (is_opening l)) said_is opens;
           no_end = no_end;
@@ -171,11 +211,10 @@ module _ {S : Type 0} (remaining : S → Option (List ℕ)) (texts heads : JustO
               before,
               b.taken,
               a.taken,
-              handed_of b,
               append_assoc before b.taken a.taken,
               is.parts,
               text_whole,
-              leads_in end.1 end.0,
+              subst (λ l. LeadsIn texts heads l a.taken) (sym said_is) (leads_in end.1 end.0),
             );
             order = subst (λ l. ReadsInOrder first l a.reader) (sym (append-nil ((before ++ b.taken) ++ a.taken))) order_all;
           },
@@ -185,7 +224,8 @@ module _ {S : Type 0} (remaining : S → Option (List ℕ)) (texts heads : JustO
           refl,
         )
         ends (Ok false) t end = subst (Comes (Ok false)) (sym end.1) (
-          subst (λ l. BehindText texts heads first l a.reader) end.0 (behind_text a collects.payload collects.went),
+          subst (λ l. BehindText texts heads first turns (handed_of b) l a.reader) end.0
+              (behind_text a collects.payload collects.went),
           gave_all,
         )
         ends (Err part.Boundary) t end = subst (Comes (Err part.Boundary)) (sym end.2) (
@@ -198,7 +238,8 @@ module _ {S : Type 0} (remaining : S → Option (List ℕ)) (texts heads : JustO
           gave_all,
         )
         ends (Err part.ManyParts) t end = subst (Comes (Err part.ManyParts)) (sym end.3) (
-          (behind_text a collects.payload collects.went, omega (arith, is.counted, end.2)),
+          behind_text a collects.payload collects.went,
+          omega (arith, is.counted, end.2),
           leads_in end.1 end.0,
           gave_all,
         )
@@ -208,12 +249,13 @@ module _ {S : Type 0} (remaining : S → Option (List ℕ)) (texts heads : JustO
         ends (Err part.Memory) t end = absurd end
 
       -- a head that wasn't collected
-      module _ (a : Body) (head : List ℕ) where
+      module _ (a : Body S) (head : List ℕ) where
         abbrev left_head : FormState S StdPolicy
         left_head = record behind { body = a; head = head }
 
         in_head : (w : CollectError (Unit {0})) → Collects remaining std_read_rules (codes s.other) s.limits.head
-            (begun (codes s.other) b.reader s.other) [] (Err w) a head → 0 < a.known → InHead texts heads first left_head
+            (begun (codes s.other) b.reader s.other) [] (Err w) a head → 0 < a.known
+            → InHead texts heads first turns (handed_of b) left_head
         in_head w collects some = record {
           behind = behind_text a collects.payload collects.went;
           inside = subst (λ c. IsBodyReader (codes c) a) is.other collects.whole;
@@ -222,8 +264,8 @@ module _ {S : Type 0} (remaining : S → Option (List ℕ)) (texts heads : JustO
 
         no_head : (w : CollectError (Unit {0})) → Collects remaining std_read_rules (codes s.other) s.limits.head
             (begun (codes s.other) b.reader s.other) [] (Err w) a head
-            → NextFails texts heads s.limits first (head_error w) left_head
-        no_head (collect.Body x) collects = no_payload (begun (codes s.other) b.reader s.other) left_head x s.limits
+            → NextFails texts heads first turns (handed_of b) s.limits (head_error w) left_head
+        no_head (collect.Body x) collects = no_payload (handed_of b) (begun (codes s.other) b.reader s.other) left_head x s.limits
             (inr (behind_text a collects.payload collects.went)) text_gave
             (subst (λ c. NoPayload (codes c) (begun (codes s.other) b.reader s.other) x a) (sym collects.went.coding)
             collects.answers)
@@ -243,67 +285,95 @@ module _ {S : Type 0} (remaining : S → Option (List ℕ)) (texts heads : JustO
       goes_on answer t (a, head, inl (collects, end)) = ends a head collects answer t end
       goes_on answer t (a, head, inr (e, same, (w, collects, because), within)) =
           subst (λ x. Comes x t) (sym same) (subst (Comes (Err e)) (sym within)
-          (subst (λ x. NextFails texts heads s.limits first x (left_head a head)) (sym because) (no_head a head w collects)))
+          (subst (λ x. NextFails texts heads first turns (handed_of b) s.limits x (left_head a head)) (sym because)
+          (no_head a head w collects)))
 
-    -- what comes of going on to the next part
-    abbrev pub NextComes : Result Bool PartError → FormState S StdPolicy → Type 0
-    NextComes (Ok true) t = (more : List ℕ) × InText texts heads first (suc count) more t × EachGave first t.body.reader
-        × (handed_of t.body ≡ []) × (t.stand ≡ Part) × (t.limits ≡ s.limits)
-    NextComes (Ok false) t = PassedAll texts heads first t.body.reader
-    NextComes (Err e) t = NextFails texts heads s.limits first e t
+      still_text : TookWholeBody (codes s.body.coding) s.body → handed_of b ≡ handed_of s.body
+      still_text = still remaining (codes s.body.coding) s.body b (Ok tt) drains
+
+    -- what comes of going on to the next part: the text is this, and where it had ended it is what had come
+    abbrev NextComes : Result Bool PartError → FormState S StdPolicy → Type 0
+    NextComes answer t = (text : List ℕ) × (TookWholeBody (codes s.body.coding) s.body → text ≡ handed_of s.body)
+        × ComesBehind texts heads first turns text s.limits answer t
 
     passes : (answer : Result Bool PartError) (t : FormState S StdPolicy)
         → PassesText remaining std_read_rules s answer t → NextComes answer t
-    passes (Ok true) t (inl (m, (b, drains, same), goes)) =
-        goes_on b drains (Ok true) t (subst (λ x. GoesOnFromHead remaining std_read_rules x (Ok true) t) same goes)
-    passes (Ok false) t (inl (m, (b, drains, same), goes)) =
-        goes_on b drains (Ok false) t (subst (λ x. GoesOnFromHead remaining std_read_rules x (Ok false) t) same goes)
-    passes (Err e) t (inl (m, (b, drains, same), goes)) =
-        goes_on b drains (Err e) t (subst (λ x. GoesOnFromHead remaining std_read_rules x (Err e) t) same goes)
-    passes answer t (inr (e, same, leaves)) = subst (λ x. NextComes x t) (sym same) (text_fails e t leaves)
+    passes answer t (inl (m, (b, drains, same), goes)) = (
+      handed_of b,
+      still_text b drains,
+      goes_on b drains answer t (subst (λ x. GoesOnFromHead remaining std_read_rules x answer t) same goes),
+    )
+    passes answer t (inr (e, same, leaves)) = (
+      handed_of t.body,
+      still remaining (codes s.body.coding) s.body t.body (Err leaves.0) leaves.1,
+      subst (λ x. ComesBehind texts heads first turns (handed_of t.body) s.limits x t) (sym same) (text_fails e t leaves),
+    )
 
-    pub next_comes : (answer : Result Bool PartError) (t : FormState S StdPolicy)
+    next_comes : (answer : Result Bool PartError) (t : FormState S StdPolicy)
         → NextPart remaining std_read_rules s.stand s answer t → NextComes answer t
     next_comes answer t next = elim is.stands [
       | inl preamble ↦ passes answer t (subst (λ x. NextPart remaining std_read_rules x s answer t) preamble next)
       | inr part ↦ passes answer t (subst (λ x. NextPart remaining std_read_rules x s answer t) part next)
     ]
 
+-- from where a loop over the parts stands
+pub comes : {S : Type 0} (remaining : S → Option (List ℕ)) {texts heads : JustOrUntil} {first : Buffered S StdPolicy}
+    {turns : List Turn} {before : List ℕ} {s : FormState S StdPolicy} (is : InText texts heads first turns before s)
+    (gave : EachGave first s.body.reader) (answer : Result Bool PartError) (t : FormState S StdPolicy)
+    → NextPart remaining std_read_rules s.stand s answer t
+    → (text : List ℕ) × (TookWholeBody (codes texts) s.body → text ≡ handed_of s.body)
+    × ComesBehind texts heads first turns text s.limits answer t
+comes remaining {texts = texts} {heads = heads} {first = first} {turns = turns} {before = before} {s = s} is gave answer t next =
+    let c = next_comes remaining texts heads first turns before s is gave answer t next in
+    (c.0, λ whole. c.1 (subst (λ x. TookWholeBody (codes x) s.body) (sym is.coding) whole), c.2)
+
+-- a part just begun
+abbrev pub in_part : {S : Type 0} (s m : FormState S StdPolicy) (turn : Turn) (earlier : List Turn) (before : List ℕ)
+    → InText s.body.coding s.other s.body.reader (turn ∷ earlier) before m → InPart s m
+in_part s m turn earlier before inside = record { turn = turn; earlier = earlier; before = before; inside = inside }
+
+-- calls in a part stay in it
+abbrev pub part_on : {S : Type 0} (remaining : S → Option (List ℕ)) (s m t : FormState S StdPolicy) (payload : List ℕ)
+    → InPart s m → t ≡ record m { body = t.body }
+    → BodyWent remaining std_read_rules (codes m.body.coding) m.body payload t.body → InPart s t
+part_on remaining s m t payload part within went = record {
+  turn = part.turn;
+  earlier = part.earlier;
+  before = part.before;
+  inside = inside_on remaining s.body.coding s.other s.body.reader (part.turn ∷ part.earlier) part.before m t payload part.inside
+      within went;
+}
+
 -- the text of a part that was just begun was written
 module _ {S T : Type 0} (remaining : S → Option (List ℕ)) (tells : T → StreamLog) (trace : T → T → Type 0)
-    (s m t : FormState S StdPolicy) (w u v : Buffered T StdPolicy) (count : ℕ) (before : List ℕ)
-    (is : InText s.body.coding s.other s.body.reader (suc count) before m) (gave : EachGave s.body.reader m.body.reader)
+    (name : List ℕ) (s m t : FormState S StdPolicy) (w u v : Buffered T StdPolicy) (part : InPart s m)
+    (named : SaysName name part.turn.head) (none : NoneNamed name part.earlier) (gave : EachGave s.body.reader m.body.reader)
     (fresh : handed_of m.body ≡ []) (still : u ≡ w) where
   module _ (answer : Result (Unit {0}) RunError) (puts : PutsPart remaining tells trace m u answer t v) where
-    in_part : InPart s t
-    in_part = record {
-      count = count;
-      before = before;
-      inside = inside_on remaining s.body.coding s.other s.body.reader (suc count) before m t puts.payload is puts.within
-          puts.went;
-    }
+    in_named : InNamed name s t
+    in_named = record { part = part_on remaining s m t puts.payload part puts.within puts.went; named = named; first = none }
 
     all_handed : handed_of t.body ≡ puts.payload
     all_handed = puts.went.handed ∙ ap (λ l. l ++ puts.payload) fresh
 
   pub put_comes : (answer : Result (Unit {0}) RunError) → PutsPart remaining tells trace m u answer t v
-      → GetAnswers remaining tells trace s w answer t v
+      → GetAnswers tells trace name s w answer t v
   put_comes (Ok _) puts = (
-    in_part (Ok tt) puts,
-    subst (λ c. TookWholeBody (codes c) t.body) is.coding puts.answers.0,
+    in_named (Ok tt) puts,
+    subst (λ c. TookWholeBody (codes c) t.body) part.inside.coding puts.answers.0,
     EachGave-joins s.body.reader m.body.reader t.body.reader gave puts.answers.1,
     subst (λ l. WritesAlong tells trace std_write_rules w l v) (sym (all_handed (Ok tt) puts))
         (subst (λ x. WritesAlong tells trace std_write_rules x puts.payload v) still puts.answers.2),
   )
   put_comes (Err (Run.Body y)) puts = (
-    in_part (Err (Run.Body y)) puts,
+    in_named (Err (Run.Body y)) puts,
     StopsFor-after _ _ _ s.body.reader m.body.reader t.body.reader gave y
-        (subst (λ c. NoPayload (codes c) m.body y t.body) is.coding puts.answers.0),
+        (subst (λ c. NoPayload (codes c) m.body y t.body) part.inside.coding puts.answers.0),
     subst (λ l. WritesAlong tells trace std_write_rules w l v) (sym (all_handed (Err (Run.Body y)) puts))
         (subst (λ x. WritesAlong tells trace std_write_rules x puts.payload v) still puts.answers.1),
   )
   put_comes (Err (Run.Write e)) puts = (
-    in_part (Err (Run.Write e)) puts,
+    in_named (Err (Run.Write e)) puts,
     EachGave-joins s.body.reader m.body.reader t.body.reader gave puts.answers.0,
     subst (λ l. StoppedAlong tells trace std_write_rules w l e v) (sym (all_handed (Err (Run.Write e)) puts))
         (subst (λ x. StoppedAlong tells trace std_write_rules x puts.payload e v) still puts.answers.1),
@@ -311,7 +381,7 @@ module _ {S T : Type 0} (remaining : S → Option (List ℕ)) (tells : T → Str
   put_comes (Err Run.Many) puts = (
     EachGave-joins s.body.reader m.body.reader t.body.reader gave puts.answers.0,
     inl (
-      in_part (Err Run.Many) puts,
+      in_named (Err Run.Many) puts,
       omega (arith, puts.answers.1, ap length (all_handed (Err Run.Many) puts)),
       subst (λ l. WritesAlong tells trace std_write_rules w l v) (sym (all_handed (Err Run.Many) puts))
           (subst (λ x. WritesAlong tells trace std_write_rules x puts.payload v) still puts.answers.2),

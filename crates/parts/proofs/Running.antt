@@ -10,6 +10,10 @@ use Rattle.parts.specs.declared.ending.Ending.TheVariants.{Usual}
 same_boundary : (words : List (List ℕ)) (a b n m : List ℕ) → words ≡ get_words a n → words ≡ get_words b m → a ≡ b
 same_boundary words a b n m p q = ap (λ l. get_or l 1 []) (sym p ∙ q)
 
+-- and one name
+same_name : (words : List (List ℕ)) (a b n m : List ℕ) → words ≡ get_words a n → words ≡ get_words b m → n ≡ m
+same_name words a b n m p q = ap (λ l. get_or l 2 []) (sym p ∙ q)
+
 same_list : (words : List (List ℕ)) (a b : List ℕ) → words ≡ list_words a → words ≡ list_words b → a ≡ b
 same_list words a b p q = ap (λ l. get_or l 1 []) (sym p ∙ q)
 
@@ -41,15 +45,16 @@ module _ {S T : Type 0} (remaining : S → Option (List ℕ)) (tells : T → Str
 
     pub get_did : (ending : Ending) (name : List ℕ) → words ≡ get_words boundary name
         → (RanNot ending read read' written written'
-        ⊎ GetRan remaining tells trace boundary ending read read' written written')
+        ⊎ GetRan remaining tells trace name boundary ending read read' written written')
         → RunDid remaining tells trace words ending read read' written written'
-    get_did ending name asked ran = record {
-      usage = λ none. absurd (none.get boundary name is asked);
-      list = λ b is' asked'. absurd (not_both words b boundary name asked' asked);
-      get = λ b n is' asked'. subst (λ x. RanNot ending read read' written written'
-          ⊎ GetRan remaining tells trace x ending read read' written written')
-          (same_boundary words boundary b name n asked asked') ran;
-    }
+    get_did ending name asked ran =
+        let Ran : List ℕ → List ℕ → Type 0 = λ n b. RanNot ending read read' written written'
+        ⊎ GetRan remaining tells trace n b ending read read' written written' in record {
+          usage = λ none. absurd (none.get boundary name is asked);
+          list = λ b is' asked'. absurd (not_both words b boundary name asked' asked);
+          get = λ b n is' asked'. subst (λ x. Ran n x) (same_boundary words boundary b name n asked asked')
+              (subst (λ x. Ran x boundary) (same_name words boundary b name n asked asked') ran);
+        }
 
     -- buffers, or the reader of parts, that were refused
     pub refused_did : {N : Type 0} (bytes : N → List ℕ) (name : Option N)

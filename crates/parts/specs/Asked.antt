@@ -1,5 +1,5 @@
 -- What a run does that words ask for.
-use Rattle.std.specs.Prelude.{◌≡◌, ◌<◌, ◌≤◌, ◌⊎◌, ℕ, suc, List, [], ◌∷◌, ◌++◌, codes as text_codes, length, Option, Result, Ok, Err, OnOk, MatchResult}
+use Rattle.std.specs.Prelude.{◌≡◌, ◌<◌, ◌≤◌, ◌⊎◌, ℕ, List, [], ◌∷◌, ◌++◌, codes as text_codes, length, Option, Result, Err, OnOk, MatchResult}
 use Rattle.std.specs.declared.io.Error.{Error}
 use Rattle.redux_buffer.specs.Faults.{MetInterrupts}
 use Rattle.body_reader.specs.Coding.{IsBody}
@@ -12,7 +12,7 @@ use Rattle.multipart.specs.Multipart.{AreCodings, FormState, IsBegun, codes, hyp
 use Rattle.multipart.specs.declared.reader.Limits.{Limits}
 use Rattle.programs.specs.Streams.{ReceivedFlushed}
 use Rattle.parts.specs.Ending.{EndsAs}
-use Rattle.parts.specs.Sections.{GetAnswers, ListAnswers, PartsBegin}
+use Rattle.parts.specs.Sections.{GetAnswers, SaysName, ListAnswers, NoneNamed, PartsBegin, Turn, list_lines}
 use Rattle.parts.specs.declared.error.RunError.{RunError}
 use Rattle.parts.specs.declared.error.RunError.TheVariants as Why
 use Rattle.programs.specs.declared.ending.Ending.TheVariants.{Memory, Usage}
@@ -40,37 +40,40 @@ pub record NoneAsked (words : List (List ℕ)) : Type 0 where
 abbrev pub run_limits : Limits
 run_limits = record { head = 16384; parts = 1000000 }
 
--- what was given is bytes in which some parts begin, then the whole text of the last of them, and then the rest
-pub record GavePart (texts heads : JustOrUntil) (payload : List ℕ) (read read' : StreamLog) : Type 0 where
-  pub count : ℕ
+-- what was given is bytes in which some parts begin, the last of them the first of this name, then the whole text of that, and
+-- then the rest
+pub record GavePart (name : List ℕ) (texts heads : JustOrUntil) (payload : List ℕ) (read read' : StreamLog) : Type 0 where
+  pub turn : Turn
+  pub earlier : List Turn
   pub before : List ℕ
   pub text : List ℕ
   pub rest : List ℕ
-  pub parts : PartsBegin texts heads (suc count) before
+  pub parts : PartsBegin texts heads (turn ∷ earlier) before
+  pub named : SaysName name turn.head
+  pub first : NoneNamed name earlier
   pub whole : IsBody (codes texts) text payload
   pub given : read'.reads.given ≡ read.reads.given ++ (before ++ (text ++ rest))
 
--- a part's payload, which is what stands between the boundary in front and the one behind, was received and flushed, and nothing
--- else
-pub record GotPart (texts heads : JustOrUntil) (read read' written written' : StreamLog) : Type 0 where
+-- the payload of the first part of this name, which is what stands between the boundary in front and the one behind, was received
+-- and flushed, and nothing else
+pub record GotPart (name : List ℕ) (texts heads : JustOrUntil) (read read' written written' : StreamLog) : Type 0 where
   pub payload : List ℕ
-  pub gave : GavePart texts heads payload read read'
+  pub gave : GavePart name texts heads payload read read'
   pub received : written'.writes.received ≡ written.writes.received ++ payload
   pub flushed : ReceivedFlushed written'
 
--- the whole body was given, to its end: so many parts begin, then come the whole text of the last of them, and two hyphens; and
--- some text was received and flushed, and no write failed but that some were interrupted
+-- the whole body was given, to its end: these parts begin, then come the whole text of the last of them, and two hyphens; and the
+-- lines of all were received and flushed, and no write failed but that some were interrupted
 pub record ListedAll (texts heads : JustOrUntil) (read read' written written' : StreamLog) : Type 0 where
-  pub count : ℕ
+  pub turns : List Turn
   pub before : List ℕ
+  pub bytes : List ℕ
   pub text : List ℕ
-  pub dropped : List ℕ
   pub rest : List ℕ
-  pub said : List ℕ
-  pub parts : PartsBegin texts heads count before
-  pub whole : IsBody (codes texts) text dropped
-  pub given : read'.reads.given ≡ read.reads.given ++ ((before ++ (text ++ hyphens)) ++ rest)
-  pub received : written'.writes.received ≡ written.writes.received ++ said
+  pub parts : PartsBegin texts heads turns before
+  pub whole : IsBody (codes texts) bytes text
+  pub given : read'.reads.given ≡ read.reads.given ++ ((before ++ (bytes ++ hyphens)) ++ rest)
+  pub received : written'.writes.received ≡ written.writes.received ++ list_lines turns text
   pub flushed : ReceivedFlushed written'
   pub met : MetInterrupts written.writes written'.writes
 
@@ -85,12 +88,8 @@ module _ {T : Type 0} (tells : T → StreamLog) (trace : T → T → Type 0) whe
   -- the writer was flushed, unless a write failed
   abbrev pub FlushedUnless : Result (Unit {0}) RunError → Buffered T StdPolicy → Result (Unit {0}) RunError
       → Buffered T StdPolicy → Type 0
-  FlushedUnless (Ok x) u last v = FlushedBehind (Ok x) u last v
-  FlushedUnless (Err (Why.Parts e)) u last v = FlushedBehind (Err (Why.Parts e)) u last v
-  FlushedUnless (Err (Why.Body e)) u last v = FlushedBehind (Err (Why.Body e)) u last v
   FlushedUnless (Err (Why.Write e)) u last v = (last ≡ Err (Why.Write e)) × (v ≡ u)
-  FlushedUnless (Err Why.Missing) u last v = FlushedBehind (Err Why.Missing) u last v
-  FlushedUnless (Err Why.Many) u last v = FlushedBehind (Err Why.Many) u last v
+  FlushedUnless answer u last v = FlushedBehind answer u last v
 
   -- how a run with this answer was ended: it said so, and the writer was left so
   pub record WasEnded (answer : Result (Unit {0}) RunError) (v : Buffered T StdPolicy) (ending : Ending) (written' : StreamLog)
@@ -135,19 +134,19 @@ pub record RanNot (ending : Ending) (read read' written written' : StreamLog) : 
   pub written_same : written' ≡ written
 
 module _ {S T : Type 0} (remaining : S → Option (List ℕ)) (tells : T → StreamLog) (trace : T → T → Type 0) where
-  -- a run that wanted a part: at Done the text of one went over
-  abbrev pub GetDid : FormState S StdPolicy → Buffered T StdPolicy → Ending → StreamLog → StreamLog → Type 0
-  GetDid = DidSo tells trace (GetAnswers remaining tells trace) GotPart
+  -- a run that wanted a part of a name: at Done the text of the first went over
+  abbrev pub GetDid : List ℕ → FormState S StdPolicy → Buffered T StdPolicy → Ending → StreamLog → StreamLog → Type 0
+  GetDid name = DidSo tells trace (GetAnswers tells trace name) (GotPart name)
 
-  abbrev pub GetRan : List ℕ → Ending → StreamLog → StreamLog → StreamLog → StreamLog → Type 0
-  GetRan = RanSo tells trace (GetAnswers remaining tells trace) GotPart
+  abbrev pub GetRan : List ℕ → List ℕ → Ending → StreamLog → StreamLog → StreamLog → StreamLog → Type 0
+  GetRan name = RanSo {S = S} tells trace (GetAnswers tells trace name) (GotPart name)
 
-  -- a run that listed the parts: at Done all of the body was passed
+  -- a run that listed the parts: at Done all of the body was passed, and the lines of all parts went over
   abbrev pub ListDid : FormState S StdPolicy → Buffered T StdPolicy → Ending → StreamLog → StreamLog → Type 0
-  ListDid = DidSo tells trace (ListAnswers remaining tells trace) ListedAll
+  ListDid = DidSo tells trace (ListAnswers tells trace) ListedAll
 
   abbrev pub ListRan : List ℕ → Ending → StreamLog → StreamLog → StreamLog → StreamLog → Type 0
-  ListRan = RanSo tells trace (ListAnswers remaining tells trace) ListedAll
+  ListRan = RanSo {S = S} tells trace (ListAnswers tells trace) ListedAll
 
   -- what a run did that these words asked for, and that ended so; other words call no stream
   pub record RunDid (words : List (List ℕ)) (ending : Ending) (read read' written written' : StreamLog) : Type 0 where
@@ -155,4 +154,4 @@ module _ {S T : Type 0} (remaining : S → Option (List ℕ)) (tells : T → Str
     pub list : (boundary : List ℕ) → IsBoundary boundary → words ≡ list_words boundary
         → RanNot ending read read' written written' ⊎ ListRan boundary ending read read' written written'
     pub get : (boundary name : List ℕ) → IsBoundary boundary → words ≡ get_words boundary name
-        → RanNot ending read read' written written' ⊎ GetRan boundary ending read read' written written'
+        → RanNot ending read read' written written' ⊎ GetRan name boundary ending read read' written written'

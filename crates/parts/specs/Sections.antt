@@ -4,7 +4,8 @@ use Rattle.std.specs.declared.io.Error.{Error}
 use Rattle.std.specs.declared.io.ErrorKind.TheVariants.{Other}
 use Rattle.multipart.specs.declared.error.PartError.{PartError}
 use Rattle.multipart.specs.declared.error.PartError.TheVariants as part
-use Rattle.std.specs.Prelude.{◌≡◌, ◌≢◌, ℕ, zero, suc, ◌^◌, ◌+◌, ◌-◌, ◌<◌, ◌≤◌, ◌⊎◌, List, [], ◌++◌, length, min, Option, Result, Ok, Err, OnOk, IsTrue}
+use Rattle.std.specs.Prelude.{◌≡◌, ◌≢◌, ℕ, ◌^◌, ◌+◌, ◌-◌, ◌<◌, ◌≤◌, ◌⊎◌, List, [], ◌∷◌, ◌++◌, length, min, All, codes as text_codes, decimal, unwrap_or, Option, Some, Result, Ok, Err, OnOk, IsTrue}
+use Rattle.std.specs.Option.{option_and_then}
 use Rattle.redux_buffer.specs.Faults.{MetInterrupts}
 use Rattle.body_reader.specs.Between.{EachGave, FaultedOnce, GaveNothingOnce}
 use Rattle.body_reader.specs.BodyReader.{BodyWent, EndsEarly, IsBodyReader, NoPayload, TookWholeBody, handed_of}
@@ -16,90 +17,130 @@ use Rattle.buffer_redux.specs.Buffered.{Buffered}
 use Rattle.buffer_redux.specs.Policy.{std_read_rules, std_write_rules}
 use Rattle.buffer_redux.specs.StreamLog.{StreamLog}
 use Rattle.buffer_redux.specs.declared.policy.StdPolicy.{StdPolicy}
-use Rattle.multipart.specs.Head.{is_opening}
+use Rattle.multipart.specs.Head.{field_of, is_opening, parameter_of}
 use Rattle.multipart.specs.Multipart.{FormState, codes, hyphens}
 use Rattle.multipart.specs.declared.reader.Limits.{Limits}
 use Rattle.multipart.specs.declared.reader.Stand.TheVariants.{Preamble, Part}
 use Rattle.parts.specs.declared.error.RunError.{RunError}
 use Rattle.parts.specs.declared.error.RunError.TheVariants.{Body, Many, Missing, Parts, Write}
 
+-- where a boundary stands: the text in front of it, and what the head behind it says
+pub record Turn : Type 0 where
+  pub text : List ℕ
+  pub head : List ℕ
+
+-- what a parameter of a head's `Content-Disposition` says
+abbrev pub said_of : List ℕ → List ℕ → Option (List ℕ)
+said_of name head = option_and_then (λ value. parameter_of value name) (field_of head (text_codes "Content-Disposition"))
+
+-- whose head says this name
+abbrev pub SaysName : List ℕ → List ℕ → Type 0
+SaysName name head = said_of (text_codes "name") head ≡ Some name
+
+abbrev pub NoneNamed : List ℕ → List Turn → Type 0
+NoneNamed name turns = All (λ turn. ¬ SaysName name turn.head) turns
+
+-- what is said, or `-`, and a tab
+abbrev pub column : Option (List ℕ) → List ℕ
+column said = unwrap_or said (text_codes "-") ++ 9 ∷ []
+
+-- the front of a part's line: its name, its file's name and its type, as its head says them
+abbrev pub front_of : List ℕ → List ℕ
+front_of head = column (said_of (text_codes "name") head) ++ (column (said_of (text_codes "filename") head)
+    ++ column (field_of head (text_codes "Content-Type")))
+
+-- a part's line: that, and the length of its text, as far as a `u64` counts
+abbrev pub list_line : List ℕ → List ℕ → List ℕ
+list_line head text = front_of head ++ (decimal (min (length text) (2 ^ 64 - 1)) ++ 10 ∷ [])
+
+-- the lines of the parts, of which the last stands first, and has this text
+abbrev pub list_lines : List Turn → List ℕ → List ℕ
+list_lines [] text = []
+list_lines (turn ∷ earlier) text = list_lines earlier turn.text ++ list_line turn.head text
+
 module _ (texts heads : JustOrUntil) where
-  -- a head that leads into a part
-  pub record LeadsIn (bytes : List ℕ) : Type 0 where
-    pub said : List ℕ
+  -- a head that says this, and leads into a part
+  pub record LeadsIn (said bytes : List ℕ) : Type 0 where
     pub whole : IsBody (codes heads) bytes said
     pub opens : IsTrue (is_opening said)
     pub no_end : bytes ≢ hyphens
 
-  -- so many parts begin in these bytes, the last one behind them: behind each text a head follows
-  abbrev pub PartsBegin : ℕ → List ℕ → Type 0
-  PartsBegin zero bytes = bytes ≡ []
-  PartsBegin (suc count) bytes = (before : List ℕ) × (text : List ℕ) × (head : List ℕ) × (dropped : List ℕ)
-      × (bytes ≡ before ++ (text ++ head)) × PartsBegin count before × IsBody (codes texts) text dropped × LeadsIn head
+  -- these turns stand in these bytes, the last one, which stands first, behind all: behind each text a head follows
+  abbrev pub PartsBegin : List Turn → List ℕ → Type 0
+  PartsBegin [] bytes = bytes ≡ []
+  PartsBegin (turn ∷ earlier) bytes = (before : List ℕ) × (text : List ℕ) × (head : List ℕ)
+      × (bytes ≡ before ++ (text ++ head)) × PartsBegin earlier before × IsBody (codes texts) text turn.text
+      × LeadsIn turn.head head
 
-  -- in the text of a part, so many of which began, or before the first boundary
-  pub record InText {S Q : Type 0} (first : Buffered S Q) (count : ℕ) (before : List ℕ) (t : FormState S Q) : Type 0 where
-    pub stands : (t.stand ≡ Preamble) ⊎ (t.stand ≡ Part)
-    pub coding : t.body.coding ≡ texts
-    pub other : t.other ≡ heads
-    pub counted : t.parts ≡ count
-    pub parts : PartsBegin count before
-    pub order : ReadsInOrder first (before ++ t.body.taken) t.body.reader
+  module _ {S Q : Type 0} (first : Buffered S Q) (turns : List Turn) where
+    -- in the text of the last of these parts, or before the first boundary
+    pub record InText (before : List ℕ) (t : FormState S Q) : Type 0 where
+      pub stands : (t.stand ≡ Preamble) ⊎ (t.stand ≡ Part)
+      pub coding : t.body.coding ≡ texts
+      pub other : t.other ≡ heads
+      pub counted : t.parts ≡ length turns
+      pub parts : PartsBegin turns before
+      pub order : ReadsInOrder first (before ++ t.body.taken) t.body.reader
 
-  -- behind the text in front of a boundary, and so many parts, these bytes were taken last
-  pub record BehindText {S Q : Type 0} (first : Buffered S Q) (wire : List ℕ) (t : Buffered S Q) : Type 0 where
-    pub count : ℕ
-    pub before : List ℕ
-    pub text : List ℕ
-    pub dropped : List ℕ
-    pub parts : PartsBegin count before
-    pub whole : IsBody (codes texts) text dropped
-    pub order : ReadsInOrder first (before ++ (text ++ wire)) t
+    -- behind the last text, which is this, in front of a boundary, these bytes were taken last
+    pub record BehindText (text wire : List ℕ) (t : Buffered S Q) : Type 0 where
+      pub before : List ℕ
+      pub bytes : List ℕ
+      pub parts : PartsBegin turns before
+      pub whole : IsBody (codes texts) bytes text
+      pub order : ReadsInOrder first (before ++ (bytes ++ wire)) t
 
-  -- behind the last boundary, and its two hyphens
-  abbrev pub PassedAll : {S Q : Type 0} → Buffered S Q → Buffered S Q → Type 0
-  PassedAll first t = BehindText first hyphens t × EachGave first t
+    module _ (text : List ℕ) where
+      -- behind the last boundary, and its two hyphens
+      abbrev pub PassedAll : Buffered S Q → Type 0
+      PassedAll t = BehindText text hyphens t × EachGave first t
 
-  -- in a text, or in the head behind one
-  abbrev pub InSection : {S Q : Type 0} → Buffered S Q → FormState S Q → Type 0
-  InSection first t =
-      ((count : ℕ) × (before : List ℕ) × InText first count before t) ⊎ BehindText first t.body.taken t.body.reader
+      -- in a text, of which this came, or in the head behind one
+      abbrev pub InSection : FormState S Q → Type 0
+      InSection t = ((before : List ℕ) × InText before t × (text ≡ handed_of t.body))
+          ⊎ BehindText text t.body.taken t.body.reader
 
-  -- a head that begins otherwise than the line of a boundary ends was taken last
-  pub record TookWrongHead {S Q : Type 0} (first : Buffered S Q) (t : FormState S Q) : Type 0 where
-    pub behind : BehindText first t.body.taken t.body.reader
-    pub whole : IsBody (codes heads) t.body.taken (handed_of t.body)
-    pub no_end : t.body.taken ≢ hyphens
-    pub no_opening : ¬ IsTrue (is_opening (handed_of t.body))
+      -- a head that begins otherwise than the line of a boundary ends was taken last
+      pub record TookWrongHead (t : FormState S Q) : Type 0 where
+        pub behind : BehindText text t.body.taken t.body.reader
+        pub whole : IsBody (codes heads) t.body.taken (handed_of t.body)
+        pub no_end : t.body.taken ≢ hyphens
+        pub no_opening : ¬ IsTrue (is_opening (handed_of t.body))
 
-  -- in a head, of which more is buffered
-  pub record InHead {S Q : Type 0} (first : Buffered S Q) (t : FormState S Q) : Type 0 where
-    pub behind : BehindText first t.body.taken t.body.reader
-    pub inside : IsBodyReader (codes heads) t.body
-    pub some : 0 < t.body.known
+      -- in a head, of which more is buffered
+      pub record InHead (t : FormState S Q) : Type 0 where
+        pub behind : BehindText text t.body.taken t.body.reader
+        pub inside : IsBodyReader (codes heads) t.body
+        pub some : 0 < t.body.known
 
-  -- why no part comes next: the stream ended within a text or a head, or failed there, or the text is longer than a run counts;
-  -- the head is wrong, is too long, or leads into a part more than these; or memory for it was refused
-  abbrev pub NextFails : {S Q : Type 0} → Limits → Buffered S Q → PartError → FormState S Q → Type 0
-  NextFails limits first part.Truncated t =
-      InSection first t × EndsEarly (codes t.body.coding) t.body × GaveNothingOnce first t.body.reader
-  NextFails limits first (part.Io e) t = InSection first t
-      × ((EndsEarly (codes t.body.coding) t.body × FaultedOnce first e t.body.reader)
-      ⊎ ((error_kind e ≡ Other) × (2 ^ 64 - 1 ≤ length (handed_of t.body)) × EachGave first t.body.reader))
-  NextFails limits first part.Boundary t = TookWrongHead first t × EachGave first t.body.reader
-  NextFails limits first part.LongHead t =
-      InHead first t × (limits.head < length (handed_of t.body) + t.body.known) × EachGave first t.body.reader
-  NextFails limits first part.ManyParts t =
-      ((behind : BehindText first t.body.taken t.body.reader) × (limits.parts ≤ behind.count))
-      × LeadsIn t.body.taken × EachGave first t.body.reader
-  NextFails limits first part.Memory t =
-      InHead first t × (length (handed_of t.body) + t.body.known ≤ limits.head) × EachGave first t.body.reader
+      -- why no part comes next: the stream ended within a text or a head, or failed there, or the text is longer than a run
+      -- counts; the head is wrong, is too long, or leads into a part more than these; or memory for it was refused
+      abbrev pub NextFails : Limits → PartError → FormState S Q → Type 0
+      NextFails limits part.Truncated t =
+          InSection t × EndsEarly (codes t.body.coding) t.body × GaveNothingOnce first t.body.reader
+      NextFails limits (part.Io e) t = InSection t
+          × ((EndsEarly (codes t.body.coding) t.body × FaultedOnce first e t.body.reader)
+          ⊎ ((error_kind e ≡ Other) × (2 ^ 64 - 1 ≤ length (handed_of t.body)) × EachGave first t.body.reader))
+      NextFails limits part.Boundary t = TookWrongHead t × EachGave first t.body.reader
+      NextFails limits part.LongHead t =
+          InHead t × (limits.head < length (handed_of t.body) + t.body.known) × EachGave first t.body.reader
+      NextFails limits part.ManyParts t = BehindText text t.body.taken t.body.reader × (limits.parts ≤ length turns)
+          × LeadsIn (handed_of t.body) t.body.taken × EachGave first t.body.reader
+      NextFails limits part.Memory t =
+          InHead t × (length (handed_of t.body) + t.body.known ≤ limits.head) × EachGave first t.body.reader
 
 -- in a part, to which the bytes before it lead
 pub record InPart {S : Type 0} (s t : FormState S StdPolicy) : Type 0 where
-  pub count : ℕ
+  pub turn : Turn
+  pub earlier : List Turn
   pub before : List ℕ
-  pub inside : InText s.body.coding s.other s.body.reader (suc count) before t
+  pub inside : InText s.body.coding s.other s.body.reader (turn ∷ earlier) before t
+
+-- in the first part of this name
+pub record InNamed {S : Type 0} (name : List ℕ) (s t : FormState S StdPolicy) : Type 0 where
+  pub part : InPart s t
+  pub named : SaysName name part.turn.head
+  pub first : NoneNamed name part.earlier
 
 module _ {S T : Type 0} (remaining : S → Option (List ℕ)) (tells : T → StreamLog) (trace : T → T → Type 0) where
   -- what comes of writing the text of a part, of which so much came: all of it was accepted, unless a write failed
@@ -124,28 +165,30 @@ module _ {S T : Type 0} (remaining : S → Option (List ℕ)) (tells : T → Str
     pub went : BodyWent remaining std_read_rules (codes s.body.coding) s.body payload t.body
     pub answers : PutAnswers s u payload answer t v
 
-  -- what comes of writing the text of a wanted part, from before the first boundary on
-  abbrev pub GetAnswers : FormState S StdPolicy → Buffered T StdPolicy → Result (Unit {0}) RunError
+module _ {S T : Type 0} (tells : T → StreamLog) (trace : T → T → Type 0) where
+  -- what comes of writing the text of the first part of this name, from before the first boundary on
+  abbrev pub GetAnswers : List ℕ → FormState S StdPolicy → Buffered T StdPolicy → Result (Unit {0}) RunError
       → FormState S StdPolicy → Buffered T StdPolicy → Type 0
-  GetAnswers s u (Ok _) t v = InPart s t × TookWholeBody (codes s.body.coding) t.body × EachGave s.body.reader t.body.reader
+  GetAnswers name s u (Ok _) t v = InNamed name s t × TookWholeBody (codes s.body.coding) t.body
+      × EachGave s.body.reader t.body.reader × WritesAlong tells trace std_write_rules u (handed_of t.body) v
+  GetAnswers name s u (Err Missing) t v = (turns : List Turn) × (text : List ℕ)
+      × PassedAll s.body.coding s.other s.body.reader turns text t.body.reader × NoneNamed name turns × (v ≡ u)
+  GetAnswers name s u (Err (Body why)) t v = InNamed name s t × NoPayload (codes s.body.coding) s.body why t.body
       × WritesAlong tells trace std_write_rules u (handed_of t.body) v
-  GetAnswers s u (Err Missing) t v = PassedAll s.body.coding s.other s.body.reader t.body.reader × (v ≡ u)
-  GetAnswers s u (Err (Body why)) t v = InPart s t × NoPayload (codes s.body.coding) s.body why t.body
-      × WritesAlong tells trace std_write_rules u (handed_of t.body) v
-  GetAnswers s u (Err (Write e)) t v = InPart s t × EachGave s.body.reader t.body.reader
+  GetAnswers name s u (Err (Write e)) t v = InNamed name s t × EachGave s.body.reader t.body.reader
       × StoppedAlong tells trace std_write_rules u (handed_of t.body) e v
-  GetAnswers s u (Err (Parts why)) t v =
-      NextFails s.body.coding s.other s.limits s.body.reader why t × (v ≡ u)
-  GetAnswers s u (Err Many) t v = EachGave s.body.reader t.body.reader
-      × ((InPart s t × (2 ^ 64 ≤ length (handed_of t.body) + 1)
+  GetAnswers name s u (Err (Parts why)) t v = (turns : List Turn) × (text : List ℕ)
+      × NextFails s.body.coding s.other s.body.reader turns text s.limits why t × NoneNamed name turns × (v ≡ u)
+  GetAnswers name s u (Err Many) t v = EachGave s.body.reader t.body.reader
+      × ((InNamed name s t × (2 ^ 64 ≤ length (handed_of t.body) + 1)
       × WritesAlong tells trace std_write_rules u (handed_of t.body) v)
-      ⊎ ((v ≡ u) × ((count : ℕ) × (before : List ℕ) × (2 ^ 64 ≤ count + 1)
-      × InText s.body.coding s.other s.body.reader count before t)))
+      ⊎ ((v ≡ u) × ((turns : List Turn) × (before : List ℕ) × (2 ^ 64 ≤ length turns + 1) × NoneNamed name turns
+      × InText s.body.coding s.other s.body.reader turns before t)))
 
 module _ {T : Type 0} (tells : T → StreamLog) (trace : T → T → Type 0) where
-  -- some text was accepted, and no write failed but that some were interrupted; or a beginning of it before the writer failed
-  pub record PutsSome (u : Buffered T StdPolicy) (answer : Result (Unit {0}) Error) (v : Buffered T StdPolicy) : Type 0 where
-    pub said : List ℕ
+  -- this was accepted, and no write failed but that some were interrupted; or a beginning of it before the writer failed
+  pub record PutsBytes (u : Buffered T StdPolicy) (said : List ℕ) (answer : Result (Unit {0}) Error) (v : Buffered T StdPolicy)
+      : Type 0 where
     pub all : AllAlong tells trace std_write_rules u said answer v
     pub met : OnOk answer (MetInterrupts u.log.writes v.log.writes)
 
@@ -167,18 +210,27 @@ module _ {S : Type 0} (remaining : S → Option (List ℕ)) where
     pub went : BodyWent remaining std_read_rules (codes s.body.coding) s.body payload t.body
     pub answers : LenAnswers s payload answer t
 
-module _ {S T : Type 0} (remaining : S → Option (List ℕ)) (tells : T → StreamLog) (trace : T → T → Type 0) where
-  -- what comes of listing the parts, from before the first boundary on: all of the body was passed
+module _ {S T : Type 0} (tells : T → StreamLog) (trace : T → T → Type 0) where
+  -- what comes of listing the parts, from before the first boundary on: the lines of all parts that were passed, and of one that
+  -- wasn't the front
   abbrev pub ListAnswers : FormState S StdPolicy → Buffered T StdPolicy → Result (Unit {0}) RunError
       → FormState S StdPolicy → Buffered T StdPolicy → Type 0
-  ListAnswers s u (Ok x) t v = PassedAll s.body.coding s.other s.body.reader t.body.reader × PutsSome tells trace u (Ok x) v
-  ListAnswers s u (Err (Parts why)) t v =
-      NextFails s.body.coding s.other s.limits s.body.reader why t × PutsSome tells trace u (Ok tt) v
-  ListAnswers s u (Err (Body why)) t v =
-      InPart s t × NoPayload (codes s.body.coding) s.body why t.body × PutsSome tells trace u (Ok tt) v
-  ListAnswers s u (Err (Write e)) t v = InPart s t × EachGave s.body.reader t.body.reader × PutsSome tells trace u (Err e) v
-  ListAnswers s u (Err Many) t v = EachGave s.body.reader t.body.reader × PutsSome tells trace u (Ok tt) v
-      × ((InPart s t × (2 ^ 64 ≤ length (handed_of t.body) + 1))
-      ⊎ ((count : ℕ) × (before : List ℕ) × (2 ^ 64 ≤ count + 1)
-      × InText s.body.coding s.other s.body.reader count before t))
+  ListAnswers s u (Ok x) t v = (turns : List Turn) × (text : List ℕ)
+      × PassedAll s.body.coding s.other s.body.reader turns text t.body.reader
+      × PutsBytes tells trace u (list_lines turns text) (Ok x) v
+  ListAnswers s u (Err (Parts why)) t v = (turns : List Turn) × (text : List ℕ)
+      × NextFails s.body.coding s.other s.body.reader turns text s.limits why t
+      × PutsBytes tells trace u (list_lines turns text) (Ok tt) v
+  ListAnswers s u (Err (Body why)) t v = (in_part : InPart s t) × NoPayload (codes s.body.coding) s.body why t.body
+      × PutsBytes tells trace u (list_lines in_part.earlier in_part.turn.text ++ front_of in_part.turn.head) (Ok tt) v
+  ListAnswers s u (Err (Write e)) t v = (in_part : InPart s t) × EachGave s.body.reader t.body.reader
+      × (PutsBytes tells trace u (list_lines in_part.earlier in_part.turn.text ++ front_of in_part.turn.head) (Err e) v
+      ⊎ (TookWholeBody (codes s.body.coding) t.body
+      × PutsBytes tells trace u (list_lines (in_part.turn ∷ in_part.earlier) (handed_of t.body)) (Err e) v))
+  ListAnswers s u (Err Many) t v = EachGave s.body.reader t.body.reader
+      × (((in_part : InPart s t) × (2 ^ 64 ≤ length (handed_of t.body) + 1)
+      × PutsBytes tells trace u (list_lines in_part.earlier in_part.turn.text ++ front_of in_part.turn.head) (Ok tt) v)
+      ⊎ ((turns : List Turn) × (before : List ℕ) × (2 ^ 64 ≤ length turns + 1)
+      × InText s.body.coding s.other s.body.reader turns before t
+      × PutsBytes tells trace u (list_lines turns (handed_of t.body)) (Ok tt) v))
   ListAnswers s u (Err Missing) t v = ⊥

@@ -1,6 +1,7 @@
 //! The text of one part, over any two streams that tell.
-ghost use Rattle.std.specs.Prelude.{◌≡◌, []};
-ghost use Rattle.parts.specs.Sections.{GetAnswers, PutsPart};
+ghost use Rattle.std.specs.Prelude.{◌≡◌, ◌↔◌, [], IsTrue};
+ghost use Rattle.std.specs.Option.{option_copied};
+ghost use Rattle.parts.specs.Sections.{GetAnswers, SaysName, PutsPart, said_of};
 
 use crate::error::RunError;
 use buffer_redux::BufWriter;
@@ -17,26 +18,34 @@ pub(crate) fn get<R: TellRead, W: TellWrite>(
     requires stands { parts.old.stand ≡ Stand.Preamble }
     requires none { parts.old.parts ≡ 0 }
     requires begins { parts.old.body.taken ≡ [] }
-    ensures { GetAnswers R.remaining W.log W.trace parts.old target.old result parts.new target.new }
+    ensures { GetAnswers W.log W.trace name.now parts.old target.old result parts.new target.new }
 {
     for _part in 0..u64::MAX {
         if !parts.next_part()? {
             return Err(RunError::Missing);
         }
-        let said = named(field(parts.head(), b"Content-Disposition"), b"name");
-        if said == Some(name) {
+        if is_named(parts.head(), name) {
             return put_text(parts, target);
         }
     }
     Err(RunError::Many)
 }
 
-/// A parameter of a value that may be missing.
-pub(crate) fn named<'a>(value: Option<&'a [u8]>, name: &[u8]) -> Option<&'a [u8]> {
-    match value {
-        Some(value) => parameter(value, name),
-        None => None,
+// Whether a head says this name.
+fn is_named(head: &[u8], name: &[u8]) -> bool
+    ensures { IsTrue result ↔ SaysName name.now head.now }
+{
+    match said(head, b"name") {
+        Some(said) => said == name,
+        None => false,
     }
+}
+
+/// What a parameter of a head's `Content-Disposition` says.
+pub(crate) fn said<'a>(head: &'a [u8], name: &[u8]) -> Option<&'a [u8]>
+    ensures { option_copied result ≡ said_of name.now head.now }
+{
+    parameter(field(head, b"Content-Disposition")?, name)
 }
 
 // Writes the text of the part. A piece that the writer took no more than a beginning of is consumed.

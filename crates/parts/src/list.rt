@@ -1,9 +1,10 @@
 //! What the parts are, over any two streams that tell.
-ghost use Rattle.std.specs.Prelude.{◌≡◌, []};
-ghost use Rattle.parts.specs.Sections.{ListAnswers, PutsSome, TakesText};
+ghost use Rattle.std.specs.Prelude.{◌≡◌, [], ◌∷◌, ◌++◌, codes, decimal, unwrap_or};
+ghost use Rattle.std.specs.Option.{option_copied};
+ghost use Rattle.parts.specs.Sections.{ListAnswers, PutsBytes, TakesText, column, front_of};
 
 use crate::error::RunError;
-use crate::get::named;
+use crate::get::said;
 use buffer_redux::BufWriter;
 use buffer_redux::tell::{TellRead, TellWrite};
 use multipart::{Multipart, Stand, field};
@@ -18,7 +19,7 @@ pub(crate) fn list<R: TellRead, W: TellWrite>(
     requires stands { parts.old.stand ≡ Stand.Preamble }
     requires none { parts.old.parts ≡ 0 }
     requires begins { parts.old.body.taken ≡ [] }
-    ensures { ListAnswers R.remaining W.log W.trace parts.old target.old result parts.new target.new }
+    ensures { ListAnswers W.log W.trace parts.old target.old result parts.new target.new }
 {
     for _part in 0..u64::MAX {
         if !parts.next_part()? {
@@ -31,33 +32,36 @@ pub(crate) fn list<R: TellRead, W: TellWrite>(
     Err(RunError::Many)
 }
 
-// Writes what a head says.
+// Writes what a head says, a tab behind each.
 fn put_said<W: TellWrite>(head: &[u8], target: &mut BufWriter<W>) -> io::Result<()>
-    ensures { PutsSome W.log W.trace target.old result target.new }
+    ensures { PutsBytes W.log W.trace target.old (front_of head.now) result target.new }
 {
-    let said = field(head, b"Content-Disposition");
-    put_or(named(said, b"name"), target)?;
-    target.write_all(b"\t")?;
-    put_or(named(said, b"filename"), target)?;
-    target.write_all(b"\t")?;
+    put_or(said(head, b"name"), target)?;
+    put_or(said(head, b"filename"), target)?;
     put_or(field(head, b"Content-Type"), target)
 }
 
 fn put_or<W: TellWrite>(said: Option<&[u8]>, target: &mut BufWriter<W>) -> io::Result<()>
-    ensures { PutsSome W.log W.trace target.old result target.new }
+    ensures { PutsBytes W.log W.trace target.old (column (option_copied said.entry)) result target.new }
+{
+    target.write_all(or_hyphen(said))?;
+    target.write_all(b"\t")
+}
+
+fn or_hyphen<'a>(said: Option<&'a [u8]>) -> &'a [u8]
+    ensures { result.now ≡ unwrap_or (option_copied said.entry) (codes "-") }
 {
     match said {
-        Some(said) => target.write_all(said),
-        None => target.write_all(b"-"),
+        Some(said) => said,
+        None => b"-",
     }
 }
 
 // Ends a line by how long the text is.
 fn put_len<W: TellWrite>(len: u64, target: &mut BufWriter<W>) -> io::Result<()>
-    ensures { PutsSome W.log W.trace target.old result target.new }
+    ensures { PutsBytes W.log W.trace target.old (decimal len ++ 10 ∷ []) result target.new }
 {
     let mut digits = itoa::Buffer::new();
-    target.write_all(b"\t")?;
     target.write_all(digits.format(len).as_bytes())?;
     target.write_all(b"\n")
 }

@@ -102,7 +102,7 @@ fn run_get<R: TellRead, W: TellWrite>(
     requires begins { parts.body.taken ≡ [] }
     requires unread { parts.body.reader.block.bytes ≡ [] }
     requires unwritten { target.block.bytes ≡ [] }
-    ensures { GetDid R.remaining W.log W.trace parts target result.0 (R.log result.1) (W.log result.2) }
+    ensures { GetDid R.remaining W.log W.trace name.now parts target result.0 (R.log result.1) (W.log result.2) }
 {
     let (mut parts, mut target) = (parts, target);
     let answer = get(&mut parts, name, &mut target);

@@ -1,28 +1,20 @@
--- Three writes, one after another.
+-- The digits, and then the end of the line.
 use Rattle.std.proofs.lemmas.Result.{err_from_is_err_and}
-use Rattle.parts.proofs.Listing.{puts_all, puts_then}
+use Rattle.parts.proofs.Listing.{puts_all, puts_no_more, puts_then}
 use Rattle.parts.proofs.list.put_len.Goals as goal
 
 pub returns-in_err-write_all : goal.returns-in_err-write_all
 returns-in_err-write_all g c =
-    let p = err_from_is_err_and c.from_residual.result c.from_residual.ensures.1 in
-    rw (p.1, p.2) (puts_all g.W.Tell.log g.W.TellWrite.trace _ _ _ _ c.in_err-write_all.ensures.steps)
-
-pub returns-in_err-write_all-2 : goal.returns-in_err-write_all-2
-returns-in_err-write_all-2 g c =
     let log = g.W.Tell.log in
     let trace = g.W.TellWrite.trace in
-    let p = err_from_is_err_and c.from_residual-in_err-write_all-2.result c.from_residual-in_err-write_all-2.ensures.1 in
-    rw (p.1, p.2) (puts_then log trace g.met.W.TellWrite.trace_joins _ _ _ _
-    (puts_all log trace _ _ _ _ c.in_ok-write_all.ensures.steps)
-    (puts_all log trace _ _ _ _ c.in_err-write_all-2.ensures.steps))
+    let p = err_from_is_err_and c.from_residual.result c.from_residual.ensures.1 in
+    let first = rw (c.as_bytes.ensures.value, c.format.ensures.text) at c.in_err-write_all.ensures.steps in
+    rw (p.1, p.2) (puts_no_more log trace _ _ _ _ _ (puts_all log trace _ _ _ _ first))
 
 pub returns : goal.returns
 returns g c =
     let log = g.W.Tell.log in
     let trace = g.W.TellWrite.trace in
-    let joins = g.met.W.TellWrite.trace_joins in
-    puts_then log trace joins _ _ _ _
-    (puts_then log trace joins _ _ _ _ (puts_all log trace _ _ _ _ c.in_ok-write_all.ensures.steps)
-    (puts_all log trace _ _ _ _ c.in_ok-write_all-2.ensures.steps))
-    (puts_all log trace _ _ _ _ c.write_all-3.ensures.steps)
+    let first = rw (c.as_bytes.ensures.value, c.format.ensures.text) at c.in_ok-write_all.ensures.steps in
+    puts_then log trace g.met.W.TellWrite.trace_joins _ _ _ _ _ _ (puts_all log trace _ _ _ _ first)
+    (puts_all log trace _ _ _ _ c.write_all-2.ensures.steps)

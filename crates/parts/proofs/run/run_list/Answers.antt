@@ -5,7 +5,7 @@ use Rattle.parts.proofs.run.run_list.Goals as goal
 pub returns : goal.returns
 returns g c =
     let over = c.ended.ensures.over in
-    let is = listed g.R.TellRead.remaining g.W.Tell.log g.W.TellWrite.trace g.met.W.TellWrite.trace_joins c.args.parts
+    let is = listed g.W.Tell.log g.W.TellWrite.trace g.met.W.TellWrite.trace_joins c.args.parts
     c.list-answer.new.parts c.args.target c.list-answer.new.target over.w c.requires.unread c.requires.unwritten
     c.list-answer.result over.last c.list-answer.ensures over.flushed in
     record {
