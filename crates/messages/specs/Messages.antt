@@ -147,19 +147,6 @@ pub record Begun {S : Type 0} (remaining : S → Option (List ℕ)) (s : ReaderS
   pub taken : b.taken ≡ []
   pub unknown : b.known ≡ 0
 
--- the reader went on behind a head, into the body that it says
-pub record Enters {S : Type 0} (s : ReaderState S Heads) (bytes : List ℕ) (b : InBody S) : Type 0 where
-  pub head : b.head ≡ bytes
-  pub stream : b.stream ≡ left_of s
-  pub room : b.room ≡ room_of s.reader.block
-  pub moved : b.moved ≡ s.reader.block.moved
-  pub fresh : b.calls ≡ no_calls
-  pub limits : b.limits ≡ s.decoder.0
-  pub is : IsHead b.limits b.head b.said
-  pub rest : b.rest ≡ body_of b.limits b.said.extent
-  pub taken : b.taken ≡ []
-  pub unknown : b.known ≡ 0
-
 -- why there is no message is the answer of a reader of pieces
 abbrev pub stop_answer : Stop → NextAnswer BadHead
 stop_answer Ended = Ok None

@@ -19,7 +19,7 @@ use Rattle.messages.specs.declared.limits.Limits.{Limits}
 use Rattle.messages.specs.Heads.{IsHead, IsHeadPiece, extent_of, heads}
 use Rattle.messages.specs.HeadsLaws.{heads_lawful}
 use Rattle.messages.specs.Versions.{as_known}
-use Rattle.messages.specs.Messages.{AreMessages, Backward, Begun, EachReadGave, Enters, InBody, InTurn, InsideGoes, IsMessage, IsRest, Message, MessagesWent, Onward, Rest, TakesFromRest, body_of, room_of}
+use Rattle.messages.specs.Messages.{AreMessages, Backward, Begun, EachReadGave, InBody, InTurn, InsideGoes, IsMessage, IsRest, Message, MessagesWent, Onward, Rest, TakesFromRest, body_of, room_of}
 
 -- a body ends in one place
 one_body : (limits : Limits) (e : Extent) (a b p q xs ys : List ℕ) → IsRest (body_of limits e) a p → IsRest (body_of limits e) b q
@@ -109,22 +109,6 @@ module _ {S : Type 0} (remaining : S → Option (List ℕ)) where
       → NextPiece remaining (heads s.decoder.0) s (Ok (Some bytes)) t → IsHeadPiece t.decoder.0 bytes bytes
   lent_still s t bytes next =
       subst (λ d. IsHeadPiece d.0 bytes bytes) (sym next.went.decoder) (lent s t bytes next).1
-
-  pub Enters-begun : (s t : ReaderState S head.Heads) (bytes : List ℕ) (b : InBody S)
-      → NextPiece remaining (heads s.decoder.0) s (Ok (Some bytes)) t → Enters t bytes b → Begun remaining s b
-  Enters-begun s t bytes b next enters = record {
-    behind = t;
-    next = subst (λ l. NextPiece remaining (heads s.decoder.0) s (Ok (Some l)) t) (sym enters.head) next;
-    stream = enters.stream;
-    room = enters.room ∙ same_room t.reader.block s.reader.block next.went.capacity next.went.limit;
-    moved = enters.moved;
-    fresh = enters.fresh;
-    limits = enters.limits ∙ ap (λ d. d.0) next.went.decoder;
-    is = enters.is;
-    rest = enters.rest;
-    taken = enters.taken;
-    unknown = enters.unknown;
-  }
 
   pub Begun-went : (s : ReaderState S head.Heads) (b : InBody S) → Begun remaining s b
       → StreamWent remaining (left_of s) b.head b.stream

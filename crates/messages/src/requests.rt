@@ -1,16 +1,17 @@
 //! The reader of requests, before a head.
-ghost use Rattle.std.specs.Prelude.{◌≡◌, ℕ, List, [], ◌++◌, ◌<◌, ◌≤◌, ◌*◌, ◌↔◌, length, IfErr, IfOk, IsOk, IsTrue, MatchResult, false};
+ghost use Rattle.std.specs.Prelude.{◌≡◌, ℕ, List, [], ◌++◌, ◌<◌, ◌≤◌, ◌*◌, ◌↔◌, length, IfErr, IfOk, IsOk, IsTrue, MatchResult, Ok, Some, false};
 ghost use Rattle.std.specs.Borrow.{Lends, sem};
 ghost use Rattle.buffer_redux.specs.Block.{Plain};
 ghost use Rattle.buffer_redux.specs.Buffered.{with_inner};
 ghost use Rattle.codec.specs.Decoding.{IsLent, bytes_at};
 ghost use Rattle.codec.specs.Grammar.{Begins};
 ghost use Rattle.codec.specs.NextPiece.{NextPiece, StaysLeft};
-ghost use Rattle.codec.specs.PieceReader.{IsFresh, IsOver, IsSettled, TakenApart, rest};
+ghost use Rattle.codec.specs.PieceReader.{IsFresh, IsOver, IsSettled, ReaderState, TakenApart, left_of, rest};
 ghost use Rattle.messages.specs.contracts.requests.Requests.{the_row};
+ghost use Rattle.messages.specs.declared.head.Heads as head;
 ghost use Rattle.messages.specs.Heads.{IsHeadPiece, heads};
 ghost use Rattle.messages.specs.Limits.{usual};
-ghost use Rattle.messages.specs.Messages.{Begun, Enters, stop_answer};
+ghost use Rattle.messages.specs.Messages.{Begun, stop_answer};
 
 use crate::bad_head::BadHead;
 use crate::body::Body;
@@ -197,35 +198,6 @@ impl<R: Tell> Requests<R> {
         self.pieces.rest()
     }
 
-    // Goes on behind the head that was handed out last, which is there.
-    fn enter(mut self, span: Span) -> Body<R>
-        requires lends { IsLent (heads self.decoder.0) self.handed self.reader.block.bytes span }
-        requires head { IsHeadPiece self.decoder.0 (bytes_at span self.reader.block.bytes)
-            (bytes_at span self.reader.block.bytes) }
-        ensures { Enters self (bytes_at span self.reader.block.bytes) result }
-    {
-        let Heads(limits) = *self.pieces.decoder();
-        let lent = self.pieces.lent(span);
-        let Ok(said) = read_head_within(lent, limits) else {
-            unreachable!()
-        };
-        self.head.clear();
-        self.head.append(lent);
-        let Requests {
-            alloc,
-            pieces,
-            head,
-        } = self;
-        let (inner, buffer, _ended) = pieces.into_inner_with_buffer();
-        Body::new(
-            alloc,
-            BufReader::with_buffer(buffer, inner),
-            limits,
-            head,
-            said,
-        )
-    }
-
     /// The stream, the buffer with what comes next of it, and the room for a head.
     pub fn into_inner_with_buffers(self) -> (R, Buffer, Buffer)
         ensures left { (result.0 ≡ self.reader.inner) × (result.1.bytes ≡ rest self) }
@@ -276,6 +248,38 @@ impl<R: TellRead> Requests<R> {
             Some(span) => Ok(self.enter(span)),
             None => Err(self),
         }
+    }
+
+    // Goes on behind the head that was handed out last, which is there.
+    fn enter(mut self, span: Span) -> Body<R>
+        requires lends { IsLent (heads self.decoder.0) self.handed self.reader.block.bytes span }
+        requires head { IsHeadPiece self.decoder.0 (bytes_at span self.reader.block.bytes)
+            (bytes_at span self.reader.block.bytes) }
+        ensures stream { result.stream ≡ left_of self }
+        ensures still { result.moved ≡ self.reader.block.moved }
+        ensures begun { (s : ReaderState R head.Heads) → NextPiece R.remaining (heads s.decoder.0) s
+            (Ok (Some (bytes_at span self.reader.block.bytes))) self → Begun R.remaining s result }
+    {
+        let Heads(limits) = *self.pieces.decoder();
+        let lent = self.pieces.lent(span);
+        let Ok(said) = read_head_within(lent, limits) else {
+            unreachable!()
+        };
+        self.head.clear();
+        self.head.append(lent);
+        let Requests {
+            alloc,
+            pieces,
+            head,
+        } = self;
+        let (inner, buffer, _ended) = pieces.into_inner_with_buffer();
+        Body::new(
+            alloc,
+            BufReader::with_buffer(buffer, inner),
+            limits,
+            head,
+            said,
+        )
     }
 
     /// Whether [`next`](Requests::next) answers without the stream: a whole head is buffered, or the beginning of none.

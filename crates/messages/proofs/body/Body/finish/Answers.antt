@@ -29,8 +29,8 @@ returns-in-Ok-with_buffer-clause-moved g c =
 
 pub returns-in-Err : goal.returns-in-Err
 returns-in-Err g c =
-    let failed = c.in-Err.ensures.ends in
     let i = c.self.inside in
+    let failed = c.in-Err.ensures.ends in
     rw (← c.self.view_is) (record {
       in_order = tt;
       ends = (failed.0, failed.1 i.limits i.head.bytes i.said, failed.2);

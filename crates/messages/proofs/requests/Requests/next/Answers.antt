@@ -2,7 +2,7 @@
 use Rattle.std.proofs.Common.{◌≡◌, ◌++◌, ℕ, List, false, inl, inr, subst}
 use Rattle.codec.specs.PieceReader.{rest}
 use Rattle.messages.specs.Messages.{Begun}
-use Rattle.messages.specs.MessagesLaws.{Enters-begun, lent_still}
+use Rattle.messages.specs.MessagesLaws.{lent_still}
 use Rattle.messages.proofs.Said.{begun_in_order}
 use Rattle.messages.proofs.requests.Requests.next.Goals as goal
 
@@ -20,14 +20,13 @@ returns-in-Ok-Some-clause-in_order g c =
     let body = c.enter.result in
     subst (λ x. (got : List ℕ) × (body.stream.log.reads.given ≡ x.reader.log.reads.given ++ got)
     × (body.head ++ body.stream.left ≡ rest x ++ got)) c.self.view_is
-    (begun_in_order g.R.TellRead.remaining c.self.inside.pieces body
-    (Enters-begun g.R.TellRead.remaining c.self.inside.pieces c.step.new.self _ body next c.enter.ensures))
+    (begun_in_order g.R.TellRead.remaining c.self.inside.pieces body (c.enter.ensures.begun c.self.inside.pieces next))
 
 pub returns-in-Ok-Some-clause-next : goal.returns-in-Ok-Some-clause-next
 returns-in-Ok-Some-clause-next g c =
     let next = rw c.in-Ok-Some.field-0-is at c.in-Ok-Some.ensures.next in
     subst (λ x. Begun g.R.TellRead.remaining x c.enter.result) c.self.view_is
-    (Enters-begun g.R.TellRead.remaining c.self.inside.pieces c.step.new.self _ c.enter.result next c.enter.ensures)
+    (c.enter.ensures.begun c.self.inside.pieces next)
 
 pub invariant_of-self : goal.invariant_of-self
 invariant_of-self g c =

@@ -4,7 +4,7 @@ use Rattle.codec.specs.Grammar.{Begins}
 use Rattle.codec.specs.PieceReader.{rest}
 use Rattle.messages.specs.Heads.{heads}
 use Rattle.messages.specs.Messages.{Begun}
-use Rattle.messages.specs.MessagesLaws.{Enters-begun, lent_still}
+use Rattle.messages.specs.MessagesLaws.{lent_still}
 use Rattle.messages.proofs.Said.{begun_front}
 use Rattle.messages.proofs.requests.Requests.next_buffered.Goals as goal
 
@@ -26,14 +26,12 @@ returns-in-Some-clause-front g c =
     let unasked : body.stream.log ≡ c.self.inside.pieces.reader.log = search rules in
     subst (λ x. body.head ++ body.stream.left ≡ rest x) c.self.view_is
     (begun_front g.R.TellRead.remaining c.self.inside.pieces body
-    (Enters-begun g.R.TellRead.remaining c.self.inside.pieces c.step_buffered.new.self _ body c.in-Some.ensures.next.0
-    c.enter.ensures) unasked)
+    (c.enter.ensures.begun c.self.inside.pieces c.in-Some.ensures.next.0) unasked)
 
 pub returns-in-Some-clause-begun : goal.returns-in-Some-clause-begun
 returns-in-Some-clause-begun g c =
     subst (λ x. Begun g.R.TellRead.remaining x c.enter.result) c.self.view_is
-    (Enters-begun g.R.TellRead.remaining c.self.inside.pieces c.step_buffered.new.self _ c.enter.result
-    c.in-Some.ensures.next.0 c.enter.ensures)
+    (c.enter.ensures.begun c.self.inside.pieces c.in-Some.ensures.next.0)
 
 pub returns-in-None-clause-none : goal.returns-in-None-clause-none
 returns-in-None-clause-none g c = λ begins.
