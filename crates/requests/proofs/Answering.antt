@@ -6,7 +6,7 @@ use Rattle.redux_buffer.specs.Faults.{OnlyInterrupts}
 use Rattle.buffer_redux.specs.Buffered.{Buffered}
 use Rattle.buffer_redux.specs.StreamLog.{StreamLog}
 use Rattle.buffer_redux.specs.Unbuffer.{StreamWent, Unbuffered}
-use Rattle.buffer_redux.specs.UnbufferLaws.{StreamWent-joins}
+use Rattle.buffer_redux.specs.UnbufferLaws.{StreamWent-joins, StreamWent-none}
 use Rattle.buffer_redux.specs.WriteParts.{WritesParts}
 use Rattle.buffer_redux.specs.declared.policy.StdPolicy.{StdPolicy}
 use Rattle.codec.specs.PieceReader.{ReaderState, left_of}
@@ -27,11 +27,12 @@ use Rattle.requests.specs.declared.taking.Untaken.{Untaken}
 use Rattle.requests.specs.declared.writing.Refusal.{Refusal}
 use Rattle.requests.specs.declared.writing.Refusal.TheVariants.{BadRequest, LargeBody}
 use Rattle.requests.specs.declared.taking.Untaken.TheVariants.{Body, Large, Unsent, Many}
-use Rattle.requests.specs.Answers.{AnswersMessages, EndsUntaken, RunEndsBy, Continues, FailsLast, IsSentLast, IsLastAnswer, IsAnswer, IsMany, IsPartTaken, IsTaken, IsToBeRefused, MayFollow, RunsToLast, TakeFails, TakesWhole, answered, call_at, called, ending_of, faults_of, is_known, refusal, refused, sending_of, sent_till, stream_at, waits}
+use Rattle.requests.specs.Answers.{AnswersEach, AnswersInTurns, AnswersMessages, AnswersWhole, EndsUntaken, RunEndsBy, Continues, FailsLast, IsSentLast, IsLastAnswer, IsAnswer, IsMany, IsPartTaken, IsTaken, IsToBeRefused, MayFollow, RunsToLast, TakeFails, TakesWhole, call_at, ending_of, faults_of, sending_of, sent_till, stream_at}
+use Rattle.requests.specs.Texts.{answered, called, is_known, refusal, refused, waits}
 use Rattle.requests.specs.Large.{is_large}
-use Rattle.requests.specs.Sending.{PutsText, WritesPromptly}
-use Rattle.requests.proofs.Reading.{Closes-after, IsMany-still, NoMoreAnswered-still, IsToBeRefused-still, each_wrong, FailsInRead-still, begun_once, begun_steady, is_part, joined}
-use Rattle.requests.proofs.Sending.{PutsText-after, WritesPromptly-after, WritesPromptly-parts}
+use Rattle.requests.specs.Sending.{Both, PutsText, WritesPromptly}
+use Rattle.requests.proofs.Reading.{IsClosed-still, IsMany-still, NoMoreAnswered-still, IsToBeRefused-still, each_wrong, FailsInRead-still, begun_once, begun_steady, is_part, joined}
+use Rattle.requests.proofs.Sending.{PutsText-after, WritesPromptly-after, WritesPromptly-none, WritesPromptly-parts}
 
 regroup : (a b more : List ℕ) → (a ++ []) ++ (b ++ more) ≡ (a ++ b) ++ more
 regroup a b more = ap (λ l. l ++ (b ++ more)) (append-nil a) ∙ sym (append_assoc a b more)
@@ -41,7 +42,7 @@ pub IsLastAnswer-after : (ms ns : List Message) (text : List ℕ) → IsLastAnsw
 IsLastAnswer-after ms ns text (before, m, said, all, is, same) =
     (ms ++ before, m, said, ap (λ l. ms ++ l) all ∙ sym (append_assoc ms before (m ∷ [])), is, same)
 
-IsSentLast-after : {S : Type 0} (ms ns : List Message) (taken : List ℕ) (refuses : Option Refusal) (place : Place S)
+pub IsSentLast-after : {S : Type 0} (ms ns : List Message) (taken : List ℕ) (refuses : Option Refusal) (place : Place S)
     (text : List ℕ)
     → IsSentLast ns taken refuses place text → IsSentLast (ms ++ ns) taken refuses place text
 IsSentLast-after ms ns taken (Some why) place text last = last
@@ -77,33 +78,76 @@ module _ {W : Type 0} {tells : W → StreamLog} {trace : W → W → Type 0} whe
           none_answered (StreamWent-joins remaining (left_of s) b.stream t.stream b.head goes.takes.wire
           (Begun-went remaining s b begun) goes.takes.went) writes fails
 
-    module _ {s : Unbuffered R} {w w' : Buffered W StdPolicy} {taken : List ℕ} (handed : List ℕ) (place : Place R)
-        (part : IsPartTaken place taken handed) (once : EndsOnce s.log.reads (stream_at place).log.reads) where
-      RunsToLast-by : {messages : List Message} (refuses : Option Refusal) → IfSome refuses (IsToBeRefused s place handed)
+    -- no turn was taken
+    pub no_turn : ((u : W) → trace u u) → (a : Both R W) → AnswersEach remaining tells trace [] a a
+    no_turn none a = (StreamWent-none remaining a.0, WritesPromptly-none none a)
+
+    module _ (none : (u : W) → trace u u) {s : Unbuffered R} {w w' : Buffered W StdPolicy} {taken : List ℕ} (handed : List ℕ)
+        (place : Place R) (part : IsPartTaken place taken handed)
+        (once : EndsOnce s.log.reads (stream_at place).log.reads) where
+      pub RunsToLast-by : {messages : List Message} (refuses : Option Refusal) → IfSome refuses (IsToBeRefused s place handed)
           → (ending : Ending)
           → AnswersMessages remaining tells trace messages s w taken (call_at place ++ refused refuses)
           (IsSentLast messages taken refuses place) (stream_at place) (sending_of ending) w'
+          → AnswersInTurns remaining tells trace messages (s, w) taken (call_at place ++ refused refuses) (sending_of ending)
+          (stream_at place, w')
           → RunEndsBy remaining tells trace s messages taken handed refuses place w' ending
           → RunsToLast remaining tells trace s w place ending w'
-      RunsToLast-by {messages} refuses wrong ending answers ends = record {
+      RunsToLast-by {messages} refuses wrong ending answers turns ends = record {
         messages = messages;
         taken = taken;
         handed = handed;
         part = part;
         refuses = refuses;
         answers = answers;
+        turns = turns;
         once = once;
         wrong = wrong;
         ends = ends;
       }
 
-      -- nothing is refused, and this is why no more is read
-      pub RunsToLast-stopped : {messages : List Message} (ending : Ending)
-          → AnswersMessages remaining tells trace messages s w taken (call_at place ++ []) (IsSentLast messages taken None place)
-          (stream_at place) (sending_of ending) w'
-          → RunEndsBy remaining tells trace s messages taken handed None place w' ending
+      -- no message went in this turn
+      RunsToLast-none : (refuses : Option Refusal) → IfSome refuses (IsToBeRefused s place handed) → (ending : Ending)
+          → AnswersMessages remaining tells trace [] s w taken (call_at place ++ refused refuses)
+          (IsSentLast [] taken refuses place) (stream_at place) (sending_of ending) w'
+          → RunEndsBy remaining tells trace s [] taken handed refuses place w' ending
           → RunsToLast remaining tells trace s w place ending w'
-      RunsToLast-stopped ending answers ends = RunsToLast-by None tt ending answers ends
+      RunsToLast-none refuses wrong ending answers ends = RunsToLast-by refuses wrong ending answers (record {
+        front = [];
+        last = [];
+        all = refl;
+        between = (s, w);
+        each = no_turn none (s, w);
+        turn = (
+          subst (λ l. StreamWent remaining s (l ++ taken) (stream_at place)) answers.are answers.went,
+          subst (λ l. WritesPromptly tells trace (s, w) (l ++ (call_at place ++ refused refuses)) (sending_of ending)
+              (stream_at place, w')) answers.answers answers.writes,
+        );
+      }) ends
+
+      -- nothing is refused, and this is why no more is read
+      pub RunsToLast-stopped : (ending : Ending)
+          → AnswersMessages remaining tells trace [] s w taken (call_at place ++ []) (IsSentLast [] taken None place)
+          (stream_at place) (sending_of ending) w'
+          → RunEndsBy remaining tells trace s [] taken handed None place w' ending
+          → RunsToLast remaining tells trace s w place ending w'
+      RunsToLast-stopped ending answers ends = RunsToLast-none None tt ending answers ends
+
+      -- a message went in it
+      pub RunsToLast-one : {m : Message} (ending : Ending)
+          → AnswersWhole remaining tells trace m (s, w) (sending_of ending) (stream_at place, w')
+          → AnswersMessages remaining tells trace (m ∷ []) s w taken (call_at place ++ []) (IsSentLast (m ∷ []) taken None place)
+          (stream_at place) (sending_of ending) w'
+          → RunEndsBy remaining tells trace s (m ∷ []) taken handed None place w' ending
+          → RunsToLast remaining tells trace s w place ending w'
+      RunsToLast-one {m} ending one answers ends = RunsToLast-by None tt ending answers (record {
+        front = [];
+        last = m ∷ [];
+        all = refl;
+        between = (s, w);
+        each = no_turn none (s, w);
+        turn = one;
+      }) ends
 
       -- what comes is refused, before a message went
       pub RunsToLast-refused : (why : Refusal) (sending : Result (Unit {0}) Error)
@@ -112,13 +156,13 @@ module _ {W : Type 0} {tells : W → StreamLog} {trace : W → W → Type 0} whe
           → IsToBeRefused s place handed why → OnlyInterrupts (faults_of s) (faults_of (stream_at place))
           → RunsToLast remaining tells trace s w place (ending_of sending) w'
       RunsToLast-refused why (Ok x) answers wrong met =
-          RunsToLast-by (Some why) wrong Over answers (met, inr (All-nil (MayFollow true), inl refl))
+          RunsToLast-none (Some why) wrong Over answers (met, inr (All-nil (MayFollow true), inl refl))
       RunsToLast-refused why (Err e) answers wrong met =
-          RunsToLast-by (Some why) wrong (stop.Unsent e) answers (met, inl (All-nil (MayFollow true)))
+          RunsToLast-none (Some why) wrong (stop.Unsent e) answers (met, inl (All-nil (MayFollow true)))
 
     module _ (joins : (u v x : W) → trace u v → trace v x → trace u x) where
       -- one did in part, and this is why
-      module _ {s : ReaderState R Heads} {b t : InBody R} {handed : List ℕ} (begun : Begun remaining s b)
+      module _ (none : (u : W) → trace u u) {s : ReaderState R Heads} {b t : InBody R} {handed : List ℕ} (begun : Begun remaining s b)
           (limits : b.limits ≡ usual)
           (goes : InsideGoes remaining b handed t) {w u : Buffered W StdPolicy}
           (call : WritesPromptly tells trace (left_of s, w) (called (waits b.said)) (Ok tt) (b.stream, u)) where
@@ -135,7 +179,7 @@ module _ {W : Type 0} {tells : W → StreamLog} {trace : W → W → Type 0} whe
             (append-nil (called (waits b.said)) ∙ sym at)
             (WritesPromptly-after joins (left_of s, w) (b.stream, u) (t.stream, v) (called (waits b.said)) [] (Ok tt) call on) in
             let then = WritesPromptly-parts t.stream parts in
-            RunsToLast-refused handed (Inside t) (is_part begun limits goes) (begun_once begun t.stream once) why answer
+            RunsToLast-refused none handed (Inside t) (is_part begun limits goes) (begun_once begun t.stream once) why answer
             (part_answered begun goes
             (WritesPromptly-after joins (left_of s, w) (t.stream, v) (t.stream, w') (call_at (Inside t))
             (refusal why) answer first then)
@@ -159,38 +203,34 @@ module _ {W : Type 0} {tells : W → StreamLog} {trace : W → W → Type 0} whe
         pub torn_answered : {v w' : Buffered W StdPolicy} (why : Untaken) (ending : Ending) → TakeFails b.stream handed why t v
             → WritesPromptly tells trace (b.stream, u) [] (sent_till why) (t.stream, v) → EndsUntaken tells trace v why ending w'
             → RunsToLast remaining tells trace (left_of s) w (Inside t) ending w'
-        torn_answered {v} {w'} (Body (Wrong why)) ending (once, reads, torn) on (answer, is, parts) =
-            subst (λ x. RunsToLast remaining tells trace (left_of s) w (Inside t) x w') (sym is)
-            (refused_torn BadRequest answer once reads torn on parts)
-        torn_answered {v} {w'} (Body (Truncated due)) ending (once, reads, torn) on (answer, is, parts) =
-            subst (λ x. RunsToLast remaining tells trace (left_of s) w (Inside t) x w') (sym is)
-            (refused_torn BadRequest answer once reads torn on parts)
-        torn_answered {v} {w'} (Body (Io e)) ending (once, fails, all, had) on (is, same) =
-            subst (λ x. RunsToLast remaining tells trace (left_of s) w (Inside t) x w') (sym is)
-            (subst (RunsToLast remaining tells trace (left_of s) w (Inside t) (Unread e)) (sym same)
-            (RunsToLast-stopped handed (Inside t) (is_part begun limits goes) (begun_once begun t.stream once) (Unread e)
+        torn_answered (Body (Wrong why)) ending (once, reads, torn) on (answer, is, parts) =
+            rw is (refused_torn BadRequest answer once reads torn on parts)
+        torn_answered (Body (Truncated due)) ending (once, reads, torn) on (answer, is, parts) =
+            rw is (refused_torn BadRequest answer once reads torn on parts)
+        torn_answered (Body (Io e)) ending (once, fails, all, had) on (is, same) =
+            rw (is, same)
+            (RunsToLast-stopped none handed (Inside t) (is_part begun limits goes) (begun_once begun t.stream once) (Unread e)
             (unrefused (Ok tt) (IsSentLast [] (b.head ++ goes.takes.wire) None (Inside t)) on)
-            (FailsInRead-still (begun_steady begun) e t.stream fails, All-nil (MayFollow true), all, had)))
-        torn_answered {v} {w'} Large ending (reads, large) on (answer, is, parts) =
-            subst (λ x. RunsToLast remaining tells trace (left_of s) w (Inside t) x w') (sym is)
+            (FailsInRead-still (begun_steady begun) e t.stream fails, All-nil (MayFollow true), refl, all, had))
+        torn_answered Large ending (reads, large) on (answer, is, parts) =
+            rw is
             (refused_torn LargeBody answer (omega (arith, reads.ends)) reads.faults (inr (refl, large)) on parts)
-        torn_answered {v} {w'} (Unsent e) ending reads on (is, same) =
-            subst (λ x. RunsToLast remaining tells trace (left_of s) w (Inside t) x w') (sym is)
-            (subst (RunsToLast remaining tells trace (left_of s) w (Inside t) (stop.Unsent e)) (sym same)
-            (RunsToLast-stopped handed (Inside t) (is_part begun limits goes)
+        torn_answered (Unsent e) ending reads on (is, same) =
+            rw (is, same)
+            (RunsToLast-stopped none handed (Inside t) (is_part begun limits goes)
             (begun_once begun t.stream (omega (arith, reads.ends))) (stop.Unsent e)
             (unrefused (Err e) (IsSentLast [] (b.head ++ goes.takes.wire) None (Inside t)) on)
-            (joined (begun_steady begun) t.stream reads.faults, inl (All-nil (MayFollow true)))))
-        torn_answered {v} {w'} Many ending (reads, many) on (is, same) =
-            subst (λ x. RunsToLast remaining tells trace (left_of s) w (Inside t) x w') (sym is)
-            (subst (RunsToLast remaining tells trace (left_of s) w (Inside t) stop.Many) (sym same)
-            (RunsToLast-stopped handed (Inside t) (is_part begun limits goes)
+            (joined (begun_steady begun) t.stream reads.faults, inl (All-nil (MayFollow true))))
+        torn_answered Many ending (reads, many) on (is, same) =
+            rw (is, same)
+            (RunsToLast-stopped none handed (Inside t) (is_part begun limits goes)
             (begun_once begun t.stream (omega (arith, reads.ends))) stop.Many
             (unrefused (Ok tt) (IsSentLast [] (b.head ++ goes.takes.wire) None (Inside t)) on) (
               joined (begun_steady begun) t.stream reads.faults,
               All-nil (MayFollow true),
+              refl,
               IsMany-still (begun_steady begun) 0 (length handed) t.stream reads.faults many,
-            )))
+            ))
 
       -- one did, whole, and its payload was counted
       pub one_answered : {s : ReaderState R Heads} {b : InBody R} {t : Unbuffered R} {len : ℕ} {known : Bool} {said : ParsedHead}
@@ -199,9 +239,7 @@ module _ {W : Type 0} {tells : W → StreamLog} {trace : W → W → Type 0} whe
           → WritesPromptly tells trace (left_of s, w) (called (waits b.said)) (Ok tt) (b.stream, u)
           → WritesPromptly tells trace (b.stream, u) [] (Ok tt) (t, v)
           → WritesParts tells trace v (answered known said len) sending w'
-          → AnswersMessages remaining tells trace ((b.head, whole.1) ∷ []) (left_of s) w [] []
-          (IsLastAnswer ((b.head, whole.1) ∷ [])) t
-          sending w'
+          → AnswersWhole remaining tells trace (b.head, whole.1) (left_of s, w) sending (t, w')
       one_answered {s} {b} {t} {len} {known} {said} {w} {u} {v} {w'} {sending} begun limits (wire, payload, went, is, many, small)
           same
           method call on parts =
@@ -211,30 +249,20 @@ module _ {W : Type 0} {tells : W → StreamLog} {trace : W → W → Type 0} whe
           (Begun-message remaining s b wire payload begun (subst (λ r. IsRest r wire payload) begun.rest is)) in
           let head = subst (λ l. IsHead l b.head b.said) limits begun.is in
           let taken : is_large message.0.text.said.extent (length message.0.wire) (length payload) ≡ false =
-          subst (λ x. is_large x.extent (length message.0.wire) (length payload) ≡ false) (sym message.2)
-          (subst (λ l. is_large b.said.extent (length l) (length payload) ≡ false) (sym message.1)
-          (subst (λ l. is_large b.said.extent (length (l ++ wire)) (length payload) ≡ false) begun.taken small)) in
-          let text = called (waits b.said) ++ answered (is_known b.head) b.said (length payload) in
-          let answer : answered known said len ≡ answered (is_known b.head) b.said (length payload) =
-          ap (λ x. answered known x len) same ∙ ap (answered known b.said) many
-          ∙ ap (λ k. answered k b.said (length payload)) method in
+          rw (message.2, message.1) (rw begun.taken at small) in
+          let answer : answered known said len ≡ answered (is_known b.head) b.said (length payload) = rw (method, same, many) in
           let first : WritesPromptly tells trace (left_of s, w) (called (waits b.said)) (Ok tt) (t, v) =
           subst (λ l. WritesPromptly tells trace (left_of s, w) l (Ok tt) (t, v)) (append-nil (called (waits b.said)))
           (WritesPromptly-after joins (left_of s, w) (b.stream, u) (t, v) (called (waits b.said)) [] (Ok tt) call on) in
-          let says = WritesPromptly-parts t (subst (λ l. WritesParts tells trace v l sending w') answer parts) in
-          let both : WritesPromptly tells trace (left_of s, w) text sending (t, w') =
-          WritesPromptly-after joins (left_of s, w) (t, v) (t, w') (called (waits b.said))
-          (answered (is_known b.head) b.said (length payload)) sending first says in
           record {
             bytes = bytes;
-            are = InTurn-one IsTaken (b.head, payload) bytes (message.0, taken);
-            went = subst (λ l. StreamWent remaining (left_of s) l t) (sym (append-nil bytes))
-                (StreamWent-joins remaining (left_of s) b.stream t b.head wire (Begun-went remaining s b begun) went);
-            text = text;
-            answers = InTurn-one IsAnswer (b.head, payload) text (b.said, head, refl);
-            writes = subst (λ l. WritesPromptly tells trace (left_of s, w) l sending (t, w')) (sym (append-nil text)) both;
-            fails = FailsLast-of (IsLastAnswer ((b.head, payload) ∷ [])) sending (append-nil text)
-                (inr ([], (b.head, payload), b.said, refl, head, refl)) first.puts says.puts;
+            is = (message.0, taken);
+            went = StreamWent-joins remaining (left_of s) b.stream t b.head wire (Begun-went remaining s b begun) went;
+            said = b.said;
+            head = head;
+            before = v;
+            calls = first;
+            answers = subst (λ l. WritesParts tells trace v l sending w') answer parts;
           }
 
       -- some did, and then more
@@ -269,46 +297,3 @@ module _ {W : Type 0} {tells : W → StreamLog} {trace : W → W → Type 0} whe
             put = PutsText-after joins w v f.before (a.text ++ []) f.front (Ok tt) a.writes.puts f.put;
             fails = f.fails;
           }
-
-      module _ {s m : Unbuffered R} {w v : Buffered W StdPolicy} (a : Continues remaining tells trace s w m v) where
-        pub RunsToLast-after : {place : Place R} {w' : Buffered W StdPolicy} (ending : Ending)
-            → RunsToLast remaining tells trace m v place ending w' → RunsToLast remaining tells trace s w place ending w'
-        RunsToLast-after {place} {w'} ending b = record {
-          messages = a.messages ++ b.messages;
-          taken = b.taken;
-          handed = b.handed;
-          part = b.part;
-          refuses = b.refuses;
-          answers = AnswersMessages-joins a.answers b.answers (IsSentLast-after a.messages b.messages b.taken b.refuses place);
-          once = omega (arith, b.once, a.reads.ends);
-          wrong = each_wrong a.reads place b.handed b.refuses b.wrong;
-          ends = ends ending b.ends;
-        }
-          where
-            ends : (ending : Ending) → RunEndsBy remaining tells trace m b.messages b.taken b.handed b.refuses place w' ending
-                → RunEndsBy remaining tells trace s (a.messages ++ b.messages) b.taken b.handed b.refuses place w' ending
-            ends Over (met, is) = (
-              joined a.reads (stream_at place) met,
-              NoMoreAnswered-still a.reads a.messages b.messages b.taken b.refuses place a.keep is,
-            )
-            ends stop.Many (met, keep, many) = (
-              joined a.reads (stream_at place) met,
-              All-append (MayFollow true) a.messages b.messages a.keep keep,
-              (let both : length a.messages + (length b.messages + length b.handed)
-                  ≡ length (a.messages ++ b.messages) + length b.handed = omega (arith, length-append a.messages b.messages) in
-                  subst (λ n. IsMany n s (stream_at place)) both
-                  (IsMany-still a.reads (length a.messages) (length b.messages + length b.handed) (stream_at place) met many)),
-            )
-            ends (Unread e) (fails, keep, all, had) = (
-              FailsInRead-still a.reads e (stream_at place) fails,
-              All-append (MayFollow true) a.messages b.messages a.keep keep,
-              all,
-              had,
-            )
-            ends (stop.Unsent e) (met, follow) = (
-              joined a.reads (stream_at place) met,
-              elim follow [
-                | inl keep ↦ inl (All-append (MayFollow true) a.messages b.messages a.keep keep)
-                | inr closes ↦ inr (Closes-after a.messages b.messages a.keep closes)
-              ],
-            )

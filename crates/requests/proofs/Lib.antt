@@ -3,3 +3,4 @@ pub mod Coming
 pub mod Large
 pub mod Reading
 pub mod Sending
+pub mod Turns

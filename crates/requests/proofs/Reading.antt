@@ -31,7 +31,7 @@ use Rattle.requests.specs.declared.Place.TheVariants.{Before, Inside}
 use Rattle.requests.specs.declared.taking.Untaken.{Untaken}
 use Rattle.requests.specs.declared.taking.Untaken.TheVariants.{Body, Large, Unsent, Many}
 use Rattle.requests.specs.Large.{is_large}
-use Rattle.requests.specs.Answers.{Closes, EndedBeforeHead, FailsInRead, FailsOn, FailsToRead, HadToAsk, IsMany, IsPartTaken, IsToBeRefused, MayFollow, NoMoreAnswered, ReadsSome, ReadsSteadily, TakeFails, TakesWhole, faults_of, sent_till, sent_with, unfinished}
+use Rattle.requests.specs.Answers.{Closes, EndedBeforeHead, FailsInRead, FailsOn, FailsToRead, HadToAsk, IsMany, IsClosed, IsPartTaken, IsToBeRefused, MayFollow, NoMoreAnswered, ReadsSome, ReadsSteadily, TakeFails, TakesWhole, faults_of, sent_till, sent_with, unfinished}
 
 -- no fault was met, or one
 pub none_met : {a b : List Error} → b ≡ a → OnlyInterrupts a b
@@ -58,7 +58,7 @@ pub no_shorter : {a b : List Error} → OnlyInterrupts a b → length a ≤ leng
 no_shorter {a} {b} reads = omega (arith, ap length reads.faults, length-append a reads.interrupts)
 
 -- none may follow the last of more messages
-pub Closes-after : (ms ns : List Message) → All (MayFollow true) ms → Closes ns → Closes (ms ++ ns)
+Closes-after : (ms ns : List Message) → All (MayFollow true) ms → Closes ns → Closes (ms ++ ns)
 Closes-after ms ns keep closes = record {
   before = ms ++ closes.before;
   last = closes.last;
@@ -98,11 +98,16 @@ module _ {S : Type 0} {s m : Unbuffered S} (steady : ReadsSteadily s m) where
   EndedBeforeHead-still (Before requests) (more, none) = (omega (arith, steady.ends, more), none)
   EndedBeforeHead-still (Inside body) odd = odd
 
+  pub IsClosed-still : (ms ns : List Message) (taken : List ℕ) (refuses : Option Refusal) (place : Place S)
+      → All (MayFollow true) ms → IsClosed ns taken refuses m place → IsClosed (ms ++ ns) taken refuses s place
+  IsClosed-still ms ns taken refuses place keep (closes, none, not, ends) =
+      (Closes-after ms ns keep closes, none, not, ends ∙ steady.ends)
+
   pub NoMoreAnswered-still : (ms ns : List Message) (taken : List ℕ) (refuses : Option Refusal) (place : Place S)
       → All (MayFollow true) ms
       → NoMoreAnswered ns taken refuses m place → NoMoreAnswered (ms ++ ns) taken refuses s place
-  NoMoreAnswered-still ms ns taken refuses place keep (inl (closes, none, not, ends)) =
-      inl (Closes-after ms ns keep closes, none, not, ends ∙ steady.ends)
+  NoMoreAnswered-still ms ns taken refuses place keep (inl closed) =
+      inl (IsClosed-still ms ns taken refuses place keep closed)
   NoMoreAnswered-still ms ns taken refuses place keep (inr (more, inl is)) =
       inr (All-append (MayFollow true) ms ns keep more, inl is)
   NoMoreAnswered-still ms ns taken refuses place keep (inr (more, inr ended)) =

@@ -43,10 +43,6 @@ StepsAlong-joins tells trace a m b answer first [] p (same, well) =
 StepsAlong-joins tells trace a m b answer first (x ∷ earlier) p (before, step) =
     (StepsAlong-joins tells trace a m x (Ok tt) first earlier p before, step)
 
--- where nothing is read nothing is lost
-none_read : {R : Type 0} (s : Unbuffered R) → (bytes : List ℕ) × HandsOutInOrder s bytes s
-none_read s = ([], record { got = []; given = sym (append-nil s.log.reads.given); equal = sym (append-nil s.left) })
-
 module _ {W : Type 0} {tells : W → StreamLog} {trace : W → W → Type 0} where
   -- a flush
   PutsText-flushed : (w v : Buffered W StdPolicy) (answer : Result (Unit {0}) Error) → WasFlushed tells trace w answer v
@@ -152,7 +148,7 @@ module _ {W : Type 0} {tells : W → StreamLog} {trace : W → W → Type 0} whe
         → WritesPromptly tells trace (s, w) text putting (s, w')
     WritesPromptly-parts s {w} {w'} {text} {putting} parts = record {
       puts = PutsText-parts w w' text putting parts;
-      prompt = Prompt-one (s, w) putting (s, w') (none_read s, inl (refl, (text, inr parts)));
+      prompt = Prompt-one (s, w) putting (s, w') (inr (inl (refl, (text, inr parts))));
     }
 
     module _ (none : (u : W) → trace u u) where
@@ -163,10 +159,7 @@ module _ {W : Type 0} {tells : W → StreamLog} {trace : W → W → Type 0} whe
       pub WritesPromptly-put : (s : Unbuffered R) {w w' : Buffered W StdPolicy} {text : List ℕ}
           {putting : Result (Unit {0}) Error} → SendsForRoom tells trace w text putting w'
           → WritesPromptly tells trace (s, w) text putting (s, w')
-      WritesPromptly-put s {w} {w'} {text} {putting} (inl (lacks, well, same)) =
-          subst (λ l. WritesPromptly tells trace (s, w) l putting (s, w')) (sym lacks)
-          (subst (λ r. WritesPromptly tells trace (s, w) [] r (s, w')) (sym well)
-          (subst (λ v. WritesPromptly tells trace (s, w) [] (Ok tt) (s, v)) (sym same) (WritesPromptly-none (s, w))))
+      WritesPromptly-put s {w} (inl (lacks, well, same)) = rw (lacks, well, same) (WritesPromptly-none (s, w))
       WritesPromptly-put s (inr parts) = WritesPromptly-parts s parts
 
       -- the stream handed out some of what it has, and nothing was written
@@ -174,7 +167,7 @@ module _ {W : Type 0} {tells : W → StreamLog} {trace : W → W → Type 0} whe
           → t.log ≡ s.log → WritesPromptly tells trace (s, w) [] (Ok tt) (t, w)
       WritesPromptly-read {s} {t} {bytes} w order same = record {
         puts = PutsText-none none w;
-        prompt = Prompt-one (s, w) (Ok tt) (t, w) ((bytes, order), inl (same, ([], inl (refl, refl, refl))));
+        prompt = Prompt-one (s, w) (Ok tt) (t, w) (inl (refl, refl, inl ((bytes, order), same)));
       }
 
       -- what was held was sent, where the stream is to be asked, and then that was asked
@@ -183,16 +176,16 @@ module _ {W : Type 0} {tells : W → StreamLog} {trace : W → W → Type 0} whe
           → ((¬ P) → s.log.reads.asks < t.log.reads.asks) → (P → t.log ≡ s.log)
           → WritesPromptly tells trace (s, w) [] (Ok tt) (t, v)
       WritesPromptly-asked s t w v order (inl (settled, well, same)) open' asks still =
-          subst (λ x. WritesPromptly tells trace (s, w) [] (Ok tt) (t, x)) (sym same)
-          (WritesPromptly-read w order (still settled))
+          rw same (WritesPromptly-read w order (still settled))
       WritesPromptly-asked s t {bytes} w v order (inr (unsettled, inl (all, well, same))) open' asks still = record {
         puts = subst (PutsText tells trace w [] (Ok tt)) (sym same) (PutsText-none none w);
-        prompt = Prompt-one (s, w) (Ok tt) (t, v) ((bytes, order), inr (inl (all, refl, same, asks unsettled)));
+        prompt = Prompt-one (s, w) (Ok tt) (t, v)
+            (inl (refl, same, inr (all, (open' unsettled, (bytes, order), asks unsettled))));
       }
       WritesPromptly-asked s t {bytes} w v order (inr (unsettled, inr (some, flushed))) open' asks still = record {
         puts = PutsText-flushed w v (Ok tt) flushed;
         prompt = Prompt-one (s, w) (Ok tt) (t, v)
-            ((bytes, order), inr (inr (open' unsettled, some, flushed, asks unsettled)));
+            (inr (inr (some, flushed, (open' unsettled, (bytes, order), asks unsettled))));
       }
 
       -- that failed, and the stream wasn't asked
@@ -203,7 +196,7 @@ module _ {W : Type 0} {tells : W → StreamLog} {trace : W → W → Type 0} whe
       WritesPromptly-unsent s w v e (inr (unsettled, inl (all, well, same))) open' = absurd (cc)
       WritesPromptly-unsent s w v e (inr (unsettled, inr (some, flushed))) open' = record {
         puts = PutsText-flushed w v (Err e) flushed;
-        prompt = Prompt-one (s, w) (Err e) (s, v) (none_read s, inr (inr (open' unsettled, some, flushed, refl)));
+        prompt = Prompt-one (s, w) (Err e) (s, v) (inr (inr (some, flushed, (open' unsettled, refl))));
       }
 
     module _ (joins : (u v x : W) → trace u v → trace v x → trace u x) where

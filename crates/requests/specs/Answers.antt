@@ -1,7 +1,6 @@
 -- What is answered to requests.
 use Rattle.std.specs.Prelude.{◌≡◌, ◌≢◌, ℕ, ◌+◌, ◌-◌, ◌^◌, ◌<◌, ◌≤◌, ◌⊎◌, ◌&&◌, ◌||◌, ◌==◌, not, nat_lt, if◌then◌else◌, Bool, true, false, List, [], ◌∷◌, ◌++◌, All, length, drop, nat_eq, Option, None, Some, Result, Ok, Err, MatchResult, IfErr, IfSome, IsErr, IsSome, IsTrue, codes}
-use Rattle.std.specs.Fmt.{decimal}
-use Rattle.std.specs.List.{prefix_len, starts_with}
+use Rattle.std.specs.List.{prefix_len}
 use Rattle.std.specs.IoError.{error_kind}
 use Rattle.std.specs.declared.io.Error.{Error}
 use Rattle.std.specs.declared.io.ErrorKind.TheVariants.{Interrupted, Other}
@@ -17,9 +16,6 @@ use Rattle.codec.specs.PieceReader.{ReaderState, left_of, rest}
 use Rattle.messages.specs.declared.error.BodyError.{BodyError}
 use Rattle.messages.specs.declared.error.BodyError.TheVariants.{Io}
 use Rattle.messages.specs.declared.bad_head.BadHead.{BadHead}
-use Rattle.messages.specs.declared.bad_head.BadHead.TheVariants.{BareEnd, LongLine, LongHead, ManyFields, CutShort, Version, Tunnel, Coding, Refused}
-use Rattle.messages.specs.declared.head.Extent.{Extent}
-use Rattle.messages.specs.declared.head.Extent.TheVariants.{Sized, Chunked}
 use Rattle.messages.specs.declared.head.ParsedHead.{ParsedHead}
 use Rattle.messages.specs.Heads.{IsHead, heads}
 use Rattle.messages.specs.declared.head.Heads.{Heads}
@@ -28,7 +24,7 @@ use Rattle.messages.specs.Messages.{EachReadGave, Fails, GoesWrong, InBody, InTu
 use Rattle.messages.specs.Versions.{is_end}
 use Rattle.programs.specs.Streams.{AllSent, EndsOnce}
 use Rattle.requests.specs.declared.writing.Refusal.{Refusal}
-use Rattle.requests.specs.declared.writing.Refusal.TheVariants.{BadRequest, LargeBody, LongTarget, LargeHead, Unknown, OtherVersion}
+use Rattle.requests.specs.declared.writing.Refusal.TheVariants.{BadRequest, LargeBody}
 use Rattle.requests.specs.declared.Place.{Place}
 use Rattle.requests.specs.declared.Place.TheVariants.{Before, Inside}
 use Rattle.requests.specs.declared.Ending.{Ending}
@@ -37,87 +33,8 @@ use Rattle.requests.specs.declared.Ending.TheVariants.{Over, Unread}
 use Rattle.requests.specs.declared.taking.Untaken.{Untaken}
 use Rattle.requests.specs.declared.taking.Untaken.TheVariants.{Body, Large, Unsent, Many}
 use Rattle.requests.specs.Large.{TurnsLarge, is_large}
-use Rattle.requests.specs.Sending.{PutsText, SendsHeld, WritesPromptly}
-
--- a call for a body, and a refusal, each where there is one
-abbrev pub called : Bool → List ℕ
-called true = codes "HTTP/1.1 100 Continue\r\n\r\n"
-called false = []
-
-abbrev pub refusal : Refusal → List ℕ
-refusal BadRequest = codes "HTTP/1.1 400 Bad Request\r\nContent-Length: 0\r\nConnection: close\r\n\r\n"
-refusal LongTarget = codes "HTTP/1.1 414 URI Too Long\r\nContent-Length: 0\r\nConnection: close\r\n\r\n"
-refusal LargeHead =
-    codes "HTTP/1.1 431 Request Header Fields Too Large\r\nContent-Length: 0\r\nConnection: close\r\n\r\n"
-refusal LargeBody = codes "HTTP/1.1 413 Content Too Large\r\nContent-Length: 0\r\nConnection: close\r\n\r\n"
-refusal Unknown = codes "HTTP/1.1 501 Not Implemented\r\nContent-Length: 0\r\nConnection: close\r\n\r\n"
-refusal OtherVersion =
-    codes "HTTP/1.1 505 HTTP Version Not Supported\r\nContent-Length: 0\r\nConnection: close\r\n\r\n"
-
-abbrev pub refused : Option Refusal → List ℕ
-refused (Some why) = refusal why
-refused None = []
-
--- by which status what is no head is refused (RFC 9110, section 15; RFC 6585, section 5; RFC 9112, sections 3 and 6.1)
-abbrev pub refusal_of : BadHead → Refusal
-refusal_of BareEnd = BadRequest
-refusal_of LongLine = LongTarget
-refusal_of LongHead = LargeHead
-refusal_of ManyFields = LargeHead
-refusal_of (CutShort have) = BadRequest
-refusal_of Version = OtherVersion
-refusal_of Tunnel = Unknown
-refusal_of Coding = Unknown
-refusal_of Refused = BadRequest
-
--- whether the client waits for a call, and there is a body to come, which isn't refused at once
-abbrev pub has_body : Extent → Bool
-has_body (Sized len) = nat_lt 0 len
-has_body Chunked = true
-
-abbrev pub waits : ParsedHead → Bool
-waits said = said.expects && (has_body said.extent && not (is_large said.extent 0 0))
-
--- how much payload there was, in 21 bytes
-abbrev pub length_line : ℕ → List ℕ
-length_line len = drop (length (decimal len)) (codes "                    ") ++ (decimal len ++ codes "\n")
-
--- 200, where another request may follow, or none
-abbrev pub success : Bool → List ℕ
-success true = codes "HTTP/1.1 200 OK\r\nContent-Length: 21\r\nConnection: keep-alive\r\n\r\n"
-success false = codes "HTTP/1.1 200 OK\r\nContent-Length: 21\r\nConnection: close\r\n\r\n"
-
--- that, and the length, which isn't sent to `HEAD`
-abbrev pub granted : ParsedHead → ℕ → List ℕ
-granted said len = success said.keeps ++ (if said.bare then [] else length_line len)
-
--- 501, to a method that isn't known
-abbrev pub declined : Bool → List ℕ
-declined true = codes "HTTP/1.1 501 Not Implemented\r\nContent-Length: 0\r\nConnection: keep-alive\r\n\r\n"
-declined false = codes "HTTP/1.1 501 Not Implemented\r\nContent-Length: 0\r\nConnection: close\r\n\r\n"
-
--- 417, to one that expects what nobody here does (RFC 9110, section 10.1.1)
-abbrev pub disappointed : Bool → List ℕ
-disappointed true = codes "HTTP/1.1 417 Expectation Failed\r\nContent-Length: 0\r\nConnection: keep-alive\r\n\r\n"
-disappointed false = codes "HTTP/1.1 417 Expectation Failed\r\nContent-Length: 0\r\nConnection: close\r\n\r\n"
-
--- a line begins with a method that is known (RFC 9110, section 9.3, and RFC 5789)
-abbrev pub begins_often : List ℕ → Bool
-begins_often line = starts_with nat_eq line (codes "GET ") || (starts_with nat_eq line (codes "HEAD ")
-    || (starts_with nat_eq line (codes "POST ") || starts_with nat_eq line (codes "PUT ")))
-
-abbrev pub begins_known : List ℕ → Bool
-begins_known line = begins_often line
-    || (starts_with nat_eq line (codes "DELETE ") || (starts_with nat_eq line (codes "OPTIONS ")
-    || (starts_with nat_eq line (codes "TRACE ") || starts_with nat_eq line (codes "PATCH "))))
-
--- a head's first line, behind empty ones
-abbrev pub is_known : List ℕ → Bool
-is_known head = begins_known (drop (prefix_len is_end head) head)
-
-abbrev pub answered : Bool → ParsedHead → ℕ → List ℕ
-answered known said len =
-    if known then (if said.met then granted said len else disappointed said.keeps) else declined said.keeps
+use Rattle.requests.specs.Sending.{Both, PutsText, SendsHeld, WritesPromptly}
+use Rattle.requests.specs.Texts.{answered, called, is_known, refusal, refusal_of, refused, waits}
 
 -- the answer to a message: 200, and how much payload all of its body has; or 501, or 417
 abbrev pub IsAnswer : Message → List ℕ → Type 0
@@ -190,11 +107,15 @@ pub record Closes (messages : List Message) : Type 0 where
   pub keep : All (MayFollow true) before
   pub close : MayFollow false last
 
--- why no more is answered: behind the last message none may follow, nothing was taken behind it, and no end was met, as who asks
--- there may meet one; or what comes was refused, or the stream ended
+-- none may follow the last message: nothing was taken behind it and nothing is refused, and no end was met, as who asks there may
+-- meet one
+abbrev pub IsClosed : {S : Type 0} → List Message → List ℕ → Option Refusal → Unbuffered S → Place S → Type 0
+IsClosed messages taken refuses s place =
+    Closes messages × (taken ≡ []) × (refuses ≡ None) × (ends_of (stream_at place) ≡ ends_of s)
+
+-- why no more is answered: none may follow; or what comes was refused, or the stream ended
 abbrev pub NoMoreAnswered : {S : Type 0} → List Message → List ℕ → Option Refusal → Unbuffered S → Place S → Type 0
-NoMoreAnswered messages taken refuses s place =
-    (Closes messages × (taken ≡ []) × (refuses ≡ None) × (ends_of (stream_at place) ≡ ends_of s))
+NoMoreAnswered messages taken refuses s place = IsClosed messages taken refuses s place
     ⊎ (All (MayFollow true) messages × (IsSome refuses ⊎ EndedBeforeHead s place))
 
 -- these bytes behind whole messages are none, or a head, and of the body that it says some with this payload
@@ -326,10 +247,42 @@ module _ {R W : Type 0} (remaining : R → Option (List ℕ)) (tells : W → Str
     pub writes : WritesPromptly tells trace (s, w) (text ++ last) sending (t, w')
     pub fails : IfErr sending (λ e. FailsLast tells trace Last w (text ++ last) e w')
 
-  -- messages went, each was answered, and another may follow
+  -- this message went, and its body was called for, where the client waits; and then it was answered, or that failed
+  pub record AnswersWhole (m : Message) (a : Both R W) (sending : Result (Unit {0}) Error) (b : Both R W) : Type 0 where
+    pub bytes : List ℕ
+    pub is : IsTaken m bytes
+    pub went : StreamWent remaining a.0 bytes b.0
+    pub said : ParsedHead
+    pub head : IsHead usual m.0 said
+    pub before : Buffered W StdPolicy
+    pub calls : WritesPromptly tells trace a (called (waits said)) (Ok tt) (b.0, before)
+    pub answers : WritesParts tells trace before (answered (is_known m.0) said (length m.1)) sending b.1
+
+  -- each of these went and was answered so, before a byte of the next was taken
+  abbrev pub AnswersEach : List Message → Both R W → Both R W → Type 0
+  AnswersEach [] a b = StreamWent remaining a.0 [] b.0 × WritesPromptly tells trace a [] (Ok tt) b
+  AnswersEach (m ∷ later) a b = (c : Both R W) × AnswersWhole m a (Ok tt) c × AnswersEach later c b
+
+  -- the last turn: none went whole, but these bytes, and this text was written; or one did, and was answered
+  abbrev pub IsLastTurn : List Message → List ℕ → List ℕ → Both R W → Result (Unit {0}) Error → Both R W → Type 0
+  IsLastTurn [] taken text a sending b = StreamWent remaining a.0 taken b.0 × WritesPromptly tells trace a text sending b
+  IsLastTurn (m ∷ []) taken text a sending b = AnswersWhole m a sending b
+  IsLastTurn (m ∷ n ∷ later) taken text a sending b = ⊥
+
+  -- in turns: each of these messages was answered before more was taken, and then came the last turn
+  pub record AnswersInTurns (messages : List Message) (a : Both R W) (taken text : List ℕ) (sending : Result (Unit {0}) Error)
+      (b : Both R W) : Type 0 where
+    pub front : List Message
+    pub last : List Message
+    pub all : messages ≡ front ++ last
+    pub between : Both R W
+    pub each : AnswersEach front a between
+    pub turn : IsLastTurn last taken text between sending b
+
+  -- messages went, each was answered in its turn, and another may follow
   pub record Continues (s : Unbuffered R) (w : Buffered W StdPolicy) (t : Unbuffered R) (w' : Buffered W StdPolicy) : Type 0 where
     pub messages : List Message
-    pub answers : AnswersMessages messages s w [] [] (IsLastAnswer messages) t (Ok tt) w'
+    pub each : AnswersEach messages (s, w) (t, w')
     pub keep : All (MayFollow true) messages
     pub reads : ReadsSteadily s t
 
@@ -340,11 +293,12 @@ module _ {R W : Type 0} (remaining : R → Option (List ℕ)) (tells : W → Str
   RunEndsBy s messages taken handed refuses place w' Over =
       OnlyInterrupts (faults_of s) (faults_of (stream_at place)) × NoMoreAnswered messages taken refuses s place
   RunEndsBy s messages taken handed refuses place w' stop.Many = OnlyInterrupts (faults_of s) (faults_of (stream_at place))
-      × All (MayFollow true) messages × IsMany (length messages + length handed) s (stream_at place)
-  RunEndsBy s messages taken handed refuses place w' (Unread e) =
-      FailsInRead s e (stream_at place) × All (MayFollow true) messages × AllSent w' × HadToAsk place
+      × All (MayFollow true) messages × (refuses ≡ None) × IsMany (length messages + length handed) s (stream_at place)
+  RunEndsBy s messages taken handed refuses place w' (Unread e) = FailsInRead s e (stream_at place)
+      × All (MayFollow true) messages × (refuses ≡ None) × AllSent w' × HadToAsk place
   RunEndsBy s messages taken handed refuses place w' (stop.Unsent e) =
-      OnlyInterrupts (faults_of s) (faults_of (stream_at place)) × (All (MayFollow true) messages ⊎ Closes messages)
+      OnlyInterrupts (faults_of s) (faults_of (stream_at place))
+      × (All (MayFollow true) messages ⊎ IsClosed messages taken refuses s place)
 
   -- a run, but for what is sent last: behind the answers were written the call for a body that the client waits for, and a
   -- refusal of what is wrong, by its status; so there is no 200 but for a whole message. The end is asked for once
@@ -357,6 +311,8 @@ module _ {R W : Type 0} (remaining : R → Option (List ℕ)) (tells : W → Str
     pub refuses : Option Refusal
     pub answers : AnswersMessages messages s w taken (call_at place ++ refused refuses) (IsSentLast messages taken refuses place)
         (stream_at place) (sending_of ending) w'
+    pub turns : AnswersInTurns messages (s, w) taken (call_at place ++ refused refuses) (sending_of ending)
+        (stream_at place, w')
     pub once : EndsOnce s.log.reads (stream_at place).log.reads
     pub wrong : IfSome refuses (IsToBeRefused s place handed)
     pub ends : RunEndsBy s messages taken handed refuses place w' ending

@@ -1,3 +1,4 @@
 pub mod Answers
 pub mod Large
 pub mod Sending
+pub mod Texts

@@ -54,24 +54,32 @@ SendsUnless tells trace P w answer w' =
 abbrev pub Both : Type 0 → Type 0 → Type 0
 Both R W = Unbuffered R × Buffered W StdPolicy
 
+-- the stream handed out some of what it has, in order
+abbrev pub HandsOutSome : {R : Type 0} → Unbuffered R → Unbuffered R → Type 0
+HandsOutSome s t = (bytes : List ℕ) × HandsOutInOrder s bytes t
+
+-- it was asked first, where what is buffered of it settles nothing
+abbrev pub AsksUnsettled : {R : Type 0} → Unbuffered R → Unbuffered R → Type 0
+AsksUnsettled s t = IsOpen (heads usual) s.left × HandsOutSome s t × (s.log.reads.asks < t.log.reads.asks)
+
 module _ {R W : Type 0} (tells : W → StreamLog) (trace : W → W → Type 0) where
-  -- none of the stream's bytes was lost. It isn't asked, and a text is written, or none; or it is asked, where all that was
-  -- written was received and flushed; or what is held is sent, where what is buffered of the stream settles nothing, and then the
-  -- stream is asked, or that failed, and nothing else is done
+  -- nothing is written, and the stream hands out some of what is buffered of it, or is asked, where all that was written was
+  -- received and flushed; or a text is written, or none, and it hands out nothing; or what is held is sent, where it is to be
+  -- asked, and then it is, or that failed, and nothing else is done
   abbrev pub IsStep : Both R W → Result (Unit {0}) Error → Both R W → Type 0
-  IsStep (s, w) answer (t, v) = ((bytes : List ℕ) × HandsOutInOrder s bytes t)
-      × (((t.log ≡ s.log) × ((text : List ℕ) × SendsForRoom tells trace w text answer v))
-      ⊎ (AllSent w × (answer ≡ Ok tt) × (v ≡ w) × (s.log.reads.asks < t.log.reads.asks))
-      ⊎ (IsOpen (heads usual) s.left × (0 < length w.block.bytes) × WasFlushed tells trace w answer v
-      × MatchResult answer (λ _. s.log.reads.asks < t.log.reads.asks) (λ e. t ≡ s)))
+  IsStep (s, w) answer (t, v) =
+      ((answer ≡ Ok tt) × (v ≡ w) × ((HandsOutSome s t × (t.log ≡ s.log)) ⊎ (AllSent w × AsksUnsettled s t)))
+      ⊎ ((t ≡ s) × ((text : List ℕ) × SendsForRoom tells trace w text answer v))
+      ⊎ ((0 < length w.block.bytes) × WasFlushed tells trace w answer v
+      × MatchResult answer (λ _. AsksUnsettled s t) (λ e. IsOpen (heads usual) s.left × (t ≡ s)))
 
   -- such steps, by way of these, of which the last is first; each went well but the last, which was answered so
   abbrev pub StepsAlong : Both R W → List (Both R W) → Result (Unit {0}) Error → Both R W → Type 0
   StepsAlong a [] answer b = (a ≡ b) × (answer ≡ Ok tt)
   StepsAlong a (m ∷ earlier) answer b = StepsAlong a earlier (Ok tt) m × IsStep m answer b
 
-  -- the stream was asked only where nothing was held back, and each flush sends something, and stands directly before an ask,
-  -- unless it fails
+  -- no step does both, hand out and write. So the stream was asked only where what it had settles nothing, and nothing was held
+  -- back; and each flush sends something, and stands directly before an ask, with nothing handed out between, unless it fails
   pub record Prompt (a : Both R W) (answer : Result (Unit {0}) Error) (b : Both R W) : Type 0 where
     pub between : List (Both R W)
     pub steps : StepsAlong a between answer b

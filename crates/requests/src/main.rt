@@ -4,8 +4,9 @@
 //! `100-continue`; 100 before it, where the client waits for that. What comes and is no request is refused by the status that RFC
 //! 9112 has for it (`refusal_of`); 400 is for a body that is none, or ends early, and 413 for one that is too large (`is_large`);
 //! and then no more comes. It ends behind a request after which none may follow, and where the stream does. It asks the stream
-//! only where what it has settles nothing (`HadToAsk`), and all that it answered was sent, and sends only there, for room, and at
-//! the end (`Prompt`); where sending fails, nothing was taken behind what failed (`IsSentLast`).
+//! only where what it has settles nothing, and all that it answered was sent, and sends only there, for room, and at the end
+//! (`Prompt`). Each request is answered before more is taken (`AnswersInTurns`); where a read fails it had to be made
+//! (`HadToAsk`), and where sending does, nothing was taken behind what failed (`IsSentLast`).
 #![tactic(auto)]
 
 mod limits;
@@ -24,7 +25,8 @@ ghost use Rattle.messages.specs.Heads.{heads};
 ghost use Rattle.messages.specs.Limits.{usual};
 ghost use Rattle.messages.specs.Messages.{Begun, body_of, stop_answer};
 ghost use Rattle.requests.specs.Sending.{IsHeld, SendsUnless, WritesOnlyHeld, WritesPromptly};
-ghost use Rattle.requests.specs.Answers.{AnswersTurn, EndsSent, EndsUntaken, ServesRequests, called, ending_of, only_line_ends, sending_of, waits};
+ghost use Rattle.requests.specs.Answers.{AnswersTurn, EndsSent, EndsUntaken, ServesRequests, ending_of, only_line_ends, sending_of};
+ghost use Rattle.requests.specs.Texts.{called, waits};
 
 use crate::taking::{Untaken, take_whole};
 use crate::writing::{

@@ -3,7 +3,7 @@ ghost use Rattle.std.specs.Prelude.{◌≡◌, ◌++◌, codes, map};
 ghost use Rattle.std.specs.List.{concat};
 ghost use Rattle.buffer_redux.specs.WriteParts.{WritesParts};
 ghost use Rattle.requests.specs.Sending.{IsHeld, SendsForRoom, SendsHeld};
-ghost use Rattle.requests.specs.Answers.{answered, begins_known, begins_often, called, declined, disappointed, granted, has_body, is_known, refusal, refusal_of, success, waits};
+ghost use Rattle.requests.specs.Texts.{answered, begins_known, begins_often, called, declined, disappointed, granted, has_body, is_known, refusal, refusal_of, success, waits};
 
 use crate::limits::is_large;
 use buffer_redux::BufWriter;

@@ -1,22 +1,28 @@
 -- A message that was taken whole is answered behind the call; of another a part is all that went.
-use Rattle.std.proofs.Common.{◌≡◌, ◌⊎◌, All, Bool, List, ℕ, [], ◌∷◌, true, false, inr, ap, sym, subst, ◌∙◌, refl, inl, arith}
+use Rattle.std.proofs.Common.{◌≡◌, ◌⊎◌, All, Bool, List, ℕ, None, [], ◌∷◌, true, false, inr, ap, sym, subst, ◌∙◌, refl, inl, arith}
 use Rattle.std.proofs.lemmas.List.Elements.{All-cons, All-nil}
+use Rattle.buffer_redux.specs.Unbuffer.{Unbuffered}
+use Rattle.codec.specs.PieceReader.{left_of}
 use Rattle.messages.specs.Heads.{IsHead}
 use Rattle.messages.specs.Limits.{usual}
 use Rattle.messages.specs.declared.head.ParsedHead.{ParsedHead}
 use Rattle.requests.specs.declared.Ending.TheVariants.{Over, Unsent}
+use Rattle.requests.specs.declared.Place.{Place}
 use Rattle.requests.specs.declared.Place.TheVariants.{Before}
-use Rattle.requests.specs.Answers.{Closes, MayFollow, is_known}
-use Rattle.requests.proofs.Answering.{RunsToLast-stopped, one_answered, torn_answered}
+use Rattle.requests.specs.Answers.{IsClosed, MayFollow, ends_of, stream_at}
+use Rattle.requests.specs.Texts.{is_known}
+use Rattle.requests.proofs.Answering.{RunsToLast-one, no_turn, one_answered, torn_answered}
 use Rattle.requests.proofs.Reading.{Closes-one, begun_steady, no_shorter, steadily}
+use Rattle.requests.proofs.Turns.{AnswersWhole-messages}
 use Rattle.requests.proofs.answer_called.Goals as goal
 
--- another may follow a message, or none
-follows : (head payload : List ℕ) (said : ParsedHead) (keeps : Bool) → IsHead usual head said → said.keeps ≡ keeps
-    → All (MayFollow true) ((head, payload) ∷ []) ⊎ Closes ((head, payload) ∷ [])
-follows head payload said true is same =
+-- another may follow a message, or none does
+follows : {S : Type 0} (s : Unbuffered S) (place : Place S) {head payload : List ℕ} {said : ParsedHead} (keeps : Bool)
+    → IsHead usual head said → said.keeps ≡ keeps → ends_of (stream_at place) ≡ ends_of s
+    → All (MayFollow true) ((head, payload) ∷ []) ⊎ IsClosed ((head, payload) ∷ []) [] None s place
+follows s place {head} {payload} {said} true is same ends =
     inl (All-cons (MayFollow true) (head, payload) [] (said, is, same) (All-nil (MayFollow true)))
-follows head payload said false is same = inr (Closes-one (said, is, same))
+follows s place {said = said} false is same ends = inr (Closes-one (said, is, same), refl, refl, ends)
 
 pub returns-then-said-clause-turns : goal.returns-then-said-clause-turns
 returns-then-said-clause-turns g c = λ s w begun call.
@@ -27,9 +33,13 @@ returns-then-said-clause-turns g c = λ s w begun call.
     let keeps = sym (ap (λ x. x.keeps) c.said-said.ensures.value) ∙ c.if-said.true in (
       record {
         messages = (b.head, whole.1) ∷ [];
-        answers = one_answered g.met.W.TellWrite.trace_joins begun c.requires.limits whole c.said-said.ensures.value
-            (c.is_known-known.ensures ∙ ap is_known c.head.ensures) call c.in-Ok.ensures.writes
-            c.in-Ok-answer_whole.ensures;
+        each = (
+          (left_of c.in-Ok.requests, c.answer_whole.new.writer),
+          one_answered g.met.W.TellWrite.trace_joins begun c.requires.limits whole c.said-said.ensures.value
+              (c.is_known-known.ensures ∙ ap is_known c.head.ensures) call c.in-Ok.ensures.writes
+              c.in-Ok-answer_whole.ensures,
+          no_turn g.met.W.TellWrite.trace_none (left_of c.in-Ok.requests, c.answer_whole.new.writer),
+        );
         keep = All-cons (MayFollow true) (b.head, whole.1) [] (b.said, head, keeps) (All-nil (MayFollow true));
         reads = reads;
       },
@@ -42,10 +52,10 @@ returns-else-said-clause-turns g c = λ s w begun call.
     let head = subst (λ l. IsHead l b.head b.said) c.requires.limits begun.is in
     let whole = c.in-Ok.ensures.whole in
     let reads = steadily (begun_steady begun) c.in-Ok.ensures.steady in
-    RunsToLast-stopped [] (Before c.in-Ok.requests) (refl, refl) (omega (arith, reads.ends)) Over
-    (one_answered g.met.W.TellWrite.trace_joins begun c.requires.limits whole c.said-said.ensures.value
-    (c.is_known-known.ensures ∙ ap is_known c.head.ensures) call c.in-Ok.ensures.writes
-    c.in-Ok-answer_whole.ensures) (
+    let one = one_answered g.met.W.TellWrite.trace_joins begun c.requires.limits whole c.said-said.ensures.value
+    (c.is_known-known.ensures ∙ ap is_known c.head.ensures) call c.in-Ok.ensures.writes c.in-Ok-answer_whole.ensures in
+    RunsToLast-one g.met.W.TellWrite.trace_none [] (Before c.in-Ok.requests) (refl, refl) (omega (arith, reads.ends)) Over one
+    (AnswersWhole-messages g.R.TellRead.remaining g.W.Tell.log g.met.W.TellWrite.trace_joins one) (
       reads.faults,
       inl (
         Closes-one (b.said, head, sym (ap (λ x. x.keeps) c.said-said.ensures.value) ∙ c.if-said.false),
@@ -60,13 +70,13 @@ returns-in-Err-answer_whole-clause-turns g c = λ s w begun call.
     let b = c.args.body in
     let head = subst (λ l. IsHead l b.head b.said) c.requires.limits begun.is in
     let reads = steadily (begun_steady begun) c.in-Ok.ensures.steady in
-    RunsToLast-stopped [] (Before c.in-Ok.requests) (refl, refl) (omega (arith, reads.ends)) (Unsent c.in-Err-answer_whole.e)
-    (one_answered g.met.W.TellWrite.trace_joins begun c.requires.limits c.in-Ok.ensures.whole c.said-said.ensures.value
-    (c.is_known-known.ensures ∙ ap is_known c.head.ensures) call c.in-Ok.ensures.writes
-    c.in-Err-answer_whole.ensures) (reads.faults, follows _ _ _ _ head refl)
+    let one = one_answered g.met.W.TellWrite.trace_joins begun c.requires.limits c.in-Ok.ensures.whole c.said-said.ensures.value
+    (c.is_known-known.ensures ∙ ap is_known c.head.ensures) call c.in-Ok.ensures.writes c.in-Err-answer_whole.ensures in
+    RunsToLast-one g.met.W.TellWrite.trace_none [] (Before c.in-Ok.requests) (refl, refl) (omega (arith, reads.ends))
+    (Unsent c.in-Err-answer_whole.e) one (AnswersWhole-messages g.R.TellRead.remaining g.W.Tell.log g.met.W.TellWrite.trace_joins one) (reads.faults, follows (left_of s) (Before c.in-Ok.requests) b.said.keeps head refl reads.ends)
 
 pub returns-in-Err-clause-turns : goal.returns-in-Err-clause-turns
 returns-in-Err-clause-turns g c = λ s w begun call.
     let part = c.in-Err.ensures.part in
-    torn_answered g.met.W.TellWrite.trace_joins begun c.requires.limits part.1 call c.in-Err.why c.unended-ending.result
+    torn_answered g.met.W.TellWrite.trace_joins g.met.W.TellWrite.trace_none begun c.requires.limits part.1 call c.in-Err.why c.unended-ending.result
     part.2 c.in-Err.ensures.writes c.unended-ending.ensures

@@ -43,7 +43,7 @@ returns-in-Err-clause-turns g c =
     let s = left_of c.args.requests in
     let sent = WritesPromptly-unsent g.met.W.TellWrite.trace_none s c.args.writer.now c.send_to_ask.new.writer c.in-Err.e
     c.in-Err.ensures (open_where c.args.requests) in
-    RunsToLast-stopped [] (Before c.args.requests) (refl, refl) (omega arith) (Unsent c.in-Err.e)
+    RunsToLast-stopped g.met.W.TellWrite.trace_none [] (Before c.args.requests) (refl, refl) (omega arith) (Unsent c.in-Err.e)
     (none_answered (StreamWent-none g.R.TellRead.remaining s) sent
     (FailsLast-of (IsSentLast [] [] None (Before c.args.requests)) (Err c.in-Err.e) refl (inl refl)
     (PutsText-none g.met.W.TellWrite.trace_none c.args.writer.now) sent.puts)) (none_met refl, inl (All-nil (MayFollow true)))

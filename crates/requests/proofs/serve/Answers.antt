@@ -1,22 +1,20 @@
 -- What a turn answered joins what was answered before, and each turn counts a message or an interruption.
-use Rattle.std.proofs.Common.{[], ◌++◌, true, refl, arith, length-append}
+use Rattle.std.proofs.Common.{[], ◌++◌, None, true, refl, sym, append-nil, arith, length-append}
 use Rattle.std.proofs.lemmas.List.Elements.{All-append, All-nil}
-use Rattle.buffer_redux.specs.UnbufferLaws.{StreamWent-none}
 use Rattle.codec.specs.PieceReader.{left_of}
 use Rattle.requests.specs.declared.Ending.TheVariants.{Many}
 use Rattle.requests.specs.declared.Place.TheVariants.{Before}
 use Rattle.requests.specs.Answers.{MayFollow}
-use Rattle.requests.proofs.Answering.{AnswersMessages-joins, IsLastAnswer-after, RunsToLast-after, RunsToLast-stopped, none_answered}
+use Rattle.requests.proofs.Answering.{RunsToLast-by, no_turn}
 use Rattle.requests.proofs.Reading.{steadily, steady_none}
-use Rattle.requests.proofs.Sending.{WritesPromptly-none}
+use Rattle.requests.proofs.Turns.{AnswersEach-joins, AnswersEach-messages, RunsToLast-after}
 use Rattle.requests.proofs.serve.Goals as goal
 
 pub loop-message-init : goal.loop-message-init
 loop-message-init g c = record {
   goes = record {
     messages = [];
-    answers = none_answered (StreamWent-none g.R.TellRead.remaining (left_of c.args.requests))
-        (WritesPromptly-none g.met.W.TellWrite.trace_none (left_of c.args.requests, c.args.writer.now)) tt;
+    each = no_turn g.met.W.TellWrite.trace_none (left_of c.args.requests, c.args.writer.now);
     keep = All-nil (MayFollow true);
     reads = steady_none (refl, refl);
   };
@@ -30,16 +28,19 @@ loop-message-preserved g c =
     let before = c.loop-message.invariant in
     let a = before.goes in
     let b = c.in-Ok.ensures.turns.0 in
+    let wrote = AnswersEach-messages g.R.TellRead.remaining g.W.Tell.log g.met.W.TellWrite.trace_joins b.messages
+    (left_of c.loop-message.next, c.loop-message.writer) (left_of c.in-Ok.behind, c.answer.new.writer) b.each in
     record {
       goes = record {
         messages = a.messages ++ b.messages;
-        answers =
-            AnswersMessages-joins g.met.W.TellWrite.trace_joins a.answers b.answers (IsLastAnswer-after a.messages b.messages);
+        each = AnswersEach-joins g.R.TellRead.remaining g.W.Tell.log g.met.W.TellWrite.trace_joins a.messages b.messages
+            (left_of c.args.requests, c.args.writer.now) (left_of c.loop-message.next, c.loop-message.writer)
+            (left_of c.in-Ok.behind, c.answer.new.writer) a.each b.each;
         keep = All-append (MayFollow true) a.messages b.messages a.keep b.keep;
         reads = steadily a.reads b.reads;
       };
       turns = omega (arith, before.turns, c.in-Ok.ensures.turns.1, length-append a.messages b.messages);
-      held = b.answers.writes.puts.held before.held;
+      held = wrote.writes.puts.held before.held;
       limits = c.in-Ok.ensures.limits;
     }
 
@@ -47,7 +48,8 @@ pub returns-in-Err : goal.returns-in-Err
 returns-in-Err g c = record {
   ending = c.in-Err.ending;
   held = c.answer.new.writer;
-  runs = RunsToLast-after g.met.W.TellWrite.trace_joins c.loop-message.invariant.goes c.in-Err.ending c.in-Err.ensures.turns;
+  runs = RunsToLast-after g.R.TellRead.remaining g.W.Tell.log g.met.W.TellWrite.trace_joins c.loop-message.invariant.goes
+      c.in-Err.ending c.in-Err.ensures.turns;
   last = c.send_last-answer.ensures;
 }
 
@@ -56,8 +58,18 @@ returns g c =
     let before = c.loop-message.invariant in record {
       ending = Many;
       held = c.loop-message.writer;
-      runs = RunsToLast-stopped [] (Before c.loop-message.next) (refl, refl) (omega (arith, before.goes.reads.ends)) Many
-          before.goes.answers
-          (before.goes.reads.faults, before.goes.keep, omega (arith, before.turns, c.loop-message-test.false));
+      runs = RunsToLast-by g.met.W.TellWrite.trace_none [] (Before c.loop-message.next) (refl, refl)
+          (omega (arith, before.goes.reads.ends)) None tt Many
+          (AnswersEach-messages g.R.TellRead.remaining g.W.Tell.log g.met.W.TellWrite.trace_joins before.goes.messages
+          (left_of c.args.requests, c.args.writer.now) (left_of c.loop-message.next, c.loop-message.writer)
+          before.goes.each) (record {
+            front = before.goes.messages;
+            last = [];
+            all = sym (append-nil before.goes.messages);
+            between = (left_of c.loop-message.next, c.loop-message.writer);
+            each = before.goes.each;
+            turn = no_turn g.met.W.TellWrite.trace_none (left_of c.loop-message.next, c.loop-message.writer);
+          })
+          (before.goes.reads.faults, before.goes.keep, refl, omega (arith, before.turns, c.loop-message-test.false));
       last = c.send_last-answer-2.ensures;
     }

@@ -8,7 +8,8 @@ use Rattle.messages.specs.HeadsLaws.{never_cut}
 use Rattle.messages.specs.declared.head.Heads.{Heads}
 use Rattle.requests.specs.declared.Ending.TheVariants.{Over, Unread}
 use Rattle.requests.specs.declared.Place.TheVariants.{Before}
-use Rattle.requests.specs.Answers.{IsSentLast, MayFollow, RunsToLast, ends_of, faults_of, only_line_ends, refusal_of}
+use Rattle.requests.specs.Answers.{IsSentLast, MayFollow, RunsToLast, ends_of, faults_of, only_line_ends}
+use Rattle.requests.specs.Texts.{refusal_of}
 use Rattle.messages.specs.declared.requests.Stop.TheVariants.{Bad}
 use Rattle.requests.proofs.Answering.{FailsLast-of, RunsToLast-refused, RunsToLast-stopped, none_answered}
 use Rattle.requests.proofs.Reading.{failed_behind, interrupted_once, none_met, nothing_went}
@@ -26,7 +27,7 @@ returns-then-is_interrupt-clause-turns g c = λ s w told next comes.
     let answers = fault.answers in (
       record {
         messages = [];
-        answers = none_answered (nothing_went fault answers.0) comes.writes tt;
+        each = (nothing_went fault answers.0, comes.writes);
         keep = All-nil (MayFollow true);
         reads = record {
           faults = interrupted_once (faults_of (left_of s)) (faults_of (left_of c.args.requests)) was.0 was.2 answers.2;
@@ -40,7 +41,7 @@ pub returns-in-Ended-clause-turns : goal.returns-in-Ended-clause-turns
 returns-in-Ended-clause-turns g c = λ s w told next comes.
     let ended = rw c.in-Ended.is at next in
     let met = met_end s c.args.requests told ended.answers.4 in
-    RunsToLast-stopped [] (Before c.args.requests) (refl, refl) (omega (arith, met)) Over
+    RunsToLast-stopped g.met.W.TellWrite.trace_none [] (Before c.args.requests) (refl, refl) (omega (arith, met)) Over
     (none_answered (nothing_went ended ended.answers.0) comes.writes tt) (
       none_met ended.answers.2,
       inr (All-nil (MayFollow true), inr (omega (arith, met), subst (λ l. IsTrue (only_line_ends l)) (sym ended.answers.1) refl)),
@@ -54,7 +55,7 @@ returns-then-is_blank_end-clause-turns g c = λ s w told next comes.
       | inl wrong ↦ absurd (never_cut _ _ _ wrong.0)
       | inr end ↦
           (let met = met_end s c.args.requests told end.3 in
-          RunsToLast-stopped [] (Before c.args.requests) (refl, refl) (omega (arith, met)) Over
+          RunsToLast-stopped g.met.W.TellWrite.trace_none [] (Before c.args.requests) (refl, refl) (omega (arith, met)) Over
           (none_answered (nothing_went cut cut.answers.0) comes.writes tt) (
             none_met cut.answers.1,
             inr (
@@ -73,7 +74,7 @@ returns-in-Bad-clause-turns g c = λ s w told next comes.
     let t = left_of c.args.requests in
     let then = WritesPromptly-parts t c.refuse.ensures in
     subst (λ x. RunsToLast g.R.TellRead.remaining g.W.Tell.log g.W.TellWrite.trace (left_of s) w (Before c.args.requests) x
-    c.refuse.new.writer) (sym c.ending_of-ending.ensures) (RunsToLast-refused [] (Before c.args.requests) (refl, refl)
+    c.refuse.new.writer) (sym c.ending_of-ending.ensures) (RunsToLast-refused g.met.W.TellWrite.trace_none [] (Before c.args.requests) (refl, refl)
     (elim bad.answers.3 [
       | inl wrong ↦ omega (arith, wrong.1)
       | inr cut ↦ omega (arith, met_end s c.args.requests told cut.3)
@@ -97,13 +98,14 @@ pub returns-in-Io-clause-turns : goal.returns-in-Io-clause-turns
 returns-in-Io-clause-turns g c = λ s w told next comes.
     let fault = rw c.in-Io.is at next in
     let answers = fault.answers in
-    RunsToLast-stopped [] (Before c.args.requests) (refl, refl) (omega (arith, answers.4)) (Unread c.in-Io.e)
+    RunsToLast-stopped g.met.W.TellWrite.trace_none [] (Before c.args.requests) (refl, refl) (omega (arith, answers.4)) (Unread c.in-Io.e)
     (none_answered (nothing_went fault answers.0) comes.writes tt) (
       (
         failed_behind _ _ _ c.in-Io.e (OnlyInterrupts-none (faults_of (left_of s))) answers.2,
         λ is. absurd (let odd = c.is_interrupt.ensures.no c.in-Io.e c.in-Io.is is in cc),
       ),
       All-nil (MayFollow true),
+      refl,
       elim comes.asked [
         | inl same ↦ absurd (omega (
           arith,
