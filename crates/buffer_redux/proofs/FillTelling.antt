@@ -178,7 +178,10 @@ module _ {S P : Type 0} (remaining : S → Option (List ℕ)) (rules : ReadRules
           capacity = ap (λ b. b.capacity) block ∙ offered.capacity;
           offer = elim offered.offer [
             | inl none ↦ inl (ap (λ l. l.reads) (log ∙ none))
-            | inr all ↦ inr (ap (λ l. l.reads.offer) log ∙ all ∙ sym (ap (λ b. b.capacity) block ∙ offered.capacity))
+            | inr all ↦ inr (
+              ap (λ l. l.reads.offer) log ∙ all.0 ∙ sym (ap (λ b. b.capacity) block ∙ offered.capacity),
+              omega (arith, all.1, ap (λ b. length b.bytes) block, ap (λ l. length l.reads.latest) log),
+            )
           ];
         };
   }

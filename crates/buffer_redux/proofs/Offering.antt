@@ -1,8 +1,9 @@
 -- What is offered where a read is ordered over an empty buffer alone, which the policy leaves as it is.
-use Rattle.std.proofs.Common.{◌≡◌, ◌∙◌, ℕ, zero, suc, ◌+◌, ◌<◌, length, take, Result, Ok, Err, inl, inr, sym, ap, subst, arith, length-append, length-take-le}
+use Rattle.std.proofs.Common.{◌≡◌, ◌∙◌, ℕ, zero, suc, ◌+◌, ◌<◌, ◌≤◌, length, take, Result, Ok, Err, inl, inr, sym, ap, subst, arith, length-append, length-take-le}
 use Rattle.std.specs.Prelude.{◌⊎◌}
 use Rattle.std.specs.declared.io.Error.{Error}
 use Rattle.redux_buffer.specs.Block.{IsBlock, Kind, OnKind, Plain, Ring, usable}
+use Rattle.redux_buffer.specs.StreamLog.{portion}
 use Rattle.buffer_redux.specs.declared.policy.DoRead.{DoRead}
 use Rattle.buffer_redux.specs.Policy.{ReadRules}
 use Rattle.buffer_redux.specs.Buffered.{Buffered}
@@ -14,10 +15,11 @@ space_of : (k : Kind) (len room cap : ℕ) → OnKind k (len ≡ 0 → room ≡ 
 space_of Plain len room cap space none = space none
 space_of Ring len room cap space none = omega (arith, space, none)
 
--- the capacity stayed, and the last ask offered as much, or there was none
+-- the capacity stayed, and the last ask offered as much, and gave all that is buffered, or there was none
 pub record Offered {S P : Type 0} (s t : Buffered S P) : Type 0 where
   pub capacity : t.block.capacity ≡ s.block.capacity
-  pub offer : (t.log ≡ s.log) ⊎ (t.log.reads.offer ≡ s.block.capacity)
+  pub offer : (t.log ≡ s.log)
+      ⊎ ((t.log.reads.offer ≡ s.block.capacity) × (length t.block.bytes ≤ length t.log.reads.latest))
 
 module _ {S P : Type 0} (rules : ReadRules P) (leaves : ReadsWhole rules) where
   asked_none : (answer : Result DoRead Error) (s t : Buffered S P) → Answered rules answer s t → Offered s t
@@ -29,8 +31,18 @@ module _ {S P : Type 0} (rules : ReadRules P) (leaves : ReadsWhole rules) where
       let same : a.seen ≡ s.block = leaves.before _ _ _ _ _ a.asked.allowed in
       let empty = leaves.orders _ _ _ _ a.asked.allowed in record {
         capacity = a.read.added.capacity ∙ ap (λ b. b.capacity) same;
-        offer = inr (ap (λ l. l.reads.offer) a.read.told ∙ a.read.offered ∙ ap usable same
-            ∙ space_of s.block.kind (length s.block.bytes) (usable s.block) s.block.capacity whole.space empty);
+        offer = inr (
+          ap (λ l. l.reads.offer) a.read.told ∙ a.read.offered ∙ ap usable same
+              ∙ space_of s.block.kind (length s.block.bytes) (usable s.block) s.block.capacity whole.space empty,
+          omega (
+            arith,
+            ap length a.read.added.bytes,
+            length-append a.seen.bytes (portion a.read.out answer),
+            ap (λ b. length b.bytes) same,
+            empty,
+            ap (λ l. length l.reads.latest) a.read.told,
+          ),
+        );
       }
 
   -- behind a turn bytes are buffered, and so there is no other
@@ -57,11 +69,11 @@ module _ {S P : Type 0} (rules : ReadRules P) (leaves : ReadsWhole rules) where
 
   -- behind a turn
   ends_silent : {A : Type 0} (k : ℕ) (answer : Result A Error) (s m t : Buffered S P) → Turns rules (suc k) s m
-      → Ends rules m answer t → (t.log ≡ m.log) × (t.block.capacity ≡ m.block.capacity)
-  ends_silent k (Ok a) s m t run (inl declined) = (declined.told, (asked_none _ m t declined).capacity)
-  ends_silent k (Ok a) s m t run (inr (inl full)) = (full.1.told, (asked_none _ m t full.1).capacity)
+      → Ends rules m answer t → (t.log ≡ m.log) × (t.block ≡ m.block)
+  ends_silent k (Ok a) s m t run (inl declined) = (declined.told, leaves.before _ _ _ _ _ declined.asked.allowed)
+  ends_silent k (Ok a) s m t run (inr (inl full)) = (full.1.told, leaves.before _ _ _ _ _ full.1.asked.allowed)
   ends_silent k (Ok a) s m t run (inr (inr dry)) = absurd (never_again k _ s m t run dry)
-  ends_silent k (Err e) s m t run (inl refused) = (refused.told, (asked_none _ m t refused).capacity)
+  ends_silent k (Err e) s m t run (inl refused) = (refused.told, leaves.before _ _ _ _ _ refused.asked.allowed)
   ends_silent k (Err e) s m t run (inr fault) = absurd (never_again k _ s m t run fault)
 
   filled : {A : Type 0} (k : ℕ) (answer : Result A Error) (s m t : Buffered S P) → IsBlock s.block → Turns rules k s m
@@ -70,10 +82,13 @@ module _ {S P : Type 0} (rules : ReadRules P) (leaves : ReadsWhole rules) where
   filled (suc zero) answer s m t whole (v, same, count, some, turn) ends =
       let one = asked_all (Ok count) s m whole (subst (λ x. Ordered rules (Ok count) x m) (sym same) turn) in
       let silent = ends_silent zero answer s m t (v, same, count, some, turn) ends in record {
-        capacity = silent.1 ∙ one.capacity;
+        capacity = ap (λ b. b.capacity) silent.1 ∙ one.capacity;
         offer = elim one.offer [
           | inl none ↦ inl (silent.0 ∙ none)
-          | inr all ↦ inr (ap (λ l. l.reads.offer) silent.0 ∙ all)
+          | inr all ↦ inr (
+            ap (λ l. l.reads.offer) silent.0 ∙ all.0,
+            omega (arith, all.1, ap (λ l. length l.reads.latest) silent.0, ap (λ b. length b.bytes) silent.1),
+          )
         ];
       }
   filled (suc (suc k)) answer s m t whole (v, run, count, some, turn) ends = absurd (never_again k _ s v m run turn)

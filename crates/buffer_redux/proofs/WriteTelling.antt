@@ -43,16 +43,6 @@ module _ {S P : Type 0} (t : Buffered S P) (calls : StreamLog) where
         );
   }
 
-  pub flushes_noted : (s : Buffered S P) (answer : Result (Unit {0}) Error)
-      → Flushes s answer t → Flushes s answer (with_calls t calls)
-  flushes_noted s answer f = record {
-    policy = f.policy;
-    sent_log = f.sent_log;
-    sending = f.sending;
-    sends = f.sends;
-    ended = f.ended;
-  }
-
   pub writes_noted : (rules : WriteRules P) (s : Buffered S P) (bs : List ℕ) (answer : Result ℕ Error)
       → Writes rules s bs answer t → Writes rules s bs answer (with_calls t calls)
   writes_noted rules s bs (Ok n) f = record {

@@ -4,7 +4,7 @@ use Rattle.std.specs.declared.io.Error.{Error}
 use Rattle.buffer_redux.specs.Policy.{amount_when_full, std_write_rules}
 use Rattle.redux_buffer.specs.Block.{Block}
 use Rattle.redux_buffer.specs.Copy.{TakesNothing}
-use Rattle.redux_buffer.specs.StreamLog.{after_write}
+use Rattle.redux_buffer.specs.StreamLog.{StreamLog, after_write}
 use Rattle.buffer_redux.specs.Buffered.{Buffered}
 use Rattle.buffer_redux.specs.BufWriter.{Prepared, TakesIn, Writes}
 use Rattle.buffer_redux.specs.WriterLaws.{ways_in}
@@ -46,7 +46,8 @@ module _ {S P : Type 0} (bs : List ℕ) (none : length bs ≡ 0) (s t : Buffered
 same_faults : (faults faults' : List Error) (e : Error) → faults' ≡ faults → faults' ≡ faults ++ e ∷ [] → ⊥
 same_faults faults faults' e same more = omega (arith, ap length same, ap length more, length-append faults (e ∷ []))
 
-module _ {S P : Type 0} (s t : Buffered S P) (e : Error) (room : 0 < s.block.capacity)
+module _ {S P : Type 0} (tells : S → StreamLog) (trace : S → S → Type 0) (s t : Buffered S P) (e : Error)
+    (room : 0 < s.block.capacity)
     (told : writer_log t ≡ after_write (writer_log s) [] (Err e)) where
   by_write : (bs : List ℕ) (answer : Result ℕ Error) → Writes std_write_rules s bs answer t
       → t.own_calls ≡ after_write s.own_calls bs answer → ⊥
@@ -56,13 +57,15 @@ module _ {S P : Type 0} (s t : Buffered S P) (e : Error) (room : 0 < s.block.cap
   by_write bs (Err d) steps noted =
       never_fails bs (sym (ap (λ l. l.writes.offer) noted) ∙ ap (λ l. l.writes.offer) told) s t d room steps
 
-  pub no_empty_failure : WriterCalled std_write_rules s t → ⊥
+  pub no_empty_failure : WriterCalled tells trace std_write_rules s t → ⊥
   no_empty_failure called = elim called.steps [
     | inl write ↦ by_write write.0 write.1 write.2 write.3
     | inr flush ↦ omega (arith, ap (λ l. l.writes.asks) flush.2, ap (λ l. l.writes.asks) told)
   ]
 
-pub TakesNothing-std : {S P : Type 0} (trace : S → S → Type 0) (s : Buffered S P) → 0 < s.block.capacity
-    → TakesNothing writer_log (WriterWent trace std_write_rules) (WriterCalled std_write_rules) s
-TakesNothing-std trace s room =
-    λ before after e went called told. no_empty_failure before after e (omega (arith, room, went.capacity)) told called
+pub TakesNothing-std : {S P : Type 0} (tells : S → StreamLog) (trace : S → S → Type 0) (s : Buffered S P)
+    → 0 < s.block.capacity
+    → TakesNothing writer_log (WriterWent trace std_write_rules) (WriterCalled tells trace std_write_rules) s
+TakesNothing-std tells trace s room =
+    λ before after e went called told.
+    no_empty_failure tells trace before after e (omega (arith, room, went.capacity)) told called

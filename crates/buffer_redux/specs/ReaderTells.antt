@@ -1,6 +1,6 @@
 -- What a buffered reader tells of its own calls, and what any of them, one after another, may do to it.
-use Rattle.std.specs.Prelude.{◌≡◌, ℕ, ◌+◌, ◌<◌, ◌≤◌, ◌⊎◌, List, [], ◌∷◌, ◌++◌, Option, Ok, Err, true}
-use Rattle.std.proofs.Common.{inl, inr, refl, sym, ap, subst, ◌∙◌, arith, le_refl, le_trans, append-nil, append_assoc}
+use Rattle.std.specs.Prelude.{◌≡◌, ℕ, ◌+◌, ◌<◌, ◌≤◌, ◌⊎◌, List, [], ◌∷◌, ◌++◌, length, Option, Ok, Err, true}
+use Rattle.std.proofs.Common.{inl, inr, refl, sym, ap, subst, ◌∙◌, arith, le_refl, le_trans, append-nil, append_assoc, length-append}
 use Rattle.std.specs.declared.io.Error.{Error}
 use Rattle.std.proofs.lemmas.List.{append_cancel_left}
 use Rattle.redux_buffer.specs.Block.{IsBlock}
@@ -29,17 +29,18 @@ pub record FaultsAlike (old new old' new' : List Error) : Type 0 where
   pub first : new ≡ old ++ more
   pub second : new' ≡ old' ++ more
 
--- the capacity stayed, and where the inner reader was asked, the last ask offered as much
+-- the capacity stayed, and where the inner reader was asked, the last ask offered as much, and all that is buffered came in it
 pub record OffersWhole {S P : Type 0} (s t : Buffered S P) : Type 0 where
   pub whole : IsBlock t.block
   pub capacity : t.block.capacity ≡ s.block.capacity
-  pub offer : (t.log.reads ≡ s.log.reads) ⊎ (t.log.reads.offer ≡ t.block.capacity)
+  pub offer : (t.log.reads ≡ s.log.reads)
+      ⊎ ((t.log.reads.offer ≡ t.block.capacity) × (length t.block.bytes ≤ length t.log.reads.latest))
 
 -- no byte is lost between the inner reader and what was consumed, and of what that is known to have left just what it
 -- gave is gone; the kind and the claims stay, and what the policy claims to spare is spared. Under a steady policy its
 -- faults are the inner reader's. Where the policy is steady or claims a minimum of at least 1, and there is capacity, it
 -- ended only where the inner reader gave nothing; and where a read is ordered over an empty buffer alone, that gave nothing
--- only where it ended, and was offered all of a buffer that the policy leaves as it is
+-- only where it ended, and was offered all of a buffer that the policy leaves as it is, which was empty
 pub record ReaderWent {S P : Type 0} (remaining : S → Option (List ℕ))
     (rules : ReadRules P) (s t : Buffered S P)
     : Type 0 where
@@ -61,14 +62,28 @@ pub record ReaderWent {S P : Type 0} (remaining : S → Option (List ℕ))
       → s.own_calls.fills.zero_fills + t.log.reads.zero_reads ≤ t.own_calls.fills.zero_fills + s.log.reads.zero_reads
   pub offers : ReadsWhole rules → IsBlock s.block → OffersWhole s t
 
-OffersWhole-joins : {S P : Type 0} (a b c : Buffered S P) → OffersWhole a b → OffersWhole b c → OffersWhole a c
-OffersWhole-joins a b c p q = record {
+OffersWhole-joins : {S P : Type 0} (a b c : Buffered S P) (handed : List ℕ) → ReadsInOrder b handed c
+    → OffersWhole a b → OffersWhole b c → OffersWhole a c
+OffersWhole-joins a b c handed order p q = record {
   whole = q.whole;
   capacity = q.capacity ∙ p.capacity;
   offer = elim q.offer [
     | inl same ↦ elim p.offer [
       | inl before ↦ inl (same ∙ before)
-      | inr asked ↦ inr (ap (λ l. l.offer) same ∙ asked ∙ sym q.capacity)
+      | inr asked ↦ inr (
+        ap (λ l. l.offer) same ∙ asked.0 ∙ sym q.capacity,
+        omega (
+          arith,
+          asked.1,
+          ap (λ l. length l.latest) same,
+          ap (λ l. length l.given) same,
+          ap length order.given,
+          length-append b.log.reads.given order.got,
+          ap length order.equal,
+          length-append handed c.block.bytes,
+          length-append b.block.bytes order.got,
+        ),
+      )
     ]
     | inr asked ↦ inr asked
   ];
@@ -153,7 +168,8 @@ module _ {S P : Type 0} (remaining : S → Option (List ℕ)) (rules : ReadRules
         );
         once = λ orders. omega (arith, p.once orders, q.once orders);
         offers = λ leaves whole.
-            let first = p.offers leaves whole in OffersWhole-joins a b c first (q.offers leaves first.whole);
+            let first = p.offers leaves whole in
+            OffersWhole-joins a b c q.handed q.in_order first (q.offers leaves first.whole);
       }
 
   pub ReaderWent-grows : (s t : Buffered S P)

@@ -3,12 +3,13 @@ use Rattle.std.specs.Prelude.{◌≡◌, ℕ, ◌+◌, ◌≤◌, ◌⊎◌, Lis
 use Rattle.std.proofs.Common.{refl, ap, ◌∙◌, arith, le_refl, le_trans}
 use Rattle.std.specs.declared.io.Error.{Error}
 use Rattle.std.specs.declared.io.ErrorKind.TheVariants.{WriteZero}
+use Rattle.redux_buffer.specs.Block.{IsBlock}
 use Rattle.redux_buffer.specs.Faults.{MetInterrupts, MetInterrupts-joins, MetInterrupts-none, MetInterrupts-parts, TookNothing, SendErrorCaused}
 use Rattle.redux_buffer.specs.StreamLog.{StreamLog, WriteLog, Readies, after_write, after_flush}
 use Rattle.redux_buffer.specs.LogGrows.{WriteLogGrows, WriteLogGrows-none, WriteLogGrows-joins, WritesGoOn, WritesGoOn-of}
 use Rattle.buffer_redux.specs.Policy.{WriteRules, std_write_rules}
-use Rattle.buffer_redux.specs.Buffered.{Buffered}
-use Rattle.buffer_redux.specs.BufWriter.{LeavesCapacity, Writes, Flushes}
+use Rattle.buffer_redux.specs.Buffered.{Buffered, with_calls}
+use Rattle.buffer_redux.specs.BufWriter.{LeavesCapacity, WasFlushed, Writes}
 use Rattle.buffer_redux.specs.WriterLaws.{FlushesNothingAfter}
 
 -- a buffered writer tells that it received what the inner writer did, and then what is buffered, and flushed what the inner
@@ -59,16 +60,19 @@ pub record WriterWent {S P : Type 0} (trace : S → S → Type 0) (rules : Write
 -- one call, a write or a flush, step after step. Under a steady policy an error that it returned is the one that the inner
 -- writer returned last, or came of a write that took nothing of something; and so did an answer that took nothing of
 -- something. Before that came interrupted writes alone
-pub record WriterCalled {S P : Type 0} (rules : WriteRules P) (s t : Buffered S P) : Type 0 where
+pub record WriterCalled {S P : Type 0} (tells : S → StreamLog) (trace : S → S → Type 0) (rules : WriteRules P)
+    (s t : Buffered S P) : Type 0 where
   pub steps : ((bytes : List ℕ) × (answer : Result ℕ Error)
       × Writes rules s bytes answer t × (t.own_calls ≡ after_write s.own_calls bytes answer))
-      ⊎ ((answer : Result (Unit {0}) Error) × Flushes s answer t × (t.own_calls ≡ after_flush s.own_calls answer))
+      ⊎ ((answer : Result (Unit {0}) Error) × WasFlushed tells trace s answer (with_calls t s.own_calls)
+      × (t.own_calls ≡ after_flush s.own_calls answer))
   pub fault : (rules.claims s.policy).steady ≡ true → (e : Error)
       → t.own_calls.writes.faults ≡ s.own_calls.writes.faults ++ e ∷ []
       → SendErrorCaused s.log.writes t.log.writes e
   pub nothing : (rules.claims s.policy).steady ≡ true
       → t.own_calls.writes.zero_writes ≡ s.own_calls.writes.zero_writes + 1
       → (interrupts : List Error) × TookNothing interrupts s.log.writes t.log.writes WriteZero
+  pub whole : IsBlock t.block
 
 pub LeavesCapacity-std : {P : Type 0} → LeavesCapacity (std_write_rules {P = P})
 LeavesCapacity-std p b incoming (Ok a) p' b' allowed = ap (λ x. x.capacity) allowed.1

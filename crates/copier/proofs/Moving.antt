@@ -41,7 +41,7 @@ pub offers_all : {R P : Type 0} {remaining : R → Option (List ℕ)} {s t : Buf
     → (t.log.reads ≡ s.log.reads) ⊎ (t.log.reads.offer ≡ s.block.capacity)
 offers_all went whole =
     let offers = went.offers ReadsWhole-std whole in
-    elim offers.offer [ inl none ↦ inl none | inr all ↦ inr (all ∙ offers.capacity) ]
+    elim offers.offer [ inl none ↦ inl none | inr all ↦ inr (all.0 ∙ offers.capacity) ]
 
 -- what was handed on between buffers that were empty at first
 module _ {R P W Q : Type 0} (s t : Buffered R P) (u v : Buffered W Q) (none : s.block.bytes ≡ [])
@@ -87,9 +87,9 @@ own_met u v met = record {
 }
 
 -- what the writer inside met where the last write of a copy had this answer
-module _ {W Q : Type 0} (trace : W → W → Type 0) (a b : FillLog) (u v : Buffered W Q) where
+module _ {W Q : Type 0} {tells : W → StreamLog} (trace : W → W → Type 0) (a b : FillLog) (u v : Buffered W Q) where
   err_caused : (e : Error)
-      → LastWrite writer_log (WriterWent trace std_write_rules) (WriterCalled std_write_rules) (Err e) a b u v
+      → LastWrite writer_log (WriterWent trace std_write_rules) (WriterCalled tells trace std_write_rules) (Err e) a b u v
       → SendErrorCaused u.log.writes v.log.writes e
   err_caused e last =
       let m = last.before in
@@ -98,7 +98,7 @@ module _ {W Q : Type 0} (trace : W → W → Type 0) (a b : FillLog) (u v : Buff
       (last.called.fault (tells_all m.policy).0 e (ap (λ l. l.writes.faults) last.told))
 
   module _ (last : LastWrite writer_log (WriterWent trace std_write_rules)
-      (WriterCalled std_write_rules) (Ok 0) a b u v) where
+      (WriterCalled tells trace std_write_rules) (Ok 0) a b u v) where
     stuck_caused : 0 < length b.shown → 0 < u.block.capacity
         → (interrupts : List Error) × TookNothing interrupts u.log.writes v.log.writes WriteZero
     stuck_caused some room =
@@ -185,13 +185,13 @@ module _ {R P W Q : Type 0} {remaining : R → Option (List ℕ)} {trace : W →
       s.log.reads.faults t.log.reads.faults (went.faults refl)
 
   -- the reader inside gave nothing only where that one showed nothing
-  pub copy_once : 0 < u.block.capacity
-      → (TakesNothing writer_log (WriterWent trace std_write_rules) (WriterCalled std_write_rules) u
+  pub copy_once : (tells : W → StreamLog) → 0 < u.block.capacity
+      → (TakesNothing writer_log (WriterWent trace std_write_rules) (WriterCalled tells trace std_write_rules) u
       → (reader_log t).fills.zero_fills ≤ (reader_log s).fills.zero_fills + 1) → EndsOnce s.log.reads t.log.reads
-  copy_once room shows = omega (arith, went.once ReadsWhenEmpty-std, shows (TakesNothing-std trace u room))
+  copy_once tells room shows = omega (arith, went.once ReadsWhenEmpty-std, shows (TakesNothing-std tells trace u room))
 
-  pub copy_caused : (e : Error)
-      → StreamFailed writer_log (WriterWent trace std_write_rules) (WriterCalled std_write_rules) e
+  pub copy_caused : {tells : W → StreamLog} (e : Error)
+      → StreamFailed writer_log (WriterWent trace std_write_rules) (WriterCalled tells trace std_write_rules) e
       (reader_log s).fills (reader_log t).fills u v
       ⊎ MovedTooMuch e (reader_log s).fills (reader_log t).fills (writer_log u).writes (writer_log v).writes
       → EitherFailed e s.log t.log u.log v.log ⊎ OverTotal e s.log t.log u.log v.log
@@ -235,8 +235,8 @@ module _ {R P W Q : Type 0} {remaining : R → Option (List ℕ)} {trace : W →
       → v.log.writes.zero_writes ≡ u.log.writes.zero_writes
   zero_same e is caused = elim caused.cause [ inl nothing ↦ cc | inr fault ↦ fault.zero_writes ]
 
-  pub copy_often : (e : Error)
-      → StreamFailed writer_log (WriterWent trace std_write_rules) (WriterCalled std_write_rules) e
+  pub copy_often : {tells : W → StreamLog} (e : Error)
+      → StreamFailed writer_log (WriterWent trace std_write_rules) (WriterCalled tells trace std_write_rules) e
       (reader_log s).fills (reader_log t).fills u v
       ⊎ MovedTooMuch e (reader_log s).fills (reader_log t).fills (writer_log u).writes (writer_log v).writes
       → (error_kind e ≡ Interrupted
@@ -249,7 +249,8 @@ module _ {R P W Q : Type 0} {remaining : R → Option (List ℕ)} {trace : W →
       inl (rise_inside (often is) (zero_same e is (err_caused trace (reader_log s).fills (reader_log t).fills u v e target)))
   copy_often e (inr much) often is = let kind = much.other in cc
 
-  module _ (ended : CopyEnded writer_log (WriterWent trace std_write_rules) (WriterCalled std_write_rules)
+  module _ {tells : W → StreamLog}
+      (ended : CopyEnded writer_log (WriterWent trace std_write_rules) (WriterCalled tells trace std_write_rules)
       (reader_log s).fills (reader_log t).fills u v) where
     -- bytes are left in the reader
     pub left_caused : (e : Error) → error_kind e ≡ WriteZero → 0 < length t.block.bytes → 0 < u.block.capacity

@@ -1,12 +1,12 @@
 -- What a run moves from a reader to a writer.
-use Rattle.std.specs.Prelude.{◌≡◌, ◌≢◌, ℕ, ◌+◌, ◌-◌, ◌^◌, ◌<◌, ◌≤◌, ◌⊎◌, Bool, List, ◌++◌, length, Option, Result, Ok, Err, IsErrAnd, MatchResult}
+use Rattle.std.specs.Prelude.{◌≡◌, ◌≢◌, ℕ, ◌+◌, ◌-◌, ◌^◌, ◌<◌, ◌≤◌, ◌⊎◌, Bool, List, ◌++◌, length, Option, Result, Ok, Err, IsErrAnd, MatchResult, nat_le, if◌then◌else◌}
 use Rattle.std.specs.IoError.{error_kind}
 use Rattle.std.specs.declared.io.Error.{Error}
 use Rattle.std.specs.declared.io.ErrorKind.TheVariants.{Interrupted, Other, OutOfMemory, WriteZero}
 use Rattle.buffer_redux.specs.Block.{IsNew}
 use Rattle.buffer_redux.specs.Buffered.{Buffered}
-use Rattle.buffer_redux.specs.BufWriter.{Flushes}
-use Rattle.buffer_redux.specs.Copy.{CopyBuf, SourceFailed}
+use Rattle.buffer_redux.specs.BufWriter.{WasFlushed}
+use Rattle.buffer_redux.specs.Copy.{CopyBuf, CopyRows, SourceFailed}
 use Rattle.buffer_redux.specs.Faults.{interrupt_limit}
 use Rattle.buffer_redux.specs.Policy.{std_read_rules, std_write_rules}
 use Rattle.buffer_redux.specs.ReaderTells.{ReaderWent, reader_log}
@@ -95,19 +95,22 @@ RunEnded Memory read read' written written' =
     (e : Error) × (error_kind e ≡ OutOfMemory) × RunStopped e read read' written written'
 RunEnded other read read' written written' = ⊥
 
--- one copy between two buffered streams, and where it ended with nothing left in the first, one flush of the second
-pub record CopiesAll {R W : Type 0} (remaining : R → Option (List ℕ)) (trace : W → W → Type 0) (answer : Result ℕ Error)
-    (s s' : Buffered R StdPolicy) (t t' : Buffered W StdPolicy) : Type 0 where
+-- one copy between two buffered streams, turn by turn, and where it ended with nothing left in the first, one flush of the second
+pub record CopiesAll {R W : Type 0} (remaining : R → Option (List ℕ)) (tells : W → StreamLog) (trace : W → W → Type 0)
+    (answer : Result ℕ Error) (s s' : Buffered R StdPolicy) (t t' : Buffered W StdPolicy) : Type 0 where
   pub copying : Result ℕ Error
   pub copied : Buffered W StdPolicy
-  pub copy : CopyBuf writer_log (WriterWent trace std_write_rules) (WriterCalled std_write_rules) copying
+  pub copy : CopyBuf writer_log (WriterWent trace std_write_rules) (WriterCalled tells trace std_write_rules) copying
       (reader_log s).fills (reader_log s').fills t copied
+  pub turns : CopyRows reader_log writer_log (ReaderWent remaining std_read_rules) (WriterWent trace std_write_rules)
+      (WriterCalled tells trace std_write_rules) copying (record { source = s; target = t })
+      (record { source = s'; target = copied })
   pub source : ReaderWent remaining std_read_rules s s'
   pub target : WriterWent trace std_write_rules t copied
   pub ended : MatchResult copying
       (λ total. ((0 < length s'.block.bytes) × IsErrAnd answer (λ e. error_kind e ≡ WriteZero) × (t' ≡ copied))
-      ⊎ ((length s'.block.bytes ≡ 0) × MatchResult answer (λ n. (n ≡ total) × Flushes copied (Ok tt) t')
-      (λ e. Flushes copied (Err e) t')))
+      ⊎ ((length s'.block.bytes ≡ 0) × MatchResult answer (λ n. (n ≡ total) × WasFlushed tells trace copied (Ok tt) t')
+      (λ e. WasFlushed tells trace copied (Err e) t')))
       (λ e. (answer ≡ Err e) × (t' ≡ copied))
 
 -- a run through buffers that were made for it, over these streams, of this kind and capacity
@@ -122,10 +125,21 @@ pub record RunsThrough {R W : Type 0} (log : R → StreamLog) (log' : W → Stre
   pub target_made : IsNew (kind_asked ring) (capacity_asked ring cap) target.block
   pub reads : (source.inner ≡ reader) × (source.log ≡ log reader)
   pub writes : (target.inner ≡ writer) × (target.log ≡ log' writer)
-  pub copies : CopiesAll remaining trace answer source source' target target'
-  pub reader_left : reader' ≡ source'.inner
-  pub writer_left : writer' ≡ target'.inner
+  pub copies : CopiesAll remaining log' trace answer source source' target target'
+  pub reader_left : (source'.inner ≡ reader') × (source'.log ≡ log reader')
+  pub writer_left : (target'.inner ≡ writer') × (target'.log ≡ log' writer')
 
 -- the reader's last ask, where there was one, was for all of a buffer of this kind and capacity
 abbrev pub OffersBuffer : Bool → ℕ → StreamLog → StreamLog → Type 0
 OffersBuffer ring cap read read' = (read'.reads ≡ read.reads) ⊎ (read'.reads.offer ≡ capacity_asked ring cap)
+
+-- how many bytes a writer of this capacity holds behind a write at most: a single byte goes past a buffer of one
+abbrev pub most_held : ℕ → ℕ
+most_held capacity = if nat_le capacity 1 then 0 else capacity
+
+-- where the reader was asked, all but so many of the bytes that it had given before its last ask were received
+abbrev pub HoldsBackAtMost : ℕ → StreamLog → StreamLog → StreamLog → StreamLog → Type 0
+HoldsBackAtMost most read read' written written' =
+    (read'.reads ≡ read.reads)
+    ⊎ (length read'.reads.given + length written.writes.received
+    ≤ length read.reads.given + length read'.reads.latest + length written'.writes.received + most)

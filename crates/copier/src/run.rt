@@ -3,9 +3,9 @@ ghost use Rattle.std.specs.Prelude.{◌≡◌, ◌≤◌, ◌⊎◌, ◌↔◌, 
 ghost use Rattle.std.specs.declared.io.Error.{Error};
 ghost use Rattle.buffer_redux.specs.Block.{IsBlock};
 ghost use Rattle.programs.specs.Ending.{EndsAs};
-ghost use Rattle.programs.specs.Streams.{EndsOnce, IsEmptyBuffer, RefusedBeforeCalls};
+ghost use Rattle.programs.specs.Streams.{EndsOnce, IsEmptyBuffer, RefusedBeforeCalls, capacity_asked};
 ghost use Rattle.copier.specs.Settings.{AskFor};
-ghost use Rattle.copier.specs.Copy.{CopiesAll, EitherFailed, OffersBuffer, OverTotal, Copied, InterruptedOften, IsBeginning, RunEnded, RunFailed, RunFlushes, RunsThrough};
+ghost use Rattle.copier.specs.Copy.{CopiesAll, EitherFailed, HoldsBackAtMost, OffersBuffer, OverTotal, Copied, InterruptedOften, IsBeginning, most_held, RunEnded, RunFailed, RunFlushes, RunsThrough};
 
 use crate::settings::settings;
 use buffer_redux::tell::{TellRead, TellWrite};
@@ -18,6 +18,8 @@ use std::io::{ErrorKind, Write};
 /// Copies from `reader` to `writer` until the reader ends, through buffers of `cap` bytes, and returns how many bytes went
 /// over. Both streams come back, also after a fault; nothing more is sent then. Once the reader has given nothing it isn't
 /// called again.
+///
+/// Where it is asked, no more of what it gave waits than the writer's buffer holds, and none where that holds one byte.
 pub fn run<R: TellRead, W: TellWrite>(
     alloc: Global,
     ring: bool,
@@ -38,6 +40,8 @@ pub fn run<R: TellRead, W: TellWrite>(
     ensures through { RunsThrough R.log W.log R.remaining W.trace ring cap result.0 reader result.1 writer result.2
         ⊎ IsErrAnd result.0 (λ e. RefusedBeforeCalls e (R.log reader) (R.log result.1) (W.log writer) (W.log result.2)) }
     ensures offers { OffersBuffer ring cap (R.log reader) (R.log result.1) }
+    ensures sends { HoldsBackAtMost (most_held (capacity_asked ring cap)) (R.log reader) (R.log result.1)
+        (W.log writer) (W.log result.2) }
     ensures not_flushed { OnErr result.0 ((W.log result.2).writes.flushed ≡ (W.log writer).writes.flushed) }
     ensures flushes { RunFlushes result.0 (R.log reader) (R.log result.1) (W.log writer) (W.log result.2) }
 {
@@ -68,9 +72,11 @@ fn copy_all<R: TellRead, W: TellWrite>(
         InterruptedOften e source.old.log source.new.log target.old.log target.new.log) }
     ensures a_beginning { IsBeginning source.old.log source.new.log target.old.log target.new.log }
     ensures once { EndsOnce source.old.log.reads source.new.log.reads }
-    ensures all { CopiesAll R.remaining W.trace result source.old source.new target.old target.new }
+    ensures all { CopiesAll R.remaining W.log W.trace result source.old source.new target.old target.new }
     ensures offers { (source.new.log.reads ≡ source.old.log.reads)
         ⊎ (source.new.log.reads.offer ≡ source.old.block.capacity) }
+    ensures sends { HoldsBackAtMost (most_held target.old.block.capacity) source.old.log source.new.log
+        target.old.log target.new.log }
     ensures not_flushed { OnErr result (target.new.log.writes.flushed ≡ target.old.log.writes.flushed) }
     ensures flushes { RunFlushes result source.old.log source.new.log target.old.log target.new.log }
 {
@@ -101,6 +107,8 @@ pub fn run_asked<R: TellRead, W: TellWrite>(
         ⊎ IsErrAnd answer (λ e. RefusedBeforeCalls e (R.log reader) (R.log result.1) (W.log writer) (W.log result.2))) }
     ensures offers { (ring : Bool) (cap : ℕ) → AskFor (map string_bytes words.now) ring cap
         → OffersBuffer ring cap (R.log reader) (R.log result.1) }
+    ensures sends { (ring : Bool) (cap : ℕ) → AskFor (map string_bytes words.now) ring cap
+        → HoldsBackAtMost (most_held (capacity_asked ring cap)) (R.log reader) (R.log result.1) (W.log writer) (W.log result.2) }
 {
     let Some((ring, cap)) = settings(words) else {
         return (Ending::Usage, reader, writer);

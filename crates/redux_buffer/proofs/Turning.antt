@@ -1,5 +1,5 @@
 -- What the turns of a copy come to.
-use Rattle.std.proofs.Common.{◌≡◌, ℕ, ◌+◌, ◌-◌, ◌≤◌, List, [], ◌∷◌, ◌++◌, length, Result, Ok, Err, refl, sym, ap, subst, ◌∙◌, arith, inl, inr, le_refl, append-nil, length-append}
+use Rattle.std.proofs.Common.{◌≡◌, ℕ, ◌+◌, ◌-◌, ◌≤◌, List, [], ◌∷◌, ◌++◌, length, Result, Ok, Err, IfErr, refl, sym, ap, subst, ◌∙◌, arith, inl, inr, le_refl, append-nil, length-append}
 use Rattle.std.proofs.lemmas.Bool.{cases_lt}
 use Rattle.std.proofs.lemmas.List.{nil_from_length}
 use Rattle.std.proofs.lemmas.List.Elements.{All-nil, All-cons}
@@ -143,6 +143,11 @@ module _ {W : Type 0} (tells : W → StreamLog) (trace call : W → W → Type 0
         none_ended = tt;
         one_fault = omega (arith, ap length faults, length-append (tells w).writes.faults (e ∷ []));
       }
+
+-- behind as many turns that were interrupted as the limit
+pub often_at_limit : (answer : Result ℕ Error) (count : ℕ) → count ≡ 64 → IfErr answer (λ e. IsInterrupt e → count ≡ 64)
+often_at_limit (Ok n) count is = tt
+often_at_limit (Err e) count is = λ interrupt. is
 
 -- the last turn of those that are begun again
 module _ {W : Type 0} (tells : W → StreamLog) (trace call : W → W → Type 0)

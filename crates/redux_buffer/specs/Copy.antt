@@ -1,10 +1,11 @@
 -- What copying from a buffered reader to a writer does.
-use Rattle.std.specs.Prelude.{◌≡◌, ◌≢◌, ℕ, ◌+◌, ◌-◌, ◌*◌, ◌^◌, ◌<◌, ◌≤◌, ◌⊎◌, List, [], ◌++◌, length, Option, IfSome, Result, Ok, Err, IfOk, IfErr, OnOk, MatchResult}
+use Rattle.std.specs.Prelude.{◌≡◌, ◌≢◌, ℕ, zero, suc, ◌+◌, ◌-◌, ◌*◌, ◌^◌, ◌<◌, ◌≤◌, ◌⊎◌, List, [], ◌++◌, length, Option, IfSome, Result, Ok, Err, IfOk, IfErr, OnOk, MatchResult}
 use Rattle.std.specs.IoError.{error_kind}
 use Rattle.std.specs.declared.io.Error.{Error}
 use Rattle.std.specs.declared.io.ErrorKind.TheVariants.{Interrupted, Other}
 use Rattle.redux_buffer.specs.StreamLog.{StreamLog, FillLog, WriteLog, after_write}
 use Rattle.redux_buffer.specs.Faults.{OnlyInterrupts, FaultAfterInterrupts, MetInterrupts, interrupt_limit}
+use Rattle.redux_buffer.specs.Retried.{Retried}
 
 -- the writer received n bytes, and these are the ones that the reader was told are consumed, by as many consumes at most
 pub record MovedBy (n : ℕ) (from from' : FillLog) (to to' : WriteLog) : Type 0 where
@@ -133,23 +134,37 @@ pub record CopyRetried {W : Type 0} (tells : W → StreamLog) (trace call : W �
       (λ _. faults_met from' (tells w').writes ≤ faults_met from (tells w).writes + interrupt_limit)
       (λ _. faults_met from' (tells w').writes ≤ faults_met from (tells w).writes + interrupt_limit + 1)
 
--- a turn begins where a copy does, or behind one of its turns that moved bytes
-abbrev pub BeginsTurn : {B W : Type 0} → (B → StreamLog) → (W → StreamLog) → (B → B → Type 0) → (W → W → Type 0)
-    → (W → W → Type 0) → B → B → W → W → Type 0
-BeginsTurn {B} {W} shows tells reads trace call b source w target =
-    ((source ≡ b) × (target ≡ w))
-    ⊎ ((m : B) × (v : W) × reads b m × trace w v × reads m source × trace v target × (n : ℕ) × (0 < n)
-    × CopyTurn tells trace call (Ok n) (shows m).fills (shows source).fills v target)
-
--- the turn that a copy ended in with this answer, begun again where it was interrupted
-pub record LastTurn {B W : Type 0} (shows : B → StreamLog) (tells : W → StreamLog) (reads : B → B → Type 0)
-    (trace call : W → W → Type 0) (answer : Result ℕ Error) (b b' : B) (w w' : W) : Type 0 where
+-- the two streams of a copy
+pub record CopyStreams (B W : Type 0) : Type 0 where
   pub source : B
   pub target : W
-  pub read : reads b source
-  pub wrote : trace w target
-  pub begins : BeginsTurn shows tells reads trace call b source w target
-  pub turn : CopyRetried tells trace call answer (shows source).fills (shows b').fills target w'
+
+module _ {B W : Type 0} (shows : B → StreamLog) (tells : W → StreamLog) (reads : B → B → Type 0)
+    (trace call : W → W → Type 0) where
+  -- one turn, from these streams to those
+  pub record CopyStep (s : CopyStreams B W) (answer : Result ℕ Error) (t : CopyStreams B W) : Type 0 where
+    pub read : reads s.source t.source
+    pub wrote : trace s.target t.target
+    pub turn : CopyTurn tells trace call answer (shows s.source).fills (shows t.source).fills s.target t.target
+
+  -- so many rows of turns, one behind another: each a turn, made again where it was interrupted, that moved bytes at last
+  abbrev pub MovingRows : ℕ → CopyStreams B W → CopyStreams B W → Type 0
+  MovingRows zero s t = s ≡ t
+  MovingRows (suc k) s t = (m : CopyStreams B W) × MovingRows k s m × (n : ℕ) × (0 < n) × Retried CopyStep m (Ok n) t
+
+  -- rows that moved bytes, and then the one with this answer
+  pub record EndsInRow (answer : Result ℕ Error) (s t : CopyStreams B W) : Type 0 where
+    pub count : ℕ
+    pub begun : CopyStreams B W
+    pub moving : MovingRows count s begun
+    pub row : Retried CopyStep begun answer t
+
+  -- all turns of a copy: at Ok the last moved nothing, and an error is its answer, or more bytes were moved than a `u64` counts
+  abbrev pub CopyRows : Result ℕ Error → CopyStreams B W → CopyStreams B W → Type 0
+  CopyRows (Ok total) s t = EndsInRow (Ok 0) s t
+  CopyRows (Err e) s t = EndsInRow (Err e) s t
+      ⊎ (MovedTooMuch e (shows s.source).fills (shows t.source).fills (tells s.target).writes (tells t.target).writes
+      × ((count : ℕ) × MovingRows count s t))
 
 -- a whole copy: at Ok it ended, and the total is the number of bytes that went over; at an `Err` some went over, and
 -- `Interrupted` comes only after more such faults than the limit; and each fill and each write was one of a turn. The faults were

@@ -1,6 +1,7 @@
 //! Copying from a buffered reader to a writer.
 ghost use Rattle.std.specs.Prelude.{◌≡◌, ℕ, ◌+◌, ◌^◌, ◌≤◌, ◌⊎◌, List, [], ◌++◌, length, Ok, Err, IfSome, IfNone, IfOk, MatchResult, OnErr};
-ghost use Rattle.redux_buffer.specs.Copy.{CopyBuf, CopyRetried, CopyTurn, LastTurn, MovedTooMuch};
+ghost use Rattle.redux_buffer.specs.Copy.{CopyBuf, CopyRetried, CopyRows, CopyTurn, CopyStep};
+ghost use Rattle.redux_buffer.specs.Retried.{Retried};
 
 use crate::INTERRUPT_LIMIT;
 use crate::tell::{TellBufRead, TellWrite};
@@ -21,9 +22,8 @@ pub fn copy_buf<B: TellBufRead, W: TellWrite>(b: &mut B, w: &mut W) -> io::Resul
         × IfOk result (λ n. n ≡ length bytes) }
     ensures reader { B.trace b.old b.new }
     ensures writer { W.trace w.old w.new }
-    ensures last { MatchResult result (λ _. LastTurn B.log W.log B.trace W.trace W.call (Ok 0) b.old b.new w.old w.new)
-        (λ e. LastTurn B.log W.log B.trace W.trace W.call (Err e) b.old b.new w.old w.new
-        ⊎ MovedTooMuch e (B.log b.old).fills (B.log b.new).fills (W.log w.old).writes (W.log w.new).writes) }
+    ensures turns { CopyRows B.log W.log B.trace W.trace W.call result (record { source = b.old; target = w.old })
+        (record { source = b.new; target = w.new }) }
     ensures copied { CopyBuf W.log W.trace W.call result (B.log b.old).fills (B.log b.new).fills w.old w.new }
 {
     let mut total = 0u64;
@@ -49,8 +49,8 @@ pub fn add_total(total: u64, n: usize) -> Option<u64>
 
 // A turn, begun again where it was interrupted, `INTERRUPT_LIMIT` times at the most.
 fn copy_retried<B: TellBufRead, W: TellWrite>(b: &mut B, w: &mut W) -> io::Result<usize>
-    ensures last { (m : B) × (v : W) × B.trace b.old m × W.trace w.old v × B.trace m b.new × W.trace v w.new
-        × CopyTurn W.log W.trace W.call result (B.log m).fills (B.log b.new).fills v w.new }
+    ensures row { Retried (CopyStep B.log W.log B.trace W.trace W.call) (record { source = b.old; target = w.old }) result
+        (record { source = b.new; target = w.new }) }
     ensures retried { CopyRetried W.log W.trace W.call result (B.log b.old).fills (B.log b.new).fills w.old w.new }
     ensures reader { B.trace b.old b.new }
     ensures writer { W.trace w.old w.new }

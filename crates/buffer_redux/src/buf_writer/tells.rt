@@ -22,13 +22,13 @@ impl<W: TellWrite, P> Tell for BufWriter<W, P> {
 impl<W: TellWrite, P: WriterPolicy> TellWrite for BufWriter<W, P> {
     ghost trace = { WriterWent W.trace P.rules };
 
-    ghost call = { WriterCalled P.rules };
+    ghost call = { WriterCalled W.log W.trace P.rules };
 
     fn write_told(&mut self, buf: &[u8]) -> io::Result<usize>
         ensures bound { WritesAtMost result buf.now }
         ensures told { writer_log self.new ≡ after_write (writer_log self.old) buf.now result }
         ensures trace { WriterWent W.trace P.rules self.old self.new }
-        ensures call { WriterCalled P.rules self.old self.new }
+        ensures call { WriterCalled W.log W.trace P.rules self.old self.new }
         ensures steps { Writes P.rules self.old buf.now result self.new }
         ensures whole { IsBlock self.new.block }
     {
@@ -43,7 +43,7 @@ impl<W: TellWrite, P: WriterPolicy> TellWrite for BufWriter<W, P> {
             × (self.new.log.writes.flushed ≡ self.new.log.writes.received)) }
         ensures told { writer_log self.new ≡ after_flush (writer_log self.old) result }
         ensures trace { WriterWent W.trace P.rules self.old self.new }
-        ensures call { WriterCalled P.rules self.old self.new }
+        ensures call { WriterCalled W.log W.trace P.rules self.old self.new }
         ensures flushed { WasFlushed W.log W.trace self.old result (with_calls self.new self.old.own_calls) }
     {
         let answer = self.flush();

@@ -20,13 +20,13 @@ impl<W: TellWrite> Tell for LineWriter<W> {
 impl<W: TellWrite> TellWrite for LineWriter<W> {
     ghost trace = { WriterWent W.trace line_rules };
 
-    ghost call = { WriterCalled line_rules };
+    ghost call = { WriterCalled W.log W.trace line_rules };
 
     fn write_told(&mut self, buf: &[u8]) -> io::Result<usize>
         ensures bound { WritesAtMost result buf.now }
         ensures told { writer_log self.new ≡ after_write (writer_log self.old) buf.now result }
         ensures trace { WriterWent W.trace line_rules self.old self.new }
-        ensures call { WriterCalled line_rules self.old self.new }
+        ensures call { WriterCalled W.log W.trace line_rules self.old self.new }
         ensures steps { Writes line_rules self.old buf.now result self.new }
         ensures whole { IsBlock self.new.block }
     {
@@ -39,7 +39,7 @@ impl<W: TellWrite> TellWrite for LineWriter<W> {
             × (self.new.log.writes.flushed ≡ self.new.log.writes.received)) }
         ensures told { writer_log self.new ≡ after_flush (writer_log self.old) result }
         ensures trace { WriterWent W.trace line_rules self.old self.new }
-        ensures call { WriterCalled line_rules self.old self.new }
+        ensures call { WriterCalled W.log W.trace line_rules self.old self.new }
         ensures flushed { WasFlushed W.log W.trace self.old result (with_calls self.new self.old.own_calls) }
     {
         self.writer.flush_told()

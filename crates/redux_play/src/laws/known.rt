@@ -1,7 +1,7 @@
 //! What goes over to a stream where std knows what the streams hold.
-ghost use Rattle.std.specs.Prelude.{◌≡◌, ℕ, ◌⊎◌, List, ◌++◌, Ok, Err, IfErr, OnOk, MatchResult};
+ghost use Rattle.std.specs.Prelude.{◌≡◌, ℕ, List, ◌++◌, IfErr, OnOk};
 ghost use Rattle.std.specs.Io.KnownBytes.{Appends, Consumes};
-ghost use Rattle.redux_buffer.specs.Copy.{CopyBuf, LastTurn, MovedTooMuch, ReceivesAll};
+ghost use Rattle.redux_buffer.specs.Copy.{CopyBuf, CopyRows, ReceivesAll};
 ghost use Rattle.redux_buffer.specs.Faults.{SendErrorCaused};
 ghost use Rattle.redux_buffer.specs.Told.{told_log, told_stream, ToldWrites};
 ghost use Rattle.buffer_redux.specs.BufWriter.{WasFlushed};
@@ -29,10 +29,8 @@ pub fn copy_known<R: TellRead, P: ReaderPolicy, W: TellWrite>(
         (reader_log from.old).fills (reader_log from.new).fills to.old to.new }
     ensures reader { ReaderWent R.remaining P.rules from.old from.new }
     ensures writer { W.trace to.old to.new }
-    ensures last { MatchResult result
-        (λ _. LastTurn reader_log W.log (ReaderWent R.remaining P.rules) W.trace W.call (Ok 0) from.old from.new to.old to.new)
-        (λ e. LastTurn reader_log W.log (ReaderWent R.remaining P.rules) W.trace W.call (Err e) from.old from.new to.old to.new
-        ⊎ MovedTooMuch e (reader_log from.old).fills (reader_log from.new).fills (W.log to.old).writes (W.log to.new).writes) }
+    ensures turns { CopyRows reader_log W.log (ReaderWent R.remaining P.rules) W.trace W.call result
+        (record { source = from.old; target = to.old }) (record { source = from.new; target = to.new }) }
 {
     copy_buf(from, to)
 }

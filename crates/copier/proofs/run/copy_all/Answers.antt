@@ -1,6 +1,8 @@
 -- The buffers begin empty, so what was moved between them is what one stream gave and the other received.
 use Rattle.std.proofs.Common.{inl, inr, refl, arith}
 use Rattle.std.proofs.lemmas.Result.{err_from_is_err_and}
+use Rattle.copier.specs.Copy.{most_held}
+use Rattle.copier.proofs.Holding.{copy_holds, flush_holds}
 use Rattle.copier.proofs.Moving.{copy_begins, copy_once, copy_unflushed, flush_begins, copy_caused, copy_often, flush_often, flushed_at_most, flushed_once, left_caused, flush_caused, flush_copied, offers_all}
 use Rattle.copier.proofs.run.copy_all.Goals as goal
 
@@ -77,25 +79,25 @@ returns-clause-a_beginning g c =
 pub returns-in_err-total-clause-once : goal.returns-in_err-total-clause-once
 returns-in_err-total-clause-once g c =
     let copy = c.in_err-total.ensures in
-    copy_once copy.reader copy.writer c.requires.source.bytes c.requires.target.bytes
+    copy_once copy.reader copy.writer c.requires.source.bytes c.requires.target.bytes g.W.Tell.log
     (omega (arith, c.requires.target.capacity)) (λ takes. omega (arith, copy.copied.one_end takes))
 
 pub returns-then-buf_len-gt0-clause-once : goal.returns-then-buf_len-gt0-clause-once
 returns-then-buf_len-gt0-clause-once g c =
     let copy = c.in_ok-total.ensures in
-    copy_once copy.reader copy.writer c.requires.source.bytes c.requires.target.bytes
+    copy_once copy.reader copy.writer c.requires.source.bytes c.requires.target.bytes g.W.Tell.log
     (omega (arith, c.requires.target.capacity)) copy.copied.one_end
 
 pub returns-in_err-flush-clause-once : goal.returns-in_err-flush-clause-once
 returns-in_err-flush-clause-once g c =
     let copy = c.in_ok-total.ensures in
-    copy_once copy.reader copy.writer c.requires.source.bytes c.requires.target.bytes
+    copy_once copy.reader copy.writer c.requires.source.bytes c.requires.target.bytes g.W.Tell.log
     (omega (arith, c.requires.target.capacity)) copy.copied.one_end
 
 pub returns-clause-once : goal.returns-clause-once
 returns-clause-once g c =
     let copy = c.in_ok-total.ensures in
-    copy_once copy.reader copy.writer c.requires.source.bytes c.requires.target.bytes
+    copy_once copy.reader copy.writer c.requires.source.bytes c.requires.target.bytes g.W.Tell.log
     (omega (arith, c.requires.target.capacity)) copy.copied.one_end
 
 pub returns-in_err-total-clause-flushes : goal.returns-in_err-total-clause-flushes
@@ -135,6 +137,7 @@ returns-in_err-total-clause-all g c =
       copying = _;
       copied = _;
       copy = copy.copied;
+      turns = copy.turns;
       source = copy.reader;
       target = copy.writer;
       ended = (refl, refl);
@@ -146,6 +149,7 @@ returns-then-buf_len-gt0-clause-all g c =
       copying = _;
       copied = _;
       copy = copy.copied;
+      turns = copy.turns;
       source = copy.reader;
       target = copy.writer;
       ended = inl (omega (arith, c.if-buf_len-gt0.true, c.buf_len.ensures.value), c.from.ensures, refl);
@@ -159,9 +163,10 @@ returns-in_err-flush-clause-all g c =
       copying = _;
       copied = _;
       copy = copy.copied;
+      turns = copy.turns;
       source = copy.reader;
       target = copy.writer;
-      ended = inr (omega (arith, c.if-buf_len-gt0.false, c.buf_len.ensures.value), c.in_err-flush.ensures.flushed.steps);
+      ended = inr (omega (arith, c.if-buf_len-gt0.false, c.buf_len.ensures.value), c.in_err-flush.ensures.flushed);
     })
 
 pub returns-clause-all : goal.returns-clause-all
@@ -170,11 +175,12 @@ returns-clause-all g c =
       copying = _;
       copied = _;
       copy = copy.copied;
+      turns = copy.turns;
       source = copy.reader;
       target = copy.writer;
       ended = inr (
         omega (arith, c.if-buf_len-gt0.false, c.buf_len.ensures.value),
-        (refl, c.in_ok-flush.ensures.flushed.steps),
+        (refl, c.in_ok-flush.ensures.flushed),
       );
     }
 
@@ -189,3 +195,31 @@ returns-in_err-flush-clause-offers g c = offers_all c.in_ok-total.ensures.reader
 
 pub returns-clause-offers : goal.returns-clause-offers
 returns-clause-offers g c = offers_all c.in_ok-total.ensures.reader c.requires.whole
+
+pub returns-in_err-total-clause-sends : goal.returns-in_err-total-clause-sends
+returns-in_err-total-clause-sends g c =
+    let copy = c.in_err-total.ensures in
+    copy_holds g.R.TellRead.remaining g.W.Tell.log g.W.TellWrite.trace copy.reader copy.writer c.requires.source.bytes
+    c.requires.target.bytes c.requires.whole _ copy.copied copy.turns
+
+pub returns-then-buf_len-gt0-clause-sends : goal.returns-then-buf_len-gt0-clause-sends
+returns-then-buf_len-gt0-clause-sends g c =
+    let copy = c.in_ok-total.ensures in
+    copy_holds g.R.TellRead.remaining g.W.Tell.log g.W.TellWrite.trace copy.reader copy.writer c.requires.source.bytes
+    c.requires.target.bytes c.requires.whole _ copy.copied copy.turns
+
+pub returns-in_err-flush-clause-sends : goal.returns-in_err-flush-clause-sends
+returns-in_err-flush-clause-sends g c =
+    let copy = c.in_ok-total.ensures in
+    flush_holds (most_held c.args.target.now.block.capacity) c.args.source.now.log c.copy_buf.new.b.log c.args.target.now.log
+    c.copy_buf.new.w c.flush.new.self (copy_holds g.R.TellRead.remaining g.W.Tell.log g.W.TellWrite.trace copy.reader copy.writer
+    c.requires.source.bytes c.requires.target.bytes c.requires.whole _ copy.copied copy.turns)
+    c.in_err-flush.ensures.flushed.in_order
+
+pub returns-clause-sends : goal.returns-clause-sends
+returns-clause-sends g c =
+    let copy = c.in_ok-total.ensures in
+    flush_holds (most_held c.args.target.now.block.capacity) c.args.source.now.log c.copy_buf.new.b.log c.args.target.now.log
+    c.copy_buf.new.w c.flush.new.self (copy_holds g.R.TellRead.remaining g.W.Tell.log g.W.TellWrite.trace copy.reader copy.writer
+    c.requires.source.bytes c.requires.target.bytes c.requires.whole _ copy.copied copy.turns)
+    c.in_ok-flush.ensures.flushed.in_order

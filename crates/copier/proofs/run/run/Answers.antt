@@ -1,5 +1,5 @@
 -- The streams come back as the copy left them, so what it says of their logs is what the run says.
-use Rattle.std.proofs.Common.{inl}
+use Rattle.std.proofs.Common.{inl, sym}
 use Rattle.copier.proofs.Endings.{run_caused}
 use Rattle.copier.proofs.Moving.{IsBeginning-none}
 use Rattle.copier.proofs.run.run.Goals as goal
@@ -61,6 +61,17 @@ returns-clause-through g c =
       reads = (made.reader, made.read);
       writes = (made.writer, made.written);
       copies = c.copy_all-answer.ensures.all;
-      reader_left = c.into_inner_with_buffer-reader.ensures.inner;
-      writer_left = c.into_inner_with_buffer-writer.ensures.inner;
+      reader_left = (sym c.into_inner_with_buffer-reader.ensures.inner, sym c.into_inner_with_buffer-reader.ensures.log);
+      writer_left = (sym c.into_inner_with_buffer-writer.ensures.inner, sym c.into_inner_with_buffer-writer.ensures.log);
     })
+
+pub returns-clause-sends : goal.returns-clause-sends
+returns-clause-sends g c =
+    rw (
+      c.into_inner_with_buffer-reader.ensures.log,
+      c.into_inner_with_buffer-writer.ensures.log,
+      ← c.in-Ok.ensures.read,
+      ← c.in-Ok.ensures.written,
+      ← c.in-Ok.ensures.target.capacity,
+    )
+    c.copy_all-answer.ensures.sends

@@ -40,6 +40,13 @@ returns-clause-offers g c = λ ring cap asks.
     let cap_is : cap ≡ c.in-Some.cap = sym (ap (λ o. (unwrap_or {T = Bool × ℕ} o (ring, cap)).1) told) in
     rw (ring_is, cap_is) c.run-answer.ensures.offers
 
+pub returns-clause-sends : goal.returns-clause-sends
+returns-clause-sends g c = λ ring cap asks.
+    let told = (c.in-Some.ensures ring cap).1 asks in
+    let ring_is : ring ≡ c.in-Some.ring = sym (ap (λ o. (unwrap_or {T = Bool × ℕ} o (ring, cap)).0) told) in
+    let cap_is : cap ≡ c.in-Some.cap = sym (ap (λ o. (unwrap_or {T = Bool × ℕ} o (ring, cap)).1) told) in
+    rw (ring_is, cap_is) c.run-answer.ensures.sends
+
 pub returns-clause-usage : goal.returns-clause-usage
 returns-clause-usage g c = (
   λ is asks. never_usage c.run-answer.result.0 _ c.of.ensures is,

@@ -1,5 +1,5 @@
 -- Turns join, and the last moved nothing, unless the sum of what all moved passes what a `u64` holds.
-use Rattle.std.proofs.Common.{◌+◌, ◌∙◌, arith, rules, inl, inr}
+use Rattle.std.proofs.Common.{suc, ◌+◌, ◌∙◌, arith, rules, inl, inr}
 use Rattle.std.proofs.lemmas.Result.{err_from_is_err_and}
 use Rattle.redux_buffer.specs.CopyLaws.{MovedBy-still, CopiesOn-joins, CopyEnded-after, StreamFailed-after, TakesNothing-after}
 use Rattle.redux_buffer.proofs.Turning.{moved_count, faults_come}
@@ -26,29 +26,25 @@ returns-in_err-taken-clause-copied g c =
           ∙ before.still takes;
     })
 
-pub returns-in_err-taken-clause-last : goal.returns-in_err-taken-clause-last
-returns-in_err-taken-clause-last g c =
+pub returns-in_err-taken-clause-turns : goal.returns-in_err-taken-clause-turns
+returns-in_err-taken-clause-turns g c =
     let p = err_from_is_err_and c.from_residual.result c.from_residual.ensures.1 in
-    let before = c.turns.invariant in
+    let before = c.turns.invariant.rows in
     rw (p.1, p.2) (inl (record {
-      source = c.turns.b;
-      target = c.turns.w;
-      read = before.reader;
-      wrote = before.writer;
-      begins = before.begins;
-      turn = c.in_err-taken.ensures.retried;
+      count = before.0;
+      begun = record { source = c.turns.b; target = c.turns.w };
+      moving = before.1;
+      row = c.in_err-taken.ensures.row;
     }))
 
-pub returns-then-taken-eq0-clause-last : goal.returns-then-taken-eq0-clause-last
-returns-then-taken-eq0-clause-last g c =
-    let before = c.turns.invariant in
+pub returns-then-taken-eq0-clause-turns : goal.returns-then-taken-eq0-clause-turns
+returns-then-taken-eq0-clause-turns g c =
+    let before = c.turns.invariant.rows in
     record {
-      source = c.turns.b;
-      target = c.turns.w;
-      read = before.reader;
-      wrote = before.writer;
-      begins = before.begins;
-      turn = rw c.if-taken-eq0.true at c.in_ok-taken.ensures.retried;
+      count = before.0;
+      begun = record { source = c.turns.b; target = c.turns.w };
+      moving = before.1;
+      row = rw c.if-taken-eq0.true at c.in_ok-taken.ensures.row;
     }
 
 pub returns-then-taken-eq0-clause-copied : goal.returns-then-taken-eq0-clause-copied
@@ -92,35 +88,45 @@ turns-preserved g c =
       few = omega (arith, c.in-Some.ensures.some, before.few, turn.few, some);
       reader = g.met.B.TellBufRead.trace_joins _ _ _ before.reader c.in_ok-taken.ensures.reader;
       writer = g.met.W.TellWrite.trace_joins _ _ _ before.writer c.in_ok-taken.ensures.writer;
-      begins =
-          let (m, v, read, wrote, reads, writes, turn) = c.in_ok-taken.ensures.last in
-          inr (
-            m,
-            v,
-            g.met.B.TellBufRead.trace_joins _ _ _ before.reader read,
-            g.met.W.TellWrite.trace_joins _ _ _ before.writer wrote,
-            reads,
-            writes,
-            c.in_ok-taken.taken,
-            omega (arith, some),
-            turn,
-          );
+      rows = (
+        suc before.rows.0,
+        (
+          record { source = c.turns.b; target = c.turns.w },
+          before.rows.1,
+          c.in_ok-taken.taken,
+          omega (arith, some),
+          c.in_ok-taken.ensures.row,
+        ),
+      );
       still = λ takes.
           turn.answers.none_ended (TakesNothing-after _ _ _ g.met.W.TellWrite.trace_joins before.writer takes)
           (omega (arith, some))
           ∙ before.still takes;
     }
 
-pub returns-in-None-clause-last : goal.returns-in-None-clause-last
-returns-in-None-clause-last g c =
+pub returns-in-None-clause-turns : goal.returns-in-None-clause-turns
+returns-in-None-clause-turns g c =
     let before = c.turns.invariant in
     let turn = c.in_ok-taken.ensures.retried in
-    inr (record {
-      other = c.from.ensures;
-      count = c.turns.total + c.in_ok-taken.taken;
-      large = c.in-None.ensures.none;
-      copies = CopiesOn-joins before.copies (turn.answers.copies (omega (arith, c.if-taken-eq0.false)));
-    })
+    let some = c.if-taken-eq0.false in
+    inr (
+      record {
+        other = c.from.ensures;
+        count = c.turns.total + c.in_ok-taken.taken;
+        large = c.in-None.ensures.none;
+        copies = CopiesOn-joins before.copies (turn.answers.copies (omega (arith, some)));
+      },
+      (
+        suc before.rows.0,
+        (
+          record { source = c.turns.b; target = c.turns.w },
+          before.rows.1,
+          c.in_ok-taken.taken,
+          omega (arith, some),
+          c.in_ok-taken.ensures.row,
+        ),
+      ),
+    )
 
 pub returns-in-None-clause-copied : goal.returns-in-None-clause-copied
 returns-in-None-clause-copied g c =

@@ -1,11 +1,13 @@
 -- Noting the call changes nothing that the flush did, and a fault of it is one that the inner writer caused.
 use Rattle.std.proofs.Common.{[], rules, ◌≡◌, ◌∙◌, inr, ap, subst, sym, arith}
+use Rattle.redux_buffer.specs.Block.{IsBlock}
 use Rattle.redux_buffer.specs.Faults.{SendErrorCaused}
 use Rattle.redux_buffer.specs.StreamLog.{after_flush}
 use Rattle.redux_buffer.specs.LogGrows.{WriteLogGrows, WriteLogGrows-flush}
 use Rattle.buffer_redux.specs.WriterTells.{writer_log}
-use Rattle.buffer_redux.specs.BufWriter.{Flushes}
-use Rattle.buffer_redux.proofs.WriteTelling.{call_went, flush_once, flush_fails, flush_met, flush_fault, flushes_noted}
+use Rattle.buffer_redux.specs.Buffered.{with_calls}
+use Rattle.buffer_redux.specs.BufWriter.{WasFlushed}
+use Rattle.buffer_redux.proofs.WriteTelling.{call_went, flush_once, flush_fails, flush_met, flush_fault}
 use Rattle.buffer_redux.proofs.buf_writer.tells.BufWriterTellWrite.flush_told.Goals as goal
 
 pub returns-clause-told : goal.returns-clause-told
@@ -41,11 +43,13 @@ returns-clause-call g c =
     record {
       steps = inr (
         answer,
-        flushes_noted _ _ s answer (subst (Flushes s answer) (sym c.self.view_is) flush.steps),
+        subst (λ x. WasFlushed g.W.Tell.log g.W.TellWrite.trace s answer (with_calls x s.own_calls)) (sym c.self.view_is)
+            (subst (λ calls. WasFlushed g.W.Tell.log g.W.TellWrite.trace s answer (with_calls m calls)) flush.went.noted flush),
         noted,
       );
       fault = λ steady e is.
           subst (λ l. SendErrorCaused s.log.writes l e) (sym (ap (λ x. x.log.writes) c.self.view_is))
           (flush_fault s m answer e flush.caused (sym (ap (λ l. l.writes.faults) noted) ∙ is));
       nothing = λ steady is. absurd (omega (arith, is, ap (λ l. l.writes.zero_writes) noted));
+      whole = subst IsBlock (sym (ap (λ x. x.block) c.self.view_is)) flush.whole;
     }

@@ -2,6 +2,7 @@
 use Rattle.std.proofs.Common.{rules, ◌≡◌, ◌∙◌, List, inl, ap, subst, sym, arith}
 use Rattle.std.specs.declared.io.Error.{Error}
 use Rattle.std.specs.declared.io.ErrorKind.TheVariants.{WriteZero}
+use Rattle.redux_buffer.specs.Block.{IsBlock}
 use Rattle.redux_buffer.specs.Faults.{TookNothing, SendErrorCaused}
 use Rattle.redux_buffer.specs.StreamLog.{after_write}
 use Rattle.redux_buffer.specs.LogGrows.{WriteLogGrows, WriteLogGrows-write}
@@ -58,4 +59,5 @@ returns-clause-call g c =
       nothing = λ steady is. subst (λ l. (interrupts : List Error) × TookNothing interrupts s.log.writes l WriteZero) (sym same)
           (write_nothing table s m bs steady answer wrote.steps
           (sym (ap (λ l. l.writes.zero_writes) noted) ∙ is));
+      whole = subst IsBlock (sym (ap (λ x. x.block) c.self.view_is)) wrote.keeps.whole;
     }
