@@ -9,11 +9,12 @@ use Rattle.buffer_redux.specs.EmptyReads.{none_before_fault, none_where_shown, R
 use Rattle.buffer_redux.specs.ReaderLaws.{ReadsAlong-none}
 use Rattle.buffer_redux.specs.WritePartsLaws.{PutsIn-told}
 use Rattle.buffer_redux.specs.WriterLaws.{WritesInOrder-then}
+use Rattle.buffer_redux.specs.WritesAlongLaws.{Flushes-once}
 use Rattle.chunked.specs.ChunkedWriter.{LacksPayload, NotFinished}
 use Rattle.chunked.specs.ChunkedWriterLaws.{ChunksWent-none}
 use Rattle.forward.specs.declared.error.AskError.TheVariants.{Io}
 use Rattle.forward.specs.declared.error.AskError.{AskError}
-use Rattle.programs.specs.FlushesLaws.{flushed_once, SendsByOneFlush-flush}
+use Rattle.programs.specs.FlushesLaws.{SendsByOneFlush-flush}
 use Rattle.programs.specs.PromptLaws.{WritesOn-grows, WritesOn-joins, WritesOn-unflushed}
 use Rattle.programs.specs.StreamsLaws.{MetInterrupts-none}
 use Rattle.bodies.specs.Words.{around, frees_received, AskAnswers, FilterAsks, body_end, Buffered, chunk, ChunkedWriterState, ChunksWent, Error, Fills, FilterRules, FlushAnswers, FilterFlushes, IsChunkedWriter, IsStill, IsStill-same, line_end, MetInterrupts, MetInterrupts-joins, FilterPasses, PutsIn, ReadsAlong, room, RunError, SendErrorCaused-after, SendsFirst, size_digits, std_read_rules, StdPolicy, StreamLog, taken_more, WasFlushed, WritesChunk, WritesInOrder, AllSent, SendErrorCaused}
@@ -137,7 +138,7 @@ module _ {W : Type 0} (tells : W → StreamLog) (trace : W → W → Type 0) whe
           taken = WritesInOrder-then u m v (body_end []) taken f.in_order;
           answers = answers;
           writes = writes;
-          once = omega (arith, flushed_once m v answer f.steps, quiet.flushes);
+          once = omega (arith, Flushes-once m v answer f.steps, quiet.flushes);
           flushes = elim (SendsByOneFlush-flush m v answer f.steps) [
             | inl same ↦ omega (
               arith,

@@ -1,5 +1,5 @@
 -- What filling promises under a policy that claims something, and all that it promises.
-use Rattle.std.proofs.Common.{◌≡◌, ℕ, zero, suc, ◌+◌, ◌-◌, ◌<◌, ◌≤◌, true, false, [], ◌∷◌, ◌++◌, length, Result, Ok, Err, refl, sym, ap, subst, ◌∙◌, arith, inl, inr, append-nil, length-append, Option, None, Some, is_ok, IsOkAnd, IfSome, MatchResult, IfOk, MatchBool, OnErr}
+use Rattle.std.proofs.Common.{◌≡◌, ℕ, zero, suc, ◌+◌, ◌-◌, ◌<◌, ◌≤◌, Bool, true, false, List, [], ◌∷◌, ◌++◌, length, Result, Ok, Err, refl, sym, ap, subst, ◌∙◌, arith, inl, inr, ◌⊎◌, append-nil, length-append, Option, None, Some, is_ok, IsOkAnd, IfSome, MatchResult, IfOk, MatchBool, OnErr}
 use Rattle.std.specs.declared.io.Error.{Error}
 use Rattle.redux_buffer.specs.Block.{Block, IsBlock, usable}
 use Rattle.redux_buffer.specs.Transfer.{ReadsOnce}
@@ -7,10 +7,10 @@ use Rattle.buffer_redux.specs.declared.policy.DoRead.{DoRead}
 use Rattle.buffer_redux.specs.Policy.{ReadRules, BeforeRead, no_read, read_now, ClaimsToSpare}
 use Rattle.buffer_redux.specs.Buffered.{Buffered}
 use Rattle.buffer_redux.specs.Fill.{Turns, Ends, Filled}
-use Rattle.buffer_redux.specs.BufReader.{FillsToMinimum, Fills, RanDry}
+use Rattle.buffer_redux.specs.BufReader.{FillsToMinimum, Fills, InnerGives, RanDry, ReaderKeeps}
 use Rattle.buffer_redux.specs.Sparing.{Spared, Spared-none, Spared-joins}
 use Rattle.buffer_redux.proofs.SparingFacts.{Spared-asked, Spared-read}
-use Rattle.buffer_redux.proofs.FillFacts.{turns_facts, filled_facts, asked_once, zero_rose, full_empty}
+use Rattle.buffer_redux.proofs.FillFacts.{turns_facts, filled_facts, zero_rose, full_empty}
 use Rattle.std.proofs.lemmas.Bool.{MatchBool-at_true}
 
 module _ {S P : Type 0} (rules : ReadRules P) where
@@ -65,75 +65,69 @@ module _ {S P : Type 0} (rules : ReadRules P) where
         let found = at_minimum k m turn.seen read_now t h.1 turn.asked in
         turn.read.added.limit ∙ found.limit ∙ same_limit k m h.1
 
-    to_minimum_ok : {A : Type 0} (k : ℕ) (m t : Buffered S P) (a : A)
-        → Turns rules k s m → Ends rules m (Ok a) t → FillsToMinimum n s true t
-    to_minimum_ok k m t a h (inl end) =
-        let found = at_minimum k m t.block no_read t h end.asked in
-        let facts = turns_facts rules k s m h in
-        let few = few_turns k m h in
-        let asks : t.log.reads.asks ≡ m.log.reads.asks = ap (λ l. l.reads.asks) end.told in
-        let long : length t.block.bytes ≡ length m.block.bytes = ap length end.asked.law.bytes in
+    -- the policy ended it, or failed
+    by_policy : (k : ℕ) (m t : Buffered S P) (ok : Bool) (r : Result DoRead Error) → Turns rules k s m
+        → BeforeRead rules m.policy m.block r t.policy t.block → t.log ≡ m.log
+        → (ok ≡ true → (n ≤ length t.block.bytes) ⊎ RanDry s t) → (ok ≡ false → length t.block.bytes < n)
+        → FillsToMinimum n s ok t
+    by_policy k m t ok r h asked told enough few =
+        let found = at_minimum k m t.block r t h asked in
+        let asks : t.log.reads.asks ≡ m.log.reads.asks = ap (λ l. l.reads.asks) told in
         record {
-          enough = λ _. inl (omega (arith, found.ok, long));
-          few = λ no. cc;
-          asks = omega (arith, asks, facts.asks, few);
-          untouched = λ enough. end.told ∙ no_turns k m h enough;
+          enough = enough;
+          few = few;
+          asks = omega (arith, asks, (turns_facts rules k s m h).asks, few_turns k m h);
+          untouched = λ many. told ∙ no_turns k m h many;
           capacity = λ holds.
               let before = same_capacity k m h holds in found.capacity (omega (arith, before, holds)) ∙ before;
           limit = found.limit ∙ same_limit k m h;
         }
+
+    -- a read did
+    by_read : (k : ℕ) (m t : Buffered S P) (ok : Bool) (seen : Block) (answer : Result ℕ Error) → Turns rules k s m
+        → BeforeRead rules m.policy m.block read_now t.policy seen → ReadsOnce seen m.log answer t.block t.log
+        → (ok ≡ true → (n ≤ length t.block.bytes) ⊎ RanDry s t) → (ok ≡ false → length t.block.bytes < n)
+        → FillsToMinimum n s ok t
+    by_read k m t ok seen answer h asked read enough few =
+        let found = at_minimum k m seen read_now t h asked in
+        let facts = turns_facts rules k s m h in
+        let once : t.log.reads.asks ≡ m.log.reads.asks + 1 = ap (λ l. l.reads.asks) read.told in
+        record {
+          enough = enough;
+          few = few;
+          asks = omega (arith, once, facts.asks, facts.longer, found.ok.0);
+          untouched = λ many. absurd (omega (arith, facts.longer, found.ok.0, many));
+          capacity = λ holds.
+              let before = same_capacity k m h holds in
+              read.added.capacity ∙ found.capacity (omega (arith, before, holds)) ∙ before;
+          limit = read.added.limit ∙ found.limit ∙ same_limit k m h;
+        }
+
+    to_minimum_ok : {A : Type 0} (k : ℕ) (m t : Buffered S P) (a : A)
+        → Turns rules k s m → Ends rules m (Ok a) t → FillsToMinimum n s true t
+    to_minimum_ok k m t a h (inl end) =
+        let found = at_minimum k m t.block no_read t h end.asked in
+        by_policy k m t true no_read h end.asked end.told
+        (λ _. inl (omega (arith, found.ok, ap length end.asked.law.bytes))) (λ no. cc)
     to_minimum_ok k m t a h (inr (inl (full, end))) =
         let found = at_minimum k m t.block read_now t h end.asked in
         absurd (omega (arith, found.ok.1, full))
     to_minimum_ok k m t a h (inr (inr end)) =
-        let found = at_minimum k m end.seen read_now t h end.asked in
-        let facts = turns_facts rules k s m h in
         let rose = zero_rose end.seen t.block m.log t.log end.read end.room in
-        let once = asked_once end.seen t.block m.log t.log 0 end.read in
-        record {
-          enough = λ _. inr (omega (arith, facts.zero_reads, rose));
-          few = λ no. cc;
-          asks = omega (arith, once, facts.asks, facts.longer, found.ok.0);
-          untouched = λ enough. absurd (omega (arith, facts.longer, found.ok.0, enough));
-          capacity = λ holds.
-              let before = same_capacity k m h holds in
-              end.read.added.capacity ∙ found.capacity (omega (arith, before, holds)) ∙ before;
-          limit = end.read.added.limit ∙ found.limit ∙ same_limit k m h;
-        }
+        by_read k m t true end.seen (Ok 0) h end.asked end.read
+        (λ _. inr (omega (arith, (turns_facts rules k s m h).zero_reads, rose))) (λ no. cc)
 
     to_minimum_err : (A : Type 0) (k : ℕ) (m t : Buffered S P) (e : Error)
         → Turns rules k s m → Ends {A = A} rules m (Err e) t → FillsToMinimum n s false t
     to_minimum_err A k m t e h (inl end) =
         let found = at_minimum k m t.block (Err e) t h end.asked in
-        let facts = turns_facts rules k s m h in
-        let few = few_turns k m h in
-        let asks : t.log.reads.asks ≡ m.log.reads.asks = ap (λ l. l.reads.asks) end.told in
-        let long : length t.block.bytes ≡ length m.block.bytes = ap length end.asked.law.bytes in
-        record {
-          enough = λ no. cc;
-          few = λ _. omega (arith, found.err, long);
-          asks = omega (arith, asks, facts.asks, few);
-          untouched = λ enough. end.told ∙ no_turns k m h enough;
-          capacity = λ holds.
-              let before = same_capacity k m h holds in found.capacity (omega (arith, before, holds)) ∙ before;
-          limit = found.limit ∙ same_limit k m h;
-        }
+        by_policy k m t false (Err e) h end.asked end.told (λ no. cc)
+        (λ _. omega (arith, found.err, ap length end.asked.law.bytes))
     to_minimum_err A k m t e h (inr end) =
         let found = at_minimum k m end.seen read_now t h end.asked in
-        let facts = turns_facts rules k s m h in
-        let once : t.log.reads.asks ≡ m.log.reads.asks + 1 = ap (λ l. l.reads.asks) end.read.told in
         let long : length t.block.bytes ≡ length m.block.bytes =
         ap length (end.read.added.bytes ∙ append-nil end.seen.bytes ∙ end.asked.law.bytes) in
-        record {
-          enough = λ no. cc;
-          few = λ _. omega (arith, long, found.ok.0);
-          asks = omega (arith, once, facts.asks, facts.longer, found.ok.0);
-          untouched = λ enough. absurd (omega (arith, facts.longer, found.ok.0, enough));
-          capacity = λ holds.
-              let before = same_capacity k m h holds in
-              end.read.added.capacity ∙ found.capacity (omega (arith, before, holds)) ∙ before;
-          limit = end.read.added.limit ∙ found.limit ∙ same_limit k m h;
-        }
+        by_read k m t false end.seen (Err e) h end.asked end.read (λ no. cc) (λ _. omega (arith, long, found.ok.0))
 
     to_minimum : {A : Type 0} (r : Result A Error) (t : Buffered S P)
         → Filled rules s r t → FillsToMinimum n s (is_ok r) t
@@ -254,3 +248,18 @@ module _ {S P : Type 0} (rules : ReadRules P) where
         steadily = λ w. steady_fill s w r t whole f;
         sparing = λ keep claims. spared_filled keep s claims r t f;
       }
+
+-- what a fill keeps
+pub filled_keeps : {S P A : Type 0} (remaining : S → Option (List ℕ)) (rules : ReadRules P) (s : Buffered S P)
+    (answer : Result A Error) (t : Buffered S P) → Fills rules s answer t → InnerGives remaining s t
+    → t.own_calls ≡ s.own_calls → ReaderKeeps remaining rules s t
+filled_keeps remaining rules s answer t f known noted = record {
+  known = known;
+  grows = f.grows;
+  capacity = f.capacity;
+  kind = f.kind;
+  claims = f.claims;
+  sparing = f.sparing;
+  whole = f.whole;
+  noted = noted;
+}

@@ -5,17 +5,15 @@ use Rattle.std.specs.Prelude.{◌⊎◌}
 use Rattle.std.specs.IoError.{error_kind}
 use Rattle.std.specs.declared.io.Error.{Error}
 use Rattle.std.specs.declared.io.ErrorKind.TheVariants.{InvalidData}
-use Rattle.redux_buffer.specs.Faults.{OnlyInterrupts-same}
+use Rattle.redux_buffer.specs.Faults.{OnlyInterrupts-one, OnlyInterrupts-same}
 use Rattle.redux_buffer.specs.Retried.{InterruptedSteps, Retried}
-use Rattle.redux_buffer.specs.Transfer.{ReadsOnce}
 use Rattle.buffer_redux.specs.Policy.{ReadRules}
 use Rattle.redux_buffer.specs.Block.{capacity_for, usable}
 use Rattle.buffer_redux.specs.Buffered.{Buffered, with_block}
-use Rattle.buffer_redux.specs.BufReader.{MovesFor, RanDry, ReadsInOrder, ReadsIntoBuf}
+use Rattle.buffer_redux.specs.BufReader.{MovesFor, RanDry}
 use Rattle.buffer_redux.specs.ReadBehind.{FillsOn, FillsOrReads, ReadsBehind}
-use Rattle.buffer_redux.specs.Sparing.{Spared}
 use Rattle.buffer_redux.specs.ReadAll.{HandedFront}
-use Rattle.buffer_redux.proofs.Retrying.{HandsNothing, one_interrupt, refilling, retrying}
+use Rattle.buffer_redux.proofs.Retrying.{HandsNothing, refilling, retrying}
 
 -- space was made behind what is buffered, where bytes can be written now
 pub record SpaceMade {S P : Type 0} (remaining : S → Option (List ℕ)) (rules : ReadRules P) (s t : Buffered S P)
@@ -40,19 +38,12 @@ FillsMore remaining rules s (Err e) t = FillsOrReads remaining rules s (Err e) t
     × (t.block.bytes ≡ s.block.bytes) × RanDry s t)
 
 module _ {S P : Type 0} (remaining : S → Option (List ℕ)) (rules : ReadRules P) where
-  -- one read, for which space was made
-  module _ (s r : Buffered S P) (answer : Result ℕ Error) (t : Buffered S P)
-      (space : SpaceMade remaining rules s r) (reads : ReadsIntoBuf remaining r answer t)
-      (order : ReadsInOrder r [] t) (spared : (keep : ℕ) → Spared keep r t) where
-    once : ReadsOnce r.block r.log answer t.block t.log
-    once = reads.read.read space.room
-
   reading : HandsNothing remaining rules (ReadsBehind remaining rules)
   reading = record {
     front = λ s answer t b. b.front;
     only = λ s t b. OnlyInterrupts-same s.log.reads.faults t.log.reads.faults b.ended.0;
     interrupt = λ s e t is b. elim b.ended.1 [
-      | inl came ↦ one_interrupt s.log.reads.faults t.log.reads.faults e is came
+      | inl came ↦ OnlyInterrupts-one s.log.reads.faults t.log.reads.faults e is came
       | inr grew ↦ OnlyInterrupts-same s.log.reads.faults t.log.reads.faults (ap (λ x. x.log.reads.faults) grew.2)
     ];
   }

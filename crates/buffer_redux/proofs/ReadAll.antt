@@ -1,6 +1,7 @@
 -- A read of a whole slice, read after read.
-use Rattle.std.proofs.Common.{◌≡◌, ◌≢◌, ℕ, ◌+◌, ◌-◌, ◌<◌, ◌≤◌, List, [], ◌++◌, length, take, drop, Result, Ok, Err, IfErr, OnOk, Option, refl, sym, ap, subst, ◌∙◌, arith, le_refl, le_trans, inl, inr, append-nil, take_all, take-add, take-append-drop, drop_at, length-append, length-drop, length-take-le}
+use Rattle.std.proofs.Common.{◌≡◌, ◌≢◌, ℕ, ◌+◌, ◌-◌, ◌<◌, ◌≤◌, List, [], ◌++◌, length, take, drop, Result, Ok, Err, IfErr, OnOk, Option, MatchResult, refl, sym, ap, subst, ◌∙◌, arith, le_refl, le_trans, inl, inr, append-nil, take_all, take-add, take-append-drop, drop_at, length-append, length-drop, length-take-le}
 use Rattle.std.proofs.lemmas.List.{drop_all}
+use Rattle.std.proofs.lemmas.Result.{MatchResult-weaker}
 use Rattle.std.proofs.lemmas.Slice.{take-put_mid_below}
 use borrow.Rule.Slice.PartMut.{put_mid, post_of}
 use Rattle.std.specs.Io.{ReadsAtMost}
@@ -176,8 +177,10 @@ module _ {T : Type 0} (reads : T → List ℕ → Result ℕ Error → List ℕ 
 
 module _ {T : Type 0} (reads : T → List ℕ → Result ℕ Error → List ℕ → T → Type 0) (handed : T → List ℕ → T → Type 0)
     (s : T) (was : List ℕ) (turns at : ℕ) (out : List ℕ) (m : T) (before : Turned reads handed s was turns at out m) where
-  pub ended_all : length out ≤ at → FillsSlice reads handed s was (Ok tt) out m
-  ended_all enough = record {
+  -- all of the slice is filled, or there were too many turns
+  pub ended_by : (answer : Result (Unit {0}) Error) → MatchResult answer (λ _. length out ≤ at) (GaveUp turns at (length out))
+      → FillsSlice reads handed s was answer out m
+  ended_by answer is = record {
     turns = turns;
     count = at;
     within = before.within;
@@ -186,20 +189,8 @@ module _ {T : Type 0} (reads : T → List ℕ → Result ℕ Error → List ℕ 
     run = before.run;
     first = before.front;
     front = before.front;
-    ended = (omega (arith, enough, before.within), refl, refl);
-  }
-
-  pub ended_late : (e : Error) → GaveUp turns at (length out) e → FillsSlice reads handed s was (Err e) out m
-  ended_late e late = record {
-    turns = turns;
-    count = at;
-    within = before.within;
-    left = out;
-    last = m;
-    run = before.run;
-    first = before.front;
-    front = before.front;
-    ended = inr (late, refl, refl);
+    ended = MatchResult-weaker answer is
+        (λ _ enough. (omega (arith, enough, before.within), refl, refl)) (λ e late. inr (late, refl, refl));
   }
 
 -- no such read ends as `Interrupted`
@@ -263,14 +254,14 @@ module _ {S P : Type 0} (remaining : S → Option (List ℕ)) (rules : ReadRules
   one_tells s was answer slice t one = record { bound = one.bound; size = one.steps.size; front = one.front }
 
   pub all_none : (s : Buffered S P) → IsBlock s.block → ReadsExactly remaining rules s [] (Ok tt) [] s
-  all_none s whole = ended_all _ _ s [] 0 0 [] s (turned_none _ _ s [] (front_none s whole)) (le_refl 0)
+  all_none s whole = ended_by _ _ s [] 0 0 [] s (turned_none _ _ s [] (front_none s whole)) (Ok tt) (le_refl 0)
 
   pub all_at_once : (s : Buffered S P) (was : List ℕ) (n : ℕ) (out : List ℕ) (t : Buffered S P) → 0 < length out
       → n ≡ length out → OneRead remaining rules s was (Ok n) out t → ReadsExactly remaining rules s was (Ok tt) out t
   all_at_once s was n out t some full one =
-      ended_all _ _ s was 1 n out t (first_more _ _ front_joins one_tells s was (front_none s one.whole) (Ok n) out t some one n
+      ended_by _ _ s was 1 n out t (first_more _ _ front_joins one_tells s was (front_none s one.whole) (Ok n) out t some one n
       (omega (arith, some, full), refl))
-      (omega (arith, full))
+      (Ok tt) (omega (arith, full))
 
   -- all that `read` promises
   pub one_read : (s : Buffered S P) (out : List ℕ) (answer : Result ℕ Error) (out' : List ℕ) (t : Buffered S P)

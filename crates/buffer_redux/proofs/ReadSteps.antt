@@ -18,7 +18,7 @@ use Rattle.buffer_redux.specs.ReadInside.{AskedRead, FillDone, ReadsInside}
 use Rattle.buffer_redux.specs.ReadAll.{OneRead}
 use Rattle.buffer_redux.proofs.ReadAll.{keeps_joins, one_read}
 use Rattle.buffer_redux.proofs.FillFacts.{turns_facts, empty_read, inside_room}
-use Rattle.buffer_redux.proofs.FillClaims.{fills}
+use Rattle.buffer_redux.proofs.FillClaims.{filled_keeps, fills}
 use Rattle.buffer_redux.proofs.KnownAhead.{err_counts_none, remaining_ends}
 use Rattle.buffer_redux.proofs.Turning.{declined_made, full_made, ordered_made}
 
@@ -146,21 +146,6 @@ module _ {S P : Type 0} (remaining : S → Option (List ℕ)) (rules : ReadRules
           whole = f.whole;
         }
 
--- what a fill keeps
-filled_keeps : {S P A : Type 0} (remaining : S → Option (List ℕ)) (rules : ReadRules P) (s : Buffered S P)
-    (answer : Result A Error) (t : Buffered S P) → Fills rules s answer t → FillDone remaining rules s answer t
-    → ReaderKeeps remaining rules s t
-filled_keeps remaining rules s answer t f done = record {
-  known = done.known;
-  grows = f.grows;
-  capacity = f.capacity;
-  kind = f.kind;
-  claims = f.claims;
-  sparing = f.sparing;
-  whole = f.whole;
-  noted = done.noted;
-}
-
 -- all that a read through the buffer promises, as the clauses of `read` say it
 abbrev pub ReadSays : {S P : Type 0} → (S → Option (List ℕ)) → ReadRules P → Buffered S P → List ℕ
     → Result ℕ Error → List ℕ → Buffered S P → Type 0
@@ -209,7 +194,7 @@ module _ {S P : Type 0} (remaining : S → Option (List ℕ)) (rules : ReadRules
         (subst (λ l. ReadsInOrder r.0 l t) front_same r.2.in_order)
 
     inside_keeps : ReaderKeeps remaining rules s t
-    inside_keeps = keeps_joins remaining rules s r.0 t (filled_keeps remaining rules s (Ok n) r.0 filled r.1)
+    inside_keeps = keeps_joins remaining rules s r.0 t (filled_keeps remaining rules s (Ok n) r.0 filled r.1.known r.1.noted)
         r.2.keeps
 
     inside_dry : n ≡ 0 → 0 < length out → WantsBytes (rules.claims s.policy) → RanDry s r.0
@@ -287,7 +272,7 @@ module _ {S P : Type 0} (remaining : S → Option (List ℕ)) (rules : ReadRules
         empty = λ is some. cc;
         ran_dry = λ is some wants. cc;
         steps = through_buffer (ap length r.1) inside (record { filled = t; fills = f; handed = refl }) r.1;
-        keeps = filled_keeps remaining rules s (Err e) t f r.0;
+        keeps = filled_keeps remaining rules s (Err e) t f r.0.known r.0.noted;
       }
 
   -- the slice keeps its length

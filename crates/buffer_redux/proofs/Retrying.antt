@@ -1,10 +1,9 @@
 -- Steps that are made again where they were interrupted, fills among them.
-use Rattle.std.proofs.Common.{◌≡◌, ℕ, ◌<◌, ◌≤◌, zero, suc, List, [], ◌∷◌, length, arith, ◌++◌, Result, Ok, Err, Option, sym, ap, subst, ◌∙◌, inl, inr}
-use Rattle.std.proofs.lemmas.List.Elements.{All-nil, All-cons}
+use Rattle.std.proofs.Common.{◌≡◌, ℕ, ◌<◌, ◌≤◌, zero, suc, List, [], length, arith, Result, Ok, Err, Option, sym, ap, subst, ◌∙◌, inl, inr}
 use Rattle.std.specs.declared.io.Error.{Error}
 use Rattle.redux_buffer.specs.Block.{IsBlock}
 use Rattle.redux_buffer.specs.Retried.{InterruptedSteps, Retried, Step}
-use Rattle.redux_buffer.specs.Faults.{IsInterrupt, OnlyInterrupts, OnlyInterrupts-same, OnlyInterrupts-joins}
+use Rattle.redux_buffer.specs.Faults.{IsInterrupt, OnlyInterrupts, OnlyInterrupts-one, OnlyInterrupts-same, OnlyInterrupts-joins}
 use Rattle.buffer_redux.specs.Policy.{ReadRules}
 use Rattle.buffer_redux.specs.Buffered.{Buffered}
 use Rattle.buffer_redux.specs.BufReader.{InnerGives, RanDry, ReadErrorCaused}
@@ -12,16 +11,9 @@ use Rattle.buffer_redux.specs.Fill.{Filled}
 use Rattle.buffer_redux.specs.FillRetried.{FillRetried, OneFill}
 use Rattle.buffer_redux.specs.ReadAll.{HandedFront}
 use Rattle.buffer_redux.specs.ReaderLaws.{Fills-empty, WantsBytes}
-use Rattle.buffer_redux.proofs.FillClaims.{fills}
+use Rattle.buffer_redux.proofs.FillClaims.{filled_keeps, fills}
 use Rattle.buffer_redux.proofs.FillFacts.{turns_facts}
 use Rattle.buffer_redux.proofs.ReadAll.{front_joins}
-
-pub one_interrupt : (old new : List Error) (e : Error) → IsInterrupt e → new ≡ old ++ e ∷ [] → OnlyInterrupts old new
-one_interrupt old new e is came = record {
-  interrupts = e ∷ [];
-  interrupted = All-cons IsInterrupt e [] is (All-nil IsInterrupt);
-  faults = came;
-}
 
 module _ {S P : Type 0} (remaining : S → Option (List ℕ)) (rules : ReadRules P) where
   -- such a step hands out nothing, and meets no fault but interrupted reads: where it's Ok, and where it's interrupted
@@ -69,7 +61,7 @@ module _ {S P : Type 0} (remaining : S → Option (List ℕ)) (rules : ReadRules
 
   fault_interrupt : (s : Buffered S P) (e : Error) (t : Buffered S P) → IsInterrupt e
       → ReadErrorCaused {A = Unit {0}} rules s (Err e) t → OnlyInterrupts s.log.reads.faults t.log.reads.faults
-  fault_interrupt s e t is (inl came) = one_interrupt s.log.reads.faults t.log.reads.faults e is came
+  fault_interrupt s e t is (inl came) = OnlyInterrupts-one s.log.reads.faults t.log.reads.faults e is came
   fault_interrupt s e t is (inr gave) = OnlyInterrupts-same s.log.reads.faults t.log.reads.faults
       (ap (λ l. l.reads.faults) gave.told ∙ (turns_facts rules gave.count s gave.last gave.turns).faults)
 
@@ -77,16 +69,7 @@ module _ {S P : Type 0} (remaining : S → Option (List ℕ)) (rules : ReadRules
   filling = record {
     front = λ s answer t f. record {
       in_order = f.fills.in_order;
-      keeps = record {
-        known = f.known;
-        grows = f.fills.grows;
-        capacity = f.fills.capacity;
-        kind = f.fills.kind;
-        claims = f.fills.claims;
-        sparing = f.fills.sparing;
-        whole = f.fills.whole;
-        noted = f.noted;
-      };
+      keeps = filled_keeps remaining rules s answer t f.fills f.known f.noted;
     };
     only = λ s t f. OnlyInterrupts-same s.log.reads.faults t.log.reads.faults f.fills.caused;
     interrupt = λ s e t is f. fault_interrupt s e t is f.fills.caused;

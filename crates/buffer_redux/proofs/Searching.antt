@@ -1,6 +1,6 @@
 -- Where a byte stands first.
 use Rattle.std.proofs.Common.{◌≡◌, ℕ, suc, ◌+◌, List, [], ◌∷◌, ◌++◌, length, take, drop, refl, sym, ap, ◌∙◌, arith, append_assoc, length-take-le, take-append-drop}
-use Rattle.std.proofs.lemmas.List.Elements.{All-nil, All-cons, All-append}
+use Rattle.std.proofs.lemmas.List.Elements.{All-nil, All-append}
 use Rattle.std.specs.Io.BufRead.{take_through}
 use Rattle.buffer_redux.specs.ReadUntil.{EndsIn, FirstAt, Lacks}
 use Rattle.buffer_redux.specs.UntilLaws.{ending_through}
@@ -13,14 +13,6 @@ lacks_none byte = All-nil (other byte)
 
 pub lacks_both : (byte : ℕ) (xs ys : List ℕ) → Lacks byte xs → Lacks byte ys → Lacks byte (xs ++ ys)
 lacks_both byte = All-append (other byte)
-
-longer : (byte b at : ℕ) (bytes : List ℕ) → ¬ (b ≡ byte) → FirstAt byte at bytes → FirstAt byte (suc at) (b ∷ bytes)
-longer byte b at bytes isnt e =
-    let count : 1 + suc at ≡ suc (1 + at) = omega arith in record {
-      inside = omega (arith, e.inside);
-      plain = All-cons (other byte) b (take at bytes) isnt e.plain;
-      equal = ap (λ n. b ∷ take at bytes ++ byte ∷ drop n (b ∷ bytes)) count ∙ ap (λ l. b ∷ l) e.equal;
-    }
 
 take-append-more : (front : List ℕ) (byte : ℕ) (more : List ℕ)
     → take (length front + 1) (front ++ byte ∷ more) ≡ front ++ byte ∷ []

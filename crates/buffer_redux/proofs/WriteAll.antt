@@ -1,7 +1,5 @@
 -- A write of all bytes, write after write.
 use Rattle.std.proofs.Common.{◌≡◌, ◌≢◌, ℕ, suc, ◌+◌, ◌-◌, ◌<◌, ◌≤◌, List, [], ◌++◌, length, take, drop, Result, Ok, Err, IfErr, OnOk, refl, sym, ap, subst, ◌∙◌, arith, le_refl, le_trans, inl, inr, append-nil, take_all, take-add, length-drop, true}
-use Rattle.std.specs.Prelude.{MatchResult, ◌⊎◌}
-use Rattle.std.proofs.lemmas.Bool.{cases_lt}
 use Rattle.std.proofs.lemmas.Slice.{between_to_end}
 use Rattle.std.specs.IoError.{error_kind}
 use Rattle.std.specs.declared.io.Error.{Error}
@@ -9,83 +7,17 @@ use Rattle.std.specs.declared.io.ErrorKind.{ErrorKind}
 use Rattle.std.specs.declared.io.ErrorKind.TheVariants.{Interrupted, WriteZero}
 use Rattle.std.specs.Io.{WritesAtMost}
 use Rattle.std.specs.Io.KnownBytes.{Appends}
-use Rattle.redux_buffer.specs.Block.{IsBlock, usable}
+use Rattle.redux_buffer.specs.Block.{IsBlock}
 use Rattle.redux_buffer.specs.LogGrows.{WriteLogGrows-none, WriteLogGrows-joins}
 use Rattle.redux_buffer.specs.StreamLog.{StreamLog, portion}
 use Rattle.buffer_redux.specs.Policy.{WriteRules}
 use Rattle.buffer_redux.specs.AllBytes.{GoesBy, EndsBy, GaveUp}
-use Rattle.buffer_redux.specs.Buffered.{Buffered, InnerWent, with_policy}
-use Rattle.buffer_redux.specs.BufWriter.{writer_contents, LeavesCapacity, WritesInOrder, FlushesAmount, TakesIn, Prepared, Finished, Writes, WriterKeeps, WriteErrorCaused, WriterStopped}
-use Rattle.buffer_redux.specs.WriterLaws.{WritesInOrder-none, WritesInOrder-joins, WritesInOrder-contents, flush_ways, ways_in}
-use Rattle.buffer_redux.specs.WriteAll.{WriteTurns, TookFront, TookBeginning, WritesAll}
-use Rattle.buffer_redux.proofs.WriteAllCauses.{LastWriteFailed, all_caused, all_steadily}
-use Rattle.buffer_redux.proofs.WriteSteps.{capacity_stays, capacity_taken}
-use Rattle.buffer_redux.proofs.WriteTurns.{claims_stay}
+use Rattle.buffer_redux.specs.Buffered.{Buffered, InnerWent}
+use Rattle.buffer_redux.specs.BufWriter.{writer_contents, WritesInOrder, Writes, WriterKeeps, WriterStopped}
+use Rattle.buffer_redux.specs.WriterLaws.{WritesInOrder-none, WritesInOrder-joins, WritesInOrder-contents}
+use Rattle.buffer_redux.specs.WriteAll.{WriteTurns, WriteEnded, TookFront, TookBeginning, WritesAll}
+use Rattle.buffer_redux.proofs.WriteAllCauses.{all_caused, all_steadily}
 use Rattle.buffer_redux.proofs.WriterFacts.{writes_keep, writes_caused, writes_steadily, writes_nothing}
-
--- the kind of the buffer stays in a write
-module _ {S P : Type 0} where
-  takes_in_kind : (m t : Buffered S P) (bs : List ℕ) (answer : Result ℕ Error)
-      → TakesIn bs m answer t → t.block.kind ≡ m.block.kind
-  takes_in_kind m t bs answer f = elim (ways_in m.block (length bs)) [
-    | inl past ↦ ap (λ b. b.kind) (f.past past).block
-    | inr inside ↦ (
-        let copied = f.inside inside in
-        copied.added.kind ∙ elim (cases_lt 0 (usable m.block)) [
-          | inl some ↦ ap (λ b. b.kind) (copied.roomy some)
-          | inr none ↦ (copied.tight (omega (arith, none))).kind
-        ]
-        )
-  ]
-
-  flush_kind : (amount : ℕ) (m t : Buffered S P) (answer : Result (Unit {0}) Error)
-      → FlushesAmount amount m answer t → t.block.kind ≡ m.block.kind
-  flush_kind amount m t answer f = elim (flush_ways amount (length m.block.bytes)) [
-    | inl none ↦ ap (λ b. b.kind) (f.idle none).buffer
-    | inr some ↦ (f.sends some.0 some.1).sent.dropped.kind
-  ]
-
-  prepared_kind : (rules : WriteRules P) (incoming : ℕ) (s m : Buffered S P) (answer : Result (Unit {0}) Error)
-      → Prepared rules incoming s answer m → m.block.kind ≡ s.block.kind
-  prepared_kind rules incoming s m answer p =
-      flush_kind (p.amount.0) p.seen m answer p.flush ∙ p.asked.law.kind
-
-  finished_kind : (rules : WriteRules P) (m t : Buffered S P) → Finished rules m t → t.block.kind ≡ m.block.kind
-  finished_kind rules m t f = flush_kind (f.amount.0) _ t f.flushed f.flush
-
-  module _ (rules : WriteRules P) (s : Buffered S P) (bs : List ℕ) where
-    kind_stays : (answer : Result ℕ Error) (t : Buffered S P) → Writes rules s bs answer t
-        → t.block.kind ≡ s.block.kind
-    kind_stays (Ok n) t w =
-        finished_kind rules w.after t w.finished ∙ takes_in_kind w.before w.after bs (Ok n) w.took_in
-        ∙ prepared_kind rules (length bs) s w.before (Ok tt) w.prepared
-    kind_stays (Err e) t (inl refused) = refused.asked.law.kind
-    kind_stays (Err e) t (inr (inl p)) = prepared_kind rules (length bs) s t (Err e) p
-    kind_stays (Err e) t (inr (inr f)) =
-        takes_in_kind f.before t bs (Err e) f.took_in
-        ∙ prepared_kind rules (length bs) s f.before (Ok tt) f.prepared
-
-    pub caused_of : (answer : Result ℕ Error) (t : Buffered S P) → Writes rules s bs answer t
-        → WriteErrorCaused rules s bs answer t
-    caused_of (Ok n) t w = tt
-    caused_of (Err e) t w = writes_caused rules s bs e t w
-
--- a write changes no capacity where the policy changes none
-module _ {S P : Type 0} (rules : WriteRules P) (leaves : LeavesCapacity rules) (s : Buffered S P) (bs : List ℕ) where
-  prepared_leaves : (answer : Result (Unit {0}) Error) (m : Buffered S P) → Prepared rules (length bs) s answer m
-      → m.block.capacity ≡ s.block.capacity
-  prepared_leaves answer m p =
-      capacity_stays p.seen m (p.amount.0) answer p.flush ∙ leaves _ _ _ _ _ _ p.asked.allowed
-
-  write_leaves : (answer : Result ℕ Error) (t : Buffered S P) → Writes rules s bs answer t
-      → t.block.capacity ≡ s.block.capacity
-  write_leaves (Ok n) t w =
-      capacity_stays (with_policy w.after t.policy) t (w.finished.amount.0) w.finished.flushed w.finished.flush
-      ∙ capacity_taken w.before w.after bs (Ok n) w.took_in ∙ prepared_leaves (Ok tt) w.before w.prepared
-  write_leaves (Err e) t (inl refused) = leaves _ _ _ _ _ _ refused.asked.allowed
-  write_leaves (Err e) t (inr (inl prepared)) = prepared_leaves (Err e) t prepared
-  write_leaves (Err e) t (inr (inr faulted)) =
-      capacity_taken faulted.before t bs (Err e) faulted.took_in ∙ prepared_leaves (Ok tt) faulted.before faulted.prepared
 
 -- what a write keeps
 pub writer_keeps : {S P : Type 0} (tells : S → StreamLog) (trace : S → S → Type 0) (rules : WriteRules P)
@@ -98,9 +30,9 @@ writer_keeps tells trace rules s bs answer t whole steps went =
       not_flushed = keeps.flushed;
       flushes = keeps.flushes;
       capacity = keeps.capacity;
-      same_capacity = λ leaves. write_leaves rules leaves s bs answer t steps;
-      kind = kind_stays rules s bs answer t steps;
-      claims = claims_stay rules s bs answer t steps;
+      same_capacity = keeps.same_capacity;
+      kind = keeps.kind;
+      claims = keeps.claims;
       whole = whole;
       went = went;
     }
@@ -217,9 +149,7 @@ module _ {S P : Type 0} (tells : S → StreamLog) (trace : S → S → Type 0)
   module _ (s : Buffered S P) (bs : List ℕ) (turns at : ℕ) (m : Buffered S P)
       (before : Turned tells trace rules s bs turns at m) where
     ended : (answer : Result (Unit {0}) Error) (t : Buffered S P) → TookFront tells trace rules s (take at bs) t
-        → MatchResult answer (λ _. (at ≡ length bs) × (t ≡ m))
-        (λ e. LastWriteFailed rules (drop at bs) e m t ⊎ (GaveUp turns at (length bs) e × (t ≡ m)))
-        → WritesAll tells trace rules s bs answer t
+        → WriteEnded rules bs turns at m answer t → WritesAll tells trace rules s bs answer t
     ended answer t front is =
         let keeps = before.front.keeps in
         record {
@@ -267,7 +197,7 @@ module _ {S P : Type 0} (tells : S → StreamLog) (trace : S → S → Type 0)
             some = some;
             answer = answer;
             ends = ends;
-            caused = caused_of rules m (drop at bs) answer t one.steps;
+            caused = writes_caused rules m (drop at bs) answer t one.steps;
             empty = λ is. writes_nothing rules m (drop at bs) answer t one.steps is some;
             steadily = writes_steadily rules m (drop at bs) answer t one.steps;
             steps = one.steps;

@@ -1,6 +1,6 @@
 -- Why a write of all bytes fails.
 use Rattle.std.proofs.Common.{◌≡◌, ℕ, List, length, drop, Result, Ok, Err, sym, ap, subst, ◌∙◌, arith, inl, inr, true, ◌+◌, ◌<◌, IfErr}
-use Rattle.std.specs.Prelude.{MatchResult, ◌⊎◌}
+use Rattle.std.specs.Prelude.{◌⊎◌}
 use Rattle.std.specs.IoError.{error_kind}
 use Rattle.std.specs.declared.io.Error.{Error}
 use Rattle.std.specs.declared.io.ErrorKind.TheVariants.{WriteZero}
@@ -9,27 +9,10 @@ use Rattle.redux_buffer.specs.LogGrows.{WriteLogGrows}
 use Rattle.buffer_redux.specs.Policy.{WriteRules}
 use Rattle.buffer_redux.specs.AllBytes.{EndsBy, GaveUp}
 use Rattle.buffer_redux.specs.Buffered.{Buffered, GoesPast}
-use Rattle.buffer_redux.specs.BufWriter.{EmptyWriteCaused, NoSpace, WasInterrupted, WriteErrorCaused, WriteRefused, WriterStopped, Writes, WritesSteadily, Wrote}
-use Rattle.buffer_redux.specs.WriteAll.{WriteTurns}
+use Rattle.buffer_redux.specs.BufWriter.{EmptyWriteCaused, NoSpace, WasInterrupted, WriteErrorCaused, WriteRefused, WriterStopped}
+use Rattle.buffer_redux.specs.WriteAll.{FoundNoSpace, LastWriteFailed, WriteEnded, WriteTurns}
 use Rattle.buffer_redux.specs.WritesAlongLaws.{WriterStopped-after, WriterStopped-send}
 use Rattle.buffer_redux.proofs.WriteTurns.{turned}
-
--- a write of the bytes that were left, which were some, ended it
-abbrev pub LastWriteFailed : {S P : Type 0} → WriteRules P → List ℕ → Error → Buffered S P → Buffered S P → Type 0
-LastWriteFailed rules rest e m t = record {
-  some : 0 < length rest;
-  answer : Result ℕ Error;
-  ends : EndsBy WriteZero answer e;
-  caused : WriteErrorCaused rules m rest answer t;
-  empty : answer ≡ Ok 0 → EmptyWriteCaused rules m rest t;
-  steadily : WritesSteadily rules m (length rest) answer t;
-  steps : Writes rules m rest answer t;
-}
-
--- a write of these bytes found no space, and the policy's answer made none
-abbrev FoundNoSpace : {S P : Type 0} → WriteRules P → Buffered S P → List ℕ → Error → Buffered S P → Type 0
-FoundNoSpace rules m rest e t =
-    (error_kind e ≡ WriteZero) × (wrote : Wrote rules m rest 0 t) × NoSpace m (length rest) wrote.before
 
 module _ {S P : Type 0} (rules : WriteRules P) (rest : List ℕ) (e : Error) (m t : Buffered S P)
     (failed : LastWriteFailed rules rest e m t) where
@@ -77,8 +60,7 @@ module _ {S P : Type 0} (rules : WriteRules P) (rest : List ℕ) (e : Error) (m 
 module _ {S P : Type 0} (rules : WriteRules P) (s : Buffered S P) (bs : List ℕ) (turns count : ℕ) (m t : Buffered S P)
     (run : WriteTurns rules bs turns count s m) (grows : WriteLogGrows s.log.writes m.log.writes)
     (claims : rules.claims m.policy ≡ rules.claims s.policy) where
-  pub all_caused : (answer : Result (Unit {0}) Error) → MatchResult answer (λ _. (count ≡ length bs) × (t ≡ m))
-      (λ e. LastWriteFailed rules (drop count bs) e m t ⊎ (GaveUp turns count (length bs) e × (t ≡ m)))
+  pub all_caused : (answer : Result (Unit {0}) Error) → WriteEnded rules bs turns count m answer t
       → IfErr answer (λ e. WriterStopped s.log.writes t.log.writes e ⊎ (WriteRefused rules m (drop count bs) e t
       ⊎ (FoundNoSpace rules m (drop count bs) e t ⊎ (GaveUp turns count (length bs) e × (t ≡ m)))))
   all_caused (Ok x) ended = tt
@@ -89,8 +71,7 @@ module _ {S P : Type 0} (rules : WriteRules P) (s : Buffered S P) (bs : List ℕ
   ]
   all_caused (Err e) (inr gave) = inr (inr (inr gave))
 
-  pub all_steadily : (answer : Result (Unit {0}) Error) → MatchResult answer (λ _. (count ≡ length bs) × (t ≡ m))
-      (λ e. LastWriteFailed rules (drop count bs) e m t ⊎ (GaveUp turns count (length bs) e × (t ≡ m)))
+  pub all_steadily : (answer : Result (Unit {0}) Error) → WriteEnded rules bs turns count m answer t
       → (rules.claims s.policy).steady ≡ true → IfErr answer (WriterStopped s.log.writes t.log.writes)
   all_steadily (Ok x) ended steady = tt
   all_steadily (Err e) (inl failed) steady = WriterStopped-after s.log.writes m.log.writes t.log.writes e grows

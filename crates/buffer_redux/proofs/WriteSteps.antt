@@ -1,5 +1,5 @@
 -- What each step of a write keeps.
-use Rattle.std.proofs.Common.{◌≡◌, ℕ, ◌≤◌, List, [], ◌∷◌, ◌++◌, length, min, take, drop, take_all, Result, Ok, Err, IfErr, refl, sym, ap, ◌∙◌, arith, inl, inr, append-nil, append_assoc, length-drop, subst}
+use Rattle.std.proofs.Common.{◌≡◌, ℕ, ◌≤◌, List, [], ◌∷◌, ◌++◌, length, min, take, drop, take_all, Result, Ok, Err, IfErr, refl, sym, ap, ◌∙◌, arith, inl, inr, append-nil, append_assoc, length-drop, le_refl, subst}
 use Rattle.std.proofs.lemmas.Bool.{cases_lt}
 use Rattle.std.proofs.lemmas.List.{drop_all, nil_from_length}
 use Rattle.std.specs.declared.io.Error.{Error}
@@ -8,9 +8,10 @@ use Rattle.redux_buffer.specs.GoesOn.{GoesOn}
 use Rattle.redux_buffer.specs.LogGrows.{WriteLogGrows, WriteLogGrows-none, WriteLogGrows-flush, WriteLogGrows-joins, WriteLogGrows-write}
 use Rattle.redux_buffer.specs.StreamLog.{StreamLog, after_flush, portion}
 use Rattle.redux_buffer.specs.Transfer.{FailedRow, Sends}
-use Rattle.buffer_redux.specs.Policy.{WriteRules}
+use Rattle.buffer_redux.specs.declared.policy.FlushAmt.{FlushAmt}
+use Rattle.buffer_redux.specs.Policy.{BeforeWrite, WriteRules}
 use Rattle.buffer_redux.specs.Buffered.{Buffered, InnerWent, with_inner, with_policy}
-use Rattle.buffer_redux.specs.BufWriter.{FlushesAmount, TakesIn, CopiesIn, Prepared, Finished, WritesInOrder, WasFlushed, WasSent}
+use Rattle.buffer_redux.specs.BufWriter.{FlushesAmount, LeavesCapacity, TakesIn, CopiesIn, Prepared, Finished, WritesInOrder, WasFlushed, WasSent}
 use Rattle.buffer_redux.specs.WriterLaws.{flush_ways, ways_in, WritesInOrder-joins, WritesInOrder-sends}
 
 -- sending lets the log go on
@@ -72,11 +73,6 @@ module _ {S P : Type 0} where
     equal = b;
     consumed = omega (arith, none);
   }
-
-  pub WritesInOrder-same : (s t : Buffered S P) → t.log ≡ s.log → t.block.bytes ≡ s.block.bytes
-      → t.block.consumed ≡ s.block.consumed → WritesInOrder s [] t
-  WritesInOrder-same s t told b none =
-      WritesInOrder-added s t [] (ap (λ l. l.writes.received) told) (b ∙ sym (append-nil s.block.bytes)) none
 
   -- what a send and a failed flush promise, of their sending
   pub was_sent : (tells : S → StreamLog) (trace : S → S → Type 0) (s t : Buffered S P)
@@ -203,29 +199,6 @@ module _ {S P : Type 0} where
         went = flushed_went;
       }
 
-  -- what every step of a write keeps
-  pub record StepKeeps (s : Buffered S P) (accepted : List ℕ) (t : Buffered S P) : Type 0 where
-    pub in_order : WritesInOrder s accepted t
-    pub grows : WriteLogGrows s.log.writes t.log.writes
-    pub flushed : t.log.writes.flushed ≡ s.log.writes.flushed
-    pub flushes : t.log.writes.flushes ≡ s.log.writes.flushes
-    pub capacity : s.block.capacity ≤ t.block.capacity
-
-  pub StepKeeps-joins : (s m t : Buffered S P) (a b : List ℕ)
-      → StepKeeps s a m → StepKeeps m b t → StepKeeps s (a ++ b) t
-  StepKeeps-joins s m t a b p q = record {
-    in_order = WritesInOrder-joins s m t a b p.in_order q.in_order;
-    grows = WriteLogGrows-joins s.log.writes m.log.writes t.log.writes p.grows q.grows;
-    flushed = q.flushed ∙ p.flushed;
-    flushes = q.flushes ∙ p.flushes;
-    capacity = omega (arith, p.capacity, q.capacity);
-  }
-
-  -- a step that accepts nothing more
-  pub StepKeeps-then : (s m t : Buffered S P) (a : List ℕ)
-      → StepKeeps s a m → StepKeeps m [] t → StepKeeps s a t
-  StepKeeps-then s m t a p q = subst (λ l. StepKeeps s l t) (append-nil a) (StepKeeps-joins s m t a [] p q)
-
   module _ (s t : Buffered S P) (amount : ℕ) (answer : Result (Unit {0}) Error)
       (f : FlushesAmount amount s answer t) where
     pub capacity_stays : t.block.capacity ≡ s.block.capacity
@@ -246,109 +219,152 @@ module _ {S P : Type 0} where
           )
     ]
 
-    StepKeeps-flush : StepKeeps s [] t
-    StepKeeps-flush = elim (flush_ways amount (length s.block.bytes)) [
-      | inl none ↦ (
-          let idle = f.idle none in
-          record {
-            in_order = WritesInOrder-same s t idle.told (ap (λ b. b.bytes) idle.buffer) (ap (λ b. b.consumed) idle.buffer);
-            grows = log_same s.log t.log idle.told;
-            flushed = ap (λ l. l.writes.flushed) idle.told;
-            flushes = ap (λ l. l.writes.flushes) idle.told;
-            capacity = omega (arith, capacity_stays);
-          }
-          )
-      | inr some ↦ (
-          let sends = f.sends some.0 some.1 in
-          record {
-            in_order = WritesInOrder-sends s t amount answer sends;
-            grows = sends_grow amount _ _ _ _ answer sends;
-            flushed = sends.sent.flushed;
-            flushes = sends.sent.flushes;
-            capacity = omega (arith, capacity_stays);
-          }
-          )
-    ]
-
   -- bytes copied in behind those that the buffer had
   settled_bytes : (bs : List ℕ) (s : Buffered S P) (answer : Result ℕ Error) (t : Buffered S P)
       (copied : CopiesIn bs s answer t)
       → (copied.settled.bytes ≡ s.block.bytes) × (copied.settled.capacity ≡ s.block.capacity)
-      × (copied.settled.consumed ≡ s.block.consumed)
+      × (copied.settled.consumed ≡ s.block.consumed) × (copied.settled.kind ≡ s.block.kind)
   settled_bytes bs s answer t copied = elim (cases_lt 0 (usable s.block)) [
     | inl some ↦ (
-        let same = copied.roomy some in (ap (λ b. b.bytes) same, ap (λ b. b.capacity) same, ap (λ b. b.consumed) same)
+        let same = copied.roomy some in
+        (ap (λ b. b.bytes) same, ap (λ b. b.capacity) same, ap (λ b. b.consumed) same, ap (λ b. b.kind) same)
         )
-    | inr none ↦ (let made = copied.tight (omega (arith, none)) in (made.bytes, made.capacity, made.consumed))
+    | inr none ↦ (let made = copied.tight (omega (arith, none)) in (made.bytes, made.capacity, made.consumed, made.kind))
   ]
 
-  pub capacity_taken : (s t : Buffered S P) (bs : List ℕ) (answer : Result ℕ Error)
+  capacity_taken : (s t : Buffered S P) (bs : List ℕ) (answer : Result ℕ Error)
       → TakesIn bs s answer t → t.block.capacity ≡ s.block.capacity
   capacity_taken s t bs answer f = elim (ways_in s.block (length bs)) [
     | inl past ↦ ap (λ b. b.capacity) (f.past past).block
     | inr inside ↦ (let copied = f.inside inside in copied.added.capacity ∙ (settled_bytes bs s answer t copied).1)
   ]
 
-  -- bytes taken in past the buffer, or into it
-  pub StepKeeps-takes : (s t : Buffered S P) (bs : List ℕ) (answer : Result ℕ Error)
-      → TakesIn bs s answer t → StepKeeps s (portion bs answer) t
-  StepKeeps-takes s t bs answer f = elim (ways_in s.block (length bs)) [
-    | inl past ↦ (
-        let direct = f.past past in
-        let none = nil_from_length s.block.bytes past.0 in
-        let empty : t.block.bytes ≡ [] = ap (λ b. b.bytes) direct.block ∙ none in record {
-          in_order = record {
-            sent = portion bs answer;
-            received = ap (λ l. l.writes.received) direct.told;
-            equal =
-                ap (λ l. portion bs answer ++ l) empty ∙ append-nil (portion bs answer)
-                ∙ ap (λ l. l ++ portion bs answer) (sym none);
-            consumed = omega (arith, ap (λ b. b.consumed) direct.block);
-          };
-          grows = subst (λ l. WriteLogGrows s.log.writes l.writes) (sym direct.told)
-              (WriteLogGrows-write s.log bs answer);
-          flushed = ap (λ l. l.writes.flushed) direct.told;
-          flushes = ap (λ l. l.writes.flushes) direct.told;
-          capacity = omega (arith, capacity_taken s t bs answer f);
-        }
-        )
-    | inr inside ↦ (
-        let copied = f.inside inside in
-        let settled = settled_bytes bs s answer t copied in record {
-          in_order = WritesInOrder-added s t (portion bs answer) (ap (λ l. l.writes.received) copied.told)
-              (copied.added.bytes ∙ ap (λ l. l ++ portion bs answer) settled.0) (copied.added.consumed ∙ settled.2);
-          grows = log_same s.log t.log copied.told;
-          flushed = ap (λ l. l.writes.flushed) copied.told;
-          flushes = ap (λ l. l.writes.flushes) copied.told;
-          capacity = omega (arith, capacity_taken s t bs answer f);
-        }
-        )
-  ]
+  -- what every step of a write keeps
+  module _ (rules : WriteRules P) where
+    pub record StepKeeps (s : Buffered S P) (accepted : List ℕ) (t : Buffered S P) : Type 0 where
+      pub in_order : WritesInOrder s accepted t
+      pub grows : WriteLogGrows s.log.writes t.log.writes
+      pub flushed : t.log.writes.flushed ≡ s.log.writes.flushed
+      pub flushes : t.log.writes.flushes ≡ s.log.writes.flushes
+      pub capacity : s.block.capacity ≤ t.block.capacity
+      pub same_capacity : LeavesCapacity rules → t.block.capacity ≡ s.block.capacity
+      pub kind : t.block.kind ≡ s.block.kind
+      pub claims : rules.claims t.policy ≡ rules.claims s.policy
 
-  pub StepKeeps-prepared : (rules : WriteRules P) (incoming : ℕ) (s m : Buffered S P)
-      (flushed : Result (Unit {0}) Error) → Prepared rules incoming s flushed m → StepKeeps s [] m
-  StepKeeps-prepared rules incoming s m flushed p = StepKeeps-joins s p.seen m [] []
-      (record {
-        in_order = WritesInOrder-same s p.seen p.told p.asked.law.bytes p.asked.law.consumed;
-        grows = log_same s.log p.seen.log p.told;
-        flushed = ap (λ l. l.writes.flushed) p.told;
-        flushes = ap (λ l. l.writes.flushes) p.told;
-        capacity = p.asked.law.capacity;
-      })
-      (StepKeeps-flush p.seen m (p.amount.0) flushed p.flush)
+    pub StepKeeps-joins : (s m t : Buffered S P) (a b : List ℕ)
+        → StepKeeps s a m → StepKeeps m b t → StepKeeps s (a ++ b) t
+    StepKeeps-joins s m t a b p q = record {
+      in_order = WritesInOrder-joins s m t a b p.in_order q.in_order;
+      grows = WriteLogGrows-joins s.log.writes m.log.writes t.log.writes p.grows q.grows;
+      flushed = q.flushed ∙ p.flushed;
+      flushes = q.flushes ∙ p.flushes;
+      capacity = omega (arith, p.capacity, q.capacity);
+      same_capacity = λ leaves. q.same_capacity leaves ∙ p.same_capacity leaves;
+      kind = q.kind ∙ p.kind;
+      claims = q.claims ∙ p.claims;
+    }
 
-  pub StepKeeps-finished : (rules : WriteRules P) (m t : Buffered S P) → Finished rules m t → StepKeeps m [] t
-  StepKeeps-finished rules m t f =
-      let kept = StepKeeps-flush (with_policy m t.policy) t (f.amount.0) f.flushed f.flush in
-      record {
-        in_order = record {
-          sent = kept.in_order.sent;
-          received = kept.in_order.received;
-          equal = kept.in_order.equal;
-          consumed = kept.in_order.consumed;
-        };
-        grows = kept.grows;
-        flushed = kept.flushed;
-        flushes = kept.flushes;
-        capacity = kept.capacity;
-      }
+    -- a step that accepts nothing more
+    pub StepKeeps-then : (s m t : Buffered S P) (a : List ℕ)
+        → StepKeeps s a m → StepKeeps m [] t → StepKeeps s a t
+    StepKeeps-then s m t a p q = subst (λ l. StepKeeps s l t) (append-nil a) (StepKeeps-joins s m t a [] p q)
+
+    -- xs came behind the bytes, and nothing was sent
+    StepKeeps-added : (s t : Buffered S P) (xs : List ℕ) → t.log ≡ s.log → t.block.bytes ≡ s.block.bytes ++ xs
+        → t.block.consumed ≡ s.block.consumed → s.block.capacity ≤ t.block.capacity
+        → (LeavesCapacity rules → t.block.capacity ≡ s.block.capacity) → t.block.kind ≡ s.block.kind
+        → rules.claims t.policy ≡ rules.claims s.policy → StepKeeps s xs t
+    StepKeeps-added s t xs told bytes consumed capacity same kind claims = record {
+      in_order = WritesInOrder-added s t xs (ap (λ l. l.writes.received) told) bytes consumed;
+      grows = log_same s.log t.log told;
+      flushed = ap (λ l. l.writes.flushed) told;
+      flushes = ap (λ l. l.writes.flushes) told;
+      capacity = capacity;
+      same_capacity = same;
+      kind = kind;
+      claims = claims;
+    }
+
+    -- the policy was asked
+    pub StepKeeps-asked : (incoming : ℕ) (answer : Result FlushAmt Error) (s t : Buffered S P)
+        → BeforeWrite rules s.policy s.block incoming answer t.policy t.block → t.log ≡ s.log → StepKeeps s [] t
+    StepKeeps-asked incoming answer s t asked told =
+        let law = asked.law in
+        StepKeeps-added s t [] told (law.bytes ∙ sym (append-nil s.block.bytes)) law.consumed law.capacity
+        (λ leaves. leaves _ _ _ _ _ _ asked.allowed) law.kind asked.claims
+
+    StepKeeps-flush : (s t : Buffered S P) (amount : ℕ) (answer : Result (Unit {0}) Error)
+        → FlushesAmount amount s answer t → StepKeeps s [] t
+    StepKeeps-flush s t amount answer f =
+        let capacity = capacity_stays s t amount answer f in
+        elim (flush_ways amount (length s.block.bytes)) [
+          | inl none ↦ (
+              let same = (f.idle none).buffer in
+              StepKeeps-added s t [] (f.idle none).told (ap (λ b. b.bytes) same ∙ sym (append-nil s.block.bytes))
+              (ap (λ b. b.consumed) same) (omega (arith, capacity)) (λ _. capacity) (ap (λ b. b.kind) same)
+              (ap rules.claims f.policy)
+              )
+          | inr some ↦ (
+              let sends = f.sends some.0 some.1 in
+              record {
+                in_order = WritesInOrder-sends s t amount answer sends;
+                grows = sends_grow amount _ _ _ _ answer sends;
+                flushed = sends.sent.flushed;
+                flushes = sends.sent.flushes;
+                capacity = omega (arith, capacity);
+                same_capacity = λ _. capacity;
+                kind = sends.sent.dropped.kind;
+                claims = ap rules.claims f.policy;
+              }
+              )
+        ]
+
+    -- bytes taken in past the buffer, or into it
+    pub StepKeeps-takes : (s t : Buffered S P) (bs : List ℕ) (answer : Result ℕ Error)
+        → TakesIn bs s answer t → StepKeeps s (portion bs answer) t
+    StepKeeps-takes s t bs answer f =
+        let capacity = capacity_taken s t bs answer f in
+        elim (ways_in s.block (length bs)) [
+          | inl past ↦ (
+              let direct = f.past past in
+              let none = nil_from_length s.block.bytes past.0 in
+              let empty : t.block.bytes ≡ [] = ap (λ b. b.bytes) direct.block ∙ none in record {
+                in_order = record {
+                  sent = portion bs answer;
+                  received = ap (λ l. l.writes.received) direct.told;
+                  equal =
+                      ap (λ l. portion bs answer ++ l) empty ∙ append-nil (portion bs answer)
+                      ∙ ap (λ l. l ++ portion bs answer) (sym none);
+                  consumed = omega (arith, ap (λ b. b.consumed) direct.block);
+                };
+                grows = subst (λ l. WriteLogGrows s.log.writes l.writes) (sym direct.told)
+                    (WriteLogGrows-write s.log bs answer);
+                flushed = ap (λ l. l.writes.flushed) direct.told;
+                flushes = ap (λ l. l.writes.flushes) direct.told;
+                capacity = omega (arith, capacity);
+                same_capacity = λ _. capacity;
+                kind = ap (λ b. b.kind) direct.block;
+                claims = ap rules.claims direct.policy;
+              }
+              )
+          | inr inside ↦ (
+              let copied = f.inside inside in
+              let settled = settled_bytes bs s answer t copied in
+              StepKeeps-added s t (portion bs answer) copied.told
+              (copied.added.bytes ∙ ap (λ l. l ++ portion bs answer) settled.0) (copied.added.consumed ∙ settled.2)
+              (omega (arith, capacity)) (λ _. capacity) (copied.added.kind ∙ settled.3) (ap rules.claims copied.policy)
+              )
+        ]
+
+    pub StepKeeps-prepared : (incoming : ℕ) (s m : Buffered S P) (flushed : Result (Unit {0}) Error)
+        → Prepared rules incoming s flushed m → StepKeeps s [] m
+    StepKeeps-prepared incoming s m flushed p = StepKeeps-joins s p.seen m [] []
+        (StepKeeps-asked incoming (Ok p.amount) s p.seen p.asked p.told)
+        (StepKeeps-flush p.seen m (p.amount.0) flushed p.flush)
+
+    pub StepKeeps-finished : (m t : Buffered S P) → Finished rules m t → StepKeeps m [] t
+    StepKeeps-finished m t f =
+        let asked = with_policy m t.policy in
+        StepKeeps-joins m asked t [] []
+        (StepKeeps-added m asked [] refl (sym (append-nil m.block.bytes)) refl (le_refl _) (λ _. refl) refl f.asked.claims)
+        (StepKeeps-flush asked t (f.amount.0) f.flushed f.flush)

@@ -1,5 +1,5 @@
 -- How what was noted of a write or a flush fits what it did.
-use Rattle.std.proofs.Common.{◌≡◌, ◌∙◌, ℕ, ◌+◌, ◌≤◌, List, [], ◌∷◌, ◌++◌, length, Result, Ok, Err, IfErr, true, inl, inr, refl, sym, ap, subst, length-append, arith, OnOk, MatchResult, ◌<◌}
+use Rattle.std.proofs.Common.{◌≡◌, ◌∙◌, ℕ, ◌+◌, ◌≤◌, List, [], ◌∷◌, ◌++◌, length, Result, Ok, Err, IfErr, true, inl, inr, refl, sym, ap, subst, length-append, arith, OnOk, ◌<◌}
 use Rattle.std.proofs.lemmas.Bool.{cases_lt}
 use Rattle.std.proofs.lemmas.List.{append_cancel_left}
 use Rattle.std.proofs.lemmas.List.Elements.{All-head}
@@ -143,18 +143,6 @@ flush_fails s t (Err e) on caused = omega (
   failures_rise s.log.writes t.log.writes e caused,
   length-append s.own_calls.writes.faults (e ∷ []),
 )
-
--- a flush flushes the inner writer once at most
-flush_counted : {S P : Type 0} (s t : Buffered S P) (sent : StreamLog) (answer sending : Result (Unit {0}) Error)
-    → sent.writes.flushes ≡ s.log.writes.flushes
-    → MatchResult sending (λ _. t.log ≡ after_flush sent answer) (λ e. (answer ≡ Err e) × (t.log ≡ sent))
-    → t.log.writes.flushes ≤ s.log.writes.flushes + 1
-flush_counted s t sent answer (Ok _) same ended = omega (arith, same, ap (λ l. l.writes.flushes) ended)
-flush_counted s t sent answer (Err e) same ended = omega (arith, same, ap (λ l. l.writes.flushes) ended.1)
-
-pub flush_once : {S P : Type 0} (s t : Buffered S P) (answer : Result (Unit {0}) Error) → Flushes s answer t
-    → t.log.writes.flushes ≤ s.log.writes.flushes + 1
-flush_once s t answer f = flush_counted s t f.sent_log answer f.sending f.sends.sent.flushes f.ended
 
 -- a call of a writer that was noted
 pub call_went : {S P : Type 0} (trace : S → S → Type 0) (rules : WriteRules P) (s m t : Buffered S P)

@@ -1,35 +1,15 @@
 -- What the turns of a write of all bytes come to.
-use Rattle.std.proofs.Common.{◌≡◌, ℕ, zero, suc, ◌+◌, ◌≤◌, ◌<◌, List, drop, length, Result, Ok, Err, ap, subst, ◌∙◌, arith, inl, inr, refl, true}
+use Rattle.std.proofs.Common.{◌≡◌, ℕ, zero, suc, ◌+◌, ◌≤◌, ◌<◌, List, drop, Result, Ok, Err, ap, subst, ◌∙◌, arith, inl, inr, refl, true}
 use Rattle.std.specs.Prelude.{◌⊎◌}
 use Rattle.std.specs.declared.io.Error.{Error}
 use Rattle.redux_buffer.specs.LogGrows.{WriteLogGrows-none, WriteLogGrows-joins, WriteLogGrows}
 use Rattle.buffer_redux.specs.Policy.{WriteRules}
 use Rattle.buffer_redux.specs.AllBytes.{GoesBy}
 use Rattle.buffer_redux.specs.Buffered.{Buffered}
-use Rattle.buffer_redux.specs.BufWriter.{TakesIn, Writes, WasInterrupted}
+use Rattle.buffer_redux.specs.BufWriter.{Writes, WasInterrupted}
 use Rattle.buffer_redux.specs.WriteAll.{WriteTurns}
-use Rattle.buffer_redux.specs.WriterLaws.{ways_in}
 use Rattle.buffer_redux.specs.WritesAlongLaws.{WasInterrupted-after, WasInterrupted-before, WasInterrupted-send}
 use Rattle.buffer_redux.proofs.WriterFacts.{steady_caused, writes_caused, writes_keep}
-
--- the policy's claims stay in a write
-module _ {S P : Type 0} where
-  takes_in_policy : (m t : Buffered S P) (bs : List ℕ) (answer : Result ℕ Error)
-      → TakesIn bs m answer t → t.policy ≡ m.policy
-  takes_in_policy m t bs answer f =
-      elim (ways_in m.block (length bs)) [ inl past ↦ (f.past past).policy | inr inside ↦ (f.inside inside).policy ]
-
-  module _ (rules : WriteRules P) (s : Buffered S P) (bs : List ℕ) where
-    pub claims_stay : (answer : Result ℕ Error) (t : Buffered S P) → Writes rules s bs answer t
-        → rules.claims t.policy ≡ rules.claims s.policy
-    claims_stay (Ok n) t w =
-        w.finished.asked.claims ∙ ap rules.claims (takes_in_policy w.before w.after bs (Ok n) w.took_in)
-        ∙ ap rules.claims w.prepared.flush.policy ∙ w.prepared.asked.claims
-    claims_stay (Err e) t (inl refused) = refused.asked.claims
-    claims_stay (Err e) t (inr (inl p)) = ap rules.claims p.flush.policy ∙ p.asked.claims
-    claims_stay (Err e) t (inr (inr f)) =
-        ap rules.claims (takes_in_policy f.before t bs (Err e) f.took_in)
-        ∙ ap rules.claims f.prepared.flush.policy ∙ f.prepared.asked.claims
 
 module _ {S P : Type 0} (rules : WriteRules P) where
   -- a write that is gone on from took some, or the inner writer was interrupted
@@ -38,7 +18,7 @@ module _ {S P : Type 0} (rules : WriteRules P) where
       → (0 < further) ⊎ WasInterrupted s.log.writes t.log.writes
   one_turn bs (Ok k) further s t steps goes steady = inl goes.0
   one_turn bs (Err x) further s t steps goes steady = inr (WasInterrupted-send s.log.writes t.log.writes x goes.0
-      (steady_caused rules s t bs x steady (writes_caused rules s bs x t steps)))
+      (steady_caused rules s t bs x steady (writes_caused rules s bs (Err x) t steps)))
 
   -- `turns` turns took as many bytes at least, or the inner writer was interrupted
   pub record Turned (turns count : ℕ) (s t : Buffered S P) : Type 0 where
@@ -51,17 +31,17 @@ module _ {S P : Type 0} (rules : WriteRules P) where
         → Turned turns before s m → Writes rules m (drop before bs) answer t → GoesBy answer further
         → count ≡ before + further → Turned (suc turns) count s t
     one_more turns count before further answer m t p steps goes adds =
-        let grows = (writes_keep rules m (drop before bs) answer t steps).grows in
+        let kept = writes_keep rules m (drop before bs) answer t steps in
         record {
           took = elim p.took [
             | inl few ↦ elim (one_turn (drop before bs) answer further m t steps goes (ap (λ c. c.steady) p.claims ∙ steady)) [
               | inl some ↦ inl (omega (arith, few, some, adds))
               | inr was ↦ inr (WasInterrupted-after s.log.writes m.log.writes t.log.writes p.grows was)
             ]
-            | inr was ↦ inr (WasInterrupted-before s.log.writes m.log.writes t.log.writes was grows)
+            | inr was ↦ inr (WasInterrupted-before s.log.writes m.log.writes t.log.writes was kept.grows)
           ];
-          grows = WriteLogGrows-joins s.log.writes m.log.writes t.log.writes p.grows grows;
-          claims = claims_stay rules m (drop before bs) answer t steps ∙ p.claims;
+          grows = WriteLogGrows-joins s.log.writes m.log.writes t.log.writes p.grows kept.grows;
+          claims = kept.claims ∙ p.claims;
         }
 
     pub turned : (turns count : ℕ) (t : Buffered S P) → WriteTurns rules bs turns count s t → Turned turns count s t

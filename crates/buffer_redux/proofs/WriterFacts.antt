@@ -12,15 +12,15 @@ use Rattle.buffer_redux.specs.declared.policy.FlushAmt.{FlushAmt}
 use Rattle.buffer_redux.specs.Buffered.{Buffered, GoesPast, StaysInside}
 use Rattle.buffer_redux.specs.BufWriter.{FlushesAmount, TakesIn, Prepared, Wrote, Writes, WriteErrorCaused, WritesSteadily, NoSpace, EmptyWriteCaused}
 use Rattle.buffer_redux.specs.WriterLaws.{flush_ways, ways_in, FlushesAmount-met}
-use Rattle.buffer_redux.proofs.WriteSteps.{StepKeeps, log_same, WritesInOrder-same, StepKeeps-joins, StepKeeps-then, capacity_stays, bytes_stay, StepKeeps-takes, StepKeeps-prepared, StepKeeps-finished}
+use Rattle.buffer_redux.proofs.WriteSteps.{StepKeeps, StepKeeps-asked, StepKeeps-joins, StepKeeps-then, capacity_stays, bytes_stay, StepKeeps-takes, StepKeeps-prepared, StepKeeps-finished}
 
 module _ {S P : Type 0} (rules : WriteRules P) (s : Buffered S P) (bs : List ℕ) (n : ℕ) (t : Buffered S P)
     (wrote : Wrote rules s bs n t) where
-  wrote_keeps : StepKeeps s (take n bs) t
-  wrote_keeps = StepKeeps-then s wrote.after t (take n bs)
-      (StepKeeps-joins s wrote.before wrote.after [] (take n bs)
+  wrote_keeps : StepKeeps rules s (take n bs) t
+  wrote_keeps = StepKeeps-then rules s wrote.after t (take n bs)
+      (StepKeeps-joins rules s wrote.before wrote.after [] (take n bs)
       (StepKeeps-prepared rules (length bs) s wrote.before (Ok tt) wrote.prepared)
-      (StepKeeps-takes wrote.before wrote.after bs (Ok n) wrote.took_in))
+      (StepKeeps-takes rules wrote.before wrote.after bs (Ok n) wrote.took_in))
       (StepKeeps-finished rules wrote.after t wrote.finished)
 
   -- after a write past the buffer nothing is there to flush
@@ -97,25 +97,18 @@ wrote_nothing rules s bs t wrote some = record {
   ];
 }
 
--- what every write keeps: the joined lists, a log that goes on, and at least the capacity
+-- what every write keeps: the joined lists, a log that goes on, at least the capacity, the kind and the policy's claims
 pub writes_keep : {S P : Type 0} (rules : WriteRules P) (s : Buffered S P) (bs : List ℕ)
     (answer : Result ℕ Error) (t : Buffered S P)
-    → Writes rules s bs answer t → StepKeeps s (portion bs answer) t
+    → Writes rules s bs answer t → StepKeeps rules s (portion bs answer) t
 writes_keep rules s bs (Ok n) t wrote = wrote_keeps rules s bs n t wrote
-writes_keep rules s bs (Err e) t (inl refused) =
-    record {
-      in_order = WritesInOrder-same s t refused.told refused.asked.law.bytes refused.asked.law.consumed;
-      grows = log_same s.log t.log refused.told;
-      flushed = ap (λ l. l.writes.flushed) refused.told;
-      flushes = ap (λ l. l.writes.flushes) refused.told;
-      capacity = refused.asked.law.capacity;
-    }
+writes_keep rules s bs (Err e) t (inl refused) = StepKeeps-asked rules (length bs) (Err e) s t refused.asked refused.told
 writes_keep rules s bs (Err e) t (inr (inl prepared)) =
     StepKeeps-prepared rules (length bs) s t (Err e) prepared
 writes_keep rules s bs (Err e) t (inr (inr faulted)) =
-    StepKeeps-joins s faulted.before t [] []
+    StepKeeps-joins rules s faulted.before t [] []
     (StepKeeps-prepared rules (length bs) s faulted.before (Ok tt) faulted.prepared)
-    (StepKeeps-takes faulted.before t bs (Err e) faulted.took_in)
+    (StepKeeps-takes rules faulted.before t bs (Err e) faulted.took_in)
 
 -- the claim to be steady, of one call
 asks_steadily : {P : Type 0} (rules : WriteRules P) (p : P) (b : Block) (incoming : ℕ)
@@ -176,12 +169,13 @@ module _ {S P : Type 0} (rules : WriteRules P) where
     | inr inside ↦ (let odd = (f.inside inside).answered in cc)
   ]
 
-  pub writes_caused : (s : Buffered S P) (bs : List ℕ) (e : Error) (t : Buffered S P)
-      → Writes rules s bs (Err e) t → WriteErrorCaused rules s bs (Err e) t
-  writes_caused s bs e t (inl refused) = inl refused
-  writes_caused s bs e t (inr (inl p)) =
+  pub writes_caused : (s : Buffered S P) (bs : List ℕ) (answer : Result ℕ Error) (t : Buffered S P)
+      → Writes rules s bs answer t → WriteErrorCaused rules s bs answer t
+  writes_caused s bs (Ok n) t wrote = tt
+  writes_caused s bs (Err e) t (inl refused) = inl refused
+  writes_caused s bs (Err e) t (inr (inl p)) =
       inr (after_asked s p.seen t e p.told (flush_caused p.seen t (p.amount.0) e p.flush))
-  writes_caused s bs e t (inr (inr faulted)) =
+  writes_caused s bs (Err e) t (inr (inr faulted)) =
       let p = faulted.prepared in
       let m = faulted.before in
       let only = FlushesAmount-met p.seen m (p.amount.0) p.flush in
@@ -231,4 +225,4 @@ module _ {S P : Type 0} (rules : WriteRules P) where
   writes_steadily s bs (Ok n) t wrote steady =
       (tt, λ is some. steady_nothing s bs t steady some (writes_nothing s bs (Ok n) t wrote is some))
   writes_steadily s bs (Err e) t failed steady =
-      (steady_caused s t bs e steady (writes_caused s bs e t failed), λ is. cc)
+      (steady_caused s t bs e steady (writes_caused s bs (Err e) t failed), λ is. cc)

@@ -44,6 +44,10 @@ ReadErrorCaused rules s (Ok a) t = t.log.reads.faults ≡ s.log.reads.faults
 ReadErrorCaused rules s (Err e) t =
     (t.log.reads.faults ≡ s.log.reads.faults ++ e ∷ []) ⊎ PolicyGave rules (Err e) s t
 
+-- how often the reader gave nothing so far though it was asked for something
+abbrev pub empty_reads : {S P : Type 0} → Buffered S P → ℕ
+empty_reads s = s.log.reads.zero_reads
+
 -- the reader gave nothing though it was asked for something
 abbrev pub RanDry : {S P : Type 0} → Buffered S P → Buffered S P → Type 0
 RanDry s t = s.log.reads.zero_reads < t.log.reads.zero_reads

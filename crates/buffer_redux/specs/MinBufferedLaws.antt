@@ -1,17 +1,13 @@
 -- How often the reader inside gives nothing in one fill under a minimum: at its end alone.
 use Rattle.std.proofs.Common.{◌≡◌, ℕ, ◌+◌, ◌<◌, ◌≤◌, length, Option, None, Some, Ok, Err, inl, inr, refl, ap, ◌∙◌, arith, append-nil}
 use Rattle.std.specs.declared.io.Error.{Error}
-use Rattle.buffer_redux.specs.BufReader.{Fills, RanDry}
+use Rattle.buffer_redux.specs.BufReader.{Fills, RanDry, empty_reads}
 use Rattle.buffer_redux.specs.Buffered.{Buffered}
 use Rattle.buffer_redux.specs.Fill.{Ordered}
 use Rattle.buffer_redux.specs.FillLaws.{Turns-gave}
 use Rattle.buffer_redux.specs.MinBuffered.{min_read_rules}
 use Rattle.buffer_redux.specs.declared.policy.min_buffered.MinBuffered.{MinBuffered}
 use Rattle.redux_buffer.specs.StreamLog.{zero_of_none}
-
--- how often it gave nothing so far
-abbrev empties : {S P : Type 0} → Buffered S P → ℕ
-empties t = t.log.reads.zero_reads
 
 -- the number that is claimed, or 0
 abbrev pub number_of : Option ℕ → ℕ
@@ -20,7 +16,7 @@ number_of (Some n) = n
 
 module _ {S A : Type 0} (s t : Buffered S MinBuffered) where
   -- a fill that failed
-  pub none_before_fault : (e : Error) → Fills {A = A} min_read_rules s (Err e) t → empties t ≡ empties s
+  pub none_before_fault : (e : Error) → Fills {A = A} min_read_rules s (Err e) t → empty_reads t ≡ empty_reads s
   none_before_fault e fills =
       let f = fills.filled in
       elim f.ends [
@@ -38,7 +34,7 @@ module _ {S A : Type 0} (s t : Buffered S MinBuffered) where
         let same = ap length (end.read.added.bytes ∙ append-nil end.seen.bytes ∙ asked.law.bytes) in
         omega (arith, many, same, asked.allowed.1.0, ap (λ p. p.0) asked.allowed.0, claimed)
 
-    pub once_at_end : length t.block.bytes < s.policy.0 → empties t ≡ empties s + 1
+    pub once_at_end : length t.block.bytes < s.policy.0 → empty_reads t ≡ empty_reads s + 1
     once_at_end few =
         let f = fills.filled in
         let gave = Turns-gave min_read_rules f.count s f.last f.turns in
@@ -47,11 +43,11 @@ module _ {S A : Type 0} (s t : Buffered S MinBuffered) where
           | inl declined ↦ absurd (omega (arith, dry, gave, ap (λ l. l.reads.zero_reads) declined.told))
           | inr (inl full) ↦ absurd (omega (arith, dry, gave, ap (λ l. l.reads.zero_reads) full.1.told))
           | inr (inr end) ↦ ap (λ l. l.reads.zero_reads) end.read.told
-              ∙ zero_of_none 0 end.read.out (empties f.last) refl (omega (arith, end.read.offered, end.room))
+              ∙ zero_of_none 0 end.read.out (empty_reads f.last) refl (omega (arith, end.read.offered, end.room))
               ∙ ap (λ n. n + 1) gave
         ]
 
-    pub none_where_enough : s.policy.0 ≤ length t.block.bytes → empties t ≡ empties s
+    pub none_where_enough : s.policy.0 ≤ length t.block.bytes → empty_reads t ≡ empty_reads s
     none_where_enough many =
         let f = fills.filled in
         let gave = Turns-gave min_read_rules f.count s f.last f.turns in

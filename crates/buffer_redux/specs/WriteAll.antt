@@ -36,6 +36,30 @@ pub record TookBeginning {S P : Type 0} (bs : List ℕ) (s t : Buffered S P) : T
   pub within : count ≤ length bs
   pub in_order : WritesInOrder s (take count bs) t
 
+-- a write of the bytes that were left, which were some, ended it
+abbrev pub LastWriteFailed : {S P : Type 0} → WriteRules P → List ℕ → Error → Buffered S P → Buffered S P → Type 0
+LastWriteFailed rules rest e m t = record {
+  some : 0 < length rest;
+  answer : Result ℕ Error;
+  ends : EndsBy WriteZero answer e;
+  caused : WriteErrorCaused rules m rest answer t;
+  empty : answer ≡ Ok 0 → EmptyWriteCaused rules m rest t;
+  steadily : WritesSteadily rules m (length rest) answer t;
+  steps : Writes rules m rest answer t;
+}
+
+-- a write of these bytes found no space, and the policy's answer made none
+abbrev pub FoundNoSpace : {S P : Type 0} → WriteRules P → Buffered S P → List ℕ → Error → Buffered S P → Type 0
+FoundNoSpace rules m rest e t =
+    (error_kind e ≡ WriteZero) × (wrote : Wrote rules m rest 0 t) × NoSpace m (length rest) wrote.before
+
+-- what ended this many turns, which took the first `count` bytes in: at `Ok` these were all; at `Err` one more write failed, or
+-- there were too many turns
+abbrev pub WriteEnded : {S P : Type 0} → WriteRules P → List ℕ → ℕ → ℕ → Buffered S P → Result (Unit {0}) Error → Buffered S P
+    → Type 0
+WriteEnded rules bs turns count m answer t = MatchResult answer (λ _. (count ≡ length bs) × (t ≡ m))
+    (λ e. LastWriteFailed rules (drop count bs) e m t ⊎ (GaveUp turns count (length bs) e × (t ≡ m)))
+
 -- what `write_all(bs)` does: turns took the first `count` bytes in. At `Ok` these are all; at `Err` one more write ended it,
 -- which took nothing in, or there were too many turns
 pub record WritesAll {S P : Type 0} (tells : S → StreamLog) (trace : S → S → Type 0) (rules : WriteRules P)
@@ -47,20 +71,11 @@ pub record WritesAll {S P : Type 0} (tells : S → StreamLog) (trace : S → S �
   pub run : WriteTurns rules bs turns count s last
   pub first : TookFront tells trace rules s (take count bs) last
   pub front : TookFront tells trace rules s (take count bs) t
-  pub ended : MatchResult answer (λ _. (count ≡ length bs) × (t ≡ last)) (λ e. record {
-    some : 0 < length (drop count bs);
-    answer : Result ℕ Error;
-    ends : EndsBy WriteZero answer e;
-    caused : WriteErrorCaused rules last (drop count bs) answer t;
-    empty : answer ≡ Ok 0 → EmptyWriteCaused rules last (drop count bs) t;
-    steadily : WritesSteadily rules last (length (drop count bs)) answer t;
-    steps : Writes rules last (drop count bs) answer t;
-  } ⊎ (GaveUp turns count (length bs) e × (t ≡ last)))
+  pub ended : WriteEnded rules bs turns count last answer t
   -- an error is the inner writer's; or the policy's answer to the last write; or `WriteZero`, where there was no space and the
   -- policy's answer made none; or there were too many turns
   pub caused : IfErr answer (λ e. WriterStopped s.log.writes t.log.writes e ⊎ (WriteRefused rules last (drop count bs) e t
-      ⊎ (((error_kind e ≡ WriteZero) × (wrote : Wrote rules last (drop count bs) 0 t)
-      × NoSpace last (length (drop count bs)) wrote.before) ⊎ (GaveUp turns count (length bs) e × (t ≡ last)))))
+      ⊎ (FoundNoSpace rules last (drop count bs) e t ⊎ (GaveUp turns count (length bs) e × (t ≡ last)))))
   -- under a steady policy it is the inner writer's
   pub steadily : (rules.claims s.policy).steady ≡ true → IfErr answer (WriterStopped s.log.writes t.log.writes)
 

@@ -1,5 +1,5 @@
 -- Laws of traces of a writer's calls, for the proofs of those who make them.
-use Rattle.std.specs.Prelude.{◌≡◌, ℕ, ◌≤◌, ◌⊎◌, List, [], ◌∷◌, ◌++◌, length, take, drop, Result, Ok, Err, Option, true}
+use Rattle.std.specs.Prelude.{◌≡◌, ℕ, ◌+◌, ◌≤◌, ◌⊎◌, List, [], ◌∷◌, ◌++◌, length, take, drop, Result, Ok, Err, Option, MatchResult, true}
 use Rattle.std.proofs.Common.{sym, ap, subst, refl, ◌∙◌, arith, inl, inr, le_refl, le_trans, append_assoc, append-nil, take-append-drop}
 use Rattle.std.proofs.Math.Seq.{take-length}
 use Rattle.std.proofs.lemmas.List.{append_cancel_left}
@@ -9,13 +9,13 @@ use Rattle.std.specs.declared.io.Error.{Error}
 use Rattle.redux_buffer.specs.Faults.{FaultedAfter, IsInterrupt, IsMemory, SendErrorCaused, TookNothing}
 use Rattle.redux_buffer.specs.LogGrows.{WriteLogGrows, WriteLogGrows-none, WriteLogGrows-joins, WritesGoOn}
 use Rattle.redux_buffer.specs.Memory.{fault-memory, send-memory, writer-takes_some, writer_log}
-use Rattle.redux_buffer.specs.StreamLog.{StreamLog, WriteLog, portion}
+use Rattle.redux_buffer.specs.StreamLog.{StreamLog, WriteLog, after_flush, portion}
 use Rattle.redux_buffer.specs.Told.{ToldWrites, told_log, told_stream}
 use Rattle.redux_buffer.specs.declared.tell.memory.MemoryWriter.{MemoryWriter}
 use Rattle.redux_buffer.specs.declared.tell.told.Told.{Told}
 use Rattle.buffer_redux.specs.Policy.{WriteRules}
 use Rattle.buffer_redux.specs.Buffered.{Buffered, with_block}
-use Rattle.buffer_redux.specs.BufWriter.{WritesInOrder, WriterKeeps, WasSent, WasFlushed, WritesSteadily, WritesAlong, FlushedAlong, WasInterrupted, WriterStopped, BegunAlong, StoppedAlong, FrontAlong, AllAlong, AllFlushed}
+use Rattle.buffer_redux.specs.BufWriter.{WritesInOrder, WriterKeeps, WasSent, WasFlushed, WritesSteadily, WritesAlong, FlushedAlong, WasInterrupted, WriterStopped, BegunAlong, StoppedAlong, FrontAlong, AllAlong, AllFlushed, Flushes}
 use Rattle.buffer_redux.specs.WriteAll.{WritesAll}
 use Rattle.buffer_redux.specs.WriterLaws.{WritesInOrder-none, WritesInOrder-joins, WritesInOrder-contents}
 
@@ -23,6 +23,18 @@ use Rattle.buffer_redux.specs.WriterLaws.{WritesInOrder-none, WritesInOrder-join
 goes_on : (s t : StreamLog) → WritesGoOn s t → WriteLogGrows s.writes t.writes
 unfolding WritesGoOn
 goes_on s t grows = grows
+
+-- a flush flushes the inner writer once at most
+flush_counted : {S P : Type 0} (s t : Buffered S P) (sent : StreamLog) (answer sending : Result (Unit {0}) Error)
+    → sent.writes.flushes ≡ s.log.writes.flushes
+    → MatchResult sending (λ _. t.log ≡ after_flush sent answer) (λ e. (answer ≡ Err e) × (t.log ≡ sent))
+    → t.log.writes.flushes ≤ s.log.writes.flushes + 1
+flush_counted s t sent answer (Ok _) same ended = omega (arith, same, ap (λ l. l.writes.flushes) ended)
+flush_counted s t sent answer (Err e) same ended = omega (arith, same, ap (λ l. l.writes.flushes) ended.1)
+
+pub Flushes-once : {S P : Type 0} (s t : Buffered S P) (answer : Result (Unit {0}) Error) → Flushes s answer t
+    → t.log.writes.flushes ≤ s.log.writes.flushes + 1
+Flushes-once s t answer f = flush_counted s t f.sent_log answer f.sending f.sends.sent.flushes f.ended
 
 -- what was interrupted in a part of a trace was so in the whole
 pub WasInterrupted-after : (a b c : WriteLog) → WriteLogGrows a b → WasInterrupted b c → WasInterrupted a c
@@ -311,17 +323,21 @@ module _ {S P : Type 0} (tells : S → StreamLog) (trace : S → S → Type 0) (
     StoppedAlong-then s m t a e p q =
         subst (λ l. StoppedAlong tells trace rules s l e t) (append-nil a) (StoppedAlong-after s m t a [] e p q)
 
-    -- behind an Ok flush all is received and flushed
+    -- what was accepted was all received and flushed in the end, as behind an Ok flush
+    pub FlushedAlong-all : (s t : Buffered S P) (a : List ℕ) → WritesAlong tells trace rules s a t → t.block.bytes ≡ []
+        → t.log.writes.flushed ≡ t.log.writes.received → FlushedAlong tells trace rules s a t
+    FlushedAlong-all s t a along empty flushed = record {
+      along = along;
+      empty = empty;
+      received = sym (append-nil t.log.writes.received) ∙ ap (λ l. t.log.writes.received ++ l) (sym empty)
+          ∙ WritesInOrder-contents s t a along.in_order ∙ append_assoc s.log.writes.received s.block.bytes a;
+      flushed = flushed;
+    }
+
     pub FlushedAlong-of : (s m t : Buffered S P) (a : List ℕ) (x : Unit {0}) → WritesAlong tells trace rules s a m
         → WasFlushed tells trace m (Ok x) t → FlushedAlong tells trace rules s a t
     FlushedAlong-of s m t a x p f =
-        let whole = WritesAlong-then s m t a p (WasFlushed-along m (Ok x) t f) in record {
-          along = whole;
-          empty = f.ok.empty;
-          received = sym (append-nil t.log.writes.received) ∙ ap (λ l. t.log.writes.received ++ l) (sym f.ok.empty)
-              ∙ WritesInOrder-contents s t a whole.in_order ∙ append_assoc s.log.writes.received s.block.bytes a;
-          flushed = f.ok.flushed;
-        }
+        FlushedAlong-all s t a (WritesAlong-then s m t a p (WasFlushed-along m (Ok x) t f)) f.ok.empty f.ok.flushed
 
     pub AllFlushed-of : (s m t : Buffered S P) (a : List ℕ) (answer : Result (Unit {0}) Error)
         → WritesAlong tells trace rules s a m → WasFlushed tells trace m answer t

@@ -2,9 +2,9 @@
 use Rattle.std.specs.Prelude.{◌≡◌, ℕ, ◌+◌, ◌<◌, ◌≤◌, ◌⊎◌, List, [], ◌∷◌, ◌++◌, length, take, Bool, true, false, MatchBool, Option, None, Some, Result, Ok, Err, OnErr, option_copied}
 use Rattle.std.specs.Borrow.{Bor}
 use Rattle.std.specs.declared.io.Error.{Error}
-use Rattle.buffer_redux.specs.Buffered.{Buffered}
 use Rattle.buffer_redux.specs.LogGrows.{ReadLogGrows}
 use Rattle.buffer_redux.specs.BufReader.{InnerGives}
+pub use Rattle.buffer_redux.specs.BufReader.{empty_reads}
 use Rattle.buffer_redux.specs.Sparing.{PotentialHeld}
 use Rattle.piece_reader.specs.declared.decoder.Span.{Span}
 use Rattle.piece_reader.specs.declared.error.NextError.{NextError}
@@ -64,10 +64,6 @@ NoFault s t = t.reader.log.reads.faults ≡ s.reader.log.reads.faults
 -- this error is the one fault that the reader met
 abbrev pub Faulted : {S D : Type 0} → ReaderState S D → Error → ReaderState S D → Type 0
 Faulted s e t = t.reader.log.reads.faults ≡ s.reader.log.reads.faults ++ e ∷ []
-
--- how often the reader gave nothing so far though it was asked for something
-abbrev pub empty_reads : {S P : Type 0} → Buffered S P → ℕ
-empty_reads s = s.log.reads.zero_reads
 
 -- each ask of the reader since gave a byte
 abbrev pub AsksGive : {S D : Type 0} → ReaderState S D → ReaderState S D → Type 0

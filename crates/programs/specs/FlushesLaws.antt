@@ -1,5 +1,5 @@
 -- How often a call flushes.
-use Rattle.std.proofs.Common.{◌≡◌, ◌+◌, ◌≤◌, inl, inr, length, take, Result, Ok, Err, MatchResult, ap, ◌∙◌, arith, length-append, length-take-le}
+use Rattle.std.proofs.Common.{◌≡◌, inl, inr, length, take, Result, Ok, Err, MatchResult, ap, ◌∙◌, arith, length-append, length-take-le}
 use Rattle.std.specs.declared.io.Error.{Error}
 use Rattle.buffer_redux.specs.BufWriter.{Flushes}
 use Rattle.buffer_redux.specs.Buffered.{Buffered}
@@ -29,11 +29,3 @@ module _ {W P : Type 0} where
         ),
       )
       once (Err e) sends told = inl (ap (λ l. l.writes.flushes) told.1 ∙ sends.sent.flushes)
-
--- a flush is one at most
-pub flushed_once : {W P : Type 0} (u v : Buffered W P) (answer : Result (Unit {0}) Error) → Flushes u answer v
-    → v.log.writes.flushes ≤ u.log.writes.flushes + 1
-flushed_once u v answer flushes = elim (SendsByOneFlush-flush u v answer flushes) [
-  | inl same ↦ omega (arith, same)
-  | inr once ↦ omega (arith, once.0)
-]

@@ -2,7 +2,7 @@
 use Rattle.std.specs.Prelude.{◌≡◌, ℕ, ◌+◌, ◌≤◌, ◌⊎◌, List, [], ◌∷◌, ◌++◌, length}
 use Rattle.std.proofs.Common.{sym, refl, ap, subst, ◌∙◌, arith, inl, inr, append-nil, append_assoc}
 use Rattle.std.proofs.lemmas.List.{take_at, drop_at, append_cancel_left}
-use Rattle.std.proofs.lemmas.List.Elements.{All-nil, All-push, All-append, All-take, All-drop}
+use Rattle.std.proofs.lemmas.List.Elements.{All-nil, All-cons, All-push, All-append, All-take, All-drop}
 use Rattle.std.specs.IoError.{error_kind}
 use Rattle.std.specs.List.{All}
 use Rattle.std.specs.declared.io.Error.{Error}
@@ -83,6 +83,10 @@ OnlyInterrupts-none faults =
 
 pub OnlyInterrupts-same : (old new : List Error) → new ≡ old → OnlyInterrupts old new
 OnlyInterrupts-same old new same = subst (OnlyInterrupts old) (sym same) (OnlyInterrupts-none old)
+
+pub OnlyInterrupts-one : (old new : List Error) (e : Error) → IsInterrupt e → new ≡ old ++ e ∷ [] → OnlyInterrupts old new
+OnlyInterrupts-one old new e is came =
+    record { interrupts = e ∷ []; interrupted = All-cons IsInterrupt e [] is (All-nil IsInterrupt); faults = came }
 
 pub OnlyInterrupts-joins : (a b c : List Error) → OnlyInterrupts a b → OnlyInterrupts b c → OnlyInterrupts a c
 OnlyInterrupts-joins a b c p q = record {

@@ -100,7 +100,7 @@ FillLogGrows-joins a b c p q = record {
 }
 
 -- one call lets the log go on
-zero_rises : (answer : Result ℕ Error) (buf : List ℕ) (z : ℕ) → z ≤ with_zero z buf answer
+pub zero_rises : (answer : Result ℕ Error) (buf : List ℕ) (z : ℕ) → z ≤ with_zero z buf answer
 zero_rises (Ok n) buf z = grind arith
 zero_rises (Err e) buf z = le_refl z
 

@@ -5,7 +5,8 @@ use Rattle.std.proofs.lemmas.Bool.{cases_lt, lt-ltb, le-ltb}
 use Rattle.std.specs.declared.io.Error.{Error}
 use Rattle.redux_buffer.specs.Block.{usable}
 use Rattle.redux_buffer.specs.Faults.{SendErrorCaused}
-use Rattle.redux_buffer.specs.StreamLog.{WriteLog, after_write, with_zero}
+use Rattle.redux_buffer.specs.LogGrows.{zero_rises}
+use Rattle.redux_buffer.specs.StreamLog.{WriteLog, after_write}
 use Rattle.buffer_redux.specs.Policy.{WriteRules}
 use Rattle.buffer_redux.specs.Buffered.{Buffered, GoesPast, StaysInside, with_policy}
 use Rattle.buffer_redux.specs.BufWriter.{FlushesAmount, CopiesIn, Wrote, Writes}
@@ -106,10 +107,6 @@ module _ {S P : Type 0} (amount : ℕ) where
         ))
       ]
 
--- a write that took n of something, or that had nothing to take, lowers no count
-zero_rises : (before n : ℕ) (bs : List ℕ) → before ≤ with_zero before bs (Ok n)
-zero_rises before n bs = search rules
-
 copied_space : {S P : Type 0} (bs : List ℕ) (n : ℕ) (s t : Buffered S P) → CopiesIn bs s (Ok n) t
     → n ≡ min (if nat_lt 0 (usable s.block) then usable s.block else s.block.capacity - length s.block.bytes) (length bs)
 copied_space bs n s t copied =
@@ -152,7 +149,7 @@ module _ {S P : Type 0} (rules : WriteRules P) (s : Buffered S P) (bs : List ℕ
             told,
             met.only.zero_writes,
             ap (λ l. l.writes.zero_writes) (wrote.took_in.past past).told,
-            zero_rises wrote.before.log.writes.zero_writes n bs,
+            zero_rises (Ok n) bs wrote.before.log.writes.zero_writes,
           )
           | inr inside ↦ omega (
             arith,

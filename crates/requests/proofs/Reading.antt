@@ -1,9 +1,9 @@
 -- What reads of a run met.
 use Rattle.std.proofs.Common.{◌≡◌, ℕ, ◌+◌, ◌<◌, ◌≤◌, true, false, List, [], ◌∷◌, ◌++◌, All, length, Option, None, Some, IfSome, Result, Ok, Err, IfOk, IfErr, ◌⊎◌, sym, ap, subst, inl, inr, ◌∙◌, refl, arith, append_assoc, append-nil, length-append}
 use Rattle.std.proofs.lemmas.List.{append_cancel_left, nil_from_length}
-use Rattle.std.proofs.lemmas.List.Elements.{All-append, All-cons, All-nil}
+use Rattle.std.proofs.lemmas.List.Elements.{All-append, All-nil}
 use Rattle.std.specs.declared.io.Error.{Error}
-use Rattle.redux_buffer.specs.Faults.{FaultAfterInterrupts, FaultAfterInterrupts-after, IsInterrupt, OnlyInterrupts, OnlyInterrupts-joins, OnlyInterrupts-none}
+use Rattle.redux_buffer.specs.Faults.{FaultAfterInterrupts, FaultAfterInterrupts-after, OnlyInterrupts, OnlyInterrupts-joins, OnlyInterrupts-none}
 use Rattle.buffer_redux.specs.Buffered.{Buffered}
 use Rattle.buffer_redux.specs.Unbuffer.{StreamWent, Unbuffered}
 use Rattle.buffer_redux.specs.UnbufferLaws.{StreamWent-joins}
@@ -36,13 +36,6 @@ use Rattle.requests.specs.Answers.{Closes, EndedBeforeHead, FailsInRead, FailsOn
 -- no fault was met, or one
 pub none_met : {a b : List Error} → b ≡ a → OnlyInterrupts a b
 none_met {a} {b} same = subst (OnlyInterrupts a) (sym same) (OnlyInterrupts-none a)
-
-pub interrupted_once : (a b : List Error) (e : Error) → IsInterrupt e → b ≡ a ++ e ∷ [] → OnlyInterrupts a b
-interrupted_once a b e is faults = record {
-  interrupts = e ∷ [];
-  interrupted = All-cons IsInterrupt e [] is (All-nil IsInterrupt);
-  faults = faults;
-}
 
 pub failed_behind : (a b c : List Error) (e : Error) → OnlyInterrupts a b → c ≡ b ++ e ∷ [] → FaultAfterInterrupts a c e
 failed_behind a b c e reads faults = record {

@@ -1,7 +1,7 @@
 -- Where no head came nothing went: an interruption is counted and goes on, and all else ends the run.
 use Rattle.std.proofs.Common.{◌≡◌, ◌+◌, ◌∙◌, IsTrue, MatchBool, [], ◌∷◌, Some, true, false, ap, length, subst, sym, inl, inr, refl, arith, length-append}
 use Rattle.std.proofs.lemmas.List.Elements.{All-nil}
-use Rattle.redux_buffer.specs.Faults.{OnlyInterrupts-none}
+use Rattle.redux_buffer.specs.Faults.{OnlyInterrupts-none, OnlyInterrupts-one}
 use Rattle.codec.specs.NextPiece.{MetEnd, NoEnd, empty_reads}
 use Rattle.codec.specs.PieceReader.{ReaderState, left_of}
 use Rattle.messages.specs.HeadsLaws.{never_cut}
@@ -12,7 +12,7 @@ use Rattle.requests.specs.Answers.{IsSentLast, MayFollow, RunsToLast, ends_of, f
 use Rattle.requests.specs.Texts.{refusal_of}
 use Rattle.messages.specs.declared.requests.Stop.TheVariants.{Bad}
 use Rattle.requests.proofs.Answering.{FailsLast-of, RunsToLast-refused, RunsToLast-stopped, none_answered}
-use Rattle.requests.proofs.Reading.{failed_behind, interrupted_once, none_met, nothing_went}
+use Rattle.requests.proofs.Reading.{failed_behind, none_met, nothing_went}
 use Rattle.requests.proofs.Sending.{WritesPromptly-after, WritesPromptly-parts}
 use Rattle.requests.proofs.stopped.Goals as goal
 
@@ -30,7 +30,7 @@ returns-then-is_interrupt-clause-turns g c = λ s w told next comes.
         each = (nothing_went fault answers.0, comes.writes);
         keep = All-nil (MayFollow true);
         reads = record {
-          faults = interrupted_once (faults_of (left_of s)) (faults_of (left_of c.args.requests)) was.0 was.2 answers.2;
+          faults = OnlyInterrupts-one (faults_of (left_of s)) (faults_of (left_of c.args.requests)) was.0 was.2 answers.2;
           ends = answers.4;
         };
       },

@@ -1,9 +1,9 @@
 -- Turn by turn the slice's bytes before `at` were handed out, and each further read is one into what is left.
-use Rattle.std.proofs.Common.{◌≡◌, ◌+◌, ◌≤◌, drop, arith, rules, length, length-drop, ap, subst, ◌∙◌, le_refl}
+use Rattle.std.proofs.Common.{Ok, Err, ◌≡◌, ◌+◌, ◌≤◌, drop, arith, rules, length, length-drop, ap, subst, ◌∙◌, le_refl}
 use Rattle.std.proofs.lemmas.Result.{err_from_is_err_and}
 use Rattle.std.proofs.lemmas.Slice.{between_to_end}
 use Rattle.buffer_redux.specs.ReadAll.{OneRead}
-use Rattle.buffer_redux.proofs.ReadAll.{front_joins, front_none, one_tells, taken_by, put_from, put_length, first_more, first_failed, one_read, turned_more, ended_failed, ended_all, ended_late}
+use Rattle.buffer_redux.proofs.ReadAll.{front_joins, front_none, one_tells, taken_by, put_from, put_length, first_more, first_failed, one_read, turned_more, ended_failed, ended_by}
 use Rattle.buffer_redux.proofs.buf_reader.BufReader.read_on.Goals as goal
 
 pub returns-in_err-at : goal.returns-in_err-at
@@ -59,7 +59,7 @@ loop-preserved g c =
 
 pub returns-then-at-out : goal.returns-then-at-out
 returns-then-at-out g c = record {
-  exact = λ s was first. ended_all _ _ s was _ _ _ _ (c.loop.invariant.turned s was first) c.if-at-out.true;
+  exact = λ s was first. ended_by _ _ s was _ _ _ _ (c.loop.invariant.turned s was first) (Ok tt) c.if-at-out.true;
 }
 
 pub returns-in_err-at-2 : goal.returns-in_err-at-2
@@ -83,12 +83,12 @@ returns-in_err-at-2 g c =
 
 pub returns-then-at-out-2 : goal.returns-then-at-out-2
 returns-then-at-out-2 g c = record {
-  exact = λ s was first. ended_all _ _ s was _ _ _ _ (c.loop.invariant.turned s was first) c.if-at-out-2.true;
+  exact = λ s was first. ended_by _ _ s was _ _ _ _ (c.loop.invariant.turned s was first) (Ok tt) c.if-at-out-2.true;
 }
 
 pub returns : goal.returns
 returns g c = record {
-  exact = λ s was first. ended_late _ _ s was _ _ _ _ (c.loop.invariant.turned s was first) _
+  exact = λ s was first. ended_by _ _ s was _ _ _ _ (c.loop.invariant.turned s was first) (Err _)
       (record {
         some = omega (arith, c.if-at-out-2.false);
         fits = search rules;

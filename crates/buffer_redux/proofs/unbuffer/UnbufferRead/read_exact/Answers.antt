@@ -1,14 +1,14 @@
 -- Turn by turn the slice's bytes before `at` were handed out, and each further read is one into what is left.
-use Rattle.std.proofs.Common.{arith, rules, length, subst, le_refl}
+use Rattle.std.proofs.Common.{Ok, Err, arith, rules, length, subst, le_refl}
 use Rattle.std.proofs.lemmas.Result.{err_from_is_err_and}
 use Rattle.std.proofs.lemmas.Slice.{between_to_end}
 use Rattle.buffer_redux.specs.Unbuffer.{UnbufferReads}
-use Rattle.buffer_redux.proofs.ReadAll.{turned_more, ended_failed, ended_all, ended_late}
+use Rattle.buffer_redux.proofs.ReadAll.{turned_more, ended_failed, ended_by}
 use Rattle.buffer_redux.proofs.Unbuffering.{hands_joins, hands_tells, unbuffer_read}
 use Rattle.buffer_redux.proofs.unbuffer.UnbufferRead.read_exact.Goals as goal
 
 pub returns-then-at-out-clause-steps : goal.returns-then-at-out-clause-steps
-returns-then-at-out-clause-steps g c = ended_all _ _ _ _ _ _ _ _ c.loop.invariant.turned c.if-at-out.true
+returns-then-at-out-clause-steps g c = ended_by _ _ _ _ _ _ _ _ c.loop.invariant.turned (Ok tt) c.if-at-out.true
 
 pub returns-in_err-at-clause-steps : goal.returns-in_err-at-clause-steps
 returns-in_err-at-clause-steps g c =
@@ -44,10 +44,10 @@ loop-preserved g c =
     }
 
 pub returns-then-at-out-2-clause-steps : goal.returns-then-at-out-2-clause-steps
-returns-then-at-out-2-clause-steps g c = ended_all _ _ _ _ _ _ _ _ c.loop.invariant.turned c.if-at-out-2.true
+returns-then-at-out-2-clause-steps g c = ended_by _ _ _ _ _ _ _ _ c.loop.invariant.turned (Ok tt) c.if-at-out-2.true
 
 pub returns-clause-steps : goal.returns-clause-steps
-returns-clause-steps g c = ended_late _ _ _ _ _ _ _ _ c.loop.invariant.turned _ (record {
+returns-clause-steps g c = ended_by _ _ _ _ _ _ _ _ c.loop.invariant.turned (Err _) (record {
   some = omega (arith, c.if-at-out-2.false);
   fits = search rules;
   all = omega (arith, c.loop-test.false, c.loop.auto.counter-end);

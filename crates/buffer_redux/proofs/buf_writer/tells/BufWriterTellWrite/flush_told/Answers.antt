@@ -7,7 +7,8 @@ use Rattle.redux_buffer.specs.LogGrows.{WriteLogGrows, WriteLogGrows-flush}
 use Rattle.buffer_redux.specs.WriterTells.{writer_log}
 use Rattle.buffer_redux.specs.Buffered.{with_calls}
 use Rattle.buffer_redux.specs.BufWriter.{WasFlushed}
-use Rattle.buffer_redux.proofs.WriteTelling.{call_went, flush_once, flush_fails, flush_met, flush_fault}
+use Rattle.buffer_redux.specs.WritesAlongLaws.{Flushes-once}
+use Rattle.buffer_redux.proofs.WriteTelling.{call_went, flush_fails, flush_met, flush_fault}
 use Rattle.buffer_redux.proofs.buf_writer.tells.BufWriterTellWrite.flush_told.Goals as goal
 
 pub returns-clause-told : goal.returns-clause-told
@@ -29,7 +30,7 @@ returns-clause-trace g c =
     flush.kind
     (λ leaves. flush.capacity)
     (ap table.claims flush.steps.policy)
-    (omega (arith, flush_once s m answer flush.steps))
+    (omega (arith, Flushes-once s m answer flush.steps))
     (λ steady. flush_fails s m answer flush.grows flush.caused)
     (λ tells. flush_met s m answer flush.ok flush.caused)
 
