@@ -9,6 +9,7 @@ use Rattle.codec.specs.Ended.{ended}
 use Rattle.codec.specs.FirstByte.{found_as}
 use Rattle.codec.specs.FirstByteLaws.{renamed_lawful}
 use Rattle.piece_reader.specs.Grammar.{Grammar, IsLawful, IsOpen}
+use Rattle.piece_reader.specs.GrammarLaws.{open_as}
 
 module _ {W : Type 0} (g : Grammar W) where
   pub ended_lawful : IsLawful g → IsLawful (ended g)
@@ -27,16 +28,10 @@ module _ {W : Type 0} (g : Grammar W) where
       }
 
   open_ended : (bytes : List ℕ) → IsOpen g bytes → IsOpen (ended g) bytes
-  open_ended bytes o = record {
-    no_piece = λ b. o.no_piece (record { piece = b.piece; payload = b.payload; more = b.more; is = b.is; equal = b.equal });
-    not_wrong = λ e w. o.not_wrong w.0 w.1;
-  }
+  open_ended bytes = open_as g (ended g) bytes (λ piece payload is. (payload, is)) (λ e wrong. (wrong.0, wrong.1))
 
   pub ended_open : (bytes : List ℕ) → IsOpen (ended g) bytes → IsOpen g bytes
-  ended_open bytes o = record {
-    no_piece = λ b. o.no_piece (record { piece = b.piece; payload = b.payload; more = b.more; is = b.is; equal = b.equal });
-    not_wrong = λ e w. o.not_wrong (Wrong e) (e, w, refl);
-  }
+  ended_open bytes = open_as (ended g) g bytes (λ piece payload is. (payload, is)) (λ e wrong. (Wrong e, (e, wrong, refl)))
 
   pub ended_decodes : (bytes : List ℕ) (is : Found W) → Decodes g bytes is → Decodes (ended g) bytes (found_as (λ e. Wrong e) is)
   ended_decodes bytes (found.Piece span used) is = record { inside = is.inside; within = is.within; is = is.is }

@@ -11,7 +11,7 @@ use Rattle.piece_reader.specs.declared.decoder.Found.TheVariants as found
 use Rattle.piece_reader.specs.Decoding.{Decodes, DecodesAtEnd, OnMore, bytes_at}
 use Rattle.codec.specs.FirstByte.{OnFirst, by_first, either, either_notes, end_as, found_as, renamed}
 use Rattle.piece_reader.specs.Grammar.{Grammar, IsLawful, IsOpen}
-use Rattle.piece_reader.specs.GrammarLaws.{open_none}
+use Rattle.piece_reader.specs.GrammarLaws.{open_as, open_none}
 use Rattle.piece_reader.specs.Items.{IsWhole}
 
 -- other words for why bytes are none change nothing else
@@ -30,16 +30,10 @@ module _ {V W : Type 0} (f : V → W) (g : Grammar V) where
   }
 
   pub open_renamed : (bytes : List ℕ) → IsOpen g bytes → IsOpen (renamed f g) bytes
-  open_renamed bytes o = record {
-    no_piece = λ b. o.no_piece (record { piece = b.piece; payload = b.payload; more = b.more; is = b.is; equal = b.equal });
-    not_wrong = λ e w. o.not_wrong w.0 w.1;
-  }
+  open_renamed bytes = open_as g (renamed f g) bytes (λ piece payload is. (payload, is)) (λ e wrong. (wrong.0, wrong.1))
 
   pub renamed_open : (bytes : List ℕ) → IsOpen (renamed f g) bytes → IsOpen g bytes
-  renamed_open bytes o = record {
-    no_piece = λ b. o.no_piece (record { piece = b.piece; payload = b.payload; more = b.more; is = b.is; equal = b.equal });
-    not_wrong = λ e w. o.not_wrong (f e) (e, w, refl);
-  }
+  renamed_open bytes = open_as (renamed f g) g bytes (λ piece payload is. (payload, is)) (λ e wrong. (f e, (e, wrong, refl)))
 
   pub renamed_decodes : (bytes : List ℕ) (is : Found V) → Decodes g bytes is → Decodes (renamed f g) bytes (found_as f is)
   renamed_decodes bytes (found.Piece span used) is = record { inside = is.inside; within = is.within; is = is.is }
@@ -120,7 +114,7 @@ module _ {W : Type 0} (most : ℕ) (of_byte : ℕ → Grammar W) (room : 0 < mos
               equal = equal;
             })
 
-    first_open : (bytes : List ℕ) → IsOpen (by_first most of_byte) (byte ∷ bytes) → IsOpen (of_byte byte) (byte ∷ bytes)
+    pub first_open : (bytes : List ℕ) → IsOpen (by_first most of_byte) (byte ∷ bytes) → IsOpen (of_byte byte) (byte ∷ bytes)
     first_open bytes o = record { no_piece = λ b. begins b.piece b.payload b.more b.is b.equal; not_wrong = o.not_wrong }
       where
         begins : (piece payload more : List ℕ) → (of_byte byte).piece piece payload → byte ∷ bytes ≡ piece ++ more → ⊥
@@ -140,9 +134,6 @@ module _ {W : Type 0} (most : ℕ) (of_byte : ℕ → Grammar W) (room : 0 < mos
         → IsOpen (of_byte byte) (take seen (byte ∷ bytes))
     front_open zero bytes o = open_none (of_byte byte) (laws byte)
     front_open (suc seen) bytes o = first_open (take seen bytes) o
-
-    pub whole_open : (bytes : List ℕ) → IsOpen (by_first most of_byte) (byte ∷ bytes) → IsOpen (of_byte byte) (byte ∷ bytes)
-    whole_open bytes o = first_open bytes o
 
     -- what the decoder of that protocol answers
     pub first_decodes : (of_byte byte).most ≤ most → (bytes : List ℕ) (is : Found W)
@@ -225,7 +216,7 @@ module _ {V W : Type 0} (byte : ℕ) (g : Grammar V) (h : Grammar W) (one_law : 
         → IsOpen (either byte g h) bytes → IsOpen (side g h b) bytes
     open_all [] some is o = absurd (omega (arith, some))
     open_all (first ∷ bytes) some is o = subst (λ x. IsOpen (side g h x) (first ∷ bytes)) is
-        (whole_open (max g.most h.most) (one_or byte g h) room laws first bytes o)
+        (first_open (max g.most h.most) (one_or byte g h) room laws first bytes o)
 
     pub side_decodes : (bytes : List ℕ) → 0 < length bytes → (slice_index bytes 0 == byte) ≡ b
         → (found : Found (EitherWrong V W)) → Decodes (side g h b) bytes found → Decodes (either byte g h) bytes found

@@ -1,22 +1,15 @@
 -- Laws of pieces whose payloads are shown otherwise.
 use Rattle.std.specs.Prelude.{ℕ, List}
 use Rattle.std.proofs.Common.{sym, ap, ◌∙◌, refl}
-use Rattle.piece_reader.specs.Grammar.{Begins, Grammar, IsLawful, IsOpen}
+use Rattle.piece_reader.specs.Grammar.{Grammar, IsLawful, IsOpen}
+use Rattle.piece_reader.specs.GrammarLaws.{open_as}
 use Rattle.codec.specs.Showing.{showing}
 
 module _ {W : Type 0} (show : List ℕ → List ℕ) (g : Grammar W) where
-  showing_begins : (bytes : List ℕ) → Begins g bytes → Begins (showing show g) bytes
-  showing_begins bytes b = record {
-    piece = b.piece;
-    payload = show b.payload;
-    more = b.more;
-    is = (b.payload, b.is, refl);
-    equal = b.equal;
-  }
-
   -- what settles nothing settles nothing however it is shown
   pub open_showing : (bytes : List ℕ) → IsOpen (showing show g) bytes → IsOpen g bytes
-  open_showing bytes o = record { no_piece = λ b. o.no_piece (showing_begins bytes b); not_wrong = o.not_wrong }
+  open_showing bytes =
+      open_as (showing show g) g bytes (λ piece payload is. (show payload, (payload, is, refl))) (λ e wrong. (e, wrong))
 
   pub showing_lawful : IsLawful g → IsLawful (showing show g)
   showing_lawful law = record {

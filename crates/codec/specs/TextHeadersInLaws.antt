@@ -12,6 +12,7 @@ use Rattle.codec.specs.TextHeaders.{Words, counts, ends, enters, stands, text_sc
 use Rattle.piece_reader.specs.declared.header.Header.TheVariants as header
 use Rattle.codec.specs.declared.number.Number.{Number}
 use Rattle.codec.specs.declared.number.Number.TheVariants.{Empty, Is}
+use Rattle.piece_reader.specs.GrammarLaws.{take_zero}
 use Rattle.codec.specs.declared.scan.ScanStep.{ScanStep}
 use Rattle.codec.specs.declared.scan.ScanStep.TheVariants.{More, Sized, Bad}
 use Rattle.codec.specs.declared.text_header.TextHeaderState.{TextHeaderState}
@@ -20,10 +21,6 @@ use Rattle.codec.specs.declared.text_header.TextHeaderState.TheVariants.{Before,
 both : (x y : Bool) → (x && y) ≡ true → (x ≡ true) × (y ≡ true)
 both true y is = (refl, is)
 both false y is = (let odd : false ≡ true = is in cc)
-
-take_zero : (bytes : List ℕ) → take 0 bytes ≡ []
-take_zero [] = refl
-take_zero (b ∷ bytes) = refl
 
 take_next : (all : List ℕ) (at : ℕ) → at < length all → take (at + 1) all ≡ take at all ++ get_or all at 0 ∷ []
 take_next [] at few = absurd (omega (arith, few))

@@ -193,6 +193,13 @@ module _ {S : Type 0} (s : Buffered S MinBuffered) where
     ap (λ l. length l.reads.faults) same,
   ))
 
+-- the policy didn't fail, since the buffer has the capacity
+no_policy_error : {S : Type 0} (e : Error) (s t : Buffered S MinBuffered) → t.policy.0 ≤ t.block.capacity
+    → PolicyGave min_read_rules (Err e) s t → ⊥
+no_policy_error e s t holds gave =
+    let table = gave.gave.allowed in
+    omega (arith, holds, table.3.refused.tight, ap (λ p. p.0) table.0, ap (λ b. b.capacity) table.1)
+
 module _ {S D W : Type 0} (remaining : S → Option (List ℕ)) (g : Grammar W) (n : ℕ) (s : ReaderState S D)
     (whole : IsPieceReader g s) (handed : s.handed ≡ 0) (few : length (rest s) < n) (most : n ≤ g.most)
     (not_ended : s.ended ≡ false) (p : MinBuffered) (number : p.0 ≡ n) (answer : Result (Bor (List ℕ)) Error)
@@ -285,84 +292,66 @@ module _ {S D W : Type 0} (remaining : S → Option (List ℕ)) (g : Grammar W) 
         λ none. few.whole (sym (there few.came) ∙ none),
       )
 
--- where the read didn't fail, so many bytes came, or the stream ended
-pub AsksFor-ok : {S D W : Type 0} (remaining : S → Option (List ℕ)) (g : Grammar W) (n : ℕ) (s : ReaderState S D)
-    → IsPieceReader g s → s.handed ≡ 0 → length (rest s) < n → n ≤ g.most → s.ended ≡ false → (p : MinBuffered)
-    → p.0 ≡ n → (bytes : Bor (List ℕ)) (t : Buffered S MinBuffered)
-    → FillBuf remaining min_read_rules (with_policy s.reader p) (Ok bytes) t → (some : Bool)
-    → (some ≡ true → n ≤ length t.block.bytes) → (some ≡ false → length t.block.bytes < n)
-    → AsksFor remaining g n s (Ok some) (record s { reader = t })
-AsksFor-ok {S} {D} remaining g n s whole handed few most not_ended p number bytes t f some more less =
-    let v : ReaderState S D = record s { reader = t } in
-    let left : length (rest v) ≡ length t.block.bytes = ap length (rest_whole v handed) in
-    let wants : length s.reader.block.bytes < p.0 = omega (arith, few, number, ap length (rest_whole s handed)) in
-    let asking = asks_enough (with_policy s.reader p) bytes t f.fills wants in
-    record {
-      went = went remaining g n s whole handed few most not_ended p number (Ok bytes) t f asking;
-      handed = handed;
-      seen = refl;
-      ended = refl;
-      asked = asked remaining g n s whole handed few most not_ended p number (Ok bytes) t f asking;
-      offered = offered remaining g n s whole handed few most not_ended p number (Ok bytes) t f asking;
-      more = λ is.
-          let came : some ≡ true = cc in
-          let many : p.0 ≤ length t.block.bytes = omega (arith, number, more came) in (
-            omega (arith, more came, left),
-            none_where_enough (with_policy s.reader p) t bytes f.fills many,
-            f.fills.caused,
-            fill_gave (with_policy s.reader p) bytes t f.fills many,
-          );
-      end = λ is.
-          let none : some ≡ false = cc in (
-            omega (arith, less none, left),
-            MetEnd-now s v not_ended
-                (once_at_end (with_policy s.reader p) t bytes f.fills (omega (arith, number, less none))),
-            f.fills.caused,
-          );
-      failed = λ e other. cc;
-      whole = filled_whole remaining g n s whole handed few most not_ended p number (Ok bytes) t f;
-    }
+  left : length (rest filled) ≡ length t.block.bytes
+  left = ap length (rest_whole filled handed)
 
--- the policy didn't fail, since the buffer has the capacity
-no_policy_error : {S : Type 0} (e : Error) (s t : Buffered S MinBuffered) → t.policy.0 ≤ t.block.capacity
-    → PolicyGave min_read_rules (Err e) s t → ⊥
-no_policy_error e s t holds gave =
-    let table = gave.gave.allowed in
-    omega (arith, holds, table.3.refused.tight, ap (λ p. p.0) table.0, ap (λ b. b.capacity) table.1)
+  -- where the read didn't fail, so many bytes came, or the stream ended
+  pub AsksFor-ok : (bytes : Bor (List ℕ)) → answer ≡ Ok bytes → (some : Bool)
+      → (some ≡ true → n ≤ length t.block.bytes) → (some ≡ false → length t.block.bytes < n)
+      → AsksFor remaining g n s (Ok some) filled
+  AsksFor-ok bytes is some more less =
+      let old = with_policy s.reader p in
+      let fills = subst (λ a. Fills min_read_rules old a t) is f.fills in
+      let asking = asks_enough old bytes t fills (omega (arith, few, number, ap length (rest_whole s handed))) in
+      record {
+        went = went asking;
+        handed = handed;
+        seen = refl;
+        ended = refl;
+        asked = asked asking;
+        offered = offered asking;
+        more = λ yes.
+            let came : some ≡ true = cc in
+            let many : p.0 ≤ length t.block.bytes = omega (arith, number, more came) in (
+              omega (arith, more came, left),
+              none_where_enough old t bytes fills many,
+              fills.caused,
+              fill_gave old bytes t fills many,
+            );
+        end = λ no.
+            let none : some ≡ false = cc in (
+              omega (arith, less none, left),
+              MetEnd-now s filled not_ended (once_at_end old t bytes fills (omega (arith, number, less none))),
+              fills.caused,
+            );
+        failed = λ e other. cc;
+        whole = filled_whole;
+      }
 
-pub AsksFor-err : {S D W : Type 0} (remaining : S → Option (List ℕ)) (g : Grammar W) (n : ℕ) (s : ReaderState S D)
-    → IsPieceReader g s → s.handed ≡ 0 → length (rest s) < n → n ≤ g.most → s.ended ≡ false → (p : MinBuffered)
-    → p.0 ≡ n → (e : Error) (t : Buffered S MinBuffered)
-    → FillBuf remaining min_read_rules (with_policy s.reader p) (Err e) t
-    → AsksFor remaining g n s (Err e) (record s { reader = t })
-AsksFor-err {S} {D} remaining g n s whole handed few most not_ended p number e t f =
-    let v : ReaderState S D = record s { reader = t } in
-    let fault : t.log.reads.faults ≡ s.reader.log.reads.faults ++ e ∷ [] = elim f.fills.caused [
-      | inl met ↦ met
-      | inr gave ↦ absurd (no_policy_error e (with_policy s.reader p) t
-          (omega (
-            arith,
-            claimed remaining g n s whole handed few most not_ended p number (Err e) t f,
-            capacity remaining g n s whole handed few most not_ended p number (Err e) t f,
-            holds remaining g n s whole handed few most not_ended p number (Err e) t f,
-          )) gave)
-    ] in
-    let asking = asks_failed (with_policy s.reader p) e t f.fills fault in
-    record {
-      went = went remaining g n s whole handed few most not_ended p number (Err e) t f asking;
-      handed = handed;
-      seen = refl;
-      ended = refl;
-      asked = asked remaining g n s whole handed few most not_ended p number (Err e) t f asking;
-      offered = offered remaining g n s whole handed few most not_ended p number (Err e) t f asking;
-      more = λ other. cc;
-      end = λ other. cc;
-      failed = λ e' is.
-          let same : e ≡ e' = cc in (
-            omega (arith, f.fills.ahead.few refl, number, ap length (rest_whole v handed)),
-            not_ended,
-            none_before_fault (with_policy s.reader p) t e f.fills,
-            subst (λ x. Faulted s x v) same fault,
-          );
-      whole = filled_whole remaining g n s whole handed few most not_ended p number (Err e) t f;
-    }
+  pub AsksFor-err : (e : Error) → answer ≡ Err e → AsksFor remaining g n s (Err e) filled
+  AsksFor-err e is =
+      let old = with_policy s.reader p in
+      let fills = subst (λ a. Fills min_read_rules old a t) is f.fills in
+      let fault : t.log.reads.faults ≡ s.reader.log.reads.faults ++ e ∷ [] = elim fills.caused [
+        | inl met ↦ met
+        | inr gave ↦ absurd (no_policy_error e old t (omega (arith, claimed, capacity, holds)) gave)
+      ] in
+      let asking = asks_failed old e t fills fault in
+      record {
+        went = went asking;
+        handed = handed;
+        seen = refl;
+        ended = refl;
+        asked = asked asking;
+        offered = offered asking;
+        more = λ other. cc;
+        end = λ other. cc;
+        failed = λ e' same.
+            let is_that : e ≡ e' = cc in (
+              omega (arith, fills.ahead.few refl, number, left),
+              not_ended,
+              none_before_fault old t e fills,
+              subst (λ x. Faulted s x filled) is_that fault,
+            );
+        whole = filled_whole;
+      }

@@ -8,6 +8,7 @@ use Rattle.piece_reader.specs.NextPieceLaws.{AskedWhere-told, MetEnd-joins, Offe
 use Rattle.piece_reader.specs.PiecesWentLaws.{PiecesWent-inside, PiecesWent-joins}
 use Rattle.piece_reader.specs.PieceReader.{IsPieceReader, ReaderState, rest}
 use Rattle.piece_reader.specs.Steps.{AsksFor}
+use Rattle.piece_reader.proofs.Taking.{whole_as}
 use Rattle.piece_reader.proofs.Headers.{HeaderBytes, HeaderBytes-none, HeaderBytes-told}
 
 -- something is left then just where the answer says so
@@ -68,16 +69,7 @@ module _ {S D W : Type 0} (remaining : S → Option (List ℕ)) (g : Grammar W) 
     offered_then a = OffersMore-told s t noted refl (offered_over t a.offered)
 
     still_whole : AsksFor remaining g 1 m (Ok came) t → (flag ≡ true → rest t ≡ []) → IsPieceReader g noted
-    still_whole a none_left = record {
-      block = a.whole.block;
-      plain = a.whole.plain;
-      capacity = a.whole.capacity;
-      limit = a.whole.limit;
-      ahead = a.whole.ahead;
-      handed = a.whole.handed;
-      searched = a.whole.searched;
-      ended = none_left;
-    }
+    still_whole a none_left = whole_as g t a.whole t.handed t.seen flag a.whole.handed a.whole.searched none_left
 
     pub refilled : came ≡ true → flag ≡ false → AsksFor remaining g 1 m (Ok came) t → Refills remaining g s (Ok came) noted
     refilled is open' a =

@@ -6,7 +6,7 @@ use Rattle.piece_reader.specs.declared.decoder.Span.{Span}
 use Rattle.piece_reader.specs.Decoding.{IsPiece, bytes_at}
 use Rattle.piece_reader.specs.Grammar.{Grammar, Begins, IsLawful, IsOpen, IsOpenBelow}
 
-take_zero : (bytes : List ℕ) → take 0 bytes ≡ []
+pub take_zero : (bytes : List ℕ) → take 0 bytes ≡ []
 take_zero [] = refl
 take_zero (b ∷ bytes) = refl
 
@@ -14,6 +14,17 @@ take_zero (b ∷ bytes) = refl
 pub noted_none : {N : Type 0} (Notes : List ℕ → N → Type 0) (bytes : List ℕ) (note : N) → Notes [] note
     → Notes (take 0 bytes) note
 noted_none Notes bytes note = subst (λ l. Notes l note) (sym (take_zero bytes))
+
+-- what settles nothing does so under other rules that call no more bytes a piece, or wrong
+pub open_as : {V W : Type 0} (g : Grammar V) (h : Grammar W) (bytes : List ℕ)
+    → ((piece payload : List ℕ) → h.piece piece payload → (shown : List ℕ) × g.piece piece shown)
+    → ((e : W) → h.wrong bytes e → (why : V) × g.wrong bytes why) → IsOpen g bytes → IsOpen h bytes
+open_as g h bytes pieces wrongs o = record {
+  no_piece = λ b.
+      let is = pieces b.piece b.payload b.is in
+      o.no_piece (record { piece = b.piece; payload = is.0; more = b.more; is = is.1; equal = b.equal });
+  not_wrong = λ e w. (let was = wrongs e w in o.not_wrong was.0 was.1);
+}
 
 module _ {W : Type 0} (g : Grammar W) where
   -- nothing settles nothing

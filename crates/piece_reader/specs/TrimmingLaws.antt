@@ -3,7 +3,8 @@ use Rattle.std.specs.Prelude.{◌≡◌, ℕ, List, [], ◌∷◌, ◌++◌, len
 use Rattle.std.proofs.Common.{sym, ap, ◌∙◌, arith, inl, inr, refl, append_assoc, append-nil, length-append, subst}
 use Rattle.std.proofs.lemmas.Bool.{cases_lt}
 use Rattle.std.proofs.lemmas.List.{append_cancel_right}
-use Rattle.piece_reader.specs.Grammar.{Grammar, Begins, IsLawful, IsOpen}
+use Rattle.piece_reader.specs.Grammar.{Grammar, IsLawful, IsOpen}
+use Rattle.piece_reader.specs.GrammarLaws.{open_as}
 use Rattle.piece_reader.specs.Trimming.{IsTrimmed, trimming}
 
 -- bytes are shown in one way
@@ -54,20 +55,10 @@ trimmed_is (a ∷ b ∷ bytes) =
     behind (x ∷ front) is other = other.1 front (let e : b ∷ bytes ≡ front ++ 13 ∷ [] = cc in e)
 
 module _ {W : Type 0} (g : Grammar W) where
-  -- bytes that begin with a piece do so however it is shown
-  shown_begins : (bytes : List ℕ) → Begins g bytes → Begins (trimming g) bytes
-  shown_begins bytes b =
-      let shown = trimmed_is b.payload in record {
-        piece = b.piece;
-        payload = shown.0;
-        more = b.more;
-        is = (b.payload, b.is, shown.1);
-        equal = b.equal;
-      }
-
   -- bytes that settle nothing do so however a piece is shown
   pub open_shown : (bytes : List ℕ) → IsOpen (trimming g) bytes → IsOpen g bytes
-  open_shown bytes o = record { no_piece = λ b. o.no_piece (shown_begins bytes b); not_wrong = o.not_wrong }
+  open_shown bytes = open_as (trimming g) g bytes
+      (λ piece payload is. let shown = trimmed_is payload in (shown.0, (payload, is, shown.1))) (λ e wrong. (e, wrong))
 
   pub trimming_lawful : IsLawful g → IsLawful (trimming g)
   trimming_lawful law = record {

@@ -1,5 +1,5 @@
 -- The policy's number is `need`, so one fill asks until so many bytes came, or the stream ended or failed.
-use Rattle.std.proofs.Common.{◌≡◌, ◌<◌, ◌≤◌, Ok, Err, ap, subst, ◌∙◌, arith, length}
+use Rattle.std.proofs.Common.{◌≡◌, ◌<◌, ◌≤◌, Ok, Err, ap, subst, ◌∙◌, arith, length, refl}
 use Rattle.std.proofs.lemmas.Bool.{leb-true, leb-false}
 use Rattle.std.proofs.lemmas.Result.{err_from_is_err_and}
 use Rattle.piece_reader.specs.PieceReader.{ReaderState, rest}
@@ -24,7 +24,7 @@ returns-in_err-fill_buf g c =
     rw (p.1, p.2) (subst (λ x. AsksFor remaining (grammar x.decoder) c.args.need x (Err c.in_err-fill_buf.field-0.0) t)
     c.self.view_is
     (AsksFor-err remaining (grammar i.decoder) c.args.need m c.self.invariant.0 handed few most c.if-self.false _
-    (ap (λ p. p.0) c.set_min.ensures.number) _ _ f))
+    (ap (λ p. p.0) c.set_min.ensures.number) _ _ f _ refl))
 
 pub returns : goal.returns
 returns g c =
@@ -42,7 +42,7 @@ returns g c =
     subst (λ x. AsksFor remaining (grammar x.decoder) c.args.need x
     (Ok (lib.Dec.leb c.args.need (length c.in_ok-fill_buf.field-0.now))) t) c.self.view_is
     (AsksFor-ok remaining (grammar i.decoder) c.args.need m c.self.invariant.0 handed few most c.if-self.false _
-    (ap (λ p. p.0) c.set_min.ensures.number) _ _ f _
+    (ap (λ p. p.0) c.set_min.ensures.number) _ _ f _ refl _
     (λ many. omega (
       arith,
       leb-true c.args.need (length c.in_ok-fill_buf.field-0.now) many,
