@@ -5,8 +5,8 @@ use Rattle.piece_reader.specs.Decoding.{bytes_at}
 use Rattle.piece_reader.specs.DelimitedLaws.{delimited_lawful}
 use Rattle.piece_reader.specs.Grammar.{Begins}
 use Rattle.piece_reader.specs.NextPiece as pieces
-use Rattle.piece_reader.specs.NextPiece.{NextPiece, StaysLeft, buffered_answer, empty_reads, load_answer}
-use Rattle.piece_reader.specs.NextPieceLaws.{MetEnd-once, NextPiece-ready, NextPiece-refused, NextPiece-wrong}
+use Rattle.piece_reader.specs.NextPiece.{NextPiece, StaysLeft, buffered_answer, load_answer}
+use Rattle.piece_reader.specs.NextPieceLaws.{NextPiece-ready, NextPiece-refused, NextPiece-wrong}
 use Rattle.piece_reader.specs.PiecesWentLaws.{PiecesWent-unasked}
 use Rattle.piece_reader.specs.PieceReader.{IsPieceReader, IsSettled, ReaderState, rest}
 use Rattle.piece_reader.specs.StaysLeftLaws.{StaysLeft-next}
@@ -75,15 +75,6 @@ module _ {S : Type 0} (remaining : S → Option (List ℕ)) where
             | inr (last, part, some, none, ended, met) ↦ some
           ] in
           open_left s whole (omega (arith, some, ap length all, length-append next.bytes (rest t)))
-
-      going_found : t.ended ≡ false
-      going_found = elim next.answers.1 [
-        | inl (is, going, none) ↦ going
-        | inr (last, part, some, none, ended, met) ↦ absurd (elim s.pieces.ended as (λ b. b ≡ s.pieces.ended → ⊥) [
-          | true ↦ λ before. (let odd : Ok (Some line) ≡ Ok None = same_none (Ok (Some line)) (next.told (sym before)) in cc)
-          | false ↦ λ before. omega (arith, MetEnd-once s.pieces t (sym before) met, ap (λ r. empty_reads r) same)
-        ] refl)
-      ]
 
     abbrev after : LineState S
     after = record { pieces = t; skipping = s.skipping }

@@ -1,6 +1,6 @@
 -- Calls of `next`, `next_trimmed`, `next_buffered` and `skip_line` in any order, with any answers, and the lines that they hand
 -- out and skip.
-use Rattle.std.specs.Prelude.{◌≡◌, ℕ, ◌+◌, ◌<◌, ◌≤◌, ◌⊎◌, List, [], ◌∷◌, ◌++◌, length, Bool, true, false, Option, None, Some, Result, Ok, Err}
+use Rattle.std.specs.Prelude.{◌≡◌, ℕ, ◌+◌, ◌<◌, ◌≤◌, ◌⊎◌, List, [], ◌∷◌, ◌++◌, length, Bool, true, false, MatchBool, Option, None, Some, Result, Ok, Err}
 use Rattle.std.specs.List.{flat_map}
 use Rattle.std.specs.declared.io.Error.{Error}
 use Rattle.piece_reader.specs.NextPiece.{PiecesWent}
@@ -12,19 +12,17 @@ use Rattle.line_reader.specs.LineReader.{LineState}
 use Rattle.line_reader.specs.NextLine.{LineAnswer, NextBufferedLine, NextLine, NextTrimmed}
 use Rattle.line_reader.specs.SkipLine.{SkipsLine}
 
--- what calls come to: `next` or `next_buffered` handed a line out; `next_trimmed` did, and showed this of it; a line was
--- skipped; or the end of the stream was told
+-- what calls come to: a line was handed out, trimmed or not, of which this was shown; a line was skipped; or the end of the
+-- stream was told
 pub data Event : Type 0 where
-  Handed : List ℕ → Event
-  Trimmed : List ℕ → Event
+  Handed : Bool → List ℕ → Event
   Skipped : List ℕ → Event
   Ended : Event
 
 -- the next event, if there is one, is the end of the stream; else the stream has ended, which no call has told yet
 abbrev pub EndNext : Bool → List Event → Type 0
 EndNext ended [] = ended ≡ true
-EndNext ended (Handed line ∷ events) = ⊥
-EndNext ended (Trimmed shown ∷ events) = ⊥
+EndNext ended (Handed trims shown ∷ events) = ⊥
 EndNext ended (Skipped line ∷ events) = ⊥
 EndNext ended (Ended ∷ events) = Unit {0}
 
@@ -32,16 +30,17 @@ EndNext ended (Ended ∷ events) = Unit {0}
 abbrev pub WithoutEnd : Bool → List Event → List ℕ → List ℕ → List ℕ → Type 0
 WithoutEnd ended events line bytes more = (bytes ≡ line ++ more) × (0 < length line) × EndNext ended events
 
+-- this is shown of a line with its end, which is trimmed or not
+abbrev pub Shows : Bool → List ℕ → List ℕ → Type 0
+Shows trims line shown = MatchBool trims (IsTrimmed line shown) (shown ≡ line)
+
 -- these bytes, cut at the ends of lines, are the lines of the events, in order, and then the beginning of a line, of which
 -- the end hasn't come
 abbrev pub CutsInto : Bool → List Event → List ℕ → List ℕ → Type 0
 CutsInto ended [] after bytes = IsLine bytes × (bytes ≡ after)
-CutsInto ended (Handed line ∷ events) after bytes =
-    (more : List ℕ) × IsLine line × ((bytes ≡ with_newline line ++ more) ⊎ WithoutEnd ended events line bytes more)
-    × CutsInto ended events after more
-CutsInto ended (Trimmed shown ∷ events) after bytes =
+CutsInto ended (Handed trims shown ∷ events) after bytes =
     (line : List ℕ) × (more : List ℕ) × IsLine line
-    × (((bytes ≡ with_newline line ++ more) × IsTrimmed line shown)
+    × (((bytes ≡ with_newline line ++ more) × Shows trims line shown)
     ⊎ (WithoutEnd ended events line bytes more × (shown ≡ line)))
     × CutsInto ended events after more
 CutsInto ended (Skipped line ∷ events) after bytes =
@@ -60,11 +59,11 @@ pub record LinesAlong {S : Type 0} (remaining : S → Option (List ℕ)) (before
   pub closed : t.skipping ≡ false → after ≡ []
   pub told : s.pieces.ended ≡ true → EndNext t.pieces.ended events
 
--- what an answer that hands lines out as such events comes to where no line is being skipped
-abbrev pub events_of : (List ℕ → Event) → LineAnswer → List Event
-events_of handed (Ok (Some line)) = handed line ∷ []
-events_of handed (Ok None) = Ended ∷ []
-events_of handed (Err e) = []
+-- what an answer that shows lines, trimmed or not, comes to where no line is being skipped
+abbrev pub events_of : Bool → LineAnswer → List Event
+events_of trims (Ok (Some shown)) = Handed trims shown ∷ []
+events_of trims (Ok None) = Ended ∷ []
+events_of trims (Err e) = []
 
 -- a call, with its answer
 pub data Call : Type 0 where
@@ -88,16 +87,14 @@ call_lines (NextsBuffered found) = handed_payload {E = LineError} (Ok found)
 call_lines (Skips answer) = []
 
 abbrev pub event_lines : Event → List (List ℕ)
-event_lines (Handed line) = line ∷ []
-event_lines (Trimmed shown) = shown ∷ []
+event_lines (Handed trims shown) = shown ∷ []
 event_lines (Skipped line) = []
 event_lines Ended = []
 
 -- how many lines were skipped, and whether a call asked for this
 abbrev pub skipped_count : List Event → ℕ
 skipped_count [] = 0
-skipped_count (Handed line ∷ events) = skipped_count events
-skipped_count (Trimmed shown ∷ events) = skipped_count events
+skipped_count (Handed trims shown ∷ events) = skipped_count events
 skipped_count (Skipped line ∷ events) = 1 + skipped_count events
 skipped_count (Ended ∷ events) = skipped_count events
 

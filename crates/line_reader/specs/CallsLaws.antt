@@ -10,7 +10,7 @@ use Rattle.piece_reader.specs.PieceReader.{ReaderState, rest}
 use Rattle.piece_reader.specs.StaysLeftLaws.{StaysLeft-went}
 use Rattle.piece_reader.specs.Trimming.{IsTrimmed}
 use Rattle.line_reader.specs.declared.error.LineError.TheVariants.{TooLong, Io}
-use Rattle.line_reader.specs.Calls.{Handed, Trimmed, Skipped, Ended, Event, LinesAlong, CutsInto, EndNext, events_of}
+use Rattle.line_reader.specs.Calls.{Handed, Skipped, Ended, Event, LinesAlong, CutsInto, EndNext, Shows, events_of}
 use Rattle.line_reader.specs.declared.line.Lines.{Lines}
 use Rattle.line_reader.specs.Lines.{IsLine, newline, with_newline}
 use Rattle.line_reader.specs.LineReader.{LineState, lined}
@@ -29,9 +29,7 @@ nil_front (x ∷ a) b is = cc
 pub CutsInto-after : (ended : Bool) (events : List Event) (after bytes : List ℕ) → CutsInto ended events after bytes
     → IsLine after
 CutsInto-after ended [] after bytes (plain, same) = subst IsLine same plain
-CutsInto-after ended (Handed line ∷ events) after bytes (more, plain, begins, cut) =
-    CutsInto-after ended events after more cut
-CutsInto-after ended (Trimmed shown ∷ events) after bytes (line, more, plain, begins, cut) =
+CutsInto-after ended (Handed trims shown ∷ events) after bytes (line, more, plain, begins, cut) =
     CutsInto-after ended events after more cut
 CutsInto-after ended (Skipped line ∷ events) after bytes (more, plain, begins, cut) =
     CutsInto-after ended events after more cut
@@ -41,8 +39,7 @@ CutsInto-after ended (Ended ∷ events) after bytes cut = CutsInto-after ended e
 module _ (was is : Bool) (later : List Event) (told : was ≡ true → EndNext is later) where
   end_joins : (events : List Event) → EndNext was events → EndNext is (events ++ later)
   end_joins [] ended = told ended
-  end_joins (Handed line ∷ events) ended = absurd ended
-  end_joins (Trimmed shown ∷ events) ended = absurd ended
+  end_joins (Handed trims shown ∷ events) ended = absurd ended
   end_joins (Skipped line ∷ events) ended = absurd ended
   end_joins (Ended ∷ events) ended = tt
 
@@ -60,13 +57,9 @@ module _ (was is : Bool) (later : List Event) (told : was ≡ true → EndNext i
     cuts_join : (events : List Event) (bytes : List ℕ) → CutsInto was events mid bytes
         → CutsInto is (events ++ later) after (bytes ++ more)
     cuts_join [] bytes (plain, same) = subst (λ l. CutsInto is later after (l ++ more)) (sym same) then
-    cuts_join (Handed line ∷ events) bytes (rest, plain, inl whole, cut) =
-        (rest ++ more, plain, inl (with_joins line bytes rest whole), cuts_join events rest cut)
-    cuts_join (Handed line ∷ events) bytes (rest, plain, inr last, cut) =
-        (rest ++ more, plain, inr (without_joins events line bytes rest last), cuts_join events rest cut)
-    cuts_join (Trimmed shown ∷ events) bytes (line, rest, plain, inl (whole, trims), cut) =
-        (line, rest ++ more, plain, inl (with_joins line bytes rest whole, trims), cuts_join events rest cut)
-    cuts_join (Trimmed shown ∷ events) bytes (line, rest, plain, inr (last, same), cut) =
+    cuts_join (Handed trims shown ∷ events) bytes (line, rest, plain, inl (whole, shows), cut) =
+        (line, rest ++ more, plain, inl (with_joins line bytes rest whole, shows), cuts_join events rest cut)
+    cuts_join (Handed trims shown ∷ events) bytes (line, rest, plain, inr (last, same), cut) =
         (line, rest ++ more, plain, inr (without_joins events line bytes rest last, same), cuts_join events rest cut)
     cuts_join (Skipped line ∷ events) bytes (rest, plain, inl whole, cut) =
         (rest ++ more, plain, inl (with_joins line bytes rest whole), cuts_join events rest cut)
@@ -81,15 +74,22 @@ module _ {S : Type 0} (remaining : S → Option (List ℕ)) where
   lines_join s m t h k p q = PiecesWent-joins remaining (1 + s.decoder.max) s m t h k p
       (subst (λ d. PiecesWent remaining (1 + d.max) m k t) p.decoder q)
 
+  -- nothing was handed out, told or skipped
+  pub LinesAlong-still : (s t : LineState S) (before : List ℕ) → IsLine before → (t.skipping ≡ false → before ≡ [])
+      → PiecesWent remaining (1 + s.pieces.decoder.max) s.pieces [] t.pieces → (s.pieces.ended ≡ true → t.pieces.ended ≡ true)
+      → LinesAlong remaining before s [] before t
+  LinesAlong-still s t before plain closed went told = record {
+    bytes = [];
+    went = went;
+    cut = (subst IsLine (sym (append-nil before)) plain, append-nil before);
+    closed = closed;
+    told = told;
+  }
+
   -- no call does nothing
   pub LinesAlong-none : (s : LineState S) → LinesAlong remaining [] s [] [] s
-  LinesAlong-none s = record {
-    bytes = [];
-    went = PiecesWent-none remaining (1 + s.pieces.decoder.max) s.pieces;
-    cut = (no_line, refl);
-    closed = λ open'. refl;
-    told = λ ended. ended;
-  }
+  LinesAlong-none s = LinesAlong-still s s [] no_line (λ _. refl)
+      (PiecesWent-none remaining (1 + s.pieces.decoder.max) s.pieces) (λ ended. ended)
 
   pub LinesAlong-joins : (s m t : LineState S) (before mid after : List ℕ) (first later : List Event)
       → LinesAlong remaining before s first mid m → LinesAlong remaining mid m later after t
@@ -115,24 +115,31 @@ module _ {S : Type 0} (remaining : S → Option (List ℕ)) (s t : LineState S) 
     told = λ ended. absurd (isnt (same_none answer (n.0.told ended)));
   }
 
-  pub NextLine-along : (answer : LineAnswer) → NextOpen remaining s answer t
-      → LinesAlong remaining [] s (events_of (λ l. Handed l) answer) [] t
-  NextLine-along (Ok (Some line)) n = record {
+  -- a line was handed out, and shown so
+  shown_along : (trims : Bool) (line shown : List ℕ) → NextOpen remaining s (Ok (Some line)) t
+      → (t.pieces.ended ≡ false → Shows trims line shown) → (t.pieces.ended ≡ true → shown ≡ line)
+      → LinesAlong remaining [] s (Handed trims shown ∷ []) [] t
+  shown_along trims line shown n shows last = record {
     bytes = n.0.bytes;
     went = n.0.went;
     cut = (
+      line,
       [],
       (IsHanded-fits s.pieces.decoder.max s.pieces t.pieces line n.0.bytes n.0.answers.1).plain,
       elim n.0.answers.1 [
-        | inl (is, going, none) ↦ inl (is.2 ∙ sym (append-nil (with_newline line)))
+        | inl (is, going, none) ↦ inl (is.2 ∙ sym (append-nil (with_newline line)), shows going)
         | inr (is, part, some, none, ended, met) ↦
-            inr (sym is ∙ sym (append-nil line), omega (arith, some, ap length is), ended)
+            inr ((sym is ∙ sym (append-nil line), omega (arith, some, ap length is), ended), last ended)
       ],
       (no_line, refl),
     );
     closed = λ open'. refl;
     told = λ ended. (let odd : Ok (Some line) ≡ Ok None = same_none (Ok (Some line)) (n.0.told ended) in cc);
   }
+
+  pub NextLine-along : (answer : LineAnswer) → NextOpen remaining s answer t
+      → LinesAlong remaining [] s (events_of false answer) [] t
+  NextLine-along (Ok (Some line)) n = shown_along false line line n (λ _. refl) (λ _. refl)
   NextLine-along (Ok None) n = record {
     bytes = n.0.bytes;
     went = n.0.went;
@@ -147,47 +154,28 @@ module _ {S : Type 0} (remaining : S → Option (List ℕ)) (s t : LineState S) 
 
   -- a call of `next_buffered`; where it finds none nothing is done, also of a line that is being skipped
   pub NextBufferedLine-along : (line : List ℕ) → NextBufferedLine remaining s (Some line) t
-      → LinesAlong remaining [] s (Handed line ∷ []) [] t
+      → LinesAlong remaining [] s (Handed false line ∷ []) [] t
   NextBufferedLine-along line n = NextLine-along (Ok (Some line)) (n.piece.0, n.skipping ∙ n.open')
 
   pub NextBufferedLine-stays : (before : List ℕ) → IsLine before → (s.skipping ≡ false → before ≡ [])
       → NextBufferedLine remaining s None t → LinesAlong remaining before s [] before t
-  NextBufferedLine-stays before plain closed n = record {
-    bytes = [];
-    went = StaysLeft-went remaining (lined s.pieces.decoder.max) s.pieces t.pieces n.piece.0;
-    cut = (subst IsLine (sym (append-nil before)) plain, append-nil before);
-    closed = λ open'. closed (sym n.skipping ∙ open');
-    told = λ ended. ap (λ x. x.ended) n.piece.0.same ∙ ended;
-  }
+  NextBufferedLine-stays before plain closed n = LinesAlong-still remaining s t before plain
+      (λ open'. closed (sym n.skipping ∙ open'))
+      (StaysLeft-went remaining (lined s.pieces.decoder.max) s.pieces t.pieces n.piece.0)
+      (λ ended. ap (λ x. x.ended) n.piece.0.same ∙ ended)
 
   -- a call of `next_trimmed` where no line is being skipped
   pub Trims-along : (whole answer : LineAnswer) → NextOpen remaining s whole t → Trims whole answer t.pieces.ended
-      → LinesAlong remaining [] s (events_of (λ l. Trimmed l) answer) [] t
+      → LinesAlong remaining [] s (events_of true answer) [] t
   Trims-along (Ok (Some line)) (Ok (Some shown)) n trims =
-      let Shows : Bool → Type 0 = λ b. MatchBool b (shown ≡ line) (IsTrimmed line shown) in
-      record {
-        bytes = n.0.bytes;
-        went = n.0.went;
-        cut = (
-          line,
-          [],
-          (IsHanded-fits s.pieces.decoder.max s.pieces t.pieces line n.0.bytes n.0.answers.1).plain,
-          elim n.0.answers.1 [
-            | inl (is, going, none) ↦ inl (is.2 ∙ sym (append-nil (with_newline line)), subst Shows going trims)
-            | inr (is, part, some, none, ended, met) ↦
-                inr ((sym is ∙ sym (append-nil line), omega (arith, some, ap length is), ended), subst Shows ended trims)
-          ],
-          (no_line, refl),
-        );
-        closed = λ open'. refl;
-        told = λ ended. (let odd : Ok (Some line) ≡ Ok None = same_none (Ok (Some line)) (n.0.told ended) in cc);
-      }
+      let Said : Bool → Type 0 = λ b. MatchBool b (shown ≡ line) (IsTrimmed line shown) in
+      shown_along true line shown n (λ going. subst Said going trims) (λ ended. subst Said ended trims)
   Trims-along (Ok (Some line)) (Ok None) n trims = absurd trims
   Trims-along (Ok (Some line)) (Err e) n trims = absurd trims
   Trims-along (Ok None) answer n trims =
-      subst (λ a. LinesAlong remaining [] s (events_of (λ l. Trimmed l) a) [] t) (sym trims) (NextLine-along (Ok None) n)
+      subst (λ a. LinesAlong remaining [] s (events_of true a) [] t) (sym trims) (NextLine-along (Ok None) n)
   Trims-along (Err e) answer n trims =
-      subst (λ a. LinesAlong remaining [] s (events_of (λ l. Trimmed l) a) [] t) (sym trims) (NextLine-along (Err e) n)
+      subst (λ a. LinesAlong remaining [] s (events_of true a) [] t) (sym trims) (NextLine-along (Err e) n)
 
 -- a call of `skip_line`, or the part of another call that goes on skipping, behind so many bytes of the line
 module _ {S : Type 0} (remaining : S → Option (List ℕ)) (s t : LineState S) (before : List ℕ) (plain : IsLine before)

@@ -1,6 +1,6 @@
 -- What any calls come to, whatever they answer.
-use Rattle.std.specs.Prelude.{◌≡◌, ℕ, ◌+◌, ◌≤◌, List, [], ◌∷◌, ◌++◌, length, true, false, Option, None, Some, Ok, Err}
-use Rattle.std.proofs.Common.{sym, ap, subst, ◌∙◌, arith, refl, inl, inr, append-nil}
+use Rattle.std.specs.Prelude.{◌≡◌, ℕ, ◌+◌, ◌≤◌, List, [], ◌∷◌, ◌++◌, length, Bool, true, false, Option, None, Some, Ok, Err}
+use Rattle.std.proofs.Common.{sym, ap, subst, ◌∙◌, arith, refl, inl, inr}
 use Rattle.std.proofs.lemmas.List.Concat.{flat_map-append}
 use Rattle.std.proofs.lemmas.List.Sums.{sum_by-cons}
 use Rattle.std.specs.List.{flat_map, sum_by}
@@ -9,8 +9,8 @@ use Rattle.piece_reader.specs.PiecesWentLaws.{PiecesWent-none}
 use Rattle.piece_reader.specs.PieceReader.{rest}
 use Rattle.piece_reader.specs.Runs.{AnswerRuns, handed_payload}
 use Rattle.line_reader.specs.declared.error.LineError.TheVariants.{Io}
-use Rattle.line_reader.specs.Calls.{Handed, Trimmed, Skipped, Ended, Nexts, NextsBuffered, NextsTrimmed, Skips, Call, CallGoes, CallsWent, Event, call_asks, call_lines, event_lines, events_of, pending, skipped_count}
-use Rattle.line_reader.specs.CallsLaws.{CutsInto-after, LinesAlong-joins, NextBufferedLine-stays, NextLine-along, Trims-along, skip_fails, skip_last, skip_none, skip_whole}
+use Rattle.line_reader.specs.Calls.{Handed, Skipped, Ended, Nexts, NextsBuffered, NextsTrimmed, Skips, Call, CallGoes, CallsWent, Event, LinesAlong, call_asks, call_lines, event_lines, events_of, pending, skipped_count}
+use Rattle.line_reader.specs.CallsLaws.{CutsInto-after, LinesAlong-joins, LinesAlong-still, NextBufferedLine-along, NextBufferedLine-stays, NextLine-along, Trims-along, skip_fails, skip_last, skip_none, skip_whole}
 use Rattle.line_reader.specs.Lines.{IsLine}
 use Rattle.line_reader.specs.LineReader.{LineState, IsLineReader}
 use Rattle.line_reader.specs.NextLine.{LineAnswer, NextLine, Trims}
@@ -20,22 +20,15 @@ use Rattle.line_reader.specs.SkipLine.{SkipsLine}
 -- lines that were skipped are counted in any part
 skipped_append : (first later : List Event) → skipped_count (first ++ later) ≡ skipped_count first + skipped_count later
 skipped_append [] later = omega arith
-skipped_append (Handed line ∷ first) later = skipped_append first later
-skipped_append (Trimmed shown ∷ first) later = skipped_append first later
+skipped_append (Handed trims shown ∷ first) later = skipped_append first later
 skipped_append (Skipped line ∷ first) later = omega (arith, skipped_append first later)
 skipped_append (Ended ∷ first) later = skipped_append first later
 
-next_lines : (answer : LineAnswer) → (flat_map event_lines (events_of (λ l. Handed l) answer) ≡ handed_payload answer)
-    × (skipped_count (events_of (λ l. Handed l) answer) ≡ 0)
-next_lines (Ok (Some line)) = (refl, refl)
-next_lines (Ok None) = (refl, refl)
-next_lines (Err e) = (refl, refl)
-
-trimmed_lines : (answer : LineAnswer) → (flat_map event_lines (events_of (λ l. Trimmed l) answer) ≡ handed_payload answer)
-    × (skipped_count (events_of (λ l. Trimmed l) answer) ≡ 0)
-trimmed_lines (Ok (Some shown)) = (refl, refl)
-trimmed_lines (Ok None) = (refl, refl)
-trimmed_lines (Err e) = (refl, refl)
+lines_shown : (trims : Bool) (answer : LineAnswer) → (flat_map event_lines (events_of trims answer) ≡ handed_payload answer)
+    × (skipped_count (events_of trims answer) ≡ 0)
+lines_shown trims (Ok (Some shown)) = (refl, refl)
+lines_shown trims (Ok None) = (refl, refl)
+lines_shown trims (Err e) = (refl, refl)
 
 -- where the stream has ended nothing is left, and no line is being skipped
 pub ended_empty : {S : Type 0} (s : LineState S) → IsLineReader s → s.pieces.ended ≡ true
@@ -54,13 +47,8 @@ module _ {S : Type 0} (remaining : S → Option (List ℕ)) where
   CallsWent-none s before plain closed = record {
     events = [];
     after = before;
-    along = record {
-      bytes = [];
-      went = PiecesWent-none remaining (1 + s.pieces.decoder.max) s.pieces;
-      cut = (subst IsLine (sym (append-nil before)) plain, append-nil before);
-      closed = closed;
-      told = λ ended. ended;
-    };
+    along = LinesAlong-still remaining s s before plain closed
+        (PiecesWent-none remaining (1 + s.pieces.decoder.max) s.pieces) (λ ended. ended);
     handed = refl;
     few = omega arith;
   }
@@ -79,25 +67,14 @@ module _ {S : Type 0} (remaining : S → Option (List ℕ)) where
   }
 
   -- one call of `next`, or of `next_trimmed`, where no line is being skipped
-  next_plain : (s t : LineState S) (answer : LineAnswer) → NextOpen remaining s answer t
-      → CallsWent remaining [] s (handed_payload answer) 0 t
-  next_plain s t answer n = record {
-    events = events_of (λ l. Handed l) answer;
+  goes_plain : (trims : Bool) (s t : LineState S) (answer : LineAnswer) → t.skipping ≡ false
+      → LinesAlong remaining [] s (events_of trims answer) [] t → CallsWent remaining [] s (handed_payload answer) 0 t
+  goes_plain trims s t answer open' along = record {
+    events = events_of trims answer;
     after = [];
-    along = NextLine-along remaining s t answer n;
-    handed = (next_lines answer).0;
-    few = omega (arith, (next_lines answer).1, ap pending n.1);
-  }
-
-  trimmed_plain : (s t : LineState S) (whole answer : LineAnswer) → NextOpen remaining s whole t
-      → Trims whole answer t.pieces.ended
-      → CallsWent remaining [] s (handed_payload answer) 0 t
-  trimmed_plain s t whole answer n trims = record {
-    events = events_of (λ l. Trimmed l) answer;
-    after = [];
-    along = Trims-along remaining s t whole answer n trims;
-    handed = (trimmed_lines answer).0;
-    few = omega (arith, (trimmed_lines answer).1, ap pending n.1);
+    along = along;
+    handed = (lines_shown trims answer).0;
+    few = omega (arith, (lines_shown trims answer).1, ap pending open');
   }
 
   module _ (s t : LineState S) (before : List ℕ) (plain : IsLine before) (closed : s.skipping ≡ false → before ≡ [])
@@ -165,15 +142,16 @@ module _ {S : Type 0} (remaining : S → Option (List ℕ)) where
       → IsLine before → (s.skipping ≡ false → before ≡ []) → IsLineReader s
       → CallsWent remaining before s (call_lines call) (call_asks call) t
   CallGoes-went s (Nexts answer) t goes before plain closed whole =
-      skips_first s t before plain closed whole answer (handed_payload answer) (λ m n. next_plain m t answer n)
+      skips_first s t before plain closed whole answer (handed_payload answer)
+      (λ m n. goes_plain false m t answer n.1 (NextLine-along remaining m t answer n))
       (λ e is. ap handed_payload is) goes
   CallGoes-went s (NextsTrimmed answer) t n before plain closed whole =
       skips_first s t before plain closed whole n.whole (handed_payload answer)
-      (λ m line. trimmed_plain m t n.whole answer line n.trims)
+      (λ m line. goes_plain true m t answer line.1 (Trims-along remaining m t n.whole answer line n.trims))
       (λ e is. ap handed_payload (subst (λ w. Trims w answer t.pieces.ended) is n.trims)) n.next
   CallGoes-went s (NextsBuffered (Some line)) t n before plain closed whole =
       subst (λ l. CallsWent remaining l s (line ∷ []) 0 t) (sym (closed n.open'))
-      (next_plain s t (Ok (Some line)) (n.piece.0, n.skipping ∙ n.open'))
+      (goes_plain false s t (Ok (Some line)) (n.skipping ∙ n.open') (NextBufferedLine-along remaining s t line n))
   CallGoes-went s (NextsBuffered None) t n before plain closed whole = record {
     events = [];
     after = before;

@@ -2,8 +2,7 @@
 use Rattle.std.specs.Prelude.{◌≡◌, ℕ, ◌⊎◌, List, [], ◌∷◌, ◌++◌, true, false, Option, Some}
 use Rattle.std.specs.List.{flat_map}
 use Rattle.piece_reader.specs.KnownPieces.{ahead_of}
-use Rattle.piece_reader.specs.Trimming.{IsTrimmed}
-use Rattle.line_reader.specs.Calls.{Handed, Trimmed, Skipped, Ended, Event, event_lines}
+use Rattle.line_reader.specs.Calls.{Handed, Skipped, Ended, Event, Shows, event_lines}
 use Rattle.line_reader.specs.Lines.{HasLines, IsLine}
 use Rattle.line_reader.specs.LineReader.{LineState}
 
@@ -21,10 +20,8 @@ pub record LeavesBehind {S : Type 0} (remaining : S → Option (List ℕ)) (befo
 -- the first of these lines are those of the events, in order, and the others come then; an end is told behind the last alone
 abbrev pub TakesLines : List (List ℕ) → List Event → List (List ℕ) → Type 0
 TakesLines lines [] later = lines ≡ later
-TakesLines lines (Handed line ∷ events) later =
-    (more : List (List ℕ)) × (lines ≡ line ∷ more) × TakesLines more events later
-TakesLines lines (Trimmed shown ∷ events) later =
-    (line : List ℕ) × (more : List (List ℕ)) × (lines ≡ line ∷ more) × (IsTrimmed line shown ⊎ (shown ≡ line))
+TakesLines lines (Handed trims shown ∷ events) later =
+    (line : List ℕ) × (more : List (List ℕ)) × (lines ≡ line ∷ more) × (Shows trims line shown ⊎ (shown ≡ line))
     × TakesLines more events later
 TakesLines lines (Skipped line ∷ events) later =
     (more : List (List ℕ)) × (lines ≡ line ∷ more) × TakesLines more events later

@@ -17,7 +17,7 @@ use Rattle.piece_reader.specs.PieceReader.{IsFresh, rest}
 use Rattle.piece_reader.specs.Runs.{AnswerRuns, handed_payload}
 use Rattle.piece_reader.specs.Trimming.{IsTrimmed}
 use Rattle.line_reader.specs.declared.error.LineError.TheVariants.{TooLong, Io}
-use Rattle.line_reader.specs.Calls.{Handed, Trimmed, Skipped, Ended, Nexts, NextsBuffered, NextsTrimmed, Skips, Call, CallGoes, Event, call_lines, event_lines}
+use Rattle.line_reader.specs.Calls.{Handed, Skipped, Ended, Nexts, NextsBuffered, NextsTrimmed, Skips, Call, CallGoes, Event, call_lines, event_lines}
 use Rattle.line_reader.specs.CallsLaws.{no_line}
 use Rattle.line_reader.specs.KnownCalls.{LeavesBehind, TakesLines, TookFirstLines}
 use Rattle.line_reader.specs.Lines.{HasLines, IsLine, newline, with_newline}
@@ -31,9 +31,7 @@ use Rattle.line_reader.specs.TextLaws.{Lines-first, Lines-last, Lines-none, Line
 TakesLines-joins : (first : List Event) (lines mid : List (List ℕ)) (then : List Event) (later : List (List ℕ))
     → TakesLines lines first mid → TakesLines mid then later → TakesLines lines (first ++ then) later
 TakesLines-joins [] lines mid then later is takes = subst (λ l. TakesLines l then later) (sym is) takes
-TakesLines-joins (Handed line ∷ first) lines mid then later (more, is, more_takes) takes =
-    (more, is, TakesLines-joins first more mid then later more_takes takes)
-TakesLines-joins (Trimmed shown ∷ first) lines mid then later (line, more, is, shows, more_takes) takes =
+TakesLines-joins (Handed trims shown ∷ first) lines mid then later (line, more, is, shows, more_takes) takes =
     (line, more, is, shows, TakesLines-joins first more mid then later more_takes takes)
 TakesLines-joins (Skipped line ∷ first) lines mid then later (more, is, more_takes) takes =
     (more, is, TakesLines-joins first more mid then later more_takes takes)
@@ -201,7 +199,7 @@ module _ {S : Type 0} (remaining : S → Option (List ℕ)) (s t : LineState S) 
   next_takes : (answer : LineAnswer) → NextOpen remaining s answer t → TookFirstLines remaining lines (handed_payload answer) t
   next_takes (Ok (Some line)) n =
       let one = takes_one line n in
-      front remaining lines t (Handed line ∷ []) one.0 [] (one.0, one.1, refl) one.2
+      front remaining lines t (Handed false line ∷ []) one.0 [] (line, one.0, one.1, inr refl, refl) one.2
   next_takes (Ok None) n =
       let a = n.0.answers in
       let end = took_end remaining s t [] lines b n.0.bytes n.0.went [] no_line (λ _. refl) (next_quiet (Ok None) n) a.0 refl
@@ -219,7 +217,7 @@ module _ {S : Type 0} (remaining : S → Option (List ℕ)) (s t : LineState S) 
       → TookFirstLines remaining lines (handed_payload answer) t
   trimmed_takes (Ok (Some line)) (Ok (Some shown)) n trims =
       let one = takes_one line n in
-      front remaining lines t (Trimmed shown ∷ []) one.0 []
+      front remaining lines t (Handed true shown ∷ []) one.0 []
       (line, one.0, one.1, either_shown t.pieces.ended line shown trims, refl) one.2
   trimmed_takes (Ok (Some line)) (Ok None) n trims = absurd trims
   trimmed_takes (Ok (Some line)) (Err e) n trims = absurd trims

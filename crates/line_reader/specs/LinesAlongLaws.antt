@@ -14,7 +14,7 @@ use Rattle.piece_reader.specs.PiecesWentLaws.{PiecesWent-unasked}
 use Rattle.piece_reader.specs.PieceReader.{rest}
 use Rattle.line_reader.specs.declared.error.LineError.{LineError}
 use Rattle.line_reader.specs.declared.error.LineError.TheVariants.{TooLong, Io}
-use Rattle.line_reader.specs.Calls.{Event, LinesAlong, Skipped, Trimmed, events_of}
+use Rattle.line_reader.specs.Calls.{Event, LinesAlong, Skipped, events_of}
 use Rattle.line_reader.specs.CallsLaws.{LinesAlong-joins, NextLine-along, Trims-along, no_line, skip_last, skip_none, skip_whole}
 use Rattle.line_reader.specs.CallsWentLaws.{ended_empty}
 use Rattle.line_reader.specs.Lines.{BeginsTooLong, IsLine, newline, with_newline}
@@ -92,7 +92,7 @@ module _ {S : Type 0} (remaining : S → Option (List ℕ)) (s t : LineState S) 
 
   -- what was taken by one call
   pub NextTrimmed-along : (answer : LineAnswer) → s.skipping ≡ false → NextTrimmed remaining s answer t
-      → LinesAlong remaining [] s (events_of (λ l. Trimmed l) answer) [] t
+      → LinesAlong remaining [] s (events_of true answer) [] t
   NextTrimmed-along answer open' n =
       Trims-along remaining s t n.whole answer (NextLine-open remaining s t n.whole open' n.next) n.trims
 
