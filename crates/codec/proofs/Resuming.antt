@@ -3,11 +3,13 @@ use Rattle.std.proofs.Common.{ℕ, ◌+◌, List, [], ◌++◌, Bool, true, Opti
 use Rattle.std.proofs.Math.Numerals.{add-one}
 use Rattle.std.specs.declared.io.Error.{Error}
 use Rattle.buffer_redux.specs.Faults.{IsInterrupt}
+use Rattle.buffer_redux.specs.Policy.{std_write_rules}
 use Rattle.buffer_redux.specs.StreamLog.{StreamLog}
+use Rattle.buffer_redux.specs.WritesAlongLaws.{FlushedAlong-all}
 use Rattle.piece_reader.specs.Grammar.{Grammar}
 use Rattle.codec.specs.Serving.{Server, Serves, ServingFails}
 use Rattle.codec.specs.ServingAll.{NotInterrupted, Resumes, ServesAll, StopsAll}
-use Rattle.codec.specs.ServingAllLaws.{Exchanged-joins, Exchanged-none, FlushedAlong-all, ServingFails-read}
+use Rattle.codec.specs.ServingAllLaws.{Exchanged-joins, Exchanged-none, ServingFails-read}
 use Rattle.codec.specs.declared.serving.ServeError.{ServeError}
 use Rattle.codec.specs.declared.serving.ServeError.TheVariants.{Read}
 use Rattle.codec.specs.declared.serving.Served.{Served}
@@ -61,7 +63,7 @@ module _ {S D W I A F T P : Type 0} (remaining : S → Option (List ℕ)) (tells
           exchanges = f.ends.exchanges ++ r.exchanges;
           more = f.ends.more;
           exchanged = all;
-          flushed = FlushedAlong-all tells trace s.answers t.answers _ all.along f.all.empty f.all.flushed;
+          flushed = FlushedAlong-all tells trace std_write_rules joins s.answers t.answers _ all.along f.all.empty f.all.flushed;
           count = count;
           between = m;
           resumes = r;

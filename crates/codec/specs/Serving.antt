@@ -98,6 +98,12 @@ module _ {S D W I A T P : Type 0} (remaining : S → Option (List ℕ)) (tells :
   Talked s [] more t = (s ≡ t) × (more ≡ true)
   Talked s (x ∷ earlier) more t = (m : Server S D A T P) × Talked s earlier true m × TookPiece m x more t
 
+  -- just these pieces were taken, each was answered, and just the answers were written; the latest is first
+  pub record Exchanged (s : Server S D A T P) (exchanges : List Exchange) (more : Bool) (t : Server S D A T P) : Type 0 where
+    pub taken : PiecesWent remaining g.most s.pieces (joined_parts (λ x. x.bytes) exchanges) t.pieces
+    pub service : Converses item_of Answers s.service exchanges more t.service
+    pub along : WritesAlong tells trace std_write_rules s.answers (joined_parts (λ x. x.reply) exchanges) t.answers
+
   -- how they ended
   abbrev pub EndedBy : Served → List Exchange → Bool → Server S D A T P → Server S D A T P → Type 0
   EndedBy served.Closed exchanges more s t = (more ≡ false) × (s ≡ t)
@@ -152,6 +158,4 @@ module _ {S D W I A T P : Type 0} (remaining : S → Option (List ℕ)) (tells :
       pub last : Server S D A T P
       pub talked : Talked s exchanges more last
       pub fails : FailedBy e exchanges more last t
-      pub taken : PiecesWent remaining g.most s.pieces (joined_parts (λ x. x.bytes) exchanges) last.pieces
-      pub service : Converses item_of Answers s.service exchanges more last.service
-      pub along : WritesAlong tells trace std_write_rules s.answers (joined_parts (λ x. x.reply) exchanges) last.answers
+      pub exchanged : Exchanged s exchanges more last

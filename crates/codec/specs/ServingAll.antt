@@ -2,14 +2,13 @@
 use Rattle.std.specs.Prelude.{◌≡◌, ℕ, ◌+◌, ◌^◌, ◌≤◌, ◌⊎◌, List, ◌++◌, Bool, true, Option, IfErr}
 use Rattle.std.specs.declared.io.ErrorKind.TheVariants.{TimedOut}
 use Rattle.std.specs.IoError.{error_kind}
-use Rattle.buffer_redux.specs.BufWriter.{FlushedAlong, WritesAlong}
+use Rattle.buffer_redux.specs.BufWriter.{FlushedAlong}
 use Rattle.buffer_redux.specs.Faults.{IsInterrupt}
 use Rattle.buffer_redux.specs.Policy.{std_write_rules}
 use Rattle.buffer_redux.specs.Retried.{InterruptedSteps, Step}
 use Rattle.buffer_redux.specs.StreamLog.{StreamLog}
 use Rattle.piece_reader.specs.Grammar.{Grammar}
-use Rattle.piece_reader.specs.NextPiece.{PiecesWent}
-use Rattle.codec.specs.Serving.{Converses, Exchange, FailedBy, Server, Serves, ServingFails, joined_parts}
+use Rattle.codec.specs.Serving.{Exchange, Exchanged, FailedBy, Server, Serves, ServingFails, joined_parts}
 use Rattle.codec.specs.declared.serving.ServeError.{ServeError}
 use Rattle.codec.specs.declared.serving.ServeError.TheVariants.{Read}
 use Rattle.codec.specs.declared.serving.Served.{Served}
@@ -26,12 +25,6 @@ IsTimeout e = ⊥
 
 module _ {S D W I A T P : Type 0} (remaining : S → Option (List ℕ)) (tells : T → StreamLog) (trace : T → T → Type 0)
     (g : Grammar W) (item_of : List ℕ → I) (Answers : A → I → List ℕ → List ℕ → Bool → A → Type 0) where
-  -- just these pieces were taken, each was answered, and just the answers were written; the latest is first
-  pub record Exchanged (s : Server S D A T P) (exchanges : List Exchange) (more : Bool) (t : Server S D A T P) : Type 0 where
-    pub taken : PiecesWent remaining g.most s.pieces (joined_parts (λ x. x.bytes) exchanges) t.pieces
-    pub service : Converses item_of Answers s.service exchanges more t.service
-    pub along : WritesAlong tells trace std_write_rules s.answers (joined_parts (λ x. x.reply) exchanges) t.answers
-
   module _ {F : Type 0} (Fails : A → I → List ℕ → F → A → Type 0) where
     -- serving stopped since a read failed
     abbrev pub ReadStops : Step (Server S D A T P) Served
@@ -40,14 +33,14 @@ module _ {S D W I A T P : Type 0} (remaining : S → Option (List ℕ)) (tells :
     -- so many reads were interrupted, and each time serving went on
     pub record Resumes (count : ℕ) (s t : Server S D A T P) : Type 0 where
       pub exchanges : List Exchange
-      pub exchanged : Exchanged s exchanges true t
+      pub exchanged : Exchanged remaining tells trace g item_of Answers s exchanges true t
       pub interrupted : InterruptedSteps ReadStops count s t
 
     -- all exchanges up to an end, whose answers were all received and flushed
     pub record ServesAll (s : Server S D A T P) (ended : Served) (t : Server S D A T P) : Type 0 where
       pub exchanges : List Exchange
       pub more : Bool
-      pub exchanged : Exchanged s exchanges more t
+      pub exchanged : Exchanged remaining tells trace g item_of Answers s exchanges more t
       pub flushed : FlushedAlong tells trace std_write_rules s.answers (joined_parts (λ x. x.reply) exchanges) t.answers
       pub count : ℕ
       pub between : Server S D A T P
@@ -67,6 +60,6 @@ module _ {S D W I A T P : Type 0} (remaining : S → Option (List ℕ)) (tells :
       pub exchanges : List Exchange
       pub more : Bool
       pub last : Server S D A T P
-      pub exchanged : Exchanged s exchanges more last
+      pub exchanged : Exchanged remaining tells trace g item_of Answers s exchanges more last
       pub fails : ((latest earlier : List Exchange) × (exchanges ≡ latest ++ earlier)
           × FailedBy remaining tells trace g item_of Answers Fails e latest more last t) ⊎ ((last ≡ t) × IsTimeout e)

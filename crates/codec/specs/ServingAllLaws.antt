@@ -2,17 +2,15 @@
 use Rattle.std.specs.Prelude.{◌≡◌, ℕ, ◌⊎◌, List, [], ◌∷◌, ◌++◌, length, Bool, true, false, Option, Ok}
 use Rattle.std.specs.declared.io.Error.{Error}
 use Rattle.std.proofs.Common.{ap, append-nil, append_assoc, inl, inr, refl, subst, sym, ◌∙◌, arith, length-append}
-use Rattle.buffer_redux.specs.Buffered.{Buffered}
 use Rattle.buffer_redux.specs.BufWriter.{FlushedAlong, WasFlushed, WritesAlong}
 use Rattle.buffer_redux.specs.Policy.{std_write_rules}
 use Rattle.buffer_redux.specs.StreamLog.{StreamLog}
-use Rattle.buffer_redux.specs.WriterLaws.{WritesInOrder-contents}
-use Rattle.buffer_redux.specs.WritesAlongLaws.{WasFlushed-along, WritesAlong-joins, WritesAlong-none, WritesAlong-then}
+use Rattle.buffer_redux.specs.WritesAlongLaws.{FlushedAlong-all, WasFlushed-along, WritesAlong-joins, WritesAlong-none, WritesAlong-then}
 use Rattle.piece_reader.specs.Grammar.{Grammar}
 use Rattle.piece_reader.specs.NextPiece.{PiecesWent}
 use Rattle.piece_reader.specs.PiecesWentLaws.{PiecesWent-joins, PiecesWent-none}
-use Rattle.codec.specs.Serving.{Converses, Exchange, Opens, Server, ServingFails, joined_parts}
-use Rattle.codec.specs.ServingAll.{Exchanged, FailsBehind, StopsAll}
+use Rattle.codec.specs.Serving.{Converses, Exchange, Exchanged, Opens, Server, ServingFails, joined_parts}
+use Rattle.codec.specs.ServingAll.{FailsBehind, StopsAll}
 use Rattle.codec.specs.declared.serving.ServeError.{ServeError}
 use Rattle.codec.specs.declared.serving.ServeError.TheVariants.{Read}
 
@@ -93,18 +91,6 @@ module _ {A I : Type 0} (item_of : List ℕ → I) (Answers : A → I → List �
         ]))
       ]
 
--- what was accepted over several calls was flushed by the last
-pub FlushedAlong-all : {T P : Type 0} (tells : T → StreamLog) (trace : T → T → Type 0) (s t : Buffered T P) (a : List ℕ)
-    → WritesAlong tells trace std_write_rules s a t → t.block.bytes ≡ [] → t.log.writes.flushed ≡ t.log.writes.received
-    → FlushedAlong tells trace std_write_rules s a t
-FlushedAlong-all tells trace s t a along empty flushed = record {
-  along = along;
-  empty = empty;
-  received = sym (append-nil t.log.writes.received) ∙ ap (λ l. t.log.writes.received ++ l) (sym empty)
-      ∙ WritesInOrder-contents s t a along.in_order ∙ append_assoc s.log.writes.received s.block.bytes a;
-  flushed = flushed;
-}
-
 module _ {S D W I A T P : Type 0} (remaining : S → Option (List ℕ)) (tells : T → StreamLog) (trace : T → T → Type 0)
     (g : Grammar W) (item_of : List ℕ → I) (Answers : A → I → List ℕ → List ℕ → Bool → A → Type 0) where
   pub Exchanged-none : ((u : T) → trace u u) → (s : Server S D A T P)
@@ -149,20 +135,20 @@ module _ {S D W I A T P : Type 0} (remaining : S → Option (List ℕ)) (tells :
       ] in
       let along : WritesAlong tells trace std_write_rules s.answers (joined_parts (λ x. x.reply) f.exchanges) t.answers =
       WritesAlong-then tells trace std_write_rules joins s.answers f.last.answers t.answers
-      (joined_parts (λ x. x.reply) f.exchanges) f.along
+      (joined_parts (λ x. x.reply) f.exchanges) f.exchanged.along
       (WasFlushed-along tells trace std_write_rules f.last.answers (Ok tt) t.answers flushed) in (
         record {
           taken = subst (λ l. PiecesWent remaining g.most s.pieces l t.pieces)
               (ap (λ l. joined_parts (λ x. x.bytes) f.exchanges ++ l) next.answers.0
               ∙ append-nil (joined_parts (λ x. x.bytes) f.exchanges))
               (PiecesWent-joins remaining g.most s.pieces f.last.pieces t.pieces (joined_parts (λ x. x.bytes) f.exchanges)
-              next.bytes f.taken next.went);
+              next.bytes f.exchanged.taken next.went);
           service = subst (λ b. Converses item_of Answers s.service f.exchanges b t.service) f.fails.0
-              (subst (λ x. Converses item_of Answers s.service f.exchanges f.more x) (sym none.service) f.service);
+              (subst (λ x. Converses item_of Answers s.service f.exchanges f.more x) (sym none.service) f.exchanged.service);
           along = along;
         },
-        FlushedAlong-all tells trace s.answers t.answers (joined_parts (λ x. x.reply) f.exchanges) along flushed.ok.empty
-            flushed.ok.flushed,
+        FlushedAlong-all tells trace std_write_rules joins s.answers t.answers (joined_parts (λ x. x.reply) f.exchanges) along
+            flushed.ok.empty flushed.ok.flushed,
       )
 
   -- of a failure behind several calls: all exchanges, and what failed behind them
@@ -176,7 +162,7 @@ module _ {S D W I A T P : Type 0} (remaining : S → Option (List ℕ)) (tells :
       more = stops.more;
       last = stops.last;
       exchanged = Exchanged-joins joins s f.between stops.last f.resumes.exchanges stops.exchanges stops.more
-          f.resumes.exchanged (record { taken = stops.taken; service = stops.service; along = stops.along });
+          f.resumes.exchanged stops.exchanged;
       fails = inl (stops.exchanges, f.resumes.exchanges, refl, stops.fails);
     }
     | inr (same, many, gave_up) ↦ record {

@@ -1,5 +1,5 @@
 -- Laws of a server's turns.
-use Rattle.std.specs.Prelude.{◌≡◌, ℕ, List, [], ◌∷◌, ◌++◌, Bool, true, Option, Ok, Err}
+use Rattle.std.specs.Prelude.{◌≡◌, ℕ, List, [], ◌∷◌, ◌++◌, Bool, true, Option, Some, Ok, Err}
 use Rattle.std.specs.declared.io.Error.{Error}
 use Rattle.std.proofs.Common.{ap, append-nil, inl, inr, refl, subst, sym}
 use Rattle.buffer_redux.specs.Buffered.{Buffered}
@@ -7,14 +7,15 @@ use Rattle.buffer_redux.specs.BufWriter.{WasFlushed, WritesAlong}
 use Rattle.buffer_redux.specs.Policy.{std_write_rules}
 use Rattle.buffer_redux.specs.StreamLog.{StreamLog}
 use Rattle.buffer_redux.specs.WritesAlongLaws.{FlushedAlong-of, WasFlushed-along, WritesAlong-joins, WritesAlong-none, WritesAlong-then}
+use Rattle.piece_reader.specs.declared.error.NextError.TheVariants as next
 use Rattle.codec.specs.AnsweringLaws.{WritesOnce-along}
 use Rattle.codec.specs.Fetching.{FlushedFirst}
 use Rattle.piece_reader.specs.Grammar.{Grammar}
-use Rattle.piece_reader.specs.NextPiece.{PiecesWent}
+use Rattle.piece_reader.specs.NextPiece.{NextAnswer, PiecesWent}
 use Rattle.piece_reader.specs.PiecesWentLaws.{PiecesWent-joins, PiecesWent-none}
 use Rattle.piece_reader.specs.PieceReader.{ReaderState}
 use Rattle.piece_reader.specs.StaysLeftLaws.{StaysLeft-went}
-use Rattle.codec.specs.Serving.{Converses, EndedBy, Exchange, FailedBy, Server, Serves, ServesTurn, ServingEnds, ServingFails, Talked, joined_parts, server}
+use Rattle.codec.specs.Serving.{Converses, EndedBy, Exchange, Exchanged, FailedBy, Fetched, Server, Serves, ServesTurn, ServingEnds, ServingFails, Talked, joined_parts, server}
 use Rattle.codec.specs.declared.serving.ServeError.{ServeError}
 use Rattle.codec.specs.declared.serving.ServeError.TheVariants.{Failed, Flush, Read, Write, Wrong}
 use Rattle.codec.specs.declared.serving.Served.{Served}
@@ -36,25 +37,6 @@ module _ {S D W I A F T P : Type 0} (remaining : S → Option (List ℕ)) (tells
 module _ {S D W I A T P : Type 0} (remaining : S → Option (List ℕ)) (tells : T → StreamLog) (trace : T → T → Type 0)
     (g : Grammar W) (item_of : List ℕ → I) (Answers : A → I → List ℕ → List ℕ → Bool → A → Type 0)
     (s : Server S D A T P) where
-  -- what was talked took whole pieces
-  pub Talked-taken : (exchanges : List Exchange) (more : Bool) (t : Server S D A T P)
-      → Talked remaining tells trace g item_of Answers s exchanges more t
-      → PiecesWent remaining g.most s.pieces (joined_parts (λ x. x.bytes) exchanges) t.pieces
-  Talked-taken [] more t (same, is) = subst (λ t. PiecesWent remaining g.most s.pieces [] t.pieces) same
-      (PiecesWent-none remaining g.most s.pieces)
-  Talked-taken (x ∷ earlier) more t (m, talked, took) =
-      PiecesWent-joins remaining g.most s.pieces m.pieces t.pieces (joined_parts (λ x. x.bytes) earlier) x.bytes
-      (Talked-taken earlier true m talked)
-      (subst (λ l. PiecesWent remaining g.most m.pieces l t.pieces) took.all took.fetched.next.went)
-
-  -- answered each
-  pub Talked-answers : (exchanges : List Exchange) (more : Bool) (t : Server S D A T P)
-      → Talked remaining tells trace g item_of Answers s exchanges more t
-      → Converses item_of Answers s.service exchanges more t.service
-  Talked-answers [] more t (same, is) = (ap (λ x. x.service) same, is)
-  Talked-answers (x ∷ earlier) more t (m, talked, took) =
-      (m.service, Talked-answers earlier true m talked, took.answers)
-
   module _ (none : (u : T) → trace u u) where
     -- a flush where need be accepts nothing
     pub first_along : (p : ReaderState S D) (w : Buffered T P) (t : ReaderState S D) (ready : Buffered T P)
@@ -65,20 +47,31 @@ module _ {S D W I A T P : Type 0} (remaining : S → Option (List ℕ)) (tells :
       | inr flushed ↦ WasFlushed-along tells trace std_write_rules w (Ok tt) ready flushed.1
     ]
 
-    -- exchanges wrote just their answers
-    pub Talked-along : ((u v w : T) → trace u v → trace v w → trace u w) → (exchanges : List Exchange) (more : Bool)
-        (t : Server S D A T P) → Talked remaining tells trace g item_of Answers s exchanges more t
-        → WritesAlong tells trace std_write_rules s.answers (joined_parts (λ x. x.reply) exchanges) t.answers
-    Talked-along joins [] more t (same, is) = subst (λ t. WritesAlong tells trace std_write_rules s.answers [] t.answers) same
-        (WritesAlong-none tells trace std_write_rules none s.answers)
-    Talked-along joins (x ∷ earlier) more t (m, talked, took) =
-        WritesAlong-joins tells trace std_write_rules joins s.answers took.ready t.answers (joined_parts (λ x. x.reply) earlier)
-        x.reply (WritesAlong-then tells trace std_write_rules joins s.answers m.answers took.ready
-        (joined_parts (λ x. x.reply) earlier) (Talked-along joins earlier true m talked)
-        (first_along m.pieces m.answers t.pieces took.ready took.fetched.first))
-        (WritesOnce-along tells trace took.ready t.answers none x.reply took.written)
-
     module _ (joins : (u v w : T) → trace u v → trace v w → trace u w) where
+      -- what was talked took whole pieces, answered each, and wrote just the answers
+      pub Talked-exchanged : (exchanges : List Exchange) (more : Bool) (t : Server S D A T P)
+          → Talked remaining tells trace g item_of Answers s exchanges more t
+          → Exchanged remaining tells trace g item_of Answers s exchanges more t
+      Talked-exchanged [] more t (same, is) = subst (λ t. Exchanged remaining tells trace g item_of Answers s [] more t) same
+          (record {
+            taken = PiecesWent-none remaining g.most s.pieces;
+            service = (refl, is);
+            along = WritesAlong-none tells trace std_write_rules none s.answers;
+          })
+      Talked-exchanged (x ∷ earlier) more t (m, talked, took) =
+          let before = Talked-exchanged earlier true m talked in
+          record {
+            taken = PiecesWent-joins remaining g.most s.pieces m.pieces t.pieces (joined_parts (λ x. x.bytes) earlier) x.bytes
+                before.taken (subst (λ l. PiecesWent remaining g.most m.pieces l t.pieces) took.all took.fetched.next.went);
+            service = (m.service, before.service, took.answers);
+            along = WritesAlong-joins tells trace std_write_rules joins s.answers took.ready t.answers
+                (joined_parts (λ x. x.reply) earlier) x.reply
+                (WritesAlong-then tells trace std_write_rules joins s.answers m.answers took.ready
+                (joined_parts (λ x. x.reply) earlier) before.along
+                (first_along m.pieces m.answers t.pieces took.ready took.fetched.first))
+                (WritesOnce-along tells trace took.ready t.answers none x.reply took.written);
+          }
+
       still : (m t : Server S D A T P) → m ≡ t → PiecesWent remaining g.most m.pieces [] t.pieces × (t.service ≡ m.service)
           × WritesAlong tells trace std_write_rules m.answers [] t.answers
       still m t same = (
@@ -108,6 +101,9 @@ module _ {S D W I A T P : Type 0} (remaining : S → Option (List ℕ)) (tells :
             × WritesAlong tells trace std_write_rules ends.last.answers [] t.answers
         so = ends_so by ends.exchanges ends.more ends.last t ends.ends
 
+        talked : Exchanged remaining tells trace g item_of Answers s ends.exchanges ends.more ends.last
+        talked = Talked-exchanged ends.exchanges ends.more ends.last ends.talked
+
         pub ServingEnds-served : WasFlushed tells trace t.answers (Ok tt) v
             → Serves remaining tells trace g item_of Answers s by (server t.pieces t.service v)
         ServingEnds-served flushed = record {
@@ -116,15 +112,12 @@ module _ {S D W I A T P : Type 0} (remaining : S → Option (List ℕ)) (tells :
           last = flushed;
           taken = subst (λ l. PiecesWent remaining g.most s.pieces l t.pieces) (append-nil _)
               (PiecesWent-joins remaining g.most s.pieces ends.last.pieces t.pieces
-              (joined_parts (λ x. x.bytes) ends.exchanges) []
-              (Talked-taken ends.exchanges ends.more ends.last ends.talked) so.0);
-          service = subst (λ b. Converses item_of Answers s.service ends.exchanges ends.more b) (sym so.1)
-              (Talked-answers ends.exchanges ends.more ends.last ends.talked);
+              (joined_parts (λ x. x.bytes) ends.exchanges) [] talked.taken so.0);
+          service = subst (λ b. Converses item_of Answers s.service ends.exchanges ends.more b) (sym so.1) talked.service;
           all = FlushedAlong-of tells trace std_write_rules joins s.answers t.answers v
               (joined_parts (λ x. x.reply) ends.exchanges)
               tt (WritesAlong-then tells trace std_write_rules joins s.answers ends.last.answers t.answers
-              (joined_parts (λ x. x.reply) ends.exchanges)
-              (Talked-along joins ends.exchanges ends.more ends.last ends.talked) so.2)
+              (joined_parts (λ x. x.reply) ends.exchanges) talked.along so.2)
               flushed;
         }
 
@@ -140,43 +133,13 @@ module _ {S D W I A T P : Type 0} (remaining : S → Option (List ℕ)) (tells :
           last = m;
           talked = talked;
           fails = fails;
-          taken = Talked-taken exchanges more m talked;
-          service = Talked-answers exchanges more m talked;
-          along = Talked-along joins exchanges more m talked;
+          exchanged = Talked-exchanged exchanges more m talked;
         }
 
-        -- what a turn that failed took: a piece that wasn't answered, or nothing; and nothing was written
-        turn_failed : (m t : Server S D A T P) (e : ServeError W F)
-            → ServesTurn remaining tells trace g item_of Answers Fails m (Err e) t
-            → (unanswered : List ℕ) × PiecesWent remaining g.most m.pieces unanswered t.pieces
+        -- what failed took a piece that wasn't answered, or nothing; and nothing was written
+        abbrev TookLast : Server S D A T P → Server S D A T P → Type 0
+        TookLast m t = (unanswered : List ℕ) × PiecesWent remaining g.most m.pieces unanswered t.pieces
             × WritesAlong tells trace std_write_rules m.answers [] t.answers
-        turn_failed m t (Read e) took = (
-          took.fetched.next.bytes,
-          took.fetched.next.went,
-          first_along m.pieces m.answers t.pieces t.answers took.fetched.first,
-        )
-        turn_failed m t (Wrong e) took = (
-          took.fetched.next.bytes,
-          took.fetched.next.went,
-          first_along m.pieces m.answers t.pieces t.answers took.fetched.first,
-        )
-        turn_failed m t (Write e) (inl failed) = (
-          [],
-          StaysLeft-went remaining g m.pieces t.pieces failed.first.2,
-          WasFlushed-along tells trace std_write_rules m.answers (Err e) t.answers failed.first.1,
-        )
-        turn_failed m t (Write e) (inr (x, failed)) = (
-          failed.fetched.next.bytes,
-          failed.fetched.next.went,
-          WritesAlong-then tells trace std_write_rules joins m.answers failed.ready t.answers []
-              (first_along m.pieces m.answers t.pieces failed.ready failed.fetched.first) failed.written.along,
-        )
-        turn_failed m t (Failed why) failed = (
-          failed.fetched.next.bytes,
-          failed.fetched.next.went,
-          first_along m.pieces m.answers t.pieces t.answers failed.fetched.first,
-        )
-        turn_failed m t (Flush ended e) turn = absurd turn
 
         -- whatever failed, of all that was taken at most the last piece wasn't answered, and just the answers were written
         pub ServingFails-went : (e : ServeError W F) (t : Server S D A T P)
@@ -187,19 +150,32 @@ module _ {S D W I A T P : Type 0} (remaining : S → Option (List ℕ)) (tells :
             let last = behind e f.exchanges f.more f.last t f.fails in (
               last.0,
               PiecesWent-joins remaining g.most s.pieces f.last.pieces t.pieces (joined_parts (λ x. x.bytes) f.exchanges) last.0
-                  f.taken last.1,
+                  f.exchanged.taken last.1,
               WritesAlong-then tells trace std_write_rules joins s.answers f.last.answers t.answers
-                  (joined_parts (λ x. x.reply) f.exchanges) f.along last.2,
+                  (joined_parts (λ x. x.reply) f.exchanges) f.exchanged.along last.2,
             )
           where
+            unanswered : (answer : NextAnswer W) (m t : Server S D A T P)
+                → Fetched remaining tells trace g item_of Answers m answer t.answers t.pieces → TookLast m t
+            unanswered answer m t fetched =
+                (fetched.next.bytes, fetched.next.went, first_along m.pieces m.answers t.pieces t.answers fetched.first)
+
             behind : (e : ServeError W F) (exchanges : List Exchange) (more : Bool) (m t : Server S D A T P)
-                → FailedBy remaining tells trace g item_of Answers Fails e exchanges more m t
-                → (unanswered : List ℕ) × PiecesWent remaining g.most m.pieces unanswered t.pieces
-                × WritesAlong tells trace std_write_rules m.answers [] t.answers
-            behind (Read e) exchanges more m t (is, turn) = turn_failed m t (Read e) turn
-            behind (Wrong e) exchanges more m t (is, turn) = turn_failed m t (Wrong e) turn
-            behind (Write e) exchanges more m t (is, turn) = turn_failed m t (Write e) turn
-            behind (Failed why) exchanges more m t (is, turn) = turn_failed m t (Failed why) turn
+                → FailedBy remaining tells trace g item_of Answers Fails e exchanges more m t → TookLast m t
+            behind (Read e) exchanges more m t (is, took) = unanswered (Err (next.Io e)) m t took.fetched
+            behind (Wrong e) exchanges more m t (is, took) = unanswered (Err (next.Wrong e)) m t took.fetched
+            behind (Write e) exchanges more m t (is, inl failed) = (
+              [],
+              StaysLeft-went remaining g m.pieces t.pieces failed.first.2,
+              WasFlushed-along tells trace std_write_rules m.answers (Err e) t.answers failed.first.1,
+            )
+            behind (Write e) exchanges more m t (is, inr (x, failed)) = (
+              failed.fetched.next.bytes,
+              failed.fetched.next.went,
+              WritesAlong-then tells trace std_write_rules joins m.answers failed.ready t.answers []
+                  (first_along m.pieces m.answers t.pieces failed.ready failed.fetched.first) failed.written.along,
+            )
+            behind (Failed why) exchanges more m t (is, failed) = unanswered (Ok (Some failed.payload)) m t failed.fetched
             behind (Flush ended e) exchanges more m t (n, by, pieces, service, flushed) =
                 let so = ends_so ended exchanges more m n by in (
                   [],

@@ -1,51 +1,34 @@
 -- What the service is given is the payload and the item of the piece that the fetch handed out.
 use Rattle.std.proofs.Common.{Ok, ap, inl, refl, ◌∙◌}
-use Rattle.codec.specs.Serving.{server}
 use Rattle.codec.proofs.Turning.{answer_failed, service_failed, took_piece}
 use Rattle.codec.proofs.serving.turn.Goals as goal
 
 pub returns-in-Ok-true : goal.returns-in-Ok-true
 returns-in-Ok-true g c =
     let said = c.in-Ok-Ok-Some.is ∙ ap (λ x. Ok x) (c.in-Ok-Ok-Some.field-0-is ∙ ap (λ x. Ok x) c.in-Ok-Ok-Some.field-0-0-is) in
-    let r = c.args.reader.now in
-    took_piece g.R.TellRead.remaining g.W.Tell.log g.W.TellWrite.trace (g.D.Decoder.grammar r.decoder)
-    (g.D.Items.item_of r.decoder) g.S.Service.answers g.S.Service.fails (server r c.args.service.now c.args.writer.now)
-    c.fetch_item.new.reader c.fetch_item.new.writer c.fetch_item.result _ said c.fetch_item.ensures.next
-    c.fetch_item.ensures.first c.lent.result.now
-    c.lent.ensures c.answer.new.self c.answer.new.writer c.in-Ok-true.field-0 _ c.in-Ok-true.field-0-test
+    took_piece _ _ _ _ _ _ g.S.Service.fails _ _ c.fetch_item.new.writer c.fetch_item.result _ said c.fetch_item.ensures.next
+    c.fetch_item.ensures.first _ c.lent.ensures _ _ c.in-Ok-true.field-0 _ c.in-Ok-true.field-0-test
     c.in-Ok-true.ensures
 
 pub returns-in-Ok-false : goal.returns-in-Ok-false
 returns-in-Ok-false g c =
     let said = c.in-Ok-Ok-Some.is ∙ ap (λ x. Ok x) (c.in-Ok-Ok-Some.field-0-is ∙ ap (λ x. Ok x) c.in-Ok-Ok-Some.field-0-0-is) in
-    let r = c.args.reader.now in
-    took_piece g.R.TellRead.remaining g.W.Tell.log g.W.TellWrite.trace (g.D.Decoder.grammar r.decoder)
-    (g.D.Items.item_of r.decoder) g.S.Service.answers g.S.Service.fails (server r c.args.service.now c.args.writer.now)
-    c.fetch_item.new.reader c.fetch_item.new.writer c.fetch_item.result _ said c.fetch_item.ensures.next
-    c.fetch_item.ensures.first c.lent.result.now
-    c.lent.ensures c.answer.new.self c.answer.new.writer c.in-Ok-false.field-0 _ c.in-Ok-false.field-0-test
+    took_piece _ _ _ _ _ _ g.S.Service.fails _ _ c.fetch_item.new.writer c.fetch_item.result _ said c.fetch_item.ensures.next
+    c.fetch_item.ensures.first _ c.lent.ensures _ _ c.in-Ok-false.field-0 _ c.in-Ok-false.field-0-test
     c.in-Ok-false.ensures
 
 pub returns-in-Err-Write : goal.returns-in-Err-Write
 returns-in-Err-Write g c =
     let said = c.in-Ok-Ok-Some.is ∙ ap (λ x. Ok x) (c.in-Ok-Ok-Some.field-0-is ∙ ap (λ x. Ok x) c.in-Ok-Ok-Some.field-0-0-is) in
-    let r = c.args.reader.now in
-    answer_failed g.R.TellRead.remaining g.W.Tell.log g.W.TellWrite.trace (g.D.Decoder.grammar r.decoder)
-    (g.D.Items.item_of r.decoder) g.S.Service.answers g.S.Service.fails (server r c.args.service.now c.args.writer.now)
-    c.fetch_item.new.reader c.fetch_item.new.writer c.fetch_item.result _ said c.fetch_item.ensures.next
-    c.fetch_item.ensures.first c.lent.result.now
-    c.lent.ensures c.answer.new.self c.answer.new.writer _ c.in-Err-Write.e c.in-Err-Write.field-0-is
+    answer_failed _ _ _ _ _ _ g.S.Service.fails _ _ c.fetch_item.new.writer c.fetch_item.result _ said c.fetch_item.ensures.next
+    c.fetch_item.ensures.first _ c.lent.ensures _ _ _ c.in-Err-Write.e c.in-Err-Write.field-0-is
     c.in-Err-Write.ensures
 
 pub returns-in-Err-Failed : goal.returns-in-Err-Failed
 returns-in-Err-Failed g c =
     let said = c.in-Ok-Ok-Some.is ∙ ap (λ x. Ok x) (c.in-Ok-Ok-Some.field-0-is ∙ ap (λ x. Ok x) c.in-Ok-Ok-Some.field-0-0-is) in
-    let r = c.args.reader.now in
-    service_failed g.R.TellRead.remaining g.W.Tell.log g.W.TellWrite.trace (g.D.Decoder.grammar r.decoder)
-    (g.D.Items.item_of r.decoder) g.S.Service.answers g.S.Service.fails (server r c.args.service.now c.args.writer.now)
-    c.fetch_item.new.reader c.fetch_item.new.writer c.fetch_item.result _ said c.fetch_item.ensures.next
-    c.fetch_item.ensures.first c.lent.result.now
-    c.lent.ensures c.answer.new.self c.answer.new.writer _ c.in-Err-Failed.why c.in-Err-Failed.field-0-is
+    service_failed _ _ _ _ _ _ g.S.Service.fails _ _ c.fetch_item.new.writer c.fetch_item.result _ said c.fetch_item.ensures.next
+    c.fetch_item.ensures.first _ c.lent.ensures _ _ _ c.in-Err-Failed.why c.in-Err-Failed.field-0-is
     c.in-Err-Failed.ensures
 
 pub returns-in-Err : goal.returns-in-Err
