@@ -56,6 +56,11 @@ def of_packets(label, shape):
     return [shape, *label.split(", "), "8388608"]
 
 
+def of_texts(label, shape):
+    length, capacity = label.split(", ")
+    return [shape, capacity, length, "8388608"]
+
+
 def of_heads(label, shape):
     return [shape, *label.split(", "), "262144"]
 
@@ -78,6 +83,10 @@ TABLES = {
         ["plain frames", "rust frames", "plain write_frames", "rust write_frames", "time frames", "time write_frames"],
     ),
     "| Chunks of | read_payload |": (of_length, ["plain bodies", "rust bodies", "time bodies"]),
+    "| Texts of, through |": (
+        of_texts,
+        ["plain read_parts", "rust read_parts", "plain fill_parts", "rust fill_parts", "time read_parts", "time fill_parts"],
+    ),
     "| Heads of, bytes a read |": (of_heads, ["plain heads"]),
     "| Chunks of | write_all |": (of_length, ["plain write_bodies", "rust write_bodies", "time write_bodies"]),
     "| Capacity, bytes a read |": (of_packets, ["plain packets", "ring packets"]),

@@ -1,7 +1,8 @@
 //! The cases of `crates/bench` over the types of Rust's std: `std SHAPE CAPACITY PIECE TOTAL TURNS`, the first three numbers in
 //! bytes. It goes over the same bytes so many times, and prints how many went over in one. Its loops are those of `crates/bench`:
-//! where one there has a bound, so that it ends, the one here counts too.
+//! where one there has a bound, so that it ends, the one here counts too. `std get` does what bench/parts.py asks.
 mod calls;
+mod parts;
 
 use std::hint::black_box;
 use std::io::{self, BufRead, BufReader, BufWriter, LineWriter, Read, Write};
@@ -360,6 +361,7 @@ fn measured(shape: &str, capacity: usize, piece: usize, bytes: &[u8]) -> io::Res
         "format_lines" => format_often(lines(capacity), bytes.len() as u64),
         "next" => until_end(BufReader::new(Packets { left: bytes, most: piece })),
         "next_trimmed" => lines_to_end(BufReader::new(Packets { left: bytes, most: piece })),
+        "read_parts" | "fill_parts" => parts::parts(shape, reader()),
         "frames" => frames_to_end(Frames { inner: reader(), payload: vec![0; 1024], lent: 0 }),
         "bodies" => body_to_end(Chunks { inner: reader(), line: Vec::new(), left: 0, first: true }),
         "write_bodies" => write_body(writer(capacity), &bytes[..piece], bytes.len() as u64),
@@ -407,6 +409,9 @@ fn main() -> io::Result<()> {
     let [shape, numbers @ ..] = words.as_slice() else {
         return Err(io::ErrorKind::InvalidInput.into());
     };
+    if shape == "get" {
+        return parts::get();
+    }
     let numbers: Vec<usize> = numbers.iter().filter_map(|word| word.parse().ok()).collect();
     let [capacity, piece, total, turns] = numbers[..] else {
         return Err(io::ErrorKind::InvalidInput.into());
@@ -415,6 +420,7 @@ fn main() -> io::Result<()> {
         "next" | "next_trimmed" => text(capacity, total),
         "frames" => framed(piece, total),
         "bodies" => chunked_body(piece, total),
+        "read_parts" | "fill_parts" => parts::form(piece, &noise(total)),
         shape if calls::takes_lines(shape) => text(piece, total),
         _ => noise(total),
     };

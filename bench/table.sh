@@ -1,12 +1,13 @@
 # sh bench/table.sh
 #
-# Proves and builds crates/bench, builds bench/std.rs, and prints eight tables in Markdown. The first says how many instructions
+# Proves and builds crates/bench, builds bench/std.rs, and prints nine tables in Markdown. The first says how many instructions
 # each case takes for a byte that goes over, as callgrind counts them, whatever else the machine does; the second the same
 # where a policy looks ahead, for when a ring pays; the third where lines are read, the fourth frames, the fifth chunked bodies,
-# the sixth heads of requests, the seventh calls of std's types, the eighth small writes, a call. It needs valgrind; the columns of
-# Rust's std need rustc. A case is one line of `cases` below; one of a new shape is a function in crates/bench/src/cases.rt and
-# one in bench/std.rs too. `sh bench/table.sh pays` prints the second table alone, `lines` in its place the third, `frames` the
-# fourth, `bodies` the fifth, `heads` the sixth, `std` the seventh, `writes` the eighth.
+# the sixth heads of requests, the seventh calls of std's types, the eighth small writes, a call, the ninth parts of multipart
+# bodies. It needs valgrind; the columns of Rust's std need rustc. A case is one line of `cases` below; one of a new shape is a
+# function in crates/bench/src/cases.rt and one in bench/std.rs too. `sh bench/table.sh pays` prints the second table alone,
+# `lines` in its place the third, `frames` the fourth, `bodies` the fifth, `heads` the sixth, `std` the seventh, `writes` the
+# eighth, `parts` the ninth.
 set -eu
 
 cases='read in pieces of 64|read 8192 64 8388608
@@ -55,6 +56,11 @@ payloads='64
 chunks='64
 1000
 65536'
+
+# How long the texts of parts are, and through how many bytes.
+forms='8388608 8192
+8388608 65536
+100 8192'
 
 # How long the heads of requests are, and how many bytes a read gives at most.
 heads='2000 1
@@ -185,6 +191,24 @@ print_bodies() {
     done
 }
 
+# Texts of parts, read into 65536 bytes and lent, and the same by hand over Rust's std.
+print_parts() {
+    echo "| Texts of, through | read | by hand in Rust | fill | by hand in Rust |"
+    echo '|---|---|---|---|---|'
+    echo "$forms" | while read -r length capacity; do
+        row="| $length, $capacity |"
+        for shape in read_parts fill_parts; do
+            row="$row $(count "$bench" "$shape" plain "$capacity" "$length" 8388608) |"
+            if [ -n "$rust" ]; then
+                row="$row $(count "$rust" "$shape" "$capacity" "$length" 8388608) |"
+            else
+                row="$row – |"
+            fi
+        done
+        echo "$row"
+    done
+}
+
 # Heads of requests, for a byte of them.
 print_heads() {
     echo '| Heads of, bytes a read | step |'
@@ -246,6 +270,7 @@ case "${1-}" in
     heads) print_heads && exit ;;
     std) print_calls && exit ;;
     writes) print_writes && exit ;;
+    parts) print_parts && exit ;;
 esac
 
 echo "| Instructions a byte | plain | ring | the kit's std | Rust's std |"
@@ -287,3 +312,6 @@ print_calls
 
 echo
 print_writes
+
+echo
+print_parts

@@ -48,6 +48,10 @@ def cases():
     for length in lists["chunks"]:
         for shape in ("bodies", "write_bodies"):
             yield f"{shape}, chunks of {length}", int(length), shape, ["8192", length]
+    for line in lists["forms"]:
+        length, capacity = line.split()
+        for shape in ("read_parts", "fill_parts"):
+            yield f"{shape}, texts of {length} through {capacity}", int(length), shape, [capacity, length]
     for line in lists["calls"]:
         name, words = line.split("|")
         shape, piece, _ = words.split()

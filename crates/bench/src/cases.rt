@@ -8,6 +8,7 @@ use crate::makers::{
     block, line_reader, line_writer, looking, reader, std_line_writer, std_packets, std_reader,
     std_writer, told, writer,
 };
+use crate::parts::parts;
 use crate::streams::Packets;
 use crate::whole::{each_byte, exact_to_end, format_often, turns, write_all_often};
 use buffer_redux::tell::{TellBufRead, TellRead, TellWrite, Told};
@@ -63,12 +64,16 @@ pub enum Shape {
     WriteBodies,
     /// Reads heads of requests.
     Heads,
+    /// Reads the text of each part of a multipart body into a slice.
+    ReadParts,
+    /// The same, lent out of the buffer.
+    FillParts,
     /// One of the calls that std's types have.
     Call(Call),
 }
 
 /// Each shape by its name, with the capacity and the piece of a case of it on few bytes.
-pub static SHAPES: [(&str, Shape, usize, usize); 34] = [
+pub static SHAPES: [(&str, Shape, usize, usize); 36] = [
     ("read", Shape::Read, 8192, 64),
     ("fill", Shape::Fill, 8192, 100),
     ("look", Shape::Look, 16384, 100),
@@ -91,6 +96,8 @@ pub static SHAPES: [(&str, Shape, usize, usize); 34] = [
     ("bodies", Shape::Bodies, 8192, 1000),
     ("write_bodies", Shape::WriteBodies, 8192, 1000),
     ("heads", Shape::Heads, 2000, 100),
+    ("read_parts", Shape::ReadParts, 8192, 100),
+    ("fill_parts", Shape::FillParts, 8192, 100),
     ("read_until", Shape::Call(Call::ReadUntil), 8192, 80),
     ("skip_until", Shape::Call(Call::SkipUntil), 8192, 80),
     ("read_line", Shape::Call(Call::ReadLine), 8192, 80),
@@ -168,7 +175,7 @@ pub fn measured(alloc: Global, case: &Case, bytes: &[u8]) -> io::Result<u64> {
     }
 }
 
-// Lines, frames, bodies, heads and calls of std's have no ring.
+// Lines, frames, bodies, heads, parts and calls of std's have no ring.
 fn over_plain(alloc: Global, case: &Case, bytes: &[u8]) -> io::Result<u64> {
     match case.shape {
         Shape::Call(call) => calls(alloc, case, call, bytes),
@@ -179,6 +186,7 @@ fn over_plain(alloc: Global, case: &Case, bytes: &[u8]) -> io::Result<u64> {
         Shape::Bodies => bodies(alloc, case, bytes),
         Shape::WriteBodies => write_bodies(alloc, case, bytes),
         Shape::Heads => heads(alloc, case, bytes),
+        Shape::ReadParts | Shape::FillParts => parts(alloc, case, bytes),
         _ => over_either(alloc, case, bytes),
     }
 }

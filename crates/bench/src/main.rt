@@ -10,6 +10,7 @@ mod frames;
 mod heads;
 mod lines;
 mod makers;
+mod parts;
 mod streams;
 mod whole;
 
@@ -18,6 +19,7 @@ use crate::cases::{Case, Kind, SHAPES, Shape, measured};
 use crate::frames::framed;
 use crate::heads::heads_text;
 use crate::lines::text;
+use crate::parts::form;
 use std::alloc::{AllocError, Global};
 use std::io;
 use std::io::ErrorKind;
@@ -40,6 +42,9 @@ fn run(alloc: Global, case: &Case, total: usize, turns: usize) -> io::Result<u64
         Shape::Frames => framed(alloc, case.piece, total)?,
         Shape::Heads => heads_text(alloc, case.capacity, total)?,
         Shape::Bodies => chunked_body(alloc, case.piece, total)?,
+        Shape::ReadParts | Shape::FillParts => {
+            form(alloc, case.piece, noise(alloc, total)?.as_slice())?
+        }
         Shape::Lines => text(alloc, case.piece, total)?,
         Shape::Call(call) if call.takes_lines() => text(alloc, case.piece, total)?,
         _ => noise(alloc, total)?,
