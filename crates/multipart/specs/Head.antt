@@ -52,10 +52,10 @@ abbrev pub field_of : List ℕ → List ℕ → Option (List ℕ)
 field_of head name = first_among as_field name (head_lines head)
 
 -- where the byte behind one stands: a quote begins and ends quotes, and in them a backslash takes the next byte with it
-abbrev pub place_behind : Place → ℕ → Place
-place_behind Outside byte = if byte == 34 then Quoted else Outside
-place_behind Quoted byte = if byte == 34 then Outside else (if byte == 92 then Escaped else Quoted)
-place_behind Escaped byte = Quoted
+abbrev pub next_place : Place → ℕ → Place
+next_place Outside byte = if byte == 34 then Quoted else Outside
+next_place Quoted byte = if byte == 34 then Outside else (if byte == 92 then Escaped else Quoted)
+next_place Escaped byte = Quoted
 
 -- what began so is closed: a piece by `;` outside of quotes, and what stands in them by a quote
 abbrev pub closes : Place → Place → ℕ → Bool
@@ -67,7 +67,7 @@ closes began place byte = false
 abbrev pub cut : Place → Place → List ℕ → List (List ℕ)
 cut began place [] = [] ∷ []
 cut began place (byte ∷ rest) = if closes began place byte then [] ∷ cut began began rest
-    else onto_first byte (cut began (place_behind place byte) rest)
+    else onto_first byte (cut began (next_place place byte) rest)
 
 -- what is said behind `=`: what stands in quotes, or up to a blank
 abbrev pub unquoted : List ℕ → List ℕ

@@ -2,7 +2,7 @@
 ghost use Rattle.std.specs.Prelude.{◌≡◌, ◌<◌, ◌≤◌, ◌==◌, [], ◌∷◌, length, not, position, IfSome};
 ghost use Rattle.std.specs.List.{prefix_len};
 ghost use Rattle.std.specs.Option.{option_copied, option_map, option_map_or};
-ghost use Rattle.multipart.specs.Head.{as_field, as_parameter, texts_of, cut, ends_line, field_of, is_blank, closes, is_opening, head_lines, parameter_of, place_behind, split_once, unquoted};
+ghost use Rattle.multipart.specs.Head.{as_field, as_parameter, texts_of, cut, ends_line, field_of, is_blank, closes, is_opening, head_lines, parameter_of, next_place, split_once, unquoted};
 
 // Whether a byte is a space or a tab.
 fn is_blank(byte: u8) -> bool
@@ -116,7 +116,7 @@ impl Place {
 
     // Where the byte behind this one stands.
     fn behind(self, byte: u8) -> Place
-        ensures { result ≡ place_behind self byte }
+        ensures { result ≡ next_place self byte }
     {
         match self {
             Place::Outside if byte == b'"' => Place::Quoted,
