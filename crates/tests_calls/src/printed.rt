@@ -1,5 +1,7 @@
 //! What is printed of buffers, of readers and writers, and of a refusal.
-use buffer_redux::policy::{FlushAtLeast, FlushExact, FlushOn, FlushOnNewline, MinBuffered, StdPolicy};
+use buffer_redux::policy::{
+    FlushAtLeast, FlushExact, FlushOn, FlushOnNewline, MinBuffered, StdPolicy,
+};
 use buffer_redux::tell::Told;
 use buffer_redux::{BufReader, Count, GrowError, Unbuffer};
 use std::alloc::Global;

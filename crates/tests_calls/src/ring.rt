@@ -1,6 +1,6 @@
 //! When the bytes of a ring move, as its head shows, which is printed.
-use redux_buffer::tell::{TellRead, Told};
 use redux_buffer::SliceDequeBuf;
+use redux_buffer::tell::{TellRead, Told};
 use std::alloc::{AllocError, Global};
 use std::io;
 use std::test::Fail;
