@@ -29,7 +29,8 @@ module _ {P V : Type 0} (Q W : Type 0) (g : Grammar P V) where
 
   pub first_looks : (p : P) (shown : List ℕ) (l : Look P V) → Looks g p shown l
       → Looks (of_first {Q = Q} {W = W} g) (First p) shown (look_as First First l)
-  first_looks p shown = alike_looks g (of_first {Q = Q} {W = W} g) First First (omega arith) (λ q is. is) first_alike (λ follow. refl) (First p) p shown
+  first_looks p shown = alike_looks g (of_first {Q = Q} {W = W} g) First First (omega arith) (λ q is. is) first_alike
+      (λ follow. refl) (First p) p shown
       (first_alike p shown) (λ n. first_alike p (take n shown ++ heeded g (drop n shown)))
 
   first_never : IsLawful g → (place : Side P Q) (shown : List ℕ) (why : Side V W) (rest payload : List ℕ)
@@ -44,14 +45,17 @@ module _ {P V : Type 0} (Q W : Type 0) (g : Grammar P V) where
   first_alive lawful (First p) is = lawful.alive p is
   first_alive lawful (Second q) is = absurd is
 
-  first_reason : IsLawful g → (place : Side P Q) (shown : List ℕ) (why other : Side V W) → (of_first {Q = Q} {W = W} g).is_place place
+  first_reason : IsLawful g → (place : Side P Q) (shown : List ℕ) (why other : Side V W)
+      → (of_first {Q = Q} {W = W} g).is_place place
       → (of_first {Q = Q} {W = W} g).wrong place shown why → (of_first {Q = Q} {W = W} g).wrong place shown other → why ≡ other
-  first_reason lawful (First p) shown (First why) (First other) is wrong so = ap First (lawful.reason p shown why other is wrong so)
+  first_reason lawful (First p) shown (First why) (First other) is wrong so =
+      ap First (lawful.reason p shown why other is wrong so)
   first_reason lawful (First p) shown (First why) (Second other) is wrong so = absurd so
   first_reason lawful (First p) shown (Second why) other is wrong so = absurd wrong
   first_reason lawful (Second q) shown why other is wrong so = absurd is
 
-  first_stays : IsLawful g → (place : Side P Q) (shown more : List ℕ) (why : Side V W) → (of_first {Q = Q} {W = W} g).is_place place
+  first_stays : IsLawful g → (place : Side P Q) (shown more : List ℕ) (why : Side V W)
+      → (of_first {Q = Q} {W = W} g).is_place place
       → (of_first {Q = Q} {W = W} g).wrong place shown why → (of_first {Q = Q} {W = W} g).wrong place (shown ++ more) why
   first_stays lawful (First p) shown more (First why) is wrong = lawful.stays p shown more why is wrong
   first_stays lawful (First p) shown more (Second why) is wrong = absurd wrong
@@ -101,7 +105,8 @@ module _ {Q W : Type 0} (P V : Type 0) (g : Grammar Q W) where
 
   pub second_looks : (q : Q) (shown : List ℕ) (l : Look Q W) → Looks g q shown l
       → Looks (of_second {P = P} {V = V} g) (Second q) shown (look_as Second Second l)
-  second_looks q shown = alike_looks g (of_second {P = P} {V = V} g) Second Second (omega arith) (λ q is. is) second_alike (λ follow. refl) (Second q) q shown
+  second_looks q shown = alike_looks g (of_second {P = P} {V = V} g) Second Second (omega arith) (λ q is. is) second_alike
+      (λ follow. refl) (Second q) q shown
       (second_alike q shown) (λ n. second_alike q (take n shown ++ heeded g (drop n shown)))
 
   second_never : IsLawful g → (place : Side P Q) (shown : List ℕ) (why : Side V W) (rest payload : List ℕ)
@@ -116,14 +121,17 @@ module _ {Q W : Type 0} (P V : Type 0) (g : Grammar Q W) where
   second_alive lawful (Second q) is = lawful.alive q is
   second_alive lawful (First p) is = absurd is
 
-  second_reason : IsLawful g → (place : Side P Q) (shown : List ℕ) (why other : Side V W) → (of_second {P = P} {V = V} g).is_place place
+  second_reason : IsLawful g → (place : Side P Q) (shown : List ℕ) (why other : Side V W)
+      → (of_second {P = P} {V = V} g).is_place place
       → (of_second {P = P} {V = V} g).wrong place shown why → (of_second {P = P} {V = V} g).wrong place shown other → why ≡ other
-  second_reason lawful (Second q) shown (Second why) (Second other) is wrong so = ap Second (lawful.reason q shown why other is wrong so)
+  second_reason lawful (Second q) shown (Second why) (Second other) is wrong so =
+      ap Second (lawful.reason q shown why other is wrong so)
   second_reason lawful (Second q) shown (Second why) (First other) is wrong so = absurd so
   second_reason lawful (Second q) shown (First why) other is wrong so = absurd wrong
   second_reason lawful (First p) shown why other is wrong so = absurd is
 
-  second_stays : IsLawful g → (place : Side P Q) (shown more : List ℕ) (why : Side V W) → (of_second {P = P} {V = V} g).is_place place
+  second_stays : IsLawful g → (place : Side P Q) (shown more : List ℕ) (why : Side V W)
+      → (of_second {P = P} {V = V} g).is_place place
       → (of_second {P = P} {V = V} g).wrong place shown why → (of_second {P = P} {V = V} g).wrong place (shown ++ more) why
   second_stays lawful (Second q) shown more (Second why) is wrong = lawful.stays q shown more why is wrong
   second_stays lawful (Second q) shown more (First why) is wrong = absurd wrong

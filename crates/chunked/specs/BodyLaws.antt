@@ -115,22 +115,26 @@ sized_same limit limit' m n a b xs ys u v more more' p q is is' same =
 chunks_same : (l m : Limits) (ps qs : List (List ℕ)) (a b xs ys : List ℕ) → HasChunks l ps a → HasChunks m qs b
     → a ++ xs ≡ b ++ ys → (a ≡ b) × (ps ≡ qs) × (xs ≡ ys)
 chunks_same l m [] [] a b xs ys (u, p, s) (v, q, t) same =
-    let first = sized_same (line_room l) (line_room m) 0 0 p.text q.text u v a b xs ys p.size_line q.size_line p.equal q.equal same in
+    let first = sized_same (line_room l) (line_room m) 0 0 p.text q.text u v a b xs ys p.size_line q.size_line p.equal
+    q.equal same in
     let others = trailers_same l.trailers m.trailers u v xs ys s t first.2 in (
       p.equal ∙ ap (λ t. t ++ line_end u) first.0 ∙ ap (λ t. q.text ++ line_end t) others.0 ∙ sym q.equal,
       refl,
       others.1,
     )
 chunks_same l m [] (q ∷ qs) a b xs ys (u, p, s) (v, c, some, k) same =
-    let first = sized_same (line_room l) (line_room m) 0 (length q) p.text c.text u (q ++ line_end v) a b xs ys p.size_line c.size_line
+    let first = sized_same (line_room l) (line_room m) 0 (length q) p.text c.text u (q ++ line_end v) a b xs ys p.size_line
+    c.size_line
     p.equal c.equal same in
     absurd (omega (arith, first.1, some))
 chunks_same l m (p ∷ ps) [] a b xs ys (u, c, some, h) (v, q, t) same =
-    let first = sized_same (line_room l) (line_room m) (length p) 0 c.text q.text (p ++ line_end u) v a b xs ys c.size_line q.size_line
+    let first = sized_same (line_room l) (line_room m) (length p) 0 c.text q.text (p ++ line_end u) v a b xs ys c.size_line
+    q.size_line
     c.equal q.equal same in
     absurd (omega (arith, first.1, some))
 chunks_same l m (p ∷ ps) (q ∷ qs) a b xs ys (u, c, some, h) (v, d, some', k) same =
-    let first = sized_same (line_room l) (line_room m) (length p) (length q) c.text d.text (p ++ line_end u) (q ++ line_end v) a b xs ys
+    let first = sized_same (line_room l) (line_room m) (length p) (length q) c.text d.text (p ++ line_end u)
+    (q ++ line_end v) a b xs ys
     c.size_line d.size_line c.equal d.equal same in
     let payload = front_same p q (line_end (u ++ xs)) (line_end (v ++ ys)) first.1
     (sym (append_assoc p (line_end u) xs) ∙ first.2 ∙ append_assoc q (line_end v) ys) in

@@ -41,7 +41,8 @@ portion_none bs (Err e) none = omega arith
 -- a write to an empty buffer of one byte, or of none, leaves it empty
 module _ {W P : Type 0} (s t : Buffered W P) (bs : List ℕ) (small : s.block.capacity ≤ 1)
     (none : length s.block.bytes ≡ 0) where
-  module _ (answer : Result (Unit {0}) Error) (m : Buffered W P) (prepared : Prepared std_write_rules (length bs) s answer m) where
+  module _ (answer : Result (Unit {0}) Error) (m : Buffered W P)
+      (prepared : Prepared std_write_rules (length bs) s answer m) where
     amount_none : prepared.amount.0 ≡ 0
     amount_none = prepared.asked.allowed.2 ∙ none_sent s.block (length bs) none
 

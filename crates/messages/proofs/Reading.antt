@@ -53,7 +53,8 @@ module _ {R : Type 0} (remaining : R → Option (List ℕ)) (s t : Reader R) (is
         asked = body_asked is room.1 (length out) t reads.asked;
         asks = body_asks is room (Ok n) reads;
         all = hands_most remaining s t is out n reads;
-        none = λ none. (let zero : n ≡ 0 = (let same = reads.empty none in cc) in (ap Ok zero, ap as_seen (reads.idle (inr none))));
+        none = λ none.
+            (let zero : n ≡ 0 = (let same = reads.empty none in cc) in (ap Ok zero, ap as_seen (reads.idle (inr none))));
       }
 
       pub reads_none : (why : Unread (Side (Unit {0}) Malformed)) (e : E)

@@ -162,7 +162,8 @@ module _ {W : Type 0} {tells : W → StreamLog} {trace : W → W → Type 0} whe
 
     module _ (joins : (u v x : W) → trace u v → trace v x → trace u x) where
       -- one did in part, and this is why
-      module _ (none : (u : W) → trace u u) {s : ReaderState R Heads} {b t : InBody R} {handed : List ℕ} (begun : Begun remaining s b)
+      module _ (none : (u : W) → trace u u) {s : ReaderState R Heads} {b t : InBody R} {handed : List ℕ}
+          (begun : Begun remaining s b)
           (limits : b.limits ≡ usual)
           (goes : InsideGoes remaining b handed t) {w u : Buffered W StdPolicy}
           (call : WritesPromptly tells trace (left_of s, w) (called (waits b.said)) (Ok tt) (b.stream, u)) where

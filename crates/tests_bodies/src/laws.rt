@@ -12,8 +12,8 @@ pub fn lines_of_a_text()
     ensures { (bytes payload : List ℕ) → IsBody (by_byte dot_stuffed) bytes payload ↔ AreLines bytes payload }
 {}
 
-/// Where payload is shown nothing asks for more, though it is told of only once all is there; nor behind a byte with which no body
-/// goes on, though that is wrong only then; and no byte leads to where no body ends.
+/// Where payload is shown nothing asks for more, though it is told of only once all is there; nor behind a byte with which
+/// no body goes on, though that is wrong only then; and no byte leads to where no body ends.
 pub fn refused()
     ensures withholds { (n left byte : ℕ) (bytes : List ℕ) → ¬ IsOpen (withheld n) left (byte ∷ bytes) }
     ensures waits { (n left : ℕ) (bytes : List ℕ) → ¬ IsOpen (late n) left (0 ∷ bytes) }

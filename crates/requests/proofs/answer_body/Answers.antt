@@ -36,7 +36,10 @@ returns-in-Err-clause-turns g c = λ s w begun writes.
     let put = subst (λ l. WritesPromptly g.W.Tell.log g.W.TellWrite.trace (b.stream, c.args.writer.now) l (Err c.in-Err.e)
     (b.stream, c.call_for_body.new.writer)) (sym (append-nil (called (waits b.said))))
     (WritesPromptly-put g.met.W.TellWrite.trace_none b.stream call) in
-    RunsToLast-stopped g.met.W.TellWrite.trace_none [] (Inside b) (is_part begun c.requires.limits none) (omega (arith, (begun_steady begun).ends))
+    RunsToLast-stopped g.met.W.TellWrite.trace_none [] (Inside b) (is_part begun c.requires.limits none) (omega (
+      arith,
+      (begun_steady begun).ends,
+    ))
     (Unsent c.in-Err.e)
     (part_answered begun none
     (WritesPromptly-after g.met.W.TellWrite.trace_joins (_, w) (b.stream, c.args.writer.now)

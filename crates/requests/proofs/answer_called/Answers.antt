@@ -73,10 +73,16 @@ returns-in-Err-answer_whole-clause-turns g c = λ s w begun call.
     let one = one_answered g.met.W.TellWrite.trace_joins begun c.requires.limits c.in-Ok.ensures.whole c.said-said.ensures.value
     (c.is_known-known.ensures ∙ ap is_known c.head.ensures) call c.in-Ok.ensures.writes c.in-Err-answer_whole.ensures in
     RunsToLast-one g.met.W.TellWrite.trace_none [] (Before c.in-Ok.requests) (refl, refl) (omega (arith, reads.ends))
-    (Unsent c.in-Err-answer_whole.e) one (AnswersWhole-messages g.R.TellRead.remaining g.W.Tell.log g.met.W.TellWrite.trace_joins one) (reads.faults, follows (left_of s) (Before c.in-Ok.requests) b.said.keeps head refl reads.ends)
+    (Unsent c.in-Err-answer_whole.e) one (AnswersWhole-messages g.R.TellRead.remaining g.W.Tell.log
+    g.met.W.TellWrite.trace_joins one) (
+      reads.faults,
+      follows (left_of s) (Before c.in-Ok.requests) b.said.keeps head refl
+          reads.ends,
+    )
 
 pub returns-in-Err-clause-turns : goal.returns-in-Err-clause-turns
 returns-in-Err-clause-turns g c = λ s w begun call.
     let part = c.in-Err.ensures.part in
-    torn_answered g.met.W.TellWrite.trace_joins g.met.W.TellWrite.trace_none begun c.requires.limits part.1 call c.in-Err.why c.unended-ending.result
+    torn_answered g.met.W.TellWrite.trace_joins g.met.W.TellWrite.trace_none begun c.requires.limits part.1 call c.in-Err.why
+    c.unended-ending.result
     part.2 c.in-Err.ensures.writes c.unended-ending.ensures

@@ -74,7 +74,8 @@ returns-in-Bad-clause-turns g c = λ s w told next comes.
     let t = left_of c.args.requests in
     let then = WritesPromptly-parts t c.refuse.ensures in
     subst (λ x. RunsToLast g.R.TellRead.remaining g.W.Tell.log g.W.TellWrite.trace (left_of s) w (Before c.args.requests) x
-    c.refuse.new.writer) (sym c.ending_of-ending.ensures) (RunsToLast-refused g.met.W.TellWrite.trace_none [] (Before c.args.requests) (refl, refl)
+    c.refuse.new.writer) (sym c.ending_of-ending.ensures) (RunsToLast-refused g.met.W.TellWrite.trace_none []
+    (Before c.args.requests) (refl, refl)
     (elim bad.answers.3 [
       | inl wrong ↦ omega (arith, wrong.1)
       | inr cut ↦ omega (arith, met_end s c.args.requests told cut.3)
@@ -98,7 +99,8 @@ pub returns-in-Io-clause-turns : goal.returns-in-Io-clause-turns
 returns-in-Io-clause-turns g c = λ s w told next comes.
     let fault = rw c.in-Io.is at next in
     let answers = fault.answers in
-    RunsToLast-stopped g.met.W.TellWrite.trace_none [] (Before c.args.requests) (refl, refl) (omega (arith, answers.4)) (Unread c.in-Io.e)
+    RunsToLast-stopped g.met.W.TellWrite.trace_none [] (Before c.args.requests) (refl, refl) (omega (arith, answers.4))
+    (Unread c.in-Io.e)
     (none_answered (nothing_went fault answers.0) comes.writes tt) (
       (
         failed_behind _ _ _ c.in-Io.e (OnlyInterrupts-none (faults_of (left_of s))) answers.2,

@@ -22,7 +22,8 @@ returns-then-held-gt0-clause-hands g c =
     c.hand_out.new.progress c.hand_out.new.known c.hand_out.new.out c.hand_out.ensures.took known some
     c.hand_out.ensures.count room c.hand_out.ensures.bytes
     (all_shown g.R.TellRead.remaining g.P.ReaderPolicy.rules grammar p.place s.block.bytes c.args.sure k
-    (c.requires.sure.0, c.requires.sure.1, c.requires.sure.2) (omega (arith, c.min.ensures, c.buf_len-held.ensures.value))) c.args.known.now
+    (c.requires.sure.0, c.requires.sure.1, c.requires.sure.2) (omega (arith, c.min.ensures, c.buf_len-held.ensures.value)))
+    c.args.known.now
 
 pub returns-then-most-capacity-clause-hands : goal.returns-then-most-capacity-clause-hands
 returns-then-most-capacity-clause-hands g c = c.read_past.ensures _ c.requires.begins.none

@@ -14,6 +14,7 @@ invariant-loop-part g l = record {
   inside : InText l.initial.parts.body.coding l.initial.parts.other l.initial.parts.body.reader turns before l.parts;
   ended : (turns ≡ []) ⊎ TookWholeBody (codes l.initial.parts.body.coding) l.parts.body;
   gave : EachGave l.initial.parts.body.reader l.parts.body.reader;
-  wrote : PutsBytes g.W.Tell.log g.W.TellWrite.trace l.initial.target (list_lines turns (handed_of l.parts.body)) (Ok tt) l.target;
+  wrote : PutsBytes g.W.Tell.log g.W.TellWrite.trace l.initial.target (list_lines turns (handed_of l.parts.body)) (Ok tt)
+      l.target;
   limits : l.parts.limits ≡ l.initial.parts.limits;
 }

@@ -5,7 +5,8 @@ use Rattle.body_reader.proofs.by_byte.ByByteCoding.look.Goals as goal
 
 pub returns-then-is_empty : goal.returns-then-is_empty
 returns-then-is_empty g c =
-    looks_none (g.C.ByteCoding.turns c.args.self.now.0) (g.met.C.ByteCoding.lawful c.args.self.now.0) c.args.place c.args.shown.now
+    looks_none (g.C.ByteCoding.turns c.args.self.now.0) (g.met.C.ByteCoding.lawful c.args.self.now.0) c.args.place
+    c.args.shown.now
     (sym c.is_empty.ensures ∙ c.if-is_empty.true) (sym c.is_end.ensures ∙ c.if-is_end.false)
 
 pub returns-in-Payload : goal.returns-in-Payload
