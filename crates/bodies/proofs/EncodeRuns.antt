@@ -55,9 +55,14 @@ module _ {read read' written' written'' : StreamLog} (m : Moved read read' writt
         (omega (arith, length-append m.unsent (body_end [])));
   }
 
-  unflushed : IsEncodedBody (m.sent ++ m.unsent) m.payload → m.rest ≡ [] → IsBodyBeginning m
-  unflushed is left =
-      inr (record { is_body = is; cut = cut_short m.sent m.unsent m.payload (is.is_body least (omega arith)); all = left })
+  unflushed : IsEncodedBody (m.sent ++ m.unsent) m.payload → m.rest ≡ []
+      → read'.reads.zero_reads ≡ read.reads.zero_reads + 1 → IsBodyBeginning m
+  unflushed is left once = inr (record {
+    is_body = is;
+    cut = cut_short m.sent m.unsent m.payload (is.is_body least (omega arith));
+    all = left;
+    ended = once;
+  })
 
 -- a filter before a body
 abbrev pub start : {R W : Type 0} → Buffered R StdPolicy → Buffered W StdPolicy → Encoding R W
@@ -139,7 +144,7 @@ module _ {R W : Type 0} (remaining : R → Option (List ℕ)) (trace : W → W �
             moved_over end.end v end.taken,
             elim end.answers.0 [
               | inl all ↦ unflushed (moved_over end.end v end.taken)
-                  (is_written over.payloads [] none_lost end.end v end.taken all) left
+                  (is_written over.payloads [] none_lost end.end v end.taken all) left once
               | inr nothing ↦ inl (not_ended over.payloads [] none_lost end.end v end.taken nothing)
             ],
             WriterFailed-after e first.log t.source.log t.source.log u.log t.target.writer.log v.log met
@@ -168,7 +173,7 @@ module _ {R W : Type 0} (remaining : R → Option (List ℕ)) (trace : W → W �
   )
   stopped count cause.Count e (over, large, met) is = subst Ran (sym is.2) (
     moved_over count over [] t.target.writer still,
-    inl (not_ended over.payloads [] (none_lost count over) [] t.target.writer still refl),
+    not_ended over.payloads [] (none_lost count over) [] t.target.writer still refl,
     inl (record {
       other = is.1;
       large = omega (
@@ -218,7 +223,7 @@ refused read read' written written' e p =
       received = ap (λ l. l.writes.received) p.written_same ∙ sym (append-nil written.writes.received);
     } in
     record {
-      ran = (moved, inl (unended moved IsChunks-none), inr p);
+      ran = (moved, unended moved IsChunks-none, inr p);
       prompt = inl p.read_same;
       once = omega (arith, ap (λ l. l.reads.zero_reads) p.read_same);
       flushes = omega (

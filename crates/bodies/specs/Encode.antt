@@ -55,17 +55,19 @@ pub record IsUnended {read read' written written' : StreamLog} (m : Moved read r
   pub cut : IsCut m.sent
 
 -- what became of a beginning of what was given: that; or a body with it, all of which was received, or the beginning, and
--- nothing else was given
+-- nothing else was given, and then nothing, once
 abbrev pub IsBodyBeginning : {read read' written written' : StreamLog} → Moved read read' written written' → Type 0
-IsBodyBeginning m = IsUnended m
+IsBodyBeginning {read} {read'} m = IsUnended m
     ⊎ record {
       is_body : IsEncodedBody (m.sent ++ m.unsent) m.payload;
       cut : 0 < length m.unsent → IsCut m.sent;
       all : m.rest ≡ [];
+      ended : read'.reads.zero_reads ≡ read.reads.zero_reads + 1;
     }
 
 -- what a run of `encode` did: at Ok a body was received, and the reader gave nothing, once. Where a read failed no byte that came
--- is lost. Any other fault is a writer's, or a buffer was refused before the run began, or it ended at its count
+-- is lost. Any other fault is a writer's, or a buffer was refused before the run began, or it ended at its count, and then no
+-- body was begun that has an end
 abbrev pub EncodeRan : StreamLog → StreamLog → StreamLog → StreamLog → Result (Unit {0}) RunError → Type 0
 EncodeRan read read' written written' (Ok _) =
     (m : MovedAll read read' written written') × IsEncodedBody m.moved.sent m.moved.payload
@@ -75,7 +77,7 @@ EncodeRan read read' written written' (Err (Read e)) =
 EncodeRan read read' written written' (Err (Write e)) =
     (m : Moved read read' written written') × IsBodyBeginning m × WriterFailed e read read' written written'
 EncodeRan read read' written written' (Err (Io e)) =
-    (m : Moved read read' written written') × IsBodyBeginning m
+    (m : Moved read read' written written') × IsUnended m
     × (OverCount e (length m.payload) read read' written written' ⊎ RefusedBeforeCalls e read read' written written')
 EncodeRan read read' written written' (Err other) = ⊥
 
