@@ -1,6 +1,6 @@
 -- What calls of the reader of a body take of it and of its stream, and why they fail.
-use Rattle.std.proofs.Common.{◌≡◌, ℕ, zero, suc, ◌+◌, ◌<◌, ◌≤◌, List, [], ◌++◌, length, min, take, ◌⊎◌, inl, inr, Option, Err, sym, ap, subst, ◌∙◌, arith, refl, append-nil, length-append, replicate}
-use Rattle.std.proofs.lemmas.List.{length-replicate, length-take-le, nil_from_length}
+use Rattle.std.proofs.Common.{◌≡◌, ℕ, zero, suc, ◌+◌, ◌<◌, ◌≤◌, List, [], ◌++◌, length, min, take, ◌⊎◌, inl, inr, Option, Err, sym, ap, subst, ◌∙◌, arith, refl, append-nil, length-append}
+use Rattle.std.proofs.lemmas.List.{length-take-le, nil_from_length}
 use Rattle.body_reader.specs.Between as between
 use Rattle.body_reader.specs.Between.{LeavesPlaces, LeavesRoom}
 use Rattle.body_reader.specs.BodyReader.{BodyWent, Breaks, Drains, EndsEarly, InPieces, IsBodyReader, NoPayload, TakesManyPieces, TakesPiece, TookWholeBody, handed_of}
@@ -24,13 +24,11 @@ use Rattle.chunked.specs.Coding.{chunked}
 use Rattle.chunked.specs.CodingLaws.{chunked_lawful}
 use Rattle.chunked.specs.declared.error.Malformed.{Malformed}
 use Rattle.chunked.specs.declared.place.Place.{Place}
-use Rattle.chunked.specs.AliveLaws.{Completes-some}
 use Rattle.messages.specs.MessagesLaws.{same_room}
 use Rattle.messages.specs.Messages.{AskedIn, Backward, BeginsRest, BodyCoding, Bytes, Chunks, Fails, FinishFails, GoesWrong, HasRoom, InsideGoes, IsNamed, IsRest, NotesEach, Onward, Reader, Rest, RunsShort, TakesFromRest, TakesWholeRest, body_error, body_rules, has_line, left_in, rest_of, room_of, seen, stream_of, sure_of}
 use Rattle.messages.specs.declared.head.ParsedHead.{ParsedHead}
 use Rattle.messages.specs.declared.limits.Limits.{Limits}
-use Rattle.messages.specs.declared.error.BodyError.TheVariants.{Wrong, Io as Fault}
-use Rattle.std.specs.declared.io.Error.{Error}
+use Rattle.messages.specs.declared.error.BodyError.TheVariants.{Wrong}
 
 -- what is left of a body is what completes it
 pub rest_is : (c : BodyCoding) (p : Side ℕ Place) → (body_rules c).is_place p → (wire payload : List ℕ)
@@ -59,7 +57,7 @@ one_ahead : (c : BodyCoding) → (body_rules c).ahead ≡ 1
 one_ahead (coding.First c) = refl
 one_ahead (coding.Second c) = refl
 
-no_byte : (c : BodyCoding) (p : Side ℕ Place) (bytes : List ℕ) → IsOpen (body_rules c) p bytes → bytes ≡ []
+pub no_byte : (c : BodyCoding) (p : Side ℕ Place) (bytes : List ℕ) → IsOpen (body_rules c) p bytes → bytes ≡ []
 no_byte c p bytes is = nil_from_length bytes (omega (arith, is.few, one_ahead c))
 
 module _ (c : BodyCoding) (p q : Side ℕ Place) (wire handed bytes : List ℕ) (is : (body_rules c).is_place p)
@@ -73,18 +71,8 @@ module _ (c : BodyCoding) (p q : Side ℕ Place) (wire handed bytes : List ℕ) 
       let back = leads.back later whole (unheeded c bytes later) (completes_is c p is (wire ++ later) whole it) in
       (back.0, back.1, rest_is c q is' later back.0 back.2)
 
--- from each place a body can be completed
-some_rest : (c : BodyCoding) → has_line c → (p : Side ℕ Place) → (body_rules c).is_place p
-    → (rest : List ℕ) × (payload : List ℕ) × (body_rules c).completes p rest payload
-some_rest (coding.First c) line (side.First left) is =
-    (replicate left 0, replicate left 0, (length-replicate left 0, refl))
-some_rest (coding.First c) line (side.Second place) is = absurd is
-some_rest (coding.Second c) line (side.Second place) is =
-    let end = Completes-some c.0 0 place is in (end.rest, end.payload, end.completes)
-some_rest (coding.Second c) line (side.First left) is = absurd is
-
 -- where bytes settle nothing the body goes on behind them
-module _ (c : BodyCoding) (line : has_line c) (p : Side ℕ Place) (is : (body_rules c).is_place p) (handed bytes : List ℕ)
+module _ (c : BodyCoding) (p : Side ℕ Place) (is : (body_rules c).is_place p) (handed bytes : List ℕ)
     (o : LeadsOpen (body_rules c) p handed bytes) where
   none_shown : o.shown ≡ []
   none_shown = no_byte c o.place o.shown o.settles_nothing
@@ -94,7 +82,7 @@ module _ (c : BodyCoding) (line : has_line c) (p : Side ℕ Place) (is : (body_r
 
   more_behind : (later : List ℕ) × (payload : List ℕ) × (0 < length later) × IsRest (rest_of c o.place) later payload
   more_behind =
-      let end = some_rest c line o.place o.is_place in
+      let end = (lawful c).alive o.place o.is_place in
       let agree : Agree o.shown end.0 = subst (λ l. Agree l end.0) (sym none_shown) (end.0, [], sym (append-nil end.0)) in
       let further = o.settles_nothing.further end.0 end.1 end.2 agree in
       (end.0, end.1, omega (arith, further), rest_is c o.place o.is_place end.0 end.1 end.2)
@@ -113,17 +101,17 @@ sure_is (coding.First c) (side.Second q) is = absurd is
 sure_is (coding.Second c) (side.First left) is = absurd is
 sure_is (coding.Second c) (side.Second q) is = refl
 
-pub asked_in : (c : BodyCoding) → has_line c → (p : Side ℕ Place) → (body_rules c).is_place p → (slice offer : ℕ)
+pub asked_in : (c : BodyCoding) (p : Side ℕ Place) → (body_rules c).is_place p → (slice offer : ℕ)
     (bytes : List ℕ) → AskedFor (body_rules c) p slice offer bytes → AskedIn (rest_of c p) slice offer bytes
-asked_in c line p is slice offer bytes asked =
+asked_in c p is slice offer bytes asked =
     let o = asked.leads in
-    subst (AskedIn (rest_of c p) slice offer) (sym (all_wire c line p is [] bytes o)) (record {
+    subst (AskedIn (rest_of c p) slice offer) (sym (all_wire c p is [] bytes o)) (record {
       goes_on = record {
         rest = rest_of c o.place;
         onward = onward_is c p o.place o.wire [] o.shown is o.is_place o.leads;
-        more = more_behind c line p is [] bytes o;
+        more = more_behind c p is [] bytes o;
       };
-      enough = omega (arith, asked.enough (none_shown c line p is [] bytes o), sure_is c o.place o.is_place);
+      enough = omega (arith, asked.enough (none_shown c p is [] bytes o), sure_is c o.place o.is_place);
     })
 
 -- what is wrong
@@ -178,20 +166,23 @@ std_stays : LeavesPlaces {Q = StdPolicy} std_read_rules
 std_stays p b n p' b' left = ap (λ b. b.moved) left.1
 
 -- nothing is left of a body that was taken whole
-none_left : {R : Type 0} (c : BodyCoding) (d : Reader R) → IsBodyReader (body_rules c) d → TookWholeBody (body_rules c) d
-    → IsRest (rest_of c d.place) [] []
-none_left c d is whole = rest_is c d.place is.place [] []
-    (Leads-done (body_rules c) (lawful c) d.taken (handed_of d) d.place (heeded (body_rules c) d.reader.block.bytes) is.leads
-    is.place whole)
+module _ {R : Type 0} (c : BodyCoding) (d : Reader R) (is : IsBodyReader (body_rules c) d) (whole : TookWholeBody (body_rules c) d)
+  where
+    pub body_over : IsDone (body_rules c) d.place
+    body_over = Leads-done (body_rules c) (lawful c) d.taken (handed_of d) d.place
+        (heeded (body_rules c) d.reader.block.bytes) is.leads is.place whole
+
+    none_left : IsRest (rest_of c d.place) [] []
+    none_left = rest_is c d.place is.place [] [] body_over
 
 -- calls of the reader
 module _ {R : Type 0} {remaining : R → Option (List ℕ)} {s t : Reader R} (is : IsBodyReader (body_rules s.coding) s)
     (is' : IsBodyReader (body_rules s.coding) t) {handed : List ℕ}
     (went : BodyWent remaining std_read_rules (body_rules s.coding) s handed t) where
-  abbrev kept : (Rest → Type 0) → Type 0
+  abbrev pub kept : (Rest → Type 0) → Type 0
   kept P = P (rest_of s.coding t.place) → P (left_in t)
 
-  keep : (P : Rest → Type 0) → kept P
+  pub keep : (P : Rest → Type 0) → kept P
   keep P = subst (λ c. P (rest_of c t.place)) (sym went.coding)
 
   leads : Leads (body_rules s.coding) s.place went.wire handed t.place (heeded (body_rules s.coding) t.reader.block.bytes)

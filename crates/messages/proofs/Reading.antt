@@ -1,5 +1,5 @@
 -- What a read of a body takes of it and of its stream, and why it fails, also as one of std's.
-use Rattle.std.proofs.Common.{◌≡◌, ℕ, ◌<◌, List, [], ◌++◌, length, take, OnOk, Option, Result, Ok, Err, ap, append-nil, inr, refl, subst, sym, ◌∙◌}
+use Rattle.std.proofs.Common.{◌≡◌, ℕ, List, [], ◌++◌, length, take, OnOk, Option, Result, Ok, Err, ap, inr, subst}
 use Rattle.std.specs.declared.io.Error.{Error}
 use Rattle.body_reader.specs.Between as between
 use Rattle.body_reader.specs.BodyReader.{IsBodyReader, ReadsAsIo as ReadsPayloadAsIo, ReadsPayload, handed_of}
@@ -50,8 +50,8 @@ module _ {R : Type 0} (remaining : R → Option (List ℕ)) (s t : Reader R) (is
         gave = (reads.answers.1.faults, reads.answers.1.zero_reads);
         ended = λ none some. body_done is reads.whole reads.went (reads.answers.2 (let zero : n ≡ 0 = cc in zero) some);
         fails = tt;
-        asked = body_asked is room.1 (length out) t reads.asked;
-        asks = body_asks is room (Ok n) reads;
+        asked = body_asked is (length out) t reads.asked;
+        asks = body_asks is (Ok n) reads;
         all = hands_most remaining s t is out n reads;
         none = λ none.
             (let zero : n ≡ 0 = (let same = reads.empty none in cc) in (ap Ok zero, ap as_seen (reads.idle (inr none))));
@@ -65,8 +65,8 @@ module _ {R : Type 0} (remaining : R → Option (List ℕ)) (s t : Reader R) (is
         gave = tt;
         ended = λ none. absurd (subst (λ r. OnOk r ⊥) none tt);
         fails = fails;
-        asked = body_asked is room.1 (length out) t reads.asked;
-        asks = body_asks is room (Err why) reads;
+        asked = body_asked is (length out) t reads.asked;
+        asks = body_asks is (Err why) reads;
         all = tt;
         none = λ none. absurd (subst (λ r. OnOk r ⊥) (reads.empty none) tt);
       }

@@ -1,7 +1,6 @@
 -- What a call says first, in words of lists.
 use Rattle.std.proofs.Common.{◌≡◌, ◌∙◌, ◌↔◌, ℕ, Option, List, [], ◌++◌, drop, length, Bool, IsTrue, sym, ap, subst, arith, refl, append-nil, length-append}
 use Rattle.std.proofs.lemmas.List.{nil_from_length}
-use Rattle.body_reader.specs.BodyReader.{handed_of}
 use Rattle.buffer_redux.specs.Unbuffer.{Unbuffered}
 use Rattle.codec.specs.PieceReader.{ReaderState, left_of, rest}
 use Rattle.messages.specs.declared.head.Heads.{Heads}

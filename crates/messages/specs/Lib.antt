@@ -1,6 +1,7 @@
 pub mod Faults
 pub mod Heads
 pub mod HeadsLaws
+pub mod Lending
 pub mod Limits
 pub mod Lines
 pub mod LinesLaws

@@ -191,15 +191,15 @@ abbrev pub RunsShort : ℕ → ℕ → Rest → List ℕ → Type 0
 RunsShort asked count r left =
     (count ≡ asked) ⊎ IsRest r [] [] ⊎ (left ≡ []) ⊎ ((name : Malformed) × GoesWrong r left name)
 
--- behind bytes that are no payload, and with which just what completes the body behind them completes it, what was handed out,
--- and then what is known, are as much as surely is payload
-pub record HandsSure (r : Rest) (taken taken' handed : List ℕ) (known : ℕ) : Type 0 where
+-- behind bytes in which there is this payload, and with which just what completes the body behind them completes it, what was
+-- handed out last, and then what is known, are as much as surely is payload
+pub record HandsSure (r : Rest) (taken taken' first last : List ℕ) (known : ℕ) : Type 0 where
   pub wire : List ℕ
-  pub equal : taken' ≡ taken ++ (wire ++ handed)
+  pub equal : taken' ≡ taken ++ (wire ++ last)
   pub rest : Rest
-  pub onward : Onward r wire [] rest
-  pub backward : Backward r wire [] rest
-  pub sure : sure_of rest ≤ length handed + known
+  pub onward : Onward r wire first rest
+  pub backward : Backward r wire first rest
+  pub sure : sure_of rest ≤ length last + known
 
 -- so much payload was handed out as a slice takes, or all that is known. Of what was known what isn't handed out stays so; and
 -- where nothing was, all that is left of the buffer is known then, or what surely is payload
@@ -207,7 +207,16 @@ pub record HandsMost (r : Rest) (taken : List ℕ) (known : ℕ) (out : List ℕ
     : Type 0 where
   pub full : (n ≡ length out) ⊎ (known' ≡ 0)
   pub still : 0 < known → (n ≡ min known (length out)) × (known' ≡ known - n)
-  pub knows : known ≡ 0 → (known' ≡ length left) ⊎ HandsSure r taken taken' (take n out) known'
+  pub knows : known ≡ 0 → (known' ≡ length left) ⊎ HandsSure r taken taken' [] (take n out) known'
+
+-- so much of what is buffered was handed out as a slice takes, or all that is known. Of what was known what isn't handed out
+-- stays so; and where more was handed out, all that is left of the buffer is known then, or what surely is payload
+pub record HandsKnown (r : Rest) (taken : List ℕ) (known : ℕ) (out : List ℕ) (n : ℕ) (taken' : List ℕ) (known' : ℕ)
+    (left : List ℕ) : Type 0 where
+  pub full : (n ≡ length out) ⊎ (known' ≡ 0)
+  pub still : n ≤ known → known' ≡ known - n
+  pub knows : known < n → n ≡ length out → (known' ≡ length left)
+      ⊎ ((first : List ℕ) × (last : List ℕ) × (take n out ≡ first ++ last) × HandsSure r taken taken' first last known')
 
 -- why no payload comes: the next byte is wrong; or the stream gave nothing, once, where nothing was left, and the body isn't
 -- complete, of which so much is due if it has a length; or the stream failed, once

@@ -9,8 +9,9 @@ ghost use Rattle.buffer_redux.specs.Unbuffer.{unbuffered};
 ghost use Rattle.codec.specs.PieceReader.{left_of, rest};
 ghost use Rattle.messages.specs.contracts.body.Body.{the_row};
 ghost use Rattle.messages.specs.Heads.{IsHead};
-ghost use Rattle.messages.specs.Messages.{AskedIn, AsksForMore, Bytes, EachReadGave, Fails, FinishFails, HandsMost, HasRoom, InsideGoes, IsRest, IsRoomy, NotesEach, ReadsBody, RunsShort, TakesWholeRest, Unended, body_of, body_rules, entering, has_line, left_in, rest_of, room_of, seen, stream_of, with_stream};
+ghost use Rattle.messages.specs.Messages.{AskedIn, AsksForMore, Bytes, EachReadGave, Fails, FinishFails, HandsKnown, HandsMost, HasRoom, InsideGoes, IsRest, IsRoomy, NotesEach, ReadsBody, RunsShort, TakesWholeRest, Unended, body_of, body_rules, entering, has_line, left_in, rest_of, room_of, seen, stream_of, with_stream};
 
+mod lends;
 mod tells;
 
 use crate::error::{BodyError, unread};
@@ -186,6 +187,8 @@ impl<R: TellRead> Body<R> {
         ensures noted { NotedIfSome self.old.calls out.new result self.new.calls }
         ensures unasked { self.new.stream.log ≡ self.old.stream.log }
         ensures all { RunsShort (length out.new) result self.new.rest self.new.stream.left }
+        ensures knows { HandsKnown self.old.rest self.old.taken self.old.known out.new result self.new.taken self.new.known
+            self.new.stream.left }
     {
         read_buffered(&mut self.reader, out)
     }
@@ -285,6 +288,8 @@ fn read_buffered<R: TellRead>(reader: &mut BodyReader<R, BodyCoding>, out: &mut 
         → InsideGoes R.remaining (seen reader.old limits head said) (take result out.new) (seen reader.new limits head said) }
     ensures unasked { (stream_of reader.new).log ≡ (stream_of reader.old).log }
     ensures all { RunsShort (length out.new) result (left_in reader.new) (stream_of reader.new).left }
+    ensures knows { HandsKnown (left_in reader.old) reader.old.taken reader.old.known out.new result reader.new.taken
+        reader.new.known (stream_of reader.new).left }
 {
     let _ = reader.get_ref();
     reader.read_buffered(out)

@@ -23,6 +23,8 @@ mod frames;
 #[cfg(test)]
 mod laws;
 #[cfg(test)]
+mod lent;
+#[cfg(test)]
 mod lines;
 pub mod packets;
 #[cfg(test)]

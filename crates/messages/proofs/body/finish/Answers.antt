@@ -27,7 +27,7 @@ returns-in-Ok-clause-moved g c =
 
 pub returns-in-Ok-clause-asked : goal.returns-in-Ok-clause-asked
 returns-in-Ok-clause-asked g c =
-    rw c.in-Ok.ensures.drains.2 (drain_asked c.get_ref.ensures.whole c.requires.1 c.in-Ok.ensures.drains.1)
+    rw c.in-Ok.ensures.drains.2 (drain_asked c.get_ref.ensures.whole c.in-Ok.ensures.drains.1)
 
 pub unread-requires : goal.unread-requires
 unread-requires g c =
@@ -56,4 +56,4 @@ pub returns-in-Err-clause-noted : goal.returns-in-Err-clause-noted
 returns-in-Err-clause-noted g c = pieces_noted _ _ c.in-Err.ensures.drains.pieces
 
 pub returns-in-Err-clause-asked : goal.returns-in-Err-clause-asked
-returns-in-Err-clause-asked g c = drain_asked c.get_ref.ensures.whole c.requires.1 c.in-Err.ensures.drains
+returns-in-Err-clause-asked g c = drain_asked c.get_ref.ensures.whole c.in-Err.ensures.drains

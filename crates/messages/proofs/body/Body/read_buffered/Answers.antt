@@ -8,3 +8,6 @@ returns-clause-goes g c =
 
 pub returns-clause-noted : goal.returns-clause-noted
 returns-clause-noted g c = rw (← c.self.view_is) c.read_buffered.ensures.noted
+
+pub returns-clause-knows : goal.returns-clause-knows
+returns-clause-knows g c = rw (← c.self.view_is) c.read_buffered.ensures.knows

@@ -1,0 +1,157 @@
+-- What is lent of a body, and taken, told of what is left of it.
+use Rattle.std.proofs.Common.{◌≡◌, ◌∙◌, ◌-◌, ◌≤◌, ℕ, List, [], ◌++◌, drop, length, min, take, Option, Result, Ok, Err, ap, inl, inr, subst, sym, arith, refl, append-nil, length-append, length-take-le, take-append-drop, IfOk}
+use Rattle.std.proofs.lemmas.Bool.{cases_lt}
+use Rattle.std.proofs.lemmas.List.{append_cancel_left, nil_from_length}
+use Rattle.body_reader.specs.BodyReader.{ConsumesPayload, FillsPayload, IsBodyReader}
+use Rattle.body_reader.specs.Coding.{IsKnown}
+use Rattle.body_reader.specs.declared.error.BodyError.{BodyError as Unread}
+use Rattle.body_reader.specs.declared.either.Either.TheVariants as coding
+use Rattle.body_reader.specs.declared.either.Side.{Side}
+use Rattle.body_reader.specs.declared.either.Side.TheVariants as side
+use Rattle.body_reader.specs.SizedLaws.{sized_lawful}
+use Rattle.buffer_redux.specs.Policy.{std_read_rules}
+use Rattle.chunked.proofs.PassingOn.{data_payload}
+use Rattle.chunked.specs.Coding.{InChunk}
+use Rattle.chunked.specs.CodingLaws.{chunked_lawful}
+use Rattle.chunked.specs.declared.error.Malformed.{Malformed}
+use Rattle.chunked.specs.declared.limits.Limits.{Limits as ChunkLimits}
+use Rattle.chunked.specs.declared.place.Place.{Place}
+use Rattle.chunked.specs.declared.place.Place.TheVariants.{Data}
+use Rattle.messages.specs.declared.error.BodyError.{BodyError}
+use Rattle.messages.specs.declared.head.ParsedHead.{ParsedHead}
+use Rattle.messages.specs.declared.limits.Limits.{Limits}
+use Rattle.messages.specs.Lending.{ConsumesInside, FillsInside, IsPayload}
+use Rattle.messages.specs.Messages.{BodyCoding, Bytes, Chunks, HasRoom, InBody, IsRest, Reader, body_error, body_rules, rest_of, seen, sure_of}
+use Rattle.messages.proofs.Asking.{fill_asked, fill_asks}
+use Rattle.messages.proofs.Going.{body_done, body_fails, body_goes, is_ended, keep, lawful, rest_is, sure_is}
+
+-- what is known to be payload comes next in the body
+chunk_payload : (limits : ChunkLimits) (q : Place) (bytes follow : List ℕ) → InChunk q bytes follow
+    → IsPayload (Chunks limits q) bytes
+chunk_payload limits (Data left) bytes follow few =
+    let leads = data_payload limits bytes left few in record {
+      rest = Chunks limits (Data (left - length bytes));
+      onward = leads.onward;
+      backward = leads.back;
+      ends = (chunked_lawful limits).alive (Data (left - length bytes)) tt;
+    }
+chunk_payload limits q bytes follow is = absurd is
+
+carried_payload : (c : BodyCoding) (p : Side ℕ Place) (bytes follow : List ℕ)
+    → (body_rules c).carries p bytes follow → IsPayload (rest_of c p) bytes
+carried_payload (coding.First c) (side.First left) bytes follow few =
+    record {
+      rest = Bytes (left - length bytes);
+      onward = λ later payload is. (omega (arith, is.0, few, length-append bytes later), ap (λ l. bytes ++ l) is.1);
+      backward = λ later whole is. (later, is.1, (omega (arith, is.0, length-append bytes later), refl));
+      ends = (sized_lawful c.0).alive (left - length bytes) tt;
+    }
+carried_payload (coding.First c) (side.Second q) bytes follow is = absurd is
+carried_payload (coding.Second c) (side.First left) bytes follow is = absurd is
+carried_payload (coding.Second c) (side.Second q) bytes follow is = chunk_payload c.0 q bytes follow is
+
+no_payload : (c : BodyCoding) (p : Side ℕ Place) → (body_rules c).is_place p → IsPayload (rest_of c p) []
+no_payload c p is =
+    let end = (lawful c).alive p is in record {
+      rest = rest_of c p;
+      onward = λ later payload is. is;
+      backward = λ later whole is. (whole, refl, is);
+      ends = (end.0, end.1, rest_is c p is end.0 end.1 end.2);
+    }
+
+pub known_payload : (c : BodyCoding) (p : Side ℕ Place) → (body_rules c).is_place p → (known : ℕ)
+    (bytes : List ℕ) → IsKnown (body_rules c) p known bytes → IsPayload (rest_of c p) (take known bytes)
+known_payload c p is known bytes k = elim (cases_lt 0 known) [
+  | inl some ↦ carried_payload c p (take known bytes) (drop known bytes)
+      ((k.1 some).carries (take known bytes) (drop known bytes) [] (omega (arith, length-take-le known bytes k.0))
+      (take-append-drop known bytes ∙ sym (append-nil bytes)))
+  | inr none ↦
+      let zero : known ≡ 0 = omega (arith, none) in
+      subst (λ n. IsPayload (rest_of c p) (take n bytes)) (sym zero) (no_payload c p is)
+]
+
+-- what calls do, told of the body
+module _ {R : Type 0} (remaining : R → Option (List ℕ)) (s t : Reader R) (is : IsBodyReader (body_rules s.coding) s)
+    (room : HasRoom s) (limits : Limits) (head : List ℕ) (said : ParsedHead) where
+  abbrev from : InBody R
+  from = seen s limits head said
+
+  abbrev to : InBody R
+  to = seen t limits head said
+
+  pub filled : (n : ℕ) → FillsPayload remaining std_read_rules (body_rules s.coding) s (Ok n) t
+      → FillsInside remaining from (Ok n) to
+  filled n fills = record {
+    goes = body_goes is fills.whole fills.went room _ fills.went.handed limits head said;
+    answers = (
+      fills.answers.0,
+      (fills.answers.1.faults, fills.answers.1.zero_reads),
+      λ none. body_done is fills.whole fills.went (fills.answers.2 none),
+    );
+    all = λ some none. elim (fills.all some none) [
+      | inl all ↦ inl all
+      | inr looks ↦ inr (keep is fills.whole fills.went (λ r. sure_of r ≤ n)
+          (omega (arith, looks.1, sure_is s.coding t.place fills.whole.place)))
+    ];
+    asked = fill_asked is t fills.asked;
+    asks = fill_asks is (Ok n) fills;
+    still = λ over. ap (λ x. seen x limits head said) (fills.still (elim over [
+      | inl some ↦ inl some
+      | inr ended ↦ inr (is_ended is ended)
+    ]));
+    noted = fills.noted;
+  }
+
+  pub not_filled : (e : Unread (Side (Unit {0}) Malformed))
+      → FillsPayload remaining std_read_rules (body_rules s.coding) s (Err e) t
+      → FillsInside remaining from (Err (body_error t.place e)) to
+  not_filled e fills = record {
+    goes = body_goes is fills.whole fills.went room _ fills.went.handed limits head said;
+    answers = body_fails is fills.whole fills.went e fills.answers;
+    all = tt;
+    asked = fill_asked is t fills.asked;
+    asks = fill_asks is (Err e) fills;
+    still = λ over. ap (λ x. seen x limits head said) (fills.still (elim over [
+      | inl some ↦ inl some
+      | inr ended ↦ inr (is_ended is ended)
+    ]));
+    noted = fills.noted;
+  }
+
+  -- the front of what is buffered was taken, so the rest of that is left
+  module _ (count : ℕ) (consumes : ConsumesPayload remaining std_read_rules (body_rules s.coding) count s t)
+      (taken : t.taken ≡ s.taken ++ take (min count s.known) s.reader.block.bytes) where
+    abbrev front : List ℕ
+    front = take (min count s.known) s.reader.block.bytes
+
+    left : t.reader.block.bytes ≡ drop (min count s.known) s.reader.block.bytes
+    left =
+        let order = consumes.went.along.in_order in
+        let none : order.got ≡ [] = nil_from_length order.got (omega (
+          arith,
+          ap length order.given,
+          ap (λ l. length l.reads.given) consumes.told,
+          length-append s.reader.log.reads.given order.got,
+        )) in
+        let wire : consumes.went.wire ≡ front =
+        append_cancel_left s.taken consumes.went.wire front (sym consumes.went.taken ∙ taken) in
+        append_cancel_left front t.reader.block.bytes (drop (min count s.known) s.reader.block.bytes)
+        (ap (λ l. l ++ t.reader.block.bytes) (sym wire) ∙ order.equal ∙ ap (λ l. s.reader.block.bytes ++ l) none
+        ∙ append-nil s.reader.block.bytes ∙ sym (take-append-drop (min count s.known) s.reader.block.bytes))
+
+    pub consumed : ConsumesInside remaining count from to
+    consumed = record {
+      goes = body_goes is consumes.whole consumes.went room _ consumes.went.handed limits head said;
+      taken = taken;
+      left = left;
+      known = consumes.left;
+      unasked = consumes.told;
+      noted = consumes.noted;
+      none = λ none. ap (λ x. seen x limits head said) (consumes.idle none);
+    }
+
+-- how much is buffered
+pub fills_count : {S : Type 0} {remaining : S → Option (List ℕ)} {s t : InBody S} (answer : Result ℕ BodyError)
+    → FillsInside remaining s answer t → IfOk answer (λ n. (n ≡ t.known) × (n ≡ 0 → IsRest t.rest [] []))
+fills_count (Ok n) fills = (fills.answers.0, fills.answers.2)
+fills_count (Err e) fills = tt
