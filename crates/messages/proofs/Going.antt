@@ -166,7 +166,8 @@ std_stays : LeavesPlaces {Q = StdPolicy} std_read_rules
 std_stays p b n p' b' left = ap (λ b. b.moved) left.1
 
 -- nothing is left of a body that was taken whole
-module _ {R : Type 0} (c : BodyCoding) (d : Reader R) (is : IsBodyReader (body_rules c) d) (whole : TookWholeBody (body_rules c) d)
+module _ {R : Type 0} (c : BodyCoding) (d : Reader R) (is : IsBodyReader (body_rules c) d)
+    (whole : TookWholeBody (body_rules c) d)
   where
     pub body_over : IsDone (body_rules c) d.place
     body_over = Leads-done (body_rules c) (lawful c) d.taken (handed_of d) d.place
