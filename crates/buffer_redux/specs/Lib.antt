@@ -48,6 +48,8 @@ pub mod PiecesLaws
 pub mod RestsLaws
 pub mod Unbuffer
 pub mod UnbufferLaws
+pub mod Asking
+pub mod AskingLaws
 pub mod BufWriter
 pub mod WriteAll
 pub mod WriteParts

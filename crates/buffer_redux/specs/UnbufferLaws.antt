@@ -1,6 +1,7 @@
 -- What readers, or writers, of one stream do, one after another.
 use Rattle.std.specs.Prelude.{◌≡◌, ◌≤◌, ℕ, List, [], ◌++◌, Option, None, Some}
 use Rattle.std.proofs.Common.{sym, ap, ◌∙◌, refl, arith, append_assoc, append-nil}
+use Rattle.std.proofs.lemmas.List.{append_cancel_left, append_cancel_right}
 use Rattle.std.specs.Io.KnownBytes.{Consumes}
 use Rattle.redux_buffer.specs.GivesRemaining.{GivesRemaining-none, GivesRemaining-joins, GivesRemaining-ahead}
 use Rattle.redux_buffer.specs.LogGrows.{ReadLogGrows-none, ReadLogGrows-joins}
@@ -31,6 +32,12 @@ module _ {R : Type 0} where
     equal = append_assoc h k t.left ∙ ap (λ l. h ++ l) b.equal ∙ sym (append_assoc h m.left b.got)
         ∙ ap (λ l. l ++ b.got) a.equal ∙ append_assoc s.left a.got b.got;
   }
+
+  -- it is one list of bytes
+  pub HandsOutInOrder-same : (s t : Unbuffered R) (a b : List ℕ) → HandsOutInOrder s a t → HandsOutInOrder s b t → a ≡ b
+  HandsOutInOrder-same s t a b h k =
+      let got : h.got ≡ k.got = append_cancel_left s.log.reads.given h.got k.got (sym h.given ∙ k.given) in
+      append_cancel_right a b t.left (h.equal ∙ ap (λ l. s.left ++ l) got ∙ sym k.equal)
 
 module _ {R : Type 0} (remaining : R → Option (List ℕ)) where
   pub StreamWent-none : (s : Unbuffered R) → StreamWent remaining s [] s

@@ -5,11 +5,12 @@ use Rattle.std.proofs.lemmas.List.Elements.{All-append, All-nil}
 use Rattle.std.specs.IoError.{error_kind}
 use Rattle.std.specs.declared.io.Error.{Error}
 use Rattle.std.specs.declared.io.ErrorKind.TheVariants.{Other}
+use Rattle.buffer_redux.specs.AskingLaws.{AskedOver-on}
 use Rattle.piece_reader.specs.DelimitedLaws.{isnt_end}
-use Rattle.piece_reader.specs.NextPiece.{AskedWhere, AsksGive, NoEnd, NoFault, PiecesWent, Refills}
-use Rattle.piece_reader.specs.NextPieceLaws.{AskedWhere-told, MetEnd-joins, still_going}
+use Rattle.piece_reader.specs.NextPiece.{AskedUnlessEnded, AsksGive, NoEnd, NoFault, PiecesWent, Refills}
+use Rattle.piece_reader.specs.NextPieceLaws.{AskedUnlessEnded-told, MetEnd-joins, still_going}
 use Rattle.piece_reader.specs.PiecesWentLaws.{PiecesWent-inside, PiecesWent-joins, PiecesWent-none, Skips-left}
-use Rattle.piece_reader.specs.PieceReader.{ReaderState, rest}
+use Rattle.piece_reader.specs.PieceReader.{ReaderState, left_of, rest}
 use Rattle.line_reader.specs.declared.line.Lines.{Lines}
 use Rattle.line_reader.specs.CallsLaws.{lines_join}
 use Rattle.line_reader.specs.Lines.{newline, IsLine, with_newline}
@@ -28,7 +29,7 @@ pub record SkipHead {S : Type 0} (remaining : S → Option (List ℕ)) (s m : Re
   pub faults : NoFault s m
   pub no_end : NoEnd s m
   pub gave : AsksGive s m
-  pub asked : AskedWhere IsLine s m
+  pub asked : AskedUnlessEnded IsLine s m
 
 -- before the first
 pub SkipHead-none : {S : Type 0} (remaining : S → Option (List ℕ)) (s : ReaderState S Lines) → SkipHead remaining s s 0
@@ -58,8 +59,8 @@ module _ {S : Type 0} (remaining : S → Option (List ℕ)) (s m : ReaderState S
     went_on more split = PiecesWent-joins remaining _ s m t h.bytes more h.went
         (PiecesWent-inside remaining _ m t more same_reader (ap (λ x. x.decoder) drops.skips.same) split)
 
-    asked_still : AskedWhere IsLine s t
-    asked_still = AskedWhere-told IsLine s m t (ap (λ r. r.log) same_reader) h.asked
+    asked_still : AskedUnlessEnded IsLine s t
+    asked_still = AskedUnlessEnded-told IsLine s m t (ap (λ r. r.log) same_reader) h.asked
 
     faults_still : NoFault s t
     faults_still = ap (λ r. r.log.reads.faults) same_reader ∙ h.faults
@@ -152,40 +153,19 @@ module _ {S : Type 0} (remaining : S → Option (List ℕ)) (s m : ReaderState S
   -- nothing is left, so the stream is asked
   module _ (none : rest m ≡ []) (answer : Result Bool Error) (t : ReaderState S Lines)
       (r : Refills remaining (lined m.decoder.max) m answer t) where
-    all_plain : IsLine (rest s ++ h.went.hands.got)
-    all_plain = subst IsLine
-        (sym (append-nil h.bytes) ∙ ap (λ l. h.bytes ++ l) (sym none) ∙ h.went.hands.equal) h.plain
-
     came_on : PiecesWent remaining (1 + s.decoder.max) s h.bytes t
     came_on = subst (λ l. PiecesWent remaining (1 + s.decoder.max) s l t) (append-nil h.bytes)
         (lines_join remaining s m t h.bytes [] h.went r.went)
 
-    asked_on : AskedWhere IsLine s t
+    asked_on : AskedUnlessEnded IsLine s t
     asked_on = elim r.asked [
-      | inl same ↦ AskedWhere-told IsLine s m t same h.asked
-      | inr over ↦
-          let nothing : over.came ≡ [] =
-          nil_from_length over.came (omega (arith, ap length over.such, length-append (rest m) over.came)) in
-          inr (record {
-            not_ended = sym h.ended ∙ over.not_ended;
-            came = h.went.hands.got;
-            last = over.last;
-            given =
-                over.given ∙ ap (λ l. m.reader.log.reads.given ++ (l ++ over.last)) nothing
-                ∙ ap (λ l. l ++ over.last) h.went.hands.given
-                ∙ append_assoc s.reader.log.reads.given h.went.hands.got over.last;
-            latest = over.latest;
-            such = all_plain;
-            some = omega (arith, h.went.grows.asks, over.some);
-            asks = omega (
-              arith,
-              h.gave,
-              over.asks,
-              ap length nothing,
-              ap length h.went.hands.given,
-              length-append s.reader.log.reads.given h.went.hands.got,
-            );
-          })
+      | inl same ↦ AskedUnlessEnded-told IsLine s m t same h.asked
+      | inr over ↦ inr (
+        sym h.ended ∙ over.0,
+        AskedOver-on (λ bytes. bytes ≡ []) IsLine (left_of s) (left_of m) (left_of t) h.bytes h.went.hands h.went.grows.asks
+            h.gave (λ more is. subst (λ l. IsLine (h.bytes ++ l)) (sym is)
+            (subst IsLine (sym (append-nil h.bytes)) h.plain)) over.1,
+      )
     ]
 
     pub skip_more : answer ≡ Ok true → SkipHead remaining s t dropped

@@ -187,7 +187,7 @@ module _ {S : Type 0} (remaining : S → Option (List ℕ)) (s t : LineState S) 
   unasked answer k ended =
       let told : t.pieces.reader.log ≡ s.pieces.reader.log = elim k.drops.asked [
         | inl same ↦ same
-        | inr over ↦ (let odd : true ≡ false = sym ended ∙ over.not_ended in cc)
+        | inr over ↦ (let odd : true ≡ false = sym ended ∙ over.0 in cc)
       ] in
       let same = PiecesWent-unasked remaining _ s.pieces t.pieces k.drops.bytes k.drops.went told ∙ (empty ended).0 in
       (nil_front k.drops.bytes (rest t.pieces) same, told)

@@ -147,8 +147,8 @@ module _ {S : Type 0} (remaining : S → Option (List ℕ)) (s t : LineState S) 
   SkipsLine-quiet answer why k = elim k.drops.asked [
     | inl same ↦ same
     | inr over ↦ elim why [
-      | inl ended ↦ (let odd : true ≡ false = sym ended ∙ over.not_ended in cc)
-      | inr isnt ↦ absurd (isnt (front_plain (rest s.pieces) over.came over.such))
+      | inl ended ↦ (let odd : true ≡ false = sym ended ∙ over.0 in cc)
+      | inr isnt ↦ absurd (isnt (front_plain (rest s.pieces) over.1.came over.1.such))
     ]
   ]
 

@@ -3,7 +3,7 @@ use Rattle.std.specs.Prelude.{◌≡◌, ℕ, ◌+◌, ◌^◌, ◌<◌, ◌≤�
 use Rattle.std.specs.IoError.{error_kind}
 use Rattle.std.specs.declared.io.Error.{Error}
 use Rattle.std.specs.declared.io.ErrorKind.TheVariants.{Other}
-use Rattle.piece_reader.specs.NextPiece.{AskedWhere, Faulted, MetEnd, NoEnd, NoFault, PiecesWent}
+use Rattle.piece_reader.specs.NextPiece.{AskedUnlessEnded, Faulted, MetEnd, NoEnd, NoFault, PiecesWent}
 use Rattle.piece_reader.specs.PieceReader.{IsPieceReader, ReaderState, Skips, rest}
 use Rattle.piece_reader.specs.Plain.{EndsAt}
 use Rattle.line_reader.specs.declared.line.Lines.{Lines}
@@ -31,7 +31,7 @@ pub record DropsThrough {S : Type 0} (remaining : S → Option (List ℕ)) (s : 
       ⊎ (IsLine bytes × (rest t ≡ []) × (t.ended ≡ true) × MetEnd s t)))
       (λ e. IsLine bytes × (rest t ≡ []) × (t.ended ≡ false) × NoEnd s t
       × (Faulted s e t ⊎ (NoFault s t × (error_kind e ≡ Other) × (2 ^ 63 < length bytes))))
-  pub asked : AskedWhere IsLine s t
+  pub asked : AskedUnlessEnded IsLine s t
   pub whole : IsPieceReader (lined t.decoder.max) t
 
 -- what one call of `skip_line` does: the line is skipped, or is being skipped still

@@ -9,7 +9,7 @@ use Rattle.buffer_redux.specs.Transfer.{DoesNothing}
 use Rattle.buffer_redux.specs.declared.policy.StdPolicy.{StdPolicy}
 use Rattle.piece_reader.specs.Decoding.{IsLent, bytes_at}
 use Rattle.piece_reader.specs.Grammar.{Begins, Grammar, IsOpen}
-use Rattle.piece_reader.specs.NextPiece.{AskedWhere, PiecesWent, empty_reads}
+use Rattle.piece_reader.specs.NextPiece.{AskedUnlessEnded, PiecesWent, empty_reads}
 use Rattle.piece_reader.specs.PieceReader.{IsPieceReader, ReaderState, rest}
 use Rattle.piece_reader.specs.Texts.{HasPieces, IsPieces}
 use Rattle.piece_reader.specs.declared.decoder.Span.{Span}
@@ -138,7 +138,7 @@ module _ {T R D X A W E : Type 0} (remaining : R → Option (List ℕ)) (f : Pie
     still = λ s t. IsStill (f.target s) (f.target t);
     room = λ s. (f.target s).block.capacity - length (f.target s).block.bytes;
     flushes = FlushesOrNot f;
-    asks = λ s t. AskedWhere (IsOpen (grammar_of f s)) (f.source s) (f.source t)
+    asks = λ s t. AskedUnlessEnded (IsOpen (grammar_of f s)) (f.source s) (f.source t)
         × ReadLogGrows (f.source s).reader.log.reads (f.source t).reader.log.reads;
     wants = λ s. (grammar_of f s).most - length (rest (f.source s));
     ends = λ s how t. (f.held t ≡ None) × PiecesEnd f s how t;

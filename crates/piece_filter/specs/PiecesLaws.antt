@@ -2,13 +2,15 @@
 use Rattle.std.proofs.Common.{◌≡◌, ℕ, inl, inr, List, [], ◌∷◌, ◌++◌, length, false, Option, None, Some, Result, Ok, Err, refl, sym, ap, subst, ◌∙◌, arith, append-nil, append_assoc, length-append, flat_map}
 use Rattle.std.proofs.lemmas.Bool.{true≢false}
 use Rattle.std.specs.declared.io.Error.{Error}
+use Rattle.buffer_redux.specs.Asking.{AskedOver}
 use Rattle.buffer_redux.specs.BufWriter.{WritesInOrder}
 use Rattle.buffer_redux.specs.LogGrows.{ReadLogGrows}
+use Rattle.buffer_redux.specs.Unbuffer.{HandsOutInOrder, Unbuffered}
 use Rattle.buffer_redux.specs.WriterLaws.{WritesInOrder-joins, WritesInOrder-none}
 use Rattle.piece_reader.specs.Grammar.{Grammar, IsOpen}
-use Rattle.piece_reader.specs.NextPiece.{AskedOver, AskedWhere, Faulted, HandsBytes, NextPiece, PiecesWent}
+use Rattle.piece_reader.specs.NextPiece.{AskedUnlessEnded, Faulted, NextPiece, PiecesWent}
 use Rattle.piece_reader.specs.NextPieceLaws.{MetEnd-once}
-use Rattle.piece_reader.specs.PieceReader.{ReaderState, rest}
+use Rattle.piece_reader.specs.PieceReader.{ReaderState, left_of, rest}
 use Rattle.piece_reader.specs.PiecesWentLaws.{PiecesWent-joins, PiecesWent-none, drop_none}
 use Rattle.piece_reader.specs.Texts.{HasPieces, IsPieces, StartsWith}
 use Rattle.forward.specs.Filter.{AsksSent, FilterRules, IsLawful, Moves, StaysOpen}
@@ -18,13 +20,13 @@ use Rattle.programs.specs.TakenIn.{sent_all, taken_more}
 use Rattle.piece_filter.specs.Pieces.{AnswersAll, HandsPieces, IsCoherent, IsText, PiecesEnd, Piecewise, TakesReplies, grammar_of, held_at, held_of, piece_rules}
 
 -- from an empty buffer on, what was given is what was handed out, and what is left
-pub given_since : {S D : Type 0} (s t : ReaderState S D) (bytes : List ℕ) → s.reader.block.bytes ≡ [] → HandsBytes s bytes t
+pub given_since : {S D : Type 0} (s t : ReaderState S D) (bytes : List ℕ) → s.reader.block.bytes ≡ [] → HandsOutInOrder (left_of s) bytes (left_of t)
     → t.reader.log.reads.given ≡ s.reader.log.reads.given ++ (bytes ++ rest t)
 given_since s t bytes none hands = hands.given ∙ ap (λ l. s.reader.log.reads.given ++ l)
     (sym (hands.equal ∙ ap (λ l. l ++ hands.got) (drop_none s.handed s.reader.block.bytes none)))
 
 -- each ask gave a byte, but for the one that failed
-pub gave_but_failed : {S D : Type 0} (Such : List ℕ → Type 0) (s m : ReaderState S D) (e : Error) → AskedWhere Such s m
+pub gave_but_failed : {S D : Type 0} (Such : List ℕ → Type 0) (s m : ReaderState S D) (e : Error) → AskedUnlessEnded Such s m
     → Faulted s e m → AsksGiveOrFail s.reader.log m.reader.log
 gave_but_failed Such s m e (inl same) fault = omega (
   arith,
@@ -34,10 +36,10 @@ gave_but_failed Such s m e (inl same) fault = omega (
 )
 gave_but_failed Such s m e (inr over) fault = omega (
   arith,
-  over.asks,
-  ap length over.given,
-  length-append s.reader.log.reads.given (over.came ++ over.last),
-  length-append over.came over.last,
+  over.1.asks,
+  ap length over.1.given,
+  length-append s.reader.log.reads.given (over.1.came ++ m.reader.log.reads.latest),
+  length-append over.1.came m.reader.log.reads.latest,
   ap length fault,
   length-append s.reader.log.reads.faults (e ∷ []),
 )
@@ -85,15 +87,15 @@ module _ {X : Type 0} (g : Grammar X) where
   whole_text bytes (payload ∷ p) (more, starts, is) = inl (more, starts, whole_text more p is)
 
 -- the stream was asked, also for the last time, behind what had come
-asked_last : {S D : Type 0} (Such : List ℕ → Type 0) (s m : ReaderState S D) (over : AskedOver Such s m)
-    → ReadLogGrows s.reader.log.reads m.reader.log.reads → AskedLast over.came s.reader.log m.reader.log
+asked_last : {S : Type 0} (Such : List ℕ → Type 0) (s m : Unbuffered S) (over : AskedOver Such s m)
+    → ReadLogGrows s.log.reads m.log.reads → AskedLast over.came s.log m.log
 asked_last Such s m over grows = record {
-  given = over.given ∙ ap (λ l. s.reader.log.reads.given ++ (over.came ++ l)) (sym over.latest);
+  given = over.given;
   asks = omega (
     arith,
     over.asks,
     ap length grows.faults.equal,
-    length-append s.reader.log.reads.faults grows.faults.more,
+    length-append s.log.reads.faults grows.faults.more,
   );
 }
 
@@ -226,7 +228,7 @@ module _ {T R D X A W E : Type 0} (remaining : R → Option (List ℕ)) (f : Pie
         → rules.lacks s → f.sent s → rules.asks s t → AsksSent rules first s t
     asks_sent first s t p fresh moves still lacks sent (inl same, grows) = inl same
     asks_sent first s t p fresh moves (inr closed) lacks sent (inr over, grows) =
-        absurd (true≢false (sym closed ∙ over.not_ended))
+        absurd (true≢false (sym closed ∙ over.0))
     asks_sent first s t p fresh moves (inl gives) lacks sent (inr over, grows) =
         let hands = moves.hands in
         let takes = moves.takes in
@@ -235,18 +237,20 @@ module _ {T R D X A W E : Type 0} (remaining : R → Option (List ℕ)) (f : Pie
         let came = hands.went.hands in
         let whole : IsPieces (f.grammar d) hands.bytes p [] = elim hands.text [
           | inl is ↦ subst (λ l. IsPieces (f.grammar d) hands.bytes l []) (handed_all first s p hands fresh.1 lacks.0) is
-          | inr last ↦ absurd (true≢false (sym last.1 ∙ over.not_ended))
+          | inr last ↦ absurd (true≢false (sym last.1 ∙ over.0))
         ] in
+        let asked = over.1 in
         inr (record {
-          before = came.got ++ over.came;
-          asked = AskedLast-after (f.source first).reader.log (f.source s).reader.log (f.source t).reader.log came.got over.came
-              came.given gives.give (asked_last (IsOpen (grammar_of f s)) (f.source s) (f.source t) over grows);
+          before = came.got ++ asked.came;
+          asked = AskedLast-after (f.source first).reader.log (f.source s).reader.log (f.source t).reader.log came.got asked.came
+              came.given gives.give
+              (asked_last (IsOpen (grammar_of f s)) (left_of (f.source s)) (left_of (f.source t)) asked grows);
           due = takes.reply;
           is_due = subst (λ l. f.due d (f.service first) l takes.reply)
-              (sym (append_assoc hands.bytes left over.came) ∙ ap (λ l. l ++ over.came) came.equal
-              ∙ append_assoc (rest (f.source first)) came.got over.came)
-              (sound.is_due d (f.service first) (f.service s) hands.bytes (left ++ over.came) takes.reply p whole
-              (subst (λ d. IsOpen (f.grammar d) (left ++ over.came)) hands.went.decoder over.such) takes.answers);
+              (sym (append_assoc hands.bytes left asked.came) ∙ ap (λ l. l ++ asked.came) came.equal
+              ∙ append_assoc (rest (f.source first)) came.got asked.came)
+              (sound.is_due d (f.service first) (f.service s) hands.bytes (left ++ asked.came) takes.reply p whole
+              (subst (λ d. IsOpen (f.grammar d) (left ++ asked.came)) hands.went.decoder asked.such) takes.answers);
           sent = sent_all (f.target first) (f.target s) takes.reply takes.in_order fresh.0 (sound.all_sent s sent);
         })
 

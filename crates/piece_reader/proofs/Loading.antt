@@ -10,8 +10,8 @@ use Rattle.piece_reader.specs.declared.error.NextError.{NextError}
 use Rattle.piece_reader.specs.declared.error.NextError.TheVariants.{Wrong, Io}
 use Rattle.piece_reader.specs.Decoding.{bytes_at}
 use Rattle.piece_reader.specs.Grammar.{Grammar, IsLawful, IsOpen, IsOpenBelow}
-use Rattle.piece_reader.specs.NextPiece.{load_answer, AsksGive, AskedWhere, NextAnswer, NextPiece, MetEnd, NoEnd, OffersMore, PiecesWent, StaysLooked}
-use Rattle.piece_reader.specs.NextPieceLaws.{AskedWhere-told, MetEnd-joins, MetEnd-once, OffersMore-told, seen_inside, still_going}
+use Rattle.piece_reader.specs.NextPiece.{load_answer, AsksGive, AskedUnlessEnded, NextAnswer, NextPiece, MetEnd, NoEnd, OffersMore, PiecesWent, StaysLooked}
+use Rattle.piece_reader.specs.NextPieceLaws.{AskedUnlessEnded-told, MetEnd-joins, MetEnd-once, OffersMore-told, seen_inside, still_going}
 use Rattle.piece_reader.specs.PiecesWentLaws.{PiecesWent-joins, PiecesWent-inside}
 use Rattle.piece_reader.specs.PieceReader.{ReaderState, IsPieceReader, rest}
 use Rattle.piece_reader.specs.StaysLeftLaws.{NextPiece-looked}
@@ -20,12 +20,12 @@ use Rattle.piece_reader.proofs.Reading.{rest_whole}
 use Rattle.piece_reader.proofs.Headers.{HeaderBytes, HeaderBytes-none, HeaderBytes-told, HeaderBytes-more, asked_on, offered_on, still_open, went_on}
 
 -- where an end was met nothing was asked that gave none
-gave_end : {S D : Type 0} {Such : List ℕ → Type 0} (s t : ReaderState S D) → AskedWhere Such s t → MetEnd s t → NoEnd s t
+gave_end : {S D : Type 0} {Such : List ℕ → Type 0} (s t : ReaderState S D) → AskedUnlessEnded Such s t → MetEnd s t → NoEnd s t
     → AsksGive s t
 gave_end s t (inl same) met none =
     omega (arith, ap (λ l. l.reads.asks) same, ap (λ l. length l.reads.given) same)
 gave_end s t (inr over) met none =
-    absurd (omega (arith, MetEnd-once s t over.not_ended met, none))
+    absurd (omega (arith, MetEnd-once s t over.0 met, none))
 
 -- what holds before each turn of `step_on`: nothing was handed out, and the next piece isn't buffered whole
 pub record LoadHead {S D W : Type 0} (remaining : S → Option (List ℕ)) (g : Grammar W) (s m : ReaderState S D) (need : ℕ)
@@ -77,7 +77,7 @@ module _ {S D W : Type 0} (remaining : S → Option (List ℕ)) (g : Grammar W) 
           bytes = bytes;
           went = PiecesWent-joins remaining g.most s m w [] bytes h.went inside;
           answers = (h.faults, inl (takes.0.is, open_m, h.no_end));
-          asked = AskedWhere-told (IsOpen g) s m w refl h.asked;
+          asked = AskedUnlessEnded-told (IsOpen g) s m w refl h.asked;
           offered = OffersMore-told s m w refl h.offered;
           gave = λ _ _. h.asks;
           told = λ ended. (let odd : true ≡ false = sym ended ∙ sym h.ended ∙ open_m in cc);
@@ -199,7 +199,7 @@ module _ {S D W : Type 0} (remaining : S → Option (List ℕ)) (g : Grammar W) 
       went : PiecesWent remaining g.most s [] t
       went = went_on remaining g s m h.header need h.lacks (Ok false) t a
 
-      asked : AskedWhere (IsOpen g) s t
+      asked : AskedUnlessEnded (IsOpen g) s t
       asked = asked_on remaining g s m h.header need h.lacks (Ok false) t a
 
       offered : OffersMore s t
@@ -218,7 +218,7 @@ module _ {S D W : Type 0} (remaining : S → Option (List ℕ)) (g : Grammar W) 
             bytes = [];
             went = PiecesWent-joins remaining g.most s t w [] [] went inside;
             answers = (refl, none, (a.end refl).2 ∙ h.header.faults, refl, ends);
-            asked = AskedWhere-told (IsOpen g) s t w refl asked;
+            asked = AskedUnlessEnded-told (IsOpen g) s t w refl asked;
             offered = OffersMore-told s t w refl offered;
             gave = λ none _. gave_end s t asked ends none;
             told = λ _. refl;
@@ -241,7 +241,7 @@ module _ {S D W : Type 0} (remaining : S → Option (List ℕ)) (g : Grammar W) 
             bytes = rest t;
             went = PiecesWent-joins remaining g.most s t w [] (rest t) went inside;
             answers = ((a.end refl).2 ∙ h.header.faults, inr (last, end_open, some, none, refl, ends));
-            asked = AskedWhere-told (IsOpen g) s t w refl asked;
+            asked = AskedUnlessEnded-told (IsOpen g) s t w refl asked;
             offered = OffersMore-told s t w refl offered;
             gave = λ none _. gave_end s t asked ends none;
             told = λ ended. absurd (omega (arith, some, ap length (a.whole.ended (still_ended some ended))));

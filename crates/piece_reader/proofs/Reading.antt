@@ -12,9 +12,10 @@ use Rattle.buffer_redux.specs.MinBuffered.{ReadiesFor, min_read_rules}
 use Rattle.buffer_redux.specs.MinBufferedLaws.{number_of, none_before_fault, none_where_enough, once_at_end, enough_never_dry}
 use Rattle.buffer_redux.specs.declared.policy.MinBuffered.{MinBuffered}
 use Rattle.piece_reader.specs.Grammar.{Grammar, IsOpen}
-use Rattle.piece_reader.specs.NextPiece.{AskedWhere, Faulted, OffersMore, OffersOver, PiecesWent}
+use Rattle.buffer_redux.specs.Asking.{AskedOver}
+use Rattle.piece_reader.specs.NextPiece.{AskedUnlessEnded, Faulted, OffersMore, OffersOver, PiecesWent}
 use Rattle.piece_reader.specs.NextPieceLaws.{MetEnd-now}
-use Rattle.piece_reader.specs.PieceReader.{ReaderState, IsPieceReader, rest}
+use Rattle.piece_reader.specs.PieceReader.{ReaderState, IsPieceReader, left_of, rest}
 use Rattle.piece_reader.specs.Steps.{AsksFor}
 
 -- where no byte was handed out, all that is buffered is left
@@ -262,35 +263,26 @@ module _ {S D W : Type 0} (remaining : S → Option (List ℕ)) (g : Grammar W) 
       (omega (arith, number, most, whole.capacity)) whole.block whole.plain
 
   asked_over : (Such : List ℕ → Type 0) (some : s.reader.log.reads.asks < t.log.reads.asks)
-      → Such (rest s ++ (few_asked some).came) → AskedWhere Such s filled
+      → Such (rest s ++ (few_asked some).came) → AskedOver Such (left_of s) (left_of filled)
   asked_over Such some such =
       let few = few_asked some in
-      inr (record {
-        not_ended = not_ended;
-        came = few.came;
-        last = t.log.reads.latest;
-        given = few.given;
-        latest = refl;
-        such = such;
-        some = some;
-        asks = few.asks;
-      })
+      record { came = few.came; given = few.given; such = such; some = some; asks = few.asks }
 
   there : (came : List ℕ) → rest s ++ came ≡ s.reader.block.bytes ++ came
   there came = ap (λ l. l ++ came) (rest_whole s handed)
 
-  asked : s.reader.log.reads.asks < t.log.reads.asks → AskedWhere (λ bytes. length bytes < n) s filled
+  asked : s.reader.log.reads.asks < t.log.reads.asks → AskedUnlessEnded (λ bytes. length bytes < n) s filled
   asked some =
       let few = few_asked some in
-      asked_over (λ bytes. length bytes < n) some (omega (arith, few.few, number, ap length (there few.came)))
+      inr (not_ended, asked_over (λ bytes. length bytes < n) some (omega (arith, few.few, number, ap length (there few.came))))
 
   offered : s.reader.log.reads.asks < t.log.reads.asks → OffersMore s filled
   offered some =
       let few = few_asked some in
-      asked_over (OffersOver s.reader.block.capacity t.log.reads.offer) some (
+      inr (asked_over (OffersOver s.reader.block.capacity t.log.reads.offer) some (
         omega (arith, few.few, few.offer, ap length (there few.came)),
         λ none. few.whole (sym (there few.came) ∙ none),
-      )
+      ))
 
   left : length (rest filled) ≡ length t.block.bytes
   left = ap length (rest_whole filled handed)

@@ -2,11 +2,13 @@
 use Rattle.std.proofs.Common.{◌≡◌, ◌↔◌, ℕ, ◌<◌, List, [], ◌∷◌, ◌++◌, length, Bool, true, false, Option, Result, Ok, Err, refl, sym, ap, subst, ◌∙◌, arith, inl, inr}
 use Rattle.std.proofs.lemmas.List.{nil_from_length}
 use Rattle.std.specs.declared.io.Error.{Error}
+use Rattle.buffer_redux.specs.Asking.{AskedOver}
+use Rattle.buffer_redux.specs.AskingLaws.{AskedOver-on}
 use Rattle.piece_reader.specs.Grammar.{Grammar}
-use Rattle.piece_reader.specs.NextPiece.{AskedWhere, Faulted, OffersMore, OffersOver, PiecesWent, Refills}
-use Rattle.piece_reader.specs.NextPieceLaws.{AskedWhere-told, MetEnd-joins, OffersMore-told, still_going}
+use Rattle.piece_reader.specs.NextPiece.{AskedUnlessEnded, Faulted, OffersMore, OffersOver, PiecesWent, Refills}
+use Rattle.piece_reader.specs.NextPieceLaws.{AskedUnlessEnded-told, MetEnd-joins, OffersMore-told, still_going}
 use Rattle.piece_reader.specs.PiecesWentLaws.{PiecesWent-inside, PiecesWent-joins}
-use Rattle.piece_reader.specs.PieceReader.{IsPieceReader, ReaderState, rest}
+use Rattle.piece_reader.specs.PieceReader.{IsPieceReader, ReaderState, left_of, rest}
 use Rattle.piece_reader.specs.Steps.{AsksFor}
 use Rattle.piece_reader.proofs.Taking.{whole_as}
 use Rattle.piece_reader.proofs.Headers.{HeaderBytes, HeaderBytes-none, HeaderBytes-told}
@@ -27,30 +29,26 @@ module _ {S D W : Type 0} (remaining : S → Option (List ℕ)) (g : Grammar W) 
   header : HeaderBytes remaining g s m
   header = HeaderBytes-told remaining g s s (HeaderBytes-none remaining g s) m went told ended
 
-  asked_over : (P Q : List ℕ → Type 0) (t : ReaderState S D) → ((more : List ℕ) → P (rest m ++ more) → Q (rest s ++ more))
-      → AskedWhere P m t → AskedWhere Q s t
-  asked_over P Q t so (inl same) = inl (same ∙ told)
-  asked_over P Q t so (inr over) = inr (record {
-    not_ended = sym ended ∙ over.not_ended;
-    came = over.came;
-    last = over.last;
-    given = over.given ∙ ap (λ l. l.reads.given ++ (over.came ++ over.last)) told;
-    latest = over.latest;
-    such = so over.came over.such;
-    some = omega (arith, over.some, ap (λ l. l.reads.asks) told);
-    asks = omega (arith, over.asks, ap (λ l. l.reads.asks) told);
-  })
+  asked_over : (P Q : List ℕ → Type 0) (t : ReaderState S D) → ((more : List ℕ) → P (rest m ++ more) → Q (rest m ++ more))
+      → AskedOver P (left_of m) (left_of t) → AskedOver Q (left_of s) (left_of t)
+  asked_over P Q t so =
+      AskedOver-on P Q (left_of s) (left_of m) (left_of t) [] went.hands went.grows.asks header.asks so
 
-  asked_empty : (t : ReaderState S D) → AskedWhere (λ bytes. length bytes < 1) m t → AskedWhere (λ bytes. bytes ≡ []) s t
-  asked_empty t = asked_over (λ bytes. length bytes < 1) (λ bytes. bytes ≡ []) t
-      (λ more few. nil_from_length (rest s ++ more) (omega (arith, few, ap (λ l. length (l ++ more)) left)))
+  asked_empty : (t : ReaderState S D) → AskedUnlessEnded (λ bytes. length bytes < 1) m t
+      → AskedUnlessEnded (λ bytes. bytes ≡ []) s t
+  asked_empty t (inl same) = inl (same ∙ told)
+  asked_empty t (inr over) = inr (
+    sym ended ∙ over.0,
+    asked_over (λ bytes. length bytes < 1) (λ bytes. bytes ≡ []) t
+        (λ more few. nil_from_length (rest m ++ more) (omega (arith, few))) over.1,
+  )
 
   offered_over : (t : ReaderState S D) → OffersMore m t → OffersMore s t
-  offered_over t =
+  offered_over t (inl same) = inl (same ∙ told)
+  offered_over t (inr over) =
       let offer = t.reader.log.reads.offer in
-      asked_over (OffersOver m.reader.block.capacity offer) (OffersOver s.reader.block.capacity offer) t
-      (λ more over. subst (λ l. OffersOver s.reader.block.capacity offer (l ++ more)) left
-      (over.0, λ none. over.1 none ∙ went.capacity))
+      inr (asked_over (OffersOver m.reader.block.capacity offer) (OffersOver s.reader.block.capacity offer) t
+      (λ more offers. (offers.0, λ none. offers.1 none ∙ went.capacity)) over)
 
   -- what changes where the end alone is noted behind the answer
   module _ (t : ReaderState S D) (came flag : Bool) where
@@ -62,8 +60,8 @@ module _ {S D W : Type 0} (remaining : S → Option (List ℕ)) (g : Grammar W) 
         (PiecesWent-joins remaining g.most s m t [] [] went a.went)
         (PiecesWent-inside remaining g.most t noted [] refl refl refl)
 
-    asked_then : AsksFor remaining g 1 m (Ok came) t → AskedWhere (λ bytes. bytes ≡ []) s noted
-    asked_then a = AskedWhere-told (λ bytes. bytes ≡ []) s t noted refl (asked_empty t a.asked)
+    asked_then : AsksFor remaining g 1 m (Ok came) t → AskedUnlessEnded (λ bytes. bytes ≡ []) s noted
+    asked_then a = AskedUnlessEnded-told (λ bytes. bytes ≡ []) s t noted refl (asked_empty t a.asked)
 
     offered_then : AsksFor remaining g 1 m (Ok came) t → OffersMore s noted
     offered_then a = OffersMore-told s t noted refl (offered_over t a.offered)

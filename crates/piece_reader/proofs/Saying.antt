@@ -1,6 +1,8 @@
 -- What pieces say that a step went on to.
 use Rattle.std.proofs.Common.{◌≡◌, ℕ, ◌+◌, ◌-◌, List, [], ◌++◌, take, drop, sym, ap, subst, ◌∙◌, arith, inl, inr, append-nil, Option, Result, Ok, Err, Some, None, IfOk, IfSome}
 use Rattle.std.proofs.lemmas.List.{drop-drop, take-append-drop}
+use Rattle.buffer_redux.specs.Unbuffer.{HandsOutInOrder}
+use Rattle.buffer_redux.specs.UnbufferLaws.{HandsOutInOrder-same}
 use Rattle.piece_reader.specs.declared.decoder.Found.TheVariants as found
 use Rattle.piece_reader.specs.declared.decoder.Span.{Span}
 use Rattle.piece_reader.specs.declared.error.NextError.{NextError}
@@ -8,11 +10,10 @@ use Rattle.piece_reader.specs.declared.error.NextError.TheVariants.{Wrong, Io}
 use Rattle.piece_reader.specs.Decoding.{bytes_at}
 use Rattle.piece_reader.specs.Grammar.{Grammar, IsLawful}
 use Rattle.piece_reader.specs.Items.{IsWhole, NextItem}
-use Rattle.piece_reader.specs.NextPiece.{HandsBytes, NextPiece, PiecesWent, load_answer}
+use Rattle.piece_reader.specs.NextPiece.{NextPiece, PiecesWent, load_answer}
 use Rattle.piece_reader.specs.GrammarLaws.{wrong_some}
 use Rattle.piece_reader.specs.NextPieceLaws.{NextPiece-refused}
-use Rattle.piece_reader.specs.PiecesWentLaws.{HandsBytes-same}
-use Rattle.piece_reader.specs.PieceReader.{ReaderState, IsPieceReader, rest}
+use Rattle.piece_reader.specs.PieceReader.{ReaderState, IsPieceReader, left_of, rest}
 use Rattle.piece_reader.specs.Steps.{Takes, TakesEnd}
 use Rattle.piece_reader.proofs.Loading.{takes_shown}
 use Rattle.piece_reader.proofs.Reading.{rest_whole}
@@ -20,7 +21,7 @@ use Rattle.piece_reader.proofs.Reading.{rest_whole}
 module _ {S D : Type 0} where
   -- what stands at the front of the buffer is what was left, and what came
   pub hands_front : (s m t : ReaderState S D) (remaining : S → Option (List ℕ)) (most : ℕ) → PiecesWent remaining most s [] m
-      → m.handed ≡ 0 → t.reader ≡ m.reader → HandsBytes s (take t.handed t.reader.block.bytes) t
+      → m.handed ≡ 0 → t.reader ≡ m.reader → HandsOutInOrder (left_of s) (take t.handed t.reader.block.bytes) (left_of t)
   hands_front s m t remaining most went none same = record {
     got = went.hands.got;
     given = ap (λ r. r.log.reads.given) same ∙ went.hands.given;
@@ -37,7 +38,7 @@ module _ {S D W : Type 0} where
   -- what was handed out as the last piece is what stands at the front of the buffer
   pub hands_last : (s m t : ReaderState S D) (remaining : S → Option (List ℕ)) (most : ℕ) (g : Grammar W)
       → PiecesWent remaining most s [] m → m.handed ≡ 0 → (r : Result (Option Span) (NextError W)) → TakesEnd g m r t
-      → IfOk r (λ found. IfSome found (λ _. HandsBytes s (take t.handed t.reader.block.bytes) t))
+      → IfOk r (λ found. IfSome found (λ _. HandsOutInOrder (left_of s) (take t.handed t.reader.block.bytes) (left_of t)))
   hands_last s m t remaining most g went none (Ok None) takes = tt
   hands_last s m t remaining most g went none (Err (Wrong e)) takes = tt
   hands_last s m t remaining most g went none (Err (Io e)) takes = tt
@@ -54,7 +55,7 @@ module _ {S D W : Type 0} where
       ∙ ap (λ n. take used (drop n s.reader.block.bytes)) is
 
   pub hands_piece : (g : Grammar W) (s t : ReaderState S D) (span : Span) (used : ℕ) → Takes g s (found.Piece span used) t
-      → HandsBytes s (take used (rest s)) t
+      → HandsOutInOrder (left_of s) (take used (rest s)) (left_of t)
   hands_piece g s t span used takes =
       let same = takes.1 in
       record {
@@ -84,11 +85,11 @@ module _ {S D W : Type 0} (grammar : D → Grammar W) (s t : ReaderState S D) wh
 
   module _ (remaining : S → Option (List ℕ)) (payload : List ℕ)
       (next : NextPiece remaining (grammar s.decoder) s (Ok (Some payload)) t)
-      (front : HandsBytes s (take t.handed t.reader.block.bytes) t) where
+      (front : HandsOutInOrder (left_of s) (take t.handed t.reader.block.bytes) (left_of t)) where
     pub whole_front : IsWhole (grammar t.decoder) (take (t.handed - 0) (drop 0 t.reader.block.bytes))
     whole_front =
         let same : next.bytes ≡ take (t.handed - 0) (drop 0 t.reader.block.bytes) =
-        HandsBytes-same s t next.bytes (take t.handed t.reader.block.bytes) next.went.hands front ∙ sym (part_front t) in
+        HandsOutInOrder-same (left_of s) (left_of t) next.bytes (take t.handed t.reader.block.bytes) next.went.hands front ∙ sym (part_front t) in
         subst (IsWhole (grammar t.decoder)) same
         (subst (λ d. IsWhole (grammar d) next.bytes) (sym next.went.decoder)
         (whole_of remaining (grammar s.decoder) s t payload next))
@@ -96,9 +97,9 @@ module _ {S D W : Type 0} (grammar : D → Grammar W) (s t : ReaderState S D) wh
 -- what is promised of an answer, where that is a place
 module _ {S D W : Type 0} (s t : ReaderState S D) (r : Result (Option Span) (NextError W)) (span : Span)
     (is : r ≡ Ok (Some span)) where
-  pub loaded_front : IfOk r (λ found. IfSome found (λ _. HandsBytes s (take t.handed t.reader.block.bytes) t))
-      → HandsBytes s (take t.handed t.reader.block.bytes) t
-  loaded_front front = subst (λ x. IfOk x (λ found. IfSome found (λ _. HandsBytes s (take t.handed t.reader.block.bytes) t))) is
+  pub loaded_front : IfOk r (λ found. IfSome found (λ _. HandsOutInOrder (left_of s) (take t.handed t.reader.block.bytes) (left_of t)))
+      → HandsOutInOrder (left_of s) (take t.handed t.reader.block.bytes) (left_of t)
+  loaded_front front = subst (λ x. IfOk x (λ found. IfSome found (λ _. HandsOutInOrder (left_of s) (take t.handed t.reader.block.bytes) (left_of t)))) is
       front
 
 pub loaded_next : {S D W : Type 0} (grammar : D → Grammar W) (s t : ReaderState S D) (remaining : S → Option (List ℕ))
@@ -126,7 +127,7 @@ says_piece remaining grammar item_of s t law before whole at here span used take
     let g = grammar s.decoder in
     let next = takes_shown remaining g law s t at here before whole span used takes in
     let bytes = part_piece g s t at span used here takes
-    ∙ HandsBytes-same s t (take used (rest s)) next.bytes (hands_piece g s t span used takes) next.went.hands in
+    ∙ HandsOutInOrder-same (left_of s) (left_of t) (take used (rest s)) next.bytes (hands_piece g s t span used takes) next.went.hands in
     record {
       next = next;
       says = is ∙ ap (λ x. item_of x.decoder (take (t.handed - at) (drop at t.reader.block.bytes))) takes.1

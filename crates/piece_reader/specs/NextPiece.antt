@@ -2,29 +2,25 @@
 use Rattle.std.specs.Prelude.{◌≡◌, ℕ, ◌+◌, ◌<◌, ◌≤◌, ◌⊎◌, List, [], ◌∷◌, ◌++◌, length, take, Bool, true, false, MatchBool, Option, None, Some, Result, Ok, Err, OnErr, option_copied}
 use Rattle.std.specs.Borrow.{Bor}
 use Rattle.std.specs.declared.io.Error.{Error}
+use Rattle.buffer_redux.specs.Asking.{AskedOver, AskedWhere}
 use Rattle.buffer_redux.specs.LogGrows.{ReadLogGrows}
 use Rattle.buffer_redux.specs.BufReader.{InnerGives}
 pub use Rattle.buffer_redux.specs.BufReader.{empty_reads}
 use Rattle.buffer_redux.specs.Sparing.{PotentialHeld}
+use Rattle.buffer_redux.specs.Unbuffer.{HandsOutInOrder}
 use Rattle.piece_reader.specs.declared.decoder.Span.{Span}
 use Rattle.piece_reader.specs.declared.error.NextError.{NextError}
 use Rattle.piece_reader.specs.declared.error.NextError.TheVariants.{Wrong, Io}
 use Rattle.piece_reader.specs.Decoding.{bytes_at}
 use Rattle.piece_reader.specs.Grammar.{Begins, Grammar, IsOpen, IsOpenBelow}
-use Rattle.piece_reader.specs.PieceReader.{ReaderState, IsPieceReader, rest}
-
--- these bytes, then what is left, are what was left, then what was given since
-pub record HandsBytes {S D : Type 0} (s : ReaderState S D) (bytes : List ℕ) (t : ReaderState S D) : Type 0 where
-  pub got : List ℕ
-  pub given : t.reader.log.reads.given ≡ s.reader.log.reads.given ++ got
-  pub equal : bytes ++ rest t ≡ rest s ++ got
+use Rattle.piece_reader.specs.PieceReader.{ReaderState, IsPieceReader, left_of, rest}
 
 -- what any calls do, one after another, that handed out these bytes: pieces, each with all that it takes. No byte is lost; of
 -- what the inner reader is known to have left, just what it gave is gone; no more bytes are moved than are given, over all
 -- calls since the reader was made, and none where the stream isn't asked; and no memory is taken
 pub record PiecesWent {S D : Type 0} (remaining : S → Option (List ℕ)) (most : ℕ) (s : ReaderState S D) (bytes : List ℕ)
     (t : ReaderState S D) : Type 0 where
-  pub hands : HandsBytes s bytes t
+  pub hands : HandsOutInOrder (left_of s) bytes (left_of t)
   pub known : InnerGives remaining s.reader t.reader
   pub grows : ReadLogGrows s.reader.log.reads t.reader.log.reads
   pub held : PotentialHeld most s.reader t.reader
@@ -33,21 +29,9 @@ pub record PiecesWent {S D : Type 0} (remaining : S → Option (List ℕ)) (most
   pub limit : t.reader.block.limit ≡ s.reader.block.limit
   pub decoder : t.decoder ≡ s.decoder
 
--- the stream was asked, also for the last time, only where what was left, then what had come, was such, and at most once more
--- than bytes had come then; that ask gave the last
-pub record AskedOver {S D : Type 0} (Such : List ℕ → Type 0) (s t : ReaderState S D) : Type 0 where
-  pub not_ended : s.ended ≡ false
-  pub came : List ℕ
-  pub last : List ℕ
-  pub given : t.reader.log.reads.given ≡ s.reader.log.reads.given ++ (came ++ last)
-  pub latest : t.reader.log.reads.latest ≡ last
-  pub such : Such (rest s ++ came)
-  pub some : s.reader.log.reads.asks < t.reader.log.reads.asks
-  pub asks : t.reader.log.reads.asks ≤ s.reader.log.reads.asks + length came + 1
-
--- the stream wasn't asked, or only where what was there was such
-abbrev pub AskedWhere : {S D : Type 0} → (List ℕ → Type 0) → ReaderState S D → ReaderState S D → Type 0
-AskedWhere Such s t = (t.reader.log ≡ s.reader.log) ⊎ AskedOver Such s t
+-- the stream wasn't asked, or, unless its end was met, only where what was there was such
+abbrev pub AskedUnlessEnded : {S D : Type 0} → (List ℕ → Type 0) → ReaderState S D → ReaderState S D → Type 0
+AskedUnlessEnded Such s t = (t.reader.log ≡ s.reader.log) ⊎ ((s.ended ≡ false) × AskedOver Such (left_of s) (left_of t))
 
 -- an offer of so many bytes has room for more than these; and where these are none it is the whole buffer
 abbrev pub OffersOver : ℕ → ℕ → List ℕ → Type 0
@@ -55,7 +39,7 @@ OffersOver capacity offer bytes = (length bytes < offer) × (bytes ≡ [] → of
 
 -- the stream wasn't asked, or the last ask offered more than was there, and the whole buffer where nothing was
 abbrev pub OffersMore : {S D : Type 0} → ReaderState S D → ReaderState S D → Type 0
-OffersMore s t = AskedWhere (OffersOver s.reader.block.capacity t.reader.log.reads.offer) s t
+OffersMore s t = AskedWhere (OffersOver s.reader.block.capacity t.reader.log.reads.offer) (left_of s) (left_of t)
 
 -- no fault was met
 abbrev pub NoFault : {S D : Type 0} → ReaderState S D → ReaderState S D → Type 0
@@ -126,7 +110,7 @@ pub record NextPiece {S D W : Type 0} (remaining : S → Option (List ℕ)) (g :
   pub bytes : List ℕ
   pub went : PiecesWent remaining g.most s bytes t
   pub answers : NextAnswers g s answer bytes t
-  pub asked : AskedWhere (IsOpen g) s t
+  pub asked : AskedUnlessEnded (IsOpen g) s t
   pub offered : OffersMore s t
   pub gave : NoEnd s t → NoFault s t → AsksGive s t
   pub told : s.ended ≡ true → answer ≡ Ok None
@@ -157,7 +141,7 @@ NextBuffered remaining g s None t = StaysLeft g s t × ¬ (Begins g (rest s))
 pub record Refills {S D W : Type 0} (remaining : S → Option (List ℕ)) (g : Grammar W) (s : ReaderState S D)
     (answer : Result Bool Error) (t : ReaderState S D) : Type 0 where
   pub went : PiecesWent remaining g.most s [] t
-  pub asked : AskedWhere (λ bytes. bytes ≡ []) s t
+  pub asked : AskedUnlessEnded (λ bytes. bytes ≡ []) s t
   pub offered : OffersMore s t
   pub more : answer ≡ Ok true → (0 < length (rest t)) × (s.ended ≡ false) × (t.ended ≡ false) × NoEnd s t × NoFault s t
   pub end : answer ≡ Ok false → (rest t ≡ []) × (t.ended ≡ true) × MetEnd s t × NoFault s t

@@ -9,9 +9,11 @@ use Rattle.piece_reader.specs.declared.error.NextError.TheVariants.{Wrong, Io}
 use Rattle.piece_reader.specs.Decoding.{bytes_at}
 use Rattle.piece_reader.specs.Grammar.{Begins, Grammar, IsLawful, IsOpen}
 use Rattle.piece_reader.specs.GrammarLaws.{open_not}
-use Rattle.piece_reader.specs.NextPiece.{AskedWhere, AsksNone, MetEnd, NextAnswer, NextAnswers, NextPiece, NoEnd, OffersMore, OffersOver, empty_reads, load_answer}
+use Rattle.buffer_redux.specs.Asking.{AskedWhere}
+use Rattle.buffer_redux.specs.AskingLaws.{AskedOver-same, AskedWhere-same}
+use Rattle.piece_reader.specs.NextPiece.{AskedUnlessEnded, AsksNone, MetEnd, NextAnswer, NextAnswers, NextPiece, NoEnd, OffersMore, OffersOver, empty_reads, load_answer}
 use Rattle.piece_reader.specs.PiecesWentLaws.{PiecesWent-none, PiecesWent-unasked}
-use Rattle.piece_reader.specs.PieceReader.{ReaderState, IsPieceReader, IsSettled, rest}
+use Rattle.piece_reader.specs.PieceReader.{ReaderState, IsPieceReader, IsSettled, left_of, rest}
 
 -- the answer, by what was left, where the stream wasn't asked
 module _ {S D W : Type 0} (g : Grammar W) (law : IsLawful g) (s t : ReaderState S D) (bytes : List ℕ)
@@ -69,8 +71,8 @@ module _ {S D W : Type 0} (remaining : S → Option (List ℕ)) (g : Grammar W) 
   NextPiece-ready piece payload more is front =
       let told : t.reader.log ≡ s.reader.log = elim next.asked [
         | inl same ↦ same
-        | inr over ↦ absurd (open_not g piece payload (more ++ over.came) is
-            (subst (IsOpen g) (ap (λ l. l ++ over.came) front ∙ append_assoc piece more over.came) over.such))
+        | inr over ↦ absurd (open_not g piece payload (more ++ over.1.came) is
+            (subst (IsOpen g) (ap (λ l. l ++ over.1.came) front ∙ append_assoc piece more over.1.came) over.1.such))
       ] in
       let same = PiecesWent-unasked remaining g.most s t next.bytes next.went told in
       let is' = ready g law s t next.bytes same piece payload more is front answer next.answers in
@@ -82,7 +84,7 @@ module _ {S D W : Type 0} (remaining : S → Option (List ℕ)) (g : Grammar W) 
   NextPiece-wrong e wrong =
       let told : t.reader.log ≡ s.reader.log = elim next.asked [
         | inl same ↦ same
-        | inr over ↦ absurd (over.such.not_wrong e (law.stays (rest s) over.came e wrong))
+        | inr over ↦ absurd (over.1.such.not_wrong e (law.stays (rest s) over.1.came e wrong))
       ] in
       let same = PiecesWent-unasked remaining g.most s t next.bytes next.went told in
       let is = refused g law s t next.bytes same e wrong answer next.answers in
@@ -99,7 +101,7 @@ pub AsksNone-settled : {S D W : Type 0} (remaining : S → Option (List ℕ)) (g
     → IsSettled g s → AsksNone remaining g s
 AsksNone-settled remaining g law s (inl ended) answer t next = elim next.asked [
   | inl same ↦ same
-  | inr over ↦ (let odd : true ≡ false = sym ended ∙ over.not_ended in cc)
+  | inr over ↦ (let odd : true ≡ false = sym ended ∙ over.0 in cc)
 ]
 AsksNone-settled remaining g law s (inr (inl begins)) answer t next =
     AsksNone-begins remaining g law s begins answer t next
@@ -107,24 +109,16 @@ AsksNone-settled remaining g law s (inr (inr (e, wrong))) answer t next =
     (NextPiece-wrong remaining g law s answer t next e wrong).2
 
 -- where the log stays as it is, so does what it was asked over
-pub AskedWhere-told : {S D : Type 0} (Such : List ℕ → Type 0) (s m t : ReaderState S D) → t.reader.log ≡ m.reader.log
-    → AskedWhere Such s m → AskedWhere Such s t
-AskedWhere-told Such s m t told (inl same) = inl (told ∙ same)
-AskedWhere-told Such s m t told (inr over) = inr (record {
-  not_ended = over.not_ended;
-  came = over.came;
-  last = over.last;
-  given = ap (λ l. l.reads.given) told ∙ over.given;
-  latest = ap (λ l. l.reads.latest) told ∙ over.latest;
-  such = over.such;
-  some = omega (arith, over.some, ap (λ l. l.reads.asks) told);
-  asks = omega (arith, over.asks, ap (λ l. l.reads.asks) told);
-})
+pub AskedUnlessEnded-told : {S D : Type 0} (Such : List ℕ → Type 0) (s m t : ReaderState S D) → t.reader.log ≡ m.reader.log
+    → AskedUnlessEnded Such s m → AskedUnlessEnded Such s t
+AskedUnlessEnded-told Such s m t told (inl same) = inl (told ∙ same)
+AskedUnlessEnded-told Such s m t told (inr over) =
+    inr (over.0, AskedOver-same Such (left_of s) (left_of m) (left_of t) told over.1)
 
 pub OffersMore-told : {S D : Type 0} (s m t : ReaderState S D) → t.reader.log ≡ m.reader.log → OffersMore s m → OffersMore s t
 OffersMore-told s m t told offered =
-    AskedWhere-told (OffersOver s.reader.block.capacity t.reader.log.reads.offer) s m t told
-    (subst (λ l. AskedWhere (OffersOver s.reader.block.capacity l.reads.offer) s m) (sym told) offered)
+    AskedWhere-same (OffersOver s.reader.block.capacity t.reader.log.reads.offer) (left_of s) (left_of m) (left_of t) told
+    (subst (λ l. AskedWhere (OffersOver s.reader.block.capacity l.reads.offer) (left_of s) (left_of m)) (sym told) offered)
 
 -- an end of the stream that was met: before, which no call had told yet, or now
 module _ {S D : Type 0} (s t : ReaderState S D) where

@@ -1,7 +1,7 @@
 -- How calls of a reader of pieces join, and what follows since it was made.
 use Rattle.std.specs.Prelude.{◌≡◌, ℕ, List, [], ◌++◌, length, drop, take, Option}
-use Rattle.std.proofs.Common.{sym, ap, subst, ◌∙◌, arith, refl, length-drop, le_refl, append_assoc, append-nil}
-use Rattle.std.proofs.lemmas.List.{append_cancel_left, append_cancel_right, drop-drop, nil_from_length, take-append-drop}
+use Rattle.std.proofs.Common.{sym, ap, subst, ◌∙◌, arith, refl, length-drop, le_refl, append-nil}
+use Rattle.std.proofs.lemmas.List.{append_cancel_left, drop-drop, nil_from_length, take-append-drop}
 use Rattle.buffer_redux.specs.Block.{Block}
 use Rattle.buffer_redux.specs.BufReader.{InnerGives}
 use Rattle.buffer_redux.specs.LogGrows.{ReadLogGrows, ReadLogGrows-none, ReadLogGrows-joins}
@@ -9,41 +9,10 @@ use Rattle.buffer_redux.specs.ReaderLaws.{InnerGives-none, InnerGives-joins}
 use Rattle.buffer_redux.specs.Sparing.{PotentialHeld, MovedAtMostGiven}
 use Rattle.buffer_redux.specs.StreamLog.{StreamLog}
 use Rattle.buffer_redux.specs.Unbuffer.{StreamWent}
-use Rattle.buffer_redux.specs.UnbufferLaws.{StreamWent-joins}
+use Rattle.buffer_redux.specs.UnbufferLaws.{HandsOutInOrder-joins, HandsOutInOrder-none, StreamWent-joins}
 use Rattle.piece_reader.specs.Grammar.{Grammar}
-use Rattle.piece_reader.specs.NextPiece.{HandsBytes, PiecesWent}
+use Rattle.piece_reader.specs.NextPiece.{PiecesWent}
 use Rattle.piece_reader.specs.PieceReader.{ReaderState, IsFresh, IsOver, Skips, TakenApart, left_of, rest}
-
--- a trace hands out one list of bytes
-pub HandsBytes-same : {S D : Type 0} (s t : ReaderState S D) (a b : List ℕ) → HandsBytes s a t → HandsBytes s b t → a ≡ b
-HandsBytes-same s t a b h k =
-    let got : h.got ≡ k.got = append_cancel_left s.reader.log.reads.given h.got k.got (sym h.given ∙ k.given) in
-    append_cancel_right a b (rest t) (h.equal ∙ ap (λ l. rest s ++ l) got ∙ sym k.equal)
-
--- a look alone hands nothing out
-pub HandsBytes-looked : {S D : Type 0} (s m t : ReaderState S D) (bytes : List ℕ) (seen : ℕ) → m ≡ record s { seen = seen }
-    → HandsBytes m bytes t → HandsBytes s bytes t
-HandsBytes-looked s m t bytes seen same h =
-    let k : HandsBytes (record s { seen = seen }) bytes t = subst (λ x. HandsBytes x bytes t) same h in
-    record { got = k.got; given = k.given; equal = k.equal }
-
--- no call hands out nothing, and calls join
-pub HandsBytes-none : {S D : Type 0} (s : ReaderState S D) → HandsBytes s [] s
-HandsBytes-none s = record {
-  got = [];
-  given = sym (append-nil s.reader.log.reads.given);
-  equal = sym (append-nil (rest s));
-}
-
-pub HandsBytes-joins : {S D : Type 0} (s m t : ReaderState S D) (h k : List ℕ)
-    → HandsBytes s h m → HandsBytes m k t → HandsBytes s (h ++ k) t
-HandsBytes-joins s m t h k a b = record {
-  got = a.got ++ b.got;
-  given = b.given ∙ ap (λ l. l ++ b.got) a.given ∙ append_assoc s.reader.log.reads.given a.got b.got;
-  equal =
-      append_assoc h k (rest t) ∙ ap (λ l. h ++ l) b.equal ∙ sym (append_assoc h (rest m) b.got)
-      ∙ ap (λ l. l ++ b.got) a.equal ∙ append_assoc (rest s) a.got b.got;
-}
 
 -- what was skipped isn't left
 pub Skips-left : {S D W : Type 0} (g : Grammar W) (s : ReaderState S D) (count : ℕ) (t : ReaderState S D) → Skips g s count t
@@ -53,7 +22,7 @@ Skips-left g s count t skips = ap (λ x. rest x) skips.same ∙ sym (drop-drop c
 module _ {S D : Type 0} (remaining : S → Option (List ℕ)) (most : ℕ) where
   pub PiecesWent-none : (s : ReaderState S D) → PiecesWent remaining most s [] s
   PiecesWent-none s = record {
-    hands = HandsBytes-none s;
+    hands = HandsOutInOrder-none (left_of s);
     known = InnerGives-none remaining s.reader;
     grows = ReadLogGrows-none s.reader.log.reads;
     held = record { moved = le_refl _; held = le_refl _ };
@@ -66,7 +35,7 @@ module _ {S D : Type 0} (remaining : S → Option (List ℕ)) (most : ℕ) where
   pub PiecesWent-joins : (s m t : ReaderState S D) (h k : List ℕ)
       → PiecesWent remaining most s h m → PiecesWent remaining most m k t → PiecesWent remaining most s (h ++ k) t
   PiecesWent-joins s m t h k p q = record {
-    hands = HandsBytes-joins s m t h k p.hands q.hands;
+    hands = HandsOutInOrder-joins (left_of s) (left_of m) (left_of t) h k p.hands q.hands;
     known = InnerGives-joins remaining s.reader m.reader t.reader p.known q.known;
     grows = ReadLogGrows-joins s.reader.log.reads m.reader.log.reads t.reader.log.reads p.grows q.grows;
     held = record {
@@ -150,11 +119,7 @@ module _ {S : Type 0} (remaining : S → Option (List ℕ)) where
   -- pieces go of a stream, also those of two decoders, where the second reader has left what the first one had
   pub PiecesWent-stream : {D : Type 0} (most : ℕ) (s t : ReaderState S D) (bytes : List ℕ) → PiecesWent remaining most s bytes t
       → StreamWent remaining (left_of s) bytes (left_of t)
-  PiecesWent-stream most s t bytes went = record {
-    order = record { got = went.hands.got; given = went.hands.given; equal = went.hands.equal };
-    known = went.known;
-    grows = went.grows;
-  }
+  PiecesWent-stream most s t bytes went = record { order = went.hands; known = went.known; grows = went.grows }
 
   pub PiecesWent-then : {D E : Type 0} (most more : ℕ) (s m : ReaderState S D) (n t : ReaderState S E) (h k : List ℕ)
       → PiecesWent remaining most s h m → left_of n ≡ left_of m → PiecesWent remaining more n k t

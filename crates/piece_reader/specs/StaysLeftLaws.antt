@@ -1,31 +1,20 @@
 -- What follows where a reader only looked at more bytes.
 use Rattle.std.specs.Prelude.{◌≡◌, ℕ, ◌≤◌, List, [], Option, None, Some, Result, Ok, Err, IfOk, IfSome, OnErr}
-use Rattle.std.proofs.Common.{sym, ap, subst, inl, inr, arith}
+use Rattle.std.proofs.Common.{sym, ap, subst, arith}
+use Rattle.buffer_redux.specs.Unbuffer.{HandsOutInOrder}
+use Rattle.buffer_redux.specs.UnbufferLaws.{HandsOutInOrder-same}
 use Rattle.piece_reader.specs.declared.decoder.Span.{Span}
 use Rattle.piece_reader.specs.declared.error.NextError.{NextError}
 use Rattle.piece_reader.specs.declared.error.NextError.TheVariants.{Wrong, Io}
-use Rattle.piece_reader.specs.Grammar.{Grammar, IsOpen}
+use Rattle.piece_reader.specs.Grammar.{Grammar}
 use Rattle.piece_reader.specs.Items.{NextItem}
-use Rattle.piece_reader.specs.NextPiece.{AskedWhere, NextAnswer, NextAnswers, NextBuffered, NextPiece, OffersOver, PiecesWent, StaysLeft, StaysLooked}
-use Rattle.piece_reader.specs.PiecesWentLaws.{HandsBytes-looked, HandsBytes-same, PiecesWent-inside}
-use Rattle.piece_reader.specs.PieceReader.{IsSettled, ReaderState, rest}
+use Rattle.piece_reader.specs.NextPiece.{NextAnswer, NextAnswers, NextBuffered, NextPiece, PiecesWent, StaysLeft, StaysLooked}
+use Rattle.piece_reader.specs.PiecesWentLaws.{PiecesWent-inside}
+use Rattle.piece_reader.specs.PieceReader.{IsSettled, ReaderState, left_of, rest}
 
 -- what a call does is what it would have done with fewer bytes looked at
 module _ {S D W : Type 0} (remaining : S → Option (List ℕ)) (g : Grammar W) (s t : ReaderState S D) (seen : ℕ)
     (more : s.seen ≤ seen) where
-  asked : (Such : List ℕ → Type 0) → AskedWhere Such (record s { seen = seen }) t → AskedWhere Such s t
-  asked Such (inl same) = inl same
-  asked Such (inr over) = inr (record {
-    not_ended = over.not_ended;
-    came = over.came;
-    last = over.last;
-    given = over.given;
-    latest = over.latest;
-    such = over.such;
-    some = over.some;
-    asks = over.asks;
-  })
-
   answers : (answer : NextAnswer W) (bytes : List ℕ) → NextAnswers g (record s { seen = seen }) answer bytes t
       → NextAnswers g s answer bytes t
   answers (Ok (Some payload)) bytes a = a
@@ -45,7 +34,7 @@ module _ {S D W : Type 0} (remaining : S → Option (List ℕ)) (g : Grammar W) 
       record {
         bytes = next.bytes;
         went = record {
-          hands = record { got = went.hands.got; given = went.hands.given; equal = went.hands.equal };
+          hands = went.hands;
           known = went.known;
           grows = went.grows;
           held = went.held;
@@ -55,8 +44,8 @@ module _ {S D W : Type 0} (remaining : S → Option (List ℕ)) (g : Grammar W) 
           decoder = went.decoder;
         };
         answers = answers answer next.bytes next.answers;
-        asked = asked (IsOpen g) next.asked;
-        offered = asked (OffersOver s.reader.block.capacity t.reader.log.reads.offer) next.offered;
+        asked = next.asked;
+        offered = next.offered;
         gave = next.gave;
         told = next.told;
         looked = looked answer next.looked;
@@ -85,8 +74,9 @@ module _ {S D W : Type 0} (remaining : S → Option (List ℕ)) (g : Grammar W) 
       → NextItem remaining g item_of m answer t → NextItem remaining g item_of s answer t
   StaysLeft-item item_of t answer item =
       let next = StaysLeft-next t _ item.next in
-      let bytes = HandsBytes-same s t item.next.bytes next.bytes
-      (HandsBytes-looked s m t item.next.bytes m.seen stays.same item.next.went.hands) next.went.hands in
+      let hands = subst (λ u. HandsOutInOrder u item.next.bytes (left_of t)) (ap (λ x. left_of x) stays.same)
+      item.next.went.hands in
+      let bytes = HandsOutInOrder-same (left_of s) (left_of t) item.next.bytes next.bytes hands next.went.hands in
       record { next = next; says = subst (λ l. IfOk answer (λ found. IfSome found (λ said. said.0 ≡ item_of l))) bytes item.says }
 
 -- what a call that asks nobody went through: a piece was handed out, or nothing

@@ -8,7 +8,7 @@ use Rattle.piece_reader.specs.declared.error.NextError.{NextError}
 use Rattle.piece_reader.specs.declared.error.NextError.TheVariants.{Wrong, Io}
 use Rattle.piece_reader.specs.Decoding.{IsPiece, bytes_at}
 use Rattle.piece_reader.specs.Grammar.{Grammar, IsOpenBelow}
-use Rattle.piece_reader.specs.NextPiece.{AsksGive, PiecesWent, AskedWhere, NoFault, Faulted, NoEnd, MetEnd, OffersMore}
+use Rattle.piece_reader.specs.NextPiece.{AsksGive, PiecesWent, AskedUnlessEnded, NoFault, Faulted, NoEnd, MetEnd, OffersMore}
 use Rattle.piece_reader.specs.PieceReader.{ReaderState, IsPieceReader, rest}
 
 -- what stands at the front of what is left was looked at, and handed out where it is a piece; or that isn't there yet
@@ -25,7 +25,7 @@ pub record AsksFor {S D W : Type 0} (remaining : S → Option (List ℕ)) (g : G
   pub handed : t.handed ≡ 0
   pub seen : t.seen ≡ s.seen
   pub ended : t.ended ≡ s.ended
-  pub asked : AskedWhere (λ bytes. length bytes < n) s t
+  pub asked : AskedUnlessEnded (λ bytes. length bytes < n) s t
   pub offered : OffersMore s t
   pub more : answer ≡ Ok true → (n ≤ length (rest t)) × NoEnd s t × NoFault s t
       × AsksGive s t

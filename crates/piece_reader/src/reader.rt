@@ -5,12 +5,13 @@ ghost use Rattle.buffer_redux.specs.Block.{Plain};
 ghost use Rattle.buffer_redux.specs.Buffered.{with_inner, with_policy};
 ghost use Rattle.buffer_redux.specs.GrowError.{FitsWithin};
 ghost use Rattle.buffer_redux.specs.MakeError.{growth};
+ghost use Rattle.buffer_redux.specs.Unbuffer.{HandsOutInOrder};
 ghost use Rattle.piece_reader.specs.contracts.reader.PieceReader.{the_row};
 ghost use Rattle.piece_reader.specs.declared.error.NextError.TheVariants.{Wrong};
 ghost use Rattle.piece_reader.specs.Decoding.{IsLent, bytes_at};
 ghost use Rattle.piece_reader.specs.Grammar.{IsOpenBelow};
-ghost use Rattle.piece_reader.specs.PieceReader.{IsOver, IsPieceReader, IsFresh, Skips, TakenApart, rest, room_for};
-ghost use Rattle.piece_reader.specs.NextPiece.{HandsBytes, NextBuffered, NextPiece, buffered_answer, load_answer};
+ghost use Rattle.piece_reader.specs.PieceReader.{IsOver, IsPieceReader, IsFresh, Skips, TakenApart, left_of, rest, room_for};
+ghost use Rattle.piece_reader.specs.NextPiece.{NextBuffered, NextPiece, buffered_answer, load_answer};
 
 mod asking;
 mod saying;
@@ -353,7 +354,7 @@ impl<R: TellRead, D: Decoder> PieceReader<R, D> {
         ensures lends { IfOk result (λ found. IfSome found
             (IsLent (D.grammar self.new.decoder) self.new.handed self.new.reader.block.bytes)) }
         ensures front { IfOk result (λ found. IfSome found (λ _.
-            HandsBytes self.old (take self.new.handed self.new.reader.block.bytes) self.new)) }
+            HandsOutInOrder (left_of self.old) (take self.new.handed self.new.reader.block.bytes) (left_of self.new))) }
         ensures next { NextPiece R.remaining (D.grammar self.old.decoder) self.old (load_answer result self.new) self.new }
     {
         self.drop_handed();

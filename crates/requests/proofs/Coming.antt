@@ -10,7 +10,7 @@ use Rattle.body_reader.specs.Asking.{AskedWhere}
 use Rattle.body_reader.specs.AskingLaws.{AskedWhere-of}
 use Rattle.codec.specs.declared.NextError.TheVariants as why
 use Rattle.codec.specs.Grammar.{IsOpen}
-use Rattle.codec.specs.NextPiece.{HandsBytes, NextAnswer, NextPiece, NoEnd, empty_reads}
+use Rattle.codec.specs.NextPiece.{NextAnswer, NextPiece, NoEnd, empty_reads}
 use Rattle.codec.specs.NextPieceLaws.{AsksNone-settled}
 use Rattle.codec.specs.PiecesWentLaws.{PiecesWent-stream}
 use Rattle.codec.specs.PieceReader.{IsSettled, ReaderState, left_of, rest}
@@ -44,7 +44,7 @@ ended_before s t same false met = absurd (omega (arith, met, ap (λ l. l.reads.z
 
 -- and all that was left is there
 all_left : {R : Type 0} (s t : ReaderState R Heads) → t.reader.log ≡ s.reader.log → (bytes : List ℕ)
-    → HandsBytes s bytes t → bytes ++ rest t ≡ rest s
+    → HandsOutInOrder (left_of s) bytes (left_of t) → bytes ++ rest t ≡ rest s
 all_left s t same bytes hands =
     let none : hands.got ≡ [] = nil_from_length hands.got (omega (
       arith,

@@ -1,7 +1,7 @@
 //! Readers of bodies of a length, in chunks, and of parts up to a delimiter.
 use crate::by_hand::gives;
 use End::{Open, Truncated, Whole};
-use Kind::{Chunks, Length, OneOf, Part};
+use Kind::{Chunks, Length, OneOf, Other, Part};
 use body_reader::{BodyError, BodyReader, Coding, Either, Sized, Until};
 use buffer_redux::BufReader;
 use buffer_redux::policy::{MinBuffered, ReaderPolicy};
@@ -21,8 +21,9 @@ enum Kind<'a> {
     Length(u64),
     Part(&'a [u8]),
     Chunks,
-    // A length, as one of two.
+    // A length, as the one or the other of two.
     OneOf(u64),
+    Other(u64),
 }
 
 // How a body ends.
@@ -46,7 +47,7 @@ const LIMITS: Limits = Limits {
 };
 
 // Bodies, and parts with beginnings of the delimiter in them.
-static BODIES: [Row<'static>; 12] = [
+static BODIES: [Row<'static>; 14] = [
     Row(
         Chunks,
         b"3\r\nabc\r\n2;x\r\nde\r\n0\r\n\r\nGET",
@@ -58,6 +59,8 @@ static BODIES: [Row<'static>; 12] = [
     Row(Length(0), b"GET", b"", Whole(b"GET")),
     Row(Length(5), b"hell", b"hell", Truncated(4)),
     Row(OneOf(5), b"helloGET", b"hello", Whole(b"GET")),
+    Row(Other(5), b"helloGET", b"hello", Whole(b"GET")),
+    Row(Other(5), b"hell", b"hell", Truncated(4)),
     Row(
         Part(b"\r\n--b"),
         b"ab\r\n-\r\n\r\n--bGET",
@@ -72,7 +75,7 @@ static BODIES: [Row<'static>; 12] = [
 ];
 
 // What the bytes that are shown settle.
-static SHOWN: [Row<'static>; 11] = [
+static SHOWN: [Row<'static>; 12] = [
     Row(Chunks, b"5\r\nhel", b"hel", Open),
     Row(Chunks, b"5\r\nhello\r\n", b"hello", Open),
     Row(
@@ -84,6 +87,7 @@ static SHOWN: [Row<'static>; 11] = [
     Row(Length(5), b"hel", b"hel", Open),
     Row(Length(5), b"hello", b"hello", Whole(b"")),
     Row(OneOf(5), b"helloGET", b"hello", Whole(b"GET")),
+    Row(Other(5), b"helloGET", b"hello", Whole(b"GET")),
     Row(Part(b"\r\n--b"), b"ab", b"ab", Open),
     Row(Part(b"\r\n--b"), b"ab\r\n-x\r", b"ab\r\n-x", Open),
     Row(Part(b"\r\n--b"), b"ab\r\n--b", b"ab", Whole(b"")),
@@ -198,6 +202,13 @@ fn plays<P: ReaderPolicy + Drop>(
             alloc,
             reader,
             Either::<Sized, Sized>::First(Sized(n)),
+            play,
+            row,
+        ),
+        Other(n) => comes(
+            alloc,
+            reader,
+            Either::<Sized, Sized>::Second(Sized(n)),
             play,
             row,
         ),

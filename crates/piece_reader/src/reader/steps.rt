@@ -1,9 +1,10 @@
 //! The steps of which the calls of a reader of pieces are made.
 ghost use Rattle.std.specs.Prelude.{◌≡◌, ◌<◌, ◌≤◌, [], length, take, IfOk, IfSome};
+ghost use Rattle.buffer_redux.specs.Unbuffer.{HandsOutInOrder};
 ghost use Rattle.piece_reader.specs.Decoding.{IsLent};
 ghost use Rattle.piece_reader.specs.Grammar.{IsOpen, IsOpenBelow};
-ghost use Rattle.piece_reader.specs.NextPiece.{HandsBytes, NextPiece, PiecesWent, load_answer};
-ghost use Rattle.piece_reader.specs.PieceReader.{IsPieceReader, rest};
+ghost use Rattle.piece_reader.specs.NextPiece.{NextPiece, PiecesWent, load_answer};
+ghost use Rattle.piece_reader.specs.PieceReader.{IsPieceReader, left_of, rest};
 ghost use Rattle.piece_reader.specs.Steps.{AsksFor, Takes, TakesEnd};
 
 use crate::decoder::{Decoder, End, Found, Span};
@@ -79,7 +80,7 @@ impl<R: TellRead, D: Decoder> PieceReader<R, D> {
         ensures lends { IfOk result (λ found. IfSome found
             (IsLent (D.grammar self.new.decoder) self.new.handed self.new.reader.block.bytes)) }
         ensures front { IfOk result (λ found. IfSome found (λ _.
-            HandsBytes self.old (take self.new.handed self.new.reader.block.bytes) self.new)) }
+            HandsOutInOrder (left_of self.old) (take self.new.handed self.new.reader.block.bytes) (left_of self.new))) }
     {
         self.load(need)
     }
@@ -96,7 +97,7 @@ impl<R: TellRead, D: Decoder> PieceReader<R, D> {
         ensures lends { IfOk result (λ found. IfSome found
             (IsLent (D.grammar self.new.decoder) self.new.handed self.new.reader.block.bytes)) }
         ensures front { IfOk result (λ found. IfSome found (λ _.
-            HandsBytes self.old (take self.new.handed self.new.reader.block.bytes) self.new)) }
+            HandsOutInOrder (left_of self.old) (take self.new.handed self.new.reader.block.bytes) (left_of self.new))) }
     {
         match self.step_on(need) {
             Ok(found) => Ok(found),

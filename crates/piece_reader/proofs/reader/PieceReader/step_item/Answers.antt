@@ -1,7 +1,9 @@
 -- Calls hand out one list of bytes, so those at the buffer's front are the piece, and say its item.
 use Rattle.std.proofs.Common.{◌-◌, Err, None, Ok, Some, ap, drop, subst, take, ◌∙◌}
+use Rattle.buffer_redux.specs.Unbuffer.{HandsOutInOrder}
+use Rattle.buffer_redux.specs.UnbufferLaws.{HandsOutInOrder-same}
 use Rattle.piece_reader.specs.NextPiece.{NextPiece, load_answer}
-use Rattle.piece_reader.specs.PiecesWentLaws.{HandsBytes-looked, HandsBytes-same}
+use Rattle.piece_reader.specs.PieceReader.{left_of}
 use Rattle.piece_reader.proofs.Lending.{lends_piece}
 use Rattle.piece_reader.proofs.Loading.{next_looked}
 use Rattle.piece_reader.proofs.Saying.{loaded_front, loaded_next, part_front, says_piece, whole_front, whole_piece, wrong_now}
@@ -45,9 +47,11 @@ returns-in-Ok-Some-clause-next g c =
     (load_answer (Ok (Some c.in-Ok-Some.span)) t) c.take.ensures.before wants
     (loaded_next g.D.Decoder.grammar m t remaining c.load_apart.result c.in-Ok-Some.span found c.load_apart.ensures.next)
     in
-    let bytes = part_front t ∙ HandsBytes-same s t (take t.handed t.reader.block.bytes) next.bytes
-    (HandsBytes-looked s m t (take t.handed t.reader.block.bytes) _ wants.3
-    (loaded_front m t c.load_apart.result c.in-Ok-Some.span found c.load_apart.ensures.front)) next.went.hands in
+    let front = loaded_front m t c.load_apart.result c.in-Ok-Some.span found c.load_apart.ensures.front in
+    let hands = subst (λ u. HandsOutInOrder u (take t.handed t.reader.block.bytes) (left_of t)) (ap (λ x. left_of x) wants.3)
+    front in
+    let bytes = part_front t ∙ HandsOutInOrder-same (left_of s) (left_of t) (take t.handed t.reader.block.bytes) next.bytes
+    hands next.went.hands in
     record {
       next = next;
       says = c.said-item-in-Ok-Some.ensures
