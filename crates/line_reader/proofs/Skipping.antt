@@ -7,7 +7,7 @@ use Rattle.std.specs.declared.io.Error.{Error}
 use Rattle.std.specs.declared.io.ErrorKind.TheVariants.{Other}
 use Rattle.buffer_redux.specs.AskingLaws.{AskedOver-on}
 use Rattle.piece_reader.specs.DelimitedLaws.{isnt_end}
-use Rattle.piece_reader.specs.NextPiece.{AskedUnlessEnded, AsksGive, NoEnd, NoFault, PiecesWent, Refills}
+use Rattle.piece_reader.specs.NextPiece.{AskedUnlessEnded, AsksGive, NoEnd, NoFault, OffersAll, PiecesWent, Refills}
 use Rattle.piece_reader.specs.NextPieceLaws.{AskedUnlessEnded-told, MetEnd-joins, still_going}
 use Rattle.piece_reader.specs.PiecesWentLaws.{PiecesWent-inside, PiecesWent-joins, PiecesWent-none, Skips-left}
 use Rattle.piece_reader.specs.PieceReader.{ReaderState, left_of, rest}
@@ -30,6 +30,7 @@ pub record SkipHead {S : Type 0} (remaining : S → Option (List ℕ)) (s m : Re
   pub no_end : NoEnd s m
   pub gave : AsksGive s m
   pub asked : AskedUnlessEnded IsLine s m
+  pub offered : OffersAll s m
 
 -- before the first
 pub SkipHead-none : {S : Type 0} (remaining : S → Option (List ℕ)) (s : ReaderState S Lines) → SkipHead remaining s s 0
@@ -43,10 +44,17 @@ SkipHead-none remaining s = record {
   no_end = refl;
   gave = omega arith;
   asked = inl refl;
+  offered = inl refl;
 }
 
 module _ {S : Type 0} (remaining : S → Option (List ℕ)) (s m : ReaderState S Lines) (dropped : ℕ)
     (h : SkipHead remaining s m dropped) where
+  offered_told : (t : ReaderState S Lines) → t.reader.log ≡ m.reader.log → OffersAll s t
+  offered_told t told = elim h.offered [
+    | inl same ↦ inl (told ∙ same)
+    | inr all ↦ inr (ap (λ l. l.reads.offer) told ∙ all)
+  ]
+
   -- bytes that are left are dropped
   module _ (count : ℕ) (found : Bool) (t : ReaderState S Lines) (drops : DropsLine m count found t) where
     same_reader : t.reader ≡ m.reader
@@ -61,6 +69,9 @@ module _ {S : Type 0} (remaining : S → Option (List ℕ)) (s m : ReaderState S
 
     asked_still : AskedUnlessEnded IsLine s t
     asked_still = AskedUnlessEnded-told IsLine s m t (ap (λ r. r.log) same_reader) h.asked
+
+    offered_still : OffersAll s t
+    offered_still = offered_told t (ap (λ r. r.log) same_reader)
 
     faults_still : NoFault s t
     faults_still = ap (λ r. r.log.reads.faults) same_reader ∙ h.faults
@@ -103,6 +114,7 @@ module _ {S : Type 0} (remaining : S → Option (List ℕ)) (s m : ReaderState S
             ),
           );
           asked = asked_still;
+          offered = offered_still;
           whole = IsPieceReader-same m t (ap (λ x. x.decoder) drops.skips.same) drops.skips.whole;
         }
 
@@ -130,6 +142,7 @@ module _ {S : Type 0} (remaining : S → Option (List ℕ)) (s m : ReaderState S
               ap (λ r. length r.log.reads.given) same_reader,
             );
             asked = asked_still;
+            offered = offered_still;
           }
 
       -- more bytes are gone than one call drops
@@ -147,6 +160,7 @@ module _ {S : Type 0} (remaining : S → Option (List ℕ)) (s m : ReaderState S
               inr (skip_all.faults, other, omega (arith, above, skip_all.count)),
             );
             asked = skip_all.asked;
+            offered = skip_all.offered;
             whole = IsPieceReader-same m t (ap (λ x. x.decoder) drops.skips.same) drops.skips.whole;
           }
 
@@ -167,6 +181,9 @@ module _ {S : Type 0} (remaining : S → Option (List ℕ)) (s m : ReaderState S
             (subst IsLine (sym (append-nil h.bytes)) h.plain)) over.1,
       )
     ]
+
+    offered_on : OffersAll s t
+    offered_on = elim r.offered [ inl same ↦ offered_told t same | inr all ↦ inr (all ∙ h.went.capacity) ]
 
     pub skip_more : answer ≡ Ok true → SkipHead remaining s t dropped
     skip_more is =
@@ -189,18 +206,19 @@ module _ {S : Type 0} (remaining : S → Option (List ℕ)) (s m : ReaderState S
             | inr over ↦ omega (
               arith,
               h.gave,
-              over.asks,
+              over.1.asks,
               more.0,
               ap length none,
-              ap length over.such,
+              ap length over.1.such,
               ap length r.went.hands.equal,
               ap length r.went.hands.given,
-              length-append (rest m) over.came,
+              length-append (rest m) over.1.came,
               length-append (rest m) r.went.hands.got,
               length-append m.reader.log.reads.given r.went.hands.got,
             )
           ];
           asked = asked_on;
+          offered = offered_on;
         }
 
     pub skip_fails : (e : Error) → answer ≡ Err e → DropsThrough remaining s (Err e) t
@@ -211,6 +229,7 @@ module _ {S : Type 0} (remaining : S → Option (List ℕ)) (s m : ReaderState S
           went = came_on;
           answers = (h.plain, f.0, f.2, f.3 ∙ h.no_end, inl (f.4 ∙ ap (λ l. l ++ e ∷ []) h.faults));
           asked = asked_on;
+          offered = offered_on;
           whole = IsPieceReader-same m t r.went.decoder r.whole;
         }
 
@@ -226,5 +245,6 @@ module _ {S : Type 0} (remaining : S → Option (List ℕ)) (s m : ReaderState S
             inr (h.plain, end.0, end.1, MetEnd-joins s m t h.ended h.no_end end.2),
           );
           asked = asked_on;
+          offered = offered_on;
           whole = IsPieceReader-same m t r.went.decoder r.whole;
         }

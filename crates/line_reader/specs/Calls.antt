@@ -1,12 +1,11 @@
 -- Calls of `next`, `next_trimmed`, `next_buffered` and `skip_line` in any order, with any answers, and the lines that they hand
 -- out and skip.
-use Rattle.std.specs.Prelude.{◌≡◌, ℕ, ◌+◌, ◌<◌, ◌≤◌, ◌⊎◌, List, [], ◌∷◌, ◌++◌, length, Bool, true, false, MatchBool, Option, None, Some, Result, Ok, Err}
-use Rattle.std.specs.List.{flat_map}
+use Rattle.std.specs.Prelude.{◌≡◌, ℕ, ◌+◌, ◌<◌, ◌≤◌, ◌⊎◌, List, [], ◌∷◌, ◌++◌, length, map, Bool, true, false, MatchBool, Option, None, Some, Result, Ok, Err}
+use Rattle.std.specs.List.{flat_map, sum_by}
 use Rattle.std.specs.declared.io.Error.{Error}
-use Rattle.piece_reader.specs.NextPiece.{PiecesWent}
+use Rattle.piece_reader.specs.NextPiece.{PiecesWent, empty_reads}
 use Rattle.piece_reader.specs.Runs.{handed_payload}
 use Rattle.piece_reader.specs.Trimming.{IsTrimmed}
-use Rattle.line_reader.specs.declared.error.LineError.{LineError}
 use Rattle.line_reader.specs.Lines.{IsLine, with_newline}
 use Rattle.line_reader.specs.LineReader.{LineState}
 use Rattle.line_reader.specs.NextLine.{LineAnswer, NextBufferedLine, NextLine, NextTrimmed}
@@ -48,9 +47,25 @@ CutsInto ended (Skipped line ∷ events) after bytes =
     × CutsInto ended events after more
 CutsInto ended (Ended ∷ events) after bytes = CutsInto ended events after bytes
 
+-- how many lines were skipped, and how many ends told
+abbrev pub event_skips : Event → ℕ
+event_skips (Handed trims shown) = 0
+event_skips (Skipped line) = 1
+event_skips Ended = 0
+
+abbrev pub event_ends : Event → ℕ
+event_ends (Handed trims shown) = 0
+event_ends (Skipped line) = 0
+event_ends Ended = 1
+
+-- a line that is being skipped, or an end that is to be told, counts for one
+abbrev pub pending : Bool → ℕ
+pending true = 1
+pending false = 0
+
 -- what any calls do, one after another: what went of a line that was being skipped before them, and the bytes that they took,
 -- are the lines of these events, in order, and then what went of a line that is being skipped. An end of the stream that no
--- call has told comes first
+-- call has told comes first, and no more ends are told than the stream had
 pub record LinesAlong {S : Type 0} (remaining : S → Option (List ℕ)) (before : List ℕ) (s : LineState S)
     (events : List Event) (after : List ℕ) (t : LineState S) : Type 0 where
   pub bytes : List ℕ
@@ -58,6 +73,8 @@ pub record LinesAlong {S : Type 0} (remaining : S → Option (List ℕ)) (before
   pub cut : CutsInto t.pieces.ended events after (before ++ bytes)
   pub closed : t.skipping ≡ false → after ≡ []
   pub told : s.pieces.ended ≡ true → EndNext t.pieces.ended events
+  pub ends : sum_by event_ends events + pending t.pieces.ended + empty_reads s.pieces.reader
+      ≤ empty_reads t.pieces.reader + pending s.pieces.ended
 
 -- what an answer that shows lines, trimmed or not, comes to where no line is being skipped
 abbrev pub events_of : Bool → LineAnswer → List Event
@@ -79,42 +96,34 @@ CallGoes remaining s (NextsTrimmed answer) t = NextTrimmed remaining s answer t
 CallGoes remaining s (NextsBuffered found) t = NextBufferedLine remaining s found t
 CallGoes remaining s (Skips answer) t = SkipsLine remaining s answer t
 
--- the lines that they hand out
-abbrev pub call_lines : Call → List (List ℕ)
-call_lines (Nexts answer) = handed_payload answer
-call_lines (NextsTrimmed answer) = handed_payload answer
-call_lines (NextsBuffered found) = handed_payload {E = LineError} (Ok found)
+-- the lines that they hand out, and whether each is trimmed
+abbrev pub shown_lines : Bool → LineAnswer → List (Bool × List ℕ)
+shown_lines trims answer = map (λ shown. (trims, shown)) (handed_payload answer)
+
+abbrev pub call_lines : Call → List (Bool × List ℕ)
+call_lines (Nexts answer) = shown_lines false answer
+call_lines (NextsTrimmed answer) = shown_lines true answer
+call_lines (NextsBuffered found) = shown_lines false (Ok found)
 call_lines (Skips answer) = []
 
-abbrev pub event_lines : Event → List (List ℕ)
-event_lines (Handed trims shown) = shown ∷ []
+abbrev pub event_lines : Event → List (Bool × List ℕ)
+event_lines (Handed trims shown) = (trims, shown) ∷ []
 event_lines (Skipped line) = []
 event_lines Ended = []
 
--- how many lines were skipped, and whether a call asked for this
-abbrev pub skipped_count : List Event → ℕ
-skipped_count [] = 0
-skipped_count (Handed trims shown ∷ events) = skipped_count events
-skipped_count (Skipped line ∷ events) = 1 + skipped_count events
-skipped_count (Ended ∷ events) = skipped_count events
-
+-- whether a call asks for a skip
 abbrev pub call_asks : Call → ℕ
 call_asks (Nexts answer) = 0
 call_asks (NextsTrimmed answer) = 0
 call_asks (NextsBuffered found) = 0
 call_asks (Skips answer) = 1
 
--- a line that is being skipped counts for one
-abbrev pub pending : Bool → ℕ
-pending true = 1
-pending false = 0
-
 -- what calls come to that hand out these lines and ask so often for a skip, behind so many bytes of a line that was being
 -- skipped. No more lines are skipped than it was asked for
 pub record CallsWent {S : Type 0} (remaining : S → Option (List ℕ)) (before : List ℕ) (s : LineState S)
-    (lines : List (List ℕ)) (asks : ℕ) (t : LineState S) : Type 0 where
+    (lines : List (Bool × List ℕ)) (asks : ℕ) (t : LineState S) : Type 0 where
   pub events : List Event
   pub after : List ℕ
   pub along : LinesAlong remaining before s events after t
   pub handed : flat_map event_lines events ≡ lines
-  pub few : skipped_count events + pending t.skipping ≤ asks + pending s.skipping
+  pub few : sum_by event_skips events + pending t.skipping ≤ asks + pending s.skipping

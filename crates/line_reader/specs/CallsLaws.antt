@@ -1,16 +1,18 @@
 -- Any calls hand out and skip whole lines of the stream: what they do joins, and what each of them does.
-use Rattle.std.specs.Prelude.{◌+◌, ◌≡◌, ℕ, ◌<◌, List, [], ◌∷◌, ◌++◌, length, true, false, Bool, MatchBool, Option, None, Some, Result, Ok, Err}
+use Rattle.std.specs.Prelude.{◌+◌, ◌≡◌, ℕ, ◌<◌, ◌≤◌, List, [], ◌∷◌, ◌++◌, length, true, false, Bool, MatchBool, Option, None, Some, Result, Ok, Err}
 use Rattle.std.proofs.Common.{sym, ap, subst, ◌∙◌, arith, refl, inl, inr, append-nil, append_assoc, length-append}
 use Rattle.std.proofs.lemmas.List.Elements.{All-nil, All-append}
+use Rattle.std.proofs.lemmas.List.Sums.{sum_by-append}
+use Rattle.std.specs.List.{sum_by}
 use Rattle.std.specs.declared.io.Error.{Error}
 use Rattle.piece_reader.specs.DelimitedLaws.{isnt_end}
-use Rattle.piece_reader.specs.NextPiece.{PiecesWent}
+use Rattle.piece_reader.specs.NextPiece.{MetEnd, PiecesWent, empty_reads}
 use Rattle.piece_reader.specs.PiecesWentLaws.{PiecesWent-joins, PiecesWent-none, PiecesWent-unasked}
 use Rattle.piece_reader.specs.PieceReader.{ReaderState, rest}
 use Rattle.piece_reader.specs.StaysLeftLaws.{StaysLeft-went}
 use Rattle.piece_reader.specs.Trimming.{IsTrimmed}
 use Rattle.line_reader.specs.declared.error.LineError.TheVariants.{TooLong, Io}
-use Rattle.line_reader.specs.Calls.{Handed, Skipped, Ended, Event, LinesAlong, CutsInto, EndNext, Shows, events_of}
+use Rattle.line_reader.specs.Calls.{Handed, Skipped, Ended, Event, LinesAlong, CutsInto, EndNext, Shows, event_ends, events_of, pending}
 use Rattle.line_reader.specs.declared.line.Lines.{Lines}
 use Rattle.line_reader.specs.Lines.{IsLine, newline, with_newline}
 use Rattle.line_reader.specs.LineReader.{LineState, lined}
@@ -67,6 +69,28 @@ module _ (was is : Bool) (later : List Event) (told : was ≡ true → EndNext i
         (rest ++ more, plain, inr (without_joins events line bytes rest last), cuts_join events rest cut)
     cuts_join (Ended ∷ events) bytes cut = cuts_join events bytes cut
 
+-- an end that was met is told, or is to be
+met_once : (was : Bool) (before after : ℕ) → MatchBool was (after ≡ before) (after ≡ before + 1) → before + 1 ≤ after + pending was
+met_once true before after same = omega (arith, same)
+met_once false before after one = omega (arith, one)
+
+module _ {S : Type 0} (remaining : S → Option (List ℕ)) (s t : LineState S) (bytes : List ℕ)
+    (went : PiecesWent remaining (1 + s.pieces.decoder.max) s.pieces bytes t.pieces) where
+  no_end : (events : List Event) → sum_by event_ends events ≡ 0 → t.pieces.ended ≡ false
+      → sum_by event_ends events + pending t.pieces.ended + empty_reads s.pieces.reader
+      ≤ empty_reads t.pieces.reader + pending s.pieces.ended
+  no_end events none going = omega (arith, none, ap pending going, went.grows.zero_reads)
+
+  one_end : (events : List Event) → sum_by event_ends events ≡ 0 → t.pieces.ended ≡ true → MetEnd s.pieces t.pieces
+      → sum_by event_ends events + pending t.pieces.ended + empty_reads s.pieces.reader
+      ≤ empty_reads t.pieces.reader + pending s.pieces.ended
+  one_end events none ended met = omega (
+    arith,
+    none,
+    ap pending ended,
+    met_once s.pieces.ended (empty_reads s.pieces.reader) (empty_reads t.pieces.reader) met,
+  )
+
 module _ {S : Type 0} (remaining : S → Option (List ℕ)) where
   -- calls join, since the lines stay as long
   pub lines_join : (s m t : ReaderState S Lines) (h k : List ℕ) → PiecesWent remaining (1 + s.decoder.max) s h m
@@ -76,20 +100,21 @@ module _ {S : Type 0} (remaining : S → Option (List ℕ)) where
 
   -- nothing was handed out, told or skipped
   pub LinesAlong-still : (s t : LineState S) (before : List ℕ) → IsLine before → (t.skipping ≡ false → before ≡ [])
-      → PiecesWent remaining (1 + s.pieces.decoder.max) s.pieces [] t.pieces → (s.pieces.ended ≡ true → t.pieces.ended ≡ true)
+      → PiecesWent remaining (1 + s.pieces.decoder.max) s.pieces [] t.pieces → t.pieces.ended ≡ s.pieces.ended
       → LinesAlong remaining before s [] before t
-  LinesAlong-still s t before plain closed went told = record {
+  LinesAlong-still s t before plain closed went same = record {
     bytes = [];
     went = went;
     cut = (subst IsLine (sym (append-nil before)) plain, append-nil before);
     closed = closed;
-    told = told;
+    told = λ ended. same ∙ ended;
+    ends = omega (arith, ap pending same, went.grows.zero_reads);
   }
 
   -- no call does nothing
   pub LinesAlong-none : (s : LineState S) → LinesAlong remaining [] s [] [] s
   LinesAlong-none s = LinesAlong-still s s [] no_line (λ _. refl)
-      (PiecesWent-none remaining (1 + s.pieces.decoder.max) s.pieces) (λ ended. ended)
+      (PiecesWent-none remaining (1 + s.pieces.decoder.max) s.pieces) refl
 
   pub LinesAlong-joins : (s m t : LineState S) (before mid after : List ℕ) (first later : List Event)
       → LinesAlong remaining before s first mid m → LinesAlong remaining mid m later after t
@@ -101,18 +126,20 @@ module _ {S : Type 0} (remaining : S → Option (List ℕ)) where
         (cuts_join m.pieces.ended t.pieces.ended later q.told mid after q.bytes q.cut first (before ++ p.bytes) p.cut);
     closed = q.closed;
     told = λ ended. end_joins m.pieces.ended t.pieces.ended later q.told first (p.told ended);
+    ends = omega (arith, p.ends, q.ends, sum_by-append event_ends first later);
   }
 
 -- a call of `next` where no line is being skipped
 module _ {S : Type 0} (remaining : S → Option (List ℕ)) (s t : LineState S) where
-  nothing : (answer : LineAnswer) (n : NextOpen remaining s answer t) → n.0.bytes ≡ [] → ¬ (answer ≡ Ok None)
-      → LinesAlong remaining [] s [] [] t
-  nothing answer n none isnt = record {
+  nothing : (answer : LineAnswer) (n : NextOpen remaining s answer t) → n.0.bytes ≡ [] → t.pieces.ended ≡ false
+      → ¬ (answer ≡ Ok None) → LinesAlong remaining [] s [] [] t
+  nothing answer n none going isnt = record {
     bytes = n.0.bytes;
     went = n.0.went;
     cut = (subst IsLine (sym none) no_line, none);
     closed = λ open'. refl;
     told = λ ended. absurd (isnt (same_none answer (n.0.told ended)));
+    ends = no_end remaining s t n.0.bytes n.0.went [] refl going;
   }
 
   -- a line was handed out, and shown so
@@ -135,6 +162,10 @@ module _ {S : Type 0} (remaining : S → Option (List ℕ)) (s t : LineState S) 
     );
     closed = λ open'. refl;
     told = λ ended. (let odd : Ok (Some line) ≡ Ok None = same_none (Ok (Some line)) (n.0.told ended) in cc);
+    ends = elim n.0.answers.1 [
+      | inl (is, going, none) ↦ no_end remaining s t n.0.bytes n.0.went (Handed trims shown ∷ []) refl going
+      | inr (is, part, some, none, ended, met) ↦ one_end remaining s t n.0.bytes n.0.went (Handed trims shown ∷ []) refl ended met
+    ];
   }
 
   pub NextLine-along : (answer : LineAnswer) → NextOpen remaining s answer t
@@ -146,11 +177,16 @@ module _ {S : Type 0} (remaining : S → Option (List ℕ)) (s t : LineState S) 
     cut = (subst IsLine (sym n.0.answers.0) no_line, n.0.answers.0);
     closed = λ open'. refl;
     told = λ ended. tt;
+    ends = omega (
+      arith,
+      ap pending n.0.answers.3,
+      met_once s.pieces.ended (empty_reads s.pieces.reader) (empty_reads t.pieces.reader) n.0.answers.4,
+    );
   }
   NextLine-along (Err (TooLong most)) n =
-      nothing (Err (TooLong most)) n n.0.answers.0 (λ is. (let odd : Err (TooLong most) ≡ Ok None = is in cc))
+      nothing (Err (TooLong most)) n n.0.answers.0 n.0.answers.2 (λ is. (let odd : Err (TooLong most) ≡ Ok None = is in cc))
   NextLine-along (Err (Io e)) n =
-      nothing (Err (Io e)) n n.0.answers.0 (λ is. (let odd : Err (Io e) ≡ Ok None = is in cc))
+      nothing (Err (Io e)) n n.0.answers.0 n.0.answers.3 (λ is. (let odd : Err (Io e) ≡ Ok None = is in cc))
 
   -- a call of `next_buffered`; where it finds none nothing is done, also of a line that is being skipped
   pub NextBufferedLine-along : (line : List ℕ) → NextBufferedLine remaining s (Some line) t
@@ -162,7 +198,7 @@ module _ {S : Type 0} (remaining : S → Option (List ℕ)) (s t : LineState S) 
   NextBufferedLine-stays before plain closed n = LinesAlong-still remaining s t before plain
       (λ open'. closed (sym n.skipping ∙ open'))
       (StaysLeft-went remaining (lined s.pieces.decoder.max) s.pieces t.pieces n.piece.0)
-      (λ ended. ap (λ x. x.ended) n.piece.0.same ∙ ended)
+      (ap (λ x. x.ended) n.piece.0.same)
 
   -- a call of `next_trimmed` where no line is being skipped
   pub Trims-along : (whole answer : LineAnswer) → NextOpen remaining s whole t → Trims whole answer t.pieces.ended
@@ -204,9 +240,9 @@ module _ {S : Type 0} (remaining : S → Option (List ℕ)) (s t : LineState S) 
   )
 
   -- through the end of the line
-  pub skip_whole : (count : ℕ) (k : SkipsLine remaining s (Ok count) t) (line : List ℕ) → IsLine line
+  pub skip_whole : (count : ℕ) (k : SkipsLine remaining s (Ok count) t) → t.pieces.ended ≡ false → (line : List ℕ) → IsLine line
       → k.drops.bytes ≡ with_newline line → LinesAlong remaining before s (Skipped (before ++ line) ∷ []) [] t
-  skip_whole count k line is_line equal =
+  skip_whole count k going line is_line equal =
       let all : before ++ k.drops.bytes ≡ with_newline (before ++ line) ++ [] =
       ap (λ l. before ++ l) equal ∙ sym (append_assoc before line (newline ∷ []))
       ∙ sym (append-nil (with_newline (before ++ line))) in
@@ -221,13 +257,14 @@ module _ {S : Type 0} (remaining : S → Option (List ℕ)) (s t : LineState S) 
           ap length equal,
           length-append line (newline ∷ []),
         ));
+        ends = no_end remaining s t k.drops.bytes k.drops.went (Skipped (before ++ line) ∷ []) refl going;
       }
 
   -- the last line, which has none
   pub skip_last : (count : ℕ) (k : SkipsLine remaining s (Ok count) t) → IsLine k.drops.bytes → t.pieces.ended ≡ true
-      → 0 < length (before ++ k.drops.bytes)
+      → MetEnd s.pieces t.pieces → 0 < length (before ++ k.drops.bytes)
       → LinesAlong remaining before s (Skipped (before ++ k.drops.bytes) ∷ []) [] t
-  skip_last count k line ended some = record {
+  skip_last count k line ended met some = record {
     bytes = k.drops.bytes;
     went = k.drops.went;
     cut = (
@@ -238,17 +275,19 @@ module _ {S : Type 0} (remaining : S → Option (List ℕ)) (s t : LineState S) 
     );
     closed = λ open'. refl;
     told = λ over. told_skip (Ok count) k over some;
+    ends = one_end remaining s t k.drops.bytes k.drops.went (Skipped (before ++ k.drops.bytes) ∷ []) refl ended met;
   }
 
   -- nothing, at the end of the stream
-  pub skip_none : (count : ℕ) (k : SkipsLine remaining s (Ok count) t) → t.pieces.ended ≡ true → before ++ k.drops.bytes ≡ []
-      → LinesAlong remaining before s [] [] t
-  skip_none count k ended none = record {
+  pub skip_none : (count : ℕ) (k : SkipsLine remaining s (Ok count) t) → t.pieces.ended ≡ true → MetEnd s.pieces t.pieces
+      → before ++ k.drops.bytes ≡ [] → LinesAlong remaining before s [] [] t
+  skip_none count k ended met none = record {
     bytes = k.drops.bytes;
     went = k.drops.went;
     cut = (subst IsLine (sym none) no_line, none);
     closed = λ open'. refl;
     told = λ over. ended;
+    ends = one_end remaining s t k.drops.bytes k.drops.went [] refl ended met;
   }
 
   -- the stream failed in the line
@@ -270,4 +309,5 @@ module _ {S : Type 0} (remaining : S → Option (List ℕ)) (s t : LineState S) 
           ))
           | inr (fault, other, above) ↦ absurd (omega (arith, above, ap length u.0))
         ];
+    ends = no_end remaining s t k.drops.bytes k.drops.went [] refl k.drops.answers.2;
   }

@@ -2,14 +2,15 @@
 use Rattle.std.specs.Prelude.{◌≡◌, ℕ, ◌+◌, ◌≤◌, List, [], ◌∷◌, ◌++◌, length, Bool, true, false, Option, None, Some, Ok, Err}
 use Rattle.std.proofs.Common.{sym, ap, subst, ◌∙◌, arith, refl, inl, inr}
 use Rattle.std.proofs.lemmas.List.Concat.{flat_map-append}
-use Rattle.std.proofs.lemmas.List.Sums.{sum_by-cons}
+use Rattle.std.proofs.lemmas.List.Sums.{sum_by-append, sum_by-cons}
 use Rattle.std.specs.List.{flat_map, sum_by}
 use Rattle.std.specs.declared.io.Error.{Error}
+use Rattle.piece_reader.specs.NextPiece.{MetEnd}
 use Rattle.piece_reader.specs.PiecesWentLaws.{PiecesWent-none}
 use Rattle.piece_reader.specs.PieceReader.{rest}
-use Rattle.piece_reader.specs.Runs.{AnswerRuns, handed_payload}
+use Rattle.piece_reader.specs.Runs.{AnswerRuns}
 use Rattle.line_reader.specs.declared.error.LineError.TheVariants.{Io}
-use Rattle.line_reader.specs.Calls.{Handed, Skipped, Ended, Nexts, NextsBuffered, NextsTrimmed, Skips, Call, CallGoes, CallsWent, Event, LinesAlong, call_asks, call_lines, event_lines, events_of, pending, skipped_count}
+use Rattle.line_reader.specs.Calls.{Skipped, Nexts, NextsBuffered, NextsTrimmed, Skips, Call, CallGoes, CallsWent, LinesAlong, call_asks, call_lines, event_lines, event_skips, events_of, shown_lines, pending}
 use Rattle.line_reader.specs.CallsLaws.{CutsInto-after, LinesAlong-joins, LinesAlong-still, NextBufferedLine-along, NextBufferedLine-stays, NextLine-along, Trims-along, skip_fails, skip_last, skip_none, skip_whole}
 use Rattle.line_reader.specs.Lines.{IsLine}
 use Rattle.line_reader.specs.LineReader.{LineState, IsLineReader}
@@ -17,15 +18,8 @@ use Rattle.line_reader.specs.NextLine.{LineAnswer, NextLine, Trims}
 use Rattle.line_reader.specs.NextLineLaws.{NextBufferedLine-whole, NextLine-whole, NextOpen, SkipsLine-whole, by_skipping}
 use Rattle.line_reader.specs.SkipLine.{SkipsLine}
 
--- lines that were skipped are counted in any part
-skipped_append : (first later : List Event) → skipped_count (first ++ later) ≡ skipped_count first + skipped_count later
-skipped_append [] later = omega arith
-skipped_append (Handed trims shown ∷ first) later = skipped_append first later
-skipped_append (Skipped line ∷ first) later = omega (arith, skipped_append first later)
-skipped_append (Ended ∷ first) later = skipped_append first later
-
-lines_shown : (trims : Bool) (answer : LineAnswer) → (flat_map event_lines (events_of trims answer) ≡ handed_payload answer)
-    × (skipped_count (events_of trims answer) ≡ 0)
+lines_shown : (trims : Bool) (answer : LineAnswer) → (flat_map event_lines (events_of trims answer) ≡ shown_lines trims answer)
+    × (sum_by event_skips (events_of trims answer) ≡ 0)
 lines_shown trims (Ok (Some shown)) = (refl, refl)
 lines_shown trims (Ok None) = (refl, refl)
 lines_shown trims (Err e) = (refl, refl)
@@ -48,12 +42,12 @@ module _ {S : Type 0} (remaining : S → Option (List ℕ)) where
     events = [];
     after = before;
     along = LinesAlong-still remaining s s before plain closed
-        (PiecesWent-none remaining (1 + s.pieces.decoder.max) s.pieces) (λ ended. ended);
+        (PiecesWent-none remaining (1 + s.pieces.decoder.max) s.pieces) refl;
     handed = refl;
     few = omega arith;
   }
 
-  CallsWent-joins : (s m t : LineState S) (before : List ℕ) (lines later : List (List ℕ)) (asks more : ℕ)
+  CallsWent-joins : (s m t : LineState S) (before : List ℕ) (lines later : List (Bool × List ℕ)) (asks more : ℕ)
       (c : CallsWent remaining before s lines asks m) → CallsWent remaining c.after m later more t
       → CallsWent remaining before s (lines ++ later) (asks + more) t
   CallsWent-joins s m t before lines later asks more c d = record {
@@ -63,12 +57,12 @@ module _ {S : Type 0} (remaining : S → Option (List ℕ)) where
     handed =
         flat_map-append event_lines c.events d.events ∙ ap (λ l. l ++ flat_map event_lines d.events) c.handed
         ∙ ap (λ l. lines ++ l) d.handed;
-    few = omega (arith, c.few, d.few, skipped_append c.events d.events);
+    few = omega (arith, c.few, d.few, sum_by-append event_skips c.events d.events);
   }
 
   -- one call of `next`, or of `next_trimmed`, where no line is being skipped
   goes_plain : (trims : Bool) (s t : LineState S) (answer : LineAnswer) → t.skipping ≡ false
-      → LinesAlong remaining [] s (events_of trims answer) [] t → CallsWent remaining [] s (handed_payload answer) 0 t
+      → LinesAlong remaining [] s (events_of trims answer) [] t → CallsWent remaining [] s (shown_lines trims answer) 0 t
   goes_plain trims s t answer open' along = record {
     events = events_of trims answer;
     after = [];
@@ -86,26 +80,26 @@ module _ {S : Type 0} (remaining : S → Option (List ℕ)) where
       | inl (w, going, met) ↦ record {
         events = Skipped (before ++ w.line) ∷ [];
         after = [];
-        along = skip_whole remaining s t before plain closed (ended_empty s whole) count k w.line w.plain w.equal;
+        along = skip_whole remaining s t before plain closed (ended_empty s whole) count k going w.line w.plain w.equal;
         handed = refl;
         few = omega (arith, enough, ap pending k.skipping);
       }
-      | inr (line, none, ended, met) ↦ last line ended (before ++ k.drops.bytes) refl
+      | inr (line, none, ended, met) ↦ last line ended met (before ++ k.drops.bytes) refl
     ]
       where
-        last : IsLine k.drops.bytes → t.pieces.ended ≡ true → (all : List ℕ) → all ≡ before ++ k.drops.bytes
-            → CallsWent remaining before s [] asks t
-        last line ended [] is = record {
+        last : IsLine k.drops.bytes → t.pieces.ended ≡ true → MetEnd s.pieces t.pieces → (all : List ℕ)
+            → all ≡ before ++ k.drops.bytes → CallsWent remaining before s [] asks t
+        last line ended met [] is = record {
           events = [];
           after = [];
-          along = skip_none remaining s t before plain closed (ended_empty s whole) count k ended (sym is);
+          along = skip_none remaining s t before plain closed (ended_empty s whole) count k ended met (sym is);
           handed = refl;
           few = omega (arith, ap pending k.skipping);
         }
-        last line ended (byte ∷ all) is = record {
+        last line ended met (byte ∷ all) is = record {
           events = Skipped (before ++ k.drops.bytes) ∷ [];
           after = [];
-          along = skip_last remaining s t before plain closed (ended_empty s whole) count k line ended
+          along = skip_last remaining s t before plain closed (ended_empty s whole) count k line ended met
               (omega (arith, ap length is));
           handed = refl;
           few = omega (arith, enough, ap pending k.skipping);
@@ -123,7 +117,7 @@ module _ {S : Type 0} (remaining : S → Option (List ℕ)) where
 
   -- a call that goes on skipping first
   skips_first : (s t : LineState S) (before : List ℕ) → IsLine before → (s.skipping ≡ false → before ≡ []) → IsLineReader s
-      → (answer : LineAnswer) (lines : List (List ℕ))
+      → (answer : LineAnswer) (lines : List (Bool × List ℕ))
       → ((m : LineState S) → NextOpen remaining m answer t → CallsWent remaining [] m lines 0 t)
       → ((e : Error) → answer ≡ Err (Io e) → lines ≡ []) → NextLine remaining s answer t
       → CallsWent remaining before s lines 0 t
@@ -142,15 +136,15 @@ module _ {S : Type 0} (remaining : S → Option (List ℕ)) where
       → IsLine before → (s.skipping ≡ false → before ≡ []) → IsLineReader s
       → CallsWent remaining before s (call_lines call) (call_asks call) t
   CallGoes-went s (Nexts answer) t goes before plain closed whole =
-      skips_first s t before plain closed whole answer (handed_payload answer)
+      skips_first s t before plain closed whole answer (shown_lines false answer)
       (λ m n. goes_plain false m t answer n.1 (NextLine-along remaining m t answer n))
-      (λ e is. ap handed_payload is) goes
+      (λ e is. ap (shown_lines false) is) goes
   CallGoes-went s (NextsTrimmed answer) t n before plain closed whole =
-      skips_first s t before plain closed whole n.whole (handed_payload answer)
+      skips_first s t before plain closed whole n.whole (shown_lines true answer)
       (λ m line. goes_plain true m t answer line.1 (Trims-along remaining m t n.whole answer line n.trims))
-      (λ e is. ap handed_payload (subst (λ w. Trims w answer t.pieces.ended) is n.trims)) n.next
+      (λ e is. ap (shown_lines true) (subst (λ w. Trims w answer t.pieces.ended) is n.trims)) n.next
   CallGoes-went s (NextsBuffered (Some line)) t n before plain closed whole =
-      subst (λ l. CallsWent remaining l s (line ∷ []) 0 t) (sym (closed n.open'))
+      subst (λ l. CallsWent remaining l s ((false, line) ∷ []) 0 t) (sym (closed n.open'))
       (goes_plain false s t (Ok (Some line)) (n.skipping ∙ n.open') (NextBufferedLine-along remaining s t line n))
   CallGoes-went s (NextsBuffered None) t n before plain closed whole = record {
     events = [];

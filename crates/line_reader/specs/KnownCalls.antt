@@ -1,5 +1,5 @@
 -- What a reader of lines takes out of a stream that is known.
-use Rattle.std.specs.Prelude.{◌≡◌, ℕ, ◌⊎◌, List, [], ◌∷◌, ◌++◌, true, false, Option, Some}
+use Rattle.std.specs.Prelude.{◌≡◌, ℕ, ◌⊎◌, List, [], ◌∷◌, ◌++◌, Bool, true, false, Option, Some}
 use Rattle.std.specs.List.{flat_map}
 use Rattle.piece_reader.specs.KnownPieces.{ahead_of}
 use Rattle.line_reader.specs.Calls.{Handed, Skipped, Ended, Event, Shows, event_lines}
@@ -28,8 +28,8 @@ TakesLines lines (Skipped line ∷ events) later =
 TakesLines lines (Ended ∷ events) later = (lines ≡ []) × TakesLines [] events later
 
 -- calls that handed these out took the first of the lines, whole and in order, and the others are left
-pub record TookFirstLines {S : Type 0} (remaining : S → Option (List ℕ)) (lines handed : List (List ℕ)) (t : LineState S)
-    : Type 0 where
+pub record TookFirstLines {S : Type 0} (remaining : S → Option (List ℕ)) (lines : List (List ℕ)) (handed : List (Bool × List ℕ))
+    (t : LineState S) : Type 0 where
   pub events : List Event
   pub later : List (List ℕ)
   pub takes : TakesLines lines events later

@@ -14,10 +14,10 @@ use Rattle.piece_reader.specs.KnownPiecesLaws.{PiecesWent-dry, PiecesWent-front}
 use Rattle.piece_reader.specs.NextPiece.{MetEnd, PiecesWent}
 use Rattle.piece_reader.specs.PiecesWentLaws.{drop_none}
 use Rattle.piece_reader.specs.PieceReader.{IsFresh, rest}
-use Rattle.piece_reader.specs.Runs.{AnswerRuns, handed_payload}
+use Rattle.piece_reader.specs.Runs.{AnswerRuns}
 use Rattle.piece_reader.specs.Trimming.{IsTrimmed}
 use Rattle.line_reader.specs.declared.error.LineError.TheVariants.{TooLong, Io}
-use Rattle.line_reader.specs.Calls.{Handed, Skipped, Ended, Nexts, NextsBuffered, NextsTrimmed, Skips, Call, CallGoes, Event, call_lines, event_lines}
+use Rattle.line_reader.specs.Calls.{Handed, Skipped, Ended, Nexts, NextsBuffered, NextsTrimmed, Skips, Call, CallGoes, Event, call_lines, event_lines, shown_lines}
 use Rattle.line_reader.specs.CallsLaws.{no_line}
 use Rattle.line_reader.specs.KnownCalls.{LeavesBehind, TakesLines, TookFirstLines}
 use Rattle.line_reader.specs.Lines.{HasLines, IsLine, newline, with_newline}
@@ -79,7 +79,8 @@ module _ {S : Type 0} (remaining : S → Option (List ℕ)) where
   front lines t events later after takes left =
       record { events = events; later = later; takes = takes; same = refl; before = after; left = left }
 
-  TookFirstLines-joins : (m t : LineState S) (lines handed then : List (List ℕ)) (f : TookFirstLines remaining lines handed m)
+  TookFirstLines-joins : (m t : LineState S) (lines : List (List ℕ)) (handed then : List (Bool × List ℕ))
+      (f : TookFirstLines remaining lines handed m)
       → TookFirstLines remaining f.later then t → TookFirstLines remaining lines (handed ++ then) t
   TookFirstLines-joins m t lines handed then f g = record {
     events = f.events ++ g.events;
@@ -196,7 +197,7 @@ module _ {S : Type 0} (remaining : S → Option (List ℕ)) (s t : LineState S) 
       front remaining lines t [] lines [] refl
       (took_none remaining s t [] lines b n.0.bytes n.0.went [] no_line (λ _. refl) (next_quiet answer n) none)
 
-  next_takes : (answer : LineAnswer) → NextOpen remaining s answer t → TookFirstLines remaining lines (handed_payload answer) t
+  next_takes : (answer : LineAnswer) → NextOpen remaining s answer t → TookFirstLines remaining lines (shown_lines false answer) t
   next_takes (Ok (Some line)) n =
       let one = takes_one line n in
       front remaining lines t (Handed false line ∷ []) one.0 [] (line, one.0, one.1, inr refl, refl) one.2
@@ -214,7 +215,7 @@ module _ {S : Type 0} (remaining : S → Option (List ℕ)) (s t : LineState S) 
   either_shown false line shown trims = inl trims
 
   trimmed_takes : (whole answer : LineAnswer) → NextOpen remaining s whole t → Trims whole answer t.pieces.ended
-      → TookFirstLines remaining lines (handed_payload answer) t
+      → TookFirstLines remaining lines (shown_lines true answer) t
   trimmed_takes (Ok (Some line)) (Ok (Some shown)) n trims =
       let one = takes_one line n in
       front remaining lines t (Handed true shown ∷ []) one.0 []
@@ -222,9 +223,9 @@ module _ {S : Type 0} (remaining : S → Option (List ℕ)) (s t : LineState S) 
   trimmed_takes (Ok (Some line)) (Ok None) n trims = absurd trims
   trimmed_takes (Ok (Some line)) (Err e) n trims = absurd trims
   trimmed_takes (Ok None) answer n trims =
-      subst (λ a. TookFirstLines remaining lines (handed_payload a) t) (sym trims) (next_takes (Ok None) n)
+      subst (λ a. TookFirstLines remaining lines (shown_lines true a) t) (sym trims) (next_takes (Ok None) n)
   trimmed_takes (Err e) answer n trims =
-      subst (λ a. TookFirstLines remaining lines (handed_payload a) t) (sym trims) (next_takes (Err e) n)
+      subst (λ a. TookFirstLines remaining lines (shown_lines true a) t) (sym trims) (next_takes (Err e) n)
 
 -- a skip, or the part of a call that goes on skipping
 module _ {S : Type 0} (remaining : S → Option (List ℕ)) (s t : LineState S) (before : List ℕ) (lines : List (List ℕ))
@@ -269,8 +270,8 @@ module _ {S : Type 0} (remaining : S → Option (List ℕ)) (s t : LineState S) 
 
 module _ {S : Type 0} (remaining : S → Option (List ℕ)) where
   -- a call that goes on skipping first
-  goes_takes : (s t : LineState S) (before : List ℕ) (lines handed : List (List ℕ)) → LeavesBehind remaining before s lines
-      → (answer : LineAnswer)
+  goes_takes : (s t : LineState S) (before : List ℕ) (lines : List (List ℕ)) (handed : List (Bool × List ℕ))
+      → LeavesBehind remaining before s lines → (answer : LineAnswer)
       → ((m : LineState S) (some : List (List ℕ)) → LeavesBehind remaining [] m some → NextOpen remaining m answer t
       → TookFirstLines remaining some handed t)
       → ((e : Error) → answer ≡ Err (Io e) → handed ≡ []) → NextLine remaining s answer t
@@ -288,12 +289,12 @@ module _ {S : Type 0} (remaining : S → Option (List ℕ)) where
   call_takes : (s : LineState S) (call : Call) (t : LineState S) → CallGoes remaining s call t → (before : List ℕ)
       (lines : List (List ℕ)) → LeavesBehind remaining before s lines → TookFirstLines remaining lines (call_lines call) t
   call_takes s (Nexts answer) t goes before lines b =
-      goes_takes s t before lines (handed_payload answer) b answer (λ m some has n. next_takes remaining m t some has answer n)
-      (λ e is. ap handed_payload is) goes
+      goes_takes s t before lines (shown_lines false answer) b answer (λ m some has n. next_takes remaining m t some has answer n)
+      (λ e is. ap (shown_lines false) is) goes
   call_takes s (NextsTrimmed answer) t n before lines b =
-      goes_takes s t before lines (handed_payload answer) b n.whole
+      goes_takes s t before lines (shown_lines true answer) b n.whole
       (λ m some has line. trimmed_takes remaining m t some has n.whole answer line n.trims)
-      (λ e is. ap handed_payload (subst (λ w. Trims w answer t.pieces.ended) is n.trims)) n.next
+      (λ e is. ap (shown_lines true) (subst (λ w. Trims w answer t.pieces.ended) is n.trims)) n.next
   call_takes s (NextsBuffered (Some line)) t n before lines b =
       next_takes remaining s t lines (none_before remaining s before lines n.open' b) (Ok (Some line))
       (n.piece.0, n.skipping ∙ n.open')

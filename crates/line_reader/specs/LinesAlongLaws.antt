@@ -8,7 +8,7 @@ use Rattle.std.specs.declared.io.Error.{Error}
 use Rattle.std.specs.declared.io.ErrorKind.TheVariants.{Other}
 use Rattle.piece_reader.specs.DelimitedLaws.{delimited_lawful}
 use Rattle.piece_reader.specs.Grammar.{Begins}
-use Rattle.piece_reader.specs.NextPiece.{Faulted, NoFault, StaysLeft, answer_of}
+use Rattle.piece_reader.specs.NextPiece.{Faulted, MetEnd, NoFault, StaysLeft, answer_of}
 use Rattle.piece_reader.specs.NextPieceLaws.{AsksNone-settled}
 use Rattle.piece_reader.specs.PiecesWentLaws.{PiecesWent-unasked}
 use Rattle.piece_reader.specs.PieceReader.{rest}
@@ -159,13 +159,14 @@ IsSkip events = ((line : List ℕ) × (events ≡ Skipped line ∷ [])) ⊎ (eve
 module _ {S : Type 0} (remaining : S → Option (List ℕ)) (s t : LineState S) (whole : IsLineReader s) (count : ℕ)
     (k : SkipsLine remaining s (Ok count) t) where
   skips_rest : (bytes : List ℕ) → k.drops.bytes ≡ bytes → IsLine k.drops.bytes → t.pieces.ended ≡ true
-      → (events : List Event) × IsSkip events × LinesAlong remaining [] s events [] t
-  skips_rest [] is plain ended =
-      ([], inr refl, skip_none remaining s t [] no_line (λ _. refl) (ended_empty s whole) count k ended is)
-  skips_rest (byte ∷ bytes) is plain ended = (
+      → MetEnd s.pieces t.pieces → (events : List Event) × IsSkip events × LinesAlong remaining [] s events [] t
+  skips_rest [] is plain ended met =
+      ([], inr refl, skip_none remaining s t [] no_line (λ _. refl) (ended_empty s whole) count k ended met is)
+  skips_rest (byte ∷ bytes) is plain ended met = (
     Skipped k.drops.bytes ∷ [],
     inl (k.drops.bytes, refl),
-    skip_last remaining s t [] no_line (λ _. refl) (ended_empty s whole) count k plain ended (omega (arith, ap length is)),
+    skip_last remaining s t [] no_line (λ _. refl) (ended_empty s whole) count k plain ended met
+        (omega (arith, ap length is)),
   )
 
   -- what one call of `skip_line` took
@@ -174,9 +175,9 @@ module _ {S : Type 0} (remaining : S → Option (List ℕ)) (s t : LineState S) 
     | inl (w, going, end) ↦ (
       Skipped w.line ∷ [],
       inl (w.line, refl),
-      skip_whole remaining s t [] no_line (λ _. refl) (ended_empty s whole) count k w.line w.plain w.equal,
+      skip_whole remaining s t [] no_line (λ _. refl) (ended_empty s whole) count k going w.line w.plain w.equal,
     )
-    | inr (plain, none, ended, end) ↦ skips_rest k.drops.bytes refl plain ended
+    | inr (plain, none, ended, end) ↦ skips_rest k.drops.bytes refl plain ended end
   ]
 
 -- a line that is too long, and then skipped
@@ -218,13 +219,13 @@ module _ {S : Type 0} (remaining : S → Option (List ℕ)) (s m t : LineState S
             w.line,
             whole_long w.line w.equal,
             LinesAlong-joins remaining s m t [] [] [] [] (Skipped w.line ∷ []) first
-                (skip_whole remaining m t [] no_line (λ _. refl) not_ended count k w.line w.plain w.equal),
+                (skip_whole remaining m t [] no_line (λ _. refl) not_ended count k going w.line w.plain w.equal),
           )
           | inr (plain, none, ended, end) ↦ (
             k.drops.bytes,
             last_long none,
             LinesAlong-joins remaining s m t [] [] [] [] (Skipped k.drops.bytes ∷ []) first
-                (skip_last remaining m t [] no_line (λ _. refl) not_ended count k plain ended
+                (skip_last remaining m t [] no_line (λ _. refl) not_ended count k plain ended end
                 (omega (arith, last_long none))),
           )
         ]

@@ -3,7 +3,7 @@ use Rattle.std.specs.Prelude.{◌≡◌, ℕ, ◌+◌, ◌^◌, ◌<◌, ◌≤�
 use Rattle.std.specs.IoError.{error_kind}
 use Rattle.std.specs.declared.io.Error.{Error}
 use Rattle.std.specs.declared.io.ErrorKind.TheVariants.{Other}
-use Rattle.piece_reader.specs.NextPiece.{AskedUnlessEnded, Faulted, MetEnd, NoEnd, NoFault, PiecesWent}
+use Rattle.piece_reader.specs.NextPiece.{AskedUnlessEnded, Faulted, MetEnd, NoEnd, NoFault, OffersAll, PiecesWent}
 use Rattle.piece_reader.specs.PieceReader.{IsPieceReader, ReaderState, Skips, rest}
 use Rattle.piece_reader.specs.Plain.{EndsAt}
 use Rattle.line_reader.specs.declared.line.Lines.{Lines}
@@ -20,7 +20,7 @@ pub record DropsLine {S : Type 0} (s : ReaderState S Lines) (count : ℕ) (found
 
 -- what is dropped through the end of a line. At Ok the bytes are a line and its end, or all that came before the stream's,
 -- which the next call of `next` tells. At an `Err` no end came: the stream failed, or more bytes were dropped than this. The
--- stream is asked only where no end of a line is buffered
+-- stream is asked only where no end of a line is buffered, for all that the buffer holds
 pub record DropsThrough {S : Type 0} (remaining : S → Option (List ℕ)) (s : ReaderState S Lines) (answer : Result ℕ Error)
     (t : ReaderState S Lines) : Type 0 where
   pub bytes : List ℕ
@@ -32,6 +32,7 @@ pub record DropsThrough {S : Type 0} (remaining : S → Option (List ℕ)) (s : 
       (λ e. IsLine bytes × (rest t ≡ []) × (t.ended ≡ false) × NoEnd s t
       × (Faulted s e t ⊎ (NoFault s t × (error_kind e ≡ Other) × (2 ^ 63 < length bytes))))
   pub asked : AskedUnlessEnded IsLine s t
+  pub offered : OffersAll s t
   pub whole : IsPieceReader (lined t.decoder.max) t
 
 -- what one call of `skip_line` does: the line is skipped, or is being skipped still

@@ -1,12 +1,11 @@
 -- What one ask of the stream does where nothing is left.
-use Rattle.std.proofs.Common.{◌≡◌, ◌↔◌, ℕ, ◌<◌, List, [], ◌∷◌, ◌++◌, length, Bool, true, false, Option, Result, Ok, Err, refl, sym, ap, subst, ◌∙◌, arith, inl, inr}
+use Rattle.std.proofs.Common.{◌≡◌, ◌↔◌, ℕ, ◌<◌, List, [], ◌∷◌, ◌++◌, length, Bool, true, false, Option, Result, Ok, Err, refl, sym, ap, subst, ◌∙◌, arith, inl, inr, length-append}
 use Rattle.std.proofs.lemmas.List.{nil_from_length}
 use Rattle.std.specs.declared.io.Error.{Error}
-use Rattle.buffer_redux.specs.Asking.{AskedOver}
 use Rattle.buffer_redux.specs.AskingLaws.{AskedOver-on}
 use Rattle.piece_reader.specs.Grammar.{Grammar}
-use Rattle.piece_reader.specs.NextPiece.{AskedUnlessEnded, Faulted, OffersMore, OffersOver, PiecesWent, Refills}
-use Rattle.piece_reader.specs.NextPieceLaws.{AskedUnlessEnded-told, MetEnd-joins, OffersMore-told, still_going}
+use Rattle.piece_reader.specs.NextPiece.{AskedUnlessEnded, Faulted, OffersAll, PiecesWent, Refills}
+use Rattle.piece_reader.specs.NextPieceLaws.{AskedUnlessEnded-told, MetEnd-joins, still_going}
 use Rattle.piece_reader.specs.PiecesWentLaws.{PiecesWent-inside, PiecesWent-joins}
 use Rattle.piece_reader.specs.PieceReader.{IsPieceReader, ReaderState, left_of, rest}
 use Rattle.piece_reader.specs.Steps.{AsksFor}
@@ -24,31 +23,40 @@ came_left remaining g s t (Err e) r =
 
 -- what was handed out was dropped, and nothing is left
 module _ {S D W : Type 0} (remaining : S → Option (List ℕ)) (g : Grammar W) (s m : ReaderState S D)
-    (went : PiecesWent remaining g.most s [] m) (left : rest m ≡ rest s) (ended : m.ended ≡ s.ended)
-    (told : m.reader.log ≡ s.reader.log) (none : rest s ≡ []) where
+    (went : PiecesWent remaining g.most s [] m) (ended : m.ended ≡ s.ended)
+    (told : m.reader.log ≡ s.reader.log) where
   header : HeaderBytes remaining g s m
   header = HeaderBytes-told remaining g s s (HeaderBytes-none remaining g s) m went told ended
-
-  asked_over : (P Q : List ℕ → Type 0) (t : ReaderState S D) → ((more : List ℕ) → P (rest m ++ more) → Q (rest m ++ more))
-      → AskedOver P (left_of m) (left_of t) → AskedOver Q (left_of s) (left_of t)
-  asked_over P Q t so =
-      AskedOver-on P Q (left_of s) (left_of m) (left_of t) [] went.hands went.grows.asks header.asks so
 
   asked_empty : (t : ReaderState S D) → AskedUnlessEnded (λ bytes. length bytes < 1) m t
       → AskedUnlessEnded (λ bytes. bytes ≡ []) s t
   asked_empty t (inl same) = inl (same ∙ told)
   asked_empty t (inr over) = inr (
     sym ended ∙ over.0,
-    asked_over (λ bytes. length bytes < 1) (λ bytes. bytes ≡ []) t
-        (λ more few. nil_from_length (rest m ++ more) (omega (arith, few))) over.1,
+    AskedOver-on (λ bytes. length bytes < 1) (λ bytes. bytes ≡ []) (left_of s) (left_of m) (left_of t) [] went.hands
+        went.grows.asks header.asks (λ more few. nil_from_length (rest m ++ more) (omega (arith, few))) over.1,
   )
 
-  offered_over : (t : ReaderState S D) → OffersMore m t → OffersMore s t
-  offered_over t (inl same) = inl (same ∙ told)
-  offered_over t (inr over) =
-      let offer = t.reader.log.reads.offer in
-      inr (asked_over (OffersOver m.reader.block.capacity offer) (OffersOver s.reader.block.capacity offer) t
-      (λ more offers. (offers.0, λ none. offers.1 none ∙ went.capacity)) over)
+  -- at each ask nothing was there
+  offered_all : (answer : Result Bool Error) (t : ReaderState S D) → AsksFor remaining g 1 m answer t → OffersAll s t
+  offered_all answer t a = elim a.offered [
+    | inl same ↦ inl (same ∙ told)
+    | inr over ↦ elim a.asked [
+      | inl same ↦ inl (same ∙ told)
+      | inr asked ↦ inr (over.such.1 (nil_from_length (rest m ++ over.came) (omega (
+        arith,
+        asked.1.such,
+        ap length asked.1.given,
+        ap length over.given,
+        length-append m.reader.log.reads.given (asked.1.came ++ t.reader.log.reads.latest),
+        length-append m.reader.log.reads.given (over.came ++ t.reader.log.reads.latest),
+        length-append asked.1.came t.reader.log.reads.latest,
+        length-append over.came t.reader.log.reads.latest,
+        length-append (rest m) asked.1.came,
+        length-append (rest m) over.came,
+      ))) ∙ went.capacity)
+    ]
+  ]
 
   -- what changes where the end alone is noted behind the answer
   module _ (t : ReaderState S D) (came flag : Bool) where
@@ -63,9 +71,6 @@ module _ {S D W : Type 0} (remaining : S → Option (List ℕ)) (g : Grammar W) 
     asked_then : AsksFor remaining g 1 m (Ok came) t → AskedUnlessEnded (λ bytes. bytes ≡ []) s noted
     asked_then a = AskedUnlessEnded-told (λ bytes. bytes ≡ []) s t noted refl (asked_empty t a.asked)
 
-    offered_then : AsksFor remaining g 1 m (Ok came) t → OffersMore s noted
-    offered_then a = OffersMore-told s t noted refl (offered_over t a.offered)
-
     still_whole : AsksFor remaining g 1 m (Ok came) t → (flag ≡ true → rest t ≡ []) → IsPieceReader g noted
     still_whole a none_left = whole_as g t a.whole t.handed t.seen flag a.whole.handed a.whole.searched none_left
 
@@ -75,7 +80,7 @@ module _ {S D W : Type 0} (remaining : S → Option (List ℕ)) (g : Grammar W) 
         let going : t.ended ≡ false = still_going t.ended (rest t) a.whole.ended (omega (arith, more.0)) in record {
           went = went_on a;
           asked = asked_then a;
-          offered = offered_then a;
+          offered = offered_all (Ok came) t a;
           more = λ _. (
             omega (arith, more.0),
             sym ended ∙ sym a.ended ∙ going,
@@ -94,7 +99,7 @@ module _ {S D W : Type 0} (remaining : S → Option (List ℕ)) (g : Grammar W) 
         let empty : rest t ≡ [] = nil_from_length (rest t) (omega (arith, end.0)) in record {
           went = went_on a;
           asked = asked_then a;
-          offered = offered_then a;
+          offered = offered_all (Ok came) t a;
           more = λ odd. (let no : true ≡ false = cc in cc);
           end = λ _. (
             empty,
@@ -112,7 +117,7 @@ module _ {S D W : Type 0} (remaining : S → Option (List ℕ)) (g : Grammar W) 
         let f = a.failed e refl in record {
           went = PiecesWent-joins remaining g.most s m t [] [] went a.went;
           asked = asked_empty t a.asked;
-          offered = offered_over t a.offered;
+          offered = offered_all (Err e) t a;
           more = λ odd. cc;
           end = λ odd. cc;
           failed = λ e' is. (

@@ -41,6 +41,10 @@ OffersOver capacity offer bytes = (length bytes < offer) × (bytes ≡ [] → of
 abbrev pub OffersMore : {S D : Type 0} → ReaderState S D → ReaderState S D → Type 0
 OffersMore s t = AskedWhere (OffersOver s.reader.block.capacity t.reader.log.reads.offer) (left_of s) (left_of t)
 
+-- the stream wasn't asked, or the last ask offered the whole buffer
+abbrev pub OffersAll : {S D : Type 0} → ReaderState S D → ReaderState S D → Type 0
+OffersAll s t = (t.reader.log ≡ s.reader.log) ⊎ (t.reader.log.reads.offer ≡ s.reader.block.capacity)
+
 -- no fault was met
 abbrev pub NoFault : {S D : Type 0} → ReaderState S D → ReaderState S D → Type 0
 NoFault s t = t.reader.log.reads.faults ≡ s.reader.log.reads.faults
@@ -136,13 +140,13 @@ abbrev pub NextBuffered : {S D W : Type 0} → (S → Option (List ℕ)) → Gra
 NextBuffered remaining g s (Some payload) t = NextPiece remaining g s (Ok (Some payload)) t × (t.reader ≡ s.reader)
 NextBuffered remaining g s None t = StaysLeft g s t × ¬ (Begins g (rest s))
 
--- what `refill` does where nothing is left: the stream is asked, unless it has ended, and nothing else is done. The end is left
--- for the next call to tell
+-- what `refill` does where nothing is left: the stream is asked for all that the buffer holds, unless it has ended, and nothing
+-- else is done. The end is left for the next call to tell
 pub record Refills {S D W : Type 0} (remaining : S → Option (List ℕ)) (g : Grammar W) (s : ReaderState S D)
     (answer : Result Bool Error) (t : ReaderState S D) : Type 0 where
   pub went : PiecesWent remaining g.most s [] t
   pub asked : AskedUnlessEnded (λ bytes. bytes ≡ []) s t
-  pub offered : OffersMore s t
+  pub offered : OffersAll s t
   pub more : answer ≡ Ok true → (0 < length (rest t)) × (s.ended ≡ false) × (t.ended ≡ false) × NoEnd s t × NoFault s t
   pub end : answer ≡ Ok false → (rest t ≡ []) × (t.ended ≡ true) × MetEnd s t × NoFault s t
   pub failed : (e : Error) → answer ≡ Err e

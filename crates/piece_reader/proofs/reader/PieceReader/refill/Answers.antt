@@ -18,7 +18,7 @@ returns-in_err-came g c =
     let e = c.in_err-came.field-0.0 in
     let p = err_from_is_err_and c.from_residual.result c.from_residual.ensures.1 in
     let asked = subst (λ x. AsksFor remaining (grammar x) 1 m (Err e) t) d.went.decoder c.in_err-came.ensures in
-    let failed = fails remaining (grammar s.decoder) s m d.went d.rest d.ended d.told c.requires.none t e asked in
+    let failed = fails remaining (grammar s.decoder) s m d.went d.ended d.told t e asked in
     rw (p.1, p.2) (record { came = came_left remaining (grammar s.decoder) s t (Err e) failed; refills = failed })
 
 pub returns : goal.returns
@@ -36,7 +36,7 @@ returns g c =
     let here = subst (AsksFor remaining (grammar s.decoder) 1 m (Ok c.in_ok-came.came)) (sym c.self.view_is) asked in
     let refills = elim c.in_ok-came.came as (λ b. AsksFor remaining (grammar s.decoder) 1 m (Ok b) t
     → Refills remaining (grammar s.decoder) s (Ok b) (record t { ended = not b })) [
-      | true ↦ refilled remaining (grammar s.decoder) s m d.went d.rest d.ended d.told c.requires.none t true false refl refl
-      | false ↦ ends remaining (grammar s.decoder) s m d.went d.rest d.ended d.told c.requires.none t false true refl refl
+      | true ↦ refilled remaining (grammar s.decoder) s m d.went d.ended d.told t true false refl refl
+      | false ↦ ends remaining (grammar s.decoder) s m d.went d.ended d.told t false true refl refl
     ] here in
     record { came = came_left remaining (grammar s.decoder) s _ _ refills; refills = refills }
