@@ -10,6 +10,7 @@ use Rattle.piece_reader.specs.Grammar.{Grammar}
 use Rattle.codec.specs.Serving.{Server, Serves, ServingFails}
 use Rattle.codec.specs.ServingAll.{NotInterrupted, Resumes, ServesAll, StopsAll}
 use Rattle.codec.specs.ServingAllLaws.{Exchanged-joins, Exchanged-none, ServingFails-read}
+use Rattle.codec.specs.ServingLaws.{Talked-pieces}
 use Rattle.codec.specs.declared.serving.ServeError.{ServeError}
 use Rattle.codec.specs.declared.serving.ServeError.TheVariants.{Read}
 use Rattle.codec.specs.declared.serving.Served.{Served}
@@ -58,7 +59,13 @@ module _ {S D W I A F T P : Type 0} (remaining : S → Option (List ℕ)) (tells
         let f = subst (λ d. Serves remaining tells trace (g d) (item_of d) Answers m ended t) r.exchanged.taken.decoder serves in
         let all = Exchanged-joins remaining tells trace (g s.pieces.decoder) (item_of s.pieces.decoder) Answers joins s m t
         r.exchanges f.ends.exchanges f.ends.more r.exchanged
-        (record { taken = f.taken; service = f.service; along = f.all.along }) in
+        (record {
+          pieces = Talked-pieces remaining tells trace (g s.pieces.decoder) (item_of s.pieces.decoder) Answers m f.ends.exchanges
+              f.ends.more f.ends.last f.ends.talked;
+          taken = f.taken;
+          service = f.service;
+          along = f.all.along;
+        }) in
         record {
           exchanges = f.ends.exchanges ++ r.exchanges;
           more = f.ends.more;
@@ -68,6 +75,7 @@ module _ {S D W I A F T P : Type 0} (remaining : S → Option (List ℕ)) (tells
           between = m;
           resumes = r;
           last = f;
+          all = refl;
         }
     serves_behind (Err e) serves = tt
 

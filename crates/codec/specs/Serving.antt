@@ -1,5 +1,6 @@
 -- What a server does, whatever its pieces are.
 use Rattle.std.specs.Prelude.{◌≡◌, ℕ, ◌+◌, ◌^◌, ◌≤◌, ◌⊎◌, List, [], ◌∷◌, ◌++◌, length, Bool, true, false, Option, None, Some, Result, Ok, Err}
+use Rattle.std.specs.List.{All}
 use Rattle.std.specs.declared.io.Error.{Error}
 use Rattle.buffer_redux.specs.Buffered.{Buffered}
 use Rattle.buffer_redux.specs.BufWriter.{FlushedAlong, WasFlushed, WritesAlong}
@@ -60,6 +61,10 @@ abbrev pub Opens : (Exchange → Type 0) → (Exchange → Type 0) → List Exch
 Opens Such Lone exchanges more = (exchanges ≡ []) ⊎ FirstIs Such exchanges
     ⊎ ((x : Exchange) × (exchanges ≡ x ∷ []) × Lone x × (more ≡ false))
 
+-- its bytes are a piece with its payload, or a last one
+abbrev pub IsPiece : {W : Type 0} → Grammar W → Exchange → Type 0
+IsPiece g x = g.piece x.bytes x.payload ⊎ g.last x.bytes x.payload
+
 module _ {S D W I A T P : Type 0} (remaining : S → Option (List ℕ)) (tells : T → StreamLog) (trace : T → T → Type 0)
     (g : Grammar W) (item_of : List ℕ → I) (Answers : A → I → List ℕ → List ℕ → Bool → A → Type 0) where
   -- answers were flushed if the stream had to be asked, and then this came of a step
@@ -100,6 +105,7 @@ module _ {S D W I A T P : Type 0} (remaining : S → Option (List ℕ)) (tells :
 
   -- just these pieces were taken, each was answered, and just the answers were written; the latest is first
   pub record Exchanged (s : Server S D A T P) (exchanges : List Exchange) (more : Bool) (t : Server S D A T P) : Type 0 where
+    pub pieces : All (IsPiece g) exchanges
     pub taken : PiecesWent remaining g.most s.pieces (joined_parts (λ x. x.bytes) exchanges) t.pieces
     pub service : Converses item_of Answers s.service exchanges more t.service
     pub along : WritesAlong tells trace std_write_rules s.answers (joined_parts (λ x. x.reply) exchanges) t.answers

@@ -46,6 +46,7 @@ module _ {S D W I A T P : Type 0} (remaining : S → Option (List ℕ)) (tells :
       pub between : Server S D A T P
       pub resumes : Resumes count s between
       pub last : Serves remaining tells trace g item_of Answers between ended t
+      pub all : exchanges ≡ last.ends.exchanges ++ resumes.exchanges
 
     -- serving failed; or 2^64 - 1 reads were interrupted
     pub record StopsAll (s : Server S D A T P) (e : ServeError W F) (t : Server S D A T P) : Type 0 where

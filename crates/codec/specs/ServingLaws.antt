@@ -1,6 +1,8 @@
 -- Laws of a server's turns.
-use Rattle.std.specs.Prelude.{◌≡◌, ℕ, List, [], ◌∷◌, ◌++◌, Bool, true, Option, Some, Ok, Err}
+use Rattle.std.specs.Prelude.{◌≡◌, ℕ, ◌⊎◌, List, [], ◌∷◌, ◌++◌, Bool, true, Option, Some, Ok, Err}
 use Rattle.std.specs.declared.io.Error.{Error}
+use Rattle.std.proofs.lemmas.List.Elements.{All-cons, All-nil}
+use Rattle.std.specs.List.{All}
 use Rattle.std.proofs.Common.{ap, append-nil, inl, inr, refl, subst, sym}
 use Rattle.buffer_redux.specs.Buffered.{Buffered}
 use Rattle.buffer_redux.specs.BufWriter.{WasFlushed, WritesAlong}
@@ -15,7 +17,7 @@ use Rattle.piece_reader.specs.NextPiece.{NextAnswer, PiecesWent}
 use Rattle.piece_reader.specs.PiecesWentLaws.{PiecesWent-joins, PiecesWent-none}
 use Rattle.piece_reader.specs.PieceReader.{ReaderState}
 use Rattle.piece_reader.specs.StaysLeftLaws.{StaysLeft-went}
-use Rattle.codec.specs.Serving.{Converses, EndedBy, Exchange, Exchanged, FailedBy, Fetched, Server, Serves, ServesTurn, ServingEnds, ServingFails, Talked, joined_parts, server}
+use Rattle.codec.specs.Serving.{Converses, EndedBy, Exchange, Exchanged, FailedBy, Fetched, IsPiece, Server, Serves, ServesTurn, ServingEnds, ServingFails, Talked, joined_parts, server}
 use Rattle.codec.specs.declared.serving.ServeError.{ServeError}
 use Rattle.codec.specs.declared.serving.ServeError.TheVariants.{Failed, Flush, Read, Write, Wrong}
 use Rattle.codec.specs.declared.serving.Served.{Served}
@@ -37,6 +39,14 @@ module _ {S D W I A F T P : Type 0} (remaining : S → Option (List ℕ)) (tells
 module _ {S D W I A T P : Type 0} (remaining : S → Option (List ℕ)) (tells : T → StreamLog) (trace : T → T → Type 0)
     (g : Grammar W) (item_of : List ℕ → I) (Answers : A → I → List ℕ → List ℕ → Bool → A → Type 0)
     (s : Server S D A T P) where
+  -- each was taken as a piece
+  pub Talked-pieces : (exchanges : List Exchange) (more : Bool) (t : Server S D A T P)
+      → Talked remaining tells trace g item_of Answers s exchanges more t → All (IsPiece g) exchanges
+  Talked-pieces [] more t same = All-nil (IsPiece g)
+  Talked-pieces (x ∷ earlier) more t (m, talked, took) =
+      All-cons (IsPiece g) x earlier (subst (λ l. g.piece l x.payload ⊎ g.last l x.payload) took.all
+      (elim took.fetched.next.answers.1 [ inl is ↦ inl is.0 | inr is ↦ inr is.0 ])) (Talked-pieces earlier true m talked)
+
   module _ (none : (u : T) → trace u u) where
     -- a flush where need be accepts nothing
     pub first_along : (p : ReaderState S D) (w : Buffered T P) (t : ReaderState S D) (ready : Buffered T P)
@@ -54,6 +64,7 @@ module _ {S D W I A T P : Type 0} (remaining : S → Option (List ℕ)) (tells :
           → Exchanged remaining tells trace g item_of Answers s exchanges more t
       Talked-exchanged [] more t (same, is) = subst (λ t. Exchanged remaining tells trace g item_of Answers s [] more t) same
           (record {
+            pieces = All-nil (IsPiece g);
             taken = PiecesWent-none remaining g.most s.pieces;
             service = (refl, is);
             along = WritesAlong-none tells trace std_write_rules none s.answers;
@@ -61,6 +72,7 @@ module _ {S D W I A T P : Type 0} (remaining : S → Option (List ℕ)) (tells :
       Talked-exchanged (x ∷ earlier) more t (m, talked, took) =
           let before = Talked-exchanged earlier true m talked in
           record {
+            pieces = Talked-pieces (x ∷ earlier) more t (m, talked, took);
             taken = PiecesWent-joins remaining g.most s.pieces m.pieces t.pieces (joined_parts (λ x. x.bytes) earlier) x.bytes
                 before.taken (subst (λ l. PiecesWent remaining g.most m.pieces l t.pieces) took.all took.fetched.next.went);
             service = (m.service, before.service, took.answers);

@@ -2,6 +2,6 @@
 use Rattle.std.specs.Prelude.{ℕ, ◌+◌, ◌≤◌, length}
 use Rattle.redux_buffer.specs.StreamLog.{WriteLog}
 
--- each flush but so many came behind a byte that the writer had received since the one before
+-- but for so many, there were no more flushes than bytes that the writer received
 abbrev pub FlushesSend : ℕ → WriteLog → WriteLog → Type 0
 FlushesSend idle old new = new.flushes + length old.received ≤ old.flushes + length new.received + idle

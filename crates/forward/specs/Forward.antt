@@ -59,7 +59,7 @@ module _ {T W : Type 0} (rules : FilterRules T W) where
   ForwardAnswers s (Err stopped) t = StopsBy stopped.count s stopped.cause t
 
   -- what `forward` does: in front of each ask all that was due was sent, an interrupted one is made again, and the end is asked
-  -- for once. The writer is flushed once for each turn of asks at most, and each flush but one at most sent something
+  -- for once. The writer is flushed once for each turn of asks at most, and but for one no more often than it received bytes
   pub record Forwards (s : Linked T) (answer : Result ℕ (Stopped W)) (t : Linked T) : Type 0 where
     pub goes : Goes rules (IsPrompt rules s.filter) (option_map_or (λ stopped. flushed_last stopped.cause) (result_err answer) 0)
         s t

@@ -27,7 +27,7 @@ abbrev pub HoldsNothingBack : (List ℕ → List ℕ → Type 0) → StreamLog �
 HoldsNothingBack IsDue read read' written written' =
     (read' ≡ read) ⊎ SentBeforeAsking IsDue read read' written written'
 
--- each ask gave a byte, or failed
+-- there were no more asks than bytes given and faults
 abbrev pub AsksGiveOrFail : StreamLog → StreamLog → Type 0
 AsksGiveOrFail read read' =
     read'.reads.asks + length read.reads.given + length read.reads.faults

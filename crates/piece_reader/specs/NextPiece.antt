@@ -53,7 +53,7 @@ NoFault s t = t.reader.log.reads.faults ≡ s.reader.log.reads.faults
 abbrev pub Faulted : {S D : Type 0} → ReaderState S D → Error → ReaderState S D → Type 0
 Faulted s e t = t.reader.log.reads.faults ≡ s.reader.log.reads.faults ++ e ∷ []
 
--- each ask of the reader since gave a byte
+-- the reader was asked no more often than it gave bytes
 abbrev pub AsksGive : {S D : Type 0} → ReaderState S D → ReaderState S D → Type 0
 AsksGive s t =
     t.reader.log.reads.asks + length s.reader.log.reads.given
