@@ -14,8 +14,8 @@ pub struct JustOrUntil {
     /// How many bytes a look may ask for.
     pub room: usize,
     pub ghost some: { 0 < length just.items },
-    pub ghost shorter: { length just.items < length until.delimiter.items },
-    pub ghost fits: { length until.delimiter.items ≤ room },
+    pub ghost shorter: { length just.items < length until.delimiter },
+    pub ghost fits: { length until.delimiter ≤ room },
 }
 
 /// Where in it one stands.
@@ -37,7 +37,7 @@ impl Coding for JustOrUntil {
 
     type Wrong = ();
 
-    ghost grammar = { λ c. just_or_until c.just.items c.until.delimiter.items c.room };
+    ghost grammar = { λ c. just_or_until c.just.items c.until.delimiter c.room };
 
     fn first(&self) -> JustOr {
         JustOr::Start
@@ -68,7 +68,7 @@ impl Coding for JustOrUntil {
         JustOr::Until(Part::Inside)
     }
 
-    ghost lawful = { λ c. just_or_until_lawful c.just.items c.until.delimiter.items c.room c.some c.shorter c.fits };
+    ghost lawful = { λ c. just_or_until_lawful c.just.items c.until.delimiter c.room c.some c.shorter c.fits };
 }
 
 // What a look for the delimiter says.

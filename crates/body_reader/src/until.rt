@@ -3,14 +3,27 @@ ghost use Rattle.std.specs.Prelude.{◌≡◌, ◌<◌, length};
 ghost use Rattle.body_reader.specs.Until.{MayBegin};
 
 use crate::coding::{Coding, Look};
-use memchr::memmem;
+use memchr::memmem::{Finder, FinderBuilder};
 
 /// A body that ends with the first place where a delimiter stands, as a part of multipart does. All that stands before it is
 /// payload.
 #[derive(Drop)]
 pub struct Until {
-    pub delimiter: Vec<u8>,
-    pub ghost some: { 0 < length delimiter.items },
+    /// The search for the delimiter, which it owns.
+    pub delimiter: Finder<'static>,
+    pub ghost some: { 0 < length delimiter },
+}
+
+impl Until {
+    /// A body that ends at this delimiter, whose search is prepared here, for all looks.
+    pub fn new(delimiter: Vec<u8>) -> Until
+        requires { 0 < length delimiter.items }
+        ensures { result.delimiter ≡ delimiter.items }
+    {
+        Until {
+            delimiter: FinderBuilder::new().build_forward_owned(delimiter),
+        }
+    }
 }
 
 /// Where in it one stands.
@@ -30,22 +43,22 @@ impl Coding for Until {
 
     type Wrong = ();
 
-    ghost grammar = { λ c. until c.delimiter.items };
+    ghost grammar = { λ c. until c.delimiter };
 
     fn first(&self) -> Part {
         Part::Inside
     }
 
     fn ahead(&self) -> usize {
-        self.delimiter.len()
+        self.delimiter.needle().len()
     }
 
     fn look(&self, place: Part, shown: &[u8]) -> Look<Part, ()> {
         match place {
             Part::Behind => Look::Ended,
             Part::Inside => {
-                let needle = self.delimiter.as_slice();
-                match memmem::find(shown, needle) {
+                let needle = self.delimiter.needle();
+                match self.delimiter.find(shown) {
                     Some(0) => Look::Passed(needle.len(), Part::Behind),
                     Some(at) => Look::Payload(at as u64),
                     None => {
@@ -64,7 +77,7 @@ impl Coding for Until {
         Part::Inside
     }
 
-    ghost lawful = { λ c. until_lawful c.delimiter.items c.some };
+    ghost lawful = { λ c. until_lawful c.delimiter c.some };
 }
 
 // Where in bytes in which the delimiter doesn't stand it may begin.

@@ -34,7 +34,7 @@ pub record FormState (S Q : Type 0) : Type 0 where
   pub limits : Limits
 
 abbrev pub codes : JustOrUntil → Grammar JustOr (Unit {0})
-codes c = just_or_until c.just.items c.until.delimiter.items c.room
+codes c = just_or_until c.just.items c.until.delimiter c.room
 
 -- which stand for a head behind the last boundary
 abbrev pub hyphens : List ℕ
@@ -43,8 +43,8 @@ hyphens = 45 ∷ 45 ∷ []
 -- a boundary that begins a line ends a text, also where it begins the text; an empty line ends a head, or two hyphens are all of
 -- it
 pub record AreCodings (texts heads : JustOrUntil) : Type 0 where
-  pub line : texts.until.delimiter.items ≡ 13 ∷ 10 ∷ texts.just.items
-  pub empty_line : heads.until.delimiter.items ≡ 13 ∷ 10 ∷ 13 ∷ 10 ∷ []
+  pub line : texts.until.delimiter ≡ 13 ∷ 10 ∷ texts.just.items
+  pub empty_line : heads.until.delimiter ≡ 13 ∷ 10 ∷ 13 ∷ 10 ∷ []
   pub hyphens : heads.just.items ≡ hyphens
   pub room : heads.room ≡ texts.room
 

@@ -173,14 +173,14 @@ fn coding(alloc: Global, just: &[u8], end: &[u8], tail: &[u8], room: usize) -> O
     requires some { 0 < length just.now }
     requires shorter { length just.now < length end.now }
     requires fits { length end.now + length tail.now ≤ room }
-    ensures { IfSome result (λ c. (c.just.items ≡ just.now ++ tail.now) × (c.until.delimiter.items ≡ end.now ++ tail.now)
+    ensures { IfSome result (λ c. (c.just.items ≡ just.now ++ tail.now) × (c.until.delimiter ≡ end.now ++ tail.now)
         × (c.room ≡ room)) }
 {
     let just = joined(alloc, just, tail)?;
     let delimiter = joined(alloc, end, tail)?;
     Some(JustOrUntil {
         just,
-        until: Until { delimiter },
+        until: Until::new(delimiter),
         room,
     })
 }

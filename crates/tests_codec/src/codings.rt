@@ -217,7 +217,7 @@ fn plays<P: ReaderPolicy + Drop>(
                 return Ok(false);
             }
             let delimiter = Vec::from_slice(alloc, bytes)?;
-            comes(alloc, reader, Until { delimiter }, play, row)
+            comes(alloc, reader, Until::new(delimiter), play, row)
         }
     }
 }

@@ -308,7 +308,7 @@ fn mails(alloc: Global) -> Result<JustOrUntil, AllocError> {
     let delimiter = Vec::from_slice(alloc, b"\r\n.\r\n")?;
     Ok(JustOrUntil {
         just,
-        until: Until { delimiter },
+        until: Until::new(delimiter),
         room: 5,
     })
 }

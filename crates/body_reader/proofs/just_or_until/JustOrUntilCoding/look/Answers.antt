@@ -23,11 +23,11 @@ returns-then-starts_with c =
     let same : c.as_slice-just.result.now ≡ s.just.items = c.as_slice-just.ensures.value in
     let begins = (starts_is Decides-eqb shown c.as_slice-just.result.now c.starts_with.result c.starts_with.ensures.value).0
     c.if-starts_with.true in
-    subst (λ p. Looks (just_or_until s.just.items s.until.delimiter.items s.room) p shown
+    subst (λ p. Looks (just_or_until s.just.items s.until.delimiter s.room) p shown
     (Passed (length c.as_slice-just.result.now) at.Just)) (sym c.in-Start.is)
-    (subst (λ l. Looks (just_or_until s.just.items s.until.delimiter.items s.room) at.Start shown (Passed (length l) at.Just))
+    (subst (λ l. Looks (just_or_until s.just.items s.until.delimiter s.room) at.Start shown (Passed (length l) at.Just))
     (sym same)
-    (looks_just s.just.items s.until.delimiter.items s.room s.some s.shorter s.fits shown
+    (looks_just s.just.items s.until.delimiter s.room s.some s.shorter s.fits shown
     (drop (length c.as_slice-just.result.now) shown)
     (begins ∙ ap (λ l. l ++ drop (length c.as_slice-just.result.now) shown) same)))
 
@@ -41,9 +41,9 @@ returns-then-starts_with-2 c =
     (starts_is Decides-eqb just shown c.starts_with-in-Start.result c.starts_with-in-Start.ensures.value).0
     c.if-starts_with-2.true in
     let longer = (starts_is Decides-eqb shown just c.starts_with.result c.starts_with.ensures.value).1 in (
-      subst (λ p. IsOpenBelow (just_or_until s.just.items s.until.delimiter.items s.room) p (length shown + 1) shown)
+      subst (λ p. IsOpenBelow (just_or_until s.just.items s.until.delimiter s.room) p (length shown + 1) shown)
           (sym c.in-Start.is)
-          (looks_begun s.just.items s.until.delimiter.items s.room s.some s.shorter s.fits shown (drop (length shown) just)
+          (looks_begun s.just.items s.until.delimiter s.room s.some s.shorter s.fits shown (drop (length shown) just)
           (sym same ∙ begins)
           (more_in shown just (drop (length shown) just) begins (λ equal.
           let yes = longer [] (sym (append-nil shown) ∙ ap (λ l. l ++ []) (sym equal)) in
@@ -60,14 +60,14 @@ returns-else-starts_with-2 c =
     let same : just ≡ s.just.items = c.as_slice-just.ensures.value in
     let first = (starts_is Decides-eqb shown just c.starts_with.result c.starts_with.ensures.value).1 in
     let second = (starts_is Decides-eqb just shown c.starts_with-in-Start.result c.starts_with-in-Start.ensures.value).1 in
-    let differs = apart s.just.items s.until.delimiter.items s.room s.some s.shorter s.fits shown
+    let differs = apart s.just.items s.until.delimiter s.room s.some s.shorter s.fits shown
     (λ more is. (let yes = first more (is ∙ ap (λ l. l ++ more) (sym same)) in
     let odd : false ≡ true = sym c.if-starts_with.false ∙ yes in cc))
     (λ more is. (let yes = second more (same ∙ is) in
     let odd : false ≡ true = sym c.if-starts_with-2.false ∙ yes in cc)) in
     rw (c.in-Start.is, c.until_of.ensures)
-    (like_looks s.just.items s.until.delimiter.items s.room s.some s.shorter s.fits at.Start Inside shown
-    (alike_start s.just.items s.until.delimiter.items s.room s.some s.shorter s.fits shown differs) c.look.result c.look.ensures)
+    (like_looks s.just.items s.until.delimiter s.room s.some s.shorter s.fits at.Start Inside shown
+    (alike_start s.just.items s.until.delimiter s.room s.some s.shorter s.fits shown differs) c.look.result c.look.ensures)
 
 pub returns-in-Until : goal.returns-in-Until
 returns-in-Until c =
@@ -75,6 +75,6 @@ returns-in-Until c =
     let shown = c.args.shown.now in
     let part = c.in-Until.part in
     rw (c.in-Until.is, c.until_of-in-Until.ensures)
-    (like_looks s.just.items s.until.delimiter.items s.room s.some s.shorter s.fits (at.Until part) part shown
-    (alike_until s.just.items s.until.delimiter.items s.room s.some s.shorter s.fits part shown) c.look-in-Until.result
+    (like_looks s.just.items s.until.delimiter s.room s.some s.shorter s.fits (at.Until part) part shown
+    (alike_until s.just.items s.until.delimiter s.room s.some s.shorter s.fits part shown) c.look-in-Until.result
     c.look-in-Until.ensures)
