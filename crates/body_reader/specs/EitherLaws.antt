@@ -1,5 +1,5 @@
 -- Laws of bodies of one of two codings.
-use Rattle.std.proofs.Common.{◌≡◌, ℕ, ◌≤◌, List, [], ◌++◌, take, drop, ap, arith, refl}
+use Rattle.std.proofs.Common.{◌≡◌, ℕ, ◌≤◌, List, [], ◌++◌, take, drop, sym, ap, ◌∙◌, arith, refl}
 use Rattle.body_reader.specs.declared.coding.Look.{Look}
 use Rattle.body_reader.specs.declared.either.Either.{Either}
 use Rattle.body_reader.specs.declared.either.Either.TheVariants as which
@@ -7,7 +7,7 @@ use Rattle.body_reader.specs.declared.either.Side.{Side}
 use Rattle.body_reader.specs.declared.either.Side.TheVariants.{First, Second}
 use Rattle.body_reader.specs.AlikeLaws.{Alike, alike_looks}
 use Rattle.body_reader.specs.Coding.{Agree, Carries, Grammar, IsLawful, Looks, heeded, look_as}
-use Rattle.body_reader.specs.Either.{of_either, of_first, of_second}
+use Rattle.body_reader.specs.Either.{of_either, of_first, of_second, other_way}
 
 module _ {P V : Type 0} (Q W : Type 0) (g : Grammar P V) where
   first_named : (p : P) (bytes : List ℕ) (why : Side V W) → (of_first {Q = Q} {W = W} g).wrong (First p) bytes why
@@ -86,11 +86,6 @@ module _ {P V : Type 0} (Q W : Type 0) (g : Grammar P V) where
   }
 
 module _ {Q W : Type 0} (P V : Type 0) (g : Grammar Q W) where
-  second_named : (q : Q) (bytes : List ℕ) (why : Side V W) → (of_second {P = P} {V = V} g).wrong (Second q) bytes why
-      → (v : W) × g.wrong q bytes v
-  second_named q bytes (Second why) wrong = (why, wrong)
-  second_named q bytes (First why) wrong = absurd wrong
-
   second_alike : (q : Q) (shown : List ℕ) → Alike g (of_second {P = P} {V = V} g) Second Second (Second q) q shown
   second_alike q shown = record {
     there = λ rest payload agree c. c;
@@ -100,7 +95,7 @@ module _ {Q W : Type 0} (P V : Type 0) (g : Grammar Q W) where
     between = refl;
     sure = refl;
     named = λ bytes why wrong. wrong;
-    wrong = second_named q;
+    wrong = λ bytes why. first_named P V g q bytes (other_way why);
   }
 
   pub second_looks : (q : Q) (shown : List ℕ) (l : Look Q W) → Looks g q shown l
@@ -109,56 +104,23 @@ module _ {Q W : Type 0} (P V : Type 0) (g : Grammar Q W) where
       (λ follow. refl) (Second q) q shown
       (second_alike q shown) (λ n. second_alike q (take n shown ++ heeded g (drop n shown)))
 
-  second_never : IsLawful g → (place : Side P Q) (shown : List ℕ) (why : Side V W) (rest payload : List ℕ)
-      → (of_second {P = P} {V = V} g).is_place place → (of_second {P = P} {V = V} g).wrong place shown why
-      → (of_second {P = P} {V = V} g).completes place rest payload → ¬ Agree shown rest
-  second_never lawful (Second q) shown why rest payload is wrong c =
-      let named = second_named q shown why wrong in lawful.never q shown named.0 rest payload is named.1 c
-  second_never lawful (First p) shown why rest payload is wrong c = absurd is
-
-  second_alive : IsLawful g → (place : Side P Q) → (of_second {P = P} {V = V} g).is_place place
-      → (rest payload : List ℕ) × (of_second {P = P} {V = V} g).completes place rest payload
-  second_alive lawful (Second q) is = lawful.alive q is
-  second_alive lawful (First p) is = absurd is
-
-  second_reason : IsLawful g → (place : Side P Q) (shown : List ℕ) (why other : Side V W)
-      → (of_second {P = P} {V = V} g).is_place place
-      → (of_second {P = P} {V = V} g).wrong place shown why → (of_second {P = P} {V = V} g).wrong place shown other → why ≡ other
-  second_reason lawful (Second q) shown (Second why) (Second other) is wrong so =
-      ap Second (lawful.reason q shown why other is wrong so)
-  second_reason lawful (Second q) shown (Second why) (First other) is wrong so = absurd so
-  second_reason lawful (Second q) shown (First why) other is wrong so = absurd wrong
-  second_reason lawful (First p) shown why other is wrong so = absurd is
-
-  second_stays : IsLawful g → (place : Side P Q) (shown more : List ℕ) (why : Side V W)
-      → (of_second {P = P} {V = V} g).is_place place
-      → (of_second {P = P} {V = V} g).wrong place shown why → (of_second {P = P} {V = V} g).wrong place (shown ++ more) why
-  second_stays lawful (Second q) shown more (Second why) is wrong = lawful.stays q shown more why is wrong
-  second_stays lawful (Second q) shown more (First why) is wrong = absurd wrong
-  second_stays lawful (First p) shown more why is wrong = absurd is
-
-  second_nothing : IsLawful g → (place : Side P Q) (payload : List ℕ) → (of_second {P = P} {V = V} g).is_place place
-      → (of_second {P = P} {V = V} g).completes place [] payload → payload ≡ []
-  second_nothing lawful (Second q) payload is c = lawful.nothing q payload is c
-  second_nothing lawful (First p) payload is c = absurd is
-
-  second_sure : IsLawful g → (place : Side P Q) (n : ℕ) → (of_second {P = P} {V = V} g).is_place place
-      → Carries (of_second {P = P} {V = V} g) place n [] → n ≤ (of_second {P = P} {V = V} g).sure place
-  second_sure lawful (Second q) n is c =
-      lawful.sure q n is (record { some = c.some; goes_on = c.goes_on; carries = c.carries })
-  second_sure lawful (First p) n is c = absurd is
+  back_again : {A B : Type 0} (x : Side A B) → other_way (other_way x) ≡ x
+  back_again (First a) = refl
+  back_again (Second b) = refl
 
   second_lawful : IsLawful g → IsLawful (of_second {P = P} {V = V} g)
-  second_lawful lawful = record {
-    some = lawful.some;
-    begins = lawful.begins;
-    alive = second_alive lawful;
-    nothing = second_nothing lawful;
-    never = second_never lawful;
-    reason = second_reason lawful;
-    stays = second_stays lawful;
-    sure = second_sure lawful;
-    one = lawful.one;
+  second_lawful lawful = let it = first_lawful P V g lawful in record {
+    some = it.some;
+    begins = it.begins;
+    alive = λ place. it.alive (other_way place);
+    nothing = λ place. it.nothing (other_way place);
+    never = λ place shown why. it.never (other_way place) shown (other_way why);
+    reason = λ place shown why other is wrong so. sym (back_again why)
+        ∙ ap other_way (it.reason (other_way place) shown (other_way why) (other_way other) is wrong so) ∙ back_again other;
+    stays = λ place shown more why. it.stays (other_way place) shown more (other_way why);
+    sure = λ place n is c.
+        it.sure (other_way place) n is (record { some = c.some; goes_on = c.goes_on; carries = c.carries });
+    one = it.one;
   }
 
 pub either_lawful : {P Q V W A B : Type 0} (g : A → Grammar P V) (h : B → Grammar Q W) → ((a : A) → IsLawful (g a))
