@@ -144,13 +144,13 @@ module _ {S Q P W : Type 0} (remaining : S → Option (List ℕ)) (rules : ReadR
     show_fails e reads =
         let o = reads.read.read room in
         once_fails remaining rules g lawful s p place carries.goes_on empty slice o.out (offers (Err e) reads) t
-        (still (Err e) reads) (through (Err e) reads) (o.added.bytes ∙ append-nil s.block.bytes ∙ empty) e o.told
+        (still (Err e) reads) (through (Err e) reads) reads.policy (o.added.bytes ∙ append-nil s.block.bytes ∙ empty) e o.told
 
     pub show_dry : ReadsIntoBuf remaining s (Ok 0) t → ShowsOn remaining rules g slice s p (Err (Truncated p.count)) t p
     show_dry reads =
         let o = reads.read.read room in
         once_dry remaining rules g lawful s p place carries.goes_on empty slice o.out (offers (Ok 0) reads) t
-        (still (Ok 0) reads) (through (Ok 0) reads) (o.added.bytes ∙ append-nil s.block.bytes ∙ empty) o.told
+        (still (Ok 0) reads) (through (Ok 0) reads) reads.policy (o.added.bytes ∙ append-nil s.block.bytes ∙ empty) o.told
         (omega (arith, o.offered, room))
 
     pub show_well : (came : ℕ) → ReadsIntoBuf remaining s (Ok came) t → 0 < came → (n : ℕ) → n ≡ min sure came
@@ -166,7 +166,7 @@ module _ {S Q P W : Type 0} (remaining : S → Option (List ℕ)) (rules : ReadR
           length-take-le came o.out o.bound.0,
         ) in (
           once_way remaining rules g lawful s p place carries.goes_on empty slice o.out (offers (Ok came) reads) t
-              (still (Ok came) reads) (through (Ok came) reads) (Ok came) o.told,
+              (still (Ok came) reads) (through (Ok came) reads) reads.policy (Ok came) o.told,
           (
             EachGave-once s t o.out came o.told more o.bound.0,
             (

@@ -1,5 +1,5 @@
 -- Payload is handed out, and how that ends.
-use Rattle.std.proofs.Common.{◌≡◌, ◌==◌, ◌+◌, false, ℕ, zero, suc, ◌-◌, ◌<◌, ◌≤◌, ◌⊎◌, List, [], ◌++◌, length, min, take, drop, Option, Result, Ok, Err, sym, ap, subst, ◌∙◌, arith, inl, inr, append_assoc, append-nil, length-append}
+use Rattle.std.proofs.Common.{◌≡◌, ◌==◌, ◌+◌, false, ℕ, zero, suc, ◌-◌, ◌<◌, ◌≤◌, ◌⊎◌, List, [], ◌++◌, length, min, take, drop, Option, Result, Ok, Err, sym, ap, subst, ◌∙◌, arith, inl, inr, refl, append_assoc, append-nil, length-append}
 use Rattle.std.proofs.lemmas.Bool.{cases_lt}
 use Rattle.std.proofs.lemmas.List.{append_cancel_left, length-drop, length-take-le, take-append-drop}
 use Rattle.buffer_redux.specs.Buffered.{Buffered}
@@ -9,7 +9,7 @@ use Rattle.body_reader.specs.declared.coding.Look.{Look}
 use Rattle.body_reader.specs.declared.error.BodyError.{BodyError}
 use Rattle.body_reader.specs.declared.progress.Progress.{Progress}
 use Rattle.body_reader.specs.Between.{AllShown, EachGave, HandsOn, KnowsAll, PassesOn, PayloadFails, SkipsOn, TakesBytes, TakesFront, Way, handed_out}
-use Rattle.body_reader.specs.BetweenLaws.{EachGave-same, PassesOn-way, Proceeds-after}
+use Rattle.body_reader.specs.BetweenLaws.{EachGave-none, EachGave-same, Passes-none, PassesOn-way, Proceeds-after, Way-none}
 use Rattle.body_reader.specs.Coding.{Carries, Grammar, IsDone, IsKnown, Leads, heeded}
 use Rattle.body_reader.specs.CodingLaws.{Leads-none, Leads-then}
 use Rattle.body_reader.proofs.Filling.{Proceeds-of, ended_here}
@@ -135,6 +135,9 @@ module _ {S Q P W : Type 0} (remaining : S → Option (List ℕ)) (rules : ReadR
       | inr all ↦ inl (omega (arith, is, all))
     ]
 
+    long : length (take n out) ≡ n
+    long = length-take-le n out (omega (arith, is))
+
     hands_these : (before : ℕ)
         → (before ≡ 0 → KnowsAll g p.place p.taken.log.fills.consumed q.taken.log.fills.consumed [] (take n out) k' t.block.bytes)
         → HandsOn remaining rules g before s p out (Ok n) t q k'
@@ -145,6 +148,15 @@ module _ {S Q P W : Type 0} (remaining : S → Option (List ℕ)) (rules : ReadR
           takes = subst (λ l. TakesBytes remaining rules g s p (take n s.block.bytes) l t q) (sym same) taken.takes;
           asked = inl taken.consumed.told;
           through = inl (consumes_through rules n s t (omega (arith, is, known.0)) taken.consumed);
+          tells = record {
+            front = s;
+            place = p.place;
+            passes = Passes-none remaining rules g s p.place;
+            once = inr (
+              omega (arith, is, some, room, long),
+              inl (subst (λ j. ReaderConsumes rules j s t) (sym long) taken.consumed),
+            );
+          };
           idle = λ done. absurd ((known.1 some).goes_on done);
         },
         (
@@ -176,6 +188,25 @@ module _ {S Q P W : Type 0} (remaining : S → Option (List ℕ)) (rules : ReadR
 
     pub hands_shown : AllShown g p.place k s.block.bytes → (before : ℕ) → HandsOn remaining rules g before s p out (Ok n) t q k'
     hands_shown all before = hands_these before (λ _. knows all)
+
+  -- into an empty slice nothing is
+  pub hands_nothing : (known : ℕ) (s : Buffered S Q) (p : Progress P) (out : List ℕ) → g.is_place p.place → length out ≡ 0
+      → HandsOn remaining rules g known s p out (Ok 0) s p known
+  hands_nothing known s p out place none = (
+    (
+      Way-none remaining rules g (length out) s p place,
+      (
+        EachGave-none s,
+        (
+          omega arith,
+          (λ _ some. absurd (omega (arith, some, none))),
+          inl (omega (arith, none)),
+          (λ _ some. absurd (omega (arith, some))),
+        ),
+      ),
+    ),
+    λ _. (refl, refl, refl, refl),
+  )
 
   -- behind what is no payload, which failed, or came to the end
   module _ (known after : ℕ) (s : Buffered S Q) (p : Progress P) (out : List ℕ) (m : Buffered S Q) (q : Progress P)

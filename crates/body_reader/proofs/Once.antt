@@ -7,7 +7,7 @@ use Rattle.buffer_redux.specs.StreamLog.{after_read, zero_of_none}
 use Rattle.body_reader.specs.declared.error.BodyError.TheVariants.{Truncated, Io}
 use Rattle.body_reader.specs.declared.progress.Progress.{Progress}
 use Rattle.body_reader.specs.Between.{AsksWithRoom, PayloadFails, TakenThrough, TakesBytes, Way}
-use Rattle.body_reader.specs.BetweenLaws.{AsksWithRoom-here}
+use Rattle.body_reader.specs.BetweenLaws.{AsksWithRoom-here, Passes-once, Tells-none}
 use Rattle.body_reader.specs.Coding.{Grammar, IsDone, IsLawful, IsOpen}
 use Rattle.body_reader.specs.CodingLaws.{open_at}
 
@@ -29,35 +29,38 @@ module _ {S Q P W : Type 0} (remaining : S → Option (List ℕ)) (rules : ReadR
         asks = omega (arith, ap (λ l. l.reads.asks) told);
       }))
 
-  module _ (takes : TakesBytes remaining rules g s p [] [] t p) (through : TakenThrough s [] t) where
-    pub once_way : (answer : Result ℕ Error) → t.log ≡ after_read s.log out answer → Way remaining rules g room s p [] t p
-    once_way answer told = record {
-      wire = [];
-      takes = takes;
-      asked = once_asks answer told;
-      through = inl through;
-      idle = λ done. absurd (goes_on done);
-    }
+  module _ (takes : TakesBytes remaining rules g s p [] [] t p) (through : TakenThrough s [] t) (policy : t.policy ≡ s.policy)
+    where
+      pub once_way : (answer : Result ℕ Error) → t.log ≡ after_read s.log out answer → Way remaining rules g room s p [] t p
+      once_way answer told = record {
+        wire = [];
+        takes = takes;
+        asked = once_asks answer told;
+        through = inl through;
+        tells = Tells-none remaining rules g s p.place t p.place
+            (Passes-once remaining rules g s p.place t p.place (inr (takes.along, policy, refl)));
+        idle = λ done. absurd (goes_on done);
+      }
 
-    -- it failed, or gave nothing
-    module _ (none : t.block.bytes ≡ []) where
-      pub once_fails : (e : Error) → t.log ≡ after_read s.log out (Err e)
-          → Way remaining rules g room s p [] t p × PayloadFails remaining rules g s (Io e) t p
-      once_fails e told = (
-        once_way (Err e) told,
-        ((ap (λ l. l.reads.faults) told, ap (λ l. l.reads.zero_reads) told), is_open t.block.bytes none),
-      )
+      -- it failed, or gave nothing
+      module _ (none : t.block.bytes ≡ []) where
+        pub once_fails : (e : Error) → t.log ≡ after_read s.log out (Err e)
+            → Way remaining rules g room s p [] t p × PayloadFails remaining rules g s (Io e) t p
+        once_fails e told = (
+          once_way (Err e) told,
+          ((ap (λ l. l.reads.faults) told, ap (λ l. l.reads.zero_reads) told), is_open t.block.bytes none),
+        )
 
-      pub once_dry : t.log ≡ after_read s.log out (Ok 0) → 0 < length out
-          → Way remaining rules g room s p [] t p × PayloadFails remaining rules g s (Truncated p.count) t p
-      once_dry told some = (
-        once_way (Ok 0) told,
-        (
-          refl,
+        pub once_dry : t.log ≡ after_read s.log out (Ok 0) → 0 < length out
+            → Way remaining rules g room s p [] t p × PayloadFails remaining rules g s (Truncated p.count) t p
+        once_dry told some = (
+          once_way (Ok 0) told,
           (
-            ap (λ l. l.reads.faults) told,
-            ap (λ l. l.reads.zero_reads) told ∙ zero_of_none 0 out s.log.reads.zero_reads refl (omega (arith, some)),
+            refl,
+            (
+              ap (λ l. l.reads.faults) told,
+              ap (λ l. l.reads.zero_reads) told ∙ zero_of_none 0 out s.log.reads.zero_reads refl (omega (arith, some)),
+            ),
+            is_open t.block.bytes none,
           ),
-          is_open t.block.bytes none,
-        ),
-      )
+        )

@@ -12,7 +12,7 @@ use Rattle.buffer_redux.specs.StreamLog.{after_read}
 use Rattle.body_reader.specs.declared.error.BodyError.TheVariants.{Truncated, Io}
 use Rattle.body_reader.specs.declared.progress.Progress.{Progress}
 use Rattle.body_reader.specs.Between.{HandsOn, KeepsBuffer, TakesBytes}
-use Rattle.body_reader.specs.BetweenLaws.{EachGave-once, TakesBytes-none}
+use Rattle.body_reader.specs.BetweenLaws.{EachGave-once, Passes-none, TakesBytes-none}
 use Rattle.body_reader.specs.Coding.{Carries, Grammar, IsLawful, Leads, heeded}
 use Rattle.body_reader.specs.CodingLaws.{Leads-none}
 use Rattle.body_reader.proofs.Once.{once_asks, once_dry, once_fails}
@@ -82,7 +82,7 @@ module _ {S Q P W : Type 0} (remaining : S → Option (List ℕ)) (rules : ReadR
       past_fails e goes order =
           let direct = went (Err e) goes in (
             once_fails remaining rules g lawful s p place carries.goes_on empty (length out) lent offered t
-                (still direct.block order) (omega (arith, ap (λ b. b.consumed) direct.block))
+                (still direct.block order) (omega (arith, ap (λ b. b.consumed) direct.block)) direct.policy
                 (ap (λ b. b.bytes) direct.block ∙ empty) e direct.told,
             λ none. absurd (omega (arith, none, some)),
           )
@@ -92,7 +92,7 @@ module _ {S Q P W : Type 0} (remaining : S → Option (List ℕ)) (rules : ReadR
       past_dry goes order =
           let direct = went (Ok 0) goes in (
             once_dry remaining rules g lawful s p place carries.goes_on empty (length out) lent offered t
-                (still direct.block order) (omega (arith, ap (λ b. b.consumed) direct.block))
+                (still direct.block order) (omega (arith, ap (λ b. b.consumed) direct.block)) direct.policy
                 (ap (λ b. b.bytes) direct.block ∙ empty) direct.told (omega (arith, long, carries.some)),
             λ none. absurd (omega (arith, none, some)),
           )
@@ -122,6 +122,15 @@ module _ {S Q P W : Type 0} (remaining : S → Option (List ℕ)) (rules : ReadR
                   omega (arith, given, ap length same, length-take-le n lent within),
                   omega (arith, past.1, long, ap (λ l. l.reads.offer) direct.told),
                 );
+                tells = record {
+                  front = s;
+                  place = p.place;
+                  passes = Passes-none remaining rules g s p.place;
+                  once = inr (
+                    omega (arith, given, ap length same, length-take-le n lent within),
+                    inr (direct.block, direct.policy),
+                  );
+                };
                 idle = λ done. absurd (carries.goes_on done);
               },
               (

@@ -10,7 +10,7 @@ use Rattle.body_reader.specs.declared.progress.Progress.{Progress}
 use Rattle.body_reader.specs.Between.{EachGave, HandsOn, KnowsAll, PayloadFails, ShowsOn, TakesBytes, handed_out}
 use Rattle.body_reader.specs.BodyReader.{BodyState, BodyWent, Breaks, EndsEarly, FillsPayload, IsBodyReader, TookWholeBody, ReadsPayload, NoPayload, seen}
 use Rattle.body_reader.specs.BodyReaderLaws.{BodyWent-none}
-use Rattle.body_reader.specs.BetweenLaws.{AsksWithRoom-open, EachGave-none}
+use Rattle.body_reader.specs.BetweenLaws.{AsksWithRoom-open, EachGave-none, Passes-none, Tells-passes}
 use Rattle.body_reader.specs.Coding.{Grammar, IsDone, IsKnown, IsLawful, IsOpen, Leads, heeded}
 use Rattle.body_reader.specs.CodingLaws.{Leads-done, Leads-left, Leads-then, Leads-whole}
 
@@ -181,6 +181,7 @@ module _ {S Q C P W : Type 0} (remaining : S → Option (List ℕ)) (rules : Rea
     left = left;
     knows = knows_told answer hands.0.1;
     consumed = consumed;
+    tells = hands.0.0.tells;
     idle = idle;
     empty = λ none. (hands.1 none).0;
     noted = noted_after calls out answer;
@@ -250,6 +251,7 @@ module _ {S Q C P W : Type 0} (remaining : S → Option (List ℕ)) (rules : Rea
     );
     all = λ some _. fills.1.1.2 some;
     asked = AsksWithRoom-open remaining rules g 0 r p.place r' fills.0.asked;
+    passes = Tells-passes remaining rules g r p.place r' q.place fills.0.tells;
     still = λ either. elim either [
       | inl some ↦ absurd (omega (arith, some, none))
       | inr whole ↦ same n (fills.0.idle (done whole)) (none_known n fills (done whole))
@@ -269,6 +271,7 @@ module _ {S Q C P W : Type 0} (remaining : S → Option (List ℕ)) (rules : Rea
     answers = stops remaining rules g r c p calls k r' q calls k lawful (not_filled_is e fills) e fills.1;
     all = tt;
     asked = AsksWithRoom-open remaining rules g 0 r p.place r' fills.0.asked;
+    passes = Tells-passes remaining rules g r p.place r' q.place fills.0.tells;
     still = λ either. elim either [
       | inl some ↦ absurd (omega (arith, some, none))
       | inr whole ↦ same k (fills.0.idle (done whole)) refl
@@ -285,6 +288,7 @@ fill_known remaining rules g d is some = record {
   answers = (refl, EachGave-none d.reader, λ none. absurd (omega (arith, some, none)));
   all = λ _ none. absurd (omega (arith, some, none));
   asked = inl refl;
+  passes = Passes-none remaining rules g d.reader d.place;
   still = λ _. refl;
   noted = refl;
   whole = is;

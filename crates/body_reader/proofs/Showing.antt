@@ -9,8 +9,8 @@ use Rattle.buffer_redux.specs.StreamLog.{StreamLog}
 use Rattle.body_reader.specs.declared.coding.Look.{Look}
 use Rattle.body_reader.specs.declared.coding.Look.TheVariants as look
 use Rattle.body_reader.specs.declared.progress.Progress.{Progress}
-use Rattle.body_reader.specs.Between.{AllShown, FindsKnown, HandsShown, KnowsAll, KnowsBehind, NoneShown, PassesOn, TakesBytes, TakesFront}
-use Rattle.body_reader.specs.BetweenLaws.{TakesBytes-joins, TakesBytes-none}
+use Rattle.body_reader.specs.Between.{AllShown, FindsKnown, HandsPiece, HandsPieces, HandsShown, KnowsAll, KnowsBehind, NoneShown, PassesOn, TakesBytes, TakesFront}
+use Rattle.body_reader.specs.BetweenLaws.{Passes-none, TakesBytes-joins, TakesBytes-none}
 use Rattle.body_reader.specs.BodyReader.{Breaks, EndsEarly, HandsBuffered, IsBodyReader, NotedIfSome, TookWholeBody, seen}
 use Rattle.body_reader.specs.BodyReaderLaws.{NotedIfSome-given}
 use Rattle.body_reader.specs.Coding.{Grammar, IsDone, IsKnown, IsLawful, Looks, heeded}
@@ -35,6 +35,7 @@ module _ {S Q P W : Type 0} (remaining : S → Option (List ℕ)) (rules : ReadR
     wire = [];
     takes = TakesBytes-none remaining rules g s p place;
     told = refl;
+    passes = Passes-none remaining rules g s p.place;
     known = known;
     kept = λ _. (refl, refl);
     idle = λ _. (refl, refl, refl);
@@ -51,6 +52,7 @@ module _ {S Q P W : Type 0} (remaining : S → Option (List ℕ)) (rules : ReadR
       wire = passes.wire;
       takes = passes.takes;
       told = passes.told;
+      passes = passes.passes;
       known = known;
       kept = λ some. absurd (omega (arith, some, unknown));
       idle = λ done.
@@ -93,6 +95,7 @@ module _ {S Q P W : Type 0} (remaining : S → Option (List ℕ)) (rules : ReadR
     pub wire : List ℕ
     pub takes : TakesBytes remaining rules g s p wire (take handed out) m q
     pub told : m.log ≡ s.log
+    pub pieces : (count : ℕ) × HandsPieces remaining rules g count s p.place before handed m q.place k
     pub within : handed ≤ length out
     pub known : IsKnown g q.place k m.block.bytes
     pub left : handed ≤ before → k ≡ before - handed
@@ -109,6 +112,7 @@ module _ {S Q P W : Type 0} (remaining : S → Option (List ℕ)) (rules : ReadR
     wire = [];
     takes = TakesBytes-none remaining rules g s p place;
     told = refl;
+    pieces = (zero, (refl, refl, refl, refl));
     within = omega arith;
     known = known;
     left = λ _. omega arith;
@@ -128,6 +132,13 @@ module _ {S Q P W : Type 0} (remaining : S → Option (List ℕ)) (rules : ReadR
           wire = so.wire;
           takes = so.takes;
           told = so.told;
+          pieces = record {
+            count = so.pieces.0;
+            last = m;
+            place = q.place;
+            pieces = so.pieces.1;
+            passes = Passes-none remaining rules g m q.place;
+          };
           within = so.within;
           known = so.known;
           left = so.left;
@@ -154,6 +165,14 @@ module _ {S Q P W : Type 0} (remaining : S → Option (List ℕ)) (rules : ReadR
         wire = so.wire ++ finds.wire;
         takes = found_on;
         told = finds.told ∙ so.told;
+        pieces = record {
+          count = so.pieces.0;
+          last = m;
+          place = q.place;
+          pieces = subst (HandsPieces remaining rules g so.pieces.0 s p.place before handed m q.place)
+              (omega (arith, none_before k finds.kept none, none)) so.pieces.1;
+          passes = finds.passes;
+        };
         within = so.within;
         known = finds.known;
         left = λ few. omega (arith, so.left few, none_before k finds.kept none, none);
@@ -197,6 +216,26 @@ module _ {S Q P W : Type 0} (remaining : S → Option (List ℕ)) (rules : ReadR
           let here = subst (λ x. IsDone g x.place) (sym first.2) done in
           (finds.known.1 some).goes_on (subst (λ x. IsDone g x.place) (sym (finds.idle here).1) here)
 
+      -- the policy is told of it once
+      piece : (n : ℕ) (t : Buffered S Q) (u : Progress P) (k'' : ℕ) → 0 < n → n ≤ k' → TakesFront remaining rules g n f r k' t u k''
+          → HandsPiece remaining rules g m q.place k n t u.place k''
+      piece n t u k'' some few front =
+          let all : k' ≡ n + k'' = omega (arith, few, front.left) in record {
+            some = some;
+            front = f;
+            place = r.place;
+            passes = finds.passes;
+            consumed = front.consumed;
+            leads = front.takes.leads;
+            known = λ more. let kept = finds.kept more in (kept.0, omega (arith, all, kept.1));
+            shown = λ none. subst (λ j. AllShown g r.place j f.block.bytes) all (finds.all none (omega (arith, some, few)));
+          }
+
+      -- a further one only where none stayed known
+      last : (j : ℕ) → (0 < j → handed ≡ 0) → 0 < handed → j ≡ 0
+      last zero first some = refl
+      last (suc j) first some = absurd (omega (arith, some, first (omega arith)))
+
       more : (n : ℕ) (rest : List ℕ) (t : Buffered S Q) (u : Progress P) (k'' : ℕ) → 0 < n → n ≡ min k' (length rest)
           → take n rest ≡ take n f.block.bytes → TakesFront remaining rules g n f r k' t u k''
           → Shown s p before (take handed out ++ rest) (handed + n) t u k''
@@ -214,6 +253,10 @@ module _ {S Q P W : Type 0} (remaining : S → Option (List ℕ)) (rules : ReadR
                 (TakesBytes-joins remaining rules g s p f r t u (so.wire ++ finds.wire) (take handed out) (take n f.block.bytes)
                 (take n f.block.bytes) found_on front.takes);
             told = front.consumed.told ∙ finds.told ∙ so.told;
+            pieces = (
+              suc so.pieces.0,
+              (handed, n, k, m, q.place, so.pieces.1, piece n t u k'' some (omega (arith, count)) front, last k (so.first room), refl),
+            );
             within = omega (arith, count, long, length-append (take handed out) rest);
             known = front.known;
             left = λ few. less n k'' some front.left k finds.kept (so.left (omega (arith, few))) few;
@@ -297,6 +340,7 @@ module _ {S Q C P W : Type 0} (remaining : S → Option (List ℕ)) (rules : Rea
     all = elim hands.all [ inl all ↦ inl all | inr none ↦ inr (none_left none) ];
     left = hands.left;
     consumed = hands.consumed;
+    pieces = hands.pieces;
     knows = hands.knows;
     idle = idle;
     noted = noted;

@@ -1,5 +1,5 @@
 -- Laws of what a reader of a body does with its buffered reader.
-use Rattle.std.proofs.Common.{◌≡◌, ℕ, ◌+◌, ◌<◌, ◌≤◌, List, [], ◌∷◌, ◌++◌, length, min, take, Option, Result, Ok, Err, ◌⊎◌, inl, inr, sym, ap, subst, ◌∙◌, refl, arith, append_assoc, append-nil, length-append}
+use Rattle.std.proofs.Common.{◌≡◌, ℕ, zero, suc, ◌+◌, ◌<◌, ◌≤◌, List, [], ◌∷◌, ◌++◌, length, min, take, Option, Result, Ok, Err, ◌⊎◌, inl, inr, sym, ap, subst, ◌∙◌, refl, arith, append_assoc, append-nil, length-append}
 use Rattle.std.proofs.lemmas.List.{length-take-le}
 use Rattle.std.specs.Prelude.{⊤}
 use Rattle.std.specs.declared.io.Error.{Error}
@@ -20,7 +20,7 @@ use Rattle.body_reader.specs.declared.error.BodyError.TheVariants.{Wrong, Trunca
 use Rattle.body_reader.specs.declared.progress.Progress.{Progress}
 use Rattle.body_reader.specs.Asking.{AskedWhere}
 use Rattle.body_reader.specs.AskingLaws.{AskedOver-on, AskedWhere-of, AskedWhere-same}
-use Rattle.body_reader.specs.Between.{AsksWithRoom, AsksOpen, EachGave, FaultedOnce, PassesOn, Proceeds, KeepsBuffer, GaveNothingOnce, StopsFor, TakenThrough, TakesBytes, Way}
+use Rattle.body_reader.specs.Between.{AsksWithRoom, AsksOpen, EachGave, FaultedOnce, Passes, PassesMany, PassesOn, PassesOnce, Proceeds, KeepsBuffer, GaveNothingOnce, StopsFor, TakenThrough, TakesBytes, Tells, Way}
 use Rattle.body_reader.specs.Coding.{AskedFor, Grammar, IsDone, IsOpen, IsOpenBelow, LeadsOpen, heeded}
 use Rattle.body_reader.specs.CodingLaws.{AskedFor-behind, AskedFor-here, Leads-none, Leads-then}
 
@@ -231,6 +231,37 @@ module _ {S Q P W : Type 0} (remaining : S → Option (List ℕ)) (rules : ReadR
     keeps = KeepsBuffer-joins rules g.ahead s m t a b x.along y.along x.keeps y.keeps;
   }
 
+  -- passes of nothing, of one turn, and one after another
+  pub Passes-none : (s : Buffered S Q) (p : P) → Passes remaining rules g s p s p
+  Passes-none s p = (zero, (refl, refl))
+
+  pub Passes-once : (s : Buffered S Q) (p : P) (t : Buffered S Q) (q : P) → PassesOnce remaining rules g s p t q
+      → Passes remaining rules g s p t q
+  Passes-once s p t q once = (suc zero, (t, q, once, (refl, refl)))
+
+  pub Passes-joins : (s : Buffered S Q) (p : P) (m : Buffered S Q) (r : P) (t : Buffered S Q) (q : P)
+      → Passes remaining rules g s p m r → Passes remaining rules g m r t q → Passes remaining rules g s p t q
+  Passes-joins s p m r t q first then = from first.0 s p first.1
+    where
+      from : (count : ℕ) (s : Buffered S Q) (p : P) → PassesMany remaining rules g count s p m r
+          → Passes remaining rules g s p t q
+      from zero s p same = subst (λ x. Passes remaining rules g x p t q) same.0
+          (subst (λ x. Passes remaining rules g m x t q) same.1 then)
+      from (suc count) s p (s', p', once, rest) = let on = from count s' p' rest in (suc on.0, (s', p', once, on.1))
+
+  -- and then no payload was handed out
+  pub Tells-none : (s : Buffered S Q) (p : P) (t : Buffered S Q) (q : P) → Passes remaining rules g s p t q
+      → Tells remaining rules g s p 0 t q
+  Tells-none s p t q passes = record { front = t; place = q; passes = passes; once = inl (refl, refl, refl) }
+
+  pub Tells-passes : (s : Buffered S Q) (p : P) (t : Buffered S Q) (q : P) → Tells remaining rules g s p 0 t q
+      → Passes remaining rules g s p t q
+  Tells-passes s p t q tells = elim tells.once [
+    | inl none ↦ subst (λ x. Passes remaining rules g s p x q) (sym none.1)
+        (subst (Passes remaining rules g s p tells.front) (sym none.2) tells.passes)
+    | inr some ↦ absurd (omega (arith, some.0))
+  ]
+
   -- where no payload is handed out all is taken through the buffer
   pub Way-through : (room : ℕ) (s : Buffered S Q) (p : Progress P) (t : Buffered S Q) (q : Progress P)
       (way : Way remaining rules g room s p [] t q) → TakenThrough s way.wire t
@@ -256,6 +287,7 @@ module _ {S Q P W : Type 0} (remaining : S → Option (List ℕ)) (rules : ReadR
     takes = TakesBytes-none s p place;
     asked = inl refl;
     through = inl (omega arith);
+    tells = Tells-none s p.place s p.place (Passes-none s p.place);
     idle = λ _. (refl, refl);
   }
 
@@ -267,6 +299,7 @@ module _ {S Q P W : Type 0} (remaining : S → Option (List ℕ)) (rules : ReadR
     takes = passes.takes;
     asked = inl passes.told;
     through = inl passes.through;
+    tells = Tells-none s p.place t q.place passes.passes;
     idle = passes.idle;
   }
 
@@ -293,6 +326,13 @@ module _ {S Q P W : Type 0} (remaining : S → Option (List ℕ)) (rules : ReadR
         | inl all ↦ inl (omega (arith, Way-through room s p m q before, all, length-append before.wire way.wire))
         | inr past ↦ inr (past.0, omega (arith, before.takes.along.capacity, past.1))
       ];
+      tells = record {
+        front = way.tells.front;
+        place = way.tells.place;
+        passes = Passes-joins s p.place m q.place way.tells.front way.tells.place
+            (Tells-passes s p.place m q.place before.tells) way.tells.passes;
+        once = way.tells.once;
+      };
       idle = λ done.
           let first = before.idle done in
           let then = way.idle (subst (λ x. IsDone g x.place) (sym first.1) done) in

@@ -15,7 +15,7 @@ use Rattle.body_reader.specs.declared.error.CollectError.{CollectError}
 use Rattle.body_reader.specs.declared.error.CollectError.TheVariants as collect
 use Rattle.body_reader.specs.declared.progress.Progress.{Progress}
 use Rattle.body_reader.specs.Asking.{AskedWhere}
-use Rattle.body_reader.specs.Between.{AllShown, AsksOpen, AsksWithRoom, BecomesIo, EachGave, FaultedOnce, GaveNothingOnce, KeepsBuffer, KnowsAll, KnowsBehind, StopsFor, TakenThrough, handed_out}
+use Rattle.body_reader.specs.Between.{AllShown, AsksOpen, AsksWithRoom, BecomesIo, EachGave, FaultedOnce, GaveNothingOnce, HandsPiecewise, KeepsBuffer, KnowsAll, KnowsBehind, Passes, StopsFor, TakenThrough, Tells, handed_out}
 use Rattle.body_reader.specs.Coding.{Grammar, IsBody, IsKnown, IsOpen, Leads, LeadsOpen, heeded}
 
 -- the buffered reader; the coding; where in the body the reader stands; the bytes of it that were taken so far; what it handed
@@ -91,9 +91,9 @@ module _ {S Q C P W : Type 0} (remaining : S → Option (List ℕ)) (rules : Rea
 
   -- what one call of `read_payload` does, which left the slice as out. The stream is asked only where nothing was settled, and
   -- no payload left, and for as much as surely is payload and fits the slice; past the buffer for no less than that holds. No
-  -- less is handed out than can be, nor than is known: what was known, or a look told, and isn't handed out stays known. Where
-  -- some was known the policy is told once of what is handed out. An Ok read is noted, and no other. Once the body ended, or
-  -- where the slice is empty, nothing else is done
+  -- less is handed out than can be, nor than is known: what was known, or a look told, and isn't handed out stays known. The
+  -- policy is told once of what is handed out through the buffer, and of what a look passed, and of nothing else; where some was
+  -- known that is all. An Ok read is noted, and no other. Once the body ended, or where the slice is empty, nothing else is done
   pub record ReadsPayload (s : BodyState S Q C P) (out : List ℕ) (answer : Result ℕ (BodyError W)) (t : BodyState S Q C P)
       : Type 0 where
     pub went : BodyWent s (handed_out out answer) t
@@ -107,20 +107,22 @@ module _ {S Q C P W : Type 0} (remaining : S → Option (List ℕ)) (rules : Rea
     pub knows : s.known ≡ 0 → IfOk answer
         (λ n. 0 < n → KnowsAll g s.place s.taken t.taken [] (take n out) t.known t.reader.block.bytes)
     pub consumed : 0 < s.known → IfOk answer (λ n. 0 < n → ReaderConsumes rules n s.reader t.reader)
+    pub tells : Tells remaining rules g s.reader s.place (length (handed_out out answer)) t.reader t.place
     pub idle : (TookWholeBody g s ⊎ (length out ≡ 0)) → t ≡ record s { calls = t.calls }
     pub empty : length out ≡ 0 → answer ≡ Ok 0
     pub noted : MatchResult answer (λ n. t.calls ≡ after_read s.calls out (Ok n)) (λ _. t.calls ≡ s.calls)
     pub whole : IsBodyReader g t
 
   -- payload is buffered, how much the answer says: none only where the body ended, and else all that a look says is. The stream
-  -- is asked only where nothing was settled, and no payload left; where some was known, or the body ended, nothing is done. No
-  -- call is noted
+  -- is asked only where nothing was settled, and no payload left; where some was known, or the body ended, nothing is done. The
+  -- policy is told of what a look passed, and of nothing else. No call is noted
   pub record FillsPayload (s : BodyState S Q C P) (answer : Result ℕ (BodyError W)) (t : BodyState S Q C P) : Type 0 where
     pub went : BodyWent s [] t
     pub answers : MatchResult answer (λ n. (n ≡ t.known) × EachGave s.reader t.reader × (n ≡ 0 → TookWholeBody g t))
         (λ e. NoPayload g s e t)
     pub all : IfOk answer (λ n. 0 < n → s.known ≡ 0 → AllShown g t.place n t.reader.block.bytes)
     pub asked : AsksOpen remaining rules g s.reader s.place t.reader
+    pub passes : Passes remaining rules g s.reader s.place t.reader t.place
     pub still : (0 < s.known ⊎ TookWholeBody g s) → t ≡ s
     pub noted : t.calls ≡ s.calls
     pub whole : IsBodyReader g t
@@ -196,9 +198,9 @@ module _ {S Q C P W : Type 0} (remaining : S → Option (List ℕ)) (rules : Rea
 
   -- what `read_buffered` does, which left the slice as out: payload that is buffered is handed out, as much as the slice takes.
   -- Less comes only where the body ended, or what is buffered settles nothing, or is wrong. The stream isn't asked. Where so much
-  -- was known the policy is told of it once. Of what was known just what wasn't handed out stays known, or, where more was handed
-  -- out, of what the last look told. Once the body ended, or into an empty slice, nothing is done, and where nothing is handed
-  -- out no read is noted
+  -- was known the policy is told of it once; else once of what was known, and of each piece that a look told, and of what one
+  -- passed. Of what was known just what wasn't handed out stays known, or, where more was handed out, of what the last look told.
+  -- Once the body ended, or into an empty slice, nothing is done, and where nothing is handed out no read is noted
   pub record HandsBuffered (s : BodyState S Q C P) (out : List ℕ) (handed : ℕ) (t : BodyState S Q C P) : Type 0 where
     pub went : BodyWent s (take handed out) t
     pub told : t.reader.log ≡ s.reader.log
@@ -206,6 +208,7 @@ module _ {S Q C P W : Type 0} (remaining : S → Option (List ℕ)) (rules : Rea
     pub all : (handed ≡ length out) ⊎ (TookWholeBody g t ⊎ (EndsEarly g t ⊎ ((why : W) × Breaks g why t)))
     pub left : handed ≤ s.known → t.known ≡ s.known - handed
     pub consumed : 0 < length out → length out ≤ s.known → ReaderConsumes rules (length out) s.reader t.reader
+    pub pieces : HandsPiecewise remaining rules g s.reader s.place s.known handed t.reader t.place t.known
     pub knows : s.known < handed → handed ≡ length out
         → KnowsBehind g s.place s.taken t.taken (take handed out) t.known t.reader.block.bytes
     pub idle : (TookWholeBody g s ⊎ (length out ≡ 0)) → t ≡ s

@@ -1,6 +1,6 @@
 -- What is handed out next follows what was so far, and where none is known none is shown.
 use Rattle.std.proofs.Common.{arith}
-use Rattle.body_reader.proofs.Showing.{none_shown, shown_more, shown_none}
+use Rattle.body_reader.proofs.Showing.{full_shown, none_shown, shown_more, shown_none}
 use Rattle.body_reader.proofs.steps.hand_buffered.Goals as goal
 
 pub loop-handed-init : goal.loop-handed-init
@@ -25,3 +25,6 @@ loop-handed-preserved g c =
       c.loop-handed-test.true,
       c.hand_out-handed.auto.out,
     )) c.hand_out-handed.ensures.count c.hand_out-handed.ensures.bytes c.hand_out-handed.ensures.took
+
+pub returns : goal.returns
+returns g c = full_shown _ _ _ _ _ _ _ _ _ _ _ c.loop-handed.invariant (omega (arith, c.loop-handed-test.false))
