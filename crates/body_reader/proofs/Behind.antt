@@ -38,7 +38,7 @@ module _ {S Q C P W A : Type 0} (remaining : S → Option (List ℕ)) (rules : R
     takes = TakesBytes-still remaining rules g r p r' is.place ahead.along
         (ReadsAhead-keeps remaining rules 1 r answer r' ahead g.ahead lawful.some)
 
-    pub behind_is : IsBodyReader g (seen r' c p calls k)
+    behind_is : IsBodyReader g (seen r' c p calls k)
     behind_is =
         let order = ahead.along.in_order in
         state_is remaining rules g r c p calls k r' p calls k [] [] takes (sym (append-nil calls.reads.given)) is

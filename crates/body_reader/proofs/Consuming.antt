@@ -25,7 +25,7 @@ module _ {S Q C P W : Type 0} (remaining : S → Option (List ℕ)) (rules : Rea
       subst (λ j. take j (take n r.block.bytes) ≡ take n r.block.bytes) long (take-length (take n r.block.bytes)) in
       ap (λ l. l.reads.given) noted ∙ ap (λ l. calls.reads.given ++ l) whole
 
-  pub consumed_is : IsBodyReader g (seen r' c q calls' k')
+  consumed_is : IsBodyReader g (seen r' c q calls' k')
   consumed_is = state_is remaining rules g r c p calls k r' q calls' k' (take n r.block.bytes) (take n r.block.bytes) front.takes
       given is front.known
 

@@ -3,42 +3,27 @@ use Rattle.std.proofs.Common.{◌≡◌, ℕ, zero, suc, ◌-◌, ◌<◌, ◌�
 use Rattle.buffer_redux.specs.Buffered.{Buffered}
 use Rattle.buffer_redux.specs.BufReader.{ReaderConsumes}
 use Rattle.buffer_redux.specs.Policy.{ReadRules}
-use Rattle.buffer_redux.specs.StreamLog.{StreamLog, after_read}
+use Rattle.buffer_redux.specs.StreamLog.{StreamLog}
 use Rattle.body_reader.specs.declared.error.BodyError.{BodyError}
 use Rattle.body_reader.specs.declared.error.BodyError.TheVariants.{Wrong, Truncated, Io}
 use Rattle.body_reader.specs.declared.progress.Progress.{Progress}
-use Rattle.body_reader.specs.Between.{EachGave, HandsOn, KnowsAll, PayloadFails, ShowsOn, TakesBytes, handed_out}
-use Rattle.body_reader.specs.BodyReader.{BodyState, BodyWent, Breaks, EndsEarly, FillsPayload, IsBodyReader, TookWholeBody, ReadsPayload, NoPayload, seen}
+use Rattle.body_reader.specs.Between.{AllShown, EachGave, HandsOn, KnowsAll, PayloadFails, ShowsOn, TakesBytes, handed_out}
+use Rattle.body_reader.specs.BodyReader.{BodyState, BodyWent, Breaks, EndsEarly, FillsPayload, IsBodyReader, NotedIfOk, TookWholeBody, ReadsPayload, NoPayload, seen}
 use Rattle.body_reader.specs.BodyReaderLaws.{BodyWent-none}
 use Rattle.body_reader.specs.BetweenLaws.{AsksWithRoom-open, EachGave-none, Passes-none, Tells-passes}
 use Rattle.body_reader.specs.Coding.{Grammar, IsDone, IsKnown, IsLawful, IsOpen, Leads, heeded}
 use Rattle.body_reader.specs.CodingLaws.{Leads-done, Leads-left, Leads-then, Leads-whole}
 
--- an Ok read is noted
-abbrev pub after_payload : {W : Type 0} → StreamLog → List ℕ → Result ℕ (BodyError W) → StreamLog
-after_payload calls out (Ok n) = after_read calls out (Ok n)
-after_payload calls out (Err e) = calls
-
-noted_after : {W : Type 0} (calls : StreamLog) (out : List ℕ) (answer : Result ℕ (BodyError W))
-    → MatchResult answer (λ n. after_payload calls out answer ≡ after_read calls out (Ok n))
-    (λ _. after_payload calls out answer ≡ calls)
-noted_after calls out (Ok n) = refl
-noted_after calls out (Err e) = refl
-
 -- the payload that a call handed out is noted
-given_after : {W : Type 0} (calls : StreamLog) (out : List ℕ) (answer : Result ℕ (BodyError W))
-    → (after_payload calls out answer).reads.given ≡ calls.reads.given ++ handed_out out answer
-given_after calls out (Ok n) = refl
-given_after calls out (Err e) = sym (append-nil calls.reads.given)
+given_after : {W : Type 0} (calls : StreamLog) (out : List ℕ) (answer : Result ℕ (BodyError W)) (later : StreamLog)
+    → NotedIfOk calls out answer later → later.reads.given ≡ calls.reads.given ++ handed_out out answer
+given_after calls out (Ok n) later noted = ap (λ l. l.reads.given) noted
+given_after calls out (Err e) later noted = ap (λ l. l.reads.given) noted ∙ sym (append-nil calls.reads.given)
 
--- an Ok answer is noted, and no other
-pub noted_none : {W : Type 0} (calls : StreamLog) (out : List ℕ) (answer : Result ℕ (BodyError W)) (e : BodyError W)
-    → answer ≡ Err e → calls ≡ after_payload calls out answer
-noted_none calls out answer e is = ap (after_payload calls out) (sym is)
-
-pub noted_some : {W : Type 0} (calls later : StreamLog) (out : List ℕ) (answer : Result ℕ (BodyError W)) (n : ℕ)
-    → answer ≡ Ok n → later ≡ after_payload {W = W} calls out (Ok n) → later ≡ after_payload calls out answer
-noted_some calls later out answer n is noted = noted ∙ ap (after_payload calls out) (sym is)
+-- in a place where a body ended none is known
+none_there : {P W : Type 0} (g : Grammar P W) (j : ℕ) (x : P) (bytes : List ℕ) → IsKnown g x j bytes → IsDone g x → j ≡ 0
+none_there g zero x bytes known done = refl
+none_there g (suc j) x bytes known done = absurd ((known.1 (omega arith)).goes_on done)
 
 module _ {S Q C P W : Type 0} (remaining : S → Option (List ℕ)) (rules : ReadRules Q) (g : Grammar P W)
     (r : Buffered S Q) (c : C) (p : Progress P) (calls : StreamLog) (k : ℕ) (r' : Buffered S Q) (q : Progress P)
@@ -106,17 +91,20 @@ module _ {S Q C P W : Type 0} (remaining : S → Option (List ℕ)) (rules : Rea
 -- a read of payload
 module _ {S Q C P W : Type 0} (remaining : S → Option (List ℕ)) (rules : ReadRules Q) (g : Grammar P W) (lawful : IsLawful g)
     (r : Buffered S Q) (c : C) (p : Progress P) (calls : StreamLog) (k : ℕ) (is : IsBodyReader g (seen r c p calls k))
-    (out : List ℕ)
-    (answer : Result ℕ (BodyError W)) (r' : Buffered S Q) (q : Progress P) (k' : ℕ)
+    (out : List ℕ) (answer : Result ℕ (BodyError W)) (r' : Buffered S Q) (q : Progress P) (k' : ℕ)
     (hands : HandsOn remaining rules g k r p out answer r' q k') (known : IsKnown g q.place k' r'.block.bytes)
     (left : 0 < k → IfOk answer (λ n. (n ≡ min k (length out)) × (k' ≡ k - n)))
-    (consumed : 0 < k → IfOk answer (λ n. 0 < n → ReaderConsumes rules n r r')) where
+    (consumed : 0 < k → IfOk answer (λ n. 0 < n → ReaderConsumes rules n r r')) (calls' : StreamLog)
+    (noted : NotedIfOk calls out answer calls') where
   abbrev after : BodyState S Q C P
-  after = seen r' c q (after_payload calls out answer) k'
+  after = seen r' c q calls' k'
+
+  given : calls'.reads.given ≡ calls.reads.given ++ handed_out out answer
+  given = given_after calls out answer calls' noted
 
   still : IsBodyReader g after
-  still = state_is remaining rules g r c p calls k r' q (after_payload calls out answer) k' hands.0.0.wire (handed_out out answer)
-      hands.0.0.takes (given_after calls out answer) is known
+  still = state_is remaining rules g r c p calls k r' q calls' k' hands.0.0.wire (handed_out out answer) hands.0.0.takes given is
+      known
 
   abbrev Ends : Result ℕ (BodyError W) → Type 0
   Ends a = MatchResult a (λ n. EachGave r r' × ((n ≤ length out) × (n ≡ 0 → 0 < length out → IsDone g q.place)
@@ -135,7 +123,7 @@ module _ {S Q C P W : Type 0} (remaining : S → Option (List ℕ)) (rules : Rea
         (ends.1.1 none some)),
   )
   answered (Err e) ends =
-      stops remaining rules g r c p calls k r' q (after_payload calls out answer) k' lawful still e ends
+      stops remaining rules g r c p calls k r' q calls' k' lawful still e ends
 
   knows_told : (a : Result ℕ (BodyError W)) → Ends a → k ≡ 0
       → IfOk a (λ n. 0 < n
@@ -147,16 +135,11 @@ module _ {S Q C P W : Type 0} (remaining : S → Option (List ℕ)) (rules : Rea
   full_handed (Ok n) ends = ends.1.2
   full_handed (Err e) ends = tt
 
-  -- in a place where a body ended none is known
-  known_there : (j : ℕ) (x : P) (bytes : List ℕ) → IsKnown g x j bytes → IsDone g x → j ≡ 0
-  known_there zero x bytes known' done = refl
-  known_there (suc j) x bytes known' done = absurd ((known'.1 (omega arith)).goes_on done)
-
-  nothing_done : (r' ≡ r) × (q ≡ p) × (k' ≡ k) → after ≡ record (seen r c p calls k) { calls = after_payload calls out answer }
+  nothing_done : (r' ≡ r) × (q ≡ p) × (k' ≡ k) → after ≡ record (seen r c p calls k) { calls = calls' }
   nothing_done (reader, place, few) = cc
 
   idle : (TookWholeBody g (seen r c p calls k) ⊎ (length out ≡ 0))
-      → after ≡ record (seen r c p calls k) { calls = after_payload calls out answer }
+      → after ≡ record (seen r c p calls k) { calls = calls' }
   idle (inl whole) =
       let done = Leads-done g lawful p.taken.log.fills.consumed calls.reads.given p.place (heeded g r.block.bytes) is.leads
       is.place whole in
@@ -164,16 +147,15 @@ module _ {S Q C P W : Type 0} (remaining : S → Option (List ℕ)) (rules : Rea
       nothing_done (
         at.0,
         at.1,
-        known_there k' q.place r'.block.bytes known (subst (λ x. IsDone g x.place) (sym at.1) done)
-            ∙ sym (known_there k p.place r.block.bytes is.known done),
+        none_there g k' q.place r'.block.bytes known (subst (λ x. IsDone g x.place) (sym at.1) done)
+            ∙ sym (none_there g k p.place r.block.bytes is.known done),
       )
   idle (inr none) = let at = hands.1 none in nothing_done (at.1, at.2, at.3)
 
   pub payload_read : ReadsPayload remaining rules g (seen r c p calls k) out answer after
   unfolding state_went
   payload_read = record {
-    went = state_went remaining rules g r c p calls k r' q (after_payload calls out answer) k' hands.0.0.wire
-        (handed_out out answer) hands.0.0.takes (given_after calls out answer);
+    went = state_went remaining rules g r c p calls k r' q calls' k' hands.0.0.wire (handed_out out answer) hands.0.0.takes given;
     answers = answered answer hands.0.1;
     asked = hands.0.0.asked;
     through = elim hands.0.0.through [ inl all ↦ inl all | inr past ↦ inr past.1 ];
@@ -184,100 +166,74 @@ module _ {S Q C P W : Type 0} (remaining : S → Option (List ℕ)) (rules : Rea
     tells = hands.0.0.tells;
     idle = idle;
     empty = λ none. (hands.1 none).0;
-    noted = noted_after calls out answer;
+    noted = noted;
     whole = still;
   }
-
--- the same with the calls as they were noted
-module _ {S Q C P W : Type 0} (remaining : S → Option (List ℕ)) (rules : ReadRules Q) (grammar : C → Grammar P W)
-    (lawful : (c : C) → IsLawful (grammar c)) (d : BodyState S Q C P) (r : Buffered S Q) (c : C) (p : Progress P)
-    (calls : StreamLog) (k : ℕ) (view : seen r c p calls k ≡ d) (is : IsBodyReader (grammar c) (seen r c p calls k))
-    (out : List ℕ)
-    (answer : Result ℕ (BodyError W)) (r' : Buffered S Q) (q : Progress P) (k' : ℕ)
-    (hands : HandsOn remaining rules (grammar c) k r p out answer r' q k')
-    (known : IsKnown (grammar c) q.place k' r'.block.bytes)
-    (left : 0 < k → IfOk answer (λ n. (n ≡ min k (length out)) × (k' ≡ k - n)))
-    (consumed : 0 < k → IfOk answer (λ n. 0 < n → ReaderConsumes rules n r r')) (calls' : StreamLog)
-    (noted : calls' ≡ after_payload calls out answer) where
-  pub reads_payload : ReadsPayload remaining rules (grammar d.coding) d out answer (seen r' c q calls' k')
-  reads_payload = subst (λ x. ReadsPayload remaining rules (grammar x.coding) x out answer (seen r' c q calls' k')) view
-      (subst (λ l. ReadsPayload remaining rules (grammar c) (seen r c p calls k) out answer (seen r' c q l k')) (sym noted)
-      (payload_read remaining rules (grammar c) (lawful c) r c p calls k is out answer r' q k' hands known left consumed))
-
-  pub still_reader : IsBodyReader (grammar c) (seen r' c q calls' k')
-  still_reader = subst (λ l. IsBodyReader (grammar c) (seen r' c q l k')) (sym noted)
-      (payload_read remaining rules (grammar c) (lawful c) r c p calls k is out answer r' q k' hands known left consumed).whole
 
 -- a fill
 module _ {S Q C P W : Type 0} (remaining : S → Option (List ℕ)) (rules : ReadRules Q) (g : Grammar P W) (lawful : IsLawful g)
     (r : Buffered S Q) (c : C) (p : Progress P) (calls : StreamLog) (k : ℕ) (is : IsBodyReader g (seen r c p calls k))
-    (r' : Buffered S Q) (q : Progress P) (none : k ≡ 0) where
-  filled_state : (answer : Result ℕ (BodyError W)) → ShowsOn remaining rules g 0 r p answer r' q → (n : ℕ)
-      → IsKnown g q.place n r'.block.bytes → IsBodyReader g (seen r' c q calls n)
-  filled_state answer fills n known = state_is remaining rules g r c p calls k r' q calls n fills.0.wire [] fills.0.takes
-      (sym (append-nil calls.reads.given)) is known
+    (none : k ≡ 0) (answer : Result ℕ (BodyError W)) (r' : Buffered S Q) (q : Progress P) (k' : ℕ)
+    (fills : ShowsOn remaining rules g 0 r p answer r' q) (count : MatchResult answer (λ n. k' ≡ n) (λ _. k' ≡ 0)) where
+  abbrev there : BodyState S Q C P
+  there = seen r' c q calls k'
 
-  filled_went : (answer : Result ℕ (BodyError W)) → ShowsOn remaining rules g 0 r p answer r' q → (n : ℕ)
-      → BodyWent remaining rules g (seen r c p calls k) [] (seen r' c q calls n)
-  filled_went answer fills n = state_went remaining rules g r c p calls k r' q calls n fills.0.wire [] fills.0.takes
-      (sym (append-nil calls.reads.given))
+  abbrev FillEnds : Result ℕ (BodyError W) → Type 0
+  FillEnds a = MatchResult a (λ n. EachGave r r' × (IsKnown g q.place n r'.block.bytes × (n ≡ 0 → IsDone g q.place)
+      × (0 < n → AllShown g q.place n r'.block.bytes))) (λ e. PayloadFails remaining rules g r e r' q)
 
-  done : TookWholeBody g (seen r c p calls k) → IsDone g p.place
-  done whole = Leads-done g lawful p.taken.log.fills.consumed calls.reads.given p.place (heeded g r.block.bytes) is.leads is.place
-      whole
+  abbrev Counts : Result ℕ (BodyError W) → Type 0
+  Counts a = MatchResult a (λ n. k' ≡ n) (λ _. k' ≡ 0)
+
+  fill_known_is : (a : Result ℕ (BodyError W)) → FillEnds a → Counts a → IsKnown g q.place k' r'.block.bytes
+  fill_known_is (Ok n) ends count = subst (λ j. IsKnown g q.place j r'.block.bytes) (sym count) ends.1.0
+  fill_known_is (Err e) ends count = (omega (arith, count), λ some. absurd (omega (arith, some, count)))
+
+  given_none : calls.reads.given ≡ calls.reads.given ++ []
+  given_none = sym (append-nil calls.reads.given)
+
+  there_is : IsBodyReader g there
+  there_is = state_is remaining rules g r c p calls k r' q calls k' fills.0.wire [] fills.0.takes given_none is
+      (fill_known_is answer fills.1 count)
+
+  fill_answers : (a : Result ℕ (BodyError W)) → FillEnds a → Counts a
+      → MatchResult a (λ n. (n ≡ k') × EachGave r r' × (n ≡ 0 → TookWholeBody g there))
+      (λ e. NoPayload g (seen r c p calls k) e there)
+  fill_answers (Ok n) ends count = (
+    sym count,
+    ends.0,
+    (λ zero. Leads-whole g q.taken.log.fills.consumed calls.reads.given q.place (heeded g r'.block.bytes) there_is.leads
+        (ends.1.1 zero)),
+  )
+  fill_answers (Err e) ends count = stops remaining rules g r c p calls k r' q calls k' lawful there_is e ends
+
+  fill_all : (a : Result ℕ (BodyError W)) → FillEnds a
+      → IfOk a (λ n. 0 < n → k ≡ 0 → AllShown g q.place n r'.block.bytes)
+  fill_all (Ok n) ends = λ some _. ends.1.2 some
+  fill_all (Err e) ends = tt
+
+  same : (r' ≡ r) × (q ≡ p) → k' ≡ k → there ≡ seen r c p calls k
+  same both known = cc
 
   -- where the body ended nothing is done
-  none_known : (n : ℕ) → ShowsOn remaining rules g 0 r p (Ok n) r' q → IsDone g p.place → n ≡ k
-  none_known zero fills at = sym none
-  none_known (suc n) fills at = absurd ((fills.1.1.0.1 (omega arith)).goes_on
-      (subst (λ x. IsDone g x.place) (sym (fills.0.idle at).1) at))
+  fill_still : (0 < k ⊎ TookWholeBody g (seen r c p calls k)) → there ≡ seen r c p calls k
+  fill_still (inl some) = absurd (omega (arith, some, none))
+  fill_still (inr whole) =
+      let done = Leads-done g lawful p.taken.log.fills.consumed calls.reads.given p.place (heeded g r.block.bytes) is.leads
+      is.place whole in
+      let at = fills.0.idle done in
+      same at (none_there g k' q.place r'.block.bytes there_is.known (subst (λ x. IsDone g x.place) (sym at.1) done) ∙ sym none)
 
-  same : (n : ℕ) → (r' ≡ r) × (q ≡ p) → n ≡ k → seen r' c q calls n ≡ seen r c p calls k
-  same n both known = cc
-
-  pub filled_is : (n : ℕ) → ShowsOn remaining rules g 0 r p (Ok n) r' q → IsBodyReader g (seen r' c q calls n)
-  filled_is n fills = filled_state (Ok n) fills n fills.1.1.0
-
-  pub filled : (n : ℕ) → ShowsOn remaining rules g 0 r p (Ok n) r' q
-      → FillsPayload remaining rules g (seen r c p calls k) (Ok n) (seen r' c q calls n)
-  filled n fills = record {
-    went = filled_went (Ok n) fills n;
-    answers = (
-      refl,
-      fills.1.0,
-      (λ zero. Leads-whole g q.taken.log.fills.consumed calls.reads.given q.place (heeded g r'.block.bytes)
-          (filled_is n fills).leads
-          (fills.1.1.1 zero)),
-    );
-    all = λ some _. fills.1.1.2 some;
+  pub filled : FillsPayload remaining rules g (seen r c p calls k) answer there
+  filled = record {
+    went = state_went remaining rules g r c p calls k r' q calls k' fills.0.wire [] fills.0.takes given_none;
+    answers = fill_answers answer fills.1 count;
+    all = fill_all answer fills.1;
     asked = AsksWithRoom-open remaining rules g 0 r p.place r' fills.0.asked;
     passes = Tells-passes remaining rules g r p.place r' q.place fills.0.tells;
-    still = λ either. elim either [
-      | inl some ↦ absurd (omega (arith, some, none))
-      | inr whole ↦ same n (fills.0.idle (done whole)) (none_known n fills (done whole))
-    ];
+    still = fill_still;
     noted = refl;
-    whole = filled_is n fills;
-  }
-
-  pub not_filled_is : (e : BodyError W) → ShowsOn remaining rules g 0 r p (Err e) r' q → IsBodyReader g (seen r' c q calls k)
-  not_filled_is e fills =
-      filled_state (Err e) fills k (omega (arith, none), λ some. absurd (omega (arith, some, none)))
-
-  pub not_filled : (e : BodyError W) → ShowsOn remaining rules g 0 r p (Err e) r' q
-      → FillsPayload remaining rules g (seen r c p calls k) (Err e) (seen r' c q calls k)
-  not_filled e fills = record {
-    went = filled_went (Err e) fills k;
-    answers = stops remaining rules g r c p calls k r' q calls k lawful (not_filled_is e fills) e fills.1;
-    all = tt;
-    asked = AsksWithRoom-open remaining rules g 0 r p.place r' fills.0.asked;
-    passes = Tells-passes remaining rules g r p.place r' q.place fills.0.tells;
-    still = λ either. elim either [
-      | inl some ↦ absurd (omega (arith, some, none))
-      | inr whole ↦ same k (fills.0.idle (done whole)) refl
-    ];
-    noted = refl;
-    whole = not_filled_is e fills;
+    whole = there_is;
   }
 
 -- payload was known
@@ -293,7 +249,3 @@ fill_known remaining rules g d is some = record {
   noted = refl;
   whole = is;
 }
-
--- as the reader is seen
-pub as_seen : {A B D : Type 0} (F : A → B → D → Type 0) (s d : A) (b : B) (t : D) → s ≡ d → F s b t → F d b t
-as_seen F s d b t same h = subst (λ x. F x b t) same h

@@ -311,7 +311,7 @@ module _ {S Q C P W : Type 0} (remaining : S → Option (List ℕ)) (rules : Rea
   given : calls'.reads.given ≡ calls.reads.given ++ take handed out
   given = NotedIfSome-given calls out handed calls' noted
 
-  pub shown_is : IsBodyReader g (seen r' c q calls' k')
+  shown_is : IsBodyReader g (seen r' c q calls' k')
   shown_is = state_is remaining rules g r c p calls k r' q calls' k' hands.wire (take handed out) hands.takes given is hands.known
 
   none_left : NoneShown remaining rules g q.place r'.block.bytes

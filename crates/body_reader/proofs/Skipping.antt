@@ -240,22 +240,9 @@ module _ {S Q P W : Type 0} (remaining : S → Option (List ℕ)) (rules : ReadR
         room = omega (arith, skipped_there.room, ahead'.capacity);
       }
 
-    pub skipped_less : (n : ℕ) (u : Buffered S Q) → n ≤ length u.block.bytes → length t.block.bytes < n → n ≤ g.ahead
-        → spend g r.place u.block.bytes < spend g q.place m.block.bytes
-    skipped_less n u enough few most = omega (arith, enough, few, most, passes.spends)
-
-    pub lacks_here : (n : ℕ) → l ≡ look.More n → (length t.block.bytes < n) × (n ≤ g.ahead)
-    lacks_here n is =
-        let looks : Looks g r.place t.block.bytes (look.More n) = subst (Looks g r.place t.block.bytes) is passes.looks in
-        (looks.0.few, looks.0.most)
-
     -- of so many bytes those that are buffered are shown
     pub shows_here : (n : ℕ) → l ≡ look.More n → (bytes shown : List ℕ) → shown ≡ take (min n t.block.capacity) bytes
         → length shown ≡ min n (length bytes)
-    shows_here n is bytes shown same = omega (
-      arith,
-      ap length same,
-      length-take (min n t.block.capacity) bytes,
-      skipped_there.room,
-      (lacks_here n is).1,
-    )
+    shows_here n is bytes shown same =
+        let looks : Looks g r.place t.block.bytes (look.More n) = subst (Looks g r.place t.block.bytes) is passes.looks in
+        omega (arith, ap length same, length-take (min n t.block.capacity) bytes, skipped_there.room, looks.0.most)

@@ -41,6 +41,10 @@ handed_of d = d.calls.reads.given
 abbrev pub taken_count : {S Q C P : Type 0} → BodyState S Q C P → ℕ
 taken_count d = min (length d.taken) (2 ^ 64 - 1)
 
+-- an Ok read is noted, and no other
+abbrev pub NotedIfOk : {E : Type 0} → StreamLog → List ℕ → Result ℕ E → StreamLog → Type 0
+NotedIfOk calls out answer later = MatchResult answer (λ n. later ≡ after_read calls out (Ok n)) (λ _. later ≡ calls)
+
 -- where payload was handed out that is noted as a read, and where none was, no call is
 abbrev pub NotedIfSome : StreamLog → List ℕ → ℕ → StreamLog → Type 0
 NotedIfSome calls out handed later =
@@ -110,7 +114,7 @@ module _ {S Q C P W : Type 0} (remaining : S → Option (List ℕ)) (rules : Rea
     pub tells : Tells remaining rules g s.reader s.place (length (handed_out out answer)) t.reader t.place
     pub idle : (TookWholeBody g s ⊎ (length out ≡ 0)) → t ≡ record s { calls = t.calls }
     pub empty : length out ≡ 0 → answer ≡ Ok 0
-    pub noted : MatchResult answer (λ n. t.calls ≡ after_read s.calls out (Ok n)) (λ _. t.calls ≡ s.calls)
+    pub noted : NotedIfOk s.calls out answer t.calls
     pub whole : IsBodyReader g t
 
   -- payload is buffered, how much the answer says: none only where the body ended, and else all that a look says is. The stream

@@ -8,7 +8,7 @@ ghost use Rattle.buffer_redux.specs.BufReader.{ReadsInOrder};
 ghost use Rattle.buffer_redux.specs.GrowError.{FitsWithin};
 ghost use Rattle.buffer_redux.specs.MakeError.{growth};
 ghost use Rattle.body_reader.specs.Coding.{IsBody};
-ghost use Rattle.body_reader.specs.BodyReader.{BodyState, Collects, ConsumesPayload, Drains, FillsPayload, HandsBuffered, IsBodyReader, LooksBehind, NotedIfSome, ReadsPayload, begun, taken_count};
+ghost use Rattle.body_reader.specs.BodyReader.{BodyState, Collects, ConsumesPayload, Drains, FillsPayload, HandsBuffered, IsBodyReader, LooksBehind, NotedIfOk, NotedIfSome, ReadsPayload, begun, taken_count};
 
 mod streams;
 
@@ -192,9 +192,7 @@ impl<R: TellRead, C: Coding, P: ReaderPolicy> BodyReader<R, C, P> {
             &mut self.known,
             out,
         );
-        if let Ok(count) = &answer {
-            self.calls.note(&Call::Read(out, &Ok(*count)));
-        }
+        note_ok(&mut self.calls, out, &answer);
         answer
     }
 
@@ -327,6 +325,15 @@ impl<R: TellRead, C: Coding, P: ReaderPolicy> BodyReader<R, C, P> {
         ensures looks { LooksBehind R.remaining P.rules (C.grammar self.old.coding) self.old result self.new }
     {
         Ok(self.reader.peek(1)?.is_empty())
+    }
+}
+
+// Notes an Ok read.
+fn note_ok<W>(calls: &mut CallLog, out: &[u8], answer: &Result<usize, BodyError<W>>)
+    ensures { NotedIfOk calls.old.log out.now answer.now calls.new.log }
+{
+    if let Ok(count) = answer {
+        calls.note(&Call::Read(out, &Ok(*count)));
     }
 }
 

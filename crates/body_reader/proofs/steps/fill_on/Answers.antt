@@ -19,9 +19,7 @@ show-requires g c =
     let skips = c.in_ok-sure.ensures 0 in record {
       place = skips.0.takes.place;
       room = omega (arith, c.requires.room, skips.0.takes.along.capacity);
-      sure = payload_here g.R.TellRead.remaining g.P.ReaderPolicy.rules (g.C.Coding.grammar c.args.coding.now)
-          c.skip.new.progress.place c.skip.new.reader.block.bytes c.in_ok-sure.sure (omega (arith, c.if-sure-eq0.false))
-          skips.1.1;
+      sure = payload_here g.R.TellRead.remaining g.P.ReaderPolicy.rules _ _ _ _ (omega (arith, c.if-sure-eq0.false)) skips.1.1;
     }
 
 pub returns : goal.returns

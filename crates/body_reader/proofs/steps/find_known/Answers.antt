@@ -9,14 +9,10 @@ returns-then-known-gt0 g c =
 
 pub returns-in-Payload : goal.returns-in-Payload
 returns-in-Payload g c =
-    payload_found g.R.TellRead.remaining g.P.ReaderPolicy.rules (g.C.Coding.grammar c.args.coding.now)
-    (g.met.C.Coding.lawful c.args.coding.now) c.args.reader.now c.args.progress.now c.args.known.now
-    (omega (arith, c.if-known-gt0.false)) c.pass.result c.pass.new.reader c.pass.new.progress c.pass.ensures
-    c.in-Payload.sure c.in-Payload.is c.min.result (omega (arith, c.min.ensures, c.buf_len.ensures.value))
+    payload_found _ _ _ (g.met.C.Coding.lawful _) _ _ _ (omega (arith, c.if-known-gt0.false)) _ _ _ c.pass.ensures _
+    c.in-Payload.is _ (omega (arith, c.min.ensures, c.buf_len.ensures.value))
 
 pub returns-in_default : goal.returns-in_default
 returns-in_default g c =
-    none_found g.R.TellRead.remaining g.P.ReaderPolicy.rules (g.C.Coding.grammar c.args.coding.now)
-    (g.met.C.Coding.lawful c.args.coding.now) c.args.reader.now c.args.progress.now c.args.known.now
-    (omega (arith, c.if-known-gt0.false)) c.pass.result c.pass.new.reader c.pass.new.progress c.pass.ensures
-    c.in_default.not-Payload c.args.known.now (omega (arith, c.if-known-gt0.false))
+    none_found _ _ _ (g.met.C.Coding.lawful _) _ _ _ (omega (arith, c.if-known-gt0.false)) _ _ _ c.pass.ensures
+    c.in_default.not-Payload _ (omega (arith, c.if-known-gt0.false))

@@ -13,18 +13,10 @@ returns-then-known-eq0 g c =
 
 pub loop-handed-preserved : goal.loop-handed-preserved
 loop-handed-preserved g c =
-    shown_more g.R.TellRead.remaining g.P.ReaderPolicy.rules (g.C.Coding.grammar c.args.coding.now) c.args.reader.now
-    c.args.progress.now c.args.known.now c.loop-handed.out c.loop-handed.handed c.loop-handed.reader c.loop-handed.progress
-    c.loop-handed.known c.loop-handed.invariant (omega (arith, c.loop-handed-test.true)) c.find_known.new.reader
-    c.find_known.new.progress c.find_known.new.known c.find_known.ensures c.hand_out-handed.result c.hand_out-handed.new.out
-    c.hand_out-handed.new.reader c.hand_out-handed.new.progress c.hand_out-handed.new.known
-    (omega (
-      arith,
-      c.hand_out-handed.ensures.count,
-      c.if-known-eq0.false,
-      c.loop-handed-test.true,
-      c.hand_out-handed.auto.out,
-    )) c.hand_out-handed.ensures.count c.hand_out-handed.ensures.bytes c.hand_out-handed.ensures.took
+    let hands = c.hand_out-handed in
+    shown_more _ _ _ _ _ _ _ _ _ _ _ c.loop-handed.invariant (omega (arith, c.loop-handed-test.true)) _ _ _ c.find_known.ensures
+    _ _ _ _ _ (omega (arith, hands.ensures.count, c.if-known-eq0.false, c.loop-handed-test.true, hands.auto.out))
+    hands.ensures.count hands.ensures.bytes hands.ensures.took
 
 pub returns : goal.returns
 returns g c = full_shown _ _ _ _ _ _ _ _ _ _ _ c.loop-handed.invariant (omega (arith, c.loop-handed-test.false))

@@ -1,5 +1,5 @@
 -- What was skipped is no payload, so what is handed out behind it is what the whole read hands out.
-use Rattle.std.proofs.Common.{arith}
+use Rattle.std.proofs.Common.{◌<◌, arith, length}
 use Rattle.std.proofs.lemmas.Result.{err_from_is_err_and}
 use Rattle.body_reader.proofs.Filling.{payload_here}
 use Rattle.body_reader.proofs.Handing.{hands_after, hands_ended, hands_failed}
@@ -25,15 +25,11 @@ read_sure-requires g c =
         none = c.requires.none;
         some = c.requires.some;
       };
-      sure = payload_here g.R.TellRead.remaining g.P.ReaderPolicy.rules (g.C.Coding.grammar c.args.coding.now)
-          c.skip.new.progress.place c.skip.new.reader.block.bytes c.in_ok-sure.sure (omega (arith, c.if-sure-eq0.false))
-          skips.1.1;
+      sure = payload_here g.R.TellRead.remaining g.P.ReaderPolicy.rules _ _ _ _ (omega (arith, c.if-sure-eq0.false)) skips.1.1;
     }
 
 pub returns-clause-hands : goal.returns-clause-hands
 returns-clause-hands g c =
+    let room : 0 < length c.read_sure.new.out = omega (arith, c.requires.some) in
     let skips = c.in_ok-sure.ensures _ in
-    hands_after g.R.TellRead.remaining g.P.ReaderPolicy.rules (g.C.Coding.grammar c.args.coding.now) c.args.known.now
-    c.read_sure.new.known c.args.reader.now c.args.progress.now c.read_sure.new.out c.skip.new.reader c.skip.new.progress
-    (omega (arith, c.requires.some)) skips.0 skips.1.0 c.read_sure.result c.read_sure.new.reader c.read_sure.new.progress
-    c.read_sure.ensures.hands
+    hands_after _ _ _ _ _ _ _ _ _ _ room skips.0 skips.1.0 _ _ _ c.read_sure.ensures.hands

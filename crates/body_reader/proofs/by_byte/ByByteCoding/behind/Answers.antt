@@ -5,10 +5,8 @@ use Rattle.body_reader.proofs.by_byte.ByByteCoding.behind.Goals as goal
 
 pub returns-clause-leads : goal.returns-clause-leads
 returns-clause-leads g c follow payload =
-    ran_leads (g.C.ByteCoding.turns c.args.self.now.0) c.args.place c.args.payload.now payload.0 c.run.result.0 c.run.result.1 []
-    c.run.ensures payload.1
+    ran_leads _ c.args.place c.args.payload.now payload.0 _ _ [] c.run.ensures payload.1
 
 pub returns-clause-still : goal.returns-clause-still
 returns-clause-still g c more follow payload =
-    ran_still (g.C.ByteCoding.turns c.args.self.now.0) c.args.place c.args.payload.now more payload.0 c.run.result.0
-    c.run.result.1 c.run.ensures payload.1
+    ran_still _ c.args.place c.args.payload.now more payload.0 _ _ c.run.ensures payload.1

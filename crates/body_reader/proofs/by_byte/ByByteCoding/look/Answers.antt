@@ -5,18 +5,15 @@ use Rattle.body_reader.proofs.by_byte.ByByteCoding.look.Goals as goal
 
 pub returns-then-is_empty : goal.returns-then-is_empty
 returns-then-is_empty g c =
-    looks_none (g.C.ByteCoding.turns c.args.self.now.0) (g.met.C.ByteCoding.lawful c.args.self.now.0) c.args.place
-    c.args.shown.now
+    looks_none _ (g.met.C.ByteCoding.lawful _) c.args.place c.args.shown.now
     (sym c.is_empty.ensures ∙ c.if-is_empty.true) (sym c.is_end.ensures ∙ c.if-is_end.false)
 
 pub returns-in-Payload : goal.returns-in-Payload
 returns-in-Payload g c =
-    looks_payload (g.C.ByteCoding.turns c.args.self.now.0) c.args.place c.args.shown.now c.run.result.0 c.run.result.1
-    c.in-Payload.field-0 (sym c.is_empty.ensures ∙ c.if-is_empty.false) (sym c.is_end.ensures ∙ c.if-is_end.false)
+    looks_payload _ c.args.place c.args.shown.now _ _ c.in-Payload.field-0 (sym c.is_empty.ensures ∙ c.if-is_empty.false) (sym c.is_end.ensures ∙ c.if-is_end.false)
     (sym c.turn.ensures ∙ c.in-Payload.is) c.run.ensures
 
 pub returns-in-Passed : goal.returns-in-Passed
 returns-in-Passed g c =
-    looks_passed (g.C.ByteCoding.turns c.args.self.now.0) (g.met.C.ByteCoding.lawful c.args.self.now.0) c.args.place
-    c.in-Passed.next c.args.shown.now (sym c.is_empty.ensures ∙ c.if-is_empty.false)
+    looks_passed _ (g.met.C.ByteCoding.lawful _) c.args.place c.in-Passed.next c.args.shown.now (sym c.is_empty.ensures ∙ c.if-is_empty.false)
     (sym c.is_end.ensures ∙ c.if-is_end.false) (sym c.turn.ensures ∙ c.in-Passed.is)

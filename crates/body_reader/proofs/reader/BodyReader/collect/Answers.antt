@@ -1,9 +1,7 @@
 -- Each piece that comes is appended, until the body ends, or why it doesn't.
-use Rattle.std.proofs.Common.{◌≡◌, ◌++◌, ℕ, List, Result, Ok, Err, true, false, if◌then◌else◌, is_ok, is_err, ap, arith, subst, sym, vec_items, ◌∙◌}
+use Rattle.std.proofs.Common.{◌≡◌, ◌++◌, ℕ, List, Result, Ok, Err, true, false, if◌then◌else◌, is_ok, is_err, arith, sym, vec_items, ◌∙◌}
 use Rattle.std.proofs.lemmas.Result.{err_from_is_err_and}
-use Rattle.body_reader.specs.declared.error.CollectError.TheVariants as why
-use Rattle.body_reader.specs.BodyReader.{Collects}
-use Rattle.body_reader.proofs.Collecting.{Collected, collected_more, collected_none, collects_all, collects_long, collects_no_room, collects_none}
+use Rattle.body_reader.proofs.Collecting.{collected_more, collected_none, collects_all, collects_long, collects_no_room, collects_none}
 use Rattle.body_reader.proofs.reader.BodyReader.collect.Goals as goal
 
 -- what was refused leaves a vector as it was
@@ -36,13 +34,10 @@ returns-then-came-saturating_sub-clause-collects g c =
 
 pub returns-then-is_err-clause-collects : goal.returns-then-is_err-clause-collects
 returns-then-is_err-clause-collects g c =
-    let s = c.args.self.now in
     let same = not_added c.extend_from_slice.result (vec_items c.loop-came.out) c.piece.result.now
     (vec_items c.extend_from_slice.new.self) c.extend_from_slice.ensures.items
     (sym c.is_err.ensures.value ∙ c.if-is_err.true) in
-    subst (Collects g.R.TellRead.remaining g.P.ReaderPolicy.rules (g.C.Coding.grammar s.coding) c.args.most s
-    (vec_items c.args.out.now) (Err why.Memory) c.fill_payload.new.self) (sym same)
-    (collects_no_room g.C.Coding.grammar c.loop-came.invariant c.in_ok-came.ensures.fills (omega (arith, c.if-came-eq0.false))
+    rw same (collects_no_room g.C.Coding.grammar c.loop-came.invariant c.in_ok-came.ensures.fills (omega (arith, c.if-came-eq0.false))
     (omega (
       arith,
       c.if-came-eq0.false,
@@ -53,19 +48,12 @@ returns-then-is_err-clause-collects g c =
 
 pub loop-came-preserved : goal.loop-came-preserved
 loop-came-preserved g c =
-    let remaining = g.R.TellRead.remaining in
-    let rules' = g.P.ReaderPolicy.rules in
-    let grammar = g.C.Coding.grammar in
-    let s = c.args.self.now in
-    let t = c.consume_payload.new.self in
     let fills = c.in_ok-came.ensures.fills in
     let same = added c.extend_from_slice.result (vec_items c.loop-came.out) c.piece.result.now
     (vec_items c.extend_from_slice.new.self) c.extend_from_slice.ensures.items
     (sym c.is_err.ensures.value ∙ c.if-is_err.false) in
-    let piece = ap (λ l. vec_items c.loop-came.out ++ l) c.piece.ensures in
-    subst (Collected remaining rules' (grammar s.coding) c.args.most s (vec_items c.args.out.now) t) (sym (same ∙ piece))
-    (collected_more grammar c.loop-came.invariant fills (omega (arith, c.if-came-eq0.false)) (g.met.C.Coding.lawful s.coding) t
-    c.consume_payload.ensures.consumes (omega (
+    rw (same, c.piece.ensures) (collected_more g.C.Coding.grammar c.loop-came.invariant fills
+    (omega (arith, c.if-came-eq0.false)) (g.met.C.Coding.lawful _) _ c.consume_payload.ensures.consumes (omega (
       arith,
       fills.answers.0,
       c.if-came-eq0.false,
