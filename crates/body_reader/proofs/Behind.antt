@@ -9,8 +9,8 @@ use Rattle.buffer_redux.specs.Policy.{ReadRules}
 use Rattle.buffer_redux.specs.StreamLog.{StreamLog}
 use Rattle.buffer_redux.specs.Unbuffer.{unbuffered}
 use Rattle.body_reader.specs.declared.progress.Progress.{Progress}
-use Rattle.body_reader.specs.Asking.{AskedWhere}
-use Rattle.body_reader.specs.AskingLaws.{AskedWhere-of}
+use Rattle.buffer_redux.specs.Asking.{AskedWhere}
+use Rattle.buffer_redux.specs.AskingLaws.{AskedWhere-of}
 use Rattle.body_reader.specs.Between.{TakesBytes}
 use Rattle.body_reader.specs.BetweenLaws.{ReadsAhead-asked, ReadsAhead-ended, ReadsAhead-failed, ReadsAhead-gave, ReadsAhead-keeps, TakesBytes-still}
 use Rattle.body_reader.specs.BodyReader.{BodyWent, IsBodyReader, LooksBehind, seen}

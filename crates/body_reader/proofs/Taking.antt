@@ -3,8 +3,9 @@ use Rattle.std.proofs.Common.{◌≡◌, ℕ, zero, suc, ◌<◌, List, [], ◌+
 use Rattle.buffer_redux.specs.Policy.{ReadRules}
 use Rattle.buffer_redux.specs.Unbuffer.{unbuffered}
 use Rattle.body_reader.specs.declared.error.BodyError.{BodyError}
-use Rattle.body_reader.specs.Asking.{AskedWhere}
-use Rattle.body_reader.specs.AskingLaws.{AskedWhere-on, AskedWhere-same}
+use Rattle.buffer_redux.specs.Asking.{AskedWhere}
+use Rattle.buffer_redux.specs.AskingLaws.{AskedWhere-same}
+use Rattle.body_reader.specs.AskingLaws.{AskedWhere-behind}
 use Rattle.body_reader.specs.Between.{EachGave}
 use Rattle.body_reader.specs.BetweenLaws.{EachGave-joins, EachGave-none, EachGave-same}
 use Rattle.body_reader.specs.BodyReader.{BodyState, BodyWent, ConsumesPayload, FillsPayload, InPieces, IsBodyReader, TakesManyPieces, TookWholeBody, handed_of}
@@ -65,8 +66,8 @@ module _ {S Q C P W : Type 0} {remaining : S → Option (List ℕ)} {rules : Rea
 
     pub filled_asked : AskedWhere (Unsettled g s) (unbuffered s.reader) (unbuffered f.reader)
     filled_asked =
-        AskedWhere-on (Unsettled g s) (LeadsOpen g m.place []) s.reader m.reader f.reader so.went.wire
-        so.went.along.in_order so.gave
+        AskedWhere-behind s.reader m.reader f.reader so.went.wire so.went.along.in_order so.gave (Unsettled g s)
+        (LeadsOpen g m.place [])
         (λ more is. (
           payload ++ [],
           LeadsOpen-behind g s.place m.place so.went.wire payload [] m.reader.block.bytes more

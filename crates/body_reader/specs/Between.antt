@@ -14,7 +14,7 @@ use Rattle.body_reader.specs.declared.coding.Look.TheVariants.{Payload, Passed}
 use Rattle.body_reader.specs.declared.error.BodyError.{BodyError}
 use Rattle.body_reader.specs.declared.error.BodyError.TheVariants.{Wrong, Truncated, Io}
 use Rattle.body_reader.specs.declared.progress.Progress.{Progress}
-use Rattle.body_reader.specs.Asking.{AskedWhere}
+use Rattle.buffer_redux.specs.Asking.{AskedWhere}
 use Rattle.body_reader.specs.Coding.{AskedFor, Grammar, IsDone, IsKnown, IsNextPayload, IsOpen, Leads, LeadsOpen, Looks, heeded}
 
 -- each read that was made gave bytes

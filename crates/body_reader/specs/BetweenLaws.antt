@@ -18,8 +18,9 @@ use Rattle.body_reader.specs.declared.coding.Look.{Look}
 use Rattle.body_reader.specs.declared.error.BodyError.{BodyError}
 use Rattle.body_reader.specs.declared.error.BodyError.TheVariants.{Wrong, Truncated, Io}
 use Rattle.body_reader.specs.declared.progress.Progress.{Progress}
-use Rattle.body_reader.specs.Asking.{AskedWhere}
-use Rattle.body_reader.specs.AskingLaws.{AskedOver-on, AskedWhere-of, AskedWhere-same}
+use Rattle.buffer_redux.specs.Asking.{AskedWhere}
+use Rattle.buffer_redux.specs.AskingLaws.{AskedWhere-of, AskedWhere-same}
+use Rattle.body_reader.specs.AskingLaws.{AskedOver-behind}
 use Rattle.body_reader.specs.Between.{AsksWithRoom, AsksOpen, EachGave, FaultedOnce, Passes, PassesMany, PassesOn, PassesOnce, Proceeds, KeepsBuffer, GaveNothingOnce, StopsFor, TakenThrough, TakesBytes, Tells, Way}
 use Rattle.body_reader.specs.Coding.{AskedFor, Grammar, IsDone, IsOpen, IsOpenBelow, LeadsOpen, heeded}
 use Rattle.body_reader.specs.CodingLaws.{AskedFor-behind, AskedFor-here, Leads-none, Leads-then}
@@ -310,9 +311,9 @@ module _ {S Q P W : Type 0} (remaining : S → Option (List ℕ)) (rules : ReadR
     asks_on (inl same) =
         AskedWhere-same (AskedFor g p.place room t.log.reads.offer) (unbuffered s) (unbuffered m) (unbuffered t) same
         (subst (λ l. AskedWhere (AskedFor g p.place room l.reads.offer) (unbuffered s) (unbuffered m)) (sym same) before.asked)
-    asks_on (inr over) = inr (AskedOver-on (AskedFor g p.place room m.log.reads.offer)
-        (AskedFor g p.place room t.log.reads.offer) (AskedFor g q.place room t.log.reads.offer) s m t before.wire
-        before.takes.along.in_order gave
+    asks_on (inr over) = inr (AskedOver-behind s m t before.wire before.takes.along.in_order gave
+        (AskedFor g p.place room m.log.reads.offer) (AskedFor g p.place room t.log.reads.offer)
+        (AskedFor g q.place room t.log.reads.offer)
         (λ more asked. AskedFor-behind g p.place q.place room t.log.reads.offer before.wire m.block.bytes more before.takes.leads
         asked) before.asked over)
 

@@ -14,7 +14,7 @@ use Rattle.body_reader.specs.declared.error.BodyError.TheVariants.{Io}
 use Rattle.body_reader.specs.declared.error.CollectError.{CollectError}
 use Rattle.body_reader.specs.declared.error.CollectError.TheVariants as collect
 use Rattle.body_reader.specs.declared.progress.Progress.{Progress}
-use Rattle.body_reader.specs.Asking.{AskedWhere}
+use Rattle.buffer_redux.specs.Asking.{AskedWhere}
 use Rattle.body_reader.specs.Between.{AllShown, AsksOpen, AsksWithRoom, BecomesIo, EachGave, FaultedOnce, GaveNothingOnce, HandsPiecewise, KeepsBuffer, KnowsAll, KnowsBehind, Passes, StopsFor, TakenThrough, Tells, handed_out}
 use Rattle.body_reader.specs.Coding.{Grammar, IsBody, IsKnown, IsOpen, Leads, LeadsOpen, heeded}
 

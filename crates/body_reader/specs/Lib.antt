@@ -4,7 +4,6 @@ pub mod Sized
 pub mod SizedLaws
 pub mod Until
 pub mod UntilLaws
-pub mod Asking
 pub mod Between
 pub mod AskingLaws
 pub mod BetweenLaws
