@@ -18,7 +18,7 @@ use Rattle.piece_filter.specs.PiecesLaws.{given_since, none_held}
 pub counts_asks : {T R D X A W E : Type 0} (remaining : R → Option (List ℕ)) (f : Piecewise T R D X A W E)
     → CountsAsks (piece_rules remaining f)
 counts_asks remaining f s t (inl same, grows) = inl same
-counts_asks remaining f s t (inr over, grows) = inr over.some
+counts_asks remaining f s t (inr over, grows) = inr over.1.some
 
 -- from empty buffers on
 module _ {T R D X A W E : Type 0} (remaining : R → Option (List ℕ)) (f : Piecewise T R D X A W E) (s t : T)
