@@ -62,8 +62,8 @@ Opens Such Lone exchanges more = (exchanges ≡ []) ⊎ FirstIs Such exchanges
     ⊎ ((x : Exchange) × (exchanges ≡ x ∷ []) × Lone x × (more ≡ false))
 
 -- its bytes are a piece with its payload, or a last one
-abbrev pub IsPiece : {W : Type 0} → Grammar W → Exchange → Type 0
-IsPiece g x = g.piece x.bytes x.payload ⊎ g.last x.bytes x.payload
+abbrev pub IsWholeExchange : {W : Type 0} → Grammar W → Exchange → Type 0
+IsWholeExchange g x = g.piece x.bytes x.payload ⊎ g.last x.bytes x.payload
 
 module _ {S D W I A T P : Type 0} (remaining : S → Option (List ℕ)) (tells : T → StreamLog) (trace : T → T → Type 0)
     (g : Grammar W) (item_of : List ℕ → I) (Answers : A → I → List ℕ → List ℕ → Bool → A → Type 0) where
@@ -105,7 +105,7 @@ module _ {S D W I A T P : Type 0} (remaining : S → Option (List ℕ)) (tells :
 
   -- just these pieces were taken, each was answered, and just the answers were written; the latest is first
   pub record Exchanged (s : Server S D A T P) (exchanges : List Exchange) (more : Bool) (t : Server S D A T P) : Type 0 where
-    pub pieces : All (IsPiece g) exchanges
+    pub pieces : All (IsWholeExchange g) exchanges
     pub taken : PiecesWent remaining g.most s.pieces (joined_parts (λ x. x.bytes) exchanges) t.pieces
     pub service : Converses item_of Answers s.service exchanges more t.service
     pub along : WritesAlong tells trace std_write_rules s.answers (joined_parts (λ x. x.reply) exchanges) t.answers

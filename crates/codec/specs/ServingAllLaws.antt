@@ -10,7 +10,7 @@ use Rattle.buffer_redux.specs.WritesAlongLaws.{FlushedAlong-all, WasFlushed-alon
 use Rattle.piece_reader.specs.Grammar.{Grammar}
 use Rattle.piece_reader.specs.NextPiece.{PiecesWent}
 use Rattle.piece_reader.specs.PiecesWentLaws.{PiecesWent-joins, PiecesWent-none}
-use Rattle.codec.specs.Serving.{Converses, Exchange, Exchanged, IsPiece, Opens, Server, ServingFails, joined_parts}
+use Rattle.codec.specs.Serving.{Converses, Exchange, Exchanged, IsWholeExchange, Opens, Server, ServingFails, joined_parts}
 use Rattle.codec.specs.ServingAll.{FailsBehind, StopsAll}
 use Rattle.codec.specs.declared.serving.ServeError.{ServeError}
 use Rattle.codec.specs.declared.serving.ServeError.TheVariants.{Read}
@@ -97,7 +97,7 @@ module _ {S D W I A T P : Type 0} (remaining : S → Option (List ℕ)) (tells :
   pub Exchanged-none : ((u : T) → trace u u) → (s : Server S D A T P)
       → Exchanged remaining tells trace g item_of Answers s [] true s
   Exchanged-none none s = record {
-    pieces = All-nil (IsPiece g);
+    pieces = All-nil (IsWholeExchange g);
     taken = PiecesWent-none remaining g.most s.pieces;
     service = (refl, refl);
     along = WritesAlong-none tells trace std_write_rules none s.answers;
@@ -109,7 +109,7 @@ module _ {S D W I A T P : Type 0} (remaining : S → Option (List ℕ)) (tells :
       → Exchanged remaining tells trace g item_of Answers m later more t
       → Exchanged remaining tells trace g item_of Answers s (later ++ earlier) more t
   Exchanged-joins joins s m t earlier later more a b = record {
-    pieces = All-append (IsPiece g) later earlier b.pieces a.pieces;
+    pieces = All-append (IsWholeExchange g) later earlier b.pieces a.pieces;
     taken = subst (λ l. PiecesWent remaining g.most s.pieces l t.pieces) (sym (joined_parts-joins (λ x. x.bytes) earlier later))
         (PiecesWent-joins remaining g.most s.pieces m.pieces t.pieces _ _ a.taken b.taken);
     service = Converses-joins item_of Answers s.service m.service t.service earlier later more a.service b.service;

@@ -17,7 +17,7 @@ use Rattle.piece_reader.specs.NextPiece.{NextAnswer, PiecesWent}
 use Rattle.piece_reader.specs.PiecesWentLaws.{PiecesWent-joins, PiecesWent-none}
 use Rattle.piece_reader.specs.PieceReader.{ReaderState}
 use Rattle.piece_reader.specs.StaysLeftLaws.{StaysLeft-went}
-use Rattle.codec.specs.Serving.{Converses, EndedBy, Exchange, Exchanged, FailedBy, Fetched, IsPiece, Server, Serves, ServesTurn, ServingEnds, ServingFails, Talked, joined_parts, server}
+use Rattle.codec.specs.Serving.{Converses, EndedBy, Exchange, Exchanged, FailedBy, Fetched, IsWholeExchange, Server, Serves, ServesTurn, ServingEnds, ServingFails, Talked, joined_parts, server}
 use Rattle.codec.specs.declared.serving.ServeError.{ServeError}
 use Rattle.codec.specs.declared.serving.ServeError.TheVariants.{Failed, Flush, Read, Write, Wrong}
 use Rattle.codec.specs.declared.serving.Served.{Served}
@@ -41,10 +41,10 @@ module _ {S D W I A T P : Type 0} (remaining : S → Option (List ℕ)) (tells :
     (s : Server S D A T P) where
   -- each was taken as a piece
   pub Talked-pieces : (exchanges : List Exchange) (more : Bool) (t : Server S D A T P)
-      → Talked remaining tells trace g item_of Answers s exchanges more t → All (IsPiece g) exchanges
-  Talked-pieces [] more t same = All-nil (IsPiece g)
+      → Talked remaining tells trace g item_of Answers s exchanges more t → All (IsWholeExchange g) exchanges
+  Talked-pieces [] more t same = All-nil (IsWholeExchange g)
   Talked-pieces (x ∷ earlier) more t (m, talked, took) =
-      All-cons (IsPiece g) x earlier (subst (λ l. g.piece l x.payload ⊎ g.last l x.payload) took.all
+      All-cons (IsWholeExchange g) x earlier (subst (λ l. g.piece l x.payload ⊎ g.last l x.payload) took.all
       (elim took.fetched.next.answers.1 [ inl is ↦ inl is.0 | inr is ↦ inr is.0 ])) (Talked-pieces earlier true m talked)
 
   module _ (none : (u : T) → trace u u) where
@@ -64,7 +64,7 @@ module _ {S D W I A T P : Type 0} (remaining : S → Option (List ℕ)) (tells :
           → Exchanged remaining tells trace g item_of Answers s exchanges more t
       Talked-exchanged [] more t (same, is) = subst (λ t. Exchanged remaining tells trace g item_of Answers s [] more t) same
           (record {
-            pieces = All-nil (IsPiece g);
+            pieces = All-nil (IsWholeExchange g);
             taken = PiecesWent-none remaining g.most s.pieces;
             service = (refl, is);
             along = WritesAlong-none tells trace std_write_rules none s.answers;
