@@ -5,9 +5,8 @@ use Rattle.std.proofs.lemmas.List.Folds.{concat-append}
 use Rattle.std.specs.Global.{Vec}
 use Rattle.buffer_redux.specs.ReaderLaws.{ReadsInOrder-fresh}
 use Rattle.buffer_redux.specs.WriterLaws.{WritesInOrder-fresh}
-use Rattle.chunked.specs.CodingLaws.{leads_of}
-use Rattle.chunked.specs.Place.{LeadsAlong}
-use Rattle.chunked.specs.PlaceLaws.{LeadsAlong-none}
+use Rattle.body_reader.specs.Coding.{Leads}
+use Rattle.body_reader.specs.CodingLaws.{Leads-none}
 use Rattle.chunked.specs.declared.place.Place.TheVariants.{Line}
 use Rattle.forward.specs.Forward.{ForwardAnswers, Forwarded, StopsBy}
 use Rattle.forward.specs.declared.error.Cause.{Cause}
@@ -55,9 +54,9 @@ module _ {R W : Type 0} (remaining : R → Option (List ℕ)) (limits : Limits) 
           payload = moves.hands.payload;
           place = t.source.place;
           part = record {
-            leads = subst (λ c. LeadsAlong c.0 Line t.source.taken moves.hands.payload t.source.place) went.coding
-                (subst (λ l. LeadsAlong t.source.coding.0 Line t.source.taken l t.source.place) went.handed
-                (leads_of t.source.coding.0 Line t.source.taken (handed_of t.source) t.source.place ready.whole.leads));
+            leads = subst (λ c. Leads (chunked c.0) Line t.source.taken moves.hands.payload t.source.place []) went.coding
+                (subst (λ l. Leads (chunked t.source.coding.0) Line t.source.taken l t.source.place []) went.handed
+                ready.whole.leads);
             is_place = ready.whole.place;
           };
           rest = t.source.reader.block.bytes;
@@ -172,7 +171,7 @@ refused limits read read' written written' e p = record {
       wire = [];
       payload = [];
       place = Line;
-      part = record { leads = LeadsAlong-none limits Line; is_place = tt };
+      part = record { leads = Leads-none (chunked limits) Line []; is_place = tt };
       rest = [];
       given = ap (λ l. l.reads.given) p.read_same ∙ sym (append-nil read.reads.given);
       unsent = [];

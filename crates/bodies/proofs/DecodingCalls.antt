@@ -10,13 +10,12 @@ use Rattle.body_reader.specs.AskingLaws.{AskedWhere-of, AskedWhere-on}
 use Rattle.body_reader.specs.Between.{EachGave}
 use Rattle.body_reader.specs.BodyReader.{Breaks, EndsEarly}
 use Rattle.body_reader.specs.BodyReaderLaws.{BodyWent-joins}
-use Rattle.body_reader.specs.Coding.{AskedFor, IsOpen, LeadsOpen}
+use Rattle.body_reader.specs.Coding.{AskedFor, IsOpen, Leads, LeadsOpen}
+use Rattle.body_reader.specs.CodingLaws.{Leads-joins, Leads-more}
 use Rattle.body_reader.specs.declared.error.BodyError.{BodyError}
 use Rattle.body_reader.specs.declared.error.BodyError.TheVariants as body
 use Rattle.chunked.specs.Coding.{IsWrongNext}
-use Rattle.chunked.specs.CodingLaws.{breaks_at, leads_of}
-use Rattle.chunked.specs.Place.{LeadsAlong}
-use Rattle.chunked.specs.PlaceLaws.{LeadsAlong-joins}
+use Rattle.chunked.specs.CodingLaws.{breaks_at}
 use Rattle.chunked.specs.declared.error.Malformed.{Malformed}
 use Rattle.chunked.specs.declared.place.Place.TheVariants.{Line}
 use Rattle.forward.specs.declared.error.AskError.{AskError}
@@ -44,10 +43,10 @@ due_on d is bytes on =
     record {
       place = on.place;
       part = record {
-        leads = subst (λ l. LeadsAlong limits Line (d.taken ++ bytes) l on.place) (append-nil (handed_of d))
-            (LeadsAlong-joins limits Line d.place on.place d.taken bytes (handed_of d) []
-            (leads_of limits Line d.taken (handed_of d) d.place is.leads)
-            (subst (λ l. LeadsAlong limits d.place l [] on.place) all (leads_of limits d.place on.wire [] on.place on.leads)));
+        leads = subst (λ l. Leads (chunked limits) Line (d.taken ++ bytes) l on.place []) (append-nil (handed_of d))
+            (Leads-joins (chunked limits) Line d.place on.place d.taken bytes (handed_of d) [] []
+            (Leads-more (chunked limits) Line d.place d.taken (handed_of d) [] (bytes ++ []) is.leads)
+            (subst (λ l. Leads (chunked limits) d.place l [] on.place []) all on.leads));
         is_place = on.is_place;
       };
     }
@@ -330,7 +329,7 @@ module _ {R W : Type 0} (remaining : R → Option (List ℕ)) (s : Decoding R W)
           (subst (IsDue m.coding.0 m.taken) (first.handed ∙ append-nil (handed_of s.source)) (record {
             place = m.place;
             part = record {
-              leads = leads_of m.coding.0 Line m.taken (handed_of m) m.place (here (Ok k) p).leads;
+              leads = (here (Ok k) p).leads;
               is_place = p.whole.place;
             };
           })))

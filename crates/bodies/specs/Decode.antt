@@ -1,15 +1,16 @@
 -- What a run of `decode` moves from a reader to a writer.
 use Rattle.std.specs.Prelude.{◌≡◌, ℕ, ◌-◌, ◌^◌, ◌<◌, ◌⊎◌, List, [], ◌++◌, length, min, Result, Ok, Err}
-use Rattle.chunked.specs.Place.{IsPlace, LeadsAlong}
+use Rattle.body_reader.specs.Coding.{Leads}
+use Rattle.chunked.specs.Place.{IsPlace}
 use Rattle.chunked.specs.declared.place.Place.{Place}
 use Rattle.chunked.specs.declared.place.Place.TheVariants.{Line}
-use Rattle.bodies.specs.Words.{StreamLog, IsBodyOfChunks, BreaksAt, Limits, RunError, HoldsNothingBack, EndsOnce, MetNoFault, ReadFailed, WriterFailed, OverCount, RefusedBeforeCalls, GaveNothing, ReceivedFlushed}
+use Rattle.bodies.specs.Words.{StreamLog, IsBodyOfChunks, BreaksAt, chunked, Limits, RunError, HoldsNothingBack, EndsOnce, MetNoFault, ReadFailed, WriterFailed, OverCount, RefusedBeforeCalls, GaveNothing, ReceivedFlushed}
 use Rattle.bodies.specs.declared.error.RunError.TheVariants.{NotChunked, Truncated, Behind, Read, Write, Io}
 use Rattle.programs.specs.Flushes.{FlushesSend}
 
 -- these bytes lead from before a body to this place in it, and this is the payload in them
 pub record IsBodyPart (limits : Limits) (wire payload : List ℕ) (place : Place) : Type 0 where
-  pub leads : LeadsAlong limits Line wire payload place
+  pub leads : Leads (chunked limits) Line wire payload place []
   pub is_place : IsPlace place
 
 -- what is due of these bytes: the payload in them

@@ -1,18 +1,17 @@
 -- What stands plainly between two payloads leads from the one to the other.
-use Rattle.std.proofs.Common.{◌≡◌, ℕ, zero, suc, ◌+◌, ◌*◌, ◌-◌, ◌<◌, ◌≤◌, ◌⊎◌, ◌^◌, List, [], ◌∷◌, length, take, slice_index, sym, subst, arith, inl, inr, refl}
+use Rattle.std.proofs.Common.{◌≡◌, ℕ, zero, suc, ◌+◌, ◌*◌, ◌-◌, ◌<◌, ◌≤◌, ◌⊎◌, ◌^◌, List, [], ◌∷◌, ◌++◌, length, take, slice_index, ◌∙◌, ap, sym, subst, arith, inl, inr, refl, length-append}
 use Rattle.std.proofs.Math.Nat.{pow-le-pow_right}
 use Rattle.std.proofs.lemmas.Grind.{pow_more}
 use Rattle.std.proofs.lemmas.List.{take_more}
 use Rattle.std.specs.Char.{digit_value}
-use Rattle.chunked.specs.declared.extension.Within.TheVariants.{Behind}
+use Rattle.body_reader.specs.CodingLaws.{Leads-joins, Leads-more, Leads-none}
+use Rattle.chunked.specs.Coding.{chunked}
 use Rattle.chunked.specs.declared.limits.Limits.{Limits}
 use Rattle.chunked.specs.declared.place.Place.{Place}
 use Rattle.chunked.specs.declared.place.Place.TheVariants.{Line, Size, SizeFeed, Data}
-use Rattle.chunked.specs.CodingLaws.{within_none, within_on}
-use Rattle.chunked.specs.Place.{Comes, CompletesData, IsDataOrDone, IsPlace, PassesAlong}
-use Rattle.chunked.specs.PlaceLaws.{PassesAlong-joins, PassesAlong-none}
-use Rattle.chunked.proofs.Extending.{extension_return}
-use Rattle.chunked.proofs.Passing.{line_digit, quiet, size_as_extension, size_digit}
+use Rattle.chunked.specs.Place.{IsPlace}
+use Rattle.chunked.specs.StepLaws.{passes}
+use Rattle.chunked.specs.Steps.{Comes, LeadsTo, behind_size}
 
 -- so many digits write a number that isn't too large
 pub few_digits : (size k : ℕ) → size < 16 ^ k → k ≤ 14 → size < 2 ^ 58
@@ -26,19 +25,23 @@ more_digits size digit at begins order small few =
 
 module _ (limits : Limits) where
   pub comes_none : (p : Place) → IsPlace p → Comes limits p [] p
-  comes_none p place = record { passes = PassesAlong-none limits p; place = place; short = within_none limits p }
+  comes_none p place =
+      record { passes = record { leads = Leads-none (chunked limits) p []; few = omega arith }; place = place }
 
   -- a byte more
   pub comes_more : (p q r : Place) (shown : List ℕ) (at b : ℕ) → at < length shown → slice_index shown at ≡ b
-      → Comes limits p (take at shown) q → ¬ IsDataOrDone q → PassesAlong limits q (b ∷ []) r → IsPlace r
-      → Comes limits p (take (at + 1) shown) r
-  comes_more p q r shown at b held is comes goes_on passes place =
-      let byte = slice_index shown at in
-      let step : PassesAlong limits q (byte ∷ []) r = subst (λ x. PassesAlong limits q (x ∷ []) r) (sym is) passes in
-      subst (λ l. Comes limits p l r) (sym (take_more shown at 0 held)) (record {
-        passes = PassesAlong-joins limits p q r (take at shown) (byte ∷ []) comes.passes step;
+      → Comes limits p (take at shown) q → LeadsTo limits q b r → IsPlace r → Comes limits p (take (at + 1) shown) r
+  comes_more p q r shown at b held is comes leads place =
+      let wire = take at shown in
+      let one = passes limits q b r leads in
+      let longer : wire ++ b ∷ [] ≡ take (at + 1) shown = ap (λ x. wire ++ x ∷ []) (sym is) ∙ sym (take_more shown at 0 held) in
+      subst (λ l. Comes limits p l r) longer (record {
+        passes = record {
+          leads = Leads-joins (chunked limits) p q r wire (b ∷ []) [] [] []
+              (Leads-more (chunked limits) p q wire [] [] (b ∷ []) comes.passes.leads) one.leads;
+          few = omega (arith, comes.passes.few, one.few, length-append wire (b ∷ []));
+        };
         place = place;
-        short = within_on limits p q (take at shown) byte comes.passes.leads goes_on comes.short;
       })
 
   -- the digits of a size so far: none, or they write this number
@@ -51,33 +54,21 @@ module _ (limits : Limits) where
       → digit_value (slice_index shown at) < 16 → digit ≡ digit_value (slice_index shown at)
       → Comes limits p (take (at + 1) shown) (Size (size * 16 + digit) (limits.line - (at + 1 - begins)))
   reads_digit p shown begins at size digit first order (inl (here, none)) held room small digits is =
-      let byte = slice_index shown at in
-      let left : limits.line - 1 ≡ limits.line - (at + 1 - begins) = omega (arith, here) in
-      let value : digit_value byte ≡ size * 16 + digit = omega (arith, none, is) in
-      subst (λ n. Comes limits p (take (at + 1) shown) (Size (size * 16 + digit) n)) left
-      (subst (λ n. Comes limits p (take (at + 1) shown) (Size n (limits.line - 1))) value
-      (comes_more p Line (Size (digit_value byte) (limits.line - 1)) shown at byte held refl
-      (subst (λ n. Comes limits p (take n shown) Line) (sym here) first) (λ settled. settled)
-      (line_digit limits byte digits) (omega (arith, digits))))
+      let left : limits.line - (at + 1 - begins) ≡ limits.line - 1 = omega (arith, here) in
+      let value : size * 16 + digit ≡ digit_value (slice_index shown at) = omega (arith, none, is) in
+      comes_more p Line (Size (size * 16 + digit) (limits.line - (at + 1 - begins))) shown at (slice_index shown at) held refl
+      (subst (λ n. Comes limits p (take n shown) Line) (sym here) first) (digits, rw (left, value)) (omega (arith, value, digits))
   reads_digit p shown begins at size digit first order (inr comes) held room small digits is =
-      let byte = slice_index shown at in
-      let left : limits.line - (at - begins) - 1 ≡ limits.line - (at + 1 - begins) = omega (arith, order) in
-      subst (λ n. Comes limits p (take (at + 1) shown) (Size (size * 16 + digit) n)) left
-      (subst (λ n. Comes limits p (take (at + 1) shown) (Size (size * 16 + n) (limits.line - (at - begins) - 1))) (sym is)
-      (comes_more p (Size size (limits.line - (at - begins)))
-      (Size (size * 16 + digit_value byte) (limits.line - (at - begins) - 1))
-      shown at byte held refl comes (λ settled. settled)
-      (size_digit limits byte size (limits.line - (at - begins)) digits (omega (arith, room)))
-      (omega (arith, small, digits))))
+      let left : limits.line - (at + 1 - begins) ≡ limits.line - (at - begins) - 1 = omega (arith, order) in
+      let larger : size * 16 + digit_value (slice_index shown at) < 2 ^ 62 = omega (arith, small, digits) in
+      comes_more p (Size size (limits.line - (at - begins))) (Size (size * 16 + digit) (limits.line - (at + 1 - begins)))
+      shown at (slice_index shown at) held refl comes (inl (digits, omega (arith, room), larger, rw (left, is)))
+      (omega (arith, larger, is))
 
   -- the end of the line
-  feed_data : (size : ℕ) → size < 2 ^ 62 → 0 < size → PassesAlong limits (SizeFeed size) (10 ∷ []) (Data size)
-  feed_data zero small some = absurd (omega (arith, some))
-  feed_data (suc n) small some = record {
-    leads = quiet limits (SizeFeed (suc n)) (Data (suc n)) (10 ∷ []) (λ rest payload c. ((rest, refl, c), small))
-        (λ rest payload c. let same : c.0.0 ≡ rest = cc in subst (λ l. CompletesData limits (suc n) l payload) same c.0.2);
-    few = omega arith;
-  }
+  behind_some : (size : ℕ) → 0 < size → Data size ≡ behind_size limits size
+  behind_some zero some = absurd (omega (arith, some))
+  behind_some (suc n) some = refl
 
   pub frames : (p : Place) (shown : List ℕ) (at size room : ℕ) → 0 < size → Comes limits p (take at shown) (Size size room)
       → at + 2 ≤ length shown → slice_index shown at ≡ 13 → slice_index shown (at + 1) ≡ 10
@@ -85,9 +76,8 @@ module _ (limits : Limits) where
   frames p shown at size room some comes held return feed =
       let small : size < 2 ^ 62 = comes.place in
       let returned = comes_more p (Size size room) (SizeFeed size) shown at 13 (omega (arith, held)) return comes
-      (λ settled. settled) (size_as_extension limits 13 size room (SizeFeed size) (λ digit. omega (arith, digit))
-      (extension_return limits Behind 13 size room (0, refl) refl)) small in
+      (inr ((λ digit. omega (arith, digit)), small, inl (refl, (0, refl), refl))) small in
       let two : at + 1 + 1 ≡ at + 2 = omega arith in
       subst (λ n. Comes limits p (take n shown) (Data size)) two
-      (comes_more p (SizeFeed size) (Data size) shown (at + 1) 10 (omega (arith, held)) feed returned (λ settled. settled)
-      (feed_data size small some) tt)
+      (comes_more p (SizeFeed size) (Data size) shown (at + 1) 10 (omega (arith, held)) feed returned
+      (refl, small, behind_some size some) tt)

@@ -2,9 +2,6 @@ mod Digits
 pub mod Writing
 mod Going
 pub mod Least
-pub mod Extending
-pub mod Passing
-pub mod PassingOn
 pub mod Framing
 mod Written
 mod Fields

@@ -1,185 +1,89 @@
 -- From each place a body can be completed.
-use Rattle.std.proofs.Common.{ℕ, zero, suc, ◌-◌, ◌<◌, List, [], ◌∷◌, ◌++◌, ◌≡◌, ◌⊎◌, length, replicate, arith, inl, inr, refl}
-use Rattle.std.proofs.lemmas.List.{length-replicate}
+use Rattle.std.proofs.Common.{ℕ, zero, suc, ◌-◌, ◌^◌, ◌<◌, List, [], ◌∷◌, ◌++◌, ◌≡◌, ◌⊎◌, length, arith, inl, inr, refl}
 use Rattle.chunked.specs.declared.limits.Limits.{Limits}
 use Rattle.chunked.specs.declared.place.Place.{Place}
 use Rattle.chunked.specs.declared.place.Place.TheVariants.{Line, Size, Extension, SizeFeed, Data, DataFeed, Fields, FieldName, FieldValue, FieldFeed, LastFeed, Done}
-use Rattle.chunked.specs.Body.{line_end, line_room, IsBodyOfChunks, IsTrailers}
-use Rattle.chunked.specs.ChunkLaws.{zero_line}
-use Rattle.chunked.specs.FieldLaws.{IsField-valued}
-use Rattle.chunked.specs.Place.{BehindSize, Completes, CompletesData, IsPlace}
-
-module _ (limits : Limits) where
-  no_trailers : (room : ℕ) → IsTrailers room (line_end [])
-  no_trailers room = record { fields = []; equal = refl; lines = tt; few = omega arith }
-
-  least_body : IsBodyOfChunks limits (48 ∷ line_end (line_end [])) []
-  least_body = record {
-    payloads = [];
-    chunks = (
-      line_end [],
-      record { text = 48 ∷ []; size_line = zero_line (line_room limits) (omega arith); equal = refl },
-      no_trailers limits.trailers,
-    );
-    equal = refl;
-  }
+use Rattle.chunked.specs.Body.{line_end}
+use Rattle.chunked.specs.LineLaws.{line_ends}
+use Rattle.chunked.specs.Place.{BehindSize, Completes, IsPlace}
+use Rattle.chunked.specs.Steps.{LeadsTo, behind_size}
+use Rattle.chunked.specs.StepLaws.{behind_on, step_on}
+use Rattle.chunked.specs.Within.{CompletesExtension}
 
 -- with payload of such a byte
 module _ (limits : Limits) (filler : ℕ) where
-  -- any payload of this length, and then the least body
-  data_some : (left : ℕ)
-      → CompletesData limits left (replicate left filler ++ line_end (48 ∷ line_end (line_end []))) (replicate left filler ++ [])
-  data_some left = record {
-    front = replicate left filler;
-    later = [];
-    behind = 48 ∷ line_end (line_end []);
-    many = length-replicate left filler;
-    equal = refl;
-    both = refl;
-    body = least_body limits;
-  }
-
-  -- no payload, or one that begins with that byte
-  abbrev Plain : List ℕ → Type 0
-  Plain payload = (payload ≡ []) ⊎ ((more : List ℕ) × (payload ≡ filler ∷ more))
-
-  filled : (left : ℕ) → Plain (replicate left filler ++ [])
-  filled zero = inl refl
-  filled (suc n) = inr (replicate n filler ++ [], refl)
-
-  -- bytes with a payload that complete the body from here
+  -- bytes with a payload that complete the body from here; and that is none, or begins with that byte
   pub record Completed (p : Place) : Type 0 where
     pub rest : List ℕ
     pub payload : List ℕ
     pub completes : Completes limits p rest payload
-    pub plain : Plain payload
+    pub plain : (payload ≡ []) ⊎ ((more : List ℕ) × (payload ≡ filler ∷ more))
 
-  pub record CompletedSize (size : ℕ) : Type 0 where
-    pub rest : List ℕ
-    pub payload : List ℕ
-    pub goes_on : BehindSize limits size rest payload
-    pub plain : Plain payload
+  -- from where a byte leads to such a place
+  before : (p : Place) (b : ℕ) (q : Place) → LeadsTo limits p b q → Completed q → Completed p
+  before p b q s c = record {
+    rest = b ∷ c.rest;
+    payload = c.payload;
+    completes = step_on limits p b q c.rest c.payload s c.completes;
+    plain = c.plain;
+  }
 
-  size_some : (size : ℕ) → CompletedSize size
-  size_some zero = record {
-    rest = line_end [];
-    payload = [];
-    goes_on = (refl, no_trailers limits limits.trailers);
-    plain = inl refl;
+  last : Completed LastFeed
+  last = record { rest = 10 ∷ []; payload = []; completes = (refl, (refl, refl)); plain = inl refl }
+
+  fields : (room : ℕ) → Completed (Fields room)
+  fields room = before (Fields room) 13 LastFeed (inl (refl, refl)) last
+
+  value : (room : ℕ) → Completed (FieldValue room)
+  value room = before (FieldValue room) 13 (FieldFeed room) (inl (refl, refl))
+      (before (FieldFeed room) 10 (Fields room) (refl, refl) (fields room))
+
+  sized : (size : ℕ) → size < 2 ^ 62 → Completed (behind_size limits size) → Completed (SizeFeed size)
+  sized size small c = before (SizeFeed size) 10 (behind_size limits size) (refl, small, refl) c
+
+  behind_digits : (number room : ℕ) → number < 2 ^ 62 → Completed (SizeFeed number) → Completed (Size number room)
+  behind_digits number room small c = before (Size number room) 13 (SizeFeed number)
+      (inr ((λ digit. omega (arith, digit)), small, inl (refl, (0, refl), refl))) c
+
+  line : Completed Line
+  line = before Line 48 (Size 0 (limits.line - 1)) (omega arith, refl)
+      (behind_digits 0 (limits.line - 1) (omega arith) (sized 0 (omega arith) (fields limits.trailers)))
+
+  data_feed : Completed DataFeed
+  data_feed = before DataFeed 10 Line (refl, refl) line
+
+  left_of : (left : ℕ) → Completed (Data left)
+  left_of zero = before (Data zero) 13 DataFeed (refl, refl, refl) data_feed
+  left_of (suc left) = let c = left_of left in record {
+    rest = filler ∷ c.rest;
+    payload = filler ∷ c.payload;
+    completes = (c.payload, refl, c.completes);
+    plain = inr (c.payload, refl);
   }
-  size_some (suc n) = record {
-    rest = replicate (suc n) filler ++ line_end (48 ∷ line_end (line_end []));
-    payload = replicate (suc n) filler ++ [];
-    goes_on = data_some (suc n);
-    plain = filled (suc n);
-  }
+
+  behind : (size : ℕ) → Completed (behind_size limits size)
+  behind zero = fields limits.trailers
+  behind (suc n) = left_of (suc n)
 
   pub Completes-some : (p : Place) → IsPlace p → Completed p
-  Completes-some Line is = record {
-    rest = 48 ∷ line_end (line_end []);
-    payload = [];
-    completes = least_body limits;
-    plain = inl refl;
-  }
-  Completes-some (Size number room) is = let goes = size_some number in record {
-    rest = line_end goes.rest;
-    payload = goes.payload;
-    completes = record {
-      digits = [];
-      extension = [];
-      size = number;
-      behind = goes.rest;
-      equal = refl;
-      all = tt;
-      value = refl;
-      small = is;
-      follows = (0, refl);
-      fits = omega arith;
-      goes_on = goes.goes_on;
-    };
-    plain = goes.plain;
-  }
-  Completes-some (Extension within size room) is = let goes = size_some size in record {
-    rest = is.1.0 ++ line_end goes.rest;
-    payload = goes.payload;
+  Completes-some Line is = line
+  Completes-some (Size number room) is = behind_digits number room is (sized number is (behind number))
+  Completes-some (Extension within size room) is = let c = behind size in record {
+    rest = is.1.0 ++ line_end c.rest;
+    payload = c.payload;
     completes = (
-      record {
-        text = is.1.0;
-        behind = goes.rest;
-        left = room - length is.1.0;
-        equal = refl;
-        is_rest = is.1.1;
-        fits = omega (arith, is.1.2);
-        goes_on = goes.goes_on;
-      },
+      line_ends (CompletesExtension within) (λ left rest. BehindSize limits size rest c.payload) is.1.0 c.rest room
+          (room - length is.1.0) is.1.1 (omega (arith, is.1.2)) (behind_on limits size c.rest c.payload c.completes),
       is.0,
     );
-    plain = goes.plain;
+    plain = c.plain;
   }
-  Completes-some (SizeFeed size) is = let goes = size_some size in record {
-    rest = 10 ∷ goes.rest;
-    payload = goes.payload;
-    completes = ((goes.rest, refl, goes.goes_on), is);
-    plain = goes.plain;
-  }
-  Completes-some (Data left) is = record {
-    rest = replicate left filler ++ line_end (48 ∷ line_end (line_end []));
-    payload = replicate left filler ++ [];
-    completes = data_some left;
-    plain = filled left;
-  }
-  Completes-some DataFeed is = record {
-    rest = 10 ∷ (48 ∷ line_end (line_end []));
-    payload = [];
-    completes = (48 ∷ line_end (line_end []), refl, least_body limits);
-    plain = inl refl;
-  }
-  Completes-some (Fields room) is = record {
-    rest = line_end [];
-    payload = [];
-    completes = (refl, no_trailers limits room);
-    plain = inl refl;
-  }
-  Completes-some (FieldName room) is = record {
-    rest = 58 ∷ line_end (line_end []);
-    payload = [];
-    completes = (
-      refl,
-      record {
-        text = 58 ∷ [];
-        behind = line_end [];
-        left = room - 1;
-        equal = refl;
-        is_rest = IsField-valued 97 [] (inl refl) tt;
-        fits = omega (arith, is);
-        goes_on = no_trailers limits (room - 1);
-      },
-    );
-    plain = inl refl;
-  }
-  Completes-some (FieldValue room) is = record {
-    rest = line_end (line_end []);
-    payload = [];
-    completes = (
-      refl,
-      record {
-        text = [];
-        behind = line_end [];
-        left = room;
-        equal = refl;
-        is_rest = IsField-valued 97 [] (inl refl) tt;
-        fits = omega arith;
-        goes_on = no_trailers limits room;
-      },
-    );
-    plain = inl refl;
-  }
-  Completes-some (FieldFeed room) is =
-      record {
-        rest = 10 ∷ line_end [];
-        payload = [];
-        completes = (refl, (line_end [], refl, no_trailers limits room));
-        plain = inl refl;
-      }
-  Completes-some LastFeed is = record { rest = 10 ∷ []; payload = []; completes = (refl, refl); plain = inl refl }
+  Completes-some (SizeFeed size) is = sized size is (behind size)
+  Completes-some (Data left) is = left_of left
+  Completes-some DataFeed is = data_feed
+  Completes-some (Fields room) is = fields room
+  Completes-some (FieldName room) is = before (FieldName room) 58 (FieldValue (room - 1)) (inl (refl, is, refl)) (value (room - 1))
+  Completes-some (FieldValue room) is = value room
+  Completes-some (FieldFeed room) is = before (FieldFeed room) 10 (Fields room) (refl, refl) (fields room)
+  Completes-some LastFeed is = last
   Completes-some Done is = record { rest = []; payload = []; completes = (refl, refl); plain = inl refl }

@@ -1,47 +1,31 @@
 -- Laws of the chunked coding.
-use Rattle.std.proofs.Common.{◌≡◌, ◌≢◌, ℕ, zero, suc, ◌+◌, ◌<◌, ◌≤◌, List, [], ◌∷◌, ◌++◌, length, replicate, take, drop, slice_index, Some, IfSome, sym, ap, subst, ◌∙◌, arith, inl, inr, refl, append-nil, length-append}
+use Rattle.std.proofs.Common.{◌≡◌, ◌≢◌, ℕ, zero, suc, ◌+◌, ◌-◌, ◌<◌, ◌≤◌, List, [], ◌∷◌, ◌++◌, length, replicate, take, drop, slice_index, Some, IfSome, sym, ap, subst, ◌∙◌, arith, inl, inr, refl, append-nil, length-append}
 use Rattle.std.proofs.lemmas.List.{drop_more, length-replicate, nil_from_length}
 use Rattle.body_reader.specs.declared.Look.TheVariants as look
-use Rattle.body_reader.specs.BodyReader.{BodyState, IsBodyReader, handed_of}
+use Rattle.body_reader.specs.BodyReader.{BodyState, IsBodyReader}
 use Rattle.body_reader.specs.Coding as body
-use Rattle.body_reader.specs.CodingLaws.{IsOpenBelow-one, nothing_behind, overlaps}
+use Rattle.body_reader.specs.CodingLaws.{IsOpenBelow-one}
 use Rattle.chunked.specs.declared.coding.Chunked.{Chunked}
 use Rattle.chunked.specs.declared.error.Malformed.{Malformed}
-use Rattle.chunked.specs.declared.error.Malformed.TheVariants.{ChunkTooLong}
 use Rattle.chunked.specs.declared.limits.Limits.{Limits}
 use Rattle.chunked.specs.declared.place.Place.{Place}
-use Rattle.chunked.specs.declared.place.Place.TheVariants.{Line, Data, Done}
+use Rattle.chunked.specs.declared.place.Place.TheVariants.{Data, Done}
 use Rattle.chunked.specs.declared.step.Reached.{Reached}
 use Rattle.chunked.specs.Body.{line_end}
 use Rattle.chunked.specs.AliveLaws.{Completes-some}
 use Rattle.chunked.specs.BodyLaws.{IsBodyOfChunks-same}
 use Rattle.chunked.specs.Coding.{BreaksAt, IsWrongNext, chunked, chunk_left}
-use Rattle.chunked.specs.Place.{Advances, Comes, Completes, IsDataOrDone, IsPlace, IsWrong, LeadsAlong, Within}
-use Rattle.chunked.specs.PlaceLaws.{Completes-nothing, IsWrong-done}
-use Rattle.chunked.specs.NamesLaws.{one_name}
-use Rattle.chunked.specs.WrongLaws.{IsWrong-none}
+use Rattle.chunked.specs.LineLaws.{data_parts}
+use Rattle.chunked.specs.Place.{Completes, CompletesData, IsDataOrDone, IsPlace, IsWrong}
+use Rattle.chunked.specs.PlaceLaws.{Completes-nothing}
+use Rattle.chunked.specs.StepLaws.{IsWrong-none, one_name}
+use Rattle.chunked.specs.Steps.{Advances, Comes}
+
+-- where nothing is heeded of what follows, whatever does goes on so
+pub follows : (rest : List ℕ) → body.Agree [] rest
+follows rest = (rest, [], sym (append-nil rest))
 
 module _ (limits : Limits) where
-  -- bytes that lead on, and don't go past the end, do so whatever follows
-  pub leads_on : (p : Place) (wire handed : List ℕ) (q : Place) (follow : List ℕ) → LeadsAlong limits p wire handed q
-      → Within limits p wire → body.Leads (chunked limits) p wire handed q follow
-  leads_on p wire handed q follow leads within = record {
-    onward = λ rest payload agree c. leads.onward rest payload c;
-    back = λ rest whole agree c. leads.back rest whole c;
-    within = within;
-  }
-
-  -- where nothing is heeded of what follows, whatever does goes on so
-  pub follows : (rest : List ℕ) → body.Agree [] rest
-  follows rest = (rest, [], sym (append-nil rest))
-
-  pub leads_of : (p : Place) (wire handed : List ℕ) (q : Place) → body.Leads (chunked limits) p wire handed q []
-      → LeadsAlong limits p wire handed q
-  leads_of p wire handed q leads = record {
-    onward = λ rest payload c. leads.onward rest payload (follows rest) c;
-    back = λ rest whole c. leads.back rest whole (follows rest) c;
-  }
-
   nothing : (p : Place) (payload : List ℕ) → Completes limits p [] payload → payload ≡ []
   nothing p payload c =
       (subst (λ x. Completes limits x [] payload) (Completes-nothing limits p payload c) c).0
@@ -50,7 +34,7 @@ module _ (limits : Limits) where
   never : (p : Place) (byte : ℕ) (why : Malformed) (rest payload later x y : List ℕ) → IsWrong limits p byte why
       → Completes limits p rest payload → ¬ ((byte ∷ later) ++ x ≡ rest ++ y)
   never p byte why [] payload later x y wrong c same =
-      IsWrong-done limits byte why (subst (λ q. IsWrong limits q byte why) (Completes-nothing limits p payload c) wrong)
+      subst (λ q. IsWrong limits q byte why) (Completes-nothing limits p payload c) wrong
   never p byte why (b ∷ rest) payload later x y wrong c same =
       let head : b ≡ byte = cc in
       IsWrong-none limits p byte why rest payload wrong (subst (λ z. Completes limits p (z ∷ rest) payload) head c)
@@ -85,7 +69,7 @@ module _ (limits : Limits) where
     reason = λ p shown why other is wrong so.
         let same : so.0 ∷ so.1 ≡ wrong.0 ∷ wrong.1 = sym so.2 ∙ wrong.2 in
         let head : so.0 ≡ wrong.0 = cc in
-        one_name limits wrong.0 p why other wrong.3 (subst (λ b. IsWrong limits p b other) head so.3);
+        one_name limits p wrong.0 why other wrong.3 (subst (λ b. IsWrong limits p b other) head so.3);
     stays = λ p shown more why is wrong. (wrong.0, wrong.1 ++ more, ap (λ l. l ++ more) wrong.2, wrong.3);
     sure = λ p n is c. no_more p n c;
     one = λ a b x y xs ys p q same. let found = IsBodyOfChunks-same limits limits a b x y xs ys p q same in (found.0, found.1);
@@ -97,42 +81,39 @@ module _ (limits : Limits) where
   pub data_open : (left : ℕ) → ¬ (Completes limits (Data left) [] [])
   data_open left = not_done (Data left) (λ is. let odd : Data left ≡ Done = is in cc)
 
-  -- no byte goes past the end, nor a byte in a place where the body goes on
-  pub within_none : (p : Place) → Within limits p []
-  within_none p [] payload past c same = sym same
-  within_none p (x ∷ rest) payload past c same = cc
+  -- the bytes of a chunk lead on in it
+  data_on : (bytes : List ℕ) (left n : ℕ) (rest payload : List ℕ) → length bytes + n ≡ left
+      → CompletesData limits n rest payload → CompletesData limits left (bytes ++ rest) (bytes ++ payload)
+  data_on [] left n rest payload sum c = let all : n ≡ left = omega (arith, sum) in rw all at c
+  data_on (x ∷ bytes) zero n rest payload sum c = absurd (omega (arith, sum))
+  data_on (x ∷ bytes) (suc left) n rest payload sum c =
+      (bytes ++ payload, refl, data_on bytes left n rest payload (omega (arith, sum)) c)
 
-  one_more : (q : Place) (b : ℕ) (m payload past : List ℕ) → ¬ IsDataOrDone q → Completes limits q m payload
-      → b ∷ [] ≡ m ++ past → past ≡ []
-  one_more q b [] payload past goes_on c same =
-      absurd (goes_on (subst IsDataOrDone (sym (Completes-nothing limits q payload c)) tt))
-  one_more q b (x ∷ m) payload past goes_on c same = nothing_behind m past (let rest : m ++ past ≡ [] = cc in rest)
+  data_back : (bytes : List ℕ) (left n : ℕ) (rest whole : List ℕ) → length bytes + n ≡ left
+      → CompletesData limits left (bytes ++ rest) whole
+      → (payload : List ℕ) × (whole ≡ bytes ++ payload) × CompletesData limits n rest payload
+  data_back [] left n rest whole sum c = let all : n ≡ left = omega (arith, sum) in (whole, refl, rw all c)
+  data_back (x ∷ bytes) zero n rest whole sum c = absurd (omega (arith, sum))
+  data_back (x ∷ bytes) (suc left) n rest whole sum (later, same, c) =
+      let b = data_back bytes left n rest later (omega (arith, sum)) c in (b.0, same ∙ ap (λ l. x ∷ l) b.1, b.2)
 
-  pub within_on : (p q : Place) (a : List ℕ) (b : ℕ) → LeadsAlong limits p a [] q → ¬ IsDataOrDone q → Within limits p a
-      → Within limits p (a ++ b ∷ [])
-  within_on p q a b leads goes_on within rest payload past c same = elim (overlaps a (b ∷ []) rest past same) [
-    | inl found ↦
-        let goes = leads.back found.0 payload (subst (λ l. Completes limits p l payload) found.1 c) in
-        one_more q b found.0 goes.0 past goes_on goes.2 found.2
-    | inr found ↦
-        let none = within rest payload found.0 c found.1 in
-        let all : a ≡ rest = found.1 ∙ ap (λ l. rest ++ l) none ∙ append-nil rest in
-        let goes = leads.back [] payload (subst (λ l. Completes limits p l payload) (sym all ∙ sym (append-nil a)) c) in
-        absurd (goes_on (subst IsDataOrDone (sym (Completes-nothing limits q goes.0 goes.2)) tt))
-  ]
-
-  -- the bytes of a chunk stand before its end
-  pub data_within : (left : ℕ) (bytes : List ℕ) → length bytes ≤ left → Within limits (Data left) bytes
-  data_within left bytes few rest payload past c same =
-      nil_from_length past (omega (
-        arith,
-        few,
-        c.many,
-        ap length same,
-        length-append rest past,
-        ap length c.equal,
-        length-append c.front (line_end c.behind),
-      ))
+  pub data_leads : (bytes : List ℕ) (left : ℕ) → length bytes ≤ left
+      → body.Leads (chunked limits) (Data left) bytes bytes (Data (left - length bytes)) []
+  data_leads bytes left few = record {
+    onward = λ rest payload agree c. data_on bytes left (left - length bytes) rest payload (omega (arith, few)) c;
+    back = λ rest whole agree c. data_back bytes left (left - length bytes) rest whole (omega (arith, few)) c;
+    within = λ rest payload past c same.
+        let p = data_parts limits left rest payload c in
+        nil_from_length past (omega (
+          arith,
+          few,
+          p.3,
+          ap length same,
+          length-append rest past,
+          ap length p.4,
+          length-append p.0 (line_end p.1),
+        ));
+  }
 
   -- where a payload or nothing comes next
   pub settled_some : (left : ℕ) → IsDataOrDone (Data left) → 0 < left
@@ -142,19 +123,15 @@ module _ (limits : Limits) where
   pub open_of : (p : Place) → ¬ IsDataOrDone p → p ≢ Done
   open_of p goes_on is = goes_on (subst IsDataOrDone (sym is) tt)
 
-  -- nothing is wrong where payload comes next, nor where the next bytes lead on
-  data_right : (left b : ℕ) (why : Malformed) → 0 < left → ¬ IsWrong limits (Data left) b why
-  data_right left b ChunkTooLong some wrong = omega (arith, some, wrong.0)
-  data_right left b why some wrong = wrong
-
-  leads_right : (p q : Place) (n : ℕ) (shown : List ℕ) → 0 < n → LeadsAlong limits p (take n shown) [] q → IsPlace q
-      → body.IsRight (chunked limits) p shown
+  -- nothing is wrong where the next bytes lead on
+  leads_right : (p q : Place) (n : ℕ) (shown : List ℕ) → 0 < n → body.Leads (chunked limits) p (take n shown) [] q []
+      → IsPlace q → body.IsRight (chunked limits) p shown
   leads_right p q zero shown some leads place why wrong = omega (arith, some)
   leads_right p q (suc k) shown some leads place why wrong =
       let end = Completes-some limits 0 q place in
       IsWrong-none limits p wrong.0 why (take k wrong.1 ++ end.rest) end.payload wrong.3
       (subst (λ l. Completes limits p (take (suc k) l ++ end.rest) end.payload) wrong.2
-      (leads.onward end.rest end.payload end.completes))
+      (leads.onward end.rest end.payload (follows end.rest) end.completes))
 
   -- what a look answers
   pub looks_data : (left : ℕ) (shown : List ℕ) → 0 < left
@@ -167,7 +144,7 @@ module _ (limits : Limits) where
     },
     omega arith,
     inl refl,
-    λ why wrong. data_right left wrong.0 why some wrong.3,
+    λ why wrong. omega (arith, some, wrong.3.1),
   )
 
   pub looks_none : (p : Place) (shown : List ℕ) → IsPlace p → ¬ IsDataOrDone p → shown ≡ []
@@ -182,10 +159,7 @@ module _ (limits : Limits) where
   looks_comes p shown n q open' some held comes = (
     some,
     held,
-    record {
-      leads = leads_on p (take n shown) [] q [] comes.passes.leads comes.short;
-      few = comes.passes.few;
-    },
+    comes.passes,
     comes.place,
     not_done p open',
     leads_right p q n shown some comes.passes.leads comes.place,
@@ -218,6 +192,6 @@ breaks_at d is why (byte, later, next, name) = record {
   next = next;
   name = name;
   none = λ rest payload whole.
-      let goes = (leads_of d.coding.0 Line d.taken (handed_of d) d.place is.leads).back (byte ∷ rest) payload whole in
+      let goes = is.leads.back (byte ∷ rest) payload (follows (byte ∷ rest)) whole in
       IsWrong-none d.coding.0 d.place byte why rest goes.0 name goes.2;
 }

@@ -9,12 +9,12 @@ pub mod BodyLaws
 pub mod Place
 pub mod PlaceLaws
 pub mod LineLaws
-pub mod WrongLaws
-pub mod NamesLaws
 pub mod Chunk
 pub mod ChunkLaws
 pub mod AliveLaws
 pub mod Coding
+pub mod Steps
+pub mod StepLaws
 pub mod CodingLaws
 pub mod Trailers
 pub mod TrailersLaws

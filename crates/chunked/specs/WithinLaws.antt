@@ -1,100 +1,76 @@
 -- Laws of places within an extension: where each byte leads, and what stands first in what is left.
-use Rattle.std.proofs.Common.{◌≡◌, ◌≢◌, ℕ, zero, suc, ◌<◌, ◌≤◌, ◌⊎◌, ◌↔◌, List, [], ◌∷◌, inl, inr, refl, subst, arith}
+use Rattle.std.proofs.Common.{◌≡◌, ◌≢◌, ℕ, zero, suc, ◌≤◌, ◌⊎◌, ◌↔◌, List, [], ◌∷◌, inl, inr, refl, subst, arith}
 use Rattle.std.specs.List.{AllByRecursion}
 use Rattle.chunked.specs.Token.{IsBlank, IsTokenByte, IsValueByte}
 use Rattle.chunked.specs.Extension.{Assigned, IsExtension, Parameter, Parameters}
-use Rattle.chunked.specs.Within.{CompletesExtension}
+use Rattle.chunked.specs.Within.{CompletesExtension, LeadsBy, LeadsWithin}
 use Rattle.chunked.specs.Body.{IsTextByte}
-use Rattle.chunked.specs.FieldLaws.{token_is_text, token_plain, value_is_text}
+use Rattle.chunked.specs.FieldLaws.{token_plain, value_is_text}
 use Rattle.chunked.specs.declared.extension.Within.{Within}
 use Rattle.chunked.specs.declared.extension.Within.TheVariants.{Blank, BeforeName, InName, BehindName, BeforeValue, InValue, Quoted, Escaped, Behind}
 
-module _ (IsToken : ℕ → Type 0) (plain : (b : ℕ) → IsToken b → (33 ≤ b) × (b ≢ 58) × (b ≢ 59) × (b ≢ 61) × (b ≢ 34) × (b ≢ 92))
-  where
-    -- where each byte leads
-    abbrev StepsBy : Within → ℕ → Within → Type 0
-    StepsBy Behind b v = (IsBlank b × (v ≡ Blank)) ⊎ ((b ≡ 59) × (v ≡ BeforeName))
-    StepsBy Blank b v = (IsBlank b × (v ≡ Blank)) ⊎ ((b ≡ 59) × (v ≡ BeforeName))
-    StepsBy BeforeName b v = (IsBlank b × (v ≡ BeforeName)) ⊎ (IsToken b × (v ≡ InName))
-    StepsBy InName b v =
-        (IsBlank b × (v ≡ BehindName)) ⊎ ((IsToken b × (v ≡ InName))
-        ⊎ (((b ≡ 61) × (v ≡ BeforeValue)) ⊎ ((b ≡ 59) × (v ≡ BeforeName))))
-    StepsBy BehindName b v =
-        (IsBlank b × (v ≡ BehindName)) ⊎ (((b ≡ 61) × (v ≡ BeforeValue)) ⊎ ((b ≡ 59) × (v ≡ BeforeName)))
-    StepsBy BeforeValue b v = (IsBlank b × (v ≡ BeforeValue)) ⊎ ((IsToken b × (v ≡ InValue)) ⊎ ((b ≡ 34) × (v ≡ Quoted)))
-    StepsBy InValue b v = (IsBlank b × (v ≡ Blank)) ⊎ ((IsToken b × (v ≡ InValue)) ⊎ ((b ≡ 59) × (v ≡ BeforeName)))
-    StepsBy Quoted b v =
-        ((IsValueByte b × (b ≢ 34) × (b ≢ 92)) × (v ≡ Quoted)) ⊎ (((b ≡ 92) × (v ≡ Escaped)) ⊎ ((b ≡ 34) × (v ≡ Behind)))
-    StepsBy Escaped b v = IsValueByte b × (v ≡ Quoted)
+module _ (IsToken IsValue : ℕ → Type 0)
+    (plain : (b : ℕ) → IsToken b → (33 ≤ b) × (b ≢ 58) × (b ≢ 59) × (b ≢ 61) × (b ≢ 34) × (b ≢ 92))
+    (is_text : (b : ℕ) → IsValue b → IsTextByte b) where
+  one_way_by : (w : Within) (b : ℕ) (v v' : Within) → LeadsBy IsToken IsValue w b v → LeadsBy IsToken IsValue w b v' → v ≡ v'
+  one_way_by Escaped b v v' s t = cc
+  one_way_by w b v v' s t = grind (arith, plain)
 
-    one_way_by : (w : Within) (b : ℕ) (v v' : Within) → StepsBy w b v → StepsBy w b v' → v ≡ v'
-    one_way_by Behind b v v' s t = grind (arith, plain)
-    one_way_by Blank b v v' s t = grind (arith, plain)
-    one_way_by BeforeName b v v' s t = grind (arith, plain)
-    one_way_by InName b v v' s t = grind (arith, plain)
-    one_way_by BehindName b v v' s t = grind (arith, plain)
-    one_way_by BeforeValue b v v' s t = grind (arith, plain)
-    one_way_by InValue b v v' s t = grind (arith, plain)
-    one_way_by Quoted b v v' s t = grind (arith, plain)
-    one_way_by Escaped b v v' s t = cc
+  no_return : (w : Within) (v : Within) → LeadsBy IsToken IsValue w 13 v → ⊥
+  no_return w v s = grind (arith, plain, is_text)
 
--- where each byte leads
-abbrev pub LeadsOnBy : Within → ℕ → Within → Type 0
-LeadsOnBy w b v = StepsBy IsTokenByte token_plain w b v
+  no_feed : (w : Within) (v : Within) → LeadsBy IsToken IsValue w 10 v → ⊥
+  no_feed w v s = grind (arith, plain, is_text)
 
-one_way : (w : Within) (b : ℕ) (v v' : Within) → LeadsOnBy w b v → LeadsOnBy w b v' → v ≡ v'
-one_way w b v v' s t = one_way_by IsTokenByte token_plain w b v v' s t
+pub one_way : (w : Within) (b : ℕ) (v v' : Within) → LeadsWithin w b v → LeadsWithin w b v' → v ≡ v'
+one_way w b v v' s t = one_way_by IsTokenByte IsValueByte token_plain value_is_text w b v v' s t
+
+pub steps_text : (w : Within) (b : ℕ) (v : Within) → LeadsWithin w b v → IsTextByte b
+steps_text w b v s = (
+  λ is. no_return IsTokenByte IsValueByte token_plain value_is_text w v (subst (λ c. LeadsWithin w c v) is s),
+  λ is. no_feed IsTokenByte IsValueByte token_plain value_is_text w v (subst (λ c. LeadsWithin w c v) is s),
+)
 
 -- with it in front, what is left there is left here
-on : (w : Within) (b : ℕ) (v : Within) (text : List ℕ) → LeadsOnBy w b v → CompletesExtension v text
+on : (w : Within) (b : ℕ) (v : Within) (text : List ℕ) → LeadsWithin w b v → CompletesExtension v text
     → CompletesExtension w (b ∷ text)
-on Behind b v text (inl (blank, is)) e = let k = subst (λ x. CompletesExtension x text) is e in (suc k.0, inr (blank, k.1))
-on Behind b v text (inr (sign, is)) e = let k = subst (λ x. CompletesExtension x text) is e in (suc k.0, inl (sign, k.1))
-on Blank b v text (inl (blank, is)) e = let k = subst (λ x. CompletesExtension x text) is e in (k.0, inr (blank, k.1))
-on Blank b v text (inr (sign, is)) e = let k = subst (λ x. CompletesExtension x text) is e in (k.0, inl (sign, k.1))
-on BeforeName b v text (inl (blank, is)) e = let k = subst (λ x. CompletesExtension x text) is e in (k.0, inr (blank, k.1))
-on BeforeName b v text (inr (token, is)) e = let k = subst (λ x. CompletesExtension x text) is e in (k.0, inl (token, k.1))
-on InName b v text (inl (blank, is)) e = let k = subst (λ x. CompletesExtension x text) is e in elim k.1 [
+on Behind b v text (inl (blank, is)) e = let k = rw is at e in (suc k.0, inr (blank, k.1))
+on Behind b v text (inr (sign, is)) e = let k = rw is at e in (suc k.0, inl (sign, k.1))
+on Blank b v text (inl (blank, is)) e = let k = rw is at e in (k.0, inr (blank, k.1))
+on Blank b v text (inr (sign, is)) e = let k = rw is at e in (k.0, inl (sign, k.1))
+on BeforeName b v text (inl (blank, is)) e = let k = rw is at e in (k.0, inr (blank, k.1))
+on BeforeName b v text (inr (token, is)) e = let k = rw is at e in (k.0, inl (token, k.1))
+on InName b v text (inl (blank, is)) e = let k = rw is at e in elim k.1 [
   | inl left ↦ (suc k.0, inl (inl (inr (blank, left))))
   | inr left ↦ (k.0, inl (inr (inr (blank, left))))
 ]
-on InName b v text (inr (inl (token, is))) e = let k = subst (λ x. CompletesExtension x text) is e in (k.0, inr (token, k.1))
-on InName b v text (inr (inr (inl (sign, is)))) e =
-    let k = subst (λ x. CompletesExtension x text) is e in (k.0, inl (inr (inl (sign, k.1))))
-on InName b v text (inr (inr (inr (sign, is)))) e =
-    let k = subst (λ x. CompletesExtension x text) is e in (suc k.0, inl (inl (inl (sign, k.1))))
-on BehindName b v text (inl (blank, is)) e = let k = subst (λ x. CompletesExtension x text) is e in elim k.1 [
+on InName b v text (inr (inl (token, is))) e = let k = rw is at e in (k.0, inr (token, k.1))
+on InName b v text (inr (inr (inl (sign, is)))) e = let k = rw is at e in (k.0, inl (inr (inl (sign, k.1))))
+on InName b v text (inr (inr (inr (sign, is)))) e = let k = rw is at e in (suc k.0, inl (inl (inl (sign, k.1))))
+on BehindName b v text (inl (blank, is)) e = let k = rw is at e in elim k.1 [
   | inl left ↦ (k.0, inl (inr (blank, left)))
   | inr left ↦ (k.0, inr (inr (blank, left)))
 ]
-on BehindName b v text (inr (inl (sign, is))) e =
-    let k = subst (λ x. CompletesExtension x text) is e in (k.0, inr (inl (sign, k.1)))
-on BehindName b v text (inr (inr (sign, is))) e =
-    let k = subst (λ x. CompletesExtension x text) is e in (k.0, inl (inl (sign, k.1)))
-on BeforeValue b v text (inl (blank, is)) e = let k = subst (λ x. CompletesExtension x text) is e in (k.0, inr (blank, k.1))
-on BeforeValue b v text (inr (inl (token, is))) e =
-    let k = subst (λ x. CompletesExtension x text) is e in (k.0, inl (inl (token, k.1)))
-on BeforeValue b v text (inr (inr (sign, is))) e =
-    let k = subst (λ x. CompletesExtension x text) is e in (k.0, inl (inr (sign, k.1)))
-on InValue b v text (inl (blank, is)) e = let k = subst (λ x. CompletesExtension x text) is e in (suc k.0, inl (inr (blank, k.1)))
-on InValue b v text (inr (inl (token, is))) e = let k = subst (λ x. CompletesExtension x text) is e in (k.0, inr (token, k.1))
-on InValue b v text (inr (inr (sign, is))) e =
-    let k = subst (λ x. CompletesExtension x text) is e in (suc k.0, inl (inl (sign, k.1)))
-on Quoted b v [] (inl (quoted, is)) e = absurd (subst (λ x. CompletesExtension x []) is e).1
-on Quoted b v (c ∷ text) (inl (quoted, is)) e =
-    let k = subst (λ x. CompletesExtension x (c ∷ text)) is e in (k.0, inr (inl (quoted, k.1)))
-on Quoted b v [] (inr (inl (sign, is))) e = absurd (subst (λ x. CompletesExtension x []) is e).1
-on Quoted b v (c ∷ text) (inr (inl (sign, is))) e =
-    let k = subst (λ x. CompletesExtension x (c ∷ text)) is e in (k.0, inr (inr (sign, k.1.0, k.1.1)))
-on Quoted b v [] (inr (inr (sign, is))) e = let k = subst (λ x. CompletesExtension x []) is e in (k.0, (sign, k.1))
-on Quoted b v (c ∷ text) (inr (inr (sign, is))) e =
-    let k = subst (λ x. CompletesExtension x (c ∷ text)) is e in (k.0, inl (sign, k.1))
-on Escaped b v text (byte, is) e = let k = subst (λ x. CompletesExtension x text) is e in (k.0, (byte, k.1))
+on BehindName b v text (inr (inl (sign, is))) e = let k = rw is at e in (k.0, inr (inl (sign, k.1)))
+on BehindName b v text (inr (inr (sign, is))) e = let k = rw is at e in (k.0, inl (inl (sign, k.1)))
+on BeforeValue b v text (inl (blank, is)) e = let k = rw is at e in (k.0, inr (blank, k.1))
+on BeforeValue b v text (inr (inl (token, is))) e = let k = rw is at e in (k.0, inl (inl (token, k.1)))
+on BeforeValue b v text (inr (inr (sign, is))) e = let k = rw is at e in (k.0, inl (inr (sign, k.1)))
+on InValue b v text (inl (blank, is)) e = let k = rw is at e in (suc k.0, inl (inr (blank, k.1)))
+on InValue b v text (inr (inl (token, is))) e = let k = rw is at e in (k.0, inr (token, k.1))
+on InValue b v text (inr (inr (sign, is))) e = let k = rw is at e in (suc k.0, inl (inl (sign, k.1)))
+on Quoted b v [] (inl (quoted, is)) e = absurd (rw is at e).1
+on Quoted b v (c ∷ text) (inl (quoted, is)) e = let k = rw is at e in (k.0, inr (inl (quoted, k.1)))
+on Quoted b v [] (inr (inl (sign, is))) e = absurd (rw is at e).1
+on Quoted b v (c ∷ text) (inr (inl (sign, is))) e = let k = rw is at e in (k.0, inr (inr (sign, k.1.0, k.1.1)))
+on Quoted b v [] (inr (inr (sign, is))) e = let k = rw is at e in (k.0, (sign, k.1))
+on Quoted b v (c ∷ text) (inr (inr (sign, is))) e = let k = rw is at e in (k.0, inl (sign, k.1))
+on Escaped b v text (byte, is) e = let k = rw is at e in (k.0, (byte, k.1))
 
 -- a byte leads to a place, from where the text completes an extension
 pub record StepsOn (w : Within) (b : ℕ) (text : List ℕ) : Type 0 where
   pub next : Within
-  pub steps : LeadsOnBy w b next
+  pub steps : LeadsWithin w b next
   pub left : CompletesExtension next text
 
 -- what a parameter begins with
@@ -110,20 +86,20 @@ parameters_first b zero text odd = cc
 parameters_first b (suc count) text left = parameter_first b count text left
 
 -- where this leads where a value may have ended
-step_on : (w : Within) (b : ℕ) (text : List ℕ) → (IsBlank b → LeadsOnBy w b Blank) → ((b ≡ 59) → LeadsOnBy w b BeforeName)
+step_on : (w : Within) (b : ℕ) (text : List ℕ) → (IsBlank b → LeadsWithin w b Blank) → ((b ≡ 59) → LeadsWithin w b BeforeName)
     → BeginsParameter b text → StepsOn w b text
 step_on w b text blanks signs (inl (blank, left)) = record { next = Blank; steps = blanks blank; left = left }
 step_on w b text blanks signs (inr (sign, left)) = record { next = BeforeName; steps = signs sign; left = left }
 
 -- where a byte leads behind a name
-name_on : (w : Within) (b : ℕ) (text : List ℕ) → (IsBlank b → LeadsOnBy w b BehindName) → ((b ≡ 59) → LeadsOnBy w b BeforeName)
+name_on : (w : Within) (b : ℕ) (text : List ℕ) → (IsBlank b → LeadsWithin w b BehindName) → ((b ≡ 59) → LeadsWithin w b BeforeName)
     → BeginsParameter b text → StepsOn w b text
 name_on w b text blanks signs (inl (blank, left)) =
     record { next = BehindName; steps = blanks blank; left = (left.0, inl left.1) }
 name_on w b text blanks signs (inr (sign, left)) = record { next = BeforeName; steps = signs sign; left = left }
 
-assigned_on : (w : Within) (b count : ℕ) (text : List ℕ) → (IsBlank b → LeadsOnBy w b BehindName)
-    → ((b ≡ 61) → LeadsOnBy w b BeforeValue) → Assigned (Parameters count) (b ∷ text) → StepsOn w b text
+assigned_on : (w : Within) (b count : ℕ) (text : List ℕ) → (IsBlank b → LeadsWithin w b BehindName)
+    → ((b ≡ 61) → LeadsWithin w b BeforeValue) → Assigned (Parameters count) (b ∷ text) → StepsOn w b text
 assigned_on w b count text blanks signs (inl (sign, left)) =
     record { next = BeforeValue; steps = signs sign; left = (count, left) }
 assigned_on w b count text blanks signs (inr (blank, left)) =
@@ -168,37 +144,6 @@ first Quoted b (c ∷ text) (count, (inr (inr (sign, byte, left)))) =
 first Escaped b text (count, (byte, left)) = record { next = Quoted; steps = (byte, refl); left = (count, left) }
 
 -- all of an extension is text
-blank_is_text : (b : ℕ) → IsBlank b → IsTextByte b
-blank_is_text b is = value_is_text b (inl is)
-
-sign_is_text : (b sign : ℕ) → 32 < sign → b ≡ sign → IsTextByte b
-sign_is_text b sign high is = (λ odd. omega (arith, high, is, odd), λ odd. omega (arith, high, is, odd))
-
-steps_text : (w : Within) (b : ℕ) (v : Within) → LeadsOnBy w b v → IsTextByte b
-steps_text Behind b v (inl (blank, is)) = blank_is_text b blank
-steps_text Behind b v (inr (sign, is)) = sign_is_text b 59 (omega arith) sign
-steps_text Blank b v (inl (blank, is)) = blank_is_text b blank
-steps_text Blank b v (inr (sign, is)) = sign_is_text b 59 (omega arith) sign
-steps_text BeforeName b v (inl (blank, is)) = blank_is_text b blank
-steps_text BeforeName b v (inr (token, is)) = token_is_text b token
-steps_text InName b v (inl (blank, is)) = blank_is_text b blank
-steps_text InName b v (inr (inl (token, is))) = token_is_text b token
-steps_text InName b v (inr (inr (inl (sign, is)))) = sign_is_text b 61 (omega arith) sign
-steps_text InName b v (inr (inr (inr (sign, is)))) = sign_is_text b 59 (omega arith) sign
-steps_text BehindName b v (inl (blank, is)) = blank_is_text b blank
-steps_text BehindName b v (inr (inl (sign, is))) = sign_is_text b 61 (omega arith) sign
-steps_text BehindName b v (inr (inr (sign, is))) = sign_is_text b 59 (omega arith) sign
-steps_text BeforeValue b v (inl (blank, is)) = blank_is_text b blank
-steps_text BeforeValue b v (inr (inl (token, is))) = token_is_text b token
-steps_text BeforeValue b v (inr (inr (sign, is))) = sign_is_text b 34 (omega arith) sign
-steps_text InValue b v (inl (blank, is)) = blank_is_text b blank
-steps_text InValue b v (inr (inl (token, is))) = token_is_text b token
-steps_text InValue b v (inr (inr (sign, is))) = sign_is_text b 59 (omega arith) sign
-steps_text Quoted b v (inl (quoted, is)) = value_is_text b quoted.0
-steps_text Quoted b v (inr (inl (sign, is))) = sign_is_text b 92 (omega arith) sign
-steps_text Quoted b v (inr (inr (sign, is))) = sign_is_text b 34 (omega arith) sign
-steps_text Escaped b v (byte, is) = value_is_text b byte
-
 pub CompletesExtension-text : (w : Within) (text : List ℕ) → CompletesExtension w text → AllByRecursion IsTextByte text
 CompletesExtension-text w [] e = tt
 CompletesExtension-text w (b ∷ text) e =
@@ -209,12 +154,12 @@ pub IsExtension-first : (b : ℕ) (text : List ℕ) → IsExtension (b ∷ text)
 IsExtension-first b text e = elim (parameters_first b e.0 text e.1) [ inl blank ↦ inl blank.0 | inr sign ↦ inr sign.0 ]
 
 -- a byte leads on as the steps say, or nowhere
-pub leads : (w : Within) (b : ℕ) (v : Within) → LeadsOnBy w b v
+pub leads : (w : Within) (b : ℕ) (v : Within) → LeadsWithin w b v
     → (text : List ℕ) → CompletesExtension w (b ∷ text) ↔ CompletesExtension v text
 leads w b v s = λ text. (
   (λ e. let f = first w b text e in subst (λ x. CompletesExtension x text) (one_way w b f.next v f.steps s) f.left),
   λ e. on w b v text s e,
 )
 
-pub none : (w : Within) (b : ℕ) → ((v : Within) → LeadsOnBy w b v → ⊥) → (text : List ℕ) → ¬ CompletesExtension w (b ∷ text)
+pub none : (w : Within) (b : ℕ) → ((v : Within) → LeadsWithin w b v → ⊥) → (text : List ℕ) → ¬ CompletesExtension w (b ∷ text)
 none w b never = λ text e. let f = first w b text e in never f.next f.steps

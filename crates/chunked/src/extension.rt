@@ -1,6 +1,6 @@
 //! Where in an extension of the line of a size a reader stands, and where a byte leads from there.
-ghost use Rattle.std.specs.Prelude.{◌≡◌, ℕ, ◌≤◌, ◌↔◌, List, [], ◌∷◌, length, MatchOption, IsTrue};
-ghost use Rattle.chunked.specs.Within.{CompletesExtension};
+ghost use Rattle.std.specs.Prelude.{◌≡◌, ℕ, ◌≤◌, ◌↔◌, List, [], length, MatchOption, IsTrue};
+ghost use Rattle.chunked.specs.Within.{CompletesExtension, LeadsWithin};
 
 use crate::token::{is_token_byte, is_value_byte};
 
@@ -28,10 +28,9 @@ pub enum Within {
 }
 
 impl Within {
-    /// Where a byte leads: just what completes an extension from there completes it here, with the byte in front. Or none does.
+    /// Where a byte leads, if it leads on.
     pub(crate) fn next(self, byte: u8) -> Option<Within>
-        ensures { MatchOption result ((text : List ℕ) → ¬ CompletesExtension self (byte ∷ text))
-            (λ next. (text : List ℕ) → CompletesExtension self (byte ∷ text) ↔ CompletesExtension next text) }
+        ensures { MatchOption result ((next : Within) → ¬ LeadsWithin self byte next) (LeadsWithin self byte) }
     {
         match self {
             Within::Blank | Within::Behind => match byte {

@@ -1,7 +1,7 @@
 //! The plain way from one payload to the next: the end of a chunk, digits, and the end of their line.
 ghost use Rattle.std.specs.Prelude.{◌≡◌, ◌+◌, ◌-◌, ◌<◌, ◌≤◌, length, take, slice_index, IfSome, IsTrue};
 ghost use Rattle.chunked.specs.declared.place.Place.TheVariants as place;
-ghost use Rattle.chunked.specs.Place.{Comes};
+ghost use Rattle.chunked.specs.Steps.{Comes};
 
 use crate::limits::Limits;
 use crate::place::Place;

@@ -2,7 +2,8 @@
 ghost use Rattle.std.specs.Prelude.{◌≡◌, ◌≢◌, ◌^◌, ◌<◌, ◌≤◌, ◌↔◌, length, take, Ok, IfOk, IfErr, IsTrue};
 ghost use Rattle.std.specs.Char.{digit_value};
 ghost use Rattle.std.specs.Option.{SomeIff};
-ghost use Rattle.chunked.specs.Place.{Advances, IsDataOrDone, IsPlace, PassesAlong, StepsOver};
+ghost use Rattle.chunked.specs.Place.{IsDataOrDone, IsPlace};
+ghost use Rattle.chunked.specs.Steps.{Advances, StepsOver};
 
 use crate::error::Malformed;
 use crate::extension::Within;

@@ -11,7 +11,6 @@ use Rattle.body_reader.specs.declared.either.Side.TheVariants as side
 use Rattle.chunked.specs.Coding.{InChunk, chunk_left}
 use Rattle.chunked.specs.Place.{IsPlace, IsWrong}
 use Rattle.chunked.specs.declared.error.Malformed.{Malformed}
-use Rattle.chunked.specs.declared.error.Malformed.TheVariants.{ChunkTooLong}
 use Rattle.chunked.specs.declared.limits.Limits.{Limits as ChunkLimits}
 use Rattle.chunked.specs.declared.place.Place.{Place}
 use Rattle.chunked.specs.declared.place.Place.TheVariants.{Line, Size, Extension, SizeFeed, Data, DataFeed, Fields, FieldName, FieldValue, FieldFeed, LastFeed, Done}
@@ -74,8 +73,7 @@ carried_few (coding.Second c) (side.First left) bytes follow is = absurd is
 carried_few (coding.Second c) (side.Second q) bytes follow is = chunk_few q bytes follow is
 
 chunk_wrong : (limits : ChunkLimits) (q : Place) (byte : ℕ) (name : Malformed) → IsWrong limits q byte name → chunk_left q ≡ 0
-chunk_wrong limits (Data left) byte ChunkTooLong wrong = wrong.0
-chunk_wrong limits (Data left) byte name wrong = absurd wrong
+chunk_wrong limits (Data left) byte name wrong = wrong.1
 chunk_wrong limits q byte name wrong = refl
 
 none_sure : (c : BodyCoding) (p : Side ℕ Place) (bytes : List ℕ) (why : Side (Unit {0}) Malformed)

@@ -10,9 +10,8 @@ use Rattle.body_reader.specs.declared.either.Side.{Side}
 use Rattle.body_reader.specs.declared.either.Side.TheVariants as side
 use Rattle.body_reader.specs.SizedLaws.{sized_lawful}
 use Rattle.buffer_redux.specs.Policy.{std_read_rules}
-use Rattle.chunked.proofs.PassingOn.{data_payload}
 use Rattle.chunked.specs.Coding.{InChunk}
-use Rattle.chunked.specs.CodingLaws.{chunked_lawful}
+use Rattle.chunked.specs.CodingLaws.{chunked_lawful, data_leads, follows}
 use Rattle.chunked.specs.declared.error.Malformed.{Malformed}
 use Rattle.chunked.specs.declared.limits.Limits.{Limits as ChunkLimits}
 use Rattle.chunked.specs.declared.place.Place.{Place}
@@ -29,10 +28,10 @@ use Rattle.messages.proofs.Going.{body_done, body_fails, body_goes, is_ended, ke
 chunk_payload : (limits : ChunkLimits) (q : Place) (bytes follow : List ℕ) → InChunk q bytes follow
     → IsPayload (Chunks limits q) bytes
 chunk_payload limits (Data left) bytes follow few =
-    let leads = data_payload limits bytes left few in record {
+    let leads = data_leads limits bytes left few in record {
       rest = Chunks limits (Data (left - length bytes));
-      onward = leads.onward;
-      backward = leads.back;
+      onward = λ later payload is. leads.onward later payload (follows later) is;
+      backward = λ later whole is. leads.back later whole (follows later) is;
       ends = (chunked_lawful limits).alive (Data (left - length bytes)) tt;
     }
 chunk_payload limits q bytes follow is = absurd is

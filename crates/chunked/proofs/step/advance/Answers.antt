@@ -1,4 +1,4 @@
--- A byte that leads on joins those before, and can't stand past the end, as the place isn't settled.
+-- A byte that leads on joins those before.
 use Rattle.std.proofs.Common.{inl, inr, arith, refl}
 use Rattle.chunked.proofs.Framing.{comes_more, comes_none}
 use Rattle.chunked.proofs.step.advance.Goals as goal
@@ -11,7 +11,6 @@ pub loop-taken-preserved : goal.loop-taken-preserved
 loop-taken-preserved c = record {
   within = omega arith;
   comes = comes_more c.args.limits.now c.args.start c.loop-taken.place c.in-Ok.next c.args.shown.now c.loop-taken.taken _
-      c.loop-taken-test.true refl c.loop-taken.invariant.comes
-      (λ settled. (let odd = c.is_settled.ensures.1 settled in cc)) c.in-Ok.ensures.0 c.in-Ok.ensures.1;
+      c.loop-taken-test.true refl c.loop-taken.invariant.comes c.in-Ok.ensures.0 c.in-Ok.ensures.1;
   begun = inl (omega arith);
 }

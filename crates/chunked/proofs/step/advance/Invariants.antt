@@ -1,5 +1,5 @@
 use Rattle.std.proofs.Common.{◌≡◌, ◌<◌, ◌≤◌, ◌-◌, ◌⊎◌, length, take}
-use Rattle.chunked.specs.Place.{Comes}
+use Rattle.chunked.specs.Steps.{Comes}
 use Rattle.chunked.proofs.step.advance.Given as goal
 
 -- the bytes that were taken lead here

@@ -1,23 +1,27 @@
--- A byte leads on where the least that ends the extension still fits the line, and runs over where it doesn't.
-use Rattle.std.proofs.Common.{[], arith, rules}
-use Rattle.chunked.specs.Within.{CompletesExtension}
-use Rattle.chunked.proofs.Extending.{extension_on, extension_return, fits_in}
-use Rattle.chunked.proofs.Least.{IsLeast}
+-- What can't go on is wrong, and what can runs over where the least that ends the extension doesn't fit the line.
+use Rattle.std.proofs.Common.{arith, inl, inr, refl, rules}
+use Rattle.chunked.specs.WithinLaws.{leads, none}
 use Rattle.chunked.proofs.step.in_extension.Goals as goal
 
-pub returns-in-13 : goal.returns-in-13
-returns-in-13 c =
-    let none : CompletesExtension c.args.within [] = search rules in
-    λ l. (extension_return l c.args.within c.args.byte c.args.size c.args.room none c.in-13.is, c.requires)
+pub returns-in-None : goal.returns-in-None
+returns-in-None c = λ l. inr (inr (
+  refl,
+  record {
+    none = none c.args.within c.args.byte c.in-None.ensures;
+    no_return = search rules;
+    no_feed = search rules;
+  },
+))
 
-pub returns-in-Some-2 : goal.returns-in-Some-2
-returns-in-Some-2 c =
-    let least : IsLeast c.in-Some.next c.least.result = (c.least.ensures.so_many, c.least.ensures.none_less) in
-    λ l. (
-      extension_on c.args.within c.in-Some.next c.args.byte c.least.result c.in-Some.ensures least l c.args.size c.args.room
-          (omega arith),
-      (
-        c.requires,
-        fits_in c.args.within c.in-Some.next c.args.byte c.least.result c.in-Some.ensures least c.args.room (omega arith),
-      ),
+pub returns-in-Some : goal.returns-in-Some
+returns-in-Some c = λ l.
+    let on = leads c.args.within c.args.byte c.in-Some.next c.in-Some.ensures in
+    let text = c.least.ensures.so_many in
+    inl (
+      refl,
+      record {
+        text = text.0;
+        extends = (on text.0).1 text.1;
+        over = λ other more. omega (arith, c.if-room-least.true, c.least.ensures.none_less other ((on other).0 more));
+      },
     )

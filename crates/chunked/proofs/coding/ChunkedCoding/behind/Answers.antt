@@ -3,8 +3,7 @@ use Rattle.std.proofs.Common.{[], ◌-◌, ◌≤◌, ◌++◌, arith, length, l
 use Rattle.body_reader.specs.Coding as body
 use Rattle.chunked.specs.declared.place.Place.TheVariants.{Data}
 use Rattle.chunked.specs.Coding.{InChunk, chunked}
-use Rattle.chunked.specs.CodingLaws.{data_open, data_within, leads_on}
-use Rattle.chunked.proofs.PassingOn.{data_payload}
+use Rattle.chunked.specs.CodingLaws.{data_leads, data_open}
 use Rattle.chunked.proofs.coding.ChunkedCoding.behind.Goals as goal
 
 pub returns-clause-leads : goal.returns-clause-leads
@@ -14,8 +13,7 @@ returns-clause-leads c follow carried =
     let left = c.in-Data.left in
     let few : length bytes ≤ left = subst (λ p. InChunk p bytes follow) c.in-Data.is carried in
     subst (λ p. body.Leads (chunked limits) p bytes bytes (Data (left - length bytes)) []) (sym c.in-Data.is)
-    (leads_on limits (Data left) bytes bytes (Data (left - length bytes)) [] (data_payload limits bytes left few)
-    (data_within limits left bytes few))
+    (data_leads limits bytes left few)
 
 pub returns-clause-still : goal.returns-clause-still
 returns-clause-still c more follow carried =

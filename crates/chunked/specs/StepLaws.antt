@@ -1,0 +1,357 @@
+-- Laws of steps: what completes a body goes on from byte to byte, and what is wrong with a byte has one name and leads nowhere.
+use Rattle.std.proofs.Common.{◌≡◌, ◌≢◌, ℕ, zero, suc, ◌+◌, ◌*◌, ◌-◌, ◌<◌, ◌≤◌, ◌^◌, List, [], ◌∷◌, ◌++◌, length, sym, ap, subst, ◌∙◌, arith, inl, inr, refl}
+use Rattle.std.specs.Char.{digit_value}
+use Rattle.std.specs.List.{AllByRecursion}
+use Rattle.body_reader.specs.Coding.{PassesOver}
+use Rattle.body_reader.specs.CodingLaws.{nothing_behind}
+use Rattle.chunked.specs.declared.error.Malformed.{Malformed}
+use Rattle.chunked.specs.declared.error.Malformed.TheVariants.{BadField, BadSize, LineTooLong, TrailersTooLong}
+use Rattle.chunked.specs.declared.limits.Limits.{Limits}
+use Rattle.chunked.specs.declared.place.Place.{Place}
+use Rattle.chunked.specs.declared.place.Place.TheVariants.{Line, Size, Extension, SizeFeed, Data, DataFeed, Fields, FieldName, FieldValue, FieldFeed, LastFeed, Done}
+use Rattle.chunked.specs.declared.extension.Within.{Within}
+use Rattle.chunked.specs.declared.extension.Within.TheVariants.{Behind}
+use Rattle.chunked.specs.Token.{IsTokenByte, IsValueByte}
+use Rattle.chunked.specs.Within.{CompletesExtension, EndsNoExtension, RunsOver}
+use Rattle.chunked.specs.Body.{IsTextByte, IsTrailers}
+use Rattle.chunked.specs.BodyLaws.{digit_is_text, extension_no_digit}
+use Rattle.chunked.specs.FieldLaws.{BehindFirst-some, token_is_text, token_plain, value_is_text}
+use Rattle.chunked.specs.WithinLaws.{CompletesExtension-text}
+use Rattle.chunked.specs.WithinLaws as within
+use Rattle.chunked.specs.Coding.{chunked}
+use Rattle.chunked.specs.LineLaws.{digit_first, digit_on, field_first, field_on, last_on, line_as, line_parts, size_small}
+use Rattle.chunked.specs.Place.{BehindFirst, BehindSize, Completes, CompletesSizeLine, EndsLine, IsDataOrDone, IsWrong, WrongInExtension, WrongInLine, most_between}
+use Rattle.chunked.specs.PlaceLaws.{Completes-nothing}
+use Rattle.chunked.specs.Steps.{LeadsInExtension, LeadsTo, behind_size}
+
+-- no digit leads on in an extension
+digit_ends : (b size room : ℕ) (q : Place) → digit_value b < 16 → LeadsInExtension Behind size room b q → ⊥
+digit_ends b size room q digit (inl s) = (digit_is_text b digit).0 s.0
+digit_ends b size room q digit (inr s) =
+    extension_no_digit b s.2.0 ((within.leads Behind b s.0 s.1 s.2.0).1 s.2.1) digit
+
+module _ (limits : Limits) where
+  -- with the byte in front, what completes the body there completes it here
+  extension_on : (w : Within) (b size room : ℕ) (q : Place) (rest payload : List ℕ) → size < 2 ^ 62
+      → LeadsInExtension w size room b q → Completes limits q rest payload
+      → CompletesSizeLine limits w size room (b ∷ rest) payload
+  extension_on w b size room q rest payload small (inl s) c = (inl (s.0, s.1, (rw s.2 at c).0), small)
+  extension_on w b size room q rest payload small (inr s) c = (
+    inr (
+      omega (arith, s.2.2),
+      line_as (CompletesExtension s.0) (λ t. CompletesExtension w (b ∷ t))
+          (λ left behind. BehindSize limits size behind payload) (room - 1) rest
+          (λ t e. (within.leads w b s.0 s.1 t).1 e) (rw s.3 at c).0,
+    ),
+    small,
+  )
+
+  pub behind_on : (size : ℕ) (rest payload : List ℕ) → Completes limits (behind_size limits size) rest payload
+      → BehindSize limits size rest payload
+  behind_on zero rest payload c = c
+  behind_on (suc n) rest payload c = c
+
+  pub step_on : (p : Place) (b : ℕ) (q : Place) (rest payload : List ℕ) → LeadsTo limits p b q → Completes limits q rest payload
+      → Completes limits p (b ∷ rest) payload
+  step_on Line b q rest payload (digit, is) c = digit_on limits b rest payload digit (rw is at c)
+  step_on (Size number room) b q rest payload (inl (digit, some, small, is)) c = inl (digit, some, rw is at c)
+  step_on (Size number room) b q rest payload (inr (none, small, s)) c =
+      inr (extension_on Behind b number room q rest payload small s c)
+  step_on (Extension within size room) b q rest payload (small, s) c = extension_on within b size room q rest payload small s c
+  step_on (SizeFeed size) b q rest payload (is, small, to) c = ((is, behind_on size rest payload (rw to at c)), small)
+  step_on (Data zero) b q rest payload (none, is, to) c = (is, rw to at c)
+  step_on (Data (suc left)) b q rest payload (none, is, to) c = absurd (omega (arith, none))
+  step_on DataFeed b q rest payload (is, to) c = (is, rw to at c)
+  step_on (Fields room) b q rest payload (inl (is, to)) c = let d = rw to at c in (d.0, last_on b room rest is d.1)
+  step_on (Fields room) b q rest payload (inr (token, fits, to)) c =
+      let d = rw to at c in (d.0, field_on b room rest token fits d.1)
+  step_on (FieldName room) b q rest payload (inl (is, some, to)) c = let d = rw to at c in (
+    d.0,
+    inr (
+      some,
+      line_as (AllByRecursion IsValueByte) (λ t. BehindFirst (b ∷ t)) IsTrailers (room - 1) rest (λ t all. inl (is, all)) d.1,
+    ),
+  )
+  step_on (FieldName room) b q rest payload (inr (token, fits, to)) c = let d = rw to at c in (
+    d.0,
+    inr (
+      omega (arith, fits),
+      line_as BehindFirst (λ t. BehindFirst (b ∷ t)) IsTrailers (room - 1) rest (λ t more. inr (token, more)) d.1,
+    ),
+  )
+  step_on (FieldValue room) b q rest payload (inl (is, to)) c = let d = rw to at c in (d.0, inl (is, tt, d.1))
+  step_on (FieldValue room) b q rest payload (inr (value, some, to)) c = let d = rw to at c in (
+    d.0,
+    inr (
+      some,
+      line_as (AllByRecursion IsValueByte) (λ t. AllByRecursion IsValueByte (b ∷ t)) IsTrailers (room - 1) rest
+          (λ t all. (value, all)) d.1,
+    ),
+  )
+  step_on (FieldFeed room) b q rest payload (is, to) c = let d = rw to at c in (d.0, (is, d.1))
+  step_on LastFeed b q rest payload (is, to) c = let d = rw to at c in (d.0, (is, d.1))
+  step_on Done b q rest payload s c = absurd s
+
+  -- a byte leads on where something begins with it that completes the body, and the rest of that completes it there
+  abbrev pub GoesOn : Place → ℕ → List ℕ → List ℕ → Type 0
+  GoesOn p b rest payload = (q : Place) × LeadsTo limits p b q × Completes limits q rest payload
+
+  extension_first : (w : Within) (b size room : ℕ) (rest payload : List ℕ)
+      → CompletesSizeLine limits w size room (b ∷ rest) payload
+      → (q : Place) × LeadsInExtension w size room b q × Completes limits q rest payload
+  extension_first w b size room rest payload (inl (is, ends, behind), small) =
+      (SizeFeed size, inl (is, ends, refl), (behind, small))
+  extension_first w b size room rest payload (inr (some, later), small) =
+      let Goes : ℕ → List ℕ → Type 0 = λ left behind. BehindSize limits size behind payload in
+      let p = line_parts (λ t. CompletesExtension w (b ∷ t)) Goes (room - 1) rest later in
+      let f = within.first w b p.0 p.4 in (
+        Extension f.next size (room - 1),
+        inr (f.next, f.steps, (p.0, f.left, omega (arith, p.5, some)), refl),
+        (
+          line_as (λ t. CompletesExtension w (b ∷ t)) (CompletesExtension f.next) Goes (room - 1) rest
+              (λ t e. (within.leads w b f.next f.steps t).0 e) later,
+          small,
+        ),
+      )
+
+  behind_first : (size : ℕ) (rest payload : List ℕ) → BehindSize limits size rest payload
+      → Completes limits (behind_size limits size) rest payload
+  behind_first zero rest payload c = c
+  behind_first (suc n) rest payload c = c
+
+  name_first : (b room : ℕ) (rest payload : List ℕ) → payload ≡ [] → 0 < room
+      → (later : EndsLine (λ t. BehindFirst (b ∷ t)) IsTrailers (room - 1) rest) → (text : List ℕ)
+      → BehindFirst (b ∷ text) → length text ≤ room - 1 → GoesOn (FieldName room) b rest payload
+  name_first b room rest payload none some later text (inl (is, _)) fits = (
+    FieldValue (room - 1),
+    inl (is, some, refl),
+    (none, line_as (λ t. BehindFirst (b ∷ t)) (AllByRecursion IsValueByte) IsTrailers (room - 1) rest valued later),
+  )
+    where
+      valued : (t : List ℕ) → BehindFirst (b ∷ t) → AllByRecursion IsValueByte t
+      valued t (inl (is', all)) = all
+      valued t (inr (token, more)) = absurd ((token_plain b token).1 is)
+  name_first b room rest payload none some later text (inr (token, more)) fits = (
+    FieldName (room - 1),
+    inr (token, omega (arith, fits, BehindFirst-some text more), refl),
+    (none, line_as (λ t. BehindFirst (b ∷ t)) BehindFirst IsTrailers (room - 1) rest named later),
+  )
+    where
+      named : (t : List ℕ) → BehindFirst (b ∷ t) → BehindFirst t
+      named t (inl (is, all)) = absurd ((token_plain b token).1 is)
+      named t (inr (token', more')) = more'
+
+  step_first : (p : Place) (b : ℕ) (rest payload : List ℕ) → ¬ IsDataOrDone p → Completes limits p (b ∷ rest) payload
+      → GoesOn p b rest payload
+  step_first Line b rest payload open' c =
+      let f = digit_first limits b rest payload c in (Size (digit_value b) (limits.line - 1), (f.0, refl), f.1)
+  step_first (Size number room) b rest payload open' (inl (digit, some, c)) = (
+    Size (number * 16 + digit_value b) (room - 1),
+    inl (digit, some, size_small limits (number * 16 + digit_value b) (room - 1) rest payload c, refl),
+    c,
+  )
+  step_first (Size number room) b rest payload open' (inr c) =
+      let f = extension_first Behind b number room rest payload c in
+      (f.0, inr ((λ digit. digit_ends b number room f.0 digit f.1), c.1, f.1), f.2)
+  step_first (Extension w size room) b rest payload open' c =
+      let f = extension_first w b size room rest payload c in (f.0, (c.1, f.1), f.2)
+  step_first (SizeFeed size) b rest payload open' ((is, c), small) =
+      (behind_size limits size, (is, small, refl), behind_first size rest payload c)
+  step_first (Data zero) b rest payload open' (is, c) = (DataFeed, (refl, is, refl), c)
+  step_first (Data (suc left)) b rest payload open' c = absurd (open' tt)
+  step_first DataFeed b rest payload open' (is, c) = (Line, (is, refl), c)
+  step_first (Fields room) b rest payload open' (none, t) = elim (field_first b room rest t) [
+    | inl last ↦ (LastFeed, inl (last.0, refl), (none, last.1))
+    | inr field ↦ (FieldName (room - 1), inr (field.0, field.1, refl), (none, field.2))
+  ]
+  step_first (FieldName room) b rest payload open' (none, inl (is, odd, feed)) = absurd odd
+  step_first (FieldName room) b rest payload open' (none, inr (some, later)) =
+      let p = line_parts (λ t. BehindFirst (b ∷ t)) IsTrailers (room - 1) rest later in
+      name_first b room rest payload none some later p.0 p.4 (omega (arith, p.5))
+  step_first (FieldValue room) b rest payload open' (none, inl (is, all, feed)) = (FieldFeed room, inl (is, refl), (none, feed))
+  step_first (FieldValue room) b rest payload open' (none, inr (some, later)) =
+      let p = line_parts (λ t. AllByRecursion IsValueByte (b ∷ t)) IsTrailers (room - 1) rest later in (
+        FieldValue (room - 1),
+        inr (p.4.0, some, refl),
+        (
+          none,
+          line_as (λ t. AllByRecursion IsValueByte (b ∷ t)) (AllByRecursion IsValueByte) IsTrailers (room - 1) rest
+              (λ t all. all.1) later,
+        ),
+      )
+  step_first (FieldFeed room) b rest payload open' (none, (is, c)) = (Fields room, (is, refl), (none, c))
+  step_first LastFeed b rest payload open' (none, (is, c)) = (Done, (is, refl), (none, c))
+  step_first Done b rest payload open' c = absurd (open' tt)
+
+  -- it leads to one place
+  one_extension : (w : Within) (b size room : ℕ) (q r : Place) → LeadsInExtension w size room b q
+      → LeadsInExtension w size room b r → q ≡ r
+  one_extension w b size room q r (inl s) (inl t) = s.2 ∙ sym t.2
+  one_extension w b size room q r (inl s) (inr t) = absurd ((within.steps_text w b t.0 t.1).0 s.0)
+  one_extension w b size room q r (inr s) (inl t) = absurd ((within.steps_text w b s.0 s.1).0 t.0)
+  one_extension w b size room q r (inr s) (inr t) =
+      s.3 ∙ ap (λ v. Extension v size (room - 1)) (within.one_way w b s.0 t.0 s.1 t.1) ∙ sym t.3
+
+  one_place : (p : Place) (b : ℕ) (q r : Place) → LeadsTo limits p b q → LeadsTo limits p b r → q ≡ r
+  one_place Line b q r s t = s.1 ∙ sym t.1
+  one_place (Size number room) b q r (inl s) (inl t) = s.3 ∙ sym t.3
+  one_place (Size number room) b q r (inl s) (inr t) = absurd (t.0 s.0)
+  one_place (Size number room) b q r (inr s) (inl t) = absurd (s.0 t.0)
+  one_place (Size number room) b q r (inr s) (inr t) = one_extension Behind b number room q r s.2 t.2
+  one_place (Extension w size room) b q r s t = one_extension w b size room q r s.1 t.1
+  one_place (SizeFeed size) b q r s t = s.2 ∙ sym t.2
+  one_place (Data left) b q r s t = s.2 ∙ sym t.2
+  one_place (Fields room) b q r (inl s) (inl t) = s.1 ∙ sym t.1
+  one_place (Fields room) b q r (inl s) (inr t) = absurd ((token_is_text b t.0).0 s.0)
+  one_place (Fields room) b q r (inr s) (inl t) = absurd ((token_is_text b s.0).0 t.0)
+  one_place (Fields room) b q r (inr s) (inr t) = s.2 ∙ sym t.2
+  one_place (FieldName room) b q r (inl s) (inl t) = s.2 ∙ sym t.2
+  one_place (FieldName room) b q r (inl s) (inr t) = absurd ((token_plain b t.0).1 s.0)
+  one_place (FieldName room) b q r (inr s) (inl t) = absurd ((token_plain b s.0).1 t.0)
+  one_place (FieldName room) b q r (inr s) (inr t) = s.2 ∙ sym t.2
+  one_place (FieldValue room) b q r (inl s) (inl t) = s.1 ∙ sym t.1
+  one_place (FieldValue room) b q r (inl s) (inr t) = absurd ((value_is_text b t.0).0 s.0)
+  one_place (FieldValue room) b q r (inr s) (inl t) = absurd ((value_is_text b s.0).0 t.0)
+  one_place (FieldValue room) b q r (inr s) (inr t) = s.2 ∙ sym t.2
+  one_place Done b q r s t = absurd s
+  one_place p b q r s t = s.1 ∙ sym t.1
+
+  -- nearer to the next byte of payload, or to the end
+  nearer : (p : Place) (b : ℕ) (q : Place) → LeadsTo limits p b q → most_between limits q < most_between limits p
+  nearer Line b q s = omega (arith, ap (most_between limits) s.1)
+  nearer (Size number room) b q (inl s) = omega (arith, s.1, ap (most_between limits) s.3)
+  nearer (Size number room) b q (inr (none, small, inl s)) = omega (arith, ap (most_between limits) s.2)
+  nearer (Size number room) b q (inr (none, small, inr s)) = omega (arith, s.2.2, ap (most_between limits) s.3)
+  nearer (Extension w size room) b q (small, inl s) = omega (arith, ap (most_between limits) s.2)
+  nearer (Extension w size room) b q (small, inr s) = omega (arith, s.2.2, ap (most_between limits) s.3)
+  nearer (SizeFeed zero) b q s = omega (arith, ap (most_between limits) s.2)
+  nearer (SizeFeed (suc n)) b q s = omega (arith, ap (most_between limits) s.2)
+  nearer (Data zero) b q s = omega (arith, ap (most_between limits) s.2)
+  nearer (Data (suc left)) b q s = absurd (omega (arith, s.0))
+  nearer DataFeed b q s = omega (arith, ap (most_between limits) s.1)
+  nearer (Fields room) b q (inl s) = omega (arith, ap (most_between limits) s.1)
+  nearer (Fields room) b q (inr s) = omega (arith, s.1, ap (most_between limits) s.2)
+  nearer (FieldName room) b q (inl s) = omega (arith, s.1, ap (most_between limits) s.2)
+  nearer (FieldName room) b q (inr s) = omega (arith, s.1, ap (most_between limits) s.2)
+  nearer (FieldValue room) b q (inl s) = omega (arith, ap (most_between limits) s.1)
+  nearer (FieldValue room) b q (inr s) = omega (arith, s.1, ap (most_between limits) s.2)
+  nearer (FieldFeed room) b q s = omega (arith, ap (most_between limits) s.1)
+  nearer LastFeed b q s = omega (arith, ap (most_between limits) s.1)
+  nearer Done b q s = absurd s
+
+  leads_open : (p : Place) (b : ℕ) (q : Place) → LeadsTo limits p b q → ¬ IsDataOrDone p
+  leads_open (Data zero) b q s settled = settled
+  leads_open (Data (suc left)) b q s settled = omega (arith, s.0)
+  leads_open Done b q s settled = s
+  leads_open p b q s settled = settled
+
+  one_within : (p : Place) (b : ℕ) (q : Place) → LeadsTo limits p b q → (rest payload past : List ℕ)
+      → Completes limits p rest payload → b ∷ [] ≡ rest ++ past → past ≡ []
+  one_within p b q s [] payload past c same =
+      absurd (subst (λ r. LeadsTo limits r b q) (Completes-nothing limits p payload c) s)
+  one_within p b q s (x ∷ rest) payload past c same =
+      nothing_behind rest past (let tail : rest ++ past ≡ [] = cc in tail)
+
+  pub passes : (p : Place) (b : ℕ) (q : Place) → LeadsTo limits p b q → PassesOver (chunked limits) p (b ∷ []) q []
+  passes p b q s = record {
+    leads = record {
+      onward = λ rest payload agree c. step_on p b q rest payload s c;
+      back = λ rest whole agree c.
+          let f = step_first p b rest whole (leads_open p b q s) c in
+          (whole, refl, subst (λ r. Completes limits r rest whole) (one_place p b f.0 q f.1 s) f.2);
+      within = one_within p b q s;
+    };
+    few = omega (arith, nearer p b q s);
+  }
+
+  -- what is wrong with a byte leads nowhere
+  wrong_open : (p : Place) (b : ℕ) (why : Malformed) → IsWrong limits p b why → ¬ IsDataOrDone p
+  wrong_open (Data zero) b why wrong settled = settled
+  wrong_open (Data (suc left)) b why wrong settled = omega (arith, wrong.1)
+  wrong_open Done b why wrong settled = wrong
+  wrong_open p b why wrong settled = settled
+
+  no_line : (over bad : Malformed) (Over Bad Goes : Type 0) (b : ℕ) (why : Malformed) → (Over → ¬ Goes) → (b ≡ 10 → ¬ Goes)
+      → (Bad → ¬ Goes) → WrongInLine over bad Over Bad b why → ¬ Goes
+  no_line over bad Over Bad Goes b why one two three (inl wrong) = one wrong.1
+  no_line over bad Over Bad Goes b why one two three (inr (inl wrong)) = two wrong.1
+  no_line over bad Over Bad Goes b why one two three (inr (inr wrong)) = three wrong.1
+
+  wrong_extension : (w : Within) (b size room : ℕ) (why : Malformed) (q : Place) → WrongInExtension w room b why
+      → ¬ LeadsInExtension w size room b q
+  wrong_extension w b size room why q wrong goes =
+      no_line LineTooLong BadSize (RunsOver w room b) (EndsNoExtension w b) (LeadsInExtension w size room b q) b why
+      (λ over goes. elim goes [
+        | inl s ↦ (CompletesExtension-text w (b ∷ over.text) over.extends).0.0 s.0
+        | inr s ↦ omega (arith, over.over s.2.0 ((within.leads w b s.0 s.1 s.2.0).1 s.2.1), s.2.2)
+      ])
+      (λ feed goes. elim goes [ inl s ↦ omega (arith, feed, s.0) | inr s ↦ (within.steps_text w b s.0 s.1).1 feed ])
+      (λ bad goes. elim goes [
+        | inl s ↦ bad.no_return s.0 s.1
+        | inr s ↦ bad.none s.2.0 ((within.leads w b s.0 s.1 s.2.0).1 s.2.1)
+      ]) wrong goes
+
+  wrong_step : (p : Place) (b : ℕ) (why : Malformed) (q : Place) → IsWrong limits p b why → ¬ LeadsTo limits p b q
+  wrong_step (Size number room) b why q (inl (digit, inl large)) (inl s) = omega (arith, large.1, s.2)
+  wrong_step (Size number room) b why q (inl (digit, inr full)) (inl s) = omega (arith, full.2, s.1)
+  wrong_step (Size number room) b why q (inl wrong) (inr s) = s.0 wrong.0
+  wrong_step (Size number room) b why q (inr wrong) (inl s) = wrong.0 s.0
+  wrong_step (Size number room) b why q (inr wrong) (inr s) = wrong_extension Behind b number room why q wrong.1 s.2
+  wrong_step (Extension w size room) b why q wrong s = wrong_extension w b size room why q wrong s.1
+  wrong_step (Data left) b why q wrong s = wrong.2 s.1
+  wrong_step (Fields room) b why q wrong s =
+      no_line TrailersTooLong BadField (IsTokenByte b × (room < 2)) (¬ IsTokenByte b × IsTextByte b)
+      (LeadsTo limits (Fields room) b q) b why
+      (λ over goes. elim goes [ inl s ↦ (token_is_text b over.0).0 s.0 | inr s ↦ omega (arith, over.1, s.1) ])
+      (λ feed goes. elim goes [ inl s ↦ omega (arith, feed, s.0) | inr s ↦ (token_is_text b s.0).1 feed ])
+      (λ bad goes. elim goes [ inl s ↦ bad.1.0 s.0 | inr s ↦ bad.0 s.0 ]) wrong s
+  wrong_step (FieldName room) b why q wrong s =
+      no_line TrailersTooLong BadField (IsTokenByte b × (room < 2)) (¬ IsTokenByte b × (b ≢ 58) × (b ≢ 10))
+      (LeadsTo limits (FieldName room) b q) b why
+      (λ over goes. elim goes [ inl s ↦ (token_plain b over.0).1 s.0 | inr s ↦ omega (arith, over.1, s.1) ])
+      (λ feed goes. elim goes [ inl s ↦ omega (arith, feed, s.0) | inr s ↦ (token_is_text b s.0).1 feed ])
+      (λ bad goes. elim goes [ inl s ↦ bad.1 s.0 | inr s ↦ bad.0 s.0 ]) wrong s
+  wrong_step (FieldValue room) b why q wrong s =
+      no_line TrailersTooLong BadField (IsValueByte b × (room ≡ 0)) (¬ IsValueByte b × IsTextByte b)
+      (LeadsTo limits (FieldValue room) b q) b why
+      (λ over goes. elim goes [ inl s ↦ (value_is_text b over.0).0 s.0 | inr s ↦ omega (arith, over.1, s.1) ])
+      (λ feed goes. elim goes [ inl s ↦ omega (arith, feed, s.0) | inr s ↦ (value_is_text b s.0).1 feed ])
+      (λ bad goes. elim goes [ inl s ↦ bad.1.0 s.0 | inr s ↦ bad.0 s.0 ]) wrong s
+  wrong_step Done b why q wrong s = s
+  wrong_step p b why q wrong s = wrong.1 s.0
+
+  -- nor does it complete the body
+  pub IsWrong-none : (p : Place) (b : ℕ) (why : Malformed) (rest payload : List ℕ) → IsWrong limits p b why
+      → ¬ Completes limits p (b ∷ rest) payload
+  IsWrong-none p b why rest payload wrong c =
+      let f = step_first p b rest payload (wrong_open p b why wrong) c in wrong_step p b why f.0 wrong f.1
+
+  -- it has one name
+  in_line : (over bad : Malformed) (Over Bad : Type 0) (b : ℕ) → (Over → b ≢ 10) → (Over → ¬ Bad) → (Bad → b ≢ 10)
+      → (w v : Malformed) → WrongInLine over bad Over Bad b w → WrongInLine over bad Over Bad b v → w ≡ v
+  in_line over bad Over Bad b one two three w v h k = grind (arith, one, two, three)
+
+  name_in_extension : (w : Within) (room b : ℕ) (one other : Malformed) → WrongInExtension w room b one
+      → WrongInExtension w room b other → one ≡ other
+  name_in_extension w room b one other h k =
+      in_line LineTooLong BadSize (RunsOver w room b) (EndsNoExtension w b) b
+      (λ over. (CompletesExtension-text w (b ∷ over.text) over.extends).0.1) (λ over bad. bad.none over.text over.extends)
+      (λ bad. bad.no_feed) one other h k
+
+  pub one_name : (p : Place) (b : ℕ) (w v : Malformed) → IsWrong limits p b w → IsWrong limits p b v → w ≡ v
+  one_name (Size number room) b w v (inl (digit, h)) (inl (digit', k)) = grind (arith, h, k)
+  one_name (Size number room) b w v (inl h) (inr k) = absurd (k.0 h.0)
+  one_name (Size number room) b w v (inr h) (inl k) = absurd (h.0 k.0)
+  one_name (Size number room) b w v (inr h) (inr k) = name_in_extension Behind room b w v h.1 k.1
+  one_name (Extension within size room) b w v h k = name_in_extension within room b w v h k
+  one_name (Fields room) b w v h k =
+      in_line TrailersTooLong BadField (IsTokenByte b × (room < 2)) (¬ IsTokenByte b × IsTextByte b) b
+      (λ over. (token_is_text b over.0).1) (λ over bad. bad.0 over.0) (λ bad. bad.1.1) w v h k
+  one_name (FieldName room) b w v h k =
+      in_line TrailersTooLong BadField (IsTokenByte b × (room < 2)) (¬ IsTokenByte b × (b ≢ 58) × (b ≢ 10)) b
+      (λ over. (token_is_text b over.0).1) (λ over bad. bad.0 over.0) (λ bad. bad.2) w v h k
+  one_name (FieldValue room) b w v h k =
+      in_line TrailersTooLong BadField (IsValueByte b × (room ≡ 0)) (¬ IsValueByte b × IsTextByte b) b
+      (λ over. (value_is_text b over.0).1) (λ over bad. bad.0 over.0) (λ bad. bad.1.1) w v h k
+  one_name Done b w v h k = absurd h
+  one_name p b w v h k = h.0 ∙ sym k.0
