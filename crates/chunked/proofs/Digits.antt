@@ -1,28 +1,12 @@
 -- The digits of a size are written from the last to the first, each out of the table.
-use Rattle.std.proofs.Common.{◌≡◌, ℕ, zero, suc, ◌+◌, ◌-◌, ◌<◌, ◌≤◌, List, ◌∷◌, length, drop, set, get_or, refl, ap, ◌∙◌, arith}
+use Rattle.std.proofs.Common.{◌≡◌, ℕ, zero-add, ◌+◌, ◌-◌, ◌<◌, ◌≤◌, List, ◌∷◌, length, drop, set, get_or, refl, ap, ◌∙◌, arith}
 use Rattle.std.proofs.lemmas.List.{drop-set}
+use Rattle.std.proofs.lemmas.List.FromFn.{get_or-map-range_with_len}
 use Rattle.std.specs.Prelude.{codes}
 use Rattle.std.specs.Char.{digit_char}
 
 pub digit_table : (d : ℕ) → d < 16 → get_or (codes "0123456789abcdef") d 0 ≡ digit_char d
-digit_table zero small = refl
-digit_table (suc zero) small = refl
-digit_table (suc (suc zero)) small = refl
-digit_table (suc (suc (suc zero))) small = refl
-digit_table (suc (suc (suc (suc zero)))) small = refl
-digit_table (suc (suc (suc (suc (suc zero))))) small = refl
-digit_table (suc (suc (suc (suc (suc (suc zero)))))) small = refl
-digit_table (suc (suc (suc (suc (suc (suc (suc zero))))))) small = refl
-digit_table (suc (suc (suc (suc (suc (suc (suc (suc zero)))))))) small = refl
-digit_table (suc (suc (suc (suc (suc (suc (suc (suc (suc zero))))))))) small = refl
-digit_table (suc (suc (suc (suc (suc (suc (suc (suc (suc (suc zero)))))))))) small = refl
-digit_table (suc (suc (suc (suc (suc (suc (suc (suc (suc (suc (suc zero))))))))))) small = refl
-digit_table (suc (suc (suc (suc (suc (suc (suc (suc (suc (suc (suc (suc zero)))))))))))) small = refl
-digit_table (suc (suc (suc (suc (suc (suc (suc (suc (suc (suc (suc (suc (suc zero))))))))))))) small = refl
-digit_table (suc (suc (suc (suc (suc (suc (suc (suc (suc (suc (suc (suc (suc (suc zero)))))))))))))) small = refl
-digit_table (suc (suc (suc (suc (suc (suc (suc (suc (suc (suc (suc (suc (suc (suc (suc zero))))))))))))))) small = refl
-digit_table (suc (suc (suc (suc (suc (suc (suc (suc (suc (suc (suc (suc (suc (suc (suc (suc d)))))))))))))))) small =
-    absurd (omega arith)
+digit_table d small = get_or-map-range_with_len digit_char 0 16 d d 0 small (zero-add d)
 
 -- a byte that is written just before others stands before them
 pub set_before : (xs : List ℕ) (start y z : ℕ) → 1 ≤ start → start ≤ length xs → y ≡ z

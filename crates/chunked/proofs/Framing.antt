@@ -11,7 +11,7 @@ use Rattle.chunked.specs.declared.place.Place.{Place}
 use Rattle.chunked.specs.declared.place.Place.TheVariants.{Line, Size, SizeFeed, Data}
 use Rattle.chunked.specs.Place.{IsPlace}
 use Rattle.chunked.specs.StepLaws.{passes}
-use Rattle.chunked.specs.Steps.{Comes, LeadsTo, behind_size}
+use Rattle.chunked.specs.Steps.{Comes, StepsTo, behind_size}
 
 -- so many digits write a number that isn't too large
 pub few_digits : (size k : ℕ) → size < 16 ^ k → k ≤ 14 → size < 2 ^ 58
@@ -30,7 +30,7 @@ module _ (limits : Limits) where
 
   -- a byte more
   pub comes_more : (p q r : Place) (shown : List ℕ) (at b : ℕ) → at < length shown → slice_index shown at ≡ b
-      → Comes limits p (take at shown) q → LeadsTo limits q b r → IsPlace r → Comes limits p (take (at + 1) shown) r
+      → Comes limits p (take at shown) q → StepsTo limits q b r → IsPlace r → Comes limits p (take (at + 1) shown) r
   comes_more p q r shown at b held is comes leads place =
       let wire = take at shown in
       let one = passes limits q b r leads in

@@ -11,7 +11,7 @@ use Rattle.buffer_redux.specs.declared.policy.StdPolicy.{StdPolicy}
 use Rattle.chunked.specs.Body.{line_end}
 use Rattle.chunked.specs.Chunk.{HasBegun, IsChunks, chunk_begun, chunk_end}
 use Rattle.chunked.specs.ChunkLaws.{HasBegun-begins, HasBegun-ends, HasBegun-more}
-use Rattle.chunked.specs.ChunkedWriter.{ChunkedWriterState, CopiesSizeLine, IsChunkedWriter, IsNoted, MakesSpace, PayloadWent, TakesSome, WentOn, WritesChunk, accepted_of, around, greatest}
+use Rattle.chunked.specs.ChunkedWriter.{ChunkedWriterState, CopiesSizeLine, IsChunkedWriter, IsNoted, MakesSpace, PayloadWent, TakesSome, TakesThere, WentOn, WritesChunk, accepted_of, around, greatest}
 use Rattle.chunked.specs.ChunkedWriterLaws.{PayloadWent-joins}
 use Rattle.chunked.proofs.Writing.{WentIn, nothing_went, payload_went, puts_went, space_went, went_on}
 
@@ -56,51 +56,12 @@ take_min due payload = elim (cases_lt (length payload) due) [
 
 module _ {S : Type 0} (tells : S → StreamLog) (trace : S → S → Type 0) (none : (a : S) → trace a a)
     (joins : (a b c : S) → trace a b → trace b c → trace a c) where
-  -- space was made for a part, and it was taken in, or it wasn't
-  module _ (s m t : Buffered S StdPolicy) (part : List ℕ) (made : MakesSpace tells trace (length part + 2) s (Ok tt) m) where
-    same_capacity : m.block.capacity ≡ s.block.capacity
-    same_capacity = elim (cases_lt (room s) (length part + 2)) [
-      | inl full ↦ (made.full full).capacity
-      | inr there ↦ ap (λ x. x.block.capacity) (made.fits there).1
-    ]
-
-    has_room : length part + 2 ≤ s.block.capacity → length part + 2 ≤ room m
-    has_room small = elim (cases_lt (room s) (length part + 2)) [
-      | inl full ↦ omega (arith, small, ap length (made.full full).ok.empty, (made.full full).capacity)
-      | inr there ↦ omega (arith, there, ap room (made.fits there).1)
-    ]
-
-    pub goes_past : room m < length part + 2 → (answer : Result ℕ Error) → GoesDirect after_write m part answer t
-        → InnerWent tells trace m t → TakesSome tells trace s part answer t
-    goes_past none answer direct calls = record {
-      sending = Ok tt;
-      spaced = m;
-      makes_space = made;
-      inside = λ _ small. absurd (omega (arith, has_room small, none));
-      past = λ _ _. (direct, calls);
-      failed = λ e is. absurd (let odd : ◌≡◌ {A = Result (Unit {0}) Error} (Ok tt) (Err e) = is in cc);
-    }
-
-    pub goes_inside : length part + 2 ≤ room m → PutsIn m part t → TakesSome tells trace s part (Ok (length part)) t
-    goes_inside there puts = record {
-      sending = Ok tt;
-      spaced = m;
-      makes_space = made;
-      inside = λ _ _. (refl, puts);
-      past = λ _ large. absurd (omega (arith, large, there, same_capacity));
-      failed = λ e is. absurd (let odd : ◌≡◌ {A = Result (Unit {0}) Error} (Ok tt) (Err e) = is in cc);
-    }
-
-  pub takes_nothing : (s m : Buffered S StdPolicy) (part : List ℕ) (e : Error)
-      → MakesSpace tells trace (length part + 2) s (Err e) m → TakesSome tells trace s part (Err e) m
-  takes_nothing s m part e made = record {
-    sending = Err e;
-    spaced = m;
-    makes_space = made;
-    inside = λ is _. absurd (let odd : ◌≡◌ {A = Result (Unit {0}) Error} (Err e) (Ok tt) = is in cc);
-    past = λ is _. absurd (let odd : ◌≡◌ {A = Result (Unit {0}) Error} (Err e) (Ok tt) = is in cc);
-    failed = λ e' is. (let same : ◌≡◌ {A = Result (Unit {0}) Error} (Err e) (Err e') = is in cc, refl);
-  }
+  -- what doesn't fit once space was made doesn't fit the capacity
+  pub has_room : (s m : Buffered S StdPolicy) (n : ℕ) → MakesSpace tells trace n s (Ok tt) m → n ≤ m.block.capacity → n ≤ room m
+  has_room s m n made small = elim (cases_lt (room s) n) [
+    | inl full ↦ omega (arith, small, ap length (made.full full).ok.empty)
+    | inr there ↦ omega (arith, there, ap room (made.fits there).1)
+  ]
 
   -- past an empty buffer
   past_went : (s t : Buffered S StdPolicy) (part : List ℕ) (answer : Result ℕ Error) → IsBlock s.block → s.block.bytes ≡ []
@@ -120,68 +81,37 @@ module _ {S : Type 0} (tells : S → StreamLog) (trace : S → S → Type 0) (no
     whole = subst IsBlock (sym direct.block) whole;
   }
 
-  -- a part that was taken in, or not; and the end of a line fits behind it
-  pub record PartWent (s : Buffered S StdPolicy) (part : List ℕ) (answer : Result ℕ Error) (t : Buffered S StdPolicy)
-      : Type 0 where
-    pub went : WentIn trace s (portion part answer) t
-    pub room : around < s.block.capacity → MatchResult answer (λ _. 2 ≤ room t) (λ _. Unit {0})
+  past_empty : (s m : Buffered S StdPolicy) (n : ℕ) → MakesSpace tells trace n s (Ok tt) m → m.block.capacity < n
+      → m.block.bytes ≡ []
+  past_empty s m n made large = elim (cases_lt (room s) n) [
+    | inl full ↦ (made.full full).ok.empty
+    | inr there ↦ absurd (omega (arith, there, large, ap (λ x. x.block.capacity) (made.fits there).1))
+  ]
 
-  module _ (s m t : Buffered S StdPolicy) (part : List ℕ) (whole : IsBlock s.block)
-      (made : MakesSpace tells trace (length part + 2) s (Ok tt) m) where
-    spaced : WentIn trace s [] m
-    spaced = space_went tells trace none joins s m (length part + 2) (Ok tt) whole made
+  -- a part that was taken in, or not
+  there_went : (m t : Buffered S StdPolicy) (part : List ℕ) (answer : Result ℕ Error) → IsBlock m.block
+      → (m.block.capacity < length part + 2 → m.block.bytes ≡ []) → TakesThere tells trace m part answer t
+      → WentIn trace m (portion part answer) t
+  there_went m t part answer whole empty takes = elim (cases_lt m.block.capacity (length part + 2)) [
+    | inl large ↦ let past = takes.past large in past_went m t part answer whole (empty large) past.0 past.1
+    | inr small ↦
+        let inside = takes.inside small in
+        rw (inside.0, take_all (length part) part (omega arith)) (puts_went tells trace none joins m t part inside.1)
+  ]
 
-    put_inside : length part + 2 ≤ s.block.capacity → PutsIn m part t → PartWent s part (Ok (length part)) t
-    put_inside small puts = record {
-      went = subst (λ l. WentIn trace s l t) (sym (take_all (length part) part (omega arith)))
-          (went_on tells trace none joins s m t [] part spaced (puts_went tells trace none joins m t part puts));
-      room = λ _.
-          let there = has_room s m t part made small in
-          omega (arith, there, puts.capacity, ap length puts.added, length-append m.block.bytes part);
-    }
-
-    empty_there : s.block.capacity < length part + 2 → m.block.bytes ≡ []
-    empty_there large = (made.full (omega (arith, large))).ok.empty
-
-    put_past : s.block.capacity < length part + 2 → (answer : Result ℕ Error) → GoesDirect after_write m part answer t
-        → InnerWent tells trace m t → PartWent s part answer t
-    put_past large answer direct calls = record {
-      went = went_on tells trace none joins s m t [] (portion part answer) spaced
-          (past_went m t part answer spaced.whole (empty_there large) direct calls);
-      room = λ some. roomy some answer;
-    }
-      where
-        roomy : around < s.block.capacity → (answer : Result ℕ Error) → MatchResult answer (λ _. 2 ≤ room t) (λ _. Unit {0})
-        roomy some (Ok n) = omega (
-          arith,
-          some,
-          spaced.capacity,
-          ap (λ b. b.capacity) direct.block,
-          ap (λ b. length b.bytes) direct.block,
-          ap length (empty_there large),
-        )
-        roomy some (Err e) = tt
-
-  pub part_went : (s t : Buffered S StdPolicy) (part : List ℕ) (answer : Result ℕ Error) → IsBlock s.block
-      → TakesSome tells trace s part answer t → PartWent s part answer t
-  part_went s t part answer whole takes = by_sending takes.sending refl takes.makes_space
+  part_went : (s t : Buffered S StdPolicy) (part : List ℕ) (answer : Result ℕ Error) → IsBlock s.block
+      → TakesSome tells trace s part answer t → WentIn trace s (portion part answer) t
+  part_went s t part answer whole takes = by_sending takes.sending takes.makes_space takes.ended
     where
-      by_sending : (sending : Result (Unit {0}) Error) → takes.sending ≡ sending
-          → MakesSpace tells trace (length part + 2) s sending takes.spaced → PartWent s part answer t
-      by_sending (Ok _) is made = elim (cases_lt s.block.capacity (length part + 2)) [
-        | inl large ↦
-            let past = takes.past is large in
-            put_past s takes.spaced t part whole made large answer past.0 past.1
-        | inr small ↦
-            let inside = takes.inside is small in
-            subst (λ a. PartWent s part a t) (sym inside.0) (put_inside s takes.spaced t part whole made small inside.1)
-      ]
-      by_sending (Err e) is made =
-          let failed = takes.failed e is in
-          subst (λ a. PartWent s part a t) (sym failed.0) (subst (λ x. PartWent s part (Err e) x) (sym failed.1) (record {
-            went = space_went tells trace none joins s takes.spaced (length part + 2) (Err e) whole made;
-            room = λ _. tt;
-          }))
+      by_sending : (sending : Result (Unit {0}) Error) → MakesSpace tells trace (length part + 2) s sending takes.spaced
+          → MatchResult sending (λ _. TakesThere tells trace takes.spaced part answer t)
+          (λ e. (answer ≡ Err e) × (t ≡ takes.spaced)) → WentIn trace s (portion part answer) t
+      by_sending (Ok _) made ended =
+          let spaced = space_went tells trace none joins s takes.spaced (length part + 2) (Ok tt) whole made in
+          went_on tells trace none joins s takes.spaced t [] (portion part answer) spaced
+          (there_went takes.spaced t part answer spaced.whole (past_empty s takes.spaced (length part + 2) made) ended)
+      by_sending (Err e) made ended =
+          rw (ended.0, ended.1) (space_went tells trace none joins s takes.spaced (length part + 2) (Err e) whole made)
 
   -- payload went on in a chunk
   module _ (s : ChunkedWriterState S) (is : IsChunkedWriter s) (within : 0 < s.due) (payload : List ℕ) where
@@ -203,21 +133,14 @@ module _ {S : Type 0} (tells : S → StreamLog) (trace : S → S → Type 0) (no
       accepted = ap (λ l. l.writes.received) noted
 
       ended : t.due ≡ 0 → IsChunks t.wire (accepted_of t)
-      ended none =
-          subst (λ l. IsChunks l (accepted_of t))
-          (ap (λ l. s.wire ++ (take n payload ++ l)) (sym (chunk_end_last t.due none)) ∙ sym wired)
-          (subst (λ l. IsChunks (s.wire ++ (take n payload ++ line_end [])) l) (sym accepted)
+      ended none = rw (wired, chunk_end_last t.due none, accepted)
           (HasBegun-ends s.due s.wire (accepted_of s) (take n payload) (is.begun within) within
-          (omega (arith, none, left, below, long))))
+          (omega (arith, none, left, below, long)))
 
       goes : 0 < t.due → HasBegun t.due t.wire (accepted_of t)
-      goes some =
-          subst (λ d. HasBegun d t.wire (accepted_of t)) (ap (λ k. s.due - k) long ∙ sym left)
-          (subst (λ l. HasBegun (s.due - length (take n payload)) l (accepted_of t))
-          (ap (λ l. s.wire ++ l) (sym (append-nil (take n payload)) ∙ ap (λ l. take n payload ++ l)
-          (sym (chunk_end_more t.due some))) ∙ sym wired)
-          (subst (λ l. HasBegun (s.due - length (take n payload)) (s.wire ++ take n payload) l) (sym accepted)
-          (HasBegun-more s.due s.wire (accepted_of s) (take n payload) (is.begun within) (omega (arith, long, below)))))
+      goes some = rw (wired, chunk_end_more t.due some, append-nil, accepted, left)
+          (rw long at (HasBegun-more s.due s.wire (accepted_of s) (take n payload) (is.begun within)
+          (omega (arith, long, below))))
 
       pub goes_whole : IsChunkedWriter t
       goes_whole = record {
@@ -236,9 +159,7 @@ module _ {S : Type 0} (tells : S → StreamLog) (trace : S → S → Type 0) (no
         → t.calls ≡ s.calls → IsChunkedWriter t
     stays_whole t went due wire calls = record {
       whole = λ none. absurd (omega (arith, none, due, within));
-      begun = λ _. subst (λ d. HasBegun d t.wire (accepted_of t)) (sym due)
-          (subst (λ l. HasBegun s.due l (accepted_of t)) (sym wire)
-          (subst (λ l. HasBegun s.due s.wire l) (ap (λ l. l.writes.received) (sym calls)) (is.begun within)));
+      begun = λ _. rw (due, wire, calls) (is.begun within);
       block = went.whole;
       capacity = omega (arith, went.capacity, is.capacity);
     }
@@ -252,12 +173,11 @@ module _ {S : Type 0} (tells : S → StreamLog) (trace : S → S → Type 0) (no
           let long : length part ≡ min s.due (length payload) = ap length same ∙ length-take s.due payload in
           let count : n ≤ length payload = omega (arith, within', long) in
           let below : n ≤ s.due = omega (arith, within', long) in
-          let takes : TakesSome tells trace s.writer (take s.due payload) (Ok n) m =
-          subst (λ l. TakesSome tells trace s.writer l (Ok n) m) same takes in
+          let takes = rw same at takes in
           let all : t.wire ≡ s.wire ++ (take n payload ++ chunk_end t.due) =
           wired ∙ ap (λ l. l ++ chunk_end t.due) so_far ∙ append_assoc s.wire (take n part) (chunk_end t.due)
           ∙ ap (λ l. s.wire ++ (l ++ chunk_end t.due)) (ap (take n) same ∙ take_due n s.due payload below) in
-          let part = (part_went s.writer m (take s.due payload) (Ok n) is.block takes).went in record {
+          let part = (part_went s.writer m (take s.due payload) (Ok n) is.block takes) in record {
             goes = record { taken = m; takes = takes; ended = (below, left, ends, all) };
             went = (take n payload ++ chunk_end t.due, goes_went n count below m part t left ends all noted);
             noted = noted;
@@ -267,10 +187,9 @@ module _ {S : Type 0} (tells : S → StreamLog) (trace : S → S → Type 0) (no
       pub stops : (e : Error) → TakesSome tells trace s.writer part (Err e) m → (wire : List ℕ) → wire ≡ s.wire ++ []
           → WentOn tells trace s payload (Err e) (record s { writer = m; wire = wire })
       stops e takes wire so_far =
-          let takes : TakesSome tells trace s.writer (take s.due payload) (Err e) m =
-          subst (λ l. TakesSome tells trace s.writer l (Err e) m) same takes in
+          let takes = rw same at takes in
           let still : wire ≡ s.wire = so_far ∙ append-nil s.wire in
-          let part = (part_went s.writer m (take s.due payload) (Err e) is.block takes).went in
+          let part = (part_went s.writer m (take s.due payload) (Err e) is.block takes) in
           let t : ChunkedWriterState S = record s { writer = m; wire = wire } in record {
             goes = record { taken = m; takes = takes; ended = (refl, refl, still) };
             went = ([], nothing_went tells trace none joins s t part still refl);
@@ -286,8 +205,7 @@ module _ {S : Type 0} (tells : S → StreamLog) (trace : S → S → Type 0) (no
           → IsChunkedWriter (record s { writer = t; wire = wire; due = size })
       begun_whole some m t made puts wire wired = record {
         whole = λ none. absurd (omega (arith, none, some));
-        begun = λ _. subst (λ l. HasBegun size l (accepted_of s)) (sym wired)
-            (HasBegun-begins size s.wire (accepted_of s) small (is.whole between));
+        begun = λ _. rw wired (HasBegun-begins size s.wire (accepted_of s) small (is.whole between));
         block = puts.whole;
         capacity = omega (
           arith,
@@ -310,8 +228,8 @@ module _ {S : Type 0} (tells : S → StreamLog) (trace : S → S → Type 0) (no
           → PayloadWent trace s [] [] t
       not_begun_went e t b =
           nothing_went tells trace none joins s t
-          (subst (λ w. WentIn trace s.writer [] w) (sym b.ended.0)
-          (space_went tells trace none joins s.writer b.spaced around (Err e) is.block b.makes_space)) b.ended.1 b.calls
+          (rw b.ended.0 (space_went tells trace none joins s.writer b.spaced around (Err e) is.block b.makes_space)) b.ended.1
+          b.calls
 
   -- a write within a chunk, and one that begins a chunk
   module _ (s : ChunkedWriterState S) (payload : List ℕ) (some : 0 < length payload) where

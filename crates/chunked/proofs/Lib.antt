@@ -1,7 +1,6 @@
 mod Digits
 pub mod Writing
 mod Going
-pub mod Least
 pub mod Framing
 mod Written
 mod Fields

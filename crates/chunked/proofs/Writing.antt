@@ -60,10 +60,20 @@ module _ {S : Type 0} (tells : S → StreamLog) (trace : S → S → Type 0) (no
     whole = q.whole;
   }
 
+  puts_none : (s : Buffered S StdPolicy) → IsBlock s.block → WentIn trace s [] s
+  puts_none s whole = record {
+    in_order = WritesInOrder-none s;
+    went = none s.inner;
+    noted = refl;
+    capacity = refl;
+    limit = refl;
+    whole = whole;
+  }
+
   pub puts_went : (s t : Buffered S StdPolicy) (bytes : List ℕ) → PutsIn s bytes t → WentIn trace s bytes t
   puts_went s t bytes puts = record {
     in_order = PutsIn-order s t bytes puts;
-    went = subst (trace s.inner) (ap (λ x. x.inner) (sym puts.others)) (none s.inner);
+    went = rw puts.others (none s.inner);
     noted = ap (λ x. x.own_calls) puts.others;
     capacity = puts.capacity;
     limit = puts.limit;
@@ -85,14 +95,7 @@ module _ {S : Type 0} (tells : S → StreamLog) (trace : S → S → Type 0) (no
       → MakesSpace tells trace n s answer t → WentIn trace s [] t
   space_went s t n answer whole made = elim (cases_lt (room s) n) [
     | inl full ↦ sent_went s t answer (made.full full)
-    | inr there ↦ subst (λ x. WentIn trace s [] x) (sym (made.fits there).1) (record {
-      in_order = WritesInOrder-none s;
-      went = none s.inner;
-      noted = refl;
-      capacity = refl;
-      limit = refl;
-      whole = whole;
-    })
+    | inr there ↦ rw (made.fits there).1 (puts_none s whole)
   ]
 
   -- all was sent, as there was no space
@@ -108,7 +111,7 @@ module _ {S : Type 0} (tells : S → StreamLog) (trace : S → S → Type 0) (no
   module _ (s m t : Buffered S StdPolicy) (n : ℕ) (spaced : MakesSpace tells trace n s (Ok tt) m) (bytes : List ℕ)
       (puts : PutsIn m bytes t) where
     pub straight : n ≤ room s → PutsIn s bytes t
-    straight there = subst (λ w. PutsIn w bytes t) (spaced.fits there).1 puts
+    straight there = rw (spaced.fits there).1 at puts
 
     pub behind : room s < n → SendsFirst tells trace s bytes t
     behind full = record { sent = m; sends = spaced.full full; puts = puts }
@@ -165,11 +168,8 @@ module _ {S : Type 0} (tells : S → StreamLog) (trace : S → S → Type 0) (no
 
       pub whole : IsChunkedWriter Left
       whole = record {
-        whole = λ _.
-            subst (λ l. IsChunks l (accepted_of Left)) (ap (λ l. s.wire ++ l) (append-nil (chunk payload)) ∙ sym wired)
-            (subst (λ l. IsChunks (s.wire ++ flat_map chunk (payload ∷ [])) l)
-            (ap (λ l. accepted_of s ++ l) (append-nil payload ∙ sym all) ∙ sym accepted_more)
-            (IsChunks-joins s.wire (accepted_of s) (payload ∷ []) (is.whole between) one));
+        whole = λ _. rw (wired, noted, all)
+            (simp append-nil at (IsChunks-joins s.wire (accepted_of s) (payload ∷ []) (is.whole between) one));
         begun = λ within. absurd (omega (arith, within, between));
         block = puts.whole;
         capacity = omega (arith, went_in.capacity, is.capacity);
@@ -181,8 +181,7 @@ module _ {S : Type 0} (tells : S → StreamLog) (trace : S → S → Type 0) (no
       chunks : ChunksWent trace s (payload ∷ []) Left
       chunks = record {
         carried = one;
-        went = subst (λ l. PayloadWent trace s l (concat (payload ∷ [])) Left) (sym (append-nil (chunk payload)))
-            (subst (λ l. PayloadWent trace s (chunk payload) l Left) (all ∙ sym (append-nil payload)) went);
+        went = simp append-nil (rw all at went);
         due = refl;
       }
 
@@ -190,8 +189,7 @@ module _ {S : Type 0} (tells : S → StreamLog) (trace : S → S → Type 0) (no
       wrote = record {
         went = (chunk payload, went);
         nothing = λ nothing. absurd (omega (arith, nothing, some));
-        chunks = λ _ _. subst (λ l. ChunksWent trace s l Left)
-            (sym (taken_some payload (length payload) some ∙ ap (λ l. l ∷ []) all)) chunks;
+        chunks = λ _ _. rw (taken_some payload (length payload) some, all) chunks;
         fits = λ _ _ there. (refl, straight s.writer m t (around + length payload) spaced (chunk payload) puts there);
         full = λ _ _ full _. (refl, behind s.writer m t (around + length payload) spaced (chunk payload) puts full);
         begins = λ _ large. absurd (omega (arith, large, small));
@@ -237,14 +235,8 @@ module _ {S : Type 0} (tells : S → StreamLog) (trace : S → S → Type 0) (no
     Still = record s { calls = calls }
 
     still_went : PayloadWent trace s [] [] Still
-    still_went = payload_went s Still [] [] (record {
-      in_order = WritesInOrder-none s.writer;
-      went = none s.writer.inner;
-      noted = refl;
-      capacity = refl;
-      limit = refl;
-      whole = is.block;
-    }) (sym (append-nil s.wire)) (ap (λ l. l.writes.received) noted)
+    still_went = payload_went s Still [] [] (puts_none s.writer is.block) (sym (append-nil s.wire))
+        (ap (λ l. l.writes.received) noted)
 
     same_payload : accepted_of s ≡ accepted_of Still
     same_payload = sym (append-nil (accepted_of s)) ∙ sym still_went.accepted
@@ -297,7 +289,7 @@ module _ {S : Type 0} (tells : S → StreamLog) (trace : S → S → Type 0) (no
   flush_went s m v answer calls same went still noted =
       let before : v.calls ≡ s.calls = ap (λ c. c.calls) same ∙ still in
       let told : calls ≡ after_flush s.calls answer = noted ∙ ap (λ l. after_flush l answer) before in
-      let went : PayloadWent trace s [] [] v = subst (λ c. PayloadWent trace s [] [] c) (sym same) went.went in
+      let went : PayloadWent trace s [] [] v = rw same went.went in
       record {
         bytes = [];
         payload = [];
@@ -310,5 +302,5 @@ module _ {S : Type 0} (tells : S → StreamLog) (trace : S → S → Type 0) (no
           capacity = went.capacity;
           limit = went.limit;
         };
-        grows = subst (λ l. WriteLogGrows s.calls.writes l.writes) (sym told) (WriteLogGrows-flush s.calls answer);
+        grows = rw told (WriteLogGrows-flush s.calls answer);
       }

@@ -6,7 +6,7 @@ use Rattle.chunked.specs.declared.place.Place.TheVariants.{Line, Size, Extension
 use Rattle.chunked.specs.Body.{line_end}
 use Rattle.chunked.specs.LineLaws.{line_ends}
 use Rattle.chunked.specs.Place.{BehindSize, Completes, IsPlace}
-use Rattle.chunked.specs.Steps.{LeadsTo, behind_size}
+use Rattle.chunked.specs.Steps.{StepsTo, behind_size}
 use Rattle.chunked.specs.StepLaws.{behind_on, step_on}
 use Rattle.chunked.specs.Within.{CompletesExtension}
 
@@ -20,7 +20,7 @@ module _ (limits : Limits) (filler : ℕ) where
     pub plain : (payload ≡ []) ⊎ ((more : List ℕ) × (payload ≡ filler ∷ more))
 
   -- from where a byte leads to such a place
-  before : (p : Place) (b : ℕ) (q : Place) → LeadsTo limits p b q → Completed q → Completed p
+  before : (p : Place) (b : ℕ) (q : Place) → StepsTo limits p b q → Completed q → Completed p
   before p b q s c = record {
     rest = b ∷ c.rest;
     payload = c.payload;

@@ -2,7 +2,7 @@
 use Rattle.std.specs.Prelude.{◌≡◌, ℕ, ◌+◌, ◌-◌, ◌^◌, ◌<◌, ◌≤◌, List, [], ◌∷◌, ◌++◌, length, map, flat_map}
 use Rattle.std.proofs.lemmas.List.Folds.{concat-append}
 use Rattle.std.proofs.Common.{sym, ap, subst, ◌∙◌, arith, refl, append_assoc, append-nil, length-append}
-use Rattle.std.proofs.lemmas.Bool.Decides.{nat_tests}
+use Rattle.std.proofs.lemmas.Str.{digit_value-digit_char}
 use Rattle.std.proofs.lemmas.Int.Digits.{length-digits_of_step, length-digits_of-le, all_below_base_digits_of, number_digits_of, digits_value_is}
 use Rattle.std.proofs.lemmas.List.{length-map}
 use Rattle.std.proofs.lemmas.List.Concat.{flat_map-append}
@@ -15,15 +15,12 @@ use Rattle.chunked.specs.declared.limits.Limits.{Limits}
 use Rattle.chunked.specs.Body.{line_room, line_end, IsField, IsSizeLine, HasChunks, IsBodyOfChunks, fields_bytes}
 use Rattle.chunked.specs.Chunk.{HasBegun, IsCarried, IsChunks, body_end, chunk, chunk_begun, size_digits}
 
--- a digit that is written is read as what it was
-digit_back : (d : ℕ) → d < 16 → digit_value (digit_char d) ≡ d
-digit_back d small = grind (arith, nat_tests)
-
+-- digits that are written are read as what they were
 digits_back : (ds : List ℕ) → AllBelowBase 16 ds
     → (map digit_value (map digit_char ds) ≡ ds) × AllDigits 16 (map digit_char ds)
 digits_back [] below = (refl, tt)
 digits_back (d ∷ ds) below =
-    let here = digit_back d (omega (arith, below.0)) in
+    let here = digit_value-digit_char d (omega (arith, below.0)) in
     let later = digits_back ds below.1 in
     (ap (λ x. x ∷ map digit_value (map digit_char ds)) here ∙ ap (λ l. d ∷ l) later.0, (omega (arith, here, below.0), later.1))
 
@@ -52,7 +49,6 @@ size_digits-line limit size some small room =
       fits = omega (arith, room, size_digits-few size small);
     }
 
--- no chunk is there at first, and one more stands behind the others
 -- the line of the last chunk
 pub zero_line : (limit : ℕ) → 0 < limit → IsSizeLine limit 0 (48 ∷ [])
 zero_line limit some = record {
@@ -66,6 +62,7 @@ zero_line limit some = record {
   fits = omega (arith, some);
 }
 
+-- no chunk is there at first, and more stand behind the others
 pub IsChunks-none : IsChunks [] []
 IsChunks-none = record { payloads = []; carried = All-nil IsCarried; equal = refl; joined = refl }
 
@@ -79,10 +76,7 @@ IsChunks-joins bytes payload more h carried = record {
 }
 
 pub IsChunks-behind : (a x b y : List ℕ) → IsChunks a x → IsChunks b y → IsChunks (a ++ b) (x ++ y)
-IsChunks-behind a x b y h k =
-    subst (λ p. IsChunks (a ++ b) (x ++ p)) (sym k.joined)
-    (subst (λ l. IsChunks (a ++ l) (x ++ concat k.payloads)) (sym k.equal)
-    (IsChunks-joins a x k.payloads h k.carried))
+IsChunks-behind a x b y h k = rw (k.joined, k.equal) (IsChunks-joins a x k.payloads h k.carried)
 
 -- a chunk is begun behind whole ones; and payload goes on in it, to its end or not
 pub HasBegun-begins : (size : ℕ) (bytes payload : List ℕ) → size < 2 ^ 62 → IsChunks bytes payload
@@ -97,57 +91,29 @@ HasBegun-begins size bytes payload small is = record {
   small = omega (arith, small);
 }
 
-longer : (due : ℕ) (part more : List ℕ) → length more ≤ due
-    → chunk_begun due part ++ more ≡ chunk_begun (due - length more) (part ++ more)
-longer due part more within =
-    let same : length part + due ≡ length (part ++ more) + (due - length more) =
-    omega (arith, within, length-append part more) in
-    append_assoc (size_digits (length part + due)) (line_end part) more
-    ∙ ap (λ n. size_digits n ++ line_end (part ++ more)) same
-
 module _ (due : ℕ) (bytes payload more : List ℕ) (h : HasBegun due bytes payload) where
-  further : length more ≤ due → bytes ++ more ≡ h.before ++ chunk_begun (due - length more) (h.part ++ more)
-  further within =
-      ap (λ l. l ++ more) h.equal ∙ append_assoc h.before (chunk_begun due h.part) more
-      ∙ ap (λ l. h.before ++ l) (longer due h.part more within)
-
-  joined : payload ++ more ≡ h.carried ++ (h.part ++ more)
-  joined = ap (λ l. l ++ more) h.joined ∙ append_assoc h.carried h.part more
-
   pub HasBegun-more : length more ≤ due → HasBegun (due - length more) (bytes ++ more) (payload ++ more)
-  HasBegun-more within = record {
-    before = h.before;
-    carried = h.carried;
-    chunks = h.chunks;
-    part = h.part ++ more;
-    equal = further within;
-    joined = joined;
-    small = omega (arith, h.small, within, length-append h.part more);
-  }
+  HasBegun-more within =
+      let size : length (h.part ++ more) + (due - length more) ≡ length h.part + due =
+      omega (arith, within, length-append h.part more) in
+      record {
+        before = h.before;
+        carried = h.carried;
+        chunks = h.chunks;
+        part = h.part ++ more;
+        equal = rw (h.equal, size) (simp append_assoc);
+        joined = rw h.joined (append_assoc h.carried h.part more);
+        small = omega (arith, h.small, size);
+      }
 
   pub HasBegun-ends : 0 < due → length more ≡ due → IsChunks (bytes ++ (more ++ line_end [])) (payload ++ more)
   HasBegun-ends some all =
       let whole = h.part ++ more in
-      let none : due - length more ≡ 0 = omega (arith, all) in
-      let size : length whole + 0 ≡ length whole = omega arith in
-      let is : IsCarried whole = (
-        omega (arith, some, all, length-append h.part more),
-        omega (arith, all, h.small, length-append h.part more),
-      ) in
-      let last : chunk_begun (due - length more) whole ++ line_end [] ≡ chunk whole =
-      ap (λ n. chunk_begun n whole ++ line_end []) none
-      ∙ append_assoc (size_digits (length whole + 0)) (line_end whole) (line_end [])
-      ∙ ap (λ n. size_digits n ++ line_end (whole ++ line_end [])) size in
-      let wire : bytes ++ (more ++ line_end []) ≡ h.before ++ flat_map chunk (whole ∷ []) =
-      sym (append_assoc bytes more (line_end [])) ∙ ap (λ l. l ++ line_end []) (further (omega (arith, all)))
-      ∙ append_assoc h.before (chunk_begun (due - length more) whole) (line_end [])
-      ∙ ap (λ l. h.before ++ l) last
-      ∙ ap (λ l. h.before ++ l) (sym (append-nil (chunk whole))) in
-      let carries : payload ++ more ≡ h.carried ++ concat (whole ∷ []) =
-      joined ∙ ap (λ l. h.carried ++ l) (sym (append-nil whole)) in
-      subst (λ l. IsChunks l (payload ++ more)) (sym wire)
-      (subst (λ l. IsChunks (h.before ++ flat_map chunk (whole ∷ [])) l) (sym carries)
-      (IsChunks-joins h.before h.carried (whole ∷ []) h.chunks (All-cons IsCarried whole [] is (All-nil IsCarried))))
+      let size : length whole ≡ length h.part + due = omega (arith, all, length-append h.part more) in
+      let is : IsCarried whole = (omega (arith, some, size), omega (arith, h.small, size)) in
+      let joined = IsChunks-joins h.before h.carried (whole ∷ []) h.chunks
+      (All-cons IsCarried whole [] is (All-nil IsCarried)) in
+      simp (h.equal, h.joined, append_assoc) (simp (append-nil, append_assoc, size) at joined)
 
 module _ (limits : Limits) (line : 16 ≤ limits.line) (fields : List (List ℕ)) (lines : AllByRecursion IsField fields)
     (few : length (concat fields) ≤ limits.trailers) where

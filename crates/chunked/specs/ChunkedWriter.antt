@@ -99,18 +99,21 @@ module _ {S : Type 0} (tells : S → StreamLog) (trace : S → S → Type 0) whe
         (λ _. (t.writer ≡ spaced) × (t.wire ≡ s.wire) × (t.due ≡ 0))
     pub calls : t.calls ≡ s.calls
 
-  -- some payload is taken in: where the capacity has room for it and the end of a line it is copied in, and else it goes past the
-  -- buffer, by one write of the inner writer. If it doesn't fit behind what is buffered that is sent first, and where sending
-  -- fails nothing else is done
+  -- some payload is taken in behind the space that was made: where the capacity has room for it and the end of a line it is
+  -- copied in, and else it goes past the buffer, by one write of the inner writer
+  pub record TakesThere (s : Buffered S StdPolicy) (part : List ℕ) (answer : Result ℕ Error) (t : Buffered S StdPolicy)
+      : Type 0 where
+    pub inside : length part + 2 ≤ s.block.capacity → (answer ≡ Ok (length part)) × PutsIn s part t
+    pub past : s.block.capacity < length part + 2 → GoesDirect after_write s part answer t × InnerWent tells trace s t
+
+  -- some payload is taken in. If it and the end of a line don't fit behind what is buffered that is sent first, and where
+  -- sending fails nothing else is done
   pub record TakesSome (s : Buffered S StdPolicy) (part : List ℕ) (answer : Result ℕ Error) (t : Buffered S StdPolicy)
       : Type 0 where
     pub sending : Result (Unit {0}) Error
     pub spaced : Buffered S StdPolicy
     pub makes_space : MakesSpace (length part + 2) s sending spaced
-    pub inside : sending ≡ Ok tt → length part + 2 ≤ s.block.capacity → (answer ≡ Ok (length part)) × PutsIn spaced part t
-    pub past : sending ≡ Ok tt → s.block.capacity < length part + 2
-        → GoesDirect after_write spaced part answer t × InnerWent tells trace spaced t
-    pub failed : (e : Error) → sending ≡ Err e → (answer ≡ Err e) × (t ≡ spaced)
+    pub ended : MatchResult sending (λ _. TakesThere spaced part answer t) (λ e. (answer ≡ Err e) × (t ≡ spaced))
 
   -- payload goes on in the chunk that was begun, as much as is due of it at most, and behind its last byte the end of the line
   -- follows. At an Err no byte was taken in

@@ -22,7 +22,7 @@ use Rattle.chunked.specs.Coding.{chunked}
 use Rattle.chunked.specs.LineLaws.{digit_first, digit_on, field_first, field_on, last_on, line_as, line_parts, size_small}
 use Rattle.chunked.specs.Place.{BehindFirst, BehindSize, Completes, CompletesSizeLine, EndsLine, IsDataOrDone, IsWrong, WrongInExtension, WrongInLine, most_between}
 use Rattle.chunked.specs.PlaceLaws.{Completes-nothing}
-use Rattle.chunked.specs.Steps.{LeadsInExtension, LeadsTo, behind_size}
+use Rattle.chunked.specs.Steps.{LeadsInExtension, StepsTo, behind_size}
 
 -- no digit leads on in an extension
 digit_ends : (b size room : ℕ) (q : Place) → digit_value b < 16 → LeadsInExtension Behind size room b q → ⊥
@@ -51,7 +51,7 @@ module _ (limits : Limits) where
   behind_on zero rest payload c = c
   behind_on (suc n) rest payload c = c
 
-  pub step_on : (p : Place) (b : ℕ) (q : Place) (rest payload : List ℕ) → LeadsTo limits p b q → Completes limits q rest payload
+  pub step_on : (p : Place) (b : ℕ) (q : Place) (rest payload : List ℕ) → StepsTo limits p b q → Completes limits q rest payload
       → Completes limits p (b ∷ rest) payload
   step_on Line b q rest payload (digit, is) c = digit_on limits b rest payload digit (rw is at c)
   step_on (Size number room) b q rest payload (inl (digit, some, small, is)) c = inl (digit, some, rw is at c)
@@ -93,8 +93,8 @@ module _ (limits : Limits) where
   step_on Done b q rest payload s c = absurd s
 
   -- a byte leads on where something begins with it that completes the body, and the rest of that completes it there
-  abbrev pub GoesOn : Place → ℕ → List ℕ → List ℕ → Type 0
-  GoesOn p b rest payload = (q : Place) × LeadsTo limits p b q × Completes limits q rest payload
+  abbrev StepsWith : Place → ℕ → List ℕ → List ℕ → Type 0
+  StepsWith p b rest payload = (q : Place) × StepsTo limits p b q × Completes limits q rest payload
 
   extension_first : (w : Within) (b size room : ℕ) (rest payload : List ℕ)
       → CompletesSizeLine limits w size room (b ∷ rest) payload
@@ -121,7 +121,7 @@ module _ (limits : Limits) where
 
   name_first : (b room : ℕ) (rest payload : List ℕ) → payload ≡ [] → 0 < room
       → (later : EndsLine (λ t. BehindFirst (b ∷ t)) IsTrailers (room - 1) rest) → (text : List ℕ)
-      → BehindFirst (b ∷ text) → length text ≤ room - 1 → GoesOn (FieldName room) b rest payload
+      → BehindFirst (b ∷ text) → length text ≤ room - 1 → StepsWith (FieldName room) b rest payload
   name_first b room rest payload none some later text (inl (is, _)) fits = (
     FieldValue (room - 1),
     inl (is, some, refl),
@@ -142,7 +142,7 @@ module _ (limits : Limits) where
       named t (inr (token', more')) = more'
 
   step_first : (p : Place) (b : ℕ) (rest payload : List ℕ) → ¬ IsDataOrDone p → Completes limits p (b ∷ rest) payload
-      → GoesOn p b rest payload
+      → StepsWith p b rest payload
   step_first Line b rest payload open' c =
       let f = digit_first limits b rest payload c in (Size (digit_value b) (limits.line - 1), (f.0, refl), f.1)
   step_first (Size number room) b rest payload open' (inl (digit, some, c)) = (
@@ -192,7 +192,7 @@ module _ (limits : Limits) where
   one_extension w b size room q r (inr s) (inr t) =
       s.3 ∙ ap (λ v. Extension v size (room - 1)) (within.one_way w b s.0 t.0 s.1 t.1) ∙ sym t.3
 
-  one_place : (p : Place) (b : ℕ) (q r : Place) → LeadsTo limits p b q → LeadsTo limits p b r → q ≡ r
+  one_place : (p : Place) (b : ℕ) (q r : Place) → StepsTo limits p b q → StepsTo limits p b r → q ≡ r
   one_place Line b q r s t = s.1 ∙ sym t.1
   one_place (Size number room) b q r (inl s) (inl t) = s.3 ∙ sym t.3
   one_place (Size number room) b q r (inl s) (inr t) = absurd (t.0 s.0)
@@ -217,42 +217,27 @@ module _ (limits : Limits) where
   one_place p b q r s t = s.1 ∙ sym t.1
 
   -- nearer to the next byte of payload, or to the end
-  nearer : (p : Place) (b : ℕ) (q : Place) → LeadsTo limits p b q → most_between limits q < most_between limits p
-  nearer Line b q s = omega (arith, ap (most_between limits) s.1)
-  nearer (Size number room) b q (inl s) = omega (arith, s.1, ap (most_between limits) s.3)
-  nearer (Size number room) b q (inr (none, small, inl s)) = omega (arith, ap (most_between limits) s.2)
-  nearer (Size number room) b q (inr (none, small, inr s)) = omega (arith, s.2.2, ap (most_between limits) s.3)
-  nearer (Extension w size room) b q (small, inl s) = omega (arith, ap (most_between limits) s.2)
-  nearer (Extension w size room) b q (small, inr s) = omega (arith, s.2.2, ap (most_between limits) s.3)
+  nearer : (p : Place) (b : ℕ) (q : Place) → StepsTo limits p b q → most_between limits q < most_between limits p
   nearer (SizeFeed zero) b q s = omega (arith, ap (most_between limits) s.2)
   nearer (SizeFeed (suc n)) b q s = omega (arith, ap (most_between limits) s.2)
   nearer (Data zero) b q s = omega (arith, ap (most_between limits) s.2)
   nearer (Data (suc left)) b q s = absurd (omega (arith, s.0))
-  nearer DataFeed b q s = omega (arith, ap (most_between limits) s.1)
-  nearer (Fields room) b q (inl s) = omega (arith, ap (most_between limits) s.1)
-  nearer (Fields room) b q (inr s) = omega (arith, s.1, ap (most_between limits) s.2)
-  nearer (FieldName room) b q (inl s) = omega (arith, s.1, ap (most_between limits) s.2)
-  nearer (FieldName room) b q (inr s) = omega (arith, s.1, ap (most_between limits) s.2)
-  nearer (FieldValue room) b q (inl s) = omega (arith, ap (most_between limits) s.1)
-  nearer (FieldValue room) b q (inr s) = omega (arith, s.1, ap (most_between limits) s.2)
-  nearer (FieldFeed room) b q s = omega (arith, ap (most_between limits) s.1)
-  nearer LastFeed b q s = omega (arith, ap (most_between limits) s.1)
-  nearer Done b q s = absurd s
+  nearer p b q s = grind arith
 
-  leads_open : (p : Place) (b : ℕ) (q : Place) → LeadsTo limits p b q → ¬ IsDataOrDone p
+  leads_open : (p : Place) (b : ℕ) (q : Place) → StepsTo limits p b q → ¬ IsDataOrDone p
   leads_open (Data zero) b q s settled = settled
   leads_open (Data (suc left)) b q s settled = omega (arith, s.0)
   leads_open Done b q s settled = s
   leads_open p b q s settled = settled
 
-  one_within : (p : Place) (b : ℕ) (q : Place) → LeadsTo limits p b q → (rest payload past : List ℕ)
+  one_within : (p : Place) (b : ℕ) (q : Place) → StepsTo limits p b q → (rest payload past : List ℕ)
       → Completes limits p rest payload → b ∷ [] ≡ rest ++ past → past ≡ []
   one_within p b q s [] payload past c same =
-      absurd (subst (λ r. LeadsTo limits r b q) (Completes-nothing limits p payload c) s)
+      absurd (subst (λ r. StepsTo limits r b q) (Completes-nothing limits p payload c) s)
   one_within p b q s (x ∷ rest) payload past c same =
       nothing_behind rest past (let tail : rest ++ past ≡ [] = cc in tail)
 
-  pub passes : (p : Place) (b : ℕ) (q : Place) → LeadsTo limits p b q → PassesOver (chunked limits) p (b ∷ []) q []
+  pub passes : (p : Place) (b : ℕ) (q : Place) → StepsTo limits p b q → PassesOver (chunked limits) p (b ∷ []) q []
   passes p b q s = record {
     leads = record {
       onward = λ rest payload agree c. step_on p b q rest payload s c;
@@ -271,27 +256,18 @@ module _ (limits : Limits) where
   wrong_open Done b why wrong settled = wrong
   wrong_open p b why wrong settled = settled
 
-  no_line : (over bad : Malformed) (Over Bad Goes : Type 0) (b : ℕ) (why : Malformed) → (Over → ¬ Goes) → (b ≡ 10 → ¬ Goes)
-      → (Bad → ¬ Goes) → WrongInLine over bad Over Bad b why → ¬ Goes
-  no_line over bad Over Bad Goes b why one two three (inl wrong) = one wrong.1
-  no_line over bad Over Bad Goes b why one two three (inr (inl wrong)) = two wrong.1
-  no_line over bad Over Bad Goes b why one two three (inr (inr wrong)) = three wrong.1
-
   wrong_extension : (w : Within) (b size room : ℕ) (why : Malformed) (q : Place) → WrongInExtension w room b why
       → ¬ LeadsInExtension w size room b q
-  wrong_extension w b size room why q wrong goes =
-      no_line LineTooLong BadSize (RunsOver w room b) (EndsNoExtension w b) (LeadsInExtension w size room b q) b why
-      (λ over goes. elim goes [
-        | inl s ↦ (CompletesExtension-text w (b ∷ over.text) over.extends).0.0 s.0
-        | inr s ↦ omega (arith, over.over s.2.0 ((within.leads w b s.0 s.1 s.2.0).1 s.2.1), s.2.2)
-      ])
-      (λ feed goes. elim goes [ inl s ↦ omega (arith, feed, s.0) | inr s ↦ (within.steps_text w b s.0 s.1).1 feed ])
-      (λ bad goes. elim goes [
-        | inl s ↦ bad.no_return s.0 s.1
-        | inr s ↦ bad.none s.2.0 ((within.leads w b s.0 s.1 s.2.0).1 s.2.1)
-      ]) wrong goes
+  wrong_extension w b size room why q (inl over) (inl s) = (CompletesExtension-text w (b ∷ over.1.text) over.1.extends).0.0 s.0
+  wrong_extension w b size room why q (inl over) (inr s) =
+      omega (arith, over.1.over s.2.0 ((within.leads w b s.0 s.1 s.2.0).1 s.2.1), s.2.2)
+  wrong_extension w b size room why q (inr (inl feed)) (inl s) = omega (arith, feed.1, s.0)
+  wrong_extension w b size room why q (inr (inl feed)) (inr s) = (within.steps_text w b s.0 s.1).1 feed.1
+  wrong_extension w b size room why q (inr (inr bad)) (inl s) = bad.1.no_return s.0 s.1
+  wrong_extension w b size room why q (inr (inr bad)) (inr s) =
+      bad.1.none s.2.0 ((within.leads w b s.0 s.1 s.2.0).1 s.2.1)
 
-  wrong_step : (p : Place) (b : ℕ) (why : Malformed) (q : Place) → IsWrong limits p b why → ¬ LeadsTo limits p b q
+  wrong_step : (p : Place) (b : ℕ) (why : Malformed) (q : Place) → IsWrong limits p b why → ¬ StepsTo limits p b q
   wrong_step (Size number room) b why q (inl (digit, inl large)) (inl s) = omega (arith, large.1, s.2)
   wrong_step (Size number room) b why q (inl (digit, inr full)) (inl s) = omega (arith, full.2, s.1)
   wrong_step (Size number room) b why q (inl wrong) (inr s) = s.0 wrong.0
@@ -299,24 +275,24 @@ module _ (limits : Limits) where
   wrong_step (Size number room) b why q (inr wrong) (inr s) = wrong_extension Behind b number room why q wrong.1 s.2
   wrong_step (Extension w size room) b why q wrong s = wrong_extension w b size room why q wrong s.1
   wrong_step (Data left) b why q wrong s = wrong.2 s.1
-  wrong_step (Fields room) b why q wrong s =
-      no_line TrailersTooLong BadField (IsTokenByte b × (room < 2)) (¬ IsTokenByte b × IsTextByte b)
-      (LeadsTo limits (Fields room) b q) b why
-      (λ over goes. elim goes [ inl s ↦ (token_is_text b over.0).0 s.0 | inr s ↦ omega (arith, over.1, s.1) ])
-      (λ feed goes. elim goes [ inl s ↦ omega (arith, feed, s.0) | inr s ↦ (token_is_text b s.0).1 feed ])
-      (λ bad goes. elim goes [ inl s ↦ bad.1.0 s.0 | inr s ↦ bad.0 s.0 ]) wrong s
-  wrong_step (FieldName room) b why q wrong s =
-      no_line TrailersTooLong BadField (IsTokenByte b × (room < 2)) (¬ IsTokenByte b × (b ≢ 58) × (b ≢ 10))
-      (LeadsTo limits (FieldName room) b q) b why
-      (λ over goes. elim goes [ inl s ↦ (token_plain b over.0).1 s.0 | inr s ↦ omega (arith, over.1, s.1) ])
-      (λ feed goes. elim goes [ inl s ↦ omega (arith, feed, s.0) | inr s ↦ (token_is_text b s.0).1 feed ])
-      (λ bad goes. elim goes [ inl s ↦ bad.1 s.0 | inr s ↦ bad.0 s.0 ]) wrong s
-  wrong_step (FieldValue room) b why q wrong s =
-      no_line TrailersTooLong BadField (IsValueByte b × (room ≡ 0)) (¬ IsValueByte b × IsTextByte b)
-      (LeadsTo limits (FieldValue room) b q) b why
-      (λ over goes. elim goes [ inl s ↦ (value_is_text b over.0).0 s.0 | inr s ↦ omega (arith, over.1, s.1) ])
-      (λ feed goes. elim goes [ inl s ↦ omega (arith, feed, s.0) | inr s ↦ (value_is_text b s.0).1 feed ])
-      (λ bad goes. elim goes [ inl s ↦ bad.1.0 s.0 | inr s ↦ bad.0 s.0 ]) wrong s
+  wrong_step (Fields room) b why q (inl over) (inl s) = (token_is_text b over.1.0).0 s.0
+  wrong_step (Fields room) b why q (inl over) (inr s) = omega (arith, over.1.1, s.1)
+  wrong_step (Fields room) b why q (inr (inl feed)) (inl s) = omega (arith, feed.1, s.0)
+  wrong_step (Fields room) b why q (inr (inl feed)) (inr s) = (token_is_text b s.0).1 feed.1
+  wrong_step (Fields room) b why q (inr (inr bad)) (inl s) = bad.1.1.0 s.0
+  wrong_step (Fields room) b why q (inr (inr bad)) (inr s) = bad.1.0 s.0
+  wrong_step (FieldName room) b why q (inl over) (inl s) = (token_plain b over.1.0).1 s.0
+  wrong_step (FieldName room) b why q (inl over) (inr s) = omega (arith, over.1.1, s.1)
+  wrong_step (FieldName room) b why q (inr (inl feed)) (inl s) = omega (arith, feed.1, s.0)
+  wrong_step (FieldName room) b why q (inr (inl feed)) (inr s) = (token_is_text b s.0).1 feed.1
+  wrong_step (FieldName room) b why q (inr (inr bad)) (inl s) = bad.1.1 s.0
+  wrong_step (FieldName room) b why q (inr (inr bad)) (inr s) = bad.1.0 s.0
+  wrong_step (FieldValue room) b why q (inl over) (inl s) = (value_is_text b over.1.0).0 s.0
+  wrong_step (FieldValue room) b why q (inl over) (inr s) = omega (arith, over.1.1, s.1)
+  wrong_step (FieldValue room) b why q (inr (inl feed)) (inl s) = omega (arith, feed.1, s.0)
+  wrong_step (FieldValue room) b why q (inr (inl feed)) (inr s) = (value_is_text b s.0).1 feed.1
+  wrong_step (FieldValue room) b why q (inr (inr bad)) (inl s) = bad.1.1.0 s.0
+  wrong_step (FieldValue room) b why q (inr (inr bad)) (inr s) = bad.1.0 s.0
   wrong_step Done b why q wrong s = s
   wrong_step p b why q wrong s = wrong.1 s.0
 

@@ -26,29 +26,29 @@ LeadsInExtension within size room b q = ((b ≡ 13) × CompletesExtension within
     × ((text : List ℕ) × CompletesExtension next text × (length text < room)) × (q ≡ Extension next size (room - 1)))
 
 -- a byte leads from the one place to the other
-abbrev pub LeadsTo : Limits → Place → ℕ → Place → Type 0
-LeadsTo limits Line b q = (digit_value b < 16) × (q ≡ Size (digit_value b) (limits.line - 1))
-LeadsTo limits (Size number room) b q =
+abbrev pub StepsTo : Limits → Place → ℕ → Place → Type 0
+StepsTo limits Line b q = (digit_value b < 16) × (q ≡ Size (digit_value b) (limits.line - 1))
+StepsTo limits (Size number room) b q =
     ((digit_value b < 16) × (0 < room) × (number * 16 + digit_value b < 2 ^ 62)
     × (q ≡ Size (number * 16 + digit_value b) (room - 1)))
     ⊎ (¬ (digit_value b < 16) × (number < 2 ^ 62) × LeadsInExtension Behind number room b q)
-LeadsTo limits (Extension within size room) b q = (size < 2 ^ 62) × LeadsInExtension within size room b q
-LeadsTo limits (SizeFeed size) b q = (b ≡ 10) × (size < 2 ^ 62) × (q ≡ behind_size limits size)
-LeadsTo limits (Data left) b q = (left ≡ 0) × (b ≡ 13) × (q ≡ DataFeed)
-LeadsTo limits DataFeed b q = (b ≡ 10) × (q ≡ Line)
-LeadsTo limits (Fields room) b q =
+StepsTo limits (Extension within size room) b q = (size < 2 ^ 62) × LeadsInExtension within size room b q
+StepsTo limits (SizeFeed size) b q = (b ≡ 10) × (size < 2 ^ 62) × (q ≡ behind_size limits size)
+StepsTo limits (Data left) b q = (left ≡ 0) × (b ≡ 13) × (q ≡ DataFeed)
+StepsTo limits DataFeed b q = (b ≡ 10) × (q ≡ Line)
+StepsTo limits (Fields room) b q =
     ((b ≡ 13) × (q ≡ LastFeed)) ⊎ (IsTokenByte b × (2 ≤ room) × (q ≡ FieldName (room - 1)))
-LeadsTo limits (FieldName room) b q = ((b ≡ 58) × (0 < room) × (q ≡ FieldValue (room - 1)))
+StepsTo limits (FieldName room) b q = ((b ≡ 58) × (0 < room) × (q ≡ FieldValue (room - 1)))
     ⊎ (IsTokenByte b × (2 ≤ room) × (q ≡ FieldName (room - 1)))
-LeadsTo limits (FieldValue room) b q =
+StepsTo limits (FieldValue room) b q =
     ((b ≡ 13) × (q ≡ FieldFeed room)) ⊎ (IsValueByte b × (0 < room) × (q ≡ FieldValue (room - 1)))
-LeadsTo limits (FieldFeed room) b q = (b ≡ 10) × (q ≡ Fields room)
-LeadsTo limits LastFeed b q = (b ≡ 10) × (q ≡ Done)
-LeadsTo limits Done b q = ⊥
+StepsTo limits (FieldFeed room) b q = (b ≡ 10) × (q ≡ Fields room)
+StepsTo limits LastFeed b q = (b ≡ 10) × (q ≡ Done)
+StepsTo limits Done b q = ⊥
 
 -- one byte leads on, or what is wrong with it has this name
 abbrev pub StepsOver : Limits → Place → ℕ → Result Place Malformed → Type 0
-StepsOver limits p b (Ok q) = LeadsTo limits p b q × IsPlace q
+StepsOver limits p b (Ok q) = StepsTo limits p b q × IsPlace q
 StepsOver limits p b (Err why) = IsWrong limits p b why
 
 -- these bytes, which are no payload and don't go past the end, lead from one place to the other

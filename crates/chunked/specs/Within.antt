@@ -18,6 +18,16 @@ CompletesExtension InValue text = (count : ℕ) × Many IsTokenByte (Parameters 
 CompletesExtension Quoted text = (count : ℕ) × InQuotes (Parameters count) text
 CompletesExtension Escaped text = (count : ℕ) × One IsValueByte (InQuotes (Parameters count)) text
 
+-- the fewest bytes that complete an extension from there
+abbrev pub least_left : Within → ℕ
+least_left Behind = 0
+least_left InName = 0
+least_left InValue = 0
+least_left BeforeName = 1
+least_left BeforeValue = 1
+least_left Quoted = 1
+least_left w = 2
+
 -- where each byte leads, by what bytes are of tokens and of values
 module _ (IsToken IsValue : ℕ → Type 0) where
   abbrev pub LeadsBy : Within → ℕ → Within → Type 0

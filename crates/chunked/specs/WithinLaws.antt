@@ -1,9 +1,9 @@
 -- Laws of places within an extension: where each byte leads, and what stands first in what is left.
-use Rattle.std.proofs.Common.{◌≡◌, ◌≢◌, ℕ, zero, suc, ◌≤◌, ◌⊎◌, ◌↔◌, List, [], ◌∷◌, inl, inr, refl, subst, arith}
+use Rattle.std.proofs.Common.{◌≡◌, ◌≢◌, ℕ, zero, suc, ◌+◌, ◌≤◌, ◌⊎◌, ◌↔◌, List, [], ◌∷◌, length, inl, inr, refl, subst, arith}
 use Rattle.std.specs.List.{AllByRecursion}
 use Rattle.chunked.specs.Token.{IsBlank, IsTokenByte, IsValueByte}
 use Rattle.chunked.specs.Extension.{Assigned, IsExtension, Parameter, Parameters}
-use Rattle.chunked.specs.Within.{CompletesExtension, LeadsBy, LeadsWithin}
+use Rattle.chunked.specs.Within.{CompletesExtension, LeadsBy, LeadsWithin, least_left}
 use Rattle.chunked.specs.Body.{IsTextByte}
 use Rattle.chunked.specs.FieldLaws.{token_plain, value_is_text}
 use Rattle.chunked.specs.declared.extension.Within.{Within}
@@ -21,6 +21,9 @@ module _ (IsToken IsValue : ℕ → Type 0)
 
   no_feed : (w : Within) (v : Within) → LeadsBy IsToken IsValue w 10 v → ⊥
   no_feed w v s = grind (arith, plain, is_text)
+
+  nearer : (w : Within) (b : ℕ) (v : Within) → LeadsBy IsToken IsValue w b v → least_left w ≤ least_left v + 1
+  nearer w b v s = grind arith
 
 pub one_way : (w : Within) (b : ℕ) (v v' : Within) → LeadsWithin w b v → LeadsWithin w b v' → v ≡ v'
 one_way w b v v' s t = one_way_by IsTokenByte IsValueByte token_plain value_is_text w b v v' s t
@@ -163,3 +166,26 @@ leads w b v s = λ text. (
 
 pub none : (w : Within) (b : ℕ) → ((v : Within) → LeadsWithin w b v → ⊥) → (text : List ℕ) → ¬ CompletesExtension w (b ∷ text)
 none w b never = λ text e. let f = first w b text e in never f.next f.steps
+
+-- so many bytes complete one, and no fewer
+pub least_some : (w : Within) → (text : List ℕ) × CompletesExtension w text × (length text ≡ least_left w)
+least_some Behind = ([], (0, refl), refl)
+least_some Blank = (59 ∷ (97 ∷ []), (0, inl (refl, inl (inl refl, inl refl))), refl)
+least_some BeforeName = (97 ∷ [], (0, inl (inl refl, inl refl)), refl)
+least_some InName = ([], (0, inl refl), refl)
+least_some BehindName = (59 ∷ (97 ∷ []), (0, inl (inl (refl, inl (inl refl, inl refl)))), refl)
+least_some BeforeValue = (97 ∷ [], (0, inl (inl (inl refl, refl))), refl)
+least_some InValue = ([], (0, refl), refl)
+least_some Quoted = (34 ∷ [], (0, (refl, refl)), refl)
+least_some Escaped = (34 ∷ (34 ∷ []), (0, (inr (inl refl), (refl, refl))), refl)
+
+pub least_all : (w : Within) (text : List ℕ) → CompletesExtension w text → least_left w ≤ length text
+least_all w (b ∷ text) e =
+    let f = first w b text e in
+    omega (arith, nearer IsTokenByte IsValueByte token_plain value_is_text w b f.next f.steps, least_all f.next text f.left)
+least_all Behind [] e = omega arith
+least_all InName [] e = omega arith
+least_all InValue [] e = omega arith
+least_all BehindName [] e = elim e.1 [ inl odd ↦ absurd odd | inr odd ↦ absurd odd ]
+least_all BeforeValue [] e = elim e.1 [ inl odd ↦ absurd odd | inr odd ↦ absurd odd ]
+least_all w [] e = absurd e.1

@@ -1,6 +1,6 @@
 //! Where in an extension of the line of a size a reader stands, and where a byte leads from there.
-ghost use Rattle.std.specs.Prelude.{◌≡◌, ℕ, ◌≤◌, ◌↔◌, List, [], length, MatchOption, IsTrue};
-ghost use Rattle.chunked.specs.Within.{CompletesExtension, LeadsWithin};
+ghost use Rattle.std.specs.Prelude.{◌≡◌, ◌↔◌, [], MatchOption, IsTrue};
+ghost use Rattle.chunked.specs.Within.{CompletesExtension, LeadsWithin, least_left};
 
 use crate::token::{is_token_byte, is_value_byte};
 
@@ -91,8 +91,7 @@ impl Within {
 
     /// How many bytes complete an extension from there, at least.
     pub(crate) fn least(self) -> usize
-        ensures so_many { (text : List ℕ) × CompletesExtension self text × (length text ≡ result) }
-        ensures none_less { (other : List ℕ) → CompletesExtension self other → result ≤ length other }
+        ensures { result ≡ least_left self }
     {
         match self {
             Within::InName | Within::InValue | Within::Behind => 0,

@@ -1,10 +1,10 @@
 //! The end of a body: the last chunk and the trailers, and how it goes into a buffered writer.
-ghost use Rattle.std.specs.Prelude.{◌≡◌, ◌↔◌, ◌^◌, ◌<◌, ◌≤◌, ◌++◌, length, IsTrue, IfOk, IfErr};
+ghost use Rattle.std.specs.Prelude.{◌≡◌, ◌↔◌, ◌^◌, ◌<◌, ◌≤◌, ◌++◌, length, IsTrue, MatchOption, IfOk, IfErr};
 ghost use Rattle.std.specs.List.{AllByRecursion};
 ghost use Rattle.buffer_redux.specs.WriteParts.{PutsIn, room};
 ghost use Rattle.chunked.specs.Body.{IsField};
 ghost use Rattle.chunked.specs.Chunk.{body_end};
-ghost use Rattle.chunked.specs.Trailers.{CannotEnd, IsFraming, IsTrailer, lines_of};
+ghost use Rattle.chunked.specs.Trailers.{CannotEnd, IsFramingName, IsTrailer, lines_of};
 
 use crate::chunk::put;
 use crate::error::TrailersError;
@@ -16,29 +16,26 @@ use memchr::memchr;
 /// How many bytes the end of a body has where there are no trailers.
 pub(crate) const BARE_END: usize = 5;
 
-// Whether this is a line of trailers.
-fn is_field(line: &[u8]) -> bool
-    ensures { IsTrue result ↔ IsField line.now }
+// The name in this line, if it is one of trailers.
+fn name_of(line: &[u8]) -> Option<&[u8]>
+    ensures { MatchOption result (¬ IsField line.now)
+        (λ name. IsField line.now × ((field : IsField line.now) → field.name ≡ name.now)) }
 {
-    match memchr(b':', line) {
-        Some(colon) => is_token(&line[..colon]) && is_value(&line[colon + 1..]),
-        None => false,
+    let Some(colon) = memchr(b':', line) else {
+        return None;
+    };
+    if is_token(&line[..colon]) && is_value(&line[colon + 1..]) {
+        Some(&line[..colon])
+    } else {
+        None
     }
 }
 
-// Whether this line says where the body ends, as none of trailers may (RFC 9110, section 6.5.1).
-fn is_framing(line: &[u8]) -> bool
-    requires { IsField line.now }
-    ensures { IsTrue result ↔ IsFraming line.now }
+// Whether a line of this name says where the body ends, as none of trailers may (RFC 9110, section 6.5.1).
+fn is_framing(name: &[u8]) -> bool
+    ensures { IsTrue result ↔ IsFramingName name.now }
 {
-    match memchr(b':', line) {
-        Some(colon) => {
-            let name = &line[..colon];
-            name.eq_ignore_ascii_case(b"content-length")
-                || name.eq_ignore_ascii_case(b"transfer-encoding")
-        }
-        None => false,
-    }
+    name.eq_ignore_ascii_case(b"content-length") || name.eq_ignore_ascii_case(b"transfer-encoding")
 }
 
 /// How many bytes the end of a body with these trailers has, if it goes into a buffer of so many.
@@ -51,10 +48,10 @@ pub(crate) fn end_len(fields: &[&[u8]], capacity: usize) -> Result<usize, Traile
 {
     let mut len = BARE_END;
     for (i, field) in fields.iter().enumerate() {
-        if !is_field(field) {
+        let Some(name) = name_of(field) else {
             return Err(TrailersError::NoField(i));
-        }
-        if is_framing(field) {
+        };
+        if is_framing(name) {
             return Err(TrailersError::Framing(i));
         }
         len = len.saturating_add(field.len()).saturating_add(2);

@@ -1,8 +1,8 @@
 -- The sum saturates above each capacity, so one that fits the capacity is the length itself.
-use Rattle.std.proofs.Common.{◌≡◌, ℕ, ◌+◌, ◌-◌, ◌^◌, ◌<◌, ◌≤◌, List, Bor, length, min, take, ap, subst, arith, rules, refl}
+use Rattle.std.proofs.Common.{◌≡◌, ℕ, ◌+◌, ◌-◌, ◌^◌, ◌<◌, ◌≤◌, List, Bor, length, min, take, ap, sym, subst, arith, refl}
 use Rattle.std.specs.List.{AllByRecursion}
 use Rattle.chunked.specs.Chunk.{body_end}
-use Rattle.chunked.specs.Trailers.{IsFraming, IsTrailer, lines_of}
+use Rattle.chunked.specs.Trailers.{IsFraming, IsFramingName, IsTrailer, lines_of}
 use Rattle.chunked.proofs.Fields.{all_lines, front, front_len, front_more_len, inside, line_at, lines_more}
 use Rattle.chunked.proofs.trailers.end_len.Goals as goal
 
@@ -22,7 +22,9 @@ loop-i-preserved c =
     let there = inside fields i within in
     let is = line_at fields i within in
     record {
-      lines = lines_more (lines_of fields) i there before.lines (subst IsTrailer is (search rules));
+      lines = lines_more (lines_of fields) i there before.lines (subst IsTrailer is (c.in-Some.ensures.0, λ framing.
+          let odd = c.is_framing.ensures.1 (subst IsFramingName (c.in-Some.ensures.1 framing.0) framing.1) in
+          let not = c.if-is_framing.false in cc));
       counted = omega (
         arith,
         before.counted,
@@ -36,11 +38,13 @@ loop-i-preserved c =
 pub returns-then-is_framing-clause-cannot : goal.returns-then-is_framing-clause-cannot
 returns-then-is_framing-clause-cannot c =
     let fields = c.args.fields.now in
+    let field = c.in-Some.ensures.0 in
     let i = c.loop-i.i in (
       refl,
       inside fields i c.loop-i-test.true,
       c.loop-i.invariant.lines,
-      subst IsFraming (line_at fields i c.loop-i-test.true) (c.is_framing.ensures.0 c.if-is_framing.true),
+      subst IsFraming (line_at fields i c.loop-i-test.true) (field, subst IsFramingName (sym (c.in-Some.ensures.1 field))
+          (c.is_framing.ensures.0 c.if-is_framing.true)),
     )
 
 pub returns-then-len-capacity-clause-cannot : goal.returns-then-len-capacity-clause-cannot

@@ -1,0 +1,42 @@
+-- The first colon of a line ends the name, as no byte of a token is one.
+use Rattle.std.proofs.Common.{◌≡◌, ◌+◌, length, slice_index, sym, subst, arith, rules}
+use Rattle.std.specs.List.{AllByRecursion}
+use Rattle.std.proofs.lemmas.Bool.Decides.{nat_tests}
+use Rattle.std.proofs.lemmas.Slice.{between_to_end}
+use Rattle.chunked.specs.Token.{IsValueByte}
+use Rattle.chunked.proofs.Colons.{field_has_colon, field_name, field_splits, splits_field}
+use Rattle.chunked.proofs.trailers.name_of.Goals as goal
+use Rattle.chunked.proofs.trailers.name_of.Goals.{else-is_token-via-then-is_token+else-is_value, else-is_token-via-else-is_token}
+
+pub returns-then-is_value : goal.returns-then-is_value
+returns-then-is_value c =
+    let line = c.args.line.now in
+    let end = c.in-Some.colon in
+    let found = c.in-Some.ensures in
+    let is : slice_index line end ≡ 58 = grind (arith, nat_tests, found.1) in (
+      splits_field line end found.0.high is (record {
+        token = search rules;
+        all = subst (AllByRecursion IsValueByte) (between_to_end line (end + 1) (length line) (omega arith))
+            (c.is_value.ensures.0 c.if-is_value.true);
+      }),
+      λ field. sym (field_name line end is found.0.before field),
+    )
+
+pub returns-else-is_token : goal.returns-else-is_token
+returns-else-is_token c = λ field.
+    let line = c.args.line.now in
+    let end = c.in-Some.colon in
+    let found = c.in-Some.ensures in
+    let is : slice_index line end ≡ 58 = grind (arith, nat_tests, found.1) in
+    let s = field_splits line end is found.0.before field in
+    elim c.else-is_token.branch [
+      | else-is_token-via-then-is_token+else-is_value w ↦
+          let right = w.is_value.ensures.1 (subst (AllByRecursion IsValueByte)
+          (sym (between_to_end line (end + 1) (length line) (omega arith))) s.all) in
+          let wrong = w.if-is_value.false in cc
+      | else-is_token-via-else-is_token w ↦
+          let right = c.is_token.ensures.1 s.token in let wrong = w.if-is_token.false in cc
+    ]
+
+pub returns-in_default : goal.returns-in_default
+returns-in_default c = field_has_colon c.args.line.now c.in_default.ensures
