@@ -50,11 +50,8 @@ module _ (limits : Limits) where
 
   -- nor any where none is
   pub none_left : (p : Place) → ¬ IsDataOrDone p → chunk_left p ≡ 0
-  none_left (Data left) open' = size left open'
-    where
-      size : (k : ℕ) → ¬ IsDataOrDone (Data k) → k ≡ 0
-      size zero not = refl
-      size (suc k) not = absurd (not tt)
+  none_left (Data zero) open' = refl
+  none_left (Data (suc left)) open' = absurd (open' tt)
   none_left p open' = refl
 
   pub chunked_lawful : body.IsLawful (chunked limits)

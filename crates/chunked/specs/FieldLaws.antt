@@ -10,20 +10,13 @@ use Rattle.chunked.specs.Place.{BehindFirst}
 -- a byte of a token is a visible one, and none of the signs of which lines are made
 pub token_plain : (b : ℕ) → IsTokenByte b
     → (33 ≤ b) × (b ≢ 58) × (b ≢ 59) × (b ≢ 61) × (b ≢ 34) × (b ≢ 92)
-token_plain b h = (
-  grind (arith, nat_tests),
-  λ is. grind (arith, nat_tests),
-  λ is. grind (arith, nat_tests),
-  λ is. grind (arith, nat_tests),
-  λ is. grind (arith, nat_tests),
-  λ is. grind (arith, nat_tests),
-)
+token_plain b h = grind (arith, nat_tests)
 
 pub token_is_text : (b : ℕ) → IsTokenByte b → IsTextByte b
-token_is_text b h = let plain = token_plain b h in (λ is. omega (arith, plain.0, is), λ is. omega (arith, plain.0, is))
+token_is_text b h = grind (arith, nat_tests)
 
 pub value_is_text : (b : ℕ) → IsValueByte b → IsTextByte b
-value_is_text b h = (λ is. grind (arith, nat_tests), λ is. grind (arith, nat_tests))
+value_is_text b h = grind (arith, nat_tests)
 
 -- bytes of such a kind are a text
 pub all_text : (P : ℕ → Type 0) → ((b : ℕ) → P b → IsTextByte b) → (xs : List ℕ) → AllByRecursion P xs

@@ -1,9 +1,9 @@
 -- A law of places: nothing completes a body only behind it.
 use Rattle.std.specs.Prelude.{◌≡◌, ℕ, zero, suc, List, [], ◌∷◌, ◌++◌}
-use Rattle.std.proofs.Common.{refl}
+use Rattle.std.proofs.Common.{arith, refl}
 use Rattle.chunked.specs.declared.limits.Limits.{Limits}
 use Rattle.chunked.specs.declared.place.Place.{Place}
-use Rattle.chunked.specs.declared.place.Place.TheVariants.{Line, Size, Extension, SizeFeed, Data, DataFeed, Fields, Done}
+use Rattle.chunked.specs.declared.place.Place.TheVariants.{Line, Data, Fields, Done}
 use Rattle.chunked.specs.Body.{HasChunks, fields_bytes, line_end}
 use Rattle.chunked.specs.Place.{Completes}
 
@@ -22,12 +22,8 @@ no_chunks limits (p ∷ payloads) (behind, chunk, some, more) = no_line chunk.te
 
 pub Completes-nothing : (limits : Limits) (p : Place) (payload : List ℕ) → Completes limits p [] payload → p ≡ Done
 Completes-nothing limits Line payload c = absurd (no_chunks limits c.payloads c.chunks)
-Completes-nothing limits (Size number room) payload c = absurd c
-Completes-nothing limits (Extension within size room) payload c = absurd c.0
-Completes-nothing limits (SizeFeed size) payload c = absurd c.0
-Completes-nothing limits (Data zero) payload c = absurd c
-Completes-nothing limits (Data (suc left)) payload c = absurd c
-Completes-nothing limits DataFeed payload c = absurd c
 Completes-nothing limits (Fields room) payload c = absurd (no_fields c.1.fields c.1.equal)
 Completes-nothing limits Done payload c = refl
-Completes-nothing limits p payload c = absurd c.1
+Completes-nothing limits (Data zero) payload c = absurd c
+Completes-nothing limits (Data (suc left)) payload c = absurd c
+Completes-nothing limits p payload c = grind arith

@@ -5,22 +5,21 @@ use Rattle.std.specs.List.{AllByRecursion}
 use Rattle.body_reader.specs.Coding.{PassesOver}
 use Rattle.body_reader.specs.CodingLaws.{nothing_behind}
 use Rattle.chunked.specs.declared.error.Malformed.{Malformed}
-use Rattle.chunked.specs.declared.error.Malformed.TheVariants.{BadField, BadSize, LineTooLong, TrailersTooLong}
 use Rattle.chunked.specs.declared.limits.Limits.{Limits}
 use Rattle.chunked.specs.declared.place.Place.{Place}
 use Rattle.chunked.specs.declared.place.Place.TheVariants.{Line, Size, Extension, SizeFeed, Data, DataFeed, Fields, FieldName, FieldValue, FieldFeed, LastFeed, Done}
 use Rattle.chunked.specs.declared.extension.Within.{Within}
 use Rattle.chunked.specs.declared.extension.Within.TheVariants.{Behind}
-use Rattle.chunked.specs.Token.{IsTokenByte, IsValueByte}
+use Rattle.chunked.specs.Token.{IsValueByte}
 use Rattle.chunked.specs.Within.{CompletesExtension, EndsNoExtension, RunsOver}
-use Rattle.chunked.specs.Body.{IsTextByte, IsTrailers}
+use Rattle.chunked.specs.Body.{IsTrailers}
 use Rattle.chunked.specs.BodyLaws.{digit_is_text, extension_no_digit}
 use Rattle.chunked.specs.FieldLaws.{BehindFirst-some, token_is_text, token_plain, value_is_text}
 use Rattle.chunked.specs.WithinLaws.{CompletesExtension-text}
 use Rattle.chunked.specs.WithinLaws as within
 use Rattle.chunked.specs.Coding.{chunked}
 use Rattle.chunked.specs.LineLaws.{digit_first, digit_on, field_first, field_on, last_on, line_as, line_parts, size_small}
-use Rattle.chunked.specs.Place.{BehindFirst, BehindSize, Completes, CompletesSizeLine, EndsLine, IsDataOrDone, IsWrong, WrongInExtension, WrongInLine, most_between}
+use Rattle.chunked.specs.Place.{BehindFirst, BehindSize, Completes, CompletesSizeLine, EndsLine, IsDataOrDone, IsWrong, WrongInExtension, most_between}
 use Rattle.chunked.specs.PlaceLaws.{Completes-nothing}
 use Rattle.chunked.specs.Steps.{LeadsInExtension, StepsTo, behind_size}
 
@@ -193,28 +192,12 @@ module _ (limits : Limits) where
       s.3 ∙ ap (λ v. Extension v size (room - 1)) (within.one_way w b s.0 t.0 s.1 t.1) ∙ sym t.3
 
   one_place : (p : Place) (b : ℕ) (q r : Place) → StepsTo limits p b q → StepsTo limits p b r → q ≡ r
-  one_place Line b q r s t = s.1 ∙ sym t.1
-  one_place (Size number room) b q r (inl s) (inl t) = s.3 ∙ sym t.3
-  one_place (Size number room) b q r (inl s) (inr t) = absurd (t.0 s.0)
-  one_place (Size number room) b q r (inr s) (inl t) = absurd (s.0 t.0)
   one_place (Size number room) b q r (inr s) (inr t) = one_extension Behind b number room q r s.2 t.2
   one_place (Extension w size room) b q r s t = one_extension w b size room q r s.1 t.1
-  one_place (SizeFeed size) b q r s t = s.2 ∙ sym t.2
-  one_place (Data left) b q r s t = s.2 ∙ sym t.2
-  one_place (Fields room) b q r (inl s) (inl t) = s.1 ∙ sym t.1
-  one_place (Fields room) b q r (inl s) (inr t) = absurd ((token_is_text b t.0).0 s.0)
-  one_place (Fields room) b q r (inr s) (inl t) = absurd ((token_is_text b s.0).0 t.0)
-  one_place (Fields room) b q r (inr s) (inr t) = s.2 ∙ sym t.2
-  one_place (FieldName room) b q r (inl s) (inl t) = s.2 ∙ sym t.2
-  one_place (FieldName room) b q r (inl s) (inr t) = absurd ((token_plain b t.0).1 s.0)
-  one_place (FieldName room) b q r (inr s) (inl t) = absurd ((token_plain b s.0).1 t.0)
-  one_place (FieldName room) b q r (inr s) (inr t) = s.2 ∙ sym t.2
-  one_place (FieldValue room) b q r (inl s) (inl t) = s.1 ∙ sym t.1
-  one_place (FieldValue room) b q r (inl s) (inr t) = absurd ((value_is_text b t.0).0 s.0)
-  one_place (FieldValue room) b q r (inr s) (inl t) = absurd ((value_is_text b s.0).0 t.0)
-  one_place (FieldValue room) b q r (inr s) (inr t) = s.2 ∙ sym t.2
-  one_place Done b q r s t = absurd s
-  one_place p b q r s t = s.1 ∙ sym t.1
+  one_place (Fields room) b q r s t = grind (arith, token_is_text)
+  one_place (FieldName room) b q r s t = grind (arith, token_plain)
+  one_place (FieldValue room) b q r s t = grind (arith, value_is_text)
+  one_place p b q r s t = grind arith
 
   -- nearer to the next byte of payload, or to the end
   nearer : (p : Place) (b : ℕ) (q : Place) → StepsTo limits p b q → most_between limits q < most_between limits p
@@ -268,33 +251,15 @@ module _ (limits : Limits) where
       bad.1.none s.2.0 ((within.leads w b s.0 s.1 s.2.0).1 s.2.1)
 
   wrong_step : (p : Place) (b : ℕ) (why : Malformed) (q : Place) → IsWrong limits p b why → ¬ StepsTo limits p b q
-  wrong_step (Size number room) b why q (inl (digit, inl large)) (inl s) = omega (arith, large.1, s.2)
-  wrong_step (Size number room) b why q (inl (digit, inr full)) (inl s) = omega (arith, full.2, s.1)
+  wrong_step (Size number room) b why q (inl wrong) (inl s) = grind (arith, wrong, s)
   wrong_step (Size number room) b why q (inl wrong) (inr s) = s.0 wrong.0
   wrong_step (Size number room) b why q (inr wrong) (inl s) = wrong.0 s.0
   wrong_step (Size number room) b why q (inr wrong) (inr s) = wrong_extension Behind b number room why q wrong.1 s.2
   wrong_step (Extension w size room) b why q wrong s = wrong_extension w b size room why q wrong s.1
-  wrong_step (Data left) b why q wrong s = wrong.2 s.1
-  wrong_step (Fields room) b why q (inl over) (inl s) = (token_is_text b over.1.0).0 s.0
-  wrong_step (Fields room) b why q (inl over) (inr s) = omega (arith, over.1.1, s.1)
-  wrong_step (Fields room) b why q (inr (inl feed)) (inl s) = omega (arith, feed.1, s.0)
-  wrong_step (Fields room) b why q (inr (inl feed)) (inr s) = (token_is_text b s.0).1 feed.1
-  wrong_step (Fields room) b why q (inr (inr bad)) (inl s) = bad.1.1.0 s.0
-  wrong_step (Fields room) b why q (inr (inr bad)) (inr s) = bad.1.0 s.0
-  wrong_step (FieldName room) b why q (inl over) (inl s) = (token_plain b over.1.0).1 s.0
-  wrong_step (FieldName room) b why q (inl over) (inr s) = omega (arith, over.1.1, s.1)
-  wrong_step (FieldName room) b why q (inr (inl feed)) (inl s) = omega (arith, feed.1, s.0)
-  wrong_step (FieldName room) b why q (inr (inl feed)) (inr s) = (token_is_text b s.0).1 feed.1
-  wrong_step (FieldName room) b why q (inr (inr bad)) (inl s) = bad.1.1 s.0
-  wrong_step (FieldName room) b why q (inr (inr bad)) (inr s) = bad.1.0 s.0
-  wrong_step (FieldValue room) b why q (inl over) (inl s) = (value_is_text b over.1.0).0 s.0
-  wrong_step (FieldValue room) b why q (inl over) (inr s) = omega (arith, over.1.1, s.1)
-  wrong_step (FieldValue room) b why q (inr (inl feed)) (inl s) = omega (arith, feed.1, s.0)
-  wrong_step (FieldValue room) b why q (inr (inl feed)) (inr s) = (value_is_text b s.0).1 feed.1
-  wrong_step (FieldValue room) b why q (inr (inr bad)) (inl s) = bad.1.1.0 s.0
-  wrong_step (FieldValue room) b why q (inr (inr bad)) (inr s) = bad.1.0 s.0
-  wrong_step Done b why q wrong s = s
-  wrong_step p b why q wrong s = wrong.1 s.0
+  wrong_step (Fields room) b why q wrong s = grind (arith, token_is_text)
+  wrong_step (FieldName room) b why q wrong s = grind (arith, token_plain)
+  wrong_step (FieldValue room) b why q wrong s = grind (arith, value_is_text)
+  wrong_step p b why q wrong s = grind arith
 
   -- nor does it complete the body
   pub IsWrong-none : (p : Place) (b : ℕ) (why : Malformed) (rest payload : List ℕ) → IsWrong limits p b why
@@ -303,31 +268,22 @@ module _ (limits : Limits) where
       let f = step_first p b rest payload (wrong_open p b why wrong) c in wrong_step p b why f.0 wrong f.1
 
   -- it has one name
-  in_line : (over bad : Malformed) (Over Bad : Type 0) (b : ℕ) → (Over → b ≢ 10) → (Over → ¬ Bad) → (Bad → b ≢ 10)
-      → (w v : Malformed) → WrongInLine over bad Over Bad b w → WrongInLine over bad Over Bad b v → w ≡ v
-  in_line over bad Over Bad b one two three w v h k = grind (arith, one, two, three)
-
   name_in_extension : (w : Within) (room b : ℕ) (one other : Malformed) → WrongInExtension w room b one
       → WrongInExtension w room b other → one ≡ other
   name_in_extension w room b one other h k =
-      in_line LineTooLong BadSize (RunsOver w room b) (EndsNoExtension w b) b
-      (λ over. (CompletesExtension-text w (b ∷ over.text) over.extends).0.1) (λ over bad. bad.none over.text over.extends)
-      (λ bad. bad.no_feed) one other h k
+      let no_feed : RunsOver w room b → b ≢ 10 =
+      λ over. (CompletesExtension-text w (b ∷ over.text) over.extends).0.1 in
+      let none : RunsOver w room b → ¬ EndsNoExtension w b = λ over bad. bad.none over.text over.extends in
+      let bad : EndsNoExtension w b → b ≢ 10 = λ bad. bad.no_feed in
+      grind (arith, no_feed, none, bad)
 
   pub one_name : (p : Place) (b : ℕ) (w v : Malformed) → IsWrong limits p b w → IsWrong limits p b v → w ≡ v
-  one_name (Size number room) b w v (inl (digit, h)) (inl (digit', k)) = grind (arith, h, k)
+  one_name (Size number room) b w v (inl h) (inl k) = grind (arith, h, k)
   one_name (Size number room) b w v (inl h) (inr k) = absurd (k.0 h.0)
   one_name (Size number room) b w v (inr h) (inl k) = absurd (h.0 k.0)
   one_name (Size number room) b w v (inr h) (inr k) = name_in_extension Behind room b w v h.1 k.1
   one_name (Extension within size room) b w v h k = name_in_extension within room b w v h k
-  one_name (Fields room) b w v h k =
-      in_line TrailersTooLong BadField (IsTokenByte b × (room < 2)) (¬ IsTokenByte b × IsTextByte b) b
-      (λ over. (token_is_text b over.0).1) (λ over bad. bad.0 over.0) (λ bad. bad.1.1) w v h k
-  one_name (FieldName room) b w v h k =
-      in_line TrailersTooLong BadField (IsTokenByte b × (room < 2)) (¬ IsTokenByte b × (b ≢ 58) × (b ≢ 10)) b
-      (λ over. (token_is_text b over.0).1) (λ over bad. bad.0 over.0) (λ bad. bad.2) w v h k
-  one_name (FieldValue room) b w v h k =
-      in_line TrailersTooLong BadField (IsValueByte b × (room ≡ 0)) (¬ IsValueByte b × IsTextByte b) b
-      (λ over. (value_is_text b over.0).1) (λ over bad. bad.0 over.0) (λ bad. bad.1.1) w v h k
-  one_name Done b w v h k = absurd h
-  one_name p b w v h k = h.0 ∙ sym k.0
+  one_name (Fields room) b w v h k = grind (arith, token_is_text)
+  one_name (FieldName room) b w v h k = grind (arith, token_plain)
+  one_name (FieldValue room) b w v h k = grind (arith, value_is_text)
+  one_name p b w v h k = grind (arith, h, k)
