@@ -83,32 +83,13 @@ inside fields i within = omega (arith, within, length-map fields (λ f. f.now))
 pub all_lines : (fields : List (Bor (List ℕ))) (i : ℕ) → length fields ≤ i → take i (lines_of fields) ≡ lines_of fields
 all_lines fields i past = take_all i (lines_of fields) (omega (arith, past, length-map fields (λ f. f.now)))
 
--- a line and its end stand behind the lines in front
-line_behind : (fields : List (List ℕ)) (i : ℕ) (line : List ℕ) → i < length fields → line ≡ get_or fields i []
-    → (front (take i fields) ++ line) ++ line_end [] ≡ front (take (i + 1) fields)
-line_behind fields i line within is =
-    ap (λ l. (front (take i fields) ++ l) ++ line_end []) is ∙ sym (front_more fields i within)
-
-pub noted : (start w t behind : List ℕ) (so_far all : List ℕ) → w ≡ start ++ so_far → t ≡ w ++ behind
-    → so_far ++ behind ≡ all → t ≡ start ++ all
-noted start w t behind so_far all was is same =
-    is ∙ ap (λ l. l ++ behind) was ∙ append_assoc start so_far behind ∙ ap (λ l. start ++ l) same
-
-pub line_noted : (start w m t : List ℕ) (fields : List (List ℕ)) (i : ℕ) (line : List ℕ) → i < length fields
-    → line ≡ get_or fields i [] → w ≡ start ++ front (take i fields) → m ≡ w ++ line → t ≡ m ++ line_end []
-    → t ≡ start ++ front (take (i + 1) fields)
-line_noted start w m t fields i line within is was put ends =
-    noted start m t (line_end []) (front (take i fields) ++ line) (front (take (i + 1) fields))
-    (noted start w m line (front (take i fields)) (front (take i fields) ++ line) was put refl) ends
-    (line_behind fields i line within is)
-
 module _ {S : Type 0} where
   -- one more line was copied in, with its end
   pub line_in : (s m n t : Buffered S StdPolicy) (fields : List (List ℕ)) (i : ℕ) (line : List ℕ) → i < length fields
       → line ≡ get_or fields i [] → PutsIn s (front (take i fields)) m → PutsIn m line n → PutsIn n (line_end []) t
       → PutsIn s (front (take (i + 1) fields)) t
   line_in s m n t fields i line within is so_far puts ends =
-      subst (λ l. PutsIn s l t) (line_behind fields i line within is)
+      rw (front_more fields i within, ← is)
       (PutsIn-joins s n t (front (take i fields) ++ line) (line_end [])
       (PutsIn-joins s m n (front (take i fields)) line so_far puts) ends)
 
@@ -116,5 +97,4 @@ module _ {S : Type 0} where
   pub end_in : (s m t : Buffered S StdPolicy) (fields so_far : List (List ℕ)) → so_far ≡ fields → PutsIn s (front so_far) m
       → PutsIn m (line_end []) t → PutsIn s (body_end fields) t
   end_in s m t fields so_far all puts ends =
-      subst (λ l. PutsIn s l t) (ap (λ l. front l ++ line_end []) all ∙ front_ended fields)
-      (PutsIn-joins s m t (front so_far) (line_end []) puts ends)
+      rw (← front_ended fields, ← all) (PutsIn-joins s m t (front so_far) (line_end []) puts ends)

@@ -1,5 +1,5 @@
 -- What goes into a buffered writer, and what a whole chunk and the end of a body do there.
-use Rattle.std.proofs.Common.{◌≡◌, ℕ, zero, suc, ◌+◌, ◌^◌, ◌<◌, ◌≤◌, ◌==◌, false, true, List, [], ◌∷◌, ◌++◌, length, take, Result, Ok, Err, sym, ap, subst, ◌∙◌, arith, inl, inr, refl, append-nil}
+use Rattle.std.proofs.Common.{◌≡◌, ℕ, zero, suc, ◌+◌, ◌^◌, ◌<◌, ◌≤◌, List, [], ◌∷◌, ◌++◌, length, take, Result, Ok, Err, sym, ap, subst, ◌∙◌, arith, inl, inr, refl, append-nil}
 use Rattle.std.proofs.lemmas.Bool.{cases_lt}
 use Rattle.std.proofs.lemmas.List.{take_all}
 use Rattle.std.proofs.lemmas.List.Elements.{All-nil, All-cons}
@@ -19,15 +19,6 @@ use Rattle.chunked.specs.ChunkLaws.{IsChunks-body, IsChunks-joins}
 use Rattle.chunked.specs.ChunkedWriter.{ChunkedWriterState, ChunkingWent, ChunksWent, Finishes, IsChunkedWriter, MakesSpace, PayloadWent, WritesChunk, accepted_of, around, taken_payloads}
 use Rattle.chunked.specs.Trailers.{IsTrailer}
 use Rattle.chunked.specs.TrailersLaws.{trailers_are_fields}
-
--- a slice that isn't empty has some byte
-pub some_of : (n : ℕ) → (n == 0) ≡ false → 0 < n
-some_of zero is = absurd (let odd = is in cc)
-some_of (suc n) is = omega arith
-
-pub none_of : (n : ℕ) → (n == 0) ≡ true → n ≡ 0
-none_of zero is = refl
-none_of (suc n) is = grind (arith, is)
 
 -- no block is larger than a chunk may be
 limit_small : (k : Kind) → limit_of k ≤ 2 ^ 62

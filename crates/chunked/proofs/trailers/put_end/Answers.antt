@@ -1,8 +1,7 @@
 -- What went in is the front of the end of the body, so the room that is left takes what follows of it.
-use Rattle.std.proofs.Common.{[], length, ap, ◌++◌, ◌∙◌, arith}
-use Rattle.chunked.specs.Body.{line_end}
+use Rattle.std.proofs.Common.{length, ap, append_assoc, arith}
 use Rattle.chunked.specs.Trailers.{lines_of}
-use Rattle.chunked.proofs.Fields.{all_lines, end_in, front, front_ended, front_fits, front_len, front_more_len, inside, line_at, line_in, line_noted, noted}
+use Rattle.chunked.proofs.Fields.{all_lines, end_in, front, front_ended, front_fits, front_len, front_more_len, inside, front_more, line_at, line_in}
 use Rattle.chunked.proofs.trailers.put_end.Goals as goal
 
 pub put-requires-in-loop-field : goal.put-requires-in-loop-field
@@ -46,7 +45,7 @@ loop-field-preserved g c =
       put = line_in _ _ _ _
           (lines_of fields) i _ there is before.put line.put ends.put;
       space = omega (arith, before.space, line.usable, ends.usable, front_more_len (lines_of fields) i there, ap length is);
-      wire = line_noted _ _ _ _ (lines_of fields) i _ there is before.wire line.wire ends.wire;
+      wire = rw (ends.wire, line.wire, before.wire, is, front_more (lines_of fields) i there) (simp append_assoc);
     }
 
 pub put-requires-2 : goal.put-requires-2
@@ -71,5 +70,4 @@ pub returns-clause-wire : goal.returns-clause-wire
 returns-clause-wire g c =
     let fields = c.args.fields.now in
     let all = all_lines fields c.loop-field.field-index c.loop-field-test.false in
-    noted _ _ _ (line_end []) _ _ c.loop-field.invariant.wire c.put-2.ensures.wire
-    (ap (λ l. front l ++ line_end []) all ∙ front_ended (lines_of fields))
+    rw (c.put-2.ensures.wire, c.loop-field.invariant.wire, all, ← front_ended (lines_of fields)) (simp append_assoc)

@@ -1,8 +1,9 @@
 -- An empty payload makes no chunk, and one with room behind what is buffered goes in whole, with nothing sent.
-use Rattle.std.proofs.Common.{◌+◌, ◌≤◌, length, Ok, sym, ◌∙◌, arith}
+use Rattle.std.proofs.Common.{◌+◌, ◌≤◌, length, Ok, arith}
+use Rattle.std.proofs.lemmas.Bool.Decides.{nat_tests}
 use Rattle.buffer_redux.specs.WriteParts.{room}
 use Rattle.chunked.specs.ChunkedWriter.{WritesChunk, around, seen}
-use Rattle.chunked.proofs.Writing.{had_space, none_of, some_of, wrote, wrote_nothing}
+use Rattle.chunked.proofs.Writing.{had_space, wrote, wrote_nothing}
 use Rattle.chunked.proofs.writer.ChunkedWriterWrite.write.Goals as goal
 use Rattle.chunked.proofs.writer.ChunkedWriterWrite.write.Goals.{After-note-2}
 
@@ -16,7 +17,7 @@ made g c =
     let there : around + length payload ≤ room v.writer =
     omega (arith, c.if-capacity-buf_len.false, c.capacity.ensures.value, c.buf_len.ensures.value) in
     wrote g.W.Tell.log g.W.TellWrite.trace g.met.W.TellWrite.trace_none g.met.W.TellWrite.trace_joins _ c.self.invariant
-    (omega (arith, c.if-self-gt0.false)) payload (some_of _ (sym c.is_empty.ensures ∙ c.if-is_empty.false))
+    (omega (arith, c.if-self-gt0.false)) payload (grind (arith, nat_tests))
     (omega (arith, there)) v.writer c.put_chunk.new.writer (had_space g.W.Tell.log g.W.TellWrite.trace
     g.met.W.TellWrite.trace_none g.met.W.TellWrite.trace_joins v.writer (around + length payload) there)
     c.put_chunk.ensures.put _ c.put_chunk.ensures.wire _ c.note-2.ensures
@@ -25,7 +26,7 @@ pub returns-then-is_empty-clause-writes : goal.returns-then-is_empty-clause-writ
 returns-then-is_empty-clause-writes g c =
     rw (← c.self.view_is)
     (wrote_nothing g.W.Tell.log g.W.TellWrite.trace g.met.W.TellWrite.trace_none g.met.W.TellWrite.trace_joins _
-    c.self.invariant c.args.payload.now (none_of _ (sym c.is_empty.ensures ∙ c.if-is_empty.true)) _ c.note.ensures)
+    c.self.invariant c.args.payload.now (grind (arith, nat_tests)) _ c.note.ensures)
 
 pub invariant_of-self-2 : goal.invariant_of-self-2
 invariant_of-self-2 g c = (made g c).whole
