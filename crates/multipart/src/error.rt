@@ -1,7 +1,7 @@
 //! Why a multipart body can't be read.
 ghost use Rattle.std.specs.Prelude.{◌≡◌};
 
-use body_reader::{BodyError, CollectError};
+use body_reader::BodyError;
 use std::error::Error;
 use std::io::ErrorKind;
 use std::{fmt, io};
@@ -17,7 +17,7 @@ pub enum PartError {
     Boundary,
     /// A head has more bytes than the limit. Each further call says so.
     LongHead,
-    /// There are more parts than the limit. Each further call says so.
+    /// A boundary behind as many parts as the limit isn't the last. Each further call says so.
     ManyParts,
     /// Memory was refused.
     Memory,
@@ -48,20 +48,6 @@ impl From<BodyError<()>> for PartError {
             BodyError::Wrong(_, _) => PartError::Boundary,
             BodyError::Truncated(_) => PartError::Truncated,
             BodyError::Io(e) => PartError::Io(e),
-        }
-    }
-}
-
-impl From<CollectError<()>> for PartError {
-    ghost use Rattle.multipart.specs.Multipart.{head_error};
-
-    ghost from_gives = { λ e r. r ≡ head_error e };
-
-    fn from(e: CollectError<()>) -> PartError {
-        match e {
-            CollectError::Body(e) => PartError::from(e),
-            CollectError::TooLong => PartError::LongHead,
-            CollectError::Memory => PartError::Memory,
         }
     }
 }

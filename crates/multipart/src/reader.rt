@@ -1,7 +1,7 @@
 //! The reader of parts.
 ghost use Rattle.std.specs.Prelude.{[], ◌≡◌, ◌≢◌, ◌<◌, ◌≤◌, ◌+◌, ◌⊎◌, ◌∷◌, ◌++◌, length, min, take, vec_items, Ok, IfErr, IfOk, IfSome, MatchBool};
 ghost use Rattle.body_reader.specs.BodyReader.{ConsumesPayload, FillsPayload, IsBodyReader, ReadsPayload, TookWholeBody};
-ghost use Rattle.multipart.specs.Multipart.{AreCodings, CollectsHead, EndsHead, GoesOnFromHead, IsBegun, IsForm, LeavesText, NextPart, NoReaderMade, codes};
+ghost use Rattle.multipart.specs.Multipart.{AreCodings, CollectsHead, EndsAtLimit, EndsHead, GoesOnFromHead, IsBegun, IsForm, LeavesText, NextPart, NoReaderMade, codes};
 
 use crate::error::{NewError, PartError};
 use crate::head::is_opening;
@@ -246,8 +246,9 @@ impl<R: TellRead, P: ReaderPolicy> Multipart<R, P> {
     /// further call goes on where this one stopped.
     ///
     /// The stream is asked only where what is buffered settles nothing: for no byte behind the empty line of a head, nor behind
-    /// the two hyphens of the last boundary. But behind any other boundary a head is read to its end, or to the limit, also where
-    /// only an error can come of it, since more stands in its line, or there are `limits.parts` parts already.
+    /// the two hyphens of the last boundary, nor behind the first byte that can follow no boundary. Where there are
+    /// `limits.parts` parts already it is asked only where what stands behind the boundary is nothing yet, or begins the two
+    /// hyphens or an empty line.
     pub fn next_part(&mut self) -> Result<bool, PartError>
         ensures stands { IfOk result (λ more. MatchBool more
             ((self.new.stand ≡ Stand.Part) × (self.new.parts ≡ self.old.parts + 1))
@@ -269,8 +270,11 @@ impl<R: TellRead, P: ReaderPolicy> Multipart<R, P> {
         requires head { self.old.stand ≡ Stand.Head }
         ensures { GoesOnFromHead R.remaining P.rules self.old result self.new }
     {
+        if self.parts >= self.limits.parts {
+            return self.end_at_limit();
+        }
         self.collect()?;
-        self.end_head()
+        Ok(self.end_head())
     }
 
     // Goes on behind the boundary that ends this text.
@@ -292,30 +296,62 @@ impl<R: TellRead, P: ReaderPolicy> Multipart<R, P> {
             self.new.head }
         ensures within { self.new ≡ record self.old { body = self.new.body; head = self.new.head } }
     {
-        self.body.collect(self.limits.head, &mut self.head)?;
-        Ok(())
+        collect_head(&mut self.body, self.limits.head, &mut self.head)
+    }
+
+    // Ends the body behind the two hyphens, or refuses a part: there may be no other.
+    fn end_at_limit(&mut self) -> Result<bool, PartError>
+        requires head { self.old.stand ≡ Stand.Head }
+        ensures { EndsAtLimit R.remaining P.rules self.old result self.new }
+    {
+        if self.body.fill_payload()? > 0 || self.body.taken() != 2 {
+            return Err(PartError::ManyParts);
+        }
+        self.stand = Stand::Ended;
+        Ok(false)
     }
 
     // Goes on into the part behind this head, or says that there is none.
-    fn end_head(&mut self) -> Result<bool, PartError>
+    fn end_head(&mut self) -> bool
         requires head { self.old.stand ≡ Stand.Head }
+        requires few { self.old.parts < self.old.limits.parts }
         requires whole { TookWholeBody (codes self.old.body.coding) self.old.body }
         requires reader { IsBodyReader (codes self.old.body.coding) self.old.body }
         ensures { EndsHead self.old result self.new }
     {
         if self.body.taken() == 2 {
             self.stand = Stand::Ended;
-            return Ok(false);
-        }
-        if !is_opening(self.head.as_slice()) {
-            return Err(PartError::Boundary);
-        }
-        if self.parts >= self.limits.parts {
-            return Err(PartError::ManyParts);
+            return false;
         }
         self.body.begin_next(&mut self.other);
         self.parts += 1;
         self.stand = Stand::Part;
-        Ok(true)
+        true
     }
+}
+
+// Collects a head while it begins as the line of a boundary ends.
+fn collect_head<R: TellRead, P: ReaderPolicy>(
+    body: &mut BodyReader<R, JustOrUntil, P>,
+    most: usize,
+    head: &mut Vec<u8>,
+) -> Result<(), PartError>
+    ensures { CollectsHead R.remaining P.rules most body.old (vec_items head.old) result body.new (vec_items head.new) }
+{
+    // Says that the reader is whole, also where nothing comes.
+    let _ = body.get_ref();
+    while is_opening(head.as_slice()) {
+        let came = body.fill_payload()?;
+        if came == 0 {
+            return Ok(());
+        }
+        if came > most.saturating_sub(head.len()) {
+            return Err(PartError::LongHead);
+        }
+        if head.extend_from_slice(body.piece()).is_err() {
+            return Err(PartError::Memory);
+        }
+        body.consume_payload(came);
+    }
+    Err(PartError::Boundary)
 }

@@ -1,14 +1,12 @@
 -- From the text of a part to the next part.
-use Rattle.std.proofs.Common.{◌≡◌, ◌≢◌, ◌<◌, length, length-append, Bool, IsTrue, ℕ, List, [], ◌∷◌, ◌++◌, Option, Result, Ok, Err, true, false, inl, inr, ◌⊎◌, sym, ap, subst, ◌∙◌, refl, arith, append-nil, append_assoc}
+use Rattle.std.proofs.Common.{◌≡◌, ◌≢◌, ◌<◌, length, length-append, Bool, ℕ, zero, suc, ◌≤◌, List, [], ◌∷◌, ◌++◌, Option, Result, Ok, Err, true, false, inl, inr, ◌⊎◌, sym, ap, subst, ◌∙◌, refl, arith, append-nil, append_assoc}
 use Rattle.body_reader.specs.declared.error.BodyError.{BodyError}
 use Rattle.body_reader.specs.declared.error.BodyError.TheVariants as why
-use Rattle.body_reader.specs.declared.error.CollectError.{CollectError}
-use Rattle.body_reader.specs.declared.error.CollectError.TheVariants as collect
 use Rattle.body_reader.specs.declared.just_or_until.JustOr.{JustOr}
 use Rattle.body_reader.specs.declared.just_or_until.JustOrUntil.{JustOrUntil}
 use Rattle.body_reader.specs.Between.{EachGave}
 use Rattle.body_reader.specs.BetweenLaws.{EachGave-joins, FaultedOnce-after, GaveNothingOnce-after, StopsFor-after}
-use Rattle.body_reader.specs.BodyReader.{BodyState, BodyWent, Collects, Drains, IsBodyReader, NoPayload, TookWholeBody, begun, handed_of}
+use Rattle.body_reader.specs.BodyReader.{BodyState, BodyWent, Drains, FillsPayload, IsBodyReader, NoPayload, TookWholeBody, begun, handed_of}
 use Rattle.body_reader.specs.Coding.{Grammar, IsBody}
 use Rattle.body_reader.specs.CodingLaws.{Leads-left}
 use Rattle.buffer_redux.specs.BufReader.{ReadsInOrder}
@@ -20,8 +18,7 @@ use Rattle.multipart.specs.declared.error.PartError.{PartError}
 use Rattle.multipart.specs.declared.error.PartError.TheVariants as part
 use Rattle.multipart.specs.declared.reader.Limits.{Limits}
 use Rattle.multipart.specs.declared.reader.Stand.TheVariants.{Preamble, Head, Part}
-use Rattle.multipart.specs.Head.{is_opening}
-use Rattle.multipart.specs.Multipart.{hyphens, EndsHead, FormState, GoesOnFromHead, LeavesText, NextPart, PassesText, codes, head_error, part_error, turned}
+use Rattle.multipart.specs.Multipart.{hyphens, CollectsHead, EndsAtLimit, EndsHead, FormState, GoesOnFromHead, LeavesText, NextPart, NoHead, PassesText, codes, part_error, turned}
 use Rattle.buffer_redux.specs.BufWriter.{StoppedAlong, WritesAlong}
 use Rattle.buffer_redux.specs.Policy.{std_write_rules}
 use Rattle.buffer_redux.specs.StreamLog.{StreamLog}
@@ -174,33 +171,29 @@ module _ {S : Type 0} (remaining : S → Option (List ℕ)) (texts heads : JustO
       abbrev Comes : Result Bool PartError → FormState S StdPolicy → Type 0
       Comes answer t = ComesBehind texts heads first turns (handed_of b) s.limits answer t
 
-      module _ (a : Body S) (head : List ℕ)
-          (collects : Collects remaining std_read_rules (codes s.other) s.limits.head
-          (begun (codes s.other) b.reader s.other) [] (Ok tt) a head) where
-        abbrev taken_head : FormState S StdPolicy
-        taken_head = record behind { body = a; head = head }
-
+      module _ (a : Body S) (head : List ℕ) (few : s.parts < s.limits.parts)
+          (collects : CollectsHead remaining std_read_rules s.limits.head (begun (codes s.other) b.reader s.other) [] (Ok tt) a
+          head) where
         said_is : head ≡ handed_of a
         said_is = collects.collected ∙ sym collects.went.handed
-
-        head_whole : IsBody (codes heads) a.taken (handed_of a)
-        head_whole = subst (λ c. TookWholeBody (codes c) a) is.other collects.answers.1
 
         order_all : ReadsInOrder first ((before ++ b.taken) ++ a.taken) a.reader
         order_all = head_order a collects.payload collects.went
 
         gave_all : EachGave first a.reader
-        gave_all = head_gave a collects.payload collects.went collects.answers.0
+        gave_all = head_gave a collects.payload collects.went collects.answers.1
 
-        leads_in : IsTrue (is_opening head) → a.taken ≢ hyphens → LeadsIn texts heads (handed_of a) a.taken
-        leads_in opens no_end = record {
-          whole = head_whole;
-          opens = subst (λ l. IsTrue (is_opening l)) said_is opens;
+        leads_in : a.taken ≢ hyphens → LeadsIn texts heads head a.taken
+        leads_in no_end = record {
+          whole = subst (λ l. IsBody (codes heads) a.taken l) (sym said_is)
+              (subst (λ c. TookWholeBody (codes c) a) is.other collects.answers.2);
+          opens = collects.answers.0;
           no_end = no_end;
         }
 
-        ends : (answer : Result Bool PartError) (t : FormState S StdPolicy) → EndsHead taken_head answer t → Comes answer t
-        ends (Ok true) t end = subst (Comes (Ok true)) (sym end.3) (
+        ends : (more : Bool) (t : FormState S StdPolicy) → EndsHead (record behind { body = a; head = head }) more t
+            → Comes (Ok more) t
+        ends true t end = subst (Comes (Ok true)) (sym end.1) (
           (before ++ b.taken) ++ a.taken,
           record {
             stands = inr refl;
@@ -214,7 +207,7 @@ module _ {S : Type 0} (remaining : S → Option (List ℕ)) (texts heads : JustO
               append_assoc before b.taken a.taken,
               is.parts,
               text_whole,
-              subst (λ l. LeadsIn texts heads l a.taken) (sym said_is) (leads_in end.1 end.0),
+              leads_in end.0,
             );
             order = subst (λ l. ReadsInOrder first l a.reader) (sym (append-nil ((before ++ b.taken) ++ a.taken))) order_all;
           },
@@ -223,70 +216,75 @@ module _ {S : Type 0} (remaining : S → Option (List ℕ)) (texts heads : JustO
           refl,
           refl,
         )
-        ends (Ok false) t end = subst (Comes (Ok false)) (sym end.1) (
+        ends false t end = subst (Comes (Ok false)) (sym end.1) (
           subst (λ l. BehindText texts heads first turns (handed_of b) l a.reader) end.0
               (behind_text a collects.payload collects.went),
           gave_all,
         )
-        ends (Err part.Boundary) t end = subst (Comes (Err part.Boundary)) (sym end.2) (
-          record {
-            behind = behind_text a collects.payload collects.went;
-            whole = head_whole;
-            no_end = end.0;
-            no_opening = subst (λ l. ¬ IsTrue (is_opening l)) said_is end.1;
-          },
-          gave_all,
-        )
-        ends (Err part.ManyParts) t end = subst (Comes (Err part.ManyParts)) (sym end.3) (
-          behind_text a collects.payload collects.went,
-          omega (arith, is.counted, end.2),
-          leads_in end.1 end.0,
-          gave_all,
-        )
-        ends (Err part.Truncated) t end = absurd end
-        ends (Err (part.Io e)) t end = absurd end
-        ends (Err part.LongHead) t end = absurd end
-        ends (Err part.Memory) t end = absurd end
 
-      -- a head that wasn't collected
-      module _ (a : Body S) (head : List ℕ) where
-        abbrev left_head : FormState S StdPolicy
-        left_head = record behind { body = a; head = head }
-
-        in_head : (w : CollectError (Unit {0})) → Collects remaining std_read_rules (codes s.other) s.limits.head
-            (begun (codes s.other) b.reader s.other) [] (Err w) a head → 0 < a.known
-            → InHead texts heads first turns (handed_of b) left_head
-        in_head w collects some = record {
-          behind = behind_text a collects.payload collects.went;
-          inside = subst (λ c. IsBodyReader (codes c) a) is.other collects.whole;
-          some = some;
+      -- a head that leads nowhere
+      module _ (t : FormState S StdPolicy) (payload : List ℕ)
+          (went : BodyWent remaining std_read_rules (codes s.other) (begun (codes s.other) b.reader s.other) payload t.body)
+          (whole : IsBodyReader (codes s.other) t.body) where
+        in_head : InHead texts heads first turns (handed_of b) t
+        in_head = record {
+          behind = behind_text t.body payload went;
+          inside = subst (λ c. IsBodyReader (codes c) t.body) is.other whole;
         }
 
-        no_head : (w : CollectError (Unit {0})) → Collects remaining std_read_rules (codes s.other) s.limits.head
-            (begun (codes s.other) b.reader s.other) [] (Err w) a head
-            → NextFails texts heads first turns (handed_of b) s.limits (head_error w) left_head
-        no_head (collect.Body x) collects = no_payload (handed_of b) (begun (codes s.other) b.reader s.other) left_head x s.limits
-            (inr (behind_text a collects.payload collects.went)) text_gave
-            (subst (λ c. NoPayload (codes c) (begun (codes s.other) b.reader s.other) x a) (sym collects.went.coding)
-            collects.answers)
-        no_head collect.TooLong collects = (
-          in_head collect.TooLong collects collects.answers.1,
-          omega (arith, collects.answers.2, ap length (collects.collected ∙ sym collects.went.handed)),
-          head_gave a collects.payload collects.went collects.answers.0,
+        none_came : (w : BodyError (Unit {0})) → NoPayload (codes s.other) (begun (codes s.other) b.reader s.other) w t.body
+            → Comes (Err (part_error w)) t
+        none_came w none = no_payload (handed_of b) (begun (codes s.other) b.reader s.other) t w s.limits
+            (inr (behind_text t.body payload went)) text_gave
+            (subst (λ c. NoPayload (codes c) (begun (codes s.other) b.reader s.other) w t.body) (sym went.coding) none)
+
+        no_head : (e : PartError) → NoHead remaining std_read_rules s.limits.head (begun (codes s.other) b.reader s.other)
+            (handed_of t.body) e t.body → Comes (Err e) t
+        no_head part.Boundary none = (in_head, none.0, head_gave t.body payload went none.1)
+        no_head part.LongHead long = (in_head, long.0, long.1, head_gave t.body payload went long.2)
+        no_head part.Memory refused = (in_head, refused.0, refused.1, head_gave t.body payload went refused.2)
+        no_head part.ManyParts none = absurd none
+        no_head part.Truncated (w, same, none) = subst (λ x. Comes (Err x) t) (sym same) (none_came w none)
+        no_head (part.Io e) (w, same, none) = subst (λ x. Comes (Err x) t) (sym same) (none_came w none)
+
+      -- where there may be no further part
+      module _ (few : s.limits.parts ≤ s.parts) (t : FormState S StdPolicy) where
+        abbrev Fills : Result ℕ (BodyError (Unit {0})) → Type 0
+        Fills answer =
+            FillsPayload remaining std_read_rules (codes s.other) (begun (codes s.other) b.reader s.other) answer t.body
+
+        -- some of it is known, or it is whole
+        known : (n : ℕ) → Fills (Ok n) → ((0 < n) ⊎ (t.body.taken ≢ hyphens))
+            → ((0 < t.body.known) ⊎ (IsBody (codes heads) t.body.taken (handed_of t.body) × (t.body.taken ≢ hyphens)))
+        known zero fills (inl some) = absurd (omega (arith, some))
+        known zero fills (inr no_end) =
+            inr (subst (λ c. TookWholeBody (codes c) t.body) is.other (fills.answers.2 refl), no_end)
+        known (suc n) fills no_end = inl (omega (arith, fills.answers.0))
+
+        at_limit : (answer : Result Bool PartError) → EndsAtLimit remaining std_read_rules behind answer t → Comes answer t
+        at_limit (Ok false) (fills, end, same) = (
+          subst (λ l. BehindText texts heads first turns (handed_of b) l t.body.reader) end (behind_text t.body [] fills.went),
+          head_gave t.body [] fills.went fills.answers.1,
         )
-        no_head collect.Memory collects = (
-          in_head collect.Memory collects collects.answers.1,
-          omega (arith, collects.answers.2, ap length (collects.collected ∙ sym collects.went.handed)),
-          head_gave a collects.payload collects.went collects.answers.0,
+        at_limit (Ok true) end = absurd end
+        at_limit (Err e) (same, inl (n, fills, no_end, many)) = subst (λ x. Comes (Err x) t) (sym many) (
+          in_head t [] fills.went fills.whole,
+          omega (arith, is.counted, few),
+          known n fills no_end,
+          head_gave t.body [] fills.went fills.answers.1,
         )
+        at_limit (Err e) (same, inr (w, fills, because)) =
+            subst (λ x. Comes (Err x) t) (sym because) (none_came t [] fills.went fills.whole w fills.answers)
 
       goes_on : (answer : Result Bool PartError) (t : FormState S StdPolicy)
           → GoesOnFromHead remaining std_read_rules behind answer t → Comes answer t
-      goes_on answer t (a, head, inl (collects, end)) = ends a head collects answer t end
-      goes_on answer t (a, head, inr (e, same, (w, collects, because), within)) =
-          subst (λ x. Comes x t) (sym same) (subst (Comes (Err e)) (sym within)
-          (subst (λ x. NextFails texts heads first turns (handed_of b) s.limits x (left_head a head)) (sym because)
-          (no_head a head w collects)))
+      goes_on (Ok more) t (inl (few, (a, head, collects, end))) = ends a head few collects more t end
+      goes_on (Err e) t (inl (few, (collects, same))) =
+          let said : t.head ≡ handed_of t.body = collects.collected ∙ sym collects.went.handed in
+          no_head t collects.payload collects.went collects.whole e
+          (subst (λ l. NoHead remaining std_read_rules s.limits.head (begun (codes s.other) b.reader s.other) l e t.body) said
+          collects.answers)
+      goes_on answer t (inr (few, end)) = at_limit few t answer end
 
       still_text : TookWholeBody (codes s.body.coding) s.body → handed_of b ≡ handed_of s.body
       still_text = still remaining (codes s.body.coding) s.body b (Ok tt) drains

@@ -100,34 +100,30 @@ module _ (texts heads : JustOrUntil) where
       InSection t = ((before : List ℕ) × InText before t × (text ≡ handed_of t.body))
           ⊎ BehindText text t.body.taken t.body.reader
 
-      -- a head that begins otherwise than the line of a boundary ends was taken last
-      pub record TookWrongHead (t : FormState S Q) : Type 0 where
-        pub behind : BehindText text t.body.taken t.body.reader
-        pub whole : IsBody (codes heads) t.body.taken (handed_of t.body)
-        pub no_end : t.body.taken ≢ hyphens
-        pub no_opening : ¬ IsTrue (is_opening (handed_of t.body))
-
-      -- in a head, of which more is buffered
+      -- in a head
       pub record InHead (t : FormState S Q) : Type 0 where
         pub behind : BehindText text t.body.taken t.body.reader
         pub inside : IsBodyReader (codes heads) t.body
-        pub some : 0 < t.body.known
 
       -- why no part comes next: the stream ended within a text or a head, or failed there, or the text is longer than a run
-      -- counts; the head is wrong, is too long, or leads into a part more than these; or memory for it was refused
+      -- counts; the head begins otherwise than the line of a boundary ends; it is too long with what more of it is buffered, or
+      -- memory for that was refused; or there are as many parts as these, and some of a head is buffered, or it is whole, and
+      -- is not the two hyphens
       abbrev pub NextFails : Limits → PartError → FormState S Q → Type 0
       NextFails limits part.Truncated t =
           InSection t × EndsEarly (codes t.body.coding) t.body × GaveNothingOnce first t.body.reader
       NextFails limits (part.Io e) t = InSection t
           × ((EndsEarly (codes t.body.coding) t.body × FaultedOnce first e t.body.reader)
           ⊎ ((error_kind e ≡ Other) × (2 ^ 64 - 1 ≤ length (handed_of t.body)) × EachGave first t.body.reader))
-      NextFails limits part.Boundary t = TookWrongHead t × EachGave first t.body.reader
-      NextFails limits part.LongHead t =
-          InHead t × (limits.head < length (handed_of t.body) + t.body.known) × EachGave first t.body.reader
-      NextFails limits part.ManyParts t = BehindText text t.body.taken t.body.reader × (limits.parts ≤ length turns)
-          × LeadsIn (handed_of t.body) t.body.taken × EachGave first t.body.reader
-      NextFails limits part.Memory t =
-          InHead t × (length (handed_of t.body) + t.body.known ≤ limits.head) × EachGave first t.body.reader
+      NextFails limits part.Boundary t =
+          InHead t × (¬ IsTrue (is_opening (handed_of t.body))) × EachGave first t.body.reader
+      NextFails limits part.LongHead t = InHead t × (0 < t.body.known)
+          × (limits.head < length (handed_of t.body) + t.body.known) × EachGave first t.body.reader
+      NextFails limits part.ManyParts t = InHead t × (limits.parts ≤ length turns)
+          × ((0 < t.body.known) ⊎ (IsBody (codes heads) t.body.taken (handed_of t.body) × (t.body.taken ≢ hyphens)))
+          × EachGave first t.body.reader
+      NextFails limits part.Memory t = InHead t × (0 < t.body.known)
+          × (length (handed_of t.body) + t.body.known ≤ limits.head) × EachGave first t.body.reader
 
 -- in a part, to which the bytes before it lead
 pub record InPart {S : Type 0} (s t : FormState S StdPolicy) : Type 0 where

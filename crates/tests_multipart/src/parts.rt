@@ -252,11 +252,11 @@ fn asks_for_nothing_that_is_settled(rt: HostRuntime) -> Result<(), Fail> {
     Ok(())
 }
 
-// Whether the parts of these bytes end by an error that says so, twice.
-fn fails(alloc: Global, bytes: &[u8], why: &str) -> io::Result<bool> {
+// Whether the parts of these bytes, which come in such pieces, end by an error that says so, twice. The end isn't seen.
+fn fails(alloc: Global, bytes: &[u8], piece: usize, why: &str) -> io::Result<bool> {
     let inner = BufReader::with_buffer(
         holding_in(alloc, false, 100, b"")?,
-        source(alloc, bytes, &[])?,
+        source(alloc, bytes, &[Answer::ServeEach(piece)])?,
     );
     let limits = Limits { head: 9, parts: 1 };
     let Ok(mut parts) = Multipart::new(alloc, inner, b"b", limits) else {
@@ -282,14 +282,25 @@ fn fails(alloc: Global, bytes: &[u8], why: &str) -> io::Result<bool> {
 #[test]
 fn refuses_what_is_wrong(rt: HostRuntime) -> Result<(), Fail> {
     let alloc = rt.alloc();
-    let shown: [(&[u8], &str); 4] = [
+    let shown: [(&[u8], &str); 13] = [
         (b"--bc\r\n\r\n", "a boundary is not alone in its line"),
-        (b"--b-\r\n\r\n", "a boundary is not alone in its line"),
+        (b"--bc", "a boundary is not alone in its line"),
+        (b"--b-\r", "a boundary is not alone in its line"),
+        (b"--b \tc", "a boundary is not alone in its line"),
+        (b"--b\n", "a boundary is not alone in its line"),
+        (b"--b\rc", "a boundary is not alone in its line"),
+        (b"--b \r\r", "a boundary is not alone in its line"),
         (b"--b\r\nA: 123456", "the head of a part is too long"),
+        (b"--b          ", "the head of a part is too long"),
         (b"--b\r\n\r\n\r\n--b\r\n\r\n", "there are too many parts"),
+        (b"--b\r\n\r\n\r\n--b\r\nA", "there are too many parts"),
+        (b"--b\r\n\r\n\r\n--b ", "there are too many parts"),
+        (b"--b\r\n\r\n\r\n--bc", "there are too many parts"),
     ];
     for (bytes, why) in shown {
-        assert!(rt; fails(alloc, bytes, why)?);
+        for piece in [1, 1000] {
+            assert!(rt; fails(alloc, bytes, piece, why)?);
+        }
     }
     for (boundary, capacity) in [(b"".as_slice(), 100), (b"0123456789".as_slice(), 13)] {
         let inner = BufReader::with_buffer(
