@@ -1,8 +1,8 @@
 -- What names the resource that is asked for: a target, and a `Host`, by RFC 3986.
-use Rattle.std.specs.Prelude.{ℕ, ◌+◌, ◌-◌, ◌<◌, ◌⊎◌, Bool, true, false, not, ◌&&◌, ◌||◌, List, length, take, drop, slice_index, nat_lt, if◌then◌else◌, ◌==◌, codes, bytes_eq, nat_eq, IsTrue}
+use Rattle.std.specs.Prelude.{ℕ, ◌+◌, ◌<◌, ◌⊎◌, Bool, true, false, not, ◌&&◌, ◌||◌, List, length, take, drop, slice_index, nat_lt, if◌then◌else◌, ◌==◌, codes, bytes_eq, nat_eq, IsTrue}
 use Rattle.http1.specs.Fields.{is_named}
 use Rattle.http1.specs.Text.{eq_ignore_case}
-use Rattle.std.specs.List.{prefix_len, list_any, starts_with}
+use Rattle.std.specs.List.{list_all, list_any, prefix_len, starts_with}
 use Rattle.std.specs.Char.{is_ascii_alphabetic, is_ascii_alphanumeric, is_ascii_digit, is_ascii_hexdigit}
 use Rattle.std.specs.Net.Grammar.{IsIpv6Text}
 use Rattle.std.specs.declared.net.ipv6_addr.Ipv6Addr.{Ipv6Addr}
@@ -49,21 +49,17 @@ is_scheme_byte b = is_ascii_alphanumeric b || list_any (λ c. c == b) (codes "+-
 
 -- nothing, or a colon and digits (section 3.2.3)
 abbrev pub is_port : List ℕ → Bool
-is_port text = (length text == 0) || (has_at text 0 58 && (prefix_len is_ascii_digit (drop 1 text) == length text - 1))
+is_port text = (length text == 0) || (has_at text 0 58 && list_all is_ascii_digit (drop 1 text))
 
 -- a name and a port, or nothing
 abbrev pub is_name : List ℕ → Bool
 is_name text = let len = prefix_len is_name_byte text in
     (length text == 0) || (nat_lt 0 len && is_port (drop len text))
 
--- what stands behind the dot of an address of a later version than 6
-abbrev pub is_future_address : List ℕ → Bool
-is_future_address text = nat_lt 0 (length text) && (prefix_len is_future_byte text == length text)
-
--- a version in hexadecimal digits, a dot, and that
+-- a version in hexadecimal digits, a dot, and an address of that version
 abbrev pub is_versioned : List ℕ → Bool
 is_versioned text = let len = prefix_len is_ascii_hexdigit text in
-    nat_lt 0 len && (has_at text len 46 && is_future_address (drop (len + 1) text))
+    nat_lt 0 len && (has_at text len 46 && (nat_lt (len + 1) (length text) && list_all is_future_byte (drop (len + 1) text)))
 
 -- `v`, and these
 abbrev pub is_future : List ℕ → Bool
@@ -94,10 +90,6 @@ IsHost text = HasWholeEscapes text × IsHostAndPort text
 abbrev pub IsPlainField : List ℕ × List ℕ → Type 0
 IsPlainField h = IsTrue (is_named (codes "host") h) → IsHost h.1
 
--- a path and a query
-abbrev pub is_path : List ℕ → Bool
-is_path text = prefix_len is_path_byte text == length text
-
 -- where the host of an authority begins: behind a user and `@`, if it has such
 abbrev pub host_at : List ℕ → ℕ
 host_at text = let len = prefix_len is_user_byte text in if has_at text len 64 then len + 1 else 0
@@ -118,7 +110,7 @@ authority_len text = prefix_len (λ b. not ((b == 47) || (b == 63))) text
 -- an authority, a path and a query
 abbrev pub IsBehindScheme : Bool → List ℕ → Type 0
 IsBehindScheme web text = let len = authority_len text in
-    IsAuthority web (take len text) × IsTrue (is_path (drop len text))
+    IsAuthority web (take len text) × IsTrue (list_all is_path_byte (drop len text))
 
 abbrev pub begins_with_letter : List ℕ → Bool
 begins_with_letter text = nat_lt 0 (length text) && is_ascii_alphabetic (slice_index text 0)
@@ -132,7 +124,7 @@ IsAbsolute text = let len = prefix_len is_scheme_byte text in
 -- a target (section 3.2), whose escapes may be torn: a path, `*` to `OPTIONS`, or an absolute form. That of `CONNECT` is none
 abbrev pub IsTargetForm : List ℕ → List ℕ → Type 0
 IsTargetForm method text =
-    (IsTrue (has_at text 0 47) × IsTrue (is_path text))
+    (IsTrue (has_at text 0 47) × IsTrue (list_all is_path_byte text))
     ⊎ (IsTrue (bytes_eq text (codes "*")) × IsTrue (bytes_eq method (codes "OPTIONS")))
     ⊎ IsAbsolute text
 

@@ -1,9 +1,9 @@
 //! What names the resource that is asked for: a target, and a `Host`.
 ghost use Rattle.std.specs.Prelude.{◌≡◌, ◌<◌, ◌≤◌, ◌↔◌, not, ◌==◌, ◌||◌, length, map, All, IsTrue};
 ghost use Rattle.httparse.specs.Spans.{IsHeaderWithin, header_bytes};
-ghost use Rattle.std.specs.List.{prefix_len};
+ghost use Rattle.std.specs.List.{list_all, prefix_len};
 ghost use Rattle.std.specs.Char.{is_ascii_digit, is_ascii_hexdigit};
-ghost use Rattle.messages.specs.Target.{HasWholeEscapes, IsAbsolute, IsAddress, IsAuthority, IsBehindScheme, IsBracketed, IsHost, IsHostAndPort, IsPlainField, IsTarget, IsTargetForm, address_len, authority_len, begins_with_letter, has_at, has_hex_at, host_at, is_future, is_future_address, is_future_byte, is_name, is_name_byte, is_path, is_path_byte, is_plain_byte, is_port, is_scheme_byte, is_user_byte, is_versioned, is_web, is_whole_at};
+ghost use Rattle.messages.specs.Target.{HasWholeEscapes, IsAbsolute, IsAddress, IsAuthority, IsBehindScheme, IsBracketed, IsHost, IsHostAndPort, IsPlainField, IsTarget, IsTargetForm, address_len, authority_len, begins_with_letter, has_at, has_hex_at, host_at, is_future, is_future_byte, is_name, is_name_byte, is_path_byte, is_plain_byte, is_port, is_scheme_byte, is_user_byte, is_versioned, is_web, is_whole_at};
 
 use http1::text::eq_ignore_case;
 use httparse::spans::HeaderSpan;
@@ -76,11 +76,10 @@ fn is_scheme_byte(b: u8) -> bool
     b.is_ascii_alphanumeric() || b"+-.".contains(&b)
 }
 
-fn digits_len(text: &[u8]) -> usize
-    ensures value { result ≡ prefix_len is_ascii_digit text.now }
-    ensures within { result ≤ length text.now }
+fn are_digits(text: &[u8]) -> bool
+    ensures { result ≡ list_all is_ascii_digit text.now }
 {
-    text.iter().take_while(|b| b.is_ascii_digit()).count()
+    text.iter().all(|b| b.is_ascii_digit())
 }
 
 fn hex_len(text: &[u8]) -> usize
@@ -104,18 +103,10 @@ fn user_len(text: &[u8]) -> usize
     text.iter().take_while(|b| is_user_byte(**b)).count()
 }
 
-fn path_len(text: &[u8]) -> usize
-    ensures value { result ≡ prefix_len is_path_byte text.now }
-    ensures within { result ≤ length text.now }
+fn are_future(text: &[u8]) -> bool
+    ensures { result ≡ list_all is_future_byte text.now }
 {
-    text.iter().take_while(|b| is_path_byte(**b)).count()
-}
-
-fn future_len(text: &[u8]) -> usize
-    ensures value { result ≡ prefix_len is_future_byte text.now }
-    ensures within { result ≤ length text.now }
-{
-    text.iter().take_while(|b| is_future_byte(**b)).count()
+    text.iter().all(|b| is_future_byte(*b))
 }
 
 fn scheme_len(text: &[u8]) -> usize
@@ -144,7 +135,7 @@ fn authority_len(text: &[u8]) -> usize
 fn is_port(text: &[u8]) -> bool
     ensures { result ≡ is_port text.now }
 {
-    text.is_empty() || has_at(text, 0, b':') && digits_len(&text[1..]) == text.len() - 1
+    text.is_empty() || has_at(text, 0, b':') && are_digits(&text[1..])
 }
 
 fn is_name(text: &[u8]) -> bool
@@ -154,17 +145,11 @@ fn is_name(text: &[u8]) -> bool
     text.is_empty() || len > 0 && is_port(&text[len..])
 }
 
-fn is_future_address(text: &[u8]) -> bool
-    ensures { result ≡ is_future_address text.now }
-{
-    !text.is_empty() && future_len(text) == text.len()
-}
-
 fn is_versioned(text: &[u8]) -> bool
     ensures { result ≡ is_versioned text.now }
 {
     let len = hex_len(text);
-    len > 0 && has_at(text, len, b'.') && is_future_address(&text[len + 1..])
+    len > 0 && has_at(text, len, b'.') && (len + 1 < text.len() && are_future(&text[len + 1..]))
 }
 
 fn is_future(text: &[u8]) -> bool
@@ -220,9 +205,9 @@ pub(crate) fn are_hosts_plain(head: &[u8], spans: &[HeaderSpan]) -> bool
 }
 
 fn is_path(text: &[u8]) -> bool
-    ensures { result ≡ is_path text.now }
+    ensures { result ≡ list_all is_path_byte text.now }
 {
-    path_len(text) == text.len()
+    text.iter().all(|b| is_path_byte(*b))
 }
 
 fn host_at(text: &[u8]) -> usize
