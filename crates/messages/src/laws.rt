@@ -1,8 +1,8 @@
-//! Laws, each as the contract of a function. A law assumes whole grammars and exact relations, so no fact of few words stands
-//! in front.
+//! Laws, each as the contract of a function. One that no call keeps assumes whole grammars and exact relations, so no fact of few
+//! words stands in front of it.
 ghost use Rattle.std.specs.Prelude.{◌≡◌, ℕ, ◌<◌, List, ◌∷◌, [], ◌++◌, length, false, IfErr, IfOk, Some};
 ghost use Rattle.buffer_redux.specs.Unbuffer.{Unbuffered, unbuffer_remaining};
-ghost use Rattle.codec.specs.PieceReader.{ReaderState, left_of};
+ghost use Rattle.codec.specs.PieceReader.{ReaderState, left_of, rest};
 ghost use Rattle.messages.specs.declared.head.Heads as head;
 ghost use Rattle.messages.specs.Messages.{AreMessages, Begun, EachReadGave, InBody, Message, MessagesWent, TakesFromRest, TakesWholeRest, room_of};
 ghost use Rattle.messages.specs.declared.limits.Limits.{Limits};
@@ -51,6 +51,9 @@ pub enum Stopped<R: Tell> {
 /// the last did. An `Err` stands behind fewer, before a head, of which nothing is gone, or in a body, and says why. Until then
 /// no read failed, or gave nothing. However many there are, the buffer takes what it took at first.
 pub fn pass<R: TellRead>(requests: Requests<R>, count: usize) -> Result<Requests<R>, Stopped<R>>
+    ensures in_order { IfOk result (λ next. (wire : List ℕ) × (got : List ℕ)
+        × (next.reader.log.reads.given ≡ requests.reader.log.reads.given ++ got)
+        × (wire ++ rest next ≡ rest requests ++ got)) }
     ensures passed { IfOk result (λ next. (messages : List Message) × (length messages ≡ count)
         × MessagesWent R.remaining requests.decoder.0 (left_of requests) messages (left_of next)
         × EachReadGave (left_of requests) (left_of next)

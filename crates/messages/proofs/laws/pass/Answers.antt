@@ -47,3 +47,8 @@ returns-in-Err-clause-stopped g c =
       c.in-Err.ensures.told,
       c.in-Err.ensures.stopped,
     )
+
+pub returns-clause-in_order : goal.returns-clause-in_order
+returns-clause-in_order g c =
+    let went = c.loop.invariant.went in
+    (went.bytes, went.went.order.got, went.went.order.given, went.went.order.equal)
