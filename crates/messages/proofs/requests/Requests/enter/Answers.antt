@@ -1,22 +1,15 @@
 -- The bytes lent are a head, so it is read and fits its room; the body begins in what is left behind it.
-use Rattle.std.proofs.Common.{◌≡◌, ◌++◌, arith, rules, ap, sym, subst, ◌∙◌, length, refl, ℕ, List, Option, Some, Ok}
+use Rattle.std.proofs.Common.{◌≡◌, ◌++◌, arith, rules, ap, sym, subst, ◌∙◌, length, refl, Some, Ok}
 use Rattle.buffer_redux.specs.Block.{Plain}
 use Rattle.buffer_redux.specs.Unbuffer.{Unbuffered, unbuffered}
 use Rattle.codec.specs.Decoding.{bytes_at}
-use Rattle.codec.specs.declared.Span.{Span}
 use Rattle.codec.specs.NextPiece.{NextPiece}
-use Rattle.codec.specs.PieceReader.{ReaderState, left_of}
-use Rattle.messages.specs.declared.head.Heads.{Heads}
+use Rattle.codec.specs.PieceReader.{left_of}
 use Rattle.messages.specs.Heads.{IsHead, IsHeadPiece, heads}
 use Rattle.messages.specs.HeadsLaws.{text_few}
-use Rattle.messages.specs.Messages.{Begun, InBody, entering, room_of}
+use Rattle.messages.specs.Messages.{room_of}
 use Rattle.messages.specs.MessagesLaws.{same_room}
 use Rattle.messages.proofs.requests.Requests.enter.Goals as goal
-
--- behind whichever reader handed the head out, its body begins
-abbrev IsNext : {S : Type 0} → (S → Option (List ℕ)) → Span → ReaderState S Heads → InBody S → Type 0
-IsNext {S} remaining span t b = (s : ReaderState S Heads)
-    → NextPiece remaining (heads s.decoder.0) s (Ok (Some (bytes_at span t.reader.block.bytes))) t → Begun remaining s b
 
 pub unreachable-requires : goal.unreachable-requires
 unreachable-requires g c =
@@ -56,25 +49,21 @@ returns g c =
     c.append.ensures.bytes.bytes ∙ ap (λ l. l ++ c.lent-lent.result.now) c.clear.ensures.bytes.bytes in
     let room : room_of c.with_buffer.result.block ≡ room_of t.reader.block =
     rw c.with_buffer.ensures (same_room c.into_inner_with_buffer-inner.result.1 t.reader.block apart.capacity apart.limit) in
-    let begins : IsNext g.R.TellRead.remaining c.args.span t (entering c.with_buffer.result limits head said) = λ s next. record {
-      behind = t;
-      next = subst (λ l. NextPiece g.R.TellRead.remaining (heads s.decoder.0) s (Ok (Some l)) t)
-          (sym (lent ∙ c.lent-lent.ensures)) next;
+    rw (c.new.ensures, ← c.self.view_is) (record {
       stream = stands;
-      room = room ∙ same_room t.reader.block s.reader.block next.went.capacity next.went.limit;
-      moved = rw c.with_buffer.ensures unmoved;
-      fresh = refl;
-      limits = ap (λ d. d.0) (c.decoder.ensures ∙ next.went.decoder);
-      is = subst (λ l. IsHead limits l said) (sym lent) c.in-Ok.ensures.head;
-      rest = refl;
-      taken = refl;
-      unknown = refl;
-    } in
-    record {
-      stream = rw c.new.ensures (subst (λ x. u ≡ left_of x) c.self.view_is stands);
-      still = rw c.new.ensures (subst (λ x. c.with_buffer.result.block.moved ≡ x.reader.block.moved) c.self.view_is
-          (rw c.with_buffer.ensures unmoved));
-      begun = rw c.new.ensures
-          (subst (λ x. IsNext g.R.TellRead.remaining c.args.span x (entering c.with_buffer.result limits head said))
-          c.self.view_is begins);
-    }
+      still = rw c.with_buffer.ensures unmoved;
+      begun = λ s next. record {
+        behind = t;
+        next = subst (λ l. NextPiece g.R.TellRead.remaining (heads s.decoder.0) s (Ok (Some l)) t)
+            (sym (lent ∙ c.lent-lent.ensures)) next;
+        stream = stands;
+        room = room ∙ same_room t.reader.block s.reader.block next.went.capacity next.went.limit;
+        moved = rw c.with_buffer.ensures unmoved;
+        fresh = refl;
+        limits = ap (λ d. d.0) (c.decoder.ensures ∙ next.went.decoder);
+        is = subst (λ l. IsHead limits l said) (sym lent) c.in-Ok.ensures.head;
+        rest = refl;
+        taken = refl;
+        unknown = refl;
+      };
+    })

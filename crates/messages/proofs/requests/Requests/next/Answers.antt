@@ -1,7 +1,5 @@
 -- The head that the step lent is still buffered, so the body begins behind it.
-use Rattle.std.proofs.Common.{◌≡◌, ◌++◌, ℕ, List, false, inl, inr, subst}
-use Rattle.codec.specs.PieceReader.{rest}
-use Rattle.messages.specs.Messages.{Begun}
+use Rattle.std.proofs.Common.{◌≡◌, false, inl, inr}
 use Rattle.messages.specs.MessagesLaws.{lent_still}
 use Rattle.messages.proofs.Said.{begun_in_order}
 use Rattle.messages.proofs.requests.Requests.next.Goals as goal
@@ -17,16 +15,13 @@ enter-requires g c =
 pub returns-in-Ok-Some-clause-in_order : goal.returns-in-Ok-Some-clause-in_order
 returns-in-Ok-Some-clause-in_order g c =
     let next = rw c.in-Ok-Some.field-0-is at c.in-Ok-Some.ensures.next in
-    let body = c.enter.result in
-    subst (λ x. (got : List ℕ) × (body.stream.log.reads.given ≡ x.reader.log.reads.given ++ got)
-    × (body.head ++ body.stream.left ≡ rest x ++ got)) c.self.view_is
-    (begun_in_order g.R.TellRead.remaining c.self.inside.pieces body (c.enter.ensures.begun c.self.inside.pieces next))
+    rw (← c.self.view_is)
+    (begun_in_order g.R.TellRead.remaining c.self.inside.pieces c.enter.result (c.enter.ensures.begun c.self.inside.pieces next))
 
 pub returns-in-Ok-Some-clause-next : goal.returns-in-Ok-Some-clause-next
 returns-in-Ok-Some-clause-next g c =
     let next = rw c.in-Ok-Some.field-0-is at c.in-Ok-Some.ensures.next in
-    subst (λ x. Begun g.R.TellRead.remaining x c.enter.result) c.self.view_is
-    (c.enter.ensures.begun c.self.inside.pieces next)
+    rw (← c.self.view_is) (c.enter.ensures.begun c.self.inside.pieces next)
 
 pub invariant_of-self : goal.invariant_of-self
 invariant_of-self g c =

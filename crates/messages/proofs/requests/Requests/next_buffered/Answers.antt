@@ -1,9 +1,8 @@
 -- The head that the step lent is still buffered, so the body begins behind it; without one none begins there.
-use Rattle.std.proofs.Common.{◌≡◌, ◌++◌, ap, false, inl, inr, rules, subst, sym}
+use Rattle.std.proofs.Common.{◌≡◌, ap, false, inl, inr, rules, subst, sym}
 use Rattle.codec.specs.Grammar.{Begins}
 use Rattle.codec.specs.PieceReader.{rest}
 use Rattle.messages.specs.Heads.{heads}
-use Rattle.messages.specs.Messages.{Begun}
 use Rattle.messages.specs.MessagesLaws.{lent_still}
 use Rattle.messages.proofs.Said.{begun_front}
 use Rattle.messages.proofs.requests.Requests.next_buffered.Goals as goal
@@ -22,16 +21,12 @@ enter-requires g c = record {
 
 pub returns-in-Some-clause-front : goal.returns-in-Some-clause-front
 returns-in-Some-clause-front g c =
-    let body = c.enter.result in
-    let unasked : body.stream.log ≡ c.self.inside.pieces.reader.log = search rules in
-    subst (λ x. body.head ++ body.stream.left ≡ rest x) c.self.view_is
-    (begun_front g.R.TellRead.remaining c.self.inside.pieces body
+    let unasked : c.enter.result.stream.log ≡ c.self.inside.pieces.reader.log = search rules in
+    rw (← c.self.view_is) (begun_front g.R.TellRead.remaining c.self.inside.pieces c.enter.result
     (c.enter.ensures.begun c.self.inside.pieces c.in-Some.ensures.next.0) unasked)
 
 pub returns-in-Some-clause-begun : goal.returns-in-Some-clause-begun
-returns-in-Some-clause-begun g c =
-    subst (λ x. Begun g.R.TellRead.remaining x c.enter.result) c.self.view_is
-    (c.enter.ensures.begun c.self.inside.pieces c.in-Some.ensures.next.0)
+returns-in-Some-clause-begun g c = rw (← c.self.view_is) (c.enter.ensures.begun c.self.inside.pieces c.in-Some.ensures.next.0)
 
 pub returns-in-None-clause-none : goal.returns-in-None-clause-none
 returns-in-None-clause-none g c = λ begins.
