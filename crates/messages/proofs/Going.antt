@@ -1,9 +1,10 @@
 -- What calls of the reader of a body take of it and of its stream, and why they fail.
-use Rattle.std.proofs.Common.{◌≡◌, ℕ, zero, suc, ◌+◌, ◌<◌, ◌≤◌, List, [], ◌++◌, length, min, take, ◌⊎◌, inl, inr, Option, Err, sym, ap, subst, ◌∙◌, arith, refl, append-nil, length-append}
+use Rattle.std.proofs.Common.{◌≡◌, ℕ, zero, suc, ◌+◌, ◌<◌, ◌≤◌, List, [], ◌++◌, length, min, take, ◌⊎◌, inl, inr, Option, Err, sym, ap, subst, ◌∙◌, arith, refl, append-nil}
 use Rattle.std.proofs.lemmas.List.{length-take-le, nil_from_length}
 use Rattle.body_reader.specs.Between as between
 use Rattle.body_reader.specs.Between.{LeavesPlaces, LeavesRoom}
 use Rattle.body_reader.specs.BodyReader.{BodyWent, Breaks, Drains, EndsEarly, InPieces, IsBodyReader, NoPayload, TakesManyPieces, TakesPiece, TookWholeBody, handed_of}
+use Rattle.body_reader.specs.BetweenLaws.{EachGave-joins, EachGave-none, EachGave-once, EachGave-same}
 use Rattle.body_reader.specs.BodyReaderLaws.{BodyWent-leads}
 use Rattle.body_reader.specs.Coding.{Agree, AskedFor, Grammar, IsDone, IsLawful, IsOpen, Leads, LeadsOpen, heeded}
 use Rattle.body_reader.specs.CodingLaws.{Agree-nothing, Leads-done, Leads-whole}
@@ -16,7 +17,8 @@ use Rattle.body_reader.specs.declared.either.Either.TheVariants as coding
 use Rattle.body_reader.specs.declared.either.Side.{Side}
 use Rattle.body_reader.specs.declared.either.Side.TheVariants as side
 use Rattle.buffer_redux.specs.Policy.{std_read_rules}
-use Rattle.buffer_redux.specs.StreamLog.{StreamLog, zero_of_some}
+use Rattle.buffer_redux.specs.Buffered.{Buffered}
+use Rattle.buffer_redux.specs.StreamLog.{StreamLog}
 use Rattle.buffer_redux.specs.declared.policy.StdPolicy.{StdPolicy}
 use Rattle.buffer_redux.specs.Unbuffer.{Unbuffered, unbuffered}
 use Rattle.buffer_redux.specs.UnbufferLaws.{ReadsAlong-stream}
@@ -25,7 +27,7 @@ use Rattle.chunked.specs.CodingLaws.{chunked_lawful}
 use Rattle.chunked.specs.declared.error.Malformed.{Malformed}
 use Rattle.chunked.specs.declared.place.Place.{Place}
 use Rattle.messages.specs.MessagesLaws.{same_room}
-use Rattle.messages.specs.Messages.{AskedIn, Backward, BeginsRest, BodyCoding, Bytes, Chunks, Fails, FinishFails, GoesWrong, HasRoom, InsideGoes, IsNamed, IsRest, NotesEach, Onward, Reader, Rest, RunsShort, TakesFromRest, TakesWholeRest, body_error, body_rules, has_line, left_in, rest_of, room_of, seen, stream_of, sure_of}
+use Rattle.messages.specs.Messages.{AskedIn, Backward, BeginsRest, BodyCoding, Fails, FinishFails, GoesWrong, InsideGoes, IsNamed, IsRest, IsRoomy, NotesEach, Onward, Reader, Rest, RunsShort, TakesFromRest, TakesWholeRest, body_error, body_rules, left_in, rest_of, room_of, seen, stream_of, sure_of}
 use Rattle.messages.specs.declared.head.ParsedHead.{ParsedHead}
 use Rattle.messages.specs.declared.limits.Limits.{Limits}
 use Rattle.messages.specs.declared.error.BodyError.TheVariants.{Wrong}
@@ -34,16 +36,14 @@ use Rattle.messages.specs.declared.error.BodyError.TheVariants.{Wrong}
 pub rest_is : (c : BodyCoding) (p : Side ℕ Place) → (body_rules c).is_place p → (wire payload : List ℕ)
     → (body_rules c).completes p wire payload → IsRest (rest_of c p) wire payload
 rest_is (coding.First c) (side.First left) is wire payload it = it
-rest_is (coding.First c) (side.Second place) is wire payload it = absurd is
-rest_is (coding.Second c) (side.Second place) is wire payload it = it
-rest_is (coding.Second c) (side.First left) is wire payload it = absurd is
+rest_is (coding.Second c) (side.Second q) is wire payload it = it
+rest_is c p is wire payload it = absurd is
 
 pub completes_is : (c : BodyCoding) (p : Side ℕ Place) → (body_rules c).is_place p → (wire payload : List ℕ)
     → IsRest (rest_of c p) wire payload → (body_rules c).completes p wire payload
 completes_is (coding.First c) (side.First left) is wire payload it = it
-completes_is (coding.First c) (side.Second place) is wire payload it = absurd is
-completes_is (coding.Second c) (side.Second place) is wire payload it = it
-completes_is (coding.Second c) (side.First left) is wire payload it = absurd is
+completes_is (coding.Second c) (side.Second q) is wire payload it = it
+completes_is c p is wire payload it = absurd is
 
 pub lawful : (c : BodyCoding) → IsLawful (body_rules c)
 lawful = either_lawful (λ c. sized c.0) (λ c. chunked c.0) (λ c. sized_lawful c.0) (λ c. chunked_lawful c.0)
@@ -74,89 +74,86 @@ module _ (c : BodyCoding) (p q : Side ℕ Place) (wire handed bytes : List ℕ) 
 -- where bytes settle nothing the body goes on behind them
 module _ (c : BodyCoding) (p : Side ℕ Place) (is : (body_rules c).is_place p) (handed bytes : List ℕ)
     (o : LeadsOpen (body_rules c) p handed bytes) where
-  none_shown : o.shown ≡ []
+  pub none_shown : o.shown ≡ []
   none_shown = no_byte c o.place o.shown o.settles_nothing
 
   all_wire : bytes ≡ o.wire
   all_wire = o.equal ∙ ap (λ l. o.wire ++ l) none_shown ∙ append-nil o.wire
 
-  more_behind : (later : List ℕ) × (payload : List ℕ) × (0 < length later) × IsRest (rest_of c o.place) later payload
-  more_behind =
+  abbrev pub behind_wire : BeginsRest (rest_of c p) handed o.wire
+  behind_wire =
       let end = (lawful c).alive o.place o.is_place in
       let agree : Agree o.shown end.0 = subst (λ l. Agree l end.0) (sym none_shown) (end.0, [], sym (append-nil end.0)) in
       let further = o.settles_nothing.further end.0 end.1 end.2 agree in
-      (end.0, end.1, omega (arith, further), rest_is c o.place o.is_place end.0 end.1 end.2)
+      record {
+        rest = rest_of c o.place;
+        onward = onward_is c p o.place o.wire handed o.shown is o.is_place o.leads;
+        more = (end.0, end.1, omega (arith, further), rest_is c o.place o.is_place end.0 end.1 end.2);
+      }
 
   pub goes_on : BeginsRest (rest_of c p) handed bytes
-  goes_on = subst (BeginsRest (rest_of c p) handed) (sym all_wire) (record {
-    rest = rest_of c o.place;
-    onward = onward_is c p o.place o.wire handed o.shown is o.is_place o.leads;
-    more = more_behind;
-  })
+  goes_on = subst (BeginsRest (rest_of c p) handed) (sym all_wire) behind_wire
 
 -- as much is offered as surely is payload
 pub sure_is : (c : BodyCoding) (p : Side ℕ Place) → (body_rules c).is_place p → sure_of (rest_of c p) ≡ (body_rules c).sure p
 sure_is (coding.First c) (side.First left) is = refl
-sure_is (coding.First c) (side.Second q) is = absurd is
-sure_is (coding.Second c) (side.First left) is = absurd is
 sure_is (coding.Second c) (side.Second q) is = refl
+sure_is c p is = absurd is
 
 pub asked_in : (c : BodyCoding) (p : Side ℕ Place) → (body_rules c).is_place p → (slice offer : ℕ)
     (bytes : List ℕ) → AskedFor (body_rules c) p slice offer bytes → AskedIn (rest_of c p) slice offer bytes
 asked_in c p is slice offer bytes asked =
     let o = asked.leads in
     subst (AskedIn (rest_of c p) slice offer) (sym (all_wire c p is [] bytes o)) (record {
-      goes_on = record {
-        rest = rest_of c o.place;
-        onward = onward_is c p o.place o.wire [] o.shown is o.is_place o.leads;
-        more = more_behind c p is [] bytes o;
-      };
+      goes_on = behind_wire c p is [] bytes o;
       enough = omega (arith, asked.enough (none_shown c p is [] bytes o), sure_is c o.place o.is_place);
     })
 
--- what is wrong
-wrong_is : (c : BodyCoding) (p : Side ℕ Place) → (body_rules c).is_place p → (bytes : List ℕ) (name : Malformed)
-    → (body_rules c).wrong p bytes (side.Second name) → GoesWrong (rest_of c p) bytes name
-wrong_is (coding.Second c) (side.Second q) is bytes name wrong = (
+-- what is wrong; of a body of a length nothing is
+abbrev GoesWrongBy : Rest → List ℕ → Side (Unit {0}) Malformed → Type 0
+GoesWrongBy r bytes (side.First none) = ⊥
+GoesWrongBy r bytes (side.Second name) = GoesWrong r bytes name
+
+wrong_is : (c : BodyCoding) (p : Side ℕ Place) → (body_rules c).is_place p → (bytes : List ℕ) (why : Side (Unit {0}) Malformed)
+    → (body_rules c).wrong p bytes why → GoesWrongBy (rest_of c p) bytes why
+wrong_is (coding.Second c) (side.Second q) is bytes (side.Second name) wrong = (
   wrong,
   λ later wire behind payload same it.
       (chunked_lawful c.0).never q bytes name wire payload is wrong it (later, behind, same),
 )
-wrong_is (coding.Second c) (side.First n) is bytes name wrong = absurd is
-wrong_is (coding.First c) (side.First n) is bytes name wrong = absurd wrong
-wrong_is (coding.First c) (side.Second q) is bytes name wrong = absurd is
-
-none_wrong : (c : BodyCoding) (p : Side ℕ Place) (bytes : List ℕ) (none : Unit {0})
-    → (body_rules c).wrong p bytes (side.First none) → ⊥
-none_wrong (coding.First c) (side.First n) bytes none wrong = wrong
-none_wrong (coding.First c) (side.Second q) bytes none wrong = wrong
-none_wrong (coding.Second c) (side.First n) bytes none wrong = wrong
-none_wrong (coding.Second c) (side.Second q) bytes none wrong = wrong
+wrong_is (coding.First c) (side.First n) is bytes (side.First none) wrong = absurd wrong
+wrong_is c p is bytes why wrong = absurd wrong
 
 -- why no payload comes
-module _ {S : Type 0} (s t : Unbuffered S) where
-  cut_is : (c : BodyCoding) (p : Side ℕ Place) → (body_rules c).is_place p → IsOpen (body_rules c) p t.left
-      → (t.log.reads.faults ≡ s.log.reads.faults) × (t.log.reads.zero_reads ≡ s.log.reads.zero_reads + 1) → (right : ℕ)
-      → Fails s (body_error p (unread.Truncated right)) t (rest_of c p)
-  cut_is (coding.First c) (side.First n) is opened met right =
-      (met.0, met.1, no_byte (coding.First c) (side.First n) t.left opened, not_rest, refl)
-    where
-      not_rest : (payload : List ℕ) → ¬ (IsRest (Bytes n) [] payload)
-      not_rest payload it = omega (arith, opened.further [] payload it (Agree-nothing t.left))
-  cut_is (coding.Second c) (side.Second q) is opened met right =
-      (met.0, met.1, no_byte (coding.Second c) (side.Second q) t.left opened, not_rest, (c.0, q, refl))
-    where
-      not_rest : (payload : List ℕ) → ¬ (IsRest (Chunks c.0 q) [] payload)
-      not_rest payload it = omega (arith, opened.further [] payload it (Agree-nothing t.left))
-  cut_is (coding.First c) (side.Second q) is opened met right = absurd is
-  cut_is (coding.Second c) (side.First n) is opened met right = absurd is
+never_rest : (c : BodyCoding) (p : Side ℕ Place) → (body_rules c).is_place p → (bytes : List ℕ) → IsOpen (body_rules c) p bytes
+    → (payload : List ℕ) → ¬ (IsRest (rest_of c p) [] payload)
+never_rest c p is bytes opened payload it =
+    omega (arith, opened.further [] payload (completes_is c p is [] payload it) (Agree-nothing bytes))
+
+cut_is : {S : Type 0} (s t : Unbuffered S) (c : BodyCoding) (p : Side ℕ Place) → (body_rules c).is_place p
+    → IsOpen (body_rules c) p t.left
+    → (t.log.reads.faults ≡ s.log.reads.faults) × (t.log.reads.zero_reads ≡ s.log.reads.zero_reads + 1) → (right : ℕ)
+    → Fails s (body_error p (unread.Truncated right)) t (rest_of c p)
+cut_is s t (coding.First c) (side.First n) is opened met right = (
+  met.0,
+  met.1,
+  no_byte (coding.First c) (side.First n) t.left opened,
+  never_rest (coding.First c) (side.First n) is t.left opened,
+  refl,
+)
+cut_is s t (coding.Second c) (side.Second q) is opened met right = (
+  met.0,
+  met.1,
+  no_byte (coding.Second c) (side.Second q) t.left opened,
+  never_rest (coding.Second c) (side.Second q) is t.left opened,
+  (c.0, q, refl),
+)
+cut_is s t c p is opened met right = absurd is
 
 short_is : (c : BodyCoding) (p : Side ℕ Place) → (body_rules c).is_place p → (bytes : List ℕ)
-    → IsOpen (body_rules c) p bytes ⊎ ((why : Side (Unit {0}) Malformed) × (body_rules c).wrong p bytes why)
-    → (bytes ≡ []) ⊎ ((name : Malformed) × GoesWrong (rest_of c p) bytes name)
-short_is c p is bytes (inl opened) = inl (no_byte c p bytes opened)
-short_is c p is bytes (inr (side.First none, wrong)) = absurd (none_wrong c p bytes none wrong)
-short_is c p is bytes (inr (side.Second name, wrong)) = inr (name, wrong_is c p is bytes name wrong)
+    (why : Side (Unit {0}) Malformed) → (body_rules c).wrong p bytes why → (name : Malformed) × GoesWrong (rest_of c p) bytes name
+short_is c p is bytes (side.First none) wrong = absurd (wrong_is c p is bytes (side.First none) wrong)
+short_is c p is bytes (side.Second name) wrong = (name, wrong_is c p is bytes (side.Second name) wrong)
 
 -- the policy leaves the buffer as it is
 std_leaves : LeavesRoom {Q = StdPolicy} std_read_rules
@@ -190,11 +187,11 @@ module _ {R : Type 0} {remaining : R → Option (List ℕ)} {s t : Reader R} (is
   leads = BodyWent-leads remaining std_read_rules (body_rules s.coding) s t handed is is' went
 
   -- so nothing is moved
-  pub body_still : HasRoom s → t.reader.block.moved ≡ s.reader.block.moved
+  pub body_still : IsRoomy s.reader.block → t.reader.block.moved ≡ s.reader.block.moved
   body_still room =
       let least : (body_rules s.coding).ahead ≤ 1 = omega (arith, one_ahead s.coding) in
-      let kept = (went.keeps.spared 1 least (omega arith)).plain room.0.kind (omega (arith, room.0.capacity)) in
-      omega (arith, kept.moved, went.keeps.unmoved std_stays least room.0.kind)
+      let kept = (went.keeps.spared 1 least (omega arith)).plain room.kind (omega (arith, room.capacity)) in
+      omega (arith, kept.moved, went.keeps.unmoved std_stays least room.kind)
 
   pub body_take : TakesFromRest remaining (stream_of s) (left_in s) handed (stream_of t) (left_in t)
   body_take = record {
@@ -206,22 +203,19 @@ module _ {R : Type 0} {remaining : R → Option (List ℕ)} {s t : Reader R} (is
         (backward_is s.coding s.place t.place went.wire handed t.reader.block.bytes is.place is'.place leads);
   }
 
-  pub body_room : HasRoom s → HasRoom t
-  body_room (roomy, line) =
-      let kept = went.keeps.room std_leaves in (
-        record {
-          kind = went.keeps.kind ∙ roomy.kind;
-          capacity = omega (arith, roomy.capacity, went.along.capacity);
-          limit = kept.1 ∙ roomy.limit ∙ sym kept.0;
-        },
-        subst has_line (sym went.coding) line,
-      )
+  pub body_room : IsRoomy s.reader.block → IsRoomy t.reader.block
+  body_room room =
+      let kept = went.keeps.room std_leaves in record {
+        kind = went.keeps.kind ∙ room.kind;
+        capacity = omega (arith, room.capacity, went.along.capacity);
+        limit = kept.1 ∙ room.limit ∙ sym kept.0;
+      }
 
   pub body_kept : room_of t.reader.block ≡ room_of s.reader.block
   body_kept = let kept = went.keeps.room std_leaves in same_room t.reader.block s.reader.block kept.0 kept.1
 
   -- as the body is seen, where this is told of the payload
-  pub body_goes : HasRoom s → (calls : StreamLog) → calls.reads.given ≡ handed_of s ++ handed → (limits : Limits) (head : List ℕ)
+  pub body_goes : IsRoomy s.reader.block → (calls : StreamLog) → calls.reads.given ≡ handed_of s ++ handed → (limits : Limits) (head : List ℕ)
       (said : ParsedHead)
       → InsideGoes remaining (seen s limits head said) handed (seen (record t { calls = calls }) limits head said)
   unfolding body_take
@@ -255,21 +249,19 @@ module _ {R : Type 0} {remaining : R → Option (List ℕ)} {s t : Reader R} (is
       → Fails (stream_of s) (body_error t.place e) (stream_of t) (left_in t)
   body_fails (unread.Wrong (side.Second name) right) fails = keep (Fails (stream_of s) (Wrong name) (stream_of t)) (
     (fails.1.faults, fails.1.zero_reads),
-    wrong_is s.coding t.place is'.place t.reader.block.bytes name fails.2.name,
+    wrong_is s.coding t.place is'.place t.reader.block.bytes (side.Second name) fails.2.name,
   )
   body_fails (unread.Wrong (side.First none) right) fails =
-      absurd (none_wrong s.coding t.place t.reader.block.bytes none fails.2.name)
+      absurd (wrong_is s.coding t.place is'.place t.reader.block.bytes (side.First none) fails.2.name)
   body_fails (unread.Truncated right) fails =
       keep (Fails (stream_of s) (body_error t.place (unread.Truncated right)) (stream_of t))
       (cut_is (stream_of s) (stream_of t) s.coding t.place is'.place fails.2.settles_nothing fails.1 right)
   body_fails (unread.Io e) fails = fails.0
 
   pub body_named : (e : Unread (Side (Unit {0}) Malformed)) → NoPayload (body_rules s.coding) s e t → IsNamed e
-  body_named (unread.Wrong (side.Second name) right) fails = tt
   body_named (unread.Wrong (side.First none) right) fails =
-      none_wrong s.coding t.place t.reader.block.bytes none fails.2.name
-  body_named (unread.Truncated right) fails = tt
-  body_named (unread.Io e) fails = tt
+      wrong_is s.coding t.place is'.place t.reader.block.bytes (side.First none) fails.2.name
+  body_named e fails = tt
 
   pub body_short : (out : List ℕ) (count : ℕ) → (count ≡ length out)
       ⊎ (TookWholeBody (body_rules s.coding) t ⊎ (EndsEarly (body_rules s.coding) t
@@ -281,7 +273,7 @@ module _ {R : Type 0} {remaining : R → Option (List ℕ)} {s t : Reader R} (is
       inr (inr (inl (no_byte s.coding t.place t.reader.block.bytes early.settles_nothing)))
   body_short out count (inr (inr (inr breaks))) =
       keep (λ r. RunsShort (length out) count r (stream_of t).left)
-      (inr (inr (short_is s.coding t.place is'.place t.reader.block.bytes (inr (breaks.0, breaks.1.name)))))
+      (inr (inr (inr (short_is s.coding t.place is'.place t.reader.block.bytes breaks.0 breaks.1.name))))
 
 -- whether a body ended
 module _ {R : Type 0} {d : Reader R} (is : IsBodyReader (body_rules d.coding) d) where
@@ -303,49 +295,33 @@ module _ {R : Type 0} {remaining : R → Option (List ℕ)} {s t : Reader R} (is
 
 -- each piece that is dropped is noted as a read of some bytes
 module _ {R : Type 0} (remaining : R → Option (List ℕ)) (g : Grammar (Side ℕ Place) (Side (Unit {0}) Malformed)) where
-  piece_noted : {s t : Reader R} → TakesPiece remaining std_read_rules g s t → NotesEach s.calls t.calls
+  -- a stream that tells what this hands out
+  abbrev told_by : Reader R → Buffered R StdPolicy
+  told_by d = record d.reader { log = d.calls }
+
+  piece_noted : {s t : Reader R} → TakesPiece remaining std_read_rules g s t → between.EachGave (told_by s) (told_by t)
   piece_noted {s} {t} piece =
       let filled = piece.filled in
       let n = min piece.shown filled.known in
       let bytes = filled.reader.block.bytes in
       let some : 0 < n = omega (arith, piece.some, piece.fills.answers.0) in
-      let long : length (take n bytes) ≡ n = length-take-le n bytes (omega (arith, piece.fills.whole.known.0)) in
-      let before = piece.fills.noted in
-      let noted = piece.consumes.noted.0 some in
-      record {
-        faults = ap (λ l. l.reads.faults) noted ∙ ap (λ l. l.reads.faults) before;
-        zero_reads = ap (λ l. l.reads.zero_reads) noted
-            ∙ zero_of_some n (take n bytes) filled.calls.reads.zero_reads (inl some) ∙ ap (λ l. l.reads.zero_reads) before;
-        asks = omega (
-          arith,
-          some,
-          ap (λ l. l.reads.asks) noted,
-          ap (λ l. length l.reads.given) noted,
-          length-append filled.calls.reads.given (take n (take n bytes)),
-          length-take-le n (take n bytes) (omega (arith, long)),
-          ap (λ l. l.reads.asks) before,
-          ap (λ l. length l.reads.given) before,
-        );
-      }
+      EachGave-joins (told_by s) (told_by filled) (told_by t) (EachGave-same (told_by s) (told_by filled) piece.fills.noted)
+      (EachGave-once (told_by filled) (told_by t) (take n bytes) n (piece.consumes.noted.0 some) some
+      (omega (arith, length-take-le n bytes (omega (arith, piece.fills.whole.known.0)))))
 
   many_noted : (count : ℕ) (s t : Reader R) → TakesManyPieces remaining std_read_rules g count s t
-      → NotesEach s.calls t.calls
-  many_noted zero s t same =
-      subst (λ x. NotesEach s.calls x.calls) same (record { faults = refl; zero_reads = refl; asks = omega arith })
+      → between.EachGave (told_by s) (told_by t)
+  many_noted zero s t same = subst (λ x. between.EachGave (told_by s) (told_by x)) same (EachGave-none (told_by s))
   many_noted (suc count) s t (m, pieces, piece) =
-      let before = many_noted count s m pieces in
-      let last = piece_noted piece in
-      record {
-        faults = last.faults ∙ before.faults;
-        zero_reads = last.zero_reads ∙ before.zero_reads;
-        asks = omega (arith, last.asks, before.asks);
-      }
+      EachGave-joins (told_by s) (told_by m) (told_by t) (many_noted count s m pieces) (piece_noted piece)
 
   pub pieces_noted : {s t : Reader R} → InPieces remaining std_read_rules g s t → NotesEach s.calls t.calls
-  pieces_noted {s} {t} in_pieces = elim in_pieces.end [
-    | inl same ↦
-        subst (λ x. NotesEach s.calls x.calls) same
-        (many_noted in_pieces.count s in_pieces.last in_pieces.pieces)
-    | inr fill ↦
-        subst (NotesEach s.calls) (sym fill.1.noted) (many_noted in_pieces.count s in_pieces.last in_pieces.pieces)
-  ]
+  pieces_noted {s} {t} in_pieces =
+      let last : t.calls ≡ in_pieces.last.calls = elim in_pieces.end [
+        | inl same ↦ ap (λ x. x.calls) (sym same)
+        | inr fill ↦ fill.1.noted
+      ] in
+      let all = EachGave-joins (told_by s) (told_by in_pieces.last) (told_by t)
+      (many_noted in_pieces.count s in_pieces.last in_pieces.pieces)
+      (EachGave-same (told_by in_pieces.last) (told_by t) last) in
+      record { faults = all.faults; zero_reads = all.zero_reads; asks = all.asks }

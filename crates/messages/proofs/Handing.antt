@@ -13,31 +13,20 @@ use Rattle.chunked.specs.Place.{IsPlace, IsWrong}
 use Rattle.chunked.specs.declared.error.Malformed.{Malformed}
 use Rattle.chunked.specs.declared.limits.Limits.{Limits as ChunkLimits}
 use Rattle.chunked.specs.declared.place.Place.{Place}
-use Rattle.chunked.specs.declared.place.Place.TheVariants.{Line, Size, Extension, SizeFeed, Data, DataFeed, Fields, FieldName, FieldValue, FieldFeed, LastFeed, Done}
+use Rattle.chunked.specs.declared.place.Place.TheVariants.{Data}
 use Rattle.messages.specs.Messages.{BodyCoding, HandsKnown, HandsMost, HandsSure, Reader, body_rules, left_in, rest_of, stream_of}
 use Rattle.messages.proofs.Going.{backward_is, body_over, no_byte, onward_is, sure_is}
 
 -- where bytes are those of a chunk, a chunk is read
 in_chunk : (q : Place) (shown : List ℕ) → InChunk q [] shown → IsPlace q
-in_chunk Line shown is = absurd is
-in_chunk (Size number room) shown is = absurd is
-in_chunk (Extension within size room) shown is = absurd is
-in_chunk (SizeFeed size) shown is = absurd is
 in_chunk (Data left) shown is = tt
-in_chunk DataFeed shown is = absurd is
-in_chunk (Fields room) shown is = absurd is
-in_chunk (FieldName room) shown is = absurd is
-in_chunk (FieldValue room) shown is = absurd is
-in_chunk (FieldFeed room) shown is = absurd is
-in_chunk LastFeed shown is = absurd is
-in_chunk Done shown is = absurd is
+in_chunk q shown is = absurd is
 
 -- a place where bytes are payload is one
 place_is : (c : BodyCoding) (p : Side ℕ Place) (shown : List ℕ) → (body_rules c).carries p [] shown → (body_rules c).is_place p
 place_is (coding.First c) (side.First left) shown is = tt
-place_is (coding.First c) (side.Second q) shown is = absurd is
-place_is (coding.Second c) (side.First left) shown is = absurd is
 place_is (coding.Second c) (side.Second q) shown is = in_chunk q shown is
+place_is c p shown is = absurd is
 
 carried : (c : BodyCoding) (p : Side ℕ Place) (n : ℕ) (shown : List ℕ) → Carries (body_rules c) p n shown
     → (body_rules c).is_place p
@@ -68,9 +57,8 @@ chunk_few q bytes follow is = absurd is
 carried_few : (c : BodyCoding) (p : Side ℕ Place) (bytes follow : List ℕ) → (body_rules c).carries p bytes follow
     → length bytes ≤ (body_rules c).sure p
 carried_few (coding.First c) (side.First left) bytes follow few = few
-carried_few (coding.First c) (side.Second q) bytes follow is = absurd is
-carried_few (coding.Second c) (side.First left) bytes follow is = absurd is
 carried_few (coding.Second c) (side.Second q) bytes follow is = chunk_few q bytes follow is
+carried_few c p bytes follow is = absurd is
 
 chunk_wrong : (limits : ChunkLimits) (q : Place) (byte : ℕ) (name : Malformed) → IsWrong limits q byte name → chunk_left q ≡ 0
 chunk_wrong limits (Data left) byte name wrong = wrong.1
@@ -79,9 +67,8 @@ chunk_wrong limits q byte name wrong = refl
 none_sure : (c : BodyCoding) (p : Side ℕ Place) (bytes : List ℕ) (why : Side (Unit {0}) Malformed)
     → (body_rules c).wrong p bytes why → (body_rules c).sure p ≡ 0
 none_sure (coding.Second c) (side.Second q) bytes (side.Second name) wrong = chunk_wrong c.0 q wrong.0 name wrong.3
-none_sure (coding.Second c) p bytes why wrong = absurd wrong
 none_sure (coding.First c) (side.First n) bytes (side.First none) wrong = absurd wrong
-none_sure (coding.First c) p bytes why wrong = absurd wrong
+none_sure c p bytes why wrong = absurd wrong
 
 abbrev NoneThere : BodyCoding → Side ℕ Place → List ℕ → Type 0
 NoneThere c p bytes = IsDone (body_rules c) p

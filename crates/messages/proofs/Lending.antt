@@ -1,5 +1,5 @@
 -- What is lent of a body, and taken, told of what is left of it.
-use Rattle.std.proofs.Common.{◌≡◌, ◌∙◌, ◌-◌, ◌≤◌, ℕ, List, [], ◌++◌, drop, length, min, take, Option, Result, Ok, Err, ap, inl, inr, subst, sym, arith, refl, append-nil, length-append, length-take-le, take-append-drop, IfOk}
+use Rattle.std.proofs.Common.{◌≡◌, ◌⊎◌, ◌<◌, ◌∙◌, ◌-◌, ◌≤◌, ℕ, List, [], ◌++◌, drop, length, min, take, Option, Result, Ok, Err, ap, inl, inr, subst, sym, arith, refl, append-nil, length-append, length-take-le, take-append-drop, IfErr, IfOk, MatchResult}
 use Rattle.std.proofs.lemmas.Bool.{cases_lt}
 use Rattle.std.proofs.lemmas.List.{append_cancel_left, nil_from_length}
 use Rattle.body_reader.specs.BodyReader.{ConsumesPayload, FillsPayload, IsBodyReader}
@@ -20,9 +20,9 @@ use Rattle.messages.specs.declared.error.BodyError.{BodyError}
 use Rattle.messages.specs.declared.head.ParsedHead.{ParsedHead}
 use Rattle.messages.specs.declared.limits.Limits.{Limits}
 use Rattle.messages.specs.Lending.{ConsumesInside, FillsInside, IsPayload}
-use Rattle.messages.specs.Messages.{BodyCoding, Bytes, Chunks, HasRoom, InBody, IsRest, Reader, body_error, body_rules, rest_of, seen, sure_of}
+use Rattle.messages.specs.Messages.{BodyCoding, Bytes, Chunks, EachReadGave, Fails, InBody, IsNamed, IsRest, IsRoomy, Reader, body_answer, body_rules, left_in, rest_of, seen, stream_of, sure_of}
 use Rattle.messages.proofs.Asking.{fill_asked, fill_asks}
-use Rattle.messages.proofs.Going.{body_done, body_fails, body_goes, is_ended, keep, lawful, rest_is, sure_is}
+use Rattle.messages.proofs.Going.{body_done, body_fails, body_goes, body_named, is_ended, keep, lawful, rest_is, sure_is}
 
 -- what is known to be payload comes next in the body
 chunk_payload : (limits : ChunkLimits) (q : Place) (bytes follow : List ℕ) → InChunk q bytes follow
@@ -45,9 +45,8 @@ carried_payload (coding.First c) (side.First left) bytes follow few =
       backward = λ later whole is. (later, is.1, (omega (arith, is.0, length-append bytes later), refl));
       ends = (sized_lawful c.0).alive (left - length bytes) tt;
     }
-carried_payload (coding.First c) (side.Second q) bytes follow is = absurd is
-carried_payload (coding.Second c) (side.First left) bytes follow is = absurd is
 carried_payload (coding.Second c) (side.Second q) bytes follow is = chunk_payload c.0 q bytes follow is
+carried_payload c p bytes follow is = absurd is
 
 no_payload : (c : BodyCoding) (p : Side ℕ Place) → (body_rules c).is_place p → IsPayload (rest_of c p) []
 no_payload c p is =
@@ -69,53 +68,67 @@ known_payload c p is known bytes k = elim (cases_lt 0 known) [
       subst (λ n. IsPayload (rest_of c p) (take n bytes)) (sym zero) (no_payload c p is)
 ]
 
+-- what a fill answers, told of the body
+module _ {R : Type 0} (remaining : R → Option (List ℕ)) (s t : Reader R) (is : IsBodyReader (body_rules s.coding) s) where
+  filled_so : (answer : Result ℕ (Unread (Side (Unit {0}) Malformed)))
+      → FillsPayload remaining std_read_rules (body_rules s.coding) s answer t
+      → MatchResult (body_answer t.place answer)
+      (λ n. (n ≡ t.known) × EachReadGave (stream_of s) (stream_of t) × (n ≡ 0 → IsRest (left_in t) [] []))
+      (λ e. Fails (stream_of s) e (stream_of t) (left_in t))
+  filled_so (Ok n) fills = (
+    fills.answers.0,
+    (fills.answers.1.faults, fills.answers.1.zero_reads),
+    λ none. body_done is fills.whole fills.went (fills.answers.2 none),
+  )
+  filled_so (Err e) fills = body_fails is fills.whole fills.went e fills.answers
+
+  filled_all : (answer : Result ℕ (Unread (Side (Unit {0}) Malformed)))
+      → FillsPayload remaining std_read_rules (body_rules s.coding) s answer t → IfOk (body_answer t.place answer)
+      (λ n. 0 < n → s.known ≡ 0 → (n ≡ length t.reader.block.bytes) ⊎ (sure_of (left_in t) ≤ n))
+  filled_all (Ok n) fills = λ some none. elim (fills.all some none) [
+    | inl all ↦ inl all
+    | inr looks ↦ inr (keep is fills.whole fills.went (λ r. sure_of r ≤ n)
+        (omega (arith, looks.1, sure_is s.coding t.place fills.whole.place)))
+  ]
+  filled_all (Err e) fills = tt
+
+  pub fill_ended : (answer : Result ℕ (Unread (Side (Unit {0}) Malformed)))
+      → FillsPayload remaining std_read_rules (body_rules s.coding) s answer t → (told : Result ℕ BodyError)
+      → told ≡ body_answer t.place answer → told ≡ Ok 0 → IsRest (left_in t) [] []
+  fill_ended (Ok n) fills told so none =
+      body_done is fills.whole fills.went (fills.answers.2 (let zero : n ≡ 0 = cc in zero))
+  fill_ended (Err e) fills told so none = absurd (cc)
+
+  pub fill_named : (answer : Result ℕ (Unread (Side (Unit {0}) Malformed)))
+      → FillsPayload remaining std_read_rules (body_rules s.coding) s answer t → IfErr answer IsNamed
+  fill_named (Ok n) fills = tt
+  fill_named (Err e) fills = body_named is fills.whole fills.went e fills.answers
+
 -- what calls do, told of the body
 module _ {R : Type 0} (remaining : R → Option (List ℕ)) (s t : Reader R) (is : IsBodyReader (body_rules s.coding) s)
-    (room : HasRoom s) (limits : Limits) (head : List ℕ) (said : ParsedHead) where
+    (room : IsRoomy s.reader.block) (limits : Limits) (head : List ℕ) (said : ParsedHead) where
   abbrev from : InBody R
   from = seen s limits head said
 
   abbrev to : InBody R
   to = seen t limits head said
 
-  pub filled : (n : ℕ) → FillsPayload remaining std_read_rules (body_rules s.coding) s (Ok n) t
-      → FillsInside remaining from (Ok n) to
-  filled n fills = record {
-    goes = body_goes is fills.whole fills.went room _ fills.went.handed limits head said;
-    answers = (
-      fills.answers.0,
-      (fills.answers.1.faults, fills.answers.1.zero_reads),
-      λ none. body_done is fills.whole fills.went (fills.answers.2 none),
-    );
-    all = λ some none. elim (fills.all some none) [
-      | inl all ↦ inl all
-      | inr looks ↦ inr (keep is fills.whole fills.went (λ r. sure_of r ≤ n)
-          (omega (arith, looks.1, sure_is s.coding t.place fills.whole.place)))
-    ];
-    asked = fill_asked is t fills.asked;
-    asks = fill_asks is (Ok n) fills;
-    still = λ over. ap (λ x. seen x limits head said) (fills.still (elim over [
-      | inl some ↦ inl some
-      | inr ended ↦ inr (is_ended is ended)
-    ]));
-    noted = fills.noted;
-  }
-
-  pub not_filled : (e : Unread (Side (Unit {0}) Malformed))
-      → FillsPayload remaining std_read_rules (body_rules s.coding) s (Err e) t
-      → FillsInside remaining from (Err (body_error t.place e)) to
-  not_filled e fills = record {
-    goes = body_goes is fills.whole fills.went room _ fills.went.handed limits head said;
-    answers = body_fails is fills.whole fills.went e fills.answers;
-    all = tt;
-    asked = fill_asked is t fills.asked;
-    asks = fill_asks is (Err e) fills;
-    still = λ over. ap (λ x. seen x limits head said) (fills.still (elim over [
-      | inl some ↦ inl some
-      | inr ended ↦ inr (is_ended is ended)
-    ]));
-    noted = fills.noted;
-  }
+  -- a fill
+  module _ (answer : Result ℕ (Unread (Side (Unit {0}) Malformed)))
+      (fills : FillsPayload remaining std_read_rules (body_rules s.coding) s answer t) where
+    pub filled : FillsInside remaining from (body_answer t.place answer) to
+    filled = record {
+      goes = body_goes is fills.whole fills.went room _ fills.went.handed limits head said;
+      answers = filled_so remaining s t is answer fills;
+      all = filled_all remaining s t is answer fills;
+      asked = fill_asked is t fills.asked;
+      asks = fill_asks is answer fills;
+      still = λ over. ap (λ x. seen x limits head said) (fills.still (elim over [
+        | inl some ↦ inl some
+        | inr ended ↦ inr (is_ended is ended)
+      ]));
+      noted = fills.noted;
+    }
 
   -- the front of what is buffered was taken, so the rest of that is left
   module _ (count : ℕ) (consumes : ConsumesPayload remaining std_read_rules (body_rules s.coding) count s t)
@@ -148,9 +161,3 @@ module _ {R : Type 0} (remaining : R → Option (List ℕ)) (s t : Reader R) (is
       noted = consumes.noted;
       none = λ none. ap (λ x. seen x limits head said) (consumes.idle none);
     }
-
--- how much is buffered
-pub fills_count : {S : Type 0} {remaining : S → Option (List ℕ)} {s t : InBody S} (answer : Result ℕ BodyError)
-    → FillsInside remaining s answer t → IfOk answer (λ n. (n ≡ t.known) × (n ≡ 0 → IsRest t.rest [] []))
-fills_count (Ok n) fills = (fills.answers.0, fills.answers.2)
-fills_count (Err e) fills = tt

@@ -1,7 +1,8 @@
 -- What a read of a body takes of it and of its stream, and why it fails, also as one of std's.
-use Rattle.std.proofs.Common.{◌≡◌, ℕ, List, [], ◌++◌, length, take, OnOk, Option, Result, Ok, Err, ap, inr, subst}
+use Rattle.std.proofs.Common.{◌≡◌, ℕ, List, [], ◌++◌, length, take, IfErr, OnOk, Option, Result, Ok, Err, ap, inr, subst}
 use Rattle.std.specs.declared.io.Error.{Error}
 use Rattle.body_reader.specs.Between as between
+use Rattle.body_reader.specs.Between.{handed_out}
 use Rattle.body_reader.specs.BodyReader.{IsBodyReader, ReadsAsIo as ReadsPayloadAsIo, ReadsPayload, handed_of}
 use Rattle.body_reader.specs.declared.error.BodyError.{BodyError as Unread}
 use Rattle.body_reader.specs.declared.error.BodyError.TheVariants as unread
@@ -14,7 +15,7 @@ use Rattle.chunked.specs.declared.error.Malformed.{Malformed}
 use Rattle.chunked.specs.declared.place.Place.{Place}
 use Rattle.messages.specs.declared.head.ParsedHead.{ParsedHead}
 use Rattle.messages.specs.declared.limits.Limits.{Limits}
-use Rattle.messages.specs.Messages.{BecomesIo, HasRoom, InBody, IsNamed, Reader, ReadsAsIo, ReadsBody, Rest, body_error, body_rules, left_in, seen, stream_of}
+use Rattle.messages.specs.Messages.{BecomesIo, Fails, InBody, IsNamed, IsRoomy, Reader, ReadsAsIo, ReadsBody, Rest, body_answer, body_error, body_rules, left_in, seen, stream_of}
 use Rattle.messages.proofs.Asking.{body_asked, body_asks}
 use Rattle.messages.proofs.Going.{body_done, body_fails, body_goes, body_named, body_room}
 use Rattle.messages.proofs.Handing.{hands_most}
@@ -28,11 +29,16 @@ becomes_is (side.Second q) (unread.Truncated right) e named becomes = becomes
 becomes_is place (unread.Io same) e named becomes = becomes
 
 module _ {R : Type 0} (remaining : R → Option (List ℕ)) (s t : Reader R) (is : IsBodyReader (body_rules s.coding) s)
-    (room : HasRoom s) (out : List ℕ) where
+    (room : IsRoomy s.reader.block) (out : List ℕ) where
   pub io_room : (answer : Result ℕ Error) → ReadsPayloadAsIo remaining std_read_rules (body_rules s.coding) s out answer t
-      → HasRoom t
+      → IsRoomy t.reader.block
   io_room (Ok n) reads = body_room is reads.whole reads.went room
   io_room (Err e) (why, reads, becomes) = body_room is reads.whole reads.went room
+
+  pub read_named : (answer : Result ℕ (Unread (Side (Unit {0}) Malformed)))
+      → ReadsPayload remaining std_read_rules (body_rules s.coding) s out answer t → IfErr answer IsNamed
+  read_named (Ok n) reads = tt
+  read_named (Err e) reads = body_named is reads.whole reads.went e reads.answers
 
   -- as the body is seen, where its calls are noted so
   module _ (calls : StreamLog) (limits : Limits) (head : List ℕ) (said : ParsedHead) where
@@ -43,7 +49,7 @@ module _ {R : Type 0} (remaining : R → Option (List ℕ)) (s t : Reader R) (is
     Reads Why answer = ReadsBody Why remaining (seen s limits head said) out answer (as_seen t)
 
     module _ {E : Type 0} (Why : Unbuffered R → E → Unbuffered R → Rest → Type 0) where
-      pub reads_some : (n : ℕ) → ReadsPayload remaining std_read_rules (body_rules s.coding) s out (Ok n) t
+      reads_some : (n : ℕ) → ReadsPayload remaining std_read_rules (body_rules s.coding) s out (Ok n) t
           → calls.reads.given ≡ handed_of s ++ take n out → Reads Why (Ok n)
       reads_some n reads told = record {
         goes = body_goes is reads.whole reads.went room calls told limits head said;
@@ -57,7 +63,7 @@ module _ {R : Type 0} (remaining : R → Option (List ℕ)) (s t : Reader R) (is
             (let zero : n ≡ 0 = (let same = reads.empty none in cc) in (ap Ok zero, ap as_seen (reads.idle (inr none))));
       }
 
-      pub reads_none : (why : Unread (Side (Unit {0}) Malformed)) (e : E)
+      reads_none : (why : Unread (Side (Unit {0}) Malformed)) (e : E)
           → ReadsPayload remaining std_read_rules (body_rules s.coding) s out (Err why) t
           → calls.reads.given ≡ handed_of s ++ [] → Why (stream_of s) e (stream_of t) (left_in t) → Reads Why (Err e)
       reads_none why e reads told fails = record {
@@ -70,6 +76,13 @@ module _ {R : Type 0} (remaining : R → Option (List ℕ)) (s t : Reader R) (is
         all = tt;
         none = λ none. absurd (subst (λ r. OnOk r ⊥) (reads.empty none) tt);
       }
+
+    pub reads_body : (answer : Result ℕ (Unread (Side (Unit {0}) Malformed)))
+        → ReadsPayload remaining std_read_rules (body_rules s.coding) s out answer t
+        → calls.reads.given ≡ handed_of s ++ handed_out out answer → Reads Fails (body_answer t.place answer)
+    reads_body (Ok n) reads told = reads_some _ n reads told
+    reads_body (Err e) reads told =
+        reads_none _ e _ reads told (body_fails is reads.whole reads.went e reads.answers)
 
     pub reads_as_io : (answer : Result ℕ Error)
         → ReadsPayloadAsIo remaining std_read_rules (body_rules s.coding) s out answer t → calls ≡ after_read s.calls out answer

@@ -1,5 +1,5 @@
 -- How much of a message is taken.
-use Rattle.std.specs.Prelude.{ℕ, max, min}
+use Rattle.std.specs.Prelude.{ℕ, min}
 use Rattle.chunked.specs.declared.limits.Limits.{Limits as ChunkLimits}
 use Rattle.messages.specs.declared.limits.Limits.{Limits}
 
@@ -11,6 +11,6 @@ usual = record { fields = 64; line = 256; trailers = 4096 }
 abbrev pub fields_of : Limits → ℕ
 fields_of limits = min limits.fields 64
 
--- and how much of a body in chunks may be no payload: the line of a size has room for a digit
+-- and how much of a body in chunks may be no payload
 abbrev pub chunks_of : Limits → ChunkLimits
-chunks_of limits = record { line = max limits.line 1; trailers = limits.trailers }
+chunks_of limits = record { line = limits.line; trailers = limits.trailers }

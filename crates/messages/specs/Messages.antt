@@ -241,6 +241,10 @@ body_error (side.First due) (unread.Truncated right) = Truncated (Some due)
 body_error (side.Second place) (unread.Truncated right) = Truncated None
 body_error place (unread.Io e) = Fault e
 
+abbrev pub body_answer : Side ℕ Place → Result ℕ (Unread (Side (Unit {0}) Malformed)) → Result ℕ BodyError
+body_answer place (Ok n) = Ok n
+body_answer place (Err e) = Err (body_error place e)
+
 -- why a body wasn't finished, of which this payload was dropped: none comes; or it is of more pieces than are counted, and each
 -- read gave some
 abbrev pub FinishFails : {S : Type 0} → Unbuffered S → List ℕ → BodyError → Unbuffered S → Rest → Type 0
@@ -362,12 +366,3 @@ pub record IsRoomy (b : Block) : Type 0 where
   pub kind : b.kind ≡ Plain
   pub capacity : 3 * 16384 ≤ b.capacity
   pub limit : b.limit ≡ b.capacity
-
--- a chunk has room for its size
-abbrev pub has_line : BodyCoding → Type 0
-has_line (coding.First c) = ⊤
-has_line (coding.Second c) = 0 < c.0.line
-
--- its buffer is such
-abbrev pub HasRoom : {S : Type 0} → Reader S → Type 0
-HasRoom d = IsRoomy d.reader.block × has_line d.coding

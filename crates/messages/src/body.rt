@@ -9,19 +9,19 @@ ghost use Rattle.buffer_redux.specs.Unbuffer.{unbuffered};
 ghost use Rattle.codec.specs.PieceReader.{left_of, rest};
 ghost use Rattle.messages.specs.contracts.body.Body.{the_row};
 ghost use Rattle.messages.specs.Heads.{IsHead};
-ghost use Rattle.messages.specs.Messages.{AskedIn, AsksForMore, Bytes, EachReadGave, Fails, FinishFails, HandsKnown, HandsMost, HasRoom, InsideGoes, IsRest, IsRoomy, NotesEach, ReadsBody, RunsShort, TakesWholeRest, Unended, body_of, body_rules, entering, has_line, left_in, rest_of, room_of, seen, stream_of, with_stream};
+ghost use Rattle.messages.specs.Messages.{AskedIn, AsksForMore, Bytes, EachReadGave, Fails, FinishFails, HandsKnown, HandsMost, InsideGoes, IsRest, IsRoomy, NotesEach, RunsShort, TakesWholeRest, Unended, body_of, body_rules, entering, rest_of, room_of, with_stream};
 
 mod lends;
 mod tells;
 
-use crate::error::{BodyError, unread};
+use crate::error::{BodyError, answer_of, unread};
 use crate::head::{Extent, Heads, ParsedHead};
-use crate::limits::{Limits, chunks_of};
+use crate::limits::Limits;
 use crate::requests::Requests;
 use body_reader::{BodyReader, Either, Sized};
 use buffer_redux::tell::{Tell, TellRead};
 use buffer_redux::{BufReader, Buffer};
-use chunked::Chunked;
+use chunked::{Chunked, Limits as ChunkLimits};
 use codec::PieceReader;
 use std::alloc::Global;
 use std::marker::Model;
@@ -42,13 +42,13 @@ pub struct Body<R: Tell> {
 impl<R: Tell> Model for Body<R> {
     ghost use Rattle.std.specs.Prelude.{◌≡◌};
     ghost use Rattle.messages.specs.Heads.{IsHead};
-    ghost use Rattle.messages.specs.Messages.{HasRoom, InBody, seen};
+    ghost use Rattle.messages.specs.Messages.{InBody, IsRoomy, seen};
 
     ghost Value = { InBody R };
 
     ghost view = { λ b. seen b.reader b.limits b.head.bytes b.said };
 
-    ghost invariant = { λ b. (b.head.capacity ≡ 16384) × IsHead b.limits b.head.bytes b.said × HasRoom b.reader };
+    ghost invariant = { λ b. (b.head.capacity ≡ 16384) × IsHead b.limits b.head.bytes b.said × IsRoomy b.reader.reader.block };
 }
 
 impl<R: Tell> Body<R> {
@@ -148,7 +148,8 @@ impl<R: Tell> Body<R> {
         ensures sized { (n : ℕ) → self.now.rest ≡ Bytes n → (IsTrue result ↔ n ≡ 0) }
         ensures ended { IsTrue result ↔ IsRest self.now.rest [] [] }
     {
-        is_done(&self.reader)
+        let _ = self.reader.get_ref();
+        self.reader.is_done()
     }
 }
 
@@ -175,7 +176,9 @@ impl<R: TellRead> Body<R> {
             self.new.taken self.new.known self.new.stream.left) }
         ensures none { length out.new ≡ 0 → (result ≡ Ok 0) × (self.new ≡ record self.old { calls = self.new.calls }) }
     {
-        read(&mut self.reader, out)
+        let _ = self.reader.get_ref();
+        let answer = self.reader.read_payload(out);
+        answer_of(self.reader.place(), answer)
     }
 
     /// Hands out payload that is buffered, and asks the stream for nothing. Less than the slice takes comes only where the body
@@ -190,7 +193,8 @@ impl<R: TellRead> Body<R> {
         ensures knows { HandsKnown self.old.rest self.old.taken self.old.known out.new result self.new.taken self.new.known
             self.new.stream.left }
     {
-        read_buffered(&mut self.reader, out)
+        let _ = self.reader.get_ref();
+        self.reader.read_buffered(out)
     }
 
     /// Goes on to the next head: takes what is left of the body, and drops its payload. The stream is asked for no byte behind
@@ -209,6 +213,7 @@ impl<R: TellRead> Body<R> {
         ensures asked { MatchResult result (λ next. AskedWhere (Unended self.rest) self.stream (left_of next))
             (λ e. AskedWhere (Unended self.rest) self.stream e.0.stream) }
     {
+        let _ = self.reader.get_ref();
         let Body {
             alloc,
             reader,
@@ -216,7 +221,7 @@ impl<R: TellRead> Body<R> {
             head,
             said,
         } = self;
-        match finish(reader) {
+        match reader.finish() {
             Ok(reader) => {
                 let (inner, buffer) = reader.into_inner_with_buffer();
                 match PieceReader::with_buffer(alloc, buffer, inner, Heads(limits)) {
@@ -224,16 +229,19 @@ impl<R: TellRead> Body<R> {
                     Err(_) => unreachable!(),
                 }
             }
-            Err((reader, e)) => Err((
-                Body {
-                    alloc,
-                    reader,
-                    limits,
-                    head,
-                    said,
-                },
-                e,
-            )),
+            Err((reader, e)) => {
+                let why = unread(reader.place(), e);
+                Err((
+                    Body {
+                        alloc,
+                        reader,
+                        limits,
+                        head,
+                        said,
+                    },
+                    why,
+                ))
+            }
         }
     }
 }
@@ -241,84 +249,13 @@ impl<R: TellRead> Body<R> {
 // The coding of the body that a head says.
 fn coding_of(extent: Extent, limits: Limits) -> BodyCoding
     ensures rest { rest_of result (body_rules result).first ≡ body_of limits extent }
-    ensures line { has_line result }
     ensures ahead { (body_rules result).ahead ≡ 1 }
 {
     match extent {
         Extent::Sized(len) => Either::First(Sized(len)),
-        Extent::Chunked => Either::Second(Chunked(chunks_of(limits))),
-    }
-}
-
-// Whether a body ended.
-fn is_done<R: Tell>(reader: &BodyReader<R, BodyCoding>) -> bool
-    ensures { IsTrue result ↔ IsRest (left_in reader.now) [] [] }
-{
-    let _ = reader.get_ref();
-    reader.is_done()
-}
-
-// Hands out payload.
-fn read<R: TellRead>(
-    reader: &mut BodyReader<R, BodyCoding>,
-    out: &mut [u8],
-) -> Result<usize, BodyError>
-    requires { HasRoom reader.old }
-    ensures bound { IfOk result (λ n. n ≤ length out.new) }
-    ensures room { HasRoom reader.new }
-    ensures noted { MatchResult result (λ n. reader.new.calls ≡ after_read reader.old.calls out.new (Ok n))
-        (λ _. reader.new.calls ≡ reader.old.calls) }
-    ensures reads { (limits : Limits) (head : List ℕ) (said : ParsedHead)
-        → ReadsBody Fails R.remaining (seen reader.old limits head said) out.new result (seen reader.new limits head said) }
-{
-    let _ = reader.get_ref();
-    match reader.read_payload(out) {
-        Ok(count) => Ok(count),
-        Err(e) => Err(unread(reader.place(), e)),
-    }
-}
-
-// Hands out payload that is buffered.
-fn read_buffered<R: TellRead>(reader: &mut BodyReader<R, BodyCoding>, out: &mut [u8]) -> usize
-    requires { HasRoom reader.old }
-    ensures bound { result ≤ length out.new }
-    ensures room { HasRoom reader.new }
-    ensures noted { NotedIfSome reader.old.calls out.new result reader.new.calls }
-    ensures goes { (limits : Limits) (head : List ℕ) (said : ParsedHead)
-        → InsideGoes R.remaining (seen reader.old limits head said) (take result out.new) (seen reader.new limits head said) }
-    ensures unasked { (stream_of reader.new).log ≡ (stream_of reader.old).log }
-    ensures all { RunsShort (length out.new) result (left_in reader.new) (stream_of reader.new).left }
-    ensures knows { HandsKnown (left_in reader.old) reader.old.taken reader.old.known out.new result reader.new.taken
-        reader.new.known (stream_of reader.new).left }
-{
-    let _ = reader.get_ref();
-    reader.read_buffered(out)
-}
-
-// Takes what is left of a body.
-fn finish<R: TellRead>(
-    reader: BodyReader<R, BodyCoding>,
-) -> Result<BufReader<R>, (BodyReader<R, BodyCoding>, BodyError)>
-    requires { HasRoom reader }
-    ensures room { MatchResult result (λ rest. IsRoomy rest.block) (λ e. HasRoom e.0) }
-    ensures kept { IfOk result (λ rest. room_of rest.block ≡ room_of reader.reader.block) }
-    ensures ends { MatchResult result (λ rest. TakesWholeRest R.remaining (stream_of reader) (left_in reader) (unbuffered rest))
-        (λ e. (handed : List ℕ)
-        × ((limits : Limits) (head : List ℕ) (said : ParsedHead)
-        → InsideGoes R.remaining (seen reader limits head said) handed (seen e.0 limits head said))
-        × FinishFails (stream_of reader) handed e.1 (stream_of e.0) (left_in e.0)) }
-    ensures moved { IfOk result (λ rest. rest.block.moved ≡ reader.reader.block.moved) }
-    ensures noted { IfErr result (λ e. NotesEach reader.calls e.0.calls) }
-    ensures asked { MatchResult result
-        (λ rest. AskedWhere (Unended (left_in reader)) (stream_of reader) (unbuffered rest))
-        (λ e. AskedWhere (Unended (left_in reader)) (stream_of reader) (stream_of e.0)) }
-{
-    let _ = reader.get_ref();
-    match reader.finish() {
-        Ok(rest) => Ok(rest),
-        Err((reader, e)) => {
-            let place = reader.place();
-            Err((reader, unread(place, e)))
-        }
+        Extent::Chunked => Either::Second(Chunked(ChunkLimits {
+            line: limits.line,
+            trailers: limits.trailers,
+        })),
     }
 }

@@ -1,6 +1,6 @@
 //! Why there is no payload.
-ghost use Rattle.std.specs.Prelude.{◌≡◌};
-ghost use Rattle.messages.specs.Messages.{IsNamed, body_error};
+ghost use Rattle.std.specs.Prelude.{◌≡◌, IfErr};
+ghost use Rattle.messages.specs.Messages.{IsNamed, body_answer, body_error};
 
 use body_reader::{BodyError as Unread, Side};
 use chunked::{Malformed, Place};
@@ -58,5 +58,19 @@ pub(crate) fn unread(place: Side<u64, Place>, e: Unread<Side<(), Malformed>>) ->
             Side::Second(_) => BodyError::Truncated(None),
         },
         Unread::Io(e) => BodyError::Io(e),
+    }
+}
+
+// And its answer.
+pub(crate) fn answer_of(
+    place: Side<u64, Place>,
+    answer: Result<usize, Unread<Side<(), Malformed>>>,
+) -> Result<usize, BodyError>
+    requires { IfErr answer IsNamed }
+    ensures { result ≡ body_answer place answer }
+{
+    match answer {
+        Ok(count) => Ok(count),
+        Err(e) => Err(unread(place, e)),
     }
 }

@@ -1,9 +1,8 @@
 //! How much of a message is taken.
 ghost use Rattle.std.specs.Prelude.{◌≡◌};
-ghost use Rattle.messages.specs.Limits.{chunks_of, fields_of};
+ghost use Rattle.messages.specs.Limits.{fields_of};
 
 use crate::head::MAX_FIELDS;
-use chunked::Limits as ChunkLimits;
 
 /// How much of a message is taken: what has more is refused. Unless others are given, [`MAX_FIELDS`], and in a chunked body 256
 /// bytes of a line and 4,096 of trailers.
@@ -37,14 +36,4 @@ pub(crate) fn fields_of(limits: Limits) -> usize
     ensures { result ≡ fields_of limits }
 {
     limits.fields.min(MAX_FIELDS)
-}
-
-// How much of a body in chunks may be no payload.
-pub(crate) fn chunks_of(limits: Limits) -> ChunkLimits
-    ensures { result ≡ chunks_of limits }
-{
-    ChunkLimits {
-        line: limits.line.max(1),
-        trailers: limits.trailers,
-    }
 }

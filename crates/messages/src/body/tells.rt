@@ -1,14 +1,11 @@
 //! A body as a stream of std's, which tells its reads.
-ghost use Rattle.std.specs.Prelude.{◌≡◌, ℕ, List, None};
+ghost use Rattle.std.specs.Prelude.{◌≡◌, None};
 ghost use Rattle.std.specs.Io.{ReadsAtMost};
 ghost use Rattle.std.specs.Io.KnownBytes.{ReadConsumes};
 ghost use Rattle.buffer_redux.specs.StreamLog.{after_read};
-ghost use Rattle.messages.specs.declared.head.ParsedHead.{ParsedHead};
-ghost use Rattle.messages.specs.declared.limits.Limits.{Limits};
-ghost use Rattle.messages.specs.Messages.{HasRoom, ReadsAsIo, seen};
+ghost use Rattle.messages.specs.Messages.{ReadsAsIo};
 
-use crate::body::{Body, BodyCoding};
-use body_reader::BodyReader;
+use crate::body::Body;
 use buffer_redux::tell::{Tell, TellRead};
 use std::io;
 use std::io::Read;
@@ -38,22 +35,7 @@ impl<R: TellRead> TellRead for Body<R> {
         ensures bytes { ReadConsumes None None result out.new }
         ensures read { ReadsAsIo R.remaining self.old out.new result self.new }
     {
-        read_told(&mut self.reader, out)
+        let _ = self.reader.get_ref();
+        self.reader.read_told(out)
     }
-}
-
-// Hands out payload as one of std's streams does, and tells it.
-fn read_told<R: TellRead>(
-    reader: &mut BodyReader<R, BodyCoding>,
-    out: &mut [u8],
-) -> io::Result<usize>
-    requires { HasRoom reader.old }
-    ensures bound { ReadsAtMost result out.new }
-    ensures room { HasRoom reader.new }
-    ensures told { reader.new.calls ≡ after_read reader.old.calls out.new result }
-    ensures reads { (limits : Limits) (head : List ℕ) (said : ParsedHead)
-        → ReadsAsIo R.remaining (seen reader.old limits head said) out.new result (seen reader.new limits head said) }
-{
-    let _ = reader.get_ref();
-    reader.read_told(out)
 }

@@ -1,11 +1,24 @@
--- The reader's clause, read through the body's view; the head and what it said stay.
-use Rattle.messages.proofs.Lending.{fills_count}
+-- What the reader did, told of the body; an error is named where it stands then.
+use Rattle.messages.proofs.Going.{body_room}
+use Rattle.messages.proofs.Lending.{fill_ended, fill_named, filled}
 use Rattle.messages.proofs.body.Body.fill_payload.Goals as goal
+
+pub answer_of-requires : goal.answer_of-requires
+answer_of-requires g c =
+    fill_named _ _ c.fill_payload-answer.new.self c.get_ref.ensures.whole _ c.fill_payload-answer.ensures.fills
+
+pub invariant_of-self : goal.invariant_of-self
+invariant_of-self g c =
+    let fills = c.fill_payload-answer.ensures.fills in
+    (c.self.invariant.0, c.self.invariant.1, body_room c.get_ref.ensures.whole fills.whole fills.went c.self.invariant.2)
+
+pub returns-clause-ended : goal.returns-clause-ended
+returns-clause-ended g c = fill_ended _ _ c.fill_payload-answer.new.self c.get_ref.ensures.whole _
+    c.fill_payload-answer.ensures.fills _ (rw c.place.ensures at c.answer_of.ensures)
 
 pub returns-clause-fills : goal.returns-clause-fills
 returns-clause-fills g c =
     let i = c.self.inside in
-    rw (← c.self.view_is) (c.fill_payload.ensures.fills i.limits i.head.bytes i.said)
-
-pub returns-clause-count : goal.returns-clause-count
-returns-clause-count g c = fills_count _ (returns-clause-fills g c)
+    rw (c.answer_of.ensures, c.place.ensures, ← c.self.view_is)
+    (filled _ _ c.fill_payload-answer.new.self c.get_ref.ensures.whole c.self.invariant.2 i.limits i.head.bytes i.said _
+    c.fill_payload-answer.ensures.fills)

@@ -1,19 +1,48 @@
--- The reader's clauses, read through the body's view; the head and what it said stay.
+-- What the reader did, told of the rest of the body: what it took leads to what is left of that.
+use Rattle.messages.specs.Messages.{Fails, ReadsBody, seen}
+use Rattle.messages.proofs.Going.{body_room}
+use Rattle.messages.proofs.Reading.{read_named, reads_body}
 use Rattle.messages.proofs.body.Body.read.Goals as goal
 
-pub returns : goal.returns
-returns g c =
+pub answer_of-requires : goal.answer_of-requires
+answer_of-requires g c =
+    read_named _ _ c.read_payload-answer.new.self c.get_ref.ensures.whole c.self.invariant.2 _ _
+    c.read_payload-answer.ensures.reads
+
+pub invariant_of-self : goal.invariant_of-self
+invariant_of-self g c =
+    let reads = c.read_payload-answer.ensures.reads in
+    (c.self.invariant.0, c.self.invariant.1, body_room c.get_ref.ensures.whole reads.whole reads.went c.self.invariant.2)
+
+told : (g : _) (c : goal.After-answer_of g)
+    → ReadsBody Fails g.R.TellRead.remaining c.args.self.now c.read_payload-answer.new.out c.answer_of.result
+    (seen c.read_payload-answer.new.self c.self.inside.limits c.self.inside.head.bytes c.self.inside.said)
+told g c =
     let i = c.self.inside in
-    let reads = c.read.ensures.reads i.limits i.head.bytes i.said in
-    rw (← c.self.view_is) (record {
-      bound = c.read.ensures.bound;
-      goes = reads.goes;
-      noted = c.read.ensures.noted;
-      ended = reads.ended;
-      gave = reads.gave;
-      fails = reads.fails;
-      asked = reads.asked;
-      asks = reads.asks;
-      all = reads.all;
-      none = reads.none;
-    })
+    let reads = c.read_payload-answer.ensures.reads in
+    rw (c.answer_of.ensures, c.place.ensures, ← c.self.view_is) (reads_body _ _ c.read_payload-answer.new.self
+    c.get_ref.ensures.whole c.self.invariant.2 _ _ i.limits i.head.bytes i.said _ reads reads.went.handed)
+
+pub returns-clause-goes : goal.returns-clause-goes
+returns-clause-goes g c = (told g c).goes
+
+pub returns-clause-ended : goal.returns-clause-ended
+returns-clause-ended g c = (told g c).ended
+
+pub returns-clause-gave : goal.returns-clause-gave
+returns-clause-gave g c = (told g c).gave
+
+pub returns-clause-fails : goal.returns-clause-fails
+returns-clause-fails g c = (told g c).fails
+
+pub returns-clause-asked : goal.returns-clause-asked
+returns-clause-asked g c = (told g c).asked
+
+pub returns-clause-asks : goal.returns-clause-asks
+returns-clause-asks g c = (told g c).asks
+
+pub returns-clause-all : goal.returns-clause-all
+returns-clause-all g c = (told g c).all
+
+pub returns-clause-none : goal.returns-clause-none
+returns-clause-none g c = (told g c).none
