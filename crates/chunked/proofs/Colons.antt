@@ -36,11 +36,8 @@ split : (line name value : List ℕ) (end : ℕ) → line ≡ name ++ 58 ∷ val
 split line name value end same token all ends =
     let long : length (name ++ 58 ∷ []) ≡ end + 1 = omega (arith, ends, length-append name (58 ∷ [])) in
     record {
-      token = subst (λ l. AllByRecursion IsTokenByte l × (0 < length l))
-          (sym (ap (take end) same ∙ take_at name (58 ∷ value) end ends)) token;
-      all = subst (AllByRecursion IsValueByte)
-          (sym (ap (drop (end + 1)) (same ∙ sym (append_assoc name (58 ∷ []) value))
-          ∙ drop_at (name ++ 58 ∷ []) value (end + 1) long)) all;
+      token = rw (same, take_at name (58 ∷ value) end ends) token;
+      all = rw (same ∙ sym (append_assoc name (58 ∷ []) value), drop_at (name ++ 58 ∷ []) value (end + 1) long) all;
     }
 
 module _ (line : List ℕ) (end : ℕ) (is : slice_index line end ≡ 58) (before : NoColonBefore line end) (f : IsField line) where
@@ -60,8 +57,7 @@ pub splits_field : (line : List ℕ) (end : ℕ) → end < length line → slice
 splits_field line end within is s = record {
   name = take end line;
   value = drop (end + 1) line;
-  equal = sym (take-append-drop end line)
-      ∙ ap (λ l. take end line ++ l) (drop_more line end 0 within ∙ ap (λ x. x ∷ drop (end + 1) line) is);
+  equal = sym (take-append-drop end line) ∙ ap (λ l. take end line ++ l) (rw (drop_more line end 0 within, is));
   token = s.token;
   all = s.all;
 }

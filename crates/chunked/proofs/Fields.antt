@@ -1,5 +1,5 @@
 -- The lines of trailers, as far as they were looked at or copied in.
-use Rattle.std.proofs.Common.{◌≡◌, ℕ, ◌+◌, ◌<◌, ◌≤◌, List, [], ◌∷◌, ◌++◌, length, take, get_or, slice_index_or, Bor, sym, ap, subst, ◌∙◌, arith, refl, append_assoc, append-nil, length-append, take_all}
+use Rattle.std.proofs.Common.{◌≡◌, ℕ, ◌+◌, ◌<◌, ◌≤◌, List, [], ◌∷◌, ◌++◌, length, take, get_or, slice_index_or, Bor, sym, ap, ◌∙◌, arith, refl, append_assoc, append-nil, length-append, take_all}
 use Rattle.std.proofs.lemmas.List.{get_or-map, length-map, take_more}
 use Rattle.std.proofs.lemmas.List.Concat.{flat_map-append}
 use Rattle.std.proofs.lemmas.List.Folds.{length-flat_map-take}
@@ -22,10 +22,7 @@ front fields = 48 ∷ line_end (flat_map ended fields)
 
 ended_lines : (fields : List (List ℕ)) → fields_bytes fields ≡ flat_map ended fields ++ line_end []
 ended_lines [] = refl
-ended_lines (f ∷ fields) =
-    ap (λ l. f ++ line_end l) (ended_lines fields)
-    ∙ sym (append_assoc f (line_end []) (flat_map ended fields ++ line_end []))
-    ∙ sym (append_assoc (ended f) (flat_map ended fields) (line_end []))
+ended_lines (f ∷ fields) = rw (ended_lines fields) (simp append_assoc)
 
 -- an empty line ends them
 pub front_ended : (fields : List (List ℕ)) → front fields ++ line_end [] ≡ body_end fields
@@ -37,11 +34,7 @@ front_len fields = ap length (sym (front_ended fields)) ∙ length-append (front
 -- one line more
 pub front_more : (fields : List (List ℕ)) (i : ℕ) → i < length fields
     → front (take (i + 1) fields) ≡ (front (take i fields) ++ get_or fields i []) ++ line_end []
-front_more fields i within =
-    ap front (take_more fields i [] within)
-    ∙ ap (λ l. 48 ∷ line_end l) (flat_map-append ended (take i fields) (get_or fields i [] ∷ [])
-    ∙ ap (λ l. flat_map ended (take i fields) ++ l) (append-nil (ended (get_or fields i []))))
-    ∙ sym (append_assoc (front (take i fields)) (get_or fields i []) (line_end []))
+front_more fields i within = rw (take_more fields i [] within, flat_map-append) (simp (append-nil, append_assoc))
 
 pub front_more_len : (fields : List (List ℕ)) (i : ℕ) → i < length fields
     → length (front (take (i + 1) fields)) ≡ length (front (take i fields)) + length (get_or fields i []) + 2
@@ -70,7 +63,7 @@ one_more (f ∷ fields) field all is = (all.0, one_more fields field all.1 is)
 pub lines_more : (fields : List (List ℕ)) (i : ℕ) → i < length fields → AllByRecursion IsTrailer (take i fields)
     → IsTrailer (get_or fields i []) → AllByRecursion IsTrailer (take (i + 1) fields)
 lines_more fields i within all is =
-    subst (AllByRecursion IsTrailer) (sym (take_more fields i [] within)) (one_more (take i fields) (get_or fields i []) all is)
+    rw (take_more fields i [] within) (one_more (take i fields) (get_or fields i []) all is)
 
 -- the line of an index, in a slice of slices
 pub line_at : (fields : List (Bor (List ℕ))) (i : ℕ) → i < length fields

@@ -1,14 +1,13 @@
 -- What payload that goes on in a chunk does, and what a chunk does that is begun.
-use Rattle.std.proofs.Common.{◌≡◌, ℕ, zero, suc, ◌+◌, ◌-◌, ◌^◌, ◌<◌, ◌≤◌, List, [], ◌∷◌, ◌++◌, length, min, take, Result, Ok, Err, MatchResult, sym, ap, subst, ◌∙◌, arith, inl, inr, refl, append_assoc, append-nil}
+use Rattle.std.proofs.Common.{◌≡◌, ℕ, zero, suc, ◌+◌, ◌-◌, ◌^◌, ◌<◌, ◌≤◌, List, [], ◌++◌, length, min, take, Result, Ok, Err, MatchResult, sym, ap, subst, ◌∙◌, arith, inl, inr, refl, append_assoc, append-nil}
 use Rattle.std.proofs.lemmas.Bool.{cases_lt}
-use Rattle.std.proofs.lemmas.List.{length-take, length-take-le, take_all}
+use Rattle.std.proofs.lemmas.List.{length-take, length-take-le, take-take, take_all, take_min}
 use Rattle.std.specs.declared.io.Error.{Error}
 use Rattle.buffer_redux.specs.Block.{IsBlock, MakesRoom}
 use Rattle.buffer_redux.specs.Buffered.{Buffered, GoesDirect, InnerWent, with_block}
 use Rattle.buffer_redux.specs.StreamLog.{StreamLog, after_write, portion}
 use Rattle.buffer_redux.specs.WriteParts.{PutsIn, room}
 use Rattle.buffer_redux.specs.declared.policy.StdPolicy.{StdPolicy}
-use Rattle.chunked.specs.Body.{line_end}
 use Rattle.chunked.specs.Chunk.{HasBegun, IsChunks, chunk_begun, chunk_end}
 use Rattle.chunked.specs.ChunkLaws.{HasBegun-begins, HasBegun-ends, HasBegun-more}
 use Rattle.chunked.specs.ChunkedWriter.{ChunkedWriterState, CopiesSizeLine, IsChunkedWriter, IsNoted, MakesSpace, PayloadWent, TakesSome, TakesThere, WentOn, WritesChunk, accepted_of, around, greatest}
@@ -19,9 +18,6 @@ use Rattle.chunked.proofs.Writing.{WentIn, nothing_went, payload_went, puts_went
 pub chunk_end_more : (due : ℕ) → 0 < due → chunk_end due ≡ []
 chunk_end_more zero some = absurd (omega (arith, some))
 chunk_end_more (suc due) some = refl
-
-chunk_end_last : (due : ℕ) → due ≡ 0 → chunk_end due ≡ line_end []
-chunk_end_last due none = ap chunk_end none
 
 -- room was made
 pub puts_roomy : {S : Type 0} (s t : Buffered S StdPolicy) → MakesRoom s.block t.block → t ≡ with_block s t.block
@@ -36,23 +32,10 @@ puts_roomy s t room others whole = record {
   whole = whole;
 }
 
--- as much as is due, and no more, is a beginning of all
-take_due : (n due : ℕ) (payload : List ℕ) → n ≤ due → take n (take due payload) ≡ take n payload
-take_due zero due payload within = refl
-take_due (suc n) zero payload within = absurd (omega (arith, within))
-take_due (suc n) (suc due) [] within = refl
-take_due (suc n) (suc due) (x ∷ payload) within = ap (λ l. x ∷ l) (take_due n due payload (omega (arith, within)))
-
-pub take_min : (due : ℕ) (payload : List ℕ) → take (min (length payload) due) payload ≡ take due payload
-take_min due payload = elim (cases_lt (length payload) due) [
-  | inl less ↦
-      let all : min (length payload) due ≡ length payload = omega (arith, less) in
-      ap (λ n. take n payload) all ∙ take_all (length payload) payload (omega arith)
-      ∙ sym (take_all due payload (omega (arith, less)))
-  | inr more ↦
-      let all : min (length payload) due ≡ due = omega (arith, more) in
-      ap (λ n. take n payload) all
-]
+-- as much as is due, and no more
+pub take_least : (due : ℕ) (payload : List ℕ) → take (min (length payload) due) payload ≡ take due payload
+take_least due payload =
+    let same : min (length payload) due ≡ min due (length payload) = omega arith in rw same (take_min due payload)
 
 module _ {S : Type 0} (tells : S → StreamLog) (trace : S → S → Type 0) (none : (a : S) → trace a a)
     (joins : (a b c : S) → trace a b → trace b c → trace a c) where
@@ -125,7 +108,7 @@ module _ {S : Type 0} (tells : S → StreamLog) (trace : S → S → Type 0) (no
       long = length-take-le n payload count
 
       went_in : WentIn trace s.writer (take n payload ++ chunk_end t.due) t.writer
-      went_in = subst (λ l. WentIn trace s.writer (l ++ chunk_end t.due) t.writer) (take_due n s.due payload below)
+      went_in = rw (take-take n s.due payload below) at
           (went_on tells trace none joins s.writer m t.writer (take n (take s.due payload)) (chunk_end t.due) part
           (puts_went tells trace none joins m t.writer (chunk_end t.due) ends))
 
@@ -133,7 +116,7 @@ module _ {S : Type 0} (tells : S → StreamLog) (trace : S → S → Type 0) (no
       accepted = ap (λ l. l.writes.received) noted
 
       ended : t.due ≡ 0 → IsChunks t.wire (accepted_of t)
-      ended none = rw (wired, chunk_end_last t.due none, accepted)
+      ended none = rw (wired, none, accepted)
           (HasBegun-ends s.due s.wire (accepted_of s) (take n payload) (is.begun within) within
           (omega (arith, none, left, below, long)))
 
@@ -175,8 +158,7 @@ module _ {S : Type 0} (tells : S → StreamLog) (trace : S → S → Type 0) (no
           let below : n ≤ s.due = omega (arith, within', long) in
           let takes = rw same at takes in
           let all : t.wire ≡ s.wire ++ (take n payload ++ chunk_end t.due) =
-          wired ∙ ap (λ l. l ++ chunk_end t.due) so_far ∙ append_assoc s.wire (take n part) (chunk_end t.due)
-          ∙ ap (λ l. s.wire ++ (l ++ chunk_end t.due)) (ap (take n) same ∙ take_due n s.due payload below) in
+          rw (wired, so_far, same, take-take n s.due payload below) (append_assoc s.wire (take n payload) (chunk_end t.due)) in
           let part = (part_went s.writer m (take s.due payload) (Ok n) is.block takes) in record {
             goes = record { taken = m; takes = takes; ended = (below, left, ends, all) };
             went = (take n payload ++ chunk_end t.due, goes_went n count below m part t left ends all noted);

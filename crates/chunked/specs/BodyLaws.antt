@@ -1,9 +1,10 @@
 -- Laws of bodies: what a text of a line ends at, and that a text is a body in one way.
 use Rattle.std.specs.Prelude.{◌≡◌, ℕ, ◌<◌, List, [], ◌∷◌, ◌++◌, length, take, drop}
-use Rattle.std.proofs.Common.{sym, ap, subst, ◌∙◌, arith, inl, inr, refl, append_assoc}
+use Rattle.std.proofs.Common.{sym, ap, subst, ◌∙◌, arith, refl, append_assoc}
+use Rattle.std.proofs.lemmas.Bool.Decides.{nat_tests}
 use Rattle.std.proofs.lemmas.List.{take_at, drop_at}
 use Rattle.std.specs.Char.{digit_value}
-use Rattle.std.specs.List.{concat, AllByRecursion}
+use Rattle.std.specs.List.{AllByRecursion}
 use Rattle.std.specs.Str.Parse.{AllDigits, digits_value}
 use Rattle.chunked.specs.declared.limits.Limits.{Limits}
 use Rattle.chunked.specs.Extension.{IsExtension}
@@ -14,16 +15,11 @@ use Rattle.chunked.specs.declared.extension.Within.TheVariants.{Behind}
 
 -- a digit is no byte of these
 pub digit_is_text : (b : ℕ) → digit_value b < 16 → IsTextByte b
-digit_is_text b small =
-    (λ is. omega (arith, subst (λ c. digit_value c < 16) is small), λ is. omega (arith, subst (λ c. digit_value c < 16) is small))
+digit_is_text b small = grind (arith, nat_tests)
 
 -- no extension begins with a digit
 pub extension_no_digit : (b : ℕ) (text : List ℕ) → IsExtension (b ∷ text) → digit_value b < 16 → ⊥
-extension_no_digit b text h small = elim (IsExtension-first b text h) [
-  | inl (inl is) ↦ omega (arith, subst (λ c. digit_value c < 16) is small)
-  | inl (inr is) ↦ omega (arith, subst (λ c. digit_value c < 16) is small)
-  | inr is ↦ omega (arith, subst (λ c. digit_value c < 16) is small)
-]
+extension_no_digit b text h small = let begins = IsExtension-first b text h in grind (arith, nat_tests, begins)
 
 -- the whole line is a text
 pub digits_text : (digits text : List ℕ) → AllDigits 16 digits → AllByRecursion IsTextByte text
@@ -33,8 +29,7 @@ digits_text (d ∷ digits) text all h = (digit_is_text d all.0, digits_text digi
 
 pub IsSizeLine-text : (limit size : ℕ) (text : List ℕ) → IsSizeLine limit size text → AllByRecursion IsTextByte text
 IsSizeLine-text limit size text h =
-    subst (AllByRecursion IsTextByte) (sym h.equal)
-    (digits_text h.digits h.extension h.numeral.1 (CompletesExtension-text Behind h.extension h.follows))
+    rw h.equal (digits_text h.digits h.extension h.numeral.1 (CompletesExtension-text Behind h.extension h.follows))
 
 -- two texts that end at a CR are one
 pub text_same : (a b xs ys : List ℕ) → AllByRecursion IsTextByte a → AllByRecursion IsTextByte b
@@ -99,7 +94,7 @@ trailers_same : (m n : ℕ) (a b xs ys : List ℕ) → IsTrailers m a → IsTrai
 trailers_same m n a b xs ys p q same =
     let found = fields_same p.fields q.fields xs ys p.lines q.lines
     (ap (λ l. l ++ xs) (sym p.equal) ∙ same ∙ ap (λ l. l ++ ys) q.equal) in
-    (p.equal ∙ ap fields_bytes found.0 ∙ sym q.equal, found.1)
+    (rw (p.equal, q.equal, found.0), found.1)
 
 -- what a line of a size stands in front of, and the size
 sized_same : (limit limit' m n : ℕ) (a b xs ys u v more more' : List ℕ) → IsSizeLine limit m a → IsSizeLine limit' n b
@@ -117,11 +112,8 @@ chunks_same : (l m : Limits) (ps qs : List (List ℕ)) (a b xs ys : List ℕ) �
 chunks_same l m [] [] a b xs ys (u, p, s) (v, q, t) same =
     let first = sized_same (line_room l) (line_room m) 0 0 p.text q.text u v a b xs ys p.size_line q.size_line p.equal
     q.equal same in
-    let others = trailers_same l.trailers m.trailers u v xs ys s t first.2 in (
-      p.equal ∙ ap (λ t. t ++ line_end u) first.0 ∙ ap (λ t. q.text ++ line_end t) others.0 ∙ sym q.equal,
-      refl,
-      others.1,
-    )
+    let others = trailers_same l.trailers m.trailers u v xs ys s t first.2 in
+    (rw (p.equal, q.equal, first.0, others.0), refl, others.1)
 chunks_same l m [] (q ∷ qs) a b xs ys (u, p, s) (v, c, some, k) same =
     let first = sized_same (line_room l) (line_room m) 0 (length q) p.text c.text u (q ++ line_end v) a b xs ys p.size_line
     c.size_line
@@ -139,17 +131,12 @@ chunks_same l m (p ∷ ps) (q ∷ qs) a b xs ys (u, c, some, h) (v, d, some', k)
     let payload = front_same p q (line_end (u ++ xs)) (line_end (v ++ ys)) first.1
     (sym (append_assoc p (line_end u) xs) ∙ first.2 ∙ append_assoc q (line_end v) ys) in
     let tails : u ++ xs ≡ v ++ ys = (let t = payload.1 in cc) in
-    let others = chunks_same l m ps qs u v xs ys h k tails in (
-      c.equal ∙ ap (λ t. t ++ line_end (p ++ line_end u)) first.0
-          ∙ ap (λ t. d.text ++ line_end (t ++ line_end u)) payload.0
-          ∙ ap (λ t. d.text ++ line_end (q ++ line_end t)) others.0 ∙ sym d.equal,
-      ap (λ t. t ∷ ps) payload.0 ∙ ap (λ t. q ∷ t) others.1,
-      others.2,
-    )
+    let others = chunks_same l m ps qs u v xs ys h k tails in
+    (rw (c.equal, d.equal, first.0, payload.0, others.0), rw (payload.0, others.1), others.2)
 
 pub IsBodyOfChunks-same : (l m : Limits) (a b p q xs ys : List ℕ) → IsBodyOfChunks l a p → IsBodyOfChunks m b q
     → a ++ xs ≡ b ++ ys
     → (a ≡ b) × (p ≡ q) × (xs ≡ ys)
 IsBodyOfChunks-same l m a b p q xs ys h k same =
     let found = chunks_same l m h.payloads k.payloads a b xs ys h.chunks k.chunks same in
-    (found.0, h.equal ∙ ap (λ ps. concat ps) found.1 ∙ sym k.equal, found.2)
+    (found.0, rw (h.equal, k.equal, found.1), found.2)

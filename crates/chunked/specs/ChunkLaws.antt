@@ -1,7 +1,7 @@
 -- Laws of what a writer of a body writes: chunks, and then its end, are a body.
 use Rattle.std.specs.Prelude.{◌≡◌, ℕ, ◌+◌, ◌-◌, ◌^◌, ◌<◌, ◌≤◌, List, [], ◌∷◌, ◌++◌, length, map, flat_map}
 use Rattle.std.proofs.lemmas.List.Folds.{concat-append}
-use Rattle.std.proofs.Common.{sym, ap, subst, ◌∙◌, arith, refl, append_assoc, append-nil, length-append}
+use Rattle.std.proofs.Common.{sym, ap, ◌∙◌, arith, refl, append_assoc, append-nil, length-append}
 use Rattle.std.proofs.lemmas.Str.{digit_value-digit_char}
 use Rattle.std.proofs.lemmas.Int.Digits.{length-digits_of_step, length-digits_of-le, all_below_base_digits_of, number_digits_of, digits_value_is}
 use Rattle.std.proofs.lemmas.List.{length-map}
@@ -71,8 +71,8 @@ pub IsChunks-joins : (bytes payload : List ℕ) (more : List (List ℕ)) → IsC
 IsChunks-joins bytes payload more h carried = record {
   payloads = h.payloads ++ more;
   carried = All-append IsCarried h.payloads more h.carried carried;
-  equal = ap (λ l. l ++ flat_map chunk more) h.equal ∙ sym (flat_map-append chunk h.payloads more);
-  joined = ap (λ l. l ++ concat more) h.joined ∙ sym (concat-append h.payloads more);
+  equal = rw (h.equal, flat_map-append);
+  joined = rw (h.joined, concat-append);
 }
 
 pub IsChunks-behind : (a x b y : List ℕ) → IsChunks a x → IsChunks b y → IsChunks (a ++ b) (x ++ y)
@@ -131,9 +131,7 @@ module _ (limits : Limits) (line : 16 ≤ limits.line) (fields : List (List ℕ)
         record {
           text = size_digits (length p);
           size_line = size_digits-line (line_room limits) (length p) is.0 is.1 (omega (arith, line));
-          equal = append_assoc (chunk p) (flat_map chunk payloads) (body_end fields)
-              ∙ append_assoc (size_digits (length p)) (line_end (p ++ line_end [])) later
-              ∙ ap (λ l. size_digits (length p) ++ line_end l) (append_assoc p (line_end []) later);
+          equal = simp append_assoc;
         },
         is.0,
         has_chunks payloads (All-tail IsCarried p payloads carried),
@@ -143,6 +141,6 @@ module _ (limits : Limits) (line : 16 ≤ limits.line) (fields : List (List ℕ)
   pub IsChunks-body : (bytes payload : List ℕ) → IsChunks bytes payload → IsBodyOfChunks limits (bytes ++ body_end fields) payload
   IsChunks-body bytes payload h = record {
     payloads = h.payloads;
-    chunks = subst (λ l. HasChunks limits h.payloads (l ++ body_end fields)) (sym h.equal) (has_chunks h.payloads h.carried);
+    chunks = rw h.equal (has_chunks h.payloads h.carried);
     equal = h.joined;
   }

@@ -2,7 +2,7 @@
 use Rattle.std.specs.Prelude.{◌≡◌, ℕ, List, [], ◌++◌, flat_map}
 use Rattle.std.specs.List.{concat}
 use Rattle.std.proofs.lemmas.List.Folds.{concat-append}
-use Rattle.std.proofs.Common.{sym, ap, subst, ◌∙◌, refl, append_assoc, append-nil}
+use Rattle.std.proofs.Common.{sym, ap, ◌∙◌, refl, append_assoc, append-nil}
 use Rattle.std.proofs.lemmas.List.Concat.{flat_map-append}
 use Rattle.std.proofs.lemmas.List.Elements.{All-nil, All-append}
 use Rattle.std.specs.declared.io.Error.{Error}
@@ -53,10 +53,8 @@ module _ {S : Type 0} (trace : S → S → Type 0) (none : (x : S) → trace x x
       → ChunksWent trace s (ps ++ qs) t
   ChunksWent-joins s m t ps qs p q = record {
     carried = All-append IsCarried ps qs p.carried q.carried;
-    went = subst (λ l. PayloadWent trace s l (concat (ps ++ qs)) t) (sym (flat_map-append chunk ps qs))
-        (subst (λ l. PayloadWent trace s (flat_map chunk ps ++ flat_map chunk qs) l t) (sym (concat-append ps qs))
-        (PayloadWent-joins s m t (flat_map chunk ps) (flat_map chunk qs) (concat ps) (concat qs) p.went
-        q.went));
+    went = rw (flat_map-append, concat-append)
+        (PayloadWent-joins s m t (flat_map chunk ps) (flat_map chunk qs) (concat ps) (concat qs) p.went q.went);
     due = q.due ∙ p.due;
   }
 

@@ -22,9 +22,12 @@ loop-i-preserved c =
     let there = inside fields i within in
     let is = line_at fields i within in
     record {
-      lines = lines_more (lines_of fields) i there before.lines (subst IsTrailer is (c.in-Some.ensures.0, λ framing.
-          let odd = c.is_framing.ensures.1 (subst IsFramingName (c.in-Some.ensures.1 framing.0) framing.1) in
-          let not = c.if-is_framing.false in cc));
+      lines = lines_more (lines_of fields) i there before.lines (subst IsTrailer is (
+        c.in-Some.ensures.0,
+        λ framing.
+            let odd = c.is_framing.ensures.1 (subst IsFramingName (c.in-Some.ensures.1 framing.0) framing.1) in
+            let not = c.if-is_framing.false in cc,
+      ));
       counted = omega (
         arith,
         before.counted,
@@ -43,8 +46,11 @@ returns-then-is_framing-clause-cannot c =
       refl,
       inside fields i c.loop-i-test.true,
       c.loop-i.invariant.lines,
-      subst IsFraming (line_at fields i c.loop-i-test.true) (field, subst IsFramingName (sym (c.in-Some.ensures.1 field))
-          (c.is_framing.ensures.0 c.if-is_framing.true)),
+      subst IsFraming (line_at fields i c.loop-i-test.true) (
+        field,
+        subst IsFramingName (sym (c.in-Some.ensures.1 field))
+            (c.is_framing.ensures.0 c.if-is_framing.true),
+      ),
     )
 
 pub returns-then-len-capacity-clause-cannot : goal.returns-then-len-capacity-clause-cannot

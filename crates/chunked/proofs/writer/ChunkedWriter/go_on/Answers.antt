@@ -1,7 +1,7 @@
 -- The part is what is due at most, so it goes on in the chunk, and behind its last byte the line ends.
 use Rattle.std.proofs.Common.{◌-◌, take, Ok, Err, ap, ◌∙◌, arith, refl}
 use Rattle.chunked.specs.ChunkedWriter.{WentOn, seen}
-use Rattle.chunked.proofs.Going.{goes_on, stops, take_min}
+use Rattle.chunked.proofs.Going.{goes_on, stops, take_least}
 use Rattle.chunked.proofs.writer.ChunkedWriter.go_on.Goals as goal
 use Rattle.chunked.proofs.writer.ChunkedWriter.go_on.Goals.{After-end_chunk, In-Err}
 
@@ -12,7 +12,7 @@ ended : (g : _) (c : After-end_chunk g) → WentOn g.W.Tell.log g.W.TellWrite.tr
 ended g c =
     goes_on g.W.Tell.log g.W.TellWrite.trace g.met.W.TellWrite.trace_none g.met.W.TellWrite.trace_joins _ c.self.invariant
     (omega (arith, c.requires.within, ap (λ x. x.due) c.self.view_is)) c.args.payload.now _
-    (ap (λ k. take k c.args.payload.now) c.min.ensures ∙ take_min c.self.inside.due c.args.payload.now) c.take_part.new.writer
+    (ap (λ k. take k c.args.payload.now) c.min.ensures ∙ take_least c.self.inside.due c.args.payload.now) c.take_part.new.writer
     c.in-Ok.count c.in-Ok.ensures.bound c.in-Ok.ensures.takes _ c.in-Ok.ensures.wire _ refl c.end_chunk.ensures.put
     c.end_chunk.ensures.wire c.note.ensures
 
@@ -23,7 +23,7 @@ stopped : (g : _) (c : In-Err g) → WentOn g.W.Tell.log g.W.TellWrite.trace
 stopped g c =
     stops g.W.Tell.log g.W.TellWrite.trace g.met.W.TellWrite.trace_none g.met.W.TellWrite.trace_joins _ c.self.invariant
     (omega (arith, c.requires.within, ap (λ x. x.due) c.self.view_is)) c.args.payload.now _
-    (ap (λ k. take k c.args.payload.now) c.min.ensures ∙ take_min c.self.inside.due c.args.payload.now) c.take_part.new.writer
+    (ap (λ k. take k c.args.payload.now) c.min.ensures ∙ take_least c.self.inside.due c.args.payload.now) c.take_part.new.writer
     c.in-Err.e c.in-Err.ensures.takes _ c.in-Err.ensures.wire
 
 pub invariant_of-self : goal.invariant_of-self
