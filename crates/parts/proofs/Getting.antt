@@ -1,5 +1,5 @@
 -- What was received of the wanted part, or of a list.
-use Rattle.std.proofs.Common.{◌≡◌, ℕ, List, [], ◌++◌, Result, Ok, Err, OnOk, ap, ◌∙◌, append_assoc}
+use Rattle.std.proofs.Common.{◌≡◌, ◌≤◌, ◌+◌, ℕ, List, [], ◌++◌, Result, Ok, Err, OnOk, inl, inr, ap, arith, ◌∙◌, append_assoc}
 use Rattle.buffer_redux.specs.BufWriter.{FlushedAlong, WasFlushed}
 use Rattle.buffer_redux.specs.Buffered.{Buffered}
 use Rattle.buffer_redux.specs.Policy.{std_write_rules}
@@ -11,9 +11,10 @@ use Rattle.body_reader.specs.BodyReader.{TookWholeBody, handed_of}
 use Rattle.multipart.specs.Multipart.{FormState, codes, hyphens}
 use Rattle.parts.specs.Asked.{FlushedUnless, GotPart, ListedAll}
 use Rattle.redux_buffer.specs.Faults.{MetInterrupts, MetInterrupts-joins}
-use Rattle.parts.proofs.Flushing.{at_done}
+use Rattle.parts.proofs.Flushing.{at_done, ended_once}
 use Rattle.parts.specs.Sections.{BehindText, GetAnswers, InNamed, ListAnswers, Turn, list_lines}
 use Rattle.parts.specs.declared.error.RunError.{RunError}
+use Rattle.parts.specs.declared.error.RunError.TheVariants as Why
 
 module _ {S T : Type 0} (tells : T → StreamLog) (trace : T → T → Type 0) (joins : (a b c : T) → trace a b → trace b c → trace a c)
     (s t : FormState S StdPolicy) (u v w : Buffered T StdPolicy) (unread : s.body.reader.block.bytes ≡ [])
@@ -28,8 +29,8 @@ module _ {S T : Type 0} (tells : T → StreamLog) (trace : T → T → Type 0) (
     Got = GotPart name s.body.coding s.other s.body.reader.log t.body.reader.log u.log w.log
 
     all : InNamed name s t → TookWholeBody (codes s.body.coding) t.body
-        → FlushedAlong tells trace std_write_rules u (handed_of t.body) w → Got
-    all is whole flushed = record {
+        → FlushedAlong tells trace std_write_rules u (handed_of t.body) w → MetInterrupts u.log.writes w.log.writes → Got
+    all is whole flushed met = record {
       payload = handed_of t.body;
       gave = record {
         turn = is.part.turn;
@@ -47,17 +48,33 @@ module _ {S T : Type 0} (tells : T → StreamLog) (trace : T → T → Type 0) (
       };
       received = received (handed_of t.body) flushed;
       flushed = flushed.flushed;
+      met = met;
     }
 
     went : (answer : Result (Unit {0}) RunError) → GetAnswers tells trace name s u answer t v
         → OnOk answer ((y : Unit {0}) → WasFlushed tells trace v (Ok y) w → Got)
-    went (Ok x) did = λ y flushes. all did.0 did.1
-        (FlushedAlong-of tells trace std_write_rules joins u v w (handed_of t.body) y did.3 flushes)
+    went (Ok x) did = λ y flushes. all did.named did.ends.0
+        (FlushedAlong-of tells trace std_write_rules joins u v w (handed_of t.body) y did.puts.all flushes)
+        (MetInterrupts-joins u.log.writes v.log.writes w.log.writes did.puts.met flushes.ok.met)
     went (Err e) did = tt
 
     pub got : (answer last : Result (Unit {0}) RunError) → GetAnswers tells trace name s u answer t v
         → FlushedUnless tells trace answer v last w → OnOk last Got
     got answer last did f = at_done tells trace v w Got answer last (went answer did) f
+
+    unflushed : (answer : Result (Unit {0}) RunError) → GetAnswers tells trace name s u answer t v
+        → v.log.writes.flushes ≡ u.log.writes.flushes
+    unflushed (Ok x) did = did.puts.unflushed
+    unflushed (Err Why.Missing) did = ap (λ x. x.log.writes.flushes) did.4
+    unflushed (Err (Why.Parts y)) did = ap (λ x. x.log.writes.flushes) did.4
+    unflushed (Err Why.Many) (inl did) = did.puts.unflushed
+    unflushed (Err Why.Many) (inr did) = ap (λ x. x.log.writes.flushes) did.6
+    unflushed (Err (Why.Body y)) did = did.puts.unflushed
+    unflushed (Err (Why.Write e)) did = did.puts.unflushed
+
+    pub got_once : (answer last : Result (Unit {0}) RunError) → GetAnswers tells trace name s u answer t v
+        → FlushedUnless tells trace answer v last w → w.log.writes.flushes ≤ u.log.writes.flushes + 1
+    got_once answer last did f = omega (arith, unflushed answer did, ended_once tells trace v w answer last f)
 
   -- and of a list
   abbrev Listed : Type 0
@@ -90,3 +107,18 @@ module _ {S T : Type 0} (tells : T → StreamLog) (trace : T → T → Type 0) (
   pub listed : (answer last : Result (Unit {0}) RunError) → ListAnswers tells trace s u answer t v
       → FlushedUnless tells trace answer v last w → OnOk last Listed
   listed answer last did f = at_done tells trace v w Listed answer last (listed_all answer did) f
+
+  none_flushed : (answer : Result (Unit {0}) RunError) → ListAnswers tells trace s u answer t v
+      → v.log.writes.flushes ≡ u.log.writes.flushes
+  none_flushed (Ok x) did = did.3.unflushed
+  none_flushed (Err (Why.Parts y)) did = did.3.unflushed
+  none_flushed (Err (Why.Body y)) did = did.puts.unflushed
+  none_flushed (Err (Why.Write e)) (inl did) = did.puts.unflushed
+  none_flushed (Err (Why.Write e)) (inr did) = did.3.unflushed
+  none_flushed (Err Why.Many) (inl did) = did.puts.unflushed
+  none_flushed (Err Why.Many) (inr did) = did.5.unflushed
+  none_flushed (Err Why.Missing) did = absurd did
+
+  pub listed_once : (answer last : Result (Unit {0}) RunError) → ListAnswers tells trace s u answer t v
+      → FlushedUnless tells trace answer v last w → w.log.writes.flushes ≤ u.log.writes.flushes + 1
+  listed_once answer last did f = omega (arith, none_flushed answer did, ended_once tells trace v w answer last f)

@@ -2,6 +2,7 @@ mod Flushing
 mod Getting
 mod Listing
 mod Meeting
+mod Parts
 mod Passing
 mod Putting
 mod Running

@@ -1,21 +1,20 @@
 -- What was written, some text behind some text.
-use Rattle.std.proofs.Common.{◌≡◌, ◌≤◌, ℕ, ◌^◌, ◌+◌, ◌-◌, List, [], ◌∷◌, ◌++◌, length, min, decimal, Option, Result, Ok, Err, ◌⊎◌, inl, inr, refl, sym, ap, subst, ◌∙◌, append_assoc}
-use Rattle.body_reader.specs.Between.{EachGave}
-use Rattle.body_reader.specs.BetweenLaws.{EachGave-joins, StopsFor-after}
-use Rattle.body_reader.specs.BodyReader.{NoPayload, handed_of}
-use Rattle.multipart.specs.Multipart.{FormState, codes}
+use Rattle.std.proofs.Common.{◌≡◌, ℕ, ◌^◌, ◌-◌, List, [], ◌∷◌, ◌++◌, length, min, decimal, Option, Result, Ok, Err, ◌⊎◌, inl, inr, refl, sym, ap, subst, ◌∙◌, append_assoc}
+use Rattle.redux_buffer.specs.Faults.{MetInterrupts-none}
+use Rattle.body_reader.specs.BodyReader.{handed_of}
+use Rattle.multipart.specs.Multipart.{FormState}
 use Rattle.parts.specs.declared.error.RunError.{RunError}
 use Rattle.parts.specs.declared.error.RunError.TheVariants as Run
 use Rattle.parts.proofs.Meeting.{all_met, met_on}
-use Rattle.parts.proofs.Passing.{part_on}
+use Rattle.parts.proofs.Parts.{PartsSoFar, fails_on, in_part}
 use Rattle.std.specs.declared.io.Error.{Error}
 use Rattle.buffer_redux.specs.Buffered.{Buffered}
 use Rattle.buffer_redux.specs.Policy.{std_write_rules}
 use Rattle.buffer_redux.specs.StreamLog.{StreamLog}
 use Rattle.buffer_redux.specs.WriteAll.{WritesAll}
-use Rattle.buffer_redux.specs.WritesAlongLaws.{AllAlong-after, StoppedAlong-more, WritesAll-all}
+use Rattle.buffer_redux.specs.WritesAlongLaws.{AllAlong-after, StoppedAlong-more, WritesAll-all, WritesAlong-none}
 use Rattle.buffer_redux.specs.declared.policy.StdPolicy.{StdPolicy}
-use Rattle.parts.specs.Sections.{InPart, ListAnswers, PutsBytes, TakesText, Turn, front_of, list_line, list_lines}
+use Rattle.parts.specs.Sections.{LeftText, ListAnswers, PutsBytes, TakesText, Turn, front_of, list_line, list_lines}
 
 module _ {T : Type 0} (tells : T → StreamLog) (trace : T → T → Type 0) where
   -- a write of all of a slice
@@ -24,6 +23,14 @@ module _ {T : Type 0} (tells : T → StreamLog) (trace : T → T → Type 0) whe
   puts_all u bytes answer v all = record {
     all = WritesAll-all tells trace std_write_rules u bytes answer v all refl;
     met = all_met tells trace u bytes answer v all;
+    unflushed = all.front.keeps.flushes;
+  }
+
+  pub puts_none : ((x : T) → trace x x) → (u : Buffered T StdPolicy) → PutsBytes tells trace u [] (Ok tt) u
+  puts_none none u = record {
+    all = WritesAlong-none tells trace std_write_rules none u;
+    met = MetInterrupts-none u.log.writes;
+    unflushed = refl;
   }
 
   -- and some more
@@ -33,13 +40,17 @@ module _ {T : Type 0} (tells : T → StreamLog) (trace : T → T → Type 0) whe
   puts_then joins u m v said more answer p q = record {
     all = AllAlong-after tells trace std_write_rules joins u m v said more answer p.all q.all;
     met = met_on u m v answer p.met q.met;
+    unflushed = q.unflushed ∙ p.unflushed;
   }
 
   -- or none, where that failed
   pub puts_no_more : (u v : Buffered T StdPolicy) (said more : List ℕ) (e : Error) → PutsBytes tells trace u said (Err e) v
       → PutsBytes tells trace u (said ++ more) (Err e) v
-  puts_no_more u v said more e p =
-      record { all = StoppedAlong-more tells trace std_write_rules u v said more e p.all; met = tt }
+  puts_no_more u v said more e p = record {
+    all = StoppedAlong-more tells trace std_write_rules u v said more e p.all;
+    met = tt;
+    unflushed = p.unflushed;
+  }
 
   -- and behind the front of a line its end
   pub puts_line : ((a b c : T) → trace a b → trace b c → trace a c) → (u m v : Buffered T StdPolicy) (before head text : List ℕ)
@@ -63,24 +74,20 @@ module _ {T : Type 0} (tells : T → StreamLog) (trace : T → T → Type 0) whe
 
 -- the text of a part that was just begun wasn't taken whole
 module _ {S T : Type 0} (remaining : S → Option (List ℕ)) (tells : T → StreamLog) (trace : T → T → Type 0)
-    (s m t : FormState S StdPolicy) (u v : Buffered T StdPolicy) (part : InPart s m) (gave : EachGave s.body.reader m.body.reader)
-    (fresh : handed_of m.body ≡ [])
-    (wrote : PutsBytes tells trace u (list_lines part.earlier part.turn.text ++ front_of part.turn.head) (Ok tt) v) where
+    {s m t : FormState S StdPolicy} {count : ℕ} {turn : Turn} {earlier : List Turn} {u v : Buffered T StdPolicy}
+    (so : PartsSoFar s count (turn ∷ earlier) m) (fresh : handed_of m.body ≡ [])
+    (wrote : PutsBytes tells trace u (list_lines earlier turn.text ++ front_of turn.head) (Ok tt) v) where
+  left : (e : RunError) → TakesText remaining m (Err e) t → LeftText tells trace s u e t v
+  left e takes = record {
+    part = in_part remaining so takes.took;
+    fails = fails_on remaining so takes.took fresh e takes.ends;
+    puts = subst (λ r. PutsBytes tells trace u (list_lines earlier turn.text ++ front_of turn.head) r v)
+        (sym takes.no_write) wrote;
+  }
+
   pub len_fails : (e : RunError) → TakesText remaining m (Err e) t → ListAnswers tells trace s u (Err e) t v
-  len_fails (Run.Body y) takes = (
-    part_on remaining s m t takes.payload part takes.within takes.went,
-    StopsFor-after _ _ _ s.body.reader m.body.reader t.body.reader gave y
-        (subst (λ c. NoPayload (codes c) m.body y t.body) part.inside.coding takes.answers),
-    wrote,
-  )
-  len_fails Run.Many takes = (
-    EachGave-joins s.body.reader m.body.reader t.body.reader gave takes.answers.0,
-    inl (
-      part_on remaining s m t takes.payload part takes.within takes.went,
-      subst (λ l. 2 ^ 64 ≤ length l + 1) (sym (takes.went.handed ∙ ap (λ l. l ++ takes.payload) fresh)) takes.answers.1,
-      wrote,
-    ),
-  )
-  len_fails (Run.Write e) takes = absurd takes.answers
-  len_fails (Run.Parts y) takes = absurd takes.answers
-  len_fails Run.Missing takes = absurd takes.answers
+  len_fails (Run.Body w) takes = left (Run.Body w) takes
+  len_fails Run.Many takes = inl (left Run.Many takes)
+  len_fails (Run.Write e) takes = absurd (let odd = takes.no_write in cc)
+  len_fails (Run.Parts w) takes = absurd takes.ends
+  len_fails Run.Missing takes = absurd takes.ends

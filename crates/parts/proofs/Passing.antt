@@ -5,7 +5,7 @@ use Rattle.body_reader.specs.declared.error.BodyError.TheVariants as why
 use Rattle.body_reader.specs.declared.just_or_until.JustOr.{JustOr}
 use Rattle.body_reader.specs.declared.just_or_until.JustOrUntil.{JustOrUntil}
 use Rattle.body_reader.specs.Between.{EachGave}
-use Rattle.body_reader.specs.BetweenLaws.{EachGave-joins, FaultedOnce-after, GaveNothingOnce-after, StopsFor-after}
+use Rattle.body_reader.specs.BetweenLaws.{EachGave-joins, FaultedOnce-after, GaveNothingOnce-after}
 use Rattle.body_reader.specs.BodyReader.{BodyState, BodyWent, Drains, FillsPayload, IsBodyReader, NoPayload, TookWholeBody, begun, handed_of}
 use Rattle.body_reader.specs.Coding.{Grammar, IsBody}
 use Rattle.body_reader.specs.CodingLaws.{Leads-left}
@@ -19,12 +19,7 @@ use Rattle.multipart.specs.declared.error.PartError.TheVariants as part
 use Rattle.multipart.specs.declared.reader.Limits.{Limits}
 use Rattle.multipart.specs.declared.reader.Stand.TheVariants.{Preamble, Head, Part}
 use Rattle.multipart.specs.Multipart.{hyphens, CollectsHead, EndsAtLimit, EndsHead, FormState, GoesOnFromHead, LeavesText, NextPart, NoHead, PassesText, codes, part_error, turned}
-use Rattle.buffer_redux.specs.BufWriter.{StoppedAlong, WritesAlong}
-use Rattle.buffer_redux.specs.Policy.{std_write_rules}
-use Rattle.buffer_redux.specs.StreamLog.{StreamLog}
-use Rattle.parts.specs.declared.error.RunError.{RunError}
-use Rattle.parts.specs.declared.error.RunError.TheVariants as Run
-use Rattle.parts.specs.Sections.{BehindText, GetAnswers, InHead, InNamed, InPart, InSection, InText, SaysName, LeadsIn, NextFails, NoneNamed, PassedAll, PutsPart, Turn}
+use Rattle.parts.specs.Sections.{BehindText, InHead, InSection, InText, LeadsIn, NextFails, PassedAll, Turn}
 
 -- what comes of going on behind a text
 abbrev pub ComesBehind : {S : Type 0} → JustOrUntil → JustOrUntil → Buffered S StdPolicy → List Turn → List ℕ → Limits
@@ -307,83 +302,9 @@ module _ {S : Type 0} (remaining : S → Option (List ℕ)) (texts heads : JustO
       subst (λ x. ComesBehind texts heads first turns (handed_of t.body) s.limits x t) (sym same) (text_fails e t leaves),
     )
 
-    next_comes : (answer : Result Bool PartError) (t : FormState S StdPolicy)
+    pub next_comes : (answer : Result Bool PartError) (t : FormState S StdPolicy)
         → NextPart remaining std_read_rules s.stand s answer t → NextComes answer t
     next_comes answer t next = elim is.stands [
       | inl preamble ↦ passes answer t (subst (λ x. NextPart remaining std_read_rules x s answer t) preamble next)
       | inr part ↦ passes answer t (subst (λ x. NextPart remaining std_read_rules x s answer t) part next)
     ]
-
--- from where a loop over the parts stands
-pub comes : {S : Type 0} (remaining : S → Option (List ℕ)) {texts heads : JustOrUntil} {first : Buffered S StdPolicy}
-    {turns : List Turn} {before : List ℕ} {s : FormState S StdPolicy} (is : InText texts heads first turns before s)
-    (gave : EachGave first s.body.reader) (answer : Result Bool PartError) (t : FormState S StdPolicy)
-    → NextPart remaining std_read_rules s.stand s answer t
-    → (text : List ℕ) × (TookWholeBody (codes texts) s.body → text ≡ handed_of s.body)
-    × ComesBehind texts heads first turns text s.limits answer t
-comes remaining {texts = texts} {heads = heads} {first = first} {turns = turns} {before = before} {s = s} is gave answer t next =
-    let c = next_comes remaining texts heads first turns before s is gave answer t next in
-    (c.0, λ whole. c.1 (subst (λ x. TookWholeBody (codes x) s.body) (sym is.coding) whole), c.2)
-
--- a part just begun
-abbrev pub in_part : {S : Type 0} (s m : FormState S StdPolicy) (turn : Turn) (earlier : List Turn) (before : List ℕ)
-    → InText s.body.coding s.other s.body.reader (turn ∷ earlier) before m → InPart s m
-in_part s m turn earlier before inside = record { turn = turn; earlier = earlier; before = before; inside = inside }
-
--- calls in a part stay in it
-abbrev pub part_on : {S : Type 0} (remaining : S → Option (List ℕ)) (s m t : FormState S StdPolicy) (payload : List ℕ)
-    → InPart s m → t ≡ record m { body = t.body }
-    → BodyWent remaining std_read_rules (codes m.body.coding) m.body payload t.body → InPart s t
-part_on remaining s m t payload part within went = record {
-  turn = part.turn;
-  earlier = part.earlier;
-  before = part.before;
-  inside = inside_on remaining s.body.coding s.other s.body.reader (part.turn ∷ part.earlier) part.before m t payload part.inside
-      within went;
-}
-
--- the text of a part that was just begun was written
-module _ {S T : Type 0} (remaining : S → Option (List ℕ)) (tells : T → StreamLog) (trace : T → T → Type 0)
-    (name : List ℕ) (s m t : FormState S StdPolicy) (w u v : Buffered T StdPolicy) (part : InPart s m)
-    (named : SaysName name part.turn.head) (none : NoneNamed name part.earlier) (gave : EachGave s.body.reader m.body.reader)
-    (fresh : handed_of m.body ≡ []) (still : u ≡ w) where
-  module _ (answer : Result (Unit {0}) RunError) (puts : PutsPart remaining tells trace m u answer t v) where
-    in_named : InNamed name s t
-    in_named = record { part = part_on remaining s m t puts.payload part puts.within puts.went; named = named; first = none }
-
-    all_handed : handed_of t.body ≡ puts.payload
-    all_handed = puts.went.handed ∙ ap (λ l. l ++ puts.payload) fresh
-
-  pub put_comes : (answer : Result (Unit {0}) RunError) → PutsPart remaining tells trace m u answer t v
-      → GetAnswers tells trace name s w answer t v
-  put_comes (Ok _) puts = (
-    in_named (Ok tt) puts,
-    subst (λ c. TookWholeBody (codes c) t.body) part.inside.coding puts.answers.0,
-    EachGave-joins s.body.reader m.body.reader t.body.reader gave puts.answers.1,
-    subst (λ l. WritesAlong tells trace std_write_rules w l v) (sym (all_handed (Ok tt) puts))
-        (subst (λ x. WritesAlong tells trace std_write_rules x puts.payload v) still puts.answers.2),
-  )
-  put_comes (Err (Run.Body y)) puts = (
-    in_named (Err (Run.Body y)) puts,
-    StopsFor-after _ _ _ s.body.reader m.body.reader t.body.reader gave y
-        (subst (λ c. NoPayload (codes c) m.body y t.body) part.inside.coding puts.answers.0),
-    subst (λ l. WritesAlong tells trace std_write_rules w l v) (sym (all_handed (Err (Run.Body y)) puts))
-        (subst (λ x. WritesAlong tells trace std_write_rules x puts.payload v) still puts.answers.1),
-  )
-  put_comes (Err (Run.Write e)) puts = (
-    in_named (Err (Run.Write e)) puts,
-    EachGave-joins s.body.reader m.body.reader t.body.reader gave puts.answers.0,
-    subst (λ l. StoppedAlong tells trace std_write_rules w l e v) (sym (all_handed (Err (Run.Write e)) puts))
-        (subst (λ x. StoppedAlong tells trace std_write_rules x puts.payload e v) still puts.answers.1),
-  )
-  put_comes (Err Run.Many) puts = (
-    EachGave-joins s.body.reader m.body.reader t.body.reader gave puts.answers.0,
-    inl (
-      in_named (Err Run.Many) puts,
-      omega (arith, puts.answers.1, ap length (all_handed (Err Run.Many) puts)),
-      subst (λ l. WritesAlong tells trace std_write_rules w l v) (sym (all_handed (Err Run.Many) puts))
-          (subst (λ x. WritesAlong tells trace std_write_rules x puts.payload v) still puts.answers.2),
-    ),
-  )
-  put_comes (Err (Run.Parts y)) puts = absurd puts.answers
-  put_comes (Err Run.Missing) puts = absurd puts.answers

@@ -1,5 +1,5 @@
 -- What a run does that words ask for.
-use Rattle.std.specs.Prelude.{◌≡◌, ◌<◌, ◌≤◌, ◌⊎◌, ℕ, List, [], ◌∷◌, ◌++◌, codes as text_codes, length, Option, Result, Err, OnOk, MatchResult}
+use Rattle.std.specs.Prelude.{◌≡◌, ◌<◌, ◌≤◌, ◌+◌, ◌⊎◌, ℕ, List, [], ◌∷◌, ◌++◌, codes as text_codes, length, Option, Result, Err, OnOk, MatchResult}
 use Rattle.std.specs.declared.io.Error.{Error}
 use Rattle.redux_buffer.specs.Faults.{MetInterrupts}
 use Rattle.body_reader.specs.Coding.{IsBody}
@@ -55,12 +55,13 @@ pub record GavePart (name : List ℕ) (texts heads : JustOrUntil) (payload : Lis
   pub given : read'.reads.given ≡ read.reads.given ++ (before ++ (text ++ rest))
 
 -- the payload of the first part of this name, which is what stands between the boundary in front and the one behind, was received
--- and flushed, and nothing else
+-- and flushed, and nothing else, and no write failed but that some were interrupted
 pub record GotPart (name : List ℕ) (texts heads : JustOrUntil) (read read' written written' : StreamLog) : Type 0 where
   pub payload : List ℕ
   pub gave : GavePart name texts heads payload read read'
   pub received : written'.writes.received ≡ written.writes.received ++ payload
   pub flushed : ReceivedFlushed written'
+  pub met : MetInterrupts written.writes written'.writes
 
 -- the whole body was given, to its end: these parts begin, then come the whole text of the last of them, and two hyphens; and the
 -- lines of all were received and flushed, and no write failed but that some were interrupted
@@ -104,7 +105,7 @@ module _ {S T : Type 0} (tells : T → StreamLog) (trace : T → T → Type 0)
     (Answers : FormState S StdPolicy → Buffered T StdPolicy → Result (Unit {0}) RunError → FormState S StdPolicy
     → Buffered T StdPolicy → Type 0)
     (Sent : JustOrUntil → JustOrUntil → StreamLog → StreamLog → StreamLog → StreamLog → Type 0) where
-  -- what a run did of which this comes, and that ended so: at Done so much was sent
+  -- what a run did of which this comes, and that ended so: at Done so much was sent. The writer was flushed once at most
   pub record DidSo (s : FormState S StdPolicy) (u : Buffered T StdPolicy) (ending : Ending) (read' written' : StreamLog)
       : Type 0 where
     pub answer : Result (Unit {0}) RunError
@@ -113,6 +114,7 @@ module _ {S T : Type 0} (tells : T → StreamLog) (trace : T → T → Type 0)
     pub did : Answers s u answer t v
     pub read_to : read' ≡ t.body.reader.log
     pub over : WasEnded tells trace answer v ending written'
+    pub once : written'.writes.flushes ≤ u.log.writes.flushes + 1
     pub sent : OnOk over.last (Sent s.body.coding s.other s.body.reader.log read' u.log written')
 
   -- the same of a body with this boundary from the streams on, through buffers that are empty at first

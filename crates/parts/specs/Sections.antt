@@ -4,7 +4,7 @@ use Rattle.std.specs.declared.io.Error.{Error}
 use Rattle.std.specs.declared.io.ErrorKind.TheVariants.{Other}
 use Rattle.multipart.specs.declared.error.PartError.{PartError}
 use Rattle.multipart.specs.declared.error.PartError.TheVariants as part
-use Rattle.std.specs.Prelude.{◌≡◌, ◌≢◌, ℕ, ◌^◌, ◌+◌, ◌-◌, ◌<◌, ◌≤◌, ◌⊎◌, List, [], ◌∷◌, ◌++◌, length, min, All, codes as text_codes, decimal, unwrap_or, Option, Some, Result, Ok, Err, OnOk, IsTrue}
+use Rattle.std.specs.Prelude.{◌≡◌, ◌≢◌, ℕ, ◌^◌, ◌+◌, ◌-◌, ◌<◌, ◌≤◌, ◌⊎◌, List, [], ◌∷◌, ◌++◌, length, min, All, codes as text_codes, decimal, unwrap_or, Option, Some, Result, Ok, Err, IfErr, IfOk, MatchResult, OnOk, IsTrue}
 use Rattle.std.specs.Option.{option_and_then}
 use Rattle.redux_buffer.specs.Faults.{MetInterrupts}
 use Rattle.body_reader.specs.Between.{EachGave, FaultedOnce, GaveNothingOnce}
@@ -12,7 +12,7 @@ use Rattle.body_reader.specs.BodyReader.{BodyWent, EndsEarly, IsBodyReader, NoPa
 use Rattle.body_reader.specs.Coding.{IsBody}
 use Rattle.body_reader.specs.declared.just_or_until.JustOrUntil.{JustOrUntil}
 use Rattle.buffer_redux.specs.BufReader.{ReadsInOrder}
-use Rattle.buffer_redux.specs.BufWriter.{AllAlong, StoppedAlong, WritesAlong}
+use Rattle.buffer_redux.specs.BufWriter.{AllAlong}
 use Rattle.buffer_redux.specs.Buffered.{Buffered}
 use Rattle.buffer_redux.specs.Policy.{std_read_rules, std_write_rules}
 use Rattle.buffer_redux.specs.StreamLog.{StreamLog}
@@ -138,75 +138,88 @@ pub record InNamed {S : Type 0} (name : List ℕ) (s t : FormState S StdPolicy) 
   pub named : SaysName name part.turn.head
   pub first : NoneNamed name part.earlier
 
-module _ {S T : Type 0} (remaining : S → Option (List ℕ)) (tells : T → StreamLog) (trace : T → T → Type 0) where
-  -- what comes of writing the text of a part, of which so much came: all of it was accepted, unless a write failed
-  abbrev pub PutAnswers : FormState S StdPolicy → Buffered T StdPolicy → List ℕ → Result (Unit {0}) RunError
-      → FormState S StdPolicy → Buffered T StdPolicy → Type 0
-  PutAnswers s u payload (Ok _) t v = TookWholeBody (codes s.body.coding) t.body × EachGave s.body.reader t.body.reader
-      × WritesAlong tells trace std_write_rules u payload v
-  PutAnswers s u payload (Err (Body why)) t v = NoPayload (codes s.body.coding) s.body why t.body
-      × WritesAlong tells trace std_write_rules u payload v
-  PutAnswers s u payload (Err (Write e)) t v = EachGave s.body.reader t.body.reader
-      × StoppedAlong tells trace std_write_rules u payload e v
-  PutAnswers s u payload (Err Many) t v = EachGave s.body.reader t.body.reader × (2 ^ 64 ≤ length payload + 1)
-      × WritesAlong tells trace std_write_rules u payload v
-  PutAnswers s u payload (Err (Parts why)) t v = ⊥
-  PutAnswers s u payload (Err Missing) t v = ⊥
-
-  -- the text of the part was written
-  pub record PutsPart (s : FormState S StdPolicy) (u : Buffered T StdPolicy) (answer : Result (Unit {0}) RunError)
-      (t : FormState S StdPolicy) (v : Buffered T StdPolicy) : Type 0 where
-    pub payload : List ℕ
-    pub within : t ≡ record s { body = t.body }
-    pub went : BodyWent remaining std_read_rules (codes s.body.coding) s.body payload t.body
-    pub answers : PutAnswers s u payload answer t v
-
-module _ {S T : Type 0} (tells : T → StreamLog) (trace : T → T → Type 0) where
-  -- what comes of writing the text of the first part of this name, from before the first boundary on
-  abbrev pub GetAnswers : List ℕ → FormState S StdPolicy → Buffered T StdPolicy → Result (Unit {0}) RunError
-      → FormState S StdPolicy → Buffered T StdPolicy → Type 0
-  GetAnswers name s u (Ok _) t v = InNamed name s t × TookWholeBody (codes s.body.coding) t.body
-      × EachGave s.body.reader t.body.reader × WritesAlong tells trace std_write_rules u (handed_of t.body) v
-  GetAnswers name s u (Err Missing) t v = (turns : List Turn) × (text : List ℕ)
-      × PassedAll s.body.coding s.other s.body.reader turns text t.body.reader × NoneNamed name turns × (v ≡ u)
-  GetAnswers name s u (Err (Body why)) t v = InNamed name s t × NoPayload (codes s.body.coding) s.body why t.body
-      × WritesAlong tells trace std_write_rules u (handed_of t.body) v
-  GetAnswers name s u (Err (Write e)) t v = InNamed name s t × EachGave s.body.reader t.body.reader
-      × StoppedAlong tells trace std_write_rules u (handed_of t.body) e v
-  GetAnswers name s u (Err (Parts why)) t v = (turns : List Turn) × (text : List ℕ)
-      × NextFails s.body.coding s.other s.body.reader turns text s.limits why t × NoneNamed name turns × (v ≡ u)
-  GetAnswers name s u (Err Many) t v = EachGave s.body.reader t.body.reader
-      × ((InNamed name s t × (2 ^ 64 ≤ length (handed_of t.body) + 1)
-      × WritesAlong tells trace std_write_rules u (handed_of t.body) v)
-      ⊎ ((v ≡ u) × ((turns : List Turn) × (before : List ℕ) × (2 ^ 64 ≤ length turns + 1) × NoneNamed name turns
-      × InText s.body.coding s.other s.body.reader turns before t)))
-
 module _ {T : Type 0} (tells : T → StreamLog) (trace : T → T → Type 0) where
-  -- this was accepted, and no write failed but that some were interrupted; or a beginning of it before the writer failed
+  -- this was accepted, and no write failed but that some were interrupted; or a beginning of it before the writer failed. The
+  -- writer wasn't flushed
   pub record PutsBytes (u : Buffered T StdPolicy) (said : List ℕ) (answer : Result (Unit {0}) Error) (v : Buffered T StdPolicy)
       : Type 0 where
     pub all : AllAlong tells trace std_write_rules u said answer v
     pub met : OnOk answer (MetInterrupts u.log.writes v.log.writes)
+    pub unflushed : v.log.writes.flushes ≡ u.log.writes.flushes
 
--- what comes of taking the text of a part, of which so much came: all of it, and its length, as far as a `u64` counts
-abbrev pub LenAnswers : {S : Type 0} → FormState S StdPolicy → List ℕ → Result ℕ RunError → FormState S StdPolicy → Type 0
-LenAnswers s payload (Ok len) t = TookWholeBody (codes s.body.coding) t.body × EachGave s.body.reader t.body.reader
-    × (len ≡ min (length payload) (2 ^ 64 - 1))
-LenAnswers s payload (Err (Body why)) t = NoPayload (codes s.body.coding) s.body why t.body
-LenAnswers s payload (Err Many) t = EachGave s.body.reader t.body.reader × (2 ^ 64 ≤ length payload + 1)
-LenAnswers s payload (Err (Write e)) t = ⊥
-LenAnswers s payload (Err (Parts why)) t = ⊥
-LenAnswers s payload (Err Missing) t = ⊥
+-- how the writes went before a run failed so, and before this answer
+abbrev pub written_at : RunError → Result (Unit {0}) Error
+written_at (Write e) = Err e
+written_at why = Ok tt
+
+abbrev pub written : {A : Type 0} → Result A RunError → Result (Unit {0}) Error
+written (Ok x) = Ok tt
+written (Err why) = written_at why
+
+-- why the text of a part, of which so much came, wasn't taken whole
+abbrev pub TextFails : {S : Type 0} → FormState S StdPolicy → List ℕ → RunError → FormState S StdPolicy → Type 0
+TextFails s payload (Body why) t = NoPayload (codes s.body.coding) s.body why t.body
+TextFails s payload (Write e) t = EachGave s.body.reader t.body.reader
+TextFails s payload Many t = EachGave s.body.reader t.body.reader × (2 ^ 64 ≤ length payload + 1)
+TextFails s payload (Parts why) t = ⊥
+TextFails s payload Missing t = ⊥
+
+-- at Ok it was
+abbrev pub TextEnds : {S A : Type 0} → FormState S StdPolicy → List ℕ → Result A RunError → FormState S StdPolicy → Type 0
+TextEnds s payload answer t = MatchResult answer
+    (λ _. TookWholeBody (codes s.body.coding) t.body × EachGave s.body.reader t.body.reader)
+    (λ why. TextFails s payload why t)
 
 module _ {S : Type 0} (remaining : S → Option (List ℕ)) where
-  -- the text of the part was taken
-  pub record TakesText (s : FormState S StdPolicy) (answer : Result ℕ RunError) (t : FormState S StdPolicy) : Type 0 where
-    pub payload : List ℕ
+  -- so much of the text of the part was taken
+  pub record TookText (s : FormState S StdPolicy) (payload : List ℕ) (t : FormState S StdPolicy) : Type 0 where
     pub within : t ≡ record s { body = t.body }
     pub went : BodyWent remaining std_read_rules (codes s.body.coding) s.body payload t.body
-    pub answers : LenAnswers s payload answer t
+
+  -- the text of the part was taken: its length is this, as far as a `u64` counts
+  pub record TakesText (s : FormState S StdPolicy) (answer : Result ℕ RunError) (t : FormState S StdPolicy) : Type 0 where
+    pub payload : List ℕ
+    pub took : TookText s payload t
+    pub ends : TextEnds s payload answer t
+    pub len : IfOk answer (λ len. len ≡ min (length payload) (2 ^ 64 - 1))
+    pub no_write : IfErr answer (λ why. written_at why ≡ Ok tt)
+
+  module _ {T : Type 0} (tells : T → StreamLog) (trace : T → T → Type 0) where
+    -- the text of the part was written: all that came of it was accepted, unless a write failed
+    pub record PutsPart (s : FormState S StdPolicy) (u : Buffered T StdPolicy) (answer : Result (Unit {0}) RunError)
+        (t : FormState S StdPolicy) (v : Buffered T StdPolicy) : Type 0 where
+      pub payload : List ℕ
+      pub took : TookText s payload t
+      pub ends : TextEnds s payload answer t
+      pub puts : PutsBytes tells trace u payload (written answer) v
 
 module _ {S T : Type 0} (tells : T → StreamLog) (trace : T → T → Type 0) where
+  -- the text of the first part of this name was written
+  pub record WroteNamed (name : List ℕ) (s : FormState S StdPolicy) (u : Buffered T StdPolicy)
+      (answer : Result (Unit {0}) RunError) (t : FormState S StdPolicy) (v : Buffered T StdPolicy) : Type 0 where
+    pub named : InNamed name s t
+    pub ends : TextEnds s (handed_of t.body) answer t
+    pub puts : PutsBytes tells trace u (handed_of t.body) (written answer) v
+
+  -- what comes of writing the text of the first part of this name, from before the first boundary on
+  abbrev pub GetAnswers : List ℕ → FormState S StdPolicy → Buffered T StdPolicy → Result (Unit {0}) RunError
+      → FormState S StdPolicy → Buffered T StdPolicy → Type 0
+  GetAnswers name s u (Err Missing) t v = (turns : List Turn) × (text : List ℕ)
+      × PassedAll s.body.coding s.other s.body.reader turns text t.body.reader × NoneNamed name turns × (v ≡ u)
+  GetAnswers name s u (Err (Parts why)) t v = (turns : List Turn) × (text : List ℕ)
+      × NextFails s.body.coding s.other s.body.reader turns text s.limits why t × NoneNamed name turns × (v ≡ u)
+  GetAnswers name s u (Err Many) t v = WroteNamed name s u (Err Many) t v
+      ⊎ ((turns : List Turn) × (before : List ℕ) × (2 ^ 64 ≤ length turns + 1) × NoneNamed name turns
+      × InText s.body.coding s.other s.body.reader turns before t × EachGave s.body.reader t.body.reader × (v ≡ u))
+  GetAnswers name s u answer t v = WroteNamed name s u answer t v
+
+  -- the text of a part wasn't taken, or not whole: the lines of the parts before it were written, and the front of its own
+  pub record LeftText (s : FormState S StdPolicy) (u : Buffered T StdPolicy) (e : RunError) (t : FormState S StdPolicy)
+      (v : Buffered T StdPolicy) : Type 0 where
+    pub part : InPart s t
+    pub fails : TextFails s (handed_of t.body) e t
+    pub puts : PutsBytes tells trace u (list_lines part.earlier part.turn.text ++ front_of part.turn.head) (written_at e) v
+
   -- what comes of listing the parts, from before the first boundary on: the lines of all parts that were passed, and of one that
   -- wasn't the front
   abbrev pub ListAnswers : FormState S StdPolicy → Buffered T StdPolicy → Result (Unit {0}) RunError
@@ -217,16 +230,12 @@ module _ {S T : Type 0} (tells : T → StreamLog) (trace : T → T → Type 0) w
   ListAnswers s u (Err (Parts why)) t v = (turns : List Turn) × (text : List ℕ)
       × NextFails s.body.coding s.other s.body.reader turns text s.limits why t
       × PutsBytes tells trace u (list_lines turns text) (Ok tt) v
-  ListAnswers s u (Err (Body why)) t v = (in_part : InPart s t) × NoPayload (codes s.body.coding) s.body why t.body
-      × PutsBytes tells trace u (list_lines in_part.earlier in_part.turn.text ++ front_of in_part.turn.head) (Ok tt) v
-  ListAnswers s u (Err (Write e)) t v = (in_part : InPart s t) × EachGave s.body.reader t.body.reader
-      × (PutsBytes tells trace u (list_lines in_part.earlier in_part.turn.text ++ front_of in_part.turn.head) (Err e) v
-      ⊎ (TookWholeBody (codes s.body.coding) t.body
-      × PutsBytes tells trace u (list_lines (in_part.turn ∷ in_part.earlier) (handed_of t.body)) (Err e) v))
-  ListAnswers s u (Err Many) t v = EachGave s.body.reader t.body.reader
-      × (((in_part : InPart s t) × (2 ^ 64 ≤ length (handed_of t.body) + 1)
-      × PutsBytes tells trace u (list_lines in_part.earlier in_part.turn.text ++ front_of in_part.turn.head) (Ok tt) v)
+  ListAnswers s u (Err (Body why)) t v = LeftText s u (Body why) t v
+  ListAnswers s u (Err (Write e)) t v = LeftText s u (Write e) t v
+      ⊎ ((in_part : InPart s t) × TookWholeBody (codes s.body.coding) t.body × EachGave s.body.reader t.body.reader
+      × PutsBytes tells trace u (list_lines (in_part.turn ∷ in_part.earlier) (handed_of t.body)) (Err e) v)
+  ListAnswers s u (Err Many) t v = LeftText s u Many t v
       ⊎ ((turns : List Turn) × (before : List ℕ) × (2 ^ 64 ≤ length turns + 1)
-      × InText s.body.coding s.other s.body.reader turns before t
-      × PutsBytes tells trace u (list_lines turns (handed_of t.body)) (Ok tt) v))
+      × InText s.body.coding s.other s.body.reader turns before t × EachGave s.body.reader t.body.reader
+      × PutsBytes tells trace u (list_lines turns (handed_of t.body)) (Ok tt) v)
   ListAnswers s u (Err Missing) t v = ⊥

@@ -1,19 +1,12 @@
-use Rattle.std.proofs.Common.{◌≡◌, ◌≤◌, ℕ, List, length}
-use Rattle.body_reader.specs.Between.{EachGave}
-use Rattle.body_reader.specs.BodyReader.{BodyWent}
-use Rattle.buffer_redux.specs.BufWriter.{WritesAlong}
-use Rattle.buffer_redux.specs.Policy.{std_read_rules, std_write_rules}
-use Rattle.multipart.specs.Multipart.{codes}
+use Rattle.std.proofs.Common.{List, Ok, ℕ}
+use Rattle.parts.specs.Sections.{PutsBytes}
+use Rattle.parts.proofs.Putting.{TextSoFar}
 use Rattle.parts.proofs.get.put_text.Given as goal
 
--- what came of the text was accepted, a byte a piece at least
+-- what came of the text was accepted
 abbrev pub invariant-loop-piece : goal.invariant-loop-piece
 invariant-loop-piece g l = record {
   payload : List ℕ;
-  within : l.parts ≡ record l.initial.parts { body = l.parts.body };
-  went : BodyWent g.R.TellRead.remaining std_read_rules (codes l.initial.parts.body.coding) l.initial.parts.body payload
-      l.parts.body;
-  gave : EachGave l.initial.parts.body.reader l.parts.body.reader;
-  along : WritesAlong g.W.Tell.log g.W.TellWrite.trace std_write_rules l.initial.target payload l.target;
-  pieces : l._piece ≤ length payload;
+  so : TextSoFar g.R.TellRead.remaining l.initial.parts l._piece payload l.parts;
+  puts : PutsBytes g.W.Tell.log g.W.TellWrite.trace l.initial.target payload (Ok tt) l.target;
 }
