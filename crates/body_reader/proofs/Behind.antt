@@ -35,8 +35,8 @@ module _ {S Q C P W A : Type 0} (remaining : S → Option (List ℕ)) (rules : R
     ahead = one_ahead remaining rules r answer r' (omega (arith, is.room, lawful.some)) ahead'
 
     takes : TakesBytes remaining rules g r p [] [] r' p
-    takes = TakesBytes-still remaining rules g r p r' is.place ahead.along
-        (ReadsAhead-keeps remaining rules 1 r answer r' ahead g.ahead lawful.some)
+    takes = TakesBytes-still is.place ahead.along
+        (ReadsAhead-keeps ahead lawful.some)
 
     behind_is : IsBodyReader g (seen r' c p calls k)
     behind_is =
@@ -53,7 +53,7 @@ module _ {S Q C P W A : Type 0} (remaining : S → Option (List ℕ)) (rules : R
     asked : AskedWhere (λ bytes. bytes ≡ []) (unbuffered r) (unbuffered r')
     asked = AskedWhere-of (λ bytes. length bytes < 1) (λ bytes. bytes ≡ []) (unbuffered r) (unbuffered r')
         (λ more few. nil_from_length (r.block.bytes ++ more) (omega (arith, few)))
-        (ReadsAhead-asked remaining rules 1 r answer r' ahead)
+        (ReadsAhead-asked ahead)
 
   pub looks_failed : (e : Error) → ReadsAhead {A = A} remaining rules (min 1 r.block.capacity) r (Err e) r'
       → LooksBehind remaining rules g (seen r c p calls k) (Err e) (seen r' c p calls k)
@@ -61,7 +61,7 @@ module _ {S Q C P W A : Type 0} (remaining : S → Option (List ℕ)) (rules : R
     went = went (Err e) ahead';
     answers = (
       nil_from_length r'.block.bytes (omega (arith, (ahead (Err e) ahead').ended.0)),
-      ReadsAhead-failed {A = A} remaining rules 1 r r' e (ahead (Err e) ahead'),
+      ReadsAhead-failed (ahead (Err e) ahead'),
     );
     asked = asked (Err e) ahead';
     still = refl;
@@ -84,7 +84,7 @@ module _ {S Q C P W A : Type 0} (remaining : S → Option (List ℕ)) (rules : R
         went = went (Ok a) ahead';
         answers = (
           nil_from_length r'.block.bytes (omega (arith, few)),
-          ReadsAhead-ended remaining rules 1 r r' a (ahead (Ok a) ahead') few,
+          ReadsAhead-ended (ahead (Ok a) ahead') few,
         );
         asked = asked (Ok a) ahead';
         still = refl;
@@ -99,7 +99,7 @@ module _ {S Q C P W A : Type 0} (remaining : S → Option (List ℕ)) (rules : R
       ) in
       record {
         went = went (Ok a) ahead';
-        answers = (omega (arith, more), ReadsAhead-gave remaining rules 1 r r' a (ahead (Ok a) ahead') more);
+        answers = (omega (arith, more), ReadsAhead-gave (ahead (Ok a) ahead') more);
         asked = asked (Ok a) ahead';
         still = refl;
         whole = behind_is (Ok a) ahead';

@@ -90,7 +90,7 @@ module _ {S Q P W : Type 0} (remaining : S → Option (List ℕ)) (rules : ReadR
   show_held slice s p place sure looks held n is =
       let carries = looks.0 in
       let some : 0 < n = omega (arith, is, held, carries.some) in (
-        Way-none remaining rules g slice s p place,
+        Way-none place,
         (
           EachGave-none s,
           (
@@ -116,7 +116,7 @@ module _ {S Q P W : Type 0} (remaining : S → Option (List ℕ)) (rules : ReadR
       still : TakesBytes remaining rules g s p [] [] t p
       still =
           let once = reads.read.read room in
-          TakesBytes-still remaining rules g s p t place (record {
+          TakesBytes-still place (record {
             in_order = order;
             known = reads.known;
             grows = reads.grows;

@@ -151,7 +151,7 @@ module _ {S Q P W : Type 0} (remaining : S → Option (List ℕ)) (rules : ReadR
           tells = record {
             front = s;
             place = p.place;
-            passes = Passes-none remaining rules g s p.place;
+            passes = Passes-none;
             once = inr (
               omega (arith, is, some, room, long),
               inl (subst (λ j. ReaderConsumes rules j s t) (sym long) taken.consumed),
@@ -194,7 +194,7 @@ module _ {S Q P W : Type 0} (remaining : S → Option (List ℕ)) (rules : ReadR
       → HandsOn remaining rules g known s p out (Ok 0) s p known
   hands_nothing known s p out place none = (
     (
-      Way-none remaining rules g (length out) s p place,
+      Way-none place,
       (
         EachGave-none s,
         (
@@ -231,7 +231,7 @@ module _ {S Q P W : Type 0} (remaining : S → Option (List ℕ)) (rules : ReadR
         → (t : Buffered S Q) (r : Progress P) → HandsOn remaining rules g known m q out answer t r after
         → HandsOn remaining rules g known s p out answer t r after
     hands_after way gave answer t r hands = (
-      Proceeds-after remaining rules g (length out) s p m q t way gave (handed_out out answer) answer (Handed p t r) r
+      Proceeds-after way gave answer (Handed p t r)
           (Proceeds-of remaining rules g (length out) m q (handed_out out answer) answer (Handed q t r) (Handed p t r) t r
           (λ n means. (
             means.0,
@@ -247,7 +247,7 @@ module _ {S Q P W : Type 0} (remaining : S → Option (List ℕ)) (rules : ReadR
         → (t : Buffered S Q) (r : Progress P) → HandsOn remaining rules g known m q out answer t r after
         → HandsOn remaining rules g known s p out answer t r after
     hands_passed l passes =
-        hands_after (PassesOn-way remaining rules g (length out) s p l m q passes) (EachGave-same s m passes.told)
+        hands_after (PassesOn-way passes) (EachGave-same s m passes.told)
 
     pub hands_ended : after ≡ 0 → SkipsOn remaining rules g (length out) s p (Ok 0) m q
         → HandsOn remaining rules g known s p out (Ok 0) m q after

@@ -37,8 +37,8 @@ module _ {S Q P W : Type 0} (remaining : S → Option (List ℕ)) (rules : ReadR
         takes = takes;
         asked = once_asks answer told;
         through = inl through;
-        tells = Tells-none remaining rules g s p.place t p.place
-            (Passes-once remaining rules g s p.place t p.place (inr (takes.along, policy, refl)));
+        tells = Tells-none
+            (Passes-once (inr (takes.along, policy, refl)));
         idle = λ done. absurd (goes_on done);
       }
 

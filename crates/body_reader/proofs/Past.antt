@@ -12,7 +12,7 @@ use Rattle.buffer_redux.specs.StreamLog.{after_read}
 use Rattle.body_reader.specs.declared.error.BodyError.TheVariants.{Truncated, Io}
 use Rattle.body_reader.specs.declared.progress.Progress.{Progress}
 use Rattle.body_reader.specs.Between.{HandsOn, KeepsBuffer, TakesBytes}
-use Rattle.body_reader.specs.BetweenLaws.{EachGave-once, Passes-none, TakesBytes-none}
+use Rattle.body_reader.specs.BetweenLaws.{EachGave-once, Passes-none}
 use Rattle.body_reader.specs.Coding.{Carries, Grammar, IsLawful, Leads, heeded}
 use Rattle.body_reader.specs.CodingLaws.{Leads-none}
 use Rattle.body_reader.proofs.Once.{once_asks, once_dry, once_fails}
@@ -67,8 +67,7 @@ module _ {S Q P W : Type 0} (remaining : S → Option (List ℕ)) (rules : ReadR
       still : t.block ≡ s.block → ReadsInOrder s [] t → TakesBytes remaining rules g s p [] [] t p
       still same order = record {
         along = ReaderKeeps-along remaining rules s [] t order keeps;
-        leads = subst (Leads g p.place [] [] p.place) (ap (λ b. heeded g b.bytes) (sym same))
-            (TakesBytes-none remaining rules g s p place).leads;
+        leads = Leads-none g p.place (heeded g t.block.bytes);
         taken = sym (append-nil p.taken.log.fills.consumed);
         place = place;
         keeps = buffer_kept same;
@@ -125,7 +124,7 @@ module _ {S Q P W : Type 0} (remaining : S → Option (List ℕ)) (rules : ReadR
                 tells = record {
                   front = s;
                   place = p.place;
-                  passes = Passes-none remaining rules g s p.place;
+                  passes = Passes-none;
                   once = inr (
                     omega (arith, given, ap length same, length-take-le n lent within),
                     inr (direct.block, direct.policy),

@@ -230,7 +230,7 @@ module _ {S Q C P W : Type 0} (remaining : S → Option (List ℕ)) (rules : Rea
     answers = fill_answers answer fills.1 count;
     all = fill_all answer fills.1;
     asked = AsksWithRoom-open remaining rules g 0 r p.place r' fills.0.asked;
-    passes = Tells-passes remaining rules g r p.place r' q.place fills.0.tells;
+    passes = Tells-passes fills.0.tells;
     still = fill_still;
     noted = refl;
     whole = there_is;
@@ -244,7 +244,7 @@ fill_known remaining rules g d is some = record {
   answers = (refl, EachGave-none d.reader, λ none. absurd (omega (arith, some, none)));
   all = λ _ none. absurd (omega (arith, some, none));
   asked = inl refl;
-  passes = Passes-none remaining rules g d.reader d.place;
+  passes = Passes-none;
   still = λ _. refl;
   noted = refl;
   whole = is;

@@ -33,9 +33,9 @@ module _ {S Q P W : Type 0} (remaining : S → Option (List ℕ)) (rules : ReadR
       → FindsKnown remaining rules g s p k s p k
   known_found s p k place known some = record {
     wire = [];
-    takes = TakesBytes-none remaining rules g s p place;
+    takes = TakesBytes-none place;
     told = refl;
-    passes = Passes-none remaining rules g s p.place;
+    passes = Passes-none;
     known = known;
     kept = λ _. (refl, refl);
     idle = λ _. (refl, refl, refl);
@@ -110,7 +110,7 @@ module _ {S Q P W : Type 0} (remaining : S → Option (List ℕ)) (rules : ReadR
       → IsKnown g p.place k s.block.bytes → Shown s p k out 0 s p k
   shown_none s p out k place known = record {
     wire = [];
-    takes = TakesBytes-none remaining rules g s p place;
+    takes = TakesBytes-none place;
     told = refl;
     pieces = (zero, (refl, refl, refl, refl));
     within = omega arith;
@@ -137,7 +137,7 @@ module _ {S Q P W : Type 0} (remaining : S → Option (List ℕ)) (rules : ReadR
             last = m;
             place = q.place;
             pieces = so.pieces.1;
-            passes = Passes-none remaining rules g m q.place;
+            passes = Passes-none;
           };
           within = so.within;
           known = so.known;
@@ -158,7 +158,7 @@ module _ {S Q P W : Type 0} (remaining : S → Option (List ℕ)) (rules : ReadR
 
       found_on : TakesBytes remaining rules g s p (so.wire ++ finds.wire) (take handed out) f r
       found_on = subst (λ l. TakesBytes remaining rules g s p (so.wire ++ finds.wire) l f r) (append-nil (take handed out))
-          (TakesBytes-joins remaining rules g s p m q f r so.wire (take handed out) finds.wire [] so.takes finds.takes)
+          (TakesBytes-joins so.takes finds.takes)
 
       pub none_shown : k' ≡ 0 → HandsShown remaining rules g s p before out handed f r k'
       none_shown none = record {
@@ -250,8 +250,7 @@ module _ {S Q P W : Type 0} (remaining : S → Option (List ℕ)) (rules : ReadR
             wire = (so.wire ++ finds.wire) ++ take n f.block.bytes;
             takes = subst (λ l. TakesBytes remaining rules g s p ((so.wire ++ finds.wire) ++ take n f.block.bytes) l t u)
                 (sym joined)
-                (TakesBytes-joins remaining rules g s p f r t u (so.wire ++ finds.wire) (take handed out) (take n f.block.bytes)
-                (take n f.block.bytes) found_on front.takes);
+                (TakesBytes-joins found_on front.takes);
             told = front.consumed.told ∙ finds.told ∙ so.told;
             pieces = (
               suc so.pieces.0,

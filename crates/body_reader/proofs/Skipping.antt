@@ -104,10 +104,10 @@ module _ {S Q P W : Type 0} (remaining : S → Option (List ℕ)) (rules : ReadR
   pub passed_none : (s : Buffered S Q) (p : Progress P) → g.is_place p.place → Passed remaining rules g s p s p
   passed_none s p place = record {
     wire = [];
-    takes = TakesBytes-none remaining rules g s p place;
+    takes = TakesBytes-none place;
     told = refl;
     through = omega arith;
-    passes = Passes-none remaining rules g s p.place;
+    passes = Passes-none;
     spends = omega arith;
     idle = λ _. (refl, refl);
   }
@@ -122,7 +122,7 @@ module _ {S Q P W : Type 0} (remaining : S → Option (List ℕ)) (rules : ReadR
           let front = takes_front remaining rules g n m q t q' [] looks.1 inner gone kept next notes looks.2.leads looks.3 in
           record {
             wire = so.wire ++ take n m.block.bytes;
-            takes = TakesBytes-joins remaining rules g s p m q t q' so.wire [] (take n m.block.bytes) [] so.takes front;
+            takes = TakesBytes-joins so.takes front;
             told = gone.told ∙ so.told;
             through = omega (
               arith,
@@ -130,9 +130,9 @@ module _ {S Q P W : Type 0} (remaining : S → Option (List ℕ)) (rules : ReadR
               consumes_through rules n m t looks.1 gone,
               length-append so.wire (take n m.block.bytes),
             );
-            passes = Passes-joins remaining rules g s p.place m q.place t q'.place so.passes
+            passes = Passes-joins so.passes
                 (subst (Passes remaining rules g m q.place t) (sym notes.place)
-                (Passes-once remaining rules g m q.place t next (inl (n, looks, gone))));
+                (Passes-once (inl (n, looks, gone))));
             spends = omega (
               arith,
               so.spends,
@@ -149,15 +149,15 @@ module _ {S Q P W : Type 0} (remaining : S → Option (List ℕ)) (rules : ReadR
   pub skipped_none : (s : Buffered S Q) (p : Progress P) → g.is_place p.place → g.ahead ≤ s.block.capacity
       → Skipped remaining rules g s p s p
   skipped_none s p place room =
-      record { way = λ slice. Way-none remaining rules g slice s p place; gave = EachGave-none s; room = room }
+      record { way = λ slice. Way-none place; gave = EachGave-none s; room = room }
 
   module _ (s : Buffered S Q) (p : Progress P) (m : Buffered S Q) (q : Progress P) (so : Skipped remaining rules g s p m q)
       (l : Look P W) (t : Buffered S Q) (r : Progress P) (passes : PassesOn remaining rules g m q l t r) where
     -- all that is buffered was passed
     skipped_there : Skipped remaining rules g s p t r
     skipped_there = record {
-      way = λ slice. Way-joins remaining rules g slice s p m q t (so.way slice) so.gave [] r
-          (PassesOn-way remaining rules g slice m q l t r passes);
+      way = λ slice. Way-joins (so.way slice) so.gave
+          (PassesOn-way passes);
       gave = EachGave-joins s m t so.gave (EachGave-same m t passes.told);
       room = omega (arith, so.room, passes.takes.along.capacity);
     }
@@ -195,15 +195,15 @@ module _ {S Q P W : Type 0} (remaining : S → Option (List ℕ)) (rules : ReadR
       ahead = subst (λ k. ReadsAhead remaining rules k t answer u) fits ahead'
 
       way_ahead : (slice : ℕ) → Way remaining rules g slice s p [] u r
-      way_ahead slice = Way-joins remaining rules g slice s p t r u (skipped_there.way slice) skipped_there.gave [] r (record {
+      way_ahead slice = Way-joins (skipped_there.way slice) skipped_there.gave (record {
         wire = [];
-        takes = TakesBytes-still remaining rules g t r u passes.takes.place ahead.along
-            (ReadsAhead-keeps remaining rules n t answer u ahead g.ahead lacks.most);
+        takes = TakesBytes-still passes.takes.place ahead.along
+            (ReadsAhead-keeps ahead lacks.most);
         asked = AsksWithRoom-here remaining rules g slice t r.place u passes.takes.place (omega (arith, looks.1))
-            (ReadsAhead-asks remaining rules g r.place n t answer u lacks ahead);
+            (ReadsAhead-asks lacks ahead);
         through = inl (omega (arith, ahead.consumed));
-        tells = Tells-none remaining rules g t r.place u r.place
-            (Passes-once remaining rules g t r.place u r.place (inr (ahead.along, ahead.policy, refl)));
+        tells = Tells-none
+            (Passes-once (inr (ahead.along, ahead.policy, refl)));
         idle = λ done. absurd (IsOpen-goes_on g r.place t.block.bytes (IsOpenBelow-open g r.place n t.block.bytes lacks) done);
       })
 
@@ -214,8 +214,8 @@ module _ {S Q P W : Type 0} (remaining : S → Option (List ℕ)) (rules : ReadR
           let a = ahead n is (Err e) u ahead' in (
             way_ahead n is (Err e) u ahead' slice,
             (
-              FaultedOnce-after s t u skipped_there.gave e (ReadsAhead-failed {A = A} remaining rules n t u e a),
-              ReadsAhead-open remaining rules g r.place n t (Err e) u (lacks n is (Err e) u ahead') a a.ended.0,
+              FaultedOnce-after s t u skipped_there.gave e (ReadsAhead-failed a),
+              ReadsAhead-open (lacks n is (Err e) u ahead') a a.ended.0,
             ),
           )
 
@@ -226,8 +226,8 @@ module _ {S Q P W : Type 0} (remaining : S → Option (List ℕ)) (rules : ReadR
             way_ahead n is (Ok a) u ahead' slice,
             (
               refl,
-              GaveNothingOnce-after s t u skipped_there.gave (ReadsAhead-ended remaining rules n t u a so' few),
-              ReadsAhead-open remaining rules g r.place n t (Ok a) u (lacks n is (Ok a) u ahead') so' few,
+              GaveNothingOnce-after s t u skipped_there.gave (ReadsAhead-ended so' few),
+              ReadsAhead-open (lacks n is (Ok a) u ahead') so' few,
             ),
           )
 
@@ -236,7 +236,7 @@ module _ {S Q P W : Type 0} (remaining : S → Option (List ℕ)) (rules : ReadR
       skipped_more a ahead' enough = record {
         way = way_ahead n is (Ok a) u ahead';
         gave = EachGave-joins s t u skipped_there.gave
-            (ReadsAhead-gave remaining rules n t u a (ahead n is (Ok a) u ahead') enough);
+            (ReadsAhead-gave (ahead n is (Ok a) u ahead') enough);
         room = omega (arith, skipped_there.room, ahead'.capacity);
       }
 

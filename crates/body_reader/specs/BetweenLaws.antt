@@ -124,10 +124,10 @@ unasked remaining rules n s (Err e) t ahead same = absurd (omega (
 ))
 
 -- reading ahead
-module _ {S Q A : Type 0} (remaining : S → Option (List ℕ)) (rules : ReadRules Q) (n : ℕ) (s : Buffered S Q)
-    (answer : Result A Error) (t : Buffered S Q) (ahead : ReadsAhead remaining rules n s answer t) where
-  pub ReadsAhead-keeps : (least : ℕ) → n ≤ least → KeepsBuffer rules least s t
-  ReadsAhead-keeps least few = record {
+module _ {S Q A : Type 0} {remaining : S → Option (List ℕ)} {rules : ReadRules Q} {n : ℕ} {s : Buffered S Q}
+    {answer : Result A Error} {t : Buffered S Q} (ahead : ReadsAhead remaining rules n s answer t) where
+  pub ReadsAhead-keeps : {least : ℕ} → n ≤ least → KeepsBuffer rules least s t
+  ReadsAhead-keeps few = record {
     kind = ahead.kind;
     room = λ _. (ahead.capacity, ahead.limit);
     still = λ _ same. elim ahead.asked [
@@ -158,9 +158,9 @@ module _ {S Q A : Type 0} (remaining : S → Option (List ℕ)) (rules : ReadRul
   ]
 
 -- where that gave enough, or met the end of the stream, or failed
-module _ {S Q A : Type 0} (remaining : S → Option (List ℕ)) (rules : ReadRules Q) (n : ℕ) (s t : Buffered S Q) where
-  pub ReadsAhead-gave : (a : A) → ReadsAhead remaining rules n s (Ok a) t → n ≤ length t.block.bytes → EachGave s t
-  ReadsAhead-gave a ahead enough = elim ahead.ended [
+module _ {S Q A : Type 0} {remaining : S → Option (List ℕ)} {rules : ReadRules Q} {n : ℕ} {s t : Buffered S Q} where
+  pub ReadsAhead-gave : {a : A} → ReadsAhead remaining rules n s (Ok a) t → n ≤ length t.block.bytes → EachGave s t
+  ReadsAhead-gave ahead enough = elim ahead.ended [
     | inl some ↦ record { faults = ahead.caused; zero_reads = some.1; asks = each ahead.asked }
     | inr few ↦ absurd (omega (arith, few.0, enough))
   ]
@@ -181,22 +181,22 @@ module _ {S Q A : Type 0} (remaining : S → Option (List ℕ)) (rules : ReadRul
         length-append over.came t.log.reads.latest,
       )
 
-  pub ReadsAhead-ended : (a : A) → ReadsAhead remaining rules n s (Ok a) t → length t.block.bytes < n → GaveNothingOnce s t
-  ReadsAhead-ended a ahead few = elim ahead.ended [
+  pub ReadsAhead-ended : {a : A} → ReadsAhead remaining rules n s (Ok a) t → length t.block.bytes < n → GaveNothingOnce s t
+  ReadsAhead-ended ahead few = elim ahead.ended [
     | inl some ↦ absurd (omega (arith, some.0, few))
     | inr less ↦ (ahead.caused, less.1)
   ]
 
-  pub ReadsAhead-failed : (e : Error) → ReadsAhead {A = A} remaining rules n s (Err e) t → FaultedOnce s e t
-  ReadsAhead-failed e ahead = (ahead.caused, ahead.ended.1)
+  pub ReadsAhead-failed : {e : Error} → ReadsAhead {A = A} remaining rules n s (Err e) t → FaultedOnce s e t
+  ReadsAhead-failed ahead = (ahead.caused, ahead.ended.1)
 
 -- where fewer settle nothing
-module _ {S Q A P W : Type 0} (remaining : S → Option (List ℕ)) (rules : ReadRules Q) (g : Grammar P W) (p : P) (n : ℕ)
-    (s : Buffered S Q) (answer : Result A Error) (t : Buffered S Q) (lacks : IsOpenBelow g p n s.block.bytes)
+module _ {S Q A P W : Type 0} {remaining : S → Option (List ℕ)} {rules : ReadRules Q} {g : Grammar P W} {p : P} {n : ℕ}
+    {s : Buffered S Q} {answer : Result A Error} {t : Buffered S Q} (lacks : IsOpenBelow g p n s.block.bytes)
     (ahead : ReadsAhead remaining rules n s answer t) where
   pub ReadsAhead-asks : AskedWhere (IsOpen g p) (unbuffered s) (unbuffered t)
   ReadsAhead-asks = AskedWhere-of (λ bytes. length bytes < n) (IsOpen g p) (unbuffered s) (unbuffered t) lacks.is_open
-      (ReadsAhead-asked remaining rules n s answer t ahead)
+      (ReadsAhead-asked ahead)
 
   pub ReadsAhead-open : length t.block.bytes < n → IsOpen g p t.block.bytes
   ReadsAhead-open few =
@@ -204,70 +204,6 @@ module _ {S Q A P W : Type 0} (remaining : S → Option (List ℕ)) (rules : Rea
       subst (IsOpen g p) equal (lacks.is_open ahead.along.in_order.got (omega (arith, few, ap length equal)))
 
 module _ {S Q P W : Type 0} (remaining : S → Option (List ℕ)) (rules : ReadRules Q) (g : Grammar P W) where
-  -- calls of the buffered reader that hand out nothing take nothing
-  pub TakesBytes-still : (s : Buffered S Q) (p : Progress P) (t : Buffered S Q) → g.is_place p.place
-      → ReadsAlong remaining rules s [] t → KeepsBuffer rules g.ahead s t → TakesBytes remaining rules g s p [] [] t p
-  TakesBytes-still s p t place still keeps = record {
-    along = still;
-    leads = Leads-none g p.place (heeded g t.block.bytes);
-    taken = sym (append-nil p.taken.log.fills.consumed);
-    place = place;
-    keeps = keeps;
-  }
-
-  -- no call takes nothing, and two traces of calls join
-  pub TakesBytes-none : (s : Buffered S Q) (p : Progress P) → g.is_place p.place → TakesBytes remaining rules g s p [] [] s p
-  TakesBytes-none s p place = TakesBytes-still s p s place (ReadsAlong-none remaining rules s) (KeepsBuffer-none rules g.ahead s)
-
-  pub TakesBytes-joins : (s : Buffered S Q) (p : Progress P) (m : Buffered S Q) (q : Progress P) (t : Buffered S Q)
-      (r : Progress P)
-      (a h b k : List ℕ) → TakesBytes remaining rules g s p a h m q → TakesBytes remaining rules g m q b k t r
-      → TakesBytes remaining rules g s p (a ++ b) (h ++ k) t r
-  TakesBytes-joins s p m q t r a h b k x y = record {
-    along = ReadsAlong-joins remaining rules s m t a b x.along y.along;
-    leads = Leads-then g p.place q.place r.place a b h k m.block.bytes y.along.in_order.got t.block.bytes
-        y.along.in_order.equal x.leads y.leads;
-    taken = y.taken ∙ ap (λ l. l ++ b) x.taken ∙ append_assoc p.taken.log.fills.consumed a b;
-    place = y.place;
-    keeps = KeepsBuffer-joins rules g.ahead s m t a b x.along y.along x.keeps y.keeps;
-  }
-
-  -- passes of nothing, of one turn, and one after another
-  pub Passes-none : (s : Buffered S Q) (p : P) → Passes remaining rules g s p s p
-  Passes-none s p = (zero, (refl, refl))
-
-  pub Passes-once : (s : Buffered S Q) (p : P) (t : Buffered S Q) (q : P) → PassesOnce remaining rules g s p t q
-      → Passes remaining rules g s p t q
-  Passes-once s p t q once = (suc zero, (t, q, once, (refl, refl)))
-
-  pub Passes-joins : (s : Buffered S Q) (p : P) (m : Buffered S Q) (r : P) (t : Buffered S Q) (q : P)
-      → Passes remaining rules g s p m r → Passes remaining rules g m r t q → Passes remaining rules g s p t q
-  Passes-joins s p m r t q first then = from first.0 s p first.1
-    where
-      from : (count : ℕ) (s : Buffered S Q) (p : P) → PassesMany remaining rules g count s p m r
-          → Passes remaining rules g s p t q
-      from zero s p same = subst (λ x. Passes remaining rules g x p t q) same.0
-          (subst (λ x. Passes remaining rules g m x t q) same.1 then)
-      from (suc count) s p (s', p', once, rest) = let on = from count s' p' rest in (suc on.0, (s', p', once, on.1))
-
-  -- and then no payload was handed out
-  pub Tells-none : (s : Buffered S Q) (p : P) (t : Buffered S Q) (q : P) → Passes remaining rules g s p t q
-      → Tells remaining rules g s p 0 t q
-  Tells-none s p t q passes = record { front = t; place = q; passes = passes; once = inl (refl, refl, refl) }
-
-  pub Tells-passes : (s : Buffered S Q) (p : P) (t : Buffered S Q) (q : P) → Tells remaining rules g s p 0 t q
-      → Passes remaining rules g s p t q
-  Tells-passes s p t q tells = elim tells.once [
-    | inl none ↦ subst (λ x. Passes remaining rules g s p x q) (sym none.1)
-        (subst (Passes remaining rules g s p tells.front) (sym none.2) tells.passes)
-    | inr some ↦ absurd (omega (arith, some.0))
-  ]
-
-  -- where no payload is handed out all is taken through the buffer
-  pub Way-through : (room : ℕ) (s : Buffered S Q) (p : Progress P) (t : Buffered S Q) (q : Progress P)
-      (way : Way remaining rules g room s p [] t q) → TakenThrough s way.wire t
-  Way-through room s p t q way = elim way.through [ inl all ↦ all | inr past ↦ absurd (omega (arith, past.0)) ]
-
   pub AsksWithRoom-open : (room : ℕ) (s : Buffered S Q) (p : P) (t : Buffered S Q) → AsksWithRoom remaining rules g room s p t
       → AsksOpen remaining rules g s p t
   AsksWithRoom-open room s p t =
@@ -281,57 +217,120 @@ module _ {S Q P W : Type 0} (remaining : S → Option (List ℕ)) (rules : ReadR
       AskedWhere-of (IsOpen g p) (AskedFor g p room t.log.reads.offer) (unbuffered s) (unbuffered t)
       (λ more is. AskedFor-here g p room t.log.reads.offer (s.block.bytes ++ more) place is enough)
 
+module _ {S Q P W : Type 0} {remaining : S → Option (List ℕ)} {rules : ReadRules Q} {g : Grammar P W} where
+  -- calls of the buffered reader that hand out nothing take nothing
+  pub TakesBytes-still : {s : Buffered S Q} {p : Progress P} {t : Buffered S Q} → g.is_place p.place
+      → ReadsAlong remaining rules s [] t → KeepsBuffer rules g.ahead s t → TakesBytes remaining rules g s p [] [] t p
+  TakesBytes-still {s} {p} {t} place still keeps = record {
+    along = still;
+    leads = Leads-none g p.place (heeded g t.block.bytes);
+    taken = sym (append-nil p.taken.log.fills.consumed);
+    place = place;
+    keeps = keeps;
+  }
+
+  -- no call takes nothing, and two traces of calls join
+  pub TakesBytes-none : {s : Buffered S Q} {p : Progress P} → g.is_place p.place → TakesBytes remaining rules g s p [] [] s p
+  TakesBytes-none {s} place = TakesBytes-still place (ReadsAlong-none remaining rules s) (KeepsBuffer-none rules g.ahead s)
+
+  pub TakesBytes-joins : {s : Buffered S Q} {p : Progress P} {m : Buffered S Q} {q : Progress P} {t : Buffered S Q}
+      {r : Progress P} {a h b k : List ℕ} → TakesBytes remaining rules g s p a h m q → TakesBytes remaining rules g m q b k t r
+      → TakesBytes remaining rules g s p (a ++ b) (h ++ k) t r
+  TakesBytes-joins {s} {p} {m} {q} {t} {r} {a} {h} {b} {k} x y = record {
+    along = ReadsAlong-joins remaining rules s m t a b x.along y.along;
+    leads = Leads-then g p.place q.place r.place a b h k m.block.bytes y.along.in_order.got t.block.bytes
+        y.along.in_order.equal x.leads y.leads;
+    taken = y.taken ∙ ap (λ l. l ++ b) x.taken ∙ append_assoc p.taken.log.fills.consumed a b;
+    place = y.place;
+    keeps = KeepsBuffer-joins rules g.ahead s m t a b x.along y.along x.keeps y.keeps;
+  }
+
+  -- passes of nothing, of one turn, and one after another
+  pub Passes-none : {s : Buffered S Q} {p : P} → Passes remaining rules g s p s p
+  Passes-none = (zero, (refl, refl))
+
+  pub Passes-once : {s : Buffered S Q} {p : P} {t : Buffered S Q} {q : P} → PassesOnce remaining rules g s p t q
+      → Passes remaining rules g s p t q
+  Passes-once {s} {p} {t} {q} once = (suc zero, (t, q, once, (refl, refl)))
+
+  pub Passes-joins : {s : Buffered S Q} {p : P} {m : Buffered S Q} {r : P} {t : Buffered S Q} {q : P}
+      → Passes remaining rules g s p m r → Passes remaining rules g m r t q → Passes remaining rules g s p t q
+  Passes-joins {s} {p} {m} {r} {t} {q} first then = from first.0 s p first.1
+    where
+      from : (count : ℕ) (s : Buffered S Q) (p : P) → PassesMany remaining rules g count s p m r
+          → Passes remaining rules g s p t q
+      from zero s p same = subst (λ x. Passes remaining rules g x p t q) same.0
+          (subst (λ x. Passes remaining rules g m x t q) same.1 then)
+      from (suc count) s p (s', p', once, rest) = let on = from count s' p' rest in (suc on.0, (s', p', once, on.1))
+
+  -- and then no payload was handed out
+  pub Tells-none : {s : Buffered S Q} {p : P} {t : Buffered S Q} {q : P} → Passes remaining rules g s p t q
+      → Tells remaining rules g s p 0 t q
+  Tells-none {s} {p} {t} {q} passes = record { front = t; place = q; passes = passes; once = inl (refl, refl, refl) }
+
+  pub Tells-passes : {s : Buffered S Q} {p : P} {t : Buffered S Q} {q : P} → Tells remaining rules g s p 0 t q
+      → Passes remaining rules g s p t q
+  Tells-passes {s} {p} {t} {q} tells = elim tells.once [
+    | inl none ↦ subst (λ x. Passes remaining rules g s p x q) (sym none.1)
+        (subst (Passes remaining rules g s p tells.front) (sym none.2) tells.passes)
+    | inr some ↦ absurd (omega (arith, some.0))
+  ]
+
+  -- where no payload is handed out all is taken through the buffer
+  pub Way-through : {room : ℕ} {s : Buffered S Q} {p : Progress P} {t : Buffered S Q} {q : Progress P}
+      (way : Way remaining rules g room s p [] t q) → TakenThrough s way.wire t
+  Way-through way = elim way.through [ inl all ↦ all | inr past ↦ absurd (omega (arith, past.0)) ]
+
   -- no call goes nowhere
-  pub Way-none : (room : ℕ) (s : Buffered S Q) (p : Progress P) → g.is_place p.place → Way remaining rules g room s p [] s p
-  Way-none room s p place = record {
+  pub Way-none : {room : ℕ} {s : Buffered S Q} {p : Progress P} → g.is_place p.place → Way remaining rules g room s p [] s p
+  Way-none place = record {
     wire = [];
-    takes = TakesBytes-none s p place;
+    takes = TakesBytes-none place;
     asked = inl refl;
     through = inl (omega arith);
-    tells = Tells-none s p.place s p.place (Passes-none s p.place);
+    tells = Tells-none Passes-none;
     idle = λ _. (refl, refl);
   }
 
   -- nobody was asked
-  pub PassesOn-way : (room : ℕ) (s : Buffered S Q) (p : Progress P) (l : Look P W) (t : Buffered S Q) (q : Progress P)
+  pub PassesOn-way : {room : ℕ} {s : Buffered S Q} {p : Progress P} {l : Look P W} {t : Buffered S Q} {q : Progress P}
       → PassesOn remaining rules g s p l t q → Way remaining rules g room s p [] t q
-  PassesOn-way room s p l t q passes = record {
+  PassesOn-way passes = record {
     wire = passes.wire;
     takes = passes.takes;
     asked = inl passes.told;
     through = inl passes.through;
-    tells = Tells-none s p.place t q.place passes.passes;
+    tells = Tells-none passes.passes;
     idle = passes.idle;
   }
 
   -- behind a way without payload, on which each read gave some
-  module _ (room : ℕ) (s : Buffered S Q) (p : Progress P) (m : Buffered S Q) (q : Progress P) (t : Buffered S Q)
+  module _ {room : ℕ} {s : Buffered S Q} {p : Progress P} {m : Buffered S Q} {q : Progress P}
       (before : Way remaining rules g room s p [] m q) (gave : EachGave s m) where
-    asks_on : AsksWithRoom remaining rules g room m q.place t → AsksWithRoom remaining rules g room s p.place t
-    asks_on (inl same) =
+    asks_on : (t : Buffered S Q) → AsksWithRoom remaining rules g room m q.place t → AsksWithRoom remaining rules g room s p.place t
+    asks_on t (inl same) =
         AskedWhere-same (AskedFor g p.place room t.log.reads.offer) (unbuffered s) (unbuffered m) (unbuffered t) same
         (subst (λ l. AskedWhere (AskedFor g p.place room l.reads.offer) (unbuffered s) (unbuffered m)) (sym same) before.asked)
-    asks_on (inr over) = inr (AskedOver-behind s m t before.wire before.takes.along.in_order gave
+    asks_on t (inr over) = inr (AskedOver-behind s m t before.wire before.takes.along.in_order gave
         (AskedFor g p.place room m.log.reads.offer) (AskedFor g p.place room t.log.reads.offer)
         (AskedFor g q.place room t.log.reads.offer)
         (λ more asked. AskedFor-behind g p.place q.place room t.log.reads.offer before.wire m.block.bytes more before.takes.leads
         asked) before.asked over)
 
-    pub Way-joins : (handed : List ℕ) (r : Progress P) → Way remaining rules g room m q handed t r
+    pub Way-joins : {handed : List ℕ} {t : Buffered S Q} {r : Progress P} → Way remaining rules g room m q handed t r
         → Way remaining rules g room s p handed t r
-    Way-joins handed r way = record {
+    Way-joins {t = t} way = record {
       wire = before.wire ++ way.wire;
-      takes = TakesBytes-joins s p m q t r before.wire [] way.wire handed before.takes way.takes;
-      asked = asks_on way.asked;
+      takes = TakesBytes-joins before.takes way.takes;
+      asked = asks_on t way.asked;
       through = elim way.through [
-        | inl all ↦ inl (omega (arith, Way-through room s p m q before, all, length-append before.wire way.wire))
+        | inl all ↦ inl (omega (arith, Way-through before, all, length-append before.wire way.wire))
         | inr past ↦ inr (past.0, omega (arith, before.takes.along.capacity, past.1))
       ];
       tells = record {
         front = way.tells.front;
         place = way.tells.place;
-        passes = Passes-joins s p.place m q.place way.tells.front way.tells.place
-            (Tells-passes s p.place m q.place before.tells) way.tells.passes;
+        passes = Passes-joins (Tells-passes before.tells) way.tells.passes;
         once = way.tells.once;
       };
       idle = λ done.
@@ -340,8 +339,9 @@ module _ {S Q P W : Type 0} (remaining : S → Option (List ℕ)) (rules : ReadR
           (then.0 ∙ first.0, then.1 ∙ first.1);
     }
 
-    pub Proceeds-after : {A : Type 0} (handed : List ℕ) (answer : Result A (BodyError W)) (Means : A → Type 0) (r : Progress P)
+    pub Proceeds-after : {A : Type 0} {handed : List ℕ} {t : Buffered S Q} {r : Progress P} (answer : Result A (BodyError W))
+        (Means : A → Type 0)
         → Proceeds remaining rules g room m q handed answer Means t r
         → Proceeds remaining rules g room s p handed answer Means t r
-    Proceeds-after handed (Ok a) Means r goes = (Way-joins handed r goes.0, (EachGave-joins s m t gave goes.1.0, goes.1.1))
-    Proceeds-after handed (Err e) Means r goes = (Way-joins handed r goes.0, StopsFor-after _ _ _ s m t gave e goes.1)
+    Proceeds-after {t = t} (Ok a) Means goes = (Way-joins goes.0, (EachGave-joins s m t gave goes.1.0, goes.1.1))
+    Proceeds-after {t = t} (Err e) Means goes = (Way-joins goes.0, StopsFor-after _ _ _ s m t gave e goes.1)

@@ -25,4 +25,4 @@ show-requires g c =
 pub returns : goal.returns
 returns g c =
     let skips = c.in_ok-sure.ensures 0 in
-    Proceeds-after _ _ _ _ _ _ _ _ _ skips.0 skips.1.0 _ _ _ _ (c.show.ensures 0 (omega arith))
+    Proceeds-after skips.0 skips.1.0 _ _ (c.show.ensures 0 (omega arith))
