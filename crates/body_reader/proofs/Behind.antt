@@ -35,20 +35,19 @@ module _ {S Q C P W A : Type 0} (remaining : S → Option (List ℕ)) (rules : R
     ahead = one_ahead remaining rules r answer r' (omega (arith, is.room, lawful.some)) ahead'
 
     takes : TakesBytes remaining rules g r p [] [] r' p
-    takes = TakesBytes-still is.place ahead.along
-        (ReadsAhead-keeps ahead lawful.some)
+    takes = TakesBytes-still is.place ahead.along (ReadsAhead-keeps ahead lawful.some)
 
     behind_is : IsBodyReader g (seen r' c p calls k)
     behind_is =
         let order = ahead.along.in_order in
-        state_is remaining rules g r c p calls k r' p calls k [] [] takes (sym (append-nil calls.reads.given)) is
+        state_is takes (sym (append-nil calls.reads.given)) is
         (known_more g p.place k r.block.bytes order.got r'.block.bytes (sym order.equal) (longer order.got order.equal) is.known)
       where
         longer : (got : List ℕ) → r'.block.bytes ≡ r.block.bytes ++ got → length r.block.bytes ≤ length r'.block.bytes
         longer got equal = omega (arith, ap length equal, length-append r.block.bytes got)
 
     went : BodyWent remaining rules g (seen r c p calls k) [] (seen r' c p calls k)
-    went = state_went remaining rules g r c p calls k r' p calls k [] [] takes (sym (append-nil calls.reads.given))
+    went = state_went takes (sym (append-nil calls.reads.given))
 
     asked : AskedWhere (λ bytes. bytes ≡ []) (unbuffered r) (unbuffered r')
     asked = AskedWhere-of (λ bytes. length bytes < 1) (λ bytes. bytes ≡ []) (unbuffered r) (unbuffered r')

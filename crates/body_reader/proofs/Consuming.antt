@@ -26,15 +26,13 @@ module _ {S Q C P W : Type 0} (remaining : S → Option (List ℕ)) (rules : Rea
       ap (λ l. l.reads.given) noted ∙ ap (λ l. calls.reads.given ++ l) whole
 
   consumed_is : IsBodyReader g (seen r' c q calls' k')
-  consumed_is = state_is remaining rules g r c p calls k r' q calls' k' (take n r.block.bytes) (take n r.block.bytes) front.takes
-      given is front.known
+  consumed_is = state_is front.takes given is front.known
 
   pub consumes : (count : ℕ) → 0 < n → n ≡ min count k
       → ConsumesPayload remaining rules g count (seen r c p calls k) (seen r' c q calls' k')
   consumes count some all = record {
     went = subst (λ j. BodyWent remaining rules g (seen r c p calls k) (take j r.block.bytes) (seen r' c q calls' k')) all
-        (state_went remaining rules g r c p calls k r' q calls' k' (take n r.block.bytes) (take n r.block.bytes) front.takes
-        given);
+        (state_went front.takes given);
     consumed = λ _. subst (λ j. ReaderConsumes rules j r r') all front.consumed;
     left = omega (arith, front.left, all);
     idle = λ none. absurd (omega (arith, none, all, some));

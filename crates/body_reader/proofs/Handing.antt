@@ -27,10 +27,10 @@ front_carries g p k n bytes carries few held =
     (take-append-drop n bytes ∙ sym (append-nil bytes))
 
 -- of bytes of which a look showed k the first n are taken, and the rest of the k stays known
-pub knows_rest : {P W : Type 0} (g : Grammar P W) (p : P) (taken taken' : List ℕ) (k n : ℕ) (bytes left : List ℕ) (k' : ℕ)
+pub knows_rest : {P W : Type 0} {g : Grammar P W} {p : P} {taken taken' : List ℕ} {k n : ℕ} {bytes left : List ℕ} {k' : ℕ}
     → AllShown g p k bytes → taken' ≡ taken ++ take n bytes → take n bytes ++ left ≡ bytes → n ≤ k → k ≤ length bytes → k' ≡ k - n
     → KnowsAll g p taken taken' [] (take n bytes) k' left
-knows_rest g p taken taken' k n bytes left k' all is parts few held rest =
+knows_rest {g = g} {p = p} {k = k} {n = n} {bytes = bytes} {left = left} {k' = k'} all is parts few held rest =
     let size : k ≡ length (take n bytes) + k' = omega (arith, rest, few, length-take-le n bytes (omega (arith, few, held))) in
     record {
       wire = [];
@@ -100,14 +100,14 @@ module _ {S Q P W : Type 0} (remaining : S → Option (List ℕ)) (rules : ReadR
     );
   }
 
-module _ {S Q P W : Type 0} (remaining : S → Option (List ℕ)) (rules : ReadRules Q) (g : Grammar P W) where
-  -- what is told behind bytes that were taken is told from before them
-  pub knows_behind : (s : Buffered S Q) (p : Progress P) (m : Buffered S Q) (q : Progress P) (t : Buffered S Q) (r : Progress P)
-      (wire h wire' h' first last : List ℕ) (known : ℕ) → TakesBytes remaining rules g s p wire h m q
+-- what is told behind bytes that were taken is told from before them
+module _ {S Q P W : Type 0} {remaining : S → Option (List ℕ)} {rules : ReadRules Q} {g : Grammar P W} where
+  pub knows_behind : {s : Buffered S Q} {p : Progress P} {m : Buffered S Q} {q : Progress P} {t : Buffered S Q} {r : Progress P}
+      {wire h wire' h' first last : List ℕ} {known : ℕ} → TakesBytes remaining rules g s p wire h m q
       → TakesBytes remaining rules g m q wire' h' t r
       → KnowsAll g q.place q.taken.log.fills.consumed r.taken.log.fills.consumed first last known t.block.bytes
       → KnowsAll g p.place p.taken.log.fills.consumed r.taken.log.fills.consumed (h ++ first) last known t.block.bytes
-  knows_behind s p m q t r wire h wire' h' first last known before takes x =
+  knows_behind {s} {p} {m} {q} {t} {r} {wire} {h} {wire'} {h'} {first} {last} before takes x =
       let rest = t.block.bytes in
       let order = takes.along.in_order in
       let same : wire' ≡ x.wire ++ last =
@@ -125,6 +125,7 @@ module _ {S Q P W : Type 0} (remaining : S → Option (List ℕ)) (rules : ReadR
         all = x.all;
       }
 
+module _ {S Q P W : Type 0} (remaining : S → Option (List ℕ)) (rules : ReadRules Q) (g : Grammar P W) where
   -- what is known is handed out
   module _ (n : ℕ) (s : Buffered S Q) (p : Progress P) (k : ℕ) (t : Buffered S Q) (q : Progress P) (k' : ℕ) (out : List ℕ)
       (taken : TakesFront remaining rules g n s p k t q k') (known : IsKnown g p.place k s.block.bytes) (some : 0 < k)
@@ -183,7 +184,7 @@ module _ {S Q P W : Type 0} (remaining : S → Option (List ℕ)) (rules : ReadR
         let before = p.taken.log.fills.consumed in
         let after = q.taken.log.fills.consumed in
         subst (λ l. KnowsAll g p.place before after [] l k' t.block.bytes) (sym same)
-        (knows_rest g p.place before after k n s.block.bytes t.block.bytes k' all taken.takes.taken
+        (knows_rest all taken.takes.taken
         (consumes_parts rules n s t (omega (arith, is, known.0)) taken.consumed) (omega (arith, is)) known.0 taken.left)
 
     pub hands_shown : AllShown g p.place k s.block.bytes → (before : ℕ) → HandsOn remaining rules g before s p out (Ok n) t q k'
@@ -237,8 +238,7 @@ module _ {S Q P W : Type 0} (remaining : S → Option (List ℕ)) (rules : ReadR
             means.0,
             means.1,
             means.2,
-            (λ none some. knows_behind s p m q t r way.wire [] hands.0.0.wire (handed_out out answer) [] (take n out) after
-                way.takes hands.0.0.takes (means.3 none some)),
+            (λ none some. knows_behind way.takes hands.0.0.takes (means.3 none some)),
           )) hands.0),
       never,
     )

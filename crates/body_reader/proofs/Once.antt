@@ -37,8 +37,7 @@ module _ {S Q P W : Type 0} (remaining : S → Option (List ℕ)) (rules : ReadR
         takes = takes;
         asked = once_asks answer told;
         through = inl through;
-        tells = Tells-none
-            (Passes-once (inr (takes.along, policy, refl)));
+        tells = Tells-none (Passes-once (inr (takes.along, policy, refl)));
         idle = λ done. absurd (goes_on done);
       }
 

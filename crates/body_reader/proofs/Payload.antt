@@ -7,11 +7,11 @@ use Rattle.buffer_redux.specs.StreamLog.{StreamLog}
 use Rattle.body_reader.specs.declared.error.BodyError.{BodyError}
 use Rattle.body_reader.specs.declared.error.BodyError.TheVariants.{Wrong, Truncated, Io}
 use Rattle.body_reader.specs.declared.progress.Progress.{Progress}
-use Rattle.body_reader.specs.Between.{AllShown, EachGave, HandsOn, KnowsAll, PayloadFails, ShowsOn, TakesBytes, handed_out}
-use Rattle.body_reader.specs.BodyReader.{BodyState, BodyWent, Breaks, EndsEarly, FillsPayload, IsBodyReader, NotedIfOk, TookWholeBody, ReadsPayload, NoPayload, seen}
+use Rattle.body_reader.specs.Between.{AllShown, EachGave, HandsOn, KnowsAll, PayloadFails, ShowsOn, StopsFor, TakesBytes, handed_out}
+use Rattle.body_reader.specs.BodyReader.{BodyState, BodyWent, Breaks, EndsEarly, FillsPayload, IsBodyReader, NotedIfOk, TookWholeBody, ReadsPayload, NoPayload, seen, taken_count}
 use Rattle.body_reader.specs.BodyReaderLaws.{BodyWent-none}
 use Rattle.body_reader.specs.BetweenLaws.{AsksWithRoom-open, EachGave-none, Passes-none, Tells-passes}
-use Rattle.body_reader.specs.Coding.{Grammar, IsDone, IsKnown, IsLawful, IsOpen, Leads, heeded}
+use Rattle.body_reader.specs.Coding.{Grammar, IsDone, IsKnown, IsLawful, IsOpen}
 use Rattle.body_reader.specs.CodingLaws.{Leads-done, Leads-left, Leads-then, Leads-whole}
 
 -- the payload that a call handed out is noted
@@ -25,68 +25,66 @@ none_there : {P W : Type 0} (g : Grammar P W) (j : ℕ) (x : P) (bytes : List �
 none_there g zero x bytes known done = refl
 none_there g (suc j) x bytes known done = absurd ((known.1 (omega arith)).goes_on done)
 
-module _ {S Q C P W : Type 0} (remaining : S → Option (List ℕ)) (rules : ReadRules Q) (g : Grammar P W)
-    (r : Buffered S Q) (c : C) (p : Progress P) (calls : StreamLog) (k : ℕ) (r' : Buffered S Q) (q : Progress P)
-    (calls' : StreamLog) (k' : ℕ) where
-  module _ (wire handed : List ℕ) (takes : TakesBytes remaining rules g r p wire handed r' q)
-      (given : calls'.reads.given ≡ calls.reads.given ++ handed) where
-    pub state_is : IsBodyReader g (seen r c p calls k) → IsKnown g q.place k' r'.block.bytes
-        → IsBodyReader g (seen r' c q calls' k')
-    state_is is known =
-        let order = takes.along.in_order in
-        let joined = Leads-then g g.first p.place q.place p.taken.log.fills.consumed wire calls.reads.given handed
-        r.block.bytes order.got r'.block.bytes order.equal is.leads takes.leads in
-        record {
-          leads = subst (λ l. Leads g g.first l calls'.reads.given q.place (heeded g r'.block.bytes)) (sym takes.taken)
-              (subst (λ l. Leads g g.first (p.taken.log.fills.consumed ++ wire) l q.place (heeded g r'.block.bytes)) (sym given)
-              joined);
-          place = takes.place;
-          room = omega (arith, is.room, takes.along.capacity);
-          known = known;
-        }
+module _ {S Q C P W : Type 0} {remaining : S → Option (List ℕ)} {rules : ReadRules Q} {g : Grammar P W}
+    {r : Buffered S Q} {c : C} {p : Progress P} {calls : StreamLog} {k : ℕ} {r' : Buffered S Q} {q : Progress P}
+    {calls' : StreamLog} {k' : ℕ} {wire handed : List ℕ} (takes : TakesBytes remaining rules g r p wire handed r' q)
+    (given : calls'.reads.given ≡ calls.reads.given ++ handed) where
+  pub state_is : IsBodyReader g (seen r c p calls k) → IsKnown g q.place k' r'.block.bytes
+      → IsBodyReader g (seen r' c q calls' k')
+  state_is is known =
+      let order = takes.along.in_order in
+      let joined = Leads-then g g.first p.place q.place p.taken.log.fills.consumed wire calls.reads.given handed
+      r.block.bytes order.got r'.block.bytes order.equal is.leads takes.leads in
+      record {
+        leads = rw (takes.taken, given) joined;
+        place = takes.place;
+        room = omega (arith, is.room, takes.along.capacity);
+        known = known;
+      }
 
-    pub state_went : BodyWent remaining rules g (seen r c p calls k) handed (seen r' c q calls' k')
-    state_went = record {
-      wire = wire;
-      along = takes.along;
-      taken = takes.taken;
-      handed = given;
-      coding = refl;
-      keeps = takes.keeps;
-    }
+  pub state_went : BodyWent remaining rules g (seen r c p calls k) handed (seen r' c q calls' k')
+  state_went = record {
+    wire = wire;
+    along = takes.along;
+    taken = takes.taken;
+    handed = given;
+    coding = refl;
+    keeps = takes.keeps;
+  }
 
+module _ {S Q C P W : Type 0} {g : Grammar P W} {t : BodyState S Q C P} (now : IsBodyReader g t) where
   -- what is buffered settles nothing
-  pub early : IsBodyReader g (seen r' c q calls' k') → IsOpen g q.place r'.block.bytes → EndsEarly g (seen r' c q calls' k')
-  early now is = record {
+  pub early : IsOpen g t.place t.reader.block.bytes → EndsEarly g t
+  early is = record {
     settles_nothing = is;
     none = λ body payload xs body_is same.
-        let left = Leads-left g q.taken.log.fills.consumed calls'.reads.given q.place r'.block.bytes now.leads body payload
-        body_is xs [] (same ∙ ap (λ l. q.taken.log.fills.consumed ++ l) (sym (append-nil r'.block.bytes))) in
+        let bytes = t.reader.block.bytes in
+        let left = Leads-left g _ _ _ bytes now.leads body payload body_is xs []
+        (same ∙ ap (λ l. t.taken ++ l) (sym (append-nil bytes))) in
         omega (
           arith,
           is.further left.rest left.later left.completes ([], xs, left.behind),
           ap length left.behind,
           length-append left.rest xs,
-          length-append r'.block.bytes [],
+          length-append bytes [],
         );
   }
 
   -- or is wrong
-  pub breaks_so : IsLawful g → IsBodyReader g (seen r' c q calls' k') → (why : W) → g.wrong q.place r'.block.bytes why
-      → Breaks g why (seen r' c q calls' k')
-  breaks_so lawful now why wrong = record {
+  pub breaks_so : IsLawful g → (why : W) → g.wrong t.place t.reader.block.bytes why → Breaks g why t
+  breaks_so lawful why wrong = record {
     name = wrong;
     none = λ body payload xs rest body_is same.
-        let left = Leads-left g q.taken.log.fills.consumed calls'.reads.given q.place r'.block.bytes now.leads body payload
-        body_is xs rest same in
-        lawful.never q.place r'.block.bytes why left.rest left.later now.place wrong left.completes (rest, xs, left.behind);
+        let left = Leads-left g _ _ _ t.reader.block.bytes now.leads body payload body_is xs rest same in
+        lawful.never t.place t.reader.block.bytes why left.rest left.later now.place wrong left.completes (rest, xs, left.behind);
   }
 
-  pub stops : IsLawful g → IsBodyReader g (seen r' c q calls' k') → (e : BodyError W) → PayloadFails remaining rules g r e r' q
-      → NoPayload g (seen r c p calls k) e (seen r' c q calls' k')
-  stops lawful now (Wrong why count) (right, well, wrong) = (right ∙ q.counted, well, breaks_so lawful now why wrong)
-  stops lawful now (Truncated count) (right, met, is) = (right ∙ q.counted, met, early now is)
-  stops lawful now (Io e) (fault, is) = (fault, early now is)
+  stops : IsLawful g → (s : BodyState S Q C P) (count : ℕ) → count ≡ taken_count t → (e : BodyError W)
+      → StopsFor count (g.wrong t.place t.reader.block.bytes) (IsOpen g t.place t.reader.block.bytes) s.reader e t.reader
+      → NoPayload g s e t
+  stops lawful s n is (Wrong why count) (right, well, wrong) = (right ∙ is, well, breaks_so lawful why wrong)
+  stops lawful s n is (Truncated count) (right, met, open') = (right ∙ is, met, early open')
+  stops lawful s n is (Io e) (fault, open') = (fault, early open')
 
 -- a read of payload
 module _ {S Q C P W : Type 0} (remaining : S → Option (List ℕ)) (rules : ReadRules Q) (g : Grammar P W) (lawful : IsLawful g)
@@ -103,8 +101,7 @@ module _ {S Q C P W : Type 0} (remaining : S → Option (List ℕ)) (rules : Rea
   given = given_after calls out answer calls' noted
 
   still : IsBodyReader g after
-  still = state_is remaining rules g r c p calls k r' q calls' k' hands.0.0.wire (handed_out out answer) hands.0.0.takes given is
-      known
+  still = state_is hands.0.0.takes given is known
 
   abbrev Ends : Result ℕ (BodyError W) → Type 0
   Ends a = MatchResult a (λ n. EachGave r r' × ((n ≤ length out) × (n ≡ 0 → 0 < length out → IsDone g q.place)
@@ -119,11 +116,9 @@ module _ {S Q C P W : Type 0} (remaining : S → Option (List ℕ)) (rules : Rea
   answered (Ok n) ends = (
     ends.1.0,
     ends.0,
-    (λ none some. Leads-whole g after.taken after.calls.reads.given q.place (heeded g r'.block.bytes) still.leads
-        (ends.1.1 none some)),
+    (λ none some. Leads-whole g _ _ _ _ still.leads (ends.1.1 none some)),
   )
-  answered (Err e) ends =
-      stops remaining rules g r c p calls k r' q calls' k' lawful still e ends
+  answered (Err e) ends = stops still lawful (seen r c p calls k) q.count q.counted e ends
 
   knows_told : (a : Result ℕ (BodyError W)) → Ends a → k ≡ 0
       → IfOk a (λ n. 0 < n
@@ -141,8 +136,7 @@ module _ {S Q C P W : Type 0} (remaining : S → Option (List ℕ)) (rules : Rea
   idle : (TookWholeBody g (seen r c p calls k) ⊎ (length out ≡ 0))
       → after ≡ record (seen r c p calls k) { calls = calls' }
   idle (inl whole) =
-      let done = Leads-done g lawful p.taken.log.fills.consumed calls.reads.given p.place (heeded g r.block.bytes) is.leads
-      is.place whole in
+      let done = Leads-done g lawful _ _ _ _ is.leads is.place whole in
       let at = hands.0.0.idle done in
       nothing_done (
         at.0,
@@ -155,7 +149,7 @@ module _ {S Q C P W : Type 0} (remaining : S → Option (List ℕ)) (rules : Rea
   pub payload_read : ReadsPayload remaining rules g (seen r c p calls k) out answer after
   unfolding state_went
   payload_read = record {
-    went = state_went remaining rules g r c p calls k r' q calls' k' hands.0.0.wire (handed_out out answer) hands.0.0.takes given;
+    went = state_went hands.0.0.takes given;
     answers = answered answer hands.0.1;
     asked = hands.0.0.asked;
     through = elim hands.0.0.through [ inl all ↦ inl all | inr past ↦ inr past.1 ];
@@ -193,8 +187,7 @@ module _ {S Q C P W : Type 0} (remaining : S → Option (List ℕ)) (rules : Rea
   given_none = sym (append-nil calls.reads.given)
 
   there_is : IsBodyReader g there
-  there_is = state_is remaining rules g r c p calls k r' q calls k' fills.0.wire [] fills.0.takes given_none is
-      (fill_known_is answer fills.1 count)
+  there_is = state_is fills.0.takes given_none is (fill_known_is answer fills.1 count)
 
   fill_answers : (a : Result ℕ (BodyError W)) → FillEnds a → Counts a
       → MatchResult a (λ n. (n ≡ k') × EachGave r r' × (n ≡ 0 → TookWholeBody g there))
@@ -202,10 +195,9 @@ module _ {S Q C P W : Type 0} (remaining : S → Option (List ℕ)) (rules : Rea
   fill_answers (Ok n) ends count = (
     sym count,
     ends.0,
-    (λ zero. Leads-whole g q.taken.log.fills.consumed calls.reads.given q.place (heeded g r'.block.bytes) there_is.leads
-        (ends.1.1 zero)),
+    (λ zero. Leads-whole g _ _ _ _ there_is.leads (ends.1.1 zero)),
   )
-  fill_answers (Err e) ends count = stops remaining rules g r c p calls k r' q calls k' lawful there_is e ends
+  fill_answers (Err e) ends count = stops there_is lawful (seen r c p calls k) q.count q.counted e ends
 
   fill_all : (a : Result ℕ (BodyError W)) → FillEnds a
       → IfOk a (λ n. 0 < n → k ≡ 0 → AllShown g q.place n r'.block.bytes)
@@ -219,14 +211,13 @@ module _ {S Q C P W : Type 0} (remaining : S → Option (List ℕ)) (rules : Rea
   fill_still : (0 < k ⊎ TookWholeBody g (seen r c p calls k)) → there ≡ seen r c p calls k
   fill_still (inl some) = absurd (omega (arith, some, none))
   fill_still (inr whole) =
-      let done = Leads-done g lawful p.taken.log.fills.consumed calls.reads.given p.place (heeded g r.block.bytes) is.leads
-      is.place whole in
+      let done = Leads-done g lawful _ _ _ _ is.leads is.place whole in
       let at = fills.0.idle done in
       same at (none_there g k' q.place r'.block.bytes there_is.known (subst (λ x. IsDone g x.place) (sym at.1) done) ∙ sym none)
 
   pub filled : FillsPayload remaining rules g (seen r c p calls k) answer there
   filled = record {
-    went = state_went remaining rules g r c p calls k r' q calls k' fills.0.wire [] fills.0.takes given_none;
+    went = state_went fills.0.takes given_none;
     answers = fill_answers answer fills.1 count;
     all = fill_all answer fills.1;
     asked = AsksWithRoom-open remaining rules g 0 r p.place r' fills.0.asked;

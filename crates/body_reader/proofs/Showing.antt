@@ -13,7 +13,7 @@ use Rattle.body_reader.specs.Between.{AllShown, FindsKnown, HandsPiece, HandsPie
 use Rattle.body_reader.specs.BetweenLaws.{Passes-none, TakesBytes-joins, TakesBytes-none}
 use Rattle.body_reader.specs.BodyReader.{Breaks, EndsEarly, HandsBuffered, IsBodyReader, NotedIfSome, TookWholeBody, seen}
 use Rattle.body_reader.specs.BodyReaderLaws.{NotedIfSome-given}
-use Rattle.body_reader.specs.Coding.{Grammar, IsDone, IsKnown, IsLawful, Looks, heeded}
+use Rattle.body_reader.specs.Coding.{Grammar, IsDone, IsKnown, IsLawful, Looks}
 use Rattle.body_reader.specs.CodingLaws.{IsOpenBelow-open, Leads-done, Leads-whole, open_at}
 use Rattle.body_reader.proofs.Filling.{Carries-fewer, all_shown}
 use Rattle.body_reader.proofs.Handing.{knows_behind, knows_rest}
@@ -274,10 +274,8 @@ module _ {S Q P W : Type 0} (remaining : S → Option (List ℕ)) (rules : ReadR
                   joined,
                   subst (λ l. KnowsAll g p.place p.taken.log.fills.consumed u.taken.log.fills.consumed l (take n f.block.bytes)
                       k'' t.block.bytes) (append-nil (take handed out))
-                      (knows_behind remaining rules g s p f r t u (so.wire ++ finds.wire) (take handed out) (take n f.block.bytes)
-                      (take n f.block.bytes) [] (take n f.block.bytes) k'' found_on front.takes
-                      (knows_rest g r.place r.taken.log.fills.consumed u.taken.log.fills.consumed k' n f.block.bytes t.block.bytes
-                      k'' shows front.takes.taken parts (omega (arith, count)) finds.known.0 front.left)),
+                      (knows_behind found_on front.takes (knows_rest shows front.takes.taken parts (omega (arith, count))
+                      finds.known.0 front.left)),
                 );
             first = λ short left. absurd (omega (
               arith,
@@ -311,29 +309,26 @@ module _ {S Q C P W : Type 0} (remaining : S → Option (List ℕ)) (rules : Rea
   given = NotedIfSome-given calls out handed calls' noted
 
   shown_is : IsBodyReader g (seen r' c q calls' k')
-  shown_is = state_is remaining rules g r c p calls k r' q calls' k' hands.wire (take handed out) hands.takes given is hands.known
+  shown_is = state_is hands.takes given is hands.known
 
   none_left : NoneShown remaining rules g q.place r'.block.bytes
       → TookWholeBody g (seen r' c q calls' k') ⊎ (EndsEarly g (seen r' c q calls' k')
       ⊎ ((why : W) × Breaks g why (seen r' c q calls' k')))
-  none_left (inl done) = inl (Leads-whole g q.taken.log.fills.consumed calls'.reads.given q.place (heeded g r'.block.bytes)
-      shown_is.leads done)
-  none_left (inr (inl open')) = inr (inl (early remaining rules g r c p calls k r' q calls' k' shown_is open'))
-  none_left (inr (inr (why, wrong))) =
-      inr (inr (why, breaks_so remaining rules g r c p calls k r' q calls' k' lawful shown_is why wrong))
+  none_left (inl done) = inl (Leads-whole g _ _ _ _ shown_is.leads done)
+  none_left (inr (inl open')) = inr (inl (early shown_is open'))
+  none_left (inr (inr (why, wrong))) = inr (inr (why, breaks_so shown_is lawful why wrong))
 
   -- where the body ended, or into an empty slice, nothing is done
   same : (handed ≡ 0) × (r' ≡ r) × (q ≡ p) × (k' ≡ k) → seen r' c q calls' k' ≡ seen r c p calls k
   same (none, reader, place, known) = let calls = noted.1 none in cc
 
   idle : (TookWholeBody g (seen r c p calls k) ⊎ (length out ≡ 0)) → seen r' c q calls' k' ≡ seen r c p calls k
-  idle (inl whole) = same (hands.idle (inl (Leads-done g lawful p.taken.log.fills.consumed calls.reads.given p.place
-      (heeded g r.block.bytes) is.leads is.place whole)))
+  idle (inl whole) = same (hands.idle (inl (Leads-done g lawful _ _ _ _ is.leads is.place whole)))
   idle (inr none) = same (hands.idle (inr none))
 
   pub shown_reads : HandsBuffered remaining rules g (seen r c p calls k) out handed (seen r' c q calls' k')
   shown_reads = record {
-    went = state_went remaining rules g r c p calls k r' q calls' k' hands.wire (take handed out) hands.takes given;
+    went = state_went hands.takes given;
     told = hands.told;
     bound = hands.within;
     all = elim hands.all [ inl all ↦ inl all | inr none ↦ inr (none_left none) ];

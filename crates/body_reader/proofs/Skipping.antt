@@ -130,8 +130,7 @@ module _ {S Q P W : Type 0} (remaining : S → Option (List ℕ)) (rules : ReadR
               consumes_through rules n m t looks.1 gone,
               length-append so.wire (take n m.block.bytes),
             );
-            passes = Passes-joins so.passes
-                (subst (Passes remaining rules g m q.place t) (sym notes.place)
+            passes = Passes-joins so.passes (subst (Passes remaining rules g m q.place t) (sym notes.place)
                 (Passes-once (inl (n, looks, gone))));
             spends = omega (
               arith,
@@ -156,8 +155,7 @@ module _ {S Q P W : Type 0} (remaining : S → Option (List ℕ)) (rules : ReadR
     -- all that is buffered was passed
     skipped_there : Skipped remaining rules g s p t r
     skipped_there = record {
-      way = λ slice. Way-joins (so.way slice) so.gave
-          (PassesOn-way passes);
+      way = λ slice. Way-joins (so.way slice) so.gave (PassesOn-way passes);
       gave = EachGave-joins s m t so.gave (EachGave-same m t passes.told);
       room = omega (arith, so.room, passes.takes.along.capacity);
     }
@@ -197,13 +195,11 @@ module _ {S Q P W : Type 0} (remaining : S → Option (List ℕ)) (rules : ReadR
       way_ahead : (slice : ℕ) → Way remaining rules g slice s p [] u r
       way_ahead slice = Way-joins (skipped_there.way slice) skipped_there.gave (record {
         wire = [];
-        takes = TakesBytes-still passes.takes.place ahead.along
-            (ReadsAhead-keeps ahead lacks.most);
+        takes = TakesBytes-still passes.takes.place ahead.along (ReadsAhead-keeps ahead lacks.most);
         asked = AsksWithRoom-here remaining rules g slice t r.place u passes.takes.place (omega (arith, looks.1))
             (ReadsAhead-asks lacks ahead);
         through = inl (omega (arith, ahead.consumed));
-        tells = Tells-none
-            (Passes-once (inr (ahead.along, ahead.policy, refl)));
+        tells = Tells-none (Passes-once (inr (ahead.along, ahead.policy, refl)));
         idle = λ done. absurd (IsOpen-goes_on g r.place t.block.bytes (IsOpenBelow-open g r.place n t.block.bytes lacks) done);
       })
 
