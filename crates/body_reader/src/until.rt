@@ -86,9 +86,11 @@ fn may_begin(shown: &[u8], needle: &[u8]) -> usize
     ensures begins { MayBegin needle.now shown.now result }
     ensures short { result ≡ 0 → length shown.now < length needle.now }
 {
-    let mut at = shown.len().saturating_sub(needle.len() - 1);
-    while at < shown.len() && !needle.starts_with(&shown[at..]) {
-        at += 1;
+    let first = needle[0];
+    for at in shown.len().saturating_sub(needle.len() - 1)..shown.len() {
+        if shown[at] == first && needle.starts_with(&shown[at..]) {
+            return at;
+        }
     }
-    at
+    shown.len()
 }

@@ -1,4 +1,4 @@
-use Rattle.std.proofs.Common.{◌≡◌, ◌≢◌, ◌+◌, ◌-◌, ◌<◌, ◌≤◌, ℕ, List, ◌++◌, length, drop}
+use Rattle.std.proofs.Common.{◌≡◌, ◌≢◌, ◌+◌, ◌<◌, ◌≤◌, ℕ, List, ◌++◌, length, drop}
 use Rattle.body_reader.proofs.until.may_begin.Given as goal
 
 -- the delimiter begins nowhere before
@@ -8,6 +8,3 @@ invariant-loop-at l = record {
   short : l.at ≡ 0 → length l.shown < length l.needle;
   clear : (k : ℕ) → k < l.at → length l.shown < k + length l.needle → (rest : List ℕ) → l.needle ≢ drop k l.shown ++ rest;
 }
-
-abbrev pub decreases-loop-at : goal.decreases-loop-at
-decreases-loop-at l = length l.shown - l.at
