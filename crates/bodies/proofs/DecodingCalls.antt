@@ -6,7 +6,8 @@ use Rattle.std.specs.Vec.{with_items}
 use Rattle.buffer_redux.specs.LogGrows.{ReadLogGrows-joins}
 use Rattle.buffer_redux.specs.Unbuffer.{unbuffered}
 use Rattle.buffer_redux.specs.WriterLaws.{WritesInOrder-none}
-use Rattle.body_reader.specs.AskingLaws.{AskedWhere-of, AskedWhere-on}
+use Rattle.buffer_redux.specs.AskingLaws.{AskedWhere-of}
+use Rattle.body_reader.specs.AskingLaws.{AskedWhere-behind}
 use Rattle.body_reader.specs.Between.{EachGave}
 use Rattle.body_reader.specs.BodyReader.{Breaks, EndsEarly}
 use Rattle.body_reader.specs.BodyReaderLaws.{BodyWent-joins}
@@ -342,7 +343,8 @@ module _ {R W : Type 0} (remaining : R → Option (List ℕ)) (s : Decoding R W)
 
         over_on : Source.AsksPromptly s.source t
         over_on = record {
-          asked = AskedWhere-on Such (λ bytes. bytes ≡ []) s.source.reader m.reader t.reader first.wire first.along.in_order gave
+          asked = AskedWhere-behind s.source.reader m.reader t.reader first.wire first.along.in_order gave Such
+              (λ bytes. bytes ≡ [])
               (λ more none. subst Such (sym (append-nil first.wire) ∙ ap (λ l. first.wire ++ l) (sym none)) due)
               (over (Ok k) p).asked looks.asked;
           grows = ReadLogGrows-joins s.source.reader.log.reads m.reader.log.reads t.reader.log.reads first.along.grows

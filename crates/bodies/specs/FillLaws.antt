@@ -6,7 +6,7 @@ use Rattle.std.proofs.lemmas.List.{nil_from_length}
 use Rattle.buffer_redux.specs.Fill.{Turns}
 use Rattle.buffer_redux.specs.StreamLog.{after_read}
 use Rattle.buffer_redux.specs.Unbuffer.{unbuffered}
-use Rattle.body_reader.specs.Asking.{AskedWhere}
+use Rattle.buffer_redux.specs.Asking.{AskedWhere}
 use Rattle.bodies.specs.Words.{Error, Fills, ReadsInOrder, Buffered, std_read_rules, StdPolicy}
 
 none_of : (n : ℕ) → true ≡ (n == 0) → n ≡ 0

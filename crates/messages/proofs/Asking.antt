@@ -2,8 +2,8 @@
 use Rattle.std.proofs.Common.{◌≡◌, ℕ, ◌+◌, ◌<◌, ◌∙◌, List, [], ◌∷◌, ◌++◌, length, take, inl, inr, Option, Result, Ok, Err, ap, subst, arith, refl, append-nil, length-append}
 use Rattle.std.proofs.lemmas.Bool.{cases_lt}
 use Rattle.std.proofs.lemmas.List.{length-take-le, nil_from_length}
-use Rattle.body_reader.specs.Asking.{AskedWhere}
-use Rattle.body_reader.specs.AskingLaws.{AskedWhere-of}
+use Rattle.buffer_redux.specs.Asking.{AskedWhere}
+use Rattle.buffer_redux.specs.AskingLaws.{AskedWhere-of}
 use Rattle.body_reader.specs.BodyReader.{BodyWent, Drains, FillsPayload, IsBodyReader, NoPayload, ReadsPayload, TookWholeBody, handed_of}
 use Rattle.body_reader.specs.declared.error.BodyError.{BodyError as Unread}
 use Rattle.body_reader.specs.declared.error.BodyError.TheVariants as unread

@@ -1,6 +1,6 @@
 -- What a reader in a body lends out of its buffer, and what of that is taken.
 use Rattle.std.specs.Prelude.{◌≡◌, ◌⊎◌, ◌-◌, ◌<◌, ◌≤◌, ℕ, List, [], ◌++◌, drop, length, min, take, IfOk, MatchResult, Option, Result}
-use Rattle.body_reader.specs.Asking.{AskedWhere}
+use Rattle.buffer_redux.specs.Asking.{AskedWhere}
 use Rattle.body_reader.specs.BodyReader.{NotedIfSome}
 use Rattle.messages.specs.declared.error.BodyError.{BodyError}
 use Rattle.messages.specs.Messages.{Backward, BeginsRest, EachReadGave, Fails, InBody, InsideGoes, IsRest, Onward, Rest, sure_of}

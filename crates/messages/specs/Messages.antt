@@ -7,7 +7,7 @@ use Rattle.buffer_redux.specs.Block.{Block, Plain}
 use Rattle.buffer_redux.specs.Buffered.{Buffered}
 use Rattle.buffer_redux.specs.StreamLog.{StreamLog, no_calls}
 use Rattle.buffer_redux.specs.Unbuffer.{StreamWent, Unbuffered, unbuffered}
-use Rattle.body_reader.specs.Asking.{AskedWhere}
+use Rattle.buffer_redux.specs.Asking.{AskedWhere}
 use Rattle.body_reader.specs.Between.{handed_out}
 use Rattle.body_reader.specs.BodyReader.{BodyState}
 use Rattle.body_reader.specs.Coding.{Grammar}

@@ -1,7 +1,7 @@
 //! The reader of requests, in a body.
 ghost use Rattle.std.specs.Prelude.{◌≡◌, ◌-◌, ◌^◌, ◌<◌, ◌≤◌, ◌↔◌, ℕ, List, [], ◌++◌, length, min, take, IfErr, IfOk, IsTrue, MatchResult, Ok, OnOk};
 ghost use Rattle.std.specs.Borrow.{Lends, sem};
-ghost use Rattle.body_reader.specs.Asking.{AskedWhere};
+ghost use Rattle.buffer_redux.specs.Asking.{AskedWhere};
 ghost use Rattle.body_reader.specs.Between.{handed_out};
 ghost use Rattle.body_reader.specs.BodyReader.{NotedIfSome};
 ghost use Rattle.buffer_redux.specs.StreamLog.{after_read};

@@ -7,8 +7,9 @@ use Rattle.body_reader.specs.declared.error.BodyError.{BodyError}
 use Rattle.body_reader.specs.declared.error.BodyError.TheVariants as because
 use Rattle.body_reader.specs.declared.just_or_until.JustOr.{JustOr}
 use Rattle.body_reader.specs.declared.just_or_until.JustOrUntil.{JustOrUntil}
-use Rattle.body_reader.specs.Asking.{AskedWhere}
-use Rattle.body_reader.specs.AskingLaws.{AskedWhere-on, AskedWhere-same}
+use Rattle.buffer_redux.specs.Asking.{AskedWhere}
+use Rattle.buffer_redux.specs.AskingLaws.{AskedWhere-same}
+use Rattle.body_reader.specs.AskingLaws.{AskedWhere-behind}
 use Rattle.body_reader.specs.Between.{EachGave}
 use Rattle.body_reader.specs.BetweenLaws.{EachGave-joins, EachGave-none, EachGave-same, StopsFor-after}
 use Rattle.body_reader.specs.BodyReader.{BodyState, BodyWent, ConsumesPayload, FillsPayload, IsBodyReader, NoPayload, TakesManyPieces, TookWholeBody, handed_of}

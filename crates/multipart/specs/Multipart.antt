@@ -10,7 +10,7 @@ use Rattle.body_reader.specs.declared.error.BodyError.{BodyError}
 use Rattle.body_reader.specs.declared.error.BodyError.TheVariants as why
 use Rattle.body_reader.specs.declared.just_or_until.JustOr.{JustOr}
 use Rattle.body_reader.specs.declared.just_or_until.JustOrUntil.{JustOrUntil}
-use Rattle.body_reader.specs.Asking.{AskedWhere}
+use Rattle.buffer_redux.specs.Asking.{AskedWhere}
 use Rattle.body_reader.specs.Between.{EachGave}
 use Rattle.body_reader.specs.BodyReader.{BodyState, BodyWent, Drains, FillsPayload, InPieces, IsBodyReader, NoPayload, TookWholeBody, begun, handed_of}
 use Rattle.body_reader.specs.Coding.{Grammar, IsBody, LeadsOpen}

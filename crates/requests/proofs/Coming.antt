@@ -6,8 +6,8 @@ use Rattle.buffer_redux.specs.Buffered.{Buffered}
 use Rattle.buffer_redux.specs.StreamLog.{StreamLog}
 use Rattle.buffer_redux.specs.Unbuffer.{HandsOutInOrder, Unbuffered}
 use Rattle.buffer_redux.specs.declared.policy.StdPolicy.{StdPolicy}
-use Rattle.body_reader.specs.Asking.{AskedWhere}
-use Rattle.body_reader.specs.AskingLaws.{AskedWhere-of}
+use Rattle.buffer_redux.specs.Asking.{AskedWhere}
+use Rattle.buffer_redux.specs.AskingLaws.{AskedWhere-of}
 use Rattle.codec.specs.declared.NextError.TheVariants as why
 use Rattle.codec.specs.Grammar.{IsOpen}
 use Rattle.codec.specs.NextPiece.{NextAnswer, NextPiece, NoEnd, empty_reads}

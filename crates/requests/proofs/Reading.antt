@@ -8,7 +8,7 @@ use Rattle.buffer_redux.specs.Buffered.{Buffered}
 use Rattle.buffer_redux.specs.Unbuffer.{StreamWent, Unbuffered}
 use Rattle.buffer_redux.specs.UnbufferLaws.{StreamWent-joins}
 use Rattle.buffer_redux.specs.declared.policy.StdPolicy.{StdPolicy}
-use Rattle.body_reader.specs.Asking.{AskedWhere}
+use Rattle.buffer_redux.specs.Asking.{AskedWhere}
 use Rattle.chunked.specs.PlaceLaws.{Completes-nothing}
 use Rattle.chunked.specs.Place.{Completes}
 use Rattle.chunked.specs.declared.error.Malformed.{Malformed}

@@ -1,6 +1,6 @@
 //! Bodies are taken whole, and their payload counted.
 ghost use Rattle.std.specs.Prelude.{◌≡◌, ℕ, ◌<◌, ◌≤◌, false, List, [], length, take, IfErr, IfOk, MatchResult, Ok, OnOk};
-ghost use Rattle.body_reader.specs.Asking.{AskedWhere};
+ghost use Rattle.buffer_redux.specs.Asking.{AskedWhere};
 ghost use Rattle.body_reader.specs.Between.{handed_out};
 ghost use Rattle.codec.specs.PieceReader.{left_of};
 ghost use Rattle.messages.specs.Limits.{usual};

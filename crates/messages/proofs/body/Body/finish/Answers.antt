@@ -1,7 +1,7 @@
 -- What the drain did, told of the rest of the body: all of that went, or a part, and why no more. The reader of pieces is made
 -- over the buffer and the stream, so what is left of it is what the body left.
 use Rattle.std.proofs.Common.{◌≡◌, ◌≤◌, ◌*◌, ◌∙◌, ap, arith, inl, inr, refl, subst, sym}
-use Rattle.body_reader.specs.Asking.{AskedWhere}
+use Rattle.buffer_redux.specs.Asking.{AskedWhere}
 use Rattle.buffer_redux.specs.Block.{with_limit}
 use Rattle.buffer_redux.specs.Unbuffer.{unbuffered}
 use Rattle.codec.specs.PieceReader.{left_of}
