@@ -173,11 +173,11 @@ fn reads_parts(rt: HostRuntime) -> Result<(), Fail> {
 fn tells_where_bodies_are_cut(rt: HostRuntime) -> Result<(), Fail> {
     for body in &BODIES {
         for count in 0..=body.bytes.len() {
-            for (piece, lent) in [(1000, false), (7, true)] {
+            for (piece, capacity, lent) in [(1000, 0, false), (7, 64, true), (1000, 8192, false)] {
                 let script = [Answer::ServeEach(piece)];
                 let play = Play {
                     script: &script,
-                    capacity: 0,
+                    capacity,
                     is_ring: false,
                     lent,
                 };
@@ -236,17 +236,18 @@ fn asks_for_nothing_that_is_settled(rt: HostRuntime) -> Result<(), Fail> {
         (b"--b--", &[], true),
     ];
     for (bytes, texts, is_over) in shown {
-        for minimum in [0, 1, 64] {
-            let plain = BufReader::with_buffer(
-                holding_in(alloc, false, 64, b"")?,
-                source(alloc, bytes, &script)?,
-            );
-            assert!(rt; settles(alloc, plain, texts, is_over)?);
-            let ring = BufReader::with_buffer(
-                holding_in(alloc, true, 64, b"")?,
-                source(alloc, bytes, &script)?,
-            );
-            assert!(rt; settles(alloc, ring.set_policy(MinBuffered(minimum)), texts, is_over)?);
+        for is_ring in [false, true] {
+            for minimum in [None, Some(0), Some(1), Some(64)] {
+                let inner: BufReader<Source> = BufReader::with_buffer(
+                    holding_in(alloc, is_ring, 64, b"")?,
+                    source(alloc, bytes, &script)?,
+                );
+                let settled = match minimum {
+                    Some(n) => settles(alloc, inner.set_policy(MinBuffered(n)), texts, is_over)?,
+                    None => settles(alloc, inner, texts, is_over)?,
+                };
+                assert!(rt; settled);
+            }
         }
     }
     Ok(())
