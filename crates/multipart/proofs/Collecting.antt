@@ -135,27 +135,12 @@ module _ {S Q : Type 0} (remaining : S → Option (List ℕ)) (rules : ReadRules
 
     module _ {n : ℕ} {f : Body} (opens : IsTrue (is_opening all))
         (fills' : FillsPayload remaining rules (codes m.coding) m (Ok n) f) where
-      filled_gave : EachGave s.reader f.reader
+      pub filled_gave : EachGave s.reader f.reader
       filled_gave = EachGave-joins s.reader m.reader f.reader so.gave fills'.answers.1
 
       -- the head ended
       pub head_whole : n ≡ 0 → CollectsHead remaining rules most s before (Ok tt) f all
       head_whole none = head_ends opens fills' (Ok tt) (opens, filled_gave, (fills opens fills').answers.2 none)
-
-      -- or there is too much of it, or no room
-      pub head_long : 0 < n → most < length all + n → CollectsHead remaining rules most s before (Err part.LongHead) f all
-      head_long some long = head_ends opens fills' (Err part.LongHead) (
-        omega (arith, some, fills'.answers.0),
-        omega (arith, long, fills'.answers.0),
-        filled_gave,
-      )
-
-      pub head_refused : 0 < n → length all + n ≤ most → CollectsHead remaining rules most s before (Err part.Memory) f all
-      head_refused some fits = head_ends opens fills' (Err part.Memory) (
-        omega (arith, some, fills'.answers.0),
-        omega (arith, fits, fills'.answers.0),
-        filled_gave,
-      )
 
       -- or it goes on, one piece more
       pub head_more : 0 < n → (t : Body) → ConsumesPayload remaining rules (codes f.coding) n f t → length all + f.known ≤ most

@@ -348,10 +348,10 @@ fn collect_head<R: TellRead, P: ReaderPolicy>(
         if came > most.saturating_sub(head.len()) {
             return Err(PartError::LongHead);
         }
-        if head.extend_from_slice(body.piece()).is_err() {
-            return Err(PartError::Memory);
+        match head.extend_from_slice(body.piece()) {
+            Ok(()) => body.consume_payload(came),
+            Err(_) => return Err(PartError::Memory),
         }
-        body.consume_payload(came);
     }
     Err(PartError::Boundary)
 }

@@ -3,7 +3,7 @@ use Rattle.std.proofs.Common.{◌≡◌, ◌∙◌, Ok, ap, arith, inl, inr, len
 use Rattle.std.proofs.lemmas.Result.{err_from_is_err_and}
 use Rattle.body_reader.specs.BodyReader.{FillsPayload}
 use Rattle.multipart.specs.Multipart.{codes}
-use Rattle.multipart.proofs.Turning.{ends_here}
+use Rattle.multipart.proofs.Turning.{two_hyphens}
 use Rattle.multipart.proofs.reader.Multipart.end_at_limit.Goals as goal
 use Rattle.multipart.proofs.reader.Multipart.end_at_limit.Goals.{then-branch-gt0-via-then-branch-gt0, then-branch-gt0-via-else-branch-gt0+then-taken-ne2}
 
@@ -28,9 +28,15 @@ returns-then-branch-gt0 g c = rw (← c.self.view_is) (
 )
 
 pub invariant_of-self-2 : goal.invariant_of-self-2
-invariant_of-self-2 g c = ends_here g.R.TellRead.remaining g.P.ReaderPolicy.rules _ c.self.invariant
-    (ap (λ x. x.stand) c.self.view_is ∙ c.requires.head) c.in_ok-fill_payload.field-0 c.fill_payload.new.self c.in_ok-fill_payload.ensures.fills
-    c.if-branch-gt0.false (omega (arith, c.if-taken-ne2.false, c.taken.ensures))
+invariant_of-self-2 g c =
+    let here = rw (ap (λ x. x.stand) c.self.view_is ∙ c.requires.head) at c.self.invariant in
+    let fills = c.in_ok-fill_payload.ensures.fills in
+    rw fills.went.coding (
+      here.0,
+      two_hyphens c.self.inside.other c.self.inside.body.coding here.0 _ _
+          (fills.answers.2 (omega (arith, c.if-branch-gt0.false)))
+          (omega (arith, c.if-taken-ne2.false, c.taken.ensures)),
+    )
 
 pub returns : goal.returns
 returns g c =

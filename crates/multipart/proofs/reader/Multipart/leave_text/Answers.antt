@@ -1,7 +1,6 @@
 -- Where the text was drained the codings change places behind it, and else it stands in it still.
-use Rattle.std.proofs.Common.{refl}
+use Rattle.std.proofs.Common.{◌∙◌, ap, inl, inr, refl}
 use Rattle.std.proofs.lemmas.Result.{err_from_is_err_and}
-use Rattle.multipart.proofs.Turning.{stays_in}
 use Rattle.multipart.proofs.reader.Multipart.leave_text.Goals as goal
 
 pub returns-in_err-drain : goal.returns-in_err-drain
@@ -17,5 +16,10 @@ returns g c = rw (← c.self.view_is) (
 )
 
 pub invariant_of-self : goal.invariant_of-self
-invariant_of-self g c = stays_in _ c.args.self.now c.self.view_is c.self.invariant c.requires.text c.drain.new.self
-    c.in_err-drain.ensures.drains.went.coding
+invariant_of-self g c =
+    let stand = ap (λ x. x.stand) c.self.view_is in
+    let still = c.in_err-drain.ensures.drains.went.coding in
+    elim c.requires.text [
+      | inl first ↦ rw (stand ∙ first, still) (rw (stand ∙ first) at c.self.invariant)
+      | inr later ↦ rw (stand ∙ later, still) (rw (stand ∙ later) at c.self.invariant)
+    ]
