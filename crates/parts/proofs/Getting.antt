@@ -58,10 +58,6 @@ module _ {S T : Type 0} (tells : T → StreamLog) (trace : T → T → Type 0) (
         (MetInterrupts-joins u.log.writes v.log.writes w.log.writes did.puts.met flushes.ok.met)
     went (Err e) did = tt
 
-    pub got : (answer last : Result (Unit {0}) RunError) → GetAnswers tells trace name s u answer t v
-        → FlushedUnless tells trace answer v last w → OnOk last Got
-    got answer last did f = at_done tells trace v w Got answer last (went answer did) f
-
     unflushed : (answer : Result (Unit {0}) RunError) → GetAnswers tells trace name s u answer t v
         → v.log.writes.flushes ≡ u.log.writes.flushes
     unflushed (Ok x) did = did.puts.unflushed
@@ -72,9 +68,12 @@ module _ {S T : Type 0} (tells : T → StreamLog) (trace : T → T → Type 0) (
     unflushed (Err (Why.Body y)) did = did.puts.unflushed
     unflushed (Err (Why.Write e)) did = did.puts.unflushed
 
-    pub got_once : (answer last : Result (Unit {0}) RunError) → GetAnswers tells trace name s u answer t v
-        → FlushedUnless tells trace answer v last w → w.log.writes.flushes ≤ u.log.writes.flushes + 1
-    got_once answer last did f = omega (arith, unflushed answer did, ended_once tells trace v w answer last f)
+    pub got : (answer last : Result (Unit {0}) RunError) → GetAnswers tells trace name s u answer t v
+        → FlushedUnless tells trace answer v last w → OnOk last Got × (w.log.writes.flushes ≤ u.log.writes.flushes + 1)
+    got answer last did f = (
+      at_done tells trace v w Got answer last (went answer did) f,
+      omega (arith, unflushed answer did, ended_once tells trace v w answer last f),
+    )
 
   -- and of a list
   abbrev Listed : Type 0
@@ -104,10 +103,6 @@ module _ {S T : Type 0} (tells : T → StreamLog) (trace : T → T → Type 0) (
       (MetInterrupts-joins u.log.writes v.log.writes w.log.writes puts.met flushes.ok.met)
   listed_all (Err e) did = tt
 
-  pub listed : (answer last : Result (Unit {0}) RunError) → ListAnswers tells trace s u answer t v
-      → FlushedUnless tells trace answer v last w → OnOk last Listed
-  listed answer last did f = at_done tells trace v w Listed answer last (listed_all answer did) f
-
   none_flushed : (answer : Result (Unit {0}) RunError) → ListAnswers tells trace s u answer t v
       → v.log.writes.flushes ≡ u.log.writes.flushes
   none_flushed (Ok x) did = did.3.unflushed
@@ -119,6 +114,9 @@ module _ {S T : Type 0} (tells : T → StreamLog) (trace : T → T → Type 0) (
   none_flushed (Err Why.Many) (inr did) = did.5.unflushed
   none_flushed (Err Why.Missing) did = absurd did
 
-  pub listed_once : (answer last : Result (Unit {0}) RunError) → ListAnswers tells trace s u answer t v
-      → FlushedUnless tells trace answer v last w → w.log.writes.flushes ≤ u.log.writes.flushes + 1
-  listed_once answer last did f = omega (arith, none_flushed answer did, ended_once tells trace v w answer last f)
+  pub listed : (answer last : Result (Unit {0}) RunError) → ListAnswers tells trace s u answer t v
+      → FlushedUnless tells trace answer v last w → OnOk last Listed × (w.log.writes.flushes ≤ u.log.writes.flushes + 1)
+  listed answer last did f = (
+    at_done tells trace v w Listed answer last (listed_all answer did) f,
+    omega (arith, none_flushed answer did, ended_once tells trace v w answer last f),
+  )

@@ -44,10 +44,12 @@ returns-in-Err g c =
     ))
 
 pub loop-body-preserved : goal.loop-body-preserved
-loop-body-preserved g c = rw (c.in-Ok.ensures.items, c.piece.ensures) (head_more _ _ _ c.loop-body.invariant (cc) c.in_ok-came.ensures.fills (omega (arith, c.if-came-eq0.false)) c.consume_payload.new.self
-    c.consume_payload.ensures.consumes (omega (
+loop-body-preserved g c =
+    let fills = c.in_ok-came.ensures.fills in
+    rw (c.in-Ok.ensures.items, c.piece.ensures) (head_more _ _ _ c.loop-body.invariant (cc) fills
+    (omega (arith, c.if-came-eq0.false)) c.consume_payload.new.self c.consume_payload.ensures.consumes (omega (
       arith,
-      c.in_ok-came.ensures.fills.answers.0,
+      fills.answers.0,
       c.if-came-eq0.false,
       c.if-came-saturating_sub.false,
       c.saturating_sub.ensures,
@@ -55,5 +57,4 @@ loop-body-preserved g c = rw (c.in-Ok.ensures.items, c.piece.ensures) (head_more
     )))
 
 pub returns : goal.returns
-returns g c = head_wrong _ _ _ c.loop-body.invariant
-    (λ opens. cc)
+returns g c = head_wrong _ _ _ c.loop-body.invariant (λ opens. cc)

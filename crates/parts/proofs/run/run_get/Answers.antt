@@ -1,5 +1,5 @@
 -- What was accepted of the part was sent by the flush.
-use Rattle.parts.proofs.Getting.{got, got_once}
+use Rattle.parts.proofs.Getting.{got}
 use Rattle.parts.proofs.run.run_get.Goals as goal
 
 pub returns : goal.returns
@@ -15,8 +15,6 @@ returns g c =
       did = c.get-answer.ensures;
       read_to = c.ended.ensures.read;
       over = over;
-      once = rw over.written_to (got_once g.W.Tell.log g.W.TellWrite.trace g.met.W.TellWrite.trace_joins c.args.parts
-          c.get-answer.new.parts c.args.target c.get-answer.new.target over.w c.requires.unread c.requires.unwritten c.args.name.now
-          c.get-answer.result over.last c.get-answer.ensures over.flushed);
-      sent = rw (c.ended.ensures.read, over.written_to) is;
+      once = rw over.written_to is.1;
+      sent = rw (c.ended.ensures.read, over.written_to) is.0;
     }

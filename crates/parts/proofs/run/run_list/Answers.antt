@@ -1,5 +1,5 @@
 -- What was accepted was sent by the flush.
-use Rattle.parts.proofs.Getting.{listed, listed_once}
+use Rattle.parts.proofs.Getting.{listed}
 use Rattle.parts.proofs.run.run_list.Goals as goal
 
 pub returns : goal.returns
@@ -15,8 +15,6 @@ returns g c =
       did = c.list-answer.ensures;
       read_to = c.ended.ensures.read;
       over = over;
-      once = rw over.written_to (listed_once g.W.Tell.log g.W.TellWrite.trace g.met.W.TellWrite.trace_joins c.args.parts
-          c.list-answer.new.parts c.args.target c.list-answer.new.target over.w c.requires.unread c.requires.unwritten
-          c.list-answer.result over.last c.list-answer.ensures over.flushed);
-      sent = rw (c.ended.ensures.read, over.written_to) is;
+      once = rw over.written_to is.1;
+      sent = rw (c.ended.ensures.read, over.written_to) is.0;
     }
