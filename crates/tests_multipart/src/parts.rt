@@ -280,29 +280,36 @@ fn fails(alloc: Global, bytes: &[u8], piece: usize, why: &str) -> io::Result<boo
     Ok(true)
 }
 
+// Bytes, and why their parts end.
+static WRONG: [(&[u8], &str); 13] = [
+    (b"--bc\r\n\r\n", "a boundary is not alone in its line"),
+    (b"--bc", "a boundary is not alone in its line"),
+    (b"--b-\r", "a boundary is not alone in its line"),
+    (b"--b \tc", "a boundary is not alone in its line"),
+    (b"--b\n", "a boundary is not alone in its line"),
+    (b"--b\rc", "a boundary is not alone in its line"),
+    (b"--b \r\r", "a boundary is not alone in its line"),
+    (b"--b\r\nA: 123456", "the head of a part is too long"),
+    (b"--b          ", "the head of a part is too long"),
+    (b"--b\r\n\r\n\r\n--b\r\n\r\n", "there are too many parts"),
+    (b"--b\r\n\r\n\r\n--b\r\nA", "there are too many parts"),
+    (b"--b\r\n\r\n\r\n--b ", "there are too many parts"),
+    (b"--b\r\n\r\n\r\n--bc", "there are too many parts"),
+];
+
 #[test]
 fn refuses_what_is_wrong(rt: HostRuntime) -> Result<(), Fail> {
-    let alloc = rt.alloc();
-    let shown: [(&[u8], &str); 13] = [
-        (b"--bc\r\n\r\n", "a boundary is not alone in its line"),
-        (b"--bc", "a boundary is not alone in its line"),
-        (b"--b-\r", "a boundary is not alone in its line"),
-        (b"--b \tc", "a boundary is not alone in its line"),
-        (b"--b\n", "a boundary is not alone in its line"),
-        (b"--b\rc", "a boundary is not alone in its line"),
-        (b"--b \r\r", "a boundary is not alone in its line"),
-        (b"--b\r\nA: 123456", "the head of a part is too long"),
-        (b"--b          ", "the head of a part is too long"),
-        (b"--b\r\n\r\n\r\n--b\r\n\r\n", "there are too many parts"),
-        (b"--b\r\n\r\n\r\n--b\r\nA", "there are too many parts"),
-        (b"--b\r\n\r\n\r\n--b ", "there are too many parts"),
-        (b"--b\r\n\r\n\r\n--bc", "there are too many parts"),
-    ];
-    for (bytes, why) in shown {
+    for &(bytes, why) in WRONG.iter() {
         for piece in [1, 1000] {
-            assert!(rt; fails(alloc, bytes, piece, why)?);
+            assert!(rt; fails(rt.alloc(), bytes, piece, why)?);
         }
     }
+    Ok(())
+}
+
+#[test]
+fn refuses_to_begin(rt: HostRuntime) -> Result<(), Fail> {
+    let alloc = rt.alloc();
     for (boundary, capacity) in [(b"".as_slice(), 100), (b"0123456789".as_slice(), 13)] {
         let inner = BufReader::with_buffer(
             holding_in(alloc, false, capacity, b"")?,
