@@ -59,7 +59,7 @@ module _ {S Q : Type 0} (remaining : S → Option (List ℕ)) (rules : ReadRules
   not_whole : (d : Body) (c : JustOrUntil) → IsBodyReader (codes c) d → 0 < d.known → ¬ TookWholeBody (codes c) d
   not_whole d c is some whole =
       (is.known.1 some).goes_on (Leads-done (codes c)
-      (just_or_until_lawful c.just.items c.until.delimiter.items c.room c.some c.shorter c.fits) d.taken (handed_of d) d.place
+      (just_or_until_lawful c.just.items c.until.delimiter c.room c.some c.shorter c.fits) d.taken (handed_of d) d.place
       (heeded (codes c) d.reader.block.bytes) is.leads is.place whole)
 
   module _ {s : Body} {before : List ℕ} {m : Body} {all : List ℕ} (so : HeadSoFar s before m all) where
@@ -89,8 +89,8 @@ module _ {S Q : Type 0} (remaining : S → Option (List ℕ)) (rules : ReadRules
 
       filled_asked : AskedWhere (IsOpenHead remaining rules s before) (unbuffered s.reader) (unbuffered f.reader)
       filled_asked =
-          AskedWhere-on (IsOpenHead remaining rules s before) (LeadsOpen (codes s.coding) m.place []) s.reader m.reader f.reader
-          so.went.wire so.went.along.in_order so.gave
+          AskedWhere-behind s.reader m.reader f.reader so.went.wire so.went.along.in_order so.gave
+          (IsOpenHead remaining rules s before) (LeadsOpen (codes s.coding) m.place [])
           (λ more is. (
             so.payload ++ [],
             LeadsOpen-behind (codes s.coding) s.place m.place so.went.wire so.payload [] m.reader.block.bytes more

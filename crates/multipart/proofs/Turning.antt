@@ -17,7 +17,7 @@ two_hyphens texts heads are taken handed (inr until) two = absurd (omega (
   two,
   ap length until.1.0,
   ap length are.empty_line,
-  length-append handed heads.until.delimiter.items,
+  length-append handed heads.until.delimiter,
 ))
 
 -- what passes a text is the next part's clause from a preamble and from a part

@@ -1,5 +1,5 @@
 //! The reader of parts.
-ghost use Rattle.std.specs.Prelude.{[], ◌≡◌, ◌≢◌, ◌<◌, ◌≤◌, ◌+◌, ◌⊎◌, ◌∷◌, ◌++◌, length, min, take, vec_items, Ok, IfErr, IfOk, IfSome, MatchBool};
+ghost use Rattle.std.specs.Prelude.{[], ◌≡◌, ◌≢◌, ◌<◌, ◌≤◌, ◌+◌, ◌^◌, ◌⊎◌, ◌∷◌, ◌++◌, length, min, take, vec_items, Ok, IfErr, IfOk, IfSome, MatchBool};
 ghost use Rattle.body_reader.specs.BodyReader.{ConsumesPayload, FillsPayload, IsBodyReader, ReadsPayload, TookWholeBody};
 ghost use Rattle.multipart.specs.Multipart.{AreCodings, CollectsHead, EndsAtLimit, EndsHead, GoesOnFromHead, IsBegun, IsForm, LeavesText, NextPart, NoReaderMade, codes};
 
@@ -314,7 +314,7 @@ impl<R: TellRead, P: ReaderPolicy> Multipart<R, P> {
     // Goes on into the part behind this head, or says that there is none.
     fn end_head(&mut self) -> bool
         requires head { self.old.stand ≡ Stand.Head }
-        requires few { self.old.parts < self.old.limits.parts }
+        requires few { self.old.parts + 1 < 2 ^ 64 }
         requires whole { TookWholeBody (codes self.old.body.coding) self.old.body }
         requires reader { IsBodyReader (codes self.old.body.coding) self.old.body }
         ensures { EndsHead self.old result self.new }
