@@ -5,13 +5,12 @@ use Rattle.std.proofs.lemmas.List.Folds.{concat-append}
 use Rattle.std.specs.Global.{Vec}
 use Rattle.buffer_redux.specs.ReaderLaws.{ReadsInOrder-fresh}
 use Rattle.buffer_redux.specs.WriterLaws.{WritesInOrder-fresh}
-use Rattle.body_reader.specs.Coding.{Leads}
 use Rattle.body_reader.specs.CodingLaws.{Leads-none}
 use Rattle.chunked.specs.declared.place.Place.TheVariants.{Line}
 use Rattle.forward.specs.Forward.{ForwardAnswers, Forwarded, StopsBy}
 use Rattle.forward.specs.declared.error.Cause.{Cause}
 use Rattle.forward.specs.declared.error.Cause.TheVariants as cause
-use Rattle.bodies.specs.Words.{Error, Buffered, StreamLog, StdPolicy, IsBodyOfChunks, BreaksAt, TookWholeBody, begun, chunked, handed_of, Limits, FilterRules, Moves, AllSent, RefusedBeforeCalls, MetNoFault, RunError}
+use Rattle.bodies.specs.Words.{Error, Buffered, StreamLog, StdPolicy, IsBodyOfChunks, TookWholeBody, begun, chunked, Limits, FilterRules, Moves, AllSent, RefusedBeforeCalls, MetNoFault, RunError}
 use Rattle.bodies.specs.Decode.{DecodeRan, DecodesBody, Moved, MovedAll}
 use Rattle.bodies.specs.Decoding.{MayDecode, PayloadEnds, decoding_rules, held_payload}
 use Rattle.bodies.specs.DecodingLaws.{none_held}
@@ -54,9 +53,7 @@ module _ {R W : Type 0} (remaining : R → Option (List ℕ)) (limits : Limits) 
           payload = moves.hands.payload;
           place = t.source.place;
           part = record {
-            leads = subst (λ c. Leads (chunked c.0) Line t.source.taken moves.hands.payload t.source.place []) went.coding
-                (subst (λ l. Leads (chunked t.source.coding.0) Line t.source.taken l t.source.place []) went.handed
-                ready.whole.leads);
+            leads = rw (went.coding, went.handed) at ready.whole.leads;
             is_place = ready.whole.place;
           };
           rest = t.source.reader.block.bytes;
@@ -94,22 +91,20 @@ module _ {R W : Type 0} (remaining : R → Option (List ℕ)) (limits : Limits) 
       }
 
       is_body : TookWholeBody (chunked t.source.coding.0) t.source → IsBodyOfChunks limits t.source.taken over.moves.hands.payload
-      is_body whole = subst (λ c. IsBodyOfChunks c.0 t.source.taken over.moves.hands.payload) over.moves.hands.went.coding
-          (subst (IsBodyOfChunks t.source.coding.0 t.source.taken) over.moves.hands.went.handed whole)
+      is_body whole = rw (over.moves.hands.went.coding, over.moves.hands.went.handed) at whole
 
       -- what comes next is wrong, or missing, or more than the body
       wrong : (why : RunError) → PayloadEnds begin.source (Err why) t.source
           → MetNoFault first.log t.source.reader.log u.log t.target.log → Ran (Err why)
       wrong (NotChunked why right) (breaks, count) met = (
         moved_all,
-        subst (λ c. BreaksAt c.0 t.source.place t.source.taken t.source.reader.block.bytes why) over.moves.hands.went.coding
-            breaks,
+        rw over.moves.hands.went.coding at breaks,
         count,
         met,
       )
       wrong (Truncated right) (none, left, dry, count) met = (
         moved_all,
-        subst (λ c. (whole : List ℕ) → ¬ IsBodyOfChunks c.0 t.source.taken whole) over.moves.hands.went.coding none,
+        rw over.moves.hands.went.coding at none,
         left,
         dry,
         count,
@@ -165,7 +160,7 @@ decode_says (Err e) decodes = record { decoded = tt; decodes = decodes }
 -- a buffer was refused
 pub refused : (limits : Limits) (read read' written written' : StreamLog) (e : Error)
     → RefusedBeforeCalls e read read' written written' → DecodesBody limits read read' written written' (Err (Io e))
-refused limits read read' written written' e p = record {
+refused limits read read' written written' e p = rw (p.read_same, p.written_same) (record {
   ran = (
     record {
       wire = [];
@@ -173,17 +168,13 @@ refused limits read read' written written' e p = record {
       place = Line;
       part = record { leads = Leads-none (chunked limits) Line []; is_place = tt };
       rest = [];
-      given = ap (λ l. l.reads.given) p.read_same ∙ sym (append-nil read.reads.given);
+      given = sym (append-nil read.reads.given);
       unsent = [];
-      received = ap (λ l. l.writes.received ++ []) p.written_same;
+      received = refl;
     },
-    inr p,
+    inr (rw (p.read_same, p.written_same) at p),
   );
-  prompt = inl p.read_same;
-  once = omega (arith, ap (λ l. l.reads.zero_reads) p.read_same);
-  flushes = omega (
-    arith,
-    ap (λ l. l.writes.flushes) p.written_same,
-    ap (λ l. length l.writes.received) p.written_same,
-  );
-}
+  prompt = inl refl;
+  once = omega arith;
+  flushes = omega arith;
+})

@@ -11,11 +11,10 @@ use Rattle.body_reader.specs.AskingLaws.{AskedWhere-behind}
 use Rattle.body_reader.specs.Between.{EachGave}
 use Rattle.body_reader.specs.BodyReader.{Breaks, EndsEarly}
 use Rattle.body_reader.specs.BodyReaderLaws.{BodyWent-joins}
-use Rattle.body_reader.specs.Coding.{AskedFor, IsOpen, Leads, LeadsOpen}
+use Rattle.body_reader.specs.Coding.{AskedFor, IsOpen, LeadsOpen}
 use Rattle.body_reader.specs.CodingLaws.{Leads-joins, Leads-more}
 use Rattle.body_reader.specs.declared.error.BodyError.{BodyError}
 use Rattle.body_reader.specs.declared.error.BodyError.TheVariants as body
-use Rattle.chunked.specs.Coding.{IsWrongNext}
 use Rattle.chunked.specs.CodingLaws.{breaks_at}
 use Rattle.chunked.specs.declared.error.Malformed.{Malformed}
 use Rattle.chunked.specs.declared.place.Place.TheVariants.{Line}
@@ -40,17 +39,10 @@ due_on : {R : Type 0} (d : ChunkedState R) → IsBodyReader (chunked d.coding.0)
 due_on d is bytes on =
     let limits = d.coding.0 in
     let none : on.shown ≡ [] = nil_from_length on.shown (omega (arith, on.settles_nothing.few)) in
-    let all : on.wire ≡ bytes = sym (append-nil on.wire) ∙ ap (λ l. on.wire ++ l) (sym none) ∙ sym on.equal in
-    record {
-      place = on.place;
-      part = record {
-        leads = subst (λ l. Leads (chunked limits) Line (d.taken ++ bytes) l on.place []) (append-nil (handed_of d))
-            (Leads-joins (chunked limits) Line d.place on.place d.taken bytes (handed_of d) [] []
-            (Leads-more (chunked limits) Line d.place d.taken (handed_of d) [] (bytes ++ []) is.leads)
-            (subst (λ l. Leads (chunked limits) d.place l [] on.place []) all on.leads));
-        is_place = on.is_place;
-      };
-    }
+    let leads = Leads-joins (chunked limits) Line d.place on.place d.taken on.wire (handed_of d) [] []
+    (Leads-more (chunked limits) Line d.place d.taken (handed_of d) [] (on.wire ++ []) is.leads) on.leads in
+    rw (on.equal, none, append-nil)
+    (record { place = on.place; part = record { leads = rw append-nil at leads; is_place = on.is_place } })
 
 -- where nothing was settled no body was taken, and nothing is buffered
 early_none : {R : Type 0} (d : ChunkedState R) → EndsEarly (chunked d.coding.0) d
@@ -65,15 +57,12 @@ pub shown_none : {R : Type 0} (s d : ChunkedState R) → d.coding ≡ s.coding �
     → TookWholeBody (chunked s.coding.0) d ⊎ (EndsEarly (chunked s.coding.0) d
     ⊎ ((why : Malformed) × Breaks (chunked s.coding.0) why d))
     → NoneBuffered d
-shown_none s d same is (inl whole) = inl (subst (λ c. TookWholeBody (chunked c.0) d) (sym same) whole)
+shown_none s d same is (inl whole) = inl (rw same whole)
 shown_none s d same is (inr (inl early)) =
     inr (inl (early_none d (subst (λ c. EndsEarly (chunked c.0) d) (sym same) early)).1)
 shown_none s d same is (inr (inr (why, breaks))) =
-    inr (inr (
-      why,
-      breaks_at d (subst (λ c. IsBodyReader (chunked c.0) d) (sym same) is) why
-          (subst (λ c. IsWrongNext c.0 d.place d.reader.block.bytes why) (sym same) breaks.name),
-    ))
+    let is = subst (λ c. IsBodyReader (chunked c.0) d) (sym same) is in
+    inr (inr (why, breaks_at d is why (rw same breaks.name)))
 
 module _ {R W : Type 0} (remaining : R → Option (List ℕ)) (s : Decoding R W) (ready : MayDecode s) where
   abbrev rules : FilterRules (Decoding R W) RunError
@@ -250,9 +239,7 @@ module _ {R W : Type 0} (remaining : R → Option (List ℕ)) (s : Decoding R W)
         → (answer : Result Bool (AskError RunError)) → AskAnswers rules s answer (asked t s.held)
         → FilterAsks rules s answer (asked t s.held)
     asks_none t went whole over once answer answers =
-        asks_so t s.held (omega (arith, none))
-        (subst (λ n. BodyWent remaining std_read_rules (chunked s.source.coding.0) s.source (take n out) t) (sym none) went)
-        whole over once answer answers
+        asks_so t s.held (omega (arith, none)) (rw none went) whole over once answer answers
 
     abbrev Such : List ℕ → Type 0
     Such bytes = IsDue s.source.coding.0 (s.source.taken ++ bytes) (handed_of s.source)
@@ -290,8 +277,7 @@ module _ {R W : Type 0} (remaining : R → Option (List ℕ)) (s : Decoding R W)
     asked_failed (body.Wrong why right) p =
         let answer = Err (body.Wrong why right) in
         let gave = p.answers.1 in
-        let breaks = breaks_at m (here answer p) why
-        (subst (λ c. IsWrongNext c.0 m.place m.reader.block.bytes why) (sym p.went.coding) p.answers.2.name) in
+        let breaks = breaks_at m (here answer p) why (rw p.went.coding p.answers.2.name) in
         asks_none m p.went (here answer p) (over answer p) (omega (arith, gave.zero_reads))
         (Err (ask_error (body.Wrong why right)))
         ((none, (breaks, p.answers.0)), gave.faults)
@@ -322,30 +308,22 @@ module _ {R W : Type 0} (remaining : R → Option (List ℕ)) (s : Decoding R W)
       gave = p.answers.1
 
       first : BodyWent remaining std_read_rules (chunked s.source.coding.0) s.source [] m
-      first = subst (λ j. BodyWent remaining std_read_rules (chunked s.source.coding.0) s.source (take j out) m) nothing p.went
+      first = rw nothing at p.went
 
       due : IsDue s.source.coding.0 (s.source.taken ++ first.wire) (handed_of s.source)
       due = subst (λ c. IsDue c.0 (s.source.taken ++ first.wire) (handed_of s.source)) first.coding
           (subst (λ l. IsDue m.coding.0 l (handed_of s.source)) first.taken
-          (subst (IsDue m.coding.0 m.taken) (first.handed ∙ append-nil (handed_of s.source)) (record {
-            place = m.place;
-            part = record {
-              leads = (here (Ok k) p).leads;
-              is_place = p.whole.place;
-            };
-          })))
+          (subst (IsDue m.coding.0 m.taken) (first.handed ∙ append-nil (handed_of s.source))
+          (record { place = m.place; part = record { leads = (here (Ok k) p).leads; is_place = p.whole.place } })))
 
       module _ (end : Result Bool Error) (looks : LooksBehind remaining std_read_rules (chunked m.coding.0) m end t) where
         done : TookWholeBody (chunked t.coding.0) t
-        done = subst (λ d. TookWholeBody (chunked d.coding.0) d) (sym looks.still)
-            (subst (λ c. TookWholeBody (chunked c.0) m) (sym p.went.coding)
-            (p.answers.2 nothing (omega (arith, len, ready.room))))
+        done = rw (looks.still, p.went.coding) (p.answers.2 nothing (omega (arith, len, ready.room)))
 
         over_on : Source.AsksPromptly s.source t
         over_on = record {
           asked = AskedWhere-behind s.source.reader m.reader t.reader first.wire first.along.in_order gave Such
-              (λ bytes. bytes ≡ [])
-              (λ more none. subst Such (sym (append-nil first.wire) ∙ ap (λ l. first.wire ++ l) (sym none)) due)
+              (λ bytes. bytes ≡ []) (λ more none. rw (none, append-nil) due)
               (over (Ok k) p).asked looks.asked;
           grows = ReadLogGrows-joins s.source.reader.log.reads m.reader.log.reads t.reader.log.reads first.along.grows
               looks.went.along.grows;

@@ -50,8 +50,7 @@ module _ {read read' written' written'' : StreamLog} (m : Moved read read' writt
   unended is = record {
     chunks = is;
     cut = cut_short m.sent (m.unsent ++ body_end []) m.payload
-        (subst (λ l. IsBodyOfChunks least l m.payload) (append_assoc m.sent m.unsent (body_end []))
-        ((written (m.sent ++ m.unsent) m.payload is).is_body least (omega arith)))
+        (rw append_assoc at ((written (m.sent ++ m.unsent) m.payload is).is_body least (omega arith)))
         (omega (arith, length-append m.unsent (body_end [])));
   }
 
@@ -103,18 +102,15 @@ module _ {R W : Type 0} (remaining : R → Option (List ℕ)) (trace : W → W �
 
     -- the body's end wasn't taken in, or was
     not_ended : end ≡ [] → IsUnended moved
-    not_ended nothing =
-        unended moved (subst (λ l. IsChunks l (concat p))
-        (sym (part ∙ ap (λ l. flat_map chunk p ++ l) nothing ∙ append-nil (flat_map chunk p))) is_chunks)
+    not_ended nothing = unended moved (rw (part, nothing, append-nil) is_chunks)
 
     is_written : end ≡ body_end [] → IsEncodedBody (order.sent ++ v.block.bytes) (concat p)
-    is_written all = subst (λ l. IsEncodedBody l (concat p)) (sym (part ∙ ap (λ l. flat_map chunk p ++ l) all))
-        (written (flat_map chunk p) (concat p) is_chunks)
+    is_written all = rw (part, all) (written (flat_map chunk p) (concat p) is_chunks)
 
   -- all that was handed out went over
   module _ (count : ℕ) (over : Forwarded rules count begin t) where
     abbrev none_lost : Moves rules begin (over.payloads ++ []) over.payloads t
-    none_lost = subst (λ l. Moves rules begin l over.payloads t) (sym (append-nil over.payloads)) over.moves
+    none_lost = rw append-nil over.moves
 
     abbrev moved_over : (end : List ℕ) (v : Buffered W StdPolicy) → WritesInOrder t.target.writer end v
         → Moved first.log t.source.log u.log v.log
@@ -214,22 +210,18 @@ encode_says (Err e) encodes = record { encoded = tt; encodes = encodes }
 pub refused : (read read' written written' : StreamLog) (e : Error) → RefusedBeforeCalls e read read' written written'
     → Encodes read read' written written' (Err (Io e))
 refused read read' written written' e p =
-    let moved : Moved read read' written written' = record {
+    let moved : Moved read read written written = record {
       payload = [];
       rest = [];
-      given = ap (λ l. l.reads.given) p.read_same ∙ sym (append-nil read.reads.given);
+      given = sym (append-nil read.reads.given);
       sent = [];
       unsent = [];
-      received = ap (λ l. l.writes.received) p.written_same ∙ sym (append-nil written.writes.received);
+      received = sym (append-nil written.writes.received);
     } in
-    record {
-      ran = (moved, unended moved IsChunks-none, inr p);
-      prompt = inl p.read_same;
-      once = omega (arith, ap (λ l. l.reads.zero_reads) p.read_same);
-      flushes = omega (
-        arith,
-        ap (λ l. l.writes.flushes) p.written_same,
-        ap (λ l. length l.writes.received) p.written_same,
-      );
-      per_ask = omega (arith, ap (λ l. l.writes.flushes) p.written_same, ap (λ l. l.reads.asks) p.read_same);
-    }
+    rw (p.read_same, p.written_same) (record {
+      ran = (moved, unended moved IsChunks-none, inr (rw (p.read_same, p.written_same) at p));
+      prompt = inl refl;
+      once = omega arith;
+      flushes = omega arith;
+      per_ask = omega arith;
+    })

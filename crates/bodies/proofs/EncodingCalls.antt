@@ -1,6 +1,7 @@
 -- What a chunk, and the end of a body, do to the writer; and what the calls of a filter of chunks do.
 use Rattle.std.proofs.Common.{MatchResult, ◌⊎◌, ◌≡◌, ℕ, ◌+◌, ◌-◌, ◌<◌, ◌≤◌, inl, inr, List, [], length, length-take-le, take, Result, Ok, Err, refl, subst, sym, ap, ◌∙◌, arith, length-append, zero, suc, ◌==◌, not, Bool, ◌∷◌, ◌++◌, true, false, Option, append-nil}
 use Rattle.std.proofs.lemmas.Bool.{cases_lt}
+use Rattle.std.proofs.lemmas.Bool.Decides.{nat_tests}
 use Rattle.std.specs.IoError.{error_kind}
 use Rattle.std.specs.declared.io.ErrorKind.TheVariants.{InvalidInput}
 use Rattle.buffer_redux.specs.Block.{IsBlock}
@@ -22,7 +23,7 @@ use Rattle.bodies.specs.Encode.{EndsBody}
 use Rattle.bodies.specs.Encoding.{encoding_rules, MayEncode}
 use Rattle.bodies.specs.Filters.{Asked}
 use Rattle.bodies.specs.FillLaws.{fill_leaves, some_came}
-use Rattle.bodies.specs.FiltersLaws.{ended, fault_gives, fill_asked, fill_capacity, some_of, std_fault}
+use Rattle.bodies.specs.FiltersLaws.{ended, fault_gives, fill_asked, fill_capacity, std_fault}
 use Rattle.bodies.specs.declared.encoding.Encoding.{Encoding}
 use Rattle.bodies.specs.declared.error.RunError.TheVariants.{Write}
 
@@ -41,14 +42,14 @@ module _ {W : Type 0} (tells : W → StreamLog) (trace : W → W → Type 0) whe
         let p = full none in
         let told = PutsIn-told p.sent v more p.puts in
         record {
-          met = subst (λ l. MetInterrupts u.log.writes l.writes) (sym told) p.sends.ok.met;
+          met = rw told p.sends.ok.met;
           not_flushed = ap (λ l. l.writes.flushed) told ∙ p.sends.not_flushed;
           flushes = ap (λ l. l.writes.flushes) told ∙ p.sends.sends.sent.flushes;
         }
     | inr there ↦
         let told = PutsIn-told u v bytes (fits there) in
         record {
-          met = subst (λ l. MetInterrupts u.log.writes l.writes) (sym told) (MetInterrupts-none u.log.writes);
+          met = rw told (MetInterrupts-none u.log.writes);
           not_flushed = ap (λ l. l.writes.flushed) told;
           flushes = ap (λ l. l.writes.flushes) told;
         }
@@ -303,7 +304,7 @@ module _ {R W : Type 0} (remaining : R → Option (List ℕ)) (tells : W → Str
         (λ same. omega (arith, end.1, ap (λ l. l.reads.zero_reads) same))
         (omega (arith, end.1)) (Ok false) (end, fills.caused)
     asked a fills false is =
-        let some = some_of (length t.block.bytes) is in
+        let some : 0 < length t.block.bytes = grind (arith, nat_tests) in
         let order = fills.in_order in
         let asked = fill_asked s.source t (Ok a) fills in
         let quiet = none_where_shown std_read_rules ReadsWhenEmpty-std s.source t a fills.filled some in

@@ -26,9 +26,7 @@ module _ {R W : Type 0} (remaining : R → Option (List ℕ)) where
   pub hands_none : (s t : Decoding R W) → t.source ≡ s.source → held_payload s ≡ held_payload t
       → HandsPayloadPieces remaining s [] t
   hands_none s t same held = hands_held s t []
-      (subst (BodyWent remaining std_read_rules (chunked s.source.coding.0) s.source []) (sym same)
-      (BodyWent-none remaining std_read_rules (chunked s.source.coding.0) s.source))
-      (append-nil (held_payload s) ∙ held)
+      (rw same (BodyWent-none remaining std_read_rules (chunked s.source.coding.0) s.source)) (append-nil (held_payload s) ∙ held)
 
   hands_joins : (a b c : Decoding R W) (p q : List (List ℕ)) → HandsPayloadPieces remaining a p b
       → HandsPayloadPieces remaining b q c
@@ -47,8 +45,8 @@ module _ {R W : Type 0} (remaining : R → Option (List ℕ)) where
 
   takes_joins : (a b c : Decoding R W) (p q : List (List ℕ)) → WritesInOrder a.target (concat p) b.target
       → WritesInOrder b.target (concat q) c.target → WritesInOrder a.target (concat (p ++ q)) c.target
-  takes_joins a b c p q f g = subst (λ l. WritesInOrder a.target l c.target) (sym (concat-append p q))
-      (WritesInOrder-joins a.target b.target c.target (concat p) (concat q) f g)
+  takes_joins a b c p q f g =
+      rw concat-append (WritesInOrder-joins a.target b.target c.target (concat p) (concat q) f g)
 
   ends_after : (a b c : Decoding R W) (how : Result (Unit {0}) RunError) → NeverGaveNothing filter_rules a b
       → PayloadEnds b.source how c.source
@@ -92,10 +90,7 @@ module _ {R W : Type 0} (remaining : R → Option (List ℕ)) where
           before = went.wire ++ bytes;
           asked = last;
           due = concat p;
-          is_due = subst (λ l. IsDue first.source.coding.0 l (handed_of first.source ++ concat p))
-              (ap (λ l. l ++ bytes) went.taken ∙ append_assoc before went.wire bytes)
-              (subst (IsDue first.source.coding.0 (m.taken ++ bytes)) payload
-              (subst (λ c. IsDue c.0 (m.taken ++ bytes) (handed_of m)) went.coding is_due));
+          is_due = rw (went.coding, payload, went.taken, append_assoc) at is_due;
           sent = sent_all first.target s.target (concat p) moves.takes fresh.target sent;
         })
       ]

@@ -1,10 +1,10 @@
 -- What is given is handed out in order, and what is due is sent with it.
-use Rattle.std.proofs.Common.{◌≡◌, ℕ, inl, inr, List, [], ◌++◌, Option, Result, Ok, Err, refl, sym, ap, subst, ◌∙◌, arith, append-nil}
+use Rattle.std.proofs.Common.{◌≡◌, ℕ, inl, inr, List, [], ◌++◌, Option, Result, Ok, Err, refl, arith, append-nil}
 use Rattle.std.proofs.lemmas.List.Folds.{concat-append}
 use Rattle.std.specs.List.{concat, flat_map}
 use Rattle.buffer_redux.specs.ReaderLaws.{ReadsAlong-joins, ReadsAlong-none}
 use Rattle.chunked.specs.ChunkedWriterLaws.{ChunksWent-joins, ChunksWent-none}
-use Rattle.bodies.specs.Words.{ReadsAlong, std_read_rules, AsksSent, IsLawful, Moves, StaysOpen, AskedLast, AllSent, sent_all, taken_more, RunError, chunk}
+use Rattle.bodies.specs.Words.{ReadsAlong, std_read_rules, AsksSent, IsLawful, Moves, StaysOpen, AllSent, sent_all, taken_more, RunError, chunk}
 use Rattle.bodies.specs.Encoding.{encoding_rules}
 use Rattle.bodies.specs.Filters.{Asked}
 use Rattle.bodies.specs.FiltersLaws.{asked_after}
@@ -15,7 +15,7 @@ module _ {R W : Type 0} (remaining : R → Option (List ℕ)) (trace : W → W �
       → ReadsAlong remaining std_read_rules b.source (concat q) c.source
       → ReadsAlong remaining std_read_rules a.source (concat (p ++ q)) c.source
   hands_joins a b c p q f g =
-      subst (λ l. ReadsAlong remaining std_read_rules a.source l c.source) (sym (concat-append p q))
+      rw concat-append
       (ReadsAlong-joins remaining std_read_rules a.source b.source c.source (concat p) (concat q) f g)
 
   ends_after : (a b c : Encoding R W) (how : Result (Unit {0}) RunError) → StaysOpen (encoding_rules remaining trace) a b
@@ -35,8 +35,7 @@ module _ {R W : Type 0} (remaining : R → Option (List ℕ)) (trace : W → W �
         | inl same ↦ inl same
         | inr (bytes, none, last) ↦ inr (record {
           before = concat p;
-          asked = subst (λ l. AskedLast l first.source.log t.source.log) (ap (λ l. concat p ++ l) none ∙ append-nil (concat p))
-              last;
+          asked = rw (none, append-nil) at last;
           due = flat_map chunk p;
           is_due = record { payloads = p; carried = moves.takes.carried; equal = refl; joined = refl };
           sent = sent_all first.target.writer s.target.writer (flat_map chunk p) moves.takes.went.in_order fresh.1 sent;

@@ -1,5 +1,5 @@
 -- Where a fill under `StdPolicy` asks the stream, and what it leaves.
-use Rattle.std.proofs.Common.{◌≡◌, ℕ, zero, suc, ◌+◌, ◌<◌, ◌≤◌, ◌==◌, true, inl, inr, List, [], ◌++◌, length, Result, Ok, Err, sym, ap, ◌∙◌, arith, append-nil, length-append}
+use Rattle.std.proofs.Common.{◌≡◌, ℕ, zero, suc, ◌+◌, ◌<◌, ◌≤◌, inl, inr, List, [], ◌++◌, length, Result, Ok, Err, sym, ap, ◌∙◌, arith, append-nil, length-append}
 use Rattle.std.proofs.lemmas.Bool.{cases_lt}
 use Rattle.std.proofs.lemmas.Bool.Decides.{nat_tests}
 use Rattle.std.proofs.lemmas.List.{nil_from_length}
@@ -8,9 +8,6 @@ use Rattle.buffer_redux.specs.StreamLog.{after_read}
 use Rattle.buffer_redux.specs.Unbuffer.{unbuffered}
 use Rattle.buffer_redux.specs.Asking.{AskedWhere}
 use Rattle.bodies.specs.Words.{Error, Fills, ReadsInOrder, Buffered, std_read_rules, StdPolicy}
-
-none_of : (n : ℕ) → true ≡ (n == 0) → n ≡ 0
-none_of n is = grind (arith, nat_tests)
 
 module _ {R : Type 0} where
   -- the stream was asked where nothing was buffered, and once
@@ -64,7 +61,7 @@ module _ {R : Type 0} where
     fill_asks answer fills = elim (cases_lt s.log.reads.asks t.log.reads.asks) [
       | inl more ↦
           let ask = fills.last more in
-          let none = none_of (length ask.before.block.bytes) ask.ordered.asked.allowed.2 in
+          let none : length ask.before.block.bytes ≡ 0 = grind (arith, nat_tests, ask.ordered.asked.allowed.2) in
           once s ask.before t ask.ordered.read.out ask.answer (nil_from_length s.block.bytes (omega (arith, ask.saw, none)))
           (no_turn ask.count s ask.before ask.turns (omega (arith, ask.saw, none))) (ask.told ∙ ask.ordered.read.told)
       | inr same ↦ inl (unasked answer fills (omega (arith, same, fills.grows.asks)))
@@ -96,5 +93,5 @@ module _ {R : Type 0} where
         | inr faulted ↦
             let asked = faulted.asked in
             faulted.read.added.bytes ∙ append-nil faulted.seen.bytes ∙ asked.law.bytes
-            ∙ nil_from_length last.block.bytes (none_of (length last.block.bytes) asked.allowed.2)
+            ∙ nil_from_length last.block.bytes (grind (arith, nat_tests, asked.allowed.2))
       ]

@@ -1,5 +1,5 @@
 -- How many bytes payloads have; asks behind what was taken; and one fill.
-use Rattle.std.proofs.Common.{◌≡◌, zero, suc, ◌+◌, ◌<◌, ◌≤◌, ◌==◌, ◌⊎◌, inl, inr, true, false, ℕ, List, [], ◌∷◌, ◌++◌, All, length, length-append, Result, Ok, Err, ap, sym, subst, ◌∙◌, arith, append_assoc}
+use Rattle.std.proofs.Common.{◌≡◌, zero, suc, ◌+◌, ◌<◌, ◌≤◌, ◌==◌, ◌⊎◌, inl, inr, true, ℕ, List, [], ◌∷◌, ◌++◌, All, length, length-append, Result, Ok, Err, ap, sym, subst, ◌∙◌, arith, append_assoc}
 use Rattle.std.specs.List.{concat}
 use Rattle.std.proofs.lemmas.Bool.Decides.{nat_tests}
 use Rattle.std.proofs.lemmas.List.{nil_from_length}
@@ -64,12 +64,6 @@ module _ {R : Type 0} (Such : List ℕ → Type 0) (s t : Buffered R StdPolicy) 
     )
   ]
 
-none_of : (n : ℕ) → true ≡ (n == 0) → n ≡ 0
-none_of n is = grind (arith, nat_tests)
-
-pub some_of : (n : ℕ) → false ≡ (n == 0) → 0 < n
-some_of n is = grind (arith, nat_tests)
-
 -- filling leaves the capacity
 answered_capacity : {R : Type 0} (answer : Result DoRead Error) (s t : Buffered R StdPolicy)
     → Answered std_read_rules answer s t → t.block.capacity ≡ s.block.capacity
@@ -111,7 +105,7 @@ module _ {R A : Type 0} (s t : Buffered R StdPolicy) where
   pub ended : (a : A) → Fills std_read_rules s (Ok a) t → true ≡ (length t.block.bytes == 0) → 0 < s.block.capacity
       → (t.block.bytes ≡ []) × (t.log.reads.zero_reads ≡ s.log.reads.zero_reads + 1)
   ended a fills is room =
-      let none = none_of (length t.block.bytes) is in (
+      let none : length t.block.bytes ≡ 0 = grind (arith, nat_tests) in (
         nil_from_length t.block.bytes none,
         omega (
           arith,
