@@ -74,8 +74,7 @@ module _ (limits : Limits) where
     (x ∷ p) ++ line_end behind,
     h.size_line,
     h.equal,
-    subst (CompletesData limits (length (x ∷ p)) ((x ∷ p) ++ line_end behind)) (sym is)
-        (data_ends (x ∷ p) behind (concat ps) (record { payloads = ps; chunks = more; equal = refl })),
+    rw is (data_ends (x ∷ p) behind (concat ps) (record { payloads = ps; chunks = more; equal = refl })),
   )
 
   body_of : (size : ℕ) (bytes payload text behind : List ℕ) → IsSizeLine (line_room limits) size text
@@ -91,7 +90,7 @@ module _ (limits : Limits) where
       p.1,
       record {
         text = text;
-        size_line = subst (λ size. IsSizeLine (line_room limits) size text) (sym p.3) size_line;
+        size_line = rw p.3 size_line;
         equal = is ∙ ap (λ l. text ++ line_end l) p.4;
       },
       omega (arith, p.3),
@@ -179,13 +178,11 @@ module _ (limits : Limits) where
       let all = subst (AllDigits 16) is h.numeral.1 in
       let value : size ≡ digits_value_after 16 (digit_value d) digits =
       sym h.value ∙ ap (λ ds. digits_value_after 16 0 ds) is ∙ value_first d digits in
-      subst (λ x. (digit_value x < 16) × CompletesSize limits (digit_value x) (limits.line - 1) rest payload) head (
+      rw (← head, ← tail) (
         all.0,
-        subst (λ l. CompletesSize limits (digit_value d) (limits.line - 1) l payload) tail
-            (size_ends digits h.extension behind payload (digit_value d) (limits.line - 1) all.1
-            (subst (λ n. n < 2 ^ 62) value h.small) h.follows
+        size_ends digits h.extension behind payload (digit_value d) (limits.line - 1) all.1 (rw value at h.small) h.follows
             (omega (arith, h.fits, ap length h.equal, length-append h.digits h.extension, ap length is))
-            (subst (λ n. BehindSize limits n behind payload) value goes_on)),
+            (rw value at goes_on),
       )
 
   pub digit_first : (b : ℕ) (rest payload : List ℕ) → IsBodyOfChunks limits (b ∷ rest) payload
