@@ -1,5 +1,5 @@
 -- What was written is a body.
-use Rattle.std.proofs.Common.{◌≡◌, ℕ, List, ◌++◌, sym, subst, ◌∙◌}
+use Rattle.std.proofs.Common.{◌≡◌, ℕ, List, ◌++◌, sym, ◌∙◌}
 use Rattle.std.proofs.lemmas.List.{append_cancel_left}
 use Rattle.buffer_redux.specs.Buffered.{Buffered}
 use Rattle.buffer_redux.specs.StreamLog.{StreamLog}
@@ -8,7 +8,7 @@ use Rattle.buffer_redux.specs.declared.policy.StdPolicy.{StdPolicy}
 use Rattle.chunked.specs.declared.limits.Limits.{Limits}
 use Rattle.chunked.specs.Body.{IsBodyOfChunks}
 use Rattle.chunked.specs.Chunk.{body_end}
-use Rattle.chunked.specs.ChunkedWriter.{ChunkedWriterState, LetsThrough, accepted_of}
+use Rattle.chunked.specs.ChunkedWriter.{ChunkedWriterState, LetsThrough}
 use Rattle.chunked.specs.RoundTrip.{WroteBody}
 
 module _ {S : Type 0} (tells : S → StreamLog) (trace : S → S → Type 0) (first : Buffered S StdPolicy)
@@ -24,5 +24,4 @@ module _ {S : Type 0} (tells : S → StreamLog) (trace : S → S → Type 0) (fi
 
   pub written_body : (limits : Limits) → LetsThrough fields limits → IsBodyOfChunks limits wrote payload
   written_body limits lets =
-      subst (λ p. IsBodyOfChunks limits wrote p) h.went.accepted
-      (subst (λ l. IsBodyOfChunks limits l (accepted_of w)) (sym the_bytes) (h.finishes.body limits lets))
+      rw h.went.accepted at (rw (← the_bytes) at (h.finishes.body limits lets))

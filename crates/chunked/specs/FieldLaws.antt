@@ -1,6 +1,6 @@
 -- Laws of texts, and of lines of the trailers: byte by byte.
 use Rattle.std.specs.Prelude.{◌≡◌, ◌≢◌, ℕ, ◌<◌, ◌≤◌, List, [], ◌∷◌, ◌++◌, length}
-use Rattle.std.proofs.Common.{sym, ap, subst, ◌∙◌, arith, refl, inl, inr, length-append}
+use Rattle.std.proofs.Common.{ap, subst, ◌∙◌, arith, refl, inl, inr, length-append}
 use Rattle.std.proofs.lemmas.Bool.Decides.{nat_tests}
 use Rattle.std.specs.List.{AllByRecursion}
 use Rattle.chunked.specs.Token.{IsTokenByte, IsValueByte}
@@ -33,7 +33,7 @@ pub IsField-text : (text : List ℕ) → IsField text → AllByRecursion IsTextB
 IsField-text text f =
     let colon : AllByRecursion IsTextByte (58 ∷ f.value) =
     ((λ is. omega (arith, is), λ is. omega (arith, is)), all_text IsValueByte value_is_text f.value f.all) in
-    subst (AllByRecursion IsTextByte) (sym f.equal)
+    rw f.equal
     (text_both f.name (58 ∷ f.value) (all_text IsTokenByte token_is_text f.name f.token.0) colon)
 
 -- what stands behind the first byte is a name, a colon and a value

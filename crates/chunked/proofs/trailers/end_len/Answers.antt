@@ -1,6 +1,5 @@
 -- The sum saturates above each capacity, so one that fits the capacity is the length itself.
 use Rattle.std.proofs.Common.{◌≡◌, ℕ, ◌+◌, ◌-◌, ◌^◌, ◌<◌, ◌≤◌, List, Bor, length, min, take, ap, sym, subst, arith, refl}
-use Rattle.std.specs.List.{AllByRecursion}
 use Rattle.chunked.specs.Chunk.{body_end}
 use Rattle.chunked.specs.Trailers.{IsFraming, IsFramingName, IsTrailer, lines_of}
 use Rattle.chunked.proofs.Fields.{all_lines, front, front_len, front_more_len, inside, line_at, lines_more}
@@ -58,7 +57,7 @@ returns-then-len-capacity-clause-cannot c =
     let fields = c.args.fields.now in
     let all = all_lines fields c.loop-i.i c.loop-i-test.false in (
       refl,
-      subst (AllByRecursion IsTrailer) all c.loop-i.invariant.lines,
+      rw all at c.loop-i.invariant.lines,
       omega (
         arith,
         c.if-len-capacity.true,

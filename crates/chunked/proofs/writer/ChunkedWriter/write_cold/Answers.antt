@@ -1,6 +1,6 @@
 -- A chunk that the capacity has no room for is begun, and its payload goes on in it, unless the line didn't go in.
-use Rattle.std.proofs.Common.{◌≡◌, ◌+◌, ◌<◌, length, Ok, Err, ap, subst, arith}
-use Rattle.chunked.specs.ChunkedWriter.{CopiesSizeLine, IsChunkedWriter, around}
+use Rattle.std.proofs.Common.{◌≡◌, ◌+◌, ◌<◌, length, ap, subst, arith}
+use Rattle.chunked.specs.ChunkedWriter.{IsChunkedWriter, around}
 use Rattle.chunked.proofs.Going.{not_begun, wrote_begun}
 use Rattle.chunked.proofs.writer.ChunkedWriter.write_cold.Goals as goal
 use Rattle.chunked.proofs.writer.ChunkedWriter.write_cold.Goals.{After-begin}
@@ -22,8 +22,8 @@ returns-in-Ok-clause-writes g c =
     let s = c.args.self.now in
     wrote_begun g.W.Tell.log g.W.TellWrite.trace g.met.W.TellWrite.trace_none g.met.W.TellWrite.trace_joins s
     c.args.payload.now c.requires.some (subst IsChunkedWriter c.self.view_is c.self.invariant) (between g at) (large g at)
-    c.begin.new.self (subst (λ k. CopiesSizeLine g.W.Tell.log g.W.TellWrite.trace k s (Ok tt) c.begin.new.self) c.min.ensures
-    c.in-Ok.ensures.begins) c.go_on-in-Ok.result c.go_on-in-Ok.new.self c.go_on-in-Ok.ensures.went
+    c.begin.new.self (rw c.min.ensures at c.in-Ok.ensures.begins) c.go_on-in-Ok.result c.go_on-in-Ok.new.self
+    c.go_on-in-Ok.ensures.went
 
 pub returns-in-Err-clause-writes : goal.returns-in-Err-clause-writes
 returns-in-Err-clause-writes g c =
@@ -31,6 +31,4 @@ returns-in-Err-clause-writes g c =
     let s = c.args.self.now in
     not_begun g.W.Tell.log g.W.TellWrite.trace g.met.W.TellWrite.trace_none g.met.W.TellWrite.trace_joins s
     c.args.payload.now c.requires.some (subst IsChunkedWriter c.self.view_is c.self.invariant) (between g at) (large g at)
-    c.in-Err.e c.begin.new.self
-    (subst (λ k. CopiesSizeLine g.W.Tell.log g.W.TellWrite.trace k s (Err c.in-Err.e) c.begin.new.self) c.min.ensures
-    c.in-Err.ensures.begins) c.in-Err.ensures.whole
+    c.in-Err.e c.begin.new.self (rw c.min.ensures at c.in-Err.ensures.begins) c.in-Err.ensures.whole
