@@ -1,8 +1,5 @@
 -- In a chunk whose place isn't settled no byte is left, so its end comes next.
-use Rattle.std.proofs.Common.{subst, sym}
 use Rattle.chunked.specs.CodingLaws.{none_left}
-use Rattle.chunked.specs.Place.{IsDataOrDone}
-use Rattle.chunked.specs.Steps.{StepsOver}
 use Rattle.chunked.specs.declared.place.Place.TheVariants.{Data}
 use Rattle.chunked.proofs.step.step.Goals as goal
 
@@ -14,9 +11,8 @@ returns-in-Extension c = rw c.in-Extension.is (c.in_extension.ensures c.args.lim
 
 pub returns-in-Data : goal.returns-in-Data
 returns-in-Data c =
-    let none = none_left c.args.limits.now (Data c.in-Data.field-0) (subst (λ p. ¬ IsDataOrDone p) c.in-Data.is c.requires.open) in
-    rw c.in-Data.is (subst (λ n. StepsOver c.args.limits.now (Data n) c.args.byte c.end_data.result) (sym none)
-    (c.end_data.ensures c.args.limits.now))
+    let none = none_left c.args.limits.now (Data c.in-Data.field-0) (rw c.in-Data.is at c.requires.open) in
+    rw (c.in-Data.is, none) (c.end_data.ensures c.args.limits.now)
 
 pub returns-in-Fields : goal.returns-in-Fields
 returns-in-Fields c = rw c.in-Fields.is (c.begin_field.ensures c.args.limits.now)
