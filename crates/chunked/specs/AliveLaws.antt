@@ -82,7 +82,8 @@ module _ (limits : Limits) (filler : ℕ) where
   Completes-some (Data left) is = left_of left
   Completes-some DataFeed is = data_feed
   Completes-some (Fields room) is = fields room
-  Completes-some (FieldName room) is = before (FieldName room) 58 (FieldValue (room - 1)) (inl (refl, is, refl)) (value (room - 1))
+  Completes-some (FieldName room) is =
+      before (FieldName room) 58 (FieldValue (room - 1)) (inl (refl, is, refl)) (value (room - 1))
   Completes-some (FieldValue room) is = value room
   Completes-some (FieldFeed room) is = before (FieldFeed room) 10 (Fields room) (refl, refl) (fields room)
   Completes-some LastFeed is = last

@@ -95,7 +95,8 @@ step_on w b text blanks signs (inl (blank, left)) = record { next = Blank; steps
 step_on w b text blanks signs (inr (sign, left)) = record { next = BeforeName; steps = signs sign; left = left }
 
 -- where a byte leads behind a name
-name_on : (w : Within) (b : ℕ) (text : List ℕ) → (IsBlank b → LeadsWithin w b BehindName) → ((b ≡ 59) → LeadsWithin w b BeforeName)
+name_on : (w : Within) (b : ℕ) (text : List ℕ) → (IsBlank b → LeadsWithin w b BehindName)
+    → ((b ≡ 59) → LeadsWithin w b BeforeName)
     → BeginsParameter b text → StepsOn w b text
 name_on w b text blanks signs (inl (blank, left)) =
     record { next = BehindName; steps = blanks blank; left = (left.0, inl left.1) }

@@ -22,7 +22,8 @@ returns-in-Some c = λ l.
       record {
         text = text.0;
         extends = (on text.0).1 text.1;
-        over = λ other more. omega (arith, c.if-room-least.true, c.least.ensures, least_all c.in-Some.next other ((on other).0 more));
+        over = λ other more.
+            omega (arith, c.if-room-least.true, c.least.ensures, least_all c.in-Some.next other ((on other).0 more));
       },
     )
 
