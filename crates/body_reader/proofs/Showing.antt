@@ -9,8 +9,8 @@ use Rattle.buffer_redux.specs.StreamLog.{StreamLog}
 use Rattle.body_reader.specs.declared.coding.Look.{Look}
 use Rattle.body_reader.specs.declared.coding.Look.TheVariants as look
 use Rattle.body_reader.specs.declared.progress.Progress.{Progress}
-use Rattle.body_reader.specs.Between.{AllShown, FindsKnown, HandsPiece, HandsManyPieces, HandsShown, KnowsAll, KnowsBehind, NoneShown, PassesOn, TakesBytes, TakesFront}
-use Rattle.body_reader.specs.BetweenLaws.{PassesLooks-none, TakesBytes-joins, TakesBytes-none}
+use Rattle.body_reader.specs.Between.{AllShown, FindsKnown, HandsPiece, HandsPieces, HandsShown, KnowsAll, KnowsBehind, NoneShown, PassesOn, TakesBytes, TakesFront}
+use Rattle.body_reader.specs.BetweenLaws.{Passes-none, TakesBytes-joins, TakesBytes-none}
 use Rattle.body_reader.specs.BodyReader.{Breaks, EndsEarly, HandsBuffered, IsBodyReader, NotedIfSome, TookWholeBody, seen}
 use Rattle.body_reader.specs.BodyReaderLaws.{NotedIfSome-given}
 use Rattle.body_reader.specs.Coding.{Grammar, IsDone, IsKnown, IsLawful, Looks}
@@ -35,7 +35,7 @@ module _ {S Q P W : Type 0} (remaining : S → Option (List ℕ)) (rules : ReadR
     wire = [];
     takes = TakesBytes-none place;
     told = refl;
-    passes = PassesLooks-none;
+    passes = Passes-none;
     known = known;
     kept = λ _. (refl, refl);
     idle = λ _. (refl, refl, refl);
@@ -95,7 +95,7 @@ module _ {S Q P W : Type 0} (remaining : S → Option (List ℕ)) (rules : ReadR
     pub wire : List ℕ
     pub takes : TakesBytes remaining rules g s p wire (take handed out) m q
     pub told : m.log ≡ s.log
-    pub pieces : (count : ℕ) × HandsManyPieces remaining rules g count s p.place before handed m q.place k
+    pub pieces : (count : ℕ) × HandsPieces remaining rules g count s p.place before handed m q.place k
     pub within : handed ≤ length out
     pub known : IsKnown g q.place k m.block.bytes
     pub left : handed ≤ before → k ≡ before - handed
@@ -137,7 +137,7 @@ module _ {S Q P W : Type 0} (remaining : S → Option (List ℕ)) (rules : ReadR
             last = m;
             place = q.place;
             pieces = so.pieces.1;
-            passes = PassesLooks-none;
+            passes = Passes-none;
           };
           within = so.within;
           known = so.known;
@@ -169,7 +169,7 @@ module _ {S Q P W : Type 0} (remaining : S → Option (List ℕ)) (rules : ReadR
           count = so.pieces.0;
           last = m;
           place = q.place;
-          pieces = subst (HandsManyPieces remaining rules g so.pieces.0 s p.place before handed m q.place)
+          pieces = subst (HandsPieces remaining rules g so.pieces.0 s p.place before handed m q.place)
               (omega (arith, none_before k finds.kept none, none)) so.pieces.1;
           passes = finds.passes;
         };
