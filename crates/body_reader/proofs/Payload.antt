@@ -10,7 +10,7 @@ use Rattle.body_reader.specs.declared.progress.Progress.{Progress}
 use Rattle.body_reader.specs.Between.{AllShown, EachGave, HandsOn, KnowsAll, PayloadFails, ShowsOn, StopsFor, TakesBytes, handed_out}
 use Rattle.body_reader.specs.BodyReader.{BodyState, BodyWent, Breaks, EndsEarly, FillsPayload, IsBodyReader, NotedIfOk, TookWholeBody, ReadsPayload, NoPayload, seen, taken_count}
 use Rattle.body_reader.specs.BodyReaderLaws.{BodyWent-none}
-use Rattle.body_reader.specs.BetweenLaws.{AsksWithRoom-open, EachGave-none, Passes-none, Tells-passes}
+use Rattle.body_reader.specs.BetweenLaws.{AsksWithRoom-open, EachGave-none, Passes-none, TellsOnce-passes}
 use Rattle.body_reader.specs.Coding.{Grammar, IsDone, IsKnown, IsLawful, IsOpen}
 use Rattle.body_reader.specs.CodingLaws.{Leads-done, Leads-left, Leads-then, Leads-whole}
 
@@ -221,7 +221,7 @@ module _ {S Q C P W : Type 0} (remaining : S → Option (List ℕ)) (rules : Rea
     answers = fill_answers answer fills.1 count;
     all = fill_all answer fills.1;
     asked = AsksWithRoom-open remaining rules g 0 r p.place r' fills.0.asked;
-    passes = Tells-passes fills.0.tells;
+    passes = TellsOnce-passes fills.0.tells;
     still = fill_still;
     noted = refl;
     whole = there_is;

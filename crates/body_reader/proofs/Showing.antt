@@ -217,7 +217,8 @@ module _ {S Q P W : Type 0} (remaining : S → Option (List ℕ)) (rules : ReadR
           (finds.known.1 some).goes_on (subst (λ x. IsDone g x.place) (sym (finds.idle here).1) here)
 
       -- the policy is told of it once
-      piece : (n : ℕ) (t : Buffered S Q) (u : Progress P) (k'' : ℕ) → 0 < n → n ≤ k' → TakesFront remaining rules g n f r k' t u k''
+      piece : (n : ℕ) (t : Buffered S Q) (u : Progress P) (k'' : ℕ) → 0 < n → n ≤ k'
+          → TakesFront remaining rules g n f r k' t u k''
           → HandsPiece remaining rules g m q.place k n t u.place k''
       piece n t u k'' some few front =
           let all : k' ≡ n + k'' = omega (arith, few, front.left) in record {
@@ -254,7 +255,18 @@ module _ {S Q P W : Type 0} (remaining : S → Option (List ℕ)) (rules : ReadR
             told = front.consumed.told ∙ finds.told ∙ so.told;
             pieces = (
               suc so.pieces.0,
-              (handed, n, k, m, q.place, so.pieces.1, piece n t u k'' some (omega (arith, count)) front, last k (so.first room), refl),
+              (
+                handed,
+                n,
+                k,
+                m,
+                q.place,
+                so.pieces.1,
+                piece n t u k'' some (omega (arith, count)) front,
+                last k (so.first
+                    room),
+                refl,
+              ),
             );
             within = omega (arith, count, long, length-append (take handed out) rest);
             known = front.known;

@@ -14,7 +14,7 @@ use Rattle.body_reader.specs.declared.coding.Look.TheVariants as look
 use Rattle.body_reader.specs.declared.error.BodyError.TheVariants.{Wrong, Truncated, Io}
 use Rattle.body_reader.specs.declared.progress.Progress.{Progress}
 use Rattle.body_reader.specs.Between.{EachGave, KeepsBuffer, Passes, PassesOn, SkipsOn, TakenThrough, TakesBytes, Way, spend}
-use Rattle.body_reader.specs.BetweenLaws.{AsksWithRoom-here, EachGave-joins, EachGave-none, EachGave-same, FaultedOnce-after, GaveNothingOnce-after, Passes-joins, Passes-none, Passes-once, PassesOn-way, ReadsAhead-asks, ReadsAhead-ended, ReadsAhead-failed, ReadsAhead-gave, ReadsAhead-keeps, ReadsAhead-open, TakesBytes-joins, TakesBytes-none, TakesBytes-still, Tells-none, Way-joins, Way-none}
+use Rattle.body_reader.specs.BetweenLaws.{AsksWithRoom-here, EachGave-joins, EachGave-none, EachGave-same, FaultedOnce-after, GaveNothingOnce-after, Passes-joins, Passes-none, Passes-once, PassesOn-way, ReadsAhead-asks, ReadsAhead-ended, ReadsAhead-failed, ReadsAhead-gave, ReadsAhead-keeps, ReadsAhead-open, TakesBytes-joins, TakesBytes-none, TakesBytes-still, TellsOnce-none, Way-joins, Way-none}
 use Rattle.body_reader.specs.Coding.{Grammar, IsDone, IsOpenBelow, Leads, Looks, heeded}
 use Rattle.body_reader.specs.CodingLaws.{IsOpen-goes_on, IsOpenBelow-open}
 
@@ -199,7 +199,7 @@ module _ {S Q P W : Type 0} (remaining : S → Option (List ℕ)) (rules : ReadR
         asked = AsksWithRoom-here remaining rules g slice t r.place u passes.takes.place (omega (arith, looks.1))
             (ReadsAhead-asks lacks ahead);
         through = inl (omega (arith, ahead.consumed));
-        tells = Tells-none (Passes-once (inr (ahead.along, ahead.policy, refl)));
+        tells = TellsOnce-none (Passes-once (inr (ahead.along, ahead.policy, refl)));
         idle = λ done. absurd (IsOpen-goes_on g r.place t.block.bytes (IsOpenBelow-open g r.place n t.block.bytes lacks) done);
       })
 

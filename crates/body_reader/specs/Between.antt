@@ -133,7 +133,7 @@ module _ {S Q P W : Type 0} (remaining : S → Option (List ℕ)) (rules : ReadR
 
   -- what is no payload was passed, and then the policy was told once of so many bytes of payload, unless they were read past the
   -- buffer
-  pub record Tells (s : Buffered S Q) (p : P) (n : ℕ) (t : Buffered S Q) (q : P) : Type 0 where
+  pub record TellsOnce (s : Buffered S Q) (p : P) (n : ℕ) (t : Buffered S Q) (q : P) : Type 0 where
     pub front : Buffered S Q
     pub place : P
     pub passes : Passes s p front place
@@ -196,7 +196,7 @@ module _ {S Q P W : Type 0} (remaining : S → Option (List ℕ)) (rules : ReadR
       pub takes : TakesBytes s p wire handed t q
       pub asked : AsksWithRoom room s p.place t
       pub through : TakenThrough s wire t ⊎ ((0 < length handed) × (s.block.capacity ≤ t.log.reads.offer))
-      pub tells : Tells s p.place (length handed) t q.place
+      pub tells : TellsOnce s p.place (length handed) t q.place
       pub idle : IsDone g p.place → (t ≡ s) × (q ≡ p)
 
   -- what a call does that goes such a way, and what its answer means

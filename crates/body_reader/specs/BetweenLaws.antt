@@ -21,7 +21,7 @@ use Rattle.body_reader.specs.declared.progress.Progress.{Progress}
 use Rattle.buffer_redux.specs.Asking.{AskedWhere}
 use Rattle.buffer_redux.specs.AskingLaws.{AskedWhere-of, AskedWhere-same}
 use Rattle.body_reader.specs.AskingLaws.{AskedOver-behind}
-use Rattle.body_reader.specs.Between.{AsksWithRoom, AsksOpen, EachGave, FaultedOnce, Passes, PassesMany, PassesOn, PassesOnce, Proceeds, KeepsBuffer, GaveNothingOnce, StopsFor, TakenThrough, TakesBytes, Tells, Way}
+use Rattle.body_reader.specs.Between.{AsksWithRoom, AsksOpen, EachGave, FaultedOnce, Passes, PassesMany, PassesOn, PassesOnce, Proceeds, KeepsBuffer, GaveNothingOnce, StopsFor, TakenThrough, TakesBytes, TellsOnce, Way}
 use Rattle.body_reader.specs.Coding.{AskedFor, Grammar, IsDone, IsOpen, IsOpenBelow, LeadsOpen, heeded}
 use Rattle.body_reader.specs.CodingLaws.{AskedFor-behind, AskedFor-here, Leads-none, Leads-then}
 
@@ -264,13 +264,13 @@ module _ {S Q P W : Type 0} {remaining : S → Option (List ℕ)} {rules : ReadR
       from (suc count) s p (s', p', once, rest) = let on = from count s' p' rest in (suc on.0, (s', p', once, on.1))
 
   -- and then no payload was handed out
-  pub Tells-none : {s : Buffered S Q} {p : P} {t : Buffered S Q} {q : P} → Passes remaining rules g s p t q
-      → Tells remaining rules g s p 0 t q
-  Tells-none {s} {p} {t} {q} passes = record { front = t; place = q; passes = passes; once = inl (refl, refl, refl) }
+  pub TellsOnce-none : {s : Buffered S Q} {p : P} {t : Buffered S Q} {q : P} → Passes remaining rules g s p t q
+      → TellsOnce remaining rules g s p 0 t q
+  TellsOnce-none {s} {p} {t} {q} passes = record { front = t; place = q; passes = passes; once = inl (refl, refl, refl) }
 
-  pub Tells-passes : {s : Buffered S Q} {p : P} {t : Buffered S Q} {q : P} → Tells remaining rules g s p 0 t q
+  pub TellsOnce-passes : {s : Buffered S Q} {p : P} {t : Buffered S Q} {q : P} → TellsOnce remaining rules g s p 0 t q
       → Passes remaining rules g s p t q
-  Tells-passes {s} {p} {t} {q} tells = elim tells.once [
+  TellsOnce-passes {s} {p} {t} {q} tells = elim tells.once [
     | inl none ↦ subst (λ x. Passes remaining rules g s p x q) (sym none.1)
         (subst (Passes remaining rules g s p tells.front) (sym none.2) tells.passes)
     | inr some ↦ absurd (omega (arith, some.0))
@@ -288,7 +288,7 @@ module _ {S Q P W : Type 0} {remaining : S → Option (List ℕ)} {rules : ReadR
     takes = TakesBytes-none place;
     asked = inl refl;
     through = inl (omega arith);
-    tells = Tells-none Passes-none;
+    tells = TellsOnce-none Passes-none;
     idle = λ _. (refl, refl);
   }
 
@@ -300,14 +300,15 @@ module _ {S Q P W : Type 0} {remaining : S → Option (List ℕ)} {rules : ReadR
     takes = passes.takes;
     asked = inl passes.told;
     through = inl passes.through;
-    tells = Tells-none passes.passes;
+    tells = TellsOnce-none passes.passes;
     idle = passes.idle;
   }
 
   -- behind a way without payload, on which each read gave some
   module _ {room : ℕ} {s : Buffered S Q} {p : Progress P} {m : Buffered S Q} {q : Progress P}
       (before : Way remaining rules g room s p [] m q) (gave : EachGave s m) where
-    asks_on : (t : Buffered S Q) → AsksWithRoom remaining rules g room m q.place t → AsksWithRoom remaining rules g room s p.place t
+    asks_on : (t : Buffered S Q) → AsksWithRoom remaining rules g room m q.place t
+        → AsksWithRoom remaining rules g room s p.place t
     asks_on t (inl same) =
         AskedWhere-same (AskedFor g p.place room t.log.reads.offer) (unbuffered s) (unbuffered m) (unbuffered t) same
         (subst (λ l. AskedWhere (AskedFor g p.place room l.reads.offer) (unbuffered s) (unbuffered m)) (sym same) before.asked)
@@ -330,7 +331,7 @@ module _ {S Q P W : Type 0} {remaining : S → Option (List ℕ)} {rules : ReadR
       tells = record {
         front = way.tells.front;
         place = way.tells.place;
-        passes = Passes-joins (Tells-passes before.tells) way.tells.passes;
+        passes = Passes-joins (TellsOnce-passes before.tells) way.tells.passes;
         once = way.tells.once;
       };
       idle = λ done.

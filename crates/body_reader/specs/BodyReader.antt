@@ -15,7 +15,7 @@ use Rattle.body_reader.specs.declared.error.CollectError.{CollectError}
 use Rattle.body_reader.specs.declared.error.CollectError.TheVariants as collect
 use Rattle.body_reader.specs.declared.progress.Progress.{Progress}
 use Rattle.buffer_redux.specs.Asking.{AskedWhere}
-use Rattle.body_reader.specs.Between.{AllShown, AsksOpen, AsksWithRoom, BecomesIo, EachGave, FaultedOnce, GaveNothingOnce, HandsPiecewise, KeepsBuffer, KnowsAll, KnowsBehind, Passes, StopsFor, TakenThrough, Tells, handed_out}
+use Rattle.body_reader.specs.Between.{AllShown, AsksOpen, AsksWithRoom, BecomesIo, EachGave, FaultedOnce, GaveNothingOnce, HandsPiecewise, KeepsBuffer, KnowsAll, KnowsBehind, Passes, StopsFor, TakenThrough, TellsOnce, handed_out}
 use Rattle.body_reader.specs.Coding.{Grammar, IsBody, IsKnown, IsOpen, Leads, LeadsOpen, heeded}
 
 -- the buffered reader; the coding; where in the body the reader stands; the bytes of it that were taken so far; what it handed
@@ -111,7 +111,7 @@ module _ {S Q C P W : Type 0} (remaining : S → Option (List ℕ)) (rules : Rea
     pub knows : s.known ≡ 0 → IfOk answer
         (λ n. 0 < n → KnowsAll g s.place s.taken t.taken [] (take n out) t.known t.reader.block.bytes)
     pub consumed : 0 < s.known → IfOk answer (λ n. 0 < n → ReaderConsumes rules n s.reader t.reader)
-    pub tells : Tells remaining rules g s.reader s.place (length (handed_out out answer)) t.reader t.place
+    pub tells : TellsOnce remaining rules g s.reader s.place (length (handed_out out answer)) t.reader t.place
     pub idle : (TookWholeBody g s ⊎ (length out ≡ 0)) → t ≡ record s { calls = t.calls }
     pub empty : length out ≡ 0 → answer ≡ Ok 0
     pub noted : NotedIfOk s.calls out answer t.calls

@@ -19,7 +19,8 @@ returns-then-starts_with c =
     let shown = c.args.shown.now in
     let begins = (starts_is Decides-eqb shown c.as_slice-just.result.now _ c.starts_with.ensures.value).0 c.if-starts_with.true in
     rw (c.in-Start.is, c.as_slice-just.ensures.value)
-    (looks_just s.just.items s.until.delimiter s.room s.some s.shorter s.fits shown _ (rw c.as_slice-just.ensures.value at begins))
+    (looks_just s.just.items s.until.delimiter s.room s.some s.shorter s.fits shown _ (rw c.as_slice-just.ensures.value at
+    begins))
 
 pub returns-then-starts_with-2 : goal.returns-then-starts_with-2
 returns-then-starts_with-2 c =

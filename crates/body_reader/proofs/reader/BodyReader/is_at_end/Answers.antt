@@ -14,9 +14,11 @@ pub returns-clause-looks : goal.returns-clause-looks
 returns-clause-looks g c =
     let found = rw c.in_ok-peek.was at c.peek.follows.holds-at-none in
     rw (← c.self.view_is)
-    (looks_told _ _ _ (g.met.C.Coding.lawful _) _ _ c.self.inside.progress _ _ c.self.invariant _ _ found.0 _ found.1 _ c.is_empty.ensures)
+    (looks_told _ _ _ (g.met.C.Coding.lawful _) _ _ c.self.inside.progress _ _ c.self.invariant _ _ found.0 _ found.1 _
+    c.is_empty.ensures)
 
 pub invariant_of-self-2 : goal.invariant_of-self-2
 invariant_of-self-2 g c =
     let found = rw c.in_ok-peek.was at c.peek.follows.holds-at-none in
-    (looks_told _ _ _ (g.met.C.Coding.lawful _) _ _ c.self.inside.progress _ _ c.self.invariant _ _ found.0 _ found.1 _ c.is_empty.ensures).whole
+    (looks_told _ _ _ (g.met.C.Coding.lawful _) _ _ c.self.inside.progress _ _ c.self.invariant _ _ found.0 _ found.1 _
+    c.is_empty.ensures).whole
