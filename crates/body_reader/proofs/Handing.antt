@@ -9,7 +9,7 @@ use Rattle.body_reader.specs.declared.coding.Look.{Look}
 use Rattle.body_reader.specs.declared.error.BodyError.{BodyError}
 use Rattle.body_reader.specs.declared.progress.Progress.{Progress}
 use Rattle.body_reader.specs.Between.{AllShown, EachGave, HandsOn, KnowsAll, PassesOn, PayloadFails, SkipsOn, TakesBytes, TakesFront, Way, handed_out}
-use Rattle.body_reader.specs.BetweenLaws.{EachGave-none, EachGave-same, Passes-none, PassesOn-way, Proceeds-after, Way-none}
+use Rattle.body_reader.specs.BetweenLaws.{EachGave-none, EachGave-same, PassesTo-none, PassesOn-way, Proceeds-after, Way-none}
 use Rattle.body_reader.specs.Coding.{Carries, Grammar, IsDone, IsKnown, Leads, heeded}
 use Rattle.body_reader.specs.CodingLaws.{Leads-none, Leads-then}
 use Rattle.body_reader.proofs.Filling.{Proceeds-of, ended_here}
@@ -152,7 +152,7 @@ module _ {S Q P W : Type 0} (remaining : S → Option (List ℕ)) (rules : ReadR
           tells = record {
             front = s;
             place = p.place;
-            passes = Passes-none;
+            passes = PassesTo-none;
             once = inr (
               omega (arith, is, some, room, long),
               inl (subst (λ j. ReaderConsumes rules j s t) (sym long) taken.consumed),

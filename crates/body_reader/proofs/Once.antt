@@ -7,7 +7,7 @@ use Rattle.buffer_redux.specs.StreamLog.{after_read, zero_of_none}
 use Rattle.body_reader.specs.declared.error.BodyError.TheVariants.{Truncated, Io}
 use Rattle.body_reader.specs.declared.progress.Progress.{Progress}
 use Rattle.body_reader.specs.Between.{AsksWithRoom, PayloadFails, TakenThrough, TakesBytes, Way}
-use Rattle.body_reader.specs.BetweenLaws.{AsksWithRoom-here, Passes-once, TellsOnce-none}
+use Rattle.body_reader.specs.BetweenLaws.{AsksWithRoom-here, PassesTo-once, TellsOnce-none}
 use Rattle.body_reader.specs.Coding.{Grammar, IsDone, IsLawful, IsOpen}
 use Rattle.body_reader.specs.CodingLaws.{open_at}
 
@@ -37,7 +37,7 @@ module _ {S Q P W : Type 0} (remaining : S → Option (List ℕ)) (rules : ReadR
         takes = takes;
         asked = once_asks answer told;
         through = inl through;
-        tells = TellsOnce-none (Passes-once (inr (takes.along, policy, refl)));
+        tells = TellsOnce-none (PassesTo-once (inr (takes.along, policy, refl)));
         idle = λ done. absurd (goes_on done);
       }
 

@@ -12,7 +12,7 @@ use Rattle.buffer_redux.specs.StreamLog.{after_read}
 use Rattle.body_reader.specs.declared.error.BodyError.TheVariants.{Truncated, Io}
 use Rattle.body_reader.specs.declared.progress.Progress.{Progress}
 use Rattle.body_reader.specs.Between.{HandsOn, KeepsBuffer, TakesBytes}
-use Rattle.body_reader.specs.BetweenLaws.{EachGave-once, Passes-none}
+use Rattle.body_reader.specs.BetweenLaws.{EachGave-once, PassesTo-none}
 use Rattle.body_reader.specs.Coding.{Carries, Grammar, IsLawful, Leads, heeded}
 use Rattle.body_reader.specs.CodingLaws.{Leads-none}
 use Rattle.body_reader.proofs.Once.{once_asks, once_dry, once_fails}
@@ -124,7 +124,7 @@ module _ {S Q P W : Type 0} (remaining : S → Option (List ℕ)) (rules : ReadR
                 tells = record {
                   front = s;
                   place = p.place;
-                  passes = Passes-none;
+                  passes = PassesTo-none;
                   once = inr (
                     omega (arith, given, ap length same, length-take-le n lent within),
                     inr (direct.block, direct.policy),

@@ -10,7 +10,7 @@ use Rattle.body_reader.specs.declared.progress.Progress.{Progress}
 use Rattle.body_reader.specs.Between.{AllShown, EachGave, HandsOn, KnowsAll, PayloadFails, ShowsOn, StopsFor, TakesBytes, handed_out}
 use Rattle.body_reader.specs.BodyReader.{BodyState, BodyWent, Breaks, EndsEarly, FillsPayload, IsBodyReader, NotedIfOk, TookWholeBody, ReadsPayload, NoPayload, seen, taken_count}
 use Rattle.body_reader.specs.BodyReaderLaws.{BodyWent-none}
-use Rattle.body_reader.specs.BetweenLaws.{AsksWithRoom-open, EachGave-none, Passes-none, TellsOnce-passes}
+use Rattle.body_reader.specs.BetweenLaws.{AsksWithRoom-open, EachGave-none, PassesTo-none, TellsOnce-passes}
 use Rattle.body_reader.specs.Coding.{Grammar, IsDone, IsKnown, IsLawful, IsOpen}
 use Rattle.body_reader.specs.CodingLaws.{Leads-done, Leads-left, Leads-then, Leads-whole}
 
@@ -235,7 +235,7 @@ fill_known remaining rules g d is some = record {
   answers = (refl, EachGave-none d.reader, λ none. absurd (omega (arith, some, none)));
   all = λ _ none. absurd (omega (arith, some, none));
   asked = inl refl;
-  passes = Passes-none;
+  passes = PassesTo-none;
   still = λ _. refl;
   noted = refl;
   whole = is;

@@ -9,8 +9,8 @@ use Rattle.buffer_redux.specs.StreamLog.{StreamLog}
 use Rattle.body_reader.specs.declared.coding.Look.{Look}
 use Rattle.body_reader.specs.declared.coding.Look.TheVariants as look
 use Rattle.body_reader.specs.declared.progress.Progress.{Progress}
-use Rattle.body_reader.specs.Between.{AllShown, FindsKnown, HandsPiece, HandsPieces, HandsShown, KnowsAll, KnowsBehind, NoneShown, PassesOn, TakesBytes, TakesFront}
-use Rattle.body_reader.specs.BetweenLaws.{Passes-none, TakesBytes-joins, TakesBytes-none}
+use Rattle.body_reader.specs.Between.{AllShown, FindsKnown, HandsPiece, HandsManyPieces, HandsShown, KnowsAll, KnowsBehind, NoneShown, PassesOn, TakesBytes, TakesFront}
+use Rattle.body_reader.specs.BetweenLaws.{PassesTo-none, TakesBytes-joins, TakesBytes-none}
 use Rattle.body_reader.specs.BodyReader.{Breaks, EndsEarly, HandsBuffered, IsBodyReader, NotedIfSome, TookWholeBody, seen}
 use Rattle.body_reader.specs.BodyReaderLaws.{NotedIfSome-given}
 use Rattle.body_reader.specs.Coding.{Grammar, IsDone, IsKnown, IsLawful, Looks}
@@ -35,7 +35,7 @@ module _ {S Q P W : Type 0} (remaining : S → Option (List ℕ)) (rules : ReadR
     wire = [];
     takes = TakesBytes-none place;
     told = refl;
-    passes = Passes-none;
+    passes = PassesTo-none;
     known = known;
     kept = λ _. (refl, refl);
     idle = λ _. (refl, refl, refl);
@@ -95,7 +95,7 @@ module _ {S Q P W : Type 0} (remaining : S → Option (List ℕ)) (rules : ReadR
     pub wire : List ℕ
     pub takes : TakesBytes remaining rules g s p wire (take handed out) m q
     pub told : m.log ≡ s.log
-    pub pieces : (count : ℕ) × HandsPieces remaining rules g count s p.place before handed m q.place k
+    pub pieces : (count : ℕ) × HandsManyPieces remaining rules g count s p.place before handed m q.place k
     pub within : handed ≤ length out
     pub known : IsKnown g q.place k m.block.bytes
     pub left : handed ≤ before → k ≡ before - handed
@@ -137,7 +137,7 @@ module _ {S Q P W : Type 0} (remaining : S → Option (List ℕ)) (rules : ReadR
             last = m;
             place = q.place;
             pieces = so.pieces.1;
-            passes = Passes-none;
+            passes = PassesTo-none;
           };
           within = so.within;
           known = so.known;
@@ -169,7 +169,7 @@ module _ {S Q P W : Type 0} (remaining : S → Option (List ℕ)) (rules : ReadR
           count = so.pieces.0;
           last = m;
           place = q.place;
-          pieces = subst (HandsPieces remaining rules g so.pieces.0 s p.place before handed m q.place)
+          pieces = subst (HandsManyPieces remaining rules g so.pieces.0 s p.place before handed m q.place)
               (omega (arith, none_before k finds.kept none, none)) so.pieces.1;
           passes = finds.passes;
         };
@@ -247,26 +247,15 @@ module _ {S Q P W : Type 0} (remaining : S → Option (List ℕ)) (rules : ReadR
           let joined : take (handed + n) (take handed out ++ rest) ≡ take handed out ++ take n f.block.bytes =
           ap (λ j. take (j + n) (take handed out ++ rest)) (sym long) ∙ take-append-add (take handed out) rest n
           ∙ ap (λ l. take handed out ++ l) same in
+          let here = piece n t u k'' some (omega (arith, count)) front in
           record {
             wire = (so.wire ++ finds.wire) ++ take n f.block.bytes;
             takes = subst (λ l. TakesBytes remaining rules g s p ((so.wire ++ finds.wire) ++ take n f.block.bytes) l t u)
-                (sym joined)
-                (TakesBytes-joins found_on front.takes);
+                (sym joined) (TakesBytes-joins found_on front.takes);
             told = front.consumed.told ∙ finds.told ∙ so.told;
             pieces = (
               suc so.pieces.0,
-              (
-                handed,
-                n,
-                k,
-                m,
-                q.place,
-                so.pieces.1,
-                piece n t u k'' some (omega (arith, count)) front,
-                last k (so.first
-                    room),
-                refl,
-              ),
+              (handed, n, k, m, q.place, so.pieces.1, here, last k (so.first room), refl),
             );
             within = omega (arith, count, long, length-append (take handed out) rest);
             known = front.known;

@@ -13,8 +13,8 @@ use Rattle.body_reader.specs.declared.coding.Look.{Look}
 use Rattle.body_reader.specs.declared.coding.Look.TheVariants as look
 use Rattle.body_reader.specs.declared.error.BodyError.TheVariants.{Wrong, Truncated, Io}
 use Rattle.body_reader.specs.declared.progress.Progress.{Progress}
-use Rattle.body_reader.specs.Between.{EachGave, KeepsBuffer, Passes, PassesOn, SkipsOn, TakenThrough, TakesBytes, Way, spend}
-use Rattle.body_reader.specs.BetweenLaws.{AsksWithRoom-here, EachGave-joins, EachGave-none, EachGave-same, FaultedOnce-after, GaveNothingOnce-after, Passes-joins, Passes-none, Passes-once, PassesOn-way, ReadsAhead-asks, ReadsAhead-ended, ReadsAhead-failed, ReadsAhead-gave, ReadsAhead-keeps, ReadsAhead-open, TakesBytes-joins, TakesBytes-none, TakesBytes-still, TellsOnce-none, Way-joins, Way-none}
+use Rattle.body_reader.specs.Between.{EachGave, KeepsBuffer, PassesTo, PassesOn, SkipsOn, TakenThrough, TakesBytes, Way, spend}
+use Rattle.body_reader.specs.BetweenLaws.{AsksWithRoom-here, EachGave-joins, EachGave-none, EachGave-same, FaultedOnce-after, GaveNothingOnce-after, PassesTo-joins, PassesTo-none, PassesTo-once, PassesOn-way, ReadsAhead-asks, ReadsAhead-ended, ReadsAhead-failed, ReadsAhead-gave, ReadsAhead-keeps, ReadsAhead-open, TakesBytes-joins, TakesBytes-none, TakesBytes-still, TellsOnce-none, Way-joins, Way-none}
 use Rattle.body_reader.specs.Coding.{Grammar, IsDone, IsOpenBelow, Leads, Looks, heeded}
 use Rattle.body_reader.specs.CodingLaws.{IsOpen-goes_on, IsOpenBelow-open}
 
@@ -89,7 +89,7 @@ pub record Passed {S Q P W : Type 0} (remaining : S → Option (List ℕ)) (rule
   pub takes : TakesBytes remaining rules g s p wire [] m q
   pub told : m.log ≡ s.log
   pub through : TakenThrough s wire m
-  pub passes : Passes remaining rules g s p.place m q.place
+  pub passes : PassesTo remaining rules g s p.place m q.place
   pub spends : spend g q.place m.block.bytes ≤ spend g p.place s.block.bytes
   pub idle : IsDone g p.place → (m ≡ s) × (q ≡ p)
 
@@ -107,7 +107,7 @@ module _ {S Q P W : Type 0} (remaining : S → Option (List ℕ)) (rules : ReadR
     takes = TakesBytes-none place;
     told = refl;
     through = omega arith;
-    passes = Passes-none;
+    passes = PassesTo-none;
     spends = omega arith;
     idle = λ _. (refl, refl);
   }
@@ -130,8 +130,8 @@ module _ {S Q P W : Type 0} (remaining : S → Option (List ℕ)) (rules : ReadR
               consumes_through rules n m t looks.1 gone,
               length-append so.wire (take n m.block.bytes),
             );
-            passes = Passes-joins so.passes (subst (Passes remaining rules g m q.place t) (sym notes.place)
-                (Passes-once (inl (n, looks, gone))));
+            passes = PassesTo-joins so.passes (subst (PassesTo remaining rules g m q.place t) (sym notes.place)
+                (PassesTo-once (inl (n, looks, gone))));
             spends = omega (
               arith,
               so.spends,
@@ -199,7 +199,7 @@ module _ {S Q P W : Type 0} (remaining : S → Option (List ℕ)) (rules : ReadR
         asked = AsksWithRoom-here remaining rules g slice t r.place u passes.takes.place (omega (arith, looks.1))
             (ReadsAhead-asks lacks ahead);
         through = inl (omega (arith, ahead.consumed));
-        tells = TellsOnce-none (Passes-once (inr (ahead.along, ahead.policy, refl)));
+        tells = TellsOnce-none (PassesTo-once (inr (ahead.along, ahead.policy, refl)));
         idle = λ done. absurd (IsOpen-goes_on g r.place t.block.bytes (IsOpenBelow-open g r.place n t.block.bytes lacks) done);
       })
 

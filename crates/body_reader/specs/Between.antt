@@ -128,15 +128,15 @@ module _ {S Q P W : Type 0} (remaining : S → Option (List ℕ)) (rules : ReadR
   PassesMany zero s p t q = (t ≡ s) × (q ≡ p)
   PassesMany (suc count) s p t q = (m : Buffered S Q) × (r : P) × PassesOnce s p m r × PassesMany count m r t q
 
-  abbrev pub Passes : Buffered S Q → P → Buffered S Q → P → Type 0
-  Passes s p t q = (count : ℕ) × PassesMany count s p t q
+  abbrev pub PassesTo : Buffered S Q → P → Buffered S Q → P → Type 0
+  PassesTo s p t q = (count : ℕ) × PassesMany count s p t q
 
   -- what is no payload was passed, and then the policy was told once of so many bytes of payload, unless they were read past the
   -- buffer
   pub record TellsOnce (s : Buffered S Q) (p : P) (n : ℕ) (t : Buffered S Q) (q : P) : Type 0 where
     pub front : Buffered S Q
     pub place : P
-    pub passes : Passes s p front place
+    pub passes : PassesTo s p front place
     pub once : ((n ≡ 0) × (t ≡ front) × (q ≡ place))
         ⊎ ((0 < n) × (ReaderConsumes rules n front t ⊎ ((t.block ≡ front.block) × (t.policy ≡ front.policy))))
 
@@ -146,17 +146,17 @@ module _ {S Q P W : Type 0} (remaining : S → Option (List ℕ)) (rules : ReadR
     pub some : 0 < n
     pub front : Buffered S Q
     pub place : P
-    pub passes : Passes s p front place
+    pub passes : PassesTo s p front place
     pub consumed : ReaderConsumes rules n front t
     pub leads : Leads g place (take n front.block.bytes) (take n front.block.bytes) q (heeded g t.block.bytes)
     pub known : 0 < before → (front ≡ s) × (n + after ≡ before)
     pub shown : before ≡ 0 → AllShown g place (n + after) front.block.bytes
 
   -- so many pieces, one after another, and a further one only where none stayed known
-  abbrev pub HandsPieces : ℕ → Buffered S Q → P → ℕ → ℕ → Buffered S Q → P → ℕ → Type 0
-  HandsPieces zero s p before handed t q after = (handed ≡ 0) × (t ≡ s) × (q ≡ p) × (after ≡ before)
-  HandsPieces (suc count) s p before handed t q after = (fewer n known : ℕ) × (m : Buffered S Q) × (r : P)
-      × HandsPieces count s p before fewer m r known × HandsPiece m r known n t q after
+  abbrev pub HandsManyPieces : ℕ → Buffered S Q → P → ℕ → ℕ → Buffered S Q → P → ℕ → Type 0
+  HandsManyPieces zero s p before handed t q after = (handed ≡ 0) × (t ≡ s) × (q ≡ p) × (after ≡ before)
+  HandsManyPieces (suc count) s p before handed t q after = (fewer n known : ℕ) × (m : Buffered S Q) × (r : P)
+      × HandsManyPieces count s p before fewer m r known × HandsPiece m r known n t q after
       × (0 < fewer → known ≡ 0) × (handed ≡ fewer + n)
 
   -- pieces, and then what is no payload was passed
@@ -164,8 +164,8 @@ module _ {S Q P W : Type 0} (remaining : S → Option (List ℕ)) (rules : ReadR
     pub count : ℕ
     pub last : Buffered S Q
     pub place : P
-    pub pieces : HandsPieces count s p before handed last place after
-    pub passes : Passes last place t q
+    pub pieces : HandsManyPieces count s p before handed last place after
+    pub passes : PassesTo last place t q
 
   -- all that is buffered and is no payload was taken, and then a look says so; nobody is asked. What is spent by that can't be
   -- spent again
@@ -174,7 +174,7 @@ module _ {S Q P W : Type 0} (remaining : S → Option (List ℕ)) (rules : ReadR
     pub takes : TakesBytes s p wire [] t q
     pub told : t.log ≡ s.log
     pub through : TakenThrough s wire t
-    pub passes : Passes s p.place t q.place
+    pub passes : PassesTo s p.place t q.place
     pub looks : Looks g q.place t.block.bytes look
     pub no_more : (n : ℕ) (r : P) → look ≢ Passed n r
     pub spends : spend g q.place t.block.bytes ≤ spend g p.place s.block.bytes
@@ -233,7 +233,7 @@ module _ {S Q P W : Type 0} (remaining : S → Option (List ℕ)) (rules : ReadR
     pub wire : List ℕ
     pub takes : TakesBytes s p wire [] t q
     pub told : t.log ≡ s.log
-    pub passes : Passes s p.place t q.place
+    pub passes : PassesTo s p.place t q.place
     pub known : IsKnown g q.place after t.block.bytes
     pub kept : 0 < before → (t ≡ s) × (after ≡ before)
     pub idle : IsDone g p.place → (t ≡ s) × (q ≡ p) × (after ≡ before)

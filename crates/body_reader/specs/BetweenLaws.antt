@@ -21,7 +21,7 @@ use Rattle.body_reader.specs.declared.progress.Progress.{Progress}
 use Rattle.buffer_redux.specs.Asking.{AskedWhere}
 use Rattle.buffer_redux.specs.AskingLaws.{AskedWhere-of, AskedWhere-same}
 use Rattle.body_reader.specs.AskingLaws.{AskedOver-behind}
-use Rattle.body_reader.specs.Between.{AsksWithRoom, AsksOpen, EachGave, FaultedOnce, Passes, PassesMany, PassesOn, PassesOnce, Proceeds, KeepsBuffer, GaveNothingOnce, StopsFor, TakenThrough, TakesBytes, TellsOnce, Way}
+use Rattle.body_reader.specs.Between.{AsksWithRoom, AsksOpen, EachGave, FaultedOnce, PassesTo, PassesMany, PassesOn, PassesOnce, Proceeds, KeepsBuffer, GaveNothingOnce, StopsFor, TakenThrough, TakesBytes, TellsOnce, Way}
 use Rattle.body_reader.specs.Coding.{AskedFor, Grammar, IsDone, IsOpen, IsOpenBelow, LeadsOpen, heeded}
 use Rattle.body_reader.specs.CodingLaws.{AskedFor-behind, AskedFor-here, Leads-none, Leads-then}
 
@@ -246,33 +246,33 @@ module _ {S Q P W : Type 0} {remaining : S → Option (List ℕ)} {rules : ReadR
   }
 
   -- passes of nothing, of one turn, and one after another
-  pub Passes-none : {s : Buffered S Q} {p : P} → Passes remaining rules g s p s p
-  Passes-none = (zero, (refl, refl))
+  pub PassesTo-none : {s : Buffered S Q} {p : P} → PassesTo remaining rules g s p s p
+  PassesTo-none = (zero, (refl, refl))
 
-  pub Passes-once : {s : Buffered S Q} {p : P} {t : Buffered S Q} {q : P} → PassesOnce remaining rules g s p t q
-      → Passes remaining rules g s p t q
-  Passes-once {s} {p} {t} {q} once = (suc zero, (t, q, once, (refl, refl)))
+  pub PassesTo-once : {s : Buffered S Q} {p : P} {t : Buffered S Q} {q : P} → PassesOnce remaining rules g s p t q
+      → PassesTo remaining rules g s p t q
+  PassesTo-once {s} {p} {t} {q} once = (suc zero, (t, q, once, (refl, refl)))
 
-  pub Passes-joins : {s : Buffered S Q} {p : P} {m : Buffered S Q} {r : P} {t : Buffered S Q} {q : P}
-      → Passes remaining rules g s p m r → Passes remaining rules g m r t q → Passes remaining rules g s p t q
-  Passes-joins {s} {p} {m} {r} {t} {q} first then = from first.0 s p first.1
+  pub PassesTo-joins : {s : Buffered S Q} {p : P} {m : Buffered S Q} {r : P} {t : Buffered S Q} {q : P}
+      → PassesTo remaining rules g s p m r → PassesTo remaining rules g m r t q → PassesTo remaining rules g s p t q
+  PassesTo-joins {s} {p} {m} {r} {t} {q} first then = from first.0 s p first.1
     where
       from : (count : ℕ) (s : Buffered S Q) (p : P) → PassesMany remaining rules g count s p m r
-          → Passes remaining rules g s p t q
-      from zero s p same = subst (λ x. Passes remaining rules g x p t q) same.0
-          (subst (λ x. Passes remaining rules g m x t q) same.1 then)
+          → PassesTo remaining rules g s p t q
+      from zero s p same = subst (λ x. PassesTo remaining rules g x p t q) same.0
+          (subst (λ x. PassesTo remaining rules g m x t q) same.1 then)
       from (suc count) s p (s', p', once, rest) = let on = from count s' p' rest in (suc on.0, (s', p', once, on.1))
 
   -- and then no payload was handed out
-  pub TellsOnce-none : {s : Buffered S Q} {p : P} {t : Buffered S Q} {q : P} → Passes remaining rules g s p t q
+  pub TellsOnce-none : {s : Buffered S Q} {p : P} {t : Buffered S Q} {q : P} → PassesTo remaining rules g s p t q
       → TellsOnce remaining rules g s p 0 t q
   TellsOnce-none {s} {p} {t} {q} passes = record { front = t; place = q; passes = passes; once = inl (refl, refl, refl) }
 
   pub TellsOnce-passes : {s : Buffered S Q} {p : P} {t : Buffered S Q} {q : P} → TellsOnce remaining rules g s p 0 t q
-      → Passes remaining rules g s p t q
+      → PassesTo remaining rules g s p t q
   TellsOnce-passes {s} {p} {t} {q} tells = elim tells.once [
-    | inl none ↦ subst (λ x. Passes remaining rules g s p x q) (sym none.1)
-        (subst (Passes remaining rules g s p tells.front) (sym none.2) tells.passes)
+    | inl none ↦ subst (λ x. PassesTo remaining rules g s p x q) (sym none.1)
+        (subst (PassesTo remaining rules g s p tells.front) (sym none.2) tells.passes)
     | inr some ↦ absurd (omega (arith, some.0))
   ]
 
@@ -288,7 +288,7 @@ module _ {S Q P W : Type 0} {remaining : S → Option (List ℕ)} {rules : ReadR
     takes = TakesBytes-none place;
     asked = inl refl;
     through = inl (omega arith);
-    tells = TellsOnce-none Passes-none;
+    tells = TellsOnce-none PassesTo-none;
     idle = λ _. (refl, refl);
   }
 
@@ -331,7 +331,7 @@ module _ {S Q P W : Type 0} {remaining : S → Option (List ℕ)} {rules : ReadR
       tells = record {
         front = way.tells.front;
         place = way.tells.place;
-        passes = Passes-joins (TellsOnce-passes before.tells) way.tells.passes;
+        passes = PassesTo-joins (TellsOnce-passes before.tells) way.tells.passes;
         once = way.tells.once;
       };
       idle = λ done.

@@ -15,7 +15,7 @@ use Rattle.body_reader.specs.declared.error.CollectError.{CollectError}
 use Rattle.body_reader.specs.declared.error.CollectError.TheVariants as collect
 use Rattle.body_reader.specs.declared.progress.Progress.{Progress}
 use Rattle.buffer_redux.specs.Asking.{AskedWhere}
-use Rattle.body_reader.specs.Between.{AllShown, AsksOpen, AsksWithRoom, BecomesIo, EachGave, FaultedOnce, GaveNothingOnce, HandsPiecewise, KeepsBuffer, KnowsAll, KnowsBehind, Passes, StopsFor, TakenThrough, TellsOnce, handed_out}
+use Rattle.body_reader.specs.Between.{AllShown, AsksOpen, AsksWithRoom, BecomesIo, EachGave, FaultedOnce, GaveNothingOnce, HandsPiecewise, KeepsBuffer, KnowsAll, KnowsBehind, PassesTo, StopsFor, TakenThrough, TellsOnce, handed_out}
 use Rattle.body_reader.specs.Coding.{Grammar, IsBody, IsKnown, IsOpen, Leads, LeadsOpen, heeded}
 
 -- the buffered reader; the coding; where in the body the reader stands; the bytes of it that were taken so far; what it handed
@@ -126,7 +126,7 @@ module _ {S Q C P W : Type 0} (remaining : S → Option (List ℕ)) (rules : Rea
         (λ e. NoPayload g s e t)
     pub all : IfOk answer (λ n. 0 < n → s.known ≡ 0 → AllShown g t.place n t.reader.block.bytes)
     pub asked : AsksOpen remaining rules g s.reader s.place t.reader
-    pub passes : Passes remaining rules g s.reader s.place t.reader t.place
+    pub passes : PassesTo remaining rules g s.reader s.place t.reader t.place
     pub still : (0 < s.known ⊎ TookWholeBody g s) → t ≡ s
     pub noted : t.calls ≡ s.calls
     pub whole : IsBodyReader g t

@@ -10,12 +10,12 @@ returns-then-is_empty g c =
 
 pub returns-in-Payload : goal.returns-in-Payload
 returns-in-Payload g c =
-    looks_payload _ c.args.place c.args.shown.now _ _ c.in-Payload.field-0 (sym c.is_empty.ensures ∙ c.if-is_empty.false) (sym
-    c.is_end.ensures ∙ c.if-is_end.false)
+    looks_payload _ c.args.place c.args.shown.now _ _ c.in-Payload.field-0 (sym c.is_empty.ensures ∙ c.if-is_empty.false)
+    (sym c.is_end.ensures ∙ c.if-is_end.false)
     (sym c.turn.ensures ∙ c.in-Payload.is) c.run.ensures
 
 pub returns-in-Passed : goal.returns-in-Passed
 returns-in-Passed g c =
-    looks_passed _ (g.met.C.ByteCoding.lawful _) c.args.place c.in-Passed.next c.args.shown.now (sym c.is_empty.ensures ∙
-    c.if-is_empty.false)
+    looks_passed _ (g.met.C.ByteCoding.lawful _) c.args.place c.in-Passed.next c.args.shown.now
+    (sym c.is_empty.ensures ∙ c.if-is_empty.false)
     (sym c.is_end.ensures ∙ c.if-is_end.false) (sym c.turn.ensures ∙ c.in-Passed.is)

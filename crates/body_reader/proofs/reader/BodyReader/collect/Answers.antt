@@ -37,10 +37,8 @@ returns-then-is_err-clause-collects g c =
     let same = not_added c.extend_from_slice.result (vec_items c.loop-came.out) c.piece.result.now
     (vec_items c.extend_from_slice.new.self) c.extend_from_slice.ensures.items
     (sym c.is_err.ensures.value ∙ c.if-is_err.true) in
-    rw same (collects_no_room g.C.Coding.grammar c.loop-came.invariant c.in_ok-came.ensures.fills (omega (
-      arith,
-      c.if-came-eq0.false,
-    ))
+    rw same (collects_no_room g.C.Coding.grammar c.loop-came.invariant c.in_ok-came.ensures.fills
+    (omega (arith, c.if-came-eq0.false))
     (omega (
       arith,
       c.if-came-eq0.false,
