@@ -1,5 +1,5 @@
 -- Payload is handed out, and how that ends.
-use Rattle.std.proofs.Common.{◌≡◌, ◌==◌, ◌+◌, false, ℕ, zero, suc, ◌-◌, ◌<◌, ◌≤◌, ◌⊎◌, List, [], ◌++◌, length, min, take, drop, Option, Result, Ok, Err, sym, ap, subst, ◌∙◌, arith, inl, inr, refl, append_assoc, append-nil, length-append}
+use Rattle.std.proofs.Common.{◌≡◌, ◌==◌, ◌+◌, false, ℕ, zero, suc, ◌-◌, ◌<◌, ◌≤◌, ◌⊎◌, List, [], ◌++◌, length, min, take, drop, Option, Result, Ok, Err, IfOk, sym, ap, subst, ◌∙◌, arith, inl, inr, refl, append_assoc, append-nil, length-append}
 use Rattle.std.proofs.lemmas.Bool.{cases_lt}
 use Rattle.std.proofs.lemmas.List.{append_cancel_left, length-drop, length-take-le, take-append-drop}
 use Rattle.buffer_redux.specs.Buffered.{Buffered}
@@ -208,6 +208,13 @@ module _ {S Q P W : Type 0} (remaining : S → Option (List ℕ)) (rules : ReadR
     ),
     λ _. (refl, refl, refl, refl),
   )
+
+  -- no more is handed out than fits
+  pub hands_bound : {before after : ℕ} {s t : Buffered S Q} {p q : Progress P} (out : List ℕ)
+      (answer : Result ℕ (BodyError W))
+      → HandsOn remaining rules g before s p out answer t q after → IfOk answer (λ n. n ≤ length out)
+  hands_bound out (Ok n) hands = hands.0.1.1.0
+  hands_bound out (Err e) hands = tt
 
   -- behind what is no payload, which failed, or came to the end
   module _ (known after : ℕ) (s : Buffered S Q) (p : Progress P) (out : List ℕ) (m : Buffered S Q) (q : Progress P)

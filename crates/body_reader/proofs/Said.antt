@@ -1,10 +1,10 @@
 -- What a call says first, in words of lists.
-use Rattle.std.proofs.Common.{◌≡◌, ℕ, List, [], ◌++◌, length, Option, Result, Ok, Err, IfOk, OnOk, ◌≤◌, sym, ap, ◌∙◌, arith, append-nil, length-append}
+use Rattle.std.proofs.Common.{◌≡◌, ℕ, List, [], ◌++◌, length, Option, Result, Ok, Err, OnOk, sym, ap, ◌∙◌, arith, append-nil, length-append}
 use Rattle.std.proofs.lemmas.List.{nil_from_length}
 use Rattle.buffer_redux.specs.BufReader.{ReadsInOrder}
 use Rattle.buffer_redux.specs.Policy.{ReadRules}
 use Rattle.body_reader.specs.declared.error.BodyError.{BodyError}
-use Rattle.body_reader.specs.BodyReader.{BodyState, Drains, HandsBuffered, ReadsPayload, handed_of}
+use Rattle.body_reader.specs.BodyReader.{BodyState, Drains, HandsBuffered, handed_of}
 use Rattle.body_reader.specs.Coding.{Grammar, IsBody}
 
 module _ {S Q C P W : Type 0} {remaining : S → Option (List ℕ)} {rules : ReadRules Q} {g : Grammar P W}
@@ -27,12 +27,6 @@ module _ {S Q C P W : Type 0} {remaining : S → Option (List ℕ)} {rules : Rea
         );
         reads = reads;
       }
-
-  -- no more is handed out than fits
-  pub read_says : (out : List ℕ) (answer : Result ℕ (BodyError W)) → ReadsPayload remaining rules g s out answer t
-      → IfOk answer (λ n. n ≤ length out)
-  read_says out (Ok n) reads = reads.answers.0
-  read_says out (Err e) reads = tt
 
   pub drain_says : (answer : Result (Unit {0}) (BodyError W)) → Drains remaining rules g s answer t → record {
     ended : OnOk answer (IsBody g t.taken (handed_of t));

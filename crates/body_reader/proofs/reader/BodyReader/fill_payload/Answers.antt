@@ -22,7 +22,10 @@ returns-in-Ok-clause-fills g c = rw (← c.self.view_is)
     c.in-Ok.ensures refl)
 
 pub returns-in-Ok-clause-count : goal.returns-in-Ok-clause-count
-returns-in-Ok-clause-count g c = let fills = returns-in-Ok-clause-fills g c in (fills.answers.0, fills.answers.2)
+returns-in-Ok-clause-count g c =
+    let fills = filled _ _ _ (g.met.C.Coding.lawful _) _ _ _ _ _ c.self.invariant (omega (arith, c.if-self-gt0.false)) (Ok _) _ _
+    c.in-Ok.known c.in-Ok.ensures refl in
+    rw (← c.self.view_is) (fills.answers.0, fills.answers.2)
 
 pub returns-in-Err-clause-fills : goal.returns-in-Err-clause-fills
 returns-in-Err-clause-fills g c = rw (← c.self.view_is)
