@@ -8,16 +8,22 @@ invariant_of-self g c =
     let reads = c.read_buffered.ensures.reads in
     (c.self.invariant.0, c.self.invariant.1, body_room c.get_ref.ensures.whole reads.whole reads.went c.self.invariant.2)
 
-pub returns : goal.returns
-returns g c =
+pub returns-clause-goes : goal.returns-clause-goes
+returns-clause-goes g c =
     let i = c.self.inside in
-    let is = c.get_ref.ensures.whole in
     let reads = c.read_buffered.ensures.reads in
-    rw (← c.self.view_is) (record {
-      bound = reads.bound;
-      goes = body_goes is reads.whole reads.went c.self.invariant.2 _ reads.went.handed i.limits i.head.bytes i.said;
-      noted = reads.noted;
-      unasked = reads.told;
-      all = body_short is reads.whole reads.went c.read_buffered.new.out c.read_buffered.result reads.all;
-      knows = hands_known _ _ c.read_buffered.new.self is c.read_buffered.new.out c.read_buffered.result reads;
-    })
+    rw (← c.self.view_is) (body_goes c.get_ref.ensures.whole reads.whole reads.went c.self.invariant.2 _ reads.went.handed
+    i.limits i.head.bytes i.said)
+
+pub returns-clause-noted : goal.returns-clause-noted
+returns-clause-noted g c = rw (← c.self.view_is) c.read_buffered.ensures.reads.noted
+
+pub returns-clause-all : goal.returns-clause-all
+returns-clause-all g c =
+    let reads = c.read_buffered.ensures.reads in
+    body_short c.get_ref.ensures.whole reads.whole reads.went c.read_buffered.new.out c.read_buffered.result reads.all
+
+pub returns-clause-knows : goal.returns-clause-knows
+returns-clause-knows g c =
+    rw (← c.self.view_is) (hands_known _ _ c.read_buffered.new.self c.get_ref.ensures.whole c.read_buffered.new.out
+    c.read_buffered.result c.read_buffered.ensures.reads)
