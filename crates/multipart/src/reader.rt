@@ -247,8 +247,8 @@ impl<R: TellRead, P: ReaderPolicy> Multipart<R, P> {
     ///
     /// The stream is asked only where what is buffered settles nothing: for no byte behind the empty line of a head, nor behind
     /// the two hyphens of the last boundary, nor behind the first byte that can follow no boundary. Where there are
-    /// `limits.parts` parts already it is asked only where what stands behind the boundary is nothing yet, or begins the two
-    /// hyphens or an empty line.
+    /// `limits.parts` parts already it is asked only while what stands behind the boundary is nothing, or begins the two hyphens,
+    /// or two line ends.
     pub fn next_part(&mut self) -> Result<bool, PartError>
         ensures stands { IfOk result (λ more. MatchBool more
             ((self.new.stand ≡ Stand.Part) × (self.new.parts ≡ self.old.parts + 1))
