@@ -70,7 +70,8 @@ module _ (was is : Bool) (later : List Event) (told : was ≡ true → EndNext i
     cuts_join (Ended ∷ events) bytes cut = cuts_join events bytes cut
 
 -- an end that was met is told, or is to be
-met_once : (was : Bool) (before after : ℕ) → MatchBool was (after ≡ before) (after ≡ before + 1) → before + 1 ≤ after + pending was
+met_once : (was : Bool) (before after : ℕ) → MatchBool was (after ≡ before) (after ≡ before + 1)
+    → before + 1 ≤ after + pending was
 met_once true before after same = omega (arith, same)
 met_once false before after one = omega (arith, one)
 

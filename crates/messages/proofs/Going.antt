@@ -215,8 +215,8 @@ module _ {R : Type 0} {remaining : R → Option (List ℕ)} {s t : Reader R} (is
   body_kept = let kept = went.keeps.room std_leaves in same_room t.reader.block s.reader.block kept.0 kept.1
 
   -- as the body is seen, where this is told of the payload
-  pub body_goes : IsRoomy s.reader.block → (calls : StreamLog) → calls.reads.given ≡ handed_of s ++ handed → (limits : Limits) (head : List ℕ)
-      (said : ParsedHead)
+  pub body_goes : IsRoomy s.reader.block → (calls : StreamLog) → calls.reads.given ≡ handed_of s ++ handed
+      → (limits : Limits) (head : List ℕ) (said : ParsedHead)
       → InsideGoes remaining (seen s limits head said) handed (seen (record t { calls = calls }) limits head said)
   unfolding body_take
   body_goes room calls told limits head said = record {

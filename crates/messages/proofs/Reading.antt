@@ -3,7 +3,7 @@ use Rattle.std.proofs.Common.{◌≡◌, ℕ, List, [], ◌++◌, length, take, 
 use Rattle.std.specs.declared.io.Error.{Error}
 use Rattle.body_reader.specs.Between as between
 use Rattle.body_reader.specs.Between.{handed_out}
-use Rattle.body_reader.specs.BodyReader.{IsBodyReader, ReadsAsIo as ReadsPayloadAsIo, ReadsPayload, handed_of}
+use Rattle.body_reader.specs.BodyReader.{IsBodyReader, NotedIfOk, ReadsAsIo as ReadsPayloadAsIo, ReadsPayload, handed_of}
 use Rattle.body_reader.specs.declared.error.BodyError.{BodyError as Unread}
 use Rattle.body_reader.specs.declared.error.BodyError.TheVariants as unread
 use Rattle.body_reader.specs.declared.either.Side.{Side}
@@ -27,6 +27,12 @@ becomes_is place (unread.Wrong (side.Second name) right) e named becomes = becom
 becomes_is (side.First due) (unread.Truncated right) e named becomes = becomes
 becomes_is (side.Second q) (unread.Truncated right) e named becomes = becomes
 becomes_is place (unread.Io same) e named becomes = becomes
+
+-- another name of an error changes nothing of what is noted
+pub noted_so : {calls later : StreamLog} {out : List ℕ} (place : Side ℕ Place) (r : Result ℕ (Unread (Side (Unit {0}) Malformed)))
+    → NotedIfOk calls out r later → NotedIfOk calls out (body_answer place r) later
+noted_so place (Ok n) noted = noted
+noted_so place (Err e) noted = noted
 
 module _ {R : Type 0} (remaining : R → Option (List ℕ)) (s t : Reader R) (is : IsBodyReader (body_rules s.coding) s)
     (room : IsRoomy s.reader.block) (out : List ℕ) where

@@ -3,7 +3,7 @@ ghost use Rattle.std.specs.Prelude.{◌≡◌, ◌-◌, ◌^◌, ◌<◌, ◌≤
 ghost use Rattle.std.specs.Borrow.{Lends, sem};
 ghost use Rattle.buffer_redux.specs.Asking.{AskedWhere};
 ghost use Rattle.body_reader.specs.Between.{handed_out};
-ghost use Rattle.body_reader.specs.BodyReader.{NotedIfSome};
+ghost use Rattle.body_reader.specs.BodyReader.{NotedIfOk, NotedIfSome};
 ghost use Rattle.buffer_redux.specs.StreamLog.{after_read};
 ghost use Rattle.buffer_redux.specs.Unbuffer.{unbuffered};
 ghost use Rattle.codec.specs.PieceReader.{left_of, rest};
@@ -164,8 +164,7 @@ impl<R: TellRead> Body<R> {
     pub fn read(&mut self, out: &mut [u8]) -> Result<usize, BodyError>
         ensures bound { IfOk result (λ n. n ≤ length out.new) }
         ensures goes { InsideGoes R.remaining self.old (handed_out out.new result) self.new }
-        ensures noted { MatchResult result (λ n. self.new.calls ≡ after_read self.old.calls out.new (Ok n))
-            (λ _. self.new.calls ≡ self.old.calls) }
+        ensures noted { NotedIfOk self.old.calls out.new result self.new.calls }
         ensures ended { result ≡ Ok 0 → 0 < length out.new → IsRest self.new.rest [] [] }
         ensures gave { OnOk result (EachReadGave self.old.stream self.new.stream) }
         ensures fails { IfErr result (λ e. Fails self.old.stream e self.new.stream self.new.rest) }

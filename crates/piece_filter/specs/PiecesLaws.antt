@@ -20,7 +20,8 @@ use Rattle.programs.specs.TakenIn.{sent_all, taken_more}
 use Rattle.piece_filter.specs.Pieces.{AnswersAll, HandsPieces, IsCoherent, IsText, PiecesEnd, Piecewise, TakesReplies, grammar_of, held_at, held_of, piece_rules}
 
 -- from an empty buffer on, what was given is what was handed out, and what is left
-pub given_since : {S D : Type 0} (s t : ReaderState S D) (bytes : List ℕ) → s.reader.block.bytes ≡ [] → HandsOutInOrder (left_of s) bytes (left_of t)
+pub given_since : {S D : Type 0} (s t : ReaderState S D) (bytes : List ℕ) → s.reader.block.bytes ≡ []
+    → HandsOutInOrder (left_of s) bytes (left_of t)
     → t.reader.log.reads.given ≡ s.reader.log.reads.given ++ (bytes ++ rest t)
 given_since s t bytes none hands = hands.given ∙ ap (λ l. s.reader.log.reads.given ++ l)
     (sym (hands.equal ∙ ap (λ l. l ++ hands.got) (drop_none s.handed s.reader.block.bytes none)))

@@ -89,7 +89,8 @@ module _ {S D W : Type 0} (grammar : D → Grammar W) (s t : ReaderState S D) wh
     pub whole_front : IsWhole (grammar t.decoder) (take (t.handed - 0) (drop 0 t.reader.block.bytes))
     whole_front =
         let same : next.bytes ≡ take (t.handed - 0) (drop 0 t.reader.block.bytes) =
-        HandsOutInOrder-same (left_of s) (left_of t) next.bytes (take t.handed t.reader.block.bytes) next.went.hands front ∙ sym (part_front t) in
+        HandsOutInOrder-same (left_of s) (left_of t) next.bytes (take t.handed t.reader.block.bytes) next.went.hands front
+        ∙ sym (part_front t) in
         subst (IsWhole (grammar t.decoder)) same
         (subst (λ d. IsWhole (grammar d) next.bytes) (sym next.went.decoder)
         (whole_of remaining (grammar s.decoder) s t payload next))
@@ -97,9 +98,11 @@ module _ {S D W : Type 0} (grammar : D → Grammar W) (s t : ReaderState S D) wh
 -- what is promised of an answer, where that is a place
 module _ {S D W : Type 0} (s t : ReaderState S D) (r : Result (Option Span) (NextError W)) (span : Span)
     (is : r ≡ Ok (Some span)) where
-  pub loaded_front : IfOk r (λ found. IfSome found (λ _. HandsOutInOrder (left_of s) (take t.handed t.reader.block.bytes) (left_of t)))
+  pub loaded_front : IfOk r (λ found. IfSome found (λ _.
+      HandsOutInOrder (left_of s) (take t.handed t.reader.block.bytes) (left_of t)))
       → HandsOutInOrder (left_of s) (take t.handed t.reader.block.bytes) (left_of t)
-  loaded_front front = subst (λ x. IfOk x (λ found. IfSome found (λ _. HandsOutInOrder (left_of s) (take t.handed t.reader.block.bytes) (left_of t)))) is
+  loaded_front front = subst (λ x. IfOk x (λ found. IfSome found (λ _.
+      HandsOutInOrder (left_of s) (take t.handed t.reader.block.bytes) (left_of t)))) is
       front
 
 pub loaded_next : {S D W : Type 0} (grammar : D → Grammar W) (s t : ReaderState S D) (remaining : S → Option (List ℕ))
@@ -127,7 +130,8 @@ says_piece remaining grammar item_of s t law before whole at here span used take
     let g = grammar s.decoder in
     let next = takes_shown remaining g law s t at here before whole span used takes in
     let bytes = part_piece g s t at span used here takes
-    ∙ HandsOutInOrder-same (left_of s) (left_of t) (take used (rest s)) next.bytes (hands_piece g s t span used takes) next.went.hands in
+    ∙ HandsOutInOrder-same (left_of s) (left_of t) (take used (rest s)) next.bytes (hands_piece g s t span used takes)
+    next.went.hands in
     record {
       next = next;
       says = is ∙ ap (λ x. item_of x.decoder (take (t.handed - at) (drop at t.reader.block.bytes))) takes.1

@@ -1,7 +1,7 @@
 -- What the reader did, told of the rest of the body: what it took leads to what is left of that.
 use Rattle.messages.specs.Messages.{Fails, ReadsBody, seen}
 use Rattle.messages.proofs.Going.{body_room}
-use Rattle.messages.proofs.Reading.{read_named, reads_body}
+use Rattle.messages.proofs.Reading.{noted_so, read_named, reads_body}
 use Rattle.messages.proofs.body.Body.read.Goals as goal
 
 pub answer_of-requires : goal.answer_of-requires
@@ -25,6 +25,10 @@ told g c =
 
 pub returns-clause-goes : goal.returns-clause-goes
 returns-clause-goes g c = (told g c).goes
+
+pub returns-clause-noted : goal.returns-clause-noted
+returns-clause-noted g c =
+    rw (c.answer_of.ensures, ← c.self.view_is) (noted_so _ c.read_payload-answer.result c.read_payload-answer.ensures.reads.noted)
 
 pub returns-clause-ended : goal.returns-clause-ended
 returns-clause-ended g c = (told g c).ended
