@@ -29,10 +29,11 @@ becomes_is (side.Second q) (unread.Truncated right) e named becomes = becomes
 becomes_is place (unread.Io same) e named becomes = becomes
 
 -- another name of an error changes nothing of what is noted
-pub noted_so : {calls later : StreamLog} {out : List ℕ} (place : Side ℕ Place) (r : Result ℕ (Unread (Side (Unit {0}) Malformed)))
-    → NotedIfOk calls out r later → NotedIfOk calls out (body_answer place r) later
-noted_so place (Ok n) noted = noted
-noted_so place (Err e) noted = noted
+pub noted_so : (calls later : StreamLog) (out : List ℕ) (place : Side ℕ Place)
+    (r : Result ℕ (Unread (Side (Unit {0}) Malformed))) → NotedIfOk calls out r later
+    → NotedIfOk calls out (body_answer place r) later
+noted_so calls later out place (Ok n) noted = noted
+noted_so calls later out place (Err e) noted = noted
 
 module _ {R : Type 0} (remaining : R → Option (List ℕ)) (s t : Reader R) (is : IsBodyReader (body_rules s.coding) s)
     (room : IsRoomy s.reader.block) (out : List ℕ) where

@@ -4,7 +4,6 @@ ghost use Rattle.std.specs.Borrow.{Lends, sem};
 ghost use Rattle.buffer_redux.specs.Asking.{AskedWhere};
 ghost use Rattle.body_reader.specs.Between.{handed_out};
 ghost use Rattle.body_reader.specs.BodyReader.{NotedIfOk, NotedIfSome};
-ghost use Rattle.buffer_redux.specs.StreamLog.{after_read};
 ghost use Rattle.buffer_redux.specs.Unbuffer.{unbuffered};
 ghost use Rattle.codec.specs.PieceReader.{left_of, rest};
 ghost use Rattle.messages.specs.contracts.body.Body.{the_row};

@@ -28,7 +28,9 @@ returns-clause-goes g c = (told g c).goes
 
 pub returns-clause-noted : goal.returns-clause-noted
 returns-clause-noted g c =
-    rw (c.answer_of.ensures, ← c.self.view_is) (noted_so _ c.read_payload-answer.result c.read_payload-answer.ensures.reads.noted)
+    let read = c.read_payload-answer in
+    rw (c.answer_of.ensures, ← c.self.view_is)
+    (noted_so c.self.inside.reader.calls read.new.self.calls read.new.out c.place.result read.result read.ensures.reads.noted)
 
 pub returns-clause-ended : goal.returns-clause-ended
 returns-clause-ended g c = (told g c).ended
