@@ -89,7 +89,7 @@ asks_where : {R : Type 0} {remaining : R → Option (List ℕ)} (s t : ReaderSta
     → s.reader.log.reads.asks < t.reader.log.reads.asks
 asks_where s t answer next unsettled = elim next.asked [
   | inl same ↦ absurd (unsettled (settled_where s t same answer next))
-  | inr over ↦ over.some
+  | inr over ↦ over.1.some
 ]
 
 -- a body of which something is buffered, and can't be handed out, isn't asked for
