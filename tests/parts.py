@@ -33,9 +33,10 @@ def whole_parts(boundary, body):
             return parts, True, False
         end = text.find(b"\r\n\r\n", at)
         if end < 0:
-            return parts, False, False
+            # The two hyphens may begin there, or the end of the boundary's line.
+            return parts, False, not re.match(rb"-\Z|[ \t]*(\r\n|\r?\Z)", text[at:])
         head = text[at:end]
-        if not re.match(rb"[ \t]*(\r\n|$)", head):
+        if not re.match(rb"[ \t]*(\r\n|\Z)", head):
             return parts, False, True
         # The end of the empty line may begin a boundary.
         begin = end + 2
@@ -49,7 +50,7 @@ def said(head):
     """The name, the file's name and the type that a head says."""
     name = re.search(rb'[; ]name="([^"]*)"', head)
     filename = re.search(rb'[; ]filename="([^"]*)"', head)
-    kind = re.search(rb"(?i)\r\nContent-Type:[ \t]*(.*?)[ \t]*(\r\n(?![ \t])|$)", head, re.S)
+    kind = re.search(rb"(?i)\r\nContent-Type:[ \t]*(.*?)[ \t]*(\r\n(?![ \t])|\Z)", head, re.S)
     return [found.group(1) if found else b"-" for found in (name, filename, kind)]
 
 
