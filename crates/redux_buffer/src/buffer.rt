@@ -16,8 +16,8 @@ mod transfer;
 
 /// A buffer of bytes, plain or ring, which grows only where it is asked to.
 ///
-/// A plain buffer moves its bytes in [`make_room`](Buffer::make_room) alone. A ring may move them by itself, never more
-/// of them than were consumed.
+/// Growths aside, a plain buffer moves its bytes in [`make_room`](Buffer::make_room) alone. A ring may move them by itself,
+/// never more of them than were consumed.
 ///
 /// ```
 /// let mut buffer = Buffer::with_capacity(alloc, 4)?;

@@ -7,7 +7,8 @@ use crate::buffer::Buffer;
 pub mod potential;
 
 /// What is true of every buffer: its bytes and its usable space fit its capacity, which is within its limit; an empty
-/// plain buffer and every ring can use all their free space; a ring has moved at most what was consumed. It does nothing.
+/// plain buffer and every ring can use all their free space; growths aside, a ring has moved at most what was consumed. It does
+/// nothing.
 #[inline(always)]
 pub fn block_law(buffer: &Buffer)
     ensures { IsBlock buffer.now }
@@ -15,7 +16,7 @@ pub fn block_law(buffer: &Buffer)
     buffer.is_block();
 }
 
-/// A ring has moved at most as many bytes as were consumed from it. It does nothing.
+/// Growths aside, a ring has moved at most as many bytes as were consumed from it. It does nothing.
 #[inline(always)]
 pub fn ring_law(buffer: &Buffer)
     ensures { buffer.now.kind ≡ Ring → buffer.now.moved ≤ buffer.now.consumed }

@@ -65,8 +65,8 @@ fn kept(e: io::Error) -> Option<io::Error>
 impl<W: TellWrite, P: WriterPolicy> BufWriter<W, P> {
     /// Writes a formatted text, as `write!` and `writeln!` ask for it: each of its pieces by `write_all`.
     ///
-    /// After an `Err` a beginning of the text was accepted, and nothing behind it. It is the error of that `write_all`; or
-    /// `Uncategorized`, where the `fmt` of a value failed by itself.
+    /// An `Err` is that of such a `write_all`, and just a beginning of the text was accepted. Or it is `Uncategorized`, where the
+    /// `fmt` of a value failed by itself, also behind a write that failed: then some bytes were accepted.
     #[inline(always)]
     pub fn write_fmt<D: Display + Drop>(&mut self, text: D) -> io::Result<()>
         ensures bytes { OnOk result (IfSome (D.output text) (Appends (writer_contents self.old) (writer_contents self.new))) }

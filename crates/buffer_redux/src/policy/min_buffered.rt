@@ -14,7 +14,7 @@ use std::io;
 /// behind those that are there and would fit then, or where nothing can be written.
 ///
 /// With three times this number as its capacity, a plain buffer that was empty has moved since then no more bytes than the
-/// reader was given: see `play_sparing` of the crate `redux_play`.
+/// reader was given, unless its owner makes room or peeks at more: see `play_sparing` of the crate `redux_play`.
 ///
 /// ```
 /// let slow = ScriptReader::new(alloc, b"abcdefgh", &[Answer::ServeEach(2)])?;
