@@ -1,19 +1,17 @@
 -- How what was noted of a fill fits what it did.
-use Rattle.std.proofs.Common.{◌≡◌, ◌∙◌, ℕ, ◌+◌, ◌<◌, ◌≤◌, List, [], ◌∷◌, length, Option, Result, Ok, Err, true, inl, inr, refl, sym, ap, subst, append-nil, le_refl, arith}
+use Rattle.std.proofs.Common.{◌≡◌, ◌∙◌, ℕ, ◌+◌, ◌<◌, ◌≤◌, List, [], ◌∷◌, length, Option, Result, Ok, Err, true, inl, inr, refl, sym, ap, append-nil, le_refl, arith}
 use Rattle.std.proofs.lemmas.Bool.{cases_lt, MatchBool-at_true}
 use Rattle.std.specs.declared.io.Error.{Error}
-use Rattle.redux_buffer.specs.Block.{IsBlock}
 use Rattle.redux_buffer.specs.GoesOn.{GoesOn-none}
 use Rattle.redux_buffer.specs.StreamLog.{StreamLog, after_fill, end_of_some, with_end}
-use Rattle.redux_buffer.specs.LogGrows.{ReadLogGrows, FillLogGrows}
+use Rattle.redux_buffer.specs.LogGrows.{FillLogGrows}
 use Rattle.buffer_redux.specs.Policy.{ReadRules}
 use Rattle.buffer_redux.specs.Buffered.{Buffered, with_calls}
 use Rattle.buffer_redux.specs.Fill.{Ends, Filled}
-use Rattle.redux_buffer.specs.GivesRemaining.{GivesRemaining}
 use Rattle.buffer_redux.specs.BufReader.{Fills, InnerGives}
-use Rattle.buffer_redux.specs.EmptyReads.{ReadsWhenEmpty, none_before_fault, none_where_shown, fill_once}
+use Rattle.buffer_redux.specs.EmptyReads.{Filled-capacity, ReadsWhenEmpty, none_before_fault, none_where_shown, fill_once}
 use Rattle.buffer_redux.specs.ReaderLaws.{Fills-empty, WantsBytes}
-use Rattle.buffer_redux.specs.Sparing.{Spared, Spared-noted}
+use Rattle.buffer_redux.specs.Sparing.{Spared-noted}
 use Rattle.buffer_redux.specs.ReaderTells.{FaultsAlike, ReaderWent}
 use Rattle.buffer_redux.proofs.Offering.{fill_offered}
 
@@ -73,16 +71,9 @@ module _ {S P A : Type 0} (rules : ReadRules P) (t : Buffered S P) (calls : Stre
       record { count = f.count; last = f.last; turns = f.turns; ends = ends_noted f.last answer f.ends }
 
 -- a fill that was noted
-module _ {S P : Type 0} (remaining : S → Option (List ℕ)) (rules : ReadRules P) (s m t : Buffered S P)
-    (is : t ≡ m) (calls : StreamLog) where
-  log : t.log ≡ m.log
-  log = ap (λ x. x.log) is
-
-  block : t.block ≡ m.block
-  block = ap (λ x. x.block) is
-
+module _ {S P : Type 0} (remaining : S → Option (List ℕ)) (rules : ReadRules P) (s m : Buffered S P) where
   faults_alike : (answer : Result (Unit {0}) Error) → Fills rules s answer m → (rules.claims s.policy).steady ≡ true
-      → FaultsAlike s.own_calls.fills.faults (after_fill s.own_calls answer t.block.bytes).fills.faults
+      → FaultsAlike s.own_calls.fills.faults (after_fill s.own_calls answer m.block.bytes).fills.faults
       s.log.reads.faults m.log.reads.faults
   faults_alike (Ok a) f steady =
       record {
@@ -101,87 +92,72 @@ module _ {S P : Type 0} (remaining : S → Option (List ℕ)) (rules : ReadRules
   }
 
   ends_bound : (answer : Result (Unit {0}) Error) → Fills rules s answer m → WantsBytes (rules.claims s.policy)
-      → 0 < s.block.capacity → (after_fill s.own_calls answer t.block.bytes).fills.zero_fills + s.log.reads.zero_reads
+      → 0 < s.block.capacity → (after_fill s.own_calls answer m.block.bytes).fills.zero_fills + s.log.reads.zero_reads
       ≤ s.own_calls.fills.zero_fills + m.log.reads.zero_reads
-  ends_bound (Ok a) f wants room = elim (cases_lt 0 (length t.block.bytes)) [
-    | inl some ↦ omega (arith, end_of_some s.own_calls.fills.zero_fills t.block.bytes some, f.grows.zero_reads)
+  ends_bound (Ok a) f wants room = elim (cases_lt 0 (length m.block.bytes)) [
+    | inl some ↦ omega (arith, end_of_some s.own_calls.fills.zero_fills m.block.bytes some, f.grows.zero_reads)
     | inr few ↦ (
-        let none : length t.block.bytes ≡ 0 = omega (arith, few) in
-        let dry = Fills-empty rules s a m f wants room (ap (λ b. length b.bytes) (sym block) ∙ none) in
-        omega (arith, end_noted s.own_calls.fills.zero_fills t.block.bytes none, dry)
+        let none : length m.block.bytes ≡ 0 = omega (arith, few) in
+        omega (
+          arith,
+          end_noted s.own_calls.fills.zero_fills m.block.bytes none,
+          Fills-empty rules s a m f wants room none,
+        )
         )
   ]
   ends_bound (Err e) f wants room = omega (arith, f.grows.zero_reads)
 
   once_bound : (answer : Result (Unit {0}) Error) → Fills rules s answer m → ReadsWhenEmpty rules
       → s.own_calls.fills.zero_fills + m.log.reads.zero_reads
-      ≤ (after_fill s.own_calls answer t.block.bytes).fills.zero_fills + s.log.reads.zero_reads
-  once_bound (Ok a) f orders = elim (cases_lt 0 (length t.block.bytes)) [
+      ≤ (after_fill s.own_calls answer m.block.bytes).fills.zero_fills + s.log.reads.zero_reads
+  once_bound (Ok a) f orders = elim (cases_lt 0 (length m.block.bytes)) [
     | inl some ↦ omega (
       arith,
-      end_of_some s.own_calls.fills.zero_fills t.block.bytes some,
-      none_where_shown rules orders s m a f.filled (omega (arith, some, ap (λ b. length b.bytes) block)),
+      end_of_some s.own_calls.fills.zero_fills m.block.bytes some,
+      none_where_shown rules orders s m a f.filled some,
     )
     | inr few ↦ omega (
       arith,
-      end_noted s.own_calls.fills.zero_fills t.block.bytes (omega (arith, few)),
+      end_noted s.own_calls.fills.zero_fills m.block.bytes (omega (arith, few)),
       fill_once rules s m (Ok a) f.filled,
     )
   ]
   once_bound (Err e) f orders = omega (arith, none_before_fault rules orders s m e f.filled)
 
-  pub filled_went : (answer : Result (Unit {0}) Error) → Fills rules s answer m → InnerGives remaining s m
-      → calls ≡ after_fill s.own_calls answer t.block.bytes → ReaderWent remaining rules s (with_calls t calls)
-  filled_went answer f gives noted = record {
+  fill_went : (answer : Result (Unit {0}) Error) → Fills rules s answer m → InnerGives remaining s m
+      → ReaderWent remaining rules s (with_calls m (after_fill s.own_calls answer m.block.bytes))
+  fill_went answer f gives = record {
     handed = [];
-    consumed =
-        ap (λ l. l.fills.consumed) noted ∙ consumed_stays s.own_calls answer t.block.bytes
-        ∙ sym (append-nil s.own_calls.fills.consumed);
+    consumed = consumed_stays s.own_calls answer m.block.bytes ∙ sym (append-nil s.own_calls.fills.consumed);
     in_order = record {
       got = f.in_order.got;
-      given = ap (λ l. l.reads.given) log ∙ f.in_order.given;
-      equal = ap (λ b. b.bytes) block ∙ f.in_order.equal;
-      consumed = omega (arith, ap (λ b. b.consumed) block, f.consumed);
+      given = f.in_order.given;
+      equal = f.in_order.equal;
+      consumed = f.in_order.consumed;
     };
-    known = subst (λ l. GivesRemaining (remaining s.inner) s.log.reads (remaining t.inner) l.reads) (sym log)
-        (subst (λ i. GivesRemaining (remaining s.inner) s.log.reads (remaining i) m.log.reads)
-        (sym (ap (λ x. x.inner) is)) gives);
-    grows = subst (λ l. ReadLogGrows s.log.reads l.reads) (sym log) f.grows;
-    own_grows =
-        subst (λ l. FillLogGrows s.own_calls.fills l.fills) (sym noted) (fill_grows s.own_calls answer t.block.bytes);
-    capacity = omega (arith, ap (λ b. b.capacity) block, f.capacity);
-    kind = ap (λ b. b.kind) block ∙ f.kind;
-    claims = ap (λ x. rules.claims x.policy) is ∙ f.claims;
-    sparing = λ keep claims. Spared-noted keep s t calls (subst (Spared keep s) (sym is) (f.sparing keep claims));
-    faults = λ steady.
-        subst (λ l. FaultsAlike s.own_calls.fills.faults l.fills.faults s.log.reads.faults t.log.reads.faults)
-        (sym noted)
-        (subst (λ l. FaultsAlike s.own_calls.fills.faults (after_fill s.own_calls answer t.block.bytes).fills.faults
-        s.log.reads.faults l.reads.faults) (sym log)
-        (faults_alike answer f steady));
-    ends = λ wants room.
-        omega (
-          arith,
-          ends_bound answer f wants room,
-          ap (λ l. l.fills.zero_fills) noted,
-          ap (λ l. l.reads.zero_reads) log,
-        );
-    once = λ orders. omega (
-      arith,
-      once_bound answer f orders,
-      ap (λ l. l.fills.zero_fills) noted,
-      ap (λ l. l.reads.zero_reads) log,
-    );
+    known = gives;
+    grows = f.grows;
+    own_grows = fill_grows s.own_calls answer m.block.bytes;
+    capacity = f.capacity;
+    kind = f.kind;
+    claims = f.claims;
+    sparing = λ keep claims.
+        Spared-noted keep s m (after_fill s.own_calls answer m.block.bytes) (f.sparing keep claims);
+    faults = faults_alike answer f;
+    ends = ends_bound answer f;
+    once = once_bound answer f;
     offers = λ leaves whole.
-        let offered = fill_offered rules leaves s answer m whole f.filled in record {
-          whole = subst IsBlock (sym block) f.whole;
-          capacity = ap (λ b. b.capacity) block ∙ offered.capacity;
-          offer = elim offered.offer [
-            | inl none ↦ inl (ap (λ l. l.reads) (log ∙ none))
-            | inr all ↦ inr (
-              ap (λ l. l.reads.offer) log ∙ all.0 ∙ sym (ap (λ b. b.capacity) block ∙ offered.capacity),
-              omega (arith, all.1, ap (λ b. length b.bytes) block, ap (λ l. length l.reads.latest) log),
-            )
+        let capacity = Filled-capacity rules leaves s answer m f.filled in record {
+          whole = f.whole;
+          capacity = capacity;
+          offer = elim (fill_offered rules leaves s answer m whole f.filled) [
+            | inl none ↦ inl (ap (λ l. l.reads) none)
+            | inr all ↦ inr (all.0 ∙ sym capacity, all.1)
           ];
         };
   }
+
+  pub filled_went : (t : Buffered S P) → t ≡ m → (calls : StreamLog) → (answer : Result (Unit {0}) Error)
+      → Fills rules s answer m → InnerGives remaining s m → calls ≡ after_fill s.own_calls answer t.block.bytes
+      → ReaderWent remaining rules s (with_calls t calls)
+  filled_went t is calls answer f gives noted = rw (noted, is) (fill_went answer f gives)

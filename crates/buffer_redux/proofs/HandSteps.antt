@@ -20,7 +20,7 @@ use Rattle.buffer_redux.proofs.LineSteps.{FillsMore, going_on}
 use Rattle.buffer_redux.proofs.ReadAll.{front_joins}
 use Rattle.buffer_redux.proofs.Retrying.{retried_dry}
 use Rattle.buffer_redux.proofs.Searching.{first_through, through}
-use Rattle.buffer_redux.proofs.UntilSteps.{Shows, front_filled, passes_and_fills, passes_filled, passes_first, passes_shown, passes_to_end, reaches, shows_none}
+use Rattle.buffer_redux.proofs.UntilSteps.{Shows, front_filled, passes_and_fills, passes_filled, passes_first, passes_shown, passes_to_end, reaches}
 
 -- these bytes lack the byte, and the sink took them in. None was dropped behind the last fill
 pub record Handed {S P K : Type 0} (remaining : S → Option (List ℕ)) (rules : ReadRules P) (sink : SinkRules K) (byte : ℕ)
@@ -64,10 +64,6 @@ all_taken leaves byte at count bytes whole first most left = elim (cases_lt at c
 
 module _ {S P K : Type 0} (remaining : S → Option (List ℕ)) (rules : ReadRules P) (sink : SinkRules K) (law : IsLawful sink)
     (byte : ℕ) where
-  pub handed_none : (s : Buffered S P) (k : K) → IsBlock s.block → Handed remaining rules sink byte s k s k
-  handed_none s k whole =
-      record { handed = []; shows = shows_none remaining rules byte s whole; took = law.none k }
-
   module _ (s m : Buffered S P) (k l : K) (before : Handed remaining rules sink byte s k m l) where
     -- all that is buffered is handed to the sink, which may leave some
     pub handed_on : (n : ℕ) (t : Buffered S P) (u : K) → n ≡ length m.block.bytes → Lacks byte m.block.bytes

@@ -83,21 +83,11 @@ module _ {S P : Type 0} (tells : S → StreamLog) (trace : S → S → Type 0) (
   put_along s t bytes p =
       block_along s t bytes p.others p.added.bytes p.added.consumed (omega (arith, p.added.capacity)) p.added.kind
 
-  -- what was sent before, and the room that there is then, or none
-  pub place_made : (s m t : Buffered S P) (count : ℕ) (x y : Unit {0}) → WasSent tells trace s (Ok x) m
-      → Reserves count m.block t.block → t ≡ with_block m t.block → IsBlock t.block → MakesPlace tells trace count s (Ok y) t
-  place_made s m t count x y sent grown others whole =
-      record { sending = Ok x; left = m; sent = sent; ended = (grown, others); whole = whole }
-
+  -- what was sent before, and no room then
   pub place_refused : (s m : Buffered S P) (count : ℕ) (x : Unit {0}) (e : Error) → WasSent tells trace s (Ok x) m
       → GrowthFailed count m.block e → MakesPlace tells trace count s (Err e) m
   place_refused s m count x e sent failed =
       record { sending = Ok x; left = m; sent = sent; ended = (failed, refl); whole = sent.whole }
-
-  pub place_unsent : (s t : Buffered S P) (count : ℕ) (e : Error) → WasSent tells trace s (Err e) t
-      → MakesPlace tells trace count s (Err e) t
-  place_unsent s t count e sent =
-      record { sending = Err e; left = t; sent = sent; ended = (refl, refl); whole = sent.whole }
 
   module _ (joins : (u v w : S) → trace u v → trace v w → trace u w)
       (goes : (u v : S) → trace u v → WritesGoOn (tells u) (tells v)) where

@@ -1,23 +1,22 @@
 -- A write of all bytes, write after write.
-use Rattle.std.proofs.Common.{◌≡◌, ◌≢◌, ℕ, suc, ◌+◌, ◌-◌, ◌<◌, ◌≤◌, List, [], ◌++◌, length, take, drop, Result, Ok, Err, IfErr, OnOk, refl, sym, ap, subst, ◌∙◌, arith, le_refl, le_trans, inl, inr, append-nil, take_all, take-add, length-drop, true}
+use Rattle.std.proofs.Common.{◌≡◌, ◌≢◌, ℕ, suc, ◌+◌, ◌-◌, ◌<◌, ◌≤◌, List, [], ◌++◌, length, take, drop, Result, Ok, Err, refl, sym, ap, subst, ◌∙◌, arith, le_refl, le_trans, inl, inr, append-nil, take-add, length-drop}
 use Rattle.std.proofs.lemmas.Slice.{between_to_end}
 use Rattle.std.specs.IoError.{error_kind}
 use Rattle.std.specs.declared.io.Error.{Error}
 use Rattle.std.specs.declared.io.ErrorKind.{ErrorKind}
 use Rattle.std.specs.declared.io.ErrorKind.TheVariants.{Interrupted, WriteZero}
 use Rattle.std.specs.Io.{WritesAtMost}
-use Rattle.std.specs.Io.KnownBytes.{Appends}
 use Rattle.redux_buffer.specs.Block.{IsBlock}
 use Rattle.redux_buffer.specs.LogGrows.{WriteLogGrows-none, WriteLogGrows-joins}
 use Rattle.redux_buffer.specs.StreamLog.{StreamLog, portion}
 use Rattle.buffer_redux.specs.Policy.{WriteRules}
 use Rattle.buffer_redux.specs.AllBytes.{GoesBy, EndsBy, GaveUp}
 use Rattle.buffer_redux.specs.Buffered.{Buffered, InnerWent}
-use Rattle.buffer_redux.specs.BufWriter.{writer_contents, WritesInOrder, Writes, WriterKeeps, WriterStopped}
-use Rattle.buffer_redux.specs.WriterLaws.{WritesInOrder-none, WritesInOrder-joins, WritesInOrder-contents}
-use Rattle.buffer_redux.specs.WriteAll.{WriteTurns, WriteEnded, TookFront, TookBeginning, WritesAll}
+use Rattle.buffer_redux.specs.BufWriter.{Writes, WriterKeeps}
+use Rattle.buffer_redux.specs.WriterLaws.{Writes-caused, WritesInOrder-none, WritesInOrder-joins}
+use Rattle.buffer_redux.specs.WriteAll.{WriteTurns, WriteEnded, TookFront, WritesAll}
 use Rattle.buffer_redux.proofs.WriteAllCauses.{all_caused, all_steadily}
-use Rattle.buffer_redux.proofs.WriterFacts.{writes_keep, writes_caused, writes_steadily, writes_nothing}
+use Rattle.buffer_redux.proofs.WriterFacts.{writes_keep, writes_steadily, writes_nothing}
 
 -- what a write keeps
 pub writer_keeps : {S P : Type 0} (tells : S → StreamLog) (trace : S → S → Type 0) (rules : WriteRules P)
@@ -197,7 +196,7 @@ module _ {S P : Type 0} (tells : S → StreamLog) (trace : S → S → Type 0)
             some = some;
             answer = answer;
             ends = ends;
-            caused = writes_caused rules m (drop at bs) answer t one.steps;
+            caused = Writes-caused rules m (drop at bs) answer t one.steps;
             empty = λ is. writes_nothing rules m (drop at bs) answer t one.steps is some;
             steadily = writes_steadily rules m (drop at bs) answer t one.steps;
             steps = one.steps;
@@ -232,46 +231,3 @@ module _ {S P : Type 0} (tells : S → StreamLog) (trace : S → S → Type 0)
       ended_all s bs 1 n t
       (first_more s bs (Ok n) t some w n (omega (arith, some, full), refl) (omega (arith, full)))
       (omega (arith, full))
-
--- all that `write_all` promises, as its clauses say it
-module _ {S P : Type 0} (tells : S → StreamLog) (trace : S → S → Type 0) (rules : WriteRules P)
-    (s : Buffered S P) (bs : List ℕ) (t : Buffered S P) where
-  beginning : {answer : Result (Unit {0}) Error} → WritesAll tells trace rules s bs answer t → TookBeginning bs s t
-  beginning w = record { count = w.count; within = w.within; in_order = w.front.in_order }
-
-  pub all_says : (answer : Result (Unit {0}) Error) → WritesAll tells trace rules s bs answer t → record {
-    bytes : OnOk answer (Appends (writer_contents s) (writer_contents t) bs);
-    in_order : OnOk answer (WritesInOrder s bs t);
-    beginning : TookBeginning bs s t;
-    steadily : (rules.claims s.policy).steady ≡ true → IfErr answer (WriterStopped s.log.writes t.log.writes);
-    retried : IfErr answer (λ e. error_kind e ≢ Interrupted);
-    whole : IsBlock t.block;
-    steps : WritesAll tells trace rules s bs answer t;
-    trace : InnerWent tells trace s t;
-  }
-  all_says (Ok _) w =
-      let in_order : WritesInOrder s bs t =
-      subst (λ l. WritesInOrder s l t) (take_all w.count bs (omega (arith, w.ended.0))) w.front.in_order in
-      record {
-        bytes = WritesInOrder-contents s t bs in_order;
-        in_order = in_order;
-        beginning = beginning w;
-        steadily = w.steadily;
-        retried = tt;
-        whole = w.front.keeps.whole;
-        steps = w;
-        trace = w.front.keeps.went;
-      }
-  all_says (Err e) w = record {
-    bytes = tt;
-    in_order = tt;
-    beginning = beginning w;
-    steadily = w.steadily;
-    retried = elim w.ended [
-      | inl failed ↦ not_interrupted WriteZero (λ odd. cc) failed.answer e failed.ends
-      | inr late ↦ λ odd. (let two = sym late.0.timed_out ∙ odd in cc)
-    ];
-    whole = w.front.keeps.whole;
-    steps = w;
-    trace = w.front.keeps.went;
-  }

@@ -11,9 +11,9 @@ use Rattle.buffer_redux.specs.declared.policy.FlushAmt.{FlushAmt}
 use Rattle.buffer_redux.specs.Buffered.{Buffered, InnerWent, with_block}
 use Rattle.buffer_redux.specs.BufWriter.{writer_contents, EmptyWriteCaused, FlushesAmount, TakesIn, Prepared, Finished, WriteErrorCaused, WriterKeeps, Writes, WritesInOrder, WritesSteadily}
 use Rattle.buffer_redux.specs.WriteAll.{AskedFirst}
-use Rattle.buffer_redux.specs.WriterLaws.{WritesInOrder-contents}
+use Rattle.buffer_redux.specs.WriterLaws.{Writes-caused, WritesInOrder-contents}
 use Rattle.buffer_redux.proofs.WriteAll.{writer_keeps}
-use Rattle.buffer_redux.proofs.WriterFacts.{writes_caused, writes_keep, writes_nothing, writes_steadily}
+use Rattle.buffer_redux.proofs.WriterFacts.{writes_keep, writes_nothing, writes_steadily}
 
 -- what a write does once the policy has answered the amount; at an `Err` that flush failed, or the write past the buffer
 abbrev pub WritesOn : {S P : Type 0} → WriteRules P → ℕ → Buffered S P → List ℕ → Result ℕ Error → Buffered S P
@@ -118,7 +118,7 @@ module _ {S P : Type 0} (tells : S → StreamLog) (trace : S → S → Type 0) (
     bound = bound;
     bytes = contents answer t w;
     in_order = (writes_keep rules s bs answer t w).in_order;
-    caused = writes_caused rules s bs answer t w;
+    caused = Writes-caused rules s bs answer t w;
     empty = writes_nothing rules s bs answer t w;
     steadily = writes_steadily rules s bs answer t w;
     steps = w;

@@ -11,7 +11,7 @@ use Rattle.redux_buffer.specs.LogGrows.{WriteLogGrows}
 use Rattle.redux_buffer.specs.Faults.{IsInterrupt, MetInterrupts, MetInterrupts-err, TookNothing, SendErrorCaused}
 use Rattle.buffer_redux.specs.Policy.{WriteRules}
 use Rattle.buffer_redux.specs.Buffered.{Buffered, with_calls, with_policy}
-use Rattle.buffer_redux.specs.BufWriter.{LeavesCapacity, Writes, WriteErrorCaused, IsFlushed, Flushes, FlushesAmount, TakesIn, WritesInOrder}
+use Rattle.buffer_redux.specs.BufWriter.{LeavesCapacity, Writes, WriteErrorCaused, IsFlushed, FlushesAmount, TakesIn, WritesInOrder}
 use Rattle.buffer_redux.specs.WriterLaws.{Wrote-met}
 use Rattle.buffer_redux.proofs.WriterFacts.{steady_caused, steady_met_nothing}
 use Rattle.buffer_redux.specs.WriterTells.{writer_log, failures, TellsFailures, WriterWent}
@@ -159,32 +159,24 @@ pub call_went : {S P : Type 0} (trace : S → S → Type 0) (rules : WriteRules 
     → MetInterrupts s.log.writes m.log.writes)
     → WriterWent trace rules s (with_calls t calls)
 call_went trace rules s m t calls noted is told went grows own accepted order capacity kind same claims flushes fails met =
-    let log : t.log ≡ m.log = ap (λ x. x.log) is in record {
-      inner = subst (trace s.inner) (sym (ap (λ x. x.inner) is)) went;
-      grows = subst (λ l. WriteLogGrows s.log.writes l.writes) (sym log) grows;
-      own_grows = own;
+    rw (is, told) (record {
+      inner = went;
+      grows = grows;
+      own_grows = rw (← is, ← told) own;
       consumed = omega (
         arith,
         order.consumed,
         ap length order.received,
         length-append s.log.writes.received order.sent,
-        ap (λ x. x.block.consumed) is,
-        ap (λ l. length l.writes.received) log,
       );
-      capacity = omega (arith, ap (λ x. x.block.capacity) is, capacity);
-      same_capacity = λ leaves. ap (λ x. x.block.capacity) is ∙ same leaves;
-      kind = ap (λ x. x.block.kind) is ∙ kind;
-      claims = ap (λ x. rules.claims x.policy) is ∙ claims;
-      flushes = omega (arith, flushes, ap (λ l. l.writes.flushes) told, ap (λ l. l.writes.flushes) log);
-      fails = λ steady. omega (
-        arith,
-        fails steady,
-        ap (λ l. failures l.writes) told,
-        ap (λ l. failures l.writes) log,
-      );
-      met = λ tells only. subst (λ l. MetInterrupts s.log.writes l.writes) (sym log)
-          (met tells (subst (λ l. MetInterrupts s.own_calls.writes l.writes) told only));
-    }
+      capacity = capacity;
+      same_capacity = same;
+      kind = kind;
+      claims = claims;
+      flushes = flushes;
+      fails = fails;
+      met = met;
+    })
 
 -- of one call: its own fault, and that there is none
 same_fault : (faults : List Error) (a b : Error) → faults ++ a ∷ [] ≡ faults ++ b ∷ [] → a ≡ b

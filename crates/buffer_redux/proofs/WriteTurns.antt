@@ -8,8 +8,9 @@ use Rattle.buffer_redux.specs.AllBytes.{GoesBy}
 use Rattle.buffer_redux.specs.Buffered.{Buffered}
 use Rattle.buffer_redux.specs.BufWriter.{Writes, WasInterrupted}
 use Rattle.buffer_redux.specs.WriteAll.{WriteTurns}
+use Rattle.buffer_redux.specs.WriterLaws.{Writes-caused}
 use Rattle.buffer_redux.specs.WritesAlongLaws.{WasInterrupted-after, WasInterrupted-before, WasInterrupted-send}
-use Rattle.buffer_redux.proofs.WriterFacts.{steady_caused, writes_caused, writes_keep}
+use Rattle.buffer_redux.proofs.WriterFacts.{steady_caused, writes_keep}
 
 module _ {S P : Type 0} (rules : WriteRules P) where
   -- a write that is gone on from took some, or the inner writer was interrupted
@@ -18,7 +19,7 @@ module _ {S P : Type 0} (rules : WriteRules P) where
       → (0 < further) ⊎ WasInterrupted s.log.writes t.log.writes
   one_turn bs (Ok k) further s t steps goes steady = inl goes.0
   one_turn bs (Err x) further s t steps goes steady = inr (WasInterrupted-send s.log.writes t.log.writes x goes.0
-      (steady_caused rules s t bs x steady (writes_caused rules s bs (Err x) t steps)))
+      (steady_caused rules s t bs x steady (Writes-caused rules s bs (Err x) t steps)))
 
   -- `turns` turns took as many bytes at least, or the inner writer was interrupted
   pub record Turned (turns count : ℕ) (s t : Buffered S P) : Type 0 where

@@ -1,17 +1,16 @@
 -- What follows from a whole write: what it keeps, why it failed, and why it took nothing.
-use Rattle.std.proofs.Common.{◌≡◌, ℕ, zero, suc, ◌+◌, ◌<◌, List, [], ◌∷◌, ◌++◌, true, length, take, Result, Ok, Err, refl, sym, ap, ◌∙◌, arith, inl, inr, append-nil, length-drop, min, subst, IsOkAnd}
+use Rattle.std.proofs.Common.{◌≡◌, ℕ, zero, suc, ◌+◌, ◌<◌, List, [], ◌++◌, true, length, take, Result, Ok, Err, refl, sym, ap, ◌∙◌, arith, inl, inr, length-drop, min, IsOkAnd}
 use Rattle.std.proofs.lemmas.Bool.{cases_lt, MatchBool-at_true}
 use Rattle.std.specs.declared.io.Error.{Error}
 use Rattle.std.specs.declared.io.ErrorKind.TheVariants.{WriteZero}
 use Rattle.redux_buffer.specs.Block.{Block, usable}
-use Rattle.std.proofs.lemmas.List.Elements.{All-nil}
-use Rattle.redux_buffer.specs.Faults.{IsInterrupt, TookNothing, SendErrorCaused, FaultedAfter-after}
-use Rattle.redux_buffer.specs.StreamLog.{portion, after_write}
+use Rattle.redux_buffer.specs.Faults.{TookNothing, SendErrorCaused}
+use Rattle.redux_buffer.specs.StreamLog.{portion}
 use Rattle.buffer_redux.specs.Policy.{WriteRules, BeforeWrite}
 use Rattle.buffer_redux.specs.declared.policy.FlushAmt.{FlushAmt}
 use Rattle.buffer_redux.specs.Buffered.{Buffered, GoesPast, StaysInside}
-use Rattle.buffer_redux.specs.BufWriter.{FlushesAmount, TakesIn, Prepared, Wrote, Writes, WriteErrorCaused, WritesSteadily, NoSpace, EmptyWriteCaused}
-use Rattle.buffer_redux.specs.WriterLaws.{flush_ways, ways_in, FlushesAmount-met}
+use Rattle.buffer_redux.specs.BufWriter.{Prepared, Wrote, Writes, WriteErrorCaused, WritesSteadily, NoSpace, EmptyWriteCaused}
+use Rattle.buffer_redux.specs.WriterLaws.{flush_ways, ways_in, FlushesAmount-met, Writes-caused}
 use Rattle.buffer_redux.proofs.WriteSteps.{StepKeeps, StepKeeps-asked, StepKeeps-joins, StepKeeps-then, capacity_stays, bytes_stay, StepKeeps-takes, StepKeeps-prepared, StepKeeps-finished}
 
 module _ {S P : Type 0} (rules : WriteRules P) (s : Buffered S P) (bs : List ℕ) (n : ℕ) (t : Buffered S P)
@@ -146,51 +145,6 @@ module _ {S P : Type 0} (rules : WriteRules P) where
             )
       ]
 
-  -- why a write failed
-  flush_caused : (s t : Buffered S P) (amount : ℕ) (e : Error)
-      → FlushesAmount amount s (Err e) t → SendErrorCaused s.log.writes t.log.writes e
-  flush_caused s t amount e f = elim (flush_ways amount (length s.block.bytes)) [
-    | inl none ↦ (let odd = (f.idle none).answered in cc)
-    | inr some ↦ (
-        let sends = f.sends some.0 some.1 in
-        record { interrupts = sends.interrupts; cause = sends.failed.cause }
-        )
-  ]
-
-  -- an error that the inner writer caused after the policy was asked
-  after_asked : (s m t : Buffered S P) (e : Error) → m.log ≡ s.log
-      → SendErrorCaused m.log.writes t.log.writes e → SendErrorCaused s.log.writes t.log.writes e
-  after_asked s m t e told caused = subst (λ l. SendErrorCaused l.writes t.log.writes e) told caused
-
-  direct_fault : (bs : List ℕ) (m t : Buffered S P) (e : Error) → TakesIn bs m (Err e) t
-      → t.log ≡ after_write m.log bs (Err e)
-  direct_fault bs m t e f = elim (ways_in m.block (length bs)) [
-    | inl past ↦ (f.past past).told
-    | inr inside ↦ (let odd = (f.inside inside).answered in cc)
-  ]
-
-  pub writes_caused : (s : Buffered S P) (bs : List ℕ) (answer : Result ℕ Error) (t : Buffered S P)
-      → Writes rules s bs answer t → WriteErrorCaused rules s bs answer t
-  writes_caused s bs (Ok n) t wrote = tt
-  writes_caused s bs (Err e) t (inl refused) = inl refused
-  writes_caused s bs (Err e) t (inr (inl p)) =
-      inr (after_asked s p.seen t e p.told (flush_caused p.seen t (p.amount.0) e p.flush))
-  writes_caused s bs (Err e) t (inr (inr faulted)) =
-      let p = faulted.prepared in
-      let m = faulted.before in
-      let only = FlushesAmount-met p.seen m (p.amount.0) p.flush in
-      let told = direct_fault bs m t e faulted.took_in in
-      inr (after_asked s p.seen t e p.told (record {
-        interrupts = only.interrupts ++ [];
-        cause = inr (FaultedAfter-after only.interrupts [] p.seen.log.writes m.log.writes t.log.writes
-            e only.only (record {
-              interrupted = All-nil IsInterrupt;
-              faults = ap (λ l. l.writes.faults) told
-                  ∙ ap (λ l. l ++ e ∷ []) (sym (append-nil m.log.writes.faults));
-              zero_writes = ap (λ l. l.writes.zero_writes) told;
-            }));
-      }))
-
   pub steady_caused : (s t : Buffered S P) (bs : List ℕ) (e : Error) → (rules.claims s.policy).steady ≡ true
       → WriteErrorCaused rules s bs (Err e) t → SendErrorCaused s.log.writes t.log.writes e
   steady_caused s t bs e steady (inl refused) =
@@ -225,4 +179,4 @@ module _ {S P : Type 0} (rules : WriteRules P) where
   writes_steadily s bs (Ok n) t wrote steady =
       (tt, λ is some. steady_nothing s bs t steady some (writes_nothing s bs (Ok n) t wrote is some))
   writes_steadily s bs (Err e) t failed steady =
-      (steady_caused s t bs e steady (writes_caused s bs (Err e) t failed), λ is. cc)
+      (steady_caused s t bs e steady (Writes-caused rules s bs (Err e) t failed), λ is. cc)

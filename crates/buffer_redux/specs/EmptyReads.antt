@@ -1,5 +1,5 @@
 -- How often the reader inside gives nothing in one fill; where a read is ordered over an empty buffer alone, at its end.
-use Rattle.std.proofs.Common.{◌≡◌, ℕ, ◌+◌, ◌<◌, ◌≤◌, ◌==◌, true, length, Result, Ok, Err, inl, inr, refl, ap, ◌∙◌, arith, append-nil}
+use Rattle.std.proofs.Common.{◌≡◌, ℕ, zero, suc, ◌+◌, ◌<◌, ◌≤◌, ◌==◌, true, length, Result, Ok, Err, inl, inr, refl, sym, ap, ◌∙◌, arith, append-nil}
 use Rattle.std.proofs.lemmas.Bool.Decides.{nat_tests}
 use Rattle.std.specs.declared.io.Error.{Error}
 use Rattle.redux_buffer.specs.Block.{Block}
@@ -7,7 +7,7 @@ use Rattle.buffer_redux.specs.declared.policy.DoRead.{DoRead}
 use Rattle.buffer_redux.specs.Policy.{ReadRules, read_now, std_read_rules}
 use Rattle.redux_buffer.specs.StreamLog.{zero_of_none}
 use Rattle.buffer_redux.specs.Buffered.{Buffered}
-use Rattle.buffer_redux.specs.Fill.{Filled, Ordered}
+use Rattle.buffer_redux.specs.Fill.{Ends, Filled, Ordered, Turns}
 use Rattle.buffer_redux.specs.FillLaws.{Turns-gave}
 
 -- the rules order a read over an empty buffer alone, as those of `StdPolicy` do
@@ -87,3 +87,26 @@ module _ {S P A : Type 0} (rules : ReadRules P) (orders : ReadsWhenEmpty rules) 
           | inr (inl full) ↦ ap (λ l. l.reads.zero_reads) full.1.told ∙ gave
           | inr (inr end) ↦ absurd (omega (arith, dry_shows_none end, some))
         ]
+
+-- where the policy leaves the buffer, a fill leaves its capacity
+module _ {S P : Type 0} (rules : ReadRules P) (leaves : ReadsWhole rules) where
+  ordered_capacity : (answer : Result ℕ Error) (s t : Buffered S P) → Ordered rules answer s t
+      → t.block.capacity ≡ s.block.capacity
+  ordered_capacity answer s t a =
+      a.read.added.capacity ∙ ap (λ b. b.capacity) (leaves.before _ _ _ _ _ a.asked.allowed)
+
+  turns_capacity : (k : ℕ) (s t : Buffered S P) → Turns rules k s t → t.block.capacity ≡ s.block.capacity
+  turns_capacity zero s t same = ap (λ x. x.block.capacity) (sym same)
+  turns_capacity (suc k) s t (m, run, count, some, turn) = ordered_capacity (Ok count) m t turn ∙ turns_capacity k s m run
+
+  ends_capacity : {A : Type 0} (answer : Result A Error) (s t : Buffered S P) → Ends rules s answer t
+      → t.block.capacity ≡ s.block.capacity
+  ends_capacity (Ok a) s t (inl declined) = ap (λ b. b.capacity) (leaves.before _ _ _ _ _ declined.asked.allowed)
+  ends_capacity (Ok a) s t (inr (inl full)) = ap (λ b. b.capacity) (leaves.before _ _ _ _ _ full.1.asked.allowed)
+  ends_capacity (Ok a) s t (inr (inr dry)) = ordered_capacity (Ok 0) s t dry
+  ends_capacity (Err e) s t (inl refused) = ap (λ b. b.capacity) (leaves.before _ _ _ _ _ refused.asked.allowed)
+  ends_capacity (Err e) s t (inr fault) = ordered_capacity (Err e) s t fault
+
+  pub Filled-capacity : {A : Type 0} (s : Buffered S P) (answer : Result A Error) (t : Buffered S P)
+      → Filled rules s answer t → t.block.capacity ≡ s.block.capacity
+  Filled-capacity s answer t f = ends_capacity answer f.last t f.ends ∙ turns_capacity f.count s f.last f.turns

@@ -1,20 +1,23 @@
 -- Laws of a buffered writer, for the proofs of those who call one.
-use Rattle.std.specs.Prelude.{◌≡◌, ℕ, ◌+◌, ◌-◌, ◌<◌, ◌≤◌, ◌⊎◌, List, [], ◌++◌, length, take, drop, Result, Ok}
+use Rattle.std.specs.Prelude.{◌≡◌, ℕ, zero, suc, ◌+◌, ◌-◌, ◌<◌, ◌≤◌, ◌⊎◌, List, [], ◌∷◌, ◌++◌, length, take, drop, Result, Ok, Err}
 use Rattle.std.proofs.Common.{sym, ap, subst, refl, ◌∙◌, arith, inl, inr, append_assoc, append-nil}
 use Rattle.std.proofs.Math.Seq.{take-add}
 use Rattle.std.proofs.lemmas.Slice.{between_to_end}
 use Rattle.std.proofs.lemmas.Bool.{cases_lt}
 use Rattle.std.proofs.lemmas.List.{length-append, length-take, take-append-drop}
+use Rattle.std.proofs.lemmas.List.Elements.{All-nil}
 use Rattle.std.specs.declared.io.Error.{Error}
 use Rattle.std.specs.declared.io.ErrorKind.TheVariants.{WriteZero}
 use Rattle.redux_buffer.specs.Block.{Block}
 use Rattle.redux_buffer.specs.Transfer.{Sends}
-use Rattle.redux_buffer.specs.Faults.{OnlyInterrupted, OnlyInterrupted-none, MetInterrupts, TookNothing}
-use Rattle.redux_buffer.specs.StreamLog.{StreamLog, WriteLog, with_zero, zero_of_some, zero_of_none}
+use Rattle.redux_buffer.specs.Faults.{OnlyInterrupted, OnlyInterrupted-none, FaultedAfter-after, IsInterrupt, MetInterrupts, MetInterrupts-none, MetInterrupts-joins, MetInterrupts-err, TookNothing, SendErrorCaused}
+use Rattle.redux_buffer.specs.StreamLog.{StreamLog, WriteLog, after_write, with_zero, zero_of_some, zero_of_none}
 use Rattle.buffer_redux.specs.declared.policy.FlushAmt.{FlushAmt}
 use Rattle.buffer_redux.specs.Policy.{WriteRules}
 use Rattle.buffer_redux.specs.Buffered.{Buffered, GoesPast, StaysInside, InnerWent}
-use Rattle.buffer_redux.specs.BufWriter.{WritesInOrder, FlushesAmount, Wrote}
+use Rattle.buffer_redux.specs.AllBytes.{GoesBy}
+use Rattle.buffer_redux.specs.BufWriter.{WritesInOrder, FlushesAmount, TakesIn, Wrote, Writes, WriteErrorCaused}
+use Rattle.buffer_redux.specs.WriteAll.{WriteTurns, WritesAll}
 
 -- no call accepts nothing, and two traces of calls join
 pub WritesInOrder-none : {S P : Type 0} (s : Buffered S P) → WritesInOrder s [] s
@@ -127,11 +130,11 @@ FlushesNothingAfter {P} rules =
 direct_met : (es : List Error) (n : ℕ) (bs : List ℕ) (a b c : WriteLog) → OnlyInterrupted es a b → c.faults ≡ b.faults
     → c.zero_writes ≡ with_zero b.zero_writes bs (Ok n)
     → OnlyInterrupted es a c ⊎ ((n ≡ 0) × (0 < length bs) × TookNothing es a c WriteZero)
-direct_met es n bs a b c only faults zero = elim (cases_lt 0 n) [
+direct_met es n bs a b c only faults counted = elim (cases_lt 0 n) [
   | inl some ↦ inl (record {
     interrupted = only.interrupted;
     faults = faults ∙ only.faults;
-    zero_writes = zero
+    zero_writes = counted
         ∙ zero_of_some n bs b.zero_writes (inl some) ∙ only.zero_writes;
   })
   | inr none ↦ elim (cases_lt 0 (length bs)) [
@@ -142,14 +145,14 @@ direct_met es n bs a b c only faults zero = elim (cases_lt 0 n) [
         is_write_zero = refl;
         interrupted = only.interrupted;
         faults = faults ∙ only.faults;
-        zero_writes = zero ∙ zero_of_none n bs b.zero_writes (omega (arith, none)) room
+        zero_writes = counted ∙ zero_of_none n bs b.zero_writes (omega (arith, none)) room
             ∙ ap (λ z. z + 1) only.zero_writes;
       },
     )
     | inr empty ↦ inl (record {
       interrupted = only.interrupted;
       faults = faults ∙ only.faults;
-      zero_writes = zero
+      zero_writes = counted
           ∙ zero_of_some n bs b.zero_writes (inr (omega (arith, empty))) ∙ only.zero_writes;
     })
   ]
@@ -183,3 +186,78 @@ Wrote-met rules s bs n t nothing_after wrote =
       subst (λ l. OnlyInterrupted first.interrupts s.log.writes l.writes
           ⊎ ((n ≡ 0) × (0 < length bs) × TookNothing first.interrupts s.log.writes l.writes WriteZero)) (sym still) last,
     )
+
+module _ {S P : Type 0} (rules : WriteRules P) where
+  flush_caused : (s t : Buffered S P) (amount : ℕ) (e : Error)
+      → FlushesAmount amount s (Err e) t → SendErrorCaused s.log.writes t.log.writes e
+  flush_caused s t amount e f = elim (flush_ways amount (length s.block.bytes)) [
+    | inl none ↦ (let odd = (f.idle none).answered in cc)
+    | inr some ↦ (
+        let sends = f.sends some.0 some.1 in
+        record { interrupts = sends.interrupts; cause = sends.failed.cause }
+        )
+  ]
+
+  direct_fault : (bs : List ℕ) (m t : Buffered S P) (e : Error) → TakesIn bs m (Err e) t
+      → t.log ≡ after_write m.log bs (Err e)
+  direct_fault bs m t e f = elim (ways_in m.block (length bs)) [
+    | inl past ↦ (f.past past).told
+    | inr inside ↦ (let odd = (f.inside inside).answered in cc)
+  ]
+
+  -- an error that the inner writer caused after the policy was asked
+  after_asked : (s m t : Buffered S P) (e : Error) → m.log ≡ s.log
+      → SendErrorCaused m.log.writes t.log.writes e → SendErrorCaused s.log.writes t.log.writes e
+  after_asked s m t e told caused = subst (λ l. SendErrorCaused l.writes t.log.writes e) told caused
+
+  -- why a write failed
+  pub Writes-caused : (s : Buffered S P) (bs : List ℕ) (answer : Result ℕ Error) (t : Buffered S P)
+      → Writes rules s bs answer t → WriteErrorCaused rules s bs answer t
+  Writes-caused s bs (Ok n) t wrote = tt
+  Writes-caused s bs (Err e) t (inl refused) = inl refused
+  Writes-caused s bs (Err e) t (inr (inl p)) =
+      inr (after_asked s p.seen t e p.told (flush_caused p.seen t (p.amount.0) e p.flush))
+  Writes-caused s bs (Err e) t (inr (inr faulted)) =
+      let p = faulted.prepared in
+      let m = faulted.before in
+      let only = FlushesAmount-met p.seen m (p.amount.0) p.flush in
+      let told = direct_fault bs m t e faulted.took_in in
+      inr (after_asked s p.seen t e p.told (record {
+        interrupts = only.interrupts ++ [];
+        cause = inr (FaultedAfter-after only.interrupts [] p.seen.log.writes m.log.writes t.log.writes
+            e only.only (record {
+              interrupted = All-nil IsInterrupt;
+              faults = ap (λ l. l.writes.faults) told
+                  ∙ ap (λ l. l ++ e ∷ []) (sym (append-nil m.log.writes.faults));
+              zero_writes = ap (λ l. l.writes.zero_writes) told;
+            }));
+      }))
+
+  module _ (nothing_after : FlushesNothingAfter rules) where
+    -- a write that is gone on from
+    goes_met : (s : Buffered S P) (bs : List ℕ) (answer : Result ℕ Error) (further : ℕ) (t : Buffered S P)
+        → Writes rules s bs answer t → GoesBy answer further → MetInterrupts s.log.writes t.log.writes
+    goes_met s bs (Ok n) further t wrote goes =
+        let met = Wrote-met rules s bs n t nothing_after wrote in
+        elim met.1 [
+          | inl only ↦ record { interrupts = met.0; only = only }
+          | inr nothing ↦ absurd (omega (arith, goes.0, goes.1, nothing.0))
+        ]
+    goes_met s bs (Err e) further t failed goes = elim (Writes-caused s bs (Err e) t failed) [
+      | inl refused ↦ subst (λ l. MetInterrupts s.log.writes l.writes) (sym refused.told) (MetInterrupts-none s.log.writes)
+      | inr caused ↦ MetInterrupts-err s.log.writes t.log.writes e goes.0 caused
+    ]
+
+    turns_met : (bs : List ℕ) (turns count : ℕ) (s t : Buffered S P) → WriteTurns rules bs turns count s t
+        → MetInterrupts s.log.writes t.log.writes
+    turns_met bs zero count s t run =
+        subst (λ x. MetInterrupts s.log.writes x.log.writes) run.1 (MetInterrupts-none s.log.writes)
+    turns_met bs (suc turns) count s t (before, m, run, turn) =
+        MetInterrupts-joins s.log.writes m.log.writes t.log.writes (turns_met bs turns before s m run)
+        (goes_met m (drop before bs) turn.answer turn.further t turn.steps turn.goes)
+
+    -- an Ok write of all bytes met interrupted writes alone
+    pub WritesAll-met : (tells : S → StreamLog) (trace : S → S → Type 0) (s : Buffered S P) (bs : List ℕ) (t : Buffered S P)
+        → WritesAll tells trace rules s bs (Ok tt) t → MetInterrupts s.log.writes t.log.writes
+    WritesAll-met tells trace s bs t all = subst (λ x. MetInterrupts s.log.writes x.log.writes) (sym all.ended.1)
+        (turns_met bs all.turns all.count s all.last all.run)

@@ -16,11 +16,11 @@ use std::io::{Seek, SeekFrom, Write};
 /// seek is made.
 impl<W: TellWrite + TellSeek, P: WriterPolicy> Seek for BufWriter<W, P> {
     fn seek(&mut self, to: SeekFrom) -> io::Result<u64>
-        ensures moves { SeekMoves None None None to result }
-        ensures bytes { Keeps None None }
         ensures all { OnOk result ((self.new.block.bytes ≡ [])
             × (self.new.log.writes.received ≡ self.old.log.writes.received ++ self.old.block.bytes)
             × (self.new.log.writes.flushed ≡ self.new.log.writes.received)) }
+        ensures moves { SeekMoves None None None to result }
+        ensures bytes { Keeps None None }
         ensures sought { WasSought W.log W.trace W.readies self.old to result self.new }
     {
         self.flush()?;

@@ -63,9 +63,9 @@ impl<W: TellWrite + TellSeek, P: WriterPolicy> TellSeek for BufWriter<W, P> {
     ghost readies = { flushes_received };
 
     fn seek_told(&mut self, to: SeekFrom) -> io::Result<u64>
+        ensures told { SeekTells flushes_received (writer_log self.old) to result (writer_log self.new) }
         ensures moves { SeekMoves None None None to result }
         ensures bytes { Keeps None None }
-        ensures told { SeekTells flushes_received (writer_log self.old) to result (writer_log self.new) }
         ensures sought { WasSought W.log W.trace W.readies self.old to result
             (with_calls self.new self.old.own_calls) }
     {
