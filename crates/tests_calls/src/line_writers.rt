@@ -1,4 +1,5 @@
 //! Writers of lines, and the senders over them, which tell where a line isn't sent: call by call.
+use crate::fixtures::Unprintable;
 use buffer_redux::{LineSender, LineWriter};
 use redux_script::Answer;
 use std::alloc::Global;
@@ -13,6 +14,8 @@ enum Put {
     Write(&'static [u8]),
     All(&'static [u8]),
     Text(u8),
+    Unprintable,
+    TextAndUnprintable(u8),
     Flush,
     Send,
 }
@@ -40,6 +43,8 @@ impl Lined for LineWriter<Target> {
             Put::Write(bytes) => kind(write(self, bytes)),
             Put::All(bytes) => done(write_all(self, bytes)),
             Put::Text(number) => done(write!(self, "{}\n-", number)),
+            Put::Unprintable => done(write!(self, "{}", Unprintable)),
+            Put::TextAndUnprintable(number) => done(write!(self, "{}{}", number, Unprintable)),
             Put::Flush => done(flush(self)),
             Put::Send => done(self.send()),
         }
@@ -56,6 +61,8 @@ impl Lined for LineSender<Target> {
             Put::Write(bytes) => kind(write(self, bytes)),
             Put::All(bytes) => done(write_all(self, bytes)),
             Put::Text(number) => done(write!(self, "{}\n-", number)),
+            Put::Unprintable => done(write!(self, "{}", Unprintable)),
+            Put::TextAndUnprintable(number) => done(write!(self, "{}{}", number, Unprintable)),
             Put::Flush | Put::Send => done(flush(self)),
         }
     }
@@ -111,6 +118,24 @@ static TOLD: [Step; 4] = [
     (Put::Flush, Ok(0), b"abc\nd7\n-", b""),
 ];
 
+// The stream fails once, and then once more. Past a buffer of one byte a text of one goes at once.
+static FAULTS_OF_TEXTS: [Answer; 2] = [
+    Answer::Fail(ErrorKind::TimedOut),
+    Answer::Fail(ErrorKind::StorageFull),
+];
+
+// A text tells of the stream's fault, unless a value fails by itself, also behind that.
+static TEXTS: [Step; 3] = [
+    (Put::Text(7), Err(ErrorKind::TimedOut), b"", b""),
+    (Put::Unprintable, Err(ErrorKind::Uncategorized), b"", b""),
+    (
+        Put::TextAndUnprintable(7),
+        Err(ErrorKind::Uncategorized),
+        b"",
+        b"",
+    ),
+];
+
 // Whether the calls come to what their steps say.
 fn goes<L: Lined>(lined: &mut L, steps: &[Step]) -> bool {
     for &(put, answer, received, buffered) in steps {
@@ -129,6 +154,10 @@ fn usual(alloc: Global) -> Result<LineWriter<Target>, Fail> {
 
 fn of_eight(alloc: Global) -> Result<LineWriter<Target>, Fail> {
     Ok(line_writer(alloc, 8, &[], target(alloc, &FAULTS)?)?)
+}
+
+fn of_one(alloc: Global) -> Result<LineWriter<Target>, Fail> {
+    Ok(line_writer(alloc, 1, &[], target(alloc, &FAULTS_OF_TEXTS)?)?)
 }
 
 // Whether one goes as these say, and leaves the stream inside to another.
@@ -152,5 +181,12 @@ fn line_by_line(rt: HostRuntime) -> Result<(), Fail> {
 fn failed_sends(rt: HostRuntime) -> Result<(), Fail> {
     assert!(rt; goes_alone(of_eight(rt.alloc())?, &FORGOTTEN));
     assert!(rt; goes_as_sender(of_eight(rt.alloc())?, &TOLD));
+    Ok(())
+}
+
+#[test]
+fn failed_texts(rt: HostRuntime) -> Result<(), Fail> {
+    assert!(rt; goes_alone(of_one(rt.alloc())?, &TEXTS));
+    assert!(rt; goes_as_sender(of_one(rt.alloc())?, &TEXTS));
     Ok(())
 }

@@ -1,11 +1,13 @@
 //! The calls of std's writers, each as a user of std writes it, so that `docs/STD.md` says what is there.
+use crate::fixtures::Unprintable;
 use buffer_redux::tell::Told;
 use buffer_redux::{BufWriter, LineWriter};
+use redux_script::Answer;
 use std::alloc::Global;
 use std::io;
-use std::io::{IoSlice, Write};
+use std::io::{ErrorKind, IoSlice, Write};
 use std::test::Fail;
-use tests_common::{line_writer, writer};
+use tests_common::{Target, kind, line_writer, target, writer};
 
 type Sink = Told<Vec<u8>>;
 
@@ -49,5 +51,23 @@ fn through_lines(mut to: LineWriter<Sink>) -> io::Result<bool> {
 fn write_as_stds_do(rt: HostRuntime) -> Result<(), Fail> {
     assert!(rt; through(writer(rt.alloc(), 16, &[], sink(rt.alloc()))?)?);
     assert!(rt; through_lines(line_writer(rt.alloc(), 16, &[], sink(rt.alloc()))?)?);
+    Ok(())
+}
+
+// Why a text fails: by the stream, past a buffer of one byte, and by a value's own `fmt`, also behind that.
+fn fails(mut to: BufWriter<Target>) -> bool {
+    let by_stream = kind(write!(to, "{}-", 7));
+    let by_value = kind(write!(to, "{}", Unprintable));
+    let by_both = kind(write!(to, "{}{}", 7, Unprintable));
+    by_stream == Err(ErrorKind::TimedOut)
+        && by_value == Err(ErrorKind::Uncategorized)
+        && by_both == Err(ErrorKind::Uncategorized)
+}
+
+#[test]
+fn a_text_tells_why_it_failed(rt: HostRuntime) -> Result<(), Fail> {
+    let fault = Answer::Fail(ErrorKind::TimedOut);
+    let target = target(rt.alloc(), &[fault, fault])?;
+    assert!(rt; fails(writer(rt.alloc(), 1, &[], target)?));
     Ok(())
 }
