@@ -1,5 +1,5 @@
 -- The calls of a buffered reader as steps, and whole runs of them.
-use Rattle.std.specs.Prelude.{◌≡◌, ℕ, ◌<◌, ◌≤◌, List, [], ◌++◌, length, take, min, Option, Ok, Err, Bool, MatchBool, ⊤}
+use Rattle.std.specs.Prelude.{◌≡◌, ℕ, ◌<◌, ◌≤◌, List, [], ◌++◌, length, take, min, Option, Ok, Err, Bool, MatchBool, ⊤, ◌+◌, ◌⊎◌, vec_len}
 use Rattle.std.specs.List.{All}
 use Rattle.redux_buffer.specs.Block.{LeavesBytes, MakesRoom, Reserves, usable}
 use Rattle.redux_buffer.specs.GrowError.{GrowthRefused}
@@ -7,6 +7,7 @@ use Rattle.redux_buffer.specs.Transfer.{ReadsFrom}
 use Rattle.redux_play.specs.declared.play.ReaderCall.{ReaderCall}
 use Rattle.redux_play.specs.declared.play.ReaderCall.TheVariants.{Read, Fill, Consume, ReadIntoBuf, MakeRoom, Reserve}
 use Rattle.redux_play.specs.declared.play.ReaderAnswer.{ReaderAnswer}
+use Rattle.redux_play.specs.declared.play.ReaderRun.{ReaderRun}
 use Rattle.redux_play.specs.declared.play.ReaderAnswer.TheVariants.{Count, Shown, Done, Fault, Refused}
 use Rattle.buffer_redux.specs.Policy.{ReadRules}
 use Rattle.buffer_redux.specs.Buffered.{Buffered, with_block}
@@ -107,3 +108,9 @@ abbrev pub most_handed : {S P : Type 0} → Buffered S P → ReaderCall → ℕ
 most_handed r (Read n) = n
 most_handed r (Consume n) = min n (length r.block.bytes)
 most_handed r call = 0
+
+-- why a call wasn't begun: the record, which had room for so many answers and bytes at first, is full, or lacks room for what the
+-- call may hand out; or the call reads into a slice, which takes memory of its own
+abbrev pub WantsRoom : {S P : Type 0} → Buffered S P → ReaderCall → ℕ → ℕ → ReaderRun → Type 0
+WantsRoom r call answers bytes run = (answers ≤ vec_len run.answers)
+    ⊎ ((bytes < vec_len run.handed + most_handed r call) ⊎ (0 < room_to_read call))

@@ -137,56 +137,46 @@ module _ {S P : Type 0} (rules : WriteRules P) (s : Buffered S P) (bs : List ℕ
   Wrote-exactly = record { steps = wrote; returned = Wrote-returns; left = Wrote-leaves }
 
   module _ (took : EachTook s.log.writes t.log.writes) where
-    -- no write before the last flush took nothing or failed
-    first_zero_writes : s.log.writes.zero_writes ≤ wrote.after.log.writes.zero_writes
-    first_zero_writes =
+    -- before the last flush no fault and no write that took nothing is forgotten
+    first_counts : (s.log.writes.zero_writes ≤ wrote.after.log.writes.zero_writes)
+        × (length s.log.writes.faults ≤ length wrote.after.log.writes.faults)
+    first_counts =
         let p = wrote.prepared in
         let met = FlushesAmount-met p.seen wrote.before (p.amount.0) p.flush in
-        let told = ap (λ l. l.writes.zero_writes) p.told in
+        let zeros : s.log.writes.zero_writes ≤ wrote.before.log.writes.zero_writes =
+        omega (arith, met.only.zero_writes, ap (λ l. l.writes.zero_writes) p.told) in
+        let faults : length s.log.writes.faults ≤ length wrote.before.log.writes.faults =
+        omega (
+          arith,
+          ap length met.only.faults,
+          length-append p.seen.log.writes.faults met.interrupts,
+          ap (λ l. length l.writes.faults) p.told,
+        ) in
         elim (ways_in wrote.before.block (length bs)) [
-          | inl past ↦ omega (
-            arith,
-            told,
-            met.only.zero_writes,
-            ap (λ l. l.writes.zero_writes) (wrote.took_in.past past).told,
-            zero_rises (Ok n) bs wrote.before.log.writes.zero_writes,
-          )
-          | inr inside ↦ omega (
-            arith,
-            told,
-            met.only.zero_writes,
-            ap (λ l. l.writes.zero_writes) (wrote.took_in.inside inside).told,
-          )
-        ]
-
-    first_faults : length s.log.writes.faults ≤ length wrote.after.log.writes.faults
-    first_faults =
-        let p = wrote.prepared in
-        let met = FlushesAmount-met p.seen wrote.before (p.amount.0) p.flush in
-        let told = ap (λ l. length l.writes.faults) p.told in
-        let more = length-append p.seen.log.writes.faults met.interrupts in
-        elim (ways_in wrote.before.block (length bs)) [
-          | inl past ↦ omega (
-            arith,
-            told,
-            more,
-            ap length met.only.faults,
-            ap (λ l. length l.writes.faults) (wrote.took_in.past past).told,
-          )
-          | inr inside ↦ omega (
-            arith,
-            told,
-            more,
-            ap length met.only.faults,
-            ap (λ l. length l.writes.faults) (wrote.took_in.inside inside).told,
-          )
+          | inl past ↦ (
+              let told = (wrote.took_in.past past).told in (
+                omega (
+                  arith,
+                  zeros,
+                  ap (λ l. l.writes.zero_writes) told,
+                  zero_rises (Ok n) bs wrote.before.log.writes.zero_writes,
+                ),
+                omega (arith, faults, ap (λ l. length l.writes.faults) told),
+              )
+              )
+          | inr inside ↦ (
+              let told = (wrote.took_in.inside inside).told in (
+                omega (arith, zeros, ap (λ l. l.writes.zero_writes) told),
+                omega (arith, faults, ap (λ l. length l.writes.faults) told),
+              )
+              )
         ]
 
     -- the last flush didn't fail
     pub Wrote-took : wrote.finished.flushed ≡ Ok tt
     Wrote-took =
         met_nothing (wrote.finished.amount.0) (with_policy wrote.after t.policy) t wrote.finished.flushed
-        (omega (arith, first_zero_writes, took.zero_writes)) (omega (arith, first_faults, ap length took.faults))
+        (omega (arith, first_counts.0, took.zero_writes)) (omega (arith, first_counts.1, ap length took.faults))
         wrote.finished.flush
 
     pub Wrote-left : FlushLeaves (wrote.finished.amount.0) wrote.after (Ok tt) t

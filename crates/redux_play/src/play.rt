@@ -2,9 +2,10 @@
 //!
 //! Their contracts say what holds over any list of calls: each call is a step that the model allows, and no byte was
 //! lost or changed place from the first call to the last.
-ghost use Rattle.std.specs.Prelude.{◌≡◌, [], is_ok};
+ghost use Rattle.std.specs.Prelude.{◌≡◌, ◌≤◌, ◌-◌, [], is_ok, length, slice_index_or, vec_capacity, OnErr};
 ghost use Rattle.redux_buffer.specs.Block.{IsBlock};
-ghost use Rattle.redux_play.specs.PlayReader.{ReaderPlays, with_handed};
+ghost use Rattle.redux_play.specs.PlayReader.{ReaderPlays, WantsRoom, with_handed};
+ghost use Rattle.redux_play.specs.declared.play.ReaderCall.TheVariants.{Read};
 ghost use Rattle.redux_play.specs.PlayWriter.{WriterPlays};
 
 mod reading;
@@ -154,6 +155,9 @@ pub fn play_reader<R: TellRead, P: ReaderPolicy>(
 ) -> Result<(), AllocError>
     ensures plays { ReaderPlays R.remaining P.rules (with_handed reader.old run.old.handed.items) calls.now run.old.answers.items
         (is_ok result) run.new.answers.items (with_handed reader.new run.new.handed.items) }
+    ensures wanted { OnErr result (WantsRoom reader.new
+        (slice_index_or calls.now (length run.new.answers.items - length run.old.answers.items) (Read 0))
+        (vec_capacity run.old.answers) (vec_capacity run.old.handed) run.new) }
     ensures whole { IsBlock reader.new.block }
 {
     let _ = reader.capacity();
@@ -176,6 +180,7 @@ pub fn play_writer<W: TellWrite, P: WriterPolicy>(
 ) -> Result<(), AllocError>
     ensures plays { WriterPlays W.log W.trace P.rules writer.old calls.now run.old.answers.items (is_ok result)
         run.new.answers.items writer.new }
+    ensures full { OnErr result (vec_capacity run.old.answers ≤ length run.new.answers.items) }
     ensures whole { IsBlock writer.new.block }
 {
     let _ = writer.capacity();

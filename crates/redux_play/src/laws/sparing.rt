@@ -1,12 +1,13 @@
 //! Runs that spare a plain buffer moves, one after another.
-ghost use Rattle.std.specs.Prelude.{◌≡◌, ℕ, ◌≤◌, ◌⊎◌, is_ok, length};
+ghost use Rattle.std.specs.Prelude.{◌≡◌, ℕ, ◌-◌, ◌≤◌, ◌⊎◌, is_ok, length, slice_index_or, vec_capacity, OnErr};
 ghost use Rattle.std.specs.List.{All};
 ghost use Rattle.std.specs.Result.{IsErrAnd};
 ghost use Rattle.redux_buffer.specs.Block.{Block, Reserves};
 ghost use Rattle.redux_buffer.specs.GrowError.{GrowthFailed};
 ghost use Rattle.buffer_redux.specs.Buffered.{Buffered, with_block, with_policy};
 ghost use Rattle.buffer_redux.specs.MinBuffered.{min_read_rules};
-ghost use Rattle.redux_play.specs.PlayReader.{MakesNoRoom, ReaderPlays, with_handed};
+ghost use Rattle.redux_play.specs.PlayReader.{MakesNoRoom, ReaderPlays, WantsRoom, with_handed};
+ghost use Rattle.redux_play.specs.declared.play.ReaderCall.TheVariants.{Read};
 ghost use Rattle.buffer_redux.specs.Policy.{ClaimsToSpare};
 ghost use Rattle.buffer_redux.specs.Seek.{plan_for, Seeks};
 ghost use Rattle.buffer_redux.specs.Sparing.{BeginsEmpty, MovedAtMostGiven, Spared};
@@ -38,6 +39,9 @@ pub fn play_sparing<R: TellRead, P: ReaderPolicy>(
     ensures plays { ReaderPlays R.remaining P.rules
         (with_handed reader.old run.old.handed.items) calls.now run.old.answers.items (is_ok result)
         run.new.answers.items (with_handed reader.new run.new.handed.items) }
+    ensures wanted { OnErr result (WantsRoom reader.new
+        (slice_index_or calls.now (length run.new.answers.items - length run.old.answers.items) (Read 0))
+        (vec_capacity run.old.answers) (vec_capacity run.old.handed) run.new) }
 {
     play_reader(alloc, reader, calls, run)
 }

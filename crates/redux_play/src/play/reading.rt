@@ -1,8 +1,8 @@
 //! One call of a reader: the room for what it may add to a run, and then the call itself.
-ghost use Rattle.std.specs.Prelude.{◌≡◌, ◌+◌, ◌<◌, ◌≤◌, ℕ, List, length, min, IfOk, vec_len, vec_capacity};
+ghost use Rattle.std.specs.Prelude.{◌≡◌, ◌+◌, ◌<◌, ◌≤◌, ℕ, List, length, min, IfOk, OnErr, vec_len, vec_capacity};
 ghost use Rattle.redux_play.specs.declared.play.ReaderCall.TheVariants.{Read, Fill, Consume, ReadIntoBuf, MakeRoom, Reserve};
 ghost use Rattle.redux_buffer.specs.Block.{IsBlock};
-ghost use Rattle.redux_play.specs.PlayReader.{ReaderStep, with_handed, room_to_read, most_handed};
+ghost use Rattle.redux_play.specs.PlayReader.{ReaderStep, WantsRoom, with_handed, room_to_read, most_handed};
 
 use crate::play::record::hand_out;
 use crate::play::{ReaderAnswer, ReaderCall, ReaderRun};
@@ -23,6 +23,9 @@ pub fn room_for<R: Tell, P>(
     ensures answer { IfOk result (λ _. vec_len run.new.answers < vec_capacity run.new.answers) }
     ensures bytes { IfOk result (λ _.
         vec_len run.new.handed + most_handed reader.now call ≤ vec_capacity run.new.handed) }
+    ensures wanted { OnErr result (WantsRoom reader.now call (vec_capacity run.old.answers) (vec_capacity run.old.handed) run.old) }
+    ensures more_answers { vec_capacity run.old.answers ≤ vec_capacity run.new.answers }
+    ensures more_handed { vec_capacity run.old.handed ≤ vec_capacity run.new.handed }
     ensures answers_stay { run.new.answers.items ≡ run.old.answers.items }
     ensures handed_stays { run.new.handed.items ≡ run.old.handed.items }
 {
@@ -50,6 +53,7 @@ pub fn step<R: TellRead, P: ReaderPolicy>(
     requires room { vec_len handed.old + most_handed reader.old call ≤ vec_capacity handed.old }
     ensures step { ReaderStep R.remaining P.rules (with_handed reader.old handed.old.items) call result
         (with_handed reader.new handed.new.items) }
+    ensures room { vec_capacity handed.old ≤ vec_capacity handed.new }
     ensures whole { IsBlock reader.new.block }
 {
     match call {
@@ -70,6 +74,7 @@ fn read<R: TellRead, P: ReaderPolicy>(
     requires { vec_len handed.old + length out.old ≤ vec_capacity handed.old }
     ensures step { ReaderStep R.remaining P.rules (with_handed reader.old handed.old.items) (Read (length out.old)) result
         (with_handed reader.new handed.new.items) }
+    ensures room { vec_capacity handed.old ≤ vec_capacity handed.new }
     ensures whole { IsBlock reader.new.block }
 {
     match reader.read(out) {
@@ -100,6 +105,7 @@ fn consume<R: TellRead, P: ReaderPolicy>(
     requires { vec_len handed.old + min n (length reader.old.block.bytes) ≤ vec_capacity handed.old }
     ensures step { ReaderStep R.remaining P.rules (with_handed reader.old handed.old.items) (Consume n) result
         (with_handed reader.new handed.new.items) }
+    ensures room { vec_capacity handed.old ≤ vec_capacity handed.new }
     ensures whole { IsBlock reader.new.block }
 {
     let count = n.min(reader.buf_len());

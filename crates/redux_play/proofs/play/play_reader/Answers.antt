@@ -38,13 +38,15 @@ loop-call-preserved g c =
     c.step-answer.ensures.step in
     record {
       answers = inv.answers ++ answer ∷ [];
-      gained = c.record.ensures ∙ ap (λ l. l ++ answer ∷ []) (stays.answers_stay ∙ inv.gained)
+      gained = c.record.ensures.added ∙ ap (λ l. l ++ answer ∷ []) (stays.answers_stay ∙ inv.gained)
           ∙ append_assoc c.args.run.now.answers.items inv.answers (answer ∷ []);
       count = length-append inv.answers (answer ∷ []) ∙ omega (arith, inv.count);
       run = subst (λ l. Runs (ReaderStep remaining rules) s l (inv.answers ++ answer ∷ []) t)
           (sym (take_more c.args.calls.now c.loop-call.call-index (Read 0) c.loop-call-test.true))
           (Runs-more (ReaderStep remaining rules) s (take c.loop-call.call-index c.args.calls.now) inv.answers m
           call answer t inv.run step);
+      answers_room = omega (arith, inv.answers_room, stays.more_answers, c.record.ensures.room);
+      handed_room = omega (arith, inv.handed_room, stays.more_handed, c.step-answer.ensures.room);
       whole = c.step-answer.ensures.whole;
     }
 

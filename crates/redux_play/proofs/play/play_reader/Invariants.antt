@@ -1,4 +1,4 @@
-use Rattle.std.proofs.Common.{◌≡◌, List, ◌++◌, length, take}
+use Rattle.std.proofs.Common.{◌≡◌, ◌≤◌, List, ◌++◌, length, take, vec_capacity}
 use Rattle.redux_buffer.specs.Block.{IsBlock}
 use Rattle.redux_play.specs.declared.play.ReaderAnswer.{ReaderAnswer}
 use Rattle.redux_play.specs.PlayReader.{with_handed, ReaderStep}
@@ -13,5 +13,7 @@ invariant-loop-call g l = record {
   count : length answers ≡ l.call-index;
   run : Runs (ReaderStep g.R.TellRead.remaining g.P.ReaderPolicy.rules) (with_handed l.initial.reader l.initial.run.handed.items)
       (take l.call-index l.calls) answers (with_handed l.reader l.run.handed.items);
+  answers_room : vec_capacity l.initial.run.answers ≤ vec_capacity l.run.answers;
+  handed_room : vec_capacity l.initial.run.handed ≤ vec_capacity l.run.handed;
   whole : IsBlock l.reader.block;
 }

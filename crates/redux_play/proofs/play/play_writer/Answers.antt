@@ -27,13 +27,14 @@ loop-call-preserved g c =
     let answer = c.step.result in
     record {
       answers = inv.answers ++ answer ∷ [];
-      gained = c.record.ensures ∙ ap (λ l. l ++ answer ∷ []) (c.in_ok-reserve.ensures.items ∙ inv.gained)
+      gained = c.record.ensures.added ∙ ap (λ l. l ++ answer ∷ []) (c.in_ok-reserve.ensures.items ∙ inv.gained)
           ∙ append_assoc c.args.run.now.answers.items inv.answers (answer ∷ []);
       count = length-append inv.answers (answer ∷ []) ∙ omega (arith, inv.count);
       run = subst (λ l. Runs steps s l (inv.answers ++ answer ∷ []) t)
           (sym (take_more c.args.calls.now c.loop-call.call-index _ c.loop-call-test.true))
           (Runs-more steps s (take c.loop-call.call-index c.args.calls.now) inv.answers c.loop-call.writer _ answer t
           inv.run c.step.ensures.step);
+      room = omega (arith, inv.room, c.in_ok-reserve.ensures.capacity, c.record.ensures.room);
       whole = c.step.ensures.whole;
     }
 

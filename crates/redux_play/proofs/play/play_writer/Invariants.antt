@@ -1,4 +1,4 @@
-use Rattle.std.proofs.Common.{◌≡◌, List, ◌++◌, length, take}
+use Rattle.std.proofs.Common.{◌≡◌, ◌≤◌, List, ◌++◌, length, take, vec_capacity}
 use Rattle.redux_buffer.specs.Block.{IsBlock}
 use Rattle.redux_play.specs.declared.play.WriterAnswer.{WriterAnswer}
 use Rattle.redux_play.proofs.play.play_writer.Given as goal
@@ -13,5 +13,6 @@ invariant-loop-call g l = record {
   count : length answers ≡ l.call-index;
   run : Runs (WriterStep g.W.Tell.log g.W.TellWrite.trace g.P.WriterPolicy.rules) l.initial.writer
       (take l.call-index l.calls) answers l.writer;
+  room : vec_capacity l.initial.run.answers ≤ vec_capacity l.run.answers;
   whole : IsBlock l.writer.block;
 }
