@@ -63,6 +63,9 @@ impl<W: TellWrite + TellSeek, P: WriterPolicy> TellSeek for BufWriter<W, P> {
     ghost readies = { flushes_received };
 
     fn seek_told(&mut self, to: SeekFrom) -> io::Result<u64>
+        ensures all { OnOk result ((self.new.block.bytes ≡ [])
+            × (self.new.log.writes.received ≡ self.old.log.writes.received ++ self.old.block.bytes)
+            × (self.new.log.writes.flushed ≡ self.new.log.writes.received)) }
         ensures told { SeekTells flushes_received (writer_log self.old) to result (writer_log self.new) }
         ensures moves { SeekMoves None None None to result }
         ensures bytes { Keeps None None }
