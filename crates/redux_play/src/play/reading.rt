@@ -23,7 +23,8 @@ pub fn room_for<R: Tell, P>(
     ensures answer { IfOk result (λ _. vec_len run.new.answers < vec_capacity run.new.answers) }
     ensures bytes { IfOk result (λ _.
         vec_len run.new.handed + most_handed reader.now call ≤ vec_capacity run.new.handed) }
-    ensures wanted { OnErr result (WantsRoom reader.now call (vec_capacity run.old.answers) (vec_capacity run.old.handed) run.old) }
+    ensures wanted { OnErr result
+        (WantsRoom reader.now call (vec_capacity run.old.answers) (vec_capacity run.old.handed) run.old) }
     ensures more_answers { vec_capacity run.old.answers ≤ vec_capacity run.new.answers }
     ensures more_handed { vec_capacity run.old.handed ≤ vec_capacity run.new.handed }
     ensures answers_stay { run.new.answers.items ≡ run.old.answers.items }
