@@ -1,5 +1,5 @@
 -- Any calls hand out and skip whole lines of the stream: what they do joins, and what each of them does.
-use Rattle.std.specs.Prelude.{◌+◌, ◌≡◌, ℕ, ◌<◌, ◌≤◌, List, [], ◌∷◌, ◌++◌, length, true, false, Bool, MatchBool, Option, None, Some, Result, Ok, Err}
+use Rattle.std.specs.Prelude.{◌+◌, ◌≡◌, ℕ, ◌<◌, ◌≤◌, ◌⊎◌, List, [], ◌∷◌, ◌++◌, length, true, false, Bool, MatchBool, Option, None, Some, Result, Ok, Err}
 use Rattle.std.proofs.Common.{sym, ap, subst, ◌∙◌, arith, refl, inl, inr, append-nil, append_assoc, length-append}
 use Rattle.std.proofs.lemmas.List.Elements.{All-nil, All-append}
 use Rattle.std.proofs.lemmas.List.Sums.{sum_by-append}
@@ -214,6 +214,10 @@ module _ {S : Type 0} (remaining : S → Option (List ℕ)) (s t : LineState S) 
   Trims-along (Err e) answer n trims =
       subst (λ a. LinesAlong remaining [] s (events_of true a) [] t) (sym trims) (NextLine-along (Err e) n)
 
+-- a line was skipped, or what was left of one; of one that was being skipped nothing may be left at the end of the stream
+abbrev pub IsSkip : List Event → Type 0
+IsSkip events = ((line : List ℕ) × (events ≡ Skipped line ∷ [])) ⊎ (events ≡ [])
+
 -- a call of `skip_line`, or the part of another call that goes on skipping, behind so many bytes of the line
 module _ {S : Type 0} (remaining : S → Option (List ℕ)) (s t : LineState S) (before : List ℕ) (plain : IsLine before)
     (closed : s.skipping ≡ false → before ≡ [])
@@ -280,7 +284,7 @@ module _ {S : Type 0} (remaining : S → Option (List ℕ)) (s t : LineState S) 
   }
 
   -- nothing, at the end of the stream
-  pub skip_none : (count : ℕ) (k : SkipsLine remaining s (Ok count) t) → t.pieces.ended ≡ true → MetEnd s.pieces t.pieces
+  skip_none : (count : ℕ) (k : SkipsLine remaining s (Ok count) t) → t.pieces.ended ≡ true → MetEnd s.pieces t.pieces
       → before ++ k.drops.bytes ≡ [] → LinesAlong remaining before s [] [] t
   skip_none count k ended met none = record {
     bytes = k.drops.bytes;
@@ -290,6 +294,28 @@ module _ {S : Type 0} (remaining : S → Option (List ℕ)) (s t : LineState S) 
     told = λ over. ended;
     ends = one_end remaining s t k.drops.bytes k.drops.went [] refl ended met;
   }
+
+  -- any of these
+  pub skip_along : (count : ℕ) → SkipsLine remaining s (Ok count) t
+      → (events : List Event) × IsSkip events × LinesAlong remaining before s events [] t
+  skip_along count k = elim k.drops.answers.2 [
+    | inl (w, going, met) ↦ (
+      Skipped (before ++ w.line) ∷ [],
+      inl (before ++ w.line, refl),
+      skip_whole count k going w.line w.plain w.equal,
+    )
+    | inr (line, none, ended, met) ↦ last line ended met (before ++ k.drops.bytes) refl
+  ]
+    where
+      last : IsLine k.drops.bytes → t.pieces.ended ≡ true → MetEnd s.pieces t.pieces → (all : List ℕ)
+          → all ≡ before ++ k.drops.bytes
+          → (events : List Event) × IsSkip events × LinesAlong remaining before s events [] t
+      last line ended met [] is = ([], inr refl, skip_none count k ended met (sym is))
+      last line ended met (byte ∷ all) is = (
+        Skipped (before ++ k.drops.bytes) ∷ [],
+        inl (before ++ k.drops.bytes, refl),
+        skip_last count k line ended met (omega (arith, ap length is)),
+      )
 
   -- the stream failed in the line
   pub skip_fails : (e : Error) (k : SkipsLine remaining s (Err e) t)

@@ -5,13 +5,12 @@ use Rattle.std.proofs.lemmas.List.Concat.{flat_map-append}
 use Rattle.std.proofs.lemmas.List.Sums.{sum_by-append, sum_by-cons}
 use Rattle.std.specs.List.{flat_map, sum_by}
 use Rattle.std.specs.declared.io.Error.{Error}
-use Rattle.piece_reader.specs.NextPiece.{MetEnd}
 use Rattle.piece_reader.specs.PiecesWentLaws.{PiecesWent-none}
 use Rattle.piece_reader.specs.PieceReader.{rest}
 use Rattle.piece_reader.specs.Runs.{AnswerRuns}
 use Rattle.line_reader.specs.declared.error.LineError.TheVariants.{Io}
-use Rattle.line_reader.specs.Calls.{Skipped, Nexts, NextsBuffered, NextsTrimmed, Skips, Call, CallGoes, CallsWent, LinesAlong, call_asks, call_lines, event_lines, event_skips, events_of, shown_lines, pending}
-use Rattle.line_reader.specs.CallsLaws.{CutsInto-after, LinesAlong-joins, LinesAlong-still, NextBufferedLine-along, NextBufferedLine-stays, NextLine-along, Trims-along, skip_fails, skip_last, skip_none, skip_whole}
+use Rattle.line_reader.specs.Calls.{Nexts, NextsBuffered, NextsTrimmed, Skips, Call, CallGoes, CallsWent, LinesAlong, call_asks, call_lines, event_lines, event_skips, events_of, shown_lines, pending}
+use Rattle.line_reader.specs.CallsLaws.{CutsInto-after, LinesAlong-joins, LinesAlong-still, NextBufferedLine-along, NextBufferedLine-stays, NextLine-along, Trims-along, skip_along, skip_fails}
 use Rattle.line_reader.specs.Lines.{IsLine}
 use Rattle.line_reader.specs.LineReader.{LineState, IsLineReader}
 use Rattle.line_reader.specs.NextLine.{LineAnswer, NextLine, Trims}
@@ -76,33 +75,18 @@ module _ {S : Type 0} (remaining : S → Option (List ℕ)) where
     -- a skip that ends, and one that fails
     skip_ends : (count : ℕ) (k : SkipsLine remaining s (Ok count) t) (asks : ℕ) → 1 ≤ asks + pending s.skipping
         → CallsWent remaining before s [] asks t
-    skip_ends count k asks enough = elim k.drops.answers.2 [
-      | inl (w, going, met) ↦ record {
-        events = Skipped (before ++ w.line) ∷ [];
-        after = [];
-        along = skip_whole remaining s t before plain closed (ended_empty s whole) count k going w.line w.plain w.equal;
-        handed = refl;
-        few = omega (arith, enough, ap pending k.skipping);
-      }
-      | inr (line, none, ended, met) ↦ last line ended met (before ++ k.drops.bytes) refl
-    ]
-      where
-        last : IsLine k.drops.bytes → t.pieces.ended ≡ true → MetEnd s.pieces t.pieces → (all : List ℕ)
-            → all ≡ before ++ k.drops.bytes → CallsWent remaining before s [] asks t
-        last line ended met [] is = record {
-          events = [];
+    skip_ends count k asks enough =
+        let skip = skip_along remaining s t before plain closed (ended_empty s whole) count k in
+        let one : (flat_map event_lines skip.0 ≡ []) × (sum_by event_skips skip.0 ≤ 1) = elim skip.1 [
+          | inl (line, is) ↦ (ap (λ l. flat_map event_lines l) is, omega (arith, ap (λ l. sum_by event_skips l) is))
+          | inr is ↦ (ap (λ l. flat_map event_lines l) is, omega (arith, ap (λ l. sum_by event_skips l) is))
+        ] in
+        record {
+          events = skip.0;
           after = [];
-          along = skip_none remaining s t before plain closed (ended_empty s whole) count k ended met (sym is);
-          handed = refl;
-          few = omega (arith, ap pending k.skipping);
-        }
-        last line ended met (byte ∷ all) is = record {
-          events = Skipped (before ++ k.drops.bytes) ∷ [];
-          after = [];
-          along = skip_last remaining s t before plain closed (ended_empty s whole) count k line ended met
-              (omega (arith, ap length is));
-          handed = refl;
-          few = omega (arith, enough, ap pending k.skipping);
+          along = skip.2;
+          handed = one.0;
+          few = omega (arith, enough, one.1, ap pending k.skipping);
         }
 
     skip_failed : (e : Error) (k : SkipsLine remaining s (Err e) t) (asks : ℕ) → 1 ≤ asks + pending s.skipping

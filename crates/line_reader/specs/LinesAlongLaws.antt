@@ -8,14 +8,14 @@ use Rattle.std.specs.declared.io.Error.{Error}
 use Rattle.std.specs.declared.io.ErrorKind.TheVariants.{Other}
 use Rattle.piece_reader.specs.DelimitedLaws.{delimited_lawful}
 use Rattle.piece_reader.specs.Grammar.{Begins}
-use Rattle.piece_reader.specs.NextPiece.{Faulted, MetEnd, NoFault, StaysLeft, answer_of}
+use Rattle.piece_reader.specs.NextPiece.{Faulted, NoFault, StaysLeft, answer_of}
 use Rattle.piece_reader.specs.NextPieceLaws.{AsksNone-settled}
 use Rattle.piece_reader.specs.PiecesWentLaws.{PiecesWent-unasked}
 use Rattle.piece_reader.specs.PieceReader.{rest}
 use Rattle.line_reader.specs.declared.error.LineError.{LineError}
 use Rattle.line_reader.specs.declared.error.LineError.TheVariants.{TooLong, Io}
 use Rattle.line_reader.specs.Calls.{Event, LinesAlong, Skipped, events_of}
-use Rattle.line_reader.specs.CallsLaws.{LinesAlong-joins, NextLine-along, Trims-along, no_line, skip_last, skip_none, skip_whole}
+use Rattle.line_reader.specs.CallsLaws.{IsSkip, LinesAlong-joins, NextLine-along, Trims-along, no_line, skip_along, skip_last, skip_whole}
 use Rattle.line_reader.specs.CallsWentLaws.{ended_empty}
 use Rattle.line_reader.specs.Lines.{BeginsTooLong, IsLine, newline, with_newline}
 use Rattle.line_reader.specs.LinesLaws.{front_plain, line_or_end, line_or_long, no-end-within, too_long-append}
@@ -152,33 +152,11 @@ module _ {S : Type 0} (remaining : S → Option (List ℕ)) (s t : LineState S) 
     ]
   ]
 
--- a line was skipped, or what was left of one; of one that was being skipped nothing may be left at the end of the stream
-abbrev IsSkip : List Event → Type 0
-IsSkip events = ((line : List ℕ) × (events ≡ Skipped line ∷ [])) ⊎ (events ≡ [])
-
 module _ {S : Type 0} (remaining : S → Option (List ℕ)) (s t : LineState S) (whole : IsLineReader s) (count : ℕ)
     (k : SkipsLine remaining s (Ok count) t) where
-  skips_rest : (bytes : List ℕ) → k.drops.bytes ≡ bytes → IsLine k.drops.bytes → t.pieces.ended ≡ true
-      → MetEnd s.pieces t.pieces → (events : List Event) × IsSkip events × LinesAlong remaining [] s events [] t
-  skips_rest [] is plain ended met =
-      ([], inr refl, skip_none remaining s t [] no_line (λ _. refl) (ended_empty s whole) count k ended met is)
-  skips_rest (byte ∷ bytes) is plain ended met = (
-    Skipped k.drops.bytes ∷ [],
-    inl (k.drops.bytes, refl),
-    skip_last remaining s t [] no_line (λ _. refl) (ended_empty s whole) count k plain ended met
-        (omega (arith, ap length is)),
-  )
-
   -- what one call of `skip_line` took
   pub SkipsLine-along : (events : List Event) × IsSkip events × LinesAlong remaining [] s events [] t
-  SkipsLine-along = elim k.drops.answers.2 [
-    | inl (w, going, end) ↦ (
-      Skipped w.line ∷ [],
-      inl (w.line, refl),
-      skip_whole remaining s t [] no_line (λ _. refl) (ended_empty s whole) count k going w.line w.plain w.equal,
-    )
-    | inr (plain, none, ended, end) ↦ skips_rest k.drops.bytes refl plain ended end
-  ]
+  SkipsLine-along = skip_along remaining s t [] no_line (λ _. refl) (ended_empty s whole) count k
 
 -- a line that is too long, and then skipped
 module _ {S : Type 0} (remaining : S → Option (List ℕ)) (s m t : LineState S) (max : ℕ) (open' : s.skipping ≡ false)
