@@ -10,7 +10,7 @@ use Rattle.piece_reader.specs.Grammar.{Grammar}
 use Rattle.codec.specs.Serving.{Server, Serves, ServingFails}
 use Rattle.codec.specs.ServingAll.{NotInterrupted, Resumes, ServesAll, StopsAll}
 use Rattle.codec.specs.ServingAllLaws.{Exchanged-joins, Exchanged-none, ServingFails-read}
-use Rattle.codec.specs.ServingLaws.{Talked-pieces}
+use Rattle.codec.specs.ServingLaws.{Talked-exchanged}
 use Rattle.codec.specs.declared.serving.ServeError.{ServeError}
 use Rattle.codec.specs.declared.serving.ServeError.TheVariants.{Read}
 use Rattle.codec.specs.declared.serving.Served.{Served}
@@ -52,16 +52,16 @@ module _ {S D W I A F T P : Type 0} (remaining : S → Option (List ℕ)) (tells
         }
 
     -- serving ended so
-    pub serves_behind : (served : Result Served (ServeError W F)) → IfOk served (λ ended. Serves remaining tells trace
-        (g m.pieces.decoder) (item_of m.pieces.decoder) Answers m ended t) → IfOk served (λ ended. ServesAll remaining tells
-        trace (g s.pieces.decoder) (item_of s.pieces.decoder) Answers Fails s ended t)
-    serves_behind (Ok ended) serves =
+    pub serves_behind : ((u : T) → trace u u) → (served : Result Served (ServeError W F)) → IfOk served (λ ended. Serves
+        remaining tells trace (g m.pieces.decoder) (item_of m.pieces.decoder) Answers m ended t) → IfOk served (λ ended. ServesAll
+        remaining tells trace (g s.pieces.decoder) (item_of s.pieces.decoder) Answers Fails s ended t)
+    serves_behind none (Ok ended) serves =
         let f = subst (λ d. Serves remaining tells trace (g d) (item_of d) Answers m ended t) r.exchanged.taken.decoder serves in
         let all = Exchanged-joins remaining tells trace (g s.pieces.decoder) (item_of s.pieces.decoder) Answers joins s m t
         r.exchanges f.ends.exchanges f.ends.more r.exchanged
         (record {
-          pieces = Talked-pieces remaining tells trace (g s.pieces.decoder) (item_of s.pieces.decoder) Answers m f.ends.exchanges
-              f.ends.more f.ends.last f.ends.talked;
+          pieces = (Talked-exchanged remaining tells trace (g s.pieces.decoder) (item_of s.pieces.decoder) Answers m none joins
+              f.ends.exchanges f.ends.more f.ends.last f.ends.talked).pieces;
           taken = f.taken;
           service = f.service;
           along = f.all.along;
@@ -77,7 +77,7 @@ module _ {S D W I A F T P : Type 0} (remaining : S → Option (List ℕ)) (tells
           last = f;
           all = refl;
         }
-    serves_behind (Err e) serves = tt
+    serves_behind none (Err e) serves = tt
 
     -- or failed so
     pub stops_behind : (served : Result Served (ServeError W F)) → IfErr served NotInterrupted → IfErr served (λ e. ServingFails

@@ -2,7 +2,6 @@
 use Rattle.std.specs.Prelude.{◌≡◌, ℕ, ◌⊎◌, List, [], ◌∷◌, ◌++◌, Bool, true, Option, Some, Ok, Err}
 use Rattle.std.specs.declared.io.Error.{Error}
 use Rattle.std.proofs.lemmas.List.Elements.{All-cons, All-nil}
-use Rattle.std.specs.List.{All}
 use Rattle.std.proofs.Common.{ap, append-nil, inl, inr, refl, subst, sym}
 use Rattle.buffer_redux.specs.Buffered.{Buffered}
 use Rattle.buffer_redux.specs.BufWriter.{WasFlushed, WritesAlong}
@@ -11,6 +10,7 @@ use Rattle.buffer_redux.specs.StreamLog.{StreamLog}
 use Rattle.buffer_redux.specs.WritesAlongLaws.{FlushedAlong-of, WasFlushed-along, WritesAlong-joins, WritesAlong-none, WritesAlong-then}
 use Rattle.piece_reader.specs.declared.error.NextError.TheVariants as next
 use Rattle.codec.specs.AnsweringLaws.{WritesOnce-along}
+use Rattle.codec.specs.ServingAllLaws.{Exchanged-joins, Exchanged-none}
 use Rattle.codec.specs.Fetching.{FlushedFirst}
 use Rattle.piece_reader.specs.Grammar.{Grammar}
 use Rattle.piece_reader.specs.NextPiece.{NextAnswer, PiecesWent}
@@ -39,14 +39,6 @@ module _ {S D W I A F T P : Type 0} (remaining : S → Option (List ℕ)) (tells
 module _ {S D W I A T P : Type 0} (remaining : S → Option (List ℕ)) (tells : T → StreamLog) (trace : T → T → Type 0)
     (g : Grammar W) (item_of : List ℕ → I) (Answers : A → I → List ℕ → List ℕ → Bool → A → Type 0)
     (s : Server S D A T P) where
-  -- each was taken as a piece
-  pub Talked-pieces : (exchanges : List Exchange) (more : Bool) (t : Server S D A T P)
-      → Talked remaining tells trace g item_of Answers s exchanges more t → All (IsWholeExchange g) exchanges
-  Talked-pieces [] more t same = All-nil (IsWholeExchange g)
-  Talked-pieces (x ∷ earlier) more t (m, talked, took) =
-      All-cons (IsWholeExchange g) x earlier (subst (λ l. g.piece l x.payload ⊎ g.last l x.payload) took.all
-      (elim took.fetched.next.answers.1 [ inl is ↦ inl is.0 | inr is ↦ inr is.0 ])) (Talked-pieces earlier true m talked)
-
   module _ (none : (u : T) → trace u u) where
     -- a flush where need be accepts nothing
     pub first_along : (p : ReaderState S D) (w : Buffered T P) (t : ReaderState S D) (ready : Buffered T P)
@@ -63,26 +55,19 @@ module _ {S D W I A T P : Type 0} (remaining : S → Option (List ℕ)) (tells :
           → Talked remaining tells trace g item_of Answers s exchanges more t
           → Exchanged remaining tells trace g item_of Answers s exchanges more t
       Talked-exchanged [] more t (same, is) = subst (λ t. Exchanged remaining tells trace g item_of Answers s [] more t) same
-          (record {
-            pieces = All-nil (IsWholeExchange g);
-            taken = PiecesWent-none remaining g.most s.pieces;
-            service = (refl, is);
-            along = WritesAlong-none tells trace std_write_rules none s.answers;
-          })
+          (subst (λ b. Exchanged remaining tells trace g item_of Answers s [] b s) (sym is)
+          (Exchanged-none remaining tells trace g item_of Answers none s))
       Talked-exchanged (x ∷ earlier) more t (m, talked, took) =
-          let before = Talked-exchanged earlier true m talked in
-          record {
-            pieces = Talked-pieces (x ∷ earlier) more t (m, talked, took);
-            taken = PiecesWent-joins remaining g.most s.pieces m.pieces t.pieces (joined_parts (λ x. x.bytes) earlier) x.bytes
-                before.taken (subst (λ l. PiecesWent remaining g.most m.pieces l t.pieces) took.all took.fetched.next.went);
-            service = (m.service, before.service, took.answers);
-            along = WritesAlong-joins tells trace std_write_rules joins s.answers took.ready t.answers
-                (joined_parts (λ x. x.reply) earlier) x.reply
-                (WritesAlong-then tells trace std_write_rules joins s.answers m.answers took.ready
-                (joined_parts (λ x. x.reply) earlier) before.along
-                (first_along m.pieces m.answers t.pieces took.ready took.fetched.first))
+          Exchanged-joins remaining tells trace g item_of Answers joins s m t earlier (x ∷ []) more
+          (Talked-exchanged earlier true m talked) (record {
+            pieces = All-cons (IsWholeExchange g) x [] (subst (λ l. g.piece l x.payload ⊎ g.last l x.payload) took.all
+                (elim took.fetched.next.answers.1 [ inl is ↦ inl is.0 | inr is ↦ inr is.0 ])) (All-nil (IsWholeExchange g));
+            taken = subst (λ l. PiecesWent remaining g.most m.pieces l t.pieces) took.all took.fetched.next.went;
+            service = (m.service, (refl, refl), took.answers);
+            along = WritesAlong-joins tells trace std_write_rules joins m.answers took.ready t.answers [] x.reply
+                (first_along m.pieces m.answers t.pieces took.ready took.fetched.first)
                 (WritesOnce-along tells trace took.ready t.answers none x.reply took.written);
-          }
+          })
 
       still : (m t : Server S D A T P) → m ≡ t → PiecesWent remaining g.most m.pieces [] t.pieces × (t.service ≡ m.service)
           × WritesAlong tells trace std_write_rules m.answers [] t.answers

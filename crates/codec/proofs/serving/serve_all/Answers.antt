@@ -17,7 +17,7 @@ pub returns-then-not-was_interrupted-clause-served : goal.returns-then-not-was_i
 returns-then-not-was_interrupted-clause-served g c =
     let before = c.loop-call.invariant in
     serves_behind _ _ _ g.D.Decoder.grammar g.D.Items.item_of _ _ g.met.W.TellWrite.trace_joins _ _ _ before _
-    c.serve-served.result c.serve-served.ensures.served
+    g.met.W.TellWrite.trace_none c.serve-served.result c.serve-served.ensures.served
 
 pub returns-then-not-was_interrupted-clause-failed : goal.returns-then-not-was_interrupted-clause-failed
 returns-then-not-was_interrupted-clause-failed g c =
