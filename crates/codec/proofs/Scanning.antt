@@ -3,6 +3,7 @@ use Rattle.std.specs.Prelude.{◌≡◌, ℕ, zero, suc, ◌+◌, ◌-◌, ◌<�
 use Rattle.std.proofs.Common.{sym, ap, subst, ◌∙◌, arith, refl, length-take-le}
 use Rattle.std.proofs.lemmas.List.{drop_all, drop_more, take-append-drop, take_all, take_more}
 use Rattle.codec.specs.Scanning.{LeadsTo, says, scan_on}
+use Rattle.codec.specs.ScanningLaws.{leads_on, leads_then}
 use Rattle.piece_reader.specs.declared.header.Header.TheVariants as header
 use Rattle.codec.specs.declared.scan.ScanStep.{ScanStep}
 use Rattle.codec.specs.declared.scan.ScanStep.TheVariants.{More}
@@ -19,26 +20,6 @@ module _ {S : Type 0} (go : S → ℕ → ScanStep S) where
   no_byte : (left : ℕ) (state : S) (used : ℕ) → 0 < left → scan_on go left state used [] ≡ header.Short
   no_byte zero state used some = absurd (omega (arith, some))
   no_byte (suc left) state used some = refl
-
-  -- bytes that lead to a place are read first
-  leads_on : (left : ℕ) (s : S) (used : ℕ) (bytes more : List ℕ) (place : S) → LeadsTo go s bytes place
-      → (fewer at : ℕ) → left ≡ length bytes + fewer → at ≡ used + length bytes
-      → scan_on go left s used (bytes ++ more) ≡ scan_on go fewer place at more
-  leads_on left s used [] more place is fewer at all there =
-      let same : left ≡ fewer = omega (arith, all) in
-      let here : used ≡ at = omega (arith, there) in
-      ap (λ n. scan_on go n s used more) same ∙ ap (λ x. scan_on go fewer x used more) is
-      ∙ ap (λ n. scan_on go fewer place n more) here
-  leads_on zero s used (b ∷ bs) more place leads fewer at all there = absurd (omega (arith, all))
-  leads_on (suc left) s used (b ∷ bs) more place (next, turns, later) fewer at all there =
-      ap (λ t. says t (used + 1) (λ n. scan_on go left n (used + 1) (bs ++ more))) turns
-      ∙ leads_on left next (used + 1) bs more place later fewer at (omega (arith, all)) (omega (arith, there))
-
-  -- one byte more leads on
-  leads_one : (s : S) (bytes : List ℕ) (place next : S) (byte : ℕ) → LeadsTo go s bytes place → go place byte ≡ More next
-      → LeadsTo go s (bytes ++ byte ∷ []) next
-  leads_one s [] place next byte is turns = (next, ap (λ x. go x byte) is ∙ turns, refl)
-  leads_one s (b ∷ bs) place next byte (m, first, later) turns = (m, first, leads_one m bs place next byte later turns)
 
   module _ (most : ℕ) (start : S) (bytes : List ℕ) where
     -- the first so many bytes were read, and this is where the header stands
@@ -57,7 +38,7 @@ module _ {S : Type 0} (go : S → ℕ → ScanStep S) where
           left = most - seen;
           all = omega (arith, all, some);
           goes = ap (λ l. scan_on go most start 0 l) (sym (take-append-drop seen bytes))
-              ∙ leads_on most start 0 (take seen bytes) (drop seen bytes) state leads (most - seen) seen
+              ∙ leads_on go most start 0 (take seen bytes) (drop seen bytes) state leads (most - seen) seen
               (omega (arith, all, some)) (omega (arith, all));
           leads = leads;
         }
@@ -97,5 +78,5 @@ module _ {S : Type 0} (go : S → ℕ → ScanStep S) where
         goes = scans_says byte other inside is some (More next) turns;
         leads = subst (λ l. LeadsTo go start l next)
             (ap (λ b. take used bytes ++ b ∷ []) is ∙ sym (take_more bytes used other inside))
-            (leads_one start (take used bytes) state next byte so.leads turns);
+            (leads_then go start (take used bytes) state (byte ∷ []) next so.leads (next, turns, refl));
       }

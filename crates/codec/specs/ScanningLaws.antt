@@ -1,14 +1,34 @@
 -- What is said byte by byte stays said.
 use Rattle.std.specs.Prelude.{◌≡◌, ℕ, zero, suc, ◌+◌, ◌<◌, ◌≤◌, List, [], ◌∷◌, ◌++◌, length, take}
-use Rattle.std.proofs.Common.{sym, ap, ◌∙◌, arith, refl}
+use Rattle.std.proofs.Common.{sym, ap, subst, ◌∙◌, arith, refl}
 use Rattle.piece_reader.specs.HeaderFormat.{IsHeaderFormat}
-use Rattle.codec.specs.Scanning.{Scanning, IsSmall, says, scan_on, scanned}
+use Rattle.codec.specs.Scanning.{LeadsTo, Scanning, IsSmall, says, scan_on, scanned}
 use Rattle.piece_reader.specs.declared.header.Header.{Header}
 use Rattle.piece_reader.specs.declared.header.Header.TheVariants.{Short, Sized, Bad}
 use Rattle.codec.specs.declared.scan.ScanStep.{ScanStep}
 use Rattle.codec.specs.declared.scan.ScanStep.TheVariants as turn
 
 module _ {S : Type 0} (go : S → ℕ → ScanStep S) where
+  -- bytes that lead to a place are read first
+  pub leads_on : (left : ℕ) (s : S) (used : ℕ) (bytes more : List ℕ) (place : S) → LeadsTo go s bytes place
+      → (fewer at : ℕ) → left ≡ length bytes + fewer → at ≡ used + length bytes
+      → scan_on go left s used (bytes ++ more) ≡ scan_on go fewer place at more
+  leads_on left s used [] more place is fewer at all there =
+      let same : left ≡ fewer = omega (arith, all) in
+      let here : used ≡ at = omega (arith, there) in
+      ap (λ n. scan_on go n s used more) same ∙ ap (λ x. scan_on go fewer x used more) is
+      ∙ ap (λ n. scan_on go fewer place n more) here
+  leads_on zero s used (b ∷ bs) more place leads fewer at all there = absurd (omega (arith, all))
+  leads_on (suc left) s used (b ∷ bs) more place (next, turns, later) fewer at all there =
+      ap (λ t. says t (used + 1) (λ n. scan_on go left n (used + 1) (bs ++ more))) turns
+      ∙ leads_on left next (used + 1) bs more place later fewer at (omega (arith, all)) (omega (arith, there))
+
+  -- bytes that lead to a place, and then those that lead on from there
+  pub leads_then : (s : S) (bytes : List ℕ) (m : S) (more : List ℕ) (t : S) → LeadsTo go s bytes m → LeadsTo go m more t
+      → LeadsTo go s (bytes ++ more) t
+  leads_then s [] m more t is on = subst (λ x. LeadsTo go x more t) (sym is) on
+  leads_then s (b ∷ bytes) m more t (next, turns, later) on = (next, turns, leads_then next bytes m more t later on)
+
   says_too : (t : ScanStep S) (used : ℕ) (on on' : S → Header) (x : Header) → ((s : S) → on s ≡ x → on' s ≡ x)
       → says t used on ≡ x → says t used on' ≡ x
   says_too (turn.More s) used on on' x goes is = goes s is

@@ -8,7 +8,8 @@ use Rattle.std.proofs.lemmas.Bool.{eq-eqb, ne_eqb, lt-ltb, le-ltb}
 use Rattle.std.proofs.lemmas.Fmt.{decimal_by_steps, length-decimal-le}
 use Rattle.codec.specs.HeadersOut.{IsReadBack}
 use Rattle.codec.specs.Number.{with_byte, with_digit}
-use Rattle.codec.specs.Scanning.{says, scan_on, scanned}
+use Rattle.codec.specs.Scanning.{LeadsTo, says, scan_on, scanned}
+use Rattle.codec.specs.ScanningLaws.{leads_on, leads_then}
 use Rattle.codec.specs.TextHeaders.{Words, IsSound, counts, ends, enters, stands, text_scanning, text_turn}
 use Rattle.codec.specs.TextHeadersOut.{IsWritten}
 use Rattle.piece_reader.specs.declared.header.Header.{Header}
@@ -52,37 +53,8 @@ with_byte_other number byte (inr above) =
     ∙ ap (λ b. if b then None else with_digit number (byte - 48)) (lt-ltb 57 byte above)
 
 module _ (w : Words) where
-  -- these bytes lead from one place to another
   abbrev LeadsByTurns : TextHeaderState → List ℕ → TextHeaderState → Type 0
-  LeadsByTurns s [] t = s ≡ t
-  LeadsByTurns s (b ∷ bs) t = (m : TextHeaderState) × (text_turn w s b ≡ More m) × LeadsByTurns m bs t
-
-  joined : (s : TextHeaderState) (bs : List ℕ) (m : TextHeaderState) (cs : List ℕ) (t : TextHeaderState) → LeadsByTurns s bs m
-      → LeadsByTurns m cs t
-      → LeadsByTurns s (bs ++ cs) t
-  joined s [] m cs t is on = subst (λ x. LeadsByTurns x cs t) (sym is) on
-  joined s (b ∷ bs) m cs t first on = (first.0, first.1, joined first.0 bs m cs t first.2 on)
-
-  -- a scan reads bytes that lead from one place to another, and goes on there
-  led : (left : ℕ) (s : TextHeaderState) (used : ℕ) (bs more : List ℕ) (t : TextHeaderState) → length bs ≤ left
-      → LeadsByTurns s bs t
-      → (less : ℕ) × (less + length bs ≡ left)
-      × (scan_on (text_turn w) left s used (bs ++ more) ≡ scan_on (text_turn w) less t (used + length bs) more)
-  led left s used [] more t few is =
-      let count : used ≡ used + length {A = ℕ} [] = omega arith in (
-        left,
-        omega arith,
-        ap (λ x. scan_on (text_turn w) left x used more) is ∙ ap (λ n. scan_on (text_turn w) left t n more) count,
-      )
-  led zero s used (b ∷ bs) more t few first = absurd (omega (arith, few))
-  led (suc left) s used (b ∷ bs) more t few first =
-      let on = led left first.0 (used + 1) bs more t (omega (arith, few)) first.2 in
-      let count : used + 1 + length bs ≡ used + length (b ∷ bs) = omega arith in (
-        on.0,
-        omega (arith, on.1),
-        ap (λ x. says x (used + 1) (λ next. scan_on (text_turn w) left next (used + 1) (bs ++ more))) first.1 ∙ on.2
-            ∙ ap (λ n. scan_on (text_turn w) on.0 t n more) count,
-      )
+  LeadsByTurns = LeadsTo (text_turn w)
 
   -- what stands before a length leads to it
   first : (done todo : List ℕ) → w.before ≡ done ++ todo → LeadsByTurns (enters w (length done)) todo (Length Empty)
@@ -110,7 +82,8 @@ module _ (w : Words) where
       let digit : n % 10 < 10 = omega arith in
       let some : 0 < n / 10 = omega (arith, big) in
       let short : n / 10 ≤ 99999999999999999 = omega (arith, few) in
-      joined (Length Empty) ds (Length (Is (n / 10))) ((48 + n % 10) ∷ []) (Length (Is n)) (later (omega (arith, few))) (
+      leads_then (text_turn w) (Length Empty) ds (Length (Is (n / 10))) ((48 + n % 10) ∷ []) (Length (Is n))
+      (later (omega (arith, few))) (
         Length (Is n),
         ap (λ o. counts w o (Is (n / 10)) (48 + n % 10))
             (with_byte_digit (Is (n / 10)) (n % 10) digit ∙ with_digit_more (n / 10) (n % 10) some short
@@ -165,14 +138,13 @@ module _ (w : Words) where
         let front = w.before ++ decimal len in
         let all : w.before ++ (decimal len ++ w.after) ≡ front ++ w.after = sym (append_assoc w.before (decimal len) w.after) in
         let most = 18 + length w.before + length w.after in
-        let on = led most (enters w 0) 0 front w.after (Length (Is len))
-        (omega (arith, few, length-append w.before (decimal len)))
-        (joined (enters w 0) w.before (Length Empty) (decimal len) (Length (Is len)) (first [] w.before refl)
-        (counted len short)) in
+        let size_of_front = length-append w.before (decimal len) in
         let size : 0 + length front + length w.after ≡ length (w.before ++ (decimal len ++ w.after)) =
         omega (arith, ap length all, length-append front w.after) in
-        ap (λ l. scan_on (text_turn w) most (enters w 0) 0 l) all ∙ on.2
-        ∙ closing on.0 len (0 + length front) w.after refl sound.some written
-        (omega (arith, on.1, few, length-append w.before (decimal len)))
-        ∙ ap (header.Sized len) size;
+        ap (λ l. scan_on (text_turn w) most (enters w 0) 0 l) all
+        ∙ leads_on (text_turn w) most (enters w 0) 0 front w.after (Length (Is len))
+        (leads_then (text_turn w) (enters w 0) w.before (Length Empty) (decimal len) (Length (Is len)) (first [] w.before refl)
+        (counted len short)) (most - length front) (0 + length front) (omega (arith, few, size_of_front)) refl
+        ∙ closing (most - length front) len (0 + length front) w.after refl sound.some written
+        (omega (arith, few, size_of_front)) ∙ ap (header.Sized len) size;
   }
