@@ -36,10 +36,6 @@ module _ {S D W : Type 0} (remaining : S → Option (List ℕ)) (g : Grammar W) 
   }
 
   module _ (m : ReaderState S D) (h : HeaderBytes remaining g s m) where
-    -- what was left, then what came, is what is left
-    pub came : rest m ≡ rest s ++ h.went.hands.got
-    came = h.went.hands.equal
-
     -- a header goes on where nothing was read, and nothing was handed out
     pub HeaderBytes-told : (t : ReaderState S D) → PiecesWent remaining g.most m [] t → t.reader.log ≡ m.reader.log
         → t.ended ≡ m.ended → HeaderBytes remaining g s t
