@@ -41,6 +41,7 @@ pub mod KnownPayloadsLaws
 pub mod Number
 pub mod PieceWriter
 pub mod PayloadsLaws
+pub mod ReadsBack
 pub mod Scanning
 pub mod ScanningLaws
 pub mod Serving

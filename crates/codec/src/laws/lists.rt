@@ -4,6 +4,7 @@ ghost use Rattle.std.specs.List.{All};
 ghost use Rattle.codec.specs.Encoding.{all_coded};
 ghost use Rattle.piece_reader.specs.KnownPieces.{BufferRefused};
 ghost use Rattle.piece_reader.specs.Texts.{HasPieces};
+ghost use Rattle.codec.specs.ReadsBack.{ReadsBack};
 ghost use Rattle.codec.specs.WriteRuns.{IfFault, IfRefused, IsFault, RefusesOne};
 
 use crate::both::{Codec, written_text};
@@ -27,6 +28,7 @@ pub fn round_trip<C: Codec + Copy>(
 ) -> Result<(Vec<u8>, Vec<Vec<u8>>), WritePieceError<C::Refusal>>
     ensures written { IfOk result (λ both. both.0.items ≡ all_coded (C.encoding codec) (map (λ v. v.items) payloads.now)) }
     ensures same { IfOk result (λ both. map (λ v. v.items) both.1.items ≡ map (λ v. v.items) payloads.now) }
+    ensures read { IfOk result (λ both. ReadsBack (C.grammar codec) codec both.0.items (map (λ v. v.items) payloads.now)) }
     ensures fit { OnOk result (All (C.encoding codec).takes (map (λ v. v.items) payloads.now)) }
     ensures fault { IfErr result (λ e. All (C.encoding codec).takes (map (λ v. v.items) payloads.now) → IsFault e) }
     ensures reason { IfErr result (IfRefused (RefusesOne (C.encoding codec) (map (λ v. v.items) payloads.now))) }
@@ -76,6 +78,7 @@ fn read_back<D: Decoder>(
 ) -> io::Result<Vec<Vec<u8>>>
     requires pieces { HasPieces (D.grammar decoder) bytes.now (map (λ v. v.items) payloads.now) }
     ensures same { IfOk result (λ kept. map (λ v. v.items) kept.items ≡ map (λ v. v.items) payloads.now) }
+    ensures read { OnOk result (ReadsBack (D.grammar decoder) decoder bytes.now (map (λ v. v.items) payloads.now)) }
     ensures refused { IfErr result (BufferRefused (D.grammar decoder).most) }
 {
     let mut reader = PieceReader::new(alloc, MemoryReader::new(bytes), decoder)?;
