@@ -3,7 +3,6 @@ pub mod Playing
 pub mod Refusing
 pub mod Resuming
 pub mod Stepping
-pub mod Writing
 pub mod Handover
 pub mod Turning
 pub mod Scanning

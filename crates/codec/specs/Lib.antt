@@ -55,6 +55,7 @@ pub mod TextHeadersInLaws
 pub mod TextHeadersLaws
 pub mod TextHeadersOut
 pub mod TextHeadersOutLaws
+pub mod WriteEachLaws
 pub mod WritePiece
 pub mod WritePieceLaws
 pub mod WriteRuns

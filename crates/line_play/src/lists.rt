@@ -4,11 +4,9 @@ ghost use Rattle.std.specs.List.{All};
 ghost use Rattle.buffer_redux.specs.BufWriter.{WritesInOrder, WriterStopped};
 ghost use Rattle.buffer_redux.specs.Faults.{IsMemory};
 ghost use Rattle.buffer_redux.specs.LineWriter.{line_rules};
-ghost use Rattle.buffer_redux.specs.LogGrows.{WriteLogGrows};
-ghost use Rattle.buffer_redux.specs.WriteAll.{TookBeginning};
 ghost use Rattle.codec.specs.WriteRuns.{CallRuns, CallsEach};
 ghost use Rattle.piece_reader.specs.KnownPieces.{BufferRefused};
-ghost use Rattle.line_reader.specs.Lines.{FitsLine, with_newline, with_newlines};
+ghost use Rattle.line_reader.specs.Lines.{FitsLine, with_newlines};
 ghost use Rattle.line_play.specs.WrittenLines.{StopsInLine, WritesLine};
 
 use buffer_redux::LineWriter;
@@ -50,14 +48,7 @@ pub fn write_each<W: TellWrite>(
 
 // Writes one, and its end.
 fn write_line<W: TellWrite>(writer: &mut LineWriter<W>, line: &[u8]) -> io::Result<()>
-    ensures written { OnOk result (WritesInOrder writer.old (with_newline line.now) writer.new) }
-    ensures beginning { TookBeginning (with_newline line.now) writer.old writer.new }
-    ensures caused { IfErr result (WriterStopped writer.old.log.writes writer.new.log.writes) }
-    ensures grows { WriteLogGrows writer.old.log.writes writer.new.log.writes }
-    ensures not_flushed { writer.new.log.writes.flushed ≡ writer.old.log.writes.flushed }
-    ensures calls { WritesLine W.log W.trace line_rules writer.old line.now result writer.new }
-    ensures capacity { writer.new.block.capacity ≡ writer.old.block.capacity }
-    ensures trace { W.trace writer.old.inner writer.new.inner }
+    ensures { WritesLine W.log W.trace line_rules writer.old line.now result writer.new }
 {
     writer.write_all(line)?;
     writer.write_all(b"\n")?;

@@ -1,55 +1,39 @@
 -- Each turn adds a line to those that were taken in; at an `Err` a beginning of the next one stands behind them.
-use Rattle.std.proofs.Common.{arith, Ok, Err, subst, ◌∙◌}
-use Rattle.buffer_redux.specs.BufWriter.{WritesInOrder}
+use Rattle.std.proofs.Common.{Ok, Err, arith, map, subst}
+use Rattle.std.proofs.lemmas.List.{take_all}
 use Rattle.buffer_redux.specs.LineWriter.{line_rules}
-use Rattle.buffer_redux.specs.LogGrows.{WriteLogGrows-joins}
-use Rattle.buffer_redux.specs.WriteAll.{TookBeginning}
-use Rattle.buffer_redux.specs.WritesAlongLaws.{WriterStopped-after}
-use Rattle.line_reader.specs.Lines.{with_newline}
-use Rattle.line_play.proofs.WritingLines.{calls_more, calls_stop, line_written, stops_in}
+use Rattle.codec.specs.WriteEachLaws.{wrote_more, wrote_none}
+use Rattle.codec.specs.WriteRuns.{CallRuns}
+use Rattle.codec.specs.WriteRunsLaws.{CallRuns-more}
+use Rattle.line_play.proofs.WritingLines.{each_says}
 use Rattle.line_play.specs.WrittenLines.{WritesLine}
 use Rattle.line_play.proofs.lists.write_each.Goals as goal
 
-pub returns-in-Err-clause-stopped : goal.returns-in-Err-clause-stopped
-returns-in-Err-clause-stopped g c =
-    stops_in (λ v. v.items) c.args.lines.now c.loop-line.line-index c.line-item.result c.loop-line-test.true c.line-item.is
-    g.W.TellWrite.trace g.met.W.TellWrite.trace_joins c.args.writer.now c.loop-line.writer c.write_line.new.writer
-    c.loop-line.invariant.wrote c.loop-line.taken c.loop-line.invariant.count
-    (subst (λ l. TookBeginning (with_newline l) c.loop-line.writer c.write_line.new.writer) c.deref.ensures.value
-    c.write_line.ensures.beginning)
-
-pub returns-in-Err-clause-calls : goal.returns-in-Err-clause-calls
-returns-in-Err-clause-calls g c =
-    calls_stop (λ v. v.items) c.args.lines.now c.loop-line.line-index c.line-item.result c.loop-line-test.true c.line-item.is
-    (WritesLine g.W.Tell.log g.W.TellWrite.trace line_rules) c.args.writer.now c.loop-line.writer c.write_line.new.writer
-    c.loop-line.invariant.run _ c.loop-line.invariant.count
-    (subst (λ l. WritesLine g.W.Tell.log g.W.TellWrite.trace line_rules c.loop-line.writer l (Err c.in-Err.error)
-    c.write_line.new.writer) c.deref.ensures.value c.in-Err.ensures.calls)
-
-pub returns-in-Err-clause-capacity : goal.returns-in-Err-clause-capacity
-returns-in-Err-clause-capacity g c = c.write_line.ensures.capacity ∙ c.loop-line.invariant.same_capacity
-
-pub returns-in-Err-clause-trace : goal.returns-in-Err-clause-trace
-returns-in-Err-clause-trace g c =
-    g.met.W.TellWrite.trace_joins _ _ _ c.loop-line.invariant.wrote.went c.write_line.ensures.trace
-
-pub returns-in-Err-clause-caused : goal.returns-in-Err-clause-caused
-returns-in-Err-clause-caused g c = WriterStopped-after _ _ _ _ c.loop-line.invariant.grows c.in-Err.ensures.caused
-
 pub loop-line-preserved : goal.loop-line-preserved
-loop-line-preserved g c = record {
-  wrote = line_written (λ v. v.items) c.args.lines.now c.loop-line.line-index c.line-item.result c.loop-line-test.true
-      c.line-item.is g.W.TellWrite.trace g.met.W.TellWrite.trace_joins c.args.writer.now c.loop-line.writer
-      c.write_line.new.writer c.loop-line.invariant.wrote
-      (subst (λ l. WritesInOrder c.loop-line.writer (with_newline l) c.write_line.new.writer) c.deref.ensures.value
-      c.in-Ok.ensures.written) c.write_line.ensures.trace;
-  run = calls_more (λ v. v.items) c.args.lines.now c.loop-line.line-index c.line-item.result c.loop-line-test.true
-      c.line-item.is (WritesLine g.W.Tell.log g.W.TellWrite.trace line_rules) c.args.writer.now c.loop-line.writer
-      c.write_line.new.writer c.loop-line.invariant.run
-      (subst (λ l. WritesLine g.W.Tell.log g.W.TellWrite.trace line_rules c.loop-line.writer l (Ok tt) c.write_line.new.writer)
-      c.deref.ensures.value c.in-Ok.ensures.calls);
-  same_capacity = c.write_line.ensures.capacity ∙ c.loop-line.invariant.same_capacity;
-  grows = WriteLogGrows-joins _ _ _ c.loop-line.invariant.grows c.write_line.ensures.grows;
-  same_flushed = c.write_line.ensures.not_flushed ∙ c.loop-line.invariant.same_flushed;
-  count = omega (arith, c.loop-line.invariant.count);
-}
+loop-line-preserved g c =
+    let Call = WritesLine g.W.Tell.log g.W.TellWrite.trace line_rules in (
+      wrote_more (CallRuns-more Call) c.args.lines.now c.loop-line.line-index c.loop-line.invariant.0 c.line-item.result
+          c.loop-line-test.true c.line-item.is c.write_line.new.writer (λ _ _. tt)
+          (subst (λ l. Call c.loop-line.writer l (Ok tt) c.write_line.new.writer) c.deref.ensures.value c.in-Ok.ensures),
+      omega (arith, c.loop-line.invariant.1),
+    )
+
+pub returns-in-Err : goal.returns-in-Err
+returns-in-Err g c =
+    let Call = WritesLine g.W.Tell.log g.W.TellWrite.trace line_rules in
+    each_says g.W.Tell.log g.W.TellWrite.trace g.met.W.TellWrite.trace_joins g.met.W.TellWrite.trace_none c.args.writer.now
+    (map (λ v. v.items) c.args.lines.now) (Err (record { taken = c.loop-line.taken; error = c.in-Err.error }))
+    c.write_line.new.writer
+    (wrote_none (CallRuns-more Call) c.args.lines.now c.loop-line.line-index c.loop-line.invariant.0 c.line-item.result
+    c.loop-line-test.true c.line-item.is c.write_line.new.writer _ c.loop-line.invariant.1
+    (subst (λ l. Call c.loop-line.writer l (Err c.in-Err.error) c.write_line.new.writer) c.deref.ensures.value
+    c.in-Err.ensures))
+
+pub returns : goal.returns
+returns g c =
+    let Run = CallRuns (WritesLine g.W.Tell.log g.W.TellWrite.trace line_rules) in
+    let all = take_all c.loop-line.line-index c.args.lines.now (omega (arith, c.loop-line-test.false)) in
+    each_says g.W.Tell.log g.W.TellWrite.trace g.met.W.TellWrite.trace_joins g.met.W.TellWrite.trace_none c.args.writer.now
+    (map (λ v. v.items) c.args.lines.now) (Ok tt) c.loop-line.writer
+    (subst (λ l. Run c.args.writer.now (map (λ v. v.items) l) (map (λ line. Ok tt) (map (λ v. v.items) l)) c.loop-line.writer)
+    all c.loop-line.invariant.0.plays)

@@ -1,6 +1,6 @@
 -- No call changes what is taken, so the payload at which it stops was taken where all were, and failed by a fault.
 use Rattle.std.proofs.Common.{Err, subst}
-use Rattle.codec.proofs.Writing.{takes_next, wrote_none}
+use Rattle.codec.specs.WriteEachLaws.{takes_next, wrote_none}
 use Rattle.codec.proofs.laws.runs.write_each.Goals as goal
 
 pub returns-in-Err-clause-each : goal.returns-in-Err-clause-each

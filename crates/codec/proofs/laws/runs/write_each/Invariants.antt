@@ -1,5 +1,5 @@
 use Rattle.std.proofs.Common.{◌≡◌}
-use Rattle.codec.proofs.Writing.{WroteSo}
+use Rattle.codec.specs.WriteEachLaws.{WroteSo}
 use Rattle.codec.proofs.laws.runs.write_each.Given as goal
 
 -- the payloads so far were written

@@ -1,4 +1,4 @@
--- Steps of a loop that writes payloads.
+-- Laws of a loop that writes payloads up to the first error, for the proofs of those who write one.
 use Rattle.std.specs.Prelude.{◌≡◌, ℕ, ◌+◌, ◌<◌, List, [], ◌∷◌, ◌++◌, length, map, take, drop, get_or, Result, Ok, Err}
 use Rattle.std.specs.Global.{Vec}
 use Rattle.std.specs.List.{All}
