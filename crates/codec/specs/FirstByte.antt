@@ -49,6 +49,12 @@ either_notes byte Ones Others [] note = Ones [] note.0 × Others [] note.1
 either_notes byte Ones Others (first ∷ bytes) note =
     MatchBool (first == byte) (Ones (first ∷ bytes) note.0) (Others (first ∷ bytes) note.1)
 
+-- how many bytes are asked for: the first alone, and then as many as the protocol of that says
+abbrev pub either_asks : ℕ → (List ℕ → ℕ → Type 0) → (List ℕ → ℕ → Type 0) → List ℕ → ℕ → Type 0
+either_asks byte Ones Others [] n = n ≡ 1
+either_asks byte Ones Others (first ∷ bytes) n =
+    MatchBool (first == byte) (Ones (first ∷ bytes) n) (Others (first ∷ bytes) n)
+
 -- two: the pieces of the one begin with this byte
 abbrev pub either : {V W : Type 0} → ℕ → Grammar V → Grammar W → Grammar (EitherWrong V W)
 either {V} {W} byte g h = by_first (max g.most h.most) (λ first. elim (first == byte) as (λ _. Grammar (EitherWrong V W)) [

@@ -44,6 +44,8 @@ impl<D: Decoder> Decoder for Ended<D> {
 
     ghost notes = { λ d. D.notes d.0 };
 
+    ghost asks = { λ d. D.asks d.0 };
+
     fn most(&self) -> usize {
         self.0.most()
     }

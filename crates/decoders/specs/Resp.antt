@@ -3,9 +3,9 @@ use Rattle.std.specs.Prelude.{ℕ, List, [], ◌∷◌, drop, Bool, ◌&&◌, �
 use Rattle.std.specs.Option.{option_map_or}
 use Rattle.codec.specs.Delimited.{delimited}
 use Rattle.codec.specs.Ended.{ended}
-use Rattle.codec.specs.FirstByte.{either, either_notes}
+use Rattle.codec.specs.FirstByte.{either, either_asks, either_notes}
 use Rattle.codec.specs.Grammar.{Grammar}
-use Rattle.codec.specs.HeaderFormat.{length_prefixed}
+use Rattle.codec.specs.HeaderFormat.{AsksWhole, length_prefixed}
 use Rattle.codec.specs.Number.{with_byte}
 use Rattle.codec.specs.Scanning.{scan_notes, scanned}
 use Rattle.codec.specs.Showing.{showing}
@@ -38,6 +38,10 @@ resp max = either 36 (length_prefixed (scanned (nullable max))) (ended (resp_lin
 -- what a look leaves for the next one: of a bulk string where its header stands, of a line nothing
 abbrev pub resp_notes : ℕ → List ℕ → ScanNote StringState × Unit {0} → Type 0
 resp_notes max = either_notes 36 (scan_notes (nullable max)) (λ bytes note. Unit {0})
+
+-- of a bulk string whose header is there the whole is asked for
+abbrev pub resp_asks : ℕ → List ℕ → ℕ → Type 0
+resp_asks max = either_asks 36 (AsksWhole (scanned (nullable max))) (λ bytes n. Unit {0})
 
 -- a line ends with this byte, which is LF, or CR with LF behind it
 abbrev pub ends_here : ℕ → List ℕ → Bool

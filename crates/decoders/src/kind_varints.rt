@@ -59,7 +59,8 @@ impl Scan for KindVarints {
 }
 
 impl Decoder for KindVarints {
-    ghost use Rattle.codec.specs.Scanning.{scan_notes};
+    ghost use Rattle.codec.specs.HeaderFormat.{AsksWhole};
+    ghost use Rattle.codec.specs.Scanning.{scan_notes, scanned};
     ghost use Rattle.decoders.specs.Varints.{kind_varints, kind_pieces};
     ghost use Rattle.decoders.specs.VarintsLaws.{kind_pieces_lawful};
 
@@ -70,6 +71,8 @@ impl Decoder for KindVarints {
     ghost grammar = { λ d. kind_pieces d.max };
 
     ghost notes = { λ d. scan_notes (kind_varints d.max) };
+
+    ghost asks = { λ d. AsksWhole (scanned (kind_varints d.max)) };
 
     fn most(&self) -> usize {
         ByHeader(ByScan(*self)).most()

@@ -57,7 +57,7 @@ pub enum RespItem {
 }
 
 impl Decoder for Resp {
-    ghost use Rattle.decoders.specs.Resp.{resp, resp_notes};
+    ghost use Rattle.decoders.specs.Resp.{resp, resp_asks, resp_notes};
     ghost use Rattle.decoders.specs.RespLaws.{resp_lawful};
 
     type Wrong = EitherWrong<HeaderError, Unended<TooLong>>;
@@ -67,6 +67,8 @@ impl Decoder for Resp {
     ghost grammar = { λ d. resp d.max };
 
     ghost notes = { λ d. resp_notes d.max };
+
+    ghost asks = { λ d. resp_asks d.max };
 
     fn most(&self) -> usize {
         let max = self.max;

@@ -29,6 +29,10 @@ pub record BeginsWith (len : ℕ) (bytes : List ℕ) : Type 0 where
   pub more : List ℕ
   pub equal : bytes ≡ header len ++ more
 
+-- how many bytes are asked for: those of the length, and once that is there those of the frame
+abbrev pub AsksFrame : List ℕ → ℕ → Type 0
+AsksFrame bytes n = (length bytes < 2 → n ≡ 2) × ((len : ℕ) → BeginsWith len bytes → n ≡ 2 + len)
+
 -- the bytes begin with a length above max
 pub record BeginsAbove (max : ℕ) (bytes : List ℕ) : Type 0 where
   pub len : ℕ

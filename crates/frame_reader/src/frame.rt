@@ -24,15 +24,18 @@ pub enum FrameFault {
 }
 
 impl Decoder for Frames {
-    ghost use Rattle.codec.specs.Decoding.{Decodes};
+    ghost use Rattle.codec.specs.Decoding.{Decodes, OnMore};
     ghost use Rattle.frame_reader.specs.Framed.{framed};
     ghost use Rattle.frame_reader.specs.FramedLaws.{framed_lawful};
+    ghost use Rattle.frame_reader.specs.Frames.{AsksFrame};
 
     type Wrong = FrameFault;
 
     type Note = ();
 
     ghost grammar = { λ d. framed d.max };
+
+    ghost asks = { λ _. AsksFrame };
 
     fn most(&self) -> usize {
         HEADER + usize::from(self.max)
@@ -42,9 +45,8 @@ impl Decoder for Frames {
 
     #[inline(always)]
     fn decode(&self, bytes: &[u8], _seen: usize, _note: &mut ()) -> Found<FrameFault>
-        ensures header { length bytes.now < 2 → result ≡ Found.More 2 }
-        ensures whole { (n len : ℕ) → result ≡ Found.More n → BeginsWith len bytes.now → n ≡ 2 + len }
         ensures finds { Decodes (framed self.now.max) bytes.now result }
+        ensures asks { OnMore result (AsksFrame bytes.now) }
     {
         if bytes.len() < HEADER {
             return Found::More(HEADER);

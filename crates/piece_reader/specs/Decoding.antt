@@ -34,10 +34,10 @@ Decodes g bytes (Piece span used) = IsPiece g bytes span used
 Decodes g bytes (More n) = (length bytes < n) × (n ≤ g.most) × IsOpenBelow g n bytes
 Decodes g bytes (Wrong e) = g.wrong bytes e
 
--- a fact where the answer settles nothing
-abbrev pub OnMore : {W : Type 0} → Found W → Type 0 → Type 0
+-- a fact of how many bytes are asked for, where the answer settles nothing
+abbrev pub OnMore : {W : Type 0} → Found W → (ℕ → Type 0) → Type 0
 OnMore (Piece span used) P = Unit {0}
-OnMore (More n) P = P
+OnMore (More n) P = P n
 OnMore (Wrong e) P = Unit {0}
 
 -- what each answer of `at_end` means

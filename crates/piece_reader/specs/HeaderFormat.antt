@@ -28,6 +28,10 @@ pub record IsHeaderFormat (h : HeaderFormat) : Type 0 where
   pub nothing : h.header [] ≡ Short
   pub small : h.most_header + h.max + length h.tail < 2 ^ 63
 
+-- once the header is there, these bytes want as many as the whole piece has
+abbrev pub AsksWhole : HeaderFormat → List ℕ → ℕ → Type 0
+AsksWhole h bytes n = (len used : ℕ) → h.header bytes ≡ Sized len used → n ≡ used + len + length h.tail
+
 -- a fact where a header may come still, or is there
 abbrev pub UnlessBad : Header → Type 0 → Type 0
 UnlessBad Short P = P

@@ -1,5 +1,5 @@
 //! The decoder of pieces that have a header.
-ghost use Rattle.std.specs.Prelude.{◌≡◌, ◌↔◌, ◌+◌, ◌≤◌, ℕ, IsTrue, length, take};
+ghost use Rattle.std.specs.Prelude.{◌≡◌, ◌↔◌, ◌≤◌, IsTrue, length, take};
 
 use crate::decoder::{Decoder, End, Found, Span};
 use crate::header::Header;
@@ -12,9 +12,8 @@ use crate::length_prefixed::LengthPrefixed;
 pub struct ByHeader<H: LengthPrefixed>(pub H);
 
 impl<H: LengthPrefixed> Decoder for ByHeader<H> {
-    ghost use Rattle.piece_reader.specs.declared.header.Header.TheVariants.{Sized};
     ghost use Rattle.piece_reader.specs.Decoding.{Decodes, OnMore};
-    ghost use Rattle.piece_reader.specs.HeaderFormat.{length_prefixed};
+    ghost use Rattle.piece_reader.specs.HeaderFormat.{AsksWhole, length_prefixed};
     ghost use Rattle.piece_reader.specs.HeaderFormatLaws.{length_prefixed_lawful};
 
     type Wrong = HeaderError;
@@ -24,6 +23,8 @@ impl<H: LengthPrefixed> Decoder for ByHeader<H> {
     ghost grammar = { λ d. length_prefixed (H.header_format d.0) };
 
     ghost notes = { λ d. H.notes d.0 };
+
+    ghost asks = { λ d. AsksWhole (H.header_format d.0) };
 
     fn most(&self) -> usize {
         self.0.most_header() + self.0.max() + self.0.tail().len()
@@ -38,11 +39,9 @@ impl<H: LengthPrefixed> Decoder for ByHeader<H> {
     fn decode(&self, bytes: &[u8], seen: usize, note: &mut H::Note) -> Found<HeaderError>
         requires within { seen ≤ length bytes.now }
         requires noted { H.notes self.now.0 (take seen bytes.now) note.old }
-        ensures whole { (n len used : ℕ) → result ≡ Found.More n
-            → (H.header_format self.now.0).header bytes.now ≡ Sized len used
-            → n ≡ used + len + length (H.header_format self.now.0).tail }
         ensures finds { Decodes (length_prefixed (H.header_format self.now.0)) bytes.now result }
-        ensures leaves { OnMore result (H.notes self.now.0 bytes.now note.new) }
+        ensures leaves { OnMore result (λ _. H.notes self.now.0 bytes.now note.new) }
+        ensures asks { OnMore result (AsksWhole (H.header_format self.now.0) bytes.now) }
     {
         match self.0.header(bytes, seen, note) {
             Header::Short => Found::More(1 + bytes.len()),

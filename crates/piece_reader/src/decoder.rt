@@ -47,6 +47,9 @@ pub trait Decoder: Drop {
     // What a look over these bytes leaves.
     ghost notes: { Self → List ℕ → Self.Note → Type 0 } = { λ _ _ _. Unit {0} };
 
+    // How many bytes are asked for where these settle nothing. Who knows no more than that says nothing here.
+    ghost asks: { Self → List ℕ → ℕ → Type 0 } = { λ _ _ _. Unit {0} };
+
     /// No piece takes more bytes.
     fn most(&self) -> usize
         ensures { result ≡ (grammar self.now).most };
@@ -61,7 +64,8 @@ pub trait Decoder: Drop {
         requires open { IsOpen (grammar self.now) (take seen bytes.now) }
         requires noted { notes self.now (take seen bytes.now) note.old }
         ensures finds { Decodes (grammar self.now) bytes.now result }
-        ensures leaves { OnMore result (notes self.now bytes.now note.new) };
+        ensures leaves { OnMore result (λ _. notes self.now bytes.now note.new) }
+        ensures asks { OnMore result (asks self.now bytes.now) };
 
     /// Looks at what settles nothing and has nothing behind it.
     fn at_end(&self, bytes: &[u8]) -> End<Self::Wrong>

@@ -32,6 +32,8 @@ impl<D: Decoder> Decoder for Trimmed<D> {
 
     ghost notes = { λ d. D.notes d.0 };
 
+    ghost asks = { λ d. D.asks d.0 };
+
     fn most(&self) -> usize {
         self.0.most()
     }

@@ -36,7 +36,7 @@ invariant_of-self-in-More g c =
           (subst (IsOpen gram) left (open_of gram c.in-More.field-0 c.rest-left.result.now is.0 is.2)),
       subst (λ l. g.D.Decoder.notes i.decoder l c.decode-found.new.note)
           (left ∙ sym (take_all (length c.rest-left.result.now) (rest f) (omega (arith, ap length left))))
-          (subst (λ r. OnMore r (g.D.Decoder.notes i.decoder c.rest-left.result.now c.decode-found.new.note)) c.in-More.is
+          (subst (λ r. OnMore r (λ _. g.D.Decoder.notes i.decoder c.rest-left.result.now c.decode-found.new.note)) c.in-More.is
           c.decode-found.ensures.leaves),
     )
 
