@@ -1,6 +1,6 @@
 //! Laws, each as the contract of a function over the calls. A law of calls assumes their exact relations, so no fact of few
 //! words stands in front.
-ghost use Rattle.std.specs.Prelude.{◌≡◌, ◌*◌, ◌^◌, ◌≤◌, ℕ, List, [], ◌∷◌, ◌++◌, IfErr, IfOk, IsOk, None, Ok};
+ghost use Rattle.std.specs.Prelude.{◌≡◌, ◌*◌, ◌^◌, ◌≤◌, ℕ, List, [], ◌∷◌, ◌++◌, IfErr, IfOk, IsOk, None, Ok, Option, Result};
 ghost use Rattle.buffer_redux.specs.Block.{Block};
 ghost use Rattle.buffer_redux.specs.BufWriter.{WritesInOrder};
 ghost use Rattle.buffer_redux.specs.GrowError.{FitsWithin};
@@ -8,8 +8,8 @@ ghost use Rattle.buffer_redux.specs.MakeError.{growth};
 ghost use Rattle.buffer_redux.specs.Sparing.{MovedAtMostGiven};
 ghost use Rattle.buffer_redux.specs.Unbuffer.{StreamWent, unbuffered};
 ghost use Rattle.codec.specs.Encoding.{all_coded};
-ghost use Rattle.piece_reader.specs.KnownPieces.{HasLeft, NextKnown};
-ghost use Rattle.piece_reader.specs.NextPiece.{NextAnswer, NextPiece, PiecesWent};
+ghost use Rattle.piece_reader.specs.KnownPayloads.{AnswersKnown};
+ghost use Rattle.piece_reader.specs.NextPiece.{NextAnswer, PiecesWent};
 ghost use Rattle.codec.specs.PieceWriter.{WriterState, IsMadeOver, IsUnused, unsent};
 ghost use Rattle.piece_reader.specs.PieceReader.{ReaderState, IsFresh, IsOver, TakenApart, left_of, rest, room_for};
 ghost use Rattle.piece_reader.specs.Runs.{Cuts, NextRuns, NoneTold, RunWent, all_handed};
@@ -72,13 +72,12 @@ pub fn went<R: TellRead, D: Decoder>(reader: &PieceReader<R, D>)
         → HasPieces (D.grammar decoder) bytes (all_handed answers) }
 {}
 
-/// Where just some pieces are left of a stream that is known, a call hands out the first, or answers `None` where there is
+/// Where just some payloads are left of a stream that is known, a call hands out the first, or answers `None` where there is
 /// none; it has no other `Err` than the stream's own.
-pub fn next_known<R: TellRead, D: Decoder>(reader: &PieceReader<R, D>)
-    ensures { (s : ReaderState R D) (payloads : List (List ℕ)) (answer : NextAnswer D.Wrong)
-        → NextPiece R.remaining (D.grammar s.decoder) s answer reader.now
-        → HasLeft R.remaining (D.grammar s.decoder) s payloads
-        → NextKnown R.remaining (D.grammar s.decoder) answer payloads reader.now }
+pub fn next_known<P: KnownReader>(reader: &P)
+    ensures { (s : P) (payloads : List (List ℕ)) (answer : Result (Option (List ℕ)) P.Error)
+        → P.goes s answer reader.now → P.has_left s payloads
+        → AnswersKnown P.has_left P.faults P.stream_error s answer payloads reader.now }
 {}
 
 /// A reader that is taken apart and made again with another decoder has left what the first had. So the pieces of both, one

@@ -152,5 +152,5 @@ module _ {S : Type 0} (remaining : S → Option (List ℕ)) where
       → PayloadsLeft s payloads → Next remaining s answer t
       → AnswersKnown PayloadsLeft (λ f. f.reader.log.reads.faults) Io s answer payloads t
   Next-answers s answer payloads t has next = answers_of s t answer payloads
-      (NextPiece-answers remaining (λ (d : Frames). framed d.max) (λ d. framed_lawful d.max d.fits) s (as_piece_answer answer)
-      payloads t has next.piece)
+      (NextPiece-answers remaining (λ (d : Frames). framed d.max) (λ d. framed_lawful d.max d.fits) s t (as_piece_answer answer)
+      payloads has next.piece)

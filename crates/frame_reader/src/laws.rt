@@ -2,14 +2,13 @@
 //! words stands in front.
 ghost use Rattle.std.specs.Prelude.{◌≡◌, ℕ, ◌+◌, ◌<◌, ◌^◌, List, ◌++◌, length};
 ghost use Rattle.buffer_redux.specs.Sparing.{MovedAtMostGiven};
-ghost use Rattle.codec.specs.KnownPieces.{HasLeft, NextKnown};
 ghost use Rattle.codec.specs.PieceWriter.{WriterState, IsUnused, unsent};
 ghost use Rattle.codec.specs.PieceReader.{ReaderState, IsFresh, rest};
 ghost use Rattle.codec.specs.WritePiece.{PiecesTaken};
 ghost use Rattle.frame_reader.specs.declared.frame.Frames.{Frames};
-ghost use Rattle.frame_reader.specs.Framed.{SplitsIntoFrames, framed, framed_out};
+ghost use Rattle.frame_reader.specs.Framed.{SplitsIntoFrames, framed_out};
 ghost use Rattle.frame_reader.specs.Frames.{frame, frames};
-ghost use Rattle.frame_reader.specs.Next.{FrameAnswer, FramesWent, Next, as_piece_answer};
+ghost use Rattle.frame_reader.specs.Next.{FramesWent};
 
 mod lists;
 mod runs;
@@ -18,8 +17,8 @@ use crate::reader::FrameReader;
 use crate::writer::FrameWriter;
 use buffer_redux::tell::{TellRead, TellWrite};
 pub use codec::laws::{
-    KnownReader, PayloadReader, PayloadWriter, WriteEachError, play_next, play_write, read_each,
-    write_each,
+    KnownReader, PayloadReader, PayloadWriter, WriteEachError, next_known, play_next, play_write,
+    read_each, write_each,
 };
 pub use lists::round_trip;
 
@@ -59,12 +58,4 @@ pub fn written_since_new<W: TellWrite>(writer: &FrameWriter<W>)
         → PiecesTaken W.trace (framed_out first.encoder.max) first payloads writer.now
         → writer.now.writer.log.writes.received ++ unsent writer.now
         ≡ (W.log stream).writes.received ++ frames payloads }
-{}
-
-/// Where just the frames of some payloads are left of a stream that is known, `next` hands out the first, or answers
-/// `None` where there is none; it has no other `Err` than the stream's own.
-pub fn next_known<R: TellRead>(reader: &FrameReader<R>)
-    ensures { (s : ReaderState R Frames) (payloads : List (List ℕ)) (answer : FrameAnswer)
-        → Next R.remaining s answer reader.now → HasLeft R.remaining (framed s.decoder.max) s payloads
-        → NextKnown R.remaining (framed s.decoder.max) (as_piece_answer answer) payloads reader.now }
 {}

@@ -6,7 +6,6 @@ ghost use Rattle.std.specs.Prelude.{◌≡◌, ◌↔◌, ℕ, List, [], ◌∷�
 ghost use Rattle.std.specs.List.{All, flat_map, sum_by};
 ghost use Rattle.std.specs.declared.io.Error.{Error};
 ghost use Rattle.buffer_redux.specs.Sparing.{MovedAtMostGiven};
-ghost use Rattle.piece_reader.specs.KnownPieces.{HasLeft, NextKnown};
 ghost use Rattle.piece_reader.specs.NextPiece.{PiecesWent};
 ghost use Rattle.piece_reader.specs.PieceReader.{IsFresh, rest};
 ghost use Rattle.piece_reader.specs.Runs.{AnswerRuns, Cuts, NoneTold, all_handed};
@@ -23,7 +22,9 @@ mod lists;
 
 use buffer_redux::tell::TellRead;
 pub use calls::{Ask, Played, play_calls};
-pub use codec::laws::{KnownReader, PayloadReader, WriteEachError, play_next, read_each};
+pub use codec::laws::{
+    KnownReader, PayloadReader, WriteEachError, next_known, play_next, read_each,
+};
 use line_reader::LineReader;
 pub use lists::{round_trip, write_each};
 
@@ -86,14 +87,4 @@ pub fn lines_of_text()
         → Cuts (lined max) (map piece_answer (answers ++ Ok None ∷ [])) bytes → HasLines bytes (all_handed answers) }
     ensures pieces { (max : ℕ) (text : List ℕ) (lines : List (List ℕ))
         → (HasLines text lines × All (FitsLine max) lines) ↔ HasPieces (lined max) text lines }
-{}
-
-/// Where just some lines are left of a stream that is known, `next` hands out the first, or answers `None` where there is
-/// none; it has no other `Err` than the stream's own.
-pub fn next_known<R: TellRead>(reader: &LineReader<R>)
-    ensures known { (s : LineState R) (lines : List (List ℕ)) (answer : LineAnswer) → s.skipping ≡ false
-        → NextLine R.remaining s answer reader.now → HasLeft R.remaining (lined s.pieces.decoder.max) s.pieces lines
-        → NextKnown R.remaining (lined s.pieces.decoder.max) (piece_answer answer) lines reader.now.pieces }
-    ensures going { (s : LineState R) (answer : LineAnswer) → s.skipping ≡ false → NextLine R.remaining s answer reader.now
-        → reader.now.skipping ≡ false }
 {}

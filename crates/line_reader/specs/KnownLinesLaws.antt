@@ -15,8 +15,8 @@ use Rattle.line_reader.specs.NextLineLaws.{NextLine-open}
 
 module _ {S : Type 0} (remaining : S → Option (List ℕ)) (s : LineState S) where
   -- just these lines are left, and each of them fits; no line is being skipped
-  abbrev Left : LineState S → List (List ℕ) → Type 0
-  Left f lines = HasLeft remaining (lined f.pieces.decoder.max) f.pieces lines × (f.skipping ≡ false)
+  abbrev LinesLeft : LineState S → List (List ℕ) → Type 0
+  LinesLeft f lines = HasLeft remaining (lined f.pieces.decoder.max) f.pieces lines × (f.skipping ≡ false)
 
   abbrev KnownAs : (answer : LineAnswer) → List (List ℕ) → LineState S → Type 0
   KnownAs answer lines t =
@@ -24,7 +24,7 @@ module _ {S : Type 0} (remaining : S → Option (List ℕ)) (s : LineState S) wh
       (piece_answer answer) lines t.pieces
 
   lines_known : (answer : LineAnswer) (lines : List (List ℕ)) (t : LineState S) → KnownAs answer lines t → t.skipping ≡ false
-      → AnswersKnown Left (λ f. f.pieces.reader.log.reads.faults) Io s answer lines t
+      → AnswersKnown LinesLeft (λ f. f.pieces.reader.log.reads.faults) Io s answer lines t
   lines_known (Ok (Some found)) [] t a open' = a
   lines_known (Ok (Some found)) (line ∷ later) t a open' = (a.0, (a.1, open'), a.2)
   lines_known (Ok None) [] t a open' = (a, open')
@@ -36,12 +36,12 @@ module _ {S : Type 0} (remaining : S → Option (List ℕ)) (s : LineState S) wh
     λ x is. a.2 x (let same : e ≡ x = cc in ap (λ y. why.Io y) same),
   )
 
-  pub NextLine-answers : (answer : LineAnswer) (lines : List (List ℕ)) (t : LineState S) → Left s lines
+  pub NextLine-answers : (answer : LineAnswer) (lines : List (List ℕ)) (t : LineState S) → LinesLeft s lines
       → NextLine remaining s answer t
-      → AnswersKnown Left (λ f. f.pieces.reader.log.reads.faults) Io s answer lines t
+      → AnswersKnown LinesLeft (λ f. f.pieces.reader.log.reads.faults) Io s answer lines t
   NextLine-answers answer lines t left line =
       let next = NextLine-open remaining s t answer left.1 line in
       let grammar = λ (d : Lines). lined d.max in
       lines_known answer lines t
-      (NextPiece-answers remaining grammar (λ d. delimited_lawful newline d.max) s.pieces (piece_answer answer) lines t.pieces
+      (NextPiece-answers remaining grammar (λ d. delimited_lawful newline d.max) s.pieces t.pieces (piece_answer answer) lines
       left.0 next.0) next.1

@@ -110,8 +110,8 @@ text_pieces text lines has =
     pieces_of (length text) text lines has (subst (All (FitsLine (length text))) (sym has.all)
     (all_fit (length text) has.whole has.last few (subst (All IsLine) has.all has.plain)))
 
-abbrev law : (text : List ℕ) → IsLawful (lined (length text))
-law text = delimited_lawful newline (length text)
+abbrev lined_law : (text : List ℕ) → IsLawful (lined (length text))
+lined_law text = delimited_lawful newline (length text)
 
 -- a text of no line is nothing
 pub Lines-none : (text : List ℕ) → HasLines text [] → text ≡ []
@@ -123,7 +123,7 @@ pub Lines-first : (line more text : List ℕ) (lines : List (List ℕ)) → IsLi
 Lines-first line more text lines plain front has =
     let max = length text in
     let fits : length line ≤ max = omega (arith, ap length front, length-append line (newline ∷ more)) in
-    let first = Pieces-first (lined max) (law text) text line more lines (record {
+    let first = Pieces-first (lined max) (lined_law text) text line more lines (record {
       piece = with_newline line;
       is = (plain, fits, refl);
       equal = front ∙ sym (append_assoc line (newline ∷ []) more);
@@ -132,18 +132,18 @@ Lines-first line more text lines plain front has =
 
 -- a text without an end is its one line, or none
 pub Lines-last : (text : List ℕ) (lines : List (List ℕ)) → IsLine text → HasLines text lines → lines ≡ last_line text
-Lines-last [] lines plain has = Pieces-none (lined 0) (law []) [] lines refl (text_pieces [] lines has)
+Lines-last [] lines plain has = Pieces-none (lined 0) (lined_law []) [] lines refl (text_pieces [] lines has)
 Lines-last (byte ∷ more) lines plain has =
     let text = byte ∷ more in
     let open' = plain_open newline (length text) text plain (omega arith) in
-    Pieces-last (lined (length text)) (law text) text text lines (record { is = refl; open' = open'; some = omega arith })
+    Pieces-last (lined (length text)) (lined_law text) text text lines (record { is = refl; open' = open'; some = omega arith })
     (text_pieces text lines has)
 
 -- the lines of a text are settled by it
 pub Lines-same : (text : List ℕ) (lines others : List (List ℕ)) → HasLines text lines → HasLines text others
     → lines ≡ others
 Lines-same text lines others has has' =
-    Pieces-same (lined (length text)) (law text) text lines others (text_pieces text lines has) (text_pieces text others has')
+    Pieces-same (lined (length text)) (lined_law text) text lines others (text_pieces text lines has) (text_pieces text others has')
 
 -- lines, each with its end, are a text of these lines
 pub Lines-with_ends : (lines : List (List ℕ)) → All IsLine lines → HasLines (with_newlines lines) lines

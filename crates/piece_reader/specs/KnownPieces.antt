@@ -1,13 +1,11 @@
 -- What a reader of pieces hands out of a stream that is known.
-use Rattle.std.specs.Prelude.{◌≡◌, ℕ, ◌<◌, ◌^◌, ◌⊎◌, List, [], ◌∷◌, true, Option, None, Some, Ok, Err}
+use Rattle.std.specs.Prelude.{◌≡◌, ℕ, ◌<◌, ◌^◌, ◌⊎◌, List, [], true, Option, Some}
 use Rattle.std.specs.Io.KnownBytes.{prepend_known}
 use Rattle.std.specs.IoError.{error_kind}
 use Rattle.std.specs.declared.io.Error.{Error}
 use Rattle.std.specs.declared.io.ErrorKind.TheVariants.{InvalidInput}
 use Rattle.buffer_redux.specs.Faults.{IsMemory}
-use Rattle.piece_reader.specs.declared.error.NextError.TheVariants.{Wrong, Io}
 use Rattle.piece_reader.specs.Grammar.{Grammar}
-use Rattle.piece_reader.specs.NextPiece.{NextAnswer}
 use Rattle.piece_reader.specs.PieceReader.{ReaderState, rest, room_for}
 use Rattle.piece_reader.specs.Texts.{HasPieces}
 
@@ -23,17 +21,6 @@ pub record HasLeft {S D W : Type 0} (remaining : S → Option (List ℕ)) (g : G
   pub known : ahead_of remaining f ≡ Some text
   pub has : HasPieces g text payloads
   pub none : f.ended ≡ true → payloads ≡ []
-
--- where just these payloads are left, the first is handed out, and the others are left; `None` comes where there is none; and
--- there is no other `Err` than the stream's, which leaves all
-abbrev pub NextKnown : {S D W : Type 0} → (S → Option (List ℕ)) → Grammar W → NextAnswer W → List (List ℕ) → ReaderState S D
-    → Type 0
-NextKnown remaining g (Ok (Some found)) (payload ∷ later) t = (found ≡ payload) × HasLeft remaining g t later
-NextKnown remaining g (Ok (Some found)) [] t = ⊥
-NextKnown remaining g (Ok None) (payload ∷ later) t = ⊥
-NextKnown remaining g (Ok None) [] t = HasLeft remaining g t []
-NextKnown remaining g (Err (Io e)) payloads t = HasLeft remaining g t payloads
-NextKnown remaining g (Err (Wrong e)) payloads t = ⊥
 
 -- memory was wanted, or for pieces of at most so many bytes a larger buffer than there is
 abbrev pub BufferRefused : ℕ → Error → Type 0

@@ -8,7 +8,7 @@ use Rattle.buffer_redux.specs.UnbufferLaws.{left_then}
 use Rattle.piece_reader.specs.declared.error.NextError.TheVariants.{Wrong, Io}
 use Rattle.piece_reader.specs.Grammar.{Grammar, IsLawful, IsOpen}
 use Rattle.piece_reader.specs.KnownPayloads.{AnswersKnown}
-use Rattle.piece_reader.specs.KnownPieces.{HasLeft, NextKnown, ahead_of}
+use Rattle.piece_reader.specs.KnownPieces.{HasLeft, ahead_of}
 use Rattle.piece_reader.specs.NextPiece.{Faulted, MetEnd, NextAnswer, NextPiece, PiecesWent}
 use Rattle.piece_reader.specs.NextPieceLaws.{MetEnd-once}
 use Rattle.piece_reader.specs.PiecesWentLaws.{drop_none}
@@ -52,9 +52,20 @@ module _ {S D : Type 0} (remaining : S → Option (List ℕ)) (most : ℕ) (s t 
   PiecesWent-stays none =
       PiecesWent-front.1 ∙ ap (λ l. Some l) (sym (PiecesWent-front.2 ∙ ap (λ l. l ++ PiecesWent-front.0) none))
 
-module _ {S D W : Type 0} (remaining : S → Option (List ℕ)) (g : Grammar W) (law : IsLawful g) (s t : ReaderState S D) where
+module _ {S D W : Type 0} (remaining : S → Option (List ℕ)) (grammar : D → Grammar W)
+    (lawful : (d : D) → IsLawful (grammar d)) (s t : ReaderState S D) where
+  abbrev g : Grammar W
+  g = grammar s.decoder
+
+  abbrev law : IsLawful g
+  law = lawful s.decoder
+
+  -- just these payloads are left of a reader
+  abbrev Left : ReaderState S D → List (List ℕ) → Type 0
+  Left f = HasLeft remaining (grammar f.decoder) f
+
   module _ (answer : NextAnswer W) (next : NextPiece remaining g s answer t) (payloads : List (List ℕ))
-      (has : HasLeft remaining g s payloads) where
+      (has : Left s payloads) where
     -- what is left now
     abbrev left : (more : List ℕ) × (ahead_of remaining t ≡ Some more) × (has.text ≡ next.bytes ++ more)
     left = PiecesWent-front remaining g.most s t has.text next.bytes has.known next.went
@@ -62,55 +73,46 @@ module _ {S D W : Type 0} (remaining : S → Option (List ℕ)) (g : Grammar W) 
     all_buffered : s.ended ≡ false → MetEnd s t → left.0 ≡ rest t
     all_buffered = PiecesWent-dry remaining g.most s t has.text next.bytes has.known next.went
 
+    -- a text of these is left, under the decoder that is still the same
+    leaves : (text : List ℕ) (later : List (List ℕ)) → ahead_of remaining t ≡ Some text → HasPieces g text later
+        → (t.ended ≡ true → later ≡ []) → Left t later
+    leaves text later known pieces none = subst (λ d. HasLeft remaining (grammar d) t later) (sym next.went.decoder)
+        (record { text = text; known = known; has = pieces; none = none })
+
+    still_open : {later : List (List ℕ)} → t.ended ≡ false → t.ended ≡ true → later ≡ []
+    still_open open' ended = (let odd : true ≡ false = sym ended ∙ open' in cc)
+
     -- nothing was handed out
-    same_left : next.bytes ≡ [] → t.ended ≡ false → HasLeft remaining g t payloads
-    same_left none open' = record {
-      text = has.text;
-      known = PiecesWent-stays remaining g.most s t has.text next.bytes has.known next.went none;
-      has = has.has;
-      none = λ ended. (let odd : true ≡ false = sym ended ∙ open' in cc);
-    }
+    same_left : next.bytes ≡ [] → t.ended ≡ false → Left t payloads
+    same_left none open' = leaves has.text payloads
+        (PiecesWent-stays remaining g.most s t has.text next.bytes has.known next.went none) has.has (still_open open')
 
     -- a piece was
     first_of : (found : List ℕ) → g.piece next.bytes found → t.ended ≡ false
-        → (later : List (List ℕ)) × (payloads ≡ found ∷ later) × HasLeft remaining g t later
+        → (later : List (List ℕ)) × (payloads ≡ found ∷ later) × Left t later
     first_of found is open' =
         let first = Pieces-first g law has.text found left.0 payloads
-        (record { piece = next.bytes; is = is; equal = left.2 }) has.has in (
-          first.0,
-          first.1,
-          record {
-            text = left.0;
-            known = left.1;
-            has = first.2;
-            none = λ ended. (let odd : true ≡ false = sym ended ∙ open' in cc);
-          },
-        )
+        (record { piece = next.bytes; is = is; equal = left.2 }) has.has in
+        (first.0, first.1, leaves left.0 first.0 left.1 first.2 (still_open open'))
 
     -- a last one was
     last_of : (found : List ℕ) → IsLast g next.bytes found → rest t ≡ [] → s.ended ≡ false → MetEnd s t
-        → (payloads ≡ found ∷ []) × HasLeft remaining g t []
+        → (later : List (List ℕ)) × (payloads ≡ found ∷ later) × Left t later
     last_of found last none not_ended met =
         let nothing : left.0 ≡ [] = all_buffered not_ended met ∙ none in
         let all : has.text ≡ next.bytes = left.2 ∙ ap (λ l. next.bytes ++ l) nothing ∙ append-nil next.bytes in (
+          [],
           Pieces-last g law has.text found payloads (subst (λ l. IsLast g l found) (sym all) last) has.has,
-          record { text = []; known = left.1 ∙ ap (λ l. Some l) nothing; has = refl; none = λ _. refl },
+          leaves [] [] (left.1 ∙ ap (λ l. Some l) nothing) refl (λ _. refl),
         )
 
     -- none was, at the end
-    none_of : next.bytes ≡ [] → rest t ≡ [] → t.ended ≡ false → MetEnd s t
-        → (payloads ≡ []) × HasLeft remaining g t []
-    none_of is none open' met =
-        elim s.ended as (λ b. b ≡ s.ended → (payloads ≡ []) × HasLeft remaining g t []) [
-          | true ↦ λ ended. (
-            has.none (sym ended),
-            subst (HasLeft remaining g t) (has.none (sym ended)) (same_left is open'),
-          )
-          | false ↦ λ not_ended.
-              let all : has.text ≡ [] = left.2 ∙ ap (λ l. l ++ left.0) is ∙ all_buffered (sym not_ended) met ∙ none in
-              let no_piece = Pieces-none g law has.text payloads all has.has in
-              (no_piece, subst (HasLeft remaining g t) no_piece (same_left is open'))
-        ] refl
+    none_of : next.bytes ≡ [] → rest t ≡ [] → MetEnd s t → payloads ≡ []
+    none_of is none met = elim s.ended as (λ b. b ≡ s.ended → payloads ≡ []) [
+      | true ↦ λ ended. has.none (sym ended)
+      | false ↦ λ not_ended. Pieces-none g law has.text payloads
+          (left.2 ∙ ap (λ l. l ++ left.0) is ∙ all_buffered (sym not_ended) met ∙ none) has.has
+    ] refl
 
     -- nothing wrong was met
     front : next.bytes ≡ [] → has.text ≡ left.0
@@ -128,68 +130,45 @@ module _ {S D W : Type 0} (remaining : S → Option (List ℕ)) (g : Grammar W) 
         Pieces-whole g law (rest t) payloads e some is
         (subst (λ l. HasPieces g l payloads) (front none ∙ all_buffered not_ended met) has.has)
 
-  open_of : (answer : NextAnswer W) → NextPiece remaining g s answer t → ¬ (answer ≡ Ok None) → s.ended ≡ false
-  open_of answer next isnt = elim s.ended as (λ b. b ≡ s.ended → b ≡ false) [
+  open_before : (answer : NextAnswer W) → NextPiece remaining g s answer t → ¬ (answer ≡ Ok None) → s.ended ≡ false
+  open_before answer next isnt = elim s.ended as (λ b. b ≡ s.ended → b ≡ false) [
     | true ↦ λ ended. absurd (isnt (next.told (sym ended)))
     | false ↦ λ not_ended. refl
   ] refl
 
-  NextKnown-some : (found : List ℕ) (later : List (List ℕ)) (payloads : List (List ℕ)) → payloads ≡ found ∷ later
-      → HasLeft remaining g t later → NextKnown remaining g (Ok (Some found)) payloads t
-  NextKnown-some found later payloads is has =
-      subst (λ l. NextKnown remaining g (Ok (Some found)) l t) (sym is) (refl, has)
+  abbrev Known : NextAnswer W → List (List ℕ) → Type 0
+  Known answer payloads = AnswersKnown Left (λ f. f.reader.log.reads.faults) Io s answer payloads t
 
-  NextKnown-none : (payloads : List (List ℕ)) → payloads ≡ [] → HasLeft remaining g t []
-      → NextKnown remaining g (Ok None) payloads t
-  NextKnown-none payloads is has = subst (λ l. NextKnown remaining g (Ok None) l t) (sym is) has
+  some_known : (found : List ℕ) (payloads later : List (List ℕ)) → NextPiece remaining g s (Ok (Some found)) t
+      → payloads ≡ found ∷ later → Left t later → Known (Ok (Some found)) payloads
+  some_known found payloads later next is left =
+      subst (Known (Ok (Some found))) (sym is) (refl, left, next.answers.0)
 
-  pub NextPiece-known : (answer : NextAnswer W) (payloads : List (List ℕ)) → NextPiece remaining g s answer t
-      → HasLeft remaining g s payloads → NextKnown remaining g answer payloads t
-  NextPiece-known (Ok (Some found)) payloads next has = elim next.answers.1 [
-    | inl (is, open', none) ↦
-        (let first = first_of (Ok (Some found)) next payloads has found is open' in
-        NextKnown-some found first.0 payloads first.1 first.2)
-    | inr (is, open', some, none, ended, met) ↦
-        (let last = last_of (Ok (Some found)) next payloads has found (record { is = is; open' = open'; some = some }) none
-        (open_of (Ok (Some found)) next (λ odd. cc)) met in
-        NextKnown-some found [] payloads last.0 last.1)
-  ]
-  NextPiece-known (Ok None) payloads next has =
+  -- what a call answers where it is known what is left
+  pub NextPiece-answers : (answer : NextAnswer W) (payloads : List (List ℕ)) → Left s payloads
+      → NextPiece remaining g s answer t → Known answer payloads
+  NextPiece-answers (Ok (Some found)) payloads has next =
+      let later : (later : List (List ℕ)) × (payloads ≡ found ∷ later) × Left t later = elim next.answers.1 [
+        | inl (is, open', none) ↦ first_of (Ok (Some found)) next payloads has found is open'
+        | inr (is, open', some, none, ended, met) ↦
+            last_of (Ok (Some found)) next payloads has found (record { is = is; open' = open'; some = some }) none
+            (open_before (Ok (Some found)) next (λ odd. cc)) met
+      ] in
+      some_known found payloads later.0 next later.1 later.2
+  NextPiece-answers (Ok None) payloads has next =
       let a = next.answers in
-      let end = none_of (Ok None) next payloads has a.0 a.1 a.3 a.4 in
-      NextKnown-none payloads end.0 end.1
-  NextPiece-known (Err (Wrong e)) payloads next has = absurd (elim next.answers.3 [
+      let none = none_of (Ok None) next payloads has a.0 a.1 a.4 in
+      subst (Known (Ok None)) (sym none) (subst (Left t) none (same_left (Ok None) next payloads has a.0 a.3))
+  NextPiece-answers (Err (Wrong e)) payloads has next = absurd (elim next.answers.3 [
     | inl wrong ↦ never_wrong (Err (Wrong e)) next payloads has e next.answers.0 wrong.0
     | inr (cut, open', some, met) ↦ never_cut (Err (Wrong e)) next payloads has e next.answers.0 open' some
-        (open_of (Err (Wrong e)) next (λ odd. cc)) met cut
+        (open_before (Err (Wrong e)) next (λ odd. cc)) met cut
   ])
-  NextPiece-known (Err (Io e)) payloads next has =
-      same_left (Err (Io e)) next payloads has next.answers.0 next.answers.3
-
--- what a call answers where it is known what is left, of any reader of payloads
-module _ {S D W : Type 0} (remaining : S → Option (List ℕ)) (grammar : D → Grammar W)
-    (law : (d : D) → IsLawful (grammar d)) (s : ReaderState S D) where
-  pub NextPiece-answers : (answer : NextAnswer W) (payloads : List (List ℕ)) (t : ReaderState S D)
-      → HasLeft remaining (grammar s.decoder) s payloads → NextPiece remaining (grammar s.decoder) s answer t
-      → AnswersKnown (λ f. HasLeft remaining (grammar f.decoder) f) (λ f. f.reader.log.reads.faults) Io s answer payloads t
-  NextPiece-answers (Ok (Some found)) [] t has next =
-      NextPiece-known remaining (grammar s.decoder) (law s.decoder) s t (Ok (Some found)) [] next has
-  NextPiece-answers (Ok (Some found)) (payload ∷ later) t has next =
-      let g = grammar s.decoder in
-      let known = NextPiece-known remaining g (law s.decoder) s t (Ok (Some found)) (payload ∷ later) next has in
-      (known.0, subst (λ d. HasLeft remaining (grammar d) t later) (sym next.went.decoder) known.1, next.answers.0)
-  NextPiece-answers (Ok None) [] t has next = subst (λ d. HasLeft remaining (grammar d) t []) (sym next.went.decoder)
-      (NextPiece-known remaining (grammar s.decoder) (law s.decoder) s t (Ok None) [] next has)
-  NextPiece-answers (Ok None) (payload ∷ later) t has next =
-      NextPiece-known remaining (grammar s.decoder) (law s.decoder) s t (Ok None) (payload ∷ later) next has
-  NextPiece-answers (Err (Io e)) payloads t has next = (
+  NextPiece-answers (Err (Io e)) payloads has next = (
     (e, refl),
-    subst (λ d. HasLeft remaining (grammar d) t payloads) (sym next.went.decoder)
-        (NextPiece-known remaining (grammar s.decoder) (law s.decoder) s t (Err (Io e)) payloads next has),
+    same_left (Err (Io e)) next payloads has next.answers.0 next.answers.3,
     λ why is. (let same : e ≡ why = cc in subst (λ x. Faulted s x t) same next.answers.2),
   )
-  NextPiece-answers (Err (Wrong e)) payloads t has next =
-      absurd (NextPiece-known remaining (grammar s.decoder) (law s.decoder) s t (Err (Wrong e)) payloads next has)
 
 -- what a fresh reader has left is what its stream has
 pub IsFresh-left : {S D W : Type 0} (remaining : S → Option (List ℕ)) (g : Grammar W) (tells : S → StreamLog)

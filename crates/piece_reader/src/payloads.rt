@@ -105,5 +105,5 @@ impl<R: TellRead, D: Decoder> KnownReader for PieceReader<R, D> {
         }
     }
 
-    ghost answers_known = { NextPiece-answers R.remaining D.grammar D.lawful };
+    ghost answers_known = { λ s answer payloads t. NextPiece-answers R.remaining D.grammar D.lawful s t answer payloads };
 }
