@@ -21,7 +21,7 @@ PROGRAM = TOP / "crates/parts/out/parts"
 
 
 def whole_parts(boundary, body):
-    """The parts that stand whole in the body, whether it ends, and whether a boundary isn't alone in its line."""
+    """The parts that stand whole in the body, whether it ends, and whether a boundary isn't alone in its line, or in a head."""
     mark = b"\r\n--" + boundary
     # A boundary is one at the beginning of a line, also of the first one and of the first behind a head.
     text = b"\r\n" + body
@@ -34,9 +34,9 @@ def whole_parts(boundary, body):
         end = text.find(b"\r\n\r\n", at)
         if end < 0:
             # The two hyphens may begin there, or the end of the boundary's line.
-            return parts, False, not re.match(rb"-\Z|[ \t]*(\r\n|\r?\Z)", text[at:])
+            return parts, False, mark in text[at:] or not re.match(rb"-\Z|[ \t]*(\r\n|\r?\Z)", text[at:])
         head = text[at:end]
-        if not re.match(rb"[ \t]*(\r\n|\Z)", head):
+        if mark in head or not re.match(rb"[ \t]*(\r\n|\Z)", head):
             return parts, False, True
         # The end of the empty line may begin a boundary.
         begin = end + 2
@@ -52,6 +52,11 @@ def said(head):
     filename = re.search(rb'[; ]filename="([^"]*)"', head)
     kind = re.search(rb"(?i)\r\nContent-Type:[ \t]*(.*?)[ \t]*(\r\n(?![ \t])|\Z)", head, re.S)
     return [found.group(1) if found else b"-" for found in (name, filename, kind)]
+
+
+def printed(text):
+    """A text as it is printed, which ends neither a column nor a line."""
+    return re.sub(rb"[\x00-\x1f]", b"?", text)
 
 
 def run(words, body, chance):
@@ -77,7 +82,7 @@ def run(words, body, chance):
 def is_right(boundary, body, chance):
     """Whether the parts of this body are listed, or as many as there are, and each name's first is written."""
     parts, ended, wrong = whole_parts(boundary, body)
-    want = b"".join(b"\t".join(said(head)) + b"\t%d\n" % len(text) for head, text in parts)
+    want = b"".join(b"\t".join(map(printed, said(head))) + b"\t%d\n" % len(text) for head, text in parts)
     out, status = run(["list", boundary], body, chance)
     # Behind a text that is cut off stands the beginning of a line.
     if not (out == want if ended or wrong else out.startswith(want)) or status != (0 if ended else 4 if wrong else 5):
@@ -97,7 +102,8 @@ def random_body(chance):
     pieces = [b"\r\n", b"\r", b"\n", b"-", b"--", b"\r\n-", b"\r\n--" + boundary[:-1], b"x", b"--" + boundary, b"\x00" * 9]
     body = chance.choice([b"", b"preamble\r\n", b"\r\n"])
     for number in range(chance.randrange(4)):
-        head = chance.choice([b"", b'Content-Disposition: form-data; name="n%d"\r\n' % number, b"A: b\r\n"])
+        name = chance.choice([b"n%d" % number, b"a\n\tb"])
+        head = chance.choice([b"", b'Content-Disposition: form-data; name="%s"\r\n' % name, b"A: b\r\n"])
         text = b"".join(chance.choice(pieces) for _ in range(chance.randrange(9)))
         body += b"--" + boundary + chance.choice([b"", b" "]) + b"\r\n" + head + b"\r\n" + text + b"\r\n"
     return boundary, body + b"--" + boundary + chance.choice([b"--", b"--\r\nepilogue", b"-", b""])

@@ -6,7 +6,7 @@ use forward::Cause;
 use std::io;
 use std::io::ErrorKind;
 
-/// Why a run failed. Each that isn't a stream's fault has the number of bytes of the body that were right, as far as a `u64`
+/// Why a run failed. Each that isn't a stream's fault has the number of bytes of the body that were taken, as far as a `u64`
 /// counts.
 #[derive(Debug, Drop)]
 pub enum RunError {

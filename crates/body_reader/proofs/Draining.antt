@@ -1,76 +1,74 @@
 -- The rest of a body is taken, and its payload dropped.
-use Rattle.std.proofs.Common.{◌≡◌, ℕ, ◌^◌, ◌-◌, ◌+◌, ◌<◌, ◌≤◌, List, [], ◌++◌, length, take, Option, Ok, Err, ap, arith, inl, inr, refl, length-append}
+use Rattle.std.proofs.Common.{◌≡◌, ℕ, ◌^◌, ◌-◌, ◌+◌, ◌<◌, ◌≤◌, ◌⊎◌, List, ◌++◌, length, take, Option, Result, MatchResult, Ok, Err, ap, arith, inl, inr, refl, length-append}
 use Rattle.std.proofs.lemmas.List.{length-take-le}
 use Rattle.std.specs.IoError.{error_kind}
+use Rattle.std.specs.Prelude.{⊤}
 use Rattle.std.specs.declared.io.Error.{Error}
 use Rattle.std.specs.declared.io.ErrorKind.TheVariants.{Other}
+use Rattle.buffer_redux.specs.AskingLaws.{AskedWhere-of}
 use Rattle.buffer_redux.specs.Policy.{ReadRules}
+use Rattle.buffer_redux.specs.Unbuffer.{unbuffered}
 use Rattle.body_reader.specs.declared.error.BodyError.{BodyError}
 use Rattle.body_reader.specs.declared.error.BodyError.TheVariants.{Io}
+use Rattle.body_reader.specs.Between.{EachGave}
 use Rattle.body_reader.specs.BetweenLaws.{StopsFor-after}
-use Rattle.body_reader.specs.BodyReader.{BodyState, ConsumesPayload, Drains, FillsPayload, IsBodyReader}
-use Rattle.body_reader.specs.Coding.{Grammar, IsLawful}
-use Rattle.body_reader.proofs.Taking.{Taken, filled_asked, filled_ended, filled_gave, filled_pieces, filled_went, fills_here, taken_more, taken_none}
+use Rattle.body_reader.specs.BodyReader.{BodyState, ConsumesPayload, Drains, FillsPayload, NoPayload, TookWholeBody}
+use Rattle.body_reader.specs.Coding.{Grammar, IsLawful, LeadsOpen}
+use Rattle.body_reader.specs.Taking.{TakenInPieces, TakesTo, filled_gave, fills_here, takes_filled, takes_more, takes_to}
 
 -- this much was dropped so far, in so many pieces
 pub record Dropped {S Q C P W : Type 0} (remaining : S → Option (List ℕ)) (rules : ReadRules Q) (g : Grammar P W)
     (s : BodyState S Q C P) (count : ℕ) (m : BodyState S Q C P) : Type 0 where
   pub payload : List ℕ
-  pub taken : Taken remaining rules g s payload m
+  pub taken : TakenInPieces remaining rules g (λ _. ⊤) s payload m
   pub many : count ≤ length payload
-
-pub dropped_none : {S Q C P W : Type 0} (remaining : S → Option (List ℕ)) (rules : ReadRules Q) (g : Grammar P W)
-    (s : BodyState S Q C P) → IsBodyReader g s → Dropped remaining rules g s 0 s
-dropped_none remaining rules g s is =
-    record { payload = []; taken = taken_none remaining rules g s is; many = omega arith }
 
 module _ {S Q C P W : Type 0} {remaining : S → Option (List ℕ)} {rules : ReadRules Q} (grammar : C → Grammar P W)
     {s : BodyState S Q C P} {count : ℕ} {m : BodyState S Q C P} (so : Dropped remaining rules (grammar s.coding) s count m) where
+  abbrev g : Grammar P W
+  g = grammar s.coding
+
+  drains : {t : BodyState S Q C P} → TakesTo remaining rules g (λ _. ⊤) s so.payload t
+      → (answer : Result (Unit {0}) (BodyError W)) → MatchResult answer
+      (λ _. EachGave s.reader t.reader × TookWholeBody g t)
+      (λ why. NoPayload g s why t ⊎ ((e : Error) × (why ≡ Io e) × (error_kind e ≡ Other)
+      × (2 ^ 64 - 1 ≤ length so.payload) × EachGave s.reader t.reader))
+      → Drains remaining rules g s answer t
+  drains {t} to answer answers = record {
+    payload = so.payload;
+    went = to.went;
+    answers = answers;
+    pieces = to.pieces;
+    asked = AskedWhere-of (λ bytes. (came : List ℕ) × LeadsOpen g s.place came bytes × ⊤)
+        (λ bytes. (came : List ℕ) × LeadsOpen g s.place came bytes) (unbuffered s.reader) (unbuffered t.reader)
+        (λ more o. (o.0, o.1)) to.asked;
+    ended = to.ended;
+    whole = to.whole;
+  }
+
   -- the body ended
   pub drained : {f : BodyState S Q C P} → FillsPayload remaining rules (grammar m.coding) m (Ok 0) f
-      → Drains remaining rules (grammar s.coding) s (Ok tt) f
-  drained fills = record {
-    payload = so.payload;
-    went = filled_went grammar so.taken fills;
-    answers = (filled_gave grammar so.taken fills, (fills_here grammar so.taken fills).answers.2 refl);
-    pieces = filled_pieces grammar so.taken fills;
-    asked = filled_asked grammar so.taken fills;
-    ended = λ whole. ap (λ x. x.reader) (filled_ended grammar so.taken fills whole);
-    whole = (fills_here grammar so.taken fills).whole;
-  }
+      → Drains remaining rules g s (Ok tt) f
+  drained fills = drains (takes_filled grammar so.taken fills tt) (Ok tt)
+      (filled_gave grammar so.taken fills, (fills_here grammar so.taken fills).answers.2 refl)
 
   -- or not
   pub not_drained : {e : BodyError W} {f : BodyState S Q C P} → FillsPayload remaining rules (grammar m.coding) m (Err e) f
-      → Drains remaining rules (grammar s.coding) s (Err e) f
-  not_drained {e} {f} fills = record {
-    payload = so.payload;
-    went = filled_went grammar so.taken fills;
-    answers = inl (StopsFor-after _ _ _ s.reader m.reader f.reader so.taken.gave e (fills_here grammar so.taken fills).answers);
-    pieces = filled_pieces grammar so.taken fills;
-    asked = filled_asked grammar so.taken fills;
-    ended = λ whole. ap (λ x. x.reader) (filled_ended grammar so.taken fills whole);
-    whole = (fills_here grammar so.taken fills).whole;
-  }
+      → Drains remaining rules g s (Err e) f
+  not_drained {e} {f} fills = drains (takes_filled grammar so.taken fills tt) (Err e)
+      (inl (StopsFor-after _ _ _ s.reader m.reader f.reader so.taken.gave e (fills_here grammar so.taken fills).answers))
 
-  pub too_many : {e : Error} → error_kind e ≡ Other → 2 ^ 64 - 1 ≤ count
-      → Drains remaining rules (grammar s.coding) s (Err (Io e)) m
-  too_many {e} kind many = record {
-    payload = so.payload;
-    went = so.taken.went;
-    answers = inr (e, refl, kind, omega (arith, many, so.many), so.taken.gave);
-    pieces = record { count = so.taken.count; last = m; pieces = so.taken.pieces; end = inl refl };
-    asked = so.taken.asked;
-    ended = λ whole. ap (λ x. x.reader) (so.taken.ended whole);
-    whole = so.taken.whole;
-  }
+  pub too_many : {e : Error} → error_kind e ≡ Other → 2 ^ 64 - 1 ≤ count → Drains remaining rules g s (Err (Io e)) m
+  too_many {e} kind many = drains (takes_to remaining rules g (λ _. ⊤) so.taken) (Err (Io e))
+      (inr (e, refl, kind, omega (arith, many, so.many), so.taken.gave))
 
   -- one piece more
   pub dropped_more : {n : ℕ} {f : BodyState S Q C P} → FillsPayload remaining rules (grammar m.coding) m (Ok n) f → 0 < n
-      → IsLawful (grammar s.coding) → (t : BodyState S Q C P) → ConsumesPayload remaining rules (grammar f.coding) n f t
-      → Dropped remaining rules (grammar s.coding) s (count + 1) t
+      → IsLawful g → (t : BodyState S Q C P) → ConsumesPayload remaining rules (grammar f.coding) n f t
+      → Dropped remaining rules g s (count + 1) t
   dropped_more {n} {f} fills some lawful t takes = record {
     payload = so.payload ++ take f.known f.reader.block.bytes;
-    taken = taken_more grammar so.taken fills some lawful t takes;
+    taken = takes_more grammar so.taken fills tt some lawful t takes;
     many = omega (
       arith,
       so.many,

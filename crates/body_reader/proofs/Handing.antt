@@ -28,14 +28,15 @@ front_carries g p k n bytes carries few held =
 
 -- of bytes of which a look showed k the first n are taken, and the rest of the k stays known
 pub knows_rest : {P W : Type 0} {g : Grammar P W} {p : P} {taken taken' : List ℕ} {k n : ℕ} {bytes left : List ℕ} {k' : ℕ}
-    → AllShown g p k bytes → taken' ≡ taken ++ take n bytes → take n bytes ++ left ≡ bytes → n ≤ k → k ≤ length bytes → k' ≡ k - n
-    → KnowsAll g p taken taken' [] (take n bytes) k' left
-knows_rest {g = g} {p = p} {k = k} {n = n} {bytes = bytes} {left = left} {k' = k'} all is parts few held rest =
+    → g.is_place p → AllShown g p k bytes → taken' ≡ taken ++ take n bytes → take n bytes ++ left ≡ bytes → n ≤ k
+    → k ≤ length bytes → k' ≡ k - n → KnowsAll g p taken taken' [] (take n bytes) k' left
+knows_rest {g = g} {p = p} {k = k} {n = n} {bytes = bytes} {left = left} {k' = k'} place all is parts few held rest =
     let size : k ≡ length (take n bytes) + k' = omega (arith, rest, few, length-take-le n bytes (omega (arith, few, held))) in
     record {
       wire = [];
       equal = is;
       place = p;
+      is_place = place;
       leads = Leads-none g p (heeded g (take n bytes ++ left));
       all = subst (AllShown g p (length (take n bytes) + k')) (sym parts) (subst (λ j. AllShown g p j bytes) size all);
     }
@@ -120,6 +121,7 @@ module _ {S Q P W : Type 0} {remaining : S → Option (List ℕ)} {rules : ReadR
             ∙ append_assoc p.taken.log.fills.consumed wire (x.wire ++ last)
             ∙ ap (λ l. p.taken.log.fills.consumed ++ l) (sym (append_assoc wire x.wire last));
         place = x.place;
+        is_place = x.is_place;
         leads = Leads-then g p.place q.place x.place wire x.wire h first m.block.bytes order.got (last ++ rest) equal before.leads
             x.leads;
         all = x.all;
@@ -178,17 +180,18 @@ module _ {S Q P W : Type 0} (remaining : S → Option (List ℕ)) (rules : ReadR
     hands_known = hands_these k (λ unknown. absurd (omega (arith, unknown, some)))
 
     -- or is as much as a look says
-    knows : AllShown g p.place k s.block.bytes
+    knows : g.is_place p.place → AllShown g p.place k s.block.bytes
         → KnowsAll g p.place p.taken.log.fills.consumed q.taken.log.fills.consumed [] (take n out) k' t.block.bytes
-    knows all =
+    knows place all =
         let before = p.taken.log.fills.consumed in
         let after = q.taken.log.fills.consumed in
         subst (λ l. KnowsAll g p.place before after [] l k' t.block.bytes) (sym same)
-        (knows_rest all taken.takes.taken
+        (knows_rest place all taken.takes.taken
         (consumes_parts rules n s t (omega (arith, is, known.0)) taken.consumed) (omega (arith, is)) known.0 taken.left)
 
-    pub hands_shown : AllShown g p.place k s.block.bytes → (before : ℕ) → HandsOn remaining rules g before s p out (Ok n) t q k'
-    hands_shown all before = hands_these before (λ _. knows all)
+    pub hands_shown : g.is_place p.place → AllShown g p.place k s.block.bytes → (before : ℕ)
+        → HandsOn remaining rules g before s p out (Ok n) t q k'
+    hands_shown place all before = hands_these before (λ _. knows place all)
 
   -- into an empty slice nothing is
   pub hands_nothing : (known : ℕ) (s : Buffered S Q) (p : Progress P) (out : List ℕ) → g.is_place p.place → length out ≡ 0

@@ -3,7 +3,6 @@ pub mod Handing
 pub mod Once
 pub mod Past
 pub mod Payload
-pub mod Taking
 pub mod Draining
 pub mod Collecting
 pub mod Filling

@@ -142,6 +142,7 @@ module _ {S Q P W : Type 0} (remaining : S → Option (List ℕ)) (rules : ReadR
                     wire = [];
                     equal = notes.taken;
                     place = p.place;
+                    is_place = place;
                     leads = Leads-none g p.place (heeded g (take n out ++ t.block.bytes));
                     all = inl (omega (
                       arith,

@@ -7,7 +7,7 @@ use Rattle.buffer_redux.specs.StreamLog.{StreamLog}
 use Rattle.body_reader.specs.declared.error.BodyError.{BodyError}
 use Rattle.body_reader.specs.declared.error.BodyError.TheVariants.{Wrong, Truncated, Io}
 use Rattle.body_reader.specs.declared.progress.Progress.{Progress}
-use Rattle.body_reader.specs.Between.{AllShown, EachGave, HandsOn, KnowsAll, PayloadFails, ShowsOn, StopsFor, TakesBytes, handed_out}
+use Rattle.body_reader.specs.Between.{AllShown, EachGave, HandsOn, KnowsAll, PayloadFails, ShowsOn, StopsFor, TakesBytes, Way, handed_out}
 use Rattle.body_reader.specs.BodyReader.{BodyState, BodyWent, Breaks, EndsEarly, FillsPayload, IsBodyReader, NotedIfOk, TookWholeBody, ReadsPayload, NoPayload, seen, taken_count}
 use Rattle.body_reader.specs.BodyReaderLaws.{BodyWent-none}
 use Rattle.body_reader.specs.BetweenLaws.{AsksWithRoom-open, EachGave-none, PassesTo-none, TellsOnce-passes}
@@ -167,65 +167,51 @@ module _ {S Q C P W : Type 0} (remaining : S → Option (List ℕ)) (rules : Rea
 -- a fill
 module _ {S Q C P W : Type 0} (remaining : S → Option (List ℕ)) (rules : ReadRules Q) (g : Grammar P W) (lawful : IsLawful g)
     (r : Buffered S Q) (c : C) (p : Progress P) (calls : StreamLog) (k : ℕ) (is : IsBodyReader g (seen r c p calls k))
-    (none : k ≡ 0) (answer : Result ℕ (BodyError W)) (r' : Buffered S Q) (q : Progress P) (k' : ℕ)
-    (fills : ShowsOn remaining rules g 0 r p answer r' q) (count : MatchResult answer (λ n. k' ≡ n) (λ _. k' ≡ 0)) where
-  abbrev there : BodyState S Q C P
-  there = seen r' c q calls k'
+    (none : k ≡ 0) (r' : Buffered S Q) (q : Progress P) where
+  module _ (way : Way remaining rules g 0 r p [] r' q) (k' : ℕ) (known : IsKnown g q.place k' r'.block.bytes) where
+    there_is : IsBodyReader g (seen r' c q calls k')
+    there_is = state_is way.takes (sym (append-nil calls.reads.given)) is known
 
-  abbrev FillEnds : Result ℕ (BodyError W) → Type 0
-  FillEnds a = MatchResult a (λ n. EachGave r r' × (IsKnown g q.place n r'.block.bytes × (n ≡ 0 → IsDone g q.place)
-      × (0 < n → AllShown g q.place n r'.block.bytes))) (λ e. PayloadFails remaining rules g r e r' q)
+    same : (r' ≡ r) × (q ≡ p) → k' ≡ k → seen r' c q calls k' ≡ seen r c p calls k
+    same both few = cc
 
-  abbrev Counts : Result ℕ (BodyError W) → Type 0
-  Counts a = MatchResult a (λ n. k' ≡ n) (λ _. k' ≡ 0)
+    -- where the body ended nothing is done
+    fill_still : (0 < k ⊎ TookWholeBody g (seen r c p calls k)) → seen r' c q calls k' ≡ seen r c p calls k
+    fill_still (inl some) = absurd (omega (arith, some, none))
+    fill_still (inr whole) =
+        let done = Leads-done g lawful _ _ _ _ is.leads is.place whole in
+        let at = way.idle done in
+        same at (none_there g k' q.place r'.block.bytes known (subst (λ x. IsDone g x.place) (sym at.1) done) ∙ sym none)
 
-  fill_known_is : (a : Result ℕ (BodyError W)) → FillEnds a → Counts a → IsKnown g q.place k' r'.block.bytes
-  fill_known_is (Ok n) ends count = subst (λ j. IsKnown g q.place j r'.block.bytes) (sym count) ends.1.0
-  fill_known_is (Err e) ends count = (omega (arith, count), λ some. absurd (omega (arith, some, count)))
+    fills : (answer : Result ℕ (BodyError W)) → MatchResult answer
+        (λ n. (n ≡ k') × EachGave r r' × (n ≡ 0 → TookWholeBody g (seen r' c q calls k')))
+        (λ e. NoPayload g (seen r c p calls k) e (seen r' c q calls k'))
+        → IfOk answer (λ n. 0 < n → k ≡ 0 → AllShown g q.place n r'.block.bytes)
+        → FillsPayload remaining rules g (seen r c p calls k) answer (seen r' c q calls k')
+    fills answer answers all = record {
+      went = state_went way.takes (sym (append-nil calls.reads.given));
+      answers = answers;
+      all = all;
+      asked = AsksWithRoom-open remaining rules g 0 r p.place r' way.asked;
+      passes = TellsOnce-passes way.tells;
+      still = fill_still;
+      noted = refl;
+      whole = there_is;
+    }
 
-  given_none : calls.reads.given ≡ calls.reads.given ++ []
-  given_none = sym (append-nil calls.reads.given)
+  pub filled : (n : ℕ) → ShowsOn remaining rules g 0 r p (Ok n) r' q
+      → FillsPayload remaining rules g (seen r c p calls k) (Ok n) (seen r' c q calls n)
+  filled n shows = fills shows.0 n shows.1.1.0 (Ok n) (
+    refl,
+    shows.1.0,
+    (λ ended. Leads-whole g _ _ _ _ (there_is shows.0 n shows.1.1.0).leads (shows.1.1.1 ended)),
+  ) (λ some _. shows.1.1.2 some)
 
-  there_is : IsBodyReader g there
-  there_is = state_is fills.0.takes given_none is (fill_known_is answer fills.1 count)
-
-  fill_answers : (a : Result ℕ (BodyError W)) → FillEnds a → Counts a
-      → MatchResult a (λ n. (n ≡ k') × EachGave r r' × (n ≡ 0 → TookWholeBody g there))
-      (λ e. NoPayload g (seen r c p calls k) e there)
-  fill_answers (Ok n) ends count = (
-    sym count,
-    ends.0,
-    (λ zero. Leads-whole g _ _ _ _ there_is.leads (ends.1.1 zero)),
-  )
-  fill_answers (Err e) ends count = stops there_is lawful (seen r c p calls k) q.count q.counted e ends
-
-  fill_all : (a : Result ℕ (BodyError W)) → FillEnds a
-      → IfOk a (λ n. 0 < n → k ≡ 0 → AllShown g q.place n r'.block.bytes)
-  fill_all (Ok n) ends = λ some _. ends.1.2 some
-  fill_all (Err e) ends = tt
-
-  same : (r' ≡ r) × (q ≡ p) → k' ≡ k → there ≡ seen r c p calls k
-  same both known = cc
-
-  -- where the body ended nothing is done
-  fill_still : (0 < k ⊎ TookWholeBody g (seen r c p calls k)) → there ≡ seen r c p calls k
-  fill_still (inl some) = absurd (omega (arith, some, none))
-  fill_still (inr whole) =
-      let done = Leads-done g lawful _ _ _ _ is.leads is.place whole in
-      let at = fills.0.idle done in
-      same at (none_there g k' q.place r'.block.bytes there_is.known (subst (λ x. IsDone g x.place) (sym at.1) done) ∙ sym none)
-
-  pub filled : FillsPayload remaining rules g (seen r c p calls k) answer there
-  filled = record {
-    went = state_went fills.0.takes given_none;
-    answers = fill_answers answer fills.1 count;
-    all = fill_all answer fills.1;
-    asked = AsksWithRoom-open remaining rules g 0 r p.place r' fills.0.asked;
-    passes = TellsOnce-passes fills.0.tells;
-    still = fill_still;
-    noted = refl;
-    whole = there_is;
-  }
+  pub not_filled : (e : BodyError W) → ShowsOn remaining rules g 0 r p (Err e) r' q
+      → FillsPayload remaining rules g (seen r c p calls k) (Err e) (seen r' c q calls k)
+  not_filled e shows =
+      let known : IsKnown g q.place k r'.block.bytes = (omega (arith, none), λ some. absurd (omega (arith, some, none))) in
+      fills shows.0 k known (Err e) (stops (there_is shows.0 k known) lawful (seen r c p calls k) q.count q.counted e shows.1) tt
 
 -- payload was known
 pub fill_known : {S Q C P W : Type 0} (remaining : S → Option (List ℕ)) (rules : ReadRules Q) (g : Grammar P W)

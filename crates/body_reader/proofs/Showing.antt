@@ -27,6 +27,10 @@ put_rest out tail n =
     ap (λ l. take n out ++ (tail ++ l)) (drop_all (length out - n) (drop n out) (omega (arith, length-drop n out)))
     ∙ ap (λ l. take n out ++ l) (append-nil tail)
 
+zero_unless : (n : ℕ) → ¬ (0 < n) → n ≡ 0
+zero_unless zero none = refl
+zero_unless (suc n) none = absurd (none (omega arith))
+
 module _ {S Q P W : Type 0} (remaining : S → Option (List ℕ)) (rules : ReadRules Q) (g : Grammar P W) where
   -- some is known
   pub known_found : (s : Buffered S Q) (p : Progress P) (k : ℕ) → g.is_place p.place → IsKnown g p.place k s.block.bytes → 0 < k
@@ -146,22 +150,22 @@ module _ {S Q P W : Type 0} (remaining : S → Option (List ℕ)) (rules : ReadR
               (so.consumed (omega (arith, all, some)) (omega (arith, all, few)));
           knows = λ beyond _. so.knows beyond;
           idle = so.idle;
+          full = inl all;
           all = inl all;
         }
 
     module _ (room : handed < length out) (f : Buffered S Q) (r : Progress P) (k' : ℕ)
         (finds : FindsKnown remaining rules g m q k f r k') where
-      -- where none is found none was known
-      none_before : (j : ℕ) → (0 < j → (f ≡ m) × (k' ≡ j)) → k' ≡ 0 → j ≡ 0
-      none_before zero kept none = refl
-      none_before (suc j) kept none = omega (arith, kept (omega arith), none)
+      -- what was known stays so
+      kept : 0 < k → k' ≡ k
+      kept some = (finds.kept some).1
 
       found_on : TakesBytes remaining rules g s p (so.wire ++ finds.wire) (take handed out) f r
       found_on = subst (λ l. TakesBytes remaining rules g s p (so.wire ++ finds.wire) l f r) (append-nil (take handed out))
           (TakesBytes-joins so.takes finds.takes)
 
       pub none_shown : k' ≡ 0 → HandsShown remaining rules g s p before out handed f r k'
-      none_shown none = record {
+      none_shown none = let nothing : k ≡ 0 = zero_unless k (λ some. omega (arith, some, kept some, none)) in record {
         wire = so.wire ++ finds.wire;
         takes = found_on;
         told = finds.told ∙ so.told;
@@ -170,19 +174,13 @@ module _ {S Q P W : Type 0} (remaining : S → Option (List ℕ)) (rules : ReadR
           last = m;
           place = q.place;
           pieces = subst (HandsManyPieces remaining rules g so.pieces.0 s p.place before handed m q.place)
-              (omega (arith, none_before k finds.kept none, none)) so.pieces.1;
+              (omega (arith, nothing, none)) so.pieces.1;
           passes = finds.passes;
         };
         within = so.within;
         known = finds.known;
-        left = λ few. omega (arith, so.left few, none_before k finds.kept none, none);
-        consumed = λ _ enough. absurd (omega (
-          arith,
-          room,
-          enough,
-          so.left (omega (arith, room, enough)),
-          none_before k finds.kept none,
-        ));
+        left = λ few. omega (arith, so.left few, nothing, none);
+        consumed = λ _ enough. absurd (omega (arith, room, enough, so.left (omega (arith, room, enough)), nothing));
         knows = λ _ full. absurd (omega (arith, room, full));
         idle = λ either. elim either [
           | inl done ↦
@@ -191,23 +189,9 @@ module _ {S Q P W : Type 0} (remaining : S → Option (List ℕ)) (rules : ReadR
               (first.0, then.0 ∙ first.1, then.1 ∙ first.2, then.2 ∙ first.3)
           | inr empty ↦ absurd (omega (arith, room, empty))
         ];
+        full = inr none;
         all = inr (finds.none none);
       }
-
-      -- what is left of what was known, where no more was handed out
-      less : (n k'' : ℕ) → 0 < n → k'' ≡ k' - n → (j : ℕ) → (0 < j → (f ≡ m) × (k' ≡ j)) → j ≡ before - handed
-          → handed + n ≤ before
-          → k'' ≡ before - (handed + n)
-      less n k'' some is zero kept was few = absurd (omega (arith, some, was, few))
-      less n k'' some is (suc j) kept was few = omega (arith, is, kept (omega arith), was, few)
-
-      -- where more is handed out than was known, the last of it was looked for
-      unknown : (n j : ℕ) → n ≤ k' → before < handed + n → (handed ≤ before → j ≡ before - handed) → (0 < j → handed ≡ 0)
-          → (0 < j → (f ≡ m) × (k' ≡ j)) → j ≡ 0
-      unknown n zero few beyond left first kept = refl
-      unknown n (suc j) few beyond left first kept =
-          let none = first (omega arith) in
-          absurd (omega (arith, few, beyond, none, left (omega (arith, none)), kept (omega arith)))
 
       -- where the body ended none is found
       goes_on : 0 < k' → ¬ IsDone g p.place
@@ -228,14 +212,13 @@ module _ {S Q P W : Type 0} (remaining : S → Option (List ℕ)) (rules : ReadR
             passes = finds.passes;
             consumed = front.consumed;
             leads = front.takes.leads;
-            known = λ more. let kept = finds.kept more in (kept.0, omega (arith, all, kept.1));
+            known = λ more. let same = finds.kept more in (same.0, omega (arith, all, same.1));
             shown = λ none. subst (λ j. AllShown g r.place j f.block.bytes) all (finds.all none (omega (arith, some, few)));
           }
 
       -- a further one only where none stayed known
-      last : (j : ℕ) → (0 < j → handed ≡ 0) → 0 < handed → j ≡ 0
-      last zero first some = refl
-      last (suc j) first some = absurd (omega (arith, some, first (omega arith)))
+      last : 0 < handed → k ≡ 0
+      last some = zero_unless k (λ known. omega (arith, some, so.first room known))
 
       more : (n : ℕ) (rest : List ℕ) (t : Buffered S Q) (u : Progress P) (k'' : ℕ) → 0 < n → n ≡ min k' (length rest)
           → take n rest ≡ take n f.block.bytes → TakesFront remaining rules g n f r k' t u k''
@@ -255,11 +238,11 @@ module _ {S Q P W : Type 0} (remaining : S → Option (List ℕ)) (rules : ReadR
             told = front.consumed.told ∙ finds.told ∙ so.told;
             pieces = (
               suc so.pieces.0,
-              (handed, n, k, m, q.place, so.pieces.1, here, last k (so.first room), refl),
+              (handed, n, k, m, q.place, so.pieces.1, here, last, refl),
             );
             within = omega (arith, count, long, length-append (take handed out) rest);
             known = front.known;
-            left = λ few. less n k'' some front.left k finds.kept (so.left (omega (arith, few))) few;
+            left = λ few. omega (arith, some, front.left, kept, so.left (omega (arith, few)), few);
             fresh = λ none. absurd (omega (arith, none, some));
             consumed = λ _ few.
                 let known : 0 < k = omega (arith, some, few, so.left (omega (arith, few))) in
@@ -268,15 +251,16 @@ module _ {S Q P W : Type 0} (remaining : S → Option (List ℕ)) (rules : ReadR
                 let all : n ≡ handed + n = omega (arith, none) in
                 subst (λ j. ReaderConsumes rules j s t) all (subst (λ x. ReaderConsumes rules n x t) same front.consumed);
             knows = λ beyond.
-                let shows = finds.all (unknown n k (omega (arith, count)) beyond so.left (so.first room) finds.kept)
-                (omega (arith, some, count)) in (
+                let none : k ≡ 0 = zero_unless k (λ some. (let first = so.first room some in
+                omega (arith, count, beyond, first, kept some, so.left (omega (arith, first))))) in
+                let shows = finds.all none (omega (arith, some, count)) in (
                   take handed out,
                   take n f.block.bytes,
                   joined,
                   subst (λ l. KnowsAll g p.place p.taken.log.fills.consumed u.taken.log.fills.consumed l (take n f.block.bytes)
                       k'' t.block.bytes) (append-nil (take handed out))
-                      (knows_behind found_on front.takes (knows_rest shows front.takes.taken parts (omega (arith, count))
-                      finds.known.0 front.left)),
+                      (knows_behind found_on front.takes (knows_rest finds.takes.place shows front.takes.taken parts
+                      (omega (arith, count)) finds.known.0 front.left)),
                 );
             first = λ short left. absurd (omega (
               arith,
@@ -332,6 +316,7 @@ module _ {S Q C P W : Type 0} (remaining : S → Option (List ℕ)) (rules : Rea
     went = state_went hands.takes given;
     told = hands.told;
     bound = hands.within;
+    full = hands.full;
     all = elim hands.all [ inl all ↦ inl all | inr none ↦ inr (none_left none) ];
     left = hands.left;
     consumed = hands.consumed;

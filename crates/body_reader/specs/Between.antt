@@ -91,6 +91,7 @@ module _ {P W : Type 0} (g : Grammar P W) where
     pub wire : List ℕ
     pub equal : taken' ≡ taken ++ (wire ++ last)
     pub place : P
+    pub is_place : g.is_place place
     pub leads : Leads g p wire first place (heeded g (last ++ left))
     pub all : AllShown place (length last + known) (last ++ left)
 
@@ -255,6 +256,7 @@ module _ {S Q P W : Type 0} (remaining : S → Option (List ℕ)) (rules : ReadR
     pub knows : before < handed → handed ≡ length out
         → KnowsBehind g p.place p.taken.log.fills.consumed q.taken.log.fills.consumed (take handed out) after t.block.bytes
     pub idle : (IsDone g p.place ⊎ (length out ≡ 0)) → (handed ≡ 0) × (t ≡ s) × (q ≡ p) × (after ≡ before)
+    pub full : (handed ≡ length out) ⊎ (after ≡ 0)
     pub all : (handed ≡ length out) ⊎ NoneShown q.place t.block.bytes
 
   -- handing payload out into a slice, which is left so: no less than can be, and what a look told stays known. None comes into

@@ -1,5 +1,5 @@
 -- What contracts see of a reader of a body, and what its calls promise.
-use Rattle.std.specs.Prelude.{◌≡◌, ℕ, zero, suc, ◌+◌, ◌-◌, ◌^◌, ◌<◌, ◌≤◌, ◌⊎◌, List, [], ◌++◌, length, min, take, Bool, MatchBool, Option, Result, Ok, Err, IfOk, MatchResult}
+use Rattle.std.specs.Prelude.{◌≡◌, ℕ, zero, suc, ◌+◌, ◌-◌, ◌^◌, ◌<◌, ◌≤◌, ◌⊎◌, List, [], ◌++◌, length, min, take, Bool, true, false, MatchBool, Option, Result, Ok, Err, IfOk, MatchResult}
 use Rattle.std.specs.Borrow.{Bor}
 use Rattle.std.specs.IoError.{error_kind}
 use Rattle.std.specs.declared.io.Error.{Error}
@@ -175,28 +175,39 @@ module _ {S Q C P W : Type 0} (remaining : S → Option (List ℕ)) (rules : Rea
     pub pieces : InPieces s t
     pub asked : AskedWhere (λ bytes. (dropped : List ℕ) × LeadsOpen g s.place dropped bytes) (unbuffered s.reader)
         (unbuffered t.reader)
-    pub ended : TookWholeBody g s → t.reader ≡ s.reader
+    pub ended : TookWholeBody g s → t ≡ s
     pub whole : IsBodyReader g t
 
-  -- why no more payload was collected, of which so much is there: none comes; or some is buffered, with which it would be more
-  -- than so many bytes, or it would fit and memory for it was refused
-  abbrev pub NotCollected : ℕ → BodyState S Q C P → List ℕ → CollectError W → BodyState S Q C P → Type 0
-  NotCollected most s all (collect.Body why) t = NoPayload g s why t
-  NotCollected most s all collect.TooLong t = EachGave s.reader t.reader × (0 < t.known) × (most < length all + t.known)
-  NotCollected most s all collect.Memory t = EachGave s.reader t.reader × (0 < t.known) × (length all + t.known ≤ most)
+  -- the stream is asked only where nothing was settled, and the payload that came lets it
+  abbrev pub AsksWhile : (List ℕ → Type 0) → BodyState S Q C P → BodyState S Q C P → Type 0
+  AsksWhile Lets s t = AskedWhere (λ bytes. (came : List ℕ) × LeadsOpen g s.place came bytes × Lets came)
+      (unbuffered s.reader) (unbuffered t.reader)
 
-  -- the rest of the body was taken, and its payload appended, or why not: of no more bytes than fit so many. The stream is asked
-  -- only where nothing was settled, and no piece is cut. Once the body ended nothing is done
-  pub record Collects (most : ℕ) (s : BodyState S Q C P) (before : List ℕ) (answer : Result (Unit {0}) (CollectError W))
-      (t : BodyState S Q C P) (after : List ℕ) : Type 0 where
+  -- how it ends that payload is collected, of which so much is there: the body ended; or none comes; what is there says that no
+  -- more is wanted; or some is buffered, with which it would be more than so many bytes, or it would fit and memory for it was
+  -- refused
+  abbrev pub CollectEnds : ℕ → (List ℕ → Bool → Type 0) → BodyState S Q C P → List ℕ → Result (Unit {0}) (CollectError W)
+      → BodyState S Q C P → Type 0
+  CollectEnds most Says s all (Ok _) t = EachGave s.reader t.reader × TookWholeBody g t × Says all true
+  CollectEnds most Says s all (Err (collect.Body why)) t = NoPayload g s why t
+  CollectEnds most Says s all (Err collect.Unwanted) t = EachGave s.reader t.reader × Says all false
+  CollectEnds most Says s all (Err collect.TooLong) t =
+      EachGave s.reader t.reader × (0 < t.known) × (most < length all + t.known)
+  CollectEnds most Says s all (Err collect.Memory) t =
+      EachGave s.reader t.reader × (0 < t.known) × (length all + t.known ≤ most)
+
+  -- the rest of the body was taken, and its payload appended, or why not: of no more bytes than fit so many, and while what is
+  -- there says that more is wanted. The stream is asked only where nothing was settled, and no piece is cut. Once the body ended
+  -- nothing is done
+  pub record Collects (most : ℕ) (Says : List ℕ → Bool → Type 0) (s : BodyState S Q C P) (before : List ℕ)
+      (answer : Result (Unit {0}) (CollectError W)) (t : BodyState S Q C P) (after : List ℕ) : Type 0 where
     pub payload : List ℕ
     pub went : BodyWent s payload t
     pub collected : after ≡ before ++ payload
     pub few : 0 < length payload → length after ≤ most
     pub pieces : InPieces s t
-    pub asked : AskedWhere (λ bytes. (dropped : List ℕ) × LeadsOpen g s.place dropped bytes) (unbuffered s.reader)
-        (unbuffered t.reader)
-    pub answers : MatchResult answer (λ _. EachGave s.reader t.reader × TookWholeBody g t) (λ e. NotCollected most s after e t)
+    pub asked : AsksWhile (λ came. Says (before ++ came) true) s t
+    pub ends : CollectEnds most Says s after answer t
     pub ended : TookWholeBody g s → t ≡ s
     pub whole : IsBodyReader g t
 
@@ -209,6 +220,7 @@ module _ {S Q C P W : Type 0} (remaining : S → Option (List ℕ)) (rules : Rea
     pub went : BodyWent s (take handed out) t
     pub told : t.reader.log ≡ s.reader.log
     pub bound : handed ≤ length out
+    pub full : (handed ≡ length out) ⊎ (t.known ≡ 0)
     pub all : (handed ≡ length out) ⊎ (TookWholeBody g t ⊎ (EndsEarly g t ⊎ ((why : W) × Breaks g why t)))
     pub left : handed ≤ s.known → t.known ≡ s.known - handed
     pub consumed : 0 < length out → length out ≤ s.known → ReaderConsumes rules (length out) s.reader t.reader

@@ -6,7 +6,7 @@ use Rattle.body_reader.specs.declared.coding.Look.TheVariants as look
 use Rattle.body_reader.specs.declared.by_byte.Turn.{Turn}
 use Rattle.body_reader.specs.declared.by_byte.Turn.TheVariants.{Payload, Passed, Wrong}
 use Rattle.body_reader.specs.Coding.{Agree, Carries, IsDone, IsLawful, Leads, Looks}
-use Rattle.body_reader.specs.CodingLaws.{IsOpenBelow-one, Leads-joins, Leads-none, overlaps}
+use Rattle.body_reader.specs.CodingLaws.{IsOpenBelow-one, Leads-joins, Leads-none, begins_other}
 use Rattle.body_reader.specs.ByByte.{AreLawful, CompletesByTurns, IsWrongTurn, LeadsByPayload, NoPayloadNext, Ran, TurnRules, by_byte}
 
 module _ {P W : Type 0} (t : TurnRules P W) where
@@ -137,16 +137,6 @@ module _ {P W : Type 0} (t : TurnRules P W) where
         ran_most bytes l.1 r n m (subst (λ j. LeadsByPayload t j (take n bytes) r) same k.3) s (omega (arith, within)) q l.3,
       )
 
-  prefix_keeps : (p : P) (a b c d : List ℕ) (r : P) → LeadsByPayload t p a r → length b ≤ length a → b ++ c ≡ a ++ d
-      → (q : P) × LeadsByPayload t p b q
-  prefix_keeps p a b c d r k few same = elim (overlaps b c a d same) [
-    | inl found ↦ let parts = keeps_split p b found.0 r (subst (λ l. LeadsByPayload t p l r) found.1 k) in (parts.0, parts.1)
-    | inr found ↦
-        let none : found.0 ≡ [] =
-        nil_from_length found.0 (omega (arith, few, ap length found.1, length-append a found.0)) in
-        (r, subst (λ l. LeadsByPayload t p l r) (sym (found.1 ∙ ap (λ l. a ++ l) none ∙ append-nil a)) k)
-  ]
-
   -- nothing is wrong where the next byte isn't
   right_turn : (p : P) (shown : List ℕ) → (length shown == 0) ≡ false → ((why : W) → t.turn p (slice_index shown 0) ≢ Wrong why)
       → (why : W) → ¬ IsWrongTurn t p shown why
@@ -160,9 +150,11 @@ module _ {P W : Type 0} (t : TurnRules P W) where
       some = ran_some p shown n r q more open' is ran;
       goes_on = not_done p open';
       carries = λ bytes follow later few same.
-          prefix_keeps p (take n shown) bytes follow (drop n shown ++ later) r ran.keeps
+          let front = begins_other bytes follow (take n shown) (drop n shown ++ later)
           (omega (arith, few, length-take-le n shown ran.within))
-          (same ∙ ap (λ l. l ++ later) (sym (take-append-drop n shown)) ∙ append_assoc (take n shown) (drop n shown) later);
+          (same ∙ ap (λ l. l ++ later) (sym (take-append-drop n shown)) ∙ append_assoc (take n shown) (drop n shown) later) in
+          let parts = keeps_split p bytes front.0 r (subst (λ l. LeadsByPayload t p l r) front.1 ran.keeps) in
+          (parts.0, parts.1);
     },
     omega arith,
     inr (λ m within c.

@@ -1,21 +1,25 @@
 -- Laws of places: traces of bytes join, and what is wrong completes no body.
 use Rattle.std.proofs.Common.{◌≡◌, ◌⊎◌, ℕ, ◌<◌, ◌≤◌, Bool, true, false, if◌then◌else◌, List, [], ◌∷◌, ◌++◌, length, min, arith, inl, inr, sym, ap, subst, ◌∙◌, refl, append_assoc, append-nil, length-append}
+use Rattle.std.proofs.lemmas.Bool.{cases_lt}
 use Rattle.body_reader.specs.declared.coding.Look.{Look}
 use Rattle.body_reader.specs.declared.coding.Look.TheVariants.{Payload, Passed, More, Wrong, Ended}
 use Rattle.body_reader.specs.Coding.{Agree, AskedFor, Grammar, IsBody, IsDone, IsLawful, IsOpen, IsOpenBelow, Leads, LeadsOpen, Looks, heeded}
 
--- of two texts that begin the same bytes one begins the other
+-- of two texts that begin the same bytes the shorter begins the other
+pub begins_other : (a x b y : List ℕ) → length a ≤ length b → a ++ x ≡ b ++ y → (m : List ℕ) × (b ≡ a ++ m) × (x ≡ m ++ y)
+begins_other [] x b y few same = (b, refl, same)
+begins_other (h ∷ a) x [] y few same = absurd (omega (arith, few))
+begins_other (h ∷ a) x (k ∷ b) y few same =
+    let head : h ≡ k = cc in
+    let found = begins_other a x b y (omega (arith, few)) (cc) in
+    (found.0, ap (λ l. k ∷ l) found.1 ∙ ap (λ c. c ∷ (a ++ found.0)) (sym head), found.2)
+
 pub overlaps : (a x b y : List ℕ) → a ++ x ≡ b ++ y
     → ((m : List ℕ) × (b ≡ a ++ m) × (x ≡ m ++ y)) ⊎ ((m : List ℕ) × (a ≡ b ++ m) × (m ++ x ≡ y))
-overlaps [] x b y same = inl (b, refl, same)
-overlaps (h ∷ a) x [] y same = inr (h ∷ a, refl, same)
-overlaps (h ∷ a) x (k ∷ b) y same =
-    let head : h ≡ k = cc in
-    let rest : a ++ x ≡ b ++ y = cc in
-    elim (overlaps a x b y rest) [
-      | inl found ↦ inl (found.0, ap (λ l. k ∷ l) found.1 ∙ ap (λ c. c ∷ (a ++ found.0)) (sym head), found.2)
-      | inr found ↦ inr (found.0, ap (λ l. h ∷ l) found.1 ∙ ap (λ c. c ∷ (b ++ found.0)) head, found.2)
-    ]
+overlaps a x b y same = elim (cases_lt (length b) (length a)) [
+  | inl more ↦ let found = begins_other b y a x (omega (arith, more)) (sym same) in inr (found.0, found.1, sym found.2)
+  | inr few ↦ inl (begins_other a x b y (omega (arith, few)) same)
+]
 
 pub Agree-less : (a more b : List ℕ) → Agree (a ++ more) b → Agree a b
 Agree-less a more b agree = (more ++ agree.0, agree.1, sym (append_assoc a more agree.0) ∙ agree.2)
@@ -254,19 +258,22 @@ module _ {P W : Type 0} (g : Grammar P W) where
   looks_done p shown Ended done looks = refl
 
   -- where something is wrong a look says what, also where more is shown
-  looks_wrong : IsLawful g → (p : P) (shown : List ℕ) (why : W) (l : Look P W) → g.is_place p → g.wrong p shown why
-      → Looks g p shown l → l ≡ Wrong why
-  looks_wrong lawful p shown why (Payload n) place wrong looks = absurd (looks.3 why wrong)
-  looks_wrong lawful p shown why (Passed n q) place wrong looks = absurd (looks.5 why wrong)
-  looks_wrong lawful p shown why (More n) place wrong looks =
-      let o = IsOpenBelow-open p n shown looks.0 in
-      absurd (lawful.never p shown why (shown ++ o.behind) o.payload place wrong o.completes
-      (o.behind, [], sym (append-nil (shown ++ o.behind))))
-  looks_wrong lawful p shown why (Wrong other) place wrong looks = ap Wrong (lawful.reason p shown other why place looks.0 wrong)
-  looks_wrong lawful p shown why Ended place wrong looks =
-      absurd (lawful.never p shown why [] [] place wrong looks (Agree-nothing shown))
-
   pub stays_wrong : IsLawful g → (p : P) (shown more : List ℕ) (why : W) (l : Look P W) → g.is_place p → g.wrong p shown why
       → Looks g p (shown ++ more) l → l ≡ Wrong why
-  stays_wrong lawful p shown more why l place wrong looks =
-      looks_wrong lawful p (shown ++ more) why l place (lawful.stays p shown more why place wrong) looks
+  stays_wrong lawful p shown more why l place before = told l
+    where
+      all : List ℕ
+      all = shown ++ more
+
+      wrong : g.wrong p all why
+      wrong = lawful.stays p shown more why place before
+
+      told : (l : Look P W) → Looks g p all l → l ≡ Wrong why
+      told (Payload n) looks = absurd (looks.3 why wrong)
+      told (Passed n q) looks = absurd (looks.5 why wrong)
+      told (More n) looks =
+          let o = IsOpenBelow-open p n all looks.0 in
+          absurd (lawful.never p all why (all ++ o.behind) o.payload place wrong o.completes
+          (o.behind, [], sym (append-nil (all ++ o.behind))))
+      told (Wrong other) looks = ap Wrong (lawful.reason p all other why place looks.0 wrong)
+      told Ended looks = absurd (lawful.never p all why [] [] place wrong looks (Agree-nothing all))

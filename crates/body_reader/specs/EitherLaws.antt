@@ -1,129 +1,105 @@
 -- Laws of bodies of one of two codings.
-use Rattle.std.proofs.Common.{◌≡◌, ℕ, ◌≤◌, List, [], ◌++◌, take, drop, sym, ap, ◌∙◌, arith, refl}
+use Rattle.std.proofs.Common.{◌≡◌, ℕ, ◌≤◌, List, [], ◌++◌, take, drop, IsSomeAnd, Option, None, Some, sym, ap, subst, ◌∙◌, arith, refl}
+use Rattle.std.specs.Option.{option_map_or}
 use Rattle.body_reader.specs.declared.coding.Look.{Look}
 use Rattle.body_reader.specs.declared.either.Either.{Either}
 use Rattle.body_reader.specs.declared.either.Either.TheVariants as which
 use Rattle.body_reader.specs.declared.either.Side.{Side}
 use Rattle.body_reader.specs.declared.either.Side.TheVariants.{First, Second}
 use Rattle.body_reader.specs.AlikeLaws.{Alike, alike_looks}
-use Rattle.body_reader.specs.Coding.{Agree, Carries, Grammar, IsLawful, Looks, heeded, look_as}
-use Rattle.body_reader.specs.Either.{of_either, of_first, of_second, other_way}
+use Rattle.body_reader.specs.Coding.{Grammar, IsLawful, Looks, heeded, look_as}
+use Rattle.body_reader.specs.Either.{first_of, of_either, on_side, second_of}
 
-module _ {P V : Type 0} (Q W : Type 0) (g : Grammar P V) where
-  first_named : (p : P) (bytes : List ℕ) (why : Side V W) → (of_first {Q = Q} {W = W} g).wrong (First p) bytes why
-      → (v : V) × g.wrong p bytes v
-  first_named p bytes (First why) wrong = (why, wrong)
-  first_named p bytes (Second why) wrong = absurd wrong
+-- what there is, of which something holds
+found : {T : Type 0} (o : Option T) (Is : T → Type 0) → IsSomeAnd o Is → (x : T) × (o ≡ Some x) × Is x
+found None Is is = absurd is
+found (Some x) Is is = (x, refl, is)
 
-  first_alike : (p : P) (shown : List ℕ) → Alike g (of_first {Q = Q} {W = W} g) First First (First p) p shown
-  first_alike p shown = record {
-    there = λ rest payload agree c. c;
-    back = λ rest payload agree c. c;
-    carried = λ bytes follow more same c. c;
-    clear = λ bytes follow c. c;
-    between = refl;
-    sure = refl;
-    named = λ bytes why wrong. wrong;
-    wrong = first_named p;
+onto : {T : Type 0} {o : Option T} {x : T} → o ≡ Some x → (Is : T → Type 0) → Is x → IsSomeAnd o Is
+onto same Is = subst (λ o. IsSomeAnd o Is) (sym same)
+
+from : {T : Type 0} {o : Option T} {x : T} → o ≡ Some x → (Is : T → Type 0) → IsSomeAnd o Is → Is x
+from same Is = subst (λ o. IsSomeAnd o Is) same
+
+module _ {P R V X : Type 0} (at : P → R) (place_of : R → Option P) (name : V → X) (name_of : X → Option V)
+    (places : (p : P) → place_of (at p) ≡ Some p) (names : (v : V) → name_of (name v) ≡ Some v) (g : Grammar P V) where
+  abbrev h : Grammar R X
+  h = on_side at place_of name_of g
+
+  side_alike : (p : P) (shown : List ℕ) → Alike g h at name (at p) p shown
+  side_alike p shown = record {
+    there = λ rest payload agree. onto (places p) (λ q. g.completes q rest payload);
+    back = λ rest payload agree. from (places p) (λ q. g.completes q rest payload);
+    carried = λ bytes follow more same. onto (places p) (λ q. g.carries q bytes follow);
+    clear = λ bytes follow. from (places p) (λ q. g.carries q bytes follow);
+    between = ap (λ o. option_map_or g.between o 0) (places p);
+    sure = ap (λ o. option_map_or g.sure o 0) (places p);
+    named = λ bytes why wrong. onto (places p) (λ q. IsSomeAnd (name_of (name why)) (g.wrong q bytes))
+        (onto (names why) (g.wrong p bytes) wrong);
+    wrong = λ bytes why wrong.
+        let v = found (name_of why) (g.wrong p bytes) (from (places p) (λ q. IsSomeAnd (name_of why) (g.wrong q bytes)) wrong) in
+        (v.0, v.2);
   }
 
-  pub first_looks : (p : P) (shown : List ℕ) (l : Look P V) → Looks g p shown l
-      → Looks (of_first {Q = Q} {W = W} g) (First p) shown (look_as First First l)
-  first_looks p shown = alike_looks g (of_first {Q = Q} {W = W} g) First First (omega arith) (λ q is. is) first_alike
-      (λ follow. refl) (First p) p shown
-      (first_alike p shown) (λ n. first_alike p (take n shown ++ heeded g (drop n shown)))
+  pub side_looks : (p : P) (shown : List ℕ) (l : Look P V) → Looks g p shown l → Looks h (at p) shown (look_as at name l)
+  side_looks p shown = alike_looks g h at name (omega arith) (λ q. onto (places q) g.is_place) side_alike (λ follow. refl) (at p)
+      p shown (side_alike p shown) (λ n. side_alike p (take n shown ++ heeded g (drop n shown)))
 
-  first_never : IsLawful g → (place : Side P Q) (shown : List ℕ) (why : Side V W) (rest payload : List ℕ)
-      → (of_first {Q = Q} {W = W} g).is_place place → (of_first {Q = Q} {W = W} g).wrong place shown why
-      → (of_first {Q = Q} {W = W} g).completes place rest payload → ¬ Agree shown rest
-  first_never lawful (First p) shown why rest payload is wrong c =
-      let named = first_named p shown why wrong in lawful.never p shown named.0 rest payload is named.1 c
-  first_never lawful (Second q) shown why rest payload is wrong c = absurd is
+  -- each reason has one name
+  module _ (named : (x : X) (v : V) → name_of x ≡ Some v → x ≡ name v) (lawful : IsLawful g) where
+    bad : {o : Option P} {p : P} → o ≡ Some p → (shown : List ℕ) (why : X)
+        → IsSomeAnd o (λ q. IsSomeAnd (name_of why) (g.wrong q shown)) → (v : V) × (name_of why ≡ Some v) × g.wrong p shown v
+    bad {p = p} is shown why wrong =
+        found (name_of why) (g.wrong p shown) (from is (λ q. IsSomeAnd (name_of why) (g.wrong q shown)) wrong)
 
-  first_alive : IsLawful g → (place : Side P Q) → (of_first {Q = Q} {W = W} g).is_place place
-      → (rest payload : List ℕ) × (of_first {Q = Q} {W = W} g).completes place rest payload
-  first_alive lawful (First p) is = lawful.alive p is
-  first_alive lawful (Second q) is = absurd is
+    side_lawful : IsLawful h
+    side_lawful = record {
+      some = lawful.some;
+      begins = onto (places g.first) g.is_place lawful.begins;
+      alive = λ r is.
+          let p = found (place_of r) g.is_place is in
+          let end = lawful.alive p.0 p.2 in
+          (end.0, end.1, onto p.1 (λ q. g.completes q end.0 end.1) end.2);
+      nothing = λ r payload is c.
+          let p = found (place_of r) g.is_place is in
+          lawful.nothing p.0 payload p.2 (from p.1 (λ q. g.completes q [] payload) c);
+      never = λ r shown why rest payload is wrong c.
+          let p = found (place_of r) g.is_place is in
+          let v = bad p.1 shown why wrong in
+          lawful.never p.0 shown v.0 rest payload p.2 v.2 (from p.1 (λ q. g.completes q rest payload) c);
+      reason = λ r shown why other is wrong so.
+          let p = found (place_of r) g.is_place is in
+          let v = bad p.1 shown why wrong in
+          let w = bad p.1 shown other so in
+          named why v.0 v.1 ∙ ap name (lawful.reason p.0 shown v.0 w.0 p.2 v.2 w.2) ∙ sym (named other w.0 w.1);
+      stays = λ r shown more why is wrong.
+          let p = found (place_of r) g.is_place is in
+          let v = bad p.1 shown why wrong in
+          onto p.1 (λ q. IsSomeAnd (name_of why) (g.wrong q (shown ++ more)))
+          (onto v.1 (g.wrong p.0 (shown ++ more)) (lawful.stays p.0 shown more v.0 p.2 v.2));
+      sure = λ r n is c.
+          let p = found (place_of r) g.is_place is in
+          subst (λ o. n ≤ option_map_or g.sure o 0) (sym p.1) (lawful.sure p.0 n p.2 (record {
+            some = c.some;
+            goes_on = λ done. c.goes_on (onto p.1 (λ q. g.completes q [] []) done);
+            carries = λ bytes follow more few same.
+                from p.1 (λ q. g.carries q bytes follow) (c.carries bytes follow more few same);
+          }));
+      one = λ a b x y xs ys c d. lawful.one a b x y xs ys (from (places g.first) (λ q. g.completes q a x) c)
+          (from (places g.first) (λ q. g.completes q b y) d);
+    }
 
-  first_reason : IsLawful g → (place : Side P Q) (shown : List ℕ) (why other : Side V W)
-      → (of_first {Q = Q} {W = W} g).is_place place
-      → (of_first {Q = Q} {W = W} g).wrong place shown why → (of_first {Q = Q} {W = W} g).wrong place shown other → why ≡ other
-  first_reason lawful (First p) shown (First why) (First other) is wrong so =
-      ap First (lawful.reason p shown why other is wrong so)
-  first_reason lawful (First p) shown (First why) (Second other) is wrong so = absurd so
-  first_reason lawful (First p) shown (Second why) other is wrong so = absurd wrong
-  first_reason lawful (Second q) shown why other is wrong so = absurd is
+first_is : {P Q : Type 0} (r : Side P Q) (p : P) → first_of r ≡ Some p → r ≡ First p
+first_is (First q) p is = cc
+first_is (Second q) p is = cc
 
-  first_stays : IsLawful g → (place : Side P Q) (shown more : List ℕ) (why : Side V W)
-      → (of_first {Q = Q} {W = W} g).is_place place
-      → (of_first {Q = Q} {W = W} g).wrong place shown why → (of_first {Q = Q} {W = W} g).wrong place (shown ++ more) why
-  first_stays lawful (First p) shown more (First why) is wrong = lawful.stays p shown more why is wrong
-  first_stays lawful (First p) shown more (Second why) is wrong = absurd wrong
-  first_stays lawful (Second q) shown more why is wrong = absurd is
-
-  first_nothing : IsLawful g → (place : Side P Q) (payload : List ℕ) → (of_first {Q = Q} {W = W} g).is_place place
-      → (of_first {Q = Q} {W = W} g).completes place [] payload → payload ≡ []
-  first_nothing lawful (First p) payload is c = lawful.nothing p payload is c
-  first_nothing lawful (Second q) payload is c = absurd is
-
-  first_sure : IsLawful g → (place : Side P Q) (n : ℕ) → (of_first {Q = Q} {W = W} g).is_place place
-      → Carries (of_first {Q = Q} {W = W} g) place n [] → n ≤ (of_first {Q = Q} {W = W} g).sure place
-  first_sure lawful (First p) n is c =
-      lawful.sure p n is (record { some = c.some; goes_on = c.goes_on; carries = c.carries })
-  first_sure lawful (Second q) n is c = absurd is
-
-  first_lawful : IsLawful g → IsLawful (of_first {Q = Q} {W = W} g)
-  first_lawful lawful = record {
-    some = lawful.some;
-    begins = lawful.begins;
-    alive = first_alive lawful;
-    nothing = first_nothing lawful;
-    never = first_never lawful;
-    reason = first_reason lawful;
-    stays = first_stays lawful;
-    sure = first_sure lawful;
-    one = lawful.one;
-  }
-
-module _ {Q W : Type 0} (P V : Type 0) (g : Grammar Q W) where
-  second_alike : (q : Q) (shown : List ℕ) → Alike g (of_second {P = P} {V = V} g) Second Second (Second q) q shown
-  second_alike q shown = record {
-    there = λ rest payload agree c. c;
-    back = λ rest payload agree c. c;
-    carried = λ bytes follow more same c. c;
-    clear = λ bytes follow c. c;
-    between = refl;
-    sure = refl;
-    named = λ bytes why wrong. wrong;
-    wrong = λ bytes why. first_named P V g q bytes (other_way why);
-  }
-
-  pub second_looks : (q : Q) (shown : List ℕ) (l : Look Q W) → Looks g q shown l
-      → Looks (of_second {P = P} {V = V} g) (Second q) shown (look_as Second Second l)
-  second_looks q shown = alike_looks g (of_second {P = P} {V = V} g) Second Second (omega arith) (λ q is. is) second_alike
-      (λ follow. refl) (Second q) q shown
-      (second_alike q shown) (λ n. second_alike q (take n shown ++ heeded g (drop n shown)))
-
-  back_again : {A B : Type 0} (x : Side A B) → other_way (other_way x) ≡ x
-  back_again (First a) = refl
-  back_again (Second b) = refl
-
-  second_lawful : IsLawful g → IsLawful (of_second {P = P} {V = V} g)
-  second_lawful lawful = let it = first_lawful P V g lawful in record {
-    some = it.some;
-    begins = it.begins;
-    alive = λ place. it.alive (other_way place);
-    nothing = λ place. it.nothing (other_way place);
-    never = λ place shown why. it.never (other_way place) shown (other_way why);
-    reason = λ place shown why other is wrong so. sym (back_again why)
-        ∙ ap other_way (it.reason (other_way place) shown (other_way why) (other_way other) is wrong so) ∙ back_again other;
-    stays = λ place shown more why. it.stays (other_way place) shown more (other_way why);
-    sure = λ place n is c.
-        it.sure (other_way place) n is (record { some = c.some; goes_on = c.goes_on; carries = c.carries });
-    one = it.one;
-  }
+second_is : {P Q : Type 0} (r : Side P Q) (q : Q) → second_of r ≡ Some q → r ≡ Second q
+second_is (First p) q is = cc
+second_is (Second p) q is = cc
 
 pub either_lawful : {P Q V W A B : Type 0} (g : A → Grammar P V) (h : B → Grammar Q W) → ((a : A) → IsLawful (g a))
     → ((b : B) → IsLawful (h b)) → (c : Either A B) → IsLawful (of_either g h c)
-either_lawful g h first second (which.First a) = first_lawful _ _ (g a) (first a)
-either_lawful g h first second (which.Second b) = second_lawful _ _ (h b) (second b)
+either_lawful g h first second (which.First a) =
+    side_lawful First first_of First first_of (λ p. refl) (λ v. refl) (g a) first_is (first a)
+either_lawful g h first second (which.Second b) =
+    side_lawful Second second_of Second second_of (λ q. refl) (λ w. refl) (h b) second_is (second b)

@@ -7,7 +7,7 @@ use Rattle.body_reader.specs.declared.until.Part.{Part}
 use Rattle.body_reader.specs.declared.until.Part.TheVariants.{Inside}
 use Rattle.body_reader.specs.AlikeLaws.{Alike, alike_leads, alike_looks}
 use Rattle.body_reader.specs.Coding.{Agree, Carries, IsDone, IsLawful, IsOpen, IsOpenBelow, Leads, Looks, PassesOver, look_as}
-use Rattle.body_reader.specs.CodingLaws.{overlaps}
+use Rattle.body_reader.specs.CodingLaws.{begins_other, overlaps}
 use Rattle.body_reader.specs.Until.{EndsPart, IsClear, until}
 use Rattle.body_reader.specs.UntilLaws.{clear_leads, clear_still, clear_unsure, part_alive, until_lawful}
 use Rattle.body_reader.specs.declared.just_or_until.JustOr.{JustOr}
@@ -171,10 +171,8 @@ module _ (just needle : List ℕ) (room : ℕ) (some : 0 < length just) (shorter
   -- what begins with just the bytes is no longer body
   not_longer : (a b y xs ys : List ℕ) → a ≡ just → ((more : List ℕ) → ¬ (b ≡ just ++ more)) → length just < length b
       → ¬ (a ++ xs ≡ b ++ ys)
-  not_longer a b y xs ys is not long' same = elim (overlaps just xs b ys (ap (λ l. l ++ xs) (sym is) ∙ same)) [
-    | inl found ↦ not found.0 found.1
-    | inr found ↦ omega (arith, long', ap length found.1, length-append b found.0)
-  ]
+  not_longer a b y xs ys is not long' same =
+      let found = begins_other just xs b ys (omega (arith, long')) (ap (λ l. l ++ xs) (sym is) ∙ same) in not found.0 found.1
 
   only_one : (a b x y xs ys : List ℕ) → EndsJust just needle at.Start a x → EndsJust just needle at.Start b y
       → a ++ xs ≡ b ++ ys → (a ≡ b) × (x ≡ y)

@@ -9,6 +9,7 @@ pub mod AskingLaws
 pub mod BetweenLaws
 pub mod BodyReader
 pub mod BodyReaderLaws
+pub mod Taking
 pub mod Given
 pub mod Either
 pub mod EitherLaws

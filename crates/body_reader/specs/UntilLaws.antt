@@ -1,15 +1,15 @@
 -- Laws of bodies that end at a delimiter.
-use Rattle.std.proofs.Common.{◌≡◌, ℕ, zero, suc, ◌+◌, ◌-◌, ◌<◌, ◌≤◌, List, [], ◌∷◌, ◌++◌, length, take, drop, inl, inr, sym, ap, refl, subst, ◌∙◌, arith, append_assoc, append-nil, length-append}
+use Rattle.std.proofs.Common.{◌≡◌, ℕ, ◌+◌, ◌-◌, ◌<◌, ◌≤◌, List, [], ◌∷◌, ◌++◌, length, take, drop, inl, inr, sym, ap, refl, subst, ◌∙◌, arith, append_assoc, append-nil, length-append}
 use Rattle.std.proofs.Math.Seq.{take-append-add}
 use Rattle.std.proofs.lemmas.Bool.{cases_lt}
-use Rattle.std.proofs.lemmas.List.{length-take-le, nil_from_length, take-append-drop, take_at}
+use Rattle.std.proofs.lemmas.List.{append_cancel_left, length-take-le, nil_from_length, take-append-drop, take-append-le, take_at}
 use Rattle.memchr.specs.Find.{Nowhere, OccursAt}
-use Rattle.buffer_redux.specs.OccursLaws.{OccursAt-behind, OccursAt-fewer, OccursAt-front, OccursAt-last, OccursAt-later, OccursAt-more, OccursAt-self}
+use Rattle.buffer_redux.specs.OccursLaws.{OccursAt-behind, OccursAt-fewer, OccursAt-front, OccursAt-last, OccursAt-later, OccursAt-more, OccursAt-self, OccursAt-take}
 use Rattle.body_reader.specs.declared.coding.Look.TheVariants as look
 use Rattle.body_reader.specs.declared.until.Part.{Part}
 use Rattle.body_reader.specs.declared.until.Part.TheVariants.{Inside, Behind}
 use Rattle.body_reader.specs.Coding.{Agree, Carries, IsAllPayload, IsDone, IsLawful, IsOpen, IsOpenBelow, Leads, Looks, PassesOver}
-use Rattle.body_reader.specs.CodingLaws.{Agree-nothing, overlaps}
+use Rattle.body_reader.specs.CodingLaws.{Agree-nothing, begins_other}
 use Rattle.body_reader.specs.Until.{EndsPart, IsClear, MayBegin, until}
 
 module _ (needle : List ℕ) (some : 0 < length needle) where
@@ -37,22 +37,15 @@ module _ (needle : List ℕ) (some : 0 < length needle) where
   clear_back : (bytes follow rest whole : List ℕ) → IsClear needle Inside bytes follow → Agree follow rest
       → EndsPart needle Inside (bytes ++ rest) whole
       → (payload : List ℕ) × (whole ≡ bytes ++ payload) × EndsPart needle Inside rest payload
-  clear_back bytes follow rest whole clear agree c = elim (overlaps bytes rest whole needle c.0) [
-    | inl found ↦ (found.0, found.1, (found.2, later_none bytes rest whole found.0 c.1 found.1))
-    | inr found ↦
-        let occurs : OccursAt (bytes ++ rest) needle (length whole) =
-        subst (λ l. OccursAt l needle (length whole)) (sym c.0) (OccursAt-last whole needle) in
-        elim (cases_lt (length whole) (length bytes)) [
-          | inl short ↦ absurd (not_there bytes follow rest clear agree (length whole) short occurs)
-          | inr long ↦
-              let none : found.0 ≡ [] =
-              nil_from_length found.0 (omega (arith, long, ap length found.1, length-append whole found.0)) in
-              let same : whole ≡ bytes ++ [] =
-              sym (append-nil whole) ∙ ap (λ l. whole ++ l) (sym none) ∙ sym found.1 ∙ sym (append-nil bytes) in
-              let left : rest ≡ [] ++ needle = ap (λ l. l ++ rest) (sym none) ∙ found.2 in
-              ([], same, (left, later_none bytes rest whole [] c.1 same))
-        ]
-  ]
+  clear_back bytes follow rest whole clear agree c =
+      let occurs : OccursAt (bytes ++ rest) needle (length whole) =
+      subst (λ l. OccursAt l needle (length whole)) (sym c.0) (OccursAt-last whole needle) in
+      let long : length bytes ≤ length whole = elim (cases_lt (length whole) (length bytes)) [
+        | inl short ↦ absurd (not_there bytes follow rest clear agree (length whole) short occurs)
+        | inr enough ↦ omega (arith, enough)
+      ] in
+      let found = begins_other bytes rest whole needle long c.0 in
+      (found.0, found.1, (found.2, later_none bytes rest whole found.0 c.1 found.1))
 
   -- payload leads on
   pub clear_leads : (place : Part) (bytes follow : List ℕ) → IsClear needle place bytes follow
@@ -151,23 +144,16 @@ module _ (needle : List ℕ) (some : 0 < length needle) where
   -- where it stands in more than is shown, what is shown from there on is its front
   front_of : (shown more : List ℕ) (k : ℕ) → OccursAt (shown ++ more) needle k → k ≤ length shown
       → length shown < k + length needle → (rest : List ℕ) × (needle ≡ drop k shown ++ rest)
-  front_of [] more zero occurs within short = (needle, refl)
-  front_of [] more (suc k) occurs within short = absurd (omega (arith, within))
-  front_of (x ∷ shown) more zero occurs within short =
-      let whole = x ∷ shown in
-      let more_than : length needle ≡ length whole + (length needle - length whole) = omega (arith, short) in (
-        take (length needle - length whole) more,
-        sym (OccursAt-front (whole ++ more) needle occurs) ∙ ap (λ n. take n (whole ++ more)) more_than
-            ∙ take-append-add whole more (length needle - length whole),
+  front_of shown more k occurs within short =
+      let left = (k + length needle) - length shown in
+      let all : length shown + left ≡ k + length needle = omega (arith, short) in (
+        take left more,
+        sym (append_cancel_left (take k shown) (drop k shown ++ take left more) needle
+            (sym (append_assoc (take k shown) (drop k shown) (take left more))
+            ∙ ap (λ l. l ++ take left more) (take-append-drop k shown) ∙ sym (take-append-add shown more left)
+            ∙ ap (λ n. take n (shown ++ more)) all ∙ OccursAt-take (shown ++ more) needle k occurs
+            ∙ ap (λ l. l ++ needle) (take-append-le k shown more within))),
       )
-  front_of (x ∷ shown) more (suc k) occurs within short =
-      front_of shown more k
-      (subst (OccursAt (shown ++ more) needle) (less k)
-      (OccursAt-behind (x ∷ []) (shown ++ more) needle (suc k) (omega arith) occurs))
-      (omega (arith, within)) (omega (arith, short))
-    where
-      less : (j : ℕ) → suc j - 1 ≡ j
-      less j = omega arith
 
   -- up to where it may begin
   pub looks_until : (shown : List ℕ) (at : ℕ) → 0 < at → ((k : ℕ) → ¬ OccursAt shown needle k) → MayBegin needle shown at

@@ -1,10 +1,11 @@
 -- How a head begins, its fields, and the parameters of a value.
-use Rattle.std.specs.Prelude.{ℕ, ◌+◌, ◌-◌, ◌==◌, ◌||◌, ◌&&◌, List, [], ◌∷◌, length, take, drop, Bool, false, not, if◌then◌else◌, nat_eq, Option, slice_index, slice_index_or, find, position, take_while}
+use Rattle.std.specs.Prelude.{ℕ, ◌+◌, ◌-◌, ◌==◌, ◌||◌, ◌&&◌, List, [], ◌∷◌, length, take, drop, Bool, true, false, IsTrue, not, if◌then◌else◌, nat_eq, Option, slice_index, slice_index_or, find, position, take_while}
 use Rattle.std.specs.Borrow.{Bor}
 use Rattle.std.specs.Char.{is_ascii_whitespace}
 use Rattle.std.specs.List.{filter_map, onto_first, prefix_len, starts_with, suffix_len}
 use Rattle.std.specs.Option.{option_map}
 use Rattle.std.specs.Str.{str_eq_ignore_ascii_case}
+use Rattle.memchr.specs.Find.{OccursAt}
 use Rattle.multipart.specs.declared.head.Place.{Place}
 use Rattle.multipart.specs.declared.head.Place.TheVariants.{Outside, Quoted, Escaped}
 
@@ -17,6 +18,14 @@ crlf = 13 ∷ 10 ∷ []
 -- with blanks or none, and then the end of a line, or nothing
 abbrev pub is_opening : List ℕ → Bool
 is_opening head = let rest = drop (prefix_len is_blank head) head in (length rest == 0) || starts_with nat_eq rest crlf
+
+-- a head is so: it begins so, and what ends a text, a boundary that begins a line, stands nowhere in it
+abbrev pub IsPartHead : List ℕ → List ℕ → Type 0
+IsPartHead boundary head = IsTrue (is_opening head) × ((k : ℕ) → ¬ OccursAt head boundary k)
+
+abbrev pub SaysHead : List ℕ → List ℕ → Bool → Type 0
+SaysHead boundary head true = IsPartHead boundary head
+SaysHead boundary head false = ¬ IsPartHead boundary head
 
 -- CR LF that no blank follows ends a line
 abbrev pub ends_line : List ℕ → Bool

@@ -1,19 +1,18 @@
 -- What contracts see of a reader of parts, and what its calls promise.
-use Rattle.std.specs.Prelude.{◌≡◌, ◌≢◌, ℕ, ◌+◌, ◌<◌, ◌≤◌, ◌⊎◌, List, [], ◌∷◌, ◌++◌, length, Bool, true, false, Option, Result, Ok, Err, MatchResult, IsTrue}
+use Rattle.std.specs.Prelude.{◌≡◌, ◌≢◌, ℕ, ◌+◌, ◌<◌, ◌≤◌, ◌⊎◌, List, [], ◌∷◌, ◌++◌, length, Bool, true, false, if◌then◌else◌, nat_le, Option, Result, Ok, Err}
 use Rattle.std.specs.IoError.{error_kind}
 use Rattle.std.specs.declared.io.Error.{Error}
 use Rattle.std.specs.declared.io.ErrorKind.TheVariants.{InvalidData, OutOfMemory, UnexpectedEof}
 use Rattle.buffer_redux.specs.Buffered.{Buffered}
 use Rattle.buffer_redux.specs.Policy.{ReadRules}
-use Rattle.buffer_redux.specs.Unbuffer.{unbuffered}
 use Rattle.body_reader.specs.declared.error.BodyError.{BodyError}
 use Rattle.body_reader.specs.declared.error.BodyError.TheVariants as why
+use Rattle.body_reader.specs.declared.error.CollectError.{CollectError}
+use Rattle.body_reader.specs.declared.error.CollectError.TheVariants as collect
 use Rattle.body_reader.specs.declared.just_or_until.JustOr.{JustOr}
 use Rattle.body_reader.specs.declared.just_or_until.JustOrUntil.{JustOrUntil}
-use Rattle.buffer_redux.specs.Asking.{AskedWhere}
-use Rattle.body_reader.specs.Between.{EachGave}
-use Rattle.body_reader.specs.BodyReader.{BodyState, BodyWent, Drains, FillsPayload, InPieces, IsBodyReader, NoPayload, TookWholeBody, begun, handed_of}
-use Rattle.body_reader.specs.Coding.{Grammar, IsBody, LeadsOpen}
+use Rattle.body_reader.specs.BodyReader.{BodyState, Collects, Drains, begun, handed_of}
+use Rattle.body_reader.specs.Coding.{Grammar, IsBody}
 use Rattle.body_reader.specs.JustOrUntil.{just_or_until}
 use Rattle.multipart.specs.declared.error.NewError.{NewError}
 use Rattle.multipart.specs.declared.error.NewError.TheVariants as new
@@ -22,7 +21,7 @@ use Rattle.multipart.specs.declared.error.PartError.TheVariants as part
 use Rattle.multipart.specs.declared.reader.Limits.{Limits}
 use Rattle.multipart.specs.declared.reader.Stand.{Stand}
 use Rattle.multipart.specs.declared.reader.Stand.TheVariants.{Preamble, Head, Part, Ended}
-use Rattle.multipart.specs.Head.{is_opening}
+use Rattle.multipart.specs.Head.{SaysHead}
 
 -- the section that is being read, of a text or a head; the coding of those that it takes turns with; the head that came last;
 -- where the reader stands; and how many parts began
@@ -97,10 +96,26 @@ PartBecomesIo part.Boundary e = error_kind e ≡ InvalidData
 PartBecomesIo part.LongHead e = error_kind e ≡ InvalidData
 PartBecomesIo part.ManyParts e = error_kind e ≡ InvalidData
 
--- a head ended: two hyphens end the body, and else a part begins
-abbrev pub EndsHead : {S Q : Type 0} → FormState S Q → Bool → FormState S Q → Type 0
-EndsHead s false t = (s.body.taken ≡ hyphens) × (t ≡ record s { stand = Ended })
-EndsHead s true t = (s.body.taken ≢ hyphens) × (t ≡ turned (record s { parts = s.parts + 1 }) Part)
+-- whether there may be no further part; and how many bytes a head may have, none behind as many parts as may be
+abbrev pub is_full : {S Q : Type 0} → FormState S Q → Bool
+is_full d = nat_le d.limits.parts d.parts
+
+abbrev pub head_most : {S Q : Type 0} → FormState S Q → ℕ
+head_most d = if is_full d then 0 else d.limits.head
+
+-- why no head was collected, as an error of the whole
+abbrev pub head_error : Bool → CollectError (Unit {0}) → PartError
+head_error full (collect.Body why) = part_error why
+head_error full collect.Unwanted = part.Boundary
+head_error full collect.TooLong = if full then part.ManyParts else part.LongHead
+head_error full collect.Memory = part.Memory
+
+-- a head ended: two hyphens end the body, and else a part begins, if there may be a further one
+abbrev pub EndsHead : {S Q : Type 0} → FormState S Q → Result Bool PartError → FormState S Q → Type 0
+EndsHead s (Ok false) t = (s.body.taken ≡ hyphens) × (t ≡ record s { stand = Ended })
+EndsHead s (Ok true) t =
+    (s.body.taken ≢ hyphens) × (s.parts < s.limits.parts) × (t ≡ turned (record s { parts = s.parts + 1 }) Part)
+EndsHead s (Err e) t = (s.body.taken ≢ hyphens) × (s.limits.parts ≤ s.parts) × (e ≡ part.ManyParts) × (t ≡ s)
 
 module _ {S Q : Type 0} (remaining : S → Option (List ℕ)) (rules : ReadRules Q) where
   -- the rest of the text was dropped, and a head begins behind its end; or why not, within the text
@@ -110,62 +125,16 @@ module _ {S Q : Type 0} (remaining : S → Option (List ℕ)) (rules : ReadRules
   LeavesText s (Err e) t = (w : BodyError (Unit {0})) × Drains remaining rules (codes s.body.coding) s.body (Err w) t.body
       × (e ≡ part_error w) × (t ≡ record s { body = t.body })
 
-  abbrev Body : Type 0
-  Body = BodyState S Q JustOrUntil JustOr
-
-  -- a head may go on behind these bytes: they settle nothing, and it begins as the line of a boundary ends, as far as it came
-  abbrev pub IsOpenHead : Body → List ℕ → List ℕ → Type 0
-  IsOpenHead s before bytes = (came : List ℕ) × LeadsOpen (codes s.coding) s.place came bytes
-      × IsTrue (is_opening (before ++ came))
-
-  -- why no more of a head was collected, of which so much is there: it begins otherwise; some is buffered, with which it would be
-  -- more than so many bytes, or it would fit and memory for it was refused; or as a reader of a body says
-  abbrev pub NoHead : ℕ → Body → List ℕ → PartError → Body → Type 0
-  NoHead most s all part.Boundary t = (¬ IsTrue (is_opening all)) × EachGave s.reader t.reader
-  NoHead most s all part.LongHead t = (0 < t.known) × (most < length all + t.known) × EachGave s.reader t.reader
-  NoHead most s all part.Memory t = (0 < t.known) × (length all + t.known ≤ most) × EachGave s.reader t.reader
-  NoHead most s all part.ManyParts t = ⊥
-  NoHead most s all e t = (w : BodyError (Unit {0})) × (e ≡ part_error w) × NoPayload (codes s.coding) s w t
-
-  -- a head was collected to its end, or why not: of no more bytes than fit so many, and no piece is cut. The stream is asked only
-  -- where the head may go on. Once it ended nothing is done
-  pub record CollectsHead (most : ℕ) (s : Body) (before : List ℕ) (answer : Result (Unit {0}) PartError) (t : Body)
-      (after : List ℕ) : Type 0 where
-    pub payload : List ℕ
-    pub went : BodyWent remaining rules (codes s.coding) s payload t
-    pub collected : after ≡ before ++ payload
-    pub few : 0 < length payload → length after ≤ most
-    pub pieces : InPieces remaining rules (codes s.coding) s t
-    pub asked : AskedWhere (IsOpenHead s before) (unbuffered s.reader) (unbuffered t.reader)
-    pub answers : MatchResult answer
-        (λ _. IsTrue (is_opening after) × EachGave s.reader t.reader × TookWholeBody (codes s.coding) t)
-        (λ e. NoHead most s after e t)
-    pub ended : TookWholeBody (codes s.coding) s → t ≡ s
-    pub whole : IsBodyReader (codes s.coding) t
-
-  -- a head that leads into a part, or to the end, or why not
-  abbrev pub PassesHead : FormState S Q → Result Bool PartError → FormState S Q → Type 0
-  PassesHead s (Ok more) t = (b : Body) × (head : List ℕ) × CollectsHead s.limits.head s.body s.head (Ok tt) b head
-      × EndsHead (record s { body = b; head = head }) more t
-  PassesHead s (Err e) t = CollectsHead s.limits.head s.body s.head (Err e) t.body t.head
-      × (t ≡ record s { body = t.body; head = t.head })
-
-  -- where there may be no further part: two hyphens end the body, and any other head is refused as soon as some of it is known,
-  -- or is empty. The stream is asked only where what is buffered settles nothing of a head
-  abbrev pub EndsAtLimit : FormState S Q → Result Bool PartError → FormState S Q → Type 0
-  EndsAtLimit s (Ok false) t = FillsPayload remaining rules (codes s.body.coding) s.body (Ok 0) t.body
-      × (t.body.taken ≡ hyphens) × (t ≡ record s { body = t.body; stand = Ended })
-  EndsAtLimit s (Ok true) t = ⊥
-  EndsAtLimit s (Err e) t = (t ≡ record s { body = t.body })
-      × (((known : ℕ) × FillsPayload remaining rules (codes s.body.coding) s.body (Ok known) t.body
-      × ((0 < known) ⊎ (t.body.taken ≢ hyphens)) × (e ≡ part.ManyParts))
-      ⊎ ((w : BodyError (Unit {0})) × FillsPayload remaining rules (codes s.body.coding) s.body (Err w) t.body
-      × (e ≡ part_error w)))
+  -- a head was collected to its end while it may go on so, or why not
+  abbrev pub CollectsHead : FormState S Q → Result (Unit {0}) (CollectError (Unit {0})) → FormState S Q → Type 0
+  CollectsHead s answer t = (t ≡ record s { body = t.body; head = t.head })
+      × Collects remaining rules (codes s.body.coding) (head_most s) (SaysHead s.other.until.delimiter) s.body s.head answer t.body t.head
 
   -- from a head on
   abbrev pub GoesOnFromHead : FormState S Q → Result Bool PartError → FormState S Q → Type 0
-  GoesOnFromHead s answer t = ((s.parts < s.limits.parts) × PassesHead s answer t)
-      ⊎ ((s.limits.parts ≤ s.parts) × EndsAtLimit s answer t)
+  GoesOnFromHead s answer t =
+      ((m : FormState S Q) × CollectsHead s (Ok tt) m × EndsHead m answer t)
+      ⊎ ((why : CollectError (Unit {0})) × CollectsHead s (Err why) t × (answer ≡ Err (head_error (is_full s) why)))
 
   -- from a text on: also what is left of it is passed
   abbrev pub PassesText : FormState S Q → Result Bool PartError → FormState S Q → Type 0

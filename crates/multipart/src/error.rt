@@ -13,7 +13,8 @@ pub enum PartError {
     Truncated,
     /// The stream failed.
     Io(io::Error),
-    /// A boundary goes on neither with two hyphens nor with blanks and the end of its line. Each further call says so.
+    /// A boundary goes on neither with two hyphens nor with blanks and the end of its line, or stands in a head. Each further
+    /// call says so.
     Boundary,
     /// A head has more bytes than the limit. Each further call says so.
     LongHead,
@@ -28,7 +29,7 @@ impl fmt::Display for PartError {
         match self {
             PartError::Truncated => f.write_str("the stream ended within the body"),
             PartError::Io(e) => fmt::Display::fmt(e, f),
-            PartError::Boundary => f.write_str("a boundary is not alone in its line"),
+            PartError::Boundary => f.write_str("a boundary is not alone in its line, or in a head"),
             PartError::LongHead => f.write_str("the head of a part is too long"),
             PartError::ManyParts => f.write_str("there are too many parts"),
             PartError::Memory => f.write_str("memory was refused"),

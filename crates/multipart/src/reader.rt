@@ -1,18 +1,18 @@
 //! The reader of parts.
 ghost use Rattle.std.specs.Prelude.{[], ◌≡◌, ◌≢◌, ◌<◌, ◌≤◌, ◌+◌, ◌^◌, ◌⊎◌, ◌∷◌, ◌++◌, length, min, take, vec_items, Ok, IfErr, IfOk, IfSome, MatchBool};
 ghost use Rattle.body_reader.specs.BodyReader.{ConsumesPayload, FillsPayload, IsBodyReader, ReadsPayload, TookWholeBody};
-ghost use Rattle.multipart.specs.Multipart.{AreCodings, CollectsHead, EndsAtLimit, EndsHead, GoesOnFromHead, IsBegun, IsForm, LeavesText, NextPart, NoReaderMade, codes};
+ghost use Rattle.multipart.specs.Multipart.{AreCodings, CollectsHead, EndsHead, GoesOnFromHead, IsBegun, IsForm, LeavesText, NextPart, NoReaderMade, codes, head_error, head_most, is_full};
 
 use crate::error::{NewError, PartError};
-use crate::head::is_opening;
-use body_reader::{BodyError, BodyReader, JustOrUntil, Until};
+use crate::head::may_go_on;
+use body_reader::{BodyError, BodyReader, CollectError, JustOrUntil, Until};
 use buffer_redux::BufReader;
 use buffer_redux::policy::{ReaderPolicy, StdPolicy};
 use buffer_redux::tell::{Tell, TellRead};
 use std::alloc::Global;
 use std::marker::Model;
 
-/// How much of a body is no text of a part.
+/// How much of a body heads and parts may be. A preamble, as a text, may have any length, and takes no memory.
 #[derive(Clone, Copy, Debug, Drop)]
 pub struct Limits {
     /// The most bytes that a head has.
@@ -111,6 +111,7 @@ impl<R: Tell, P> Multipart<R, P> {
     /// The buffered reader.
     pub fn get_ref(&self) -> &BufReader<R, P>
         ensures reader { result.now ≡ self.now.body.reader }
+        ensures body { IsBodyReader (codes self.now.body.coding) self.now.body }
         ensures whole { IsForm self.now }
     {
         self.body.get_ref()
@@ -147,11 +148,16 @@ impl<R: Tell, P> Multipart<R, P> {
         self.head.as_slice()
     }
 
-    /// The text of the part that is buffered, as far as the last [`fill`](Multipart::fill) said, and wasn't consumed.
+    /// The text of the part that is buffered, as far as the last [`fill`](Multipart::fill) said, and wasn't consumed; none where
+    /// the reader stands in no part.
     pub fn piece(&self) -> &[u8]
-        ensures { result.now ≡ take self.now.body.known self.now.body.reader.block.bytes }
+        ensures text { self.now.stand ≡ Stand.Part → result.now ≡ take self.now.body.known self.now.body.reader.block.bytes }
+        ensures none { self.now.stand ≢ Stand.Part → result.now ≡ [] }
     {
-        self.body.piece()
+        match self.stand {
+            Stand::Part => self.body.piece(),
+            _ => &[],
+        }
     }
 }
 
@@ -270,11 +276,25 @@ impl<R: TellRead, P: ReaderPolicy> Multipart<R, P> {
         requires head { self.old.stand ≡ Stand.Head }
         ensures { GoesOnFromHead R.remaining P.rules self.old result self.new }
     {
-        if self.parts >= self.limits.parts {
-            return self.end_at_limit();
+        let full = self.is_full();
+        match self.collect() {
+            Ok(()) => self.end_head(),
+            Err(e) => Err(head_error(full, e)),
         }
-        self.collect()?;
-        Ok(self.end_head())
+    }
+
+    // Whether there may be no further part.
+    fn is_full(&self) -> bool
+        ensures { result ≡ is_full self.now }
+    {
+        self.parts >= self.limits.parts
+    }
+
+    // How many bytes a head may have.
+    fn most(&self) -> usize
+        ensures { result ≡ head_most self.now }
+    {
+        if self.is_full() { 0 } else { self.limits.head }
     }
 
     // Goes on behind the boundary that ends this text.
@@ -289,69 +309,47 @@ impl<R: TellRead, P: ReaderPolicy> Multipart<R, P> {
         Ok(())
     }
 
-    // Collects the head.
-    fn collect(&mut self) -> Result<(), PartError>
+    // Collects the head while it may go on so.
+    fn collect(&mut self) -> Result<(), CollectError<()>>
         requires head { self.old.stand ≡ Stand.Head }
-        ensures collects { CollectsHead R.remaining P.rules self.old.limits.head self.old.body self.old.head result self.new.body
-            self.new.head }
-        ensures within { self.new ≡ record self.old { body = self.new.body; head = self.new.head } }
+        ensures { CollectsHead R.remaining P.rules self.old result self.new }
     {
-        collect_head(&mut self.body, self.limits.head, &mut self.head)
+        let most = self.most();
+        let texts = &self.other;
+        self.body
+            .collect(most, &mut self.head, |head| may_go_on(head, texts))
     }
 
-    // Ends the body behind the two hyphens, or refuses a part: there may be no other.
-    fn end_at_limit(&mut self) -> Result<bool, PartError>
+    // Goes on into the part behind this head, or says that there is none, or may be none.
+    fn end_head(&mut self) -> Result<bool, PartError>
         requires head { self.old.stand ≡ Stand.Head }
-        ensures { EndsAtLimit R.remaining P.rules self.old result self.new }
-    {
-        if self.body.fill_payload()? > 0 || self.body.taken() != 2 {
-            return Err(PartError::ManyParts);
-        }
-        self.stand = Stand::Ended;
-        Ok(false)
-    }
-
-    // Goes on into the part behind this head, or says that there is none.
-    fn end_head(&mut self) -> bool
-        requires head { self.old.stand ≡ Stand.Head }
-        requires few { self.old.parts + 1 < 2 ^ 64 }
         requires whole { TookWholeBody (codes self.old.body.coding) self.old.body }
         requires reader { IsBodyReader (codes self.old.body.coding) self.old.body }
         ensures { EndsHead self.old result self.new }
     {
         if self.body.taken() == 2 {
             self.stand = Stand::Ended;
-            return false;
+            return Ok(false);
+        }
+        if self.parts >= self.limits.parts {
+            return Err(PartError::ManyParts);
         }
         self.body.begin_next(&mut self.other);
         self.parts += 1;
         self.stand = Stand::Part;
-        true
+        Ok(true)
     }
 }
 
-// Collects a head while it begins as the line of a boundary ends.
-fn collect_head<R: TellRead, P: ReaderPolicy>(
-    body: &mut BodyReader<R, JustOrUntil, P>,
-    most: usize,
-    head: &mut Vec<u8>,
-) -> Result<(), PartError>
-    ensures { CollectsHead R.remaining P.rules most body.old (vec_items head.old) result body.new (vec_items head.new) }
+// Why no head was collected, as an error of the whole. Where there may be no further part any byte of a head is too many.
+fn head_error(full: bool, e: CollectError<()>) -> PartError
+    ensures { result ≡ head_error full e }
 {
-    // Says that the reader is whole, also where nothing comes.
-    let _ = body.get_ref();
-    while is_opening(head.as_slice()) {
-        let came = body.fill_payload()?;
-        if came == 0 {
-            return Ok(());
-        }
-        if came > most.saturating_sub(head.len()) {
-            return Err(PartError::LongHead);
-        }
-        match head.extend_from_slice(body.piece()) {
-            Ok(()) => body.consume_payload(came),
-            Err(_) => return Err(PartError::Memory),
-        }
+    match e {
+        CollectError::Body(e) => PartError::from(e),
+        CollectError::Unwanted => PartError::Boundary,
+        CollectError::TooLong if full => PartError::ManyParts,
+        CollectError::TooLong => PartError::LongHead,
+        CollectError::Memory => PartError::Memory,
     }
-    Err(PartError::Boundary)
 }

@@ -1,5 +1,6 @@
 -- What was written, some text behind some text.
-use Rattle.std.proofs.Common.{◌≡◌, ℕ, ◌^◌, ◌-◌, List, [], ◌∷◌, ◌++◌, length, min, decimal, Option, Result, Ok, Err, ◌⊎◌, inl, inr, refl, sym, ap, subst, ◌∙◌, append_assoc}
+use Rattle.std.proofs.Common.{◌≡◌, ℕ, ◌^◌, ◌+◌, ◌-◌, ◌<◌, List, [], ◌∷◌, ◌++◌, length, map, take, drop, get_or, min, decimal, Option, Result, Ok, Err, ◌⊎◌, inl, inr, refl, sym, ap, subst, ◌∙◌, append_assoc}
+use Rattle.std.proofs.lemmas.List.{map-append, take-append-drop, take_more}
 use Rattle.redux_buffer.specs.Faults.{MetInterrupts-none}
 use Rattle.body_reader.specs.BodyReader.{handed_of}
 use Rattle.multipart.specs.Multipart.{FormState}
@@ -51,6 +52,21 @@ module _ {T : Type 0} (tells : T → StreamLog) (trace : T → T → Type 0) whe
     met = tt;
     unflushed = p.unflushed;
   }
+
+  -- and one byte more of a text, each by this function
+  pub puts_next : ((a b c : T) → trace a b → trace b c → trace a c) → (f : ℕ → ℕ) (text : List ℕ) (i : ℕ) → i < length text
+      → (u m v : Buffered T StdPolicy) (answer : Result (Unit {0}) Error)
+      → PutsBytes tells trace u (map f (take i text)) (Ok tt) m → PutsBytes tells trace m (f (get_or text i 0) ∷ []) answer v
+      → PutsBytes tells trace u (map f (take (i + 1) text)) answer v
+  puts_next joins f text i less u m v answer p q = subst (λ l. PutsBytes tells trace u l answer v)
+      (sym (ap (map f) (take_more text i 0 less) ∙ map-append f (take i text) (get_or text i 0 ∷ [])))
+      (puts_then joins u m v (map f (take i text)) (f (get_or text i 0) ∷ []) answer p q)
+
+  pub puts_stopped : (f : ℕ → ℕ) (text : List ℕ) (i : ℕ) (u v : Buffered T StdPolicy) (e : Error)
+      → PutsBytes tells trace u (map f (take i text)) (Err e) v → PutsBytes tells trace u (map f text) (Err e) v
+  puts_stopped f text i u v e p = subst (λ l. PutsBytes tells trace u l (Err e) v)
+      (sym (map-append f (take i text) (drop i text)) ∙ ap (map f) (take-append-drop i text))
+      (puts_no_more u v (map f (take i text)) (map f (drop i text)) e p)
 
   -- and behind the front of a line its end
   pub puts_line : ((a b c : T) → trace a b → trace b c → trace a c) → (u m v : Buffered T StdPolicy) (before head text : List ℕ)

@@ -44,7 +44,7 @@ status_of Missing = 6
 -- the line on standard error; of a run that is done none is printed
 abbrev pub line_of : Ending → List ℕ
 line_of (Usual ending) = usual.line_of (codes "parts") (codes "list BOUNDARY|get BOUNDARY NAME") ending
-line_of Boundary = codes "parts: a boundary is not alone in its line"
+line_of Boundary = codes "parts: a boundary is not alone in its line, or in a head"
 line_of LongHead = codes "parts: the head of a part is too long"
 line_of ManyParts = codes "parts: there are too many parts"
 line_of Truncated = codes "parts: the input ends within the body"

@@ -4,7 +4,7 @@ use Rattle.std.specs.declared.io.Error.{Error}
 use Rattle.std.specs.declared.io.ErrorKind.TheVariants.{Other}
 use Rattle.multipart.specs.declared.error.PartError.{PartError}
 use Rattle.multipart.specs.declared.error.PartError.TheVariants as part
-use Rattle.std.specs.Prelude.{◌≡◌, ◌≢◌, ℕ, ◌^◌, ◌+◌, ◌-◌, ◌<◌, ◌≤◌, ◌⊎◌, List, [], ◌∷◌, ◌++◌, length, min, All, codes as text_codes, decimal, unwrap_or, Option, Some, Result, Ok, Err, IfErr, IfOk, MatchResult, OnOk, IsTrue}
+use Rattle.std.specs.Prelude.{◌≡◌, ◌≢◌, ℕ, ◌^◌, ◌+◌, ◌-◌, ◌<◌, ◌≤◌, ◌⊎◌, List, [], ◌∷◌, ◌++◌, length, min, All, codes as text_codes, decimal, if◌then◌else◌, map, nat_lt, unwrap_or, Option, Some, Result, Ok, Err, IfErr, IfOk, MatchResult, OnOk, IsTrue}
 use Rattle.std.specs.Option.{option_and_then}
 use Rattle.redux_buffer.specs.Faults.{MetInterrupts}
 use Rattle.body_reader.specs.Between.{EachGave, FaultedOnce, GaveNothingOnce}
@@ -17,7 +17,7 @@ use Rattle.buffer_redux.specs.Buffered.{Buffered}
 use Rattle.buffer_redux.specs.Policy.{std_read_rules, std_write_rules}
 use Rattle.buffer_redux.specs.StreamLog.{StreamLog}
 use Rattle.buffer_redux.specs.declared.policy.StdPolicy.{StdPolicy}
-use Rattle.multipart.specs.Head.{field_of, is_opening, parameter_of}
+use Rattle.multipart.specs.Head.{IsPartHead, field_of, parameter_of}
 use Rattle.multipart.specs.Multipart.{FormState, codes, hyphens}
 use Rattle.multipart.specs.declared.reader.Limits.{Limits}
 use Rattle.multipart.specs.declared.reader.Stand.TheVariants.{Preamble, Part}
@@ -40,9 +40,13 @@ SaysName name head = said_of (text_codes "name") head ≡ Some name
 abbrev pub NoneNamed : List ℕ → List Turn → Type 0
 NoneNamed name turns = All (λ turn. ¬ SaysName name turn.head) turns
 
--- what is said, or `-`, and a tab
+-- a byte as it is printed: one below a blank, as a tab or a line feed, is a `?`
+abbrev pub printed : ℕ → ℕ
+printed byte = if nat_lt byte 32 then 63 else byte
+
+-- what is said, as it is printed, or `-`, and a tab
 abbrev pub column : Option (List ℕ) → List ℕ
-column said = unwrap_or said (text_codes "-") ++ 9 ∷ []
+column said = map printed (unwrap_or said (text_codes "-")) ++ 9 ∷ []
 
 -- the front of a part's line: its name, its file's name and its type, as its head says them
 abbrev pub front_of : List ℕ → List ℕ
@@ -62,7 +66,7 @@ module _ (texts heads : JustOrUntil) where
   -- a head that says this, and leads into a part
   pub record LeadsIn (said bytes : List ℕ) : Type 0 where
     pub whole : IsBody (codes heads) bytes said
-    pub opens : IsTrue (is_opening said)
+    pub is_head : IsPartHead texts.until.delimiter said
     pub no_end : bytes ≢ hyphens
 
   -- these turns stand in these bytes, the last one, which stands first, behind all: behind each text a head follows
@@ -106,7 +110,7 @@ module _ (texts heads : JustOrUntil) where
         pub inside : IsBodyReader (codes heads) t.body
 
       -- why no part comes next: the stream ended within a text or a head, or failed there, or the text is longer than a run
-      -- counts; the head begins otherwise than the line of a boundary ends; it is too long with what more of it is buffered, or
+      -- counts; the head begins otherwise than the line of a boundary ends, or a boundary stands in it; it is too long with what more of it is buffered, or
       -- memory for that was refused; or there are as many parts as these, and some of a head is buffered, or it is whole, and
       -- is not the two hyphens
       abbrev pub NextFails : Limits → PartError → FormState S Q → Type 0
@@ -116,7 +120,7 @@ module _ (texts heads : JustOrUntil) where
           × ((EndsEarly (codes t.body.coding) t.body × FaultedOnce first e t.body.reader)
           ⊎ ((error_kind e ≡ Other) × (2 ^ 64 - 1 ≤ length (handed_of t.body)) × EachGave first t.body.reader))
       NextFails limits part.Boundary t =
-          InHead t × (¬ IsTrue (is_opening (handed_of t.body))) × EachGave first t.body.reader
+          InHead t × (¬ IsPartHead texts.until.delimiter (handed_of t.body)) × EachGave first t.body.reader
       NextFails limits part.LongHead t = InHead t × (0 < t.body.known)
           × (limits.head < length (handed_of t.body) + t.body.known) × EachGave first t.body.reader
       NextFails limits part.ManyParts t = InHead t × (limits.parts ≤ length turns)

@@ -12,7 +12,7 @@ use std::fmt;
 pub enum Ending {
     /// As that of any program may.
     Usual(Usual),
-    /// A boundary isn't alone in its line.
+    /// A boundary isn't alone in its line, or stands in a head.
     Boundary,
     /// The head of a part is too long.
     LongHead,
@@ -87,7 +87,9 @@ impl fmt::Display for Ending {
                 };
                 write!(f, "{said}")
             }
-            Ending::Boundary => f.write_str("parts: a boundary is not alone in its line"),
+            Ending::Boundary => f.write_str(
+                "parts: a boundary is not alone in its line, or in a head",
+            ),
             Ending::LongHead => f.write_str("parts: the head of a part is too long"),
             Ending::ManyParts => f.write_str("parts: there are too many parts"),
             Ending::Truncated => f.write_str("parts: the input ends within the body"),

@@ -56,6 +56,8 @@ fn put_text<R: TellRead, W: TellWrite>(
     requires { parts.old.stand ≡ Stand.Part }
     ensures { PutsPart R.remaining W.log W.trace parts.old target.old result parts.new target.new }
 {
+    // Says that the reader of the text is whole.
+    let _ = parts.get_ref();
     for _piece in 0..u64::MAX {
         let count = parts.fill()?;
         if count == 0 {

@@ -1,7 +1,7 @@
 //! What the parts are, over any two streams that tell.
-ghost use Rattle.std.specs.Prelude.{◌≡◌, [], ◌∷◌, ◌++◌, codes, decimal, unwrap_or};
+ghost use Rattle.std.specs.Prelude.{◌≡◌, [], ◌∷◌, ◌++◌, codes, decimal, map, unwrap_or};
 ghost use Rattle.std.specs.Option.{option_copied};
-ghost use Rattle.parts.specs.Sections.{ListAnswers, PutsBytes, TakesText, column, front_of};
+ghost use Rattle.parts.specs.Sections.{ListAnswers, PutsBytes, TakesText, column, front_of, printed};
 
 use crate::error::RunError;
 use crate::get::said;
@@ -44,8 +44,25 @@ fn put_said<W: TellWrite>(head: &[u8], target: &mut BufWriter<W>) -> io::Result<
 fn put_or<W: TellWrite>(said: Option<&[u8]>, target: &mut BufWriter<W>) -> io::Result<()>
     ensures { PutsBytes W.log W.trace target.old (column (option_copied said.entry)) result target.new }
 {
-    target.write_all(or_hyphen(said))?;
+    put_printed(or_hyphen(said), target)?;
     target.write_all(b"\t")
+}
+
+// Writes a text as it is printed, so that it ends neither a column nor a line.
+fn put_printed<W: TellWrite>(text: &[u8], target: &mut BufWriter<W>) -> io::Result<()>
+    ensures { PutsBytes W.log W.trace target.old (map printed text.now) result target.new }
+{
+    for byte in text {
+        target.write_all(&[printed(*byte)])?;
+    }
+    Ok(())
+}
+
+// A byte as it is printed: one below a blank, as a tab or a line feed, is a `?`.
+fn printed(byte: u8) -> u8
+    ensures { result ≡ printed byte }
+{
+    if byte < b' ' { b'?' } else { byte }
 }
 
 fn or_hyphen<'a>(said: Option<&'a [u8]>) -> &'a [u8]
@@ -71,6 +88,8 @@ fn text_len<R: TellRead>(parts: &mut Multipart<R>) -> Result<u64, RunError>
     requires { parts.old.stand ≡ Stand.Part }
     ensures { TakesText R.remaining parts.old result parts.new }
 {
+    // Says that the reader of the text is whole.
+    let _ = parts.get_ref();
     let mut len = 0u64;
     for _piece in 0..u64::MAX {
         let count = parts.fill()?;

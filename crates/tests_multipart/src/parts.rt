@@ -281,14 +281,40 @@ fn fails(alloc: Global, bytes: &[u8], piece: usize, why: &str) -> io::Result<boo
 }
 
 // Bytes, and why their parts end.
-static WRONG: [(&[u8], &str); 13] = [
-    (b"--bc\r\n\r\n", "a boundary is not alone in its line"),
-    (b"--bc", "a boundary is not alone in its line"),
-    (b"--b-\r", "a boundary is not alone in its line"),
-    (b"--b \tc", "a boundary is not alone in its line"),
-    (b"--b\n", "a boundary is not alone in its line"),
-    (b"--b\rc", "a boundary is not alone in its line"),
-    (b"--b \r\r", "a boundary is not alone in its line"),
+static WRONG: [(&[u8], &str); 15] = [
+    (
+        b"--bc\r\n\r\n",
+        "a boundary is not alone in its line, or in a head",
+    ),
+    (b"--bc", "a boundary is not alone in its line, or in a head"),
+    (
+        b"--b-\r",
+        "a boundary is not alone in its line, or in a head",
+    ),
+    (
+        b"--b \tc",
+        "a boundary is not alone in its line, or in a head",
+    ),
+    (
+        b"--b\n",
+        "a boundary is not alone in its line, or in a head",
+    ),
+    (
+        b"--b\rc",
+        "a boundary is not alone in its line, or in a head",
+    ),
+    (
+        b"--b \r\r",
+        "a boundary is not alone in its line, or in a head",
+    ),
+    (
+        b"--b\r\n--b",
+        "a boundary is not alone in its line, or in a head",
+    ),
+    (
+        b"--b\r\nA\r\n--b",
+        "a boundary is not alone in its line, or in a head",
+    ),
     (b"--b\r\nA: 123456", "the head of a part is too long"),
     (b"--b          ", "the head of a part is too long"),
     (b"--b\r\n\r\n\r\n--b\r\n\r\n", "there are too many parts"),

@@ -12,7 +12,7 @@ returns-then-held-gt0-clause-hands g c =
     hands_shown _ _ _ _ _ _ _ _ _ _ _ c.hand_out.ensures.took (
       omega (arith, c.min.ensures, c.buf_len-held.ensures.value),
       λ _. Carries-fewer _ _ _ _ _ sure.0 some (omega (arith, c.min.ensures)),
-    ) some c.hand_out.ensures.count room c.hand_out.ensures.bytes
+    ) some c.hand_out.ensures.count room c.hand_out.ensures.bytes c.requires.begins.place
     (all_shown g.R.TellRead.remaining g.P.ReaderPolicy.rules _ _ _ _ _ (sure.0, sure.1, sure.2)
     (omega (arith, c.min.ensures, c.buf_len-held.ensures.value))) _
 
@@ -28,4 +28,4 @@ returns-clause-hands g c =
     let some = show_some _ _ _ _ _ _ _ c.requires.sure.0 _ _ fills in
     hands_after _ _ _ _ _ _ _ _ _ _ room fills.0 fills.1.0 _ _ _
     (hands_shown _ _ _ _ _ _ _ _ _ _ _ hands.ensures.took fills.1.1.0 some hands.ensures.count room hands.ensures.bytes
-    (fills.1.1.2 some) _)
+    fills.0.takes.place (fills.1.1.2 some) _)

@@ -2,12 +2,12 @@
 use Rattle.std.proofs.Common.{[], arith, length-append, refl, take}
 use Rattle.std.proofs.lemmas.List.{length-take-le}
 use Rattle.std.proofs.lemmas.Result.{err_from_is_err_and}
-use Rattle.parts.proofs.Putting.{text_ends, text_fails, text_filled, text_more, text_none}
+use Rattle.parts.proofs.Putting.{text_ends, text_fails, text_filled, text_more, text_none, text_took}
 use Rattle.parts.proofs.list.text_len.Goals as goal
 
 pub loop-piece-init : goal.loop-piece-init
 loop-piece-init g c =
-    record { payload = []; so = text_none g.R.TellRead.remaining c.args.parts.now c.requires; len = refl }
+    record { payload = []; so = text_none g.R.TellRead.remaining c.args.parts.now c.requires c.get_ref.ensures.body; len = refl }
 
 pub returns-in_err-count : goal.returns-in_err-count
 returns-in_err-count g c =
@@ -60,8 +60,8 @@ returns g c =
     let i = c.loop-piece.invariant in
     record {
       payload = i.payload;
-      took = i.so.took;
-      ends = (i.so.gave, omega (arith, i.so.pieces, c.loop-piece-test.false));
+      took = text_took g.R.TellRead.remaining i.so;
+      ends = (i.so.taken.gave, omega (arith, i.so.pieces, c.loop-piece-test.false));
       len = tt;
       no_write = refl;
     }

@@ -1,12 +1,15 @@
 -- Each piece that comes is dropped, until the body ends, or why it doesn't.
-use Rattle.std.proofs.Common.{arith}
+use Rattle.std.proofs.Common.{[], arith}
 use Rattle.std.proofs.lemmas.Result.{err_from_is_err_and}
-use Rattle.body_reader.proofs.Draining.{dropped_more, dropped_none, drained, not_drained, too_many}
+use Rattle.std.specs.Prelude.{⊤}
+use Rattle.body_reader.specs.Taking.{takes_none}
+use Rattle.body_reader.proofs.Draining.{dropped_more, drained, not_drained, too_many}
 use Rattle.body_reader.proofs.Said.{drain_says}
 use Rattle.body_reader.proofs.reader.BodyReader.drain.Goals as goal
 
 pub loop-piece-init : goal.loop-piece-init
-loop-piece-init g c = dropped_none _ _ _ _ c.get_ref.ensures.whole
+loop-piece-init g c =
+    record { payload = []; taken = takes_none _ _ _ (λ _. ⊤) _ c.get_ref.ensures.whole; many = omega arith }
 
 pub returns-in_err-count : goal.returns-in_err-count
 returns-in_err-count g c =
