@@ -1,5 +1,5 @@
 -- How much a read of a body hands out.
-use Rattle.std.proofs.Common.{◌≡◌, ◌⊎◌, ◌<◌, ℕ, List, [], length, take, Option, Ok, inl, inr, arith, length-append}
+use Rattle.std.proofs.Common.{◌≡◌, ◌⊎◌, ◌<◌, ◌++◌, ℕ, List, [], length, take, Option, Ok, inl, inr, arith, length-append}
 use Rattle.buffer_redux.specs.Policy.{std_read_rules}
 use Rattle.body_reader.specs.Between.{KnowsAll}
 use Rattle.body_reader.specs.BodyReader.{HandsBuffered, IsBodyReader, ReadsPayload}

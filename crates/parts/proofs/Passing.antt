@@ -21,8 +21,8 @@ use Rattle.multipart.specs.declared.error.PartError.TheVariants as part
 use Rattle.multipart.specs.declared.reader.Limits.{Limits}
 use Rattle.multipart.specs.declared.reader.Stand.TheVariants.{Preamble, Head, Part}
 use Rattle.multipart.specs.Head.{IsPartHead}
-use Rattle.multipart.specs.Multipart.{CollectsHead, EndsHead, FormState, GoesOnFromHead, LeavesText, NextPart, PassesText, codes, head_error, hyphens, is_full, part_error, turned}
-use Rattle.parts.specs.Sections.{BehindText, InHead, InSection, InText, LeadsIn, NextFails, PassedAll, Turn}
+use Rattle.multipart.specs.Multipart.{CollectsHead, EndsHead, FormState, GoesOnFromHead, LeavesText, NextPart, PassesText, codes, head_error, is_full, part_error, turned}
+use Rattle.parts.specs.Sections.{BehindText, InHead, InSection, InText, NextFails, PassedAll, Turn}
 
 -- what comes of going on behind a text
 abbrev pub ComesBehind : {S : Type 0} → JustOrUntil → JustOrUntil → Buffered S StdPolicy → List Turn → List ℕ → Limits

@@ -4,7 +4,7 @@ use Rattle.std.specs.declared.io.Error.{Error}
 use Rattle.std.specs.declared.io.ErrorKind.TheVariants.{Other}
 use Rattle.multipart.specs.declared.error.PartError.{PartError}
 use Rattle.multipart.specs.declared.error.PartError.TheVariants as part
-use Rattle.std.specs.Prelude.{◌≡◌, ◌≢◌, ℕ, ◌^◌, ◌+◌, ◌-◌, ◌<◌, ◌≤◌, ◌⊎◌, List, [], ◌∷◌, ◌++◌, length, min, All, codes as text_codes, decimal, if◌then◌else◌, map, nat_lt, unwrap_or, Option, Some, Result, Ok, Err, IfErr, IfOk, MatchResult, OnOk, IsTrue}
+use Rattle.std.specs.Prelude.{◌≡◌, ◌≢◌, ℕ, ◌^◌, ◌+◌, ◌-◌, ◌<◌, ◌≤◌, ◌⊎◌, List, [], ◌∷◌, ◌++◌, length, min, All, codes as text_codes, decimal, if◌then◌else◌, map, nat_lt, unwrap_or, Option, Some, Result, Ok, Err, IfErr, IfOk, MatchResult, OnOk}
 use Rattle.std.specs.Option.{option_and_then}
 use Rattle.redux_buffer.specs.Faults.{MetInterrupts}
 use Rattle.body_reader.specs.Between.{EachGave, FaultedOnce, GaveNothingOnce}

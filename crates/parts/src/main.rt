@@ -1,7 +1,8 @@
 //! Lists the parts of the multipart body that standard input is, or writes one of them to standard output.
 //!
 //! `parts list BOUNDARY` prints a line for each part: its name, its file's name, its type and the length of its text, with tabs
-//! between them, and `-` for what its head doesn't say. `parts get BOUNDARY NAME` writes the text of the first part of this name.
+//! between them, `?` for each control byte in them, and `-` for what its head doesn't say. `parts get BOUNDARY NAME` writes the
+//! text of the first part of this name.
 #![tactic(auto)]
 
 mod ending;
