@@ -43,17 +43,6 @@ front_more_len fields i within =
     ∙ length-append (front (take i fields) ++ get_or fields i []) (line_end [])
     ∙ ap (λ n. n + 2) (length-append (front (take i fields)) (get_or fields i []))
 
--- for which there is room behind the lines in front, and then for the empty line
-pub front_fits : (fields : List (List ℕ)) (i : ℕ) → i < length fields
-    → length (front (take i fields)) + length (get_or fields i []) + 4 ≤ length (body_end fields)
-front_fits fields i within =
-    omega (
-      arith,
-      front_len fields,
-      length-flat_map-take ended fields i [] within,
-      length-append (get_or fields i []) (line_end []),
-    )
-
 -- each of them is a line that trailers may have
 one_more : (fields : List (List ℕ)) (field : List ℕ) → AllByRecursion IsTrailer fields → IsTrailer field
     → AllByRecursion IsTrailer (fields ++ field ∷ [])
@@ -72,6 +61,19 @@ line_at fields i within = sym (get_or-map (λ f. f.now) fields i (record { ref_p
 
 pub inside : (fields : List (Bor (List ℕ))) (i : ℕ) → i < length fields → i < length (lines_of fields)
 inside fields i within = omega (arith, within, length-map fields (λ f. f.now))
+
+-- for which there is room behind the lines in front, and then for the empty line
+pub line_fits : (fields : List (Bor (List ℕ))) (i : ℕ) → i < length fields → length (front (take i (lines_of fields)))
+    + length (slice_index_or fields i (record { ref_ptr = (0, 0); now = [] })).now + 4 ≤ length (body_end (lines_of fields))
+line_fits fields i within =
+    let lines = lines_of fields in
+    omega (
+      arith,
+      front_len lines,
+      length-flat_map-take ended lines i [] (inside fields i within),
+      length-append (get_or lines i []) (line_end []),
+      ap length (line_at fields i within),
+    )
 
 pub all_lines : (fields : List (Bor (List ℕ))) (i : ℕ) → length fields ≤ i → take i (lines_of fields) ≡ lines_of fields
 all_lines fields i past = take_all i (lines_of fields) (omega (arith, past, length-map fields (λ f. f.now)))

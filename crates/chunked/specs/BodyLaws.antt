@@ -27,27 +27,21 @@ pub digits_text : (digits text : List ℕ) → AllDigits 16 digits → AllByRecu
 digits_text [] text all h = h
 digits_text (d ∷ digits) text all h = (digit_is_text d all.0, digits_text digits text all.1 h)
 
-pub IsSizeLine-text : (limit size : ℕ) (text : List ℕ) → IsSizeLine limit size text → AllByRecursion IsTextByte text
-IsSizeLine-text limit size text h =
+IsSizeLine-text : {limit size : ℕ} {text : List ℕ} → IsSizeLine limit size text → AllByRecursion IsTextByte text
+IsSizeLine-text h =
     rw h.equal (digits_text h.digits h.extension h.numeral.1 (CompletesExtension-text Behind h.extension h.follows))
 
--- two texts that end at a CR are one
-pub text_same : (a b xs ys : List ℕ) → AllByRecursion IsTextByte a → AllByRecursion IsTextByte b
-    → a ++ 13 ∷ xs ≡ b ++ 13 ∷ ys → (a ≡ b) × (xs ≡ ys)
-text_same [] [] xs ys p q same = (refl, cc)
-text_same [] (b ∷ bs) xs ys p q same = absurd (q.0.0 cc)
-text_same (a ∷ as') [] xs ys p q same = absurd (p.0.0 cc)
-text_same (a ∷ as') (b ∷ bs) xs ys p q same =
-    let rest : as' ++ 13 ∷ xs ≡ bs ++ 13 ∷ ys = cc in
-    let head : a ≡ b = cc in
-    let found = text_same as' bs xs ys p.1 q.1 rest in
-    (ap (λ l. a ∷ l) found.0 ∙ ap (λ x. x ∷ bs) head, found.1)
-
-pub line_same : (a b xs ys : List ℕ) → AllByRecursion IsTextByte a → AllByRecursion IsTextByte b
+-- two texts that a line ends behind are one
+line_same : (a b xs ys : List ℕ) → AllByRecursion IsTextByte a → AllByRecursion IsTextByte b
     → a ++ line_end xs ≡ b ++ line_end ys → (a ≡ b) × (xs ≡ ys)
-line_same a b xs ys p q same =
-    let found = text_same a b (10 ∷ xs) (10 ∷ ys) p q same in
-    (found.0, (let tails = found.1 in cc))
+line_same [] [] xs ys p q same = (refl, cc)
+line_same [] (b ∷ bs) xs ys p q same = absurd (q.0.0 cc)
+line_same (a ∷ as') [] xs ys p q same = absurd (p.0.0 cc)
+line_same (a ∷ as') (b ∷ bs) xs ys p q same =
+    let rest : as' ++ line_end xs ≡ bs ++ line_end ys = cc in
+    let head : a ≡ b = cc in
+    let found = line_same as' bs xs ys p.1 q.1 rest in
+    (ap (λ l. a ∷ l) found.0 ∙ ap (λ x. x ∷ bs) head, found.1)
 
 -- a line says one size
 no_digit_first : (d : ℕ) (digits xs : List ℕ) → digit_value d < 16 → IsExtension xs → xs ≡ d ∷ digits → ⊥
@@ -63,8 +57,8 @@ digits_same (a ∷ d) (b ∷ e) xs ys p q h k same =
     let rest : d ++ xs ≡ e ++ ys = cc in
     ap (λ l. a ∷ l) (digits_same d e xs ys p.1 q.1 h k rest) ∙ ap (λ x. x ∷ e) head
 
-pub size_same : (limit limit' m n : ℕ) (a b : List ℕ) → IsSizeLine limit m a → IsSizeLine limit' n b → a ≡ b → m ≡ n
-size_same limit limit' m n a b p q same =
+size_same : {limit limit' m n : ℕ} {a b : List ℕ} → IsSizeLine limit m a → IsSizeLine limit' n b → a ≡ b → m ≡ n
+size_same p q same =
     let digits = digits_same p.digits q.digits p.extension q.extension p.numeral.1 q.numeral.1 p.follows q.follows
     (sym p.equal ∙ same ∙ q.equal) in
     sym p.value ∙ ap (digits_value 16) digits ∙ q.value
@@ -90,44 +84,36 @@ fields_same (f ∷ fs) (g ∷ gs) xs ys p q same =
     let others = fields_same fs gs xs ys p.1 q.1 first.1 in
     (ap (λ l. l ∷ fs) first.0 ∙ ap (λ l. g ∷ l) others.0, others.1)
 
-trailers_same : (m n : ℕ) (a b xs ys : List ℕ) → IsTrailers m a → IsTrailers n b → a ++ xs ≡ b ++ ys → (a ≡ b) × (xs ≡ ys)
-trailers_same m n a b xs ys p q same =
+trailers_same : {m n : ℕ} {a b : List ℕ} (xs ys : List ℕ) → IsTrailers m a → IsTrailers n b → a ++ xs ≡ b ++ ys
+    → (a ≡ b) × (xs ≡ ys)
+trailers_same xs ys p q same =
     let found = fields_same p.fields q.fields xs ys p.lines q.lines
     (ap (λ l. l ++ xs) (sym p.equal) ∙ same ∙ ap (λ l. l ++ ys) q.equal) in
     (rw (p.equal, q.equal, found.0), found.1)
 
 -- what a line of a size stands in front of, and the size
-sized_same : (limit limit' m n : ℕ) (a b xs ys u v more more' : List ℕ) → IsSizeLine limit m a → IsSizeLine limit' n b
-    → u ≡ a ++ line_end xs → v ≡ b ++ line_end ys → u ++ more ≡ v ++ more'
+sized_same : {limit limit' m n : ℕ} {a b u v : List ℕ} (xs ys more more' : List ℕ) → IsSizeLine limit m a
+    → IsSizeLine limit' n b → u ≡ a ++ line_end xs → v ≡ b ++ line_end ys → u ++ more ≡ v ++ more'
     → (a ≡ b) × (m ≡ n) × (xs ++ more ≡ ys ++ more')
-sized_same limit limit' m n a b xs ys u v more more' p q is is' same =
-    let found = line_same a b (xs ++ more) (ys ++ more') (IsSizeLine-text limit m a p) (IsSizeLine-text limit' n b q)
+sized_same {a = a} {b = b} xs ys more more' p q is is' same =
+    let found = line_same a b (xs ++ more) (ys ++ more') (IsSizeLine-text p) (IsSizeLine-text q)
     (sym (append_assoc a (line_end xs) more) ∙ ap (λ l. l ++ more) (sym is) ∙ same ∙ ap (λ l. l ++ more') is'
     ∙ append_assoc b (line_end ys) more') in
-    (found.0, size_same limit limit' m n a b p q found.0, found.1)
+    (found.0, size_same p q found.0, found.1)
 
 -- no body begins another
 chunks_same : (l m : Limits) (ps qs : List (List ℕ)) (a b xs ys : List ℕ) → HasChunks l ps a → HasChunks m qs b
     → a ++ xs ≡ b ++ ys → (a ≡ b) × (ps ≡ qs) × (xs ≡ ys)
 chunks_same l m [] [] a b xs ys (u, p, s) (v, q, t) same =
-    let first = sized_same (line_room l) (line_room m) 0 0 p.text q.text u v a b xs ys p.size_line q.size_line p.equal
-    q.equal same in
-    let others = trailers_same l.trailers m.trailers u v xs ys s t first.2 in
+    let first = sized_same _ _ xs ys p.size_line q.size_line p.equal q.equal same in
+    let others = trailers_same xs ys s t first.2 in
     (rw (p.equal, q.equal, first.0, others.0), refl, others.1)
 chunks_same l m [] (q ∷ qs) a b xs ys (u, p, s) (v, c, some, k) same =
-    let first = sized_same (line_room l) (line_room m) 0 (length q) p.text c.text u (q ++ line_end v) a b xs ys p.size_line
-    c.size_line
-    p.equal c.equal same in
-    absurd (omega (arith, first.1, some))
+    absurd (omega (arith, (sized_same _ _ xs ys p.size_line c.size_line p.equal c.equal same).1, some))
 chunks_same l m (p ∷ ps) [] a b xs ys (u, c, some, h) (v, q, t) same =
-    let first = sized_same (line_room l) (line_room m) (length p) 0 c.text q.text (p ++ line_end u) v a b xs ys c.size_line
-    q.size_line
-    c.equal q.equal same in
-    absurd (omega (arith, first.1, some))
+    absurd (omega (arith, (sized_same _ _ xs ys c.size_line q.size_line c.equal q.equal same).1, some))
 chunks_same l m (p ∷ ps) (q ∷ qs) a b xs ys (u, c, some, h) (v, d, some', k) same =
-    let first = sized_same (line_room l) (line_room m) (length p) (length q) c.text d.text (p ++ line_end u)
-    (q ++ line_end v) a b xs ys
-    c.size_line d.size_line c.equal d.equal same in
+    let first = sized_same _ _ xs ys c.size_line d.size_line c.equal d.equal same in
     let payload = front_same p q (line_end (u ++ xs)) (line_end (v ++ ys)) first.1
     (sym (append_assoc p (line_end u) xs) ∙ first.2 ∙ append_assoc q (line_end v) ys) in
     let tails : u ++ xs ≡ v ++ ys = (let t = payload.1 in cc) in

@@ -38,9 +38,7 @@ module _ (limits : Limits) where
   extension_on w b size room q rest payload small (inr s) c = (
     inr (
       omega (arith, s.2.2),
-      line_as (CompletesExtension s.0) (λ t. CompletesExtension w (b ∷ t))
-          (λ left behind. BehindSize limits size behind payload) (room - 1) rest
-          (λ t e. (within.leads w b s.0 s.1 t).1 e) (rw s.3 at c).0,
+      line_as _ _ _ (room - 1) rest (λ t e. (within.leads w b s.0 s.1 t).1 e) (rw s.3 at c).0,
     ),
     small,
   )
@@ -66,26 +64,16 @@ module _ (limits : Limits) where
       let d = rw to at c in (d.0, field_on b room rest token fits d.1)
   step_on (FieldName room) b q rest payload (inl (is, some, to)) c = let d = rw to at c in (
     d.0,
-    inr (
-      some,
-      line_as (AllByRecursion IsValueByte) (λ t. BehindFirst (b ∷ t)) IsTrailers (room - 1) rest (λ t all. inl (is, all)) d.1,
-    ),
+    inr (some, line_as _ _ IsTrailers (room - 1) rest (λ t all. inl (is, all)) d.1),
   )
   step_on (FieldName room) b q rest payload (inr (token, fits, to)) c = let d = rw to at c in (
     d.0,
-    inr (
-      omega (arith, fits),
-      line_as BehindFirst (λ t. BehindFirst (b ∷ t)) IsTrailers (room - 1) rest (λ t more. inr (token, more)) d.1,
-    ),
+    inr (omega (arith, fits), line_as _ _ IsTrailers (room - 1) rest (λ t more. inr (token, more)) d.1),
   )
   step_on (FieldValue room) b q rest payload (inl (is, to)) c = let d = rw to at c in (d.0, inl (is, tt, d.1))
   step_on (FieldValue room) b q rest payload (inr (value, some, to)) c = let d = rw to at c in (
     d.0,
-    inr (
-      some,
-      line_as (AllByRecursion IsValueByte) (λ t. AllByRecursion IsValueByte (b ∷ t)) IsTrailers (room - 1) rest
-          (λ t all. (value, all)) d.1,
-    ),
+    inr (some, line_as _ _ IsTrailers (room - 1) rest (λ t all. (value, all)) d.1),
   )
   step_on (FieldFeed room) b q rest payload (is, to) c = let d = rw to at c in (d.0, (is, d.1))
   step_on LastFeed b q rest payload (is, to) c = let d = rw to at c in (d.0, (is, d.1))
@@ -101,16 +89,11 @@ module _ (limits : Limits) where
   extension_first w b size room rest payload (inl (is, ends, behind), small) =
       (SizeFeed size, inl (is, ends, refl), (behind, small))
   extension_first w b size room rest payload (inr (some, later), small) =
-      let Goes : ℕ → List ℕ → Type 0 = λ left behind. BehindSize limits size behind payload in
-      let p = line_parts (λ t. CompletesExtension w (b ∷ t)) Goes (room - 1) rest later in
+      let p = line_parts _ _ (room - 1) rest later in
       let f = within.first w b p.0 p.4 in (
         Extension f.next size (room - 1),
         inr (f.next, f.steps, (p.0, f.left, omega (arith, p.5, some)), refl),
-        (
-          line_as (λ t. CompletesExtension w (b ∷ t)) (CompletesExtension f.next) Goes (room - 1) rest
-              (λ t e. (within.leads w b f.next f.steps t).0 e) later,
-          small,
-        ),
+        (line_as _ _ _ (room - 1) rest (λ t e. (within.leads w b f.next f.steps t).0 e) later, small),
       )
 
   behind_first : (size : ℕ) (rest payload : List ℕ) → BehindSize limits size rest payload
@@ -124,7 +107,7 @@ module _ (limits : Limits) where
   name_first b room rest payload none some later text (inl (is, _)) fits = (
     FieldValue (room - 1),
     inl (is, some, refl),
-    (none, line_as (λ t. BehindFirst (b ∷ t)) (AllByRecursion IsValueByte) IsTrailers (room - 1) rest valued later),
+    (none, line_as _ _ IsTrailers (room - 1) rest valued later),
   )
     where
       valued : (t : List ℕ) → BehindFirst (b ∷ t) → AllByRecursion IsValueByte t
@@ -133,7 +116,7 @@ module _ (limits : Limits) where
   name_first b room rest payload none some later text (inr (token, more)) fits = (
     FieldName (room - 1),
     inr (token, omega (arith, fits, BehindFirst-some text more), refl),
-    (none, line_as (λ t. BehindFirst (b ∷ t)) BehindFirst IsTrailers (room - 1) rest named later),
+    (none, line_as _ _ IsTrailers (room - 1) rest named later),
   )
     where
       named : (t : List ℕ) → BehindFirst (b ∷ t) → BehindFirst t
@@ -165,19 +148,12 @@ module _ (limits : Limits) where
   ]
   step_first (FieldName room) b rest payload open' (none, inl (is, odd, feed)) = absurd odd
   step_first (FieldName room) b rest payload open' (none, inr (some, later)) =
-      let p = line_parts (λ t. BehindFirst (b ∷ t)) IsTrailers (room - 1) rest later in
+      let p = line_parts _ IsTrailers (room - 1) rest later in
       name_first b room rest payload none some later p.0 p.4 (omega (arith, p.5))
   step_first (FieldValue room) b rest payload open' (none, inl (is, all, feed)) = (FieldFeed room, inl (is, refl), (none, feed))
   step_first (FieldValue room) b rest payload open' (none, inr (some, later)) =
-      let p = line_parts (λ t. AllByRecursion IsValueByte (b ∷ t)) IsTrailers (room - 1) rest later in (
-        FieldValue (room - 1),
-        inr (p.4.0, some, refl),
-        (
-          none,
-          line_as (λ t. AllByRecursion IsValueByte (b ∷ t)) (AllByRecursion IsValueByte) IsTrailers (room - 1) rest
-              (λ t all. all.1) later,
-        ),
-      )
+      let p = line_parts _ IsTrailers (room - 1) rest later in
+      (FieldValue (room - 1), inr (p.4.0, some, refl), (none, line_as _ _ IsTrailers (room - 1) rest (λ t all. all.1) later))
   step_first (FieldFeed room) b rest payload open' (none, (is, c)) = (Fields room, (is, refl), (none, c))
   step_first LastFeed b rest payload open' (none, (is, c)) = (Done, (is, refl), (none, c))
   step_first Done b rest payload open' c = absurd (open' tt)

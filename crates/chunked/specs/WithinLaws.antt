@@ -76,6 +76,10 @@ pub record StepsOn (w : Within) (b : ℕ) (text : List ℕ) : Type 0 where
   pub steps : LeadsWithin w b next
   pub left : CompletesExtension next text
 
+goes : {w : Within} {b : ℕ} {text : List ℕ} (next : Within) → LeadsWithin w b next → CompletesExtension next text
+    → StepsOn w b text
+goes next steps left = record { next = next; steps = steps; left = left }
+
 -- what a parameter begins with
 abbrev BeginsParameter : ℕ → List ℕ → Type 0
 BeginsParameter b text = (IsBlank b × CompletesExtension Blank text) ⊎ ((b ≡ 59) × CompletesExtension BeforeName text)
@@ -91,61 +95,48 @@ parameters_first b (suc count) text left = parameter_first b count text left
 -- where this leads where a value may have ended
 step_on : (w : Within) (b : ℕ) (text : List ℕ) → (IsBlank b → LeadsWithin w b Blank) → ((b ≡ 59) → LeadsWithin w b BeforeName)
     → BeginsParameter b text → StepsOn w b text
-step_on w b text blanks signs (inl (blank, left)) = record { next = Blank; steps = blanks blank; left = left }
-step_on w b text blanks signs (inr (sign, left)) = record { next = BeforeName; steps = signs sign; left = left }
+step_on w b text blanks signs (inl (blank, left)) = goes Blank (blanks blank) left
+step_on w b text blanks signs (inr (sign, left)) = goes BeforeName (signs sign) left
 
 -- where a byte leads behind a name
 name_on : (w : Within) (b : ℕ) (text : List ℕ) → (IsBlank b → LeadsWithin w b BehindName)
     → ((b ≡ 59) → LeadsWithin w b BeforeName)
     → BeginsParameter b text → StepsOn w b text
-name_on w b text blanks signs (inl (blank, left)) =
-    record { next = BehindName; steps = blanks blank; left = (left.0, inl left.1) }
-name_on w b text blanks signs (inr (sign, left)) = record { next = BeforeName; steps = signs sign; left = left }
+name_on w b text blanks signs (inl (blank, left)) = goes BehindName (blanks blank) (left.0, inl left.1)
+name_on w b text blanks signs (inr (sign, left)) = goes BeforeName (signs sign) left
 
 assigned_on : (w : Within) (b count : ℕ) (text : List ℕ) → (IsBlank b → LeadsWithin w b BehindName)
     → ((b ≡ 61) → LeadsWithin w b BeforeValue) → Assigned (Parameters count) (b ∷ text) → StepsOn w b text
-assigned_on w b count text blanks signs (inl (sign, left)) =
-    record { next = BeforeValue; steps = signs sign; left = (count, left) }
-assigned_on w b count text blanks signs (inr (blank, left)) =
-    record { next = BehindName; steps = blanks blank; left = (count, inr left) }
+assigned_on w b count text blanks signs (inl (sign, left)) = goes BeforeValue (signs sign) (count, left)
+assigned_on w b count text blanks signs (inr (blank, left)) = goes BehindName (blanks blank) (count, inr left)
 
 pub first : (w : Within) (b : ℕ) (text : List ℕ) → CompletesExtension w (b ∷ text) → StepsOn w b text
 first Behind b text (count, left) =
     step_on Behind b text (λ is. inl (is, refl)) (λ is. inr (is, refl)) (parameters_first b count text left)
 first Blank b text (count, left) =
     step_on Blank b text (λ is. inl (is, refl)) (λ is. inr (is, refl)) (parameter_first b count text left)
-first BeforeName b text (count, (inl (token, left))) =
-    record { next = InName; steps = inr (token, refl); left = (count, left) }
-first BeforeName b text (count, (inr (blank, left))) =
-    record { next = BeforeName; steps = inl (blank, refl); left = (count, left) }
+first BeforeName b text (count, (inl (token, left))) = goes InName (inr (token, refl)) (count, left)
+first BeforeName b text (count, (inr (blank, left))) = goes BeforeName (inl (blank, refl)) (count, left)
 first InName b text (count, (inl (inl left))) =
     name_on InName b text (λ is. inl (is, refl)) (λ is. inr (inr (inr (is, refl)))) (parameters_first b count text left)
 first InName b text (count, (inl (inr left))) =
     assigned_on InName b count text (λ is. inl (is, refl)) (λ is. inr (inr (inl (is, refl)))) left
-first InName b text (count, (inr (token, left))) =
-    record { next = InName; steps = inr (inl (token, refl)); left = (count, left) }
+first InName b text (count, (inr (token, left))) = goes InName (inr (inl (token, refl))) (count, left)
 first BehindName b text (count, (inl left)) =
     name_on BehindName b text (λ is. inl (is, refl)) (λ is. inr (inr (is, refl))) (parameter_first b count text left)
 first BehindName b text (count, (inr left)) =
     assigned_on BehindName b count text (λ is. inl (is, refl)) (λ is. inr (inl (is, refl))) left
-first BeforeValue b text (count, (inl (inl (token, left)))) =
-    record { next = InValue; steps = inr (inl (token, refl)); left = (count, left) }
-first BeforeValue b text (count, (inl (inr (sign, left)))) =
-    record { next = Quoted; steps = inr (inr (sign, refl)); left = (count, left) }
-first BeforeValue b text (count, (inr (blank, left))) =
-    record { next = BeforeValue; steps = inl (blank, refl); left = (count, left) }
+first BeforeValue b text (count, (inl (inl (token, left)))) = goes InValue (inr (inl (token, refl))) (count, left)
+first BeforeValue b text (count, (inl (inr (sign, left)))) = goes Quoted (inr (inr (sign, refl))) (count, left)
+first BeforeValue b text (count, (inr (blank, left))) = goes BeforeValue (inl (blank, refl)) (count, left)
 first InValue b text (count, (inl left)) =
     step_on InValue b text (λ is. inl (is, refl)) (λ is. inr (inr (is, refl))) (parameters_first b count text left)
-first InValue b text (count, (inr (token, left))) =
-    record { next = InValue; steps = inr (inl (token, refl)); left = (count, left) }
-first Quoted b [] (count, (sign, left)) = record { next = Behind; steps = inr (inr (sign, refl)); left = (count, left) }
-first Quoted b (c ∷ text) (count, (inl (sign, left))) =
-    record { next = Behind; steps = inr (inr (sign, refl)); left = (count, left) }
-first Quoted b (c ∷ text) (count, (inr (inl (quoted, left)))) =
-    record { next = Quoted; steps = inl (quoted, refl); left = (count, left) }
-first Quoted b (c ∷ text) (count, (inr (inr (sign, byte, left)))) =
-    record { next = Escaped; steps = inr (inl (sign, refl)); left = (count, (byte, left)) }
-first Escaped b text (count, (byte, left)) = record { next = Quoted; steps = (byte, refl); left = (count, left) }
+first InValue b text (count, (inr (token, left))) = goes InValue (inr (inl (token, refl))) (count, left)
+first Quoted b [] (count, (sign, left)) = goes Behind (inr (inr (sign, refl))) (count, left)
+first Quoted b (c ∷ text) (count, (inl (sign, left))) = goes Behind (inr (inr (sign, refl))) (count, left)
+first Quoted b (c ∷ text) (count, (inr (inl (quoted, left)))) = goes Quoted (inl (quoted, refl)) (count, left)
+first Quoted b (c ∷ text) (count, (inr (inr (sign, byte, left)))) = goes Escaped (inr (inl (sign, refl))) (count, (byte, left))
+first Escaped b text (count, (byte, left)) = goes Quoted (byte, refl) (count, left)
 
 -- all of an extension is text
 pub CompletesExtension-text : (w : Within) (text : List ℕ) → CompletesExtension w text → AllByRecursion IsTextByte text

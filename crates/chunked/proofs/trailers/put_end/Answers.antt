@@ -1,35 +1,18 @@
 -- What went in is the front of the end of the body, so the room that is left takes what follows of it.
 use Rattle.std.proofs.Common.{length, ap, append_assoc, arith}
 use Rattle.chunked.specs.Trailers.{lines_of}
-use Rattle.chunked.proofs.Fields.{all_lines, end_in, front, front_ended, front_fits, front_len, front_more_len, inside, front_more, line_at, line_in}
+use Rattle.chunked.proofs.Fields.{all_lines, end_in, front, front_ended, front_len, front_more_len, inside, front_more, line_at, line_fits, line_in}
 use Rattle.chunked.proofs.trailers.put_end.Goals as goal
 
 pub put-requires-in-loop-field : goal.put-requires-in-loop-field
 put-requires-in-loop-field g c =
-    let fields = c.args.fields.now in
-    let i = c.loop-field.field-index in
-    let within = c.loop-field-test.true in
-    omega (
-      arith,
-      c.requires.room,
-      c.loop-field.invariant.space,
-      front_fits (lines_of fields) i (inside fields i within),
-      ap length (line_at fields i within),
-    )
+    let fits = line_fits c.args.fields.now c.loop-field.field-index c.loop-field-test.true in
+    omega (arith, c.requires.room, c.loop-field.invariant.space, fits)
 
 pub put-requires-in-loop-field-2 : goal.put-requires-in-loop-field-2
 put-requires-in-loop-field-2 g c =
-    let fields = c.args.fields.now in
-    let i = c.loop-field.field-index in
-    let within = c.loop-field-test.true in
-    omega (
-      arith,
-      c.requires.room,
-      c.loop-field.invariant.space,
-      c.put-in-loop-field.ensures.usable,
-      front_fits (lines_of fields) i (inside fields i within),
-      ap length (line_at fields i within),
-    )
+    let fits = line_fits c.args.fields.now c.loop-field.field-index c.loop-field-test.true in
+    omega (arith, c.requires.room, c.loop-field.invariant.space, c.put-in-loop-field.ensures.usable, fits)
 
 pub loop-field-preserved : goal.loop-field-preserved
 loop-field-preserved g c =
