@@ -12,8 +12,10 @@ use Rattle.body_reader.specs.Coding.{AskedFor, IsBody, LeadsOpen}
 use Rattle.body_reader.specs.CodingLaws.{none_wrong}
 use Rattle.buffer_redux.specs.Policy.{std_read_rules}
 use Rattle.buffer_redux.specs.Unbuffer.{unbuffered}
+use Rattle.buffer_redux.specs.UnbufferLaws.{ReadsAlong-stream}
 use Rattle.chunked.specs.declared.error.Malformed.{Malformed}
 use Rattle.messages.specs.Messages.{AskedIn, AsksForMore, BeginsRest, IsRest, Reader, Unended, body_rules, left_in, stream_of}
+use Rattle.messages.specs.MessagesLaws.{handed_unasked}
 use Rattle.messages.proofs.Going.{asked_in, ended_is, goes_on, lawful}
 
 -- where the stream is asked
@@ -21,23 +23,18 @@ module _ {R : Type 0} {s : Reader R} (is : IsBodyReader (body_rules s.coding) s)
   pub body_asked : (slice : ℕ) (t : Reader R)
       → AskedWhere (AskedFor (body_rules s.coding) s.place slice (stream_of t).log.reads.offer) (stream_of s) (stream_of t)
       → AskedWhere (AskedIn (left_in s) slice (stream_of t).log.reads.offer) (stream_of s) (stream_of t)
-  body_asked slice t =
-      let offer = (stream_of t).log.reads.offer in
-      AskedWhere-of (AskedFor (body_rules s.coding) s.place slice offer) (AskedIn (left_in s) slice offer) (stream_of s)
-      (stream_of t) (λ more asked. asked_in s.coding s.place is.place slice offer (s.reader.block.bytes ++ more) asked)
+  body_asked slice t = AskedWhere-of _ _ (stream_of s) (stream_of t)
+      (λ more asked. asked_in s.coding s.place is.place slice _ (s.reader.block.bytes ++ more) asked)
 
   pub fill_asked : (t : Reader R) → AskedWhere (LeadsOpen (body_rules s.coding) s.place []) (stream_of s) (stream_of t)
       → AskedWhere (BeginsRest (left_in s) []) (stream_of s) (stream_of t)
-  fill_asked t =
-      AskedWhere-of (LeadsOpen (body_rules s.coding) s.place []) (BeginsRest (left_in s) []) (stream_of s) (stream_of t)
+  fill_asked t = AskedWhere-of _ _ (stream_of s) (stream_of t)
       (λ more o. goes_on s.coding s.place is.place [] (s.reader.block.bytes ++ more) o)
 
   pub drain_asked : {remaining : R → Option (List ℕ)} {answer : Result (Unit {0}) (Unread (Side (Unit {0}) Malformed))}
       {t : Reader R} → Drains remaining std_read_rules (body_rules s.coding) s answer t
       → AskedWhere (Unended (left_in s)) (stream_of s) (unbuffered t.reader)
-  drain_asked {remaining} {answer} {t} drains =
-      AskedWhere-of (λ bytes. (dropped : List ℕ) × LeadsOpen (body_rules s.coding) s.place dropped bytes)
-      (Unended (left_in s)) (stream_of s) (unbuffered t.reader)
+  drain_asked {remaining} {answer} {t} drains = AskedWhere-of _ _ (stream_of s) (unbuffered t.reader)
       (λ more o. (o.0, goes_on s.coding s.place is.place o.0 (s.reader.block.bytes ++ more) o.1)) drains.asked
 
 -- where nothing was left, and nobody was asked, nothing was taken; nothing is wrong then, and the stream neither ends nor fails
@@ -47,17 +44,8 @@ module _ {R : Type 0} {remaining : R → Option (List ℕ)} {s t : Reader R} (is
     (same : (stream_of t).log ≡ (stream_of s).log) (none : (stream_of s).left ≡ []) where
   empty : length went.wire + length t.reader.block.bytes ≡ 0
   empty =
-      let order = went.along.in_order in
-      omega (
-        arith,
-        ap length order.equal,
-        length-append went.wire t.reader.block.bytes,
-        length-append s.reader.block.bytes order.got,
-        ap length none,
-        ap length order.given,
-        length-append s.reader.log.reads.given order.got,
-        ap (λ l. length l.reads.given) same,
-      )
+      let order = (ReadsAlong-stream remaining std_read_rules s.reader went.wire t.reader went.along).order in
+      omega (arith, ap length (handed_unasked order same), length-append went.wire t.reader.block.bytes, ap length none)
 
   pub none_left : (stream_of t).left ≡ []
   none_left = nil_from_length t.reader.block.bytes (omega (arith, empty))

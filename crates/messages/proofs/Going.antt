@@ -1,5 +1,6 @@
 -- What calls of the reader of a body take of it and of its stream, and why they fail.
 use Rattle.std.proofs.Common.{◌≡◌, ℕ, zero, suc, ◌+◌, ◌<◌, ◌≤◌, List, [], ◌++◌, length, min, take, ◌⊎◌, inl, inr, Option, Err, sym, ap, subst, ◌∙◌, arith, refl, append-nil}
+use Rattle.std.specs.Prelude.{⊤}
 use Rattle.std.proofs.lemmas.List.{length-take-le, nil_from_length}
 use Rattle.body_reader.specs.Between as between
 use Rattle.body_reader.specs.Between.{LeavesPlaces, LeavesRoom}
@@ -27,7 +28,7 @@ use Rattle.chunked.specs.CodingLaws.{chunked_lawful}
 use Rattle.chunked.specs.declared.error.Malformed.{Malformed}
 use Rattle.chunked.specs.declared.place.Place.{Place}
 use Rattle.messages.specs.MessagesLaws.{same_room}
-use Rattle.messages.specs.Messages.{AskedIn, Backward, BeginsRest, BodyCoding, Fails, FinishFails, GoesWrong, InsideGoes, IsNamed, IsRest, IsRoomy, NotesEach, Onward, Reader, Rest, RunsShort, TakesFromRest, TakesWholeRest, body_error, body_rules, left_in, rest_of, room_of, seen, stream_of, sure_of}
+use Rattle.messages.specs.Messages.{AskedIn, Backward, BeginsRest, BodyCoding, Fails, FinishFails, GoesWrong, InsideGoes, IsRest, IsRoomy, NotesEach, Onward, Reader, Rest, RunsShort, TakesFromRest, TakesWholeRest, body_error, body_rules, left_in, rest_of, room_of, seen, stream_of, sure_of}
 use Rattle.messages.specs.declared.head.ParsedHead.{ParsedHead}
 use Rattle.messages.specs.declared.limits.Limits.{Limits}
 use Rattle.messages.specs.declared.error.BodyError.TheVariants.{Wrong}
@@ -109,7 +110,12 @@ asked_in c p is slice offer bytes asked =
       enough = omega (arith, asked.enough (none_shown c p is [] bytes o), sure_is c o.place o.is_place);
     })
 
--- what is wrong; of a body of a length nothing is
+-- no byte of a body of a length is wrong
+abbrev pub IsNamed : Unread (Side (Unit {0}) Malformed) → Type 0
+IsNamed (unread.Wrong (side.First none) right) = ⊥
+IsNamed e = ⊤
+
+-- so what is
 abbrev GoesWrongBy : Rest → List ℕ → Side (Unit {0}) Malformed → Type 0
 GoesWrongBy r bytes (side.First none) = ⊥
 GoesWrongBy r bytes (side.Second name) = GoesWrong r bytes name

@@ -1,7 +1,7 @@
 -- What is lent of a body, and taken, told of what is left of it.
-use Rattle.std.proofs.Common.{◌≡◌, ◌⊎◌, ◌<◌, ◌∙◌, ◌-◌, ◌≤◌, ℕ, List, [], ◌++◌, drop, length, min, take, Option, Result, Ok, Err, ap, inl, inr, subst, sym, arith, refl, append-nil, length-append, length-take-le, take-append-drop, IfErr, IfOk, MatchResult}
+use Rattle.std.proofs.Common.{◌≡◌, ◌⊎◌, ◌<◌, ◌∙◌, ◌-◌, ◌≤◌, ℕ, List, [], ◌++◌, drop, length, min, take, Option, Result, Ok, Err, ap, inl, inr, subst, sym, arith, refl, append-nil, length-append, length-take-le, take-append-drop, IfOk, MatchResult}
 use Rattle.std.proofs.lemmas.Bool.{cases_lt}
-use Rattle.std.proofs.lemmas.List.{append_cancel_left, nil_from_length}
+use Rattle.std.proofs.lemmas.List.{append_cancel_left}
 use Rattle.body_reader.specs.BodyReader.{ConsumesPayload, FillsPayload, IsBodyReader}
 use Rattle.body_reader.specs.Coding.{IsKnown}
 use Rattle.body_reader.specs.declared.error.BodyError.{BodyError as Unread}
@@ -10,6 +10,7 @@ use Rattle.body_reader.specs.declared.either.Side.{Side}
 use Rattle.body_reader.specs.declared.either.Side.TheVariants as side
 use Rattle.body_reader.specs.SizedLaws.{sized_lawful}
 use Rattle.buffer_redux.specs.Policy.{std_read_rules}
+use Rattle.buffer_redux.specs.UnbufferLaws.{ReadsAlong-stream}
 use Rattle.chunked.specs.Coding.{InChunk}
 use Rattle.chunked.specs.CodingLaws.{chunked_lawful, data_leads, follows}
 use Rattle.chunked.specs.declared.error.Malformed.{Malformed}
@@ -20,9 +21,10 @@ use Rattle.messages.specs.declared.error.BodyError.{BodyError}
 use Rattle.messages.specs.declared.head.ParsedHead.{ParsedHead}
 use Rattle.messages.specs.declared.limits.Limits.{Limits}
 use Rattle.messages.specs.Lending.{ConsumesInside, FillsInside, IsPayload}
-use Rattle.messages.specs.Messages.{BodyCoding, Bytes, Chunks, EachReadGave, Fails, InBody, IsNamed, IsRest, IsRoomy, Reader, body_answer, body_rules, left_in, rest_of, seen, stream_of, sure_of}
+use Rattle.messages.specs.Messages.{BodyCoding, Bytes, Chunks, EachReadGave, Fails, InBody, IsRest, IsRoomy, Reader, body_answer, body_rules, left_in, rest_of, seen, stream_of, sure_of}
+use Rattle.messages.specs.MessagesLaws.{handed_unasked}
 use Rattle.messages.proofs.Asking.{fill_asked, fill_asks}
-use Rattle.messages.proofs.Going.{body_done, body_fails, body_goes, body_named, is_ended, keep, lawful, rest_is, sure_is}
+use Rattle.messages.proofs.Going.{body_done, body_fails, body_goes, is_ended, keep, lawful, rest_is, sure_is}
 
 -- what is known to be payload comes next in the body
 chunk_payload : (limits : ChunkLimits) (q : Place) (bytes follow : List ℕ) → InChunk q bytes follow
@@ -99,11 +101,6 @@ module _ {R : Type 0} (remaining : R → Option (List ℕ)) (s t : Reader R) (is
       body_done is fills.whole fills.went (fills.answers.2 (let zero : n ≡ 0 = cc in zero))
   fill_ended (Err e) fills told so none = absurd (cc)
 
-  pub fill_named : (answer : Result ℕ (Unread (Side (Unit {0}) Malformed)))
-      → FillsPayload remaining std_read_rules (body_rules s.coding) s answer t → IfErr answer IsNamed
-  fill_named (Ok n) fills = tt
-  fill_named (Err e) fills = body_named is fills.whole fills.went e fills.answers
-
 -- what calls do, told of the body
 module _ {R : Type 0} (remaining : R → Option (List ℕ)) (s t : Reader R) (is : IsBodyReader (body_rules s.coding) s)
     (room : IsRoomy s.reader.block) (limits : Limits) (head : List ℕ) (said : ParsedHead) where
@@ -138,18 +135,12 @@ module _ {R : Type 0} (remaining : R → Option (List ℕ)) (s t : Reader R) (is
 
     left : t.reader.block.bytes ≡ drop (min count s.known) s.reader.block.bytes
     left =
-        let order = consumes.went.along.in_order in
-        let none : order.got ≡ [] = nil_from_length order.got (omega (
-          arith,
-          ap length order.given,
-          ap (λ l. length l.reads.given) consumes.told,
-          length-append s.reader.log.reads.given order.got,
-        )) in
+        let order = (ReadsAlong-stream remaining std_read_rules s.reader consumes.went.wire t.reader consumes.went.along).order in
         let wire : consumes.went.wire ≡ front =
         append_cancel_left s.taken consumes.went.wire front (sym consumes.went.taken ∙ taken) in
         append_cancel_left front t.reader.block.bytes (drop (min count s.known) s.reader.block.bytes)
-        (ap (λ l. l ++ t.reader.block.bytes) (sym wire) ∙ order.equal ∙ ap (λ l. s.reader.block.bytes ++ l) none
-        ∙ append-nil s.reader.block.bytes ∙ sym (take-append-drop (min count s.known) s.reader.block.bytes))
+        (ap (λ l. l ++ t.reader.block.bytes) (sym wire) ∙ handed_unasked order consumes.told
+        ∙ sym (take-append-drop (min count s.known) s.reader.block.bytes))
 
     pub consumed : ConsumesInside remaining count from to
     consumed = record {

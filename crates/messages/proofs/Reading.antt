@@ -1,5 +1,5 @@
 -- What a read of a body takes of it and of its stream, and why it fails, also as one of std's.
-use Rattle.std.proofs.Common.{◌≡◌, ℕ, List, [], ◌++◌, length, take, IfErr, OnOk, Option, Result, Ok, Err, ap, inr, subst}
+use Rattle.std.proofs.Common.{◌≡◌, ℕ, List, [], ◌++◌, length, take, OnOk, Option, Result, Ok, Err, ap, inr, subst}
 use Rattle.std.specs.declared.io.Error.{Error}
 use Rattle.body_reader.specs.Between as between
 use Rattle.body_reader.specs.Between.{handed_out}
@@ -15,9 +15,9 @@ use Rattle.chunked.specs.declared.error.Malformed.{Malformed}
 use Rattle.chunked.specs.declared.place.Place.{Place}
 use Rattle.messages.specs.declared.head.ParsedHead.{ParsedHead}
 use Rattle.messages.specs.declared.limits.Limits.{Limits}
-use Rattle.messages.specs.Messages.{BecomesIo, Fails, InBody, IsNamed, IsRoomy, Reader, ReadsAsIo, ReadsBody, Rest, body_answer, body_error, body_rules, left_in, seen, stream_of}
+use Rattle.messages.specs.Messages.{BecomesIo, Fails, InBody, IsRoomy, Reader, ReadsAsIo, ReadsBody, Rest, body_answer, body_error, body_rules, left_in, seen, stream_of}
 use Rattle.messages.proofs.Asking.{body_asked, body_asks}
-use Rattle.messages.proofs.Going.{body_done, body_fails, body_goes, body_named, body_room}
+use Rattle.messages.proofs.Going.{IsNamed, body_done, body_fails, body_goes, body_named, body_room}
 use Rattle.messages.proofs.Handing.{hands_most}
 
 becomes_is : (place : Side ℕ Place) (why : Unread (Side (Unit {0}) Malformed)) (e : Error) → IsNamed why
@@ -41,11 +41,6 @@ module _ {R : Type 0} (remaining : R → Option (List ℕ)) (s t : Reader R) (is
       → IsRoomy t.reader.block
   io_room (Ok n) reads = body_room is reads.whole reads.went room
   io_room (Err e) (why, reads, becomes) = body_room is reads.whole reads.went room
-
-  pub read_named : (answer : Result ℕ (Unread (Side (Unit {0}) Malformed)))
-      → ReadsPayload remaining std_read_rules (body_rules s.coding) s out answer t → IfErr answer IsNamed
-  read_named (Ok n) reads = tt
-  read_named (Err e) reads = body_named is reads.whole reads.went e reads.answers
 
   -- as the body is seen, where its calls are noted so
   module _ (calls : StreamLog) (limits : Limits) (head : List ℕ) (said : ParsedHead) where

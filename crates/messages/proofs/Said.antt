@@ -1,11 +1,10 @@
 -- What a call says first, in words of lists.
-use Rattle.std.proofs.Common.{◌≡◌, ◌∙◌, ◌↔◌, ℕ, Option, List, [], ◌++◌, drop, length, Bool, IsTrue, sym, ap, subst, arith, refl, append-nil, length-append}
-use Rattle.std.proofs.lemmas.List.{nil_from_length}
+use Rattle.std.proofs.Common.{◌≡◌, ◌↔◌, ℕ, Option, List, [], ◌++◌, drop, Bool, IsTrue, sym, subst, refl}
 use Rattle.buffer_redux.specs.Unbuffer.{Unbuffered}
 use Rattle.codec.specs.PieceReader.{ReaderState, left_of, rest}
 use Rattle.messages.specs.declared.head.Heads.{Heads}
 use Rattle.messages.specs.Messages.{Begun, Bytes, InBody, IsRest, Rest, TakesWholeRest}
-use Rattle.messages.specs.MessagesLaws.{Begun-went}
+use Rattle.messages.specs.MessagesLaws.{Begun-went, handed_unasked}
 
 -- a body of a length ended where no byte is left of it
 pub sized_ended : (r : Rest) (answer : Bool) → (IsTrue answer ↔ IsRest r [] []) → (n : ℕ) → r ≡ Bytes n
@@ -34,12 +33,4 @@ begun_in_order remaining s b begun =
 
 pub begun_front : {S : Type 0} (remaining : S → Option (List ℕ)) (s : ReaderState S Heads) (b : InBody S)
     → Begun remaining s b → b.stream.log ≡ s.reader.log → b.head ++ b.stream.left ≡ rest s
-begun_front remaining s b begun same =
-    let order = begun_in_order remaining s b begun in
-    let none : order.0 ≡ [] = nil_from_length order.0 (omega (
-      arith,
-      ap length order.1,
-      ap (λ l. length l.reads.given) same,
-      length-append s.reader.log.reads.given order.0,
-    )) in
-    order.2 ∙ ap (λ l. rest s ++ l) none ∙ append-nil (rest s)
+begun_front remaining s b begun same = handed_unasked (Begun-went remaining s b begun).order same

@@ -68,15 +68,8 @@ nothing limits e (inr (b, none, is)) =
 
 -- where the stream ended in a head, the bytes alone aren't wrong
 abbrev is_cut : BadHead → Bool
-is_cut BareEnd = false
-is_cut LongLine = false
-is_cut LongHead = false
-is_cut ManyFields = false
 is_cut (CutShort have) = true
-is_cut Version = false
-is_cut Tunnel = false
-is_cut Coding = false
-is_cut Refused = false
+is_cut e = false
 
 whole_long : (place : Before) → is_cut (too_long place) ≡ false
 whole_long Start = refl

@@ -1,5 +1,5 @@
 -- Messages, and what contracts see of a reader that stands in one.
-use Rattle.std.specs.Prelude.{◌≡◌, ◌⊎◌, ◌≤◌, ◌<◌, ◌+◌, ◌-◌, ◌*◌, ◌^◌, ℕ, List, [], ◌∷◌, ◌++◌, length, min, take, IfErr, IfOk, MatchOption, OnOk, Option, None, Some, Result, Ok, Err, ⊤}
+use Rattle.std.specs.Prelude.{◌≡◌, ◌⊎◌, ◌≤◌, ◌<◌, ◌+◌, ◌-◌, ◌*◌, ◌^◌, ℕ, List, [], ◌∷◌, ◌++◌, length, min, take, IfErr, IfOk, MatchOption, OnOk, Option, None, Some, Result, Ok, Err}
 use Rattle.std.specs.IoError.{error_kind}
 use Rattle.std.specs.declared.io.Error.{Error}
 use Rattle.std.specs.declared.io.ErrorKind.TheVariants.{InvalidData, Other, UnexpectedEof}
@@ -230,10 +230,6 @@ Fails s (Fault e) t r =
     (t.log.reads.faults ≡ s.log.reads.faults ++ e ∷ []) × (t.log.reads.zero_reads ≡ s.log.reads.zero_reads)
 
 -- as the reader of a body says it, where it stands. In a body of a length no byte is wrong
-abbrev pub IsNamed : Unread (Side (Unit {0}) Malformed) → Type 0
-IsNamed (unread.Wrong (side.First none) right) = ⊥
-IsNamed e = ⊤
-
 abbrev pub body_error : Side ℕ Place → Unread (Side (Unit {0}) Malformed) → BodyError
 body_error place (unread.Wrong (side.First none) right) = Truncated None
 body_error place (unread.Wrong (side.Second name) right) = Wrong name

@@ -3,7 +3,7 @@ use Rattle.std.specs.Prelude.{◌≡◌, ℕ, List, [], ◌∷◌, ◌++◌, len
 use Rattle.std.proofs.Common.{sym, ap, subst, ◌∙◌, arith, refl, append_assoc, append-nil, inl, inr}
 use Rattle.std.proofs.lemmas.List.{append_cancel_left}
 use Rattle.buffer_redux.specs.Block.{Block}
-use Rattle.buffer_redux.specs.Unbuffer.{StreamWent, Unbuffered}
+use Rattle.buffer_redux.specs.Unbuffer.{HandsOutInOrder, StreamWent, Unbuffered}
 use Rattle.buffer_redux.specs.UnbufferLaws.{StreamWent-joins, StreamWent-none}
 use Rattle.chunked.specs.BodyLaws.{IsBodyOfChunks-same, front_same}
 use Rattle.codec.specs.NextPiece.{NextPiece}
@@ -79,6 +79,14 @@ InTurn-joins Is (m ∷ ms) ns a b (f, more, one, is, equal) are =
 pub same_room : (b c : Block) → b.capacity ≡ c.capacity → b.limit ≡ c.limit → room_of b ≡ room_of c
 same_room b c capacity limit =
     ap (λ n. record { capacity = n; limit = b.limit }) capacity ∙ ap (λ n. record { capacity = c.capacity; limit = n }) limit
+
+-- of a stream that wasn't asked, what was handed out, and then what is left, was there
+pub handed_unasked : {S : Type 0} {s t : Unbuffered S} {bytes : List ℕ} → HandsOutInOrder s bytes t → t.log ≡ s.log
+    → bytes ++ t.left ≡ s.left
+handed_unasked {s = s} order same =
+    let none : order.got ≡ [] = append_cancel_left s.log.reads.given order.got []
+    (sym order.given ∙ ap (λ l. l.reads.given) same ∙ sym (append-nil s.log.reads.given)) in
+    order.equal ∙ ap (λ l. s.left ++ l) none ∙ append-nil s.left
 
 -- reads that each gave some, and then more such
 pub EachReadGave-joins : {S : Type 0} (s m t : Unbuffered S) → EachReadGave s m → EachReadGave m t → EachReadGave s t

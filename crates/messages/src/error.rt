@@ -1,6 +1,6 @@
 //! Why there is no payload.
-ghost use Rattle.std.specs.Prelude.{◌≡◌, IfErr};
-ghost use Rattle.messages.specs.Messages.{IsNamed, body_answer, body_error};
+ghost use Rattle.std.specs.Prelude.{◌≡◌};
+ghost use Rattle.messages.specs.Messages.{body_answer, body_error};
 
 use body_reader::{BodyError as Unread, Side};
 use chunked::{Malformed, Place};
@@ -45,14 +45,13 @@ impl From<io::Error> for BodyError {
     }
 }
 
-// Why a reader of a body handed none out, where it stands.
+// Why a reader of a body handed none out, where it stands. In a body of a length no byte is wrong.
 pub(crate) fn unread(place: Side<u64, Place>, e: Unread<Side<(), Malformed>>) -> BodyError
-    requires { IsNamed e }
     ensures { result ≡ body_error place e }
 {
     match e {
         Unread::Wrong(Side::Second(why), _) => BodyError::Wrong(why),
-        Unread::Wrong(Side::First(()), _) => unreachable!(),
+        Unread::Wrong(Side::First(()), _) => BodyError::Truncated(None),
         Unread::Truncated(_) => match place {
             Side::First(due) => BodyError::Truncated(Some(due)),
             Side::Second(_) => BodyError::Truncated(None),
@@ -66,7 +65,6 @@ pub(crate) fn answer_of(
     place: Side<u64, Place>,
     answer: Result<usize, Unread<Side<(), Malformed>>>,
 ) -> Result<usize, BodyError>
-    requires { IfErr answer IsNamed }
     ensures { result ≡ body_answer place answer }
 {
     match answer {

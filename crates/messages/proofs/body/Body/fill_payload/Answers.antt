@@ -1,11 +1,7 @@
 -- What the reader did, told of the body; an error is named where it stands then.
 use Rattle.messages.proofs.Going.{body_room}
-use Rattle.messages.proofs.Lending.{fill_ended, fill_named, filled}
+use Rattle.messages.proofs.Lending.{fill_ended, filled}
 use Rattle.messages.proofs.body.Body.fill_payload.Goals as goal
-
-pub answer_of-requires : goal.answer_of-requires
-answer_of-requires g c =
-    fill_named _ _ c.fill_payload-answer.new.self c.get_ref.ensures.whole _ c.fill_payload-answer.ensures.fills
 
 pub invariant_of-self : goal.invariant_of-self
 invariant_of-self g c =

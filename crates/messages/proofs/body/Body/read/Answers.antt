@@ -1,13 +1,8 @@
 -- What the reader did, told of the rest of the body: what it took leads to what is left of that.
 use Rattle.messages.specs.Messages.{Fails, ReadsBody, seen}
 use Rattle.messages.proofs.Going.{body_room}
-use Rattle.messages.proofs.Reading.{noted_so, read_named, reads_body}
+use Rattle.messages.proofs.Reading.{noted_so, reads_body}
 use Rattle.messages.proofs.body.Body.read.Goals as goal
-
-pub answer_of-requires : goal.answer_of-requires
-answer_of-requires g c =
-    read_named _ _ c.read_payload-answer.new.self c.get_ref.ensures.whole c.self.invariant.2 _ _
-    c.read_payload-answer.ensures.reads
 
 pub invariant_of-self : goal.invariant_of-self
 invariant_of-self g c =
