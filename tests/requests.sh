@@ -149,6 +149,8 @@ for coding in 'gzip, chunked' 'identity, chunked' 'gzip\r\nTransfer-Encoding: ch
 done
 row "${P}Transfer-Encoding: , chunked\r\n\r\n3\r\nabc\r\n0\r\n\r\n$G" '200:3 200:0'
 row "CONNECT a:1 HTTP/1.1\r\n$H\r\n$G" '501'
+row "CONNECT a:1 HTTP/1.1\r\n\r\n$G" '400'
+row "${P}${H}Transfer-Encoding: gzip, chunked\r\n\r\n$G" '400'
 for method in PUT DELETE OPTIONS TRACE PATCH; do
     row "$method / HTTP/1.1\r\n$H\r\n$G" '200:0 200:0'
 done

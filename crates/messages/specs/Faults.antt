@@ -1,5 +1,5 @@
 -- Why a text whose lines end as those of a head is none.
-use Rattle.std.specs.Prelude.{◌≡◌, ◌⊎◌, ℕ, ◌+◌, ◌≤◌, ◌==◌, ◌&&◌, nat_lt, if◌then◌else◌, Bool, true, false, List, [], count_by, length, Result, Ok, Err}
+use Rattle.std.specs.Prelude.{◌≡◌, ◌⊎◌, ℕ, ◌+◌, ◌≤◌, ◌==◌, ◌&&◌, ◌||◌, not, nat_lt, if◌then◌else◌, Bool, true, false, List, [], count_by, length, Result, Ok, Err}
 use Rattle.http1.specs.declared.fields.KnownFields.{KnownFields}
 use Rattle.http1.specs.declared.framing.Framing.{Framing}
 use Rattle.http1.specs.declared.framing.Framing.TheVariants.{NoBody, Length, Chunked, UntilClose}
@@ -7,7 +7,7 @@ use Rattle.http1.specs.declared.framing.FramingError.{FramingError}
 use Rattle.http1.specs.declared.framing.MethodKind.{MethodKind}
 use Rattle.http1.specs.declared.framing.MethodKind.TheVariants.{Head, Connect, Other}
 use Rattle.http1.specs.Framing.{method_kind, request_framing}
-use Rattle.http1.specs.Message.{known_of}
+use Rattle.http1.specs.Message.{has_one_host, known_of}
 use Rattle.httparse.specs.Grammar.{ReadsRequest, RequestHead}
 use Rattle.messages.specs.Limits.{fields_of}
 use Rattle.messages.specs.Versions.{behind_blank, first_line, has_other_version}
@@ -39,12 +39,17 @@ ends_chunked (Ok (Length len)) = false
 ends_chunked (Ok UntilClose) = false
 ends_chunked (Err e) = false
 
--- what is wrong with a head that says so: behind it begins a tunnel; or its body ends plainly, by chunks, which hold another
--- coding
+-- for whom it is doesn't show plainly, or where its body ends
+abbrev pub is_doubtful : ℕ → KnownFields → Bool
+is_doubtful minor known = not (has_one_host minor known) || nat_lt 1 known.framing_fields
+
+-- what is wrong with a head that says so: that; or behind it begins a tunnel; or its body ends plainly, by chunks, which hold
+-- another coding
 abbrev pub said_fault : MethodKind → ℕ → KnownFields → BadHead
 said_fault method minor known =
-    if is_connect method then Tunnel
-    else (if known.other_coding && ends_chunked (request_framing method minor known) then Coding else Refused)
+    if is_doubtful minor known then Refused
+    else (if is_connect method then Tunnel
+    else (if known.other_coding && ends_chunked (request_framing method minor known) then Coding else Refused))
 
 abbrev pub head_fault : RequestHead → BadHead
 head_fault h = said_fault (method_kind h.method) h.minor (known_of h.fields)

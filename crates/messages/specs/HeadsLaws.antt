@@ -14,11 +14,11 @@ use Rattle.http1.specs.Framing.{method_kind, request_framing}
 use Rattle.http1.specs.Message.{known_of}
 use Rattle.httparse.proofs.GrammarLemmas.{request_unique}
 use Rattle.messages.specs.declared.bad_head.BadHead.{BadHead}
-use Rattle.messages.specs.declared.bad_head.BadHead.TheVariants.{BareEnd, LongLine, LongHead, ManyFields, CutShort, Version, Tunnel, Coding, Refused}
+use Rattle.messages.specs.declared.bad_head.BadHead.TheVariants.{ManyFields, CutShort, Version, Tunnel, Coding, Refused}
 use Rattle.messages.specs.declared.limits.Limits.{Limits}
 use Rattle.messages.specs.declared.lines.Before.{Before}
 use Rattle.messages.specs.declared.lines.Before.TheVariants.{Start, StartReturn, First, FirstReturn, Feed, Text, Return, EmptyReturn}
-use Rattle.messages.specs.Faults.{IsHeadFault, ends_chunked, has_many_lines, head_fault, is_connect, lines_fault, said_fault}
+use Rattle.messages.specs.Faults.{IsHeadFault, ends_chunked, has_many_lines, head_fault, is_connect, is_doubtful, lines_fault, said_fault}
 use Rattle.messages.specs.Heads.{IsHead, IsNoHead, heads}
 use Rattle.messages.specs.Lines.{fault_on, fault_then, lines, texts, too_long, turn}
 use Rattle.messages.specs.LinesLaws.{line_fault_stays, lines_small, texts_lawful}
@@ -99,7 +99,9 @@ whole_if false a b is is' = is'
 whole_said : (method : MethodKind) (minor : ℕ) (known : KnownFields) → is_cut (said_fault method minor known) ≡ false
 whole_said method minor known =
     let coded = known.other_coding && ends_chunked (request_framing method minor known) in
-    whole_if (is_connect method) Tunnel (if coded then Coding else Refused) refl (whole_if coded Coding Refused refl refl)
+    let plain = if is_connect method then Tunnel else (if coded then Coding else Refused) in
+    whole_if (is_doubtful minor known) Refused plain refl
+    (whole_if (is_connect method) Tunnel (if coded then Coding else Refused) refl (whole_if coded Coding Refused refl refl))
 
 whole_text : (limits : Limits) (text : List ℕ) → is_cut (lines_fault limits text) ≡ false
 whole_text limits text =

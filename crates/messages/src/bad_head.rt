@@ -14,7 +14,7 @@ pub enum BadHead {
     LongHead,
     /// It has more lines than a head may have fields. 431.
     ManyFields,
-    /// The stream ended within it, behind so many bytes.
+    /// The stream ended within it, behind so many bytes. These may be empty lines alone, which say nothing.
     CutShort(usize),
     /// The first line names a version of HTTP other than 1. 505.
     Version,

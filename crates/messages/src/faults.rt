@@ -3,7 +3,7 @@ ghost use Rattle.std.specs.Prelude.{◌≡◌};
 ghost use Rattle.messages.specs.Faults.{IsHeadFault, ends_chunked, has_many_lines, lines_fault, said_fault, text_fault};
 
 use crate::bad_head::BadHead;
-use crate::head::MAX_FIELDS;
+use crate::head::{MAX_FIELDS, has_one_host};
 use crate::limits::{Limits, fields_of};
 use crate::version::{blank_len, first_len, has_other_version};
 use http1::fields::KnownFields;
@@ -34,6 +34,9 @@ pub(crate) fn fault(head: &[u8], limits: Limits) -> BadHead
 fn said_fault(method: MethodKind, minor: u8, known: &KnownFields) -> BadHead
     ensures { result ≡ said_fault method minor known.now }
 {
+    if !has_one_host(minor, known) || known.framing_fields > 1 {
+        return BadHead::Refused;
+    }
     if matches!(method, MethodKind::Connect) {
         return BadHead::Tunnel;
     }

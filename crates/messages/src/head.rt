@@ -219,7 +219,7 @@ fn extent_of(framing: Result<Framing, FramingError>) -> Option<Extent>
     }
 }
 
-fn has_one_host(minor: u8, known: &KnownFields) -> bool
+pub(crate) fn has_one_host(minor: u8, known: &KnownFields) -> bool
     ensures { result ≡ has_one_host minor known.now }
 {
     known.hosts == 1 || known.hosts == 0 && minor == 0
