@@ -1,20 +1,9 @@
 -- Where calls of the reader of a body ask its stream, and where they don't.
 use Rattle.std.proofs.Common.{◌≡◌, ℕ, ◌+◌, ◌<◌, ◌∙◌, List, [], ◌∷◌, ◌++◌, length, take, inl, inr, Option, Result, Ok, Err, ap, subst, arith, refl, append-nil, length-append}
-use Rattle.std.proofs.lemmas.Bool.{cases_lt}
-use Rattle.std.proofs.lemmas.List.{length-take-le, nil_from_length}
-use Rattle.buffer_redux.specs.Asking.{AskedWhere}
+use Rattle.messages.specs.Names.{AskedFor, AskedIn, AskedWhere, AsksForMore, BeginsRest, body_rules, BodyWent, cases_lt, Drains, FillsPayload, handed_of, IsBody, IsBodyReader, IsRest, LeadsOpen, left_in, length-take-le, Malformed, nil_from_length, none_wrong, NoPayload, Reader, ReadsAlong-stream, ReadsPayload, Side, std_read_rules, stream_of, TookWholeBody, unbuffered, Unended}
 use Rattle.buffer_redux.specs.AskingLaws.{AskedWhere-of}
-use Rattle.body_reader.specs.BodyReader.{BodyWent, Drains, FillsPayload, IsBodyReader, NoPayload, ReadsPayload, TookWholeBody, handed_of}
 use Rattle.body_reader.specs.declared.error.BodyError.{BodyError as Unread}
 use Rattle.body_reader.specs.declared.error.BodyError.TheVariants as unread
-use Rattle.body_reader.specs.declared.either.Side.{Side}
-use Rattle.body_reader.specs.Coding.{AskedFor, IsBody, LeadsOpen}
-use Rattle.body_reader.specs.CodingLaws.{none_wrong}
-use Rattle.buffer_redux.specs.Policy.{std_read_rules}
-use Rattle.buffer_redux.specs.Unbuffer.{unbuffered}
-use Rattle.buffer_redux.specs.UnbufferLaws.{ReadsAlong-stream}
-use Rattle.chunked.specs.declared.error.Malformed.{Malformed}
-use Rattle.messages.specs.Messages.{AskedIn, AsksForMore, BeginsRest, IsRest, Reader, Unended, body_rules, left_in, stream_of}
 use Rattle.messages.specs.MessagesLaws.{handed_unasked}
 use Rattle.messages.proofs.Going.{asked_in, ended_is, goes_on, lawful}
 

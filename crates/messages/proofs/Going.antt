@@ -1,36 +1,20 @@
 -- What calls of the reader of a body take of it and of its stream, and why they fail.
 use Rattle.std.proofs.Common.{◌≡◌, ℕ, zero, suc, ◌+◌, ◌<◌, ◌≤◌, List, [], ◌++◌, length, min, take, ◌⊎◌, inl, inr, Option, Err, sym, ap, subst, ◌∙◌, arith, refl, append-nil}
 use Rattle.std.specs.Prelude.{⊤}
-use Rattle.std.proofs.lemmas.List.{length-take-le, nil_from_length}
+use Rattle.messages.specs.Names.{Agree-nothing, AskedIn, Backward, BeginsRest, body_error, body_rules, BodyCoding, BodyWent, Breaks, chunked, chunked_lawful, Drains, EndsEarly, Fails, FinishFails, GoesWrong, handed_of, InPieces, InsideGoes, IsBodyReader, IsRest, IsRoomy, Leads-done, Leads-whole, LeavesPlaces, LeavesRoom, left_in, length-take-le, Limits, Malformed, nil_from_length, NoPayload, NotesEach, Onward, ParsedHead, Place, Reader, ReadsAlong-stream, Rest, rest_of, room_of, RunsShort, seen, Side, sized_lawful, std_read_rules, stream_of, StreamLog, sure_of, TakesFromRest, TakesManyPieces, TakesPiece, TakesWholeRest, TookWholeBody, Unbuffered, unbuffered}
 use Rattle.body_reader.specs.Between as between
-use Rattle.body_reader.specs.Between.{LeavesPlaces, LeavesRoom}
-use Rattle.body_reader.specs.BodyReader.{BodyWent, Breaks, Drains, EndsEarly, InPieces, IsBodyReader, NoPayload, TakesManyPieces, TakesPiece, TookWholeBody, handed_of}
 use Rattle.body_reader.specs.BetweenLaws.{EachGave-joins, EachGave-none, EachGave-once, EachGave-same}
 use Rattle.body_reader.specs.BodyReaderLaws.{BodyWent-leads}
 use Rattle.body_reader.specs.Coding.{Agree, AskedFor, Grammar, IsDone, IsLawful, IsOpen, Leads, LeadsOpen, heeded}
-use Rattle.body_reader.specs.CodingLaws.{Agree-nothing, Leads-done, Leads-whole}
 use Rattle.body_reader.specs.EitherLaws.{either_lawful}
 use Rattle.body_reader.specs.Sized.{sized}
-use Rattle.body_reader.specs.SizedLaws.{sized_lawful}
 use Rattle.body_reader.specs.declared.error.BodyError.{BodyError as Unread}
 use Rattle.body_reader.specs.declared.error.BodyError.TheVariants as unread
 use Rattle.body_reader.specs.declared.either.Either.TheVariants as coding
-use Rattle.body_reader.specs.declared.either.Side.{Side}
 use Rattle.body_reader.specs.declared.either.Side.TheVariants as side
-use Rattle.buffer_redux.specs.Policy.{std_read_rules}
 use Rattle.buffer_redux.specs.Buffered.{Buffered}
-use Rattle.buffer_redux.specs.StreamLog.{StreamLog}
 use Rattle.buffer_redux.specs.declared.policy.StdPolicy.{StdPolicy}
-use Rattle.buffer_redux.specs.Unbuffer.{Unbuffered, unbuffered}
-use Rattle.buffer_redux.specs.UnbufferLaws.{ReadsAlong-stream}
-use Rattle.chunked.specs.Coding.{chunked}
-use Rattle.chunked.specs.CodingLaws.{chunked_lawful}
-use Rattle.chunked.specs.declared.error.Malformed.{Malformed}
-use Rattle.chunked.specs.declared.place.Place.{Place}
 use Rattle.messages.specs.MessagesLaws.{same_room}
-use Rattle.messages.specs.Messages.{AskedIn, Backward, BeginsRest, BodyCoding, Fails, FinishFails, GoesWrong, InsideGoes, IsRest, IsRoomy, NotesEach, Onward, Reader, Rest, RunsShort, TakesFromRest, TakesWholeRest, body_error, body_rules, left_in, rest_of, room_of, seen, stream_of, sure_of}
-use Rattle.messages.specs.declared.head.ParsedHead.{ParsedHead}
-use Rattle.messages.specs.declared.limits.Limits.{Limits}
 use Rattle.messages.specs.declared.error.BodyError.TheVariants.{Wrong}
 
 -- what is left of a body is what completes it

@@ -1,27 +1,12 @@
 -- What is lent of a body, and taken, told of what is left of it.
 use Rattle.std.proofs.Common.{◌≡◌, ◌⊎◌, ◌<◌, ◌∙◌, ◌-◌, ◌≤◌, ℕ, List, [], ◌++◌, drop, length, min, take, Option, Result, Ok, Err, ap, inl, inr, subst, sym, arith, refl, append-nil, length-append, length-take-le, take-append-drop, IfOk, MatchResult}
-use Rattle.std.proofs.lemmas.Bool.{cases_lt}
-use Rattle.std.proofs.lemmas.List.{append_cancel_left}
-use Rattle.body_reader.specs.BodyReader.{ConsumesPayload, FillsPayload, IsBodyReader}
-use Rattle.body_reader.specs.Coding.{IsKnown}
+use Rattle.messages.specs.Names.{append_cancel_left, body_answer, body_rules, BodyCoding, Bytes, cases_lt, chunked_lawful, Chunks, ConsumesInside, ConsumesPayload, data_leads, EachReadGave, Fails, FillsInside, FillsPayload, follows, InBody, InChunk, IsBodyReader, IsKnown, IsPayload, IsRest, IsRoomy, left_in, Limits, Malformed, ParsedHead, Place, Reader, ReadsAlong-stream, rest_of, seen, Side, sized_lawful, std_read_rules, stream_of, sure_of}
 use Rattle.body_reader.specs.declared.error.BodyError.{BodyError as Unread}
 use Rattle.body_reader.specs.declared.either.Either.TheVariants as coding
-use Rattle.body_reader.specs.declared.either.Side.{Side}
 use Rattle.body_reader.specs.declared.either.Side.TheVariants as side
-use Rattle.body_reader.specs.SizedLaws.{sized_lawful}
-use Rattle.buffer_redux.specs.Policy.{std_read_rules}
-use Rattle.buffer_redux.specs.UnbufferLaws.{ReadsAlong-stream}
-use Rattle.chunked.specs.Coding.{InChunk}
-use Rattle.chunked.specs.CodingLaws.{chunked_lawful, data_leads, follows}
-use Rattle.chunked.specs.declared.error.Malformed.{Malformed}
 use Rattle.chunked.specs.declared.limits.Limits.{Limits as ChunkLimits}
-use Rattle.chunked.specs.declared.place.Place.{Place}
 use Rattle.chunked.specs.declared.place.Place.TheVariants.{Data}
 use Rattle.messages.specs.declared.error.BodyError.{BodyError}
-use Rattle.messages.specs.declared.head.ParsedHead.{ParsedHead}
-use Rattle.messages.specs.declared.limits.Limits.{Limits}
-use Rattle.messages.specs.Lending.{ConsumesInside, FillsInside, IsPayload}
-use Rattle.messages.specs.Messages.{BodyCoding, Bytes, Chunks, EachReadGave, Fails, InBody, IsRest, IsRoomy, Reader, body_answer, body_rules, left_in, rest_of, seen, stream_of, sure_of}
 use Rattle.messages.specs.MessagesLaws.{handed_unasked}
 use Rattle.messages.proofs.Asking.{fill_asked, fill_asks}
 use Rattle.messages.proofs.Going.{body_done, body_fails, body_goes, is_ended, keep, lawful, rest_is, sure_is}

@@ -2,20 +2,11 @@
 use Rattle.std.proofs.Common.{◌≡◌, ℕ, List, [], ◌++◌, length, take, OnOk, Option, Result, Ok, Err, ap, inr, subst}
 use Rattle.std.specs.declared.io.Error.{Error}
 use Rattle.body_reader.specs.Between as between
-use Rattle.body_reader.specs.Between.{handed_out}
+use Rattle.messages.specs.Names.{after_read, BecomesIo, body_answer, body_error, body_rules, Fails, handed_out, InBody, IsRoomy, left_in, Limits, Malformed, ParsedHead, Place, Reader, ReadsAsIo, ReadsBody, Rest, seen, Side, std_read_rules, stream_of, StreamLog, Unbuffered}
 use Rattle.body_reader.specs.BodyReader.{IsBodyReader, NotedIfOk, ReadsAsIo as ReadsPayloadAsIo, ReadsPayload, handed_of}
 use Rattle.body_reader.specs.declared.error.BodyError.{BodyError as Unread}
 use Rattle.body_reader.specs.declared.error.BodyError.TheVariants as unread
-use Rattle.body_reader.specs.declared.either.Side.{Side}
 use Rattle.body_reader.specs.declared.either.Side.TheVariants as side
-use Rattle.buffer_redux.specs.Policy.{std_read_rules}
-use Rattle.buffer_redux.specs.StreamLog.{StreamLog, after_read}
-use Rattle.buffer_redux.specs.Unbuffer.{Unbuffered}
-use Rattle.chunked.specs.declared.error.Malformed.{Malformed}
-use Rattle.chunked.specs.declared.place.Place.{Place}
-use Rattle.messages.specs.declared.head.ParsedHead.{ParsedHead}
-use Rattle.messages.specs.declared.limits.Limits.{Limits}
-use Rattle.messages.specs.Messages.{BecomesIo, Fails, InBody, IsRoomy, Reader, ReadsAsIo, ReadsBody, Rest, body_answer, body_error, body_rules, left_in, seen, stream_of}
 use Rattle.messages.proofs.Asking.{body_asked, body_asks}
 use Rattle.messages.proofs.Going.{IsNamed, body_done, body_fails, body_goes, body_named, body_room}
 use Rattle.messages.proofs.Handing.{hands_most}

@@ -1,9 +1,7 @@
 -- What a call says first, in words of lists.
 use Rattle.std.proofs.Common.{◌≡◌, ◌↔◌, ℕ, Option, List, [], ◌++◌, drop, Bool, IsTrue, sym, subst, refl}
-use Rattle.buffer_redux.specs.Unbuffer.{Unbuffered}
-use Rattle.codec.specs.PieceReader.{ReaderState, left_of, rest}
+use Rattle.messages.specs.Names.{Begun, Bytes, InBody, IsRest, left_of, ReaderState, Rest, rest, TakesWholeRest, Unbuffered}
 use Rattle.messages.specs.declared.head.Heads.{Heads}
-use Rattle.messages.specs.Messages.{Begun, Bytes, InBody, IsRest, Rest, TakesWholeRest}
 use Rattle.messages.specs.MessagesLaws.{Begun-went, handed_unasked}
 
 -- a body of a length ended where no byte is left of it

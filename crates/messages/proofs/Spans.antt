@@ -1,9 +1,6 @@
 -- Where fields stand.
 use Rattle.std.proofs.Common.{◌≡◌, ◌≤◌, ℕ, List, [], ◌∷◌, length, map, take, drop, All, ap, subst, arith}
-use Rattle.std.proofs.lemmas.List.{length-drop, length-map, length-take-le, nil_from_length}
-use Rattle.std.proofs.lemmas.List.Elements.{All-nil, All-cons, All-head, All-tail}
-use Rattle.httparse.specs.Grammar.{ReadsRequest, RequestHead}
-use Rattle.httparse.specs.Spans.{IsRequestAt, header_bytes, name_and_value}
+use Rattle.messages.specs.Names.{All-cons, All-head, All-nil, All-tail, header_bytes, IsRequestAt, length-drop, length-map, length-take-le, name_and_value, nil_from_length, ReadsRequest, RequestHead}
 use Rattle.httparse.specs.declared.spans.HeaderSpan.{HeaderSpan}
 use Rattle.httparse.specs.declared.spans.RequestSpans.{RequestSpans}
 

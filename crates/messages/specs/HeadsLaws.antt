@@ -1,28 +1,12 @@
 -- Laws of heads.
 use Rattle.std.specs.Prelude.{◌≡◌, ℕ, ◌≤◌, Bool, true, false, ◌&&◌, List, [], ◌∷◌, ◌++◌, length, take, if◌then◌else◌}
 use Rattle.std.proofs.Common.{sym, ap, subst, inl, inr, ◌∙◌, arith, refl, append_assoc, length-append}
-use Rattle.std.proofs.lemmas.Bool.{true≢false}
-use Rattle.std.proofs.lemmas.List.{length-drop}
-use Rattle.codec.specs.declared.HeaderError.{HeaderError}
-use Rattle.codec.specs.declared.scan.ScanStep.{ScanStep}
-use Rattle.codec.specs.declared.scan.ScanStep.TheVariants.{More, Sized, Bad}
-use Rattle.codec.specs.Grammar.{Begins, IsLawful}
-use Rattle.codec.specs.ScanningLaws.{scanned_headers}
+use Rattle.messages.specs.Names.{as_known, Bad, Before, Begins, behind_blank, EmptyReturn, ends_chunked, fault_on, fault_then, Feed, First, first_line, FirstReturn, has_many_lines, has_other_version, head_fault, HeaderError, heads, is_connect, is_doubtful, IsHead, IsHeadFault, IsLawful, IsNoHead, known_of, length-drop, Limits, lines, lines_fault, method_kind, More, request_framing, request_unique, Return, said_fault, scanned_headers, ScanStep, Sized, Start, StartReturn, Text, texts, too_long, true≢false, turn}
 use Rattle.http1.specs.declared.fields.KnownFields.{KnownFields}
 use Rattle.http1.specs.declared.framing.MethodKind.{MethodKind}
-use Rattle.http1.specs.Framing.{method_kind, request_framing}
-use Rattle.http1.specs.Message.{known_of}
-use Rattle.httparse.proofs.GrammarLemmas.{request_unique}
 use Rattle.messages.specs.declared.bad_head.BadHead.{BadHead}
 use Rattle.messages.specs.declared.bad_head.BadHead.TheVariants.{ManyFields, CutShort, Version, Tunnel, Coding, Refused}
-use Rattle.messages.specs.declared.limits.Limits.{Limits}
-use Rattle.messages.specs.declared.lines.Before.{Before}
-use Rattle.messages.specs.declared.lines.Before.TheVariants.{Start, StartReturn, First, FirstReturn, Feed, Text, Return, EmptyReturn}
-use Rattle.messages.specs.Faults.{IsHeadFault, ends_chunked, has_many_lines, head_fault, is_connect, is_doubtful, lines_fault, said_fault}
-use Rattle.messages.specs.Heads.{IsHead, IsNoHead, heads}
-use Rattle.messages.specs.Lines.{fault_on, fault_then, lines, texts, too_long, turn}
 use Rattle.messages.specs.LinesLaws.{line_fault_stays, lines_small, texts_lawful}
-use Rattle.messages.specs.Versions.{as_known, behind_blank, first_line, has_other_version}
 
 -- no head has more bytes
 pub text_few : (bytes none : List ℕ) → texts.piece bytes none → length bytes ≤ 16384

@@ -10,3 +10,4 @@ pub mod MessagesLaws
 pub mod Passing
 pub mod Target
 pub mod Versions
+pub mod Names

@@ -1,19 +1,12 @@
 -- What is wrong with lines stays so.
 use Rattle.std.specs.Prelude.{◌≡◌, ℕ, zero, suc, ◌+◌, List, [], ◌∷◌, ◌++◌, take}
 use Rattle.std.proofs.Common.{sym, ◌∙◌, arith, refl}
-use Rattle.codec.specs.declared.HeaderError.{HeaderError}
+use Rattle.messages.specs.Names.{Bad, Before, fault_on, fault_then, HeaderError, IsLawful, line_fault, lines, More, scanned_headers, ScanStep, Sized, Start, texts, turn}
 use Rattle.codec.specs.declared.HeaderError.TheVariants.{NoHeader, TooLong, NoTail, Truncated}
 use Rattle.codec.specs.declared.Header.{Header}
 use Rattle.codec.specs.declared.Header.TheVariants as header
-use Rattle.codec.specs.declared.scan.ScanStep.{ScanStep}
-use Rattle.codec.specs.declared.scan.ScanStep.TheVariants.{More, Sized, Bad}
-use Rattle.codec.specs.Grammar.{IsLawful}
 use Rattle.codec.specs.HeaderFormatLaws.{length_prefixed_lawful}
 use Rattle.codec.specs.Scanning.{IsSmall, says, scan_on, scanned}
-use Rattle.codec.specs.ScanningLaws.{scanned_headers}
-use Rattle.messages.specs.declared.lines.Before.{Before}
-use Rattle.messages.specs.declared.lines.Before.TheVariants.{Start}
-use Rattle.messages.specs.Lines.{fault_on, fault_then, line_fault, lines, texts, turn}
 
 pub lines_small : IsSmall lines
 lines_small = record { some = omega arith; small = omega arith }

@@ -1,25 +1,12 @@
 -- Laws of messages.
 use Rattle.std.specs.Prelude.{◌≡◌, ℕ, List, [], ◌∷◌, ◌++◌, length, Option, Some, Ok}
 use Rattle.std.proofs.Common.{sym, ap, subst, ◌∙◌, arith, refl, append_assoc, append-nil, inl, inr}
-use Rattle.std.proofs.lemmas.List.{append_cancel_left}
-use Rattle.buffer_redux.specs.Block.{Block}
-use Rattle.buffer_redux.specs.Unbuffer.{HandsOutInOrder, StreamWent, Unbuffered}
-use Rattle.buffer_redux.specs.UnbufferLaws.{StreamWent-joins, StreamWent-none}
+use Rattle.messages.specs.Names.{append_cancel_left, AreMessages, as_known, Backward, Begun, Block, body_of, EachReadGave, Extent, extent_of, HandsOutInOrder, heads, InBody, InsideGoes, InTurn, IsHead, IsHeadPiece, IsMessage, IsRest, known_of, left_of, Limits, Message, MessagesWent, method_kind, NextPiece, Onward, ReaderState, request_framing, request_unique, Rest, room_of, StreamWent, StreamWent-joins, StreamWent-none, TakesFromRest, Unbuffered}
 use Rattle.chunked.specs.BodyLaws.{IsBodyOfChunks-same, front_same}
-use Rattle.codec.specs.NextPiece.{NextPiece}
 use Rattle.codec.specs.PiecesWentLaws.{PiecesWent-stream}
-use Rattle.codec.specs.PieceReader.{ReaderState, left_of}
-use Rattle.httparse.proofs.GrammarLemmas.{request_unique}
-use Rattle.http1.specs.Framing.{method_kind, request_framing}
-use Rattle.http1.specs.Message.{known_of}
-use Rattle.messages.specs.declared.head.Extent.{Extent}
 use Rattle.messages.specs.declared.head.Extent.TheVariants.{Sized, Chunked}
 use Rattle.messages.specs.declared.head.Heads as head
-use Rattle.messages.specs.declared.limits.Limits.{Limits}
-use Rattle.messages.specs.Heads.{IsHead, IsHeadPiece, extent_of, heads}
 use Rattle.messages.specs.HeadsLaws.{heads_lawful}
-use Rattle.messages.specs.Versions.{as_known}
-use Rattle.messages.specs.Messages.{AreMessages, Backward, Begun, EachReadGave, InBody, InTurn, InsideGoes, IsMessage, IsRest, Message, MessagesWent, Onward, Rest, TakesFromRest, body_of, room_of}
 
 -- a body ends in one place
 one_body : (limits : Limits) (e : Extent) (a b p q xs ys : List ℕ) → IsRest (body_of limits e) a p → IsRest (body_of limits e) b q

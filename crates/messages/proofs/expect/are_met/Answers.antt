@@ -1,9 +1,6 @@
 -- Each field so far is met, and all are behind the last; one that isn't is among them.
 use Rattle.std.proofs.Common.{◌≤◌, length, All, IsTrue, take_all, sym, refl, ◌∙◌, subst, arith}
-use Rattle.std.proofs.lemmas.Bool.{false≢true}
-use Rattle.std.proofs.lemmas.List.Elements.{All-map, All-get_or, All-more}
-use Rattle.httparse.specs.Spans.{header_bytes}
-use Rattle.messages.specs.Heads.{is_met}
+use Rattle.messages.specs.Names.{All-get_or, All-map, All-more, false≢true, header_bytes, is_met}
 use Rattle.messages.proofs.Spans.{all_of_map, no_span}
 use Rattle.messages.proofs.expect.are_met.Goals as goal
 

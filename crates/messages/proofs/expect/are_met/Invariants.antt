@@ -1,6 +1,5 @@
 use Rattle.std.proofs.Common.{All, IsTrue, take}
-use Rattle.httparse.specs.Spans.{header_bytes}
-use Rattle.messages.specs.Heads.{is_met}
+use Rattle.messages.specs.Names.{header_bytes, is_met}
 use Rattle.messages.proofs.expect.are_met.Given as goal
 
 -- those before are so

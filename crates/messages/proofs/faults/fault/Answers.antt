@@ -1,10 +1,6 @@
 -- A text reads as one head, so what is found in its spans is what its fault is told by.
 use Rattle.std.proofs.Common.{◌≡◌, ◌∙◌, [], inl, inr, length, ap, arith}
-use Rattle.http1.specs.Fields.{known_fields}
-use Rattle.http1.specs.Framing.{method_kind}
-use Rattle.http1.specs.Message.{known_of}
-use Rattle.httparse.proofs.GrammarLemmas.{request_unique}
-use Rattle.messages.specs.Faults.{said_fault}
+use Rattle.messages.specs.Names.{known_fields, known_of, method_kind, request_unique, said_fault}
 use Rattle.messages.proofs.Spans.{fields_counted, reads_whole}
 use Rattle.messages.proofs.faults.fault.Goals as goal
 

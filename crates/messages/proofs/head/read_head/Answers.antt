@@ -1,7 +1,6 @@
 -- The default limits are the usual ones.
 use Rattle.std.proofs.Common.{OnErr, subst}
-use Rattle.messages.specs.declared.head.ParsedHead.{ParsedHead}
-use Rattle.messages.specs.Heads.{IsHead}
+use Rattle.messages.specs.Names.{IsHead, ParsedHead}
 use Rattle.messages.proofs.head.read_head.Goals as goal
 
 pub returns-clause-none : goal.returns-clause-none

@@ -1,7 +1,6 @@
 -- A head of a later version counts as with a 1 in place of that byte, and any other as it stands.
 use Rattle.std.proofs.Common.{◌∙◌, ap, subst, sym}
-use Rattle.messages.specs.Heads.{IsKnownHead}
-use Rattle.messages.specs.Versions.{with_one}
+use Rattle.messages.specs.Names.{IsKnownHead, with_one}
 use Rattle.messages.proofs.HeadsRead.{on_err}
 use Rattle.messages.proofs.head.read_head_within.Goals as goal
 

@@ -1,17 +1,6 @@
 -- A text reads as one head, so each test of its spans is one of that head.
 use Rattle.std.proofs.Common.{◌≡◌, ◌↔◌, ◌∙◌, ℕ, List, [], length, map, All, IsTrue, Option, None, Some, sym, ap, subst, arith, rules}
-use Rattle.std.proofs.lemmas.Bool.{false≢true}
-use Rattle.http1.specs.Fields.{known_fields}
-use Rattle.http1.specs.Framing.{method_kind, request_framing}
-use Rattle.http1.specs.Message.{has_one_host, known_of}
-use Rattle.httparse.proofs.GrammarLemmas.{request_unique}
-use Rattle.httparse.specs.Grammar.{ReadsRequest, RequestHead}
-use Rattle.httparse.specs.Spans.{name_and_value}
-use Rattle.messages.specs.Target.{IsPlainField, IsTarget}
-use Rattle.messages.specs.declared.head.Extent.{Extent}
-use Rattle.messages.specs.declared.head.ParsedHead.{ParsedHead}
-use Rattle.messages.specs.declared.limits.Limits.{Limits}
-use Rattle.messages.specs.Heads.{IsKnownHead, expects, extent_of, is_met, keeps}
+use Rattle.messages.specs.Names.{expects, Extent, extent_of, false≢true, has_one_host, is_met, IsKnownHead, IsPlainField, IsTarget, keeps, known_fields, known_of, Limits, method_kind, name_and_value, ParsedHead, ReadsRequest, request_framing, request_unique, RequestHead}
 use Rattle.messages.proofs.Spans.{fields_counted, reads_whole}
 use Rattle.messages.proofs.head.said_of.Goals as goal
 

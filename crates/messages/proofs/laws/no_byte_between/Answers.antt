@@ -1,7 +1,6 @@
 -- Messages join where the one ends and the next begins, and a text is cut into so many in one way.
 use Rattle.std.proofs.Common.{◌++◌, Some, ap, sym, ◌∙◌}
-use Rattle.buffer_redux.specs.UnbufferLaws.{StreamWent-front}
-use Rattle.codec.specs.PieceReader.{left_of}
+use Rattle.messages.specs.Names.{left_of, StreamWent-front}
 use Rattle.messages.specs.MessagesLaws.{MessagesWent-joins, MessagesWent-one, one_cut}
 use Rattle.messages.proofs.laws.no_byte_between.Goals as goal
 

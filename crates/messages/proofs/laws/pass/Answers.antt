@@ -1,8 +1,6 @@
 -- The next message joins those that went, and it keeps the room and the limits.
 use Rattle.std.proofs.Common.{[], ◌∷◌, ◌++◌, ◌∙◌, arith, length-append, refl, subst}
-use Rattle.buffer_redux.specs.UnbufferLaws.{StreamWent-none}
-use Rattle.codec.specs.PieceReader.{left_of}
-use Rattle.messages.specs.Messages.{MessagesWent}
+use Rattle.messages.specs.Names.{left_of, MessagesWent, StreamWent-none}
 use Rattle.messages.specs.MessagesLaws.{EachReadGave-joins, MessagesWent-joins}
 use Rattle.messages.proofs.laws.pass.Goals as goal
 

@@ -1,6 +1,5 @@
 use Rattle.std.proofs.Common.{◌≡◌, List, length}
-use Rattle.codec.specs.PieceReader.{left_of}
-use Rattle.messages.specs.Messages.{EachReadGave, Message, MessagesWent, room_of}
+use Rattle.messages.specs.Names.{EachReadGave, left_of, Message, MessagesWent, room_of}
 use Rattle.messages.proofs.laws.pass.Given as goal
 
 -- these messages went, and no read failed, or gave nothing; and the buffer takes what it took

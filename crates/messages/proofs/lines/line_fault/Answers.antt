@@ -1,8 +1,6 @@
 -- As many bytes as a head may have are its first 16384, or all where there are fewer.
 use Rattle.std.proofs.Common.{◌∙◌, ap}
-use Rattle.std.proofs.lemmas.List.{take_min}
-use Rattle.messages.specs.declared.lines.Before.TheVariants.{Start}
-use Rattle.messages.specs.Lines.{fault_on}
+use Rattle.messages.specs.Names.{fault_on, Start, take_min}
 use Rattle.messages.proofs.lines.line_fault.Goals as goal
 
 pub returns : goal.returns

@@ -1,6 +1,5 @@
 use Rattle.std.proofs.Common.{◌≡◌, drop}
-use Rattle.messages.specs.declared.lines.Before.TheVariants.{Start}
-use Rattle.messages.specs.Lines.{fault_on}
+use Rattle.messages.specs.Names.{fault_on, Start}
 use Rattle.messages.proofs.lines.text_fault.Given as goal
 
 -- what is wrong is so from here on

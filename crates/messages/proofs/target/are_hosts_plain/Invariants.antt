@@ -1,6 +1,5 @@
 use Rattle.std.proofs.Common.{All, take}
-use Rattle.httparse.specs.Spans.{header_bytes}
-use Rattle.messages.specs.Target.{IsPlainField}
+use Rattle.messages.specs.Names.{header_bytes, IsPlainField}
 use Rattle.messages.proofs.target.are_hosts_plain.Given as goal
 
 -- those before are so

@@ -1,8 +1,7 @@
 -- The text begins with a letter, and behind the scheme stands `://`, so what follows decides.
 use Rattle.std.proofs.Common.{◌+◌, ◌↔◌, ◌∙◌, IsTrue, codes, drop, nat_eq, rules, subst, sym, take}
-use Rattle.std.proofs.lemmas.Bool.{false≢true}
+use Rattle.messages.specs.Names.{begins_with_letter, false≢true, is_web, IsBehindScheme}
 use Rattle.std.specs.List.{starts_with}
-use Rattle.messages.specs.Target.{IsBehindScheme, begins_with_letter, is_web}
 use Rattle.messages.proofs.Rest.{take-drop}
 use Rattle.messages.proofs.target.is_absolute.Goals.{then-begins_with_letter, else-begins_with_letter}
 use Rattle.messages.proofs.target.is_absolute.Goals as goal

@@ -1,7 +1,6 @@
 -- It is no name, so it is a host just where what stands behind the bracket is bracketed.
 use Rattle.std.proofs.Common.{◌↔◌, IsTrue, inl, inr, subst, sym, ◌∙◌}
-use Rattle.std.proofs.lemmas.Bool.{false≢true}
-use Rattle.messages.specs.Target.{IsBracketed}
+use Rattle.messages.specs.Names.{false≢true, IsBracketed}
 use Rattle.messages.proofs.Rest.{take-drop}
 use Rattle.messages.proofs.target.is_host_and_port.Goals as goal
 

@@ -1,6 +1,5 @@
 -- What the reader did, told of the body.
-use Rattle.messages.specs.Messages.{seen}
-use Rattle.messages.specs.Lending.{ConsumesInside}
+use Rattle.messages.specs.Names.{ConsumesInside, seen}
 use Rattle.messages.proofs.Going.{body_room}
 use Rattle.messages.proofs.Lending.{consumed}
 use Rattle.messages.proofs.body.Body.consume_payload.Goals as goal

@@ -1,11 +1,7 @@
 -- What the drain did, told of the rest of the body: all of that went, or a part, and why no more. The reader of pieces is made
 -- over the buffer and the stream, so what is left of it is what the body left.
 use Rattle.std.proofs.Common.{◌≡◌, ◌≤◌, ◌*◌, ◌∙◌, ap, arith, refl, subst, sym}
-use Rattle.buffer_redux.specs.Asking.{AskedWhere}
-use Rattle.buffer_redux.specs.Block.{with_limit}
-use Rattle.buffer_redux.specs.Unbuffer.{unbuffered}
-use Rattle.codec.specs.PieceReader.{left_of}
-use Rattle.messages.specs.Messages.{TakesWholeRest, Unended, left_in, room_of, stream_of}
+use Rattle.messages.specs.Names.{AskedWhere, left_in, left_of, room_of, stream_of, TakesWholeRest, unbuffered, Unended, with_limit}
 use Rattle.messages.proofs.Asking.{drain_asked}
 use Rattle.messages.proofs.Going.{body_end, body_goes, body_kept, body_room, body_still, drain_fails, pieces_noted}
 use Rattle.messages.proofs.Said.{ends_in_order}

@@ -1,14 +1,7 @@
 -- A head is lines first, so what settles nothing of lines, or is wrong with them, is so of heads.
 use Rattle.std.proofs.Common.{arith, ℕ, List, drop, inl, inr, sym, take}
-use Rattle.std.proofs.lemmas.List.{take-append-drop}
-use Rattle.codec.specs.Decoding.{bytes_at}
-use Rattle.codec.specs.Grammar.{IsOpenBelow}
-use Rattle.messages.specs.Faults.{IsHeadFault}
-use Rattle.messages.specs.Heads.{heads}
+use Rattle.messages.specs.Names.{as_known, bytes_at, heads, IsHeadFault, IsOpenBelow, Limits, take-append-drop, texts}
 use Rattle.messages.specs.HeadsLaws.{text_few}
-use Rattle.messages.specs.Lines.{texts}
-use Rattle.messages.specs.declared.limits.Limits.{Limits}
-use Rattle.messages.specs.Versions.{as_known}
 use Rattle.messages.proofs.head.HeadsDecoder.decode.Goals as goal
 
 -- what settles nothing of lines settles nothing of heads

@@ -1,13 +1,7 @@
 -- The bytes lent are a head, so it is read and fits its room; the body begins in what is left behind it.
 use Rattle.std.proofs.Common.{◌≡◌, ◌++◌, arith, rules, ap, sym, subst, ◌∙◌, length, refl, Some, Ok}
-use Rattle.buffer_redux.specs.Block.{Plain}
-use Rattle.buffer_redux.specs.Unbuffer.{Unbuffered, unbuffered}
-use Rattle.codec.specs.Decoding.{bytes_at}
-use Rattle.codec.specs.NextPiece.{NextPiece}
-use Rattle.codec.specs.PieceReader.{left_of}
-use Rattle.messages.specs.Heads.{IsHead, IsHeadPiece, heads}
+use Rattle.messages.specs.Names.{bytes_at, heads, IsHead, IsHeadPiece, left_of, NextPiece, Plain, room_of, Unbuffered, unbuffered}
 use Rattle.messages.specs.HeadsLaws.{text_few}
-use Rattle.messages.specs.Messages.{room_of}
 use Rattle.messages.specs.MessagesLaws.{same_room}
 use Rattle.messages.proofs.requests.Requests.enter.Goals as goal
 

@@ -1,8 +1,6 @@
 -- The head that the step lent is still buffered, so the body begins behind it; without one none begins there.
 use Rattle.std.proofs.Common.{◌≡◌, ap, false, inl, inr, rules, subst, sym}
-use Rattle.codec.specs.Grammar.{Begins}
-use Rattle.codec.specs.PieceReader.{rest}
-use Rattle.messages.specs.Heads.{heads}
+use Rattle.messages.specs.Names.{Begins, heads, rest}
 use Rattle.messages.specs.MessagesLaws.{lent_still}
 use Rattle.messages.proofs.Said.{begun_front}
 use Rattle.messages.proofs.requests.Requests.next_buffered.Goals as goal
