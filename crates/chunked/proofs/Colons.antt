@@ -1,9 +1,6 @@
 -- The first colon of a line is where the name ends, if the line is one of trailers.
 use Rattle.std.proofs.Common.{◌≡◌, ℕ, zero, suc, ◌+◌, ◌<◌, ◌≤◌, ◌==◌, true, List, [], ◌∷◌, ◌++◌, length, take, drop, slice_index, sym, ap, subst, ◌∙◌, arith, refl, append_assoc, length-append}
-use Rattle.std.proofs.lemmas.List.{take_at, drop_at, drop_more, take-append-drop}
-use Rattle.std.specs.List.{AllByRecursion}
-use Rattle.chunked.specs.Token.{IsTokenByte, IsValueByte}
-use Rattle.chunked.specs.Body.{IsField}
+use Rattle.chunked.specs.Names.{AllByRecursion, drop_at, drop_more, IsField, IsTokenByte, IsValueByte, take-append-drop, take_at}
 use Rattle.chunked.specs.FieldLaws.{token_plain}
 
 -- a colon stands at this place

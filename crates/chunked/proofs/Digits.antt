@@ -1,9 +1,8 @@
 -- The digits of a size are written from the last to the first, each out of the table.
 use Rattle.std.proofs.Common.{◌≡◌, ℕ, zero-add, ◌+◌, ◌-◌, ◌<◌, ◌≤◌, List, ◌∷◌, length, drop, set, get_or, ap, ◌∙◌, arith}
-use Rattle.std.proofs.lemmas.List.{drop-set}
+use Rattle.chunked.specs.Names.{digit_char, drop-set}
 use Rattle.std.proofs.lemmas.List.FromFn.{get_or-map-range_with_len}
 use Rattle.std.specs.Prelude.{codes}
-use Rattle.std.specs.Char.{digit_char}
 
 pub digit_table : (d : ℕ) → d < 16 → get_or (codes "0123456789abcdef") d 0 ≡ digit_char d
 digit_table d small = get_or-map-range_with_len digit_char 0 16 d d 0 small (zero-add d)

@@ -1,16 +1,6 @@
 -- The lines of trailers, as far as they were looked at or copied in.
 use Rattle.std.proofs.Common.{◌≡◌, ℕ, ◌+◌, ◌<◌, ◌≤◌, List, [], ◌∷◌, ◌++◌, length, take, get_or, slice_index_or, Bor, sym, ap, ◌∙◌, arith, refl, append_assoc, append-nil, length-append, take_all}
-use Rattle.std.proofs.lemmas.List.{get_or-map, length-map, take_more}
-use Rattle.std.proofs.lemmas.List.Concat.{flat_map-append}
-use Rattle.std.proofs.lemmas.List.Folds.{length-flat_map-take}
-use Rattle.std.specs.List.{AllByRecursion, flat_map}
-use Rattle.buffer_redux.specs.Buffered.{Buffered}
-use Rattle.buffer_redux.specs.WriteParts.{PutsIn}
-use Rattle.buffer_redux.specs.WritePartsLaws.{PutsIn-joins}
-use Rattle.buffer_redux.specs.declared.policy.StdPolicy.{StdPolicy}
-use Rattle.chunked.specs.Body.{fields_bytes, line_end}
-use Rattle.chunked.specs.Chunk.{body_end}
-use Rattle.chunked.specs.Trailers.{IsTrailer, lines_of}
+use Rattle.chunked.specs.Names.{AllByRecursion, body_end, Buffered, fields_bytes, flat_map, flat_map-append, get_or-map, IsTrailer, length-flat_map-take, length-map, line_end, lines_of, PutsIn, PutsIn-joins, StdPolicy, take_more}
 
 -- a line with its end
 abbrev pub ended : List ℕ → List ℕ

@@ -2,16 +2,8 @@
 use Rattle.std.proofs.Common.{◌≡◌, ℕ, zero, suc, ◌+◌, ◌*◌, ◌-◌, ◌<◌, ◌≤◌, ◌⊎◌, ◌^◌, List, [], ◌∷◌, ◌++◌, length, take, slice_index, ◌∙◌, ap, sym, subst, arith, inl, inr, refl, length-append}
 use Rattle.std.proofs.Math.Nat.{pow-le-pow_right}
 use Rattle.std.proofs.lemmas.Grind.{pow_more}
-use Rattle.std.proofs.lemmas.List.{take_more}
-use Rattle.std.specs.Char.{digit_value}
-use Rattle.body_reader.specs.CodingLaws.{Leads-joins, Leads-more, Leads-none}
-use Rattle.chunked.specs.Coding.{chunked}
-use Rattle.chunked.specs.declared.limits.Limits.{Limits}
-use Rattle.chunked.specs.declared.place.Place.{Place}
-use Rattle.chunked.specs.declared.place.Place.TheVariants.{Line, Size, SizeFeed, Data}
-use Rattle.chunked.specs.Place.{IsPlace}
+use Rattle.chunked.specs.Names.{behind_size, chunked, Comes, Data, digit_value, IsPlace, Leads-joins, Leads-more, Leads-none, Limits, Line, Place, Size, SizeFeed, StepsTo, take_more}
 use Rattle.chunked.specs.StepLaws.{passes}
-use Rattle.chunked.specs.Steps.{Comes, StepsTo, behind_size}
 
 -- so many digits write a number that isn't too large
 pub few_digits : (size k : ℕ) → size < 16 ^ k → k ≤ 14 → size < 2 ^ 58

@@ -1,16 +1,7 @@
 -- What payload that goes on in a chunk does, and what a chunk does that is begun.
 use Rattle.std.proofs.Common.{◌≡◌, ℕ, zero, suc, ◌+◌, ◌-◌, ◌^◌, ◌<◌, ◌≤◌, List, [], ◌++◌, length, min, take, Result, Ok, Err, MatchResult, sym, ap, subst, ◌∙◌, arith, inl, inr, refl, append_assoc, append-nil}
-use Rattle.std.proofs.lemmas.Bool.{cases_lt}
-use Rattle.std.proofs.lemmas.List.{length-take, length-take-le, take-take, take_all, take_min}
-use Rattle.std.specs.declared.io.Error.{Error}
-use Rattle.buffer_redux.specs.Block.{IsBlock, MakesRoom}
-use Rattle.buffer_redux.specs.Buffered.{Buffered, GoesDirect, InnerWent, with_block}
-use Rattle.buffer_redux.specs.StreamLog.{StreamLog, after_write, portion}
-use Rattle.buffer_redux.specs.WriteParts.{PutsIn, room}
-use Rattle.buffer_redux.specs.declared.policy.StdPolicy.{StdPolicy}
-use Rattle.chunked.specs.Chunk.{HasBegun, IsChunks, chunk_begun, chunk_end}
+use Rattle.chunked.specs.Names.{accepted_of, after_write, around, Buffered, cases_lt, chunk_begun, chunk_end, ChunkedWriterState, CopiesSizeLine, Error, GoesDirect, greatest, HasBegun, InnerWent, IsBlock, IsChunkedWriter, IsChunks, IsNoted, length-take, length-take-le, MakesRoom, MakesSpace, PayloadWent, portion, PutsIn, room, StdPolicy, StreamLog, take-take, take_all, take_min, TakesSome, TakesThere, WentOn, with_block, WritesChunk}
 use Rattle.chunked.specs.ChunkLaws.{HasBegun-begins, HasBegun-ends, HasBegun-more}
-use Rattle.chunked.specs.ChunkedWriter.{ChunkedWriterState, CopiesSizeLine, IsChunkedWriter, IsNoted, MakesSpace, PayloadWent, TakesSome, TakesThere, WentOn, WritesChunk, accepted_of, around, greatest}
 use Rattle.chunked.specs.ChunkedWriterLaws.{PayloadWent-joins}
 use Rattle.chunked.proofs.Writing.{WentIn, nothing_went, payload_went, puts_went, space_went, went_on}
 

@@ -1,23 +1,8 @@
 -- What goes into a buffered writer, and what a whole chunk and the end of a body do there.
 use Rattle.std.proofs.Common.{◌≡◌, ℕ, zero, suc, ◌+◌, ◌^◌, ◌<◌, ◌≤◌, List, [], ◌∷◌, ◌++◌, length, take, Result, Ok, Err, sym, ap, subst, ◌∙◌, arith, inl, inr, refl, append-nil}
-use Rattle.std.proofs.lemmas.Bool.{cases_lt}
-use Rattle.std.proofs.lemmas.List.{take_all}
-use Rattle.std.proofs.lemmas.List.Elements.{All-nil, All-cons}
-use Rattle.std.specs.List.{All, AllByRecursion}
-use Rattle.std.specs.declared.io.Error.{Error}
-use Rattle.buffer_redux.specs.Block.{Block, IsBlock, Kind, Plain, Ring, limit_of}
-use Rattle.buffer_redux.specs.Buffered.{Buffered}
+use Rattle.chunked.specs.Names.{accepted_of, after_flush, after_write, All, All-cons, All-nil, AllByRecursion, around, Block, body_end, Buffered, cases_lt, chunk, ChunkedWriterState, ChunkingWent, ChunksWent, Error, Finishes, HasBegun, IsBlock, IsCarried, IsChunkedWriter, IsChunks, IsTrailer, Kind, limit_of, MakesSpace, PayloadWent, Plain, PutsIn, PutsIn-order, Ring, room, SendsFirst, StdPolicy, StreamLog, take_all, taken_payloads, WriteLogGrows-flush, WritesChunk, WritesInOrder-contents, WritesInOrder-joins, WritesInOrder-none}
 use Rattle.buffer_redux.specs.BufWriter.{WasSent, WritesInOrder}
-use Rattle.buffer_redux.specs.LogGrows.{WriteLogGrows-flush}
-use Rattle.buffer_redux.specs.StreamLog.{StreamLog, after_flush, after_write}
-use Rattle.buffer_redux.specs.WriteParts.{PutsIn, SendsFirst, room}
-use Rattle.buffer_redux.specs.WritePartsLaws.{PutsIn-order}
-use Rattle.buffer_redux.specs.WriterLaws.{WritesInOrder-contents, WritesInOrder-joins, WritesInOrder-none}
-use Rattle.buffer_redux.specs.declared.policy.StdPolicy.{StdPolicy}
-use Rattle.chunked.specs.Chunk.{HasBegun, IsCarried, IsChunks, body_end, chunk}
 use Rattle.chunked.specs.ChunkLaws.{IsChunks-body, IsChunks-joins}
-use Rattle.chunked.specs.ChunkedWriter.{ChunkedWriterState, ChunkingWent, ChunksWent, Finishes, IsChunkedWriter, MakesSpace, PayloadWent, WritesChunk, accepted_of, around, taken_payloads}
-use Rattle.chunked.specs.Trailers.{IsTrailer}
 use Rattle.chunked.specs.TrailersLaws.{trailers_are_fields}
 
 -- no block is larger than a chunk may be

@@ -1,14 +1,6 @@
 -- What was written is a body.
 use Rattle.std.proofs.Common.{◌≡◌, ℕ, List, ◌++◌, sym, ◌∙◌}
-use Rattle.std.proofs.lemmas.List.{append_cancel_left}
-use Rattle.buffer_redux.specs.Buffered.{Buffered}
-use Rattle.buffer_redux.specs.StreamLog.{StreamLog}
-use Rattle.buffer_redux.specs.WriterLaws.{WritesInOrder-contents, WritesInOrder-joins}
-use Rattle.buffer_redux.specs.declared.policy.StdPolicy.{StdPolicy}
-use Rattle.chunked.specs.declared.limits.Limits.{Limits}
-use Rattle.chunked.specs.Body.{IsBodyOfChunks}
-use Rattle.chunked.specs.Chunk.{body_end}
-use Rattle.chunked.specs.ChunkedWriter.{ChunkedWriterState, LetsThrough}
+use Rattle.chunked.specs.Names.{append_cancel_left, body_end, Buffered, ChunkedWriterState, IsBodyOfChunks, LetsThrough, Limits, StdPolicy, StreamLog, WritesInOrder-contents, WritesInOrder-joins}
 use Rattle.chunked.specs.RoundTrip.{WroteBody}
 
 module _ {S : Type 0} (tells : S → StreamLog) (trace : S → S → Type 0) (first : Buffered S StdPolicy)

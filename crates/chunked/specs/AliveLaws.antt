@@ -1,14 +1,8 @@
 -- From each place a body can be completed.
 use Rattle.std.proofs.Common.{ℕ, zero, suc, ◌-◌, ◌^◌, ◌<◌, List, [], ◌∷◌, ◌++◌, ◌≡◌, ◌⊎◌, length, arith, inl, inr, refl}
-use Rattle.chunked.specs.declared.limits.Limits.{Limits}
-use Rattle.chunked.specs.declared.place.Place.{Place}
-use Rattle.chunked.specs.declared.place.Place.TheVariants.{Line, Size, Extension, SizeFeed, Data, DataFeed, Fields, FieldName, FieldValue, FieldFeed, LastFeed, Done}
-use Rattle.chunked.specs.Body.{line_end}
+use Rattle.chunked.specs.Names.{behind_size, BehindSize, Completes, CompletesExtension, Data, DataFeed, Done, Extension, FieldFeed, FieldName, Fields, FieldValue, IsPlace, LastFeed, Limits, Line, line_end, Place, Size, SizeFeed, StepsTo}
 use Rattle.chunked.specs.LineLaws.{line_ends}
-use Rattle.chunked.specs.Place.{BehindSize, Completes, IsPlace}
-use Rattle.chunked.specs.Steps.{StepsTo, behind_size}
 use Rattle.chunked.specs.StepLaws.{behind_on, step_on}
-use Rattle.chunked.specs.Within.{CompletesExtension}
 
 -- with payload of such a byte
 module _ (limits : Limits) (filler : ℕ) where

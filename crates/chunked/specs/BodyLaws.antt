@@ -1,17 +1,9 @@
 -- Laws of bodies: what a text of a line ends at, and that a text is a body in one way.
 use Rattle.std.specs.Prelude.{◌≡◌, ℕ, ◌<◌, List, [], ◌∷◌, ◌++◌, length, take, drop}
 use Rattle.std.proofs.Common.{sym, ap, subst, ◌∙◌, arith, refl, append_assoc}
-use Rattle.std.proofs.lemmas.Bool.Decides.{nat_tests}
-use Rattle.std.proofs.lemmas.List.{take_at, drop_at}
-use Rattle.std.specs.Char.{digit_value}
-use Rattle.std.specs.List.{AllByRecursion}
-use Rattle.std.specs.Str.Parse.{AllDigits, digits_value}
-use Rattle.chunked.specs.declared.limits.Limits.{Limits}
-use Rattle.chunked.specs.Extension.{IsExtension}
-use Rattle.chunked.specs.Body.{line_room, line_end, IsTextByte, IsSizeLine, IsField, fields_bytes, IsTrailers, HasChunks, IsBodyOfChunks}
+use Rattle.chunked.specs.Names.{AllByRecursion, AllDigits, Behind, digit_value, digits_value, drop_at, fields_bytes, HasChunks, IsBodyOfChunks, IsExtension, IsField, IsSizeLine, IsTextByte, IsTrailers, Limits, line_end, nat_tests, take_at}
 use Rattle.chunked.specs.FieldLaws.{IsField-none, IsField-text}
 use Rattle.chunked.specs.WithinLaws.{CompletesExtension-text, IsExtension-first}
-use Rattle.chunked.specs.declared.extension.Within.TheVariants.{Behind}
 
 -- a digit is no byte of these
 pub digit_is_text : (b : ℕ) → digit_value b < 16 → IsTextByte b

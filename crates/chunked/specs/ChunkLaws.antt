@@ -1,19 +1,8 @@
 -- Laws of what a writer of a body writes: chunks, and then its end, are a body.
 use Rattle.std.specs.Prelude.{◌≡◌, ℕ, ◌+◌, ◌-◌, ◌^◌, ◌<◌, ◌≤◌, List, [], ◌∷◌, ◌++◌, length, map, flat_map}
-use Rattle.std.proofs.lemmas.List.Folds.{concat-append}
+use Rattle.chunked.specs.Names.{All, All-append, All-cons, All-head, All-nil, All-tail, all_below_base_digits_of, AllBelowBase, AllByRecursion, AllDigits, body_end, chunk, chunk_begun, concat, concat-append, digit_char, digit_value, digits_of, digits_value_is, fields_bytes, flat_map-append, HasBegun, HasChunks, IsBodyOfChunks, IsCarried, IsChunks, IsField, IsSizeLine, length-digits_of-le, length-digits_of_step, length-map, Limits, line_end, line_room, number_digits_of, number_from_digits, size_digits}
 use Rattle.std.proofs.Common.{sym, ap, ◌∙◌, arith, refl, append_assoc, append-nil, length-append}
 use Rattle.std.proofs.lemmas.Str.{digit_value-digit_char}
-use Rattle.std.proofs.lemmas.Int.Digits.{length-digits_of_step, length-digits_of-le, all_below_base_digits_of, number_digits_of, digits_value_is}
-use Rattle.std.proofs.lemmas.List.{length-map}
-use Rattle.std.proofs.lemmas.List.Concat.{flat_map-append}
-use Rattle.std.proofs.lemmas.List.Elements.{All-nil, All-cons, All-append, All-head, All-tail}
-use Rattle.std.specs.Char.{digit_char, digit_value}
-use Rattle.std.specs.Int.Digits.{digits_of, AllBelowBase, number_from_digits}
-use Rattle.std.specs.List.{concat, All, AllByRecursion}
-use Rattle.std.specs.Str.Parse.{AllDigits}
-use Rattle.chunked.specs.declared.limits.Limits.{Limits}
-use Rattle.chunked.specs.Body.{line_room, line_end, IsField, IsSizeLine, HasChunks, IsBodyOfChunks, fields_bytes}
-use Rattle.chunked.specs.Chunk.{HasBegun, IsCarried, IsChunks, body_end, chunk, chunk_begun, size_digits}
 
 -- digits that are written are read as what they were
 digits_back : (ds : List ℕ) → AllBelowBase 16 ds

@@ -1,22 +1,9 @@
 -- Laws of a writer of a body: traces of calls join.
 use Rattle.std.specs.Prelude.{◌≡◌, ℕ, List, [], ◌++◌, flat_map}
-use Rattle.std.specs.List.{concat}
-use Rattle.std.proofs.lemmas.List.Folds.{concat-append}
+use Rattle.chunked.specs.Names.{accepted_of, All-append, All-nil, body_end, Buffered, chunk, ChunkedWriterState, ChunkingWent, ChunksWent, concat, concat-append, Error, Finishes, flat_map-append, IsBodyOfChunks, IsCarried, IsChunkedWriter, LetsThrough, Limits, NotFinished, PayloadWent, StdPolicy, StreamLog, WriteLogGrows-joins, WriteLogGrows-none, WritesGoOn, WritesGoOn-of, WritesInOrder-joins, WritesInOrder-none}
 use Rattle.std.proofs.Common.{sym, ap, ◌∙◌, refl, append_assoc, append-nil}
-use Rattle.std.proofs.lemmas.List.Concat.{flat_map-append}
-use Rattle.std.proofs.lemmas.List.Elements.{All-nil, All-append}
-use Rattle.std.specs.declared.io.Error.{Error}
-use Rattle.buffer_redux.specs.LogGrows.{WriteLogGrows-none, WriteLogGrows-joins, WritesGoOn, WritesGoOn-of}
-use Rattle.buffer_redux.specs.StreamLog.{StreamLog}
-use Rattle.buffer_redux.specs.WriterLaws.{WritesInOrder-none, WritesInOrder-joins}
-use Rattle.buffer_redux.specs.Buffered.{Buffered}
-use Rattle.buffer_redux.specs.declared.policy.StdPolicy.{StdPolicy}
-use Rattle.chunked.specs.declared.limits.Limits.{Limits}
-use Rattle.chunked.specs.Body.{IsBodyOfChunks}
-use Rattle.chunked.specs.Chunk.{IsCarried, body_end, chunk}
 use Rattle.chunked.specs.ChunkLaws.{IsChunks-behind, IsChunks-body}
 use Rattle.chunked.specs.TrailersLaws.{trailers_are_fields}
-use Rattle.chunked.specs.ChunkedWriter.{ChunkedWriterState, ChunkingWent, ChunksWent, Finishes, IsChunkedWriter, LetsThrough, NotFinished, PayloadWent, accepted_of}
 
 module _ {S : Type 0} (trace : S → S → Type 0) (none : (x : S) → trace x x)
     (joins : (a b c : S) → trace a b → trace b c → trace a c) where

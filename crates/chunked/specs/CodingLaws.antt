@@ -1,25 +1,16 @@
 -- Laws of the chunked coding.
 use Rattle.std.proofs.Common.{◌≡◌, ◌≢◌, ℕ, zero, suc, ◌+◌, ◌-◌, ◌<◌, ◌≤◌, List, [], ◌∷◌, ◌++◌, length, replicate, take, drop, slice_index, Some, IfSome, sym, ap, subst, ◌∙◌, arith, inl, inr, refl, append-nil, length-append}
-use Rattle.std.proofs.lemmas.List.{drop_more, length-replicate, nil_from_length}
+use Rattle.chunked.specs.Names.{Advances, BreaksAt, chunk_left, chunked, Comes, Completes, CompletesData, Data, Done, drop_more, IsDataOrDone, IsOpenBelow-one, IsPlace, IsWrong, IsWrongNext, length-replicate, Limits, line_end, Malformed, nil_from_length, Place}
 use Rattle.body_reader.specs.declared.Look.TheVariants as look
 use Rattle.body_reader.specs.BodyReader.{BodyState, IsBodyReader}
 use Rattle.body_reader.specs.Coding as body
-use Rattle.body_reader.specs.CodingLaws.{IsOpenBelow-one}
 use Rattle.chunked.specs.declared.coding.Chunked.{Chunked}
-use Rattle.chunked.specs.declared.error.Malformed.{Malformed}
-use Rattle.chunked.specs.declared.limits.Limits.{Limits}
-use Rattle.chunked.specs.declared.place.Place.{Place}
-use Rattle.chunked.specs.declared.place.Place.TheVariants.{Data, Done}
 use Rattle.chunked.specs.declared.step.Reached.{Reached}
-use Rattle.chunked.specs.Body.{line_end}
 use Rattle.chunked.specs.AliveLaws.{Completes-some}
 use Rattle.chunked.specs.BodyLaws.{IsBodyOfChunks-same}
-use Rattle.chunked.specs.Coding.{BreaksAt, IsWrongNext, chunked, chunk_left}
 use Rattle.chunked.specs.LineLaws.{data_parts}
-use Rattle.chunked.specs.Place.{Completes, CompletesData, IsDataOrDone, IsPlace, IsWrong}
 use Rattle.chunked.specs.PlaceLaws.{Completes-nothing}
 use Rattle.chunked.specs.StepLaws.{IsWrong-none, one_name}
-use Rattle.chunked.specs.Steps.{Advances, Comes}
 
 -- where nothing is heeded of what follows, whatever does goes on so
 pub follows : (rest : List ℕ) → body.Agree [] rest

@@ -1,11 +1,7 @@
 -- Laws of texts, and of lines of the trailers: byte by byte.
 use Rattle.std.specs.Prelude.{◌≡◌, ◌≢◌, ℕ, ◌<◌, ◌≤◌, List, [], ◌∷◌, ◌++◌, length}
 use Rattle.std.proofs.Common.{ap, subst, ◌∙◌, arith, refl, inl, inr, length-append}
-use Rattle.std.proofs.lemmas.Bool.Decides.{nat_tests}
-use Rattle.std.specs.List.{AllByRecursion}
-use Rattle.chunked.specs.Token.{IsTokenByte, IsValueByte}
-use Rattle.chunked.specs.Body.{IsTextByte, IsField}
-use Rattle.chunked.specs.Place.{BehindFirst}
+use Rattle.chunked.specs.Names.{AllByRecursion, BehindFirst, IsField, IsTextByte, IsTokenByte, IsValueByte, nat_tests}
 
 -- a byte of a token is a visible one, and none of the signs of which lines are made
 pub token_plain : (b : ℕ) → IsTokenByte b

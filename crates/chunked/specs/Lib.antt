@@ -21,3 +21,4 @@ pub mod TrailersLaws
 pub mod ChunkedWriter
 pub mod ChunkedWriterLaws
 pub mod RoundTrip
+pub mod Names

@@ -1,15 +1,7 @@
 -- The lines of a body go on from byte to byte.
 use Rattle.std.proofs.Common.{◌≡◌, ℕ, zero, suc, ◌+◌, ◌*◌, ◌-◌, ◌<◌, ◌≤◌, ◌⊎◌, ◌^◌, List, [], ◌∷◌, ◌++◌, length, sym, ap, subst, ◌∙◌, arith, inl, inr, refl, append_assoc, length-append, zero-add}
-use Rattle.std.specs.Char.{digit_value}
-use Rattle.std.specs.List.{concat, AllByRecursion}
-use Rattle.std.specs.Str.Parse.{AllDigits, digits_value_after}
-use Rattle.chunked.specs.declared.limits.Limits.{Limits}
-use Rattle.chunked.specs.declared.extension.Within.TheVariants.{Behind}
-use Rattle.chunked.specs.Body.{line_end, line_room, IsSizeLine, IsField, IsTrailers, HasChunks, IsBodyOfChunks, fields_bytes}
-use Rattle.chunked.specs.Extension.{IsExtension}
+use Rattle.chunked.specs.Names.{AllByRecursion, AllDigits, Behind, BehindFirst, BehindSize, CompletesData, CompletesSize, CompletesSizeLine, concat, digit_value, digits_value_after, EndsLine, fields_bytes, HasChunks, IsBodyOfChunks, IsExtension, IsField, IsSizeLine, IsTokenByte, IsTrailers, Limits, line_end, line_room, LineFeedThen}
 use Rattle.chunked.specs.FieldLaws.{BehindFirst-some, IsField-first, IsField-none, IsField-of}
-use Rattle.chunked.specs.Place.{BehindFirst, BehindSize, CompletesData, CompletesSize, CompletesSizeLine, EndsLine, LineFeedThen}
-use Rattle.chunked.specs.Token.{IsTokenByte}
 
 -- in a line: its text, what stands behind it, and how much of the room is left
 abbrev pub LineParts : (List ℕ → Type 0) → (ℕ → List ℕ → Type 0) → ℕ → List ℕ → Type 0

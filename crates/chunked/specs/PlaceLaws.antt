@@ -1,11 +1,7 @@
 -- A law of places: nothing completes a body only behind it.
 use Rattle.std.specs.Prelude.{◌≡◌, ℕ, zero, suc, List, [], ◌∷◌, ◌++◌}
 use Rattle.std.proofs.Common.{arith, refl}
-use Rattle.chunked.specs.declared.limits.Limits.{Limits}
-use Rattle.chunked.specs.declared.place.Place.{Place}
-use Rattle.chunked.specs.declared.place.Place.TheVariants.{Line, Data, Fields, Done}
-use Rattle.chunked.specs.Body.{HasChunks, fields_bytes, line_end}
-use Rattle.chunked.specs.Place.{Completes}
+use Rattle.chunked.specs.Names.{Completes, Data, Done, Fields, fields_bytes, HasChunks, Limits, Line, line_end, Place}
 
 -- no line ends in nothing
 no_line : (text behind : List ℕ) → [] ≡ text ++ line_end behind → ⊥

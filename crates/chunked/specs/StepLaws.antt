@@ -1,27 +1,13 @@
 -- Laws of steps: what completes a body goes on from byte to byte, and what is wrong with a byte has one name and leads nowhere.
 use Rattle.std.proofs.Common.{◌≡◌, ◌≢◌, ℕ, zero, suc, ◌+◌, ◌*◌, ◌-◌, ◌<◌, ◌≤◌, ◌^◌, List, [], ◌∷◌, ◌++◌, length, sym, ap, subst, ◌∙◌, arith, inl, inr, refl}
-use Rattle.std.specs.Char.{digit_value}
-use Rattle.std.specs.List.{AllByRecursion}
+use Rattle.chunked.specs.Names.{AllByRecursion, Behind, behind_size, BehindFirst, BehindSize, chunked, Completes, CompletesSizeLine, Data, DataFeed, digit_value, Done, EndsLine, EndsNoExtension, Extension, FieldFeed, FieldName, Fields, FieldValue, IsDataOrDone, IsTrailers, IsValueByte, IsWrong, LastFeed, LeadsInExtension, Limits, Line, Malformed, most_between, nothing_behind, Place, RunsOver, Size, SizeFeed, StepsTo, Within, WrongInExtension}
 use Rattle.body_reader.specs.Coding.{PassesOver}
-use Rattle.body_reader.specs.CodingLaws.{nothing_behind}
-use Rattle.chunked.specs.declared.error.Malformed.{Malformed}
-use Rattle.chunked.specs.declared.limits.Limits.{Limits}
-use Rattle.chunked.specs.declared.place.Place.{Place}
-use Rattle.chunked.specs.declared.place.Place.TheVariants.{Line, Size, Extension, SizeFeed, Data, DataFeed, Fields, FieldName, FieldValue, FieldFeed, LastFeed, Done}
-use Rattle.chunked.specs.declared.extension.Within.{Within}
-use Rattle.chunked.specs.declared.extension.Within.TheVariants.{Behind}
-use Rattle.chunked.specs.Token.{IsValueByte}
-use Rattle.chunked.specs.Within.{CompletesExtension, EndsNoExtension, RunsOver}
-use Rattle.chunked.specs.Body.{IsTrailers}
 use Rattle.chunked.specs.BodyLaws.{digit_is_text, extension_no_digit}
 use Rattle.chunked.specs.FieldLaws.{BehindFirst-some, token_is_text, token_plain, value_is_text}
 use Rattle.chunked.specs.WithinLaws.{CompletesExtension-text}
 use Rattle.chunked.specs.WithinLaws as within
-use Rattle.chunked.specs.Coding.{chunked}
 use Rattle.chunked.specs.LineLaws.{digit_first, digit_on, field_first, field_on, last_on, line_as, line_parts, size_small}
-use Rattle.chunked.specs.Place.{BehindFirst, BehindSize, Completes, CompletesSizeLine, EndsLine, IsDataOrDone, IsWrong, WrongInExtension, most_between}
 use Rattle.chunked.specs.PlaceLaws.{Completes-nothing}
-use Rattle.chunked.specs.Steps.{LeadsInExtension, StepsTo, behind_size}
 
 -- no digit leads on in an extension
 digit_ends : (b size room : ℕ) (q : Place) → digit_value b < 16 → LeadsInExtension Behind size room b q → ⊥

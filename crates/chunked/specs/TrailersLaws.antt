@@ -1,8 +1,6 @@
 -- A law of lines that trailers may have.
 use Rattle.std.specs.Prelude.{ℕ, List, [], ◌∷◌}
-use Rattle.std.specs.List.{AllByRecursion}
-use Rattle.chunked.specs.Body.{IsField}
-use Rattle.chunked.specs.Trailers.{IsTrailer}
+use Rattle.chunked.specs.Names.{AllByRecursion, IsField, IsTrailer}
 
 -- they are fields
 pub trailers_are_fields : (fields : List (List ℕ)) → AllByRecursion IsTrailer fields → AllByRecursion IsField fields

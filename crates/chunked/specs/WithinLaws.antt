@@ -1,13 +1,7 @@
 -- Laws of places within an extension: where each byte leads, and what stands first in what is left.
 use Rattle.std.proofs.Common.{◌≡◌, ◌≢◌, ℕ, zero, suc, ◌+◌, ◌≤◌, ◌⊎◌, ◌↔◌, List, [], ◌∷◌, length, inl, inr, refl, subst, arith}
-use Rattle.std.specs.List.{AllByRecursion}
-use Rattle.chunked.specs.Token.{IsBlank, IsTokenByte, IsValueByte}
-use Rattle.chunked.specs.Extension.{Assigned, IsExtension, Parameter, Parameters}
-use Rattle.chunked.specs.Within.{CompletesExtension, LeadsBy, LeadsWithin, least_left}
-use Rattle.chunked.specs.Body.{IsTextByte}
+use Rattle.chunked.specs.Names.{AllByRecursion, Assigned, BeforeName, BeforeValue, Behind, BehindName, Blank, CompletesExtension, Escaped, InName, InValue, IsBlank, IsExtension, IsTextByte, IsTokenByte, IsValueByte, LeadsBy, LeadsWithin, least_left, Parameter, Parameters, Quoted, Within}
 use Rattle.chunked.specs.FieldLaws.{token_plain, value_is_text}
-use Rattle.chunked.specs.declared.extension.Within.{Within}
-use Rattle.chunked.specs.declared.extension.Within.TheVariants.{Blank, BeforeName, InName, BehindName, BeforeValue, InValue, Quoted, Escaped, Behind}
 
 module _ (IsToken IsValue : ℕ → Type 0)
     (plain : (b : ℕ) → IsToken b → (33 ≤ b) × (b ≢ 58) × (b ≢ 59) × (b ≢ 61) × (b ≢ 34) × (b ≢ 92))

@@ -1,7 +1,6 @@
 -- What doesn't fit once space was made doesn't fit the capacity, so it goes past the buffer, and else inside.
 use Rattle.std.proofs.Common.{[], Ok, ap, subst, sym, ◌+◌, ◌∙◌, arith, length, refl}
-use Rattle.buffer_redux.specs.StreamLog.{after_write}
-use Rattle.buffer_redux.specs.WritePartsLaws.{PutsIn-joins}
+use Rattle.chunked.specs.Names.{after_write, PutsIn-joins}
 use Rattle.chunked.proofs.Going.{has_room, puts_roomy}
 use Rattle.chunked.proofs.chunk.take.Goals as goal
 

@@ -1,8 +1,6 @@
 -- The body goes on here, so no bytes settle nothing, and of others the first lead on or the next is wrong.
 use Rattle.std.proofs.Common.{arith, sym}
-use Rattle.std.proofs.lemmas.Bool.{eqb-true}
-use Rattle.std.proofs.lemmas.List.{nil_from_length}
-use Rattle.chunked.specs.declared.place.Place.TheVariants.{Data}
+use Rattle.chunked.specs.Names.{Data, eqb-true, nil_from_length}
 use Rattle.chunked.specs.CodingLaws.{looks_comes, looks_none, looks_wrong, open_of}
 use Rattle.chunked.proofs.coding.look_on.Goals as goal
 

@@ -1,12 +1,6 @@
 -- What is no digit is told of as behind a size in an extension.
 use Rattle.std.proofs.Common.{ℕ, ◌<◌, inr, Result, Ok, Err}
-use Rattle.std.specs.Char.{digit_value}
-use Rattle.chunked.specs.declared.error.Malformed.{Malformed}
-use Rattle.chunked.specs.declared.extension.Within.TheVariants.{Behind}
-use Rattle.chunked.specs.declared.limits.Limits.{Limits}
-use Rattle.chunked.specs.declared.place.Place.{Place}
-use Rattle.chunked.specs.declared.place.Place.TheVariants.{Extension, Size}
-use Rattle.chunked.specs.Steps.{StepsOver}
+use Rattle.chunked.specs.Names.{Behind, digit_value, Extension, Limits, Malformed, Place, Size, StepsOver}
 use Rattle.chunked.proofs.step.in_size.Goals as goal
 
 as_extension : (l : Limits) (b number room : ℕ) (answer : Result Place Malformed) → ¬ (digit_value b < 16)

@@ -1,7 +1,6 @@
 -- The sum saturates above each capacity, so one that fits the capacity is the length itself.
 use Rattle.std.proofs.Common.{◌≡◌, ℕ, ◌+◌, ◌-◌, ◌^◌, ◌<◌, ◌≤◌, List, Bor, length, min, take, ap, sym, subst, arith, refl}
-use Rattle.chunked.specs.Chunk.{body_end}
-use Rattle.chunked.specs.Trailers.{IsFraming, IsFramingName, IsTrailer, lines_of}
+use Rattle.chunked.specs.Names.{body_end, IsFraming, IsFramingName, IsTrailer, lines_of}
 use Rattle.chunked.proofs.Fields.{all_lines, front, front_len, front_more_len, inside, line_at, lines_more}
 use Rattle.chunked.proofs.trailers.end_len.Goals as goal
 

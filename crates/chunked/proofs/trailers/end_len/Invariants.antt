@@ -1,6 +1,5 @@
 use Rattle.std.proofs.Common.{◌≡◌, ◌+◌, ◌-◌, ◌^◌, length, min, take}
-use Rattle.std.specs.List.{AllByRecursion}
-use Rattle.chunked.specs.Trailers.{IsTrailer, lines_of}
+use Rattle.chunked.specs.Names.{AllByRecursion, IsTrailer, lines_of}
 use Rattle.chunked.proofs.Fields.{front}
 use Rattle.chunked.proofs.trailers.end_len.Given as goal
 

@@ -1,9 +1,7 @@
 -- The first colon of a line ends the name, as no byte of a token is one.
 use Rattle.std.proofs.Common.{◌≡◌, ◌+◌, length, slice_index, sym, subst, arith, rules}
-use Rattle.std.specs.List.{AllByRecursion}
-use Rattle.std.proofs.lemmas.Bool.Decides.{nat_tests}
+use Rattle.chunked.specs.Names.{AllByRecursion, IsValueByte, nat_tests}
 use Rattle.std.proofs.lemmas.Slice.{between_to_end}
-use Rattle.chunked.specs.Token.{IsValueByte}
 use Rattle.chunked.proofs.Colons.{field_has_colon, field_name, field_splits, splits_field}
 use Rattle.chunked.proofs.trailers.name_of.Goals as goal
 use Rattle.chunked.proofs.trailers.name_of.Goals.{else-is_token-via-then-is_token+else-is_value, else-is_token-via-else-is_token}

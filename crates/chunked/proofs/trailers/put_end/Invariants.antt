@@ -1,7 +1,5 @@
 use Rattle.std.proofs.Common.{◌≡◌, ◌+◌, ◌≤◌, ◌++◌, length, take}
-use Rattle.buffer_redux.specs.Block.{usable}
-use Rattle.buffer_redux.specs.WriteParts.{PutsIn, room}
-use Rattle.chunked.specs.Trailers.{lines_of}
+use Rattle.chunked.specs.Names.{lines_of, PutsIn, room, usable}
 use Rattle.chunked.proofs.Fields.{front}
 use Rattle.chunked.proofs.trailers.put_end.Given as goal
 

@@ -1,10 +1,6 @@
 -- The digits of what is left, and then the bytes from `start` on, are at each turn the whole line.
 use Rattle.std.proofs.Common.{◌/◌, ◌%◌, [], ◌∷◌, ◌++◌, map, drop, sym, refl, ap, ◌∙◌, arith, append_assoc}
-use Rattle.std.specs.Char.{digit_char}
-use Rattle.std.specs.Int.Digits.{digits_of}
-use Rattle.std.proofs.lemmas.List.{map-append, length-set}
-use Rattle.std.proofs.lemmas.Int.Digits.{digits_of_step, length-digits_of_step, length-digits_of-le}
-use Rattle.chunked.specs.Chunk.{size_digits}
+use Rattle.chunked.specs.Names.{digit_char, digits_of, digits_of_step, length-digits_of-le, length-digits_of_step, length-set, map-append, size_digits}
 use Rattle.chunked.proofs.Digits.{digit_table, set_before}
 use Rattle.chunked.proofs.chunk.SizeLine.new.Goals as goal
 

@@ -1,7 +1,5 @@
 use Rattle.std.proofs.Common.{◌≡◌, ◌≤◌, [], ◌++◌, drop, length}
-use Rattle.std.specs.Int.Digits.{digits_of}
-use Rattle.chunked.specs.Body.{line_end}
-use Rattle.chunked.specs.Chunk.{size_digits}
+use Rattle.chunked.specs.Names.{digits_of, line_end, size_digits}
 use Rattle.chunked.proofs.chunk.SizeLine.new.Given as goal
 
 -- the digits of what is left, and then those that stand already

@@ -1,7 +1,6 @@
 -- All is sent since there is no space, and then a chunk that fits the capacity has room.
 use Rattle.std.proofs.Common.{◌+◌, ◌<◌, ◌≤◌, length, Ok, ap, ◌∙◌, arith}
-use Rattle.buffer_redux.specs.WriteParts.{room}
-use Rattle.chunked.specs.ChunkedWriter.{WritesChunk, around, seen}
+use Rattle.chunked.specs.Names.{around, room, seen, WritesChunk}
 use Rattle.chunked.proofs.Writing.{sent_first, wrote}
 use Rattle.chunked.proofs.writer.ChunkedWriter.send_first.Goals as goal
 use Rattle.chunked.proofs.writer.ChunkedWriter.send_first.Goals.{After-note}

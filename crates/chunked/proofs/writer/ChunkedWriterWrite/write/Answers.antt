@@ -1,8 +1,6 @@
 -- An empty payload makes no chunk, and one with room behind what is buffered goes in whole, with nothing sent.
 use Rattle.std.proofs.Common.{◌+◌, ◌≤◌, length, Ok, arith}
-use Rattle.std.proofs.lemmas.Bool.Decides.{nat_tests}
-use Rattle.buffer_redux.specs.WriteParts.{room}
-use Rattle.chunked.specs.ChunkedWriter.{WritesChunk, around, seen}
+use Rattle.chunked.specs.Names.{around, nat_tests, room, seen, WritesChunk}
 use Rattle.chunked.proofs.Writing.{had_space, wrote, wrote_nothing}
 use Rattle.chunked.proofs.writer.ChunkedWriterWrite.write.Goals as goal
 use Rattle.chunked.proofs.writer.ChunkedWriterWrite.write.Goals.{After-note-2}
