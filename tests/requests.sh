@@ -221,7 +221,8 @@ for other in x '100-continue=1' '100-continue, 101-continue'; do
     row "${P}Expect: $other\r\n\r\n$G" '417 200:0'
 done
 row "${P}Expect: x\r\nContent-Length: 5\r\n\r\nhello$G" '417 200:0'
-row "${P}Expect: 100-Continue\r\nexpect: x\r\n$C\r\n3\r\nabc\r\n0\r\n\r\n$G" '100 417 200:0'
+row "${P}Expect: 100-Continue\r\nexpect: x\r\n$C\r\n3\r\nabc\r\n0\r\n\r\n$G" '417'
+row "FOO / HTTP/1.1\r\n${H}Expect: 100-continue\r\nContent-Length: 5\r\n\r\nhello$G" '501'
 row "${P}Expect: x\r\nConnection: close\r\n\r\n$G" '417'
 row "FOO / HTTP/1.1\r\n${H}Expect: x\r\n\r\n$G" '501 200:0'
 

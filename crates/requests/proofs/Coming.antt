@@ -1,5 +1,5 @@
 -- What was sent before a further head was asked for.
-use Rattle.std.proofs.Common.{◌≡◌, ◌∙◌, ◌<◌, ◌+◌, ℕ, Bool, true, false, MatchBool, List, [], ◌∷◌, ◌++◌, length, Option, None, Some, Ok, Err, inl, inr, ap, refl, sym, subst, arith, append-nil, length-append}
+use Rattle.std.proofs.Common.{◌≡◌, ◌∙◌, ◌<◌, ◌+◌, ℕ, Bool, true, false, MatchBool, List, [], ◌∷◌, ◌++◌, length, Option, None, Some, Ok, Err, inl, inr, ap, refl, sym, subst, arith, length-append}
 use Rattle.std.proofs.lemmas.List.{nil_from_length}
 use Rattle.std.specs.declared.io.Error.{Error}
 use Rattle.buffer_redux.specs.Buffered.{Buffered}
@@ -10,9 +10,10 @@ use Rattle.buffer_redux.specs.Asking.{AskedWhere}
 use Rattle.buffer_redux.specs.AskingLaws.{AskedWhere-of}
 use Rattle.codec.specs.declared.NextError.TheVariants as why
 use Rattle.codec.specs.Grammar.{IsOpen}
+use Rattle.codec.specs.GrammarLaws.{open_none}
 use Rattle.codec.specs.NextPiece.{NextAnswer, NextPiece, NoEnd, empty_reads}
 use Rattle.codec.specs.NextPieceLaws.{AsksNone-settled}
-use Rattle.codec.specs.PiecesWentLaws.{PiecesWent-stream}
+use Rattle.codec.specs.PiecesWentLaws.{PiecesWent-stream, PiecesWent-unasked}
 use Rattle.codec.specs.PieceReader.{IsSettled, ReaderState, left_of, rest}
 use Rattle.messages.specs.declared.bad_head.BadHead.{BadHead}
 use Rattle.messages.specs.declared.head.Heads.{Heads}
@@ -21,7 +22,7 @@ use Rattle.messages.specs.HeadsLaws.{heads_lawful}
 use Rattle.messages.specs.Limits.{usual}
 use Rattle.messages.specs.Messages.{AskedIn, AsksForMore, BeginsRest, InBody, IsRest, RunsShort}
 use Rattle.requests.specs.Sending.{SendsUnless, WritesOnlyHeld, WritesPromptly}
-use Rattle.requests.proofs.Sending.{WritesPromptly-after, WritesPromptly-asked, WritesPromptly-read, WritesPromptly-unsent, open_empty, sent_then}
+use Rattle.requests.proofs.Sending.{WritesPromptly-after, WritesPromptly-asked, WritesPromptly-read, WritesPromptly-unsent, sent_then}
 use Rattle.requests.proofs.Reading.{wrong_unasked}
 
 -- under the usual limits heads are the usual ones
@@ -42,18 +43,6 @@ ended_before : {R : Type 0} (s t : ReaderState R Heads) → t.reader.log ≡ s.r
 ended_before s t same true met = refl
 ended_before s t same false met = absurd (omega (arith, met, ap (λ l. l.reads.zero_reads) same))
 
--- and all that was left is there
-all_left : {R : Type 0} (s t : ReaderState R Heads) → t.reader.log ≡ s.reader.log → (bytes : List ℕ)
-    → HandsOutInOrder (left_of s) bytes (left_of t) → bytes ++ rest t ≡ rest s
-all_left s t same bytes hands =
-    let none : hands.got ≡ [] = nil_from_length hands.got (omega (
-      arith,
-      ap length hands.given,
-      length-append s.reader.log.reads.given hands.got,
-      ap (λ l. length l.reads.given) same,
-    )) in
-    hands.equal ∙ ap (λ l. rest s ++ l) none ∙ append-nil (rest s)
-
 -- so what is answered there is settled
 settled_where : {R : Type 0} {remaining : R → Option (List ℕ)} (s t : ReaderState R Heads) → t.reader.log ≡ s.reader.log
     → (answer : NextAnswer BadHead) → NextPiece remaining (heads usual) s answer t → IsSettled (heads usual) s
@@ -63,7 +52,7 @@ settled_where s t same (Ok (Some payload)) next = elim next.answers.1 [
     payload = payload;
     more = rest t;
     is = piece.0;
-    equal = sym (all_left s t same next.bytes next.went.hands);
+    equal = sym (PiecesWent-unasked _ _ s t next.bytes next.went same);
   }))
   | inr last ↦ absurd last.0
 ]
@@ -72,7 +61,7 @@ settled_where s t same (Err (why.Wrong e)) next = elim next.answers.3 [
   | inl wrong ↦ inr (inr (
     e,
     subst (λ l. (heads usual).wrong l e)
-        (ap (λ l. l ++ rest t) (sym next.answers.0) ∙ all_left s t same next.bytes next.went.hands) wrong.0,
+        (ap (λ l. l ++ rest t) (sym next.answers.0) ∙ PiecesWent-unasked _ _ s t next.bytes next.went same) wrong.0,
   ))
   | inr cut ↦ inl (ended_before s t same s.ended cut.3)
 ]
@@ -129,7 +118,8 @@ module _ {R W : Type 0} {remaining : R → Option (List ℕ)} {tells : W → Str
 
 -- where nothing is left nothing is settled
 open_behind : {R : Type 0} (m : Unbuffered R) → (¬ (0 < length m.left)) → IsOpen (heads usual) m.left
-open_behind m lacks = open_empty m.left (nil_from_length m.left (omega (arith, lacks)))
+open_behind m lacks = subst (IsOpen (heads usual)) (sym (nil_from_length m.left (omega (arith, lacks))))
+    (open_none (heads usual) (heads_lawful usual))
 
 module _ {R W : Type 0} {tells : W → StreamLog} {trace : W → W → Type 0} (none : (u : W) → trace u u)
     (joins : (u v x : W) → trace u v → trace v x → trace u x) where

@@ -1,5 +1,5 @@
 -- What reads of a run met.
-use Rattle.std.proofs.Common.{◌≡◌, ℕ, ◌+◌, ◌<◌, ◌≤◌, true, false, List, [], ◌∷◌, ◌++◌, All, length, Option, None, Some, IfSome, Result, Ok, Err, IfOk, IfErr, ◌⊎◌, sym, ap, subst, inl, inr, ◌∙◌, refl, arith, append_assoc, append-nil, length-append}
+use Rattle.std.proofs.Common.{◌≡◌, ℕ, ◌+◌, ◌≤◌, true, false, List, [], ◌∷◌, ◌++◌, All, length, Option, None, Some, IfSome, Result, Ok, Err, IfOk, IfErr, ◌⊎◌, sym, ap, subst, inl, inr, ◌∙◌, refl, arith, append_assoc, append-nil, length-append}
 use Rattle.std.proofs.lemmas.List.{append_cancel_left, nil_from_length}
 use Rattle.std.proofs.lemmas.List.Elements.{All-append, All-nil}
 use Rattle.std.specs.declared.io.Error.{Error}
@@ -12,7 +12,6 @@ use Rattle.buffer_redux.specs.Asking.{AskedWhere}
 use Rattle.chunked.specs.PlaceLaws.{Completes-nothing}
 use Rattle.chunked.specs.Place.{Completes}
 use Rattle.chunked.specs.declared.error.Malformed.{Malformed}
-use Rattle.chunked.specs.declared.place.Place.TheVariants.{Done}
 use Rattle.codec.specs.NextPiece.{NextAnswer, NextPiece}
 use Rattle.codec.specs.PiecesWentLaws.{PiecesWent-stream}
 use Rattle.codec.specs.PieceReader.{ReaderState, left_of}
@@ -23,7 +22,7 @@ use Rattle.messages.specs.declared.head.Heads.{Heads}
 use Rattle.messages.specs.Heads.{IsHead, heads}
 use Rattle.messages.specs.Limits.{usual}
 use Rattle.messages.specs.Messages.{AskedIn, BeginsRest, Begun, Bytes, Chunks, EachReadGave, Fails, FinishFails, GoesWrong, InBody, InsideGoes, IsRest, Message, Onward, Rest, TakesWholeRest, Unended, body_of}
-use Rattle.messages.specs.MessagesLaws.{Begun-gave, Onward-joins}
+use Rattle.messages.specs.MessagesLaws.{Begun-gave, Begun-went, Onward-joins, handed_unasked}
 use Rattle.programs.specs.Streams.{AllSent, EndsOnce}
 use Rattle.requests.specs.declared.Place.{Place}
 use Rattle.requests.specs.declared.writing.Refusal.{Refusal}
@@ -46,6 +45,10 @@ failed_behind a b c e reads faults = record {
 
 pub steady_none : {S : Type 0} {s t : Unbuffered S} → EachReadGave s t → ReadsSteadily s t
 steady_none gave = record { faults = none_met gave.0; ends = gave.1 }
+
+-- where none was made each read gave some
+pub unasked : {S : Type 0} (s t : Unbuffered S) → t.log ≡ s.log → EachReadGave s t
+unasked s t same = (ap (λ l. l.reads.faults) same, ap (λ l. l.reads.zero_reads) same)
 
 pub no_shorter : {a b : List Error} → OnlyInterrupts a b → length a ≤ length b
 no_shorter {a} {b} reads = omega (arith, ap length reads.faults, length-append a reads.interrupts)
@@ -153,23 +156,15 @@ module _ {S : Type 0} {s m : Unbuffered S} (steady : ReadsSteadily s m) where
 -- why a read fails is said of what it asked
 Fails-asked : {S : Type 0} (s m : Unbuffered S) (e : BodyError) (t : Unbuffered S) (r : Rest) → m.log ≡ s.log
     → Fails m e t r → Fails s e t r
-Fails-asked s m (Wrong why) t r same (gave, torn) =
-    ((gave.0 ∙ ap (λ l. l.reads.faults) same, gave.1 ∙ ap (λ l. l.reads.zero_reads) same), torn)
-Fails-asked s m (Truncated due) t r same (none, end, left, cut, many) = (
-  none ∙ ap (λ l. l.reads.faults) same,
-  end ∙ ap (λ l. l.reads.zero_reads + 1) same,
-  left,
-  cut,
-  many,
-)
-Fails-asked s m (Io e) t r same (fault, none) =
-    (fault ∙ ap (λ l. l.reads.faults ++ e ∷ []) same, none ∙ ap (λ l. l.reads.zero_reads) same)
+Fails-asked s m (Wrong why) t r same fails = subst (λ l. Fails (record s { log = l }) (Wrong why) t r) same fails
+Fails-asked s m (Truncated due) t r same fails = subst (λ l. Fails (record s { log = l }) (Truncated due) t r) same fails
+Fails-asked s m (Io e) t r same fails = subst (λ l. Fails (record s { log = l }) (Io e) t r) same fails
 
 -- what is said of a read of it is so since the stream was asked last
 module _ {S : Type 0} (s m : Unbuffered S) (t : InBody S) (same : m.log ≡ s.log) where
   pub reads_since : (answer : Result ℕ Untaken) → IfOk answer (λ n. ReadsSome m n t) → IfOk answer (λ n. ReadsSome s n t)
   reads_since (Ok n) r = record {
-    steady = steadily (steady_none (ap (λ l. l.reads.faults) same, ap (λ l. l.reads.zero_reads) same)) r.steady;
+    steady = steadily (steady_none (unasked s m same)) r.steady;
     more = elim r.more [ inl ended ↦ inl ended | inr some ↦ inr (omega (arith, some, ap (λ l. length l.reads.faults) same)) ];
   }
   reads_since (Err e) r = tt
@@ -195,15 +190,7 @@ pub asked_before : {S : Type 0} {remaining : S → Option (List ℕ)} {slice off
     → AskedWhere (BeginsRest b.rest []) b.stream t
 asked_before t same goes (inl none) = inl (none ∙ same)
 asked_before {b = b} {m = m} t same goes (inr over) =
-    let order = goes.takes.went.order in
-    let none : order.got ≡ [] = nil_from_length order.got (omega (
-      arith,
-      ap length order.given,
-      length-append b.stream.log.reads.given order.got,
-      ap (λ l. length l.reads.given) same,
-    )) in
-    let left : goes.takes.wire ++ m.stream.left ≡ b.stream.left =
-    order.equal ∙ ap (λ l. b.stream.left ++ l) none ∙ append-nil b.stream.left in
+    let left = handed_unasked goes.takes.went.order same in
     let on = over.such.goes_on in
     inr (record {
       came = over.came;
@@ -272,6 +259,11 @@ module _ {R : Type 0} {remaining : R → Option (List ℕ)} {s : ReaderState R H
   begun_whole same = begun.rest ∙ ap (λ l. body_of l b.said.extent) (begun.limits ∙ same)
 
   -- a part of it was taken
+  pub part_went : {t : InBody R} {handed : List ℕ} (goes : InsideGoes remaining b handed t)
+      → StreamWent remaining (left_of s) (b.head ++ goes.takes.wire) t.stream
+  part_went {t} goes = StreamWent-joins remaining (left_of s) b.stream t.stream b.head goes.takes.wire
+      (Begun-went remaining s b begun) goes.takes.went
+
   pub is_part : {t : InBody R} {handed : List ℕ} → b.limits ≡ usual → (goes : InsideGoes remaining b handed t)
       → IsPartTaken (Inside t) (b.head ++ goes.takes.wire) handed
   is_part {t} {handed} same goes =
@@ -294,28 +286,15 @@ nothing_more (Chunks limits place) wire payload none is =
     let done = subst (λ p. Completes limits p wire payload) (Completes-nothing limits place [] none) is in (done.1, done.0)
 
 -- the stream isn't asked for more of it then
-none_follows : (r q : Rest) (bytes handed : List ℕ) → IsRest r [] [] → Onward r bytes handed q
-    → (later : List ℕ) × (payload : List ℕ) × (0 < length later) × IsRest q later payload → ⊥
-none_follows (Bytes n) q bytes handed none onward (later, payload, some, is) =
-    omega (arith, some, none.0, (onward later payload is).0, length-append bytes later)
-none_follows (Chunks limits place) q bytes handed none onward (later, payload, some, is) =
-    let done : Completes limits Done (bytes ++ later) (handed ++ payload) =
-    subst (λ p. Completes limits p (bytes ++ later) (handed ++ payload)) (Completes-nothing limits place [] none)
-    (onward later payload is) in
-    omega (arith, some, ap length done.1, length-append bytes later)
-
-none_asked : (r : Rest) (bytes : List ℕ) → IsRest r [] [] → ¬ (Unended r bytes)
-none_asked r bytes none (handed, on) = none_follows r on.rest bytes handed none on.onward on.more
-
-pub unasked : {S : Type 0} (s t : Unbuffered S) (r : Rest) → IsRest r [] [] → AskedWhere (Unended r) s t
-    → EachReadGave s t
-unasked s t r none (inl same) = (ap (λ l. l.reads.faults) same, ap (λ l. l.reads.zero_reads) same)
-unasked s t r none (inr over) = absurd (none_asked r (s.left ++ over.came) none over.such)
-
 pub unasked_log : {S : Type 0} (s t : Unbuffered S) (r : Rest) → IsRest r [] [] → AskedWhere (Unended r) s t
     → t.log ≡ s.log
 unasked_log s t r none (inl same) = same
-unasked_log s t r none (inr over) = absurd (none_asked r (s.left ++ over.came) none over.such)
+unasked_log s t r none (inr over) =
+    let bytes = s.left ++ over.came in
+    let on = over.such.1 in
+    let more = on.more in
+    let all = nothing_more r (bytes ++ more.0) (over.such.0 ++ more.1) none (on.onward more.0 more.1 more.3) in
+    absurd (omega (arith, more.2, ap length all.0, length-append bytes more.0))
 
 -- nor where what comes next is wrong
 pub wrong_unasked : {S : Type 0} (s t : Unbuffered S) (r : Rest) (name : Malformed) → GoesWrong r s.left name

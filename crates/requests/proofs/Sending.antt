@@ -1,5 +1,5 @@
 -- What is written and sent, one after another.
-use Rattle.std.proofs.Common.{◌≡◌, ℕ, ◌<◌, ◌⊎◌, List, [], ◌∷◌, ◌++◌, length, Result, Ok, Err, OnOk, IfErr, sym, ap, subst, inl, inr, refl, arith, append-nil, length-append}
+use Rattle.std.proofs.Common.{◌≡◌, ℕ, ◌<◌, ◌⊎◌, List, [], ◌∷◌, ◌++◌, length, Result, Ok, Err, OnOk, IfErr, sym, ap, subst, inl, inr, refl, arith, length-append}
 use Rattle.std.proofs.lemmas.Bool.{cases_lt}
 use Rattle.std.proofs.lemmas.List.{nil_from_length}
 use Rattle.std.specs.declared.io.Error.{Error}
@@ -16,22 +16,9 @@ use Rattle.buffer_redux.specs.WritesAlongLaws.{BegunAlong-of, FrontAlong-after, 
 use Rattle.buffer_redux.specs.declared.policy.StdPolicy.{StdPolicy}
 use Rattle.codec.specs.Grammar.{IsOpen}
 use Rattle.messages.specs.Heads.{heads}
-use Rattle.messages.specs.HeadsLaws.{heads_lawful}
 use Rattle.messages.specs.Limits.{usual}
 use Rattle.programs.specs.Streams.{AllSent}
 use Rattle.requests.specs.Sending.{Both, IsHeld, IsStep, Prompt, PutStops, PutsText, SendsForRoom, SendsUnless, StepsAlong, WritesPromptly}
-
--- nothing settles nothing
-pub open_empty : (bytes : List ℕ) → bytes ≡ [] → IsOpen (heads usual) bytes
-open_empty bytes none = subst (IsOpen (heads usual)) (sym none) (record {
-  no_piece = λ b. absurd (omega (
-    arith,
-    (heads_lawful usual).some b.piece b.payload b.is,
-    ap length b.equal,
-    length-append b.piece b.more,
-  ));
-  not_wrong = (heads_lawful usual).nothing;
-})
 
 -- steps behind others
 StepsAlong-joins : {R W : Type 0} (tells : W → StreamLog) (trace : W → W → Type 0) (a m b : Both R W)

@@ -1,5 +1,5 @@
 -- Turns, one after another: a message in each.
-use Rattle.std.proofs.Common.{◌≡◌, ◌+◌, true, ℕ, List, [], ◌∷◌, ◌++◌, length, Option, Result, Ok, sym, ap, subst, inl, inr, ◌∙◌, refl, arith, append_assoc, append-nil, length-append}
+use Rattle.std.proofs.Common.{◌≡◌, ◌+◌, true, ℕ, List, [], ◌∷◌, ◌++◌, length, Option, Ok, sym, ap, subst, inl, inr, ◌∙◌, refl, arith, append_assoc, length-append, Err, OnOk, Result}
 use Rattle.std.proofs.lemmas.List.Elements.{All-append}
 use Rattle.std.specs.declared.io.Error.{Error}
 use Rattle.buffer_redux.specs.Buffered.{Buffered}
@@ -7,50 +7,30 @@ use Rattle.buffer_redux.specs.StreamLog.{StreamLog}
 use Rattle.buffer_redux.specs.Unbuffer.{StreamWent, Unbuffered}
 use Rattle.buffer_redux.specs.UnbufferLaws.{StreamWent-joins}
 use Rattle.buffer_redux.specs.declared.policy.StdPolicy.{StdPolicy}
-use Rattle.messages.specs.Messages.{Message}
-use Rattle.messages.specs.MessagesLaws.{InTurn-one}
+use Rattle.messages.specs.Messages.{InTurn, Message}
 use Rattle.requests.specs.declared.Ending.{Ending}
 use Rattle.requests.specs.declared.Ending.TheVariants as stop
 use Rattle.requests.specs.declared.Ending.TheVariants.{Over, Unread}
 use Rattle.requests.specs.declared.Place.{Place}
-use Rattle.requests.specs.Answers.{AnswersEach, AnswersMessages, AnswersWhole, Continues, IsAnswer, IsLastAnswer, IsMany, IsTaken, MayFollow, RunEndsBy, RunsToLast, stream_at}
-use Rattle.requests.specs.Sending.{Both, WritesPromptly}
-use Rattle.requests.specs.Texts.{answered, called, is_known, waits}
-use Rattle.requests.proofs.Answering.{AnswersMessages-joins, FailsLast-of, IsLastAnswer-after, IsSentLast-after, none_answered}
+use Rattle.requests.specs.Answers.{AnswersEach, AnswersWhole, Continues, IsAnswer, IsLastTurn, IsMany, IsSentLast, IsTaken, MayFollow, RunEndsBy, RunsToLast, call_at, sending_of, stream_at}
+use Rattle.requests.specs.Sending.{Both, IsHeld, WritesPromptly}
+use Rattle.requests.specs.Texts.{answered, called, is_called, is_known, refused}
 use Rattle.requests.proofs.Reading.{FailsInRead-still, IsClosed-still, IsMany-still, NoMoreAnswered-still, each_wrong, joined}
 use Rattle.requests.proofs.Sending.{WritesPromptly-after, WritesPromptly-parts}
 
 module _ {R W : Type 0} (remaining : R → Option (List ℕ)) (tells : W → StreamLog) {trace : W → W → Type 0}
     (joins : (u v x : W) → trace u v → trace v x → trace u x) where
-  pub AnswersWhole-messages : {m : Message} {a b : Both R W} {sending : Result (Unit {0}) Error}
-      → AnswersWhole remaining tells trace m a sending b
-      → AnswersMessages remaining tells trace (m ∷ []) a.0 a.1 [] [] (IsLastAnswer (m ∷ [])) b.0 sending b.1
-  AnswersWhole-messages {m} {a} {b} {sending} one =
-      let call = called (waits one.said) in
-      let answer = answered (is_known m.0) one.said (length m.1) in
-      let says = WritesPromptly-parts b.0 one.answers in
-      record {
-        bytes = one.bytes;
-        are = InTurn-one IsTaken m one.bytes one.is;
-        went = subst (λ l. StreamWent remaining a.0 l b.0) (sym (append-nil one.bytes)) one.went;
-        text = call ++ answer;
-        answers = InTurn-one IsAnswer m (call ++ answer) (one.said, one.head, refl);
-        writes = subst (λ l. WritesPromptly tells trace a l sending b) (sym (append-nil (call ++ answer)))
-            (WritesPromptly-after joins a (b.0, one.before) b call answer sending one.calls says);
-        fails = FailsLast-of (IsLastAnswer (m ∷ [])) sending (append-nil (call ++ answer))
-            (inr ([], m, one.said, refl, one.head, refl)) one.calls.puts says.puts;
-      }
-
   AnswersWhole-behind : {m : Message} {a c b : Both R W} → AnswersEach remaining tells trace [] a c
       → AnswersWhole remaining tells trace m c (Ok tt) b → AnswersWhole remaining tells trace m a (Ok tt) b
-  AnswersWhole-behind {a = a} {c = c} {b = b} (went, writes) one = record {
+  AnswersWhole-behind {m = m} {a = a} {c = c} {b = b} (went, writes) one = record {
     bytes = one.bytes;
     is = one.is;
     went = StreamWent-joins remaining a.0 c.0 b.0 [] one.bytes went one.went;
     said = one.said;
     head = one.head;
+    open' = one.open';
     before = one.before;
-    calls = WritesPromptly-after joins a c (b.0, one.before) [] (called (waits one.said)) (Ok tt) writes one.calls;
+    calls = WritesPromptly-after joins a c (b.0, one.before) [] (called (is_called (is_known m.0) one.said)) (Ok tt) writes one.calls;
     answers = one.answers;
   }
 
@@ -64,11 +44,43 @@ module _ {R W : Type 0} (remaining : R → Option (List ℕ)) (tells : W → Str
   AnswersEach-joins [] (n ∷ ns) a c b none (d, one, later) = (d, AnswersWhole-behind none one, later)
   AnswersEach-joins (m ∷ ms) ns a c b (d, one, later) more = (d, one, AnswersEach-joins ms ns d c b later more)
 
-  pub AnswersEach-messages : (ms : List Message) (a b : Both R W) → AnswersEach remaining tells trace ms a b
-      → AnswersMessages remaining tells trace ms a.0 a.1 [] [] (IsLastAnswer ms) b.0 (Ok tt) b.1
-  AnswersEach-messages [] a b (went, writes) = none_answered went writes tt
-  AnswersEach-messages (m ∷ ms) a b (c, one, later) = AnswersMessages-joins joins (AnswersWhole-messages one)
-      (AnswersEach-messages ms c b later) (IsLastAnswer-after (m ∷ []) ms)
+  -- so these messages went, and what was taken in is the answer to each
+  pub AnswersEach-whole : (ms : List Message) (a b : Both R W) → AnswersEach remaining tells trace ms a b → (bytes : List ℕ)
+      × (text : List ℕ) × InTurn IsTaken ms bytes × InTurn IsAnswer ms text × StreamWent remaining a.0 bytes b.0
+      × WritesPromptly tells trace a text (Ok tt) b
+  AnswersEach-whole [] a b (went, writes) = ([], [], refl, refl, went, writes)
+  AnswersEach-whole (m ∷ ms) a b (c, one, later) =
+      let all = AnswersEach-whole ms c b later in
+      let call = called (is_called (is_known m.0) one.said) in
+      let answer = answered (is_known m.0) one.said (length m.1) in (
+        one.bytes ++ all.0,
+        (call ++ answer) ++ all.1,
+        (one.bytes, all.0, one.is, all.2, refl),
+        (call ++ answer, all.1, (one.said, one.head, refl), all.3, refl),
+        StreamWent-joins remaining a.0 c.0 b.0 one.bytes all.0 one.went all.4,
+        WritesPromptly-after joins a c b (call ++ answer) all.1 (Ok tt)
+            (WritesPromptly-after joins a (c.0, one.before) c call answer (Ok tt) one.calls
+            (WritesPromptly-parts c.0 one.answers)) all.5,
+      )
+
+  -- what the writer has buffered is all that wasn't sent, still
+  turn_held : (last : List Message) (taken text : List ℕ) (Last : List ℕ → Type 0) (a b : Both R W)
+      (sending : Result (Unit {0}) Error) → IsLastTurn remaining tells trace last taken text Last a sending b → IsHeld a.1
+      → OnOk sending (IsHeld b.1)
+  turn_held [] taken text Last a b (Ok x) turn held = turn.1.puts.held held
+  turn_held [] taken text Last a b (Err e) turn held = tt
+  turn_held (m ∷ []) taken text Last a b (Ok x) turn held =
+      (WritesPromptly-parts b.0 turn.0.answers).puts.held (turn.0.calls.puts.held held)
+  turn_held (m ∷ []) taken text Last a b (Err e) turn held = tt
+  turn_held (m ∷ n ∷ later) taken text Last a b sending turn held = absurd turn
+
+  pub RunsToLast-held : {s : Unbuffered R} {w w' : Buffered W StdPolicy} {place : Place R} (ending : Ending)
+      → RunsToLast remaining tells trace s w place ending w' → IsHeld w → OnOk (sending_of ending) (IsHeld w')
+  RunsToLast-held {s} {w} {w'} {place} ending runs held =
+      let turns = runs.turns in
+      turn_held turns.last runs.taken (call_at place ++ refused runs.refuses) (IsSentLast runs.taken runs.refuses place)
+      turns.between (stream_at place, w') (sending_of ending) turns.turn
+      ((AnswersEach-whole turns.front (s, w) turns.between turns.each).5.puts.held held)
 
   module _ {s m : Unbuffered R} {w v : Buffered W StdPolicy} (a : Continues remaining tells trace s w m v) where
     pub RunsToLast-after : {place : Place R} {w' : Buffered W StdPolicy} (ending : Ending)
@@ -79,8 +91,6 @@ module _ {R W : Type 0} (remaining : R → Option (List ℕ)) (tells : W → Str
       handed = b.handed;
       part = b.part;
       refuses = b.refuses;
-      answers = AnswersMessages-joins joins (AnswersEach-messages a.messages (s, w) (m, v) a.each) b.answers
-          (IsSentLast-after a.messages b.messages b.taken b.refuses place);
       turns = record {
         front = a.messages ++ b.turns.front;
         last = b.turns.last;

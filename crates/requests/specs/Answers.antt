@@ -1,5 +1,5 @@
 -- What is answered to requests.
-use Rattle.std.specs.Prelude.{◌≡◌, ◌≢◌, ℕ, ◌+◌, ◌-◌, ◌^◌, ◌<◌, ◌≤◌, ◌⊎◌, ◌&&◌, ◌||◌, ◌==◌, not, nat_lt, if◌then◌else◌, Bool, true, false, List, [], ◌∷◌, ◌++◌, All, length, drop, nat_eq, Option, None, Some, Result, Ok, Err, MatchResult, IfErr, IfSome, IsErr, IsSome, IsTrue, codes}
+use Rattle.std.specs.Prelude.{◌≡◌, ◌≢◌, ℕ, ◌+◌, ◌-◌, ◌^◌, ◌<◌, ◌≤◌, ◌⊎◌, ◌==◌, Bool, true, false, List, [], ◌∷◌, ◌++◌, All, length, Option, None, Some, Result, Ok, Err, MatchResult, IfErr, IfSome, IsErr, IsSome, IsTrue}
 use Rattle.std.specs.List.{prefix_len}
 use Rattle.std.specs.IoError.{error_kind}
 use Rattle.std.specs.declared.io.Error.{Error}
@@ -20,7 +20,7 @@ use Rattle.messages.specs.declared.head.ParsedHead.{ParsedHead}
 use Rattle.messages.specs.Heads.{IsHead, heads}
 use Rattle.messages.specs.declared.head.Heads.{Heads}
 use Rattle.messages.specs.Limits.{usual}
-use Rattle.messages.specs.Messages.{EachReadGave, Fails, GoesWrong, InBody, InTurn, IsMessage, IsRest, Message, Onward, Unended, body_of}
+use Rattle.messages.specs.Messages.{EachReadGave, Fails, GoesWrong, InBody, IsMessage, IsRest, Message, Onward, Unended, body_of}
 use Rattle.messages.specs.Versions.{is_end}
 use Rattle.programs.specs.Streams.{AllSent, EndsOnce}
 use Rattle.requests.specs.declared.writing.Refusal.{Refusal}
@@ -34,12 +34,12 @@ use Rattle.requests.specs.declared.taking.Untaken.{Untaken}
 use Rattle.requests.specs.declared.taking.Untaken.TheVariants.{Body, Large, Unsent, Many}
 use Rattle.requests.specs.Large.{TurnsLarge, is_large}
 use Rattle.requests.specs.Sending.{Both, PutsText, SendsHeld, WritesPromptly}
-use Rattle.requests.specs.Texts.{answered, called, is_known, refusal, refusal_of, refused, waits}
+use Rattle.requests.specs.Texts.{answered, called, early_refusal, is_called, is_known, refusal, refusal_of, refused}
 
 -- the answer to a message: 200, and how much payload all of its body has; or 501, or 417
 abbrev pub IsAnswer : Message → List ℕ → Type 0
 IsAnswer m text = (said : ParsedHead) × IsHead usual m.0 said
-    × (text ≡ called (waits said) ++ answered (is_known m.0) said (length m.1))
+    × (text ≡ called (is_called (is_known m.0) said) ++ answered (is_known m.0) said (length m.1))
 
 -- a message is these bytes, and its body isn't too large
 abbrev pub IsTaken : Message → List ℕ → Type 0
@@ -72,14 +72,15 @@ stream_at (Inside body) = body.stream
 -- the call for the body that the reader stands in
 abbrev pub call_at : {S : Type 0} → Place S → List ℕ
 call_at (Before requests) = []
-call_at (Inside body) = called (waits body.said)
+call_at (Inside body) = called (is_called (is_known body.head) body.said)
 
 -- these are ends of lines alone, and so empty lines, which say nothing (RFC 9112, section 2.2)
 abbrev pub only_line_ends : List ℕ → Bool
 only_line_ends bytes = prefix_len is_end bytes == length bytes
 
 -- what comes is to be refused so: no head begins what is left, for that reason, or the stream ended in one; or the next byte of
--- the body is wrong, or the stream ended before that was complete, or what was taken of it is too large, with this payload
+-- the body is wrong, or the stream ended before that was complete, or what was taken of it is too large, with this payload; or its
+-- head settles that, and nothing was taken behind that
 abbrev pub IsToBeRefused : {S : Type 0} → Unbuffered S → Place S → List ℕ → Refusal → Type 0
 IsToBeRefused s (Before requests) handed why = ((e : BadHead) × (heads usual).wrong (rest requests) e × (why ≡ refusal_of e))
     ⊎ ((why ≡ BadRequest) × (ends_of s < ends_of (left_of requests)) × (only_line_ends (rest requests) ≡ false)
@@ -89,6 +90,7 @@ IsToBeRefused s (Inside body) handed why = ((why ≡ BadRequest)
     ⊎ ((ends_of s < ends_of body.stream) × (body.stream.left ≡ [])
     × ((payload : List ℕ) → ¬ (IsRest body.rest [] payload)))))
     ⊎ ((why ≡ LargeBody) × TurnsLarge body.said.extent body.calls.reads.latest body.taken handed)
+    ⊎ ((early_refusal (is_known body.head) body.said ≡ Some why) × (body.taken ≡ []))
 
 -- the stream ended, and nothing is left but empty lines, where a head would begin
 abbrev pub EndedBeforeHead : {S : Type 0} → Unbuffered S → Place S → Type 0
@@ -181,17 +183,12 @@ abbrev pub sent_with : {A : Type 0} → Result A Untaken → Result (Unit {0}) E
 sent_with (Ok a) = Ok tt
 sent_with (Err e) = sent_till e
 
--- this is the 200, the 501 or the 417 of the last of these messages
-abbrev pub IsLastAnswer : List Message → List ℕ → Type 0
-IsLastAnswer messages text = (before : List Message) × (m : Message) × (said : ParsedHead) × (messages ≡ before ++ m ∷ [])
-    × IsHead usual m.0 said × (text ≡ answered (is_known m.0) said (length m.1))
-
--- this is sent last, where the reader stands there: a refusal, or such an answer, or the call for a body of which nothing was
--- taken
-abbrev pub IsSentLast : {S : Type 0} → List Message → List ℕ → Option Refusal → Place S → List ℕ → Type 0
-IsSentLast messages taken (Some why) place text = text ≡ refusal why
-IsSentLast messages taken None (Before requests) text = IsLastAnswer messages text
-IsSentLast messages taken None (Inside body) text = (text ≡ call_at (Inside body)) × (taken ≡ body.head)
+-- this is sent last behind whole messages and their answers, where the reader stands there: a refusal, or the call for a body of
+-- which nothing was taken
+abbrev pub IsSentLast : {S : Type 0} → List ℕ → Option Refusal → Place S → List ℕ → Type 0
+IsSentLast taken (Some why) place text = text ≡ refusal why
+IsSentLast taken None (Before requests) text = ⊥
+IsSentLast taken None (Inside body) text = (text ≡ call_at (Inside body)) × (taken ≡ body.head)
 
 -- of this text all but such a last part was taken in, and then taking that in failed; or a flush did, behind the whole text
 pub record FailsLast {W : Type 0} (tells : W → StreamLog) (trace : W → W → Type 0) (Last : List ℕ → Type 0)
@@ -235,49 +232,44 @@ EndsSent tells trace (Unread e) w answer w' = (answer ≡ Err e) × (w' ≡ w)
 EndsSent tells trace (stop.Unsent e) w answer w' = (answer ≡ Err e) × (w' ≡ w)
 
 module _ {R W : Type 0} (remaining : R → Option (List ℕ)) (tells : W → StreamLog) (trace : W → W → Type 0) where
-  -- of what was given, these messages went, and then these bytes; what was taken in is the answer to each, in their order, and
-  -- then this text; and where sending failed, it did in such a last part
-  pub record AnswersMessages (messages : List Message) (s : Unbuffered R) (w : Buffered W StdPolicy) (taken last : List ℕ)
-      (Last : List ℕ → Type 0) (t : Unbuffered R) (sending : Result (Unit {0}) Error) (w' : Buffered W StdPolicy) : Type 0 where
-    pub bytes : List ℕ
-    pub are : InTurn IsTaken messages bytes
-    pub went : StreamWent remaining s (bytes ++ taken) t
-    pub text : List ℕ
-    pub answers : InTurn IsAnswer messages text
-    pub writes : WritesPromptly tells trace (s, w) (text ++ last) sending (t, w')
-    pub fails : IfErr sending (λ e. FailsLast tells trace Last w (text ++ last) e w')
-
-  -- this message went, and its body was called for, where the client waits; and then it was answered, or that failed
+  -- this message went, whose head settles no refusal of it, and its body was called for, where the client waits; and then it was
+  -- answered, or that failed
   pub record AnswersWhole (m : Message) (a : Both R W) (sending : Result (Unit {0}) Error) (b : Both R W) : Type 0 where
     pub bytes : List ℕ
     pub is : IsTaken m bytes
     pub went : StreamWent remaining a.0 bytes b.0
     pub said : ParsedHead
     pub head : IsHead usual m.0 said
+    pub open' : early_refusal (is_known m.0) said ≡ None
     pub before : Buffered W StdPolicy
-    pub calls : WritesPromptly tells trace a (called (waits said)) (Ok tt) (b.0, before)
+    pub calls : WritesPromptly tells trace a (called (is_called (is_known m.0) said)) (Ok tt) (b.0, before)
     pub answers : WritesParts tells trace before (answered (is_known m.0) said (length m.1)) sending b.1
 
-  -- each of these went and was answered so, before a byte of the next was taken
+  -- each of these went and was answered so, before a byte of the next was taken. So what went is the messages, and what was
+  -- taken in is the answer to each, in their order (`AnswersEach-whole`)
   abbrev pub AnswersEach : List Message → Both R W → Both R W → Type 0
   AnswersEach [] a b = StreamWent remaining a.0 [] b.0 × WritesPromptly tells trace a [] (Ok tt) b
   AnswersEach (m ∷ later) a b = (c : Both R W) × AnswersWhole m a (Ok tt) c × AnswersEach later c b
 
-  -- the last turn: none went whole, but these bytes, and this text was written; or one did, and was answered
-  abbrev pub IsLastTurn : List Message → List ℕ → List ℕ → Both R W → Result (Unit {0}) Error → Both R W → Type 0
-  IsLastTurn [] taken text a sending b = StreamWent remaining a.0 taken b.0 × WritesPromptly tells trace a text sending b
-  IsLastTurn (m ∷ []) taken text a sending b = AnswersWhole m a sending b
-  IsLastTurn (m ∷ n ∷ later) taken text a sending b = ⊥
+  -- the last turn: none went whole, but these bytes, and this text was written, and where sending failed, it did in such a last
+  -- part of it; or one did, and was answered, or that failed, and nothing else
+  abbrev pub IsLastTurn : List Message → List ℕ → List ℕ → (List ℕ → Type 0) → Both R W → Result (Unit {0}) Error → Both R W
+      → Type 0
+  IsLastTurn [] taken text Last a sending b =
+      StreamWent remaining a.0 taken b.0 × WritesPromptly tells trace a text sending b
+      × IfErr sending (λ e. FailsLast tells trace Last a.1 text e b.1)
+  IsLastTurn (m ∷ []) taken text Last a sending b = AnswersWhole m a sending b × (taken ≡ []) × (text ≡ [])
+  IsLastTurn (m ∷ n ∷ later) taken text Last a sending b = ⊥
 
   -- in turns: each of these messages was answered before more was taken, and then came the last turn
-  pub record AnswersInTurns (messages : List Message) (a : Both R W) (taken text : List ℕ) (sending : Result (Unit {0}) Error)
-      (b : Both R W) : Type 0 where
+  pub record AnswersInTurns (messages : List Message) (a : Both R W) (taken text : List ℕ) (Last : List ℕ → Type 0)
+      (sending : Result (Unit {0}) Error) (b : Both R W) : Type 0 where
     pub front : List Message
     pub last : List Message
     pub all : messages ≡ front ++ last
     pub between : Both R W
     pub each : AnswersEach front a between
-    pub turn : IsLastTurn last taken text between sending b
+    pub turn : IsLastTurn last taken text Last between sending b
 
   -- messages went, each was answered in its turn, and another may follow
   pub record Continues (s : Unbuffered R) (w : Buffered W StdPolicy) (t : Unbuffered R) (w' : Buffered W StdPolicy) : Type 0 where
@@ -309,10 +301,8 @@ module _ {R W : Type 0} (remaining : R → Option (List ℕ)) (tells : W → Str
     pub handed : List ℕ
     pub part : IsPartTaken place taken handed
     pub refuses : Option Refusal
-    pub answers : AnswersMessages messages s w taken (call_at place ++ refused refuses) (IsSentLast messages taken refuses place)
-        (stream_at place) (sending_of ending) w'
-    pub turns : AnswersInTurns messages (s, w) taken (call_at place ++ refused refuses) (sending_of ending)
-        (stream_at place, w')
+    pub turns : AnswersInTurns messages (s, w) taken (call_at place ++ refused refuses) (IsSentLast taken refuses place)
+        (sending_of ending) (stream_at place, w')
     pub once : EndsOnce s.log.reads (stream_at place).log.reads
     pub wrong : IfSome refuses (IsToBeRefused s place handed)
     pub ends : RunEndsBy s messages taken handed refuses place w' ending

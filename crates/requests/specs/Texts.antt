@@ -9,7 +9,7 @@ use Rattle.messages.specs.declared.head.Extent.TheVariants.{Sized, Chunked}
 use Rattle.messages.specs.declared.head.ParsedHead.{ParsedHead}
 use Rattle.messages.specs.Versions.{is_end}
 use Rattle.requests.specs.declared.writing.Refusal.{Refusal}
-use Rattle.requests.specs.declared.writing.Refusal.TheVariants.{BadRequest, LargeBody, LongTarget, LargeHead, Unknown, OtherVersion}
+use Rattle.requests.specs.declared.writing.Refusal.TheVariants.{BadRequest, LargeBody, LongTarget, LargeHead, Unmet, Unknown, OtherVersion}
 use Rattle.requests.specs.Large.{is_large}
 
 -- a call for a body, and a refusal, each where there is one
@@ -23,6 +23,7 @@ refusal LongTarget = codes "HTTP/1.1 414 URI Too Long\r\nContent-Length: 0\r\nCo
 refusal LargeHead =
     codes "HTTP/1.1 431 Request Header Fields Too Large\r\nContent-Length: 0\r\nConnection: close\r\n\r\n"
 refusal LargeBody = codes "HTTP/1.1 413 Content Too Large\r\nContent-Length: 0\r\nConnection: close\r\n\r\n"
+refusal Unmet = codes "HTTP/1.1 417 Expectation Failed\r\nContent-Length: 0\r\nConnection: close\r\n\r\n"
 refusal Unknown = codes "HTTP/1.1 501 Not Implemented\r\nContent-Length: 0\r\nConnection: close\r\n\r\n"
 refusal OtherVersion =
     codes "HTTP/1.1 505 HTTP Version Not Supported\r\nContent-Length: 0\r\nConnection: close\r\n\r\n"
@@ -50,6 +51,16 @@ has_body Chunked = true
 
 abbrev pub waits : ParsedHead → Bool
 waits said = said.expects && (has_body said.extent && not (is_large said.extent 0 0))
+
+-- what its head settles is said to such a client at once, and not behind the body that it would then send (RFC 9110, section
+-- 10.1.1): nobody here knows the method, or does what is expected
+abbrev pub early_refusal : Bool → ParsedHead → Option Refusal
+early_refusal known said =
+    if waits said then (if known then (if said.met then None else Some Unmet) else Some Unknown) else None
+
+-- and else it is called
+abbrev pub is_called : Bool → ParsedHead → Bool
+is_called known said = waits said && (known && said.met)
 
 -- how much payload there was, in 21 bytes
 abbrev pub length_line : ℕ → List ℕ

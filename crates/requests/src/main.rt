@@ -1,7 +1,7 @@
 //! Answers each request on standard input by how many bytes of payload its body has.
 //!
 //! 200 and that number, where all of the body came, or 501 to a method that it doesn't know, or 417 to who expects something but
-//! `100-continue`; 100 before it, where the client waits for that. What comes and is no request is refused by the status that RFC
+//! `100-continue`, before the body if the client waits (`early_refusal`); and else 100 before it. What comes and is no request is refused by the status that RFC
 //! 9112 has for it (`refusal_of`); 400 is for a body that is none, or ends early, and 413 for one that is too large (`is_large`);
 //! and then no more comes. It ends behind a request after which none may follow, and where the stream does. It asks the stream
 //! only where what it has settles nothing, and all that it answered was sent, and sends only there, for room, and at the end
@@ -13,7 +13,7 @@ mod limits;
 mod taking;
 mod writing;
 
-ghost use Rattle.std.specs.Prelude.{◌≡◌, ℕ, true, false, [], IsTrue, IfOk, Ok, OnOk};
+ghost use Rattle.std.specs.Prelude.{◌≡◌, ℕ, true, false, [], IsTrue, IfOk, None, Ok, OnOk};
 ghost use Rattle.std.specs.declared.io.Error.{Error};
 ghost use Rattle.redux_buffer.specs.Faults.{IsInterrupt};
 ghost use Rattle.buffer_redux.specs.Buffered.{Buffered};
@@ -26,11 +26,11 @@ ghost use Rattle.messages.specs.Limits.{usual};
 ghost use Rattle.messages.specs.Messages.{Begun, body_of, stop_answer};
 ghost use Rattle.requests.specs.Sending.{IsHeld, SendsUnless, WritesOnlyHeld, WritesPromptly};
 ghost use Rattle.requests.specs.Answers.{AnswersTurn, EndsSent, EndsUntaken, ServesRequests, ending_of, only_line_ends, sending_of};
-ghost use Rattle.requests.specs.Texts.{called, waits};
+ghost use Rattle.requests.specs.Texts.{called, early_refusal, is_called, is_known};
 
 use crate::taking::{Untaken, take_whole};
 use crate::writing::{
-    Refusal, answer_whole, call_for_body, is_known, refusal_of, refuse, send_held,
+    Refusal, answer_whole, call_for_body, early_refusal, is_known, refusal_of, refuse, send_held,
 };
 use buffer_redux::BufWriter;
 use buffer_redux::tell::{Tell, TellRead, TellWrite, Told};
@@ -236,9 +236,16 @@ fn answer_body<R: TellRead, W: TellWrite>(
         → WritesPromptly W.log W.trace (left_of s, w) [] (Ok tt) (body.stream, writer.old)
         → AnswersTurn R.remaining W.log W.trace (left_of s) w result writer.new }
 {
-    match call_for_body(body.said(), writer) {
-        Ok(()) => answer_called(body, writer),
-        Err(e) => Err((Place::Inside(body), Ending::Unsent(e))),
+    let said = body.said();
+    match early_refusal(is_known(body.head()), said) {
+        Some(why) => {
+            let ending = ending_of(refuse(why, writer));
+            Err((Place::Inside(body), ending))
+        }
+        None => match call_for_body(said, writer) {
+            Ok(()) => answer_called(body, writer),
+            Err(e) => Err((Place::Inside(body), Ending::Unsent(e))),
+        },
     }
 }
 
@@ -251,9 +258,11 @@ fn answer_called<R: TellRead, W: TellWrite>(
     requires first { body.taken ≡ [] }
     requires limits { body.limits ≡ usual }
     requires rest { body.rest ≡ body_of usual body.said.extent }
+    requires open { early_refusal (is_known body.head) body.said ≡ None }
     ensures limits { IfOk result (λ next. next.decoder.0 ≡ usual) }
     ensures turns { (s : ReaderState R Heads) (w : Buffered W StdPolicy) → Begun R.remaining s body
-        → WritesPromptly W.log W.trace (left_of s, w) (called (waits body.said)) (Ok tt) (body.stream, writer.old)
+        → WritesPromptly W.log W.trace (left_of s, w) (called (is_called (is_known body.head) body.said)) (Ok tt)
+        (body.stream, writer.old)
         → AnswersTurn R.remaining W.log W.trace (left_of s) w result writer.new }
 {
     let said = body.said();

@@ -3,7 +3,7 @@ ghost use Rattle.std.specs.Prelude.{◌≡◌, ◌++◌, codes, map};
 ghost use Rattle.std.specs.List.{concat};
 ghost use Rattle.buffer_redux.specs.WriteParts.{WritesParts};
 ghost use Rattle.requests.specs.Sending.{IsHeld, SendsForRoom, SendsHeld};
-ghost use Rattle.requests.specs.Texts.{answered, begins_known, begins_often, called, declined, disappointed, granted, has_body, is_known, refusal, refusal_of, success, waits};
+ghost use Rattle.requests.specs.Texts.{answered, begins_known, begins_often, called, declined, disappointed, early_refusal, granted, has_body, is_known, refusal, refusal_of, success, waits};
 
 use crate::limits::is_large;
 use buffer_redux::BufWriter;
@@ -21,6 +21,8 @@ pub(crate) enum Refusal {
     LargeBody,
     // 414.
     LongTarget,
+    // 417.
+    Unmet,
     // 431.
     LargeHead,
     // 501.
@@ -77,7 +79,7 @@ fn disappointed(keeps: bool) -> &'static [u8]
     if keeps {
         b"HTTP/1.1 417 Expectation Failed\r\nContent-Length: 0\r\nConnection: keep-alive\r\n\r\n"
     } else {
-        b"HTTP/1.1 417 Expectation Failed\r\nContent-Length: 0\r\nConnection: close\r\n\r\n"
+        refusal_text(Refusal::Unmet)
     }
 }
 
@@ -146,6 +148,19 @@ fn waits(said: ParsedHead) -> bool
     said.expects && (has_body(said.extent) && !is_large(said.extent, 0, 0))
 }
 
+// How a request is refused before its body comes, where the client waits for a call for that.
+pub(crate) fn early_refusal(known: bool, said: ParsedHead) -> Option<Refusal>
+    ensures { result ≡ early_refusal known said }
+{
+    if !waits(said) {
+        return None;
+    }
+    if !known {
+        return Some(Refusal::Unknown);
+    }
+    if said.met { None } else { Some(Refusal::Unmet) }
+}
+
 fn has_body(extent: Extent) -> bool
     ensures { result ≡ has_body extent }
 {
@@ -185,6 +200,9 @@ fn refusal_text(why: Refusal) -> &'static [u8]
         }
         Refusal::LongTarget => {
             b"HTTP/1.1 414 URI Too Long\r\nContent-Length: 0\r\nConnection: close\r\n\r\n"
+        }
+        Refusal::Unmet => {
+            b"HTTP/1.1 417 Expectation Failed\r\nContent-Length: 0\r\nConnection: close\r\n\r\n"
         }
         Refusal::LargeHead => {
             b"HTTP/1.1 431 Request Header Fields Too Large\r\nContent-Length: 0\r\nConnection: close\r\n\r\n"

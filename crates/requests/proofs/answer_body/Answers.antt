@@ -1,30 +1,71 @@
--- The call is written while nobody is asked, and where that fails no byte of the body was taken.
-use Rattle.std.proofs.Common.{◌≡◌, ◌∙◌, ap, length, length-append, true, [], ◌++◌, Err, Ok, arith, append-nil, refl, inl, inr, None, subst, sym}
+-- What the head settles is told at once; else the call is written while nobody is asked, and where either fails no byte of the body
+-- was taken.
+use Rattle.std.proofs.Common.{◌≡◌, ◌∙◌, ap, length, length-append, Bool, true, false, ◌&&◌, if◌then◌else◌, [], ◌++◌, Option, None, Some, Err, Ok, arith, append-nil, refl, inl, inr, subst, sym}
 use Rattle.std.proofs.lemmas.List.{nil_from_length}
 use Rattle.std.proofs.lemmas.List.Elements.{All-nil}
+use Rattle.codec.specs.PieceReader.{left_of}
 use Rattle.messages.specs.MessagesLaws.{InsideGoes-none}
 use Rattle.requests.specs.declared.Ending.TheVariants.{Unsent}
 use Rattle.requests.specs.declared.Place.TheVariants.{Inside}
-use Rattle.requests.specs.Answers.{IsSentLast, MayFollow}
-use Rattle.requests.specs.Texts.{called, waits}
-use Rattle.requests.specs.Sending.{WritesPromptly}
-use Rattle.requests.proofs.Answering.{FailsLast-of, RunsToLast-stopped, part_answered}
-use Rattle.requests.proofs.Reading.{begun_steady, is_part}
-use Rattle.requests.proofs.Sending.{WritesPromptly-after, WritesPromptly-put}
+use Rattle.requests.specs.declared.writing.Refusal.{Refusal}
+use Rattle.requests.specs.declared.writing.Refusal.TheVariants.{Unknown, Unmet}
+use Rattle.requests.specs.Answers.{IsSentLast, MayFollow, RunsToLast, call_at}
+use Rattle.requests.specs.Texts.{called, early_refusal, is_called, is_known, refusal, waits}
+use Rattle.requests.specs.Sending.{SendsForRoom, WritesPromptly}
+use Rattle.requests.proofs.Answering.{FailsLast-of, RunsToLast-one, RunsToLast-refused}
+use Rattle.requests.proofs.Reading.{begun_steady, is_part, part_went}
+use Rattle.requests.proofs.Sending.{WritesPromptly-after, WritesPromptly-parts, WritesPromptly-put}
 use Rattle.requests.proofs.answer_body.Goals as goal
+use Rattle.requests.proofs.answer_body.Goals.{After-early_refusal}
+
+-- who waits is called unless refused, and who is refused isn't
+abbrev early : Bool → Bool → Bool → Option Refusal
+early w k m = if w then (if k then (if m then None else Some Unmet) else Some Unknown) else None
+
+calls : (w k m : Bool) → early w k m ≡ None → w ≡ (w && (k && m))
+calls false k m none = refl
+calls true true true none = refl
+calls true true false none = cc
+calls true false m none = cc
+
+no_call : (w k m : Bool) (why : Refusal) → early w k m ≡ Some why → (w && (k && m)) ≡ false
+no_call false k m why is = cc
+no_call true true true why is = cc
+no_call true true false why is = refl
+no_call true false m why is = refl
+
+-- what its head settles of the message
+settled : (g : _) (c : After-early_refusal g)
+    → c.early_refusal.result ≡ early_refusal (is_known c.args.body.head) c.args.body.said
+settled g c = c.early_refusal.ensures ∙ ap (early_refusal c.is_known.result) c.said-said.ensures.value
+    ∙ ap (λ k. early_refusal k c.args.body.said) (c.is_known.ensures ∙ ap is_known c.head.ensures)
 
 pub answer_called-requires-clause-held : goal.answer_called-requires-clause-held
 answer_called-requires-clause-held g c =
     (WritesPromptly-put g.met.W.TellWrite.trace_none c.args.body.stream c.in-Ok.ensures).puts.held c.requires.held
 
+pub answer_called-requires-clause-open : goal.answer_called-requires-clause-open
+answer_called-requires-clause-open g c =
+    sym (settled g (goal.at.answer_called-requires-clause-open g c).After-early_refusal) ∙ c.in-None.is
+
+-- the text of the call, by what the head settles
+text : (g : _) (c : After-early_refusal g) → c.early_refusal.result ≡ None
+    → called (waits c.said-said.result) ≡ called (is_called (is_known c.args.body.head) c.args.body.said)
+text g c none =
+    let b = c.args.body in
+    ap (λ s. called (waits s)) c.said-said.ensures.value
+    ∙ ap called (calls (waits b.said) (is_known b.head) b.said.met
+    (sym (settled g c) ∙ none))
+
 pub returns-in-Ok-clause-turns : goal.returns-in-Ok-clause-turns
 returns-in-Ok-clause-turns g c = λ s w begun writes.
     let b = c.args.body in
-    let call = rw c.said.ensures.value at c.in-Ok.ensures in
+    let call = subst (λ l. SendsForRoom g.W.Tell.log g.W.TellWrite.trace c.args.writer.now l (Ok tt) c.call_for_body.new.writer)
+    (text g (goal.at.returns-in-Ok-clause-turns g c).After-early_refusal c.in-None.is) c.in-Ok.ensures in
     c.answer_called.ensures.turns s w begun
     (WritesPromptly-after g.met.W.TellWrite.trace_joins (_, w) (b.stream, c.args.writer.now)
-    (b.stream, c.call_for_body.new.writer) []
-    (called (waits b.said)) (Ok tt) writes (WritesPromptly-put g.met.W.TellWrite.trace_none b.stream call))
+    (b.stream, c.call_for_body.new.writer) [] (call_at (Inside b)) (Ok tt) writes
+    (WritesPromptly-put g.met.W.TellWrite.trace_none b.stream call))
 
 pub returns-in-Err-clause-turns : goal.returns-in-Err-clause-turns
 returns-in-Err-clause-turns g c = λ s w begun writes.
@@ -32,19 +73,37 @@ returns-in-Err-clause-turns g c = λ s w begun writes.
     let none = InsideGoes-none g.R.TellRead.remaining b in
     let empty : none.takes.wire ≡ [] = nil_from_length none.takes.wire
     (omega (arith, ap length none.taken, length-append b.taken none.takes.wire)) in
-    let call = rw c.said.ensures.value at c.in-Err.ensures in
-    let put = subst (λ l. WritesPromptly g.W.Tell.log g.W.TellWrite.trace (b.stream, c.args.writer.now) l (Err c.in-Err.e)
-    (b.stream, c.call_for_body.new.writer)) (sym (append-nil (called (waits b.said))))
-    (WritesPromptly-put g.met.W.TellWrite.trace_none b.stream call) in
-    RunsToLast-stopped g.met.W.TellWrite.trace_none [] (Inside b) (is_part begun c.requires.limits none) (omega (
-      arith,
-      (begun_steady begun).ends,
-    ))
-    (Unsent c.in-Err.e)
-    (part_answered begun none
-    (WritesPromptly-after g.met.W.TellWrite.trace_joins (_, w) (b.stream, c.args.writer.now)
-    (b.stream, c.call_for_body.new.writer) []
-    (called (waits b.said) ++ []) (Err c.in-Err.e) writes put)
-    (FailsLast-of (IsSentLast [] (b.head ++ none.takes.wire) None (Inside b)) (Err c.in-Err.e) refl
-    (inr (append-nil _, ap (λ l. b.head ++ l) empty ∙ append-nil b.head)) writes.puts put.puts))
-    ((begun_steady begun).faults, inl (All-nil (MayFollow true)))
+    let call = subst (λ l. SendsForRoom g.W.Tell.log g.W.TellWrite.trace c.args.writer.now l (Err c.in-Err.e)
+    c.call_for_body.new.writer) (text g (goal.at.returns-in-Err-clause-turns g c).After-early_refusal c.in-None.is ∙ sym (append-nil _))
+    c.in-Err.ensures in
+    let put = WritesPromptly-put g.met.W.TellWrite.trace_none b.stream call in
+    RunsToLast-one g.met.W.TellWrite.trace_none (b.head ++ none.takes.wire) [] (Inside b) (is_part begun c.requires.limits none)
+    (omega (arith, (begun_steady begun).ends)) [] None tt (Unsent c.in-Err.e) (
+      part_went begun none,
+      WritesPromptly-after g.met.W.TellWrite.trace_joins (_, w) (b.stream, c.args.writer.now)
+          (b.stream, c.call_for_body.new.writer) [] (call_at (Inside b) ++ []) (Err c.in-Err.e) writes put,
+      FailsLast-of (IsSentLast (b.head ++ none.takes.wire) None (Inside b)) (Err c.in-Err.e) refl
+          (inr (append-nil _, ap (λ l. b.head ++ l) empty ∙ append-nil b.head)) writes.puts put.puts,
+    ) ((begun_steady begun).faults, inl (All-nil (MayFollow true)))
+
+pub returns-in-Some-clause-turns : goal.returns-in-Some-clause-turns
+returns-in-Some-clause-turns g c = λ s w begun writes.
+    let b = c.args.body in
+    let why = c.in-Some.why in
+    let none = InsideGoes-none g.R.TellRead.remaining b in
+    let is = sym (settled g (goal.at.returns-in-Some-clause-turns g c).After-early_refusal) ∙ c.in-Some.is in
+    let front : call_at (Inside b) ++ refusal why ≡ refusal why =
+    ap (λ x. called x ++ refusal why) (no_call (waits b.said) (is_known b.head) b.said.met why is) in
+    let says = WritesPromptly-parts b.stream c.refuse.ensures in
+    subst (λ x. RunsToLast g.R.TellRead.remaining g.W.Tell.log g.W.TellWrite.trace (left_of s) w (Inside b) x c.refuse.new.writer)
+    (sym c.ending_of-ending.ensures)
+    (RunsToLast-refused g.met.W.TellWrite.trace_none (b.head ++ none.takes.wire) [] (Inside b) (is_part begun c.requires.limits none)
+    (omega (arith, (begun_steady begun).ends)) why c.refuse.result (
+      part_went begun none,
+      subst (λ l. WritesPromptly g.W.Tell.log g.W.TellWrite.trace (left_of s, w) l c.refuse.result (b.stream, c.refuse.new.writer))
+          (sym front)
+          (WritesPromptly-after g.met.W.TellWrite.trace_joins (_, w) (b.stream, c.args.writer.now)
+          (b.stream, c.refuse.new.writer) [] (refusal why) c.refuse.result writes says),
+      FailsLast-of (IsSentLast (b.head ++ none.takes.wire) (Some why) (Inside b)) c.refuse.result front (inr refl) writes.puts
+          says.puts,
+    ) (inr (inr (is, c.requires.first))) (begun_steady begun).faults)

@@ -13,7 +13,6 @@ use Rattle.requests.specs.Answers.{IsClosed, MayFollow, ends_of, stream_at}
 use Rattle.requests.specs.Texts.{is_known}
 use Rattle.requests.proofs.Answering.{RunsToLast-one, no_turn, one_answered, torn_answered}
 use Rattle.requests.proofs.Reading.{Closes-one, begun_steady, no_shorter, steadily}
-use Rattle.requests.proofs.Turns.{AnswersWhole-messages}
 use Rattle.requests.proofs.answer_called.Goals as goal
 
 -- another may follow a message, or none does
@@ -36,7 +35,7 @@ returns-then-said-clause-turns g c = λ s w begun call.
         each = (
           (left_of c.in-Ok.requests, c.answer_whole.new.writer),
           one_answered g.met.W.TellWrite.trace_joins begun c.requires.limits whole c.said-said.ensures.value
-              (c.is_known-known.ensures ∙ ap is_known c.head.ensures) call c.in-Ok.ensures.writes
+              (c.is_known-known.ensures ∙ ap is_known c.head.ensures) c.requires.open call c.in-Ok.ensures.writes
               c.in-Ok-answer_whole.ensures,
           no_turn g.met.W.TellWrite.trace_none (left_of c.in-Ok.requests, c.answer_whole.new.writer),
         );
@@ -53,9 +52,9 @@ returns-else-said-clause-turns g c = λ s w begun call.
     let whole = c.in-Ok.ensures.whole in
     let reads = steadily (begun_steady begun) c.in-Ok.ensures.steady in
     let one = one_answered g.met.W.TellWrite.trace_joins begun c.requires.limits whole c.said-said.ensures.value
-    (c.is_known-known.ensures ∙ ap is_known c.head.ensures) call c.in-Ok.ensures.writes c.in-Ok-answer_whole.ensures in
-    RunsToLast-one g.met.W.TellWrite.trace_none [] (Before c.in-Ok.requests) (refl, refl) (omega (arith, reads.ends)) Over one
-    (AnswersWhole-messages g.R.TellRead.remaining g.W.Tell.log g.met.W.TellWrite.trace_joins one) (
+    (c.is_known-known.ensures ∙ ap is_known c.head.ensures) c.requires.open call c.in-Ok.ensures.writes c.in-Ok-answer_whole.ensures in
+    RunsToLast-one g.met.W.TellWrite.trace_none [] [] (Before c.in-Ok.requests) (refl, refl) (omega (arith, reads.ends))
+    ((b.head, c.in-Ok.ensures.whole.1) ∷ []) None tt Over (one, refl, refl) (
       reads.faults,
       inl (
         Closes-one (b.said, head, sym (ap (λ x. x.keeps) c.said-said.ensures.value) ∙ c.if-said.false),
@@ -71,14 +70,10 @@ returns-in-Err-answer_whole-clause-turns g c = λ s w begun call.
     let head = subst (λ l. IsHead l b.head b.said) c.requires.limits begun.is in
     let reads = steadily (begun_steady begun) c.in-Ok.ensures.steady in
     let one = one_answered g.met.W.TellWrite.trace_joins begun c.requires.limits c.in-Ok.ensures.whole c.said-said.ensures.value
-    (c.is_known-known.ensures ∙ ap is_known c.head.ensures) call c.in-Ok.ensures.writes c.in-Err-answer_whole.ensures in
-    RunsToLast-one g.met.W.TellWrite.trace_none [] (Before c.in-Ok.requests) (refl, refl) (omega (arith, reads.ends))
-    (Unsent c.in-Err-answer_whole.e) one (AnswersWhole-messages g.R.TellRead.remaining g.W.Tell.log
-    g.met.W.TellWrite.trace_joins one) (
-      reads.faults,
-      follows (left_of s) (Before c.in-Ok.requests) b.said.keeps head refl
-          reads.ends,
-    )
+    (c.is_known-known.ensures ∙ ap is_known c.head.ensures) c.requires.open call c.in-Ok.ensures.writes c.in-Err-answer_whole.ensures in
+    RunsToLast-one g.met.W.TellWrite.trace_none [] [] (Before c.in-Ok.requests) (refl, refl) (omega (arith, reads.ends))
+    ((b.head, c.in-Ok.ensures.whole.1) ∷ []) None tt (Unsent c.in-Err-answer_whole.e) (one, refl, refl)
+    (reads.faults, follows (left_of s) (Before c.in-Ok.requests) b.said.keeps head refl reads.ends)
 
 pub returns-in-Err-clause-turns : goal.returns-in-Err-clause-turns
 returns-in-Err-clause-turns g c = λ s w begun call.

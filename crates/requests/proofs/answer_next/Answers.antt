@@ -7,7 +7,7 @@ use Rattle.requests.specs.declared.Ending.TheVariants.{Unsent}
 use Rattle.requests.specs.declared.Place.TheVariants.{Before}
 use Rattle.requests.specs.Answers.{IsSentLast, MayFollow}
 use Rattle.requests.specs.Sending.{WritesPromptly}
-use Rattle.requests.proofs.Answering.{FailsLast-of, RunsToLast-stopped, none_answered}
+use Rattle.requests.proofs.Answering.{FailsLast-of, RunsToLast-one}
 use Rattle.requests.proofs.Coming.{comes, open_where, usually}
 use Rattle.requests.proofs.Reading.{begun_whole, none_met}
 use Rattle.requests.proofs.Sending.{PutsText-none, WritesPromptly-unsent}
@@ -43,7 +43,10 @@ returns-in-Err-clause-turns g c =
     let s = left_of c.args.requests in
     let sent = WritesPromptly-unsent g.met.W.TellWrite.trace_none s c.args.writer.now c.send_to_ask.new.writer c.in-Err.e
     c.in-Err.ensures (open_where c.args.requests) in
-    RunsToLast-stopped g.met.W.TellWrite.trace_none [] (Before c.args.requests) (refl, refl) (omega arith) (Unsent c.in-Err.e)
-    (none_answered (StreamWent-none g.R.TellRead.remaining s) sent
-    (FailsLast-of (IsSentLast [] [] None (Before c.args.requests)) (Err c.in-Err.e) refl (inl refl)
-    (PutsText-none g.met.W.TellWrite.trace_none c.args.writer.now) sent.puts)) (none_met refl, inl (All-nil (MayFollow true)))
+    RunsToLast-one g.met.W.TellWrite.trace_none [] [] (Before c.args.requests) (refl, refl) (omega arith) [] None tt
+    (Unsent c.in-Err.e) (
+      StreamWent-none g.R.TellRead.remaining s,
+      sent,
+      FailsLast-of (IsSentLast [] None (Before c.args.requests)) (Err c.in-Err.e) refl (inl refl)
+          (PutsText-none g.met.W.TellWrite.trace_none c.args.writer.now) sent.puts,
+    ) (none_met refl, inl (All-nil (MayFollow true)))

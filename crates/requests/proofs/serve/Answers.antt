@@ -1,13 +1,14 @@
 -- What a turn answered joins what was answered before, and each turn counts a message or an interruption.
 use Rattle.std.proofs.Common.{[], ◌++◌, None, true, refl, sym, append-nil, arith, length-append}
 use Rattle.std.proofs.lemmas.List.Elements.{All-append, All-nil}
+use Rattle.buffer_redux.specs.UnbufferLaws.{StreamWent-none}
 use Rattle.codec.specs.PieceReader.{left_of}
 use Rattle.requests.specs.declared.Ending.TheVariants.{Many}
-use Rattle.requests.specs.declared.Place.TheVariants.{Before}
 use Rattle.requests.specs.Answers.{MayFollow}
-use Rattle.requests.proofs.Answering.{RunsToLast-by, no_turn}
+use Rattle.requests.proofs.Answering.{no_turn}
 use Rattle.requests.proofs.Reading.{steadily, steady_none}
-use Rattle.requests.proofs.Turns.{AnswersEach-joins, AnswersEach-messages, RunsToLast-after}
+use Rattle.requests.proofs.Sending.{WritesPromptly-none}
+use Rattle.requests.proofs.Turns.{AnswersEach-joins, AnswersEach-whole, RunsToLast-after, RunsToLast-held}
 use Rattle.requests.proofs.serve.Goals as goal
 
 pub loop-message-init : goal.loop-message-init
@@ -28,7 +29,7 @@ loop-message-preserved g c =
     let before = c.loop-message.invariant in
     let a = before.goes in
     let b = c.in-Ok.ensures.turns.0 in
-    let wrote = AnswersEach-messages g.R.TellRead.remaining g.W.Tell.log g.met.W.TellWrite.trace_joins b.messages
+    let wrote = AnswersEach-whole g.R.TellRead.remaining g.W.Tell.log g.met.W.TellWrite.trace_joins b.messages
     (left_of c.loop-message.next, c.loop-message.writer) (left_of c.in-Ok.behind, c.answer.new.writer) b.each in
     record {
       goes = record {
@@ -40,9 +41,15 @@ loop-message-preserved g c =
         reads = steadily a.reads b.reads;
       };
       turns = omega (arith, before.turns, c.in-Ok.ensures.turns.1, length-append a.messages b.messages);
-      held = wrote.writes.puts.held before.held;
+      held = wrote.5.puts.held before.held;
       limits = c.in-Ok.ensures.limits;
     }
+
+pub send_last-answer-requires : goal.send_last-answer-requires
+send_last-answer-requires g c = record {
+  held = RunsToLast-held g.R.TellRead.remaining g.W.Tell.log g.met.W.TellWrite.trace_joins c.in-Err.ending
+      c.in-Err.ensures.turns c.loop-message.invariant.held;
+}
 
 pub returns-in-Err : goal.returns-in-Err
 returns-in-Err g c = record {
@@ -58,18 +65,27 @@ returns g c =
     let before = c.loop-message.invariant in record {
       ending = Many;
       held = c.loop-message.writer;
-      runs = RunsToLast-by g.met.W.TellWrite.trace_none [] (Before c.loop-message.next) (refl, refl)
-          (omega (arith, before.goes.reads.ends)) None tt Many
-          (AnswersEach-messages g.R.TellRead.remaining g.W.Tell.log g.met.W.TellWrite.trace_joins before.goes.messages
-          (left_of c.args.requests, c.args.writer.now) (left_of c.loop-message.next, c.loop-message.writer)
-          before.goes.each) (record {
-            front = before.goes.messages;
-            last = [];
-            all = sym (append-nil before.goes.messages);
-            between = (left_of c.loop-message.next, c.loop-message.writer);
-            each = before.goes.each;
-            turn = no_turn g.met.W.TellWrite.trace_none (left_of c.loop-message.next, c.loop-message.writer);
-          })
-          (before.goes.reads.faults, before.goes.keep, refl, omega (arith, before.turns, c.loop-message-test.false));
+      runs = record {
+        messages = before.goes.messages;
+        taken = [];
+        handed = [];
+        part = (refl, refl);
+        refuses = None;
+        turns = record {
+          front = before.goes.messages;
+          last = [];
+          all = sym (append-nil before.goes.messages);
+          between = (left_of c.loop-message.next, c.loop-message.writer);
+          each = before.goes.each;
+          turn = (
+            StreamWent-none g.R.TellRead.remaining (left_of c.loop-message.next),
+            WritesPromptly-none g.met.W.TellWrite.trace_none (left_of c.loop-message.next, c.loop-message.writer),
+            tt,
+          );
+        };
+        once = omega (arith, before.goes.reads.ends);
+        wrong = tt;
+        ends = (before.goes.reads.faults, before.goes.keep, refl, omega (arith, before.turns, c.loop-message-test.false));
+      };
       last = c.send_last-answer-2.ensures;
     }

@@ -1,24 +1,19 @@
 -- Where no head came nothing went: an interruption is counted and goes on, and all else ends the run.
-use Rattle.std.proofs.Common.{◌≡◌, ◌+◌, ◌∙◌, IsTrue, MatchBool, [], ◌∷◌, Some, true, false, ap, length, subst, sym, inl, inr, refl, arith, length-append}
+use Rattle.std.proofs.Common.{None, ◌∙◌, IsTrue, [], ◌∷◌, Some, true, false, ap, length, subst, sym, inl, inr, refl, arith, length-append}
 use Rattle.std.proofs.lemmas.List.Elements.{All-nil}
 use Rattle.redux_buffer.specs.Faults.{OnlyInterrupts-none, OnlyInterrupts-one}
-use Rattle.codec.specs.NextPiece.{MetEnd, NoEnd, empty_reads}
-use Rattle.codec.specs.PieceReader.{ReaderState, left_of}
+use Rattle.codec.specs.NextPieceLaws.{MetEnd-once}
+use Rattle.codec.specs.PieceReader.{left_of}
 use Rattle.messages.specs.HeadsLaws.{never_cut}
-use Rattle.messages.specs.declared.head.Heads.{Heads}
 use Rattle.requests.specs.declared.Ending.TheVariants.{Over, Unread}
 use Rattle.requests.specs.declared.Place.TheVariants.{Before}
-use Rattle.requests.specs.Answers.{IsSentLast, MayFollow, RunsToLast, ends_of, faults_of, only_line_ends}
+use Rattle.requests.specs.Answers.{IsSentLast, MayFollow, RunsToLast, faults_of, only_line_ends}
 use Rattle.requests.specs.Texts.{refusal_of}
 use Rattle.messages.specs.declared.requests.Stop.TheVariants.{Bad}
-use Rattle.requests.proofs.Answering.{FailsLast-of, RunsToLast-refused, RunsToLast-stopped, none_answered}
+use Rattle.requests.proofs.Answering.{FailsLast-of, RunsToLast-one, RunsToLast-refused}
 use Rattle.requests.proofs.Reading.{failed_behind, none_met, nothing_went}
 use Rattle.requests.proofs.Sending.{WritesPromptly-after, WritesPromptly-parts}
 use Rattle.requests.proofs.stopped.Goals as goal
-
--- an end that no call had told before was met in this one
-met_end : {R : Type 0} (s t : ReaderState R Heads) → s.ended ≡ false → MetEnd s t → ends_of (left_of t) ≡ ends_of (left_of s) + 1
-met_end s t told met = subst (λ b. MatchBool b (NoEnd s t) (empty_reads t.reader ≡ empty_reads s.reader + 1)) told met
 
 pub returns-then-is_interrupt-clause-turns : goal.returns-then-is_interrupt-clause-turns
 returns-then-is_interrupt-clause-turns g c = λ s w told next comes.
@@ -40,9 +35,9 @@ returns-then-is_interrupt-clause-turns g c = λ s w told next comes.
 pub returns-in-Ended-clause-turns : goal.returns-in-Ended-clause-turns
 returns-in-Ended-clause-turns g c = λ s w told next comes.
     let ended = rw c.in-Ended.is at next in
-    let met = met_end s c.args.requests told ended.answers.4 in
-    RunsToLast-stopped g.met.W.TellWrite.trace_none [] (Before c.args.requests) (refl, refl) (omega (arith, met)) Over
-    (none_answered (nothing_went ended ended.answers.0) comes.writes tt) (
+    let met = MetEnd-once s c.args.requests told ended.answers.4 in
+    RunsToLast-one g.met.W.TellWrite.trace_none [] [] (Before c.args.requests) (refl, refl) (omega (arith, met)) [] None tt Over
+    (nothing_went ended ended.answers.0, comes.writes, tt) (
       none_met ended.answers.2,
       inr (All-nil (MayFollow true), inr (omega (arith, met), subst (λ l. IsTrue (only_line_ends l)) (sym ended.answers.1) refl)),
     )
@@ -54,9 +49,9 @@ returns-then-is_blank_end-clause-turns g c = λ s w told next comes.
     elim cut.answers.3 [
       | inl wrong ↦ absurd (never_cut _ _ _ wrong.0)
       | inr end ↦
-          (let met = met_end s c.args.requests told end.3 in
-          RunsToLast-stopped g.met.W.TellWrite.trace_none [] (Before c.args.requests) (refl, refl) (omega (arith, met)) Over
-          (none_answered (nothing_went cut cut.answers.0) comes.writes tt) (
+          (let met = MetEnd-once s c.args.requests told end.3 in
+          RunsToLast-one g.met.W.TellWrite.trace_none [] [] (Before c.args.requests) (refl, refl) (omega (arith, met)) [] None tt
+          Over (nothing_went cut cut.answers.0, comes.writes, tt) (
             none_met cut.answers.1,
             inr (
               All-nil (MayFollow true),
@@ -74,20 +69,22 @@ returns-in-Bad-clause-turns g c = λ s w told next comes.
     let t = left_of c.args.requests in
     let then = WritesPromptly-parts t c.refuse.ensures in
     subst (λ x. RunsToLast g.R.TellRead.remaining g.W.Tell.log g.W.TellWrite.trace (left_of s) w (Before c.args.requests) x
-    c.refuse.new.writer) (sym c.ending_of-ending.ensures) (RunsToLast-refused g.met.W.TellWrite.trace_none []
+    c.refuse.new.writer) (sym c.ending_of-ending.ensures) (RunsToLast-refused g.met.W.TellWrite.trace_none [] []
     (Before c.args.requests) (refl, refl)
     (elim bad.answers.3 [
       | inl wrong ↦ omega (arith, wrong.1)
-      | inr cut ↦ omega (arith, met_end s c.args.requests told cut.3)
-    ]) why sending (none_answered (nothing_went bad bad.answers.0)
-    (WritesPromptly-after g.met.W.TellWrite.trace_joins (left_of s, w) (t, v) (t, c.refuse.new.writer) [] _ sending comes.writes
-    then)
-    (FailsLast-of (IsSentLast [] [] (Some why) (Before c.args.requests)) sending refl (inr refl) comes.writes.puts then.puts))
+      | inr cut ↦ omega (arith, MetEnd-once s c.args.requests told cut.3)
+    ]) why sending (
+      nothing_went bad bad.answers.0,
+      WritesPromptly-after g.met.W.TellWrite.trace_joins (left_of s, w) (t, v) (t, c.refuse.new.writer) [] _ sending
+          comes.writes then,
+      FailsLast-of (IsSentLast [] (Some why) (Before c.args.requests)) sending refl (inr refl) comes.writes.puts then.puts,
+    )
     (elim bad.answers.3 [
       | inl wrong ↦ inl (_, wrong.0, c.refusal_of.ensures)
       | inr cut ↦ inr (
         c.refusal_of.ensures ∙ ap refusal_of cut.0,
-        omega (arith, met_end s c.args.requests told cut.3),
+        omega (arith, MetEnd-once s c.args.requests told cut.3),
         ap only_line_ends (sym c.buffered.ensures) ∙ sym (c.is_blank_end.ensures.cut _ (c.in-Bad.is ∙ ap Bad cut.0))
             ∙ c.if-is_blank_end.false,
         cut.1,
@@ -99,9 +96,8 @@ pub returns-in-Io-clause-turns : goal.returns-in-Io-clause-turns
 returns-in-Io-clause-turns g c = λ s w told next comes.
     let fault = rw c.in-Io.is at next in
     let answers = fault.answers in
-    RunsToLast-stopped g.met.W.TellWrite.trace_none [] (Before c.args.requests) (refl, refl) (omega (arith, answers.4))
-    (Unread c.in-Io.e)
-    (none_answered (nothing_went fault answers.0) comes.writes tt) (
+    RunsToLast-one g.met.W.TellWrite.trace_none [] [] (Before c.args.requests) (refl, refl) (omega (arith, answers.4)) [] None tt
+    (Unread c.in-Io.e) (nothing_went fault answers.0, comes.writes, tt) (
       (
         failed_behind _ _ _ c.in-Io.e (OnlyInterrupts-none (faults_of (left_of s))) answers.2,
         λ is. absurd (let odd = c.is_interrupt.ensures.no c.in-Io.e c.in-Io.is is in cc),

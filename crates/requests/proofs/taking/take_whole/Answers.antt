@@ -30,8 +30,8 @@ returns-in-Err-finish-clause-part g c =
       InsideGoes-joins g.R.TellRead.remaining c.args.body c.payload_len.new.body c.in-Err-finish.body read.0 rest.0 read.1 rest.1,
       rw c.unfinished.ensures (TakeFails-behind c.in-Ok.ensures.steady read.0 rest.0 c.in-Err-finish.body
           c.payload_len.new.writer c.in-Err-finish.e rest.2
-          (unasked c.payload_len.new.body.stream c.in-Err-finish.body.stream c.payload_len.new.body.rest c.in-Ok.ensures.ended
-          c.in-Err-finish.ensures.asked)),
+          (unasked c.payload_len.new.body.stream c.in-Err-finish.body.stream (unasked_log c.payload_len.new.body.stream
+          c.in-Err-finish.body.stream c.payload_len.new.body.rest c.in-Ok.ensures.ended c.in-Err-finish.ensures.asked))),
     )
 
 pub returns-in-Err-finish-clause-writes : goal.returns-in-Err-finish-clause-writes
