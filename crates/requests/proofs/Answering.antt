@@ -1,36 +1,8 @@
 -- Answers, one after another.
 use Rattle.std.proofs.Common.{IfSome, ◌≡◌, ◌⊎◌, ℕ, ◌+◌, Bool, true, false, List, [], ◌++◌, length, Option, None, Some, Result, Ok, Err, IfErr, sym, subst, inl, inr, refl, arith, append-nil}
-use Rattle.std.proofs.lemmas.List.Elements.{All-nil}
-use Rattle.std.specs.declared.io.Error.{Error}
-use Rattle.redux_buffer.specs.Faults.{OnlyInterrupts}
-use Rattle.buffer_redux.specs.Buffered.{Buffered}
-use Rattle.buffer_redux.specs.StreamLog.{StreamLog}
-use Rattle.buffer_redux.specs.Unbuffer.{Unbuffered}
-use Rattle.buffer_redux.specs.UnbufferLaws.{StreamWent-joins, StreamWent-none}
-use Rattle.buffer_redux.specs.WriteParts.{WritesParts}
-use Rattle.buffer_redux.specs.declared.policy.StdPolicy.{StdPolicy}
-use Rattle.codec.specs.PieceReader.{ReaderState, left_of}
-use Rattle.messages.specs.declared.error.BodyError.TheVariants.{Wrong, Truncated, Io}
-use Rattle.messages.specs.declared.head.Heads.{Heads}
-use Rattle.messages.specs.declared.head.ParsedHead.{ParsedHead}
-use Rattle.messages.specs.Heads.{IsHead}
-use Rattle.messages.specs.Limits.{usual}
-use Rattle.messages.specs.Messages.{Begun, InBody, InsideGoes, IsMessage, IsRest, Message}
-use Rattle.messages.specs.MessagesLaws.{Begun-message, Begun-went}
-use Rattle.programs.specs.Streams.{EndsOnce}
-use Rattle.requests.specs.declared.Ending.{Ending}
+use Rattle.requests.proofs.Names.{All-nil, answered, AnswersEach, AnswersWhole, BadRequest, Begun, Begun-message, Begun-went, Both, Buffered, call_at, called, early_refusal, Ending, ending_of, EndsOnce, EndsUntaken, Error, FailsLast, faults_of, Heads, InBody, Inside, InsideGoes, Io, is_called, is_known, is_large, IsHead, IsLastTurn, IsMessage, IsPartTaken, IsRest, IsSentLast, IsToBeRefused, LargeBody, left_of, MayFollow, Message, OnlyInterrupts, Over, ParsedHead, Place, PutsText, ReaderState, refusal, Refusal, refused, RunEndsBy, RunsToLast, sending_of, sent_till, StdPolicy, stream_at, StreamLog, StreamWent-joins, StreamWent-none, TakeFails, TakesWhole, Truncated, Unbuffered, Unread, Untaken, usual, WritesParts, WritesPromptly, Wrong}
 use Rattle.requests.specs.declared.Ending.TheVariants as stop
-use Rattle.requests.specs.declared.Ending.TheVariants.{Over, Unread}
-use Rattle.requests.specs.declared.Place.{Place}
-use Rattle.requests.specs.declared.Place.TheVariants.{Inside}
-use Rattle.requests.specs.declared.taking.Untaken.{Untaken}
-use Rattle.requests.specs.declared.writing.Refusal.{Refusal}
-use Rattle.requests.specs.declared.writing.Refusal.TheVariants.{BadRequest, LargeBody}
 use Rattle.requests.specs.declared.taking.Untaken.TheVariants.{Body, Large, Unsent, Many}
-use Rattle.requests.specs.Answers.{AnswersEach, AnswersWhole, EndsUntaken, RunEndsBy, FailsLast, IsLastTurn, IsSentLast, IsPartTaken, IsToBeRefused, MayFollow, RunsToLast, TakeFails, TakesWhole, call_at, ending_of, faults_of, sending_of, sent_till, stream_at}
-use Rattle.requests.specs.Texts.{answered, called, early_refusal, is_called, is_known, refusal, refused}
-use Rattle.requests.specs.Large.{is_large}
-use Rattle.requests.specs.Sending.{Both, PutsText, WritesPromptly}
 use Rattle.requests.proofs.Reading.{IsMany-still, IsToBeRefused-still, FailsInRead-still, begun_once, begun_steady, is_part, joined, part_went}
 use Rattle.requests.proofs.Sending.{WritesPromptly-after, WritesPromptly-none, WritesPromptly-parts}
 

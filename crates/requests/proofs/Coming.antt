@@ -1,27 +1,9 @@
 -- What was sent before a further head was asked for.
 use Rattle.std.proofs.Common.{◌≡◌, ◌∙◌, ◌<◌, ◌+◌, ℕ, Bool, true, false, MatchBool, List, [], ◌∷◌, ◌++◌, length, Option, None, Some, Ok, Err, inl, inr, ap, refl, sym, subst, arith, length-append}
-use Rattle.std.proofs.lemmas.List.{nil_from_length}
-use Rattle.std.specs.declared.io.Error.{Error}
-use Rattle.buffer_redux.specs.Buffered.{Buffered}
-use Rattle.buffer_redux.specs.StreamLog.{StreamLog}
-use Rattle.buffer_redux.specs.Unbuffer.{HandsOutInOrder, Unbuffered}
-use Rattle.buffer_redux.specs.declared.policy.StdPolicy.{StdPolicy}
-use Rattle.buffer_redux.specs.Asking.{AskedWhere}
+use Rattle.requests.proofs.Names.{AskedIn, AskedWhere, AsksForMore, AsksNone-settled, BadHead, BeginsRest, Buffered, empty_reads, Error, HandsOutInOrder, Heads, heads, heads_lawful, InBody, IsOpen, IsRest, IsSettled, left_of, NextAnswer, NextPiece, nil_from_length, NoEnd, PiecesWent-stream, PiecesWent-unasked, ReaderState, rest, RunsShort, SendsUnless, StdPolicy, StreamLog, Unbuffered, usual, WritesOnlyHeld, WritesPromptly}
 use Rattle.buffer_redux.specs.AskingLaws.{AskedWhere-of}
 use Rattle.codec.specs.declared.NextError.TheVariants as why
-use Rattle.codec.specs.Grammar.{IsOpen}
 use Rattle.codec.specs.GrammarLaws.{open_none}
-use Rattle.codec.specs.NextPiece.{NextAnswer, NextPiece, NoEnd, empty_reads}
-use Rattle.codec.specs.NextPieceLaws.{AsksNone-settled}
-use Rattle.codec.specs.PiecesWentLaws.{PiecesWent-stream, PiecesWent-unasked}
-use Rattle.codec.specs.PieceReader.{IsSettled, ReaderState, left_of, rest}
-use Rattle.messages.specs.declared.bad_head.BadHead.{BadHead}
-use Rattle.messages.specs.declared.head.Heads.{Heads}
-use Rattle.messages.specs.Heads.{heads}
-use Rattle.messages.specs.HeadsLaws.{heads_lawful}
-use Rattle.messages.specs.Limits.{usual}
-use Rattle.messages.specs.Messages.{AskedIn, AsksForMore, BeginsRest, InBody, IsRest, RunsShort}
-use Rattle.requests.specs.Sending.{SendsUnless, WritesOnlyHeld, WritesPromptly}
 use Rattle.requests.proofs.Sending.{WritesPromptly-after, WritesPromptly-asked, WritesPromptly-read, WritesPromptly-unsent, sent_then}
 use Rattle.requests.proofs.Reading.{wrong_unasked}
 

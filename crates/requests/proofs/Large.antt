@@ -1,11 +1,8 @@
 -- Which bodies are too large.
 use Rattle.std.proofs.Common.{◌≡◌, ℕ, ◌+◌, ◌-◌, ◌*◌, ◌^◌, ◌≤◌, ◌⊎◌, ◌||◌, nat_lt, min, Bool, false, List, [], Option, ◌++◌, length, sym, ap, subst, inl, inr, ◌∙◌, refl, arith}
-use Rattle.std.proofs.lemmas.Bool.{cases_lt, le-ltb, lt-ltb}
+use Rattle.requests.proofs.Names.{Backward, body_of, cases_lt, InBody, InsideGoes, is_large, IsNewlyLarge, le-ltb, lt-ltb, max_payload, usual}
 use Rattle.messages.specs.declared.head.Extent.{Extent}
 use Rattle.messages.specs.declared.head.Extent.TheVariants.{Sized, Chunked}
-use Rattle.messages.specs.Limits.{usual}
-use Rattle.messages.specs.Messages.{Backward, InBody, InsideGoes, body_of}
-use Rattle.requests.specs.Large.{IsNewlyLarge, is_large, max_payload}
 
 -- a count of what was taken ends far beyond that
 same_test : (n p : ℕ) → p ≤ max_payload

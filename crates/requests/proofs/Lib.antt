@@ -4,3 +4,4 @@ pub mod Large
 pub mod Reading
 pub mod Sending
 pub mod Turns
+pub mod Names

@@ -1,36 +1,11 @@
 -- What reads of a run met.
 use Rattle.std.proofs.Common.{◌≡◌, ℕ, ◌+◌, ◌≤◌, true, false, List, [], ◌∷◌, ◌++◌, All, length, Option, None, Some, IfSome, Result, Ok, Err, IfOk, IfErr, ◌⊎◌, sym, ap, subst, inl, inr, ◌∙◌, refl, arith, append_assoc, append-nil, length-append}
-use Rattle.std.proofs.lemmas.List.{append_cancel_left, nil_from_length}
-use Rattle.std.proofs.lemmas.List.Elements.{All-append, All-nil}
-use Rattle.std.specs.declared.io.Error.{Error}
-use Rattle.redux_buffer.specs.Faults.{FaultAfterInterrupts, FaultAfterInterrupts-after, OnlyInterrupts, OnlyInterrupts-joins, OnlyInterrupts-none}
-use Rattle.buffer_redux.specs.Buffered.{Buffered}
-use Rattle.buffer_redux.specs.Unbuffer.{StreamWent, Unbuffered}
-use Rattle.buffer_redux.specs.UnbufferLaws.{StreamWent-joins}
-use Rattle.buffer_redux.specs.declared.policy.StdPolicy.{StdPolicy}
-use Rattle.buffer_redux.specs.Asking.{AskedWhere}
+use Rattle.requests.proofs.Names.{All-append, All-nil, AllSent, append_cancel_left, AskedIn, AskedWhere, BadHead, Before, BeginsRest, Begun, Begun-gave, Begun-went, body_of, Buffered, Bytes, Chunks, Closes, EachReadGave, EndedBeforeHead, EndsOnce, Error, Fails, FailsInRead, FailsOn, FailsToRead, FaultAfterInterrupts, FaultAfterInterrupts-after, faults_of, FinishFails, GoesWrong, HadToAsk, handed_unasked, heads, Heads, InBody, Inside, InsideGoes, Io, is_large, IsClosed, IsHead, IsMany, IsPartTaken, IsRest, IsToBeRefused, left_of, MayFollow, Message, NextAnswer, NextPiece, nil_from_length, NoMoreAnswered, OnlyInterrupts, OnlyInterrupts-joins, OnlyInterrupts-none, Onward, Onward-joins, PiecesWent-stream, Place, ReaderState, ReadsSome, ReadsSteadily, Refusal, Rest, sent_till, sent_with, StdPolicy, StreamWent, StreamWent-joins, TakeFails, TakesWhole, TakesWholeRest, Truncated, Unbuffered, Unended, unfinished, Untaken, usual, Wrong}
 use Rattle.chunked.specs.PlaceLaws.{Completes-nothing}
 use Rattle.chunked.specs.Place.{Completes}
 use Rattle.chunked.specs.declared.error.Malformed.{Malformed}
-use Rattle.codec.specs.NextPiece.{NextAnswer, NextPiece}
-use Rattle.codec.specs.PiecesWentLaws.{PiecesWent-stream}
-use Rattle.codec.specs.PieceReader.{ReaderState, left_of}
 use Rattle.messages.specs.declared.error.BodyError.{BodyError}
-use Rattle.messages.specs.declared.error.BodyError.TheVariants.{Wrong, Truncated, Io}
-use Rattle.messages.specs.declared.bad_head.BadHead.{BadHead}
-use Rattle.messages.specs.declared.head.Heads.{Heads}
-use Rattle.messages.specs.Heads.{IsHead, heads}
-use Rattle.messages.specs.Limits.{usual}
-use Rattle.messages.specs.Messages.{AskedIn, BeginsRest, Begun, Bytes, Chunks, EachReadGave, Fails, FinishFails, GoesWrong, InBody, InsideGoes, IsRest, Message, Onward, Rest, TakesWholeRest, Unended, body_of}
-use Rattle.messages.specs.MessagesLaws.{Begun-gave, Begun-went, Onward-joins, handed_unasked}
-use Rattle.programs.specs.Streams.{AllSent, EndsOnce}
-use Rattle.requests.specs.declared.Place.{Place}
-use Rattle.requests.specs.declared.writing.Refusal.{Refusal}
-use Rattle.requests.specs.declared.Place.TheVariants.{Before, Inside}
-use Rattle.requests.specs.declared.taking.Untaken.{Untaken}
 use Rattle.requests.specs.declared.taking.Untaken.TheVariants.{Body, Large, Unsent, Many}
-use Rattle.requests.specs.Large.{is_large}
-use Rattle.requests.specs.Answers.{Closes, EndedBeforeHead, FailsInRead, FailsOn, FailsToRead, HadToAsk, IsMany, IsClosed, IsPartTaken, IsToBeRefused, MayFollow, NoMoreAnswered, ReadsSome, ReadsSteadily, TakeFails, TakesWhole, faults_of, sent_till, sent_with, unfinished}
 
 -- no fault was met, or one
 pub none_met : {a b : List Error} → b ≡ a → OnlyInterrupts a b

@@ -1,24 +1,11 @@
 -- What is written and sent, one after another.
 use Rattle.std.proofs.Common.{◌≡◌, ℕ, ◌<◌, ◌⊎◌, List, [], ◌∷◌, ◌++◌, length, Result, Ok, Err, OnOk, IfErr, sym, ap, subst, inl, inr, refl, arith, length-append}
-use Rattle.std.proofs.lemmas.Bool.{cases_lt}
-use Rattle.std.proofs.lemmas.List.{nil_from_length}
-use Rattle.std.specs.declared.io.Error.{Error}
-use Rattle.redux_buffer.specs.Faults.{MetInterrupts, MetInterrupts-joins, MetInterrupts-none, SendErrorCaused-after}
+use Rattle.requests.proofs.Names.{AllSent, Both, Buffered, cases_lt, Error, HandsOutInOrder, heads, IsHeld, IsOpen, IsStep, MetInterrupts, MetInterrupts-joins, MetInterrupts-none, nil_from_length, Prompt, PutsText, PutStops, SendErrorCaused-after, SendsForRoom, SendsUnless, StdPolicy, StepsAlong, StreamLog, Unbuffered, usual, WritesParts, WritesPromptly}
 use Rattle.buffer_redux.specs.BufWriter.{WasFlushed}
-use Rattle.buffer_redux.specs.Buffered.{Buffered}
 use Rattle.buffer_redux.specs.Policy.{std_write_rules}
-use Rattle.buffer_redux.specs.StreamLog.{StreamLog}
-use Rattle.buffer_redux.specs.Unbuffer.{HandsOutInOrder, Unbuffered}
 use Rattle.buffer_redux.specs.Block.{usable}
-use Rattle.buffer_redux.specs.WriteParts.{WritesParts}
 use Rattle.buffer_redux.specs.WritePartsLaws.{WritesParts-met}
 use Rattle.buffer_redux.specs.WritesAlongLaws.{BegunAlong-of, FrontAlong-after, WasFlushed-along, WritesAlong-none}
-use Rattle.buffer_redux.specs.declared.policy.StdPolicy.{StdPolicy}
-use Rattle.codec.specs.Grammar.{IsOpen}
-use Rattle.messages.specs.Heads.{heads}
-use Rattle.messages.specs.Limits.{usual}
-use Rattle.programs.specs.Streams.{AllSent}
-use Rattle.requests.specs.Sending.{Both, IsHeld, IsStep, Prompt, PutStops, PutsText, SendsForRoom, SendsUnless, StepsAlong, WritesPromptly}
 
 -- steps behind others
 StepsAlong-joins : {R W : Type 0} (tells : W → StreamLog) (trace : W → W → Type 0) (a m b : Both R W)

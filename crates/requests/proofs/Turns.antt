@@ -1,20 +1,7 @@
 -- Turns, one after another: a message in each.
 use Rattle.std.proofs.Common.{◌≡◌, ◌+◌, true, ℕ, List, [], ◌∷◌, ◌++◌, length, Option, Ok, sym, ap, subst, inl, inr, ◌∙◌, refl, arith, append_assoc, length-append, Err, OnOk, Result}
-use Rattle.std.proofs.lemmas.List.Elements.{All-append}
-use Rattle.std.specs.declared.io.Error.{Error}
-use Rattle.buffer_redux.specs.Buffered.{Buffered}
-use Rattle.buffer_redux.specs.StreamLog.{StreamLog}
-use Rattle.buffer_redux.specs.Unbuffer.{StreamWent, Unbuffered}
-use Rattle.buffer_redux.specs.UnbufferLaws.{StreamWent-joins}
-use Rattle.buffer_redux.specs.declared.policy.StdPolicy.{StdPolicy}
-use Rattle.messages.specs.Messages.{InTurn, Message}
-use Rattle.requests.specs.declared.Ending.{Ending}
+use Rattle.requests.proofs.Names.{All-append, answered, AnswersEach, AnswersWhole, Both, Buffered, call_at, called, Continues, Ending, Error, InTurn, is_called, is_known, IsAnswer, IsHeld, IsLastTurn, IsMany, IsSentLast, IsTaken, MayFollow, Message, Over, Place, refused, RunEndsBy, RunsToLast, sending_of, StdPolicy, stream_at, StreamLog, StreamWent, StreamWent-joins, Unbuffered, Unread, WritesPromptly}
 use Rattle.requests.specs.declared.Ending.TheVariants as stop
-use Rattle.requests.specs.declared.Ending.TheVariants.{Over, Unread}
-use Rattle.requests.specs.declared.Place.{Place}
-use Rattle.requests.specs.Answers.{AnswersEach, AnswersWhole, Continues, IsAnswer, IsLastTurn, IsMany, IsSentLast, IsTaken, MayFollow, RunEndsBy, RunsToLast, call_at, sending_of, stream_at}
-use Rattle.requests.specs.Sending.{Both, IsHeld, WritesPromptly}
-use Rattle.requests.specs.Texts.{answered, called, is_called, is_known, refused}
 use Rattle.requests.proofs.Reading.{FailsInRead-still, IsClosed-still, IsMany-still, NoMoreAnswered-still, each_wrong, joined}
 use Rattle.requests.proofs.Sending.{WritesPromptly-after, WritesPromptly-parts}
 

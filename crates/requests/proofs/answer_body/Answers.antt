@@ -1,17 +1,7 @@
 -- What the head settles is told at once; else the call is written while nobody is asked, and where either fails no byte of the body
 -- was taken.
 use Rattle.std.proofs.Common.{◌≡◌, ◌∙◌, ap, length, length-append, Bool, true, false, ◌&&◌, if◌then◌else◌, [], ◌++◌, Option, None, Some, Err, Ok, arith, append-nil, refl, inl, inr, subst, sym}
-use Rattle.std.proofs.lemmas.List.{nil_from_length}
-use Rattle.std.proofs.lemmas.List.Elements.{All-nil}
-use Rattle.codec.specs.PieceReader.{left_of}
-use Rattle.messages.specs.MessagesLaws.{InsideGoes-none}
-use Rattle.requests.specs.declared.Ending.TheVariants.{Unsent}
-use Rattle.requests.specs.declared.Place.TheVariants.{Inside}
-use Rattle.requests.specs.declared.writing.Refusal.{Refusal}
-use Rattle.requests.specs.declared.writing.Refusal.TheVariants.{Unknown, Unmet}
-use Rattle.requests.specs.Answers.{IsSentLast, MayFollow, RunsToLast, call_at}
-use Rattle.requests.specs.Texts.{called, early_refusal, is_called, is_known, refusal, waits}
-use Rattle.requests.specs.Sending.{SendsForRoom, WritesPromptly}
+use Rattle.requests.proofs.Names.{All-nil, call_at, called, early_refusal, Inside, InsideGoes-none, is_called, is_known, IsSentLast, left_of, MayFollow, nil_from_length, refusal, Refusal, RunsToLast, SendsForRoom, Unknown, Unmet, Unsent, waits, WritesPromptly}
 use Rattle.requests.proofs.Answering.{FailsLast-of, RunsToLast-one, RunsToLast-refused}
 use Rattle.requests.proofs.Reading.{begun_steady, is_part, part_went}
 use Rattle.requests.proofs.Sending.{WritesPromptly-after, WritesPromptly-parts, WritesPromptly-put}

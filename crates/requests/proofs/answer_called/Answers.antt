@@ -1,16 +1,6 @@
 -- A message that was taken whole is answered behind the call; of another a part is all that went.
 use Rattle.std.proofs.Common.{◌≡◌, ◌⊎◌, All, Bool, List, ℕ, None, [], ◌∷◌, true, false, inr, ap, sym, subst, ◌∙◌, refl, inl, arith}
-use Rattle.std.proofs.lemmas.List.Elements.{All-cons, All-nil}
-use Rattle.buffer_redux.specs.Unbuffer.{Unbuffered}
-use Rattle.codec.specs.PieceReader.{left_of}
-use Rattle.messages.specs.Heads.{IsHead}
-use Rattle.messages.specs.Limits.{usual}
-use Rattle.messages.specs.declared.head.ParsedHead.{ParsedHead}
-use Rattle.requests.specs.declared.Ending.TheVariants.{Over, Unsent}
-use Rattle.requests.specs.declared.Place.{Place}
-use Rattle.requests.specs.declared.Place.TheVariants.{Before}
-use Rattle.requests.specs.Answers.{IsClosed, MayFollow, ends_of, stream_at}
-use Rattle.requests.specs.Texts.{is_known}
+use Rattle.requests.proofs.Names.{All-cons, All-nil, Before, ends_of, is_known, IsClosed, IsHead, left_of, MayFollow, Over, ParsedHead, Place, stream_at, Unbuffered, Unsent, usual}
 use Rattle.requests.proofs.Answering.{RunsToLast-one, no_turn, one_answered, torn_answered}
 use Rattle.requests.proofs.Reading.{Closes-one, begun_steady, no_shorter, steadily}
 use Rattle.requests.proofs.answer_called.Goals as goal

@@ -1,12 +1,6 @@
 -- Where no head is settled what is held is sent first, so the stream is asked with nothing held.
 use Rattle.std.proofs.Common.{true, [], Ok, Err, None, sym, subst, inl, refl, arith}
-use Rattle.std.proofs.lemmas.List.Elements.{All-nil}
-use Rattle.buffer_redux.specs.UnbufferLaws.{StreamWent-none}
-use Rattle.codec.specs.PieceReader.{left_of}
-use Rattle.requests.specs.declared.Ending.TheVariants.{Unsent}
-use Rattle.requests.specs.declared.Place.TheVariants.{Before}
-use Rattle.requests.specs.Answers.{IsSentLast, MayFollow}
-use Rattle.requests.specs.Sending.{WritesPromptly}
+use Rattle.requests.proofs.Names.{All-nil, Before, IsSentLast, left_of, MayFollow, StreamWent-none, Unsent, WritesPromptly}
 use Rattle.requests.proofs.Answering.{FailsLast-of, RunsToLast-one}
 use Rattle.requests.proofs.Coming.{comes, open_where, usually}
 use Rattle.requests.proofs.Reading.{begun_whole, none_met}

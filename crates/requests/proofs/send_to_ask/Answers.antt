@@ -1,7 +1,6 @@
 -- The reader tells whether it is settled under the usual limits, and only where it isn't what is held is sent.
 use Rattle.std.proofs.Common.{◌↔◌, IsTrue, inl, inr, refl, subst}
-use Rattle.codec.specs.PieceReader.{IsSettled}
-use Rattle.messages.specs.Heads.{heads}
+use Rattle.requests.proofs.Names.{heads, IsSettled}
 use Rattle.requests.proofs.send_to_ask.Goals as goal
 
 pub returns-then-is_settled : goal.returns-then-is_settled

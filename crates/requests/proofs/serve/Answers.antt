@@ -1,10 +1,7 @@
 -- What a turn answered joins what was answered before, and each turn counts a message or an interruption.
 use Rattle.std.proofs.Common.{[], ◌++◌, None, true, refl, sym, append-nil, arith, length-append}
-use Rattle.std.proofs.lemmas.List.Elements.{All-append, All-nil}
-use Rattle.buffer_redux.specs.UnbufferLaws.{StreamWent-none}
-use Rattle.codec.specs.PieceReader.{left_of}
+use Rattle.requests.proofs.Names.{All-append, All-nil, left_of, MayFollow, StreamWent-none}
 use Rattle.requests.specs.declared.Ending.TheVariants.{Many}
-use Rattle.requests.specs.Answers.{MayFollow}
 use Rattle.requests.proofs.Answering.{no_turn}
 use Rattle.requests.proofs.Reading.{steadily, steady_none}
 use Rattle.requests.proofs.Sending.{WritesPromptly-none}

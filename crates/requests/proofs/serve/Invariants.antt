@@ -1,8 +1,5 @@
 use Rattle.std.proofs.Common.{◌≡◌, ◌+◌, ◌≤◌, length}
-use Rattle.codec.specs.PieceReader.{left_of}
-use Rattle.messages.specs.Limits.{usual}
-use Rattle.requests.specs.Answers.{Continues, faults_of}
-use Rattle.requests.specs.Sending.{IsHeld}
+use Rattle.requests.proofs.Names.{Continues, faults_of, IsHeld, left_of, usual}
 use Rattle.requests.proofs.serve.Given as goal
 
 -- the messages that went are answered, and each turn was of one, or of a read that was interrupted

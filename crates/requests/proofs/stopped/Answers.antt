@@ -1,14 +1,6 @@
 -- Where no head came nothing went: an interruption is counted and goes on, and all else ends the run.
 use Rattle.std.proofs.Common.{None, ◌∙◌, IsTrue, [], ◌∷◌, Some, true, false, ap, length, subst, sym, inl, inr, refl, arith, length-append}
-use Rattle.std.proofs.lemmas.List.Elements.{All-nil}
-use Rattle.redux_buffer.specs.Faults.{OnlyInterrupts-none, OnlyInterrupts-one}
-use Rattle.codec.specs.NextPieceLaws.{MetEnd-once}
-use Rattle.codec.specs.PieceReader.{left_of}
-use Rattle.messages.specs.HeadsLaws.{never_cut}
-use Rattle.requests.specs.declared.Ending.TheVariants.{Over, Unread}
-use Rattle.requests.specs.declared.Place.TheVariants.{Before}
-use Rattle.requests.specs.Answers.{IsSentLast, MayFollow, RunsToLast, faults_of, only_line_ends}
-use Rattle.requests.specs.Texts.{refusal_of}
+use Rattle.requests.proofs.Names.{All-nil, Before, faults_of, IsSentLast, left_of, MayFollow, MetEnd-once, never_cut, only_line_ends, OnlyInterrupts-none, OnlyInterrupts-one, Over, refusal_of, RunsToLast, Unread}
 use Rattle.messages.specs.declared.requests.Stop.TheVariants.{Bad}
 use Rattle.requests.proofs.Answering.{FailsLast-of, RunsToLast-one, RunsToLast-refused}
 use Rattle.requests.proofs.Reading.{failed_behind, none_met, nothing_went}

@@ -1,9 +1,6 @@
 -- The payload of each read joins what came before, which wasn't too large before the last read.
 use Rattle.std.proofs.Common.{◌≡◌, ◌∙◌, ℕ, zero, suc, ◌+◌, ◌<◌, ◌≤◌, ◌⊎◌, List, [], ◌++◌, length, take, Option, ap, arith, inl, inr, length-append, refl, subst, sym}
-use Rattle.std.proofs.lemmas.List.{length-take-le}
-use Rattle.messages.specs.Messages.{InBody, InsideGoes}
-use Rattle.messages.specs.MessagesLaws.{InsideGoes-joins, InsideGoes-none}
-use Rattle.requests.specs.Large.{TurnsLarge, is_large}
+use Rattle.requests.proofs.Names.{InBody, InsideGoes, InsideGoes-joins, InsideGoes-none, is_large, length-take-le, TurnsLarge}
 use Rattle.requests.proofs.Large.{fresh_behind, tested}
 use Rattle.requests.proofs.Reading.{TakeFails-of, had_to_ask, steadily, steady_none}
 use Rattle.requests.proofs.Sending.{WritesPromptly-after, WritesPromptly-none}

@@ -1,8 +1,5 @@
 use Rattle.std.proofs.Common.{◌≡◌, ℕ, ◌+◌, ◌≤◌, false, List, [], length, Ok}
-use Rattle.messages.specs.Messages.{InsideGoes}
-use Rattle.requests.specs.Answers.{ReadsSteadily, faults_of}
-use Rattle.requests.specs.Large.{is_large}
-use Rattle.requests.specs.Sending.{IsHeld, WritesPromptly}
+use Rattle.requests.proofs.Names.{faults_of, InsideGoes, is_large, IsHeld, ReadsSteadily, WritesPromptly}
 use Rattle.requests.proofs.taking.payload_len.Given as goal
 
 -- this payload was read, which isn't too large, and each turn read some of it, or was interrupted

@@ -1,9 +1,7 @@
 -- The stream is asked only where nothing buffered is payload, and what was held was sent then.
 use Rattle.std.proofs.Common.{◌≡◌, ℕ, [], take, Option, List, ap, arith, rules, subst, sym}
 use Rattle.body_reader.specs.Between.{handed_out}
-use Rattle.messages.specs.Messages.{InBody, InsideGoes}
-use Rattle.messages.specs.MessagesLaws.{InsideGoes-joins}
-use Rattle.requests.specs.Sending.{WritesPromptly}
+use Rattle.requests.proofs.Names.{InBody, InsideGoes, InsideGoes-joins, WritesPromptly}
 use Rattle.requests.proofs.Coming.{comes_inside, unsent_empty}
 use Rattle.requests.proofs.Reading.{asked_before, fails_since, reads_since, sent_so}
 use Rattle.requests.proofs.Sending.{WritesPromptly-read}

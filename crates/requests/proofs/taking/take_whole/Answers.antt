@@ -1,7 +1,6 @@
 -- Where no more of the body comes it has ended, so to finish it the stream is asked for nothing.
 use Rattle.std.proofs.Common.{[], ◌++◌, Ok}
-use Rattle.codec.specs.PieceReader.{left_of}
-use Rattle.messages.specs.MessagesLaws.{InsideGoes-joins}
+use Rattle.requests.proofs.Names.{InsideGoes-joins, left_of}
 use Rattle.requests.proofs.Reading.{TakeFails-behind, unasked, unasked_log, unfinished_sent, whole_taken}
 use Rattle.requests.proofs.Sending.{WritesPromptly-after, WritesPromptly-read}
 use Rattle.requests.proofs.taking.take_whole.Goals as goal

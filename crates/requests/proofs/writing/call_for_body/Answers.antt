@@ -1,7 +1,6 @@
 -- Where the client waits the text is the call.
 use Rattle.std.proofs.Common.{inr, subst, sym, ◌∙◌}
-use Rattle.buffer_redux.specs.WriteParts.{WritesParts}
-use Rattle.requests.specs.Texts.{called}
+use Rattle.requests.proofs.Names.{called, WritesParts}
 use Rattle.requests.proofs.writing.call_for_body.Goals as goal
 
 pub returns-then-waits : goal.returns-then-waits

@@ -1,0 +1,39 @@
+-- The names that proofs take from other crates, in one place.
+pub use Rattle.buffer_redux.specs.Asking.{AskedWhere}
+pub use Rattle.buffer_redux.specs.Buffered.{Buffered}
+pub use Rattle.buffer_redux.specs.StreamLog.{StreamLog}
+pub use Rattle.buffer_redux.specs.Unbuffer.{HandsOutInOrder, StreamWent, Unbuffered}
+pub use Rattle.buffer_redux.specs.UnbufferLaws.{StreamWent-joins, StreamWent-none}
+pub use Rattle.buffer_redux.specs.WriteParts.{WritesParts}
+pub use Rattle.buffer_redux.specs.declared.policy.StdPolicy.{StdPolicy}
+pub use Rattle.codec.specs.Grammar.{IsOpen}
+pub use Rattle.codec.specs.NextPiece.{empty_reads, NextAnswer, NextPiece, NoEnd}
+pub use Rattle.codec.specs.NextPieceLaws.{AsksNone-settled, MetEnd-once}
+pub use Rattle.codec.specs.PieceReader.{IsSettled, left_of, ReaderState, rest}
+pub use Rattle.codec.specs.PiecesWentLaws.{PiecesWent-stream, PiecesWent-unasked}
+pub use Rattle.messages.specs.Heads.{heads, IsHead}
+pub use Rattle.messages.specs.HeadsLaws.{heads_lawful, never_cut}
+pub use Rattle.messages.specs.Limits.{usual}
+pub use Rattle.messages.specs.Messages.{AskedIn, AsksForMore, Backward, BeginsRest, Begun, body_of, Bytes, Chunks, EachReadGave, Fails, FinishFails, GoesWrong, InBody, InsideGoes, InTurn, IsMessage, IsRest, Message, Onward, Rest, RunsShort, TakesWholeRest, Unended}
+pub use Rattle.messages.specs.MessagesLaws.{Begun-gave, Begun-message, Begun-went, handed_unasked, InsideGoes-joins, InsideGoes-none, Onward-joins}
+pub use Rattle.messages.specs.declared.bad_head.BadHead.{BadHead}
+pub use Rattle.messages.specs.declared.error.BodyError.TheVariants.{Io, Truncated, Wrong}
+pub use Rattle.messages.specs.declared.head.Heads.{Heads}
+pub use Rattle.messages.specs.declared.head.ParsedHead.{ParsedHead}
+pub use Rattle.programs.specs.Streams.{AllSent, EndsOnce}
+pub use Rattle.redux_buffer.specs.Faults.{FaultAfterInterrupts, FaultAfterInterrupts-after, MetInterrupts, MetInterrupts-joins, MetInterrupts-none, OnlyInterrupts, OnlyInterrupts-joins, OnlyInterrupts-none, OnlyInterrupts-one, SendErrorCaused-after}
+pub use Rattle.requests.specs.Answers.{AnswersEach, AnswersWhole, call_at, Closes, Continues, EndedBeforeHead, ending_of, ends_of, EndsUntaken, FailsInRead, FailsLast, FailsOn, FailsToRead, faults_of, HadToAsk, IsAnswer, IsClosed, IsLastTurn, IsMany, IsPartTaken, IsSentLast, IsTaken, IsToBeRefused, MayFollow, NoMoreAnswered, only_line_ends, ReadsSome, ReadsSteadily, RunEndsBy, RunsToLast, sending_of, sent_till, sent_with, stream_at, TakeFails, TakesWhole, unfinished}
+pub use Rattle.requests.specs.Large.{is_large, IsNewlyLarge, max_payload, TurnsLarge}
+pub use Rattle.requests.specs.Sending.{Both, IsHeld, IsStep, Prompt, PutsText, PutStops, SendsForRoom, SendsUnless, StepsAlong, WritesOnlyHeld, WritesPromptly}
+pub use Rattle.requests.specs.Texts.{answered, called, early_refusal, is_called, is_known, refusal, refusal_of, refused, waits}
+pub use Rattle.requests.specs.declared.Ending.{Ending}
+pub use Rattle.requests.specs.declared.Ending.TheVariants.{Over, Unread, Unsent}
+pub use Rattle.requests.specs.declared.Place.{Place}
+pub use Rattle.requests.specs.declared.Place.TheVariants.{Before, Inside}
+pub use Rattle.requests.specs.declared.taking.Untaken.{Untaken}
+pub use Rattle.requests.specs.declared.writing.Refusal.{Refusal}
+pub use Rattle.requests.specs.declared.writing.Refusal.TheVariants.{BadRequest, LargeBody, Unknown, Unmet}
+pub use Rattle.std.proofs.lemmas.Bool.{cases_lt, le-ltb, lt-ltb}
+pub use Rattle.std.proofs.lemmas.List.{append_cancel_left, length-take-le, nil_from_length}
+pub use Rattle.std.proofs.lemmas.List.Elements.{All-append, All-cons, All-nil}
+pub use Rattle.std.specs.declared.io.Error.{Error}
