@@ -127,7 +127,7 @@ module _ {R W : Type 0} (remaining : R → Option (List ℕ)) (limits : Limits) 
       subst (λ x. Ran (Err x)) (sym is) (moved_all count over held sent, left, failed)
   stopped count (cause.Write fault) e (first, inr refused) is = absurd refused.1
   stopped count (cause.Write fault) e (first, inl failed) is = subst (λ x. Ran (Err x)) (sym is)
-      (moved first.payloads first.lost (first.payloads ++ first.lost) refl first.moves, failed)
+      (moved first.payloads first.lost (first.payloads ++ first.lost) refl first.moves, failed.0)
   stopped count cause.Count e (over, large, met) is = subst (λ x. Ran (Err x)) (sym is.2) (
     moved_over count over,
     inl (record { other = is.1; large = omega (arith, large, counted count over); met = met }),
@@ -176,5 +176,6 @@ refused limits read read' written written' e p = rw (p.read_same, p.written_same
   );
   prompt = inl refl;
   once = omega arith;
+  few = omega arith;
   flushes = omega arith;
 })

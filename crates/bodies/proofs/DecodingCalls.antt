@@ -19,14 +19,14 @@ use Rattle.chunked.specs.CodingLaws.{breaks_at}
 use Rattle.chunked.specs.declared.error.Malformed.{Malformed}
 use Rattle.chunked.specs.declared.place.Place.TheVariants.{Line}
 use Rattle.forward.specs.declared.error.AskError.{AskError}
-use Rattle.programs.specs.FlushesLaws.{SendsByOneFlush-flush}
-use Rattle.programs.specs.PromptLaws.{WritesOn-grows, WritesOn-unflushed}
-use Rattle.bodies.specs.Words.{Error, frees_received, WasFlushed, WritesInOrder, Buffered, std_read_rules, StreamLog, StdPolicy, BodyWent, IsBodyOfChunks, IsBodyReader, IsStill-same, TookWholeBody, LooksBehind, ReadsPayload, chunked, handed_of, taken_count, AskAnswers, FilterAsks, FlushAnswers, FilterFlushes, FilterRules, NeverGaveNothing, FilterPasses, taken_more, RunError}
+use Rattle.forward.specs.Target.{bytes_taken}
+use Rattle.programs.specs.TargetLaws.{TakesAll-not_passed, TakesAll-passed, WasFlushed-sent, WasFlushed-writes}
+use Rattle.bodies.specs.Words.{Error, WasFlushed, Buffered, std_read_rules, StreamLog, StdPolicy, BodyWent, IsBodyOfChunks, IsBodyReader, TakesAll, TookWholeBody, LooksBehind, ReadsPayload, chunked, handed_of, taken_count, AskAnswers, FilterAsks, FilterFlushes, FilterRules, NeverGaveNothing, FilterPasses, taken_more, target_of, RunError}
 use Rattle.bodies.specs.Decode.{IsDue}
-use Rattle.bodies.specs.Decoding.{ChunkedState, HandsPayloadPieces, HoldsPiece, IsPieceTarget, MayDecode, NoneBuffered, WritesPayload, ask_error, decoding_rules, end_answer, held_payload}
+use Rattle.bodies.specs.Decoding.{ChunkedState, HandsPayloadPieces, HoldsPiece, MayDecode, NoneBuffered, ask_error, decoding_rules, end_answer, held_payload}
 use Rattle.bodies.specs.Decoding as Source
 use Rattle.bodies.specs.DecodingLaws.{hands_held, hands_none, none_held}
-use Rattle.bodies.specs.FiltersLaws.{fault_gives}
+use Rattle.bodies.specs.FiltersLaws.{fault_gives, on_err}
 use Rattle.bodies.specs.declared.decoding.Decoding.{Decoding}
 
 -- bytes that settle nothing are none
@@ -114,51 +114,51 @@ module _ {R W : Type 0} (remaining : R → Option (List ℕ)) (s : Decoding R W)
     }
 
   -- a piece is held
-  module _ (u : Decoding R W) (held : HoldsPiece remaining s u) (v : Buffered W StdPolicy) where
-    ready_with : (n : ℕ) → n ≤ 16384 → IsPieceTarget v → MayDecode (record u { target = v; held = n })
-    ready_with n most target = record {
+  module _ (u : Decoding R W) (held : HoldsPiece remaining s u) (v : Buffered W StdPolicy)
+      (kind : v.block.kind ≡ u.target.block.kind) (same : v.block.capacity ≡ u.target.block.capacity) where
+    ready_with : (n : ℕ) → n ≤ 16384 → MayDecode (record u { target = v; held = n })
+    ready_with n most = record {
       capacity = held.ready.capacity;
       whole = held.ready.whole;
-      target = target;
+      target = record { plain = kind ∙ held.ready.target.plain; capacity = omega (arith, same, held.ready.target.capacity) };
       room = held.ready.room;
       held = most;
     }
 
-    -- a piece that is held could not be written, or was
-    pub not_written : (e : Error) → WritesPayload u.target (held_payload u) (Err e) v
-        → FilterPasses rules s (Err e) (record u { target = v })
-    not_written e wrote =
-        let wrote = subst (λ x. WritesPayload x (held_payload u) (Err e) v) held.still wrote in record {
-          told = held.told;
-          ready = ready_with u.held held.ready.held wrote.target;
-          closed = λ closed. closed;
-          writes = WritesOn-unflushed s.target v [] wrote.answers.0 wrote.not_flushed;
-          flushes = wrote.flushes;
-          answers = (
-            [],
-            record {
-              hands = hands_held remaining s (record u { target = v }) held.hands.payload held.hands.went held.hands.order;
-              takes = wrote.answers.0;
-            },
-            inl wrote.answers.1,
-            omega arith,
-            omega (arith, frees_received s.target v 0 wrote.answers.0 wrote.capacity),
-          );
-        }
+    abbrev piece : List ℕ
+    piece = held_payload u
 
-    pub written : 0 < u.held → WritesPayload u.target (held_payload u) (Ok tt) v
-        → FilterPasses rules s (Ok true) (record u { target = v; held = 0 })
-    written some wrote =
-        let wrote = subst (λ x. WritesPayload x (held_payload u) (Ok tt) v) held.still wrote in
-        let piece = held_payload u in
+    -- a piece that is held could not be written, or was
+    abbrev pub Takes : Result (Unit {0}) Error → Type 0
+    Takes answer = TakesAll (length piece + 0) (λ _. ⊥) u.target (piece ++ []) answer v
+
+    pub not_written : (e : Error) → Takes (Err e) → FilterPasses rules s (Err e) (record u { target = v })
+    not_written e takes = record {
+      told = held.told;
+      ready = ready_with u.held held.ready.held;
+      closed = λ closed. closed;
+      wrote = rw held.still at (TakesAll-not_passed u.target v 0 0 {Other = λ _. ⊥} takes same (λ no. no));
+      answers = (
+        [],
+        record {
+          hands = hands_held remaining s (record u { target = v }) held.hands.payload held.hands.went held.hands.order;
+          takes = rw held.still at takes.taken;
+        },
+        omega arith,
+      );
+    }
+
+    pub written : 0 < u.held → Takes (Ok tt) → FilterPasses rules s (Ok true) (record u { target = v; held = 0 })
+    written some takes =
         let long : 0 < length piece =
         omega (arith, some, length-take-le u.held u.piece.items (omega (arith, held.ready.held, held.ready.room))) in
+        let all : length (piece ++ []) ≡ length piece = ap length (append-nil piece) in
         record {
           told = held.told;
-          ready = ready_with 0 (omega arith) wrote.target;
+          ready = ready_with 0 (omega arith);
           closed = λ closed. closed;
-          writes = WritesOn-unflushed s.target v piece wrote.answers.0 wrote.not_flushed;
-          flushes = wrote.flushes;
+          wrote = rw held.still at (TakesAll-passed u.target v 0 0 {Other = λ _. ⊥} takes (omega (arith, all)) (omega (arith, all, long))
+              (λ _. same) (omega (arith, same)));
           answers = (
             piece,
             record {
@@ -168,24 +168,20 @@ module _ {R W : Type 0} (remaining : R → Option (List ℕ)) (s : Decoding R W)
                 order = held.hands.order ∙ sym (append-nil piece) ∙ sym (append-nil (piece ++ []));
                 some = All-cons (λ p. 0 < length p) piece [] long (All-nil (λ p. 0 < length p));
               };
-              takes = subst (λ l. WritesInOrder s.target l v) (sym (append-nil piece)) wrote.answers.0;
+              takes = rw held.still at takes.taken;
             },
-            wrote.answers.1,
-            inl (omega (arith, long, taken_more s.target v piece wrote.answers.0)),
-            λ room. record {
-              told = wrote.fits (omega (arith, room, long, taken_more s.target v piece wrote.answers.0));
-              capacity = wrote.capacity;
-            },
+            inl (omega (
+              arith,
+              all,
+              long,
+              taken_more u.target v (piece ++ []) takes.taken,
+              ap (λ w. bytes_taken (target_of w)) held.still,
+            )),
           );
         }
 
   -- all that was taken in was flushed, or not
-  module _ (tells : W → StreamLog) (trace : W → W → Type 0) (v : Buffered W StdPolicy) where
-    flush_answers : (answer : Result (Unit {0}) Error) → WasFlushed tells trace s.target answer v
-        → FlushAnswers rules s answer (record s { target = v })
-    flush_answers (Ok _) f = (record { empty = f.ok.empty; flushed = f.ok.flushed }, f.ok.met)
-    flush_answers (Err e) f = f.caused
-
+  module _ {tells : W → StreamLog} {trace : W → W → Type 0} (v : Buffered W StdPolicy) where
     pub flushes_all : (answer : Result (Unit {0}) Error) → WasFlushed tells trace s.target answer v
         → FilterFlushes rules s answer (record s { target = v })
     flushes_all answer f = record {
@@ -198,13 +194,12 @@ module _ {R W : Type 0} (remaining : R → Option (List ℕ)) (s : Decoding R W)
         held = ready.held;
       };
       closed = λ closed. closed;
-      writes = WritesOn-grows s.target.log.writes v.log.writes f.grows;
-      flushes = SendsByOneFlush-flush s.target v answer f.steps;
+      wrote = WasFlushed-writes s.target v f;
       steps = f.steps;
       quiet = λ drops. absurd drops;
       moves = record { hands = hands_none remaining s (record s { target = v }) refl refl; takes = f.in_order };
       lacks = λ lacks. lacks;
-      answers = flush_answers answer f;
+      sent = WasFlushed-sent s.target v answer f;
     }
 
   -- the reader inside was asked for a piece
@@ -220,7 +215,6 @@ module _ {R W : Type 0} (remaining : R → Option (List ℕ)) (s : Decoding R W)
         → FilterAsks rules s answer (asked t n)
     asks_so t n most went whole over once answer answers = record {
       told = refl;
-      still = IsStill-same s.target s.target refl;
       ready = read_ready none m out len t n went most whole;
       moves = record {
         hands = read_hands none m out len t n went;
@@ -229,6 +223,7 @@ module _ {R W : Type 0} (remaining : R → Option (List ℕ)) (s : Decoding R W)
       sent = λ sent. sent;
       asks = over;
       once = record { once = once; quiet = λ closed. absurd closed; closed = λ closed. closed };
+      looks = on_err answer tt;
       answers = answers;
     }
 

@@ -131,7 +131,7 @@ module _ {R W : Type 0} (remaining : R → Option (List ℕ)) (trace : W → W �
             subst (λ l. IsEncodedBody l (concat over.payloads)) (ap (λ l. sent ++ l) end.answers.1.empty ∙ append-nil sent)
             (is_written over.payloads [] none_lost end.end v end.taken end.answers.0)),
         once,
-        MetNoFault-joins first.log t.source.log t.source.log u.log t.target.writer.log v.log met
+        MetNoFault-joins met
             (record { reader = OnlyInterrupts-none t.source.log.reads.faults; writer = end.answers.2 }),
       )
       ended once (Err why) end =
@@ -143,7 +143,7 @@ module _ {R W : Type 0} (remaining : R → Option (List ℕ)) (trace : W → W �
                   (is_written over.payloads [] none_lost end.end v end.taken all) left once
               | inr nothing ↦ inl (not_ended over.payloads [] none_lost end.end v end.taken nothing)
             ],
-            WriterFailed-after e first.log t.source.log t.source.log u.log t.target.writer.log v.log met
+            WriterFailed-after met
                 (record { reader = OnlyInterrupts-none t.source.log.reads.faults; writer = end.answers.1.2 }),
           )
 
@@ -165,7 +165,7 @@ module _ {R W : Type 0} (remaining : R → Option (List ℕ)) (trace : W → W �
   stopped count (cause.Write fault) e (p, inl failed) is = subst Ran (sym is) (
     moved p.payloads p.lost p.moves [] t.target.writer still,
     inl (not_ended p.payloads p.lost p.moves [] t.target.writer still refl),
-    failed,
+    failed.0,
   )
   stopped count cause.Count e (over, large, met) is = subst Ran (sym is.2) (
     moved_over count over [] t.target.writer still,
@@ -222,6 +222,7 @@ refused read read' written written' e p =
       ran = (moved, unended moved IsChunks-none, inr (rw (p.read_same, p.written_same) at p));
       prompt = inl refl;
       once = omega arith;
+      few = omega arith;
       flushes = omega arith;
       per_ask = omega arith;
     })

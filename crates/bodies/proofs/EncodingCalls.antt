@@ -3,104 +3,77 @@ use Rattle.std.proofs.Common.{MatchResult, ◌⊎◌, ◌≡◌, ℕ, ◌+◌, �
 use Rattle.std.proofs.lemmas.Bool.{cases_lt}
 use Rattle.std.proofs.lemmas.Bool.Decides.{nat_tests}
 use Rattle.std.specs.IoError.{error_kind}
+use Rattle.std.specs.List.{flat_map}
 use Rattle.std.specs.declared.io.ErrorKind.TheVariants.{InvalidInput}
 use Rattle.buffer_redux.specs.Block.{IsBlock}
-use Rattle.buffer_redux.specs.BufWriter.{WasSent}
 use Rattle.buffer_redux.specs.EmptyReads.{none_before_fault, none_where_shown, ReadsWhenEmpty-std}
 use Rattle.buffer_redux.specs.ReaderLaws.{ReadsAlong-none}
+use Rattle.buffer_redux.specs.Transfer.{Sends}
 use Rattle.buffer_redux.specs.WritePartsLaws.{PutsIn-told}
 use Rattle.buffer_redux.specs.WriterLaws.{WritesInOrder-then}
 use Rattle.buffer_redux.specs.WritesAlongLaws.{Flushes-once}
-use Rattle.chunked.specs.ChunkedWriter.{LacksPayload, NotFinished}
+use Rattle.chunked.specs.ChunkedWriter.{LacksPayload, NotFinished, taken_payloads}
 use Rattle.chunked.specs.ChunkedWriterLaws.{ChunksWent-none}
 use Rattle.forward.specs.declared.error.AskError.TheVariants.{Io}
 use Rattle.forward.specs.declared.error.AskError.{AskError}
-use Rattle.programs.specs.FlushesLaws.{SendsByOneFlush-flush}
-use Rattle.programs.specs.PromptLaws.{WritesOn-grows, WritesOn-joins, WritesOn-unflushed}
-use Rattle.programs.specs.StreamsLaws.{MetInterrupts-none}
-use Rattle.bodies.specs.Words.{around, frees_received, AskAnswers, FilterAsks, body_end, Buffered, chunk, ChunkedWriterState, ChunksWent, Error, Fills, FilterRules, FlushAnswers, FilterFlushes, IsChunkedWriter, IsStill, IsStill-same, line_end, MetInterrupts, MetInterrupts-joins, FilterPasses, PutsIn, ReadsAlong, room, RunError, SendErrorCaused-after, SendsFirst, size_digits, std_read_rules, StdPolicy, StreamLog, taken_more, WasFlushed, WritesChunk, WritesInOrder, AllSent, SendErrorCaused}
+use Rattle.programs.specs.PromptLaws.{WritesOn-joins, WritesOn-unflushed}
+use Rattle.programs.specs.TargetLaws.{SendRow, TakesAll-not_passed, TakesAll-passed, WasFlushed-sent, WasFlushed-writes, unsent_row}
+use Rattle.bodies.specs.Words.{around, AskAnswers, FilterAsks, body_end, Buffered, chunk, ChunkedWriterState, ChunksWent, Error, failure_count, Fills, FilterRules, FilterFlushes, IsChunkedWriter, line_end, MetInterrupts, MetInterrupts-joins, FilterPasses, PutsIn, ReadsAlong, room, RunError, SendErrorCaused-after, SendsFirst, size_digits, std_read_rules, StdPolicy, StreamLog, TakesAll, taken_more, WasFlushed, WritesChunk, WritesInOrder, AllSent, SendErrorCaused}
 use Rattle.bodies.specs.Encode.{EndsBody}
 use Rattle.bodies.specs.Encoding.{encoding_rules, MayEncode}
 use Rattle.bodies.specs.Filters.{Asked}
 use Rattle.bodies.specs.FillLaws.{fill_leaves, some_came}
-use Rattle.bodies.specs.FiltersLaws.{ended, fault_gives, fill_asked, fill_capacity, std_fault}
+use Rattle.bodies.specs.FiltersLaws.{ended, fault_gives, fill_asked, fill_capacity, on_err, std_fault}
 use Rattle.bodies.specs.declared.encoding.Encoding.{Encoding}
 use Rattle.bodies.specs.declared.error.RunError.TheVariants.{Write}
 
--- the writer was at most interrupted, and flushed nothing
-pub record Quiet {W : Type 0} (u v : Buffered W StdPolicy) : Type 0 where
-  pub met : MetInterrupts u.log.writes v.log.writes
-  pub not_flushed : v.log.writes.flushed ≡ u.log.writes.flushed
-  pub flushes : v.log.writes.flushes ≡ u.log.writes.flushes
+-- the answer of a write, whatever it took
+abbrev wrote_all : Result ℕ Error → Result (Unit {0}) Error
+wrote_all (Ok n) = Ok tt
+wrote_all (Err e) = Err e
 
 module _ {W : Type 0} (tells : W → StreamLog) (trace : W → W → Type 0) where
-  -- a call that takes bytes in was quiet, whether or not what was buffered had to be sent first
-  pub put_quietly : (u v : Buffered W StdPolicy) (bytes more : List ℕ) (n : ℕ) → (n ≤ room u → PutsIn u bytes v)
-      → (room u < n → SendsFirst tells trace u more v) → Quiet u v
-  put_quietly u v bytes more n fits full = elim (cases_lt (room u) n) [
-    | inl none ↦
-        let p = full none in
-        let told = PutsIn-told p.sent v more p.puts in
+  -- bytes were taken in where there was room, or behind a send
+  pub takes_put : {u v : Buffered W StdPolicy} {bytes more taken : List ℕ} {n : ℕ} → (n ≤ room u → PutsIn u bytes v)
+      → (room u < n → SendsFirst tells trace u more v) → WritesInOrder u taken v → 0 < n → TakesAll n (λ _. ⊥) u taken (Ok tt) v
+  takes_put {u} {v} {bytes} {more} fits full order some = record {
+    taken = order;
+    fits = λ fit. (refl, PutsIn-told u v bytes (fits (omega (arith, fit))));
+    sends = λ none.
+        let first = full (omega (arith, none, some)) in
         record {
-          met = rw told p.sends.ok.met;
-          not_flushed = ap (λ l. l.writes.flushed) told ∙ p.sends.not_flushed;
-          flushes = ap (λ l. l.writes.flushes) told ∙ p.sends.sends.sent.flushes;
-        }
-    | inr there ↦
-        let told = PutsIn-told u v bytes (fits there) in
-        record {
-          met = rw told (MetInterrupts-none u.log.writes);
-          not_flushed = ap (λ l. l.writes.flushed) told;
-          flushes = ap (λ l. l.writes.flushes) told;
-        }
-  ]
+          sending = Ok tt;
+          left = first.sent.block;
+          sends = subst (Sends (length u.block.bytes) u.block u.log (Ok tt) first.sent.block)
+              (sym (PutsIn-told first.sent v more first.puts)) first.sends.sends;
+          ended = tt;
+        };
+  }
 
   module _ (b c : ChunkedWriterState W) (payload : List ℕ) (some : 0 < length payload) (between : b.due ≡ 0)
       (small : around + length payload ≤ b.writer.block.capacity) where
-    pub chunk_quietly : (n : ℕ) → WritesChunk tells trace b payload (Ok n) c → Quiet b.writer c.writer
-    chunk_quietly n p = put_quietly b.writer c.writer (chunk payload) (chunk payload) (around + length payload)
-        (λ there. (p.fits some between there).1) (λ none. (p.full some between none small).1)
-
-    -- a chunk that was written has a byte at least
-    pub chunk_some : (n : ℕ) → WritesChunk tells trace b payload (Ok n) c → 0 < n
-    chunk_some n p = elim (cases_lt (room b.writer) (around + length payload)) [
-      | inl none ↦ omega (arith, (p.full some between none small).0, some)
-      | inr there ↦ omega (arith, ap count (p.fits some between there).0, some)
-    ]
-      where
-        count : Result ℕ Error → ℕ
-        count (Ok n) = n
-        count (Err e) = 0
-
-    -- one that took nothing in
-    pub chunk_not_sent : (e : Error) → WritesChunk tells trace b payload (Err e) c
-        → WasSent tells trace b.writer (Err e) c.writer
-    chunk_not_sent e p = elim (cases_lt (room b.writer) (around + length payload)) [
-      | inl none ↦ p.full some between none small
-      | inr there ↦ absurd (let odd = (p.fits some between there).0 in cc)
+    -- a chunk is all of the payload, and is taken in whole
+    pub chunk_whole : (n : ℕ) → WritesChunk tells trace b payload (Ok n) c → n ≡ length payload
+    chunk_whole n p = elim (cases_lt (room b.writer) (around + length payload)) [
+      | inl none ↦ (p.full some between none small).0
+      | inr there ↦ (let is = (p.fits some between there).0 in cc)
     ]
 
-    -- one for which there is room is copied in
-    pub chunk_still : (n : ℕ) → WritesChunk tells trace b payload (Ok n) c
-        → length (chunk (take n payload)) ≤ room b.writer - around
-        → IsStill b.writer c.writer
-    chunk_still n p fits = elim (cases_lt (room b.writer) (around + length payload)) [
-      | inl none ↦ absurd (omega (
-        arith,
-        fits,
-        none,
-        some,
-        (p.full some between none small).0,
-        length-take-le n payload (omega (arith, (p.full some between none small).0)),
-        length-append (size_digits (length (take n payload))) (line_end (take n payload ++ line_end [])),
-        length-append (take n payload) (line_end []),
-      ))
-      | inr there ↦
-          let puts = (p.fits some between there).1 in record {
-            told = PutsIn-told b.writer c.writer (chunk payload) puts;
-            capacity = puts.capacity;
-          }
-    ]
+    pub chunk_takes : (answer : Result ℕ Error) → WritesChunk tells trace b payload answer c
+        → TakesAll (around + length payload) (λ _. ⊥) b.writer (flat_map chunk (taken_payloads payload answer))
+        (wrote_all answer) c.writer
+    chunk_takes (Ok n) p = takes_put (λ there. (p.fits some between there).1) (λ none. (p.full some between none small).1)
+        (p.chunks between small).went.in_order (omega arith)
+    chunk_takes (Err e) p = record {
+      taken = (p.chunks between small).went.in_order;
+      fits = λ fit. (let odd = (p.fits some between (omega (arith, fit))).0 in cc);
+      sends = λ none. record {
+        sending = Err e;
+        left = c.writer.block;
+        sends = (p.full some between (omega (arith, none)) small).sends;
+        ended = (refl, refl);
+      };
+    }
 
   -- the end of a body wasn't taken in
   pub ends_not : (b c : ChunkedWriterState W) → b.due ≡ 0 → (e : Error)
@@ -115,6 +88,7 @@ module _ {W : Type 0} (tells : W → StreamLog) (trace : W → W → Type 0) whe
         taken = sent.in_order;
         answers = (inr refl, (e, refl, sent.caused));
         writes = writes;
+        few = (unsent_row b.writer c.writer sent).few;
         once = omega (arith, sent.sends.sent.flushes);
         flushes = omega (
           arith,
@@ -125,43 +99,45 @@ module _ {W : Type 0} (tells : W → StreamLog) (trace : W → W → Type 0) whe
       }
 
   -- the end of a body, and a flush
-  module _ (u m v : Buffered W StdPolicy) (taken : WritesInOrder u (body_end []) m) (quiet : Quiet u m) where
+  module _ (u m v : Buffered W StdPolicy) (taken : WritesInOrder u (body_end []) m) (row : SendRow u m (λ _. ⊥) (Ok tt)) where
     ends : (answer : Result (Unit {0}) Error) → WasFlushed tells trace m answer v → (said : Result (Unit {0}) RunError)
-        → MatchResult said (λ _. (body_end [] ≡ body_end []) × AllSent v × MetInterrupts u.log.writes v.log.writes)
+        → failure_count answer ≡ failure_count said → MatchResult said (λ _. (body_end [] ≡ body_end []) × AllSent v × MetInterrupts u.log.writes v.log.writes)
         (λ why. ((body_end [] ≡ body_end []) ⊎ (body_end [] ≡ []))
         × ((e : Error) × (why ≡ Write e) × SendErrorCaused u.log.writes v.log.writes e))
         → EndsBody u said v
-    ends answer f said answers =
+    ends answer f said same_count answers =
+        let flush = WasFlushed-writes m v f in
         let writes = WritesOn-joins u.log.writes m.log.writes v.log.writes
-        (WritesOn-unflushed u m (body_end []) taken quiet.not_flushed) (WritesOn-grows m.log.writes v.log.writes f.grows) in
+        (WritesOn-unflushed u m (body_end []) taken row.not_flushed) flush.writes in
         record {
           end = body_end [];
           taken = WritesInOrder-then u m v (body_end []) taken f.in_order;
           answers = answers;
           writes = writes;
-          once = omega (arith, Flushes-once m v answer f.steps, quiet.flushes);
-          flushes = elim (SendsByOneFlush-flush m v answer f.steps) [
+          few = omega (arith, row.few, flush.few, same_count);
+          once = omega (arith, Flushes-once m v answer f.steps, row.flushes);
+          flushes = elim flush.flushes [
             | inl same ↦ omega (
               arith,
               same,
-              quiet.flushes,
+              row.flushes,
               ap length writes.received.equal,
               length-append u.log.writes.received writes.received.more,
             )
-            | inr once ↦ omega (arith, once.0, once.1, quiet.flushes, taken_more u m (body_end []) taken)
+            | inr once ↦ omega (arith, once.0, once.1, row.flushes, taken_more u m (body_end []) taken)
           ];
         }
 
     pub ends_well : WasFlushed tells trace m (Ok tt) v → EndsBody u (Ok tt) v
-    ends_well f = ends (Ok tt) f (Ok tt) (
+    ends_well f = ends (Ok tt) f (Ok tt) refl (
       refl,
-      record { empty = f.ok.empty; flushed = f.ok.flushed },
-      MetInterrupts-joins u.log.writes m.log.writes v.log.writes quiet.met f.ok.met,
+      WasFlushed-sent m v (Ok tt) f,
+      MetInterrupts-joins u.log.writes m.log.writes v.log.writes row.ended f.ok.met,
     )
 
     pub ends_badly : (e : Error) → WasFlushed tells trace m (Err e) v → EndsBody u (Err (Write e)) v
-    ends_badly e f = ends (Err e) f (Err (Write e))
-        (inl refl, (e, refl, SendErrorCaused-after u.log.writes m.log.writes v.log.writes e quiet.met f.caused))
+    ends_badly e f = ends (Err e) f (Err (Write e)) refl
+        (inl refl, (e, refl, SendErrorCaused-after u.log.writes m.log.writes v.log.writes e row.ended f.caused))
 
 module _ {R W : Type 0} (remaining : R → Option (List ℕ)) (tells : W → StreamLog) (trace : W → W → Type 0)
     (none : (x : W) → trace x x) (joins : (a b c : W) → trace a b → trace b c → trace a c) (s : Encoding R W)
@@ -177,7 +153,6 @@ module _ {R W : Type 0} (remaining : R → Option (List ℕ)) (tells : W → Str
     pub not_passed : (e : Error) → WritesChunk tells trace s.target s.source.block.bytes (Err e) c
         → FilterPasses rules s (Err e) (record s { target = c })
     not_passed e p =
-        let failed = chunk_not_sent tells trace s.target c s.source.block.bytes some ready.between small e p in
         let chunks = p.chunks ready.between small in
         record {
           told = refl;
@@ -188,15 +163,11 @@ module _ {R W : Type 0} (remaining : R → Option (List ℕ)) (tells : W → Str
             whole = p.whole;
           };
           closed = λ closed. closed;
-          writes = WritesOn-unflushed s.target.writer c.writer [] failed.in_order failed.not_flushed;
-          flushes = failed.sends.sent.flushes;
-          answers = (
-            [],
-            record { hands = ReadsAlong-none remaining std_read_rules s.source; takes = chunks },
-            inl failed.caused,
-            omega arith,
-            frees_received s.target.writer c.writer around failed.in_order failed.capacity,
-          );
+          wrote = TakesAll-not_passed s.target.writer c.writer around 0
+              (chunk_takes tells trace s.target c s.source.block.bytes some ready.between small (Err e) p) chunks.went.capacity
+              (λ no. no);
+          answers =
+              ([], record { hands = ReadsAlong-none remaining std_read_rules s.source; takes = chunks }, omega arith);
         }
 
     pub passed : (n : ℕ) → n ≤ length s.source.block.bytes → WritesChunk tells trace s.target s.source.block.bytes (Ok n) c
@@ -204,12 +175,19 @@ module _ {R W : Type 0} (remaining : R → Option (List ℕ)) (tells : W → Str
         → t.log ≡ s.source.log → t.block.capacity ≡ s.source.block.capacity
         → FilterPasses rules s (Ok true) (record s { source = t; target = c })
     passed zero within p t gone told same =
-        absurd (omega (arith, chunk_some tells trace s.target c s.source.block.bytes some ready.between small 0 p))
+        absurd (omega (arith, some, chunk_whole tells trace s.target c s.source.block.bytes some ready.between small 0 p))
     passed (suc n) within p t gone told same =
         let payload = take (suc n) s.source.block.bytes in
-        let quiet = chunk_quietly tells trace s.target c s.source.block.bytes some ready.between small (suc n) p in
         let chunks = p.chunks ready.between small in
-        let order = chunks.went.in_order in
+        let takes = chunk_takes tells trace s.target c s.source.block.bytes some ready.between small (Ok (suc n)) p in
+        let bytes : around + length s.source.block.bytes ≤ length (chunk payload ++ []) + around = omega (
+          arith,
+          chunk_whole tells trace s.target c s.source.block.bytes some ready.between small (suc n) p,
+          length-take-le (suc n) s.source.block.bytes within,
+          length-append (chunk payload) [],
+          length-append (size_digits (length payload)) (line_end (payload ++ line_end [])),
+          length-append payload (line_end []),
+        ) in
         record {
           told = told;
           ready = record {
@@ -219,37 +197,20 @@ module _ {R W : Type 0} (remaining : R → Option (List ℕ)) (tells : W → Str
             whole = p.whole;
           };
           closed = λ closed. closed;
-          writes = WritesOn-unflushed s.target.writer c.writer _ order quiet.not_flushed;
-          flushes = quiet.flushes;
+          wrote = TakesAll-passed s.target.writer c.writer around 0 takes bytes (omega (arith, bytes, some))
+              (λ _. chunks.went.capacity) (omega (arith, chunks.went.capacity));
           answers = (
             payload,
             record {
               hands = subst (λ l. ReadsAlong remaining std_read_rules s.source l t) (sym (append-nil payload)) gone;
               takes = chunks;
             },
-            quiet.met,
-            inl (omega (
-              arith,
-              taken_more s.target.writer c.writer _ order,
-              length-append (chunk payload) [],
-              length-append (size_digits (length payload)) (line_end (payload ++ line_end [])),
-            )),
-            λ room. chunk_still tells trace s.target c s.source.block.bytes some ready.between small (suc n) p (omega (
-              arith,
-              room,
-              taken_more s.target.writer c.writer _ order,
-              length-append (chunk payload) [],
-            )),
+            inl (omega (arith, bytes, some, taken_more s.target.writer c.writer _ takes.taken)),
           );
         }
 
   -- all chunks are sent and flushed, or not
   module _ (c : ChunkedWriterState W) (went : ChunksWent trace s.target [] c) (whole : IsChunkedWriter c) where
-    flush_answers : (answer : Result (Unit {0}) Error) → WasFlushed tells trace s.target.writer answer c.writer
-        → FlushAnswers rules s answer (record s { target = c })
-    flush_answers (Ok _) f = (record { empty = f.ok.empty; flushed = f.ok.flushed }, f.ok.met)
-    flush_answers (Err e) f = f.caused
-
     pub flushes_all : (answer : Result (Unit {0}) Error) → WasFlushed tells trace s.target.writer answer c.writer
         → FilterFlushes rules s answer (record s { target = c })
     flushes_all answer f = record {
@@ -261,13 +222,12 @@ module _ {R W : Type 0} (remaining : R → Option (List ℕ)) (tells : W → Str
         whole = whole;
       };
       closed = λ closed. closed;
-      writes = WritesOn-grows s.target.writer.log.writes c.writer.log.writes f.grows;
-      flushes = SendsByOneFlush-flush s.target.writer c.writer answer f.steps;
+      wrote = WasFlushed-writes s.target.writer c.writer f;
       steps = f.steps;
       quiet = λ drops. absurd drops;
       moves = record { hands = ReadsAlong-none remaining std_read_rules s.source; takes = went };
       lacks = λ lacks. lacks;
-      answers = flush_answers answer f;
+      sent = WasFlushed-sent s.target.writer c.writer answer f;
     }
 
   -- more is asked for
@@ -281,7 +241,6 @@ module _ {R W : Type 0} (remaining : R → Option (List ℕ)) (tells : W → Str
         → (answer : Result Bool (AskError RunError)) → AskAnswers rules s answer after → FilterAsks rules s answer after
     empty_asked same asked told quiet answer answers = record {
       told = refl;
-      still = IsStill-same s.target.writer s.target.writer refl;
       ready = record {
         capacity = omega (arith, ready.capacity, along.capacity);
         fits = omega (arith, ready.fits, same);
@@ -292,6 +251,7 @@ module _ {R W : Type 0} (remaining : R → Option (List ℕ)) (tells : W → Str
       sent = λ sent. sent;
       asks = (asked, elim asked.asked [ inl same ↦ absurd (told same) | inr over ↦ over.some ]);
       once = record { once = quiet; quiet = λ closed. absurd closed; closed = λ closed. closed };
+      looks = on_err answer tt;
       answers = answers;
     }
 

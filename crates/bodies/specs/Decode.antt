@@ -4,7 +4,7 @@ use Rattle.body_reader.specs.Coding.{Leads}
 use Rattle.chunked.specs.Place.{IsPlace}
 use Rattle.chunked.specs.declared.place.Place.{Place}
 use Rattle.chunked.specs.declared.place.Place.TheVariants.{Line}
-use Rattle.bodies.specs.Words.{StreamLog, IsBodyOfChunks, BreaksAt, chunked, Limits, RunError, HoldsNothingBack, EndsOnce, MetNoFault, ReadFailed, WriterFailed, OverCount, RefusedBeforeCalls, GaveNothing, ReceivedFlushed}
+use Rattle.bodies.specs.Words.{FewFaults, failure_count, StreamLog, IsBodyOfChunks, BreaksAt, chunked, Limits, RunError, HoldsNothingBack, EndsOnce, MetNoFault, ReadFailed, WriterFailed, OverCount, RefusedBeforeCalls, GaveNothing, ReceivedFlushed}
 use Rattle.bodies.specs.declared.error.RunError.TheVariants.{NotChunked, Truncated, Behind, Read, Write, Io}
 use Rattle.programs.specs.Flushes.{FlushesSend}
 
@@ -69,4 +69,5 @@ pub record DecodesBody (limits : Limits) (read read' written written' : StreamLo
   pub ran : DecodeRan limits read read' written written' answer
   pub prompt : HoldsNothingBack (IsDue limits) read read' written written'
   pub once : EndsOnce read.reads read'.reads
+  pub few : FewFaults (failure_count answer) written.writes written'.writes
   pub flushes : FlushesSend 1 written.writes written'.writes

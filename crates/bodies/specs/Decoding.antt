@@ -10,7 +10,7 @@ use Rattle.chunked.specs.declared.place.Place.{Place}
 use Rattle.forward.specs.declared.error.AskError.{AskError}
 use Rattle.forward.specs.declared.error.AskError.TheVariants.{Wrong}
 use Rattle.forward.specs.declared.error.AskError.TheVariants as ask
-use Rattle.bodies.specs.Words.{Error, Flushes, RanDry, WritesInOrder, Buffered, MetInterrupts, SendErrorCaused, std_read_rules, StdPolicy, BodyState, BodyWent, BreaksAt, IsBodyOfChunks, IsBodyReader, TookWholeBody, LooksBehind, chunked, handed_of, taken_count, FilterRules, AllSent, IsStill, taken_in, RunError}
+use Rattle.bodies.specs.Words.{Error, Flushes, RanDry, WritesInOrder, Buffered, std_read_rules, StdPolicy, BodyState, BodyWent, BreaksAt, IsBodyOfChunks, IsBodyReader, TookWholeBody, LooksBehind, chunked, handed_of, taken_count, FilterRules, AllSent, target_of, RunError}
 use Rattle.bodies.specs.Decode.{IsDue}
 use Rattle.bodies.specs.Filters.{Asked}
 use Rattle.bodies.specs.declared.decoding.Decoding.{Decoding}
@@ -63,17 +63,6 @@ pub record HoldsPiece {R W : Type 0} (remaining : R → Option (List ℕ)) (s t 
   pub none : t.held ≡ 0 → NoneBuffered t.source
   pub ready : MayDecode t
 
--- the piece was taken in, or nothing of it, and nothing was flushed. Where it fits behind what is buffered no call is made
-pub record WritesPayload {W : Type 0} (u : Buffered W StdPolicy) (piece : List ℕ) (answer : Result (Unit {0}) Error)
-    (v : Buffered W StdPolicy) : Type 0 where
-  pub answers : MatchResult answer (λ _. WritesInOrder u piece v × MetInterrupts u.log.writes v.log.writes)
-      (λ e. WritesInOrder u [] v × SendErrorCaused u.log.writes v.log.writes e)
-  pub not_flushed : v.log.writes.flushed ≡ u.log.writes.flushed
-  pub flushes : v.log.writes.flushes ≡ u.log.writes.flushes
-  pub fits : length u.block.bytes + length piece ≤ u.block.capacity → v.log ≡ u.log
-  pub capacity : v.block.capacity ≡ u.block.capacity
-  pub target : IsPieceTarget v
-
 -- what an ask answers where no payload came, and where the body ended, by whether the stream did
 abbrev pub ask_error : BodyError Malformed → AskError RunError
 ask_error (body.Wrong why right) = Wrong (NotChunked why right)
@@ -106,7 +95,7 @@ PayloadEnds s (Err other) t = ⊥
 abbrev pub decoding_rules : {R W : Type 0} → (R → Option (List ℕ)) → FilterRules (Decoding R W) RunError
 decoding_rules remaining = record {
   read = λ s. s.source.reader.log;
-  written = λ s. s.target.log;
+  target = λ s. target_of s.target;
   ready = λ s. MayDecode s;
   hands = HandsPayloadPieces remaining;
   takes = λ s pieces t. WritesInOrder s.target (concat pieces) t.target;
@@ -116,11 +105,11 @@ decoding_rules remaining = record {
   -- where a body can be ended, a read of payload asks where none is buffered; nothing here rests on that
   finds = λ s. Unit {0};
   sent = λ s. AllSent s.target;
-  taken = λ s. taken_in s.target;
-  still = λ s t. IsStill s.target t.target;
-  room = λ s. s.target.block.capacity - length s.target.block.bytes;
+  spare = 0;
+  rounds = λ s. 0;
   flushes = λ s answer t. Flushes s.target answer t.target;
   asks = λ s t. AsksPromptly s.source t.source;
+  looks = λ s t. Unit {0};
   wants = λ s. 0;
   ends = λ s how t. (t.held ≡ 0) × PayloadEnds s.source how t.source;
   closed = λ s. ⊥;

@@ -104,7 +104,6 @@ module _ {R W : Type 0} (remaining : R → Option (List ℕ)) where
     ends_after = λ a b c p how hands still end. (end.0, ends_after a b c how (still_open a b still) end.1);
     waits_lacks = λ s waits. (waits.0, inr (inl waits.1));
     waits_fresh = λ s waits sent. record { buffered = waits.1; target = sent.empty; held = waits.0 };
-    received_taken = λ s. omega arith;
     taken_on = λ s t p taken. omega (arith, taken_more s.target t.target (concat p) taken);
     asks_sent = λ first s t p fresh moves still lacks.
         asks_sent first s t p fresh moves (still_open first s still) lacks.0;

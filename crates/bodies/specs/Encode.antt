@@ -2,7 +2,7 @@
 use Rattle.std.specs.Prelude.{◌≡◌, ℕ, ◌+◌, ◌<◌, ◌≤◌, ◌⊎◌, List, [], ◌++◌, length, Result, Ok, Err, MatchResult}
 use Rattle.std.specs.declared.io.Error.{Error}
 use Rattle.programs.specs.Flushes.{FlushesSend}
-use Rattle.bodies.specs.Words.{Buffered, WritesInOrder, MetInterrupts, SendErrorCaused, StreamLog, StdPolicy, IsBodyOfChunks, IsChunks, body_end, Limits, HoldsNothingBack, WritesOn, ReceivedFlushed, AllSent, EndsOnce, MetNoFault, ReadFailed, WriterFailed, OverCount, RefusedBeforeCalls, RunError}
+use Rattle.bodies.specs.Words.{Buffered, FewFaults, failure_count, WritesInOrder, MetInterrupts, SendErrorCaused, StreamLog, StdPolicy, IsBodyOfChunks, IsChunks, body_end, Limits, HoldsNothingBack, WritesOn, ReceivedFlushed, AllSent, EndsOnce, MetNoFault, ReadFailed, WriterFailed, OverCount, RefusedBeforeCalls, RunError}
 use Rattle.bodies.specs.declared.error.RunError.TheVariants.{Read, Write, Io}
 
 -- what is due of these bytes: chunks with all of them
@@ -18,6 +18,7 @@ pub record EndsBody {W : Type 0} (u : Buffered W StdPolicy) (answer : Result (Un
       (λ why. ((end ≡ body_end []) ⊎ (end ≡ []))
       × ((e : Error) × (why ≡ Write e) × SendErrorCaused u.log.writes v.log.writes e))
   pub writes : WritesOn u.log.writes v.log.writes
+  pub few : FewFaults (failure_count answer) u.log.writes v.log.writes
   pub flushes : FlushesSend 0 u.log.writes v.log.writes
   pub once : v.log.writes.flushes ≤ u.log.writes.flushes + 1
 
@@ -86,5 +87,6 @@ pub record Encodes (read read' written written' : StreamLog) (answer : Result (U
   pub ran : EncodeRan read read' written written' answer
   pub prompt : HoldsNothingBack IsDue read read' written written'
   pub once : EndsOnce read.reads read'.reads
+  pub few : FewFaults (failure_count answer) written.writes written'.writes
   pub flushes : FlushesSend 1 written.writes written'.writes
   pub per_ask : written'.writes.flushes + read.reads.asks ≤ written.writes.flushes + read'.reads.asks + 1

@@ -1,7 +1,7 @@
 -- A filter that makes what is given chunks.
 use Rattle.std.specs.Prelude.{◌≡◌, ℕ, ◌+◌, ◌-◌, ◌<◌, ◌≤◌, List, [], length, MatchResult, Option}
 use Rattle.std.specs.List.{concat}
-use Rattle.bodies.specs.Words.{Flushes, ReadsAlong, std_read_rules, ChunksWent, IsChunkedWriter, FilterRules, AllSent, IsStill, around, room, taken_in, RunError}
+use Rattle.bodies.specs.Words.{Flushes, ReadsAlong, std_read_rules, ChunksWent, IsChunkedWriter, FilterRules, AllSent, around, target_of, RunError}
 use Rattle.bodies.specs.Encode.{IsDue}
 use Rattle.bodies.specs.Filters.{Asked}
 use Rattle.bodies.specs.declared.encoding.Encoding.{Encoding}
@@ -18,7 +18,7 @@ pub record MayEncode {R W : Type 0} (s : Encoding R W) : Type 0 where
 abbrev pub encoding_rules : {R W : Type 0} → (R → Option (List ℕ)) → (W → W → Type 0) → FilterRules (Encoding R W) RunError
 encoding_rules remaining trace = record {
   read = λ s. s.source.log;
-  written = λ s. s.target.writer.log;
+  target = λ s. target_of s.target.writer;
   ready = λ s. MayEncode s;
   hands = λ s payloads t. ReadsAlong remaining std_read_rules s.source (concat payloads) t.source;
   takes = λ s payloads t. ChunksWent trace s.target payloads t.target;
@@ -27,11 +27,11 @@ encoding_rules remaining trace = record {
   waits = λ s. s.source.block.bytes ≡ [];
   finds = λ s. ⊥;
   sent = λ s. AllSent s.target.writer;
-  taken = λ s. taken_in s.target.writer;
-  still = λ s t. IsStill s.target.writer t.target.writer;
-  room = λ s. room s.target.writer - around;
+  spare = around;
+  rounds = λ s. 0;
   flushes = λ s answer t. Flushes s.target.writer answer t.target.writer;
   asks = λ s t. Asked (λ bytes. bytes ≡ []) s.source t.source × (s.source.log.reads.asks < t.source.log.reads.asks);
+  looks = λ s t. Unit {0};
   wants = λ s. 0;
   ends = λ s how t. MatchResult how
       (λ _. (t.source.block.bytes ≡ []) × (t.source.log.reads.zero_reads ≡ s.source.log.reads.zero_reads + 1)) (λ why. ⊥);

@@ -52,7 +52,6 @@ module _ {R W : Type 0} (remaining : R → Option (List ℕ)) (trace : W → W �
     ends_after = λ a b c p how hands still end. ends_after a b c how still end;
     waits_lacks = λ s waits. waits;
     waits_fresh = λ s waits sent. (waits, sent.empty);
-    received_taken = λ s. omega arith;
     taken_on = λ s t p taken. omega (arith, taken_more s.target.writer t.target.writer (flat_map chunk p) taken.went.in_order);
     asks_sent = λ first s t p fresh moves still lacks sent asked. asks_sent first s t p fresh moves still sent asked.0;
   }

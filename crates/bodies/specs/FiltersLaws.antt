@@ -1,5 +1,5 @@
 -- How many bytes payloads have; asks behind what was taken; and one fill.
-use Rattle.std.proofs.Common.{◌≡◌, zero, suc, ◌+◌, ◌<◌, ◌≤◌, ◌==◌, ◌⊎◌, inl, inr, true, ℕ, List, [], ◌∷◌, ◌++◌, All, length, length-append, Result, Ok, Err, ap, sym, subst, ◌∙◌, arith, append_assoc}
+use Rattle.std.proofs.Common.{◌≡◌, zero, suc, ◌+◌, ◌<◌, ◌≤◌, ◌==◌, ◌⊎◌, inl, inr, true, ℕ, List, [], ◌∷◌, ◌++◌, All, length, length-append, Result, Ok, Err, OnErr, ap, sym, subst, ◌∙◌, arith, append_assoc}
 use Rattle.std.specs.List.{concat}
 use Rattle.std.proofs.lemmas.Bool.Decides.{nat_tests}
 use Rattle.std.proofs.lemmas.List.{nil_from_length}
@@ -23,6 +23,11 @@ each_some (payload ∷ payloads) some = omega (
   each_some payloads (All-tail (λ p. 0 < length p) payload payloads some),
   length-append payload (concat payloads),
 )
+
+-- what holds anyway holds at an error
+pub on_err : {A E : Type 0} (answer : Result A E) {P : Type 0} → P → OnErr answer P
+on_err (Ok a) is = tt
+on_err (Err e) is = is
 
 module _ {R : Type 0} (Such : List ℕ → Type 0) (s t : Buffered R StdPolicy) (asked : Asked Such s t) where
   -- where a read failed, each other ask gave a byte

@@ -14,8 +14,10 @@ pub use Rattle.chunked.specs.Chunk.{IsCarried, IsChunks, body_end, chunk, size_d
 pub use Rattle.chunked.specs.Coding.{BreaksAt, chunked}
 pub use Rattle.chunked.specs.ChunkedWriter.{ChunkedWriterState, ChunksWent, IsChunkedWriter, WritesChunk, around, unbegun}
 pub use Rattle.chunked.specs.declared.limits.Limits.{Limits}
-pub use Rattle.forward.specs.Filter.{AskAnswers, AsksSent, FilterAsks, FilterFlushes, FilterPasses, FilterRules, FlushAnswers, IsLawful, Moves, NeverGaveNothing, StaysOpen}
+pub use Rattle.forward.specs.Filter.{AskAnswers, AsksSent, FilterAsks, FilterFlushes, FilterPasses, FilterRules, IsLawful, Moves, NeverGaveNothing, StaysOpen}
 pub use Rattle.programs.specs.Prompt.{AskedLast, AsksGiveOrFail, HoldsNothingBack, WritesOn}
 pub use Rattle.programs.specs.Streams.{AllSent, EndsOnce, GaveNothing, MetNoFault, OverCount, ReadFailed, ReceivedFlushed, RefusedBeforeCalls, WriterFailed}
-pub use Rattle.programs.specs.TakenIn.{IsStill, IsStill-same, frees_received, sent_all, taken_in, taken_more}
+pub use Rattle.forward.specs.Streams.{FewFaults}
+pub use Rattle.forward.specs.Target.{failure_count}
+pub use Rattle.programs.specs.TakenIn.{TakesAll, sent_all, taken_more, target_of}
 pub use Rattle.std.specs.declared.io.Error.{Error}

@@ -3,7 +3,7 @@ ghost use Rattle.std.specs.Prelude.{◌≡◌, ◌≤◌, length, take};
 ghost use Rattle.buffer_redux.specs.Policy.{std_read_rules};
 ghost use Rattle.body_reader.specs.BodyReader.{BodyWent, IsBodyReader};
 ghost use Rattle.chunked.specs.Coding.{chunked};
-ghost use Rattle.bodies.specs.Decoding.{HoldsPiece, IsPieceTarget, LooksOn, MayDecode, NoneBuffered, WritesPayload, ask_error, decoding_rules};
+ghost use Rattle.bodies.specs.Decoding.{HoldsPiece, LooksOn, MayDecode, NoneBuffered, ask_error, decoding_rules};
 ghost use Rattle.bodies.specs.DecodingLaws.{decoding_lawful};
 
 use crate::error::RunError;
@@ -11,7 +11,7 @@ use buffer_redux::BufWriter;
 use buffer_redux::tell::{TellRead, TellWrite};
 use chunked::{ChunkedError, ChunkedReader};
 use forward::{AskError, Filter};
-use programs::make_room;
+use programs::put_all;
 use std::io;
 use std::io::Write;
 
@@ -42,7 +42,7 @@ impl<R: TellRead, W: TellWrite> Filter for Decoding<R, W> {
         if self.held == 0 {
             return Ok(false);
         }
-        write_piece(&mut self.target, &self.piece.as_slice()[..self.held])?;
+        put_all(&mut self.target, &self.piece.as_slice()[..self.held], b"")?;
         self.held = 0;
         Ok(true)
     }
@@ -89,17 +89,6 @@ fn read_held<R: TellRead>(source: &mut ChunkedReader<R>, piece: &mut [u8]) -> us
     ensures whole { IsBodyReader (chunked source.new.coding.0) source.new }
 {
     source.read_buffered(&mut piece[..HELD])
-}
-
-// Takes the piece in, or nothing of it where room can't be had.
-fn write_piece<W: TellWrite>(target: &mut BufWriter<W>, piece: &[u8]) -> io::Result<()>
-    requires target { IsPieceTarget target.old }
-    requires fits { length piece.now ≤ PIECE }
-    ensures { WritesPayload target.old piece.now result target.new }
-{
-    make_room(target, piece.len())?;
-    target.put(piece);
-    Ok(())
 }
 
 // Asks whether the stream ends with the body: nothing may follow.

@@ -5,6 +5,7 @@ use Rattle.forward.specs.Flushes.{FlushesSend}
 use Rattle.forward.specs.Forward.{Forwarded, NoneFailed}
 use Rattle.forward.specs.Link.{Ask, Goes, Linked, NoneGaveUp}
 use Rattle.forward.specs.Steps.{AlsoAsked}
+use Rattle.forward.specs.Target.{bytes_taken}
 
 module _ {T W : Type 0} (rules : FilterRules T W) where
   -- `count` payloads went over, by asks of this kind, in each of which the stream was asked
@@ -19,6 +20,6 @@ module _ {T W : Type 0} (rules : FilterRules T W) where
 
   -- a byte was taken in behind each flush, or the next flush is none; and one was received, but for one flush at most
   pub record Paced (first s : T) : Type 0 where
-    pub take : ((rules.written s).writes.flushes + length (rules.written first).writes.received
-        ≤ (rules.written first).writes.flushes + rules.taken s) ⊎ (rules.drops × rules.sent s)
-    pub send : FlushesSend 1 (rules.written first).writes (rules.written s).writes
+    pub take : ((rules.target s).log.writes.flushes + length (rules.target first).log.writes.received
+        ≤ (rules.target first).log.writes.flushes + bytes_taken (rules.target s)) ⊎ (rules.drops × rules.sent s)
+    pub send : FlushesSend 1 (rules.target first).log.writes (rules.target s).log.writes

@@ -8,6 +8,7 @@ use Rattle.forward.specs.Flushes.{FlushesSend}
 use Rattle.forward.specs.Forward.{Forwards, flushed_last}
 use Rattle.forward.specs.Link.{Ask, EndsInterrupted, Goes, IsPrompt, Linked}
 use Rattle.forward.specs.Steps.{AlsoAsked, AskedFrom, AskedTo, ForwardsNext, StepAnswers}
+use Rattle.forward.specs.Target.{bytes_taken}
 use Rattle.forward.specs.StreamsLaws.{MetNoFault-none}
 use Rattle.forward.specs.declared.error.Cause.{Cause}
 use Rattle.forward.specs.declared.error.Cause.TheVariants.{Count}
@@ -27,18 +28,18 @@ module _ {T W : Type 0} (rules : FilterRules T W) (lawful : IsLawful rules) wher
       once = AsksOnce-none rules first.filter first.filter refl (λ closed. closed);
       still = StaysOpen-none rules first.filter first.filter refl;
       forwarded = none_forwarded rules lawful first.filter first.filter (Moves-none rules lawful first.filter);
-      met = MetNoFault-none (rules.read first.filter) (rules.written first.filter);
+      met = MetNoFault-none (rules.read first.filter) (rules.target first.filter).log;
       ready = ready;
     }
 
     pub paced_none : Paced rules first.filter first.filter
     paced_none =
-        record { take = inl (omega (arith, lawful.received_taken first.filter)); send = omega arith }
+        record { take = inl (omega arith); send = omega arith }
 
     module _ (count : ℕ) (s t : Linked T) (before : SoFar rules Prompt count first s)
         (paced : Paced rules first.filter s.filter) where
       flushes_on : (answer : Result Bool (Cause W)) → ForwardsNext rules s answer t
-          → FlushesSend 1 (rules.written first.filter).writes (rules.written t.filter).writes
+          → FlushesSend 1 (rules.target first.filter).log.writes (rules.target t.filter).log.writes
       flushes_on answer next = elim paced.take [
         | inl take ↦ elim next.flushes [
           | inl same ↦ omega (arith, paced.send, same, next.received)
@@ -48,12 +49,13 @@ module _ {T W : Type 0} (rules : FilterRules T W) (lawful : IsLawful rules) wher
       ]
 
       -- no less was taken in
-      taken_on : ForwardsNext rules s (Ok true) t → rules.taken s.filter ≤ rules.taken t.filter
+      taken_on : ForwardsNext rules s (Ok true) t → bytes_taken (rules.target s.filter) ≤ bytes_taken (rules.target t.filter)
       taken_on next = lawful.taken_on s.filter t.filter next.answers.0.payloads next.answers.0.moves.takes
 
       abbrev Take : Type 0
-      Take = ((rules.written t.filter).writes.flushes + length (rules.written first.filter).writes.received
-          ≤ (rules.written first.filter).writes.flushes + rules.taken t.filter) ⊎ (rules.drops × rules.sent t.filter)
+      Take = ((rules.target t.filter).log.writes.flushes + length (rules.target first.filter).log.writes.received
+          ≤ (rules.target first.filter).log.writes.flushes + bytes_taken (rules.target t.filter))
+          ⊎ (rules.drops × rules.sent t.filter)
 
       take_on : ForwardsNext rules s (Ok true) t → Take
       take_on next = elim next.more [
@@ -66,7 +68,6 @@ module _ {T W : Type 0} (rules : FilterRules T W) (lawful : IsLawful rules) wher
             arith,
             paced.send,
             next.quiet sent.0 sent.1,
-            lawful.received_taken s.filter,
             more,
           ))
         ]

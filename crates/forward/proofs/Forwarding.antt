@@ -1,16 +1,17 @@
 -- What is done for one payload, behind those that went over before.
-use Rattle.std.proofs.Common.{inl, inr, length, ◌≡◌, ◌⊎◌, ℕ, ◌+◌, ◌≤◌, List, [], ◌∷◌, ◌++◌, Bool, true, false, Result, Ok, Err, refl, sym, ap, subst, ◌∙◌, arith}
+use Rattle.std.proofs.Common.{inl, inr, length, ◌≡◌, ◌⊎◌, ℕ, ◌+◌, ◌≤◌, List, [], ◌∷◌, ◌++◌, Bool, true, false, Result, Ok, Err, refl, sym, ap, subst, ◌∙◌, arith, length-append}
 use Rattle.std.proofs.lemmas.List.Elements.{All-append, All-cons, All-nil}
 use Rattle.std.specs.Option.{option_map_or}
 use Rattle.std.specs.Result.{result_err}
 use Rattle.std.specs.declared.io.Error.{Error}
-use Rattle.redux_buffer.specs.Faults.{MetInterrupts, OnlyInterrupts, OnlyInterrupts-joins, OnlyInterrupts-same}
-use Rattle.forward.specs.Filter.{AsksOnce, FilterRules, FlushesOnce, IsLawful, Moves, StaysOpen, WritesOnlyInterrupted}
+use Rattle.redux_buffer.specs.Faults.{MetInterrupts, OnlyInterrupts, OnlyInterrupts-same}
+use Rattle.forward.specs.Filter.{AsksOnce, FilterRules, IsLawful, Moves, StaysOpen}
 use Rattle.forward.specs.Forward.{NoneFailed, flushed_last}
 use Rattle.forward.specs.Link.{Ask, EndsInterrupted, Goes, LinkFlushes, LinkPasses, Linked, NoneGaveUp, NotAsked}
 use Rattle.forward.specs.Steps.{AlsoAsked, AskedFrom, AskedTo, ForwardsNext, GivesUp, GoesAhead, IsQuiet, OnTrue, ReadsOnlyInterrupted, StepAnswers, TakesTurn}
 use Rattle.forward.specs.Streams.{ReadGaveUp}
 use Rattle.forward.specs.StreamsLaws.{MetNoFault-joins, ReadFailed-after, WriterFailed-after}
+use Rattle.forward.specs.Target.{FlushesOnce, InterruptedLast, bytes_taken, failure_count}
 use Rattle.forward.specs.declared.error.AskError.{AskError}
 use Rattle.forward.specs.declared.error.AskError.TheVariants as asked
 use Rattle.forward.specs.declared.error.Cause.{Cause}
@@ -20,12 +21,13 @@ use Rattle.forward.proofs.Moving.{AsksOnce-joins, AsksOnce-none, first_joins, fo
 
 module _ {T W : Type 0} (rules : FilterRules T W) where
   -- the writer was flushed once at most
-  once_more : (s t : T) → FlushesOnce rules s t
-      → (rules.written t).writes.flushes ≤ (rules.written s).writes.flushes + 1
+  once_more : (s t : T) → FlushesOnce (rules.target s) (rules.target t)
+      → (rules.target t).log.writes.flushes ≤ (rules.target s).log.writes.flushes + 1
   once_more s t (inl same) = omega (arith, same)
   once_more s t (inr one) = omega (arith, one.0)
 
-  met_writes : (s t : T) → rules.read t ≡ rules.read s → WritesOnlyInterrupted rules s t → NoneFailed rules s t
+  met_writes : (s t : T) → rules.read t ≡ rules.read s
+      → MetInterrupts (rules.target s).log.writes (rules.target t).log.writes → NoneFailed rules s t
   met_writes s t told met = record {
     reader = OnlyInterrupts-same (rules.read s).reads.faults (rules.read t).reads.faults (ap (λ l. l.reads.faults) told);
     writer = met;
@@ -36,8 +38,20 @@ module _ {T W : Type 0} (rules : FilterRules T W) where
     module _ (Such : Ask T → Type 0) (count : ℕ) (first s t : Linked T) (before : SoFar rules Such count first s)
         (so : (ask : Ask T) → AskedFrom rules s.filter ask → Such ask) where
       met_on : NoneFailed rules s.filter t.filter → NoneFailed rules first.filter t.filter
-      met_on = MetNoFault-joins (rules.read first.filter) (rules.read s.filter) (rules.read t.filter)
-          (rules.written first.filter) (rules.written s.filter) (rules.written t.filter) before.met
+      met_on = MetNoFault-joins before.met
+
+      -- no fault is taken back
+      often_on : (e : Error) → InterruptedLast (rules.target s.filter) e (rules.target t.filter)
+          → InterruptedLast (rules.target first.filter) e (rules.target t.filter)
+      often_on e often is = elim (often is) [
+        | inl many ↦ inl (omega (
+          arith,
+          many,
+          ap length before.met.writer.only.faults,
+          length-append (rules.target first.filter).log.writes.faults before.met.writer.interrupts,
+        ))
+        | inr none ↦ inr none
+      ]
 
       behind : (answer : Result Bool (Cause W)) → AsksOnce rules s.filter t.filter
           → StepAnswers rules 0 s.filter answer t.filter → StepAnswers rules count first.filter answer t.filter
@@ -65,19 +79,13 @@ module _ {T W : Type 0} (rules : FilterRules T W) where
         next.1,
         next.2,
         next.3,
-        ReadFailed-after e (rules.read first.filter) (rules.read s.filter) (rules.read t.filter) (rules.written first.filter)
-            (rules.written s.filter) (rules.written t.filter) before.met next.4,
+        ReadFailed-after before.met next.4,
       )
       behind (Err (Write e)) once next = (
         first_joins rules lawful first.filter s.filter t.filter count before.forwarded next.0,
         elim next.1 [
-          | inl failed ↦ inl (WriterFailed-after e (rules.read first.filter) (rules.read s.filter) (rules.read t.filter)
-              (rules.written first.filter) (rules.written s.filter) (rules.written t.filter) before.met failed)
-          | inr (only, refused) ↦ inr (
-            OnlyInterrupts-joins (rules.read first.filter).reads.faults (rules.read s.filter).reads.faults
-                (rules.read t.filter).reads.faults before.met.reader only,
-            refused,
-          )
+          | inl failed ↦ inl (WriterFailed-after before.met failed.0, often_on e failed.1)
+          | inr (met, refused) ↦ inr (met_on met, refused)
         ],
       )
       behind (Err Count) once next = absurd (omega (arith, next.1))
@@ -120,7 +128,7 @@ module _ {T W : Type 0} (rules : FilterRules T W) where
     }
 
     -- behind what took nothing
-    module _ (a b c : T) (less : rules.taken a ≤ rules.taken b)
+    module _ (a b c : T) (less : bytes_taken (rules.target a) ≤ bytes_taken (rules.target b))
         (dropped : rules.drops → IsQuiet rules b c → IsQuiet rules a c ⊎ rules.sent c) where
       ahead_after : GoesAhead rules b c → GoesAhead rules a c
       ahead_after (inl more) = inl (omega (arith, less, more))
@@ -139,59 +147,63 @@ module _ {T W : Type 0} (rules : FilterRules T W) where
       unread told = OnlyInterrupts-same (rules.read s.filter).reads.faults (rules.read m.filter).reads.faults
           (ap (λ l. l.reads.faults) told)
 
-      abbrev unasked : (Such : Ask T → Type 0) (more : ℕ) (answer : Result Bool Error) → LinkPasses rules s answer m
-          → Goes rules Such more s m
-      unasked Such more answer p =
-          Goes-unasked rules Such more s m (record { told = p.passes.told; writes = p.passes.writes }) p.noted
-          (omega (arith, p.passes.flushes))
+      abbrev unasked : (Such : Ask T → Type 0) (answer : Result Bool Error) → LinkPasses rules s answer m
+          → Goes rules Such (failure_count answer) s m
+      unasked Such answer p =
+          Goes-unasked rules Such (failure_count answer) s m
+          (record { told = p.passes.told; writes = p.passes.wrote.writes }) p.noted (omega (arith, p.passes.wrote.flushes))
+          p.passes.wrote.few
 
       unasked_once : (answer : Result Bool Error) → LinkPasses rules s answer m → AsksOnce rules s.filter m.filter
       unasked_once answer p = AsksOnce-none rules s.filter m.filter p.passes.told p.passes.closed
 
       pub passed : LinkPasses rules s (Ok true) m → ForwardsNext rules s (Ok true) m
       passed p = record {
-        goes = unasked (AlsoAsked rules (AskedFrom rules s.filter)) 0 (Ok true) p;
+        goes = unasked (AlsoAsked rules (AskedFrom rules s.filter)) (Ok true) p;
         not_given_up = All-nil (λ turn. ¬ (EndsInterrupted rules turn));
         once = unasked_once (Ok true) p;
-        flushes = inl p.passes.flushes;
-        quiet = λ drops sent. p.passes.flushes;
-        more = elim p.passes.answers.3 [ inl more ↦ inl more | inr (drops, still) ↦ inr (drops, inl (p.passes.flushes, still)) ];
-        received = longer rules s.filter m.filter p.passes.writes;
+        flushes = inl p.passes.wrote.flushes;
+        quiet = λ drops sent. p.passes.wrote.flushes;
+        more = elim p.passes.answers.2 [
+          | inl more ↦ inl more
+          | inr (drops, still) ↦ inr (drops, inl (p.passes.wrote.flushes, still))
+        ];
+        received = longer p.passes.wrote.writes;
         ready = p.passes.ready;
         answers = (
           record { payloads = p.passes.answers.0 ∷ []; moves = p.passes.answers.1; all = refl },
-          met_writes s.filter m.filter p.passes.told p.passes.answers.2,
+          met_writes s.filter m.filter p.passes.told p.passes.wrote.ended,
           StaysOpen-none rules s.filter m.filter p.passes.told,
         );
       }
 
       pub not_passed : (e : Error) → LinkPasses rules s (Err e) m → ForwardsNext rules s (Err (Write e)) m
       not_passed e p = record {
-        goes = unasked (AskedFrom rules s.filter) 1 (Err e) p;
+        goes = unasked (AskedFrom rules s.filter) (Err e) p;
         not_given_up = tt;
         once = unasked_once (Err e) p;
-        flushes = inl p.passes.flushes;
-        quiet = λ drops sent. p.passes.flushes;
+        flushes = inl p.passes.wrote.flushes;
+        quiet = λ drops sent. p.passes.wrote.flushes;
         more = tt;
-        received = longer rules s.filter m.filter p.passes.writes;
+        received = longer p.passes.wrote.writes;
         ready = p.passes.ready;
         answers = (
-          none_first rules lawful s.filter m.filter p.passes.answers.0 p.passes.answers.1 p.passes.answers.3,
-          elim p.passes.answers.2 [
-            | inl failed ↦ inl (record { reader = unread p.passes.told; writer = failed })
-            | inr refused ↦ inr (unread p.passes.told, refused)
+          none_first rules lawful s.filter m.filter p.passes.answers.0 p.passes.answers.1 p.passes.answers.2,
+          elim p.passes.wrote.ended [
+            | inl failed ↦ inl (record { reader = unread p.passes.told; writer = failed.0 }, λ is. inl (failed.1 is))
+            | inr (met, refused) ↦ inr (met_writes s.filter m.filter p.passes.told met, refused)
           ],
         );
       }
 
       none_passed : (Such : Ask T → Type 0) → LinkPasses rules s (Ok false) m → SoFar rules Such 0 s m
       none_passed Such p = record {
-        goes = unasked (AlsoAsked rules Such) 0 (Ok false) p;
+        goes = unasked (AlsoAsked rules Such) (Ok false) p;
         not_given_up = All-nil (λ turn. ¬ (EndsInterrupted rules turn));
         once = unasked_once (Ok false) p;
         still = StaysOpen-none rules s.filter m.filter p.passes.told;
         forwarded = none_forwarded rules lawful s.filter m.filter p.passes.answers.0;
-        met = met_writes s.filter m.filter p.passes.told p.passes.answers.1;
+        met = met_writes s.filter m.filter p.passes.told p.passes.wrote.ended;
         ready = p.passes.ready;
       }
 
@@ -207,20 +219,20 @@ module _ {T W : Type 0} (rules : FilterRules T W) where
             not_given_up = not_given_up_on Such 0 s m t before so answer next;
             once = once_on Such 0 s m t before so answer next;
             flushes = elim next.flushes [
-              | inl same ↦ inl (same ∙ p.passes.flushes)
-              | inr one ↦ inr (omega (arith, one.0, p.passes.flushes), omega (arith, one.1, less))
+              | inl same ↦ inl (same ∙ p.passes.wrote.flushes)
+              | inr one ↦ inr (omega (arith, one.0, p.passes.wrote.flushes), omega (arith, one.1, less))
             ];
-            quiet = λ drops sent. next.quiet drops (p.passes.answers.4 drops sent) ∙ p.passes.flushes;
+            quiet = λ drops sent. next.quiet drops (p.passes.answers.3 drops sent) ∙ p.passes.wrote.flushes;
             more = more_after s.filter m.filter t.filter less
-                (λ drops quiet. inl (quiet.0 ∙ p.passes.flushes, λ sent. quiet.1 (p.passes.answers.4 drops sent))) answer
+                (λ drops quiet. inl (quiet.0 ∙ p.passes.wrote.flushes, λ sent. quiet.1 (p.passes.answers.3 drops sent))) answer
                 next.more;
-            received = omega (arith, longer rules s.filter m.filter p.passes.writes, next.received);
+            received = omega (arith, longer p.passes.wrote.writes, next.received);
             ready = next.ready;
             answers = answers_on Such 0 s m t before so answer next;
           }
 
       flush_unasked : (answer : Result (Unit {0}) Error) → LinkFlushes rules s answer m → NotAsked rules s.filter m.filter
-      flush_unasked answer p = record { told = p.flushes.told; writes = p.flushes.writes }
+      flush_unasked answer p = record { told = p.flushes.told; writes = p.flushes.wrote.writes }
 
       flush_once : (answer : Result (Unit {0}) Error) → LinkFlushes rules s answer m → AsksOnce rules s.filter m.filter
       flush_once answer p = AsksOnce-none rules s.filter m.filter p.flushes.told p.flushes.closed
@@ -228,17 +240,17 @@ module _ {T W : Type 0} (rules : FilterRules T W) where
       pub not_flushed : (e : Error) → LinkFlushes rules s (Err e) m → ForwardsNext rules s (Err (Write e)) m
       not_flushed e p = record {
         goes = Goes-unasked rules (AskedFrom rules s.filter) 1 s m (flush_unasked (Err e) p) p.noted
-            (once_more s.filter m.filter p.flushes.flushes);
+            (once_more s.filter m.filter p.flushes.wrote.flushes) p.flushes.wrote.few;
         not_given_up = tt;
         once = flush_once (Err e) p;
-        flushes = p.flushes.flushes;
+        flushes = p.flushes.wrote.flushes;
         quiet = p.flushes.quiet;
         more = tt;
-        received = longer rules s.filter m.filter p.flushes.writes;
+        received = longer p.flushes.wrote.writes;
         ready = p.flushes.ready;
         answers = (
           none_first rules lawful s.filter m.filter [] p.flushes.moves (omega arith),
-          inl (record { reader = unread p.flushes.told; writer = p.flushes.answers }),
+          inl (record { reader = unread p.flushes.told; writer = p.flushes.wrote.ended.0 }, p.flushes.wrote.ended.1),
         );
       }
 
@@ -255,15 +267,15 @@ module _ {T W : Type 0} (rules : FilterRules T W) where
           (asked_after s.filter m.filter p.flushes.moves (flush_once s m (Ok tt) p)
           (StaysOpen-none rules s.filter m.filter p.flushes.told)) answer) more s t
           (Goes-turn rules (AskedTo rules answer (AskedFrom rules m.filter)) more s m t (flush_unasked s m (Ok tt) p) p.noted
-          (once_more s.filter m.filter p.flushes.flushes) turn.told turn.asks turn.noted turn.along turn.turn turn.each
-          turn.asked)
+          (once_more s.filter m.filter p.flushes.wrote.flushes) p.flushes.wrote.few turn.told turn.asks turn.noted turn.along
+          turn.turn turn.each turn.asked)
 
       once : AsksOnce rules s.filter t.filter
       once = AsksOnce-joins rules s.filter m.filter t.filter (flush_once s m (Ok tt) p)
           (StaysOpen-none rules s.filter m.filter p.flushes.told) turn.once
 
-      wrote : WritesOnlyInterrupted rules s.filter t.filter
-      wrote = subst (λ l. MetInterrupts (rules.written s.filter).writes l.writes) (sym turn.told) p.flushes.answers.1
+      wrote : MetInterrupts (rules.target s.filter).log.writes (rules.target t.filter).log.writes
+      wrote = subst (λ w. MetInterrupts (rules.target s.filter).log.writes w.log.writes) (sym turn.told) p.flushes.wrote.ended
 
       met : ReadsOnlyInterrupted rules m.filter t.filter → NoneFailed rules s.filter t.filter
       met only = record {
@@ -271,21 +283,15 @@ module _ {T W : Type 0} (rules : FilterRules T W) where
         writer = wrote;
       }
 
-      flushes : FlushesOnce rules s.filter t.filter
-      flushes = elim p.flushes.flushes [
-        | inl same ↦ inl (ap (λ l. l.writes.flushes) turn.told ∙ same)
-        | inr one ↦ inr (
-          ap (λ l. l.writes.flushes) turn.told ∙ one.0,
-          omega (arith, one.1, ap (λ l. length l.writes.received) turn.told),
-        )
-      ]
+      flushes : FlushesOnce (rules.target s.filter) (rules.target t.filter)
+      flushes = subst (FlushesOnce (rules.target s.filter)) (sym turn.told) p.flushes.wrote.flushes
 
-      received : length (rules.written s.filter).writes.received ≤ length (rules.written t.filter).writes.received
-      received = omega (arith, longer rules s.filter m.filter p.flushes.writes, ap (λ l. length l.writes.received) turn.told)
+      received : length (rules.target s.filter).log.writes.received ≤ length (rules.target t.filter).log.writes.received
+      received = omega (arith, longer p.flushes.wrote.writes, ap (λ w. length w.log.writes.received) turn.told)
 
       quiet : rules.drops → rules.sent s.filter
-          → (rules.written t.filter).writes.flushes ≡ (rules.written s.filter).writes.flushes
-      quiet drops sent = ap (λ l. l.writes.flushes) turn.told ∙ p.flushes.quiet drops sent
+          → (rules.target t.filter).log.writes.flushes ≡ (rules.target s.filter).log.writes.flushes
+      quiet drops sent = ap (λ w. w.log.writes.flushes) turn.told ∙ p.flushes.quiet drops sent
 
       ended : (next : Result Bool (Cause W))
           → ((ask : Ask T) → AskedTo rules answer (AskedFrom rules s.filter) ask
@@ -360,7 +366,7 @@ module _ {T W : Type 0} (rules : FilterRules T W) where
         }
 
         then_moved : (u : Linked T) (answer : Result Bool (Cause W)) → ForwardsNext rules t answer u
-            → (rules.written u.filter).writes.flushes ≡ (rules.written t.filter).writes.flushes → ForwardsNext rules s answer u
+            → (rules.target u.filter).log.writes.flushes ≡ (rules.target t.filter).log.writes.flushes → ForwardsNext rules s answer u
         then_moved u answer next unflushed =
             let Such = AskedFrom rules s.filter in
             let so = asked_after s.filter t.filter (moves s m t p (Ok true) turn) came.once came.still in
@@ -382,9 +388,9 @@ module _ {T W : Type 0} (rules : FilterRules T W) where
             }
 
         pub came_passed : (u : Linked T) (moved : Bool) → LinkPasses rules t (Ok moved) u → ForwardsNext rules s (Ok moved) u
-        came_passed u true q = then_moved u (Ok true) (passed t u q) q.passes.flushes
-        came_passed u false q = absurd (q.passes.answers.3 turn.answers.0)
+        came_passed u true q = then_moved u (Ok true) (passed t u q) q.passes.wrote.flushes
+        came_passed u false q = absurd (q.passes.answers.2 turn.answers.0)
 
         pub came_not_passed : (u : Linked T) (e : Error) → LinkPasses rules t (Err e) u
             → ForwardsNext rules s (Err (Write e)) u
-        came_not_passed u e q = then_moved u (Err (Write e)) (not_passed t u e q) q.passes.flushes
+        came_not_passed u e q = then_moved u (Err (Write e)) (not_passed t u e q) q.passes.wrote.flushes

@@ -2,23 +2,20 @@
 use Rattle.std.proofs.Common.{◌≡◌, ℕ, ◌+◌, ◌≤◌, Bool, true, false, Result, Ok, Err, inl, inr, List, [], ◌∷◌, ◌++◌, length, refl, sym, ap, subst, ◌∙◌, arith, append-nil, append_assoc, length-append, All, flat_map}
 use Rattle.std.proofs.lemmas.Grind.{flat_map-append}
 use Rattle.std.proofs.lemmas.List.Elements.{All-append, All-cons, All-head, All-nil, All-tail, All-weaker}
+use Rattle.redux_buffer.specs.StreamLog.{WriteLog}
 use Rattle.forward.specs.Filter.{AsksOnce, FilterRules, IsLawful, Moves, StaysOpen, WasAsked}
 use Rattle.forward.specs.Forward.{Forwarded, ForwardedFirst}
 use Rattle.forward.specs.Link.{Ask, AreTurns, AskedBefore, AsksAlong, EndsInterrupted, GivesUpLast, Goes, IsAsk, IsTurn, Linked, NoneGaveUp, NotAsked, states_of}
 use Rattle.forward.specs.Prompt.{AsksGiveOrFail, WritesOn}
 use Rattle.forward.specs.Steps.{AlsoAsked, AskedTo}
+use Rattle.forward.specs.Streams.{FewFaults}
 use Rattle.forward.specs.PromptLaws.{AsksGiveOrFail-joins, AsksGiveOrFail-none, WritesOn-none, WritesOn-joins}
 
-module _ {T W : Type 0} (rules : FilterRules T W) where
-  -- what was received goes on
-  pub longer : (s t : T) → WritesOn (rules.written s).writes (rules.written t).writes
-      → length (rules.written s).writes.received ≤ length (rules.written t).writes.received
-  longer s t writes = omega (
-    arith,
-    ap length writes.received.equal,
-    length-append (rules.written s).writes.received writes.received.more,
-  )
+-- what was received goes on
+pub longer : {old new : WriteLog} → WritesOn old new → length old.received ≤ length new.received
+longer {old} writes = omega (arith, ap length writes.received.equal, length-append old.received writes.received.more)
 
+module _ {T W : Type 0} (rules : FilterRules T W) where
   -- asks that came to an answer are such others
   pub so_asked : {E : Type 0} (Such Other : Ask T → Type 0) → ((ask : Ask T) → Such ask → Other ask) → (answer : Result Bool E)
       (ask : Ask T) → AskedTo rules answer Such ask → AskedTo rules answer Other ask
@@ -113,12 +110,12 @@ module _ {T W : Type 0} (rules : FilterRules T W) where
   StaysOpen-joins a b c (inr closed) once second = inr (once.closed closed)
 
   pub NotAsked-none : (s : T) → NotAsked rules s s
-  NotAsked-none s = record { told = refl; writes = WritesOn-none (rules.written s).writes }
+  NotAsked-none s = record { told = refl; writes = WritesOn-none (rules.target s).log.writes }
 
   pub NotAsked-joins : (a b c : T) → NotAsked rules a b → NotAsked rules b c → NotAsked rules a c
   NotAsked-joins a b c first second = record {
     told = second.told ∙ first.told;
-    writes = WritesOn-joins (rules.written a).writes (rules.written b).writes (rules.written c).writes first.writes
+    writes = WritesOn-joins (rules.target a).log.writes (rules.target b).log.writes (rules.target c).log.writes first.writes
         second.writes;
   }
 
@@ -193,8 +190,9 @@ module _ {T W : Type 0} (rules : FilterRules T W) where
   module _ (Such : Ask T → Type 0) where
     -- the stream was not asked
     abbrev pub Goes-unasked : (more : ℕ) (s t : Linked T) → NotAsked rules s.filter t.filter → t.states ≡ s.states
-        → (rules.written t.filter).writes.flushes ≤ (rules.written s.filter).writes.flushes + more → Goes rules Such more s t
-    Goes-unasked more s t none same flushes = record {
+        → (rules.target t.filter).log.writes.flushes ≤ (rules.target s.filter).log.writes.flushes + more
+        → FewFaults more (rules.target s.filter).log.writes (rules.target t.filter).log.writes → Goes rules Such more s t
+    Goes-unasked more s t none same flushes few = record {
       asks = [];
       noted = same ∙ sym (append-nil s.states);
       along = none;
@@ -202,25 +200,33 @@ module _ {T W : Type 0} (rules : FilterRules T W) where
       each = All-nil Such;
       asked = tt;
       flushes = omega (arith, flushes);
+      few = few;
     }
 
     abbrev pub Goes-none : (s : Linked T) → Goes rules Such 0 s s
-    Goes-none s = Goes-unasked 0 s s (NotAsked-none s.filter) refl (omega arith)
+    Goes-none s = Goes-unasked 0 s s (NotAsked-none s.filter) refl (omega arith) (omega arith)
 
     -- the writer was flushed at most, and then it was asked in one turn
     abbrev pub Goes-turn : (more : ℕ) (s m t : Linked T) → NotAsked rules s.filter m.filter → m.states ≡ s.states
-        → (rules.written m.filter).writes.flushes ≤ (rules.written s.filter).writes.flushes + 1
-        → rules.written t.filter ≡ rules.written m.filter → (asks : List (Ask T)) → t.states ≡ m.states ++ states_of asks
+        → (rules.target m.filter).log.writes.flushes ≤ (rules.target s.filter).log.writes.flushes + 1
+        → FewFaults 0 (rules.target s.filter).log.writes (rules.target m.filter).log.writes
+        → rules.target t.filter ≡ rules.target m.filter → (asks : List (Ask T)) → t.states ≡ m.states ++ states_of asks
         → AsksAlong rules m.filter asks t.filter → IsTurn rules asks → All Such asks → AskedBefore rules asks
         → Goes rules Such more s t
-    Goes-turn more s m t none same flushed told asks noted along turn each asked = record {
+    Goes-turn more s m t none same flushed few told asks noted along turn each asked = record {
       asks = asks;
       noted = noted ∙ ap (λ l. l ++ states_of asks) same;
       along = along_after s.filter m.filter t.filter asks none along;
       turns = one_turn asks turn;
       each = each;
       asked = asked;
-      flushes = omega (arith, flushed, ap (λ l. l.writes.flushes) told);
+      flushes = omega (arith, flushed, ap (λ w. w.log.writes.flushes) told);
+      few = omega (
+        arith,
+        few,
+        ap (λ w. length w.log.writes.faults) told,
+        ap (λ w. length w.log.writes.received) told,
+      );
     }
 
     -- asks of the stream alone, and then others
@@ -242,6 +248,7 @@ module _ {T W : Type 0} (rules : FilterRules T W) where
         second.flushes,
         length-append first.turns.turns second.turns.turns,
       );
+      few = omega (arith, first.few, second.few);
     }
 
     abbrev pub Goes-weaker : (Other : Ask T → Type 0) → ((ask : Ask T) → Such ask → Other ask) → (more : ℕ)
@@ -254,4 +261,5 @@ module _ {T W : Type 0} (rules : FilterRules T W) where
       each = All-weaker Such Other so goes.asks goes.each;
       asked = goes.asked;
       flushes = goes.flushes;
+      few = goes.few;
     }

@@ -1,7 +1,6 @@
--- What a call says first.
-use Rattle.std.proofs.Common.{◌≡◌, ℕ, List, [], ◌∷◌, length, Bool, true, false, if◌then◌else◌, Result, Ok, Err, IfOk, MatchResult, refl}
-use Rattle.std.specs.declared.io.Error.{Error}
-use Rattle.forward.specs.Filter.{FilterPasses, FilterRules}
+-- What `forward` says first.
+use Rattle.std.proofs.Common.{◌≡◌, ℕ, List, length, Result, Ok, Err, MatchResult}
+use Rattle.forward.specs.Filter.{FilterRules}
 use Rattle.forward.specs.Forward.{Forwards, StopsBy}
 use Rattle.forward.specs.Link.{Linked}
 use Rattle.forward.specs.declared.error.Cause.{Cause}
@@ -9,17 +8,6 @@ use Rattle.forward.specs.declared.error.Cause.TheVariants.{Wrong, Read, Write, C
 use Rattle.forward.specs.declared.error.Stopped.{Stopped}
 
 module _ {T W : Type 0} (rules : FilterRules T W) where
-  pub pass_says : (s t : T) (answer : Result Bool Error) → FilterPasses rules s answer t
-      → IfOk answer (λ one. (payloads : List (List ℕ)) × (length payloads ≡ (if one then 1 else 0))
-      × rules.hands s payloads t × rules.takes s payloads t)
-  pass_says s t (Ok true) passes =
-      let moves = passes.answers.1 in
-      (passes.answers.0 ∷ [], refl, moves.hands, moves.takes)
-  pass_says s t (Ok false) passes =
-      let moves = passes.answers.0 in
-      ([], refl, moves.hands, moves.takes)
-  pass_says s t (Err e) passes = tt
-
   -- so many payloads were taken in, whatever stopped it
   stop_says : (s t : T) (count : ℕ) (cause : Cause W) → StopsBy rules count s cause t
       → (payloads : List (List ℕ)) × rules.takes s payloads t × (length payloads ≡ count)

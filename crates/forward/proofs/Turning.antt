@@ -20,7 +20,7 @@ module _ {T W : Type 0} (rules : FilterRules T W) where
     pub along : AsksAlong rules s.filter asks t.filter
     pub turn : (more : List (Ask T)) → IsTurnBehind rules count more → IsTurn rules (asks ++ more)
     pub each : All (AlsoAsked rules (AskedFrom rules s.filter)) asks
-    pub told : rules.written t.filter ≡ rules.written s.filter
+    pub told : rules.target t.filter ≡ rules.target s.filter
     pub ready : rules.ready t.filter
     pub lacks : rules.lacks t.filter
     pub sent : rules.sent t.filter

@@ -1,17 +1,17 @@
 -- A filter: how payloads go from one stream to another, and what its calls promise.
-use Rattle.std.specs.Prelude.{◌≡◌, ℕ, ◌+◌, ◌<◌, ◌≤◌, ◌⊎◌, List, [], ◌∷◌, ◌++◌, length, Bool, true, false, Result, Ok, Err}
+use Rattle.std.specs.Prelude.{◌≡◌, ℕ, ◌+◌, ◌<◌, ◌≤◌, ◌⊎◌, List, [], ◌∷◌, ◌++◌, length, Bool, true, false, Result, Ok, Err, OnErr, OnOk}
 use Rattle.std.specs.declared.io.Error.{Error}
-use Rattle.redux_buffer.specs.Faults.{MetInterrupts, SendErrorCaused}
 use Rattle.redux_buffer.specs.StreamLog.{StreamLog}
-use Rattle.forward.specs.Prompt.{AsksGiveOrFail, SentBeforeAsking, WritesOn}
+use Rattle.forward.specs.Prompt.{AsksGiveOrFail, SentBeforeAsking}
+use Rattle.forward.specs.Target.{FlushWrites, PassWrites, TargetState, bytes_taken}
 use Rattle.forward.specs.declared.error.AskError.{AskError}
 use Rattle.forward.specs.declared.error.AskError.TheVariants.{Wrong, Io, IoBehind}
 
 -- what a filter's states are
 pub record FilterRules (T W : Type 0) : Type 1 where
-  -- what the stream that is read from told, and that which is written to
+  -- what the stream that is read from told, and the writer
   pub read : T → StreamLog
-  pub written : T → StreamLog
+  pub target : T → TargetState
   -- what each call wants, and leaves
   pub ready : T → Type 0
   -- from one state to the other these payloads were handed out, and what becomes of these was taken in
@@ -22,18 +22,19 @@ pub record FilterRules (T W : Type 0) : Type 1 where
   pub has : T → Type 0
   pub lacks : T → Type 0
   pub waits : T → Type 0
-  -- all that was taken in was received and flushed; and how many bytes were taken in, whether or not they were received
+  -- all that was taken in was received and flushed
   pub sent : T → Type 0
-  pub taken : T → ℕ
-  -- the writer was let be: not called, and given no memory; and so many bytes are taken in so
-  pub still : T → T → Type 0
-  pub room : T → ℕ
+  -- how much more room than a payload needs is asked for, and how many bytes more than it needs the buffer may grow by
+  pub spare : ℕ
+  pub rounds : T → ℕ
   -- how the writer is flushed, once at most
   pub flushes : T → Result (Unit {0}) Error → T → Type 0
   -- a payload may come from here though the stream isn't asked
   pub finds : T → Type 0
   -- how the stream is asked: for bytes that come while what is there holds no payload
   pub asks : T → T → Type 0
+  -- what is left, if a payload may come of it, was searched for one, and what was searched of it stays so
+  pub looks : T → T → Type 0
   -- how many bytes may come at the most before a payload is there, or none is; 0 where that isn't known
   pub wants : T → ℕ
   -- how payloads end: at Ok there are no more, at Err what comes next is wrong
@@ -56,56 +57,28 @@ module _ {T W : Type 0} (rules : FilterRules T W) where
     pub hands : rules.hands s handed t
     pub takes : rules.takes s taken t
 
-  -- writes were at most interrupted; or one failed with this error
-  abbrev pub WritesOnlyInterrupted : T → T → Type 0
-  WritesOnlyInterrupted s t = MetInterrupts (rules.written s).writes (rules.written t).writes
-
-  abbrev pub FailedToWrite : Error → T → T → Type 0
-  FailedToWrite e s t = SendErrorCaused (rules.written s).writes (rules.written t).writes e
-
   -- where all had been sent it still is
   abbrev pub StaysSent : T → T → Type 0
   StaysSent s t = rules.sent s → rules.sent t
 
-  -- the writer was flushed once at most, and all that had been taken in was received then
-  abbrev pub FlushesOnce : T → T → Type 0
-  FlushesOnce s t =
-      ((rules.written t).writes.flushes ≡ (rules.written s).writes.flushes)
-      ⊎ (((rules.written t).writes.flushes ≡ (rules.written s).writes.flushes + 1)
-      × (rules.taken s ≤ length (rules.written t).writes.received))
-
-  -- the writer was given no memory: no more is free than before, but for what was received
-  abbrev pub GivesNoMemory : T → T → Type 0
-  GivesNoMemory s t = rules.room t + length (rules.written s).writes.received
-      ≤ rules.room s + length (rules.written t).writes.received
-
-  -- what an answer of `pass` says. Something was taken in, but for a payload that was dropped; where there was room for it, the
-  -- writer was let be, as where there was none. Where the writer failed, or one was refused, no more are lost than may be, and
-  -- the writer was given no memory; at Ok no clause says so where it was sent first
+  -- what an answer of `pass` says. Something was taken in, but for a payload that was dropped; where there was none the writer was
+  -- let be, and what is left was searched. Where sending failed, or one was refused, no more are lost than may be
   abbrev pub PassAnswers : T → Result Bool Error → T → Type 0
   PassAnswers s (Ok true) t =
-      (payload : List ℕ) × Moves s (payload ∷ []) (payload ∷ []) t × WritesOnlyInterrupted s t
-      × ((rules.taken s < rules.taken t) ⊎ (rules.drops × StaysSent s t))
-      × (rules.taken t ≤ rules.taken s + rules.room s → rules.still s t)
+      (payload : List ℕ) × Moves s (payload ∷ []) (payload ∷ []) t
+      × ((bytes_taken (rules.target s) < bytes_taken (rules.target t)) ⊎ (rules.drops × StaysSent s t))
   PassAnswers s (Ok false) t =
-      Moves s [] [] t × WritesOnlyInterrupted s t × rules.lacks t × (¬ rules.has s) × (rules.drops → StaysSent s t)
-      × rules.still s t
-  PassAnswers s (Err e) t =
-      (lost : List (List ℕ)) × Moves s lost [] t × (FailedToWrite e s t ⊎ rules.refused e t)
-      × (length lost ≤ rules.loses) × GivesNoMemory s t
+      Moves s [] [] t × rules.lacks t × (¬ rules.has s) × (rules.drops → StaysSent s t) × (rules.target t ≡ rules.target s)
+      × rules.looks s t
+  PassAnswers s (Err e) t = (lost : List (List ℕ)) × Moves s lost [] t × (length lost ≤ rules.loses)
 
   -- what `pass` does: the stream that is read from isn't asked
   pub record FilterPasses (s : T) (answer : Result Bool Error) (t : T) : Type 0 where
     pub told : rules.read t ≡ rules.read s
     pub ready : rules.ready t
     pub closed : rules.closed s → rules.closed t
-    pub writes : WritesOn (rules.written s).writes (rules.written t).writes
-    pub flushes : (rules.written t).writes.flushes ≡ (rules.written s).writes.flushes
+    pub wrote : PassWrites rules.spare (rules.rounds s) (λ e. rules.refused e t) (rules.target s) answer (rules.target t)
     pub answers : PassAnswers s answer t
-
-  abbrev pub FlushAnswers : T → Result (Unit {0}) Error → T → Type 0
-  FlushAnswers s (Ok _) t = rules.sent t × WritesOnlyInterrupted s t
-  FlushAnswers s (Err e) t = FailedToWrite e s t
 
   -- what `flush` does: the stream that is read from isn't asked; and where payloads may be dropped, and all had been sent, no
   -- call is made
@@ -113,13 +86,13 @@ module _ {T W : Type 0} (rules : FilterRules T W) where
     pub told : rules.read t ≡ rules.read s
     pub ready : rules.ready t
     pub closed : rules.closed s → rules.closed t
-    pub writes : WritesOn (rules.written s).writes (rules.written t).writes
-    pub flushes : FlushesOnce s t
+    pub wrote : FlushWrites (rules.target s) answer (rules.target t)
     pub steps : rules.flushes s answer t
-    pub quiet : rules.drops → rules.sent s → (rules.written t).writes.flushes ≡ (rules.written s).writes.flushes
+    pub quiet : rules.drops → rules.sent s
+        → (rules.target t).log.writes.flushes ≡ (rules.target s).log.writes.flushes
     pub moves : Moves s [] [] t
     pub lacks : rules.lacks s → rules.lacks t
-    pub answers : FlushAnswers s answer t
+    pub sent : OnOk answer (rules.sent t)
 
   -- reads met no fault; or one failed with this error
   abbrev pub Read : T → T → Type 0
@@ -154,22 +127,23 @@ module _ {T W : Type 0} (rules : FilterRules T W) where
   AskAnswers s (Err (Io e)) t = rules.waits t × FailedToRead e s t × StaysOpen s t × (rules.wants t ≡ rules.wants s)
   AskAnswers s (Err (IoBehind e)) t = rules.waits t × FailedToRead e s t × StaysOpen s t × (rules.wants t < rules.wants s)
 
-  -- what `ask` does: the writer is let be
+  -- what `ask` does: the writer is let be, and an `Err` leaves what was searched
   pub record FilterAsks (s : T) (answer : Result Bool (AskError W)) (t : T) : Type 0 where
-    pub told : rules.written t ≡ rules.written s
-    pub still : rules.still s t
+    pub told : rules.target t ≡ rules.target s
     pub ready : rules.ready t
     pub moves : Moves s [] [] t
     pub sent : rules.sent s → rules.sent t
     pub asks : rules.asks s t
     pub once : AsksOnce s t
+    pub looks : OnErr answer (rules.looks s t)
     pub answers : AskAnswers s answer t
 
   -- since the first state, what was due of all that was given before the last ask was received and flushed; or it wasn't asked
   abbrev pub AsksSent : T → T → T → Type 0
   AsksSent first s t =
       (rules.read t ≡ rules.read s)
-      ⊎ SentBeforeAsking (rules.due first) (rules.read first) (rules.read t) (rules.written first) (rules.written s)
+      ⊎ SentBeforeAsking (rules.due first) (rules.read first) (rules.read t) (rules.target first).log
+      (rules.target s).log
 
   -- payloads go on in order, and an end that follows some is their end. It may be forwarded on where a payload may come. And
   -- where no payload is there, and all that was taken in was sent, so was what is due of each byte that comes before the last ask
@@ -182,7 +156,7 @@ module _ {T W : Type 0} (rules : FilterRules T W) where
         → rules.ends b how c → rules.ends a how c
     pub waits_lacks : (s : T) → rules.waits s → rules.lacks s
     pub waits_fresh : (s : T) → rules.waits s → rules.sent s → rules.fresh s
-    pub received_taken : (s : T) → length (rules.written s).writes.received ≤ rules.taken s
-    pub taken_on : (s t : T) (p : List (List ℕ)) → rules.takes s p t → rules.taken s ≤ rules.taken t
+    pub taken_on : (s t : T) (p : List (List ℕ)) → rules.takes s p t
+        → bytes_taken (rules.target s) ≤ bytes_taken (rules.target t)
     pub asks_sent : (first s t : T) (p : List (List ℕ)) → rules.fresh first → Moves first p p s → StaysOpen first s
         → rules.lacks s → rules.sent s → rules.asks s t → AsksSent first s t

@@ -3,16 +3,16 @@ use Rattle.std.specs.Prelude.{◌≡◌, ℕ, ◌+◌, ◌^◌, ◌≤◌, ◌�
 use Rattle.std.specs.Option.{option_map_or}
 use Rattle.std.specs.Result.{result_err}
 use Rattle.std.specs.declared.io.Error.{Error}
-use Rattle.redux_buffer.specs.Faults.{OnlyInterrupts}
 use Rattle.forward.specs.Filter.{FilterRules, Moves}
 use Rattle.forward.specs.Flushes.{FlushesSend}
 use Rattle.forward.specs.Link.{Goes, IsPrompt, Linked}
 use Rattle.forward.specs.Streams.{EndsOnce, MetNoFault, ReadFailed, WriterFailed}
+use Rattle.forward.specs.Target.{InterruptedLast}
 use Rattle.forward.specs.declared.error.Cause.{Cause}
 use Rattle.forward.specs.declared.error.Cause.TheVariants.{Wrong, Read, Write, Count}
 use Rattle.forward.specs.declared.error.Stopped.{Stopped}
 
--- how many flushes may come that no ask follows: one, where the writer failed
+-- how many flushes may come that no ask follows, and how often sending may fail: once, where that stopped it
 abbrev pub flushed_last : {W : Type 0} → Cause W → ℕ
 flushed_last (Wrong why) = 0
 flushed_last (Read e) = 0
@@ -22,7 +22,7 @@ flushed_last Count = 0
 module _ {T W : Type 0} (rules : FilterRules T W) where
   -- neither stream failed
   abbrev pub NoneFailed : T → T → Type 0
-  NoneFailed s t = MetNoFault (rules.read s) (rules.read t) (rules.written s) (rules.written t)
+  NoneFailed s t = MetNoFault (rules.read s) (rules.read t) (rules.target s).log (rules.target t).log
 
   -- this many payloads were handed out, and just they were taken in
   pub record Forwarded (count : ℕ) (s t : T) : Type 0 where
@@ -38,18 +38,19 @@ module _ {T W : Type 0} (rules : FilterRules T W) where
     pub all : length payloads ≡ count
     pub few : length lost ≤ rules.loses
 
-  -- sending failed; or a payload was refused. Reads were at most interrupted
+  -- sending failed, and reads were at most interrupted; or a payload was refused, and neither stream failed
   abbrev pub NotWritten : Error → T → T → Type 0
   NotWritten e s t =
-      WriterFailed e (rules.read s) (rules.read t) (rules.written s) (rules.written t)
-      ⊎ (OnlyInterrupts (rules.read s).reads.faults (rules.read t).reads.faults × rules.refused e t)
+      (WriterFailed e (rules.read s) (rules.read t) (rules.target s).log (rules.target t).log
+      × InterruptedLast (rules.target s) e (rules.target t))
+      ⊎ (NoneFailed s t × rules.refused e t)
 
   -- what each cause says, behind which so many payloads went over. Where a read failed, it may be forwarded on
   abbrev pub StopsBy : ℕ → T → Cause W → T → Type 0
   StopsBy count s (Wrong why) t = Forwarded count s t × rules.ends s (Err why) t × rules.sent t × NoneFailed s t
   StopsBy count s (Read e) t =
       Forwarded count s t × rules.waits t × rules.sent t × rules.fresh t
-      × ReadFailed e (rules.read s) (rules.read t) (rules.written s) (rules.written t)
+      × ReadFailed e (rules.read s) (rules.read t) (rules.target s).log (rules.target t).log
   StopsBy count s (Write e) t = ForwardedFirst count s t × NotWritten e s t
   StopsBy count s Count t = Forwarded count s t × (2 ^ 64 ≤ count + 1) × NoneFailed s t
 
@@ -64,6 +65,6 @@ module _ {T W : Type 0} (rules : FilterRules T W) where
     pub goes : Goes rules (IsPrompt rules s.filter) (option_map_or (λ stopped. flushed_last stopped.cause) (result_err answer) 0)
         s t
     pub once : EndsOnce (rules.read s.filter).reads (rules.read t.filter).reads
-    pub flushes : FlushesSend 1 (rules.written s.filter).writes (rules.written t.filter).writes
+    pub flushes : FlushesSend 1 (rules.target s.filter).log.writes (rules.target t.filter).log.writes
     pub ready : rules.ready t.filter
     pub answers : ForwardAnswers s.filter answer t.filter

@@ -8,6 +8,8 @@ use Rattle.forward.specs.Forward.{Forwards, flushed_last}
 use Rattle.forward.specs.Link.{Ask, AskedBefore, AsksAlong, Goes, IsPrompt, IsTurn, Linked}
 use Rattle.forward.specs.Prompt.{HoldsNothingBack}
 use Rattle.forward.specs.PromptLaws.{HoldsNothingBack-on, WritesOn-none}
+use Rattle.forward.specs.Streams.{FewFaults}
+use Rattle.forward.specs.Target.{failure_count}
 use Rattle.forward.specs.declared.error.Cause.{Cause}
 use Rattle.forward.specs.declared.error.Cause.TheVariants.{Wrong, Read, Write, Count}
 use Rattle.forward.specs.declared.error.Stopped.{Stopped}
@@ -15,20 +17,20 @@ use Rattle.forward.specs.declared.error.Stopped.{Stopped}
 module _ {T W : Type 0} (rules : FilterRules T W) (first : T) where
   -- of the logs of both streams alone, at that state
   abbrev Holds : T → Type 0
-  Holds s = HoldsNothingBack (rules.due first) (rules.read first) (rules.read s) (rules.written first) (rules.written s)
+  Holds s = HoldsNothingBack (rules.due first) (rules.read first) (rules.read s) (rules.target first).log (rules.target s).log
 
   holds_along : (s t : T) (asks : List (Ask T)) → Holds s → AsksAlong rules s asks t → All (IsPrompt rules first) asks → Holds t
   holds_along s t [] held along each =
-      HoldsNothingBack-on (rules.due first) (rules.read first) (rules.read s) (rules.read t) (rules.written first)
-      (rules.written s) (rules.written t) held along.told along.writes
+      HoldsNothingBack-on (rules.due first) (rules.read first) (rules.read s) (rules.read t) (rules.target first).log
+      (rules.target s).log (rules.target t).log held along.told along.writes
   holds_along s t (ask ∷ asks) held along each =
       let before = HoldsNothingBack-on (rules.due first) (rules.read first) (rules.read s) (rules.read ask.before)
-      (rules.written first) (rules.written s) (rules.written ask.before) held along.0.told along.0.writes in
-      let after : Holds ask.after = subst (HoldsNothingBack (rules.due first) (rules.read first) (rules.read ask.after)
-      (rules.written first)) (sym along.1.told) (elim (All-head (IsPrompt rules first) ask asks each) [
+      (rules.target first).log (rules.target s).log (rules.target ask.before).log held along.0.told along.0.writes in
+      let after : Holds ask.after = subst (λ w. HoldsNothingBack (rules.due first) (rules.read first) (rules.read ask.after)
+      (rules.target first).log w.log) (sym along.1.told) (elim (All-head (IsPrompt rules first) ask asks each) [
         | inl same ↦ HoldsNothingBack-on (rules.due first) (rules.read first) (rules.read ask.before) (rules.read ask.after)
-            (rules.written first) (rules.written ask.before) (rules.written ask.before) before same
-            (WritesOn-none (rules.written ask.before).writes)
+            (rules.target first).log (rules.target ask.before).log (rules.target ask.before).log before same
+            (WritesOn-none (rules.target ask.before).log.writes)
         | inr sent ↦ inr sent
       ]) in
       holds_along ask.after t asks after along.2 (All-tail (IsPrompt rules first) ask asks each)
@@ -36,8 +38,8 @@ module _ {T W : Type 0} (rules : FilterRules T W) (first : T) where
 -- nothing was held back, as the logs of the two streams have it
 pub Goes-holds : {T W : Type 0} (rules : FilterRules T W) {more : ℕ} (s t : Linked T)
     → Goes rules (IsPrompt rules s.filter) more s t
-    → HoldsNothingBack (rules.due s.filter) (rules.read s.filter) (rules.read t.filter) (rules.written s.filter)
-    (rules.written t.filter)
+    → HoldsNothingBack (rules.due s.filter) (rules.read s.filter) (rules.read t.filter) (rules.target s.filter).log
+    (rules.target t.filter).log
 Goes-holds rules s t goes = holds_along rules s.filter s.filter t.filter goes.asks (inl refl) goes.along goes.each
 
 module _ {T W : Type 0} (rules : FilterRules T W) where
@@ -71,8 +73,8 @@ module _ {T W : Type 0} (rules : FilterRules T W) where
 
   -- a flush for each turn is one for each ask of the stream, where that is asked in each
   pub Goes-per_ask : {Such : Ask T → Type 0} {more : ℕ} (s t : Linked T) → Goes rules Such more s t → AlwaysAsks
-      → (rules.written t.filter).writes.flushes + (rules.read s.filter).reads.asks
-      ≤ (rules.written s.filter).writes.flushes + (rules.read t.filter).reads.asks + more
+      → (rules.target t.filter).log.writes.flushes + (rules.read s.filter).reads.asks
+      ≤ (rules.target s.filter).log.writes.flushes + (rules.read t.filter).reads.asks + more
   Goes-per_ask s t goes always = omega (
     arith,
     goes.flushes,
@@ -120,6 +122,13 @@ one_flush (Read e) = omega arith
 one_flush (Write e) = omega arith
 one_flush Count = omega arith
 
+-- sending failed only where that stopped it
+pub Forwards-few : {T W : Type 0} (rules : FilterRules T W) (s t : Linked T) (answer : Result ℕ (Stopped W))
+    → Forwards rules s answer t
+    → FewFaults (failure_count answer) (rules.target s.filter).log.writes (rules.target t.filter).log.writes
+Forwards-few rules s t (Ok count) over = over.goes.few
+Forwards-few rules s t (Err stopped) over = omega (arith, over.goes.few, one_flush stopped.cause)
+
 last_flush : {W : Type 0} (answer : Result ℕ (Stopped W))
     → option_map_or (λ stopped. flushed_last stopped.cause) (result_err answer) 0 ≤ 1
 last_flush (Ok count) = omega arith
@@ -128,8 +137,8 @@ last_flush (Err stopped) = one_flush stopped.cause
 -- the writer was flushed once for each ask of the stream at most, and twice more
 pub Forwards-per_ask : {T W : Type 0} (rules : FilterRules T W) (s t : Linked T) (answer : Result ℕ (Stopped W))
     → Forwards rules s answer t → CountsAsks rules → FindsNone rules
-    → (rules.written t.filter).writes.flushes + (rules.read s.filter).reads.asks
-    ≤ (rules.written s.filter).writes.flushes + (rules.read t.filter).reads.asks + 2
+    → (rules.target t.filter).log.writes.flushes + (rules.read s.filter).reads.asks
+    ≤ (rules.target s.filter).log.writes.flushes + (rules.read t.filter).reads.asks + 2
 Forwards-per_ask rules s t answer over counts none =
     let goes = over.goes in
     omega (

@@ -3,6 +3,7 @@ pub mod PromptLaws
 pub mod Streams
 pub mod StreamsLaws
 pub mod Flushes
+pub mod Target
 pub mod Filter
 pub mod Link
 pub mod Forward

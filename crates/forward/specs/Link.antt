@@ -5,6 +5,7 @@ use Rattle.std.specs.declared.io.Error.{Error}
 use Rattle.redux_buffer.specs.Faults.{IsInterrupt, interrupt_limit}
 use Rattle.forward.specs.Filter.{AsksSent, FailedToRead, FilterAsks, FilterFlushes, FilterPasses, FilterRules, WasAsked}
 use Rattle.forward.specs.Prompt.{WritesOn}
+use Rattle.forward.specs.Streams.{FewFaults}
 use Rattle.forward.specs.declared.error.AskError.{AskError}
 
 -- a filter, and the states in which it was asked, with those that came of it, in turn
@@ -25,12 +26,12 @@ module _ {T W : Type 0} (rules : FilterRules T W) where
   -- the stream that is read from wasn't asked
   pub record NotAsked (s t : T) : Type 0 where
     pub told : rules.read t ≡ rules.read s
-    pub writes : WritesOn (rules.written s).writes (rules.written t).writes
+    pub writes : WritesOn (rules.target s).log.writes (rules.target t).log.writes
 
   -- the stream was asked, and nothing was written
   pub record IsAsk (ask : Ask T) : Type 0 where
     pub asks : rules.asks ask.before ask.after
-    pub told : rules.written ask.after ≡ rules.written ask.before
+    pub told : rules.target ask.after ≡ rules.target ask.before
 
   -- these are all asks, in order
   abbrev pub AsksAlong : T → List (Ask T) → T → Type 0
@@ -93,7 +94,7 @@ module _ {T W : Type 0} (rules : FilterRules T W) where
     pub last : GivesUpLast turns
 
   -- what calls do to a link: each ask that was made is noted, and is such a one; the stream was asked in each but the last of
-  -- all; and the writer was flushed once for each turn of them at most, and so many times more
+  -- all; and the writer was flushed once for each turn of them at most, and so many times more, as often as sending failed at most
   pub record Goes (Such : Ask T → Type 0) (more : ℕ) (s t : Linked T) : Type 0 where
     pub asks : List (Ask T)
     pub noted : t.states ≡ s.states ++ states_of asks
@@ -101,8 +102,9 @@ module _ {T W : Type 0} (rules : FilterRules T W) where
     pub turns : AreTurns asks
     pub each : All Such asks
     pub asked : AskedBefore asks
-    pub flushes : (rules.written t.filter).writes.flushes
-        ≤ (rules.written s.filter).writes.flushes + length turns.turns + more
+    pub flushes : (rules.target t.filter).log.writes.flushes
+        ≤ (rules.target s.filter).log.writes.flushes + length turns.turns + more
+    pub few : FewFaults more (rules.target s.filter).log.writes (rules.target t.filter).log.writes
 
   -- an ask in front of which all that was due was sent, since the first state
   abbrev pub IsPrompt : T → Ask T → Type 0

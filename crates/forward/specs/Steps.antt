@@ -5,10 +5,11 @@ use Rattle.std.specs.Result.{result_err}
 use Rattle.std.specs.List.{All}
 use Rattle.std.specs.declared.io.Error.{Error}
 use Rattle.redux_buffer.specs.Faults.{IsInterrupt, interrupt_limit, OnlyInterrupts}
-use Rattle.forward.specs.Filter.{AsksOnce, FilterRules, FlushesOnce, Moves, StaysOpen, StaysSent, WasAsked}
+use Rattle.forward.specs.Filter.{AsksOnce, FilterRules, Moves, StaysOpen, StaysSent, WasAsked}
 use Rattle.forward.specs.Forward.{Forwarded, NoneFailed, StopsBy, flushed_last}
 use Rattle.forward.specs.Link.{Ask, AskedBefore, AsksAlong, EndsInterrupted, Goes, IsTurn, Linked, NoneGaveUp, states_of}
 use Rattle.forward.specs.Streams.{ReadGaveUp}
+use Rattle.forward.specs.Target.{FlushesOnce, bytes_taken}
 use Rattle.forward.specs.declared.error.AskError.{AskError}
 use Rattle.forward.specs.declared.error.AskError.TheVariants.{Wrong, Io, IoBehind}
 use Rattle.forward.specs.declared.error.Cause.{Cause}
@@ -72,7 +73,7 @@ module _ {T W : Type 0} (rules : FilterRules T W) where
     pub not_given_up : OnTrue answer (¬ (EndsInterrupted rules asks))
     pub each : All (AskedTo answer (AskedFrom s.filter)) asks
     pub asked : AskedBefore rules asks
-    pub told : rules.written t.filter ≡ rules.written s.filter
+    pub told : rules.target t.filter ≡ rules.target s.filter
     pub ready : rules.ready t.filter
     pub moves : Moves rules s.filter [] [] t.filter
     pub sent : rules.sent t.filter
@@ -87,21 +88,22 @@ module _ {T W : Type 0} (rules : FilterRules T W) where
 
   -- nothing was flushed, and where all had been sent it still is
   abbrev pub IsQuiet : T → T → Type 0
-  IsQuiet s t = ((rules.written t).writes.flushes ≡ (rules.written s).writes.flushes) × StaysSent rules s t
+  IsQuiet s t = ((rules.target t).log.writes.flushes ≡ (rules.target s).log.writes.flushes) × StaysSent rules s t
 
   -- something was taken in; or a payload was dropped quietly, or so that all is sent
   abbrev pub GoesAhead : T → T → Type 0
-  GoesAhead s t = (rules.taken s < rules.taken t) ⊎ (rules.drops × (IsQuiet s t ⊎ rules.sent t))
+  GoesAhead s t =
+      (bytes_taken (rules.target s) < bytes_taken (rules.target t)) ⊎ (rules.drops × (IsQuiet s t ⊎ rules.sent t))
 
   -- what is done for one payload
   pub record ForwardsNext (s : Linked T) (answer : Result Bool (Cause W)) (t : Linked T) : Type 0 where
     pub goes : Goes rules (AskedTo answer (AskedFrom s.filter)) (option_map_or flushed_last (result_err answer) 0) s t
     pub once : AsksOnce rules s.filter t.filter
-    pub flushes : FlushesOnce rules s.filter t.filter
+    pub flushes : FlushesOnce (rules.target s.filter) (rules.target t.filter)
     pub quiet : rules.drops → rules.sent s.filter
-        → (rules.written t.filter).writes.flushes ≡ (rules.written s.filter).writes.flushes
+        → (rules.target t.filter).log.writes.flushes ≡ (rules.target s.filter).log.writes.flushes
     pub not_given_up : OnTrue answer (NoneGaveUp rules goes.turns.turns)
     pub more : OnTrue answer (GoesAhead s.filter t.filter)
-    pub received : length (rules.written s.filter).writes.received ≤ length (rules.written t.filter).writes.received
+    pub received : length (rules.target s.filter).log.writes.received ≤ length (rules.target t.filter).log.writes.received
     pub ready : rules.ready t.filter
     pub answers : StepAnswers 0 s.filter answer t.filter

@@ -10,8 +10,8 @@ pub MetNoFault-none : (read written : StreamLog) → MetNoFault read read writte
 MetNoFault-none read written =
     record { reader = OnlyInterrupts-none read.reads.faults; writer = MetInterrupts-none written.writes }
 
-pub MetNoFault-joins : (a b c k l m : StreamLog) → MetNoFault a b k l → MetNoFault b c l m → MetNoFault a c k m
-MetNoFault-joins a b c k l m p q = record {
+pub MetNoFault-joins : {a b c k l m : StreamLog} → MetNoFault a b k l → MetNoFault b c l m → MetNoFault a c k m
+MetNoFault-joins {a} {b} {c} {k} {l} {m} p q = record {
   reader = OnlyInterrupts-joins a.reads.faults b.reads.faults c.reads.faults p.reader q.reader;
   writer = MetInterrupts-joins k.writes l.writes m.writes p.writer q.writer;
 }
@@ -45,16 +45,15 @@ ReadGaveUp-after a b c e p q = record {
   often = λ is. omega (arith, q.often is, ap length p.faults, length-append a p.interrupts);
 }
 
-pub ReadFailed-after : (e : Error) (a b c k l m : StreamLog) → MetNoFault a b k l → ReadFailed e b c l m
-    → ReadFailed e a c k m
-ReadFailed-after e a b c k l m p q = record {
+pub ReadFailed-after : {e : Error} {a b c k l m : StreamLog} → MetNoFault a b k l → ReadFailed e b c l m → ReadFailed e a c k m
+ReadFailed-after {e} {a} {b} {c} {k} {l} {m} p q = record {
   reader = ReadGaveUp-after a.reads.faults b.reads.faults c.reads.faults e p.reader q.reader;
   writer = MetInterrupts-joins k.writes l.writes m.writes p.writer q.writer;
 }
 
-pub WriterFailed-after : (e : Error) (a b c k l m : StreamLog) → MetNoFault a b k l → WriterFailed e b c l m
+pub WriterFailed-after : {e : Error} {a b c k l m : StreamLog} → MetNoFault a b k l → WriterFailed e b c l m
     → WriterFailed e a c k m
-WriterFailed-after e a b c k l m p q = record {
+WriterFailed-after {e} {a} {b} {c} {k} {l} {m} p q = record {
   reader = OnlyInterrupts-joins a.reads.faults b.reads.faults c.reads.faults p.reader q.reader;
   writer = SendErrorCaused-after k.writes l.writes m.writes e p.writer q.writer;
 }

@@ -13,8 +13,10 @@ pub trait Filter {
     // What its states are.
     ghost rules: { FilterRules Self Self.Wrong };
 
-    /// Moves the next payload that is there, and returns whether there was one. The stream isn't asked. Where it fails, the
-    /// writer is given no memory.
+    /// Moves the next payload that is there, and returns whether there was one. The stream isn't asked.
+    ///
+    /// An interrupted write is made again, 64 times at most for each byte that is received. The writer is given memory only for a
+    /// payload that its buffer has no room for, and none where this fails. Where there is no payload, what is left was searched.
     fn pass(&mut self) -> io::Result<bool>
         requires { rules.ready self.old }
         ensures { FilterPasses rules self.old result self.new };
@@ -24,7 +26,8 @@ pub trait Filter {
         requires { rules.ready self.old }
         ensures { FilterFlushes rules self.old result self.new };
 
-    /// Asks the stream until a payload is there, and returns whether one is: else there are no more.
+    /// Asks the stream until a payload is there, and returns whether one is: else there are no more. What was searched stays so
+    /// where this fails.
     fn ask(&mut self) -> Result<bool, AskError<Self::Wrong>>
         requires ready { rules.ready self.old }
         requires lacks { rules.lacks self.old }

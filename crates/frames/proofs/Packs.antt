@@ -7,7 +7,16 @@ use Rattle.std.specs.declared.io.ErrorKind.TheVariants.{OutOfMemory}
 use Rattle.redux_buffer.specs.declared.grow_error.GrowError.TheVariants.{Memory, TooLarge}
 use Rattle.redux_buffer.specs.declared.grow_error.GrowError.{GrowError}
 use Rattle.buffer_redux.specs.GrowError.{FitsWithin, kind_of}
+use Rattle.buffer_redux.specs.WriteParts.{room}
+use Rattle.codec.specs.Encoding.{coded}
+use Rattle.codec.specs.PieceWriter.{WriterState}
+use Rattle.codec.specs.WritePiece.{WriteAnswer, WritesPiece}
+use Rattle.codec.specs.declared.error.WritePieceError.TheVariants as Refusal
 use Rattle.forward.specs.declared.error.AskError.TheVariants as ask
+use Rattle.frame_reader.specs.Framed.{framed_out}
+use Rattle.frame_reader.specs.FramedLaws.{coded_frame}
+use Rattle.frame_reader.specs.WriteFrameLaws.{PiecesTaken-frames}
+use Rattle.frame_reader.specs.declared.frame.Frames.{Frames}
 use Rattle.line_reader.specs.Lines.{BeginsTooLong}
 use Rattle.line_reader.specs.NextLine.{LineAnswer, NextLine}
 use Rattle.line_reader.specs.NextLineLaws.{IsHanded-fits, NextLine-open, NextOpen, NextPiece-long, open_unended}
@@ -17,14 +26,48 @@ use Rattle.piece_filter.specs.PieceRuns.{Over, all_received}
 use Rattle.piece_filter.specs.Pieces.{HasEnded, IsReady, Keeps, PiecesEnd, piece_rules}
 use Rattle.piece_filter.specs.PiecesCalls as pieces
 use Rattle.piece_filter.specs.PiecesLaws.{coded_all, whole_text}
-use Rattle.frames.specs.Words.{All, AllSent, FilterAsks, Begins, bytes_at, Error, error_kind, Fits, FitsLine, ForwardAnswers, frame, frames, GaveNothing, Grammar, HasLines, HasPieces, IsLent, IsLine, IsOpen, IsPieces, lined, LineState, MetNoFault, OverCount, RanDry, rest, room_for, RunError, Span, Stopped, StreamLog, with_newlines}
+use Rattle.frames.specs.Words.{All, AllSent, FilterAsks, Begins, bytes_at, Error, error_kind, Fits, FitsLine, ForwardAnswers, frame, frames, GaveNothing, Grammar, HasLines, HasPieces, IsLent, IsLine, IsOpen, IsPieces, lined, LineState, MetNoFault, OverCount, RanDry, rest, room_for, RunError, Span, Stopped, StreamLog, WritesInOrder, with_newlines}
 use Rattle.frames.specs.Ending.{IsErrorOf}
 use Rattle.frames.specs.Pack.{PackedFirst, PackedLines, PackRan, Packs}
 use Rattle.frames.specs.Packing.{packing}
-use Rattle.frames.specs.PackingLaws.{all_ended, all_fit, packing_sound}
+use Rattle.frames.specs.PackingLaws.{all_ended, all_fit, packing_sound, some_frame}
+use Rattle.programs.specs.TakenIn.{SendsOnce, TakesAll}
 use Rattle.frames.specs.declared.error.RunError.TheVariants.{Io, TooLong}
 use Rattle.frames.specs.declared.packing.Packing.{Packing}
 use Rattle.frames.proofs.PieceRuns.{outcome_ran}
+
+-- the answer of the writer of pieces
+abbrev written : Result (Unit {0}) Error → WriteAnswer ℕ
+written (Ok _) = Ok tt
+written (Err e) = Err (Refusal.Io e)
+
+-- a frame is taken in whole, behind one send at most
+pub takes_frame : {W : Type 0} (trace : W → W → Type 0) (s t : WriterState W Frames) (line : List ℕ)
+    {answer : Result (Unit {0}) Error} → WritesPiece trace (framed_out s.encoder.max) s line (written answer) t
+    → TakesAll (length (frame line)) (λ _. ⊥) s.writer (frame line) answer t.writer
+takes_frame trace s t line {answer} wrote = record {
+  taken = taken answer wrote;
+  fits = λ fit. fits answer wrote (omega (arith, fit, ap length (coded_frame s.encoder.max line)));
+  sends = λ full. sends answer wrote (omega (arith, full, some_frame line, ap length (coded_frame s.encoder.max line)));
+}
+  where
+    taken : (answer : Result (Unit {0}) Error) → WritesPiece trace (framed_out s.encoder.max) s line (written answer) t
+        → MatchResult answer (λ _. WritesInOrder s.writer (frame line) t.writer) (λ _. WritesInOrder s.writer [] t.writer)
+    taken (Ok _) w = rw append-nil at (PiecesTaken-frames trace s t (line ∷ []) w.went)
+    taken (Err e) w = w.went.in_order
+
+    fits : (answer : Result (Unit {0}) Error) → WritesPiece trace (framed_out s.encoder.max) s line (written answer) t
+        → length (coded (framed_out s.encoder.max) line) ≤ room s.writer → IsOk answer × (t.writer.log ≡ s.writer.log)
+    fits (Ok _) w there = (refl, (w.fits w.answers.0 there).1)
+    fits (Err e) w there = (let odd = (w.fits w.answers.0 there).0 in cc)
+
+    sends : (answer : Result (Unit {0}) Error) → WritesPiece trace (framed_out s.encoder.max) s line (written answer) t
+        → room s.writer < length (coded (framed_out s.encoder.max) line) → SendsOnce (λ _. ⊥) s.writer answer t.writer
+    sends (Ok _) w full =
+        let (left, sent) = (w.full w.answers.0 full).0 in
+        record { sending = Ok tt; left = left; sends = sent; ended = tt }
+    sends (Err e) w full =
+        record { sending = Err e; left = t.writer.block; sends = w.full w.answers.0 full; ended = (refl, refl) }
 
 -- a line that is held has a frame
 abbrev Fit : {R : Type 0} → LineState R → Option Span → Type 0
@@ -299,6 +342,7 @@ pack_refused most read written e memory = record {
   );
   prompt = inl refl;
   once = omega arith;
+  few = omega arith;
   flushes = omega arith;
   per_ask = omega arith;
 }

@@ -1,14 +1,23 @@
 -- What the outcome of a whole run over pieces comes to.
-use Rattle.std.proofs.Common.{ℕ, inl, inr, List, [], ◌++◌, length, false, Option, Result, Ok, Err, ◌≡◌, sym, subst, arith}
+use Rattle.std.proofs.Common.{ℕ, inl, inr, List, [], ◌++◌, length, false, Option, Result, Ok, Err, ◌≡◌, refl, sym, subst, arith}
 use Rattle.std.proofs.lemmas.Bool.{false≢true}
 use Rattle.std.specs.Prelude.{IsErrAnd, IsOk, MatchResult}
 use Rattle.forward.specs.declared.error.Cause.{Cause}
 use Rattle.forward.specs.declared.error.Cause.TheVariants as cause
 use Rattle.piece_filter.specs.PieceRuns.{Over, all_over, over_held, over_lost}
 use Rattle.piece_filter.specs.Pieces.{IsCoherent, PiecesEnd, Piecewise, grammar_of, held_of, piece_rules}
-use Rattle.frames.specs.Words.{Error, IsOpen, rest, FilterRules, ForwardAnswers, NoneFailed, StopsBy, Stopped, AllSent, OverCount, ReadFailed, WriterFailed, RunError}
+use Rattle.frames.specs.Words.{Error, failure_count, IsOpen, rest, FilterRules, ForwardAnswers, NoneFailed, StopsBy, Stopped, AllSent, OverCount, ReadFailed, WriterFailed, RunError}
 use Rattle.frames.specs.Ending.{IsErrorOf}
 use Rattle.frames.specs.declared.error.RunError.TheVariants.{Read, Write, Io}
+
+-- the outcome fails where the run did
+pub outcome_count : (answer : Result ℕ (Stopped RunError)) (outcome : Result (Unit {0}) RunError)
+    → MatchResult answer (λ _. IsOk outcome) (λ stopped. IsErrAnd outcome (IsErrorOf stopped.cause))
+    → failure_count answer ≡ failure_count outcome
+outcome_count (Ok count) (Ok _) is = refl
+outcome_count (Ok count) (Err e) is = absurd (false≢true is)
+outcome_count (Err stopped) (Ok _) is = absurd is
+outcome_count (Err halt) (Err e) is = refl
 
 -- a run from empty buffers on that says so of each way to end says so of its outcome
 module _ {T R D X A W : Type 0} (remaining : R → Option (List ℕ)) (f : Piecewise T R D X A W RunError) (s t : T)
@@ -27,11 +36,11 @@ module _ {T R D X A W : Type 0} (remaining : R → Option (List ℕ)) (f : Piece
       → Ran (Err why))
       (read : (p : List (List ℕ)) → Went p p → IsOpen (grammar_of f t) (rest (f.source t)) → (f.source t).ended ≡ false
       → AllSent (f.target t) → (e : Error)
-      → ReadFailed e (rules.read s) (rules.read t) (rules.written s) (rules.written t) → Ran (Err (Read e)))
+      → ReadFailed e (rules.read s) (rules.read t) (rules.target s).log (rules.target t).log → Ran (Err (Read e)))
       (write : (p lost : List (List ℕ)) → Went (p ++ lost) p → (e : Error)
-      → WriterFailed e (rules.read s) (rules.read t) (rules.written s) (rules.written t) → Ran (Err (Write e)))
+      → WriterFailed e (rules.read s) (rules.read t) (rules.target s).log (rules.target t).log → Ran (Err (Write e)))
       (full : (p lost : List (List ℕ)) → Went (p ++ lost) p → (e : Error)
-      → OverCount e (length p) (rules.read s) (rules.read t) (rules.written s) (rules.written t) → Ran (Err (Io e))) where
+      → OverCount e (length p) (rules.read s) (rules.read t) (rules.target s).log (rules.target t).log → Ran (Err (Io e))) where
     stopped : (count : ℕ) (why : Cause RunError) (e : RunError) → StopsBy rules count s why t → IsErrorOf why e → Ran (Err e)
     stopped count (cause.Wrong why) e (over, (none, end), sent, met) is = subst (λ x. Ran (Err x)) (sym is)
         (wrong over.payloads (all_over remaining f s t fresh unread count over none) why end (sound.all_sent t sent) met)
@@ -40,7 +49,7 @@ module _ {T R D X A W : Type 0} (remaining : R → Option (List ℕ)) (f : Piece
         fault failed)
     stopped count (cause.Write fault) e (first, inr refused) is = absurd (never fault refused.1)
     stopped count (cause.Write fault) e (first, inl failed) is = subst (λ x. Ran (Err x)) (sym is)
-        (write first.payloads (first.lost ++ held_of f t) (over_lost remaining f s t fresh unread count first) fault failed)
+        (write first.payloads (first.lost ++ held_of f t) (over_lost remaining f s t fresh unread count first) fault failed.0)
     stopped count cause.Count e (over, large, met) is = subst (λ x. Ran (Err x)) (sym is.2)
         (full over.payloads (held_of f t) (over_held remaining f s t fresh unread count over) is.0
         (record { other = is.1; large = omega (arith, large, over.all); met = met }))

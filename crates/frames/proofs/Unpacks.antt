@@ -4,8 +4,6 @@ use Rattle.std.proofs.lemmas.Bool.{true≢false}
 use Rattle.std.proofs.lemmas.List.Elements.{All-nil}
 use Rattle.std.specs.Prelude.{IsErrAnd, IsOk, MatchResult}
 use Rattle.std.specs.declared.io.ErrorKind.TheVariants.{OutOfMemory}
-use Rattle.buffer_redux.specs.Buffered.{Buffered}
-use Rattle.buffer_redux.specs.declared.policy.StdPolicy.{StdPolicy}
 use Rattle.codec.specs.NextPieceLaws.{MetEnd-once}
 use Rattle.forward.specs.declared.error.AskError.TheVariants as ask
 use Rattle.frame_reader.specs.Frames.{BeginsAbove}
@@ -18,7 +16,7 @@ use Rattle.piece_filter.specs.PieceRuns.{Over, all_received}
 use Rattle.piece_filter.specs.Pieces.{HasEnded, IsReady, Keeps, piece_rules}
 use Rattle.piece_filter.specs.PiecesCalls as pieces
 use Rattle.piece_filter.specs.PiecesLaws.{coded_all}
-use Rattle.frames.specs.Words.{All, AllSent, FilterAsks, Begins, bytes_at, Error, error_kind, Fits, ForwardAnswers, framed, frames, GaveNothing, IsCutShort, IsLent, IsOpen, IsStill, MetNoFault, newline, RanDry, ReaderState, rest, room, RunError, Span, Stopped, StreamLog, with_newline, with_newlines}
+use Rattle.frames.specs.Words.{All, AllSent, FilterAsks, Begins, bytes_at, Error, error_kind, Fits, ForwardAnswers, framed, frames, GaveNothing, IsCutShort, IsLent, IsOpen, MetNoFault, RanDry, ReaderState, rest, RunError, Span, Stopped, StreamLog, with_newline, with_newlines}
 use Rattle.frames.specs.Ending.{IsErrorOf}
 use Rattle.frames.specs.Unpack.{Unpacked, UnpackedFirst, UnpackRan, Unpacks}
 use Rattle.frames.specs.Unpacking.{unpacking}
@@ -37,15 +35,6 @@ frames_on s t takes decoder told kind capacity = record {
     capacity = omega (arith, takes.target.capacity, capacity, ap (λ d. d.max) decoder);
   };
   told = told;
-}
-
--- a line for which there is room is copied in
-pub still_line : {W : Type 0} (u v : Buffered W StdPolicy) (payload : List ℕ)
-    → (length u.block.bytes + (length payload + 1) ≤ u.block.capacity → v.log ≡ u.log) → v.block.capacity ≡ u.block.capacity
-    → length (with_newline payload) ≤ room u → IsStill u v
-still_line u v payload told capacity fits = record {
-  told = told (omega (arith, fits, length-append payload (newline ∷ [])));
-  capacity = capacity;
 }
 
 -- what is nothing, or cut short, has fewer bytes than the longest frame
@@ -222,6 +211,7 @@ unpack_refused most read written e memory = record {
   );
   prompt = inl refl;
   once = omega arith;
+  few = omega arith;
   flushes = omega arith;
   per_ask = omega arith;
 }

@@ -1,7 +1,7 @@
 -- What a run of `pack` moves from a reader to a writer.
 use Rattle.std.specs.Prelude.{◌≡◌, ℕ, ◌+◌, ◌≤◌, ◌⊎◌, List, [], ◌++◌, length, Result, Ok, Err}
 use Rattle.line_reader.specs.Lines.{BeginsTooLong}
-use Rattle.frames.specs.Words.{All, StreamLog, Fits, frames, FitsLine, IsLine, HasLines, with_newlines, RunError, HoldsNothingBack, EndsOnce, MetNoFault, ReadFailed as AReadFailed, WriterFailed, OverCount, RefusedBeforeCalls, GaveNothing, ReceivedFlushed}
+use Rattle.frames.specs.Words.{FewFaults, failure_count, All, StreamLog, Fits, frames, FitsLine, IsLine, HasLines, with_newlines, RunError, HoldsNothingBack, EndsOnce, MetNoFault, ReadFailed as AReadFailed, WriterFailed, OverCount, RefusedBeforeCalls, GaveNothing, ReceivedFlushed}
 use Rattle.frames.specs.declared.error.RunError.TheVariants.{TooLong, Truncated, Read, Write, Io}
 use Rattle.programs.specs.Flushes.{FlushesSend}
 
@@ -63,5 +63,6 @@ pub record Packs (most : ℕ) (read read' written written' : StreamLog) (answer 
   pub ran : PackRan most read read' written written' answer
   pub prompt : HoldsNothingBack (IsDue most) read read' written written'
   pub once : EndsOnce read.reads read'.reads
+  pub few : FewFaults (failure_count answer) written.writes written'.writes
   pub flushes : FlushesSend 1 written.writes written'.writes
   pub per_ask : written'.writes.flushes + read.reads.asks ≤ written.writes.flushes + read'.reads.asks + 2

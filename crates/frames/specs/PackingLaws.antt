@@ -25,8 +25,8 @@ all_ended max bytes lines is =
         starts.equal ∙ ap (λ l. l ++ more) starts.is.2 ∙ ap (λ l. with_newline line ++ l) (whole more lines is)
 
 -- a frame has a byte
-pub some_frame : (line : List ℕ) → 0 < length (frames (line ∷ []))
-some_frame line = omega (arith, length-append (frame line) [], length-append (header (length line)) line)
+pub some_frame : (line : List ℕ) → 0 < length (frame line)
+some_frame line = omega (arith, length-append (header (length line)) line)
 
 pub packing_sound : {R W : Type 0} → IsCoherent (packing {R = R} {W = W})
 packing_sound = record {

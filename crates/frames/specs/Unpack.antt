@@ -1,7 +1,7 @@
 -- What a run of `unpack` moves from a reader to a writer.
 use Rattle.std.specs.Prelude.{◌≡◌, ℕ, ◌+◌, ◌≤◌, List, [], ◌++◌, length, ◌⊎◌, Result, Ok, Err}
 use Rattle.frame_reader.specs.Frames.{BeginsAbove}
-use Rattle.frames.specs.Words.{All, StreamLog, IsOpen, SplitsIntoFrames, framed, Fits, IsCutShort, frames, RunError, with_newlines, HoldsNothingBack, EndsOnce, MetNoFault, ReadFailed as AReadFailed, WriterFailed, OverCount, RefusedBeforeCalls, GaveNothing, ReceivedFlushed}
+use Rattle.frames.specs.Words.{FewFaults, failure_count, All, StreamLog, IsOpen, SplitsIntoFrames, framed, Fits, IsCutShort, frames, RunError, with_newlines, HoldsNothingBack, EndsOnce, MetNoFault, ReadFailed as AReadFailed, WriterFailed, OverCount, RefusedBeforeCalls, GaveNothing, ReceivedFlushed}
 use Rattle.frames.specs.declared.error.RunError.TheVariants.{TooLong, Truncated, Read, Write, Io}
 use Rattle.programs.specs.Flushes.{FlushesSend}
 
@@ -57,5 +57,6 @@ pub record Unpacks (most : ℕ) (read read' written written' : StreamLog) (answe
   pub ran : UnpackRan most read read' written written' answer
   pub prompt : HoldsNothingBack (IsDue most) read read' written written'
   pub once : EndsOnce read.reads read'.reads
+  pub few : FewFaults (failure_count answer) written.writes written'.writes
   pub flushes : FlushesSend 1 written.writes written'.writes
   pub per_ask : written'.writes.flushes + read.reads.asks ≤ written.writes.flushes + read'.reads.asks + 2

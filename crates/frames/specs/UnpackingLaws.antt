@@ -1,5 +1,5 @@
 -- Payloads are taken in as lines, and what is due of whole frames is those of their payloads.
-use Rattle.std.proofs.Common.{◌≡◌, ℕ, ◌<◌, List, [], ◌∷◌, ◌++◌, length, Option, inl, inr, ap, ◌∙◌, arith, length-append}
+use Rattle.std.proofs.Common.{◌+◌, ◌≡◌, ℕ, ◌<◌, List, [], ◌∷◌, ◌++◌, length, Option, inl, inr, ap, ◌∙◌, arith, length-append}
 use Rattle.std.proofs.lemmas.List.Elements.{All-cons, All-nil}
 use Rattle.frames.specs.Words.{All, IsPieces, IsLawful, framed, Fits, frame, frames, newline, with_newline}
 use Rattle.piece_filter.specs.Pieces.{IsCoherent, piece_rules}
@@ -16,9 +16,9 @@ all_frames max bytes (payload ∷ payloads) (more, starts, is) =
       All-cons (Fits max) payload payloads starts.is.fits others.1,
     )
 
--- a line has a byte
-pub some_line : (payload : List ℕ) → 0 < length (with_newline payload)
-some_line payload = omega (arith, length-append payload (newline ∷ []))
+-- a line has one byte more
+pub line_length : (payload : List ℕ) → length payload + 1 ≡ length (with_newline payload)
+line_length payload = omega (arith, length-append payload (newline ∷ []))
 
 pub unpacking_sound : {R W : Type 0} → IsCoherent (unpacking {R = R} {W = W})
 unpacking_sound = record {

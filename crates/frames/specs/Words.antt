@@ -10,6 +10,8 @@ pub use Rattle.codec.specs.Texts.{HasPieces, IsPieces}
 pub use Rattle.codec.specs.declared.Span.{Span}
 pub use Rattle.forward.specs.Filter.{FilterAsks, FilterFlushes, FilterPasses, FilterRules, IsLawful}
 pub use Rattle.forward.specs.Forward.{ForwardAnswers, NoneFailed, StopsBy}
+pub use Rattle.forward.specs.Streams.{FewFaults}
+pub use Rattle.forward.specs.Target.{failure_count}
 pub use Rattle.forward.specs.declared.error.Stopped.{Stopped}
 pub use Rattle.frame_reader.specs.Framed.{SplitsIntoFrames, framed}
 pub use Rattle.frame_reader.specs.Frames.{Fits, IsCutShort, frame, frames, header}
@@ -17,8 +19,6 @@ pub use Rattle.frames.specs.declared.error.RunError.{RunError}
 pub use Rattle.line_reader.specs.LineReader.{LineState, lined}
 pub use Rattle.line_reader.specs.Lines.{FitsLine, HasLines, IsLine, newline, with_newline, with_newlines}
 pub use Rattle.programs.specs.Prompt.{HoldsNothingBack}
-pub use Rattle.buffer_redux.specs.WriteParts.{room}
-pub use Rattle.programs.specs.TakenIn.{IsStill}
 pub use Rattle.programs.specs.Streams.{AllSent, EndsOnce, GaveNothing, MetNoFault, OverCount, ReadFailed, ReceivedFlushed, RefusedBeforeCalls, WriterFailed}
 pub use Rattle.std.specs.IoError.{error_kind}
 pub use Rattle.std.specs.List.{All}

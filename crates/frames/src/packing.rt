@@ -1,13 +1,13 @@
 //! Lines as they go over, one by one, as frames.
-ghost use Rattle.std.specs.Prelude.{◌≡◌, ◌≤◌, [], ◌∷◌, length, Some, IfErr, OnErr, OnOk};
-ghost use Rattle.buffer_redux.specs.Faults.{MetInterrupts, SendErrorCaused};
+ghost use Rattle.std.specs.Prelude.{◌≡◌, ◌≤◌, [], ◌∷◌, length, Some, OnErr, OnOk};
 ghost use Rattle.codec.specs.WritePiece.{PiecesTaken};
 ghost use Rattle.forward.specs.Filter.{FilterPasses};
 ghost use Rattle.frame_reader.specs.Framed.{framed_out};
 ghost use Rattle.frames.specs.Packing.{packing};
 ghost use Rattle.frames.specs.PackingLaws.{packing_lawful};
-ghost use Rattle.frames.specs.Words.{frame, IsStill, room};
+ghost use Rattle.frames.specs.Words.{frame};
 ghost use Rattle.piece_filter.specs.Pieces.{IsReady, piece_rules};
+ghost use Rattle.programs.specs.TakenIn.{TakesAll};
 
 use crate::error::RunError;
 use buffer_redux::tell::{TellRead, TellWrite};
@@ -93,12 +93,7 @@ fn write_line<W: TellWrite>(target: &mut FrameWriter<W>, line: &[u8]) -> io::Res
     ensures taken { OnOk result
         (PiecesTaken W.trace (framed_out target.old.encoder.max) target.old (line.now ∷ []) target.new) }
     ensures none { OnErr result (PiecesTaken W.trace (framed_out target.old.encoder.max) target.old [] target.new) }
-    ensures met { OnOk result (MetInterrupts target.old.writer.log.writes target.new.writer.log.writes) }
-    ensures caused { IfErr result (λ e. SendErrorCaused target.old.writer.log.writes target.new.writer.log.writes e) }
-    ensures not_flushed { target.new.writer.log.writes.flushed ≡ target.old.writer.log.writes.flushed }
-    ensures flushes { target.new.writer.log.writes.flushes ≡ target.old.writer.log.writes.flushes }
-    ensures fits { OnOk result (length (frame line.now) ≤ room target.old.writer
-        → IsStill target.old.writer target.new.writer) }
+    ensures takes { TakesAll (length (frame line.now)) (λ _. ⊥) target.old.writer (frame line.now) result target.new.writer }
 {
     match target.write_frame(line) {
         Ok(()) => Ok(()),

@@ -1,9 +1,9 @@
 -- What the calls of a filter that answers payloads do.
-use Rattle.std.proofs.Common.{◌≡◌, ℕ, ◌+◌, ◌≤◌, ◌<◌, inl, inr, Bool, true, false, List, [], ◌∷◌, length, Option, None, Some, Result, Ok, Err, refl, sym, ap, subst, arith, ◌∙◌}
+use Rattle.std.proofs.Common.{◌≡◌, ℕ, ◌≤◌, ◌<◌, inl, inr, Bool, true, false, List, [], ◌∷◌, length, Option, None, Some, Result, Ok, Err, refl, sym, ap, subst, arith, ◌∙◌}
 use Rattle.std.proofs.lemmas.Bool.{true≢false}
 use Rattle.std.specs.declared.io.Error.{Error}
-use Rattle.buffer_redux.specs.BufWriter.{WasFlushed, WritesInOrder}
-use Rattle.buffer_redux.specs.Faults.{MetInterrupts, MetInterrupts-none}
+use Rattle.buffer_redux.specs.BufWriter.{WasFlushed}
+use Rattle.buffer_redux.specs.Faults.{MetInterrupts-none}
 use Rattle.buffer_redux.specs.StreamLog.{StreamLog}
 use Rattle.buffer_redux.specs.Buffered.{Buffered}
 use Rattle.buffer_redux.specs.WriterLaws.{WritesInOrder-none}
@@ -19,7 +19,6 @@ use Rattle.forward.specs.Filter.{FilterAsks, FilterFlushes, FilterPasses, Filter
 use Rattle.forward.specs.PromptLaws.{WritesOn-none}
 use Rattle.forward.specs.declared.error.AskError.TheVariants.{Wrong, Io, IoBehind}
 use Rattle.programs.specs.Streams.{AllSent}
-use Rattle.programs.specs.TakenIn.{IsStill-same}
 use Rattle.piece_filter.specs.Answering.{AnswersOne, IsWrongPiece, answering}
 use Rattle.piece_filter.specs.AnsweringLaws.{answering_lawful}
 use Rattle.piece_filter.specs.Pieces.{IsReady, Keeps, Piecewise, held_at, piece_rules}
@@ -46,33 +45,25 @@ module _ {R D X A W N : Type 0} (remaining : R → Option (List ℕ)) (grammar :
 
     pub passes : AnswersOne Answers s.service payload s.target (Ok true) b v → FilterPasses rules s (Ok true) (answered false)
     passes (reply, is, some, puts) =
-        pieces.passed remaining f ready (answered false) puts.not_flushed puts.flushes payload reply
+        pieces.answered remaining f ready (answered false) payload reply
         (pieces.took_held remaining f ready (answered false) refl (λ sent. absurd (true≢false (sym sent))) span held refl)
-        is puts.taken puts.met (inl some) (λ room.
-        let fits : length s.target.block.bytes + length reply ≤ s.target.block.capacity = omega (arith, room, some) in
-        record { told = (puts.fits fits).1; capacity = puts.kept (omega (arith, fits)) })
+        is puts.takes (omega arith) some puts.kept puts.grown
 
     pub drops : AnswersOne Answers s.service payload s.target (Ok false) b v → FilterPasses rules s (Ok true) (answered s.sent)
     drops (is, same) =
         let still : AllSent s.target → AllSent v = subst AllSent (sym same) in
-        pieces.passed remaining f ready (answered s.sent) (ap (λ x. x.log.writes.flushed) same)
-        (ap (λ x. x.log.writes.flushes) same) payload []
+        pieces.dropped remaining f ready (answered s.sent) payload
         (pieces.took_held remaining f ready (answered s.sent) refl (λ sent. still (ready.also sent)) span held refl)
-        is (subst (WritesInOrder s.target []) (sym same) (WritesInOrder-none s.target))
-        (subst (λ x. MetInterrupts s.target.log.writes x.log.writes) (sym same) (MetInterrupts-none s.target.log.writes))
-        (inr (tt, λ sent. (sent.0, still sent.1))) (λ room. IsStill-same s.target v same)
+        is same tt (λ sent. (sent.0, still sent.1))
 
     pub refused : (e : Error) → AnswersOne Answers s.service payload s.target (Err e) b v
         → FilterPasses rules s (Err e) (record s { target = v; service = b; sent = false })
     refused e (reply, after, is, same, puts) =
         let t : Answering R D W A X N = record s { target = v; service = b; sent = false } in
         let holds = ap (λ h. held_at s.source h) held in
-        pieces.lost remaining f ready t puts.not_flushed puts.flushes [] (omega arith)
-        (pieces.took_none remaining f ready t refl (λ sent. absurd (true≢false (sym sent))) refl) same puts.taken puts.refused e
-        (elim puts.caused [
-          | inl failed ↦ inl failed
-          | inr room ↦ inr (payload, reply, after, holds, subst (λ a. Answers a payload reply after) (sym same) is, room)
-        ])
+        pieces.lost remaining f ready t [] (omega arith)
+        (pieces.took_none remaining f ready t refl (λ sent. absurd (true≢false (sym sent))) refl) same e puts.takes
+        (λ room. (payload, reply, after, holds, subst (λ a. Answers a payload reply after) (sym same) is, room)) puts.refused
 
   -- the next was buffered, and is held; or none was
   module _ (lacks : s.held ≡ None) (m : ReaderState R D) where
@@ -97,10 +88,10 @@ module _ {R D X A W N : Type 0} (remaining : R → Option (List ℕ)) (grammar :
 
       answers_behind : (t : Answering R D W A X N) (answer : Result Bool Error) → PassAnswers rules (holding span) answer t
           → PassAnswers rules s answer t
-      answers_behind t (Ok true) (p, moves, met, some, still) = (p, joins t (p ∷ []) (p ∷ []) moves, met, some, still)
-      answers_behind t (Ok false) (moves, met, none, isnt, sent, still) =
-          (joins t [] [] moves, met, none, λ has. has lacks, sent, still)
-      answers_behind t (Err e) (lost, moves, caused, few, none) = (lost, joins t lost [] moves, caused, few, none)
+      answers_behind t (Ok true) (p, moves, some) = (p, joins t (p ∷ []) (p ∷ []) moves, some)
+      answers_behind t (Ok false) (moves, none, isnt, sent, still, looks) =
+          absurd (isnt (λ none. (let odd : Some span ≡ None = none in cc)))
+      answers_behind t (Err e) (lost, moves, few) = (lost, joins t lost [] moves, few)
 
       pub passes_behind : (t : Answering R D W A X N) (answer : Result Bool Error) → FilterPasses rules (holding span) answer t
           → FilterPasses rules s answer t
@@ -108,8 +99,7 @@ module _ {R D X A W N : Type 0} (remaining : R → Option (List ℕ)) (grammar :
         told = p.told ∙ took.told;
         ready = p.ready;
         closed = λ ended. p.closed (took.closed ended);
-        writes = p.writes;
-        flushes = p.flushes;
+        wrote = p.wrote;
         answers = answers_behind t answer p.answers;
       }
 
@@ -166,8 +156,13 @@ module _ {R D X A W N : Type 0} (remaining : R → Option (List ℕ)) (grammar :
     told = refl;
     ready = ready;
     closed = λ closed. closed;
-    writes = WritesOn-none s.target.log.writes;
-    flushes = inl refl;
+    wrote = record {
+      writes = WritesOn-none s.target.log.writes;
+      flushes = inl refl;
+      few = omega arith;
+      ended = MetInterrupts-none s.target.log.writes;
+      capacity = refl;
+    };
     steps = inl (record { answered = refl; buffer = refl; told = refl });
     quiet = λ drops sent. refl;
     moves = record {
@@ -175,7 +170,7 @@ module _ {R D X A W N : Type 0} (remaining : R → Option (List ℕ)) (grammar :
       takes = takes_nothing remaining f s s refl (WritesInOrder-none s.target);
     };
     lacks = λ lacks. lacks;
-    answers = ((sent, ready.also sent), MetInterrupts-none s.target.log.writes);
+    sent = (sent, ready.also sent);
   }
 
   -- the writer was flushed, or that failed

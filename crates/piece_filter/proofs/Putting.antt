@@ -1,6 +1,6 @@
 -- How all of some bytes is taken in, or nothing.
-use Rattle.std.proofs.Common.{◌≡◌, ℕ, ◌+◌, ◌-◌, ◌^◌, ◌==◌, ◌<◌, ◌≤◌, ◌⊎◌, if◌then◌else◌, nat_le, Bool, true, false, inl, inr, List, [], ◌++◌, length, min, Result, Ok, Err, IsOk, OnOk, refl, sym, ap, subst, ◌∙◌, arith, append-nil, length-append}
-use Rattle.std.proofs.lemmas.Bool.{cases_lt, true≢false}
+use Rattle.std.proofs.Common.{◌≡◌, ℕ, ◌+◌, ◌-◌, ◌^◌, ◌==◌, ◌<◌, ◌≤◌, if◌then◌else◌, nat_le, Bool, true, false, inl, inr, List, [], ◌++◌, length, min, Result, Ok, Err, IsOk, OnOk, refl, sym, ap, subst, ◌∙◌, arith, append-nil, length-append}
+use Rattle.std.proofs.lemmas.Bool.{cases_lt, false≢true, true≢false}
 use Rattle.std.proofs.lemmas.List.{append_cancel_left}
 use Rattle.std.specs.Prelude.{IfErr, MatchResult, OnErr, ◌∷◌}
 use Rattle.std.specs.declared.io.Error.{Error}
@@ -8,14 +8,15 @@ use Rattle.buffer_redux.specs.Block.{Block, Kind, MakesRoom, Plain, Reserves, Ri
 use Rattle.buffer_redux.specs.BufWriter.{WasSent, WritesInOrder}
 use Rattle.buffer_redux.specs.Buffered.{Buffered, with_block}
 use Rattle.buffer_redux.specs.GrowError.{GrowthFailed}
-use Rattle.buffer_redux.specs.Faults.{MetInterrupts, MetInterrupts-none, SendErrorCaused, SendErrorCaused-after}
+use Rattle.buffer_redux.specs.Faults.{SendErrorCaused}
 use Rattle.buffer_redux.specs.StreamLog.{StreamLog, WriteLog}
 use Rattle.buffer_redux.specs.Transfer.{Sends}
-use Rattle.buffer_redux.specs.WriteParts.{JustAppends, MakesPlace, PartsRefused, WritesParts}
+use Rattle.buffer_redux.specs.WriteParts.{JustAppends, MakesPlace, WritesParts}
 use Rattle.buffer_redux.specs.WritePartsLaws.{WritesParts-limit, WritesParts-sent}
 use Rattle.buffer_redux.specs.WriterLaws.{WritesInOrder-joins}
 use Rattle.buffer_redux.specs.declared.policy.StdPolicy.{StdPolicy}
-use Rattle.piece_filter.specs.Puts.{IsRoomRefused, Puts, SendsOnce}
+use Rattle.programs.specs.TakenIn.{SendsOnce}
+use Rattle.piece_filter.specs.Puts.{IsRoomRefused, Puts}
 
 -- the inner writer isn't called where parts fit, which goes well, nor where nothing is buffered
 module _ {W : Type 0} (tells : W → StreamLog) (trace : W → W → Type 0) (m : Buffered W StdPolicy) (bytes : List ℕ)
@@ -66,41 +67,45 @@ caused_none old new e same caused = elim caused.cause [
 ]
 
 -- an empty block grows by so many at most, or to so many, rounded up
-grows_to : (within none : Bool) (k : Kind) (capacity less n all : ℕ) → all ≡ n
+grows_to : (within none : Bool) (k : Kind) (capacity less n all : ℕ) → all ≡ n → none ≡ true
     → (if within then capacity else by_kind k (if none then capacity + n else capacity - less + n) (round all))
-    ≤ capacity + n + 4095
-grows_to true none k capacity less n all is = omega arith
-grows_to false true Plain capacity less n all is = omega arith
-grows_to false false Plain capacity less n all is = omega arith
-grows_to false none Ring capacity less n all is = omega (arith, is)
+    ≤ capacity + n + by_kind k 0 4095
+grows_to true none k capacity less n all is empty = omega arith
+grows_to false true Plain capacity less n all is empty = omega arith
+grows_to false false Plain capacity less n all is empty = absurd (false≢true empty)
+grows_to false none Ring capacity less n all is empty = omega (arith, is)
 
-capacity_bound : (b : Block) (n : ℕ) → length b.bytes ≡ 0 → capacity_for b n ≤ b.capacity + n + 4095
+capacity_bound : (b : Block) (n : ℕ) → length b.bytes ≡ 0 → capacity_for b n ≤ b.capacity + n + by_kind b.kind 0 4095
 capacity_bound b n none = grows_to (nat_le n (usable b)) (length b.bytes == 0) b.kind b.capacity (usable b) n
-    (length b.bytes + n) (omega (arith, none))
+    (length b.bytes + n) (omega (arith, none)) (rw none refl)
 
 module _ {W : Type 0} (tells : W → StreamLog) (trace : W → W → Type 0) (m : Buffered W StdPolicy) (empty : m.block.bytes ≡ [])
   where
     -- place that is made where nothing is buffered is no more
     place_bound : (count : ℕ) (answer : Result (Unit {0}) Error) (q : Buffered W StdPolicy)
-        → MakesPlace tells trace count m answer q → q.block.capacity ≤ m.block.capacity + count + 4095
+        → MakesPlace tells trace count m answer q
+        → q.block.capacity ≤ m.block.capacity + count + by_kind m.block.kind 0 4095
     place_bound count answer q place = by_sending place.sending place.left place.sent answer place.ended
       where
         by_sending : (sending : Result (Unit {0}) Error) (left : Buffered W StdPolicy) → WasSent tells trace m sending left
             → (answer : Result (Unit {0}) Error) → MatchResult sending
             (λ _. MatchResult answer (λ _. Reserves count left.block q.block × (q ≡ with_block left q.block))
             (λ e. GrowthFailed count left.block e × (q ≡ left)))
-            (λ e. (answer ≡ Err e) × (q ≡ left)) → q.block.capacity ≤ m.block.capacity + count + 4095
+            (λ e. (answer ≡ Err e) × (q ≡ left))
+            → q.block.capacity ≤ m.block.capacity + count + by_kind m.block.kind 0 4095
         by_sending (Ok _) left sent (Ok _) (grown, others) = omega (
           arith,
           grown.capacity,
           capacity_bound left.block count (ap length sent.ok.empty),
           sent.capacity,
+          ap {B = ℕ} (λ k. by_kind k 0 4095) sent.sends.sent.dropped.kind,
         )
         by_sending (Ok _) left sent (Err e) (failed, same) = omega (arith, ap (λ x. x.block.capacity) same, sent.capacity)
         by_sending (Err e) left sent answer (is, same) = omega (arith, ap (λ x. x.block.capacity) same, sent.capacity)
 
     pub parts_bound : (bytes : List ℕ) (answer : Result (Unit {0}) Error) (t : Buffered W StdPolicy)
-        → WritesParts tells trace m bytes answer t → t.block.capacity ≤ m.block.capacity + length bytes + 4095
+        → WritesParts tells trace m bytes answer t
+        → t.block.capacity ≤ m.block.capacity + length bytes + by_kind m.block.kind 0 4095
     parts_bound bytes answer t p = elim (cases_lt (usable m.block) (length bytes)) [
       | inl few ↦ by_answer answer (p.full few)
       | inr fit ↦ omega (arith, (p.fits fit).1.added.capacity)
@@ -110,7 +115,7 @@ module _ {W : Type 0} (tells : W → StreamLog) (trace : W → W → Type 0) (m 
             (λ _. (q : Buffered W StdPolicy) × MakesPlace tells trace (min (length bytes) (2 ^ 64 - 1)) m (Ok tt) q
             × JustAppends q bytes t)
             (λ e. MakesPlace tells trace (min (length bytes) (2 ^ 64 - 1)) m (Err e) t)
-            → t.block.capacity ≤ m.block.capacity + length bytes + 4095
+            → t.block.capacity ≤ m.block.capacity + length bytes + by_kind m.block.kind 0 4095
         by_answer (Ok _) (q, place, puts) = omega (
           arith,
           puts.added.capacity,
@@ -119,53 +124,32 @@ module _ {W : Type 0} (tells : W → StreamLog) (trace : W → W → Type 0) (m 
         by_answer (Err e) place = omega (arith, place_bound (min (length bytes) (2 ^ 64 - 1)) (Err e) t place)
 
 module _ {W : Type 0} (tells : W → StreamLog) (trace : W → W → Type 0) (s t : Buffered W StdPolicy) (bytes : List ℕ) where
-  -- behind what took nothing in, and met interruptions at most, the parts were written, and the stream wasn't called
-  module _ (m : Buffered W StdPolicy) (order : WritesInOrder s [] m) (met : MetInterrupts s.log.writes m.log.writes)
-      (not_flushed : m.log.writes.flushed ≡ s.log.writes.flushed) (flushes : m.log.writes.flushes ≡ s.log.writes.flushes)
-      (told : t.log ≡ m.log) (kept : length bytes ≤ s.block.capacity → t.block.capacity ≡ s.block.capacity)
-      (limit : t.block.limit ≡ s.block.limit) (grown : t.block.capacity ≤ s.block.capacity + length bytes + 4095)
-      (same : m.block.capacity ≡ s.block.capacity) where
-    met_still : MetInterrupts s.log.writes t.log.writes
-    met_still = subst (λ l. MetInterrupts s.log.writes l.writes) (sym told) met
+  abbrev Refused : Error → Type 0
+  Refused e = IsRoomRefused (length bytes) e t
 
-    refused : (e : Error) → t.block.bytes ≡ [] → PartsRefused (length bytes) m e t
-        → SendErrorCaused s.log.writes t.log.writes e ⊎ IsRoomRefused (length bytes) e t
-    refused e empty (inl caused) = inl (SendErrorCaused-after s.log.writes m.log.writes t.log.writes e met caused)
-    refused e empty (inr (more, few, failed)) = inr (more, few, empty, failed)
+  -- behind what took nothing in the parts were written
+  module _ (m : Buffered W StdPolicy) (order : WritesInOrder s [] m) (same : m.block.capacity ≡ s.block.capacity)
+      (answer : Result (Unit {0}) Error) (p : WritesParts tells trace m bytes answer t)
+      (fits : length s.block.bytes + length bytes ≤ s.block.capacity → IsOk answer × (t.log ≡ s.log))
+      (sends : s.block.capacity < length s.block.bytes + length bytes → SendsOnce Refused s answer t)
+      (full : s.block.capacity < length s.block.bytes + length bytes → OnOk answer (t.block.bytes ≡ bytes))
+      (kept : length bytes ≤ s.block.capacity → t.block.capacity ≡ s.block.capacity)
+      (grown : t.block.capacity ≤ s.block.capacity + length bytes + by_kind s.block.kind 0 4095)
+      (limit : t.block.limit ≡ s.block.limit) where
+    taken : (answer : Result (Unit {0}) Error) → WritesParts tells trace m bytes answer t
+        → MatchResult answer (λ _. WritesInOrder s bytes t) (λ _. WritesInOrder s [] t)
+        × OnErr answer (t.block.capacity ≡ s.block.capacity)
+    taken (Ok _) p = (WritesInOrder-joins s m t [] bytes order p.along.in_order, tt)
+    taken (Err e) p = (WritesInOrder-joins s m t [] [] order p.along.in_order, parts_kept tells trace m t e bytes p ∙ same)
 
-    pub puts : (answer : Result (Unit {0}) Error)
-        → (length s.block.bytes + length bytes ≤ s.block.capacity → IsOk answer × (t.log ≡ s.log))
-        → (s.block.capacity < length s.block.bytes + length bytes → OnOk answer (t.block.bytes ≡ bytes))
-        → (s.block.capacity < length s.block.bytes + length bytes → SendsOnce s (length bytes) answer t)
-        → OnErr answer (t.block.bytes ≡ []) → WritesParts tells trace m bytes answer t → Puts s bytes answer t
-    puts (Ok _) fits full sends empty p = record {
-      taken = WritesInOrder-joins s m t [] bytes order p.along.in_order;
-      met = met_still;
-      fits = fits;
+    puts : Puts s bytes answer t
+    puts = record {
+      takes = record { taken = (taken answer p).0; fits = fits; sends = sends };
       full = full;
-      sends = sends;
-      caused = tt;
       kept = kept;
       grown = grown;
-      refused = tt;
+      refused = (taken answer p).1;
       limit = limit;
-      not_flushed = ap (λ l. l.writes.flushed) told ∙ not_flushed;
-      flushes = ap (λ l. l.writes.flushes) told ∙ flushes;
-      whole = p.whole;
-    }
-    puts (Err e) fits full sends empty p = record {
-      taken = WritesInOrder-joins s m t [] [] order p.along.in_order;
-      met = tt;
-      fits = fits;
-      full = full;
-      sends = sends;
-      caused = refused e empty p.caused;
-      kept = kept;
-      grown = grown;
-      refused = parts_kept tells trace m t e bytes p ∙ same;
-      limit = limit;
-      not_flushed = ap (λ l. l.writes.flushed) told ∙ not_flushed;
-      flushes = ap (λ l. l.writes.flushes) told ∙ flushes;
       whole = p.whole;
     }
 
@@ -174,33 +158,29 @@ module _ {W : Type 0} (tells : W → StreamLog) (trace : W → W → Type 0) (s 
       → length s.block.bytes + length bytes ≤ s.block.capacity → (answer : Result (Unit {0}) Error)
       → WritesParts tells trace m bytes answer t → Puts s bytes answer t
   puts_fitting m order others room fits answer p =
-      let same = ap (λ x. x.log) others in
       let fit : length bytes ≤ usable m.block = omega (arith, fits, room.usable) in
       let there = fit_in tells trace m bytes answer t p fit in
-      puts m order (subst (λ l. MetInterrupts s.log.writes l.writes) (sym same) (MetInterrupts-none s.log.writes))
-      (ap (λ l. l.writes.flushed) same) (ap (λ l. l.writes.flushes) same) there.1
-      (λ _. (p.fits fit).1.added.capacity ∙ room.capacity) (WritesParts-limit tells trace m t bytes answer p ∙ room.limit)
-      (omega (arith, (p.fits fit).1.added.capacity, room.capacity)) room.capacity answer (λ _. (there.0, there.1 ∙ same))
-      (λ few. absurd (omega (arith, fits, few))) (λ few. absurd (omega (arith, fits, few))) (never answer there.0) p
-    where
-      never : (answer : Result (Unit {0}) Error) → IsOk answer → OnErr answer (t.block.bytes ≡ [])
-      never (Ok _) ok = tt
-      never (Err e) ok = absurd (true≢false (sym ok))
+      let added = (p.fits fit).1.added in
+      puts m order room.capacity answer p (λ _. (there.0, there.1 ∙ ap (λ x. x.log) others))
+      (λ few. absurd (omega (arith, fits, few))) (λ few. absurd (omega (arith, fits, few)))
+      (λ _. added.capacity ∙ room.capacity) (omega (arith, added.capacity, room.capacity)) (added.limit ∙ room.limit)
 
   -- all was sent, and room was made
   pub puts_sent : (u m : Buffered W StdPolicy) → WasSent tells trace s (Ok tt) u → WritesInOrder u [] m → m ≡ with_block u m.block
       → MakesRoom u.block m.block → s.block.capacity < length s.block.bytes + length bytes
       → (answer : Result (Unit {0}) Error) → WritesParts tells trace m bytes answer t → Puts s bytes answer t
   puts_sent u m sent order others room few answer p =
-      let same = ap (λ x. x.log) others in
-      puts m (WritesInOrder-joins s u m [] [] sent.in_order order)
-      (subst (λ l. MetInterrupts s.log.writes l.writes) (sym same) sent.ok.met)
-      (ap (λ l. l.writes.flushed) same ∙ sent.not_flushed) (ap (λ l. l.writes.flushes) same ∙ sent.sends.sent.flushes)
-      told (λ small. (p.fits (space small)).1.added.capacity ∙ room.capacity ∙ sent.capacity)
+      puts m (WritesInOrder-joins s u m [] [] sent.in_order order) (room.capacity ∙ sent.capacity) answer p
+      (λ fit. absurd (omega (arith, fit, few))) (λ _. once) (λ _. kept answer p)
+      (λ small. (p.fits (space small)).1.added.capacity ∙ room.capacity ∙ sent.capacity)
+      (omega (
+        arith,
+        parts_bound tells trace m empty bytes answer t p,
+        room.capacity,
+        sent.capacity,
+        ap {B = ℕ} (λ k. by_kind k 0 4095) (room.kind ∙ sent.sends.sent.dropped.kind),
+      ))
       (WritesParts-limit tells trace m t bytes answer p ∙ room.limit ∙ sent.sends.sent.dropped.limit)
-      (omega (arith, parts_bound tells trace m empty bytes answer t p, room.capacity, sent.capacity))
-      (room.capacity ∙ sent.capacity) answer
-      (λ fit. absurd (omega (arith, fit, few))) (λ _. kept answer p) (λ _. once) (nothing answer p) p
     where
       empty : m.block.bytes ≡ []
       empty = room.bytes ∙ sent.ok.empty
@@ -221,15 +201,14 @@ module _ {W : Type 0} (tells : W → StreamLog) (trace : W → W → Type 0) (s 
       kept (Ok _) p = left bytes p.along.in_order
       kept (Err e) p = tt
 
-      room_refused : (answer : Result (Unit {0}) Error) → WritesParts tells trace m bytes answer t
-          → IfErr answer (λ e. IsRoomRefused (length bytes) e t)
+      room_refused : (answer : Result (Unit {0}) Error) → WritesParts tells trace m bytes answer t → IfErr answer Refused
       room_refused (Ok _) p = tt
       room_refused (Err e) p = elim p.caused [
         | inl caused ↦ absurd (caused_none m.log.writes t.log.writes e (ap (λ l. l.writes) told) caused)
         | inr (more, few, failed) ↦ (more, few, left [] p.along.in_order, failed)
       ]
 
-      once : SendsOnce s (length bytes) answer t
+      once : SendsOnce Refused s answer t
       once = record {
         sending = Ok tt;
         left = u.block;
@@ -238,10 +217,6 @@ module _ {W : Type 0} (tells : W → StreamLog) (trace : W → W → Type 0) (s 
         ended = room_refused answer p;
       }
 
-      nothing : (answer : Result (Unit {0}) Error) → WritesParts tells trace m bytes answer t → OnErr answer (t.block.bytes ≡ [])
-      nothing (Ok _) p = tt
-      nothing (Err e) p = left [] p.along.in_order
-
 -- at Ok all went in, and else nothing did
 pub puts_say : {W : Type 0} {s : Buffered W StdPolicy} {bytes : List ℕ} {t : Buffered W StdPolicy}
     (answer : Result (Unit {0}) Error) → Puts s bytes answer t → record {
@@ -249,5 +224,5 @@ pub puts_say : {W : Type 0} {s : Buffered W StdPolicy} {bytes : List ℕ} {t : B
       none : OnErr answer (WritesInOrder s [] t);
       puts : Puts s bytes answer t;
     }
-puts_say (Ok _) puts = record { in_order = puts.taken; none = tt; puts = puts }
-puts_say (Err e) puts = record { in_order = tt; none = puts.taken; puts = puts }
+puts_say (Ok _) puts = record { in_order = puts.takes.taken; none = tt; puts = puts }
+puts_say (Err e) puts = record { in_order = tt; none = puts.takes.taken; puts = puts }

@@ -1,6 +1,7 @@
 -- A filter that hands out the payloads of pieces, one by one.
 use Rattle.std.specs.Prelude.{◌≡◌, ℕ, ◌-◌, ◌≤◌, ◌⊎◌, List, [], ◌∷◌, ◌++◌, length, Bool, true, false, Option, None, Some, Result, Ok, Err}
 use Rattle.std.specs.declared.io.Error.{Error}
+use Rattle.buffer_redux.specs.Block.{by_kind}
 use Rattle.buffer_redux.specs.BufReader.{RanDry}
 use Rattle.buffer_redux.specs.BufWriter.{Flushes, WritesInOrder}
 use Rattle.buffer_redux.specs.Buffered.{Buffered}
@@ -15,7 +16,7 @@ use Rattle.piece_reader.specs.Texts.{HasPieces, IsPieces}
 use Rattle.piece_reader.specs.declared.decoder.Span.{Span}
 use Rattle.forward.specs.Filter.{FilterRules}
 use Rattle.programs.specs.Streams.{AllSent}
-use Rattle.programs.specs.TakenIn.{IsStill, taken_in}
+use Rattle.programs.specs.TakenIn.{target_of}
 
 -- the parts of such a filter: a reader, the place of a payload that is held until it is passed, and a writer; what answers
 -- payloads; which bytes are pieces, and what becomes of their payloads
@@ -55,6 +56,11 @@ held_at m None = []
 abbrev pub CanShow : {R D X : Type 0} → Grammar X → ReaderState R D → Option Span → Type 0
 CanShow g m (Some span) = IsLent g m.handed m.reader.block.bytes span
 CanShow g m None = Unit {0}
+
+-- all that is left was looked at, where it settled nothing; and what was looked at stays so
+pub record StaysSeen {R D X : Type 0} (g : Grammar X) (s t : ReaderState R D) : Type 0 where
+  pub stays : s.seen ≤ t.seen
+  pub all : IsOpen g (rest s) → length (rest s) ≤ t.seen
 
 -- the bytes are pieces with these payloads, the last of which may be one only since the stream ended
 abbrev pub IsText : {X : Type 0} → Grammar X → List ℕ → List (List ℕ) → Bool → Type 0
@@ -111,7 +117,8 @@ module _ {T R D X A W E : Type 0} (f : Piecewise T R D X A W E) where
       ⊎ Flushes (f.target s) answer (f.target t)
 
 module _ {T R D X A W E : Type 0} (remaining : R → Option (List ℕ)) (f : Piecewise T R D X A W E) where
-  -- these payloads are what was held, then what the reader handed out, but for what is held still
+  -- these payloads are what was held, then what the reader handed out, but for what is held still. Where that was nothing, what
+  -- was looked at stays so
   pub record HandsPieces (s : T) (payloads : List (List ℕ)) (t : T) : Type 0 where
     pub bytes : List ℕ
     pub got : List (List ℕ)
@@ -120,11 +127,12 @@ module _ {T R D X A W E : Type 0} (remaining : R → Option (List ℕ)) (f : Pie
     pub order : held_of f s ++ got ≡ payloads ++ held_of f t
     pub dry : HasEnded f t → HasEnded f s ⊎ RanDry (f.source s).reader (f.source t).reader
     pub behind : HasEnded f s → (bytes ≡ []) × (got ≡ []) × HasEnded f t
+    pub seen : got ≡ [] → (f.source s).seen ≤ (f.source t).seen
 
   abbrev pub piece_rules : FilterRules T E
   piece_rules = record {
     read = λ s. (f.source s).reader.log;
-    written = λ s. (f.target s).log;
+    target = λ s. target_of (f.target s);
     ready = λ s. IsReady f s;
     hands = HandsPieces;
     takes = TakesReplies f;
@@ -134,12 +142,12 @@ module _ {T R D X A W E : Type 0} (remaining : R → Option (List ℕ)) (f : Pie
         (f.held s ≡ None) × IsOpen (grammar_of f s) (rest (f.source s)) × ((f.source s).ended ≡ false);
     finds = λ s. ⊥;
     sent = f.sent;
-    taken = λ s. taken_in (f.target s);
-    still = λ s t. IsStill (f.target s) (f.target t);
-    room = λ s. (f.target s).block.capacity - length (f.target s).block.bytes;
+    spare = 0;
+    rounds = λ s. by_kind (f.target s).block.kind 0 4095;
     flushes = FlushesOrNot f;
     asks = λ s t. AskedUnlessEnded (IsOpen (grammar_of f s)) (f.source s) (f.source t)
         × ReadLogGrows (f.source s).reader.log.reads (f.source t).reader.log.reads;
+    looks = λ s t. StaysSeen (grammar_of f s) (f.source s) (f.source t);
     wants = λ s. (grammar_of f s).most - length (rest (f.source s));
     ends = λ s how t. (f.held t ≡ None) × PiecesEnd f s how t;
     closed = λ s. HasEnded f s;

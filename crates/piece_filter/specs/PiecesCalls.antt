@@ -1,32 +1,29 @@
 -- What the calls of a filter of pieces do.
-use Rattle.std.proofs.Common.{◌≡◌, ℕ, ◌+◌, ◌≤◌, ◌<◌, ◌⊎◌, inl, inr, Bool, true, false, List, [], ◌∷◌, ◌++◌, length, Option, None, Some, Result, Ok, Err, refl, sym, ap, subst, ◌∙◌, arith, append-nil, length-append}
+use Rattle.std.proofs.Common.{◌≡◌, ℕ, ◌+◌, ◌≤◌, ◌<◌, ◌⊎◌, inl, inr, Bool, true, false, List, [], ◌∷◌, ◌++◌, length, Option, None, Some, Result, Ok, Err, refl, sym, ap, subst, ◌∙◌, arith, append-nil, length-append, length-drop, OnErr, OnOk}
 use Rattle.std.proofs.lemmas.Bool.{true≢false}
 use Rattle.std.proofs.lemmas.List.{append_cancel_left}
 use Rattle.std.specs.declared.io.Error.{Error}
 use Rattle.buffer_redux.specs.BufWriter.{WasFlushed, WritesInOrder}
-use Rattle.buffer_redux.specs.Faults.{MetInterrupts, SendErrorCaused, MetInterrupts-none}
 use Rattle.buffer_redux.specs.LogGrows.{ReadLogGrows-none}
 use Rattle.buffer_redux.specs.StreamLog.{StreamLog}
 use Rattle.buffer_redux.specs.WriterLaws.{WritesInOrder-none}
 use Rattle.piece_reader.specs.Decoding.{IsLent, bytes_at}
-use Rattle.piece_reader.specs.Grammar.{Begins, IsOpen}
-use Rattle.piece_reader.specs.NextPiece.{Faulted, NextAnswer, NextPiece, PiecesWent, StaysLeft, empty_reads}
+use Rattle.piece_reader.specs.Grammar.{Begins, Grammar, IsOpen}
+use Rattle.piece_reader.specs.NextPiece.{Faulted, NextAnswer, NextPiece, PiecesWent, StaysLeft, StaysLooked, empty_reads}
 use Rattle.piece_reader.specs.NextPieceLaws.{MetEnd-once}
-use Rattle.piece_reader.specs.PieceReader.{IsPieceReader, rest}
+use Rattle.piece_reader.specs.PieceReader.{IsPieceReader, ReaderState, rest}
 use Rattle.piece_reader.specs.PiecesWentLaws.{PiecesWent-none}
 use Rattle.piece_reader.specs.StaysLeftLaws.{StaysLeft-went}
 use Rattle.piece_reader.specs.declared.decoder.Span.{Span}
 use Rattle.piece_reader.specs.declared.error.NextError.TheVariants as Why
-use Rattle.forward.specs.Filter.{AskAnswers, FilterAsks, FilterFlushes, FilterPasses, FilterRules, FlushAnswers, StaysOpen}
-use Rattle.forward.specs.Prompt.{WritesOn}
-use Rattle.forward.specs.PromptLaws.{WritesOn-grows, WritesOn-none}
+use Rattle.forward.specs.Filter.{AskAnswers, FilterAsks, FilterFlushes, FilterPasses, FilterRules, StaysOpen}
+use Rattle.forward.specs.Target.{PassWrites, bytes_taken}
 use Rattle.forward.specs.declared.error.AskError.TheVariants.{Wrong, Io, IoBehind}
 use Rattle.forward.specs.declared.error.AskError.{AskError}
-use Rattle.programs.specs.FlushesLaws.{SendsByOneFlush-flush}
-use Rattle.programs.specs.PromptLaws.{WritesOn-unflushed}
 use Rattle.programs.specs.Streams.{AllSent}
-use Rattle.programs.specs.TakenIn.{IsStill, IsStill-same, frees_received, taken_more}
-use Rattle.piece_filter.specs.Pieces.{CanShow, HandsPieces, HasEnded, IsReady, Keeps, Piecewise, TakesReplies, grammar_of, held_at, held_of, piece_rules}
+use Rattle.programs.specs.TakenIn.{TakesAll, taken_more, target_of}
+use Rattle.programs.specs.TargetLaws.{TakesAll-not_passed, TakesAll-passed, WasFlushed-sent, WasFlushed-writes, nothing_passed}
+use Rattle.piece_filter.specs.Pieces.{CanShow, HandsPieces, HasEnded, IsReady, Keeps, Piecewise, StaysSeen, TakesReplies, grammar_of, held_at, held_of, piece_rules}
 use Rattle.piece_filter.specs.PiecesLaws.{answers_one, gave_but_failed, hands_nothing, hands_one, none_held, takes_nothing}
 
 -- there is no place
@@ -39,6 +36,9 @@ open_piece : {X : Type 0} (none : NextAnswer X) (ended : Bool) (payload : List �
     → (ended ≡ true → Ok (Some payload) ≡ none) → ended ≡ false
 open_piece none true payload is told = (let odd : Ok (Some payload) ≡ none = told refl in cc)
 open_piece none false payload is told = refl
+
+still_seen : {R D X : Type 0} {g : Grammar X} {s t : ReaderState R D} → StaysLooked g s t → StaysSeen g s t
+still_seen looked = record { stays = looked.stays; all = looked.all }
 
 module _ {T R D X A W E : Type 0} (remaining : R → Option (List ℕ)) (f : Piecewise T R D X A W E) {s : T}
     (ready : IsReady f s) (t : T) where
@@ -63,7 +63,7 @@ module _ {T R D X A W E : Type 0} (remaining : R → Option (List ℕ)) (f : Pie
       hands = hands_nothing remaining f s t p
           (subst (PiecesWent remaining (grammar_of f s).most (f.source s) []) (sym same)
           (PiecesWent-none remaining (grammar_of f s).most (f.source s)))
-          (order ∙ ap (λ m. p ++ held_at m (f.held t)) (sym same)) (ap (λ m. m.ended) same);
+          (order ∙ ap (λ m. p ++ held_at m (f.held t)) (sym same)) (ap (λ m. m.ended) same) (omega (arith, ap (λ m. m.seen) same));
       told = ap (λ m. m.reader.log) same;
       closed = λ ended. ap (λ m. m.ended) same ∙ ended;
       leaves = record {
@@ -130,66 +130,63 @@ module _ {T R D X A W E : Type 0} (remaining : R → Option (List ℕ)) (f : Pie
         leaves = ready_then (Ok (Some payload)) next (subst (CanShow (grammar_of f t) (f.source t)) (sym is) lent) also;
       }
 
-  -- a payload was answered, or not
-  module _ (unflushed : (f.target t).log.writes.flushed ≡ (f.target s).log.writes.flushed)
-      (steady : (f.target t).log.writes.flushes ≡ (f.target s).log.writes.flushes) where
-    pub passed : (payload reply : List ℕ) → Took (payload ∷ []) → f.answers (f.service s) payload reply (f.service t)
-        → WritesInOrder (f.target s) reply (f.target t) → MetInterrupts (f.target s).log.writes (f.target t).log.writes
-        → (0 < length reply) ⊎ (f.drops × (f.sent s → f.sent t))
-        → (length reply ≤ rules.room s → IsStill (f.target s) (f.target t)) → FilterPasses rules s (Ok true) t
-    passed payload reply took is taken met some still = record {
-      told = took.told;
-      ready = took.leaves;
-      closed = took.closed;
-      writes = WritesOn-unflushed (f.target s) (f.target t) reply taken unflushed;
-      flushes = steady;
-      answers = (
-        payload,
-        record {
-          hands = took.hands;
-          takes = record {
-            reply = reply;
-            answers = answers_one f.answers (f.service s) (f.service t) payload reply is;
-            in_order = taken;
-          };
-        },
-        met,
-        elim some [
-          | inl more ↦ inl (omega (arith, taken_more (f.target s) (f.target t) reply taken, more))
-          | inr dropped ↦ inr dropped
-        ],
-        λ room. still (omega (arith, room, taken_more (f.target s) (f.target t) reply taken)),
-      );
-    }
+  -- a payload was answered by these bytes; or it was dropped; or that failed
+  passed : (payload reply : List ℕ) → Took (payload ∷ []) → f.answers (f.service s) payload reply (f.service t)
+      → WritesInOrder (f.target s) reply (f.target t)
+      → PassWrites 0 (rules.rounds s) (λ e. f.refused e t) (rules.target s) (Ok true) (rules.target t)
+      → (bytes_taken (rules.target s) < bytes_taken (rules.target t)) ⊎ (f.drops × (f.sent s → f.sent t))
+      → FilterPasses rules s (Ok true) t
+  passed payload reply took is taken wrote some = record {
+    told = took.told;
+    ready = took.leaves;
+    closed = took.closed;
+    wrote = wrote;
+    answers = (
+      payload,
+      record {
+        hands = took.hands;
+        takes = record {
+          reply = reply;
+          answers = answers_one f.answers (f.service s) (f.service t) payload reply is;
+          in_order = taken;
+        };
+      },
+      some,
+    );
+  }
 
-    pub lost : (p : List (List ℕ)) → length p ≤ f.loses → Took p → f.service t ≡ f.service s
-        → WritesInOrder (f.target s) [] (f.target t) → (f.target t).block.capacity ≡ (f.target s).block.capacity → (e : Error)
-        → SendErrorCaused (f.target s).log.writes (f.target t).log.writes e ⊎ f.refused e t → FilterPasses rules s (Err e) t
-    lost p few took same taken kept e caused = record {
-      told = took.told;
-      ready = took.leaves;
-      closed = took.closed;
-      writes = WritesOn-unflushed (f.target s) (f.target t) [] taken unflushed;
-      flushes = steady;
-      answers = (
-        p,
-        record { hands = took.hands; takes = takes_nothing remaining f s t same taken },
-        caused,
-        few,
-        omega (arith, frees_received (f.target s) (f.target t) 0 taken kept),
-      );
-    }
+  pub answered : {Refused : Error → Type 0} {need : ℕ} (payload reply : List ℕ) → Took (payload ∷ [])
+      → f.answers (f.service s) payload reply (f.service t)
+      → TakesAll need Refused (f.target s) reply (Ok tt) (f.target t) → need ≤ length reply → 0 < length reply
+      → (length reply ≤ (f.target s).block.capacity → (f.target t).block.capacity ≡ (f.target s).block.capacity)
+      → (f.target t).block.capacity ≤ (f.target s).block.capacity + length reply + rules.rounds s
+      → FilterPasses rules s (Ok true) t
+  answered payload reply took is takes near some kept grown = passed payload reply took is takes.taken
+      (TakesAll-passed (f.target s) (f.target t) 0 (rules.rounds s) takes (omega (arith, near)) some kept grown)
+      (inl (omega (arith, some, taken_more (f.target s) (f.target t) reply takes.taken)))
+
+  pub dropped : (payload : List ℕ) → Took (payload ∷ []) → f.answers (f.service s) payload [] (f.service t)
+      → f.target t ≡ f.target s → f.drops → (f.sent s → f.sent t) → FilterPasses rules s (Ok true) t
+  dropped payload took is same drops sent = passed payload [] took is
+      (subst (WritesInOrder (f.target s) []) (sym same) (WritesInOrder-none (f.target s)))
+      (nothing_passed (f.target s) (f.target t) 0 (rules.rounds s) (λ e. f.refused e t) true same) (inr (drops, sent))
+
+  pub lost : {Refused : Error → Type 0} {need : ℕ} {bytes : List ℕ} (p : List (List ℕ)) → length p ≤ f.loses → Took p
+      → f.service t ≡ f.service s → (e : Error) → TakesAll need Refused (f.target s) bytes (Err e) (f.target t)
+      → (Refused e → f.refused e t) → (f.target t).block.capacity ≡ (f.target s).block.capacity → FilterPasses rules s (Err e) t
+  lost p few took same e takes so kept = record {
+    told = took.told;
+    ready = took.leaves;
+    closed = took.closed;
+    wrote = TakesAll-not_passed (f.target s) (f.target t) 0 (rules.rounds s) takes kept so;
+    answers = (p, record { hands = took.hands; takes = takes_nothing remaining f s t same takes.taken }, few);
+  }
 
   -- all was flushed, or not
   module _ (still : f.source t ≡ f.source s) (also : f.also t) (held : f.held t ≡ f.held s) (same : f.service t ≡ f.service s)
       (tells : W → StreamLog) (trace : W → W → Type 0) where
     took : Took []
     took = took_none still also held
-
-    flush_answers : (answer : Result (Unit {0}) Error) → WasFlushed tells trace (f.target s) answer (f.target t)
-        → ((x : Unit {0}) → answer ≡ Ok x → AllSent (f.target t) → f.sent t) → FlushAnswers rules s answer t
-    flush_answers (Ok x) w sends = (sends x refl (record { empty = w.ok.empty; flushed = w.ok.flushed }), w.ok.met)
-    flush_answers (Err e) w sends = w.caused
 
     pub flushed : (f.drops → ¬ (f.sent s)) → (answer : Result (Unit {0}) Error)
         → WasFlushed tells trace (f.target s) answer (f.target t)
@@ -198,14 +195,18 @@ module _ {T R D X A W E : Type 0} (remaining : R → Option (List ℕ)) (f : Pie
       told = took.told;
       ready = took.leaves;
       closed = took.closed;
-      writes = WritesOn-grows (f.target s).log.writes (f.target t).log.writes w.grows;
-      flushes = SendsByOneFlush-flush (f.target s) (f.target t) answer w.steps;
+      wrote = WasFlushed-writes (f.target s) (f.target t) w;
       steps = inr w.steps;
       quiet = λ drops sent. absurd (unsent drops sent);
       moves = record { hands = took.hands; takes = takes_nothing remaining f s t same w.in_order };
       lacks = λ lacks. (held ∙ lacks.0, subst (λ m. ¬ (Begins (f.grammar m.decoder) (rest m))) (sym still) lacks.1);
-      answers = flush_answers answer w sends;
+      sent = all_flushed answer (WasFlushed-sent (f.target s) (f.target t) answer w) sends;
     }
+      where
+        all_flushed : (answer : Result (Unit {0}) Error) → OnOk answer (AllSent (f.target t))
+            → ((x : Unit {0}) → answer ≡ Ok x → AllSent (f.target t) → f.sent t) → OnOk answer (f.sent t)
+        all_flushed (Ok x) all sends = sends x refl all
+        all_flushed (Err e) all sends = tt
 
   -- none is held, and what writes and answers is let be
   module _ (lacks : f.held s ≡ None) (keeps : Keeps f s t) (also : f.also t) where
@@ -227,21 +228,19 @@ module _ {T R D X A W E : Type 0} (remaining : R → Option (List ℕ)) (f : Pie
         also = also;
       };
       closed = λ ended. ap (λ m. m.ended) stays.same ∙ ended;
-      writes = subst (λ v. WritesOn (f.target s).log.writes v.log.writes) (sym same) (WritesOn-none (f.target s).log.writes);
-      flushes = ap (λ v. v.log.writes.flushes) same;
+      wrote = nothing_passed (f.target s) (f.target t) 0 (rules.rounds s) (λ e. f.refused e t) false same;
       answers = (
         record {
           hands = hands_nothing remaining f s t []
               (StaysLeft-went remaining (grammar_of f s) (f.source s) (f.source t) stays)
-              (none_held remaining f s lacks ∙ sym (none_held remaining f t none)) (ap (λ m. m.ended) stays.same);
+              (none_held remaining f s lacks ∙ sym (none_held remaining f t none)) (ap (λ m. m.ended) stays.same) stays.stays;
           takes = taken;
         },
-        subst (λ v. MetInterrupts (f.target s).log.writes v.log.writes) (sym same)
-            (MetInterrupts-none (f.target s).log.writes),
         (none, subst (λ m. ¬ (Begins (f.grammar m.decoder) (rest m))) (sym stays.same) no_piece),
         λ has. has lacks,
         λ _. keeps.sent,
-        IsStill-same (f.target s) (f.target t) same,
+        ap (λ u. target_of u) same,
+        record { stays = stays.stays; all = λ open'. omega (arith, stays.looked open') },
       );
     }
 
@@ -249,10 +248,10 @@ module _ {T R D X A W E : Type 0} (remaining : R → Option (List ℕ)) (f : Pie
     module _ (going : (f.source s).ended ≡ false) where
       asked : (found : NextAnswer X) → NextGives found → CanShow (grammar_of f t) (f.source t) (f.held t)
           → HandsPieces remaining f s [] t → empty_reads (f.source t).reader ≤ empty_reads (f.source s).reader + 1
-          → (answer : Result Bool (AskError E)) → AskAnswers rules s answer t → FilterAsks rules s answer t
-      asked found next shows hands once answer answers = record {
-        told = ap (λ v. v.log) same;
-        still = IsStill-same (f.target s) (f.target t) same;
+          → (answer : Result Bool (AskError E)) → OnErr answer (rules.looks s t) → AskAnswers rules s answer t
+          → FilterAsks rules s answer t
+      asked found next shows hands once answer looks answers = record {
+        told = ap (λ u. target_of u) same;
         ready = ready_then found next shows also;
         moves = record { hands = hands; takes = taken };
         sent = keeps.sent;
@@ -262,6 +261,7 @@ module _ {T R D X A W E : Type 0} (remaining : R → Option (List ℕ)) (f : Pie
           quiet = λ ended. absurd (true≢false (sym ended ∙ going));
           closed = λ ended. absurd (true≢false (sym ended ∙ going));
         };
+        looks = looks;
         answers = answers;
       }
 
@@ -303,7 +303,7 @@ module _ {T R D X A W E : Type 0} (remaining : R → Option (List ℕ)) (f : Pie
             | inl whole ↦ omega (arith, whole.2)
             | inr last ↦ omega (arith, MetEnd-once (f.source s) (f.source t) going last.5)
           ])
-          (Ok true) (
+          (Ok true) tt (
             λ none. (let no : Some span ≡ None = sym is ∙ none in cc),
             next.answers.0,
             elim next.answers.1 [
@@ -320,18 +320,28 @@ module _ {T R D X A W E : Type 0} (remaining : R → Option (List ℕ)) (f : Pie
       module _ (none : f.held t ≡ None) where
         asked_nothing : (found : NextAnswer X) (next : NextGives found) → next.bytes ≡ [] → (f.source t).ended ≡ false
             → empty_reads (f.source t).reader ≤ empty_reads (f.source s).reader + 1
-            → (answer : Result Bool (AskError E)) → AskAnswers rules s answer t → FilterAsks rules s answer t
-        asked_nothing found next is open' once answer answers = asked found next (none_shown none)
+            → (f.source s).seen ≤ (f.source t).seen → (answer : Result Bool (AskError E)) → OnErr answer (rules.looks s t)
+            → AskAnswers rules s answer t → FilterAsks rules s answer t
+        asked_nothing found next is open' once seen answer looks answers = asked found next (none_shown none)
             (hands_nothing remaining f s t []
             (subst (λ l. PiecesWent remaining (grammar_of f s).most (f.source s) l (f.source t)) is next.went)
-            (none_held remaining f s lacks ∙ sym (none_held remaining f t none)) (open' ∙ sym going))
-            once answer answers
+            (none_held remaining f s lacks ∙ sym (none_held remaining f t none)) (open' ∙ sym going) seen)
+            once answer looks answers
 
         pub asked_none : NextGives (Ok None) → FilterAsks rules s (Ok false) t
         asked_none next =
             let a = next.answers in
             let met = MetEnd-once (f.source s) (f.source t) going a.4 in
-            asked_nothing (Ok None) next a.0 a.3 (omega (arith, met)) (Ok false)
+            asked_nothing (Ok None) next a.0 a.3 (omega (arith, met)) (omega (
+              arith,
+              ready.whole.handed,
+              length-drop (f.source s).handed (f.source s).reader.block.bytes,
+              ap length next.went.hands.equal,
+              ap length a.0,
+              ap length a.1,
+              length-append (rest (f.source s)) next.went.hands.got,
+              length-append next.bytes (rest (f.source t)),
+            )) (Ok false) tt
             ((none, (a.1, inr (omega (arith, met)), omega (arith, met))), a.2)
 
         pub asked_wrong : (e : X) → NextGives (Err (Why.Wrong e)) → (why : E) → f.wrong s why t
@@ -341,16 +351,16 @@ module _ {T R D X A W E : Type 0} (remaining : R → Option (List ℕ)) (f : Pie
             asked_nothing (Err (Why.Wrong e)) next a.0 a.2 (elim a.3 [
               | inl begins ↦ omega (arith, begins.1)
               | inr cut ↦ omega (arith, MetEnd-once (f.source s) (f.source t) going cut.3)
-            ]) (Err (Wrong why)) ((none, wrong), a.1)
+            ]) next.looked.stays (Err (Wrong why)) (still_seen next.looked) ((none, wrong), a.1)
 
         -- a read failed, behind bytes that came or none
         module _ (e : Error) (next : NextGives (Err (Why.Io e))) where
-          failed : (answer : Result Bool (AskError E))
+          failed : (answer : Result Bool (AskError E)) → OnErr answer (rules.looks s t)
               → (rules.waits t → Faulted (f.source s) e (f.source t) → StaysOpen rules s t → AskAnswers rules s answer t)
               → FilterAsks rules s answer t
-          failed answer answers =
+          failed answer looks answers =
               let a = next.answers in
-              asked_nothing (Err (Why.Io e)) next a.0 a.3 (omega (arith, a.4)) answer (answers
+              asked_nothing (Err (Why.Io e)) next a.0 a.3 (omega (arith, a.4)) next.looked.stays answer looks (answers
               (none, subst (λ d. IsOpen (f.grammar d) (rest (f.source t))) (sym next.went.decoder) a.1, a.3) a.2
               (inl (record {
                 zero_reads = a.4;
@@ -372,19 +382,20 @@ module _ {T R D X A W E : Type 0} (remaining : R → Option (List ℕ)) (f : Pie
               )
 
           pub asked_idle : length (rest (f.source t)) ≤ length (rest (f.source s)) → FilterAsks rules s (Err (Io e)) t
-          asked_idle idle = failed (Err (Io e)) (λ waits fault still. (waits, fault, still, omega (arith, idle, grew, most)))
+          asked_idle idle = failed (Err (Io e)) (still_seen next.looked)
+              (λ waits fault still. (waits, fault, still, omega (arith, idle, grew, most)))
 
           pub asked_behind : length (rest (f.source s)) < length (rest (f.source t))
               → length (rest (f.source t)) < (grammar_of f s).most → FilterAsks rules s (Err (IoBehind e)) t
           asked_behind came few =
-              failed (Err (IoBehind e)) (λ waits fault still. (waits, fault, still, omega (arith, came, few, most)))
+              failed (Err (IoBehind e)) (still_seen next.looked)
+              (λ waits fault still. (waits, fault, still, omega (arith, came, few, most)))
 
 -- the end is known, and the reader isn't asked
 pub asked_ended : {T R D X A W E : Type 0} (remaining : R → Option (List ℕ)) (f : Piecewise T R D X A W E)
     {s : T} → IsReady f s → f.held s ≡ None → HasEnded f s → FilterAsks (piece_rules remaining f) s (Ok false) s
 asked_ended remaining f {s} ready lacks ended = record {
   told = refl;
-  still = IsStill-same (f.target s) (f.target s) refl;
   ready = ready;
   moves = record {
     hands = (took_none remaining f ready s refl ready.also refl).hands;
@@ -393,5 +404,6 @@ asked_ended remaining f {s} ready lacks ended = record {
   sent = λ sent. sent;
   asks = (inl refl, ReadLogGrows-none (f.source s).reader.log.reads);
   once = record { once = omega arith; quiet = λ closed. refl; closed = λ closed. closed };
+  looks = tt;
   answers = ((lacks, (ready.whole.ended ended, inl ended, omega arith)), refl);
 }

@@ -1,6 +1,7 @@
 -- Payloads of pieces are handed out in order, and what is due is sent with what becomes of them.
-use Rattle.std.proofs.Common.{◌≡◌, ℕ, inl, inr, List, [], ◌∷◌, ◌++◌, length, false, Option, None, Some, Result, Ok, Err, refl, sym, ap, subst, ◌∙◌, arith, append-nil, append_assoc, length-append, flat_map}
+use Rattle.std.proofs.Common.{◌≡◌, ℕ, ◌≤◌, inl, inr, List, [], ◌∷◌, ◌++◌, length, false, Option, None, Some, Result, Ok, Err, refl, sym, ap, subst, ◌∙◌, arith, append-nil, append_assoc, length-append, flat_map}
 use Rattle.std.proofs.lemmas.Bool.{true≢false}
+use Rattle.std.proofs.lemmas.List.{nil_from_length}
 use Rattle.std.specs.declared.io.Error.{Error}
 use Rattle.buffer_redux.specs.Asking.{AskedOver}
 use Rattle.buffer_redux.specs.BufWriter.{WritesInOrder}
@@ -117,8 +118,8 @@ module _ {T R D X A W E : Type 0} (remaining : R → Option (List ℕ)) (f : Pie
   -- nothing was handed out, or one payload
   pub hands_nothing : (s t : T) (p : List (List ℕ))
       → PiecesWent remaining (grammar_of f s).most (f.source s) [] (f.source t) → held_of f s ≡ p ++ held_of f t
-      → (f.source t).ended ≡ (f.source s).ended → HandsPieces remaining f s p t
-  hands_nothing s t p went order same = record {
+      → (f.source t).ended ≡ (f.source s).ended → (f.source s).seen ≤ (f.source t).seen → HandsPieces remaining f s p t
+  hands_nothing s t p went order same seen = record {
     bytes = [];
     got = [];
     went = went;
@@ -126,6 +127,7 @@ module _ {T R D X A W E : Type 0} (remaining : R → Option (List ℕ)) (f : Pie
     order = append-nil (held_of f s) ∙ order;
     dry = λ ended. inl (sym same ∙ ended);
     behind = λ ended. (refl, refl, same ∙ ended);
+    seen = λ none. seen;
   }
 
   pub hands_one : (s t : T) (payload : List ℕ) (p : List (List ℕ)) → (f.source s).ended ≡ false
@@ -145,10 +147,12 @@ module _ {T R D X A W E : Type 0} (remaining : R → Option (List ℕ)) (f : Pie
       | inr last ↦ inr (omega (arith, MetEnd-once (f.source s) (f.source t) going last.5))
     ];
     behind = λ ended. absurd (true≢false (sym ended ∙ going));
+    seen = λ none. omega (arith, ap length none);
   }
 
   hands_none : (s : T) → HandsPieces remaining f s [] s
-  hands_none s = hands_nothing s s [] (PiecesWent-none remaining (grammar_of f s).most (f.source s)) refl refl
+  hands_none s =
+      hands_nothing s s [] (PiecesWent-none remaining (grammar_of f s).most (f.source s)) refl refl (omega arith)
 
   module _ (a b c : T) (p q : List (List ℕ)) (h : HandsPieces remaining f a p b) (k : HandsPieces remaining f b q c) where
     -- behind the end nothing more is handed out
@@ -196,6 +200,12 @@ module _ {T R D X A W E : Type 0} (remaining : R → Option (List ℕ)) (f : Pie
           let first = h.behind ended in
           let next = k.behind first.2 in
           (ap (λ l. l ++ k.bytes) first.0 ∙ next.0, ap (λ l. l ++ k.got) first.1 ∙ next.1, next.2);
+      seen = λ none.
+          omega (
+            arith,
+            h.seen (nil_from_length h.got (omega (arith, ap length none, length-append h.got k.got))),
+            k.seen (nil_from_length k.got (omega (arith, ap length none, length-append h.got k.got))),
+          );
     }
 
   -- nothing was taken in
@@ -264,7 +274,6 @@ module _ {T R D X A W E : Type 0} (remaining : R → Option (List ℕ)) (f : Pie
       ends_after = λ a b c p how h still end. (end.0, ends_after a b c p how h end.1);
       waits_lacks = λ s waits. (waits.0, waits.1.no_piece);
       waits_fresh = λ s waits sent. ((sound.all_sent s sent).empty, waits.0);
-      received_taken = λ s. omega arith;
       taken_on = λ s t p taken. omega (arith, taken_more (f.target s) (f.target t) taken.reply taken.in_order);
       asks_sent = asks_sent;
     }

@@ -1,9 +1,9 @@
 pub mod Ending
 pub mod Flushes
-pub mod FlushesLaws
 pub mod Prompt
 pub mod PromptLaws
 pub mod Streams
 pub mod StreamsLaws
 pub mod TakenIn
+pub mod TargetLaws
 pub mod Words

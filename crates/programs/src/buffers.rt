@@ -1,11 +1,12 @@
 //! The buffers of a run.
-ghost use Rattle.std.specs.Prelude.{◌≡◌, ◌+◌, ◌<◌, ◌≤◌, [], length, IfOk, IfErr, OnOk, MatchResult, Ok};
+ghost use Rattle.std.specs.Prelude.{◌≡◌, ◌+◌, ◌<◌, ◌≤◌, [], ◌++◌, length, IfOk, IfErr, OnErr, OnOk, MatchResult, Ok};
 ghost use Rattle.buffer_redux.specs.Block.{IsNew, MakesRoom, Plain, usable};
 ghost use Rattle.buffer_redux.specs.Buffered.{Buffered, with_block};
 ghost use Rattle.buffer_redux.specs.BufWriter.{WasSent, WritesInOrder};
 ghost use Rattle.buffer_redux.specs.declared.policy.StdPolicy.{StdPolicy};
 ghost use Rattle.buffer_redux.specs.Faults.{MetInterrupts, SendErrorCaused};
 ghost use Rattle.programs.specs.Streams.{RefusedBeforeCalls, capacity_asked, kind_asked};
+ghost use Rattle.programs.specs.TakenIn.{TakesAll};
 
 use buffer_redux::tell::{TellRead, TellWrite};
 use buffer_redux::{BufReader, BufWriter, GrowError, MakeError};
@@ -85,9 +86,34 @@ pub fn buffered_writer<W: TellWrite>(
     }
 }
 
-/// Sends all that is buffered where so many more bytes don't fit, and makes all free space usable. Nothing is flushed.
+/// Takes in the first bytes, and then the second, for which the buffer has room: all of them, or none where sending failed. Where
+/// they don't fit behind what is buffered, that is sent before, once. Nothing is flushed.
+///
 /// An interrupted write is answered only behind `INTERRUPT_LIMIT` others in a row.
-pub fn make_room<W: TellWrite>(target: &mut BufWriter<W>, whole: usize) -> io::Result<()>
+#[inline(always)]
+pub fn put_all<W: TellWrite>(
+    target: &mut BufWriter<W>,
+    first: &[u8],
+    second: &[u8],
+) -> io::Result<()>
+    requires plain { target.old.block.kind ≡ Plain }
+    requires inside { length first.now + length second.now ≤ target.old.block.capacity }
+    ensures in_order { OnOk result (WritesInOrder target.old (first.now ++ second.now) target.new) }
+    ensures none { OnErr result (WritesInOrder target.old [] target.new) }
+    ensures kind { target.new.block.kind ≡ target.old.block.kind }
+    ensures capacity { target.new.block.capacity ≡ target.old.block.capacity }
+    ensures takes { TakesAll (length first.now + length second.now) (λ _. ⊥) target.old (first.now ++ second.now) result
+        target.new }
+{
+    make_room(target, first.len() + second.len())?;
+    target.put(first);
+    target.put(second);
+    Ok(())
+}
+
+// Sends all that is buffered where so many more bytes don't fit, and makes all free space usable. Nothing is flushed.
+// An interrupted write is answered only behind `INTERRUPT_LIMIT` others in a row.
+fn make_room<W: TellWrite>(target: &mut BufWriter<W>, whole: usize) -> io::Result<()>
     requires plain { target.old.block.kind ≡ Plain }
     requires inside { whole ≤ target.old.block.capacity }
     ensures none { WritesInOrder target.old [] target.new }

@@ -7,6 +7,6 @@ mod buffers;
 mod ending;
 mod words;
 
-pub use buffers::{GREATEST_CAPACITY, buffered, buffered_writer, make_room};
+pub use buffers::{GREATEST_CAPACITY, buffered, buffered_writer, put_all};
 pub use ending::{Ending, Report, end};
 pub use words::{args, number, only_word};

@@ -1,10 +1,11 @@
 -- From empty buffers on, what `forward` says of payloads is what the two logs say of the body and its payload.
-use Rattle.std.proofs.Common.{◌∙◌, arith, subst, sym}
+use Rattle.std.proofs.Common.{◌≡◌, ◌∙◌, ap, arith, subst, sym}
 use Rattle.body_reader.specs.BodyReaderLaws.{begun-is}
 use Rattle.chunked.specs.Coding.{chunked}
 use Rattle.chunked.specs.CodingLaws.{chunked_lawful}
 use Rattle.forward.specs.Forward.{ForwardAnswers}
-use Rattle.forward.specs.ForwardLaws.{Goes-holds}
+use Rattle.forward.specs.ForwardLaws.{Forwards-few, Goes-holds}
+use Rattle.forward.specs.Target.{failure_count}
 use Rattle.bodies.specs.Decode.{DecodeRan}
 use Rattle.bodies.specs.Decoding.{decoding_rules}
 use Rattle.bodies.proofs.DecodeRuns.{ended, start, stopped}
@@ -31,6 +32,10 @@ returns g c =
     let first = start a.limits a.source a.target a.piece in
     let t = c.forward-answer.new.link.filter in
     let over = rw (c.new-link.ensures, c.new.ensures.begun) at c.forward-answer.ensures.forwards in
+    let failed : failure_count c.forward-answer.result ≡ failure_count c.match-answer.answer = elim c.match-answer.branch [
+      | in-Ok w ↦ ap (λ x. failure_count x) w.in-Ok.is ∙ sym (ap (λ x. failure_count x) w.answer-is)
+      | in-Err w ↦ ap (λ x. failure_count x) w.in-Err.is ∙ sym (ap (λ x. failure_count x) w.answer-is)
+    ] in
     rw (c.into_inner_torn.ensures, c.into_inner-body.ensures) (record {
       ran = elim c.match-answer.branch [
         | in-Ok w ↦ subst (DecodeRan a.limits a.source.log t.source.reader.log a.target.log t.target.log) (sym w.answer-is)
@@ -42,5 +47,6 @@ returns g c =
       ];
       prompt = Goes-holds rules _ c.forward-answer.new.link over.goes;
       once = over.once;
+      few = omega (arith, Forwards-few rules _ c.forward-answer.new.link c.forward-answer.result over, failed);
       flushes = over.flushes;
     })

@@ -22,6 +22,7 @@ returns-in-Ok g c =
       prompt = HoldsNothingBack-on IsDue c.args.source.log _ _ c.args.target.log _ _ (Goes-holds rules _ t over.goes)
           refl end.writes;
       once = over.once;
+      few = omega (arith, over.goes.few, end.few);
       flushes = omega (arith, over.flushes, end.flushes);
       per_ask = omega (arith, before, end.once);
     })
@@ -36,6 +37,7 @@ returns-in-Err g c =
           c.requires.target.bytes c.forward-answer.new.link.filter _ _ _ over.answers c.error_of.ensures;
       prompt = Goes-holds rules _ c.forward-answer.new.link over.goes;
       once = over.once;
+      few = omega (arith, over.goes.few, one_flush c.in-Err.stopped.cause);
       flushes = over.flushes;
       per_ask = omega (arith, before, one_flush c.in-Err.stopped.cause);
     })

@@ -1,9 +1,10 @@
 -- From empty buffers on, what `forward` says of payloads is what the two logs say of frames and lines.
-use Rattle.std.proofs.Common.{None, refl, subst}
+use Rattle.std.proofs.Common.{None, arith, refl, subst}
 use Rattle.forward.specs.Forward.{Forwards}
-use Rattle.forward.specs.ForwardLaws.{Forwards-per_ask, Goes-holds}
+use Rattle.forward.specs.ForwardLaws.{Forwards-few, Forwards-per_ask, Goes-holds}
 use Rattle.piece_filter.specs.PieceRuns.{counts_asks, holds_unread}
 use Rattle.piece_filter.specs.Pieces.{piece_rules}
+use Rattle.frames.proofs.PieceRuns.{outcome_count}
 use Rattle.frames.specs.Unpacking.{unpacking}
 use Rattle.frames.specs.declared.unpacking.Unpacking.{Unpacking}
 use Rattle.frames.proofs.Unpacks.{unpacked_all}
@@ -22,6 +23,11 @@ returns g c =
       prompt = holds_unread g.R.TellRead.remaining unpacking first t.filter (c.requires.empty, refl) c.requires.nothing _ _ _ _
           (Goes-holds rules _ t over.goes);
       once = over.once;
+      few = omega (
+        arith,
+        Forwards-few rules _ t c.forward-answer.result over,
+        outcome_count c.forward-answer.result c.outcome.result c.outcome.ensures,
+      );
       flushes = over.flushes;
       per_ask = Forwards-per_ask rules _ t c.forward-answer.result over (counts_asks g.R.TellRead.remaining unpacking)
           (λ s found. found);

@@ -4,4 +4,4 @@ use Rattle.bodies.proofs.decoding.DecodingFilter.flush.Goals as goal
 
 pub returns : goal.returns
 returns g c =
-    flushes_all g.R.TellRead.remaining c.args.self.now c.requires _ _ c.flush.new.self c.flush.result c.flush.ensures.flushed
+    flushes_all g.R.TellRead.remaining c.args.self.now c.requires c.flush.new.self c.flush.result c.flush.ensures.flushed

@@ -1,12 +1,10 @@
 -- Each line has a frame, which has some bytes; where it couldn't be taken in, that one buffered line is lost.
-use Rattle.std.proofs.Common.{◌∷◌, [], ap, append-nil, length-append, arith, inl, refl, ◌∙◌}
+use Rattle.std.proofs.Common.{◌∷◌, [], ap, arith, refl, ◌∙◌}
 use Rattle.std.proofs.lemmas.Result.{err_from_is_err_and}
-use Rattle.frame_reader.specs.WriteFrameLaws.{PiecesTaken-frames}
 use Rattle.line_reader.specs.LinesAlongLaws.{NextBufferedLine-none, NextBufferedLine-some}
-use Rattle.piece_filter.specs.PiecesCalls.{lost, none_passed, not_held, passed, took_next}
+use Rattle.piece_filter.specs.PiecesCalls.{answered, lost, none_passed, not_held, took_next}
 use Rattle.frames.specs.Packing.{packing}
 use Rattle.frames.specs.PackingLaws.{some_frame}
-use Rattle.frames.specs.Words.{frame}
 use Rattle.frames.proofs.Packs.{lines_on, none_fits}
 use Rattle.frames.proofs.packing.PackingFilter.pass.Goals as goal
 
@@ -20,11 +18,10 @@ returns-in_err-write_line-in-Some-next_buffered g c =
     let p = err_from_is_err_and c.from_residual.result c.from_residual.ensures.1 in
     let wrote = c.in_err-write_line-in-Some-next_buffered.ensures in
     let none = not_held c.args.self.now.held c.in_default.not-Some in
-    rw (p.1, p.2) (lost g.R.TellRead.remaining packing c.requires t wrote.not_flushed wrote.flushes (line ∷ []) (omega arith)
+    rw (p.1, p.2) (lost g.R.TellRead.remaining packing c.requires t (line ∷ []) (omega arith)
     (took_next g.R.TellRead.remaining packing c.requires t none none
     (lines_on c.args.self.now t c.requires.also next.0.0.went.decoder wrote.none.encoder next.0.1 (none_fits m _ none))
-    line next.0.0 next.1) refl wrote.none.in_order wrote.none.capacity _
-    (inl wrote.caused))
+    line next.0.0 next.1) refl _ wrote.takes (λ no. no) wrote.none.capacity)
 
 pub returns-in_ok-write_line-in-Some-next_buffered : goal.returns-in_ok-write_line-in-Some-next_buffered
 returns-in_ok-write_line-in-Some-next_buffered g c =
@@ -35,12 +32,11 @@ returns-in_ok-write_line-in-Some-next_buffered g c =
     c.next_buffered.follows.holds-at-none in
     let wrote = c.in_ok-write_line-in-Some-next_buffered.ensures in
     let none = not_held c.args.self.now.held c.in_default.not-Some in
-    passed g.R.TellRead.remaining packing c.requires t wrote.not_flushed wrote.flushes line _
+    answered g.R.TellRead.remaining packing c.requires t line _
     (took_next g.R.TellRead.remaining packing c.requires t none none
     (lines_on c.args.self.now t c.requires.also next.0.0.went.decoder wrote.taken.encoder next.0.1 (none_fits m _ none))
-    line next.0.0 next.1)
-    (append-nil (frame line)) (PiecesTaken-frames g.W.TellWrite.trace c.args.self.now.target t.target _ wrote.taken) wrote.met
-    (inl (some_frame line)) (λ room. wrote.fits (omega (arith, room, length-append (frame line) [])))
+    line next.0.0 next.1) refl wrote.takes (omega arith) (some_frame line) (λ _. wrote.taken.capacity)
+    (omega (arith, wrote.taken.capacity))
 
 pub returns-in-None : goal.returns-in-None
 returns-in-None g c =
