@@ -1,5 +1,5 @@
 -- What the calls of a filter of payload do.
-use Rattle.std.proofs.Common.{◌≡◌, ℕ, ◌+◌, ◌<◌, ◌≤◌, ◌⊎◌, inl, inr, List, [], ◌∷◌, ◌++◌, length, take, true, false, Bool, Option, Result, Ok, Err, refl, sym, ap, subst, ◌∙◌, arith, append-nil, length-take-le}
+use Rattle.std.proofs.Common.{◌≡◌, ℕ, ◌+◌, ◌<◌, ◌≤◌, ◌⊎◌, inl, inr, List, [], ◌∷◌, ◌++◌, length, nat_lt, take, true, false, Bool, Option, Result, Ok, Err, refl, sym, ap, subst, ◌∙◌, arith, append-nil, length-take-le}
 use Rattle.std.proofs.lemmas.List.Elements.{All-cons, All-nil}
 use Rattle.std.proofs.lemmas.List.{nil_from_length, with_items_is}
 use Rattle.std.specs.Vec.{with_items}
@@ -8,7 +8,7 @@ use Rattle.buffer_redux.specs.Unbuffer.{unbuffered}
 use Rattle.buffer_redux.specs.WriterLaws.{WritesInOrder-none}
 use Rattle.buffer_redux.specs.AskingLaws.{AskedWhere-of}
 use Rattle.body_reader.specs.AskingLaws.{AskedWhere-behind}
-use Rattle.body_reader.specs.Between.{EachGave}
+use Rattle.body_reader.specs.Between.{EachGave, TellsOnce}
 use Rattle.body_reader.specs.BodyReader.{Breaks, EndsEarly}
 use Rattle.body_reader.specs.BodyReaderLaws.{BodyWent-joins}
 use Rattle.body_reader.specs.Coding.{AskedFor, IsOpen, LeadsOpen}
@@ -19,15 +19,17 @@ use Rattle.chunked.specs.CodingLaws.{breaks_at}
 use Rattle.chunked.specs.declared.error.Malformed.{Malformed}
 use Rattle.chunked.specs.declared.place.Place.TheVariants.{Line}
 use Rattle.forward.specs.declared.error.AskError.{AskError}
+use Rattle.forward.specs.Filter.{FailedToRead}
 use Rattle.forward.specs.Target.{bytes_taken}
 use Rattle.programs.specs.TargetLaws.{TakesAll-not_passed, TakesAll-passed, WasFlushed-sent, WasFlushed-writes}
-use Rattle.bodies.specs.Words.{Error, WasFlushed, Buffered, std_read_rules, StreamLog, StdPolicy, BodyWent, IsBodyOfChunks, IsBodyReader, TakesAll, TookWholeBody, LooksBehind, ReadsPayload, chunked, handed_of, taken_count, AskAnswers, FilterAsks, FilterFlushes, FilterRules, NeverGaveNothing, FilterPasses, taken_more, target_of, RunError}
+use Rattle.bodies.specs.Words.{Error, WasFlushed, Buffered, std_read_rules, StreamLog, StdPolicy, BodyWent, IsBodyOfChunks, IsBodyReader, TakesAll, TookWholeBody, LooksBehind, ReadsPayload, chunked, handed_of, taken_count, AskAnswers, FilterAsks, FilterFlushes, FilterRules, NeverGaveNothing, FilterPasses, StaysOpen, taken_more, target_of, RunError}
 use Rattle.bodies.specs.Decode.{IsDue}
-use Rattle.bodies.specs.Decoding.{ChunkedState, HandsPayloadPieces, HoldsPiece, MayDecode, NoneBuffered, ask_error, decoding_rules, end_answer, held_payload}
+use Rattle.bodies.specs.Decoding.{ChunkedState, HandsPayloadPieces, HoldsPiece, MayDecode, NoneBuffered, ask_error, decoding_rules, end_answer, fault_behind, held_payload, most_wanted}
 use Rattle.bodies.specs.Decoding as Source
 use Rattle.bodies.specs.DecodingLaws.{hands_held, hands_none, none_held}
 use Rattle.bodies.specs.FiltersLaws.{fault_gives, on_err}
 use Rattle.bodies.specs.declared.decoding.Decoding.{Decoding}
+use Rattle.bodies.proofs.Passing.{passed_none, passed_some}
 
 -- bytes that settle nothing are none
 open_none : {R : Type 0} (d : ChunkedState R) (bytes : List ℕ) → IsOpen (chunked d.coding.0) d.place bytes → bytes ≡ []
@@ -157,8 +159,8 @@ module _ {R W : Type 0} (remaining : R → Option (List ℕ)) (s : Decoding R W)
           told = held.told;
           ready = ready_with 0 (omega arith);
           closed = λ closed. closed;
-          wrote = rw held.still at (TakesAll-passed u.target v 0 0 {Other = λ _. ⊥} takes (omega (arith, all)) (omega (arith, all, long))
-              (λ _. same) (omega (arith, same)));
+          wrote = rw held.still at (TakesAll-passed u.target v 0 0 {Other = λ _. ⊥} takes (omega (arith, all))
+              (omega (arith, all, long)) (λ _. same) (omega (arith, same)));
           answers = (
             piece,
             record {
@@ -265,36 +267,44 @@ module _ {R W : Type 0} (remaining : R → Option (List ℕ)) (s : Decoding R W)
         asks_so m n (omega (arith, p.answers.0, len, ready.room)) p.went (here (Ok n) p) (over (Ok n) p)
         (omega (arith, gave.zero_reads)) (Ok true) (some, gave.faults, inl (gives_on m n gave), λ finds. absurd (finds tt))
 
+    -- the stream failed, and bytes came in this ask or none
+    faulted : (e : Error) (came : Bool) → came ≡ nat_lt (taken_count s.source) (taken_count m)
+        → BodyWent remaining std_read_rules (chunked s.source.coding.0) s.source [] m
+        → TellsOnce remaining std_read_rules (chunked s.source.coding.0) s.source.reader s.source.place 0 m.reader m.place
+        → (t : ChunkedState R) → most_wanted t ≡ most_wanted m → rules.waits (asked t s.held)
+        → FailedToRead rules e s (asked t s.held) → StaysOpen rules s (asked t s.held)
+        → AskAnswers rules s (Err (fault_behind came e)) (asked t s.held)
+    faulted e true is went tells t same waits fault still =
+        (waits, fault, still, omega (arith, same, passed_some remaining s.source m went tells is))
+    faulted e false is went tells t same waits fault still =
+        (waits, fault, still, same ∙ passed_none remaining s.source m went tells is)
+
     -- the ask for a piece failed
-    pub asked_failed : (e : BodyError Malformed)
+    pub asked_failed : (e : BodyError Malformed) (came : Bool) → came ≡ nat_lt (taken_count s.source) (taken_count m)
         → ReadsPayload remaining std_read_rules (chunked s.source.coding.0) s.source out (Err e) m
-        → FilterAsks rules s (Err (ask_error e)) (asked m s.held)
-    asked_failed (body.Wrong why right) p =
+        → FilterAsks rules s (Err (ask_error came e)) (asked m s.held)
+    asked_failed (body.Wrong why right) came is p =
         let answer = Err (body.Wrong why right) in
         let gave = p.answers.1 in
         let breaks = breaks_at m (here answer p) why (rw p.went.coding p.answers.2.name) in
         asks_none m p.went (here answer p) (over answer p) (omega (arith, gave.zero_reads))
-        (Err (ask_error (body.Wrong why right)))
+        (Err (ask_error came (body.Wrong why right)))
         ((none, (breaks, p.answers.0)), gave.faults)
-    asked_failed (body.Truncated right) p =
+    asked_failed (body.Truncated right) came is p =
         let answer = Err (body.Truncated right) in
         let met = p.answers.1 in
         let found = early_none m (subst (λ c. EndsEarly (chunked c.0) m) (sym p.went.coding) p.answers.2) in
-        asks_none m p.went (here answer p) (over answer p) (omega (arith, met.1)) (Err (ask_error (body.Truncated right)))
+        asks_none m p.went (here answer p) (over answer p) (omega (arith, met.1)) (Err (ask_error came (body.Truncated right)))
         ((none, (found.0, found.1, omega (arith, met.1), p.answers.0)), met.0)
-    asked_failed (body.Io e) p =
+    asked_failed (body.Io e) came is p =
         let answer = Err (body.Io e) in
         let fault = p.answers.0 in
         let found = early_none m (subst (λ c. EndsEarly (chunked c.0) m) (sym p.went.coding) p.answers.1) in
-        asks_none m p.went (here answer p) (over answer p) (omega (arith, fault.1)) (Err (ask_error (body.Io e))) (
-          (none, found.1),
-          fault.0,
-          inl (record {
-            zero_reads = fault.1;
-            give = fault_gives Such s.source.reader m.reader (over answer p) e fault.0;
-          }),
-          refl,
-        )
+        asks_none m p.went (here answer p) (over answer p) (omega (arith, fault.1)) (Err (ask_error came (body.Io e)))
+        (faulted e came is p.went p.tells m refl (none, found.1) fault.0 (inl (record {
+          zero_reads = fault.1;
+          give = fault_gives Such s.source.reader m.reader (over answer p) e fault.0;
+        })))
 
     -- the body ended, and then it was asked whether more follows
     module _ (k : ℕ) (nothing : k ≡ 0)
@@ -334,30 +344,28 @@ module _ {R W : Type 0} (remaining : R → Option (List ℕ)) (s : Decoding R W)
             (omega (arith, once, gave.zero_reads)) answer answers
 
       -- none does, or some, or that can't be told
-      pub asked_behind : (end : Result Bool Error) → LooksBehind remaining std_read_rules (chunked m.coding.0) m end t
-          → FilterAsks rules s (end_answer end (taken_count t)) (asked t s.held)
-      asked_behind (Ok true) looks =
+      pub asked_behind : (came : Bool) → came ≡ nat_lt (taken_count s.source) (taken_count m) → (end : Result Bool Error)
+          → LooksBehind remaining std_read_rules (chunked m.coding.0) m end t
+          → FilterAsks rules s (end_answer came end (taken_count t)) (asked t s.held)
+      asked_behind came is (Ok true) looks =
           let left = looks.answers.0 in
           let met = looks.answers.1 in
           asks_behind (Ok true) looks (Ok false) (omega (arith, met.1)) (
             (none, (done (Ok true) looks, left, omega (arith, met.1, gave.zero_reads))),
             met.0 ∙ gave.faults,
           )
-      asked_behind (Ok false) looks =
+      asked_behind came is (Ok false) looks =
           let some = looks.answers.0 in
           let more = looks.answers.1 in
-          asks_behind (Ok false) looks (end_answer (Ok false) (taken_count t)) (omega (arith, more.zero_reads))
+          asks_behind (Ok false) looks (end_answer came (Ok false) (taken_count t)) (omega (arith, more.zero_reads))
           ((none, (done (Ok false) looks, some, refl)), more.faults ∙ gave.faults)
-      asked_behind (Err e) looks =
+      asked_behind came is (Err e) looks =
           let left = looks.answers.0 in
           let failed = looks.answers.1 in
           let fault = failed.0 ∙ ap (λ l. l ++ e ∷ []) gave.faults in
-          asks_behind (Err e) looks (end_answer (Err e) (taken_count t)) (omega (arith, failed.1)) (
-            (none, left),
-            fault,
-            inl (record {
-              zero_reads = failed.1 ∙ gave.zero_reads;
-              give = fault_gives Such s.source.reader t.reader (over_on (Err e) looks) e fault;
-            }),
-            refl,
-          )
+          asks_behind (Err e) looks (end_answer came (Err e) (taken_count t)) (omega (arith, failed.1))
+          (faulted e came is first (rw nothing at p.tells) t (ap (λ d. most_wanted d) looks.still) (none, left) fault
+          (inl (record {
+            zero_reads = failed.1 ∙ gave.zero_reads;
+            give = fault_gives Such s.source.reader t.reader (over_on (Err e) looks) e fault;
+          })))

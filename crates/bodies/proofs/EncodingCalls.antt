@@ -1,5 +1,5 @@
 -- What a chunk, and the end of a body, do to the writer; and what the calls of a filter of chunks do.
-use Rattle.std.proofs.Common.{MatchResult, ◌⊎◌, ◌≡◌, ℕ, ◌+◌, ◌-◌, ◌<◌, ◌≤◌, inl, inr, List, [], length, length-take-le, take, Result, Ok, Err, refl, subst, sym, ap, ◌∙◌, arith, length-append, zero, suc, ◌==◌, not, Bool, ◌∷◌, ◌++◌, true, false, Option, append-nil}
+use Rattle.std.proofs.Common.{MatchResult, ◌⊎◌, ◌≡◌, ℕ, ◌+◌, ◌<◌, ◌≤◌, inl, inr, List, [], length, length-take-le, take, Result, Ok, Err, refl, subst, sym, ap, ◌∙◌, arith, length-append, zero, suc, ◌==◌, not, Bool, ◌∷◌, ◌++◌, true, false, Option, append-nil}
 use Rattle.std.proofs.lemmas.Bool.{cases_lt}
 use Rattle.std.proofs.lemmas.Bool.Decides.{nat_tests}
 use Rattle.std.specs.IoError.{error_kind}
@@ -101,7 +101,8 @@ module _ {W : Type 0} (tells : W → StreamLog) (trace : W → W → Type 0) whe
   -- the end of a body, and a flush
   module _ (u m v : Buffered W StdPolicy) (taken : WritesInOrder u (body_end []) m) (row : SendRow u m (λ _. ⊥) (Ok tt)) where
     ends : (answer : Result (Unit {0}) Error) → WasFlushed tells trace m answer v → (said : Result (Unit {0}) RunError)
-        → failure_count answer ≡ failure_count said → MatchResult said (λ _. (body_end [] ≡ body_end []) × AllSent v × MetInterrupts u.log.writes v.log.writes)
+        → failure_count answer ≡ failure_count said
+        → MatchResult said (λ _. (body_end [] ≡ body_end []) × AllSent v × MetInterrupts u.log.writes v.log.writes)
         (λ why. ((body_end [] ≡ body_end []) ⊎ (body_end [] ≡ []))
         × ((e : Error) × (why ≡ Write e) × SendErrorCaused u.log.writes v.log.writes e))
         → EndsBody u said v

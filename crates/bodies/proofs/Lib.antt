@@ -1,3 +1,4 @@
+pub mod Passing
 pub mod DecodingCalls
 pub mod DecodeRuns
 pub mod EncodingCalls

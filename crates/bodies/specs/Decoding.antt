@@ -1,9 +1,11 @@
 -- A filter that hands out the payload of a body.
-use Rattle.std.specs.Prelude.{◌≡◌, ℕ, ◌+◌, ◌-◌, ◌<◌, ◌≤◌, ◌⊎◌, List, [], ◌++◌, length, take, Bool, true, false, Result, Ok, Err, MatchResult, Option}
+use Rattle.std.specs.Prelude.{◌≡◌, ℕ, ◌-◌, ◌<◌, ◌≤◌, ◌⊎◌, List, [], ◌++◌, length, take, Bool, true, false, Result, Ok, Err, Option}
+use Rattle.std.specs.Prelude.{◌^◌, if◌then◌else◌, nat_lt}
 use Rattle.std.specs.List.{concat, All}
 use Rattle.buffer_redux.specs.Block.{Plain}
 use Rattle.body_reader.specs.declared.error.BodyError.{BodyError}
 use Rattle.body_reader.specs.declared.error.BodyError.TheVariants as body
+use Rattle.chunked.specs.Place.{most_between}
 use Rattle.chunked.specs.declared.coding.Chunked.{Chunked}
 use Rattle.chunked.specs.declared.error.Malformed.{Malformed}
 use Rattle.chunked.specs.declared.place.Place.{Place}
@@ -63,22 +65,31 @@ pub record HoldsPiece {R W : Type 0} (remaining : R → Option (List ℕ)) (s t 
   pub none : t.held ≡ 0 → NoneBuffered t.source
   pub ready : MayDecode t
 
--- what an ask answers where no payload came, and where the body ended, by whether the stream did
-abbrev pub ask_error : BodyError Malformed → AskError RunError
-ask_error (body.Wrong why right) = Wrong (NotChunked why right)
-ask_error (body.Truncated right) = Wrong (Truncated right)
-ask_error (body.Io e) = ask.Io e
+-- what an ask answers where the stream failed, behind bytes that came or none; where no payload came; and where the body ended,
+-- by whether the stream did
+abbrev pub fault_behind : Bool → Error → AskError RunError
+fault_behind true e = ask.IoBehind e
+fault_behind false e = ask.Io e
 
-abbrev pub end_answer : Result Bool Error → ℕ → Result Bool (AskError RunError)
-end_answer (Ok true) taken = Ok false
-end_answer (Ok false) taken = Err (Wrong (Behind taken))
-end_answer (Err e) taken = Err (ask.Io e)
+abbrev pub ask_error : Bool → BodyError Malformed → AskError RunError
+ask_error came (body.Wrong why right) = Wrong (NotChunked why right)
+ask_error came (body.Truncated right) = Wrong (Truncated right)
+ask_error came (body.Io e) = fault_behind came e
 
-pub record LooksOn {R : Type 0} (remaining : R → Option (List ℕ)) (s : ChunkedState R)
+abbrev pub end_answer : Bool → Result Bool Error → ℕ → Result Bool (AskError RunError)
+end_answer came (Ok true) taken = Ok false
+end_answer came (Ok false) taken = Err (Wrong (Behind taken))
+end_answer came (Err e) taken = Err (fault_behind came e)
+
+pub record LooksOn {R : Type 0} (remaining : R → Option (List ℕ)) (s : ChunkedState R) (came : Bool)
     (answer : Result Bool (AskError RunError)) (t : ChunkedState R) : Type 0 where
   pub end : Result Bool Error
   pub looks : LooksBehind remaining std_read_rules (chunked s.coding.0) s end t
-  pub equal : answer ≡ end_answer end (taken_count t)
+  pub equal : answer ≡ end_answer came end (taken_count t)
+
+-- how many bytes may come at the most before payload, or the body's end, while they are counted
+abbrev pub most_wanted : {R : Type 0} → ChunkedState R → ℕ
+most_wanted d = if nat_lt (length d.taken) (2 ^ 64 - 1) then most_between d.coding.0 d.place else 0
 
 -- the body ended, and the stream behind it, which gave nothing; or what comes next is wrong, or missing, or more than the body
 abbrev pub PayloadEnds : {R : Type 0} → ChunkedState R → Result (Unit {0}) RunError → ChunkedState R → Type 0
@@ -110,7 +121,7 @@ decoding_rules remaining = record {
   flushes = λ s answer t. Flushes s.target answer t.target;
   asks = λ s t. AsksPromptly s.source t.source;
   looks = λ s t. Unit {0};
-  wants = λ s. 0;
+  wants = λ s. most_wanted s.source;
   ends = λ s how t. (t.held ≡ 0) × PayloadEnds s.source how t.source;
   closed = λ s. ⊥;
   fresh = λ s. record {

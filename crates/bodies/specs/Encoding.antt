@@ -1,5 +1,5 @@
 -- A filter that makes what is given chunks.
-use Rattle.std.specs.Prelude.{◌≡◌, ℕ, ◌+◌, ◌-◌, ◌<◌, ◌≤◌, List, [], length, MatchResult, Option}
+use Rattle.std.specs.Prelude.{◌≡◌, ℕ, ◌+◌, ◌<◌, ◌≤◌, List, [], length, MatchResult, Option}
 use Rattle.std.specs.List.{concat}
 use Rattle.bodies.specs.Words.{Flushes, ReadsAlong, std_read_rules, ChunksWent, IsChunkedWriter, FilterRules, AllSent, around, target_of, RunError}
 use Rattle.bodies.specs.Encode.{IsDue}

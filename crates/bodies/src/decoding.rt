@@ -3,7 +3,7 @@ ghost use Rattle.std.specs.Prelude.{◌≡◌, ◌≤◌, length, take};
 ghost use Rattle.buffer_redux.specs.Policy.{std_read_rules};
 ghost use Rattle.body_reader.specs.BodyReader.{BodyWent, IsBodyReader};
 ghost use Rattle.chunked.specs.Coding.{chunked};
-ghost use Rattle.bodies.specs.Decoding.{HoldsPiece, LooksOn, MayDecode, NoneBuffered, ask_error, decoding_rules};
+ghost use Rattle.bodies.specs.Decoding.{HoldsPiece, LooksOn, MayDecode, NoneBuffered, ask_error, decoding_rules, fault_behind};
 ghost use Rattle.bodies.specs.DecodingLaws.{decoding_lawful};
 
 use crate::error::RunError;
@@ -53,13 +53,17 @@ impl<R: TellRead, W: TellWrite> Filter for Decoding<R, W> {
 
     #[inline(always)]
     fn ask(&mut self) -> Result<bool, AskError<RunError>> {
+        let taken = self.source.taken();
         match self.source.read_payload(self.piece.as_mut_slice()) {
-            Ok(0) => ask_behind(&mut self.source),
+            Ok(0) => {
+                let came = self.source.taken() > taken;
+                ask_behind(&mut self.source, came)
+            }
             Ok(count) => {
                 self.held = count;
                 Ok(true)
             }
-            Err(e) => Err(ask_error(e)),
+            Err(e) => Err(ask_error(e, self.source.taken() > taken)),
         }
     }
 
@@ -91,26 +95,41 @@ fn read_held<R: TellRead>(source: &mut ChunkedReader<R>, piece: &mut [u8]) -> us
     source.read_buffered(&mut piece[..HELD])
 }
 
-// Asks whether the stream ends with the body: nothing may follow.
+// Asks whether the stream ends with the body, of which bytes came in this ask or none: nothing may follow.
 #[inline(always)]
-fn ask_behind<R: TellRead>(source: &mut ChunkedReader<R>) -> Result<bool, AskError<RunError>>
-    ensures { LooksOn R.remaining source.old result source.new }
+fn ask_behind<R: TellRead>(
+    source: &mut ChunkedReader<R>,
+    came: bool,
+) -> Result<bool, AskError<RunError>>
+    ensures { LooksOn R.remaining source.old came result source.new }
 {
     match source.is_at_end() {
         Ok(true) => Ok(false),
         Ok(false) => Err(AskError::Wrong(RunError::Behind(source.taken()))),
-        Err(e) => Err(AskError::Io(e)),
+        Err(e) => Err(fault(e, came)),
+    }
+}
+
+// The stream failed, behind bytes that came or none.
+#[inline(always)]
+fn fault(e: io::Error, came: bool) -> AskError<RunError>
+    ensures { result ≡ fault_behind came e }
+{
+    if came {
+        AskError::IoBehind(e)
+    } else {
+        AskError::Io(e)
     }
 }
 
 // Why no payload came, as a filter says it.
 #[inline(always)]
-fn ask_error(e: ChunkedError) -> AskError<RunError>
-    ensures { result ≡ ask_error e }
+fn ask_error(e: ChunkedError, came: bool) -> AskError<RunError>
+    ensures { result ≡ ask_error came e }
 {
     match e {
         ChunkedError::Wrong(why, right) => AskError::Wrong(RunError::NotChunked(why, right)),
         ChunkedError::Truncated(right) => AskError::Wrong(RunError::Truncated(right)),
-        ChunkedError::Io(e) => AskError::Io(e),
+        ChunkedError::Io(e) => fault(e, came),
     }
 }

@@ -366,7 +366,8 @@ module _ {T W : Type 0} (rules : FilterRules T W) where
         }
 
         then_moved : (u : Linked T) (answer : Result Bool (Cause W)) → ForwardsNext rules t answer u
-            → (rules.target u.filter).log.writes.flushes ≡ (rules.target t.filter).log.writes.flushes → ForwardsNext rules s answer u
+            → (rules.target u.filter).log.writes.flushes ≡ (rules.target t.filter).log.writes.flushes
+            → ForwardsNext rules s answer u
         then_moved u answer next unflushed =
             let Such = AskedFrom rules s.filter in
             let so = asked_after s.filter t.filter (moves s m t p (Ok true) turn) came.once came.still in

@@ -61,8 +61,8 @@ module _ {T W : Type 0} (rules : FilterRules T W) where
   abbrev pub StaysSent : T → T → Type 0
   StaysSent s t = rules.sent s → rules.sent t
 
-  -- what an answer of `pass` says. Something was taken in, but for a payload that was dropped; where there was none the writer was
-  -- let be, and what is left was searched. Where sending failed, or one was refused, no more are lost than may be
+  -- what an answer of `pass` says. Something was taken in, but for a payload that was dropped; where there was none the writer
+  -- was let be, and what is left was searched. Where sending failed, or one was refused, no more are lost than may be
   abbrev pub PassAnswers : T → Result Bool Error → T → Type 0
   PassAnswers s (Ok true) t =
       (payload : List ℕ) × Moves s (payload ∷ []) (payload ∷ []) t

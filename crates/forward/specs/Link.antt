@@ -94,7 +94,7 @@ module _ {T W : Type 0} (rules : FilterRules T W) where
     pub last : GivesUpLast turns
 
   -- what calls do to a link: each ask that was made is noted, and is such a one; the stream was asked in each but the last of
-  -- all; and the writer was flushed once for each turn of them at most, and so many times more, as often as sending failed at most
+  -- all; and the writer was flushed once for each turn of them at most, and so many times more, and sending failed so often
   pub record Goes (Such : Ask T → Type 0) (more : ℕ) (s t : Linked T) : Type 0 where
     pub asks : List (Ask T)
     pub noted : t.states ≡ s.states ++ states_of asks

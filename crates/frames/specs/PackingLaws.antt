@@ -3,7 +3,7 @@ use Rattle.std.proofs.Common.{◌≡◌, ◌<◌, ℕ, List, [], ◌∷◌, ◌+
 use Rattle.std.proofs.lemmas.List.Elements.{All-weaker}
 use Rattle.line_reader.specs.NextLineLaws.{open_unended}
 use Rattle.line_reader.specs.TextLaws.{all_plain, fits_of}
-use Rattle.frames.specs.Words.{All, HasPieces, IsPieces, IsLawful, Fits, frame, frames, header, FitsLine, IsLine, with_newline, with_newlines, lined}
+use Rattle.frames.specs.Words.{All, HasPieces, IsPieces, IsLawful, Fits, frame, header, FitsLine, IsLine, with_newline, with_newlines, lined}
 use Rattle.frames.specs.Packing.{packing}
 use Rattle.piece_filter.specs.Pieces.{IsCoherent, piece_rules}
 use Rattle.piece_filter.specs.PiecesLaws.{coded_all, piece_lawful, whole_text}

@@ -1,5 +1,5 @@
 -- Payloads are taken in as lines, and what is due of whole frames is those of their payloads.
-use Rattle.std.proofs.Common.{◌+◌, ◌≡◌, ℕ, ◌<◌, List, [], ◌∷◌, ◌++◌, length, Option, inl, inr, ap, ◌∙◌, arith, length-append}
+use Rattle.std.proofs.Common.{◌+◌, ◌≡◌, ℕ, List, [], ◌∷◌, ◌++◌, length, Option, inl, inr, ap, ◌∙◌, arith, length-append}
 use Rattle.std.proofs.lemmas.List.Elements.{All-cons, All-nil}
 use Rattle.frames.specs.Words.{All, IsPieces, IsLawful, framed, Fits, frame, frames, newline, with_newline}
 use Rattle.piece_filter.specs.Pieces.{IsCoherent, piece_rules}

@@ -182,11 +182,11 @@ module _ {R D X A W N : Type 0} (remaining : R → Option (List ℕ)) (grammar :
     flushed w =
         let t : Answering R D W A X N = record s { target = v; sent = true } in
         pieces.flushed remaining f ready t refl (λ sent. record { empty = w.ok.empty; flushed = w.ok.flushed }) refl refl
-        tells trace not_sent (Ok tt) w (λ x is all. (refl, all))
+        tells trace not_sent (Ok tt) w (λ all. (refl, all))
 
     pub not_flushed : (e : Error) → WasFlushed tells trace s.target (Err e) v
         → FilterFlushes rules s (Err e) (record s { target = v })
     not_flushed e w =
         let t : Answering R D W A X N = record s { target = v } in
         pieces.flushed remaining f ready t refl (λ sent. absurd (true≢false (sym sent ∙ unsent))) refl refl tells trace
-        not_sent (Err e) w (λ x is. absurd (let odd : ◌≡◌ {A = Result (Unit {0}) Error} (Err e) (Ok x) = is in cc))
+        not_sent (Err e) w (λ none. none)

@@ -8,10 +8,10 @@ use Rattle.buffer_redux.specs.LogGrows.{ReadLogGrows-none}
 use Rattle.buffer_redux.specs.StreamLog.{StreamLog}
 use Rattle.buffer_redux.specs.WriterLaws.{WritesInOrder-none}
 use Rattle.piece_reader.specs.Decoding.{IsLent, bytes_at}
-use Rattle.piece_reader.specs.Grammar.{Begins, Grammar, IsOpen}
-use Rattle.piece_reader.specs.NextPiece.{Faulted, NextAnswer, NextPiece, PiecesWent, StaysLeft, StaysLooked, empty_reads}
+use Rattle.piece_reader.specs.Grammar.{Begins, IsOpen}
+use Rattle.piece_reader.specs.NextPiece.{Faulted, NextAnswer, NextPiece, PiecesWent, StaysLeft, empty_reads}
 use Rattle.piece_reader.specs.NextPieceLaws.{MetEnd-once}
-use Rattle.piece_reader.specs.PieceReader.{IsPieceReader, ReaderState, rest}
+use Rattle.piece_reader.specs.PieceReader.{IsPieceReader, rest}
 use Rattle.piece_reader.specs.PiecesWentLaws.{PiecesWent-none}
 use Rattle.piece_reader.specs.StaysLeftLaws.{StaysLeft-went}
 use Rattle.piece_reader.specs.declared.decoder.Span.{Span}
@@ -23,22 +23,13 @@ use Rattle.forward.specs.declared.error.AskError.{AskError}
 use Rattle.programs.specs.Streams.{AllSent}
 use Rattle.programs.specs.TakenIn.{TakesAll, taken_more, target_of}
 use Rattle.programs.specs.TargetLaws.{TakesAll-not_passed, TakesAll-passed, WasFlushed-sent, WasFlushed-writes, nothing_passed}
-use Rattle.piece_filter.specs.Pieces.{CanShow, HandsPieces, HasEnded, IsReady, Keeps, Piecewise, StaysSeen, TakesReplies, grammar_of, held_at, held_of, piece_rules}
-use Rattle.piece_filter.specs.PiecesLaws.{answers_one, gave_but_failed, hands_nothing, hands_one, none_held, takes_nothing}
+use Rattle.piece_filter.specs.Pieces.{CanShow, HandsPieces, HasEnded, IsReady, Keeps, Piecewise, TakesReplies, grammar_of, held_at, held_of, piece_rules}
+use Rattle.piece_filter.specs.PiecesLaws.{answers_one, gave_but_failed, hands_nothing, hands_one, none_held, open_piece, still_seen, takes_nothing}
 
 -- there is no place
 pub not_held : (h : Option Span) → ((span : Span) → ¬ (h ≡ Some span)) → h ≡ None
 not_held None isnt = refl
 not_held (Some span) isnt = absurd (isnt span refl)
-
--- no payload is handed out behind an end that no call has told
-open_piece : {X : Type 0} (none : NextAnswer X) (ended : Bool) (payload : List ℕ) → none ≡ Ok None
-    → (ended ≡ true → Ok (Some payload) ≡ none) → ended ≡ false
-open_piece none true payload is told = (let odd : Ok (Some payload) ≡ none = told refl in cc)
-open_piece none false payload is told = refl
-
-still_seen : {R D X : Type 0} {g : Grammar X} {s t : ReaderState R D} → StaysLooked g s t → StaysSeen g s t
-still_seen looked = record { stays = looked.stays; all = looked.all }
 
 module _ {T R D X A W E : Type 0} (remaining : R → Option (List ℕ)) (f : Piecewise T R D X A W E) {s : T}
     (ready : IsReady f s) (t : T) where
@@ -63,7 +54,8 @@ module _ {T R D X A W E : Type 0} (remaining : R → Option (List ℕ)) (f : Pie
       hands = hands_nothing remaining f s t p
           (subst (PiecesWent remaining (grammar_of f s).most (f.source s) []) (sym same)
           (PiecesWent-none remaining (grammar_of f s).most (f.source s)))
-          (order ∙ ap (λ m. p ++ held_at m (f.held t)) (sym same)) (ap (λ m. m.ended) same) (omega (arith, ap (λ m. m.seen) same));
+          (order ∙ ap (λ m. p ++ held_at m (f.held t)) (sym same)) (ap (λ m. m.ended) same)
+          (omega (arith, ap (λ m. m.seen) same));
       told = ap (λ m. m.reader.log) same;
       closed = λ ended. ap (λ m. m.ended) same ∙ ended;
       leaves = record {
@@ -190,7 +182,7 @@ module _ {T R D X A W E : Type 0} (remaining : R → Option (List ℕ)) (f : Pie
 
     pub flushed : (f.drops → ¬ (f.sent s)) → (answer : Result (Unit {0}) Error)
         → WasFlushed tells trace (f.target s) answer (f.target t)
-        → ((x : Unit {0}) → answer ≡ Ok x → AllSent (f.target t) → f.sent t) → FilterFlushes rules s answer t
+        → (OnOk answer (AllSent (f.target t)) → OnOk answer (f.sent t)) → FilterFlushes rules s answer t
     flushed unsent answer w sends = record {
       told = took.told;
       ready = took.leaves;
@@ -200,13 +192,8 @@ module _ {T R D X A W E : Type 0} (remaining : R → Option (List ℕ)) (f : Pie
       quiet = λ drops sent. absurd (unsent drops sent);
       moves = record { hands = took.hands; takes = takes_nothing remaining f s t same w.in_order };
       lacks = λ lacks. (held ∙ lacks.0, subst (λ m. ¬ (Begins (f.grammar m.decoder) (rest m))) (sym still) lacks.1);
-      sent = all_flushed answer (WasFlushed-sent (f.target s) (f.target t) answer w) sends;
+      sent = sends (WasFlushed-sent (f.target s) (f.target t) answer w);
     }
-      where
-        all_flushed : (answer : Result (Unit {0}) Error) → OnOk answer (AllSent (f.target t))
-            → ((x : Unit {0}) → answer ≡ Ok x → AllSent (f.target t) → f.sent t) → OnOk answer (f.sent t)
-        all_flushed (Ok x) all sends = sends x refl all
-        all_flushed (Err e) all sends = tt
 
   -- none is held, and what writes and answers is let be
   module _ (lacks : f.held s ≡ None) (keeps : Keeps f s t) (also : f.also t) where

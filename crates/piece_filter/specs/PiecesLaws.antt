@@ -1,5 +1,5 @@
 -- Payloads of pieces are handed out in order, and what is due is sent with what becomes of them.
-use Rattle.std.proofs.Common.{◌≡◌, ℕ, ◌≤◌, inl, inr, List, [], ◌∷◌, ◌++◌, length, false, Option, None, Some, Result, Ok, Err, refl, sym, ap, subst, ◌∙◌, arith, append-nil, append_assoc, length-append, flat_map}
+use Rattle.std.proofs.Common.{◌≡◌, ℕ, ◌≤◌, inl, inr, List, [], ◌∷◌, ◌++◌, length, false, Option, None, Some, Result, Ok, Err, refl, sym, ap, subst, ◌∙◌, arith, append-nil, append_assoc, length-append, flat_map, Bool, true}
 use Rattle.std.proofs.lemmas.Bool.{true≢false}
 use Rattle.std.proofs.lemmas.List.{nil_from_length}
 use Rattle.std.specs.declared.io.Error.{Error}
@@ -9,7 +9,7 @@ use Rattle.buffer_redux.specs.LogGrows.{ReadLogGrows}
 use Rattle.buffer_redux.specs.Unbuffer.{HandsOutInOrder, Unbuffered}
 use Rattle.buffer_redux.specs.WriterLaws.{WritesInOrder-joins, WritesInOrder-none}
 use Rattle.piece_reader.specs.Grammar.{Grammar, IsOpen}
-use Rattle.piece_reader.specs.NextPiece.{AskedUnlessEnded, Faulted, NextPiece, PiecesWent}
+use Rattle.piece_reader.specs.NextPiece.{AskedUnlessEnded, Faulted, NextPiece, PiecesWent, NextAnswer, StaysLooked}
 use Rattle.piece_reader.specs.NextPieceLaws.{MetEnd-once}
 use Rattle.piece_reader.specs.PieceReader.{ReaderState, left_of, rest}
 use Rattle.piece_reader.specs.PiecesWentLaws.{PiecesWent-joins, PiecesWent-none, drop_none}
@@ -18,7 +18,7 @@ use Rattle.forward.specs.Filter.{AsksSent, FilterRules, IsLawful, Moves, StaysOp
 use Rattle.forward.specs.Prompt.{AskedLast, AsksGiveOrFail}
 use Rattle.forward.specs.PromptLaws.{AskedLast-after}
 use Rattle.programs.specs.TakenIn.{sent_all, taken_more}
-use Rattle.piece_filter.specs.Pieces.{AnswersAll, HandsPieces, IsCoherent, IsText, PiecesEnd, Piecewise, TakesReplies, grammar_of, held_at, held_of, piece_rules}
+use Rattle.piece_filter.specs.Pieces.{AnswersAll, HandsPieces, IsCoherent, IsText, PiecesEnd, Piecewise, TakesReplies, grammar_of, held_at, held_of, piece_rules, StaysSeen}
 
 -- from an empty buffer on, what was given is what was handed out, and what is left
 pub given_since : {S D : Type 0} (s t : ReaderState S D) (bytes : List ℕ) → s.reader.block.bytes ≡ []
@@ -26,6 +26,16 @@ pub given_since : {S D : Type 0} (s t : ReaderState S D) (bytes : List ℕ) → 
     → t.reader.log.reads.given ≡ s.reader.log.reads.given ++ (bytes ++ rest t)
 given_since s t bytes none hands = hands.given ∙ ap (λ l. s.reader.log.reads.given ++ l)
     (sym (hands.equal ∙ ap (λ l. l ++ hands.got) (drop_none s.handed s.reader.block.bytes none)))
+
+-- no payload is handed out behind an end that no call has told
+pub open_piece : {X : Type 0} (none : NextAnswer X) (ended : Bool) (payload : List ℕ) → none ≡ Ok None
+    → (ended ≡ true → Ok (Some payload) ≡ none) → ended ≡ false
+open_piece none true payload is told = (let odd : Ok (Some payload) ≡ none = told refl in cc)
+open_piece none false payload is told = refl
+
+-- what was looked at stays so
+pub still_seen : {R D X : Type 0} {g : Grammar X} {s t : ReaderState R D} → StaysLooked g s t → StaysSeen g s t
+still_seen looked = record { stays = looked.stays; all = looked.all }
 
 -- each ask gave a byte, but for the one that failed
 pub gave_but_failed : {S D : Type 0} (Such : List ℕ → Type 0) (s m : ReaderState S D) (e : Error) → AskedUnlessEnded Such s m

@@ -164,8 +164,8 @@ module _ {W P : Type 0} (u v : Buffered W P) where
   -- or nothing was done for it
   pub nothing_passed : (spare rounds : ℕ) (Refused : Error → Type 0) (some : Bool) → v ≡ u
       → PassWrites spare rounds Refused (target_of u) (Ok some) (target_of v)
-  nothing_passed spare rounds Refused some same = subst (λ v. PassWrites spare rounds Refused (target_of u) (Ok some) (target_of v))
-      (sym same) (record {
+  nothing_passed spare rounds Refused some same =
+      subst (λ v. PassWrites spare rounds Refused (target_of u) (Ok some) (target_of v)) (sym same) (record {
         writes = WritesOn-none u.log.writes;
         flushes = refl;
         few = omega arith;

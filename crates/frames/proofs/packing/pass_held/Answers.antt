@@ -1,5 +1,5 @@
 -- A line that is held has a frame, which has some bytes; where it couldn't be taken in, the line is held still.
-use Rattle.std.proofs.Common.{[], None, ap, append-nil, arith, refl, ◌∙◌}
+use Rattle.std.proofs.Common.{[], None, ap, arith, refl}
 use Rattle.std.proofs.lemmas.Result.{err_from_is_err_and}
 use Rattle.piece_filter.specs.PiecesCalls.{answered, lost, took_held, took_none}
 use Rattle.frames.specs.Packing.{packing}

@@ -1,7 +1,6 @@
 -- The piece that is held is taken in whole; where it couldn't be, nothing of it is, and it is held still.
-use Rattle.std.proofs.Common.{[], ◌++◌, ◌+◌, Err, Ok, arith, length, subst, take}
+use Rattle.std.proofs.Common.{arith}
 use Rattle.std.proofs.lemmas.Result.{err_from_is_err_and}
-use Rattle.bodies.specs.Words.{TakesAll}
 use Rattle.bodies.proofs.DecodingCalls.{not_written, written}
 use Rattle.bodies.proofs.decoding.DecodingFilter.pass.Goals as goal
 

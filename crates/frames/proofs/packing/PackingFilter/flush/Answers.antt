@@ -11,4 +11,4 @@ returns g c =
     let also = c.requires.also in
     let lines = lines_on c.args.self.now t also refl c.flush.ensures.went.encoder also.open' also.fits in
     flushed g.R.TellRead.remaining packing c.requires t refl lines refl refl _ _
-    (λ drops. absurd drops) c.flush.result c.flush.ensures.flushed (λ x is all. all)
+    (λ drops. absurd drops) c.flush.result c.flush.ensures.flushed (λ all. all)

@@ -12,4 +12,4 @@ returns g c =
     let frames = c.requires.also in
     flushed g.R.TellRead.remaining unpacking c.requires t refl
     (frames_on c.args.self.now t frames refl frames.told sent.kind sent.capacity)
-    refl refl _ _ (λ drops. absurd drops) c.flush.result sent (λ x is all. all)
+    refl refl _ _ (λ drops. absurd drops) c.flush.result sent (λ all. all)

@@ -1,0 +1,123 @@
+-- How far bytes that came within a body, and are no payload, lead on.
+use Rattle.std.proofs.Common.{◌≡◌, ℕ, zero, suc, ◌+◌, ◌-◌, ◌^◌, ◌<◌, ◌≤◌, List, [], length, min, nat_lt, if◌then◌else◌, Bool, true, false, Option, refl, ap, ◌∙◌, arith, length-append, length-drop, length-take-le, inl, inr}
+use Rattle.std.proofs.lemmas.Bool.Decides.{nat_tests}
+use Rattle.body_reader.specs.Between.{PassesMany, PassesOnce, TellsOnce}
+use Rattle.chunked.specs.declared.place.Place.{Place}
+use Rattle.bodies.specs.Words.{Buffered, BodyWent, Limits, StdPolicy, chunked, std_read_rules, taken_count}
+use Rattle.bodies.specs.Decoding.{ChunkedState, most_wanted}
+
+module _ {R : Type 0} (remaining : R → Option (List ℕ)) (limits : Limits) where
+  -- so many bytes were passed, from this place to that
+  record Passed (s : Buffered R StdPolicy) (p : Place) (t : Buffered R StdPolicy) (q : Place) : Type 0 where
+    count : ℕ
+    few : (chunked limits).between q + count ≤ (chunked limits).between p
+    none : count ≡ 0 → q ≡ p
+    gone : count + length t.block.bytes + length s.log.reads.given ≡ length s.block.bytes + length t.log.reads.given
+
+  pass_once : (s : Buffered R StdPolicy) (p : Place) (t : Buffered R StdPolicy) (q : Place)
+      → PassesOnce remaining std_read_rules (chunked limits) s p t q → Passed s p t q
+  pass_once s p t q (inl (n, looks, went)) = record {
+    count = n;
+    few = omega (arith, looks.2.few, length-take-le n s.block.bytes looks.1);
+    none = λ none. absurd (omega (arith, looks.0, none));
+    gone = omega (
+      arith,
+      looks.1,
+      ap (λ b. length b.bytes) went.told_policy.allowed.1,
+      ap length went.dropped.bytes,
+      length-drop (min n (length s.block.bytes)) s.block.bytes,
+      ap (λ l. length l.reads.given) went.told,
+    );
+  }
+  pass_once s p t q (inr (along, policy, same)) = record {
+    count = 0;
+    few = omega (arith, ap (chunked limits).between same);
+    none = λ none. same;
+    gone = omega (
+      arith,
+      ap length along.in_order.equal,
+      ap length along.in_order.given,
+      length-append s.block.bytes along.in_order.got,
+      length-append s.log.reads.given along.in_order.got,
+    );
+  }
+
+  pass_many : (k : ℕ) (s : Buffered R StdPolicy) (p : Place) (t : Buffered R StdPolicy) (q : Place)
+      → PassesMany remaining std_read_rules (chunked limits) k s p t q → Passed s p t q
+  pass_many zero s p t q (same, place) = record {
+    count = 0;
+    few = omega (arith, ap (chunked limits).between place);
+    none = λ none. place;
+    gone = omega (arith, ap (λ b. length b.block.bytes) same, ap (λ b. length b.log.reads.given) same);
+  }
+  pass_many (suc k) s p t q (m, r, once, more) =
+      let first = pass_once s p m r once in
+      let then' = pass_many k m r t q more in
+      record {
+        count = first.count + then'.count;
+        few = omega (arith, first.few, then'.few);
+        none = λ none. then'.none (omega (arith, none)) ∙ first.none (omega (arith, none));
+        gone = omega (arith, first.gone, then'.gone);
+      }
+
+-- what a test of two numbers means
+lt_true : (a b : ℕ) → true ≡ nat_lt a b → a < b
+lt_true a b is = grind (arith, nat_tests)
+
+lt_false : (a b : ℕ) → false ≡ nat_lt a b → b ≤ a
+lt_false a b is = grind (arith, nat_tests)
+
+-- behind so many bytes, as far as they are counted, fewer may come where some more came, and as many where none did
+fewer : (most a b j k n : ℕ) (short long : Bool) → short ≡ nat_lt a most → b ≡ a + n → k + n ≤ j → min a most < min b most
+    → (if long then k else 0) < (if short then j else 0)
+fewer most a b j k n true true is more few less = omega (arith, more, few, less)
+fewer most a b j k n true false is more few less = omega (arith, more, few, less)
+fewer most a b j k n false long is more few less = absurd (omega (arith, lt_false a most is, less))
+
+as_many : (most a b j k n : ℕ) (short long : Bool) → short ≡ nat_lt a most → long ≡ nat_lt b most → b ≡ a + n → (n ≡ 0 → k ≡ j)
+    → min b most ≤ min a most → (if long then k else 0) ≡ (if short then j else 0)
+as_many most a b j k n true true is is' more same less =
+    same (omega (arith, lt_true a most is, lt_true b most is', more, less))
+as_many most a b j k n true false is is' more same less =
+    absurd (omega (arith, lt_true a most is, lt_false b most is', less))
+as_many most a b j k n false true is is' more same less =
+    absurd (omega (arith, lt_false a most is, lt_true b most is', more))
+as_many most a b j k n false false is is' more same less = refl
+
+-- where no payload was handed out, what was taken was passed
+module _ {R : Type 0} (remaining : R → Option (List ℕ)) (s m : ChunkedState R)
+    (went : BodyWent remaining std_read_rules (chunked s.coding.0) s [] m)
+    (tells : TellsOnce remaining std_read_rules (chunked s.coding.0) s.reader s.place 0 m.reader m.place) where
+  passed : Passed remaining s.coding.0 s.reader s.place m.reader m.place
+  passed = elim tells.once [
+    | inl (none, front, place) ↦ rw (front, place)
+        (pass_many remaining s.coding.0 tells.passes.0 s.reader s.place tells.front tells.place tells.passes.1)
+    | inr (some, told) ↦ absurd (omega (arith, some))
+  ]
+
+  wired : length went.wire ≡ passed.count
+  wired =
+      let order = went.along.in_order in
+      omega (
+        arith,
+        passed.gone,
+        ap length order.equal,
+        ap length order.given,
+        length-append s.reader.block.bytes order.got,
+        length-append s.reader.log.reads.given order.got,
+        length-append went.wire m.reader.block.bytes,
+      )
+
+  longer : length m.taken ≡ length s.taken + length went.wire
+  longer = ap length went.taken ∙ length-append s.taken went.wire
+
+  pub passed_some : true ≡ nat_lt (taken_count s) (taken_count m) → most_wanted m < most_wanted s
+  passed_some came = rw went.coding (fewer (2 ^ 64 - 1) (length s.taken) (length m.taken)
+      ((chunked s.coding.0).between s.place) ((chunked s.coding.0).between m.place) (length went.wire) _ _ refl longer
+      (omega (arith, passed.few, wired)) (lt_true (taken_count s) (taken_count m) came))
+
+  pub passed_none : false ≡ nat_lt (taken_count s) (taken_count m) → most_wanted m ≡ most_wanted s
+  passed_none came = rw went.coding (as_many (2 ^ 64 - 1) (length s.taken) (length m.taken)
+      ((chunked s.coding.0).between s.place) ((chunked s.coding.0).between m.place) (length went.wire) _ _ refl refl longer
+      (λ none. ap (chunked s.coding.0).between (passed.none (omega (arith, none, wired))))
+      (lt_false (taken_count s) (taken_count m) came))
