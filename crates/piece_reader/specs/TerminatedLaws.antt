@@ -63,6 +63,6 @@ module _ (end : List ℕ) (max : ℕ) where
       wrong.2,
     );
     nothing = λ e wrong. omega (arith, some, wrong.0);
-    one_last = λ bytes a b is is'. is ∙ sym is';
-    end_apart = λ bytes a e is cut. cut;
+    one_last = λ bytes a b is is'. is.0 ∙ sym is'.0;
+    end_apart = λ bytes a e is cut. omega (arith, is.1, cut.0);
   }

@@ -62,6 +62,9 @@ impl Decoder for Terminated {
     }
 
     fn at_end(&self, bytes: &[u8]) -> End<TooLong> {
+        if bytes.len() > self.max {
+            return End::Wrong(TooLong(self.max));
+        }
         End::Last(Span {
             from: 0,
             len: bytes.len(),

@@ -196,7 +196,7 @@ fn delimited(rt: HostRuntime) -> Result<(), Fail> {
 }
 
 // The pieces are those of Python's `split` at `aba`, where none is too long.
-static SEVERAL: [Row<'static>; 6] = [
+static SEVERAL: [Row<'static>; 7] = [
     (b"", &[End, End]),
     (
         b"xabaababaz",
@@ -209,6 +209,7 @@ static SEVERAL: [Row<'static>; 6] = [
     ),
     (b"abcdabx", &[Wrong(Long(4))]),
     (b"ab", &[Next(b"ab"), End, End]),
+    (b"wxyzv", &[Wrong(Long(4)), Wrong(Long(4)), Rest(b"wxyzv")]),
 ];
 
 // A row by the bytes `aba`.
@@ -235,6 +236,6 @@ fn terminated(rt: HostRuntime) -> Result<(), Fail> {
             Err(at) => assert!(rt; false, "{at:?}"),
         }
     }
-    assert!(rt; met == 99, "{met}");
+    assert!(rt; met == 118, "{met}");
     Ok(())
 }

@@ -17,7 +17,7 @@ returns-in-Some g c =
       (refl, (λ _. tt), lends),
       record {
         begins = NextPiece-begins remaining grammar (λ bytes payload is. (s.decoder.end.items, is.0))
-            (λ bytes payload is. is) s t found lends;
+            (λ bytes payload is. is.0) s t found lends;
         after_borrow = tt;
       },
     )
