@@ -27,8 +27,8 @@ use std::{fmt, io, mem};
 /// A reader of one body, out of a buffered reader of yours. What follows the body stays in that:
 /// [`finish`](BodyReader::finish) hands it back.
 ///
-/// It takes no memory, and asks the buffered reader for nothing behind the payload that a call hands out but what its coding has
-/// to see, nor once the body ended, but in [`is_at_end`](BodyReader::is_at_end).
+/// Only `with_buffer` and `collect` take memory. It asks the buffered reader for nothing behind the payload that a call hands out
+/// but what its coding has to see, nor once the body ended, but in [`is_at_end`](BodyReader::is_at_end).
 #[derive(Drop)]
 pub struct BodyReader<R: Tell, C: Coding, P = StdPolicy> {
     reader: BufReader<R, P>,
@@ -51,7 +51,7 @@ impl<R: Tell, C: Coding, P> Model for BodyReader<R, C, P> {
 }
 
 impl<R: Tell, C: Coding> BodyReader<R, C> {
-    /// The same over a buffer of yours: its bytes are read first, as those that another reader left, and then `inner` is asked.
+    /// Over a buffer of yours: its bytes are read first, as those that another reader left, and then `inner` is asked.
     ///
     /// The buffer is kept. Where its capacity is below what a look needs it grows; a refusal hands all three back.
     pub fn with_buffer(

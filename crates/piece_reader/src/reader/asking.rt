@@ -39,8 +39,8 @@ impl<R: TellRead, D: Decoder> PieceReader<R, D> {
         }
     }
 
-    /// Asks the stream once where nothing is left, and returns whether something is then: it isn't where the stream ended, which
-    /// the next [`step`](PieceReader::step) tells. An `Err` leaves nothing, too.
+    /// Asks the stream once, unless an end is untold, and returns whether something is left then: it isn't where the stream
+    /// ended, which the next [`step`](PieceReader::step) tells. An `Err` leaves nothing, too.
     pub fn refill(&mut self) -> io::Result<bool>
         requires none { rest self.old ≡ [] }
         ensures came { result ≡ Ok true ↔ (0 < length (rest self.new)) }
