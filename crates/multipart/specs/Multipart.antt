@@ -128,7 +128,8 @@ module _ {S Q : Type 0} (remaining : S → Option (List ℕ)) (rules : ReadRules
   -- a head was collected to its end while it may go on so, or why not
   abbrev pub CollectsHead : FormState S Q → Result (Unit {0}) (CollectError (Unit {0})) → FormState S Q → Type 0
   CollectsHead s answer t = (t ≡ record s { body = t.body; head = t.head })
-      × Collects remaining rules (codes s.body.coding) (head_most s) (SaysHead s.other.until.delimiter) s.body s.head answer t.body t.head
+      × Collects remaining rules (codes s.body.coding) (head_most s) (SaysHead s.other.until.delimiter) s.body s.head answer
+      t.body t.head
 
   -- from a head on
   abbrev pub GoesOnFromHead : FormState S Q → Result Bool PartError → FormState S Q → Type 0

@@ -110,9 +110,9 @@ module _ (texts heads : JustOrUntil) where
         pub inside : IsBodyReader (codes heads) t.body
 
       -- why no part comes next: the stream ended within a text or a head, or failed there, or the text is longer than a run
-      -- counts; the head begins otherwise than the line of a boundary ends, or a boundary stands in it; it is too long with what more of it is buffered, or
-      -- memory for that was refused; or there are as many parts as these, and some of a head is buffered, or it is whole, and
-      -- is not the two hyphens
+      -- counts; the head begins otherwise than the line of a boundary ends, or a boundary stands in it; it is too long with what
+      -- more of it is buffered, or memory for that was refused; or there are as many parts as these, and some of a head is
+      -- buffered, or it is whole, and is not the two hyphens
       abbrev pub NextFails : Limits → PartError → FormState S Q → Type 0
       NextFails limits part.Truncated t =
           InSection t × EndsEarly (codes t.body.coding) t.body × GaveNothingOnce first t.body.reader

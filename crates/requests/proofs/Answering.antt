@@ -75,9 +75,11 @@ module _ {W : Type 0} {tells : W → StreamLog} {trace : W → W → Type 0} whe
         refused_torn {v} {w'} why answer once reads torn on parts =
             let first : WritesPromptly tells trace (left_of s, w) (call_at (Inside t)) (Ok tt) (t.stream, v) =
             subst (λ l. WritesPromptly tells trace (left_of s, w) l (Ok tt) (t.stream, v)) (append-nil (call_at (Inside t)))
-            (WritesPromptly-after joins (left_of s, w) (b.stream, u) (t.stream, v) (call_at (Inside t)) [] (Ok tt) called_here on) in
+            (WritesPromptly-after joins (left_of s, w) (b.stream, u) (t.stream, v) (call_at (Inside t)) [] (Ok tt) called_here
+            on) in
             let then = WritesPromptly-parts t.stream parts in
-            RunsToLast-refused none (b.head ++ goes.takes.wire) handed (Inside t) (is_part begun limits goes) (begun_once begun t.stream once) why answer (
+            RunsToLast-refused none (b.head ++ goes.takes.wire) handed (Inside t) (is_part begun limits goes)
+            (begun_once begun t.stream once) why answer (
               part_went begun goes,
               WritesPromptly-after joins (left_of s, w) (t.stream, v) (t.stream, w') (call_at (Inside t)) (refusal why) answer
                   first then,
@@ -93,7 +95,8 @@ module _ {W : Type 0} {tells : W → StreamLog} {trace : W → W → Type 0} whe
             → RunEndsBy remaining tells trace (left_of s) [] (b.head ++ goes.takes.wire) handed None (Inside t) v ending
             → RunsToLast remaining tells trace (left_of s) w (Inside t) ending v
         stops {v} ending once on ends =
-            RunsToLast-one none (b.head ++ goes.takes.wire) handed (Inside t) (is_part begun limits goes) (begun_once begun t.stream once) [] None tt ending (
+            RunsToLast-one none (b.head ++ goes.takes.wire) handed (Inside t) (is_part begun limits goes)
+            (begun_once begun t.stream once) [] None tt ending (
               part_went begun goes,
               WritesPromptly-after joins (left_of s, w) (b.stream, u) (t.stream, v) (call_at (Inside t)) []
                   (sending_of ending) called_here on,

@@ -17,7 +17,8 @@ module _ {R W : Type 0} (remaining : R → Option (List ℕ)) (tells : W → Str
     head = one.head;
     open' = one.open';
     before = one.before;
-    calls = WritesPromptly-after joins a c (b.0, one.before) [] (called (is_called (is_known m.0) one.said)) (Ok tt) writes one.calls;
+    calls = WritesPromptly-after joins a c (b.0, one.before) [] (called (is_called (is_known m.0) one.said)) (Ok tt) writes
+        one.calls;
     answers = one.answers;
   }
 

@@ -79,8 +79,8 @@ abbrev pub only_line_ends : List ℕ → Bool
 only_line_ends bytes = prefix_len is_end bytes == length bytes
 
 -- what comes is to be refused so: no head begins what is left, for that reason, or the stream ended in one; or the next byte of
--- the body is wrong, or the stream ended before that was complete, or what was taken of it is too large, with this payload; or its
--- head settles that, and nothing was taken behind that
+-- the body is wrong, or the stream ended before that was complete, or what was taken of it is too large, with this payload; or
+-- its head settles that, and nothing was taken behind that
 abbrev pub IsToBeRefused : {S : Type 0} → Unbuffered S → Place S → List ℕ → Refusal → Type 0
 IsToBeRefused s (Before requests) handed why = ((e : BadHead) × (heads usual).wrong (rest requests) e × (why ≡ refusal_of e))
     ⊎ ((why ≡ BadRequest) × (ends_of s < ends_of (left_of requests)) × (only_line_ends (rest requests) ≡ false)

@@ -1,12 +1,12 @@
 //! Answers each request on standard input by how many bytes of payload its body has.
 //!
 //! 200 and that number, where all of the body came, or 501 to a method that it doesn't know, or 417 to who expects something but
-//! `100-continue`, before the body if the client waits (`early_refusal`); and else 100 before it. What comes and is no request is refused by the status that RFC
-//! 9112 has for it (`refusal_of`); 400 is for a body that is none, or ends early, and 413 for one that is too large (`is_large`);
-//! and then no more comes. It ends behind a request after which none may follow, and where the stream does. It asks the stream
-//! only where what it has settles nothing, and all that it answered was sent, and sends only there, for room, and at the end
-//! (`Prompt`). Each request is answered before more is taken (`AnswersInTurns`); where a read fails it had to be made
-//! (`HadToAsk`), and where sending does, nothing was taken behind what failed (`IsSentLast`).
+//! `100-continue`, before the body if the client waits (`early_refusal`); and else 100 before it. What comes and is no request is
+//! refused by the status that RFC 9112 has for it (`refusal_of`); 400 is for a body that is none, or ends early, and 413 for one
+//! that is too large (`is_large`); and then no more comes. It ends behind a request after which none may follow, and where the
+//! stream does. It asks the stream only where what it has settles nothing, and all that it answered was sent, and sends only
+//! there, for room, and at the end (`Prompt`). Each request is answered before more is taken (`AnswersInTurns`); where a read
+//! fails it had to be made (`HadToAsk`), and where sending does, nothing was taken behind what failed (`IsSentLast`).
 #![tactic(auto)]
 
 mod limits;

@@ -1,5 +1,5 @@
--- What the head settles is told at once; else the call is written while nobody is asked, and where either fails no byte of the body
--- was taken.
+-- What the head settles is told at once; else the call is written while nobody is asked, and where either fails no byte of the
+-- body was taken.
 use Rattle.std.proofs.Common.{◌≡◌, ◌∙◌, ap, length, length-append, Bool, true, false, ◌&&◌, if◌then◌else◌, [], ◌++◌, Option, None, Some, Err, Ok, arith, append-nil, refl, inl, inr, subst, sym}
 use Rattle.requests.proofs.Names.{All-nil, call_at, called, early_refusal, Inside, InsideGoes-none, is_called, is_known, IsSentLast, left_of, MayFollow, nil_from_length, refusal, Refusal, RunsToLast, SendsForRoom, Unknown, Unmet, Unsent, waits, WritesPromptly}
 use Rattle.requests.proofs.Answering.{FailsLast-of, RunsToLast-one, RunsToLast-refused}
@@ -64,8 +64,8 @@ returns-in-Err-clause-turns g c = λ s w begun writes.
     let empty : none.takes.wire ≡ [] = nil_from_length none.takes.wire
     (omega (arith, ap length none.taken, length-append b.taken none.takes.wire)) in
     let call = subst (λ l. SendsForRoom g.W.Tell.log g.W.TellWrite.trace c.args.writer.now l (Err c.in-Err.e)
-    c.call_for_body.new.writer) (text g (goal.at.returns-in-Err-clause-turns g c).After-early_refusal c.in-None.is ∙ sym (append-nil _))
-    c.in-Err.ensures in
+    c.call_for_body.new.writer)
+    (text g (goal.at.returns-in-Err-clause-turns g c).After-early_refusal c.in-None.is ∙ sym (append-nil _)) c.in-Err.ensures in
     let put = WritesPromptly-put g.met.W.TellWrite.trace_none b.stream call in
     RunsToLast-one g.met.W.TellWrite.trace_none (b.head ++ none.takes.wire) [] (Inside b) (is_part begun c.requires.limits none)
     (omega (arith, (begun_steady begun).ends)) [] None tt (Unsent c.in-Err.e) (
@@ -87,11 +87,11 @@ returns-in-Some-clause-turns g c = λ s w begun writes.
     let says = WritesPromptly-parts b.stream c.refuse.ensures in
     subst (λ x. RunsToLast g.R.TellRead.remaining g.W.Tell.log g.W.TellWrite.trace (left_of s) w (Inside b) x c.refuse.new.writer)
     (sym c.ending_of-ending.ensures)
-    (RunsToLast-refused g.met.W.TellWrite.trace_none (b.head ++ none.takes.wire) [] (Inside b) (is_part begun c.requires.limits none)
-    (omega (arith, (begun_steady begun).ends)) why c.refuse.result (
+    (RunsToLast-refused g.met.W.TellWrite.trace_none (b.head ++ none.takes.wire) [] (Inside b)
+    (is_part begun c.requires.limits none) (omega (arith, (begun_steady begun).ends)) why c.refuse.result (
       part_went begun none,
-      subst (λ l. WritesPromptly g.W.Tell.log g.W.TellWrite.trace (left_of s, w) l c.refuse.result (b.stream, c.refuse.new.writer))
-          (sym front)
+      subst (λ l. WritesPromptly g.W.Tell.log g.W.TellWrite.trace (left_of s, w) l c.refuse.result
+          (b.stream, c.refuse.new.writer)) (sym front)
           (WritesPromptly-after g.met.W.TellWrite.trace_joins (_, w) (b.stream, c.args.writer.now)
           (b.stream, c.refuse.new.writer) [] (refusal why) c.refuse.result writes says),
       FailsLast-of (IsSentLast (b.head ++ none.takes.wire) (Some why) (Inside b)) c.refuse.result front (inr refl) writes.puts

@@ -42,7 +42,8 @@ returns-else-said-clause-turns g c = λ s w begun call.
     let whole = c.in-Ok.ensures.whole in
     let reads = steadily (begun_steady begun) c.in-Ok.ensures.steady in
     let one = one_answered g.met.W.TellWrite.trace_joins begun c.requires.limits whole c.said-said.ensures.value
-    (c.is_known-known.ensures ∙ ap is_known c.head.ensures) c.requires.open call c.in-Ok.ensures.writes c.in-Ok-answer_whole.ensures in
+    (c.is_known-known.ensures ∙ ap is_known c.head.ensures) c.requires.open call c.in-Ok.ensures.writes
+    c.in-Ok-answer_whole.ensures in
     RunsToLast-one g.met.W.TellWrite.trace_none [] [] (Before c.in-Ok.requests) (refl, refl) (omega (arith, reads.ends))
     ((b.head, c.in-Ok.ensures.whole.1) ∷ []) None tt Over (one, refl, refl) (
       reads.faults,
@@ -60,7 +61,8 @@ returns-in-Err-answer_whole-clause-turns g c = λ s w begun call.
     let head = subst (λ l. IsHead l b.head b.said) c.requires.limits begun.is in
     let reads = steadily (begun_steady begun) c.in-Ok.ensures.steady in
     let one = one_answered g.met.W.TellWrite.trace_joins begun c.requires.limits c.in-Ok.ensures.whole c.said-said.ensures.value
-    (c.is_known-known.ensures ∙ ap is_known c.head.ensures) c.requires.open call c.in-Ok.ensures.writes c.in-Err-answer_whole.ensures in
+    (c.is_known-known.ensures ∙ ap is_known c.head.ensures) c.requires.open call c.in-Ok.ensures.writes
+    c.in-Err-answer_whole.ensures in
     RunsToLast-one g.met.W.TellWrite.trace_none [] [] (Before c.in-Ok.requests) (refl, refl) (omega (arith, reads.ends))
     ((b.head, c.in-Ok.ensures.whole.1) ∷ []) None tt (Unsent c.in-Err-answer_whole.e) (one, refl, refl)
     (reads.faults, follows (left_of s) (Before c.in-Ok.requests) b.said.keeps head refl reads.ends)

@@ -19,6 +19,7 @@ returns-clause-read g c =
       fresh = fresh;
       last = c.read_each-read.new.reader;
       read = subst (λ d. AllRead (AnswerPlays (NextPiece (λ r. Some (bytes_left r)) (g.D.Decoder.grammar d))
-          (RunWent (λ r. Some (bytes_left r)) (g.D.Decoder.grammar d))) c.in_ok-reader.reader payloads c.read_each-read.new.reader)
+          (RunWent (λ r. Some (bytes_left r)) (g.D.Decoder.grammar d))) c.in_ok-reader.reader payloads
+          c.read_each-read.new.reader)
           fresh.decoder all;
     }) c.read_each-read.result c.read_each-read.ensures.read
