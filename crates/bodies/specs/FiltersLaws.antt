@@ -1,14 +1,11 @@
 -- How many bytes payloads have; asks behind what was taken; and one fill.
-use Rattle.std.proofs.Common.{◌≡◌, zero, suc, ◌+◌, ◌<◌, ◌≤◌, ◌==◌, ◌⊎◌, inl, inr, true, ℕ, List, [], ◌∷◌, ◌++◌, All, length, length-append, Result, Ok, Err, OnErr, ap, sym, subst, ◌∙◌, arith, append_assoc}
+use Rattle.std.proofs.Common.{◌≡◌, ◌+◌, ◌<◌, ◌≤◌, ◌==◌, ◌⊎◌, inl, inr, true, ℕ, List, [], ◌∷◌, ◌++◌, All, length, length-append, Result, Ok, Err, OnErr, ap, subst, ◌∙◌, arith, append_assoc}
 use Rattle.std.specs.List.{concat}
 use Rattle.std.proofs.lemmas.Bool.Decides.{nat_tests}
 use Rattle.std.proofs.lemmas.List.{nil_from_length}
 use Rattle.std.proofs.lemmas.List.Elements.{All-head, All-tail}
-use Rattle.buffer_redux.specs.EmptyReads.{ReadsWhole-std, fill_once}
-use Rattle.buffer_redux.specs.Fill.{Answered, Ends, Ordered, Turns}
-use Rattle.buffer_redux.specs.Policy.{no_read, read_now}
+use Rattle.buffer_redux.specs.EmptyReads.{Filled-capacity, ReadsWhole-std, fill_once}
 use Rattle.buffer_redux.specs.ReaderLaws.{Fills-empty, ReadsInOrder-fresh, WantsBytes-std}
-use Rattle.buffer_redux.specs.declared.policy.DoRead.{DoRead}
 use Rattle.programs.specs.PromptLaws.{AskedLast-after}
 use Rattle.bodies.specs.Words.{Error, Fills, ReadsInOrder, Buffered, std_read_rules, StdPolicy, AskedLast, AsksGiveOrFail}
 use Rattle.bodies.specs.FillLaws.{fill_asks}
@@ -69,34 +66,10 @@ module _ {R : Type 0} (Such : List ℕ → Type 0) (s t : Buffered R StdPolicy) 
     )
   ]
 
--- filling leaves the capacity
-answered_capacity : {R : Type 0} (answer : Result DoRead Error) (s t : Buffered R StdPolicy)
-    → Answered std_read_rules answer s t → t.block.capacity ≡ s.block.capacity
-answered_capacity answer s t a = ap (λ b. b.capacity) (ReadsWhole-std.before _ _ answer _ _ a.asked.allowed)
-
-ordered_capacity : {R : Type 0} (answer : Result ℕ Error) (s t : Buffered R StdPolicy) → Ordered std_read_rules answer s t
-    → t.block.capacity ≡ s.block.capacity
-ordered_capacity answer s t a =
-    a.read.added.capacity ∙ ap (λ b. b.capacity) (ReadsWhole-std.before _ _ read_now _ _ a.asked.allowed)
-
-turns_capacity : {R : Type 0} (k : ℕ) (s t : Buffered R StdPolicy) → Turns std_read_rules k s t
-    → t.block.capacity ≡ s.block.capacity
-turns_capacity zero s t same = ap (λ x. x.block.capacity) (sym same)
-turns_capacity (suc k) s t (m, run, count, some, turn) = ordered_capacity (Ok count) m t turn ∙ turns_capacity k s m run
-
-ends_capacity : {R A : Type 0} (answer : Result A Error) (s t : Buffered R StdPolicy) → Ends std_read_rules s answer t
-    → t.block.capacity ≡ s.block.capacity
-ends_capacity (Ok a) s t (inl declined) = answered_capacity no_read s t declined
-ends_capacity (Ok a) s t (inr (inl full)) = answered_capacity read_now s t full.1
-ends_capacity (Ok a) s t (inr (inr dry)) = ordered_capacity (Ok 0) s t dry
-ends_capacity (Err e) s t (inl refused) = answered_capacity (Err e) s t refused
-ends_capacity (Err e) s t (inr fault) = ordered_capacity (Err e) s t fault
-
+-- filling
 module _ {R A : Type 0} (s t : Buffered R StdPolicy) where
   pub fill_capacity : (answer : Result A Error) → Fills std_read_rules s answer t → t.block.capacity ≡ s.block.capacity
-  fill_capacity answer fills =
-      ends_capacity answer fills.filled.last t fills.filled.ends
-      ∙ turns_capacity fills.filled.count s fills.filled.last fills.filled.turns
+  fill_capacity answer fills = Filled-capacity std_read_rules ReadsWhole-std s answer t fills.filled
 
   pub fill_asked : (answer : Result A Error) → Fills std_read_rules s answer t → Asked (λ bytes. bytes ≡ []) s t
   fill_asked answer fills = record { asked = fill_asks s t answer fills; grows = fills.grows }
