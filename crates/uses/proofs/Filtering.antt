@@ -125,25 +125,27 @@ module _ {S P T Q : Type 0} (remaining : S → Option (List ℕ)) (tells : T →
   -- what was accepted was flushed, or couldn't be
   module _ (v : Buffered T Q)
       (ended : ((end : Buffered S P) × ReadsToEnd remaining std_read_rules last [] end) ⊎ (2 ^ 64 ≤ length lines + 1)) where
-    pub FiltersAll-flushed : IfSome (reader_remaining remaining std_read_rules from)
+    pub Filters-flushed : IfSome (reader_remaining remaining std_read_rules from)
         (λ text. length text + 1 < 2 ^ 64 → AreFirstLines lines text [])
-        → (r : Result (Unit {0}) Error) → WasFlushed tells trace m r v
-        → IfOk r (λ _. FiltersAll remaining tells trace word from w v)
-    FiltersAll-flushed known (Ok x) flushed = record {
-      lines = lines;
-      last = last;
-      hands = went.hands;
-      ended = ended;
-      known = known;
-      out = went.out;
-      goes_on = went.goes_on;
-      along = FlushedAlong-of tells trace line_rules joins w m v went.out x went.along flushed;
-      once = one_flush m v x flushed.steps ∙ ap (λ n. n + 1) went.unflushed;
+        → (r : Result (Unit {0}) Error) → WasFlushed tells trace m r v → record {
+          all : IfOk r (λ _. FiltersAll remaining tells trace word from w v);
+          some : IfErr r (λ e. FiltersSome remaining tells trace word from w e v);
+        }
+    Filters-flushed known (Ok x) flushed = record {
+      all = record {
+        lines = lines;
+        last = last;
+        hands = went.hands;
+        ended = ended;
+        known = known;
+        out = went.out;
+        goes_on = went.goes_on;
+        along = FlushedAlong-of tells trace line_rules joins w m v went.out x went.along flushed;
+        once = one_flush m v x flushed.steps ∙ ap (λ n. n + 1) went.unflushed;
+      };
+      some = tt;
     }
-    FiltersAll-flushed known (Err e) flushed = tt
-
-    pub FiltersSome-flushed : (r : Result (Unit {0}) Error) → WasFlushed tells trace m r v
-        → IfErr r (λ e. FiltersSome remaining tells trace word from w e v)
-    FiltersSome-flushed (Ok x) flushed = tt
-    FiltersSome-flushed (Err e) flushed =
-        record { lines = lines; last = last; writer = m; went = went; fails = inr (inr (ended, flushed)) }
+    Filters-flushed known (Err e) flushed = record {
+      all = tt;
+      some = record { lines = lines; last = last; writer = m; went = went; fails = inr (inr (ended, flushed)) };
+    }

@@ -8,3 +8,4 @@ pub mod Reporting
 pub mod KnownLines
 pub mod Pieces
 pub mod Filtering
+pub mod WritingOn

@@ -12,7 +12,7 @@ use Rattle.buffer_redux.specs.ReaderLaws.{WantsBytes-std}
 use Rattle.buffer_redux.specs.UntilLaws.{ReadsUntil-known}
 use Rattle.buffer_redux.specs.WritesAlongLaws.{WritesAlong-none}
 use Rattle.uses.specs.Filter.{LineGoesThrough}
-use Rattle.uses.proofs.Filtering.{Ended-lines, FiltersAll-flushed, FiltersLines-more, FiltersSome-flushed, HandsLinePieces-line, line_went}
+use Rattle.uses.proofs.Filtering.{Ended-lines, Filters-flushed, FiltersLines-more, HandsLinePieces-line, line_went}
 use Rattle.uses.proofs.KnownLines.{FirstKnown-all, FirstKnown-more, FirstKnown-none}
 use Rattle.uses.proofs.Pieces.{HandsLinePieces-none}
 use Rattle.uses.proofs.filter.matching.Goals.{else-contains, then-contains+in_ok-writeln}
@@ -84,22 +84,12 @@ returns g c =
     let i = c.loop-line.invariant in
     let s = c.loop-line.line-iterator in
     let none = rw c.in-None.is at c.next.ensures.steps in
-    record {
-      all = FiltersAll-flushed g.R.TellRead.remaining g.W.Tell.log g.W.TellWrite.trace
-          g.met.W.TellWrite.trace_joins c.args.word.now c.args.reader c.args.writer.now i.lines s.reader c.loop-line.writer
-          i.went c.flush.new.self
-          (Ended-lines g.R.TellRead.remaining std_read_rules i.lines c.args.reader s c.next.new.self i.byte i.begun
-          (WantsBytes-std s.reader.policy) (omega (arith, c.requires.capacity, i.went.hands.along.capacity)) i.turns none)
-          (FirstKnown-all _ _ i.lines s.left i.known i.turns
-          (Ended-known g.R.TellRead.remaining std_read_rules s c.next.new.self i.begun none))
-          c.flush.result c.flush.ensures.flushed;
-      some = FiltersSome-flushed g.R.TellRead.remaining g.W.Tell.log g.W.TellWrite.trace
-          g.met.W.TellWrite.trace_joins c.args.word.now c.args.reader c.args.writer.now i.lines s.reader c.loop-line.writer
-          i.went c.flush.new.self
-          (Ended-lines g.R.TellRead.remaining std_read_rules i.lines c.args.reader s c.next.new.self i.byte i.begun
-          (WantsBytes-std s.reader.policy) (omega (arith, c.requires.capacity, i.went.hands.along.capacity)) i.turns none)
-          c.flush.result c.flush.ensures.flushed;
-    }
+    Filters-flushed g.R.TellRead.remaining g.W.Tell.log g.W.TellWrite.trace g.met.W.TellWrite.trace_joins c.args.word.now
+    c.args.reader c.args.writer.now i.lines s.reader c.loop-line.writer i.went c.flush.new.self
+    (Ended-lines g.R.TellRead.remaining std_read_rules i.lines c.args.reader s c.next.new.self i.byte i.begun
+    (WantsBytes-std s.reader.policy) (omega (arith, c.requires.capacity, i.went.hands.along.capacity)) i.turns none)
+    (FirstKnown-all _ _ i.lines s.left i.known i.turns
+    (Ended-known g.R.TellRead.remaining std_read_rules s c.next.new.self i.begun none)) c.flush.result c.flush.ensures.flushed
 
 -- the next line wasn't read
 pub returns-in_err-line-clause-some : goal.returns-in_err-line-clause-some
