@@ -59,30 +59,30 @@ module _ {S Q C P W : Type 0} (remaining : S → Option (List ℕ)) (rules : Rea
 module _ {S Q C P W : Type 0} {remaining : S → Option (List ℕ)} {rules : ReadRules Q} (grammar : C → Grammar P W)
     {Lets : List ℕ → Type 0} {s : BodyState S Q C P} {payload : List ℕ} {m : BodyState S Q C P}
     (so : TakenInPieces remaining rules (grammar s.coding) Lets s payload m) where
-  abbrev g : Grammar P W
-  g = grammar s.coding
+  abbrev codes_here : Grammar P W
+  codes_here = grammar s.coding
 
   module _ {answer : Result ℕ (BodyError W)} {f : BodyState S Q C P}
       (fills : FillsPayload remaining rules (grammar m.coding) m answer f) where
-    pub fills_here : FillsPayload remaining rules g m answer f
+    pub fills_here : FillsPayload remaining rules codes_here m answer f
     fills_here = subst (λ c. FillsPayload remaining rules (grammar c) m answer f) so.went.coding fills
 
     -- a fill ends them
-    pub takes_filled : Lets payload → TakesTo remaining rules g Lets s payload f
+    pub takes_filled : Lets payload → TakesTo remaining rules codes_here Lets s payload f
     takes_filled lets = record {
-      went = subst (λ l. BodyWent remaining rules g s l f) (append-nil payload)
-          (BodyWent-joins remaining rules g s m f payload [] so.went fills_here.went);
+      went = subst (λ l. BodyWent remaining rules codes_here s l f) (append-nil payload)
+          (BodyWent-joins remaining rules codes_here s m f payload [] so.went fills_here.went);
       pieces = record { count = so.count; last = m; pieces = so.pieces; end = inr (answer, fills_here) };
       asked = AskedWhere-behind s.reader m.reader f.reader so.went.wire so.went.along.in_order so.gave
-          (λ bytes. (came : List ℕ) × LeadsOpen g s.place came bytes × Lets came) (LeadsOpen g m.place [])
+          (λ bytes. (came : List ℕ) × LeadsOpen codes_here s.place came bytes × Lets came) (LeadsOpen codes_here m.place [])
           (λ more is. (
             payload ++ [],
-            LeadsOpen-behind g s.place m.place so.went.wire payload [] m.reader.block.bytes more
-                (BodyWent-leads remaining rules g s m payload so.first so.whole so.went) is,
+            LeadsOpen-behind codes_here s.place m.place so.went.wire payload [] m.reader.block.bytes more
+                (BodyWent-leads remaining rules codes_here s m payload so.first so.whole so.went) is,
             subst Lets (sym (append-nil payload)) lets,
           )) so.asked fills_here.asked;
       ended = λ whole.
-          let first = so.ended whole in fills_here.still (inr (subst (TookWholeBody g) (sym first) whole)) ∙ first;
+          let first = so.ended whole in fills_here.still (inr (subst (TookWholeBody codes_here) (sym first) whole)) ∙ first;
       whole = fills_here.whole;
     }
 
@@ -91,17 +91,17 @@ module _ {S Q C P W : Type 0} {remaining : S → Option (List ℕ)} {rules : Rea
     filled_gave = EachGave-joins s.reader m.reader f.reader so.gave fills.answers.1
 
     -- or shows one piece more, which is taken: where payload is known the body goes on
-    pub takes_more : Lets payload → 0 < n → IsLawful g → (t : BodyState S Q C P)
+    pub takes_more : Lets payload → 0 < n → IsLawful codes_here → (t : BodyState S Q C P)
         → ConsumesPayload remaining rules (grammar f.coding) n f t
-        → TakenInPieces remaining rules g Lets s (payload ++ take f.known f.reader.block.bytes) t
+        → TakenInPieces remaining rules codes_here Lets s (payload ++ take f.known f.reader.block.bytes) t
     takes_more lets some lawful t takes =
         let to = takes_filled fills lets in
-        let here : ConsumesPayload remaining rules g n f t =
+        let here : ConsumesPayload remaining rules codes_here n f t =
         subst (λ c. ConsumesPayload remaining rules (grammar c) n f t) to.went.coding takes in
         let all : min n f.known ≡ f.known = omega (arith, fills.answers.0) in
         record {
-          went = BodyWent-joins remaining rules g s f t payload (take f.known f.reader.block.bytes) to.went
-              (subst (λ k. BodyWent remaining rules g f (take k f.reader.block.bytes) t) all here.went);
+          went = BodyWent-joins remaining rules codes_here s f t payload (take f.known f.reader.block.bytes) to.went
+              (subst (λ k. BodyWent remaining rules codes_here f (take k f.reader.block.bytes) t) all here.went);
           gave = EachGave-joins s.reader f.reader t.reader filled_gave (EachGave-same f.reader t.reader here.told);
           count = suc so.count;
           pieces = (
@@ -109,11 +109,12 @@ module _ {S Q C P W : Type 0} {remaining : S → Option (List ℕ)} {rules : Rea
             so.pieces,
             record { shown = n; filled = f; some = some; fills = fills_here fills; consumes = here },
           );
-          asked = AskedWhere-same (λ bytes. (came : List ℕ) × LeadsOpen g s.place came bytes × Lets came)
+          asked = AskedWhere-same (λ bytes. (came : List ℕ) × LeadsOpen codes_here s.place came bytes × Lets came)
               (unbuffered s.reader) (unbuffered f.reader) (unbuffered t.reader) here.told to.asked;
           ended = λ whole. absurd ((to.whole.known.1 (omega (arith, some, fills.answers.0))).goes_on
-              (Leads-done g lawful f.taken (handed_of f) f.place (heeded g f.reader.block.bytes) to.whole.leads to.whole.place
-              (subst (TookWholeBody g) (sym (to.ended whole)) whole)));
+              (Leads-done codes_here lawful f.taken (handed_of f) f.place (heeded codes_here f.reader.block.bytes)
+              to.whole.leads to.whole.place
+              (subst (TookWholeBody codes_here) (sym (to.ended whole)) whole)));
           first = so.first;
           whole = here.whole;
         }

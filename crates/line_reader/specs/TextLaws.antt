@@ -143,7 +143,8 @@ Lines-last (byte ∷ more) lines plain has =
 pub Lines-same : (text : List ℕ) (lines others : List (List ℕ)) → HasLines text lines → HasLines text others
     → lines ≡ others
 Lines-same text lines others has has' =
-    Pieces-same (lined (length text)) (lined_law text) text lines others (text_pieces text lines has) (text_pieces text others has')
+    Pieces-same (lined (length text)) (lined_law text) text lines others (text_pieces text lines has)
+    (text_pieces text others has')
 
 -- lines, each with its end, are a text of these lines
 pub Lines-with_ends : (lines : List (List ℕ)) → All IsLine lines → HasLines (with_newlines lines) lines
