@@ -144,13 +144,14 @@ row "OPTIONS * HTTP/1.1\r\n$H\r\n$G" '200:0 200:0'
 # What is understood, and not done: other codings within chunks (RFC 9112, section 6.1), tunnels, methods that aren't known, and
 # other versions; later ones of HTTP/1 are as 1.1 (RFC 9110, section 2.5). Empty elements of a list say nothing (RFC 9110,
 # section 5.6.1), so behind one `chunked` stands alone.
-for coding in 'gzip, chunked' 'identity, chunked' 'gzip\r\nTransfer-Encoding: chunked'; do
+for coding in 'gzip, chunked' 'identity, chunked'; do
     row "${P}Transfer-Encoding: $coding\r\n\r\n3\r\nabc\r\n0\r\n\r\n$G" '501'
 done
 row "${P}Transfer-Encoding: , chunked\r\n\r\n3\r\nabc\r\n0\r\n\r\n$G" '200:3 200:0'
 row "CONNECT a:1 HTTP/1.1\r\n$H\r\n$G" '501'
 row "CONNECT a:1 HTTP/1.1\r\n\r\n$G" '400'
 row "${P}${H}Transfer-Encoding: gzip, chunked\r\n\r\n$G" '400'
+row "${P}Transfer-Encoding: gzip\r\nTransfer-Encoding: chunked\r\n\r\n3\r\nabc\r\n0\r\n\r\n$G" '400'
 for method in PUT DELETE OPTIONS TRACE PATCH; do
     row "$method / HTTP/1.1\r\n$H\r\n$G" '200:0 200:0'
 done
