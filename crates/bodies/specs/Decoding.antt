@@ -1,6 +1,5 @@
 -- A filter that hands out the payload of a body.
-use Rattle.std.specs.Prelude.{◌≡◌, ℕ, ◌-◌, ◌<◌, ◌≤◌, ◌⊎◌, List, [], ◌++◌, length, take, Bool, true, false, Result, Ok, Err, Option}
-use Rattle.std.specs.Prelude.{◌^◌, if◌then◌else◌, nat_lt}
+use Rattle.std.specs.Prelude.{◌≡◌, ℕ, ◌-◌, ◌^◌, ◌<◌, ◌≤◌, ◌⊎◌, if◌then◌else◌, nat_lt, List, [], ◌++◌, length, take, Bool, true, false, Result, Ok, Err, Option}
 use Rattle.std.specs.List.{concat, All}
 use Rattle.buffer_redux.specs.Block.{Plain}
 use Rattle.body_reader.specs.declared.error.BodyError.{BodyError}
