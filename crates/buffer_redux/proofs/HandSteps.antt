@@ -91,15 +91,14 @@ module _ {S P K : Type 0} (remaining : S → Option (List ℕ)) (rules : ReadRul
 
     -- the sink refused what is buffered, up to the byte
     pub ends_refused : (e : Error) (t : Buffered S P) (u : K) (bytes : List ℕ) → bytes ≡ take_through byte m.block.bytes
-        → (t ≡ m) × sink.takes l [] u × sink.refuses u bytes e → HandsUntil remaining rules sink byte s k (Err e) t u
+        → (t ≡ m) × sink.takes l [] u × sink.refuses l u bytes e → HandsUntil remaining rules sink byte s k (Err e) t u
     ends_refused e t u bytes all h = subst (λ x. HandsUntil remaining rules sink byte s k (Err e) x u) (sym h.0) (record {
       handed = before.handed;
       took = subst (λ x. sink.takes k x u) (append-nil before.handed) (law.joins k l u before.handed [] before.took h.1);
       front = before.shows.front;
       ends = inr (inl (
         passes_shown remaining rules byte s m before.handed before.shows,
-        subst (λ x. sink.refuses u x e)
-            all h.2,
+        subst (λ x. sink.refuses k u x e) all (law.since k l u before.handed bytes e before.took h.2),
       ));
     })
 
@@ -107,7 +106,7 @@ module _ {S P K : Type 0} (remaining : S → Option (List ℕ)) (rules : ReadRul
     pub ends_reached : (at : ℕ) (answer : Result (Unit {0}) Error) (t : Buffered S P) (u : K)
         → ((front : List ℕ) → ¬ (sink.leaves (front ++ byte ∷ []))) → FirstAt byte at m.block.bytes
         → MatchResult answer (λ _. HandsFirst remaining rules sink (at + 1) m l t u)
-        (λ e. (t ≡ m) × sink.takes l [] u × sink.refuses u (take (at + 1) m.block.bytes) e)
+        (λ e. (t ≡ m) × sink.takes l [] u × sink.refuses l u (take (at + 1) m.block.bytes) e)
         → HandsUntil remaining rules sink byte s k answer t u
     ends_reached at (Err e) t u whole first h =
         ends_refused e t u (take (at + 1) m.block.bytes) (first_through byte at m.block.bytes first) h
@@ -124,7 +123,7 @@ module _ {S P K : Type 0} (remaining : S → Option (List ℕ)) (rules : ReadRul
         }
 
     pub ends_at_all : (n : ℕ) (e : Error) (t : Buffered S P) (u : K) → n ≡ length m.block.bytes → Lacks byte m.block.bytes
-        → (t ≡ m) × sink.takes l [] u × sink.refuses u (take n m.block.bytes) e
+        → (t ≡ m) × sink.takes l [] u × sink.refuses l u (take n m.block.bytes) e
         → HandsUntil remaining rules sink byte s k (Err e) t u
     ends_at_all n e t u all plain h = ends_refused e t u (take n m.block.bytes)
         (take_all n m.block.bytes (omega (arith, all)) ∙ lacking_through byte m.block.bytes plain) h

@@ -78,6 +78,14 @@ Stops = List ℕ → Error → List ℕ → Type 0
 abbrev pub no_memory : Stops
 no_memory handed e bytes = (error_kind e ≡ OutOfMemory) × (0 < length bytes)
 
+-- a call that appends, for which there was so much room, and which answers this error, has appended these bytes: its last fill
+-- failed so, or they and what is buffered, up to the byte, are more
+abbrev pub FilledOrFull : {S P : Type 0} → (List ℕ → Type 0) → (S → Option (List ℕ)) → ReadRules P → ℕ → Buffered S P
+    → ℕ → Error → List ℕ → Buffered S P → Type 0
+FilledOrFull leaves remaining rules byte s room e after t =
+    ((handed : List ℕ) × PassesAndFills remaining rules (FillsOn leaves remaining rules) byte s handed (Err e) t)
+    ⊎ (room < length after + length (take_through byte t.block.bytes))
+
 -- behind bytes that the call leaves buffered the reader ran dry
 pub record BreaksOff {S P : Type 0} (leaves : List ℕ → Type 0) (remaining : S → Option (List ℕ)) (rules : ReadRules P)
     (byte : ℕ) (s : Buffered S P) (handed : List ℕ) (e : Error) (t : Buffered S P) : Type 0 where

@@ -89,7 +89,7 @@ pub fn buffered_writer<W: TellWrite>(
 /// Takes in the first bytes, and then the second, for which the buffer has room: all of them, or none where sending failed. Where
 /// they don't fit behind what is buffered, that is sent before, once. Nothing is flushed.
 ///
-/// An interrupted write is answered only behind `INTERRUPT_LIMIT` others in a row.
+/// An interrupted write is answered only behind `INTERRUPT_LIMIT` others.
 #[inline(always)]
 pub fn put_all<W: TellWrite>(
     target: &mut BufWriter<W>,

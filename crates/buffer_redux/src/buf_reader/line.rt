@@ -1,9 +1,9 @@
 //! A line of text.
-ghost use Rattle.std.specs.Prelude.{◌≡◌, ◌+◌, ◌*◌, ◌<◌, ◌≤◌, ◌++◌, ◌⊎◌, ℕ, List, [], length, drop, Ok, Err, IfErr, IfNone, IfOk, IfSome, IsUtf8, MatchResult, OnOk, string_bytes};
+ghost use Rattle.std.specs.Prelude.{◌≡◌, ◌+◌, ◌*◌, ◌<◌, ◌≤◌, ◌++◌, ◌⊎◌, ℕ, List, [], length, drop, Ok, Err, IfErr, IfNone, IfOk, IfSome, IsUtf8, MatchResult, OnOk, string_bytes, string_capacity};
 ghost use Rattle.std.proofs.Common.{subst, sym};
 ghost use Rattle.std.specs.Io.BufRead.{take_through};
 ghost use Rattle.std.specs.IoError.{error_kind};
-ghost use Rattle.std.specs.declared.io.ErrorKind.TheVariants.{InvalidData};
+ghost use Rattle.std.specs.declared.io.ErrorKind.TheVariants.{InvalidData, OutOfMemory};
 ghost use Rattle.redux_buffer.specs.Block.{IsBlock, capacity_for, usable};
 ghost use Rattle.redux_buffer.specs.GrowError.{GrowthRefused};
 ghost use Rattle.buffer_redux.specs.BufReader.{MovesFor, RanDry, ReadsInOrder};
@@ -11,7 +11,7 @@ ghost use Rattle.buffer_redux.specs.Buffered.{with_block};
 ghost use Rattle.buffer_redux.specs.ReadAll.{HandedFront};
 ghost use Rattle.buffer_redux.specs.ReadBehind.{FillsOn, FillsOrReads, ReadsBehind};
 ghost use Rattle.buffer_redux.specs.ReadLine.{AppendsLine, IsPart, NeverUtf8, ReadsLine};
-ghost use Rattle.buffer_redux.specs.ReadUntil.{Lacks, PassesAndFills};
+ghost use Rattle.buffer_redux.specs.ReadUntil.{FilledOrFull, Lacks, PassesAndFills};
 ghost use Rattle.buffer_redux.specs.Remaining.{reader_remaining};
 
 use crate::buf_reader::BufReader;
@@ -47,6 +47,9 @@ impl<R: TellRead, P: ReaderPolicy> BufReader<R, P> {
         ensures invalid { IfErr result (λ e. error_kind e ≡ InvalidData → ((handed : List ℕ) × PassesAndFills R.remaining
             P.rules (FillsOn IsPart R.remaining P.rules) 10 self.old handed (Err e) self.new)
             ⊎ IfSome (reader_remaining R.remaining P.rules self.old) (λ xs. ¬ (IsUtf8 (take_through 10 xs)))) }
+        // Such is the last fill's or read's; or there was no room.
+        ensures full { IfErr result (λ e. error_kind e ≡ OutOfMemory → FilledOrFull IsPart R.remaining P.rules 10 self.old
+            (string_capacity out.old) e (string_bytes out.new) self.new) }
         ensures line { ReadsLine R.remaining P.rules self.old (string_bytes out.old) result (string_bytes out.new) self.new }
     {
         match first_of(b'\n', self.buf.buf()) {
@@ -61,6 +64,8 @@ impl<R: TellRead, P: ReaderPolicy> BufReader<R, P> {
     #[inline(always)]
     fn read_line_apart<A: Allocator>(&mut self, out: &mut String<A>) -> io::Result<usize>
         requires plain { Lacks 10 self.old.block.bytes }
+        ensures full { IfErr result (λ e. error_kind e ≡ OutOfMemory → FilledOrFull IsPart R.remaining P.rules 10 self.old
+            (string_capacity out.old) e (string_bytes out.new) self.new) }
         ensures line { ReadsLine R.remaining P.rules self.old (string_bytes out.old) result (string_bytes out.new) self.new }
     {
         self.read_line_slowly(out)
@@ -71,6 +76,8 @@ impl<R: TellRead, P: ReaderPolicy> BufReader<R, P> {
     #[inline(never)]
     fn read_line_slowly<A: Allocator>(&mut self, out: &mut String<A>) -> io::Result<usize>
         requires plain { Lacks 10 self.old.block.bytes }
+        ensures full { IfErr result (λ e. error_kind e ≡ OutOfMemory → FilledOrFull IsPart R.remaining P.rules 10 self.old
+            (string_capacity out.old) e (string_bytes out.new) self.new) }
         ensures line { ReadsLine R.remaining P.rules self.old (string_bytes out.old) result (string_bytes out.new) self.new }
     {
         let start = out.len();
@@ -85,6 +92,8 @@ impl<R: TellRead, P: ReaderPolicy> BufReader<R, P> {
         requires some { 0 < n }
         ensures appends { AppendsLine R.remaining P.rules n self.old (string_bytes out.old) result
             (string_bytes out.new) self.new }
+        ensures full { IfErr result (λ e. error_kind e ≡ OutOfMemory
+            → string_capacity out.old < length (string_bytes out.new) + n) }
         ensures count { IfOk result (λ count. count ≡ n) }
     {
         let shown = self.buf.buf();

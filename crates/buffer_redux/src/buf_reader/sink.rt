@@ -1,5 +1,5 @@
 //! Where the bytes go that a call hands out, and how it goes on up to a byte.
-ghost use Rattle.std.specs.Prelude.{◌≡◌, ◌^◌, ◌<◌, ◌≤◌, ◌∷◌, [], ◌++◌, ℕ, List, length, take, drop, MatchResult, IfErr, IfOk, string_bytes, string_len, vec_items, vec_len, IsUtf8, ⊤};
+ghost use Rattle.std.specs.Prelude.{◌≡◌, ◌^◌, ◌<◌, ◌≤◌, ◌∷◌, [], ◌++◌, ℕ, List, length, take, drop, MatchResult, IfErr, IfOk, string_bytes, string_capacity, string_len, vec_capacity, vec_items, vec_len, IsUtf8, ⊤};
 ghost use Rattle.std.proofs.lemmas.Str.{IsUtf8-append, IsUtf8-nil};
 ghost use Rattle.buffer_redux.specs.ReadLine.{IsPart, no_text};
 ghost use Rattle.buffer_redux.specs.ReadUntil.{Lacks, no_memory};
@@ -23,27 +23,28 @@ pub(super) trait Sink {
     fn take_in(&mut self, bytes: &[u8]) -> io::Result<usize>
         ensures taken { IfOk result (λ n. (n ≤ length bytes.now) × rules.takes self.old (take n bytes.now) self.new
             × rules.leaves (drop n bytes.now)) }
-        ensures refused { IfErr result (λ e. rules.takes self.old [] self.new × rules.refuses self.new bytes.now e) };
+        ensures refused { IfErr result (λ e. rules.takes self.old [] self.new × rules.refuses self.old self.new bytes.now e) };
 
     ghost lawful: { IsLawful rules };
 }
 
 // Appends them.
 impl<A: Allocator> Sink for Vec<u8, A> {
-    ghost rules = { appending (λ v. vec_items v) (λ v. vec_len v) (λ left. left ≡ []) (λ bytes e. no_memory [] e bytes)
-        (λ _. ⊤) };
+    ghost rules = { appending (λ v. vec_items v) (λ v. vec_len v) (λ v. vec_capacity v) (λ left. left ≡ [])
+        (λ bytes e. no_memory [] e bytes) (λ _. ⊤) };
 
     fn take_in(&mut self, bytes: &[u8]) -> io::Result<usize> {
         self.extend_from_slice(bytes)?;
         Ok(bytes.len())
     }
 
-    ghost lawful = { appending-lawful _ _ _ _ _ tt (λ _ _ _ _. tt) (λ v. (v.ok.0, fits_len v.len _ v.ok.1 v.small)) };
+    ghost lawful = { appending-lawful _ _ _ _ _ _ tt (λ _ _ _ _. tt) (λ v. (v.ok.0, fits_len v.len _ v.ok.1 v.small)) };
 }
 
 // Appends the text that they are, and leaves a part of a character.
 impl<A: Allocator> Sink for String<A> {
-    ghost rules = { appending (λ v. string_bytes v) (λ v. string_len v) IsPart (λ bytes e. no_text [] e bytes) IsUtf8 };
+    ghost rules = { appending (λ v. string_bytes v) (λ v. string_len v) (λ v. string_capacity v) IsPart
+        (λ bytes e. no_text [] e bytes) IsUtf8 };
 
     fn take_in(&mut self, bytes: &[u8]) -> io::Result<usize> {
         let Some(text) = text_in_front(bytes) else {
@@ -53,7 +54,7 @@ impl<A: Allocator> Sink for String<A> {
         Ok(text.len())
     }
 
-    ghost lawful = { appending-lawful _ _ _ _ _ IsUtf8-nil IsUtf8-append
+    ghost lawful = { appending-lawful _ _ _ _ _ _ IsUtf8-nil IsUtf8-append
         (λ v. (v.bytes.ok.0, fits_len v.bytes.len _ v.bytes.ok.1 v.bytes.small)) };
 }
 
@@ -111,7 +112,7 @@ impl<R: TellRead, P: ReaderPolicy> BufReader<R, P> {
         ensures hands { MatchResult result
             (λ _. HandsFirst R.remaining P.rules K.rules n self.old sink.old self.new sink.new)
             (λ e. (self.new ≡ self.old) × K.rules.takes sink.old [] sink.new
-            × K.rules.refuses sink.new (take n self.old.block.bytes) e) }
+            × K.rules.refuses sink.old sink.new (take n self.old.block.bytes) e) }
     {
         let shown = self.buf.buf();
         let taken = sink.take_in(&shown[..n])?;

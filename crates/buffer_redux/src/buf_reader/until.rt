@@ -1,10 +1,12 @@
 //! Calls that go on up to a byte.
-ghost use Rattle.std.specs.Prelude.{◌≡◌, ℕ, List, ◌+◌, ◌<◌, ◌≤◌, ◌++◌, length, take, drop, IfNone, IfOk, IfSome, OnOk, ⊤};
+ghost use Rattle.std.specs.Prelude.{◌≡◌, ℕ, List, [], ◌+◌, ◌<◌, ◌≤◌, ◌++◌, length, take, drop, IfErr, IfNone, IfOk, IfSome, OnErr, OnOk, vec_capacity, ⊤};
 ghost use Rattle.std.specs.Io.BufRead.{take_through};
+ghost use Rattle.std.specs.IoError.{error_kind};
+ghost use Rattle.std.specs.declared.io.ErrorKind.TheVariants.{OutOfMemory};
 ghost use Rattle.buffer_redux.specs.BufReader.{ReadsInOrder};
 ghost use Rattle.buffer_redux.specs.FillRetried.{FillRetried, OneFill};
 ghost use Rattle.buffer_redux.specs.ReadAll.{HandedFront};
-ghost use Rattle.buffer_redux.specs.ReadUntil.{AppendsFirst, DropsFirst, FirstAt, Lacks, ReadsUntil, SkipsUntil};
+ghost use Rattle.buffer_redux.specs.ReadUntil.{AppendsFirst, DropsFirst, FilledOrFull, FirstAt, Lacks, ReadsUntil, SkipsUntil};
 ghost use Rattle.buffer_redux.specs.Remaining.{reader_remaining};
 
 use crate::buf_reader::BufReader;
@@ -29,6 +31,9 @@ impl<R: TellRead, P: ReaderPolicy> BufReader<R, P> {
             × ReadsInOrder self.old handed self.new × IfOk result (λ n. n ≡ length handed) }
         ensures bytes { OnOk result (IfSome (reader_remaining R.remaining P.rules self.old)
             (λ xs. out.new.items ≡ out.old.items ++ take_through byte xs)) }
+        // Such is the last fill's, so the stream's or the policy's; or there was no room.
+        ensures full { IfErr result (λ e. error_kind e ≡ OutOfMemory → FilledOrFull (λ left. left ≡ []) R.remaining P.rules byte
+            self.old (vec_capacity out.old) e out.new.items self.new) }
         ensures until { ReadsUntil R.remaining P.rules byte self.old out.old.items result out.new.items self.new }
     {
         match first_of(byte, self.buf.buf()) {
@@ -48,6 +53,8 @@ impl<R: TellRead, P: ReaderPolicy> BufReader<R, P> {
         out: &mut Vec<u8, A>,
     ) -> io::Result<usize>
         requires plain { Lacks byte self.old.block.bytes }
+        ensures full { IfErr result (λ e. error_kind e ≡ OutOfMemory → FilledOrFull (λ left. left ≡ []) R.remaining P.rules byte
+            self.old (vec_capacity out.old) e out.new.items self.new) }
         ensures until { ReadsUntil R.remaining P.rules byte self.old out.old.items result out.new.items self.new }
     {
         self.read_until_slowly(byte, out)
@@ -62,6 +69,8 @@ impl<R: TellRead, P: ReaderPolicy> BufReader<R, P> {
         out: &mut Vec<u8, A>,
     ) -> io::Result<usize>
         requires plain { Lacks byte self.old.block.bytes }
+        ensures full { IfErr result (λ e. error_kind e ≡ OutOfMemory → FilledOrFull (λ left. left ≡ []) R.remaining P.rules byte
+            self.old (vec_capacity out.old) e out.new.items self.new) }
         ensures until { ReadsUntil R.remaining P.rules byte self.old out.old.items result out.new.items self.new }
     {
         let start = out.len();
@@ -117,6 +126,7 @@ impl<R: TellRead, P: ReaderPolicy> BufReader<R, P> {
         requires within { n ≤ length self.old.block.bytes }
         requires some { 0 < n }
         ensures appends { AppendsFirst R.remaining P.rules n self.old out.old.items result out.new.items self.new }
+        ensures full { OnErr result (vec_capacity out.old < length out.new.items + n) }
     {
         let shown = self.buf.buf();
         out.extend_from_slice(&shown[..n])?;

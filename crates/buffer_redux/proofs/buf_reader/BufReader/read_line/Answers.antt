@@ -1,12 +1,14 @@
 -- A whole line that is no UTF-8 is mended by nothing that follows; any other is appended, or none of it.
-use Rattle.std.proofs.Common.{◌+◌, ◌∙◌, [], take, subst, sym, ap, arith, append-nil, inl, inr}
+use Rattle.std.proofs.Common.{◌+◌, ◌∙◌, [], length, take, subst, sym, ap, arith, append-nil, inl, inr}
 use Rattle.std.proofs.lemmas.Result.{err_from_is_err_and}
 use Rattle.std.proofs.lemmas.Str.{IsUtf8-nil}
+use Rattle.std.specs.Io.BufRead.{take_through}
 use Rattle.redux_buffer.specs.Block.{IsBlock}
 use Rattle.buffer_redux.specs.ReadBehind.{FillsOn}
 use Rattle.buffer_redux.specs.ReadLine.{IsPart, no_text}
 use Rattle.buffer_redux.specs.ReadUntil.{FirstAt}
 use Rattle.buffer_redux.specs.LineLaws.{ReadsLine-invalid, ReadsLine-known}
+use Rattle.buffer_redux.proofs.Searching.{first_through}
 use Rattle.buffer_redux.proofs.UntilSteps.{Shows, reaches, shows_none, stopped, through_length}
 use Rattle.buffer_redux.proofs.Utf8Fronts.{never_line}
 use Rattle.buffer_redux.proofs.buf_reader.BufReader.read_line.Goals as goal
@@ -79,3 +81,16 @@ returns-in-None-clause-invalid g c =
 pub returns-in_err-n-in-Some-clause-appended : goal.returns-in_err-n-in-Some-clause-appended
 returns-in_err-n-in-Some-clause-appended g c =
     let line = returns-in_err-n-in-Some-clause-line g c in (line.handed, line.appended, line.front.in_order, line.count)
+
+pub returns-in_err-n-in-Some-clause-full : goal.returns-in_err-n-in-Some-clause-full
+returns-in_err-n-in-Some-clause-full g c =
+    let s = c.args.self.now in
+    let p = err_from_is_err_and c.from_residual.result c.from_residual.ensures.1 in
+    let first = first_feed g (goal.at.returns-in_err-n-in-Some-clause-full g c).In-Some in
+    rw (p.1, p.2) (λ kind. inr (omega (
+      arith,
+      c.in_err-n-in-Some.ensures.full kind,
+      through_length 10 c.in-Some.at s.block.bytes first,
+      ap length (first_through 10 c.in-Some.at s.block.bytes first),
+      ap (λ x. length (take_through 10 x.block.bytes)) c.in_err-n-in-Some.ensures.appends.1,
+    )))

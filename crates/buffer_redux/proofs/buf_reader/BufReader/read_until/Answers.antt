@@ -1,10 +1,12 @@
 -- Where the byte is buffered, the bytes through it are appended, or none of them for want of memory.
-use Rattle.std.proofs.Common.{◌≡◌, ◌+◌, ◌∙◌, [], take, subst, sym, ap, arith, append-nil, inl}
+use Rattle.std.proofs.Common.{◌≡◌, ◌+◌, ◌∙◌, [], take, subst, sym, ap, arith, append-nil, inl, inr, length}
 use Rattle.std.proofs.lemmas.Result.{err_from_is_err_and}
+use Rattle.std.specs.Io.BufRead.{take_through}
 use Rattle.redux_buffer.specs.Block.{IsBlock}
 use Rattle.buffer_redux.specs.ReadBehind.{FillsOn}
 use Rattle.buffer_redux.specs.ReadUntil.{FirstAt, ReadsUntil, no_memory}
 use Rattle.buffer_redux.specs.UntilLaws.{ReadsUntil-known}
+use Rattle.buffer_redux.proofs.Searching.{first_through}
 use Rattle.buffer_redux.proofs.UntilSteps.{reaches, shows_none, stopped, through_length}
 use Rattle.buffer_redux.proofs.buf_reader.BufReader.read_until.Goals as goal
 
@@ -32,6 +34,13 @@ returns-in_err-append_first-in-Some g c =
         buffered = λ some. (c.in-Some.at, first, a);
       };
       bytes = tt;
+      full = λ kind. inr (omega (
+        arith,
+        c.in_err-append_first-in-Some.ensures.full,
+        through_length c.args.byte c.in-Some.at s.block.bytes first,
+        ap length (first_through c.args.byte c.in-Some.at s.block.bytes first),
+        ap (λ x. length (take_through c.args.byte x.block.bytes)) a.1,
+      ));
     })
 
 pub returns-in_ok-append_first-in-Some : goal.returns-in_ok-append_first-in-Some
@@ -57,6 +66,7 @@ returns-in_ok-append_first-in-Some g c =
       appended = (until.handed, until.appended, until.front.in_order, until.count);
       until = until;
       bytes = ReadsUntil-known remaining rules c.args.byte s _ _ _ _ until;
+      full = tt;
     }
 
 pub returns-in-None : goal.returns-in-None
@@ -65,4 +75,5 @@ returns-in-None g c =
       appended = (until.handed, until.appended, until.front.in_order, until.count);
       until = until;
       bytes = ReadsUntil-known g.R.TellRead.remaining g.P.ReaderPolicy.rules c.args.byte c.args.self.now _ _ _ _ until;
+      full = c.read_until_apart.ensures.full;
     }
