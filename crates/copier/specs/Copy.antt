@@ -137,7 +137,7 @@ OffersBuffer ring cap read read' = (read'.reads ≡ read.reads) ⊎ (read'.reads
 abbrev pub most_held : ℕ → ℕ
 most_held capacity = if nat_le capacity 1 then 0 else capacity
 
--- where the reader was asked, all but so many of the bytes that it had given before its last ask were received
+-- where the reader was asked, all but so many of the bytes that it had given before its last ask were received in the end
 abbrev pub HoldsBackAtMost : ℕ → StreamLog → StreamLog → StreamLog → StreamLog → Type 0
 HoldsBackAtMost most read read' written written' =
     (read'.reads ≡ read.reads)
