@@ -65,20 +65,19 @@ Means [] c = c ≡ command.Unknown
 Means (word ∷ rest) c =
     ((n : Name) × SameWord word (word_of n) × MeansRest n rest c) ⊎ (IsNoName word × (c ≡ command.Unknown))
 
--- the number at a key, which is 0 where there is none
+-- the number at a key, an i64, which is 0 where there is none
 abbrev pub HasNumber : Values → List ℕ → ℤ → Type 0
-HasNumber values key m = MatchOption (values.value key) (m ≡ pos 0) (λ text. text ≡ signed_decimal m)
+HasNumber values key m = FitsSigned w64 m × MatchOption (values.value key) (m ≡ pos 0) (λ text. text ≡ signed_decimal m)
 
--- it is now this, one more than it was
+-- it may be raised to this: one more, which is an i64 too, and may be held
+abbrev pub MayRaise : Values → List ℕ → ℤ → Type 0
+MayRaise values key n = (m : ℤ) × HasNumber values key m × (n ≡ m +ℤ pos 1) × FitsSigned w64 n × MayHold key values
+
+-- it is raised to this
 abbrev pub Raises : Values → List ℕ → ℤ → Values → Type 0
-Raises old key n new = (m : ℤ) × HasNumber old key m × (n ≡ m +ℤ pos 1) × MayHold key old
-    × SetsValue key (Some (signed_decimal n)) old new
+Raises old key n new = MayRaise old key n × SetsValue key (Some (signed_decimal n)) old new
 
--- it might be raised: one more is an i64, and may be held
-abbrev pub MayRaise : Values → List ℕ → Type 0
-MayRaise values key = (m : ℤ) × HasNumber values key m × FitsSigned w64 (m +ℤ pos 1) × MayHold key values
-
--- it is not raised, and why: there is no number, or the greatest that there is, or no room for one; or it might be, and memory is
+-- it is not raised, and why: there is no number, or the greatest that there is, or no room for one; or it may be, and memory is
 -- refused
 abbrev pub RaisesNone : Values → List ℕ → List ℕ → Values → Type 0
 RaisesNone old key why new = Same old new
@@ -87,7 +86,7 @@ RaisesNone old key why new = Same old new
     ⊎ (((why ≡ codes "-ERR increment or decrement would overflow\r\n")
     × (old.value key ≡ Some (signed_decimal (pos (2 ^ 63 - 1)))))
     ⊎ (((why ≡ codes "-ERR too many keys\r\n") × IsFull key old)
-    ⊎ ((why ≡ codes "-ERR out of memory\r\n") × MayRaise old key))))
+    ⊎ ((why ≡ codes "-ERR out of memory\r\n") × ((n : ℤ) × MayRaise old key n)))))
 
 -- keys are taken out one after another, and so many of them were there
 abbrev pub Deletes : List (List ℕ) → Values → ℕ → Values → Type 0
