@@ -38,11 +38,11 @@ RepliesWhole m old reply more t new = (t ≡ nothing) × MatchBool m.lost
     ((command : Command) × Means m.parts command × Acts old command reply new × (more ≡ takes_more command))
 
 -- what is replied behind a piece: nothing, while more of a request is to come; one reply to a whole one; and an error to what
--- belongs to none, behind which no further piece is taken
+-- belongs to none, behind which no request waits, and no further piece is taken
 abbrev pub RepliesTo : Waiting → Values → Fed → List ℕ → Bool → Waiting → Values → Type 0
 RepliesTo m old More reply more t new = (reply ≡ []) × (more ≡ true) × (t ≡ m) × Same old new
 RepliesTo m old Whole reply more t new = RepliesWhole m old reply more t new
-RepliesTo m old (Bad why) reply more t new = (reply ≡ refusal_reply why) × (more ≡ false) × (t ≡ m) × Same old new
+RepliesTo m old (Bad why) reply more t new = (reply ≡ refusal_reply why) × (more ≡ false) × (t ≡ nothing) × Same old new
 
 -- a piece is fed to the request, and then this is replied
 abbrev pub RepliesBy : Session → RespItem → List ℕ → List ℕ → Bool → Session → Type 0

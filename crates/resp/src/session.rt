@@ -71,7 +71,10 @@ impl Service<Resp> for Session {
         match self.request.take(self.alloc, item, payload) {
             Fed::More => Ok(true),
             Fed::Whole => answer_whole(self.alloc, &mut self.request, &mut self.store, writer),
-            Fed::Bad(refusal) => write_answer(writer, &[refusal_text(refusal)], false),
+            Fed::Bad(refusal) => {
+                self.request.clear();
+                write_answer(writer, &[refusal_text(refusal)], false)
+            }
         }
     }
 }

@@ -66,6 +66,23 @@ fn tells_an_end_within_a_request(rt: HostRuntime) -> Result<(), Fail> {
     Ok(drop(client))
 }
 
+#[test]
+fn begins_anew_behind_a_refusal(rt: HostRuntime) -> Result<(), Fail> {
+    let alloc = rt.alloc();
+    let mut store = Store::new(alloc, 100);
+    let stream = Told::new(b"*2\r\n$3\r\nGET\r\n:5\r\n$1\r\na\r\n".as_slice());
+    let mut client = Client::new(alloc, stream)?;
+    let mut replies = BufWriter::new(alloc, Told::new(Vec::new(alloc)))?;
+    for _turn in 0..2 {
+        assert!(rt; matches!(client.serve(&mut store, &mut replies), Ok(Ending::Closed)));
+    }
+    let wanted = b"-ERR Protocol error: expected '$'\r\n-ERR Protocol error: expected '*'\r\n";
+    assert!(rt; replies.get_ref().get_ref().as_slice() == wanted.as_slice());
+    drop(store);
+    drop(replies);
+    Ok(drop(client))
+}
+
 // What a command is, by its arguments.
 #[derive(Clone, Copy)]
 enum Said<'a> {

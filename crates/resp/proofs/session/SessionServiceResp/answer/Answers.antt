@@ -20,6 +20,6 @@ returns-in-Bad g c =
       Bad c.in-Bad.refusal,
       c.take.new.self,
       c.in-Bad.ensures,
-      (append-nil _ ∙ c.refusal_text.ensures, refl, refl, same_of values values refl),
+      (append-nil _ ∙ c.refusal_text.ensures, refl, c.clear.ensures, same_of values values refl),
     )
     c.write_answer.result c.write_answer.ensures.answers
