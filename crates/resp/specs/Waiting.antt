@@ -3,6 +3,7 @@ use Rattle.std.specs.Prelude.{◌≡◌, ℕ, ◌-◌, ◌<◌, ◌≤◌, ◌�
 use Rattle.std.specs.Global.{Vec}
 use Rattle.decoders.specs.declared.resp.RespItem.{RespItem}
 use Rattle.decoders.specs.declared.resp.RespItem.TheVariants as item
+use Rattle.resp.specs.Numbers.{IsNegative}
 use Rattle.resp.specs.declared.request.Fed.{Fed}
 use Rattle.resp.specs.declared.request.Fed.TheVariants.{More, Whole, Bad}
 use Rattle.resp.specs.declared.request.Refusal.TheVariants.{Count, NoBulk, NoArray}
@@ -35,12 +36,13 @@ TakesPart s item.Bulk payload Whole t = (s.left ≡ 1) × KeepsPart (record s { 
 TakesPart s item.Bulk payload (Bad why) t = ⊥
 TakesPart s i payload fed t = (fed ≡ Bad NoBulk) × (t ≡ s)
 
--- an array begins a request of so many parts, but of 1,024 at most; a line is one of one part, and an empty line none; any other
--- piece begins none
+-- an array begins a request of so many parts, but of 1,024 at most, and of a number below 0 none; a line is one of one part, and an
+-- empty line none; any other piece begins none
 abbrev pub BeginsRequest : Waiting → RespItem → List ℕ → Fed → Waiting → Type 0
 BeginsRequest s (item.Array (Some n)) payload fed t =
     ((n ≤ 1024) × (fed ≡ More) × (t ≡ awaiting n)) ⊎ ((1024 < n) × (fed ≡ Bad Count) × (t ≡ s))
-BeginsRequest s (item.Array None) payload fed t = (fed ≡ Bad Count) × (t ≡ s)
+BeginsRequest s (item.Array None) payload fed t =
+    (((fed ≡ More) × IsNegative payload) ⊎ ((fed ≡ Bad Count) × (¬ (IsNegative payload)))) × (t ≡ s)
 BeginsRequest s item.NullArray payload fed t = (fed ≡ More) × (t ≡ s)
 BeginsRequest s item.Inline [] fed t = (fed ≡ More) × (t ≡ nothing)
 BeginsRequest s item.Inline (byte ∷ line) fed t = (fed ≡ Whole) × KeepsPart nothing (byte ∷ line) t

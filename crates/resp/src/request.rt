@@ -2,6 +2,7 @@
 ghost use Rattle.std.specs.Prelude.{◌≡◌, ◌<◌, ◌↔◌, ◌∷◌, ◌++◌, [], IsTrue, OnOk, OnErr};
 ghost use Rattle.resp.specs.Waiting.{BeginsRequest, Feeds, KeepsPart, TakesPart, bytes_of, nothing};
 
+use crate::number::is_negative;
 use decoders::RespItem;
 use std::alloc::{AllocError, Global};
 use std::marker::Model;
@@ -132,7 +133,13 @@ impl Request {
                 self.left = count;
                 Fed::More
             }
-            RespItem::Array(None) => Fed::Bad(Refusal::Count),
+            RespItem::Array(None) => {
+                if is_negative(payload) {
+                    Fed::More
+                } else {
+                    Fed::Bad(Refusal::Count)
+                }
+            }
             RespItem::NullArray => Fed::More,
             RespItem::Inline => {
                 self.clear();

@@ -187,7 +187,7 @@ fn reads_numbers(rt: HostRuntime) -> Result<(), Fail> {
 }
 
 // Pieces one after another, what each makes of the request, and how many parts that has then.
-static PIECES: [(RespItem, &'static [u8], Fed, usize); 12] = [
+static PIECES: [(RespItem, &'static [u8], Fed, usize); 14] = [
     (RespItem::Bulk, b"a", Fed::Bad(Refusal::NoArray), 0),
     (RespItem::Array(Some(0)), b"", Fed::More, 0),
     (RespItem::Array(Some(2)), b"", Fed::More, 0),
@@ -198,6 +198,8 @@ static PIECES: [(RespItem, &'static [u8], Fed, usize); 12] = [
     (RespItem::Inline, b"PING", Fed::Whole, 1),
     (RespItem::NullArray, b"", Fed::More, 1),
     (RespItem::Array(None), b"", Fed::Bad(Refusal::Count), 1),
+    (RespItem::Array(None), b"-2", Fed::More, 1),
+    (RespItem::Array(None), b"-0", Fed::Bad(Refusal::Count), 1),
     (
         RespItem::Array(Some(MAX_PARTS + 1)),
         b"",
