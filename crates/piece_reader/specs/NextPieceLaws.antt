@@ -214,6 +214,16 @@ NextPiece-begins remaining g piece last s t payload next =
     let front = NextPiece-front remaining g piece last s t payload next in
     fronts_agree payload front.0 (rest s) front.1 front.2
 
+-- and it has at most so many bytes, where no payload of a piece has more, nor a last one of what settles nothing
+pub NextPiece-fits : {S D W : Type 0} (remaining : S → Option (List ℕ)) (g : Grammar W) (max : ℕ)
+    → ((bytes payload : List ℕ) → g.piece bytes payload → length payload ≤ max)
+    → ((bytes payload : List ℕ) → g.last bytes payload → IsOpen g bytes → length payload ≤ max)
+    → (s t : ReaderState S D) (payload : List ℕ) → NextPiece remaining g s (Ok (Some payload)) t → length payload ≤ max
+NextPiece-fits remaining g max piece last s t payload next = elim next.answers.1 [
+  | inl (is, going, none) ↦ piece next.bytes payload is
+  | inr (is, open', some, none, ended, met) ↦ last next.bytes payload is open'
+]
+
 -- a relation of what a call answers, once what that lends is shown
 pub shows_lent : {S D E : Type 0} (Such : Result (Option (List ℕ)) E → Type 0) (t : ReaderState S D) (found : Option Span)
     (span : Span) (shown : List ℕ) → found ≡ Some span → shown ≡ bytes_at span t.reader.block.bytes

@@ -1,5 +1,5 @@
 //! The reader of pieces that are shown without a carriage return.
-ghost use Rattle.std.specs.Prelude.{◌≡◌, length, take, IfOk, IfSome};
+ghost use Rattle.std.specs.Prelude.{◌≡◌, ◌≤◌, length, take, IfOk, IfSome};
 ghost use Rattle.std.specs.Borrow.{sem, unit};
 ghost use Rattle.std.specs.Io.BufRead.{Rests};
 ghost use Rattle.piece_reader.specs.contracts.delimited.Delimited.{the_row as delimited_row};
@@ -24,6 +24,7 @@ impl<R: TellRead> PieceReader<R, Trimmed<Delimited>> {
     pub fn next(&mut self) -> Result<Option<&[u8]>, NextError<TooLong>>
         ensures begins { IfOk result (λ found. IfSome found (λ payload.
             take (length payload.now) (rest self.old) ≡ take (length (rest self.old)) payload.now)) }
+        ensures fits { IfOk result (λ found. IfSome found (λ payload. length payload.now ≤ self.old.decoder.0.max)) }
         ensures* after_borrow { sem 𝓛 (Rests
             (the_row R.row (trimmed_row delimited_row too_long_row unit) too_long_row unit
             R.Tell ⟦<Trimmed<Delimited> as Decoder>⟧)

@@ -1,8 +1,9 @@
 -- A payload stands in front in its piece, so it begins as what was left does.
-use Rattle.std.proofs.Common.{[], ◌∷◌, refl}
+use Rattle.std.proofs.Common.{[], ◌∷◌, ap, arith, length, refl}
 use Rattle.piece_reader.specs.Delimited.{delimited}
+use Rattle.piece_reader.specs.DelimitedLaws.{open_plain}
 use Rattle.piece_reader.specs.NextPiece.{NextPiece}
-use Rattle.piece_reader.specs.NextPieceLaws.{NextPiece-begins, shows_lent}
+use Rattle.piece_reader.specs.NextPieceLaws.{NextPiece-begins, NextPiece-fits, shows_lent}
 use Rattle.piece_reader.proofs.delimited_reader.PieceReader+R+Delimited.next.Goals as goal
 
 pub returns-in-Some : goal.returns-in-Some
@@ -18,6 +19,9 @@ returns-in-Some g c =
       record {
         begins = NextPiece-begins remaining grammar (λ bytes payload is. (s.decoder.end ∷ [], is.2))
             (λ bytes payload is. is) s t found lends;
+        fits = NextPiece-fits remaining grammar s.decoder.max (λ bytes payload is. is.1)
+            (λ bytes payload is open'. omega (arith, (open_plain s.decoder.end s.decoder.max bytes open').1, ap length is))
+            s t found lends;
         after_borrow = tt;
       },
     )

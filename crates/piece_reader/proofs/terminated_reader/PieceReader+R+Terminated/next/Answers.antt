@@ -1,8 +1,8 @@
 -- A payload stands in front in its piece, so it begins as what was left does.
-use Rattle.std.proofs.Common.{refl}
+use Rattle.std.proofs.Common.{ap, arith, length, refl}
 use Rattle.piece_reader.specs.Terminated.{terminated}
 use Rattle.piece_reader.specs.NextPiece.{NextPiece}
-use Rattle.piece_reader.specs.NextPieceLaws.{NextPiece-begins, shows_lent}
+use Rattle.piece_reader.specs.NextPieceLaws.{NextPiece-begins, NextPiece-fits, shows_lent}
 use Rattle.piece_reader.proofs.terminated_reader.PieceReader+R+Terminated.next.Goals as goal
 
 pub returns-in-Some : goal.returns-in-Some
@@ -18,6 +18,8 @@ returns-in-Some g c =
       record {
         begins = NextPiece-begins remaining grammar (λ bytes payload is. (s.decoder.end.items, is.0))
             (λ bytes payload is. is.0) s t found lends;
+        fits = NextPiece-fits remaining grammar s.decoder.max (λ bytes payload is. is.1)
+            (λ bytes payload is open'. omega (arith, is.1, ap length is.0)) s t found lends;
         after_borrow = tt;
       },
     )
