@@ -1,26 +1,23 @@
 -- What a call of a reader of pieces leaves, in the words of frames.
-use Rattle.std.proofs.Common.{◌≡◌, ℕ, ◌+◌, ◌<◌, ◌≤◌, ◌⊎◌, List, [], ◌∷◌, ◌++◌, append-nil, length, take, true, false, sym, ap, subst, ◌∙◌, arith, inl, inr, refl, Option, None, Ok, Err, Some, IfSome, drop, length-drop, length-take-le}
+use Rattle.std.proofs.Common.{◌≡◌, ℕ, ◌+◌, ◌<◌, ◌≤◌, ◌⊎◌, List, [], ◌∷◌, ◌++◌, append-nil, length, take, sym, ap, subst, ◌∙◌, arith, inl, inr, refl, Option, None, Ok, Err, Some, IfSome, drop, length-drop, length-take-le}
 use Rattle.std.proofs.lemmas.Bool.{cases_lt}
 use Rattle.std.specs.Int.{w16, from_be_bytes}
-use Rattle.codec.specs.declared.Found.{Found}
-use Rattle.codec.specs.declared.Found.TheVariants.{More}
 use Rattle.codec.specs.declared.Span.{Span}
-use Rattle.codec.specs.Decoding.{Decodes, IsLent}
+use Rattle.codec.specs.Decoding.{IsLent}
 use Rattle.codec.specs.Grammar.{IsOpen}
-use Rattle.codec.specs.GrammarLaws.{begins_of, open_of}
+use Rattle.codec.specs.GrammarLaws.{begins_of}
 use Rattle.codec.specs.NextPiece.{NextAnswers, NextBuffered, NextPiece}
 use Rattle.codec.specs.NextPieceLaws.{fronts_agree}
 use Rattle.codec.specs.PiecesWentLaws.{PiecesWent-unasked}
-use Rattle.codec.specs.PieceReader.{IsSettled, ReaderState, rest}
+use Rattle.codec.specs.PieceReader.{ReaderState, rest}
 use Rattle.frame_reader.specs.declared.error.FrameError.{FrameError}
 use Rattle.frame_reader.specs.declared.error.FrameError.TheVariants.{Truncated, TooLong, Io}
-use Rattle.frame_reader.specs.declared.frame.FrameFault.{FrameFault}
 use Rattle.frame_reader.specs.declared.frame.FrameFault.TheVariants as Fault
 use Rattle.frame_reader.specs.declared.frame.Frames.{Frames}
 use Rattle.frame_reader.specs.Framed.{framed}
 use Rattle.frame_reader.specs.FramedLaws.{frame_there}
 use Rattle.frame_reader.specs.Frames.{AreBytes, BeginsWith, IsCutShort, frame, frames}
-use Rattle.frame_reader.specs.Next.{ErrorLeaves, Next, ReadsFrames, piece_error}
+use Rattle.frame_reader.specs.Next.{ErrorLeaves, Next, piece_error}
 use Rattle.frame_reader.specs.NextLaws.{NextBuffered-frames, Next-went}
 use Rattle.frame_reader.proofs.Lengths.{BeginsWith-first}
 
@@ -86,21 +83,6 @@ module _ {S : Type 0} (remaining : S → Option (List ℕ)) (s t : ReaderState S
       let went = (NextBuffered-frames remaining s t (Some payload) buffered).went in
       let all = PiecesWent-unasked remaining _ s t (frames (payload ∷ [])) went (ap (λ r. r.log) buffered.1) in
       (rest t, sym all ∙ ap (λ l. l ++ rest t) (append-nil (frame payload)))
-
--- where a frame lacks bytes nothing is settled
-pub unsettled : {S : Type 0} (f : ReaderState S Frames) (n : ℕ) → ReadsFrames f
-    → Decodes (framed f.decoder.max) (rest f) (More n) → ¬ (IsSettled (framed f.decoder.max) f)
-unsettled f n reads lacks (inl ended) = (let odd : true ≡ false = sym ended ∙ reads.told in cc)
-unsettled f n reads lacks (inr (inl begins)) =
-    (open_of (framed f.decoder.max) n (rest f) lacks.0 lacks.2).no_piece begins
-unsettled f n reads lacks (inr (inr (e, wrong))) =
-    (open_of (framed f.decoder.max) n (rest f) lacks.0 lacks.2).not_wrong e wrong
-
--- what was found is found of what is left
-pub decoded : {S : Type 0} (f : ReaderState S Frames) (d : Frames) (bytes : List ℕ) → d ≡ f.decoder → bytes ≡ rest f
-    → (found : Found FrameFault) → Decodes (framed d.max) bytes found → Decodes (framed f.decoder.max) (rest f) found
-decoded f d bytes same shown found is = subst (λ x. Decodes (framed x.max) (rest f) found) same
-    (subst (λ l. Decodes (framed d.max) l found) shown is)
 
 -- a place that is said is that of a payload, which fits
 pub lent_fits : {S : Type 0} (s t : ReaderState S Frames) (found : Option Span) → t.decoder ≡ s.decoder

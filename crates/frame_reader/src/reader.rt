@@ -17,7 +17,7 @@ use crate::error::FrameError;
 use crate::frame::{FrameFault, Frames, are_bytes};
 use buffer_redux::tell::{Tell, TellRead};
 use buffer_redux::{Buffer, DEFAULT_BUF_SIZE, GrowError, MakeError};
-use codec::{Decoder, Found, NextError, PieceReader, Span};
+use codec::{NextError, PieceReader, Span};
 use std::alloc::Global;
 use std::marker::Model;
 
@@ -155,11 +155,7 @@ impl<R: Tell> FrameReader<R> {
         ensures settled { IsTrue result ↔ IsSettled (framed self.now.decoder.max) self.now }
         ensures whole { ReadsFrames self.now }
     {
-        match self.pieces.decoder().decode(self.pieces.rest(), 0, &mut ()) {
-            Found::Piece(_, _) => true,
-            Found::More(_) => false,
-            Found::Wrong(_) => true,
-        }
+        self.pieces.is_settled()
     }
 
     // Why there is no frame. What is left is bytes, so it is a length and what stands behind it, or shorter than one.

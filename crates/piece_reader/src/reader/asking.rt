@@ -6,10 +6,10 @@ ghost use Rattle.piece_reader.specs.PieceReader.{IsSettled, rest};
 
 use crate::decoder::{Decoder, Found};
 use crate::reader::PieceReader;
-use buffer_redux::tell::TellRead;
+use buffer_redux::tell::{Tell, TellRead};
 use std::io;
 
-impl<R: TellRead, D: Decoder> PieceReader<R, D> {
+impl<R: Tell, D: Decoder> PieceReader<R, D> {
     /// Whether a whole piece is buffered: then the next [`step`](PieceReader::step) hands it out, and reads nothing.
     pub fn has_piece(&self) -> bool
         ensures none { rest self.now ≡ [] → result ≡ false }
@@ -38,7 +38,9 @@ impl<R: TellRead, D: Decoder> PieceReader<R, D> {
             Found::Wrong(_) => true,
         }
     }
+}
 
+impl<R: TellRead, D: Decoder> PieceReader<R, D> {
     /// Asks the stream once, unless an end is untold, and returns whether something is left then: it isn't where the stream
     /// ended, which the next [`step`](PieceReader::step) tells. An `Err` leaves nothing, too.
     pub fn refill(&mut self) -> io::Result<bool>
