@@ -21,10 +21,6 @@ pub trait ItemsOut: Items {
         requires { len ≤ (headers_out self.now item).max }
         ensures { take result.len result.bytes ≡ (headers_out self.now item).header len };
 
-    /// No longer payload is written in such a piece.
-    fn max_written(&self, item: Self::Item) -> usize
-        ensures { result ≡ (headers_out self.now item).max };
-
     // What is written is read as a piece that says this, with this payload.
     ghost read_back: { (d : Self) (item : Self.Item) (payload : List ℕ) → length payload ≤ (headers_out d item).max
         → IsItemRead (Self.grammar d) (Self.item_of d) item payload ((headers_out d item).header (length payload) ++ payload) };

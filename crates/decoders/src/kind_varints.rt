@@ -129,10 +129,5 @@ impl ItemsOut for KindVarints {
         header
     }
 
-    #[inline(always)]
-    fn max_written(&self, _kind: u8) -> usize {
-        self.max
-    }
-
     ghost read_back = { λ d. kind_pieces_back d.max d.fits };
 }
