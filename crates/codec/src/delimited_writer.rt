@@ -51,7 +51,7 @@ impl Encoder for Delimited {
             return Err(NotPlain::HasEnd);
         }
         Ok(HeaderBytes {
-            bytes: [0; 24],
+            bytes: [0; 40],
             len: 0,
         })
     }

@@ -5,31 +5,31 @@ ghost use Rattle.std.specs.Fmt.{decimal};
 /// The bytes that stand before a payload: the first `len` of `bytes`.
 #[derive(Clone, Copy, Debug, Drop)]
 pub struct HeaderBytes {
-    pub bytes: [u8; 24],
+    pub bytes: [u8; 40],
     pub len: usize,
-    pub ghost fits: { len ≤ 24 },
+    pub ghost fits: { len ≤ 40 },
 }
 
 impl HeaderBytes {
-    /// These bytes, at most 24.
+    /// These bytes, at most 40.
     #[inline(always)]
     pub fn new(bytes: &[u8]) -> HeaderBytes
-        requires { length bytes.now ≤ 24 }
+        requires { length bytes.now ≤ 40 }
         ensures bytes { take result.len result.bytes ≡ bytes.now }
         ensures len { result.len ≡ length bytes.now }
     {
         let mut header = HeaderBytes {
-            bytes: [0; 24],
+            bytes: [0; 40],
             len: 0,
         };
         header.push(bytes);
         header
     }
 
-    /// With these bytes behind it, at most 24 in all.
+    /// With these bytes behind it, at most 40 in all.
     #[inline(always)]
     pub fn push(&mut self, bytes: &[u8])
-        requires { self.old.len + length bytes.now ≤ 24 }
+        requires { self.old.len + length bytes.now ≤ 40 }
         ensures bytes { take self.new.len self.new.bytes ≡ take self.old.len self.old.bytes ++ bytes.now }
         ensures len { self.new.len ≡ self.old.len + length bytes.now }
     {
@@ -40,7 +40,7 @@ impl HeaderBytes {
 
     /// With this number behind it, in decimal.
     pub fn push_number(&mut self, number: usize)
-        requires { self.old.len + length (decimal number) ≤ 24 }
+        requires { self.old.len + length (decimal number) ≤ 40 }
         ensures bytes { take self.new.len self.new.bytes ≡ take self.old.len self.old.bytes ++ decimal number }
         ensures len { self.new.len ≡ self.old.len + length (decimal number) }
     {

@@ -129,7 +129,7 @@ pub(crate) fn varint_turn(place: VarintPlace, byte: u8) -> ScanStep<VarintPlace>
 
 // The bytes of the length.
 pub(crate) fn push_varint(header: &mut HeaderBytes, len: usize)
-    requires room { header.old.len + 4 ≤ 24 }
+    requires room { header.old.len + 4 ≤ 40 }
     requires fits { len < 2 ^ 28 }
     ensures { take header.new.len header.new.bytes ≡ take header.old.len header.old.bytes ++ varint_bytes len }
 {
