@@ -7,8 +7,8 @@ use codec::{
     ScanNote, ScanStep,
 };
 
-/// Pieces of MQTT, or of a field of Protocol Buffers: a byte of any kind, and then payloads as [`Varints`](crate::Varints) have
-/// them, of at most `max` bytes. The kind is the item.
+/// Pieces of MQTT, or of a field of Protocol Buffers that has bytes in it, and a number of 15 at most: a byte of any kind, and
+/// then payloads as [`Varints`](crate::Varints) have them, of at most `max` bytes. The kind is the item.
 ///
 /// ```
 /// let stream = Told::new(b"\x30\x02hi\xc0\x00".as_slice());

@@ -11,7 +11,8 @@ use codec::{
 };
 
 /// The pieces of RESP 2, of requests as of replies: bulk strings of at most `max` bytes, and lines of as many, which a line feed
-/// ends, or CR and LF. A payload is what stands behind the first byte, or in a bulk string; of a command in one line it is all.
+/// ends, or CR and LF; the first byte and the CR count. A payload is what stands behind the first byte, or in a bulk string; of a
+/// command in one line it is all.
 ///
 /// A line that the stream ends in is no piece, so a command that was cut off is none. An array is its header alone: as many
 /// pieces as it says come behind it.

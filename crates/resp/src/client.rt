@@ -21,7 +21,7 @@ use std::alloc::Global;
 use std::convert::Infallible;
 use std::mem;
 
-/// The most bytes of a bulk string, and of a line.
+/// The most bytes of a bulk string, and of a line, with its first byte and its carriage return.
 pub const MAX_PART: usize = 65536;
 
 /// A client: the stream of its requests, and what came of the one that has begun. It owns the stream, so that no request begins

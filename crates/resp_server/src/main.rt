@@ -1,5 +1,6 @@
 //! Serves requests of RESP on standard input, and replies on standard output: `PING`, `ECHO`, `GET`, `SET`, `DEL`, `INCR`,
-//! `DBSIZE` and `QUIT`, as redis-cli sends them. The status is 5 where standard input ends within a request.
+//! `DBSIZE` and `QUIT`, as redis-cli sends them; in one line a command has no arguments. The status is 5 where standard input
+//! ends within a request.
 #![tactic(auto)]
 
 use buffer_redux::BufWriter;
