@@ -1,23 +1,27 @@
 -- What a whole run of `decode` comes to.
 use Rattle.std.proofs.Common.{◌≡◌, ℕ, inl, inr, List, [], ◌++◌, length, length-append, ◌≤◌, Option, Result, Ok, Err, OnOk, refl, sym, ap, subst, ◌∙◌, arith, append_assoc, append-nil}
 use Rattle.std.specs.List.{concat}
-use Rattle.std.proofs.lemmas.List.Folds.{concat-append}
+use Rattle.std.proofs.lemmas.List.{nil_from_length}
 use Rattle.std.specs.Global.{Vec}
 use Rattle.buffer_redux.specs.ReaderLaws.{ReadsInOrder-fresh}
-use Rattle.buffer_redux.specs.WriterLaws.{WritesInOrder-fresh}
 use Rattle.body_reader.specs.CodingLaws.{Leads-none}
 use Rattle.chunked.specs.declared.place.Place.TheVariants.{Line}
 use Rattle.forward.specs.Forward.{ForwardAnswers, Forwarded, StopsBy}
+use Rattle.forward.specs.ForwardLaws.{ForwardedFirst-all}
+use Rattle.forward.specs.PromptLaws.{RunsPromptly-none}
+use Rattle.forward.specs.StreamsLaws.{WriteGaveUp-so}
 use Rattle.forward.specs.declared.error.Cause.{Cause}
 use Rattle.forward.specs.declared.error.Cause.TheVariants as cause
-use Rattle.bodies.specs.Words.{Error, Buffered, StreamLog, StdPolicy, IsBodyOfChunks, TookWholeBody, begun, chunked, Limits, FilterRules, Moves, AllSent, RefusedBeforeCalls, MetNoFault, RunError}
-use Rattle.bodies.specs.Decode.{DecodeRan, DecodesBody, Moved, MovedAll}
+use Rattle.bodies.specs.Words.{Error, Buffered, StreamLog, StdPolicy, IsBodyOfChunks, TookWholeBody, begun, chunked, Limits, FilterRules, AllSent, RefusedBeforeCalls, MetNoFault, RunError}
+use Rattle.bodies.specs.Decode.{DecodeRan, DecodesBody, IsBodyPart, IsDue}
 use Rattle.bodies.specs.Decoding.{MayDecode, PayloadEnds, decoding_rules, held_payload}
 use Rattle.bodies.specs.DecodingLaws.{none_held}
 use Rattle.bodies.specs.Filters.{IsErrorOf}
 use Rattle.bodies.specs.FiltersLaws.{each_some}
+use Rattle.bodies.specs.Moved.{Moved, MovedAll}
 use Rattle.bodies.specs.declared.decoding.Decoding.{Decoding}
 use Rattle.bodies.specs.declared.error.RunError.TheVariants.{NotChunked, Truncated, Behind, Io}
+use Rattle.bodies.proofs.Moves.{all_given, moved_none}
 
 -- a filter before a body
 abbrev pub start : {R W : Type 0} → Limits → Buffered R StdPolicy → Buffered W StdPolicy → Vec ℕ → Decoding R W
@@ -37,79 +41,82 @@ module _ {R W : Type 0} (remaining : R → Option (List ℕ)) (limits : Limits) 
   abbrev Ran : Result (Unit {0}) RunError → Type 0
   Ran answer = DecodeRan limits first.log t.source.reader.log u.log t.target.log answer
 
-  -- these pieces went over, and some may be lost
-  module _ (p lost handed : List (List ℕ)) (all : handed ≡ p ++ lost) (moves : Moves rules begin handed p t) where
-    parted : moves.hands.payload ≡ concat p ++ (concat lost ++ held_payload t)
-    parted = sym (ap (λ l. l ++ moves.hands.payload) (none_held remaining begin refl)) ∙ moves.hands.order
-        ∙ ap (λ l. l ++ held_payload t) (ap (λ l. concat l) all ∙ concat-append p lost)
-        ∙ append_assoc (concat p) (concat lost) (held_payload t)
+  -- what was handed out went over
+  module _ (count : ℕ) (over : Forwarded rules count begin t) where
+    abbrev payload : List ℕ
+    payload = over.moves.hands.payload
 
-    abbrev moved : Moved limits first.log t.source.reader.log u.log t.target.log
+    parted : payload ≡ concat over.payloads ++ held_payload t
+    parted = sym (ap (λ l. l ++ payload) (none_held remaining begin refl)) ∙ over.moves.hands.order
+
+    abbrev moved : Moved first.log t.source.reader.log u.log t.target.log
     moved =
-        let went = moves.hands.went in
-        let left = concat lost ++ held_payload t in
+        let went = over.moves.hands.went in
         record {
-          wire = t.source.taken;
-          payload = moves.hands.payload;
-          place = t.source.place;
-          part = record {
-            leads = rw (went.coding, went.handed) at ready.whole.leads;
-            is_place = ready.whole.place;
-          };
+          taken = t.source.taken;
           rest = t.source.reader.block.bytes;
           given = ReadsInOrder-fresh first t.source.reader went.wire none went.along.in_order
               ∙ ap (λ l. first.log.reads.given ++ (l ++ t.source.reader.block.bytes)) (sym went.taken);
-          unsent = t.target.block.bytes ++ left;
-          received =
-              sym (append_assoc t.target.log.writes.received t.target.block.bytes left)
-              ∙ ap (λ l. l ++ left) (WritesInOrder-fresh u t.target (concat p) none' moves.takes)
-              ∙ append_assoc u.log.writes.received (concat p) left ∙ ap (λ l. u.log.writes.received ++ l) (sym parted);
+          sent = over.moves.takes.in_order.sent;
+          unsent = t.target.block.bytes ++ held_payload t;
+          received = over.moves.takes.in_order.received;
         }
 
-  -- all that was handed out went over
-  module _ (count : ℕ) (over : Forwarded rules count begin t) where
-    abbrev moved_over : Moved limits first.log t.source.reader.log u.log t.target.log
-    moved_over = moved over.payloads [] over.payloads (sym (append-nil over.payloads)) over.moves
+    -- all payload was sent, or is unsent
+    parts : moved.sent ++ moved.unsent ≡ payload
+    parts = sym (append_assoc moved.sent t.target.block.bytes (held_payload t))
+        ∙ ap (λ l. l ++ held_payload t)
+        (over.moves.takes.in_order.equal ∙ ap (λ l. l ++ concat over.payloads) none') ∙ sym parted
+
+    abbrev part : IsDue limits t.source.taken payload
+    part = record {
+      place = t.source.place;
+      part = record {
+        leads = rw (over.moves.hands.went.coding, over.moves.hands.went.handed) at ready.whole.leads;
+        is_place = ready.whole.place;
+      };
+    }
 
     -- there are no more payloads than bytes of them
-    counted : count ≤ length moved_over.payload
+    counted : count ≤ length (moved.sent ++ moved.unsent)
     counted = omega (
       arith,
       over.all,
       each_some over.payloads over.moves.hands.some,
-      ap length (parted over.payloads [] over.payloads (sym (append-nil over.payloads)) over.moves),
+      ap length parts,
+      ap length parted,
       length-append (concat over.payloads) (held_payload t),
     )
 
     -- what went over was sent
     module _ (held : t.held ≡ 0) (sent : AllSent t.target) where
-      abbrev moved_all : MovedAll limits first.log t.source.reader.log u.log t.target.log
+      abbrev moved_all : MovedAll first.log t.source.reader.log u.log t.target.log
       moved_all = record {
-        moved = moved_over;
+        moved = moved;
         all = ap (λ l. l ++ held_payload t) sent.empty ∙ none_held remaining t held;
         flushed = sent.flushed;
       }
 
-      is_body : TookWholeBody (chunked t.source.coding.0) t.source → IsBodyOfChunks limits t.source.taken over.moves.hands.payload
-      is_body whole = rw (over.moves.hands.went.coding, over.moves.hands.went.handed) at whole
+      all_sent : payload ≡ moved.sent
+      all_sent = sym parts ∙ ap (λ l. moved.sent ++ l) moved_all.all ∙ append-nil moved.sent
+
+      is_body : TookWholeBody (chunked t.source.coding.0) t.source → IsBodyOfChunks limits t.source.taken moved.sent
+      is_body whole = subst (IsBodyOfChunks limits t.source.taken) all_sent
+          (rw (over.moves.hands.went.coding, over.moves.hands.went.handed) at whole)
+
+      abbrev part_sent : IsDue limits t.source.taken moved.sent
+      part_sent = record {
+        place = t.source.place;
+        part = subst (λ l. IsBodyPart limits t.source.taken l t.source.place) all_sent part.part;
+      }
 
       -- what comes next is wrong, or missing, or more than the body
       wrong : (why : RunError) → PayloadEnds begin.source (Err why) t.source
           → MetNoFault first.log t.source.reader.log u.log t.target.log → Ran (Err why)
-      wrong (NotChunked why right) (breaks, count) met = (
-        moved_all,
-        rw over.moves.hands.went.coding at breaks,
-        count,
-        met,
-      )
-      wrong (Truncated right) (none, left, dry, count) met = (
-        moved_all,
-        rw over.moves.hands.went.coding at none,
-        left,
-        dry,
-        count,
-        met,
-      )
+      wrong (NotChunked why right) (breaks, count) met =
+          (moved_all, part_sent, rw over.moves.hands.went.coding at breaks, count, met)
+      wrong (Truncated right) (none, left, dry, count) met =
+          (moved_all, part_sent, rw over.moves.hands.went.coding at none, left, dry, count, met)
       wrong (Behind right) (whole, some, count) met = (moved_all, is_body whole, some, count, met)
       wrong other end met = absurd end
 
@@ -123,13 +130,20 @@ module _ {R W : Type 0} (remaining : R → Option (List ℕ)) (limits : Limits) 
       → Ran (Err e)
   stopped count (cause.Wrong why) e (over, (held, end), sent, met) is =
       subst (λ x. Ran (Err x)) (sym is) (wrong count over held sent why end met)
-  stopped count (cause.Read fault) e (over, (held, left), sent, again, failed) is =
-      subst (λ x. Ran (Err x)) (sym is) (moved_all count over held sent, left, failed)
+  stopped count (cause.Read fault) e (over, (held, left), sent, again, failed) is = subst (λ x. Ran (Err x)) (sym is)
+      (moved_all count over held sent, part_sent count over held sent, left, failed)
   stopped count (cause.Write fault) e (first, inr refused) is = absurd refused.1
-  stopped count (cause.Write fault) e (first, inl failed) is = subst (λ x. Ran (Err x)) (sym is)
-      (moved first.payloads first.lost (first.payloads ++ first.lost) refl first.moves, failed.0)
+  stopped count (cause.Write fault) e (first, inl failed) is =
+      let over = ForwardedFirst-all rules refl first in
+      subst (λ x. Ran (Err x)) (sym is) (
+        moved count over,
+        subst (IsDue limits t.source.taken) (sym (parts count over)) (part count over),
+        WriteGaveUp-so (λ none. ap (λ l. l ++ held_payload t) (nil_from_length t.target.block.bytes none.0)
+            ∙ none_held remaining t none.1.0) failed,
+      )
   stopped count cause.Count e (over, large, met) is = subst (λ x. Ran (Err x)) (sym is.2) (
-    moved_over count over,
+    moved count over,
+    subst (IsDue limits t.source.taken) (sym (parts count over)) (part count over),
     inl (record { other = is.1; large = omega (arith, large, counted count over); met = met }),
   )
 
@@ -141,18 +155,10 @@ pub decode_says : {limits : Limits} {read read' written written' : StreamLog} (a
           × (written'.writes.received ≡ written.writes.received ++ payload));
       decodes : DecodesBody limits read read' written written' answer;
     }
-decode_says {limits} {read} {read'} {written} {written'} (Ok _) decodes =
+decode_says (Ok _) decodes =
     let m = decodes.ran.0.moved in
     record {
-      decoded = (
-        m.wire,
-        m.payload,
-        decodes.ran.1,
-        m.given ∙ ap (λ l. read.reads.given ++ (m.wire ++ l)) decodes.ran.2
-            ∙ ap (λ l. read.reads.given ++ l) (append-nil m.wire),
-        sym (append-nil written'.writes.received) ∙ ap (λ l. written'.writes.received ++ l) (sym decodes.ran.0.all)
-            ∙ m.received,
-      );
+      decoded = (m.taken, m.sent, decodes.ran.1, all_given m decodes.ran.2, m.received);
       decodes = decodes;
     }
 decode_says (Err e) decodes = record { decoded = tt; decodes = decodes }
@@ -162,20 +168,9 @@ pub refused : (limits : Limits) (read read' written written' : StreamLog) (e : E
     → RefusedBeforeCalls e read read' written written' → DecodesBody limits read read' written written' (Err (Io e))
 refused limits read read' written written' e p = rw (p.read_same, p.written_same) (record {
   ran = (
-    record {
-      wire = [];
-      payload = [];
-      place = Line;
-      part = record { leads = Leads-none (chunked limits) Line []; is_place = tt };
-      rest = [];
-      given = sym (append-nil read.reads.given);
-      unsent = [];
-      received = refl;
-    },
+    moved_none read written,
+    record { place = Line; part = record { leads = Leads-none (chunked limits) Line []; is_place = tt } },
     inr (rw (p.read_same, p.written_same) at p),
   );
-  prompt = inl refl;
-  once = omega arith;
-  few = omega arith;
-  flushes = omega arith;
+  promptly = RunsPromptly-none (IsDue limits) 1 2 read written;
 })

@@ -1,7 +1,8 @@
 -- What the calls of a filter of payload do.
-use Rattle.std.proofs.Common.{◌≡◌, ℕ, ◌+◌, ◌<◌, ◌≤◌, ◌⊎◌, inl, inr, List, [], ◌∷◌, ◌++◌, length, nat_lt, take, true, false, Bool, Option, Result, Ok, Err, refl, sym, ap, subst, ◌∙◌, arith, append-nil, length-take-le}
+use Rattle.std.proofs.Common.{◌≡◌, ℕ, ◌+◌, ◌<◌, ◌≤◌, ◌⊎◌, inl, inr, List, [], ◌∷◌, ◌++◌, length, nat_lt, take, true, false, Bool, Option, Result, Ok, Err, OnErr, refl, sym, ap, subst, ◌∙◌, arith, append-nil, length-take-le}
 use Rattle.std.proofs.lemmas.List.Elements.{All-cons, All-nil}
 use Rattle.std.proofs.lemmas.List.{nil_from_length, with_items_is}
+use Rattle.std.specs.List.{concat}
 use Rattle.std.specs.Vec.{with_items}
 use Rattle.buffer_redux.specs.LogGrows.{ReadLogGrows-joins}
 use Rattle.buffer_redux.specs.Unbuffer.{unbuffered}
@@ -22,13 +23,14 @@ use Rattle.forward.specs.declared.error.AskError.{AskError}
 use Rattle.forward.specs.Filter.{FailedToRead}
 use Rattle.forward.specs.Target.{bytes_taken}
 use Rattle.programs.specs.TargetLaws.{TakesAll-not_passed, TakesAll-passed, WasFlushed-sent, WasFlushed-writes}
-use Rattle.bodies.specs.Words.{Error, WasFlushed, Buffered, std_read_rules, StreamLog, StdPolicy, BodyWent, IsBodyOfChunks, IsBodyReader, TakesAll, TookWholeBody, LooksBehind, ReadsPayload, chunked, handed_of, taken_count, AskAnswers, FilterAsks, FilterFlushes, FilterRules, NeverGaveNothing, FilterPasses, StaysOpen, taken_more, target_of, RunError}
+use Rattle.bodies.specs.Words.{Error, WasFlushed, Buffered, std_read_rules, StreamLog, StdPolicy, BodyWent, IsBodyOfChunks, IsBodyReader, TakesAll, TookWholeBody, LooksBehind, ReadsPayload, chunked, handed_of, taken_count, AskAnswers, FilterAsks, FilterFlushes, FilterRules, NeverGaveNothing, FilterPasses, StaysOpen, taken_more, target_of, WritesInOrder, RunError}
 use Rattle.bodies.specs.Decode.{IsDue}
-use Rattle.bodies.specs.Decoding.{ChunkedState, HandsPayloadPieces, HoldsPiece, MayDecode, NoneBuffered, ask_error, decoding_rules, end_answer, fault_behind, held_payload, most_wanted}
+use Rattle.bodies.specs.Decoding.{ChunkedState, HandsPayloadPieces, HoldsPiece, MayDecode, NoneBuffered, TakesPayload, ask_error, decoding_rules, end_answer, fault_behind, held_payload, most_wanted}
 use Rattle.bodies.specs.Decoding as Source
 use Rattle.bodies.specs.DecodingLaws.{hands_held, hands_none, none_held}
-use Rattle.bodies.specs.FiltersLaws.{fault_gives, on_err}
+use Rattle.bodies.specs.FiltersLaws.{fault_gives}
 use Rattle.bodies.specs.declared.decoding.Decoding.{Decoding}
+use Rattle.bodies.proofs.Coming.{asked_stream}
 use Rattle.bodies.proofs.Passing.{passed_none, passed_some}
 
 -- bytes that settle nothing are none
@@ -134,6 +136,12 @@ module _ {R W : Type 0} (remaining : R → Option (List ℕ)) (s : Decoding R W)
     abbrev pub Takes : Result (Unit {0}) Error → Type 0
     Takes answer = TakesAll (length piece + 0) (λ _. ⊥) u.target (piece ++ []) answer v
 
+    took : (pieces : List (List ℕ)) → WritesInOrder u.target (concat pieces) v → TakesPayload s.target pieces v
+    took pieces order = record {
+      in_order = subst (λ w. WritesInOrder w (concat pieces) v) held.still order;
+      room = same ∙ ap (λ w. w.block.capacity) held.still;
+    }
+
     pub not_written : (e : Error) → Takes (Err e) → FilterPasses rules s (Err e) (record u { target = v })
     not_written e takes = record {
       told = held.told;
@@ -144,7 +152,7 @@ module _ {R W : Type 0} (remaining : R → Option (List ℕ)) (s : Decoding R W)
         [],
         record {
           hands = hands_held remaining s (record u { target = v }) held.hands.payload held.hands.went held.hands.order;
-          takes = rw held.still at takes.taken;
+          takes = took [] takes.taken;
         },
         omega arith,
       );
@@ -170,7 +178,7 @@ module _ {R W : Type 0} (remaining : R → Option (List ℕ)) (s : Decoding R W)
                 order = held.hands.order ∙ sym (append-nil piece) ∙ sym (append-nil (piece ++ []));
                 some = All-cons (λ p. 0 < length p) piece [] long (All-nil (λ p. 0 < length p));
               };
-              takes = rw held.still at takes.taken;
+              takes = took (piece ∷ []) takes.taken;
             },
             inl (omega (
               arith,
@@ -199,7 +207,10 @@ module _ {R W : Type 0} (remaining : R → Option (List ℕ)) (s : Decoding R W)
       wrote = WasFlushed-writes s.target v f;
       steps = f.steps;
       quiet = λ drops. absurd drops;
-      moves = record { hands = hands_none remaining s (record s { target = v }) refl refl; takes = f.in_order };
+      moves = record {
+        hands = hands_none remaining s (record s { target = v }) refl refl;
+        takes = record { in_order = f.in_order; room = f.capacity };
+      };
       lacks = λ lacks. lacks;
       sent = WasFlushed-sent s.target v answer f;
     }
@@ -220,12 +231,12 @@ module _ {R W : Type 0} (remaining : R → Option (List ℕ)) (s : Decoding R W)
       ready = read_ready none m out len t n went most whole;
       moves = record {
         hands = read_hands none m out len t n went;
-        takes = WritesInOrder-none s.target;
+        takes = record { in_order = WritesInOrder-none s.target; room = refl };
       };
       sent = λ sent. sent;
       asks = over;
       once = record { once = once; quiet = λ closed. absurd closed; closed = λ closed. closed };
-      looks = on_err answer tt;
+      looks = elim answer as (λ a. OnErr a (Unit {0})) [ Ok more ↦ tt | Err why ↦ tt ];
       answers = answers;
     }
 
@@ -260,12 +271,18 @@ module _ {R W : Type 0} (remaining : R → Option (List ℕ)) (s : Decoding R W)
       here : IsBodyReader (chunked m.coding.0) m
       here = subst (λ c. IsBodyReader (chunked c.0) m) (sym p.went.coding) p.whole
 
-    pub asked_more : (n : ℕ) → ReadsPayload remaining std_read_rules (chunked s.source.coding.0) s.source out (Ok n) m → 0 < n
+    pub asked_more : NoneBuffered s.source → (n : ℕ)
+        → ReadsPayload remaining std_read_rules (chunked s.source.coding.0) s.source out (Ok n) m → 0 < n
         → FilterAsks rules s (Ok true) (asked m n)
-    asked_more n p some =
+    asked_more lacks n p some =
         let gave = p.answers.1 in
         asks_so m n (omega (arith, p.answers.0, len, ready.room)) p.went (here (Ok n) p) (over (Ok n) p)
-        (omega (arith, gave.zero_reads)) (Ok true) (some, gave.faults, inl (gives_on m n gave), λ finds. absurd (finds tt))
+        (omega (arith, gave.zero_reads)) (Ok true) (
+          some,
+          gave.faults,
+          inl (gives_on m n gave),
+          asked_stream remaining s.source m ready.whole out n p some lacks,
+        )
 
     -- the stream failed, and bytes came in this ask or none
     faulted : (e : Error) (came : Bool) → came ≡ nat_lt (taken_count s.source) (taken_count m)

@@ -1,23 +1,27 @@
 -- What a whole run of `encode` comes to.
 use Rattle.std.proofs.Common.{◌≡◌, ℕ, ◌+◌, ◌<◌, inl, inr, List, [], ◌++◌, length, length-append, Option, Result, Ok, Err, OnOk, refl, sym, ap, subst, ◌∙◌, arith, append_assoc, append-nil}
-use Rattle.std.proofs.lemmas.List.Folds.{concat-append}
-use Rattle.std.proofs.lemmas.List.Elements.{All-weaker}
+use Rattle.std.proofs.lemmas.List.{nil_from_length}
+use Rattle.std.proofs.lemmas.List.Elements.{All-nil, All-weaker}
 use Rattle.std.specs.List.{concat, flat_map}
 use Rattle.buffer_redux.specs.ReaderLaws.{ReadsInOrder-fresh}
 use Rattle.buffer_redux.specs.WriterLaws.{WritesInOrder-joins, WritesInOrder-none}
 use Rattle.chunked.specs.BodyLaws.{IsBodyOfChunks-same}
-use Rattle.chunked.specs.ChunkLaws.{IsChunks-body, IsChunks-none}
+use Rattle.chunked.specs.ChunkLaws.{IsChunks-body}
 use Rattle.forward.specs.Forward.{Forwarded, NoneFailed, StopsBy}
+use Rattle.forward.specs.ForwardLaws.{ForwardedFirst-all}
+use Rattle.forward.specs.PromptLaws.{RunsPromptly-none}
+use Rattle.forward.specs.StreamsLaws.{MetNoFault-joins, WriteGaveUp-after, WriteGaveUp-so}
 use Rattle.forward.specs.declared.error.Cause.{Cause}
 use Rattle.forward.specs.declared.error.Cause.TheVariants as cause
-use Rattle.programs.specs.StreamsLaws.{MetNoFault-joins, WriterFailed-after}
-use Rattle.bodies.specs.Words.{Error, WritesInOrder, Buffered, OnlyInterrupts-none, StreamLog, StdPolicy, IsBodyOfChunks, IsCarried, IsChunks, body_end, unbegun, Limits, FilterRules, Moves, AllSent, RefusedBeforeCalls, RunError, chunk}
-use Rattle.bodies.specs.Encode.{EncodeRan, Encodes, EndsBody, IsCut, IsUnended, IsEncodedBody, Moved, MovedAll, IsBodyBeginning}
+use Rattle.bodies.specs.Words.{Error, WritesInOrder, Buffered, OnlyInterrupts-none, StreamLog, StdPolicy, IsBodyOfChunks, IsCarried, IsChunks, body_end, unbegun, Limits, FilterRules, AllSent, RefusedBeforeCalls, RunError, chunk}
+use Rattle.bodies.specs.Encode.{ChunkEachRead, EncodeRan, Encodes, EndsBody, IsCut, IsDue, IsEncodedBody, IsEnded, IsUnended}
 use Rattle.bodies.specs.Encoding.{encoding_rules}
 use Rattle.bodies.specs.Filters.{IsErrorOf}
 use Rattle.bodies.specs.FiltersLaws.{each_some}
+use Rattle.bodies.specs.Moved.{Moved, MovedAll}
 use Rattle.bodies.specs.declared.encoding.Encoding.{Encoding}
 use Rattle.bodies.specs.declared.error.RunError.TheVariants.{Io}
+use Rattle.bodies.proofs.Moves.{all_given, moved_none}
 
 abbrev least : Limits
 least = record { line = 16; trailers = 0 }
@@ -46,22 +50,27 @@ written bytes payload is = record {
 }
 
 module _ {read read' written' written'' : StreamLog} (m : Moved read read' written' written'') where
-  unended : IsChunks (m.sent ++ m.unsent) m.payload → IsUnended m
-  unended is = record {
-    chunks = is;
-    cut = cut_short m.sent (m.unsent ++ body_end []) m.payload
-        (rw append_assoc at ((written (m.sent ++ m.unsent) m.payload is).is_body least (omega arith)))
+  -- the body's end wasn't taken in, or was
+  unended : (chunks : IsChunks (m.sent ++ m.unsent) m.taken)
+      → ChunkEachRead chunks.payloads m.rest read.reads read'.reads → IsUnended m
+  unended chunks each = record {
+    chunks = chunks;
+    each = each;
+    cut = cut_short m.sent (m.unsent ++ body_end []) m.taken
+        (rw append_assoc at ((written (m.sent ++ m.unsent) m.taken chunks).is_body least (omega arith)))
         (omega (arith, length-append m.unsent (body_end [])));
   }
 
-  unflushed : IsEncodedBody (m.sent ++ m.unsent) m.payload → m.rest ≡ []
-      → read'.reads.zero_reads ≡ read.reads.zero_reads + 1 → IsBodyBeginning m
-  unflushed is left once = inr (record {
-    is_body = is;
-    cut = cut_short m.sent m.unsent m.payload (is.is_body least (omega arith));
+  whole : (body : IsEncodedBody (m.sent ++ m.unsent) m.taken)
+      → ChunkEachRead body.carries.payloads [] read.reads read'.reads → m.rest ≡ []
+      → read'.reads.zero_reads ≡ read.reads.zero_reads + 1 → IsEnded m
+  whole body each left once = record {
+    body = body;
+    each = each;
+    cut = cut_short m.sent m.unsent m.taken (body.is_body least (omega arith));
     all = left;
     ended = once;
-  })
+  }
 
 -- a filter before a body
 abbrev pub start : {R W : Type 0} → Buffered R StdPolicy → Buffered W StdPolicy → Encoding R W
@@ -76,76 +85,75 @@ module _ {R W : Type 0} (remaining : R → Option (List ℕ)) (trace : W → W �
   abbrev begin : Encoding R W
   begin = start first u
 
-  -- these payloads went over, and some may be lost; and these bytes were taken in behind their chunks
-  module _ (p lost : List (List ℕ)) (moves : Moves rules begin (p ++ lost) p t) (end : List ℕ) (v : Buffered W StdPolicy)
+  -- what was handed out went over, and these bytes were taken in behind its chunks
+  module _ (count : ℕ) (over : Forwarded rules count begin t) (end : List ℕ) (v : Buffered W StdPolicy)
       (taken : WritesInOrder t.target.writer end v) where
-    order : WritesInOrder u (flat_map chunk p ++ end) v
-    order = WritesInOrder-joins u t.target.writer v (flat_map chunk p) end moves.takes.went.in_order taken
+    abbrev chunks : List ℕ
+    chunks = flat_map chunk over.payloads
+
+    order : WritesInOrder u (chunks ++ end) v
+    order = WritesInOrder-joins u t.target.writer v chunks end over.moves.takes.went.in_order taken
 
     abbrev moved : Moved first.log t.source.log u.log v.log
     moved = record {
-      payload = concat p;
-      rest = concat lost ++ t.source.block.bytes;
-      given = ReadsInOrder-fresh first t.source (concat (p ++ lost)) none moves.hands.in_order
-          ∙ ap (λ l. first.log.reads.given ++ (l ++ t.source.block.bytes)) (concat-append p lost)
-          ∙ ap (λ l. first.log.reads.given ++ l) (append_assoc (concat p) (concat lost) t.source.block.bytes);
+      taken = concat over.payloads;
+      rest = t.source.block.bytes;
+      given = ReadsInOrder-fresh first t.source (concat over.payloads) none over.moves.hands.along.in_order;
       sent = order.sent;
       unsent = v.block.bytes;
       received = order.received;
     }
 
-    part : order.sent ++ v.block.bytes ≡ flat_map chunk p ++ end
-    part = order.equal ∙ ap (λ l. l ++ (flat_map chunk p ++ end)) none'
+    part : order.sent ++ v.block.bytes ≡ chunks ++ end
+    part = order.equal ∙ ap (λ l. l ++ (chunks ++ end)) none'
 
-    is_chunks : IsChunks (flat_map chunk p) (concat p)
-    is_chunks = record { payloads = p; carried = moves.takes.carried; equal = refl; joined = refl }
+    -- the bytes are given first, so that the list of payloads can be seen
+    abbrev is_chunks : (bytes : List ℕ) → bytes ≡ chunks → IsChunks bytes (concat over.payloads)
+    is_chunks bytes equal =
+        record { payloads = over.payloads; carried = over.moves.takes.carried; equal = equal; joined = refl }
 
-    -- the body's end wasn't taken in, or was
+    abbrev moved_all : AllSent v → MovedAll first.log t.source.log u.log v.log
+    moved_all sent = record { moved = moved; all = sent.empty; flushed = sent.flushed }
+
     not_ended : end ≡ [] → IsUnended moved
-    not_ended nothing = unended moved (rw (part, nothing, append-nil) is_chunks)
+    not_ended nothing = unended moved
+        (is_chunks (order.sent ++ v.block.bytes) (part ∙ ap (λ l. chunks ++ l) nothing ∙ append-nil chunks))
+        (omega (arith, over.moves.hands.each, ap length none))
 
-    is_written : end ≡ body_end [] → IsEncodedBody (order.sent ++ v.block.bytes) (concat p)
-    is_written all = rw (part, all) (written (flat_map chunk p) (concat p) is_chunks)
+    is_ended : end ≡ body_end [] → t.source.block.bytes ≡ []
+        → t.source.log.reads.zero_reads ≡ first.log.reads.zero_reads + 1 → IsEnded moved
+    is_ended all left once = whole moved (record {
+      chunks = chunks;
+      carries = is_chunks chunks refl;
+      ended = part ∙ ap (λ l. chunks ++ l) all;
+      is_body = λ limits line. subst (λ l. IsBodyOfChunks limits l (concat over.payloads))
+          (sym (part ∙ ap (λ l. chunks ++ l) all))
+          ((written chunks (concat over.payloads) (is_chunks chunks refl)).is_body limits line);
+    }) (omega (arith, over.moves.hands.each, ap length none, ap length left)) left once
 
-  -- all that was handed out went over
-  module _ (count : ℕ) (over : Forwarded rules count begin t) where
-    abbrev none_lost : Moves rules begin (over.payloads ++ []) over.payloads t
-    none_lost = rw append-nil over.moves
-
-    abbrev moved_over : (end : List ℕ) (v : Buffered W StdPolicy) → WritesInOrder t.target.writer end v
-        → Moved first.log t.source.log u.log v.log
-    moved_over = moved over.payloads [] none_lost
-
-    abbrev moved_all : (end : List ℕ) (v : Buffered W StdPolicy) → WritesInOrder t.target.writer end v → t.source.block.bytes ≡ []
-        → AllSent v → MovedAll first.log t.source.log u.log v.log
-    moved_all end v taken left sent =
-        record { moved = moved_over end v taken; all = left; none_left = sent.empty; flushed = sent.flushed }
-
-    -- the end of the body went over, or not
-    module _ (left : t.source.block.bytes ≡ []) (met : NoneFailed rules begin t) (v : Buffered W StdPolicy) where
-      pub ended : t.source.log.reads.zero_reads ≡ first.log.reads.zero_reads + 1 → (answer : Result (Unit {0}) RunError)
-          → EndsBody t.target.writer answer v → EncodeRan first.log t.source.log u.log v.log answer
-      ended once (Ok _) end = (
-        moved_all end.end v end.taken left end.answers.1,
-        (let sent = (order over.payloads [] none_lost end.end v end.taken).sent in
-            subst (λ l. IsEncodedBody l (concat over.payloads)) (ap (λ l. sent ++ l) end.answers.1.empty ∙ append-nil sent)
-            (is_written over.payloads [] none_lost end.end v end.taken end.answers.0)),
-        once,
-        MetNoFault-joins met
-            (record { reader = OnlyInterrupts-none t.source.log.reads.faults; writer = end.answers.2 }),
-      )
-      ended once (Err why) end =
-          let e = end.answers.1.0 in
-          subst (λ x. EncodeRan first.log t.source.log u.log v.log (Err x)) (sym end.answers.1.1) (
-            moved_over end.end v end.taken,
-            elim end.answers.0 [
-              | inl all ↦ unflushed (moved_over end.end v end.taken)
-                  (is_written over.payloads [] none_lost end.end v end.taken all) left once
-              | inr nothing ↦ inl (not_ended over.payloads [] none_lost end.end v end.taken nothing)
-            ],
-            WriterFailed-after met
-                (record { reader = OnlyInterrupts-none t.source.log.reads.faults; writer = end.answers.1.2 }),
-          )
+  -- the end of the body went over, or not
+  module _ (count : ℕ) (over : Forwarded rules count begin t) (left : t.source.block.bytes ≡ []) (met : NoneFailed rules begin t)
+      (v : Buffered W StdPolicy) (once : t.source.log.reads.zero_reads ≡ first.log.reads.zero_reads + 1) where
+    pub ended : (answer : Result (Unit {0}) RunError) → EndsBody t.target.writer answer v
+        → EncodeRan first.log t.source.log u.log v.log answer
+    ended (Ok _) end = (
+      moved_all count over end.end v end.taken end.answers.1,
+      is_ended count over end.end v end.taken end.answers.0 left once,
+      MetNoFault-joins met
+          (record { reader = OnlyInterrupts-none t.source.log.reads.faults; writer = end.answers.2 }),
+    )
+    ended (Err why) end =
+        subst (λ x. EncodeRan first.log t.source.log u.log v.log (Err x)) (sym end.answers.1.1) (
+          moved count over end.end v end.taken,
+          elim end.answers.0 [
+            | inl all ↦ inr (is_ended count over end.end v end.taken all left once)
+            | inr nothing ↦ inl (not_ended count over end.end v end.taken nothing)
+          ],
+          WriteGaveUp-after met (record {
+            failed = record { reader = OnlyInterrupts-none t.source.log.reads.faults; writer = end.answers.1.2 };
+            often = end.answers.1.3;
+          }),
+        )
 
   -- the run was stopped, and no end was taken in
   abbrev still : WritesInOrder t.target.writer [] t.target.writer
@@ -157,19 +165,22 @@ module _ {R W : Type 0} (remaining : R → Option (List ℕ)) (trace : W → W �
   pub stopped : (count : ℕ) (why : Cause RunError) (e : RunError) → StopsBy rules count begin why t → IsErrorOf why e → Ran e
   stopped count (cause.Wrong why) e (over, wrong, sent, met) is = absurd wrong
   stopped count (cause.Read fault) e (over, left, sent, again, failed) is = subst Ran (sym is) (
-    moved_all count over [] t.target.writer still left sent,
-    not_ended over.payloads [] (none_lost count over) [] t.target.writer still refl,
+    moved_all count over [] t.target.writer still sent,
+    not_ended count over [] t.target.writer still refl,
+    left,
     failed,
   )
   stopped count (cause.Write fault) e (p, inr refused) is = absurd refused.1
-  stopped count (cause.Write fault) e (p, inl failed) is = subst Ran (sym is) (
-    moved p.payloads p.lost p.moves [] t.target.writer still,
-    inl (not_ended p.payloads p.lost p.moves [] t.target.writer still refl),
-    failed.0,
-  )
+  stopped count (cause.Write fault) e (p, inl failed) is =
+      let over = ForwardedFirst-all rules refl p in
+      subst Ran (sym is) (
+        moved count over [] t.target.writer still,
+        inl (not_ended count over [] t.target.writer still refl),
+        WriteGaveUp-so (λ none. nil_from_length t.target.writer.block.bytes none.0) failed,
+      )
   stopped count cause.Count e (over, large, met) is = subst Ran (sym is.2) (
-    moved_over count over [] t.target.writer still,
-    not_ended over.payloads [] (none_lost count over) [] t.target.writer still refl,
+    moved count over [] t.target.writer still,
+    not_ended count over [] t.target.writer still refl,
     inl (record {
       other = is.1;
       large = omega (
@@ -191,15 +202,15 @@ pub encode_says : {read read' written' written'' : StreamLog} (answer : Result (
           × (written''.writes.received ≡ written'.writes.received ++ body));
       encodes : Encodes read read' written' written'' answer;
     }
-encode_says {read} {read'} {written'} {written''} (Ok _) encodes =
+encode_says (Ok _) encodes =
     let m = encodes.ran.0.moved in
+    let ended = encodes.ran.1 in
     record {
       encoded = (
         m.sent,
-        m.payload,
-        encodes.ran.1,
-        m.given ∙ ap (λ l. read.reads.given ++ (m.payload ++ l)) encodes.ran.0.all
-            ∙ ap (λ l. read.reads.given ++ l) (append-nil m.payload),
+        m.taken,
+        subst (λ l. IsEncodedBody l m.taken) (ap (λ l. m.sent ++ l) encodes.ran.0.all ∙ append-nil m.sent) ended.body,
+        all_given m ended.all,
         m.received,
       );
       encodes = encodes;
@@ -210,19 +221,9 @@ encode_says (Err e) encodes = record { encoded = tt; encodes = encodes }
 pub refused : (read read' written written' : StreamLog) (e : Error) → RefusedBeforeCalls e read read' written written'
     → Encodes read read' written written' (Err (Io e))
 refused read read' written written' e p =
-    let moved : Moved read read written written = record {
-      payload = [];
-      rest = [];
-      given = sym (append-nil read.reads.given);
-      sent = [];
-      unsent = [];
-      received = sym (append-nil written.writes.received);
-    } in
+    let moved = moved_none read written in
+    let none_yet : IsChunks [] [] = record { payloads = []; carried = All-nil IsCarried; equal = refl; joined = refl } in
     rw (p.read_same, p.written_same) (record {
-      ran = (moved, unended moved IsChunks-none, inr (rw (p.read_same, p.written_same) at p));
-      prompt = inl refl;
-      once = omega arith;
-      few = omega arith;
-      flushes = omega arith;
-      per_ask = omega arith;
+      ran = (moved, unended moved none_yet (omega arith), inr (rw (p.read_same, p.written_same) at p));
+      promptly = RunsPromptly-none IsDue 1 1 read written;
     })

@@ -1,13 +1,13 @@
 -- What a chunk, and the end of a body, do to the writer; and what the calls of a filter of chunks do.
-use Rattle.std.proofs.Common.{MatchResult, ◌⊎◌, ◌≡◌, ℕ, ◌+◌, ◌<◌, ◌≤◌, inl, inr, List, [], length, length-take-le, take, Result, Ok, Err, refl, subst, sym, ap, ◌∙◌, arith, length-append, zero, suc, ◌==◌, not, Bool, ◌∷◌, ◌++◌, true, false, Option, append-nil}
+use Rattle.std.proofs.Common.{MatchResult, ◌⊎◌, ◌≡◌, ℕ, ◌+◌, ◌<◌, ◌≤◌, inl, inr, List, [], length, min, length-take-le, take, Result, Ok, Err, OnErr, refl, subst, sym, ap, ◌∙◌, arith, length-append, zero, suc, ◌==◌, not, Bool, ◌∷◌, ◌++◌, true, false, Option, append-nil}
 use Rattle.std.proofs.lemmas.Bool.{cases_lt}
 use Rattle.std.proofs.lemmas.Bool.Decides.{nat_tests}
+use Rattle.std.proofs.lemmas.List.{nil_from_length}
 use Rattle.std.specs.IoError.{error_kind}
 use Rattle.std.specs.List.{flat_map}
 use Rattle.std.specs.declared.io.ErrorKind.TheVariants.{InvalidInput}
 use Rattle.buffer_redux.specs.Block.{IsBlock}
 use Rattle.buffer_redux.specs.EmptyReads.{none_before_fault, none_where_shown, ReadsWhenEmpty-std}
-use Rattle.buffer_redux.specs.ReaderLaws.{ReadsAlong-none}
 use Rattle.buffer_redux.specs.Transfer.{Sends}
 use Rattle.buffer_redux.specs.WritePartsLaws.{PutsIn-told}
 use Rattle.buffer_redux.specs.WriterLaws.{WritesInOrder-then}
@@ -16,14 +16,14 @@ use Rattle.chunked.specs.ChunkedWriter.{LacksPayload, NotFinished, taken_payload
 use Rattle.chunked.specs.ChunkedWriterLaws.{ChunksWent-none}
 use Rattle.forward.specs.declared.error.AskError.TheVariants.{Io}
 use Rattle.forward.specs.declared.error.AskError.{AskError}
-use Rattle.programs.specs.PromptLaws.{WritesOn-joins, WritesOn-unflushed}
-use Rattle.programs.specs.TargetLaws.{SendRow, TakesAll-not_passed, TakesAll-passed, WasFlushed-sent, WasFlushed-writes, unsent_row}
-use Rattle.bodies.specs.Words.{around, AskAnswers, FilterAsks, body_end, Buffered, chunk, ChunkedWriterState, ChunksWent, Error, failure_count, Fills, FilterRules, FilterFlushes, IsChunkedWriter, line_end, MetInterrupts, MetInterrupts-joins, FilterPasses, PutsIn, ReadsAlong, room, RunError, SendErrorCaused-after, SendsFirst, size_digits, std_read_rules, StdPolicy, StreamLog, TakesAll, taken_more, WasFlushed, WritesChunk, WritesInOrder, AllSent, SendErrorCaused}
+use Rattle.forward.specs.PromptLaws.{WritesOn-joins}
+use Rattle.programs.specs.TargetLaws.{SendRow, TakesAll-not_passed, TakesAll-passed, WasFlushed-sent, WasFlushed-writes, WritesOn-unflushed, unsent_row}
+use Rattle.bodies.specs.Words.{around, AskAnswers, FilterAsks, body_end, Buffered, chunk, ChunkedWriterState, ChunksWent, Error, failure_count, FaultsOften, Fills, FilterRules, FilterFlushes, IsChunkedWriter, IsInterrupt, line_end, MetInterrupts, MetInterrupts-joins, FilterPasses, PutsIn, ReadsAlong, room, RunError, SendErrorCaused-after, SendsFirst, size_digits, std_read_rules, StdPolicy, StreamLog, TakesAll, taken_more, WasFlushed, WritesChunk, WritesInOrder, AllSent, SendErrorCaused}
 use Rattle.bodies.specs.Encode.{EndsBody}
 use Rattle.bodies.specs.Encoding.{encoding_rules, MayEncode}
-use Rattle.bodies.specs.Filters.{Asked}
-use Rattle.bodies.specs.FillLaws.{fill_leaves, some_came}
-use Rattle.bodies.specs.FiltersLaws.{ended, fault_gives, fill_asked, fill_capacity, on_err, std_fault}
+use Rattle.bodies.specs.EncodingLaws.{HandsReads-none}
+use Rattle.bodies.specs.FillLaws.{fill_asks, fill_leaves, some_came}
+use Rattle.bodies.specs.FiltersLaws.{ended, fault_gives, fill_asked, fill_capacity, std_fault}
 use Rattle.bodies.specs.declared.encoding.Encoding.{Encoding}
 use Rattle.bodies.specs.declared.error.RunError.TheVariants.{Write}
 
@@ -75,6 +75,14 @@ module _ {W : Type 0} (tells : W → StreamLog) (trace : W → W → Type 0) whe
       };
     }
 
+  -- behind a send at most the buffer is as large
+  pub put_room : {u v : Buffered W StdPolicy} {bytes more : List ℕ} {n : ℕ} → (n ≤ room u → PutsIn u bytes v)
+      → (room u < n → SendsFirst tells trace u more v) → v.block.capacity ≡ u.block.capacity
+  put_room {u} {n = n} fits full = elim (cases_lt (room u) n) [
+    | inl none ↦ (let first = full none in first.puts.capacity ∙ first.sends.capacity)
+    | inr there ↦ (fits there).capacity
+  ]
+
   -- the end of a body wasn't taken in
   pub ends_not : (b c : ChunkedWriterState W) → b.due ≡ 0 → (e : Error)
       → (LacksPayload b c × (error_kind e ≡ InvalidInput)) ⊎ NotFinished tells trace b [] e c
@@ -83,12 +91,17 @@ module _ {W : Type 0} (tells : W → StreamLog) (trace : W → W → Type 0) whe
   ends_not b c between e (inr not) =
       let sent = not.sends in
       let writes = WritesOn-unflushed b.writer c.writer [] sent.in_order sent.not_flushed in
+      let row = unsent_row b.writer c.writer sent in
       record {
         end = [];
         taken = sent.in_order;
-        answers = (inr refl, (e, refl, sent.caused));
+        answers = (
+          inr refl,
+          (e, refl, sent.caused, λ is. inl (elim row.ended [ inl failed ↦ failed.1 is | inr refused ↦ absurd refused.1 ])),
+        );
+        room = sent.capacity;
         writes = writes;
-        few = (unsent_row b.writer c.writer sent).few;
+        few = row.few;
         once = omega (arith, sent.sends.sent.flushes);
         flushes = omega (
           arith,
@@ -99,12 +112,14 @@ module _ {W : Type 0} (tells : W → StreamLog) (trace : W → W → Type 0) whe
       }
 
   -- the end of a body, and a flush
-  module _ (u m v : Buffered W StdPolicy) (taken : WritesInOrder u (body_end []) m) (row : SendRow u m (λ _. ⊥) (Ok tt)) where
+  module _ (u m v : Buffered W StdPolicy) (taken : WritesInOrder u (body_end []) m) (row : SendRow u m (λ _. ⊥) (Ok tt))
+      (kept : m.block.capacity ≡ u.block.capacity) where
     ends : (answer : Result (Unit {0}) Error) → WasFlushed tells trace m answer v → (said : Result (Unit {0}) RunError)
         → failure_count answer ≡ failure_count said
         → MatchResult said (λ _. (body_end [] ≡ body_end []) × AllSent v × MetInterrupts u.log.writes v.log.writes)
         (λ why. ((body_end [] ≡ body_end []) ⊎ (body_end [] ≡ []))
-        × ((e : Error) × (why ≡ Write e) × SendErrorCaused u.log.writes v.log.writes e))
+        × ((e : Error) × (why ≡ Write e) × SendErrorCaused u.log.writes v.log.writes e
+        × (IsInterrupt e → FaultsOften u.log.writes v.log.writes ⊎ (v.block.bytes ≡ []))))
         → EndsBody u said v
     ends answer f said same_count answers =
         let flush = WasFlushed-writes m v f in
@@ -114,6 +129,7 @@ module _ {W : Type 0} (tells : W → StreamLog) (trace : W → W → Type 0) whe
           end = body_end [];
           taken = WritesInOrder-then u m v (body_end []) taken f.in_order;
           answers = answers;
+          room = f.capacity ∙ kept;
           writes = writes;
           few = omega (arith, row.few, flush.few, same_count);
           once = omega (arith, Flushes-once m v answer f.steps, row.flushes);
@@ -137,8 +153,23 @@ module _ {W : Type 0} (tells : W → StreamLog) (trace : W → W → Type 0) whe
     )
 
     pub ends_badly : (e : Error) → WasFlushed tells trace m (Err e) v → EndsBody u (Err (Write e)) v
-    ends_badly e f = ends (Err e) f (Err (Write e)) refl
-        (inl refl, (e, refl, SendErrorCaused-after u.log.writes m.log.writes v.log.writes e row.ended f.caused))
+    ends_badly e f = ends (Err e) f (Err (Write e)) refl (
+      inl refl,
+      (
+        e,
+        refl,
+        SendErrorCaused-after u.log.writes m.log.writes v.log.writes e row.ended f.caused,
+        λ is. elim ((WasFlushed-writes m v f).ended.1 is) [
+          | inl many ↦ inl (omega (
+            arith,
+            many,
+            ap length row.ended.only.faults,
+            length-append u.log.writes.faults row.ended.interrupts,
+          ))
+          | inr none ↦ inr (nil_from_length v.block.bytes none)
+        ],
+      ),
+    )
 
 module _ {R W : Type 0} (remaining : R → Option (List ℕ)) (tells : W → StreamLog) (trace : W → W → Type 0)
     (none : (x : W) → trace x x) (joins : (a b c : W) → trace a b → trace b c → trace a c) (s : Encoding R W)
@@ -168,7 +199,7 @@ module _ {R W : Type 0} (remaining : R → Option (List ℕ)) (tells : W → Str
               (chunk_takes tells trace s.target c s.source.block.bytes some ready.between small (Err e) p) chunks.went.capacity
               (λ no. no);
           answers =
-              ([], record { hands = ReadsAlong-none remaining std_read_rules s.source; takes = chunks }, omega arith);
+              ([], record { hands = HandsReads-none remaining s.source; takes = chunks }, omega arith);
         }
 
     pub passed : (n : ℕ) → n ≤ length s.source.block.bytes → WritesChunk tells trace s.target s.source.block.bytes (Ok n) c
@@ -203,7 +234,25 @@ module _ {R W : Type 0} (remaining : R → Option (List ℕ)) (tells : W → Str
           answers = (
             payload,
             record {
-              hands = subst (λ l. ReadsAlong remaining std_read_rules s.source l t) (sym (append-nil payload)) gone;
+              hands = record {
+                along = subst (λ l. ReadsAlong remaining std_read_rules s.source l t) (sym (append-nil payload)) gone;
+                each = omega (
+                  arith,
+                  some,
+                  ap (λ l. l.reads.asks) told,
+                  ap (λ l. l.reads.zero_reads) told,
+                  ap (λ l. length l.reads.faults) told,
+                  ap (λ l. length l.reads.given) told,
+                  chunk_whole tells trace s.target c s.source.block.bytes some ready.between small (suc n) p,
+                  length-take-le (suc n) s.source.block.bytes within,
+                  ap length gone.in_order.equal,
+                  ap length gone.in_order.given,
+                  length-append payload t.block.bytes,
+                  length-append s.source.block.bytes gone.in_order.got,
+                  length-append s.source.log.reads.given gone.in_order.got,
+                );
+                room = same;
+              };
               takes = chunks;
             },
             inl (omega (arith, bytes, some, taken_more s.target.writer c.writer _ takes.taken)),
@@ -226,7 +275,7 @@ module _ {R W : Type 0} (remaining : R → Option (List ℕ)) (tells : W → Str
       wrote = WasFlushed-writes s.target.writer c.writer f;
       steps = f.steps;
       quiet = λ drops. absurd drops;
-      moves = record { hands = ReadsAlong-none remaining std_read_rules s.source; takes = went };
+      moves = record { hands = HandsReads-none remaining s.source; takes = went };
       lacks = λ lacks. lacks;
       sent = WasFlushed-sent s.target.writer c.writer answer f;
     }
@@ -237,37 +286,50 @@ module _ {R W : Type 0} (remaining : R → Option (List ℕ)) (tells : W → Str
     abbrev after : Encoding R W
     after = record s { source = t }
 
-    empty_asked : t.block.capacity ≡ s.source.block.capacity → Asked (λ bytes. bytes ≡ []) s.source t → ¬ (t.log ≡ s.source.log)
+    empty_asked : {A : Type 0} (filled : Result A Error) → Fills std_read_rules s.source filled t
+        → ¬ (t.log ≡ s.source.log)
+        → t.log.reads.zero_reads + length t.log.reads.faults + min 1 (length t.block.bytes)
+        ≡ s.source.log.reads.zero_reads + length s.source.log.reads.faults + 1
         → t.log.reads.zero_reads ≤ s.source.log.reads.zero_reads + 1
         → (answer : Result Bool (AskError RunError)) → AskAnswers rules s answer after → FilterAsks rules s answer after
-    empty_asked same asked told quiet answer answers = record {
-      told = refl;
-      ready = record {
-        capacity = omega (arith, ready.capacity, along.capacity);
-        fits = omega (arith, ready.fits, same);
-        between = ready.between;
-        whole = ready.whole;
-      };
-      moves = record { hands = along; takes = ChunksWent-none trace none joins s.target };
-      sent = λ sent. sent;
-      asks = (asked, elim asked.asked [ inl same ↦ absurd (told same) | inr over ↦ over.some ]);
-      once = record { once = quiet; quiet = λ closed. absurd closed; closed = λ closed. closed };
-      looks = on_err answer tt;
-      answers = answers;
-    }
+    empty_asked filled fills told each quiet answer answers =
+        let same = fill_capacity s.source t filled fills in
+        let asked = fill_asked s.source t filled fills in
+        let some : s.source.log.reads.asks < t.log.reads.asks =
+        elim asked.asked [ inl same ↦ absurd (told same) | inr over ↦ over.some ] in
+        record {
+          told = refl;
+          ready = record {
+            capacity = omega (arith, ready.capacity, along.capacity);
+            fits = omega (arith, ready.fits, same);
+            between = ready.between;
+            whole = ready.whole;
+          };
+          moves = record {
+            hands = record {
+              along = along;
+              each = omega (arith, each, some, (fill_asks s.source t filled fills).1, ap length lacks);
+              room = same;
+            };
+            takes = ChunksWent-none trace none joins s.target;
+          };
+          sent = λ sent. sent;
+          asks = (asked, some);
+          once = record { once = quiet; quiet = λ closed. absurd closed; closed = λ closed. closed };
+          looks = elim answer as (λ a. OnErr a (Unit {0})) [ Ok more ↦ tt | Err why ↦ tt ];
+          answers = answers;
+        }
 
     -- something came, or nothing will
     pub asked : {A : Type 0} (a : A) → Fills std_read_rules s.source (Ok a) t → (empty : Bool)
         → empty ≡ (length t.block.bytes == 0) → FilterAsks rules s (Ok (not empty)) after
     asked a fills true is =
         let end = ended s.source t a fills is ready.capacity in
-        empty_asked (fill_capacity s.source t (Ok a) fills) (fill_asked s.source t (Ok a) fills)
-        (λ same. omega (arith, end.1, ap (λ l. l.reads.zero_reads) same))
-        (omega (arith, end.1)) (Ok false) (end, fills.caused)
+        empty_asked (Ok a) fills (λ same. omega (arith, end.1, ap (λ l. l.reads.zero_reads) same))
+        (omega (arith, end.1, ap length end.0, ap length fills.caused)) (omega (arith, end.1)) (Ok false) (end, fills.caused)
     asked a fills false is =
         let some : 0 < length t.block.bytes = grind (arith, nat_tests) in
         let order = fills.in_order in
-        let asked = fill_asked s.source t (Ok a) fills in
         let quiet = none_where_shown std_read_rules ReadsWhenEmpty-std s.source t a fills.filled some in
         let told : ¬ (t.log ≡ s.source.log) = λ same. omega (
           arith,
@@ -279,18 +341,18 @@ module _ {R W : Type 0} (remaining : R → Option (List ℕ)) (tells : W → Str
           length-append s.source.block.bytes order.got,
           ap (λ l. length l.reads.given) same,
         ) in
-        empty_asked (fill_capacity s.source t (Ok a) fills) asked told (omega (arith, quiet)) (Ok true) (
+        empty_asked (Ok a) fills told (omega (arith, quiet, some, ap length fills.caused)) (omega (arith, quiet)) (Ok true) (
           some,
           fills.caused,
           inl (record {
             zero_reads = quiet;
             give = omega (
               arith,
-              some_came s.source t order some asked.asked,
+              some_came s.source t order some (fill_asked s.source t (Ok a) fills).asked,
               ap length fills.caused,
             );
           }),
-          λ none. told,
+          told,
         )
 
     -- a read failed
@@ -299,15 +361,15 @@ module _ {R W : Type 0} (remaining : R → Option (List ℕ)) (tells : W → Str
     not_asked e fills =
         let quiet = none_before_fault std_read_rules ReadsWhenEmpty-std s.source t e fills.filled in
         let fault = std_fault s.source t e fills in
-        let asked = fill_asked s.source t (Err e) fills in
-        empty_asked (fill_capacity s.source t (Err e) fills) asked (λ same. omega (
-          arith,
-          ap length fault,
-          length-append s.source.log.reads.faults (e ∷ []),
-          ap (λ l. length l.reads.faults) same,
-        )) (omega (arith, quiet)) (Err (Io e)) (
-          fill_leaves s.source t e fills,
+        let left = fill_leaves s.source t e fills in
+        let more = ap length fault ∙ length-append s.source.log.reads.faults (e ∷ []) in
+        empty_asked (Err e) fills (λ same. omega (arith, more, ap (λ l. length l.reads.faults) same))
+        (omega (arith, quiet, more, ap length left)) (omega (arith, quiet)) (Err (Io e)) (
+          left,
           fault,
-          inl (record { zero_reads = quiet; give = fault_gives (λ bytes. bytes ≡ []) s.source t asked e fault }),
+          inl (record {
+            zero_reads = quiet;
+            give = fault_gives (λ bytes. bytes ≡ []) s.source t (fill_asked s.source t (Err e) fills) e fault;
+          }),
           refl,
         )

@@ -50,6 +50,12 @@ pub record HandsPayloadPieces {R W : Type 0} (remaining : R → Option (List ℕ
   pub order : held_payload s ++ payload ≡ concat pieces ++ held_payload t
   pub some : All (λ piece. 0 < length piece) pieces
 
+-- just these pieces were taken in, by a buffer that kept its size
+pub record TakesPayload {W : Type 0} (u : Buffered W StdPolicy) (pieces : List (List ℕ)) (v : Buffered W StdPolicy) : Type 0
+  where
+    pub in_order : WritesInOrder u (concat pieces) v
+    pub room : v.block.capacity ≡ u.block.capacity
+
 -- no payload can be handed out of what is buffered: the body ended, or there is none, or the next byte is wrong
 abbrev pub NoneBuffered : {R : Type 0} → ChunkedState R → Type 0
 NoneBuffered d = TookWholeBody (chunked d.coding.0) d
@@ -108,12 +114,10 @@ decoding_rules remaining = record {
   target = λ s. target_of s.target;
   ready = λ s. MayDecode s;
   hands = HandsPayloadPieces remaining;
-  takes = λ s pieces t. WritesInOrder s.target (concat pieces) t.target;
+  takes = λ s pieces t. TakesPayload s.target pieces t.target;
   has = λ s. 0 < s.held;
   lacks = λ s. (s.held ≡ 0) × NoneBuffered s.source;
   waits = λ s. (s.held ≡ 0) × (s.source.reader.block.bytes ≡ []);
-  -- where a body can be ended, a read of payload asks where none is buffered; nothing here rests on that
-  finds = λ s. Unit {0};
   sent = λ s. AllSent s.target;
   spare = 0;
   rounds = λ s. 0;

@@ -4,10 +4,12 @@ use Rattle.std.specs.List.{concat}
 use Rattle.std.proofs.lemmas.List.Folds.{concat-append}
 use Rattle.std.proofs.lemmas.List.Elements.{All-append, All-nil}
 use Rattle.buffer_redux.specs.WriterLaws.{WritesInOrder-joins, WritesInOrder-none}
+use Rattle.body_reader.specs.Between.{LeavesRoom}
 use Rattle.body_reader.specs.BodyReaderLaws.{BodyWent-joins, BodyWent-none}
-use Rattle.bodies.specs.Words.{WritesInOrder, std_read_rules, BodyWent, chunked, handed_of, AsksSent, FilterRules, NeverGaveNothing, IsLawful, Moves, StaysOpen, AllSent, sent_all, taken_more, RunError}
+use Rattle.forward.specs.ForwardLaws.{CountsAsks}
+use Rattle.bodies.specs.Words.{std_read_rules, StdPolicy, BodyWent, chunked, handed_of, AsksSent, FilterRules, NeverGaveNothing, IsLawful, Moves, StaysOpen, AllSent, sent_all, taken_more, RunError}
 use Rattle.bodies.specs.Decode.{IsDue}
-use Rattle.bodies.specs.Decoding.{AsksPromptly, HandsPayloadPieces, PayloadEnds, decoding_rules, held_payload}
+use Rattle.bodies.specs.Decoding.{AsksPromptly, HandsPayloadPieces, PayloadEnds, TakesPayload, decoding_rules, held_payload}
 use Rattle.bodies.specs.FiltersLaws.{asked_after}
 use Rattle.bodies.specs.declared.decoding.Decoding.{Decoding}
 use Rattle.bodies.specs.declared.error.RunError.TheVariants.{NotChunked, Truncated, Behind}
@@ -43,10 +45,12 @@ module _ {R W : Type 0} (remaining : R → Option (List ℕ)) where
     some = All-append (λ piece. 0 < length piece) p q f.some g.some;
   }
 
-  takes_joins : (a b c : Decoding R W) (p q : List (List ℕ)) → WritesInOrder a.target (concat p) b.target
-      → WritesInOrder b.target (concat q) c.target → WritesInOrder a.target (concat (p ++ q)) c.target
-  takes_joins a b c p q f g =
-      rw concat-append (WritesInOrder-joins a.target b.target c.target (concat p) (concat q) f g)
+  takes_joins : (a b c : Decoding R W) (p q : List (List ℕ)) → TakesPayload a.target p b.target → TakesPayload b.target q c.target
+      → TakesPayload a.target (p ++ q) c.target
+  takes_joins a b c p q f g = record {
+    in_order = rw concat-append (WritesInOrder-joins a.target b.target c.target (concat p) (concat q) f.in_order g.in_order);
+    room = g.room ∙ f.room;
+  }
 
   ends_after : (a b c : Decoding R W) (how : Result (Unit {0}) RunError) → NeverGaveNothing filter_rules a b
       → PayloadEnds b.source how c.source
@@ -91,7 +95,7 @@ module _ {R W : Type 0} (remaining : R → Option (List ℕ)) where
           asked = last;
           due = concat p;
           is_due = rw (went.coding, payload, went.taken, append_assoc) at is_due;
-          sent = sent_all first.target s.target (concat p) moves.takes fresh.target sent;
+          sent = sent_all first.target s.target (concat p) moves.takes.in_order fresh.target sent;
         })
       ]
 
@@ -99,12 +103,20 @@ module _ {R W : Type 0} (remaining : R → Option (List ℕ)) where
   decoding_lawful = record {
     hands_none = λ s. hands_none s s refl refl;
     hands_joins = hands_joins;
-    takes_none = λ s. WritesInOrder-none s.target;
+    takes_none = λ s. record { in_order = WritesInOrder-none s.target; room = refl };
     takes_joins = takes_joins;
     ends_after = λ a b c p how hands still end. (end.0, ends_after a b c how (still_open a b still) end.1);
     waits_lacks = λ s waits. (waits.0, inr (inl waits.1));
     waits_fresh = λ s waits sent. record { buffered = waits.1; target = sent.empty; held = waits.0 };
-    taken_on = λ s t p taken. omega (arith, taken_more s.target t.target (concat p) taken);
+    taken_on = λ s t p taken. omega (arith, taken_more s.target t.target (concat p) taken.in_order);
     asks_sent = λ first s t p fresh moves still lacks.
         asks_sent first s t p fresh moves (still_open first s still) lacks.0;
   }
+
+  -- the stream is asked, or its log stays
+  pub counts_asks : CountsAsks (decoding_rules {R = R} {W = W} remaining)
+  counts_asks s t asks = elim asks.asked [ inl same ↦ inl same | inr over ↦ inr over.some ]
+
+-- the policy leaves the buffer as it is
+pub std_leaves : LeavesRoom {Q = StdPolicy} std_read_rules
+std_leaves p b n p' b' left = (ap (λ b. b.capacity) left.1, ap (λ b. b.limit) left.1)

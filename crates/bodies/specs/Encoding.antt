@@ -1,7 +1,7 @@
 -- A filter that makes what is given chunks.
-use Rattle.std.specs.Prelude.{◌≡◌, ℕ, ◌+◌, ◌<◌, ◌≤◌, List, [], length, MatchResult, Option}
+use Rattle.std.specs.Prelude.{◌≡◌, ℕ, ◌+◌, ◌<◌, ◌≤◌, List, [], length, min, MatchResult, Option}
 use Rattle.std.specs.List.{concat}
-use Rattle.bodies.specs.Words.{Flushes, ReadsAlong, std_read_rules, ChunksWent, IsChunkedWriter, FilterRules, AllSent, around, target_of, RunError}
+use Rattle.bodies.specs.Words.{Buffered, Flushes, ReadsAlong, std_read_rules, StdPolicy, ChunksWent, IsChunkedWriter, FilterRules, AllSent, around, target_of, RunError}
 use Rattle.bodies.specs.Encode.{IsDue}
 use Rattle.bodies.specs.Filters.{Asked}
 use Rattle.bodies.specs.declared.encoding.Encoding.{Encoding}
@@ -14,18 +14,26 @@ pub record MayEncode {R W : Type 0} (s : Encoding R W) : Type 0 where
   pub between : s.target.due ≡ 0
   pub whole : IsChunkedWriter s.target
 
+-- the payloads were handed out by a buffer that kept its size, each for a read that gave bytes, but for one whose bytes are left;
+-- each other read gave none, or failed
+pub record HandsReads {R : Type 0} (remaining : R → Option (List ℕ)) (s : Buffered R StdPolicy) (payloads : List (List ℕ))
+    (t : Buffered R StdPolicy) : Type 0 where
+  pub along : ReadsAlong remaining std_read_rules s (concat payloads) t
+  pub each : t.log.reads.asks + s.log.reads.zero_reads + length s.log.reads.faults + min 1 (length s.block.bytes)
+      ≡ s.log.reads.asks + t.log.reads.zero_reads + length t.log.reads.faults + length payloads + min 1 (length t.block.bytes)
+  pub room : t.block.capacity ≡ s.block.capacity
+
 -- at the end nothing is left, and the reader gave nothing, once. No byte is wrong
 abbrev pub encoding_rules : {R W : Type 0} → (R → Option (List ℕ)) → (W → W → Type 0) → FilterRules (Encoding R W) RunError
 encoding_rules remaining trace = record {
   read = λ s. s.source.log;
   target = λ s. target_of s.target.writer;
   ready = λ s. MayEncode s;
-  hands = λ s payloads t. ReadsAlong remaining std_read_rules s.source (concat payloads) t.source;
+  hands = λ s payloads t. HandsReads remaining s.source payloads t.source;
   takes = λ s payloads t. ChunksWent trace s.target payloads t.target;
   has = λ s. 0 < length s.source.block.bytes;
   lacks = λ s. s.source.block.bytes ≡ [];
   waits = λ s. s.source.block.bytes ≡ [];
-  finds = λ s. ⊥;
   sent = λ s. AllSent s.target.writer;
   spare = around;
   rounds = λ s. 0;

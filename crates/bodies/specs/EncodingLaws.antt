@@ -1,23 +1,28 @@
 -- What is given is handed out in order, and what is due is sent with it.
-use Rattle.std.proofs.Common.{◌≡◌, ℕ, inl, inr, List, [], ◌++◌, Option, Result, Ok, Err, refl, arith, append-nil}
+use Rattle.std.proofs.Common.{◌≡◌, ℕ, inl, inr, List, [], ◌++◌, Option, Result, Ok, Err, refl, ◌∙◌, arith, append-nil, length-append}
 use Rattle.std.proofs.lemmas.List.Folds.{concat-append}
 use Rattle.std.specs.List.{concat, flat_map}
 use Rattle.buffer_redux.specs.ReaderLaws.{ReadsAlong-joins, ReadsAlong-none}
 use Rattle.chunked.specs.ChunkedWriterLaws.{ChunksWent-joins, ChunksWent-none}
-use Rattle.bodies.specs.Words.{ReadsAlong, std_read_rules, AsksSent, IsLawful, Moves, StaysOpen, AllSent, sent_all, taken_more, RunError, chunk}
-use Rattle.bodies.specs.Encoding.{encoding_rules}
+use Rattle.bodies.specs.Words.{Buffered, std_read_rules, StdPolicy, AsksSent, IsLawful, Moves, StaysOpen, AllSent, sent_all, taken_more, RunError, chunk}
+use Rattle.bodies.specs.Encoding.{HandsReads, encoding_rules}
 use Rattle.bodies.specs.Filters.{Asked}
 use Rattle.bodies.specs.FiltersLaws.{asked_after}
 use Rattle.bodies.specs.declared.encoding.Encoding.{Encoding}
 
-module _ {R W : Type 0} (remaining : R → Option (List ℕ)) (trace : W → W → Type 0) where
-  hands_joins : (a b c : Encoding R W) (p q : List (List ℕ)) → ReadsAlong remaining std_read_rules a.source (concat p) b.source
-      → ReadsAlong remaining std_read_rules b.source (concat q) c.source
-      → ReadsAlong remaining std_read_rules a.source (concat (p ++ q)) c.source
-  hands_joins a b c p q f g =
-      rw concat-append
-      (ReadsAlong-joins remaining std_read_rules a.source b.source c.source (concat p) (concat q) f g)
+module _ {R : Type 0} (remaining : R → Option (List ℕ)) where
+  pub HandsReads-none : (s : Buffered R StdPolicy) → HandsReads remaining s [] s
+  HandsReads-none s = record { along = ReadsAlong-none remaining std_read_rules s; each = omega arith; room = refl }
 
+  HandsReads-joins : (a b c : Buffered R StdPolicy) (p q : List (List ℕ)) → HandsReads remaining a p b
+      → HandsReads remaining b q c → HandsReads remaining a (p ++ q) c
+  HandsReads-joins a b c p q f g = record {
+    along = rw concat-append (ReadsAlong-joins remaining std_read_rules a b c (concat p) (concat q) f.along g.along);
+    each = omega (arith, f.each, g.each, length-append p q);
+    room = g.room ∙ f.room;
+  }
+
+module _ {R W : Type 0} (remaining : R → Option (List ℕ)) (trace : W → W → Type 0) where
   ends_after : (a b c : Encoding R W) (how : Result (Unit {0}) RunError) → StaysOpen (encoding_rules remaining trace) a b
       → (encoding_rules remaining trace).ends b how c → (encoding_rules remaining trace).ends a how c
   ends_after a b c (Ok _) (inl gives) end = (end.0, omega (arith, end.1, gives.zero_reads))
@@ -30,8 +35,8 @@ module _ {R W : Type 0} (remaining : R → Option (List ℕ)) (trace : W → W �
       → AsksSent (encoding_rules remaining trace) first s t
   asks_sent first s t p fresh moves (inr closed) sent asked = absurd closed
   asks_sent first s t p fresh moves (inl gives) sent asked =
-      elim (asked_after (λ bytes. bytes ≡ []) s.source t.source asked first.source (concat p) fresh.0 moves.hands.in_order
-      gives.give) [
+      elim (asked_after (λ bytes. bytes ≡ []) s.source t.source asked first.source (concat p) fresh.0
+      moves.hands.along.in_order gives.give) [
         | inl same ↦ inl same
         | inr (bytes, none, last) ↦ inr (record {
           before = concat p;
@@ -45,8 +50,8 @@ module _ {R W : Type 0} (remaining : R → Option (List ℕ)) (trace : W → W �
   pub encoding_lawful : ((x : W) → trace x x) → ((a b c : W) → trace a b → trace b c → trace a c)
       → IsLawful (encoding_rules {R = R} {W = W} remaining trace)
   encoding_lawful none joins = record {
-    hands_none = λ s. ReadsAlong-none remaining std_read_rules s.source;
-    hands_joins = hands_joins;
+    hands_none = λ s. HandsReads-none remaining s.source;
+    hands_joins = λ a b c p q. HandsReads-joins remaining a.source b.source c.source p q;
     takes_none = λ s. ChunksWent-none trace none joins s.target;
     takes_joins = λ a b c p q. ChunksWent-joins trace none joins a.target b.target c.target p q;
     ends_after = λ a b c p how hands still end. ends_after a b c how still end;

@@ -57,14 +57,19 @@ module _ {R : Type 0} where
           | inr faulted ↦ absurd (omega (arith, same, asked, ap (λ l. l.reads.asks) faulted.read.told))
         ]
 
-    pub fill_asks : (answer : Result A Error) → Fills std_read_rules s answer t → AsksEmpty s t
+    pub fill_asks : (answer : Result A Error) → Fills std_read_rules s answer t
+        → AsksEmpty s t × (t.log.reads.asks ≤ s.log.reads.asks + 1)
     fill_asks answer fills = elim (cases_lt s.log.reads.asks t.log.reads.asks) [
       | inl more ↦
           let ask = fills.last more in
           let none : length ask.before.block.bytes ≡ 0 = grind (arith, nat_tests, ask.ordered.asked.allowed.2) in
-          once s ask.before t ask.ordered.read.out ask.answer (nil_from_length s.block.bytes (omega (arith, ask.saw, none)))
-          (no_turn ask.count s ask.before ask.turns (omega (arith, ask.saw, none))) (ask.told ∙ ask.ordered.read.told)
-      | inr same ↦ inl (unasked answer fills (omega (arith, same, fills.grows.asks)))
+          let before = no_turn ask.count s ask.before ask.turns (omega (arith, ask.saw, none)) in
+          let told = ask.told ∙ ask.ordered.read.told in (
+            once s ask.before t ask.ordered.read.out ask.answer (nil_from_length s.block.bytes (omega (arith, ask.saw, none)))
+                before told,
+            omega (arith, ap (λ l. l.reads.asks) told, ap (λ l. l.reads.asks) before),
+          )
+      | inr same ↦ (inl (unasked answer fills (omega (arith, same, fills.grows.asks))), omega (arith, same))
     ]
 
   -- where some bytes are left, of none that were buffered, some came for each ask

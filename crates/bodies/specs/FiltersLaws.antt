@@ -1,12 +1,12 @@
 -- How many bytes payloads have; asks behind what was taken; and one fill.
-use Rattle.std.proofs.Common.{◌≡◌, ◌+◌, ◌<◌, ◌≤◌, ◌==◌, ◌⊎◌, inl, inr, true, ℕ, List, [], ◌∷◌, ◌++◌, All, length, length-append, Result, Ok, Err, OnErr, ap, subst, ◌∙◌, arith, append_assoc}
+use Rattle.std.proofs.Common.{◌≡◌, ◌+◌, ◌<◌, ◌≤◌, ◌==◌, ◌⊎◌, inl, inr, true, ℕ, List, [], ◌∷◌, ◌++◌, All, length, length-append, Result, Ok, Err, ap, subst, ◌∙◌, arith, append_assoc}
 use Rattle.std.specs.List.{concat}
 use Rattle.std.proofs.lemmas.Bool.Decides.{nat_tests}
 use Rattle.std.proofs.lemmas.List.{nil_from_length}
 use Rattle.std.proofs.lemmas.List.Elements.{All-head, All-tail}
 use Rattle.buffer_redux.specs.EmptyReads.{Filled-capacity, ReadsWhole-std, fill_once}
 use Rattle.buffer_redux.specs.ReaderLaws.{Fills-empty, ReadsInOrder-fresh, WantsBytes-std}
-use Rattle.programs.specs.PromptLaws.{AskedLast-after}
+use Rattle.forward.specs.PromptLaws.{AskedLast-after}
 use Rattle.bodies.specs.Words.{Error, Fills, ReadsInOrder, Buffered, std_read_rules, StdPolicy, AskedLast, AsksGiveOrFail}
 use Rattle.bodies.specs.FillLaws.{fill_asks}
 use Rattle.bodies.specs.Filters.{Asked}
@@ -20,11 +20,6 @@ each_some (payload ∷ payloads) some = omega (
   each_some payloads (All-tail (λ p. 0 < length p) payload payloads some),
   length-append payload (concat payloads),
 )
-
--- what holds anyway holds at an error
-pub on_err : {A E : Type 0} (answer : Result A E) {P : Type 0} → P → OnErr answer P
-on_err (Ok a) is = tt
-on_err (Err e) is = is
 
 module _ {R : Type 0} (Such : List ℕ → Type 0) (s t : Buffered R StdPolicy) (asked : Asked Such s t) where
   -- where a read failed, each other ask gave a byte
@@ -72,7 +67,7 @@ module _ {R A : Type 0} (s t : Buffered R StdPolicy) where
   fill_capacity answer fills = Filled-capacity std_read_rules ReadsWhole-std s answer t fills.filled
 
   pub fill_asked : (answer : Result A Error) → Fills std_read_rules s answer t → Asked (λ bytes. bytes ≡ []) s t
-  fill_asked answer fills = record { asked = fill_asks s t answer fills; grows = fills.grows }
+  fill_asked answer fills = record { asked = (fill_asks s t answer fills).0; grows = fills.grows }
 
   -- its error is the stream's own
   pub std_fault : (e : Error) → Fills {A = A} std_read_rules s (Err e) t

@@ -2,6 +2,7 @@ pub mod Ending
 pub mod Filters
 pub mod FillLaws
 pub mod FiltersLaws
+pub mod Moved
 pub mod Decode
 pub mod Decoding
 pub mod DecodingLaws

@@ -4,7 +4,7 @@ pub use Rattle.body_reader.specs.BodyReader.{BodyState, BodyWent, IsBodyReader, 
 pub use Rattle.buffer_redux.specs.BufReader.{Fills, RanDry, ReadsAlong, ReadsInOrder}
 pub use Rattle.buffer_redux.specs.BufWriter.{Flushes, WasFlushed, WritesInOrder}
 pub use Rattle.buffer_redux.specs.Buffered.{Buffered}
-pub use Rattle.buffer_redux.specs.Faults.{MetInterrupts, MetInterrupts-joins, OnlyInterrupts-none, SendErrorCaused, SendErrorCaused-after}
+pub use Rattle.buffer_redux.specs.Faults.{IsInterrupt, MetInterrupts, MetInterrupts-joins, OnlyInterrupts-none, SendErrorCaused, SendErrorCaused-after}
 pub use Rattle.buffer_redux.specs.Policy.{std_read_rules}
 pub use Rattle.buffer_redux.specs.StreamLog.{StreamLog}
 pub use Rattle.buffer_redux.specs.WriteParts.{PutsIn, SendsFirst, room}
@@ -15,9 +15,9 @@ pub use Rattle.chunked.specs.Coding.{BreaksAt, chunked}
 pub use Rattle.chunked.specs.ChunkedWriter.{ChunkedWriterState, ChunksWent, IsChunkedWriter, WritesChunk, around, unbegun}
 pub use Rattle.chunked.specs.declared.limits.Limits.{Limits}
 pub use Rattle.forward.specs.Filter.{AskAnswers, AsksSent, FilterAsks, FilterFlushes, FilterPasses, FilterRules, IsLawful, Moves, NeverGaveNothing, StaysOpen}
-pub use Rattle.programs.specs.Prompt.{AskedLast, AsksGiveOrFail, HoldsNothingBack, WritesOn}
-pub use Rattle.programs.specs.Streams.{AllSent, EndsOnce, GaveNothing, MetNoFault, OverCount, ReadFailed, ReceivedFlushed, RefusedBeforeCalls, WriterFailed}
-pub use Rattle.forward.specs.Streams.{FewFaults}
+pub use Rattle.forward.specs.Prompt.{AskedLast, AsksGiveOrFail, RunsPromptly, WritesOn}
+pub use Rattle.forward.specs.Streams.{FaultsOften, FewFaults, WriteGaveUp}
 pub use Rattle.forward.specs.Target.{failure_count}
+pub use Rattle.programs.specs.Streams.{AllSent, GaveNothing, MetNoFault, OverCount, ReadFailed, ReceivedFlushed, RefusedBeforeCalls}
 pub use Rattle.programs.specs.TakenIn.{TakesAll, sent_all, taken_more, target_of}
 pub use Rattle.std.specs.declared.io.Error.{Error}

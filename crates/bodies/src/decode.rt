@@ -17,8 +17,8 @@ use std::alloc::Global;
 /// payload in what is right of it is sent then. What follows the body is left, and the run says so.
 ///
 /// Nothing is held back: where the reader is asked, the payload in all that it gave was sent and flushed, also before it is asked
-/// whether something follows. Once the reader has given nothing it isn't called again. Both streams come back, also after a
-/// fault.
+/// whether something follows. The writer is flushed once for each ask at most, and twice more. Once the reader has given nothing
+/// it isn't called again. Both streams come back, also after a fault.
 pub fn decode<R: TellRead, W: TellWrite>(
     alloc: Global,
     limits: Limits,
@@ -43,7 +43,7 @@ pub fn decode<R: TellRead, W: TellWrite>(
     (answer, rest.into_inner(), writer)
 }
 
-// Copies all payload. Both streams come back.
+// Copies all payload. Both streams come back, and no buffer grew.
 fn decode_all<R: TellRead, W: TellWrite>(
     source: BufReader<R>,
     limits: Limits,
@@ -55,7 +55,9 @@ fn decode_all<R: TellRead, W: TellWrite>(
     requires target { IsPieceTarget target }
     requires empty { target.block.bytes ≡ [] }
     requires room { vec_len piece ≡ PIECE }
-    ensures { DecodesBody limits source.log result.1.log target.log result.2.log result.0 }
+    ensures read_room { result.1.block.capacity ≡ source.block.capacity }
+    ensures write_room { result.2.block.capacity ≡ target.block.capacity }
+    ensures decodes { DecodesBody limits source.log result.1.log target.log result.2.log result.0 }
 {
     let mut link = Link::new(Decoding {
         source: ChunkedReader::new(source, Chunked(limits)),

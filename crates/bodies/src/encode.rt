@@ -42,7 +42,7 @@ pub fn encode<R: TellRead, W: TellWrite>(
     (answer, source.into_inner(), writer)
 }
 
-// Makes all of it a body, and flushes that. Both streams come back.
+// Makes all of it a body, and flushes that. Both streams come back, and no buffer grew.
 fn encode_all<R: TellRead, W: TellWrite>(
     source: BufReader<R>,
     target: BufWriter<W>,
@@ -50,7 +50,9 @@ fn encode_all<R: TellRead, W: TellWrite>(
     requires source { IsEmptyBuffer 1 source.block }
     requires target { IsEmptyBuffer (around + 1) target.block }
     requires fits { around + source.block.capacity ≤ target.block.capacity }
-    ensures { Encodes source.log result.1.log target.log result.2.log result.0 }
+    ensures read_room { result.1.block.capacity ≡ source.block.capacity }
+    ensures write_room { result.2.block.capacity ≡ target.block.capacity }
+    ensures encodes { Encodes source.log result.1.log target.log result.2.log result.0 }
 {
     let mut link = Link::new(Encoding {
         source,

@@ -1,5 +1,5 @@
 -- What is done for one payload, behind those that went over before.
-use Rattle.std.proofs.Common.{inl, inr, length, ◌≡◌, ◌⊎◌, ℕ, ◌+◌, ◌≤◌, List, [], ◌∷◌, ◌++◌, Bool, true, false, Result, Ok, Err, refl, sym, ap, subst, ◌∙◌, arith, length-append}
+use Rattle.std.proofs.Common.{inl, inr, length, ◌≡◌, ◌⊎◌, ℕ, ◌+◌, ◌≤◌, List, [], ◌∷◌, ◌++◌, Bool, true, false, Result, Ok, Err, refl, sym, ap, subst, ◌∙◌, arith}
 use Rattle.std.proofs.lemmas.List.Elements.{All-append, All-cons, All-nil}
 use Rattle.std.specs.Option.{option_map_or}
 use Rattle.std.specs.Result.{result_err}
@@ -10,8 +10,8 @@ use Rattle.forward.specs.Forward.{NoneFailed, flushed_last}
 use Rattle.forward.specs.Link.{Ask, EndsInterrupted, Goes, LinkFlushes, LinkPasses, Linked, NoneGaveUp, NotAsked}
 use Rattle.forward.specs.Steps.{AlsoAsked, AskedFrom, AskedTo, ForwardsNext, GivesUp, GoesAhead, IsQuiet, OnTrue, ReadsOnlyInterrupted, StepAnswers, TakesTurn}
 use Rattle.forward.specs.Streams.{ReadGaveUp}
-use Rattle.forward.specs.StreamsLaws.{MetNoFault-joins, ReadFailed-after, WriterFailed-after}
-use Rattle.forward.specs.Target.{FlushesOnce, InterruptedLast, bytes_taken, failure_count}
+use Rattle.forward.specs.StreamsLaws.{MetNoFault-joins, ReadFailed-after, WriteGaveUp-after}
+use Rattle.forward.specs.Target.{FlushesOnce, bytes_taken, failure_count}
 use Rattle.forward.specs.declared.error.AskError.{AskError}
 use Rattle.forward.specs.declared.error.AskError.TheVariants as asked
 use Rattle.forward.specs.declared.error.Cause.{Cause}
@@ -39,19 +39,6 @@ module _ {T W : Type 0} (rules : FilterRules T W) where
         (so : (ask : Ask T) → AskedFrom rules s.filter ask → Such ask) where
       met_on : NoneFailed rules s.filter t.filter → NoneFailed rules first.filter t.filter
       met_on = MetNoFault-joins before.met
-
-      -- no fault is taken back
-      often_on : (e : Error) → InterruptedLast (rules.target s.filter) e (rules.target t.filter)
-          → InterruptedLast (rules.target first.filter) e (rules.target t.filter)
-      often_on e often is = elim (often is) [
-        | inl many ↦ inl (omega (
-          arith,
-          many,
-          ap length before.met.writer.only.faults,
-          length-append (rules.target first.filter).log.writes.faults before.met.writer.interrupts,
-        ))
-        | inr none ↦ inr none
-      ]
 
       behind : (answer : Result Bool (Cause W)) → AsksOnce rules s.filter t.filter
           → StepAnswers rules 0 s.filter answer t.filter → StepAnswers rules count first.filter answer t.filter
@@ -84,7 +71,7 @@ module _ {T W : Type 0} (rules : FilterRules T W) where
       behind (Err (Write e)) once next = (
         first_joins rules lawful first.filter s.filter t.filter count before.forwarded next.0,
         elim next.1 [
-          | inl failed ↦ inl (WriterFailed-after before.met failed.0, often_on e failed.1)
+          | inl failed ↦ inl (WriteGaveUp-after before.met failed)
           | inr (met, refused) ↦ inr (met_on met, refused)
         ],
       )
@@ -190,7 +177,10 @@ module _ {T W : Type 0} (rules : FilterRules T W) where
         answers = (
           none_first rules lawful s.filter m.filter p.passes.answers.0 p.passes.answers.1 p.passes.answers.2,
           elim p.passes.wrote.ended [
-            | inl failed ↦ inl (record { reader = unread p.passes.told; writer = failed.0 }, λ is. inl (failed.1 is))
+            | inl failed ↦ inl (record {
+              failed = record { reader = unread p.passes.told; writer = failed.0 };
+              often = λ is. inl (failed.1 is);
+            })
             | inr (met, refused) ↦ inr (met_writes s.filter m.filter p.passes.told met, refused)
           ],
         );
@@ -237,8 +227,9 @@ module _ {T W : Type 0} (rules : FilterRules T W) where
       flush_once : (answer : Result (Unit {0}) Error) → LinkFlushes rules s answer m → AsksOnce rules s.filter m.filter
       flush_once answer p = AsksOnce-none rules s.filter m.filter p.flushes.told p.flushes.closed
 
-      pub not_flushed : (e : Error) → LinkFlushes rules s (Err e) m → ForwardsNext rules s (Err (Write e)) m
-      not_flushed e p = record {
+      pub not_flushed : rules.lacks s.filter → (e : Error) → LinkFlushes rules s (Err e) m
+          → ForwardsNext rules s (Err (Write e)) m
+      not_flushed lacks e p = record {
         goes = Goes-unasked rules (AskedFrom rules s.filter) 1 s m (flush_unasked (Err e) p) p.noted
             (once_more s.filter m.filter p.flushes.wrote.flushes) p.flushes.wrote.few;
         not_given_up = tt;
@@ -250,7 +241,13 @@ module _ {T W : Type 0} (rules : FilterRules T W) where
         ready = p.flushes.ready;
         answers = (
           none_first rules lawful s.filter m.filter [] p.flushes.moves (omega arith),
-          inl (record { reader = unread p.flushes.told; writer = p.flushes.wrote.ended.0 }, p.flushes.wrote.ended.1),
+          inl (record {
+            failed = record { reader = unread p.flushes.told; writer = p.flushes.wrote.ended.0 };
+            often = λ is. elim (p.flushes.wrote.ended.1 is) [
+              | inl many ↦ inl many
+              | inr none ↦ inr (none, p.flushes.lacks lacks)
+            ];
+          }),
         );
       }
 

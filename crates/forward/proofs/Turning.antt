@@ -101,7 +101,7 @@ module _ {T W : Type 0} (rules : FilterRules T W) where
 
     -- one that failed asked the stream
     fault_asked : (a b : T) (e : Error) → FailedToRead rules e a b → WasAsked rules a b
-    fault_asked a b e fault none same = omega (
+    fault_asked a b e fault same = omega (
       arith,
       ap length fault,
       length-append (rules.read a).reads.faults (e ∷ []),

@@ -29,8 +29,6 @@ pub record FilterRules (T W : Type 0) : Type 1 where
   pub rounds : T → ℕ
   -- how the writer is flushed, once at most
   pub flushes : T → Result (Unit {0}) Error → T → Type 0
-  -- a payload may come from here though the stream isn't asked
-  pub finds : T → Type 0
   -- how the stream is asked: for bytes that come while what is there holds no payload
   pub asks : T → T → Type 0
   -- what is left, if a payload may come of it, was searched for one, and what was searched of it stays so
@@ -116,9 +114,9 @@ module _ {T W : Type 0} (rules : FilterRules T W) where
   abbrev pub StaysOpen : T → T → Type 0
   StaysOpen s t = NeverGaveNothing s t ⊎ rules.closed t
 
-  -- the stream was asked, as its log tells, unless it needn't be for a payload
+  -- the stream was asked, as its log tells
   abbrev pub WasAsked : T → T → Type 0
-  WasAsked s t = ¬ (rules.finds s) → ¬ (rules.read t ≡ rules.read s)
+  WasAsked s t = ¬ (rules.read t ≡ rules.read s)
 
   abbrev pub AskAnswers : T → Result Bool (AskError W) → T → Type 0
   AskAnswers s (Ok true) t = rules.has t × Read s t × StaysOpen s t × WasAsked s t

@@ -6,8 +6,7 @@ use Rattle.std.specs.declared.io.Error.{Error}
 use Rattle.forward.specs.Filter.{FilterRules, Moves}
 use Rattle.forward.specs.Flushes.{FlushesSend}
 use Rattle.forward.specs.Link.{Goes, IsPrompt, Linked}
-use Rattle.forward.specs.Streams.{EndsOnce, MetNoFault, ReadFailed, WriterFailed}
-use Rattle.forward.specs.Target.{InterruptedLast}
+use Rattle.forward.specs.Streams.{EndsOnce, MetNoFault, ReadFailed, WriteGaveUp}
 use Rattle.forward.specs.declared.error.Cause.{Cause}
 use Rattle.forward.specs.declared.error.Cause.TheVariants.{Wrong, Read, Write, Count}
 use Rattle.forward.specs.declared.error.Stopped.{Stopped}
@@ -38,11 +37,12 @@ module _ {T W : Type 0} (rules : FilterRules T W) where
     pub all : length payloads ≡ count
     pub few : length lost ≤ rules.loses
 
-  -- sending failed, and reads were at most interrupted; or a payload was refused, and neither stream failed
+  -- sending gave up, by the writer's own flush only where no payload is there either; or a payload was refused, and neither
+  -- stream failed
   abbrev pub NotWritten : Error → T → T → Type 0
   NotWritten e s t =
-      (WriterFailed e (rules.read s) (rules.read t) (rules.target s).log (rules.target t).log
-      × InterruptedLast (rules.target s) e (rules.target t))
+      WriteGaveUp (((rules.target t).held ≡ 0) × rules.lacks t) e (rules.read s) (rules.read t) (rules.target s).log
+      (rules.target t).log
       ⊎ (NoneFailed s t × rules.refused e t)
 
   -- what each cause says, behind which so many payloads went over. Where a read failed, it may be forwarded on

@@ -1,12 +1,13 @@
 -- What asks come to in front of each of which all that was due was sent, and what their turns.
-use Rattle.std.proofs.Common.{inl, inr, ◌≡◌, ◌⊎◌, ℕ, ◌+◌, ◌<◌, ◌≤◌, List, [], ◌∷◌, length, refl, sym, ap, subst, arith, length-append, All, flat_map, Result, Ok, Err}
+use Rattle.std.proofs.Common.{inl, inr, ◌≡◌, ◌⊎◌, ℕ, ◌+◌, ◌<◌, ◌≤◌, List, [], ◌∷◌, ◌++◌, length, refl, sym, ap, subst, ◌∙◌, arith, append-nil, length-append, All, flat_map, Result, Ok, Err}
 use Rattle.std.specs.Option.{option_map_or}
 use Rattle.std.specs.Result.{result_err}
+use Rattle.std.proofs.lemmas.List.{nil_from_length}
 use Rattle.std.proofs.lemmas.List.Elements.{All-head, All-tail}
-use Rattle.forward.specs.Filter.{FilterRules}
-use Rattle.forward.specs.Forward.{Forwards, flushed_last}
+use Rattle.forward.specs.Filter.{FilterRules, Moves}
+use Rattle.forward.specs.Forward.{Forwarded, ForwardedFirst, Forwards, StopsBy, flushed_last}
 use Rattle.forward.specs.Link.{Ask, AskedBefore, AsksAlong, Goes, IsPrompt, IsTurn, Linked}
-use Rattle.forward.specs.Prompt.{HoldsNothingBack}
+use Rattle.forward.specs.Prompt.{HoldsNothingBack, RunsPromptly}
 use Rattle.forward.specs.PromptLaws.{HoldsNothingBack-on, WritesOn-none}
 use Rattle.forward.specs.Streams.{FewFaults}
 use Rattle.forward.specs.Target.{failure_count}
@@ -83,36 +84,33 @@ module _ {T W : Type 0} (rules : FilterRules T W) where
     ap length goes.turns.equal,
   )
 
-  -- an ask of the filter's asks the stream, or leaves its log as it is; and no payload comes without the stream
+  -- an ask of the filter's asks the stream, or leaves its log as it is
   abbrev pub CountsAsks : Type 0
   CountsAsks = (s t : T) → rules.asks s t
       → (rules.read t ≡ rules.read s) ⊎ ((rules.read s).reads.asks < (rules.read t).reads.asks)
 
-  abbrev pub FindsNone : Type 0
-  FindsNone = (s : T) → ¬ (rules.finds s)
-
-  -- so the stream is asked in each ask but the last
-  asks_but_last : CountsAsks → FindsNone → (s t : T) (asks : List (Ask T)) → AsksAlong rules s asks t → AskedBefore rules asks
+  -- the stream is asked in each ask but the last
+  asks_but_last : CountsAsks → (s t : T) (asks : List (Ask T)) → AsksAlong rules s asks t → AskedBefore rules asks
       → (rules.read s).reads.asks + length asks ≤ (rules.read t).reads.asks + 1
-  asks_but_last counts none s t [] along asked = omega (arith, ap (λ l. l.reads.asks) along.told)
-  asks_but_last counts none s t (ask ∷ []) along asked =
+  asks_but_last counts s t [] along asked = omega (arith, ap (λ l. l.reads.asks) along.told)
+  asks_but_last counts s t (ask ∷ []) along asked =
       let on : (rules.read ask.before).reads.asks ≤ (rules.read ask.after).reads.asks =
       elim (counts ask.before ask.after along.1.asks) [
         | inl same ↦ omega (arith, ap (λ l. l.reads.asks) same)
         | inr some ↦ omega (arith, some)
       ] in
       omega (arith, ap (λ l. l.reads.asks) along.0.told, on, ap (λ l. l.reads.asks) along.2.told)
-  asks_but_last counts none s t (ask ∷ next ∷ more) along asked =
+  asks_but_last counts s t (ask ∷ next ∷ more) along asked =
       let some : (rules.read ask.before).reads.asks < (rules.read ask.after).reads.asks =
       elim (counts ask.before ask.after along.1.asks) [
-        | inl same ↦ absurd (asked.0 (none ask.before) same)
+        | inl same ↦ absurd (asked.0 same)
         | inr some ↦ some
       ] in
       omega (
         arith,
         ap (λ l. l.reads.asks) along.0.told,
         some,
-        asks_but_last counts none ask.after t (next ∷ more) along.2 asked.1,
+        asks_but_last counts ask.after t (next ∷ more) along.2 asked.1,
       )
 
 -- behind the last ask there is one flush at most
@@ -134,18 +132,50 @@ last_flush : {W : Type 0} (answer : Result ℕ (Stopped W))
 last_flush (Ok count) = omega arith
 last_flush (Err stopped) = one_flush stopped.cause
 
--- the writer was flushed once for each ask of the stream at most, and twice more
-pub Forwards-per_ask : {T W : Type 0} (rules : FilterRules T W) (s t : Linked T) (answer : Result ℕ (Stopped W))
-    → Forwards rules s answer t → CountsAsks rules → FindsNone rules
-    → (rules.target t.filter).log.writes.flushes + (rules.read s.filter).reads.asks
-    ≤ (rules.target s.filter).log.writes.flushes + (rules.read t.filter).reads.asks + 2
-Forwards-per_ask rules s t answer over counts none =
+-- what a run does whose filter counts its asks
+pub Forwards-runs : {T W : Type 0} (rules : FilterRules T W) (s t : Linked T) (answer : Result ℕ (Stopped W))
+    → CountsAsks rules → Forwards rules s answer t
+    → RunsPromptly (rules.due s.filter) (failure_count answer) 2 (rules.read s.filter) (rules.read t.filter)
+    (rules.target s.filter).log (rules.target t.filter).log
+Forwards-runs rules s t answer counts over =
     let goes = over.goes in
-    omega (
-      arith,
-      goes.flushes,
-      asks_but_last rules counts none s.filter t.filter goes.asks goes.along goes.asked,
-      turns_counted rules goes.turns.turns goes.turns.each,
-      ap length goes.turns.equal,
-      last_flush answer,
-    )
+    record {
+      prompt = Goes-holds rules s t goes;
+      once = over.once;
+      few = Forwards-few rules s t answer over;
+      flushes = over.flushes;
+      per_ask = omega (
+        arith,
+        goes.flushes,
+        asks_but_last rules counts s.filter t.filter goes.asks goes.along goes.asked,
+        turns_counted rules goes.turns.turns goes.turns.each,
+        ap length goes.turns.equal,
+        last_flush answer,
+      );
+    }
+
+-- whatever came of it, payloads were moved
+module _ {T W : Type 0} (rules : FilterRules T W) where
+  pub stop_moves : (count : ℕ) (s t : T) (cause : Cause W) → StopsBy rules count s cause t
+      → (handed : List (List ℕ)) × (taken : List (List ℕ)) × Moves rules s handed taken t × (length taken ≡ count)
+  stop_moves count s t (Wrong why) stop = (stop.0.payloads, stop.0.payloads, stop.0.moves, stop.0.all)
+  stop_moves count s t (Read e) stop = (stop.0.payloads, stop.0.payloads, stop.0.moves, stop.0.all)
+  stop_moves count s t (Write e) stop = (stop.0.payloads ++ stop.0.lost, stop.0.payloads, stop.0.moves, stop.0.all)
+  stop_moves count s t Count stop = (stop.0.payloads, stop.0.payloads, stop.0.moves, stop.0.all)
+
+  pub Forwards-moves : (s t : Linked T) (answer : Result ℕ (Stopped W)) → Forwards rules s answer t
+      → (handed : List (List ℕ)) × (taken : List (List ℕ)) × Moves rules s.filter handed taken t.filter
+  Forwards-moves s t (Ok count) over = (over.answers.0.payloads, over.answers.0.payloads, over.answers.0.moves)
+  Forwards-moves s t (Err stopped) over =
+      let (handed, taken, moves, all) = stop_moves stopped.count s.filter t.filter stopped.cause over.answers in
+      (handed, taken, moves)
+
+  -- where none may be lost, all that were handed out went over
+  pub ForwardedFirst-all : {count : ℕ} {s t : T} → rules.loses ≡ 0 → ForwardedFirst rules count s t → Forwarded rules count s t
+  ForwardedFirst-all {s = s} {t} none first = record {
+    payloads = first.payloads;
+    moves = subst (λ l. Moves rules s l first.payloads t)
+        (ap (λ l. first.payloads ++ l) (nil_from_length first.lost (omega (arith, first.few, none)))
+        ∙ append-nil first.payloads) first.moves;
+    all = first.all;
+  }

@@ -1,8 +1,8 @@
-pub mod Prompt
-pub mod PromptLaws
 pub mod Streams
 pub mod StreamsLaws
 pub mod Flushes
+pub mod Prompt
+pub mod PromptLaws
 pub mod Target
 pub mod Filter
 pub mod Link

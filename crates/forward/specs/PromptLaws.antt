@@ -3,7 +3,7 @@ use Rattle.std.proofs.Common.{◌≡◌, ℕ, ◌⊎◌, inl, inr, List, ◌++�
 use Rattle.redux_buffer.specs.GoesOn.{GoesOn, GoesOn-none, GoesOn-joins}
 use Rattle.redux_buffer.specs.LogGrows.{WriteLogGrows}
 use Rattle.redux_buffer.specs.StreamLog.{StreamLog, WriteLog}
-use Rattle.forward.specs.Prompt.{AskedLast, AsksGiveOrFail, HoldsNothingBack, WasDelivered, WritesOn}
+use Rattle.forward.specs.Prompt.{AskedLast, AsksGiveOrFail, HoldsNothingBack, RunsPromptly, WasDelivered, WritesOn}
 
 pub WritesOn-none : (l : WriteLog) → WritesOn l l
 WritesOn-none l = record { received = GoesOn-none l.received; flushed = inl refl }
@@ -74,7 +74,7 @@ pub AsksGiveOrFail-joins : (a b c : StreamLog) → AsksGiveOrFail a b → AsksGi
 AsksGiveOrFail-joins a b c first second = omega (arith, first, second)
 
 -- where what is due is also such
-pub HoldsNothingBack-such : (P Q : List ℕ → List ℕ → Type 0) (a b k l : StreamLog)
+HoldsNothingBack-such : (P Q : List ℕ → List ℕ → Type 0) (a b k l : StreamLog)
     → ((bytes due : List ℕ) → P bytes due → Q bytes due) → HoldsNothingBack P a b k l → HoldsNothingBack Q a b k l
 HoldsNothingBack-such P Q a b k l so (inl none) = inl none
 HoldsNothingBack-such P Q a b k l so (inr sent) = inr (record {
@@ -84,3 +84,24 @@ HoldsNothingBack-such P Q a b k l so (inr sent) = inr (record {
   is_due = so sent.before sent.due sent.is_due;
   sent = sent.sent;
 })
+
+-- neither stream was called
+pub RunsPromptly-none : (IsDue : List ℕ → List ℕ → Type 0) (failed idle : ℕ) (read written : StreamLog)
+    → RunsPromptly IsDue failed idle read read written written
+RunsPromptly-none IsDue failed idle read written = record {
+  prompt = inl refl;
+  once = omega arith;
+  few = omega arith;
+  flushes = omega arith;
+  per_ask = omega arith;
+}
+
+pub RunsPromptly-such : (P Q : List ℕ → List ℕ → Type 0) {failed idle : ℕ} {a b k l : StreamLog}
+    → ((bytes due : List ℕ) → P bytes due → Q bytes due) → RunsPromptly P failed idle a b k l → RunsPromptly Q failed idle a b k l
+RunsPromptly-such P Q {a = a} {b} {k} {l} so runs = record {
+  prompt = HoldsNothingBack-such P Q a b k l so runs.prompt;
+  once = runs.once;
+  few = runs.few;
+  flushes = runs.flushes;
+  per_ask = runs.per_ask;
+}

@@ -1,5 +1,5 @@
 -- How the two streams of a run fared.
-use Rattle.std.specs.Prelude.{◌+◌, ◌*◌, ◌≤◌, ℕ, List, length}
+use Rattle.std.specs.Prelude.{◌+◌, ◌*◌, ◌≤◌, ◌⊎◌, ℕ, List, length}
 use Rattle.std.specs.declared.io.Error.{Error}
 use Rattle.redux_buffer.specs.Faults.{IsInterrupt, interrupt_limit, OnlyInterrupts, FaultAfterInterrupts, MetInterrupts, SendErrorCaused}
 use Rattle.redux_buffer.specs.StreamLog.{StreamLog, ReadLog, WriteLog}
@@ -34,6 +34,11 @@ pub record ReadFailed (e : Error) (read read' written written' : StreamLog) : Ty
 pub record WriterFailed (e : Error) (read read' written written' : StreamLog) : Type 0 where
   pub reader : OnlyInterrupts read.reads.faults read'.reads.faults
   pub writer : SendErrorCaused written.writes written'.writes e
+
+-- and it failed by `Interrupted` only where faults came that often, or in the writer's own flush, where nothing was left to send
+pub record WriteGaveUp (NoneLeft : Type 0) (e : Error) (read read' written written' : StreamLog) : Type 0 where
+  pub failed : WriterFailed e read read' written written'
+  pub often : IsInterrupt e → FaultsOften written.writes written'.writes ⊎ NoneLeft
 
 -- the reader gave nothing once at most: behind its end it isn't asked again
 abbrev pub EndsOnce : ReadLog → ReadLog → Type 0

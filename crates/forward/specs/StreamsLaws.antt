@@ -1,10 +1,10 @@
 -- How two streams fared, over calls that follow one another.
-use Rattle.std.proofs.Common.{◌≡◌, ◌+◌, ◌≤◌, List, [], ◌∷◌, ◌++◌, length, length-append, ap, ◌∙◌, arith, append_assoc}
+use Rattle.std.proofs.Common.{◌≡◌, ◌+◌, ◌≤◌, inl, inr, List, [], ◌∷◌, ◌++◌, length, length-append, ap, ◌∙◌, arith, append_assoc}
 use Rattle.std.proofs.lemmas.List.Elements.{All-push}
 use Rattle.std.specs.declared.io.Error.{Error}
 use Rattle.redux_buffer.specs.Faults.{IsInterrupt, interrupt_limit, OnlyInterrupts, OnlyInterrupts-none, OnlyInterrupts-joins, FaultAfterInterrupts-after, MetInterrupts-joins, MetInterrupts-none, SendErrorCaused-after}
 use Rattle.redux_buffer.specs.StreamLog.{StreamLog}
-use Rattle.forward.specs.Streams.{MetNoFault, ReadFailed, ReadGaveUp, WriterFailed}
+use Rattle.forward.specs.Streams.{MetNoFault, ReadFailed, ReadGaveUp, WriteGaveUp, WriterFailed}
 
 pub MetNoFault-none : (read written : StreamLog) → MetNoFault read read written written
 MetNoFault-none read written =
@@ -56,4 +56,27 @@ pub WriterFailed-after : {e : Error} {a b c k l m : StreamLog} → MetNoFault a 
 WriterFailed-after {e} {a} {b} {c} {k} {l} {m} p q = record {
   reader = OnlyInterrupts-joins a.reads.faults b.reads.faults c.reads.faults p.reader q.reader;
   writer = SendErrorCaused-after k.writes l.writes m.writes e p.writer q.writer;
+}
+
+-- no fault is taken back
+pub WriteGaveUp-after : {NoneLeft : Type 0} {e : Error} {a b c k l m : StreamLog} → MetNoFault a b k l
+    → WriteGaveUp NoneLeft e b c l m → WriteGaveUp NoneLeft e a c k m
+WriteGaveUp-after {k = k} p q = record {
+  failed = WriterFailed-after p q.failed;
+  often = λ is. elim (q.often is) [
+    | inl many ↦ inl (omega (
+      arith,
+      many,
+      ap length p.writer.only.faults,
+      length-append k.writes.faults p.writer.interrupts,
+    ))
+    | inr none ↦ inr none
+  ];
+}
+
+pub WriteGaveUp-so : {NoneLeft Other : Type 0} {e : Error} {a b k l : StreamLog} → (NoneLeft → Other)
+    → WriteGaveUp NoneLeft e a b k l → WriteGaveUp Other e a b k l
+WriteGaveUp-so so p = record {
+  failed = p.failed;
+  often = λ is. elim (p.often is) [ inl many ↦ inl many | inr none ↦ inr (so none) ];
 }

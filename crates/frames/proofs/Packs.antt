@@ -12,6 +12,8 @@ use Rattle.codec.specs.Encoding.{coded}
 use Rattle.codec.specs.PieceWriter.{WriterState}
 use Rattle.codec.specs.WritePiece.{WriteAnswer, WritesPiece}
 use Rattle.codec.specs.declared.error.WritePieceError.TheVariants as Refusal
+use Rattle.forward.specs.PromptLaws.{RunsPromptly-none}
+use Rattle.forward.specs.StreamsLaws.{WriteGaveUp-so}
 use Rattle.forward.specs.declared.error.AskError.TheVariants as ask
 use Rattle.frame_reader.specs.Framed.{framed_out}
 use Rattle.frame_reader.specs.FramedLaws.{coded_frame}
@@ -28,7 +30,7 @@ use Rattle.piece_filter.specs.PiecesCalls as pieces
 use Rattle.piece_filter.specs.PiecesLaws.{coded_all, whole_text}
 use Rattle.frames.specs.Words.{All, AllSent, FilterAsks, Begins, bytes_at, Error, error_kind, Fits, FitsLine, ForwardAnswers, frame, frames, GaveNothing, Grammar, HasLines, HasPieces, IsLent, IsLine, IsOpen, IsPieces, lined, LineState, MetNoFault, OverCount, RanDry, rest, room_for, RunError, Span, Stopped, StreamLog, WritesInOrder, with_newlines}
 use Rattle.frames.specs.Ending.{IsErrorOf}
-use Rattle.frames.specs.Pack.{PackedFirst, PackedLines, PackRan, Packs}
+use Rattle.frames.specs.Pack.{IsDue, PackedFirst, PackedLines, PackRan, Packs}
 use Rattle.frames.specs.Packing.{packing}
 use Rattle.frames.specs.PackingLaws.{all_ended, all_fit, packing_sound, some_frame}
 use Rattle.programs.specs.TakenIn.{SendsOnce, TakesAll}
@@ -254,11 +256,14 @@ module _ {R W : Type 0} (remaining : R → Option (List ℕ)) (s t : Packing R W
   abbrev First : Type 0
   First = PackedFirst max s.source.pieces.reader.log t.source.pieces.reader.log s.target.writer.log t.target.writer.log
 
+  abbrev IsFirst : List (List ℕ) → Type 0
+  IsFirst p = (ran : First) × (ran.lines ≡ p) × (ran.unsent ≡ t.target.writer.block.bytes)
+
   module _ (p lost : List (List ℕ)) (over : Went (p ++ lost) p) where
     first_of : (text more : List ℕ) → over.bytes ≡ text ++ more → (has : HasLines text p) → All (Fits max) p
         → (has.last ≡ [])
         ⊎ ((more ++ rest t.source.pieces ≡ []) × GaveNothing s.source.pieces.reader.log t.source.pieces.reader.log)
-        → (ran : First) × (ran.lines ≡ p)
+        → IsFirst p
     first_of text more equal has fit whole =
         let given = s.source.pieces.reader.log.reads.given in
         let left = rest t.source.pieces in (
@@ -274,15 +279,15 @@ module _ {R W : Type 0} (remaining : R → Option (List ℕ)) (s t : Packing R W
             received = over.received ∙ replied (p ++ lost) p over;
           },
           refl,
+          refl,
         )
 
-    whole_lines : (front more : List ℕ) → over.bytes ≡ front ++ more → IsPieces (lined max) front p []
-        → (ran : First) × (ran.lines ≡ p)
+    whole_lines : (front more : List ℕ) → over.bytes ≡ front ++ more → IsPieces (lined max) front p [] → IsFirst p
     whole_lines front more equal whole =
         let all = all_ended max front p whole in
         first_of (with_newlines p) more (equal ∙ ap (λ l. l ++ more) all.0) (with_ends_of p all.1) all.2 (inl refl)
 
-    all_lines : p ++ lost ≡ p → (ran : First) × (ran.lines ≡ p)
+    all_lines : p ++ lost ≡ p → IsFirst p
     all_lines none = elim over.text [
       | inl whole ↦ whole_lines over.bytes [] (sym (append-nil over.bytes))
           (subst (λ l. IsPieces (lined max) over.bytes l []) none whole)
@@ -292,7 +297,7 @@ module _ {R W : Type 0} (remaining : R → Option (List ℕ)) (s t : Packing R W
           (all_fit max over.bytes p lines) (inr (ready.whole.ended ended, dry (over.dry ended)))
     ]
 
-  first : (p lost : List (List ℕ)) → Went (p ++ lost) p → (ran : First) × (ran.lines ≡ p)
+  first : (p lost : List (List ℕ)) → Went (p ++ lost) p → IsFirst p
   first p [] over = all_lines p [] over (append-nil p)
   first p (next ∷ more) over =
       let (front, behind, equal, whole) = fronts (lined max) p next more over.bytes (texts (p ++ next ∷ more) p over) in
@@ -308,7 +313,9 @@ module _ {R W : Type 0} (remaining : R → Option (List ℕ)) (s t : Packing R W
             (subst (λ d. IsOpen (lined d.max) (rest t.source.pieces)) over.decoder open')),
         failed,
       ))
-      (λ p lost over e failed. ((first p lost over).0, failed))
+      (λ p lost over e failed.
+      let ran = first p lost over in
+      (ran.0, WriteGaveUp-so (λ none. ran.2 ∙ none) failed))
       (λ p lost over e much.
       let ran = first p lost over in (
         ran.0,
@@ -340,9 +347,5 @@ pack_refused most read written e memory = record {
     },
     inr (record { memory = memory; read_same = refl; written_same = refl }),
   );
-  prompt = inl refl;
-  once = omega arith;
-  few = omega arith;
-  flushes = omega arith;
-  per_ask = omega arith;
+  promptly = RunsPromptly-none (IsDue most) 1 2 read written;
 }

@@ -1,12 +1,14 @@
 -- What the outcome of a whole run over pieces comes to.
 use Rattle.std.proofs.Common.{ℕ, inl, inr, List, [], ◌++◌, length, false, Option, Result, Ok, Err, ◌≡◌, refl, sym, subst, arith}
 use Rattle.std.proofs.lemmas.Bool.{false≢true}
+use Rattle.std.proofs.lemmas.List.{nil_from_length}
 use Rattle.std.specs.Prelude.{IsErrAnd, IsOk, MatchResult}
+use Rattle.forward.specs.StreamsLaws.{WriteGaveUp-so}
 use Rattle.forward.specs.declared.error.Cause.{Cause}
 use Rattle.forward.specs.declared.error.Cause.TheVariants as cause
 use Rattle.piece_filter.specs.PieceRuns.{Over, all_over, over_held, over_lost}
 use Rattle.piece_filter.specs.Pieces.{IsCoherent, PiecesEnd, Piecewise, grammar_of, held_of, piece_rules}
-use Rattle.frames.specs.Words.{Error, failure_count, IsOpen, rest, FilterRules, ForwardAnswers, NoneFailed, StopsBy, Stopped, AllSent, OverCount, ReadFailed, WriterFailed, RunError}
+use Rattle.frames.specs.Words.{Error, failure_count, IsOpen, rest, FilterRules, ForwardAnswers, NoneFailed, StopsBy, Stopped, AllSent, OverCount, ReadFailed, WriteGaveUp, RunError}
 use Rattle.frames.specs.Ending.{IsErrorOf}
 use Rattle.frames.specs.declared.error.RunError.TheVariants.{Read, Write, Io}
 
@@ -38,7 +40,8 @@ module _ {T R D X A W : Type 0} (remaining : R → Option (List ℕ)) (f : Piece
       → AllSent (f.target t) → (e : Error)
       → ReadFailed e (rules.read s) (rules.read t) (rules.target s).log (rules.target t).log → Ran (Err (Read e)))
       (write : (p lost : List (List ℕ)) → Went (p ++ lost) p → (e : Error)
-      → WriterFailed e (rules.read s) (rules.read t) (rules.target s).log (rules.target t).log → Ran (Err (Write e)))
+      → WriteGaveUp ((f.target t).block.bytes ≡ []) e (rules.read s) (rules.read t) (rules.target s).log (rules.target t).log
+      → Ran (Err (Write e)))
       (full : (p lost : List (List ℕ)) → Went (p ++ lost) p → (e : Error)
       → OverCount e (length p) (rules.read s) (rules.read t) (rules.target s).log (rules.target t).log → Ran (Err (Io e))) where
     stopped : (count : ℕ) (why : Cause RunError) (e : RunError) → StopsBy rules count s why t → IsErrorOf why e → Ran (Err e)
@@ -49,7 +52,8 @@ module _ {T R D X A W : Type 0} (remaining : R → Option (List ℕ)) (f : Piece
         fault failed)
     stopped count (cause.Write fault) e (first, inr refused) is = absurd (never fault refused.1)
     stopped count (cause.Write fault) e (first, inl failed) is = subst (λ x. Ran (Err x)) (sym is)
-        (write first.payloads (first.lost ++ held_of f t) (over_lost remaining f s t fresh unread count first) fault failed.0)
+        (write first.payloads (first.lost ++ held_of f t) (over_lost remaining f s t fresh unread count first) fault
+        (WriteGaveUp-so (λ none. nil_from_length (f.target t).block.bytes none.0) failed))
     stopped count cause.Count e (over, large, met) is = subst (λ x. Ran (Err x)) (sym is.2)
         (full over.payloads (held_of f t) (over_held remaining f s t fresh unread count over) is.0
         (record { other = is.1; large = omega (arith, large, over.all); met = met }))

@@ -5,6 +5,7 @@ use Rattle.std.proofs.lemmas.List.Elements.{All-nil}
 use Rattle.std.specs.Prelude.{IsErrAnd, IsOk, MatchResult}
 use Rattle.std.specs.declared.io.ErrorKind.TheVariants.{OutOfMemory}
 use Rattle.codec.specs.NextPieceLaws.{MetEnd-once}
+use Rattle.forward.specs.PromptLaws.{RunsPromptly-none}
 use Rattle.forward.specs.declared.error.AskError.TheVariants as ask
 use Rattle.frame_reader.specs.Frames.{BeginsAbove}
 use Rattle.frame_reader.specs.Next.{FrameAnswer, Next, as_piece_answer}
@@ -18,7 +19,7 @@ use Rattle.piece_filter.specs.PiecesCalls as pieces
 use Rattle.piece_filter.specs.PiecesLaws.{coded_all}
 use Rattle.frames.specs.Words.{All, AllSent, FilterAsks, Begins, bytes_at, Error, error_kind, Fits, ForwardAnswers, framed, frames, GaveNothing, IsCutShort, IsLent, IsOpen, MetNoFault, RanDry, ReaderState, rest, RunError, Span, Stopped, StreamLog, with_newline, with_newlines}
 use Rattle.frames.specs.Ending.{IsErrorOf}
-use Rattle.frames.specs.Unpack.{Unpacked, UnpackedFirst, UnpackRan, Unpacks}
+use Rattle.frames.specs.Unpack.{IsDue, Unpacked, UnpackedFirst, UnpackRan, Unpacks}
 use Rattle.frames.specs.Unpacking.{unpacking}
 use Rattle.frames.specs.UnpackingLaws.{all_frames, unpacking_sound}
 use Rattle.frames.specs.declared.error.RunError.TheVariants.{Io, TooLong, Truncated}
@@ -209,9 +210,5 @@ unpack_refused most read written e memory = record {
     },
     inr (record { memory = memory; read_same = refl; written_same = refl }),
   );
-  prompt = inl refl;
-  once = omega arith;
-  few = omega arith;
-  flushes = omega arith;
-  per_ask = omega arith;
+  promptly = RunsPromptly-none (IsDue most) 1 2 read written;
 }

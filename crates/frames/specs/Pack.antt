@@ -1,9 +1,8 @@
 -- What a run of `pack` moves from a reader to a writer.
-use Rattle.std.specs.Prelude.{◌≡◌, ℕ, ◌+◌, ◌≤◌, ◌⊎◌, List, [], ◌++◌, length, Result, Ok, Err}
+use Rattle.std.specs.Prelude.{◌≡◌, ℕ, ◌⊎◌, List, [], ◌++◌, length, Result, Ok, Err}
 use Rattle.line_reader.specs.Lines.{BeginsTooLong}
-use Rattle.frames.specs.Words.{FewFaults, failure_count, All, StreamLog, Fits, frames, FitsLine, IsLine, HasLines, with_newlines, RunError, HoldsNothingBack, EndsOnce, MetNoFault, ReadFailed as AReadFailed, WriterFailed, OverCount, RefusedBeforeCalls, GaveNothing, ReceivedFlushed}
+use Rattle.frames.specs.Words.{failure_count, All, StreamLog, Fits, frames, FitsLine, IsLine, HasLines, with_newlines, RunError, RunsPromptly, MetNoFault, ReadFailed as AReadFailed, WriteGaveUp, OverCount, RefusedBeforeCalls, GaveNothing, ReceivedFlushed}
 use Rattle.frames.specs.declared.error.RunError.TheVariants.{TooLong, Truncated, Read, Write, Io}
-use Rattle.programs.specs.Flushes.{FlushesSend}
 
 -- what is due of these bytes: the frames of all whole lines in them
 pub record IsDue (most : ℕ) (bytes due : List ℕ) : Type 0 where
@@ -53,7 +52,7 @@ PackRan most read read' written written' (Err Truncated) = ⊥
 PackRan most read read' written written' (Err (Read e)) =
     PackedLines (FitsLine most) most read read' written written' × AReadFailed e read read' written written'
 PackRan most read read' written written' (Err (Write e)) =
-    PackedFirst most read read' written written' × WriterFailed e read read' written written'
+    (first : PackedFirst most read read' written written') × WriteGaveUp (first.unsent ≡ []) e read read' written written'
 PackRan most read read' written written' (Err (Io e)) =
     (first : PackedFirst most read read' written written')
     × (OverCount e (length first.lines) read read' written written' ⊎ RefusedBeforeCalls e read read' written written')
@@ -61,8 +60,4 @@ PackRan most read read' written written' (Err (Io e)) =
 -- all that a run of `pack` promises: the writer was flushed once for each ask of the reader at most, and twice more
 pub record Packs (most : ℕ) (read read' written written' : StreamLog) (answer : Result (Unit {0}) RunError) : Type 0 where
   pub ran : PackRan most read read' written written' answer
-  pub prompt : HoldsNothingBack (IsDue most) read read' written written'
-  pub once : EndsOnce read.reads read'.reads
-  pub few : FewFaults (failure_count answer) written.writes written'.writes
-  pub flushes : FlushesSend 1 written.writes written'.writes
-  pub per_ask : written'.writes.flushes + read.reads.asks ≤ written.writes.flushes + read'.reads.asks + 2
+  pub promptly : RunsPromptly (IsDue most) (failure_count answer) 2 read read' written written'

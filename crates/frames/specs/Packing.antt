@@ -27,6 +27,7 @@ packing = record {
   wrong = λ s why t. (why ≡ TooLong) × BeginsTooLong t.source.pieces.decoder.max (rest t.source.pieces)
       × (t.source.pieces.ended ≡ false);
   drops = ⊥;
+  grows = ⊥;
   sent = λ s. AllSent s.target.writer;
   refused = λ e t. ⊥;
   loses = 1;

@@ -1,9 +1,8 @@
 -- What a run of `unpack` moves from a reader to a writer.
-use Rattle.std.specs.Prelude.{◌≡◌, ℕ, ◌+◌, ◌≤◌, List, [], ◌++◌, length, ◌⊎◌, Result, Ok, Err}
+use Rattle.std.specs.Prelude.{◌≡◌, ℕ, List, [], ◌++◌, length, ◌⊎◌, Result, Ok, Err}
 use Rattle.frame_reader.specs.Frames.{BeginsAbove}
-use Rattle.frames.specs.Words.{FewFaults, failure_count, All, StreamLog, IsOpen, SplitsIntoFrames, framed, Fits, IsCutShort, frames, RunError, with_newlines, HoldsNothingBack, EndsOnce, MetNoFault, ReadFailed as AReadFailed, WriterFailed, OverCount, RefusedBeforeCalls, GaveNothing, ReceivedFlushed}
+use Rattle.frames.specs.Words.{failure_count, All, StreamLog, IsOpen, SplitsIntoFrames, framed, Fits, IsCutShort, frames, RunError, with_newlines, RunsPromptly, MetNoFault, ReadFailed as AReadFailed, WriteGaveUp, OverCount, RefusedBeforeCalls, GaveNothing, ReceivedFlushed}
 use Rattle.frames.specs.declared.error.RunError.TheVariants.{TooLong, Truncated, Read, Write, Io}
-use Rattle.programs.specs.Flushes.{FlushesSend}
 
 -- what is due of these bytes: the payloads of all whole frames in them, as lines
 pub record IsDue (most : ℕ) (bytes due : List ℕ) : Type 0 where
@@ -47,7 +46,7 @@ UnpackRan most read read' written written' (Err (Read e)) =
     (more : List ℕ) × Unpacked most read read' written written' more × IsOpen (framed most) more
     × AReadFailed e read read' written written'
 UnpackRan most read read' written written' (Err (Write e)) =
-    UnpackedFirst most read read' written written' × WriterFailed e read read' written written'
+    (first : UnpackedFirst most read read' written written') × WriteGaveUp (first.unsent ≡ []) e read read' written written'
 UnpackRan most read read' written written' (Err (Io e)) =
     (first : UnpackedFirst most read read' written written')
     × (OverCount e (length first.lines) read read' written written' ⊎ RefusedBeforeCalls e read read' written written')
@@ -55,8 +54,4 @@ UnpackRan most read read' written written' (Err (Io e)) =
 -- all that a run of `unpack` promises: the writer was flushed once for each ask of the reader at most, and twice more
 pub record Unpacks (most : ℕ) (read read' written written' : StreamLog) (answer : Result (Unit {0}) RunError) : Type 0 where
   pub ran : UnpackRan most read read' written written' answer
-  pub prompt : HoldsNothingBack (IsDue most) read read' written written'
-  pub once : EndsOnce read.reads read'.reads
-  pub few : FewFaults (failure_count answer) written.writes written'.writes
-  pub flushes : FlushesSend 1 written.writes written'.writes
-  pub per_ask : written'.writes.flushes + read.reads.asks ≤ written.writes.flushes + read'.reads.asks + 2
+  pub promptly : RunsPromptly (IsDue most) (failure_count answer) 2 read read' written written'

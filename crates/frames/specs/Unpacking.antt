@@ -32,6 +32,7 @@ unpacking = record {
   wrong = λ s why t. ((why ≡ TooLong) × BeginsAbove t.source.decoder.max (rest t.source))
       ⊎ ((why ≡ Truncated) × IsCutShort t.source.decoder.max (rest t.source) × RanDry s.source.reader t.source.reader);
   drops = ⊥;
+  grows = ⊥;
   sent = λ s. AllSent s.target;
   refused = λ e t. ⊥;
   loses = 1;

@@ -10,7 +10,8 @@ pub use Rattle.codec.specs.Texts.{HasPieces, IsPieces}
 pub use Rattle.codec.specs.declared.Span.{Span}
 pub use Rattle.forward.specs.Filter.{FilterAsks, FilterFlushes, FilterPasses, FilterRules, IsLawful}
 pub use Rattle.forward.specs.Forward.{ForwardAnswers, NoneFailed, StopsBy}
-pub use Rattle.forward.specs.Streams.{FewFaults}
+pub use Rattle.forward.specs.Prompt.{RunsPromptly}
+pub use Rattle.forward.specs.Streams.{WriteGaveUp}
 pub use Rattle.forward.specs.Target.{failure_count}
 pub use Rattle.forward.specs.declared.error.Stopped.{Stopped}
 pub use Rattle.frame_reader.specs.Framed.{SplitsIntoFrames, framed}
@@ -18,8 +19,7 @@ pub use Rattle.frame_reader.specs.Frames.{Fits, IsCutShort, frame, frames, heade
 pub use Rattle.frames.specs.declared.error.RunError.{RunError}
 pub use Rattle.line_reader.specs.LineReader.{LineState, lined}
 pub use Rattle.line_reader.specs.Lines.{FitsLine, HasLines, IsLine, newline, with_newline, with_newlines}
-pub use Rattle.programs.specs.Prompt.{HoldsNothingBack}
-pub use Rattle.programs.specs.Streams.{AllSent, EndsOnce, GaveNothing, MetNoFault, OverCount, ReadFailed, ReceivedFlushed, RefusedBeforeCalls, WriterFailed}
+pub use Rattle.programs.specs.Streams.{AllSent, GaveNothing, MetNoFault, OverCount, ReadFailed, ReceivedFlushed, RefusedBeforeCalls}
 pub use Rattle.std.specs.IoError.{error_kind}
 pub use Rattle.std.specs.List.{All}
 pub use Rattle.std.specs.declared.io.Error.{Error}

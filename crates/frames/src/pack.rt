@@ -44,7 +44,7 @@ pub fn pack<R: TellRead, W: TellWrite>(
     (answer, source.into_inner(), writer)
 }
 
-// Makes all lines frames, and flushes them, also those before one that is too long. Both streams come back.
+// Makes all lines frames, and flushes them, also those before one that is too long. Both streams come back, and no buffer grew.
 fn pack_all<R: TellRead, W: TellWrite>(
     source: LineReader<R>,
     target: FrameWriter<W>,
@@ -55,7 +55,9 @@ fn pack_all<R: TellRead, W: TellWrite>(
     requires open { source.skipping ≡ false }
     requires nothing { source.pieces.reader.block.bytes ≡ [] }
     requires empty { unsent target ≡ [] }
-    ensures { Packs source.pieces.decoder.max source.pieces.reader.log result.1.pieces.reader.log target.writer.log
+    ensures read_room { result.1.pieces.reader.block.capacity ≡ source.pieces.reader.block.capacity }
+    ensures write_room { result.2.writer.block.capacity ≡ target.writer.block.capacity }
+    ensures packs { Packs source.pieces.decoder.max source.pieces.reader.log result.1.pieces.reader.log target.writer.log
         result.2.writer.log result.0 }
 {
     let mut link = Link::new(Packing {

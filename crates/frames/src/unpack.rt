@@ -44,7 +44,7 @@ pub fn unpack<R: TellRead, W: TellWrite>(
     (answer, source.into_inner(), writer)
 }
 
-// Prints all payloads, and flushes them, also those before bytes that are no frame. Both streams come back.
+// Prints all payloads, and flushes them, also those before bytes that are no frame. Both streams come back, and no buffer grew.
 fn unpack_all<R: TellRead, W: TellWrite>(
     source: FrameReader<R>,
     target: BufWriter<W>,
@@ -53,7 +53,9 @@ fn unpack_all<R: TellRead, W: TellWrite>(
     requires reads { ReadsFrames source }
     requires nothing { source.reader.block.bytes ≡ [] }
     requires empty { target.block.bytes ≡ [] }
-    ensures { Unpacks source.decoder.max source.reader.log result.1.reader.log target.log result.2.log result.0 }
+    ensures read_room { result.1.reader.block.capacity ≡ source.reader.block.capacity }
+    ensures write_room { result.2.block.capacity ≡ target.block.capacity }
+    ensures unpacks { Unpacks source.decoder.max source.reader.log result.1.reader.log target.log result.2.log result.0 }
 {
     let mut link = Link::new(Unpacking {
         source,

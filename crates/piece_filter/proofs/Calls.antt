@@ -6,7 +6,6 @@ use Rattle.buffer_redux.specs.BufWriter.{WasFlushed}
 use Rattle.buffer_redux.specs.Faults.{MetInterrupts-none}
 use Rattle.buffer_redux.specs.StreamLog.{StreamLog}
 use Rattle.buffer_redux.specs.Buffered.{Buffered}
-use Rattle.buffer_redux.specs.WriterLaws.{WritesInOrder-none}
 use Rattle.buffer_redux.specs.declared.policy.StdPolicy.{StdPolicy}
 use Rattle.piece_reader.specs.Decoding.{IsLent, bytes_at}
 use Rattle.piece_reader.specs.Grammar.{Begins, Grammar}
@@ -23,7 +22,7 @@ use Rattle.piece_filter.specs.Answering.{AnswersOne, IsWrongPiece, answering}
 use Rattle.piece_filter.specs.AnsweringLaws.{answering_lawful}
 use Rattle.piece_filter.specs.Pieces.{IsReady, Keeps, Piecewise, held_at, piece_rules}
 use Rattle.piece_filter.specs.PiecesCalls as pieces
-use Rattle.piece_filter.specs.PiecesLaws.{takes_nothing}
+use Rattle.piece_filter.specs.PiecesLaws.{takes_none}
 use Rattle.piece_filter.specs.declared.answering.Answering.{Answering}
 
 module _ {R D X A W N : Type 0} (remaining : R → Option (List ℕ)) (grammar : D → Grammar X)
@@ -47,7 +46,8 @@ module _ {R D X A W N : Type 0} (remaining : R → Option (List ℕ)) (grammar :
     passes (reply, is, some, puts) =
         pieces.answered remaining f ready (answered false) payload reply
         (pieces.took_held remaining f ready (answered false) refl (λ sent. absurd (true≢false (sym sent))) span held refl)
-        is puts.takes (omega arith) some puts.kept puts.grown
+        is puts.takes (omega arith) some (λ fits. elim fits [ inl small ↦ puts.kept small | inr fixed ↦ absurd (fixed tt) ])
+        puts.grown
 
     pub drops : AnswersOne Answers s.service payload s.target (Ok false) b v → FilterPasses rules s (Ok true) (answered s.sent)
     drops (is, same) =
@@ -83,6 +83,7 @@ module _ {R D X A W N : Type 0} (remaining : R → Option (List ℕ)) (grammar :
           reply = moves.takes.reply;
           answers = moves.takes.answers;
           in_order = moves.takes.in_order;
+          room = moves.takes.room;
         };
       }
 
@@ -167,7 +168,7 @@ module _ {R D X A W N : Type 0} (remaining : R → Option (List ℕ)) (grammar :
     quiet = λ drops sent. refl;
     moves = record {
       hands = (answering_lawful grammar Answers remaining).hands_none s;
-      takes = takes_nothing remaining f s s refl (WritesInOrder-none s.target);
+      takes = takes_none remaining f s;
     };
     lacks = λ lacks. lacks;
     sent = (sent, ready.also sent);

@@ -58,6 +58,7 @@ answering grammar Answers = record {
   due = λ d. IsDue (grammar d) Answers;
   wrong = λ s why t. IsWrongPiece (grammar t.source.decoder) s.source why t.source;
   drops = Unit {0};
+  grows = Unit {0};
   sent = λ s. (s.sent ≡ true) × AllSent s.target;
   refused = HoldsRefused Answers;
   loses = 0;

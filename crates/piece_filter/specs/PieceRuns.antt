@@ -1,37 +1,54 @@
 -- What a whole run over pieces comes to.
-use Rattle.std.proofs.Common.{◌≡◌, ℕ, ◌⊎◌, inl, inr, List, [], ◌++◌, Option, None, refl, sym, ap, subst, ◌∙◌, append-nil, append_assoc}
+use Rattle.std.proofs.Common.{◌≡◌, ℕ, ◌⊎◌, inl, inr, List, [], ◌++◌, Option, None, Result, refl, sym, ap, subst, ◌∙◌, append-nil, append_assoc}
 use Rattle.buffer_redux.specs.BufReader.{RanDry}
-use Rattle.buffer_redux.specs.StreamLog.{StreamLog}
 use Rattle.buffer_redux.specs.WriterLaws.{WritesInOrder-fresh}
 use Rattle.piece_reader.specs.PieceReader.{rest}
 use Rattle.piece_reader.specs.PiecesWentLaws.{drop_none}
 use Rattle.forward.specs.Filter.{FilterRules, Moves}
-use Rattle.forward.specs.Forward.{Forwarded, ForwardedFirst}
-use Rattle.forward.specs.ForwardLaws.{CountsAsks}
-use Rattle.forward.specs.Prompt.{HoldsNothingBack}
-use Rattle.forward.specs.PromptLaws.{HoldsNothingBack-such}
+use Rattle.forward.specs.Forward.{Forwarded, ForwardedFirst, Forwards}
+use Rattle.forward.specs.ForwardLaws.{CountsAsks, Forwards-moves, Forwards-runs}
+use Rattle.forward.specs.Link.{Linked}
+use Rattle.forward.specs.Prompt.{RunsPromptly}
+use Rattle.forward.specs.PromptLaws.{RunsPromptly-such}
+use Rattle.forward.specs.Target.{failure_count}
+use Rattle.forward.specs.declared.error.Stopped.{Stopped}
 use Rattle.programs.specs.Streams.{AllSent}
 use Rattle.piece_filter.specs.Pieces.{AnswersAll, HasEnded, IsText, Piecewise, grammar_of, held_of, piece_rules}
 use Rattle.piece_filter.specs.PiecesLaws.{given_since, none_held}
 
 -- the stream is asked, or its log stays
-pub counts_asks : {T R D X A W E : Type 0} (remaining : R → Option (List ℕ)) (f : Piecewise T R D X A W E)
+counts_asks : {T R D X A W E : Type 0} (remaining : R → Option (List ℕ)) (f : Piecewise T R D X A W E)
     → CountsAsks (piece_rules remaining f)
 counts_asks remaining f s t (inl same, grows) = inl same
 counts_asks remaining f s t (inr over, grows) = inr over.1.some
+
+-- where nothing is buffered, what is due is that of what is given
+pub runs_unread : {T R D X A W E : Type 0} (remaining : R → Option (List ℕ)) (f : Piecewise T R D X A W E) (s t : Linked T)
+    (answer : Result ℕ (Stopped E)) → (f.source s.filter).reader.block.bytes ≡ [] → Forwards (piece_rules remaining f) s answer t
+    → RunsPromptly (f.due (f.source s.filter).decoder (f.service s.filter)) (failure_count answer) 2
+    (f.source s.filter).reader.log (f.source t.filter).reader.log (f.target s.filter).log (f.target t.filter).log
+runs_unread remaining f s t answer unread over =
+    let rules = piece_rules remaining f in
+    let m = f.source s.filter in
+    let due = f.due m.decoder (f.service s.filter) in
+    RunsPromptly-such (rules.due s.filter) due
+    (λ bytes are is. subst (λ left. due (left ++ bytes) are) (drop_none m.handed m.reader.block.bytes unread) is)
+    (Forwards-runs rules s t answer (counts_asks remaining f) over)
+
+-- neither buffer grew, where none may
+pub rooms_kept : {T R D X A W E : Type 0} (remaining : R → Option (List ℕ)) (f : Piecewise T R D X A W E) → ¬ f.grows
+    → (s t : Linked T) (answer : Result ℕ (Stopped E)) → Forwards (piece_rules remaining f) s answer t
+    → ((f.source t.filter).reader.block.capacity ≡ (f.source s.filter).reader.block.capacity)
+    × ((f.target t.filter).block.capacity ≡ (f.target s.filter).block.capacity)
+rooms_kept remaining f fixed s t answer over =
+    let (handed, taken, moves) = Forwards-moves (piece_rules remaining f) s t answer over in
+    (moves.hands.went.capacity, moves.takes.room fixed)
 
 -- from empty buffers on
 module _ {T R D X A W E : Type 0} (remaining : R → Option (List ℕ)) (f : Piecewise T R D X A W E) (s t : T)
     (fresh : (piece_rules remaining f).fresh s) (unread : (f.source s).reader.block.bytes ≡ []) where
   abbrev rules : FilterRules T E
   rules = piece_rules remaining f
-
-  -- what is due then is that of what is given
-  pub holds_unread : (a b k l : StreamLog) → HoldsNothingBack (rules.due s) a b k l
-      → HoldsNothingBack (f.due (f.source s).decoder (f.service s)) a b k l
-  holds_unread a b k l = HoldsNothingBack-such (rules.due s) (f.due (f.source s).decoder (f.service s)) a b k l
-      (λ bytes due is. subst (λ left. f.due (f.source s).decoder (f.service s) (left ++ bytes) due)
-      (drop_none (f.source s).handed (f.source s).reader.block.bytes unread) is)
 
   -- these payloads were handed out, and what becomes of those was taken in
   pub record Over (handed taken : List (List ℕ)) : Type 0 where

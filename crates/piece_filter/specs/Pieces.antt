@@ -33,9 +33,10 @@ pub record Piecewise (T R D X A W E : Type 0) : Type 1 where
   pub due : D → A → List ℕ → List ℕ → Type 0
   -- what comes next is no piece
   pub wrong : T → E → T → Type 0
-  -- nothing may be written for a payload; all that was is known to be sent; why else a payload was refused; and how many may be
-  -- lost where one wasn't written
+  -- nothing may be written for a payload; or more than the writer's buffer takes, which grows then; all that was is known to be
+  -- sent; why else a payload was refused; and how many may be lost where one wasn't written
   pub drops : Type 0
+  pub grows : Type 0
   pub sent : T → Type 0
   pub refused : Error → T → Type 0
   pub loses : ℕ
@@ -98,11 +99,12 @@ module _ {T R D X A W E : Type 0} (f : Piecewise T R D X A W E) where
         → IsOpen (f.grammar d) left → AnswersAll f.answers a p reply b → f.due d a (bytes ++ left) reply
     pub all_sent : (s : T) → f.sent s → AllSent (f.target s)
 
-  -- what becomes of these payloads was taken in
+  -- what becomes of these payloads was taken in, by the buffer as it was unless it may grow
   pub record TakesReplies (s : T) (payloads : List (List ℕ)) (t : T) : Type 0 where
     pub reply : List ℕ
     pub answers : AnswersAll f.answers (f.service s) payloads reply (f.service t)
     pub in_order : WritesInOrder (f.target s) reply (f.target t)
+    pub room : ¬ f.grows → (f.target t).block.capacity ≡ (f.target s).block.capacity
 
   -- what writes, and what answers, were let be
   pub record Keeps (s t : T) : Type 0 where
@@ -140,7 +142,6 @@ module _ {T R D X A W E : Type 0} (remaining : R → Option (List ℕ)) (f : Pie
     lacks = λ s. (f.held s ≡ None) × ¬ (Begins (grammar_of f s) (rest (f.source s)));
     waits = λ s.
         (f.held s ≡ None) × IsOpen (grammar_of f s) (rest (f.source s)) × ((f.source s).ended ≡ false);
-    finds = λ s. ⊥;
     sent = f.sent;
     spare = 0;
     rounds = λ s. by_kind (f.target s).block.kind 0 4095;

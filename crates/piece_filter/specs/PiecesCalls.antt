@@ -24,7 +24,7 @@ use Rattle.programs.specs.Streams.{AllSent}
 use Rattle.programs.specs.TakenIn.{TakesAll, taken_more, target_of}
 use Rattle.programs.specs.TargetLaws.{TakesAll-not_passed, TakesAll-passed, WasFlushed-sent, WasFlushed-writes, nothing_passed}
 use Rattle.piece_filter.specs.Pieces.{CanShow, HandsPieces, HasEnded, IsReady, Keeps, Piecewise, TakesReplies, grammar_of, held_at, held_of, piece_rules}
-use Rattle.piece_filter.specs.PiecesLaws.{answers_one, gave_but_failed, hands_nothing, hands_one, none_held, open_piece, still_seen, takes_nothing}
+use Rattle.piece_filter.specs.PiecesLaws.{answers_one, gave_but_failed, hands_nothing, hands_one, none_held, open_piece, still_seen, takes_none, takes_nothing}
 
 -- there is no place
 pub not_held : (h : Option Span) → ((span : Span) → ¬ (h ≡ Some span)) → h ≡ None
@@ -124,11 +124,11 @@ module _ {T R D X A W E : Type 0} (remaining : R → Option (List ℕ)) (f : Pie
 
   -- a payload was answered by these bytes; or it was dropped; or that failed
   passed : (payload reply : List ℕ) → Took (payload ∷ []) → f.answers (f.service s) payload reply (f.service t)
-      → WritesInOrder (f.target s) reply (f.target t)
+      → WritesInOrder (f.target s) reply (f.target t) → (¬ f.grows → (f.target t).block.capacity ≡ (f.target s).block.capacity)
       → PassWrites 0 (rules.rounds s) (λ e. f.refused e t) (rules.target s) (Ok true) (rules.target t)
       → (bytes_taken (rules.target s) < bytes_taken (rules.target t)) ⊎ (f.drops × (f.sent s → f.sent t))
       → FilterPasses rules s (Ok true) t
-  passed payload reply took is taken wrote some = record {
+  passed payload reply took is taken room wrote some = record {
     told = took.told;
     ready = took.leaves;
     closed = took.closed;
@@ -141,6 +141,7 @@ module _ {T R D X A W E : Type 0} (remaining : R → Option (List ℕ)) (f : Pie
           reply = reply;
           answers = answers_one f.answers (f.service s) (f.service t) payload reply is;
           in_order = taken;
+          room = room;
         };
       },
       some,
@@ -150,17 +151,18 @@ module _ {T R D X A W E : Type 0} (remaining : R → Option (List ℕ)) (f : Pie
   pub answered : {Refused : Error → Type 0} {need : ℕ} (payload reply : List ℕ) → Took (payload ∷ [])
       → f.answers (f.service s) payload reply (f.service t)
       → TakesAll need Refused (f.target s) reply (Ok tt) (f.target t) → need ≤ length reply → 0 < length reply
-      → (length reply ≤ (f.target s).block.capacity → (f.target t).block.capacity ≡ (f.target s).block.capacity)
+      → ((length reply ≤ (f.target s).block.capacity) ⊎ (¬ f.grows) → (f.target t).block.capacity ≡ (f.target s).block.capacity)
       → (f.target t).block.capacity ≤ (f.target s).block.capacity + length reply + rules.rounds s
       → FilterPasses rules s (Ok true) t
-  answered payload reply took is takes near some kept grown = passed payload reply took is takes.taken
-      (TakesAll-passed (f.target s) (f.target t) 0 (rules.rounds s) takes (omega (arith, near)) some kept grown)
+  answered payload reply took is takes near some kept grown = passed payload reply took is takes.taken (λ fixed. kept (inr fixed))
+      (TakesAll-passed (f.target s) (f.target t) 0 (rules.rounds s) takes (omega (arith, near)) some (λ small. kept (inl small))
+      grown)
       (inl (omega (arith, some, taken_more (f.target s) (f.target t) reply takes.taken)))
 
   pub dropped : (payload : List ℕ) → Took (payload ∷ []) → f.answers (f.service s) payload [] (f.service t)
       → f.target t ≡ f.target s → f.drops → (f.sent s → f.sent t) → FilterPasses rules s (Ok true) t
   dropped payload took is same drops sent = passed payload [] took is
-      (subst (WritesInOrder (f.target s) []) (sym same) (WritesInOrder-none (f.target s)))
+      (subst (WritesInOrder (f.target s) []) (sym same) (WritesInOrder-none (f.target s))) (λ _. ap (λ u. u.block.capacity) same)
       (nothing_passed (f.target s) (f.target t) 0 (rules.rounds s) (λ e. f.refused e t) true same) (inr (drops, sent))
 
   pub lost : {Refused : Error → Type 0} {need : ℕ} {bytes : List ℕ} (p : List (List ℕ)) → length p ≤ f.loses → Took p
@@ -171,7 +173,7 @@ module _ {T R D X A W E : Type 0} (remaining : R → Option (List ℕ)) (f : Pie
     ready = took.leaves;
     closed = took.closed;
     wrote = TakesAll-not_passed (f.target s) (f.target t) 0 (rules.rounds s) takes kept so;
-    answers = (p, record { hands = took.hands; takes = takes_nothing remaining f s t same takes.taken }, few);
+    answers = (p, record { hands = took.hands; takes = takes_nothing remaining f s t same takes.taken kept }, few);
   }
 
   -- all was flushed, or not
@@ -190,7 +192,7 @@ module _ {T R D X A W E : Type 0} (remaining : R → Option (List ℕ)) (f : Pie
       wrote = WasFlushed-writes (f.target s) (f.target t) w;
       steps = inr w.steps;
       quiet = λ drops sent. absurd (unsent drops sent);
-      moves = record { hands = took.hands; takes = takes_nothing remaining f s t same w.in_order };
+      moves = record { hands = took.hands; takes = takes_nothing remaining f s t same w.in_order w.capacity };
       lacks = λ lacks. (held ∙ lacks.0, subst (λ m. ¬ (Begins (f.grammar m.decoder) (rest m))) (sym still) lacks.1);
       sent = sends (WasFlushed-sent (f.target s) (f.target t) answer w);
     }
@@ -202,7 +204,7 @@ module _ {T R D X A W E : Type 0} (remaining : R → Option (List ℕ)) (f : Pie
 
     taken : TakesReplies f s [] t
     taken = takes_nothing remaining f s t keeps.service
-        (subst (WritesInOrder (f.target s) []) (sym same) (WritesInOrder-none (f.target s)))
+        (subst (WritesInOrder (f.target s) []) (sym same) (WritesInOrder-none (f.target s))) (ap (λ u. u.block.capacity) same)
 
     -- none was there
     pub none_passed : f.held t ≡ None → StaysLeft (grammar_of f s) (f.source s) (f.source t)
@@ -300,7 +302,7 @@ module _ {T R D X A W E : Type 0} (remaining : R → Option (List ℕ)) (f : Pie
               })
               | inr last ↦ inr last.4
             ],
-            λ none. more_asked no_piece payload next,
+            more_asked no_piece payload next,
           )
 
       -- no payload came
@@ -386,7 +388,7 @@ asked_ended remaining f {s} ready lacks ended = record {
   ready = ready;
   moves = record {
     hands = (took_none remaining f ready s refl ready.also refl).hands;
-    takes = takes_nothing remaining f s s refl (WritesInOrder-none (f.target s));
+    takes = takes_none remaining f s;
   };
   sent = λ sent. sent;
   asks = (inl refl, ReadLogGrows-none (f.source s).reader.log.reads);

@@ -219,17 +219,19 @@ module _ {T R D X A W E : Type 0} (remaining : R → Option (List ℕ)) (f : Pie
     }
 
   -- nothing was taken in
-  pub takes_nothing : (s t : T) → f.service t ≡ f.service s → WritesInOrder (f.target s) [] (f.target t) → TakesReplies f s [] t
-  takes_nothing s t same order = record { reply = []; answers = (refl, same); in_order = order }
+  pub takes_nothing : (s t : T) → f.service t ≡ f.service s → WritesInOrder (f.target s) [] (f.target t)
+      → (f.target t).block.capacity ≡ (f.target s).block.capacity → TakesReplies f s [] t
+  takes_nothing s t same order room = record { reply = []; answers = (refl, same); in_order = order; room = λ fixed. room }
 
-  takes_none : (s : T) → TakesReplies f s [] s
-  takes_none s = takes_nothing s s refl (WritesInOrder-none (f.target s))
+  pub takes_none : (s : T) → TakesReplies f s [] s
+  takes_none s = takes_nothing s s refl (WritesInOrder-none (f.target s)) refl
 
   takes_joins : (a b c : T) (p q : List (List ℕ)) → TakesReplies f a p b → TakesReplies f b q c → TakesReplies f a (p ++ q) c
   takes_joins a b c p q h k = record {
     reply = h.reply ++ k.reply;
     answers = answers_join f.answers (f.service a) (f.service b) (f.service c) p q h.reply k.reply h.answers k.answers;
     in_order = WritesInOrder-joins (f.target a) (f.target b) (f.target c) h.reply k.reply h.in_order k.in_order;
+    room = λ fixed. k.room fixed ∙ h.room fixed;
   }
 
   module _ (sound : IsCoherent f) where

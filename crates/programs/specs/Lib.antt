@@ -1,9 +1,5 @@
 pub mod Ending
-pub mod Flushes
-pub mod Prompt
-pub mod PromptLaws
 pub mod Streams
-pub mod StreamsLaws
 pub mod TakenIn
 pub mod TargetLaws
 pub mod Words

@@ -7,8 +7,8 @@ use Rattle.buffer_redux.specs.Buffered.{Buffered}
 use Rattle.buffer_redux.specs.GoesOn.{GoesOn, GoesOn-none}
 use Rattle.buffer_redux.specs.Transfer.{Sends}
 use Rattle.buffer_redux.specs.WriterLaws.{WritesInOrder-fresh}
+use Rattle.forward.specs.Prompt.{WasDelivered}
 use Rattle.forward.specs.Target.{TargetState, bytes_taken}
-use Rattle.programs.specs.Prompt.{WasDelivered}
 use Rattle.programs.specs.Streams.{AllSent}
 
 -- what a filter sees of it

@@ -3,21 +3,23 @@ use Rattle.std.proofs.Common.{◌≡◌, inl, inr, ℕ, ◌+◌, ◌<◌, ◌≤
 use Rattle.std.proofs.lemmas.Bool.{cases_lt, true≢false}
 use Rattle.std.specs.declared.io.Error.{Error}
 use Rattle.buffer_redux.specs.Block.{Block}
-use Rattle.buffer_redux.specs.BufWriter.{WasFlushed, WasSent}
+use Rattle.buffer_redux.specs.BufWriter.{WasFlushed, WasSent, WritesInOrder}
 use Rattle.buffer_redux.specs.Buffered.{Buffered}
 use Rattle.buffer_redux.specs.Faults.{IsInterrupt, MetInterrupts, MetInterrupts-none, SendFailed, SendErrorCaused}
 use Rattle.buffer_redux.specs.StreamLog.{StreamLog, WriteLog, after_flush, with_fault}
 use Rattle.buffer_redux.specs.Transfer.{Sends}
+use Rattle.forward.specs.Prompt.{WritesOn}
+use Rattle.forward.specs.PromptLaws.{WritesOn-grows, WritesOn-none}
 use Rattle.forward.specs.Streams.{FaultsOften, FewFaults}
 use Rattle.forward.specs.Target.{FlushWrites, FlushesOnce, InterruptedLast, PassFailed, PassWrites, failure_count}
-use Rattle.programs.specs.PromptLaws.{WritesOn-grows, WritesOn-none, WritesOn-unflushed}
 use Rattle.programs.specs.Streams.{AllSent}
 use Rattle.programs.specs.TakenIn.{TakesAll, taken_more, target_of}
 
--- an answer that took some in is one of a payload
-abbrev pub passed : Result (Unit {0}) Error → Result Bool Error
-passed (Ok _) = Ok true
-passed (Err e) = Err e
+-- what was received goes on, and nothing was flushed
+pub WritesOn-unflushed : {S P : Type 0} (s t : Buffered S P) (accepted : List ℕ) → WritesInOrder s accepted t
+    → t.log.writes.flushed ≡ s.log.writes.flushed → WritesOn s.log.writes t.log.writes
+WritesOn-unflushed s t accepted taken same =
+    record { received = record { more = taken.sent; equal = taken.received }; flushed = inl same }
 
 -- a failure adds as many faults as were interrupted, and itself at most; and `Interrupted` is itself one more
 failed_few : (interrupts : List Error) (old new : WriteLog) (e : Error) → SendFailed interrupts old new e

@@ -18,4 +18,4 @@ returns g c =
       ← c.in-Ok-buffered.ensures.read,
       ← c.in-Ok-buffered.ensures.written,
     )
-    (decode_says _ c.decode_all-answer.ensures)
+    (decode_says _ c.decode_all-answer.ensures.decodes)

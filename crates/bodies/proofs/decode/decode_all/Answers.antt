@@ -1,13 +1,14 @@
 -- From empty buffers on, what `forward` says of payloads is what the two logs say of the body and its payload.
-use Rattle.std.proofs.Common.{◌≡◌, ◌∙◌, ap, arith, subst, sym}
+use Rattle.std.proofs.Common.{◌≡◌, ◌∙◌, ap, arith, inl, inr, subst, sym}
 use Rattle.body_reader.specs.BodyReaderLaws.{begun-is}
 use Rattle.chunked.specs.Coding.{chunked}
 use Rattle.chunked.specs.CodingLaws.{chunked_lawful}
 use Rattle.forward.specs.Forward.{ForwardAnswers}
-use Rattle.forward.specs.ForwardLaws.{Forwards-few, Goes-holds}
+use Rattle.forward.specs.ForwardLaws.{Forwards-moves, Forwards-runs}
 use Rattle.forward.specs.Target.{failure_count}
 use Rattle.bodies.specs.Decode.{DecodeRan}
 use Rattle.bodies.specs.Decoding.{decoding_rules}
+use Rattle.bodies.specs.DecodingLaws.{counts_asks, std_leaves}
 use Rattle.bodies.proofs.DecodeRuns.{ended, start, stopped}
 use Rattle.bodies.proofs.decode.decode_all.Goals.{in-Ok, in-Err}
 use Rattle.bodies.proofs.decode.decode_all.Goals as goal
@@ -36,17 +37,20 @@ returns g c =
       | in-Ok w ↦ ap (λ x. failure_count x) w.in-Ok.is ∙ sym (ap (λ x. failure_count x) w.answer-is)
       | in-Err w ↦ ap (λ x. failure_count x) w.in-Err.is ∙ sym (ap (λ x. failure_count x) w.answer-is)
     ] in
+    let moves = Forwards-moves rules _ c.forward-answer.new.link c.forward-answer.result over in
     rw (c.into_inner_torn.ensures, c.into_inner-body.ensures) (record {
-      ran = elim c.match-answer.branch [
-        | in-Ok w ↦ subst (DecodeRan a.limits a.source.log t.source.reader.log a.target.log t.target.log) (sym w.answer-is)
-            (ended remaining a.limits a.source a.target a.piece c.requires.source c.requires.empty t over.ready _
-            (subst (λ x. ForwardAnswers rules first x t) w.in-Ok.is over.answers))
-        | in-Err w ↦ subst (DecodeRan a.limits a.source.log t.source.reader.log a.target.log t.target.log) (sym w.answer-is)
-            (stopped remaining a.limits a.source a.target a.piece c.requires.source c.requires.empty t over.ready _ _ _
-            (subst (λ x. ForwardAnswers rules first x t) w.in-Err.is over.answers) w.error_of.ensures)
-      ];
-      prompt = Goes-holds rules _ c.forward-answer.new.link over.goes;
-      once = over.once;
-      few = omega (arith, Forwards-few rules _ c.forward-answer.new.link c.forward-answer.result over, failed);
-      flushes = over.flushes;
+      read_room = (moves.2.hands.went.keeps.room std_leaves).0;
+      write_room = moves.2.takes.room;
+      decodes = record {
+        ran = elim c.match-answer.branch [
+          | in-Ok w ↦ subst (DecodeRan a.limits a.source.log t.source.reader.log a.target.log t.target.log) (sym w.answer-is)
+              (ended remaining a.limits a.source a.target a.piece c.requires.source c.requires.empty t over.ready _
+              (subst (λ x. ForwardAnswers rules first x t) w.in-Ok.is over.answers))
+          | in-Err w ↦ subst (DecodeRan a.limits a.source.log t.source.reader.log a.target.log t.target.log) (sym w.answer-is)
+              (stopped remaining a.limits a.source a.target a.piece c.requires.source c.requires.empty t over.ready _ _ _
+              (subst (λ x. ForwardAnswers rules first x t) w.in-Err.is over.answers) w.error_of.ensures)
+        ];
+        promptly = rw failed
+            at (Forwards-runs rules _ c.forward-answer.new.link c.forward-answer.result (counts_asks remaining) over);
+      };
     })

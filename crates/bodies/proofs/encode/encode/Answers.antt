@@ -13,4 +13,4 @@ returns g c =
       ← c.in-Ok.ensures.read,
       ← c.in-Ok.ensures.written,
     )
-    (encode_says _ c.encode_all-answer.ensures)
+    (encode_says _ c.encode_all-answer.ensures.encodes)

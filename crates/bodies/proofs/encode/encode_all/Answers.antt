@@ -1,7 +1,7 @@
 -- From empty buffers on, what `forward` says of payloads holds of chunks; where all went over the body's end follows.
-use Rattle.std.proofs.Common.{refl, arith}
-use Rattle.forward.specs.ForwardLaws.{Goes-holds, Goes-per_ask, one_flush}
-use Rattle.programs.specs.PromptLaws.{HoldsNothingBack-on}
+use Rattle.std.proofs.Common.{refl, arith, ◌∙◌}
+use Rattle.forward.specs.ForwardLaws.{Forwards-moves, Goes-holds, Goes-per_ask, one_flush}
+use Rattle.forward.specs.PromptLaws.{HoldsNothingBack-on}
 use Rattle.bodies.specs.Encode.{IsDue}
 use Rattle.bodies.specs.Encoding.{encoding_rules}
 use Rattle.bodies.proofs.EncodeRuns.{ended, stopped}
@@ -13,31 +13,46 @@ returns-in-Ok g c =
     let t = c.forward-answer.new.link in
     let over = rw (c.new-link.ensures, c.new.ensures.begun) at c.in-Ok.ensures.forwards in
     let answers = over.answers in
+    let moves = answers.0.moves in
     let end = rw c.into_inner-source.ensures at c.end-answer.ensures in
     let before = Goes-per_ask rules _ t over.goes (λ s t asked. asked.1) in
     rw c.into_inner-source.ensures (record {
-      ran = ended g.R.TellRead.remaining g.W.TellWrite.trace c.args.source c.args.target c.requires.source.bytes
-          c.requires.target.bytes t.filter _ answers.0 answers.1.0 answers.3 c.end-answer.result.1 answers.1.1
-          c.end-answer.result.0 end;
-      prompt = HoldsNothingBack-on IsDue c.args.source.log _ _ c.args.target.log _ _ (Goes-holds rules _ t over.goes)
-          refl end.writes;
-      once = over.once;
-      few = omega (arith, over.goes.few, end.few);
-      flushes = omega (arith, over.flushes, end.flushes);
-      per_ask = omega (arith, before, end.once);
+      read_room = moves.hands.room;
+      write_room = end.room ∙ moves.takes.went.capacity;
+      encodes = record {
+        ran = ended g.R.TellRead.remaining g.W.TellWrite.trace c.args.source c.args.target c.requires.source.bytes
+            c.requires.target.bytes t.filter _ answers.0 answers.1.0 answers.3 c.end-answer.result.1 answers.1.1
+            c.end-answer.result.0 end;
+        promptly = record {
+          prompt = HoldsNothingBack-on IsDue c.args.source.log _ _ c.args.target.log _ _ (Goes-holds rules _ t over.goes)
+              refl end.writes;
+          once = over.once;
+          few = omega (arith, over.goes.few, end.few);
+          flushes = omega (arith, over.flushes, end.flushes);
+          per_ask = omega (arith, before, end.once);
+        };
+      };
     })
 
 pub returns-in-Err : goal.returns-in-Err
 returns-in-Err g c =
     let rules = encoding_rules g.R.TellRead.remaining g.W.TellWrite.trace in
+    let t = c.forward-answer.new.link in
     let over = rw (c.new-link.ensures, c.new.ensures.begun) at c.in-Err.ensures.forwards in
-    let before = Goes-per_ask rules _ c.forward-answer.new.link over.goes (λ s t asked. asked.1) in
+    let moves = (Forwards-moves rules _ t _ over).2 in
+    let before = Goes-per_ask rules _ t over.goes (λ s t asked. asked.1) in
     rw (c.into_inner.ensures, c.into_inner-source.ensures) (record {
-      ran = stopped g.R.TellRead.remaining g.W.TellWrite.trace c.args.source c.args.target c.requires.source.bytes
-          c.requires.target.bytes c.forward-answer.new.link.filter _ _ _ over.answers c.error_of.ensures;
-      prompt = Goes-holds rules _ c.forward-answer.new.link over.goes;
-      once = over.once;
-      few = omega (arith, over.goes.few, one_flush c.in-Err.stopped.cause);
-      flushes = over.flushes;
-      per_ask = omega (arith, before, one_flush c.in-Err.stopped.cause);
+      read_room = moves.hands.room;
+      write_room = moves.takes.went.capacity;
+      encodes = record {
+        ran = stopped g.R.TellRead.remaining g.W.TellWrite.trace c.args.source c.args.target c.requires.source.bytes
+            c.requires.target.bytes t.filter _ _ _ over.answers c.error_of.ensures;
+        promptly = record {
+          prompt = Goes-holds rules _ t over.goes;
+          once = over.once;
+          few = omega (arith, over.goes.few, one_flush c.in-Err.stopped.cause);
+          flushes = over.flushes;
+          per_ask = omega (arith, before, one_flush c.in-Err.stopped.cause);
+        };
+      };
     })

@@ -4,7 +4,8 @@ use Rattle.forward.proofs.pump.forward_asked.Goals as goal
 
 pub returns-in-Err : goal.returns-in-Err
 returns-in-Err g c =
-    not_flushed g.F.Filter.rules g.met.F.Filter.lawful c.args.link.now c.flush.new.self c.in-Err.e c.in-Err.ensures.flushes
+    not_flushed g.F.Filter.rules g.met.F.Filter.lawful c.args.link.now c.flush.new.self c.requires.lacks c.in-Err.e
+    c.in-Err.ensures.flushes
 
 pub returns-in-Ok : goal.returns-in-Ok
 returns-in-Ok g c =

@@ -17,7 +17,7 @@ pub returns-in-Ok : goal.returns-in-Ok
 returns-in-Ok g c =
     let len = c.read_payload.auto.out ∙ ap length c.as_mut_slice.ensures.value in
     asked_more g.R.TellRead.remaining c.args.self.now c.requires.ready c.requires.lacks.0 c.read_payload.new.self
-    c.read_payload.new.out len c.in-Ok.count c.in-Ok.ensures.reads (omega (arith, c.in-Ok.count-test))
+    c.read_payload.new.out len c.requires.lacks.1 c.in-Ok.count c.in-Ok.ensures.reads (omega (arith, c.in-Ok.count-test))
 
 pub returns-in-Err : goal.returns-in-Err
 returns-in-Err g c =

@@ -14,10 +14,10 @@ returns-in_err-put_all g c =
     let t = record c.args.self.now { target = c.put_all.new.target } in
     let p = err_from_is_err_and c.from_residual.result c.from_residual.ensures.1 in
     let put = c.in_err-put_all.ensures in
-    let frames = c.requires.also in
     rw (p.1, p.2) (lost g.R.TellRead.remaining unpacking c.requires t [] (omega arith)
     (took_none g.R.TellRead.remaining unpacking c.requires t refl
-    (frames_on c.args.self.now t frames refl frames.told put.kind put.capacity) refl) refl _ put.takes (λ no. no) put.capacity)
+    (frames_on c.args.self.now t c.requires.also refl c.requires.also.told put.kind put.capacity) refl) refl _ put.takes
+    (λ no. no) put.capacity)
 
 pub returns-in-Some : goal.returns-in-Some
 returns-in-Some g c =

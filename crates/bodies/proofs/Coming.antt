@@ -1,0 +1,94 @@
+-- Payload that came where none could be handed out of what was buffered came from the stream.
+use Rattle.std.proofs.Common.{◌≡◌, ℕ, ◌<◌, ◌⊎◌, inl, inr, zero, suc, List, [], ◌∷◌, ◌++◌, length, min, take, Option, Ok, refl, sym, ap, subst, ◌∙◌, arith, append_assoc, length-append, length-drop, length-take-le}
+use Rattle.std.proofs.lemmas.Bool.{cases_lt}
+use Rattle.body_reader.specs.Coding.{IsBody}
+use Rattle.chunked.specs.CodingLaws.{chunked_lawful, follows}
+use Rattle.bodies.specs.Words.{BodyWent, IsBodyReader, ReadsPayload, chunked, std_read_rules}
+use Rattle.bodies.specs.Decoding.{ChunkedState, NoneBuffered}
+
+-- what begins some bytes, and is not empty, begins with the first of them
+begins : (front back later : List ℕ) (byte : ℕ) → front ++ back ≡ byte ∷ later → 0 < length front
+    → (more : List ℕ) × (front ≡ byte ∷ more)
+begins [] back later byte same some = absurd (omega (arith, some))
+begins (first ∷ more) back later byte same some = (more, ap (λ b. b ∷ more) (cc same))
+
+module _ {R : Type 0} (remaining : R → Option (List ℕ)) (s m : ChunkedState R) (is : IsBodyReader (chunked s.coding.0) s)
+    (out : List ℕ) (n : ℕ) (p : ReadsPayload remaining std_read_rules (chunked s.coding.0) s out (Ok n) m) (some : 0 < n) where
+  -- bytes were taken for it
+  taken_some : 0 < length p.went.wire
+  taken_some = elim (cases_lt 0 s.known) [
+    | inl known ↦
+        let gone = p.consumed known some in
+        let order = p.went.along.in_order in
+        omega (
+          arith,
+          some,
+          known,
+          is.known.0,
+          ap (λ b. length b.bytes) gone.told_policy.allowed.1,
+          ap length gone.dropped.bytes,
+          length-drop (min n (length s.reader.block.bytes)) s.reader.block.bytes,
+          ap length order.equal,
+          length-append p.went.wire m.reader.block.bytes,
+          length-append s.reader.block.bytes order.got,
+        )
+    | inr none ↦
+        let knows = p.knows (omega (arith, none)) some in
+        omega (
+          arith,
+          some,
+          length-take-le n out p.answers.0,
+          ap length knows.equal,
+          ap length p.went.taken,
+          length-append s.taken p.went.wire,
+          length-append s.taken (knows.wire ++ take n out),
+          length-append knows.wire (take n out),
+        )
+  ]
+
+  module _ (same : m.reader.log ≡ s.reader.log) where
+    got_none : length p.went.along.in_order.got ≡ 0
+    got_none = omega (
+      arith,
+      ap (λ l. length l.reads.given) same,
+      ap length p.went.along.in_order.given,
+      length-append s.reader.log.reads.given p.went.along.in_order.got,
+    )
+
+    -- some body begins with what was taken
+    onward : (rest : List ℕ) × (payload : List ℕ) × IsBody (chunked s.coding.0) (m.taken ++ rest) payload
+    onward =
+        let (rest, payload, completes) = (chunked_lawful s.coding.0).alive m.place p.whole.place in
+        (rest, _, p.whole.leads.onward rest payload (follows rest) completes)
+
+    none_came : NoneBuffered s → ⊥
+    none_came (inl whole) = omega (
+      arith,
+      taken_some,
+      ap (λ d. length d.taken) (p.idle (inl whole)),
+      ap length p.went.taken,
+      length-append s.taken p.went.wire,
+    )
+    none_came (inr (inl none)) =
+        let order = p.went.along.in_order in
+        omega (
+          arith,
+          taken_some,
+          got_none,
+          ap length none,
+          ap length order.equal,
+          length-append p.went.wire m.reader.block.bytes,
+          length-append s.reader.block.bytes order.got,
+        )
+    none_came (inr (inr (why, breaks))) =
+        let order = p.went.along.in_order in
+        let (more, first) = begins p.went.wire m.reader.block.bytes (breaks.later ++ order.got) breaks.byte
+        (order.equal ∙ ap (λ l. l ++ order.got) breaks.next) taken_some in
+        let (rest, payload, body) = onward in
+        breaks.none (more ++ rest) payload
+        (subst (λ l. IsBody (chunked s.coding.0) l payload)
+        (ap (λ l. l ++ rest) (p.went.taken ∙ ap (λ l. s.taken ++ l) first)
+        ∙ append_assoc s.taken (breaks.byte ∷ more) rest) body)
+
+  pub asked_stream : NoneBuffered s → ¬ (m.reader.log ≡ s.reader.log)
+  asked_stream none same = none_came same none
