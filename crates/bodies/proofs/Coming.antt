@@ -1,9 +1,9 @@
 -- Payload that came where none could be handed out of what was buffered came from the stream.
-use Rattle.std.proofs.Common.{◌≡◌, ℕ, ◌<◌, ◌⊎◌, inl, inr, zero, suc, List, [], ◌∷◌, ◌++◌, length, min, take, Option, Ok, refl, sym, ap, subst, ◌∙◌, arith, append_assoc, length-append, length-drop, length-take-le}
+use Rattle.std.proofs.Common.{◌≡◌, ℕ, ◌<◌, inl, inr, List, [], ◌∷◌, ◌++◌, length, min, take, Option, Ok, ap, subst, ◌∙◌, arith, append_assoc, length-append, length-drop, length-take-le}
 use Rattle.std.proofs.lemmas.Bool.{cases_lt}
 use Rattle.body_reader.specs.Coding.{IsBody}
 use Rattle.chunked.specs.CodingLaws.{chunked_lawful, follows}
-use Rattle.bodies.specs.Words.{BodyWent, IsBodyReader, ReadsPayload, chunked, std_read_rules}
+use Rattle.bodies.specs.Words.{IsBodyReader, ReadsPayload, chunked, std_read_rules}
 use Rattle.bodies.specs.Decoding.{ChunkedState, NoneBuffered}
 
 -- what begins some bytes, and is not empty, begins with the first of them

@@ -12,12 +12,12 @@ use Rattle.buffer_redux.specs.Transfer.{Sends}
 use Rattle.buffer_redux.specs.WritePartsLaws.{PutsIn-told}
 use Rattle.buffer_redux.specs.WriterLaws.{WritesInOrder-then}
 use Rattle.buffer_redux.specs.WritesAlongLaws.{Flushes-once}
-use Rattle.chunked.specs.ChunkedWriter.{LacksPayload, NotFinished, taken_payloads}
+use Rattle.chunked.specs.ChunkedWriter.{Finishes, LacksPayload, NotFinished, taken_payloads}
 use Rattle.chunked.specs.ChunkedWriterLaws.{ChunksWent-none}
 use Rattle.forward.specs.declared.error.AskError.TheVariants.{Io}
 use Rattle.forward.specs.declared.error.AskError.{AskError}
 use Rattle.forward.specs.PromptLaws.{WritesOn-joins}
-use Rattle.programs.specs.TargetLaws.{SendRow, TakesAll-not_passed, TakesAll-passed, WasFlushed-sent, WasFlushed-writes, WritesOn-unflushed, unsent_row}
+use Rattle.programs.specs.TargetLaws.{SendRow, TakesAll-not_passed, TakesAll-passed, TakesAll-row, WasFlushed-sent, WasFlushed-writes, WritesOn-unflushed, unsent_row}
 use Rattle.bodies.specs.Words.{around, AskAnswers, FilterAsks, body_end, Buffered, chunk, ChunkedWriterState, ChunksWent, Error, failure_count, FaultsOften, Fills, FilterRules, FilterFlushes, IsChunkedWriter, IsInterrupt, line_end, MetInterrupts, MetInterrupts-joins, FilterPasses, PutsIn, ReadsAlong, room, RunError, SendErrorCaused-after, SendsFirst, size_digits, std_read_rules, StdPolicy, StreamLog, TakesAll, taken_more, WasFlushed, WritesChunk, WritesInOrder, AllSent, SendErrorCaused}
 use Rattle.bodies.specs.Encode.{EndsBody}
 use Rattle.bodies.specs.Encoding.{encoding_rules, MayEncode}
@@ -34,7 +34,7 @@ wrote_all (Err e) = Err e
 
 module _ {W : Type 0} (tells : W → StreamLog) (trace : W → W → Type 0) where
   -- bytes were taken in where there was room, or behind a send
-  pub takes_put : {u v : Buffered W StdPolicy} {bytes more taken : List ℕ} {n : ℕ} → (n ≤ room u → PutsIn u bytes v)
+  takes_put : {u v : Buffered W StdPolicy} {bytes more taken : List ℕ} {n : ℕ} → (n ≤ room u → PutsIn u bytes v)
       → (room u < n → SendsFirst tells trace u more v) → WritesInOrder u taken v → 0 < n → TakesAll n (λ _. ⊥) u taken (Ok tt) v
   takes_put {u} {v} {bytes} {more} fits full order some = record {
     taken = order;
@@ -75,14 +75,6 @@ module _ {W : Type 0} (tells : W → StreamLog) (trace : W → W → Type 0) whe
       };
     }
 
-  -- behind a send at most the buffer is as large
-  pub put_room : {u v : Buffered W StdPolicy} {bytes more : List ℕ} {n : ℕ} → (n ≤ room u → PutsIn u bytes v)
-      → (room u < n → SendsFirst tells trace u more v) → v.block.capacity ≡ u.block.capacity
-  put_room {u} {n = n} fits full = elim (cases_lt (room u) n) [
-    | inl none ↦ (let first = full none in first.puts.capacity ∙ first.sends.capacity)
-    | inr there ↦ (fits there).capacity
-  ]
-
   -- the end of a body wasn't taken in
   pub ends_not : (b c : ChunkedWriterState W) → b.due ≡ 0 → (e : Error)
       → (LacksPayload b c × (error_kind e ≡ InvalidInput)) ⊎ NotFinished tells trace b [] e c
@@ -112,8 +104,19 @@ module _ {W : Type 0} (tells : W → StreamLog) (trace : W → W → Type 0) whe
       }
 
   -- the end of a body, and a flush
-  module _ (u m v : Buffered W StdPolicy) (taken : WritesInOrder u (body_end []) m) (row : SendRow u m (λ _. ⊥) (Ok tt))
-      (kept : m.block.capacity ≡ u.block.capacity) where
+  module _ (b : ChunkedWriterState W) (m v : Buffered W StdPolicy) (goes : Finishes tells trace b [] m) where
+    abbrev u : Buffered W StdPolicy
+    u = b.writer
+
+    row : SendRow u m (λ _. ⊥) (Ok tt)
+    row = TakesAll-row u m (takes_put goes.fits goes.full goes.in_order (omega arith))
+
+    kept : m.block.capacity ≡ u.block.capacity
+    kept = elim (cases_lt (room u) (length (body_end []))) [
+      | inl none ↦ (let first = goes.full none in first.puts.capacity ∙ first.sends.capacity)
+      | inr there ↦ (goes.fits there).capacity
+    ]
+
     ends : (answer : Result (Unit {0}) Error) → WasFlushed tells trace m answer v → (said : Result (Unit {0}) RunError)
         → failure_count answer ≡ failure_count said
         → MatchResult said (λ _. (body_end [] ≡ body_end []) × AllSent v × MetInterrupts u.log.writes v.log.writes)
@@ -124,10 +127,10 @@ module _ {W : Type 0} (tells : W → StreamLog) (trace : W → W → Type 0) whe
     ends answer f said same_count answers =
         let flush = WasFlushed-writes m v f in
         let writes = WritesOn-joins u.log.writes m.log.writes v.log.writes
-        (WritesOn-unflushed u m (body_end []) taken row.not_flushed) flush.writes in
+        (WritesOn-unflushed u m (body_end []) goes.in_order row.not_flushed) flush.writes in
         record {
           end = body_end [];
-          taken = WritesInOrder-then u m v (body_end []) taken f.in_order;
+          taken = WritesInOrder-then u m v (body_end []) goes.in_order f.in_order;
           answers = answers;
           room = f.capacity ∙ kept;
           writes = writes;
@@ -141,7 +144,7 @@ module _ {W : Type 0} (tells : W → StreamLog) (trace : W → W → Type 0) whe
               ap length writes.received.equal,
               length-append u.log.writes.received writes.received.more,
             )
-            | inr once ↦ omega (arith, once.0, once.1, row.flushes, taken_more u m (body_end []) taken)
+            | inr once ↦ omega (arith, once.0, once.1, row.flushes, taken_more u m (body_end []) goes.in_order)
           ];
         }
 

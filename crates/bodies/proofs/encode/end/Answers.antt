@@ -1,25 +1,16 @@
 -- No payload is due, so the body's end is taken in whole, or nothing is; behind it the flush answers.
-use Rattle.std.proofs.Common.{arith}
-use Rattle.bodies.proofs.EncodingCalls.{ends_badly, ends_not, ends_well, put_room, takes_put}
-use Rattle.programs.specs.TargetLaws.{TakesAll-row}
+use Rattle.bodies.proofs.EncodingCalls.{ends_badly, ends_not, ends_well}
 use Rattle.bodies.proofs.encode.end.Goals as goal
 
 pub returns-in-Ok-flush : goal.returns-in-Ok-flush
 returns-in-Ok-flush g c =
-    let end = c.in-Ok.ensures.finishes in
-    ends_well g.W.Tell.log g.W.TellWrite.trace c.args.body.writer c.in-Ok.target c.flush.new.self end.in_order
-    (TakesAll-row c.args.body.writer c.in-Ok.target
-    (takes_put g.W.Tell.log g.W.TellWrite.trace end.fits end.full end.in_order (omega arith)))
-    (put_room g.W.Tell.log g.W.TellWrite.trace end.fits end.full) c.in-Ok-flush.ensures.flushed
+    ends_well g.W.Tell.log g.W.TellWrite.trace c.args.body c.in-Ok.target c.flush.new.self c.in-Ok.ensures.finishes
+    c.in-Ok-flush.ensures.flushed
 
 pub returns-in-Err-flush : goal.returns-in-Err-flush
 returns-in-Err-flush g c =
-    let end = c.in-Ok.ensures.finishes in
-    ends_badly g.W.Tell.log g.W.TellWrite.trace c.args.body.writer c.in-Ok.target c.flush.new.self end.in_order
-    (TakesAll-row c.args.body.writer c.in-Ok.target
-    (takes_put g.W.Tell.log g.W.TellWrite.trace end.fits end.full end.in_order (omega arith)))
-    (put_room g.W.Tell.log g.W.TellWrite.trace end.fits end.full) c.in-Err-flush.e
-    c.in-Err-flush.ensures.flushed
+    ends_badly g.W.Tell.log g.W.TellWrite.trace c.args.body c.in-Ok.target c.flush.new.self c.in-Ok.ensures.finishes
+    c.in-Err-flush.e c.in-Err-flush.ensures.flushed
 
 pub returns-in-Err : goal.returns-in-Err
 returns-in-Err g c =
