@@ -1,2 +1,3 @@
+mod Collecting
 mod Parting
 mod Turning

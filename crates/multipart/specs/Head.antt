@@ -1,11 +1,13 @@
 -- How a head begins, its fields, and the parameters of a value.
-use Rattle.std.specs.Prelude.{ℕ, ◌+◌, ◌-◌, ◌==◌, ◌||◌, ◌&&◌, List, [], ◌∷◌, length, take, drop, Bool, true, false, IsTrue, not, if◌then◌else◌, nat_eq, Option, slice_index, slice_index_or, find, position, take_while}
+use Rattle.std.specs.Prelude.{◌≡◌, ℕ, ◌+◌, ◌-◌, ◌<◌, ◌≤◌, ◌==◌, ◌||◌, ◌&&◌, List, [], ◌∷◌, ◌++◌, length, take, drop, Bool, false, IsTrue, not, if◌then◌else◌, nat_eq, IsSomeAnd, Option, None, slice_index, slice_index_or, find, position, take_while}
 use Rattle.std.specs.Borrow.{Bor}
 use Rattle.std.specs.Char.{is_ascii_whitespace}
 use Rattle.std.specs.List.{filter_map, onto_first, prefix_len, starts_with, suffix_len}
 use Rattle.std.specs.Option.{option_map}
 use Rattle.std.specs.Str.{str_eq_ignore_ascii_case}
 use Rattle.memchr.specs.Find.{OccursAt}
+use Rattle.multipart.specs.declared.error.PartError.{PartError}
+use Rattle.multipart.specs.declared.error.PartError.TheVariants.{Boundary, LongHead, ManyParts, Memory}
 use Rattle.multipart.specs.declared.head.Place.{Place}
 use Rattle.multipart.specs.declared.head.Place.TheVariants.{Outside, Quoted, Escaped}
 
@@ -23,9 +25,15 @@ is_opening head = let rest = drop (prefix_len is_blank head) head in (length res
 abbrev pub IsPartHead : List ℕ → List ℕ → Type 0
 IsPartHead boundary head = IsTrue (is_opening head) × ((k : ℕ) → ¬ OccursAt head boundary k)
 
-abbrev pub SaysHead : List ℕ → List ℕ → Bool → Type 0
-SaysHead boundary head true = IsPartHead boundary head
-SaysHead boundary head false = ¬ IsPartHead boundary head
+-- why a head, of which this came, takes no such piece: it may have no byte; it would have more than it may; memory for as many
+-- was refused; or no head begins so
+abbrev pub RefusesPiece : List ℕ → Option ℕ → List ℕ → List ℕ → PartError → Type 0
+RefusesPiece boundary most head piece ManyParts = most ≡ None
+RefusesPiece boundary most head piece LongHead = IsSomeAnd most (λ n. n < length head + length piece)
+RefusesPiece boundary most head piece Memory = IsSomeAnd most (λ n. length head + length piece ≤ n)
+RefusesPiece boundary most head piece Boundary =
+    IsSomeAnd most (λ n. length head + length piece ≤ n) × ¬ IsPartHead boundary (head ++ piece)
+RefusesPiece boundary most head piece e = ⊥
 
 -- CR LF that no blank follows ends a line
 abbrev pub ends_line : List ℕ → Bool

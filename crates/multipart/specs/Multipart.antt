@@ -1,5 +1,5 @@
 -- What contracts see of a reader of parts, and what its calls promise.
-use Rattle.std.specs.Prelude.{◌≡◌, ◌≢◌, ℕ, ◌+◌, ◌<◌, ◌≤◌, ◌⊎◌, List, [], ◌∷◌, length, Bool, true, false, if◌then◌else◌, nat_le, Option, Result, Ok, Err}
+use Rattle.std.specs.Prelude.{◌≡◌, ◌≢◌, ℕ, ◌+◌, ◌<◌, ◌≤◌, ◌⊎◌, List, [], ◌∷◌, ◌++◌, length, take, Bool, true, false, if◌then◌else◌, nat_le, IsSomeAnd, Option, None, Some, Result, Ok, Err}
 use Rattle.std.specs.IoError.{error_kind}
 use Rattle.std.specs.declared.io.Error.{Error}
 use Rattle.std.specs.declared.io.ErrorKind.TheVariants.{InvalidData, OutOfMemory, UnexpectedEof}
@@ -7,13 +7,13 @@ use Rattle.buffer_redux.specs.Buffered.{Buffered}
 use Rattle.buffer_redux.specs.Policy.{ReadRules}
 use Rattle.body_reader.specs.declared.error.BodyError.{BodyError}
 use Rattle.body_reader.specs.declared.error.BodyError.TheVariants as why
-use Rattle.body_reader.specs.declared.error.CollectError.{CollectError}
-use Rattle.body_reader.specs.declared.error.CollectError.TheVariants as collect
 use Rattle.body_reader.specs.declared.just_or_until.JustOr.{JustOr}
 use Rattle.body_reader.specs.declared.just_or_until.JustOrUntil.{JustOrUntil}
-use Rattle.body_reader.specs.BodyReader.{BodyState, Collects, Drains, begun, handed_of}
+use Rattle.body_reader.specs.Between.{EachGave}
+use Rattle.body_reader.specs.BodyReader.{BodyState, Drains, NoPayload, TookWholeBody, begun, handed_of}
 use Rattle.body_reader.specs.Coding.{Grammar, IsBody}
 use Rattle.body_reader.specs.JustOrUntil.{just_or_until}
+use Rattle.body_reader.specs.Taking.{TakesTo}
 use Rattle.multipart.specs.declared.error.NewError.{NewError}
 use Rattle.multipart.specs.declared.error.NewError.TheVariants as new
 use Rattle.multipart.specs.declared.error.PartError.{PartError}
@@ -21,12 +21,16 @@ use Rattle.multipart.specs.declared.error.PartError.TheVariants as part
 use Rattle.multipart.specs.declared.reader.Limits.{Limits}
 use Rattle.multipart.specs.declared.reader.Stand.{Stand}
 use Rattle.multipart.specs.declared.reader.Stand.TheVariants.{Preamble, Head, Part, Ended}
-use Rattle.multipart.specs.Head.{SaysHead}
+use Rattle.multipart.specs.Head.{IsPartHead, RefusesPiece, crlf}
+
+-- where a reader stands in a section
+abbrev pub Section : Type 0 → Type 0 → Type 0
+Section S Q = BodyState S Q JustOrUntil JustOr
 
 -- the section that is being read, of a text or a head; the coding of those that it takes turns with; the head that came last;
 -- where the reader stands; and how many parts began
 pub record FormState (S Q : Type 0) : Type 0 where
-  pub body : BodyState S Q JustOrUntil JustOr
+  pub body : Section S Q
   pub other : JustOrUntil
   pub head : List ℕ
   pub stand : Stand
@@ -40,20 +44,45 @@ codes c = just_or_until c.just.items c.until.delimiter c.room
 abbrev pub hyphens : List ℕ
 hyphens = 45 ∷ 45 ∷ []
 
--- a boundary that begins a line ends a text, also where it begins the text; an empty line ends a head, or two hyphens are all of
--- it
-pub record AreCodings (texts heads : JustOrUntil) : Type 0 where
+-- whether there may be no further part
+abbrev pub is_full : {S Q : Type 0} → FormState S Q → Bool
+is_full d = nat_le d.limits.parts d.parts
+
+-- how many bytes a head may have behind so many parts, where there may be a further one
+abbrev pub head_most : Limits → ℕ → Option ℕ
+head_most limits parts = if nat_le limits.parts parts then None else Some limits.head
+
+-- an empty line ends a head. Behind as many parts as may be there is none but two hyphens: each byte else is payload at once, of
+-- which there may be none
+abbrev pub head_end : Bool → List ℕ
+head_end true = 45 ∷ hyphens
+head_end false = 13 ∷ 10 ∷ crlf
+
+-- a boundary that begins a line ends a text, also where it begins the text; and two hyphens may be all of a head
+pub record AreCodings (full : Bool) (texts heads : JustOrUntil) : Type 0 where
   pub line : texts.until.delimiter ≡ 13 ∷ 10 ∷ texts.just.items
-  pub empty_line : heads.until.delimiter ≡ 13 ∷ 10 ∷ 13 ∷ 10 ∷ []
+  pub end : heads.until.delimiter ≡ head_end full
   pub hyphens : heads.just.items ≡ hyphens
   pub room : heads.room ≡ texts.room
 
+-- the coding of a head, where heads have this
+abbrev pub TurnsLast : Bool → JustOrUntil → JustOrUntil → Type 0
+TurnsLast true c d = (d.until.delimiter ≡ head_end true) × (d.just.items ≡ c.just.items) × (d.room ≡ c.room)
+TurnsLast false c d = d ≡ c
+
+-- what came of a head so far may begin one; there is nothing of one where there may be no further part
+pub record BeginsHead {S Q : Type 0} (d : FormState S Q) : Type 0 where
+  pub codings : AreCodings (is_full d) d.other d.body.coding
+  pub all : d.head ≡ handed_of d.body
+  pub is_head : IsPartHead d.other.until.delimiter d.head
+  pub none : is_full d ≡ true → d.head ≡ []
+
 -- which coding is whose; and what the head is: all that came of one so far, or a whole one in front of a text
 abbrev pub HasHead : {S Q : Type 0} → Stand → FormState S Q → Type 0
-HasHead Preamble d = AreCodings d.body.coding d.other
-HasHead Head d = AreCodings d.other d.body.coding × (d.head ≡ handed_of d.body)
-HasHead Part d = AreCodings d.body.coding d.other × ((bytes : List ℕ) × IsBody (codes d.other) bytes d.head)
-HasHead Ended d = AreCodings d.other d.body.coding × (d.body.taken ≡ hyphens)
+HasHead Preamble d = AreCodings false d.body.coding d.other
+HasHead Head d = BeginsHead d
+HasHead Part d = AreCodings false d.body.coding d.other × ((bytes : List ℕ) × IsBody (codes d.other) bytes d.head)
+HasHead Ended d = AreCodings (is_full d) d.other d.body.coding × (d.body.taken ≡ hyphens)
 
 -- what is true of every reader of parts
 abbrev pub IsForm : {S Q : Type 0} → FormState S Q → Type 0
@@ -96,46 +125,48 @@ PartBecomesIo part.Boundary e = error_kind e ≡ InvalidData
 PartBecomesIo part.LongHead e = error_kind e ≡ InvalidData
 PartBecomesIo part.ManyParts e = error_kind e ≡ InvalidData
 
--- whether there may be no further part; and how many bytes a head may have, none behind as many parts as may be
-abbrev pub is_full : {S Q : Type 0} → FormState S Q → Bool
-is_full d = nat_le d.limits.parts d.parts
-
-abbrev pub head_most : {S Q : Type 0} → FormState S Q → ℕ
-head_most d = if is_full d then 0 else d.limits.head
-
--- why no head was collected, as an error of the whole
-abbrev pub head_error : Bool → CollectError (Unit {0}) → PartError
-head_error full (collect.Body why) = part_error why
-head_error full collect.Unwanted = part.Boundary
-head_error full collect.TooLong = if full then part.ManyParts else part.LongHead
-head_error full collect.Memory = part.Memory
-
--- a head ended: two hyphens end the body, and else a part begins, if there may be a further one
-abbrev pub EndsHead : {S Q : Type 0} → FormState S Q → Result Bool PartError → FormState S Q → Type 0
-EndsHead s (Ok false) t = (s.body.taken ≡ hyphens) × (t ≡ record s { stand = Ended })
-EndsHead s (Ok true) t =
+-- a head ended: two hyphens end the body, and else a part begins, which there may be
+abbrev pub EndsHead : {S Q : Type 0} → FormState S Q → Bool → FormState S Q → Type 0
+EndsHead s false t = (s.body.taken ≡ hyphens) × (t ≡ record s { stand = Ended })
+EndsHead s true t =
     (s.body.taken ≢ hyphens) × (s.parts < s.limits.parts) × (t ≡ turned (record s { parts = s.parts + 1 }) Part)
-EndsHead s (Err e) t = (s.body.taken ≢ hyphens) × (s.limits.parts ≤ s.parts) × (e ≡ part.ManyParts) × (t ≡ s)
 
 module _ {S Q : Type 0} (remaining : S → Option (List ℕ)) (rules : ReadRules Q) where
   -- the rest of the text was dropped, and a head begins behind its end; or why not, within the text
   abbrev pub LeavesText : FormState S Q → Result (Unit {0}) PartError → FormState S Q → Type 0
-  LeavesText s (Ok _) t = (b : BodyState S Q JustOrUntil JustOr) × Drains remaining rules (codes s.body.coding) s.body (Ok tt) b
-      × (t ≡ turned (record s { body = b; head = [] }) Head)
+  LeavesText s (Ok _) t = (b : Section S Q) × (heads : JustOrUntil)
+      × Drains remaining rules (codes s.body.coding) s.body (Ok tt) b × TurnsLast (is_full s) s.other heads
+      × (t ≡ turned (record s { body = b; head = []; other = heads }) Head)
   LeavesText s (Err e) t = (w : BodyError (Unit {0})) × Drains remaining rules (codes s.body.coding) s.body (Err w) t.body
       × (e ≡ part_error w) × (t ≡ record s { body = t.body })
 
-  -- a head was collected to its end while it may go on so, or why not
-  abbrev pub CollectsHead : FormState S Q → Result (Unit {0}) (CollectError (Unit {0})) → FormState S Q → Type 0
-  CollectsHead s answer t = (t ≡ record s { body = t.body; head = t.head })
-      × Collects remaining rules (codes s.body.coding) (head_most s) (SaysHead s.other.until.delimiter) s.body s.head answer
-      t.body t.head
+  module _ (boundary : List ℕ) (most : Option ℕ) (s : Section S Q) where
+    -- how it ends that a head is collected: it ended; or no more of it comes; or what is buffered of it is refused
+    abbrev pub HeadEnds : List ℕ → Result (Unit {0}) PartError → Section S Q → Type 0
+    HeadEnds head (Ok _) t = EachGave s.reader t.reader × TookWholeBody (codes s.coding) t
+    HeadEnds head (Err e) t = ((w : BodyError (Unit {0})) × (e ≡ part_error w) × NoPayload (codes s.coding) s w t)
+        ⊎ (EachGave s.reader t.reader × (0 < t.known) × RefusesPiece boundary most head (take t.known t.reader.block.bytes) e)
+
+    -- a head was collected to its end, while it may go on so, or why not: of no more bytes than so many, or of none. The stream
+    -- is asked only where nothing was settled, and no piece is cut. What is refused stays buffered
+    pub record CollectsHead (before : List ℕ) (answer : Result (Unit {0}) PartError) (t : Section S Q) (after : List ℕ) : Type 0
+      where
+        pub payload : List ℕ
+        pub takes : TakesTo remaining rules (codes s.coding) (λ came. IsPartHead boundary (before ++ came)) s payload t
+        pub collected : after ≡ before ++ payload
+        pub few : 0 < length payload → IsSomeAnd most (λ n. length after ≤ n)
+        pub is_head : IsPartHead boundary after
+        pub ends : HeadEnds after answer t
+
+  abbrev pub CollectsOn : FormState S Q → Result (Unit {0}) PartError → FormState S Q → Type 0
+  CollectsOn s answer t = (t ≡ record s { body = t.body; head = t.head })
+      × CollectsHead s.other.until.delimiter (head_most s.limits s.parts) s.body s.head answer t.body t.head
 
   -- from a head on
   abbrev pub GoesOnFromHead : FormState S Q → Result Bool PartError → FormState S Q → Type 0
   GoesOnFromHead s answer t =
-      ((m : FormState S Q) × CollectsHead s (Ok tt) m × EndsHead m answer t)
-      ⊎ ((why : CollectError (Unit {0})) × CollectsHead s (Err why) t × (answer ≡ Err (head_error (is_full s) why)))
+      ((m : FormState S Q) × (more : Bool) × CollectsOn s (Ok tt) m × EndsHead m more t × (answer ≡ Ok more))
+      ⊎ ((e : PartError) × CollectsOn s (Err e) t × (answer ≡ Err e))
 
   -- from a text on: also what is left of it is passed
   abbrev pub PassesText : FormState S Q → Result Bool PartError → FormState S Q → Type 0

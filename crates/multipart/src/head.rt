@@ -2,9 +2,7 @@
 ghost use Rattle.std.specs.Prelude.{◌≡◌, ◌<◌, ◌≤◌, ◌==◌, [], ◌∷◌, length, not, position, IfSome};
 ghost use Rattle.std.specs.List.{prefix_len};
 ghost use Rattle.std.specs.Option.{option_copied, option_map, option_map_or};
-ghost use Rattle.multipart.specs.Head.{SaysHead, as_field, as_parameter, texts_of, cut, ends_line, field_of, is_blank, closes, is_opening, head_lines, parameter_of, next_place, split_once, unquoted};
-
-use body_reader::JustOrUntil;
+ghost use Rattle.multipart.specs.Head.{as_field, as_parameter, texts_of, cut, ends_line, field_of, is_blank, closes, is_opening, head_lines, parameter_of, next_place, split_once, unquoted};
 
 // Whether a byte is a space or a tab.
 fn is_blank(byte: u8) -> bool
@@ -14,26 +12,21 @@ fn is_blank(byte: u8) -> bool
 }
 
 // How many blanks stand in front.
-fn blanks_len(text: &[u8]) -> usize
+pub(crate) fn blanks_len(text: &[u8]) -> usize
     ensures value { result ≡ prefix_len is_blank text.now }
     ensures within { result ≤ length text.now }
 {
     text.iter().take_while(|byte| is_blank(**byte)).count()
 }
 
-// Whether a head begins as the line of a boundary ends: with blanks or none, and then the end of the line, or nothing.
-fn is_opening(head: &[u8]) -> bool
+// Whether a head, in front of which so many blanks stand, begins as the line of a boundary ends: with blanks or none, and then
+// the end of the line, or nothing.
+pub(crate) fn is_opening(head: &[u8], blanks: usize) -> bool
+    requires { blanks ≡ prefix_len is_blank head.now }
     ensures { result ≡ is_opening head.now }
 {
-    let rest = &head[blanks_len(head)..];
+    let rest = &head[blanks..];
     rest.is_empty() || rest.starts_with(b"\r\n")
-}
-
-/// Whether a head may go on so: it begins as the line of a boundary ends, and what ends one of `texts` stands nowhere in it.
-pub(crate) fn may_go_on(head: &[u8], texts: &JustOrUntil) -> bool
-    ensures { SaysHead texts.now.until.delimiter head.now result }
-{
-    is_opening(head) && texts.until.delimiter.find(head).is_none()
 }
 
 // Whether a line ends here: by CR LF that no blank follows.

@@ -1,14 +1,15 @@
 //! The reader of parts.
-ghost use Rattle.std.specs.Prelude.{[], ◌≡◌, ◌≢◌, ◌<◌, ◌≤◌, ◌+◌, ◌^◌, ◌⊎◌, ◌∷◌, ◌++◌, length, min, take, vec_items, Ok, IfErr, IfOk, IfSome, MatchBool};
+ghost use Rattle.std.specs.Prelude.{[], ◌≡◌, ◌≢◌, ◌<◌, ◌≤◌, ◌+◌, ◌⊎◌, ◌∷◌, ◌++◌, length, min, false, take, vec_items, Ok, IfErr, IfOk, IfSome, MatchBool};
 ghost use Rattle.body_reader.specs.BodyReader.{ConsumesPayload, FillsPayload, IsBodyReader, ReadsPayload, TookWholeBody};
-ghost use Rattle.multipart.specs.Multipart.{AreCodings, CollectsHead, EndsHead, GoesOnFromHead, IsBegun, IsForm, LeavesText, NextPart, NoReaderMade, codes, head_error, head_most, is_full};
+ghost use Rattle.multipart.specs.Multipart.{AreCodings, CollectsOn, EndsHead, GoesOnFromHead, IsBegun, IsForm, LeavesText, NextPart, NoReaderMade, TurnsLast, codes, head_most, is_full};
 
+use crate::collected::Collected;
 use crate::error::{NewError, PartError};
-use crate::head::may_go_on;
-use body_reader::{BodyError, BodyReader, CollectError, JustOrUntil, Until};
+use body_reader::{BodyError, BodyReader, JustOrUntil, Until};
 use buffer_redux::BufReader;
 use buffer_redux::policy::{ReaderPolicy, StdPolicy};
 use buffer_redux::tell::{Tell, TellRead};
+use memchr::memmem::Finder;
 use std::alloc::Global;
 use std::marker::Model;
 
@@ -43,7 +44,7 @@ pub struct Multipart<R: Tell, P = StdPolicy> {
     body: BodyReader<R, JustOrUntil, P>,
     // The coding of what comes behind: heads and texts come by turns.
     other: JustOrUntil,
-    head: Vec<u8>,
+    head: Collected,
     stand: Stand,
     parts: u64,
     limits: Limits,
@@ -57,7 +58,7 @@ impl<R: Tell, P> Model for Multipart<R, P> {
     ghost view = { λ m. record {
       body = m.body;
       other = m.other;
-      head = m.head.items;
+      head = m.head.bytes.items;
       stand = m.stand;
       parts = m.parts;
       limits = m.limits;
@@ -66,7 +67,7 @@ impl<R: Tell, P> Model for Multipart<R, P> {
     ghost invariant = { λ m. IsForm (record {
       body = m.body;
       other = m.other;
-      head = m.head.items;
+      head = m.head.bytes.items;
       stand = m.stand;
       parts = m.parts;
       limits = m.limits;
@@ -99,7 +100,7 @@ impl<R: Tell, P> Multipart<R, P> {
             Some((texts, heads)) => Ok(Multipart {
                 body: BodyReader::new(reader, texts),
                 other: heads,
-                head: Vec::new(alloc),
+                head: Collected::new(alloc),
                 stand: Stand::Preamble,
                 parts: 0,
                 limits,
@@ -145,7 +146,7 @@ impl<R: Tell, P> Multipart<R, P> {
     pub fn head(&self) -> &[u8]
         ensures { result.now ≡ self.now.head }
     {
-        self.head.as_slice()
+        self.head.bytes.as_slice()
     }
 
     /// The text of the part that is buffered, as far as the last [`fill`](Multipart::fill) said, and wasn't consumed; none where
@@ -166,7 +167,7 @@ fn codings(alloc: Global, boundary: &[u8], room: usize) -> Option<(JustOrUntil, 
     requires some { 0 < length boundary.now }
     requires room { room ≡ length boundary.now + 4 }
     ensures texts { IfSome result (λ both. both.0.just.items ≡ 45 ∷ 45 ∷ boundary.now) }
-    ensures codings { IfSome result (λ both. AreCodings both.0 both.1) }
+    ensures codings { IfSome result (λ both. AreCodings false both.0 both.1) }
     ensures room { IfSome result (λ both. both.0.room ≡ room) }
 {
     let texts = coding(alloc, b"--", b"\r\n--", boundary, room)?;
@@ -253,8 +254,7 @@ impl<R: TellRead, P: ReaderPolicy> Multipart<R, P> {
     ///
     /// The stream is asked only where what is buffered settles nothing: for no byte behind the empty line of a head, nor behind
     /// the two hyphens of the last boundary, nor behind the first byte that can follow no boundary. Where there are
-    /// `limits.parts` parts already it is asked only while what stands behind the boundary is nothing, or begins the two hyphens,
-    /// or two line ends.
+    /// `limits.parts` parts already it is asked only while what stands behind the boundary is nothing, or a hyphen.
     pub fn next_part(&mut self) -> Result<bool, PartError>
         ensures stands { IfOk result (λ more. MatchBool more
             ((self.new.stand ≡ Stand.Part) × (self.new.parts ≡ self.old.parts + 1))
@@ -276,11 +276,8 @@ impl<R: TellRead, P: ReaderPolicy> Multipart<R, P> {
         requires head { self.old.stand ≡ Stand.Head }
         ensures { GoesOnFromHead R.remaining P.rules self.old result self.new }
     {
-        let full = self.is_full();
-        match self.collect() {
-            Ok(()) => self.end_head(),
-            Err(e) => Err(head_error(full, e)),
-        }
+        self.collect()?;
+        Ok(self.end_head())
     }
 
     // Whether there may be no further part.
@@ -290,11 +287,15 @@ impl<R: TellRead, P: ReaderPolicy> Multipart<R, P> {
         self.parts >= self.limits.parts
     }
 
-    // How many bytes a head may have.
-    fn most(&self) -> usize
-        ensures { result ≡ head_most self.now }
+    // How many bytes a head may have, if there may be a further part.
+    fn most(&self) -> Option<usize>
+        ensures { result ≡ head_most self.now.limits self.now.parts }
     {
-        if self.is_full() { 0 } else { self.limits.head }
+        if self.is_full() {
+            None
+        } else {
+            Some(self.limits.head)
+        }
     }
 
     // Goes on behind the boundary that ends this text.
@@ -302,7 +303,9 @@ impl<R: TellRead, P: ReaderPolicy> Multipart<R, P> {
         requires text { (self.old.stand ≡ Stand.Preamble) ⊎ (self.old.stand ≡ Stand.Part) }
         ensures { LeavesText R.remaining P.rules self.old result self.new }
     {
+        let full = self.is_full();
         self.body.drain()?;
+        turn_last(&mut self.other, full);
         self.body.begin_next(&mut self.other);
         self.head.clear();
         self.stand = Stand::Head;
@@ -310,18 +313,17 @@ impl<R: TellRead, P: ReaderPolicy> Multipart<R, P> {
     }
 
     // Collects the head while it may go on so.
-    fn collect(&mut self) -> Result<(), CollectError<()>>
+    fn collect(&mut self) -> Result<(), PartError>
         requires head { self.old.stand ≡ Stand.Head }
-        ensures { CollectsHead R.remaining P.rules self.old result self.new }
+        ensures { CollectsOn R.remaining P.rules self.old result self.new }
     {
         let most = self.most();
         let texts = &self.other;
-        self.body
-            .collect(most, &mut self.head, |head| may_go_on(head, texts))
+        self.head.collect(&mut self.body, most, texts)
     }
 
-    // Goes on into the part behind this head, or says that there is none, or may be none.
-    fn end_head(&mut self) -> Result<bool, PartError>
+    // Goes on into the part behind this head, or says that there is none.
+    fn end_head(&mut self) -> bool
         requires head { self.old.stand ≡ Stand.Head }
         requires whole { TookWholeBody (codes self.old.body.coding) self.old.body }
         requires reader { IsBodyReader (codes self.old.body.coding) self.old.body }
@@ -329,27 +331,27 @@ impl<R: TellRead, P: ReaderPolicy> Multipart<R, P> {
     {
         if self.body.taken() == 2 {
             self.stand = Stand::Ended;
-            return Ok(false);
+            return false;
         }
-        if self.parts >= self.limits.parts {
-            return Err(PartError::ManyParts);
-        }
+        let more = self.parts < self.limits.parts;
+        prove!(more);
         self.body.begin_next(&mut self.other);
         self.parts += 1;
         self.stand = Stand::Part;
-        Ok(true)
+        true
     }
 }
 
-// Why no head was collected, as an error of the whole. Where there may be no further part any byte of a head is too many.
-fn head_error(full: bool, e: CollectError<()>) -> PartError
-    ensures { result ≡ head_error full e }
+// Makes the coding of heads one in which two hyphens alone are a head, where there may be no further part: no other has the
+// first byte of its delimiter.
+fn turn_last(heads: &mut JustOrUntil, full: bool)
+    requires shorter { length heads.old.just.items < 3 }
+    requires fits { 3 ≤ heads.old.room }
+    ensures { TurnsLast full heads.old heads.new }
 {
-    match e {
-        CollectError::Body(e) => PartError::from(e),
-        CollectError::Unwanted => PartError::Boundary,
-        CollectError::TooLong if full => PartError::ManyParts,
-        CollectError::TooLong => PartError::LongHead,
-        CollectError::Memory => PartError::Memory,
+    if full {
+        heads.until = Until {
+            delimiter: Finder::new(b"---"),
+        };
     }
 }

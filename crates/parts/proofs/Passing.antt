@@ -1,10 +1,8 @@
 -- From the text of a part to the next part.
-use Rattle.std.proofs.Common.{◌≡◌, ◌<◌, length, length-append, Bool, ℕ, ◌≤◌, ◌+◌, List, [], ◌∷◌, ◌++◌, Option, Result, Ok, Err, true, false, if◌then◌else◌, nat_le, inl, inr, ◌⊎◌, sym, ap, subst, ◌∙◌, refl, arith, append-nil, append_assoc}
+use Rattle.std.proofs.Common.{◌≡◌, ◌<◌, length, length-append, Bool, ℕ, List, [], ◌∷◌, ◌++◌, take, Option, Result, Ok, Err, true, false, inl, inr, ◌⊎◌, sym, ap, subst, ◌∙◌, refl, arith, append-nil, append_assoc}
 use Rattle.std.proofs.lemmas.Bool.{leb-true}
 use Rattle.body_reader.specs.declared.error.BodyError.{BodyError}
 use Rattle.body_reader.specs.declared.error.BodyError.TheVariants as why
-use Rattle.body_reader.specs.declared.error.CollectError.{CollectError}
-use Rattle.body_reader.specs.declared.error.CollectError.TheVariants as collect
 use Rattle.body_reader.specs.declared.just_or_until.JustOr.{JustOr}
 use Rattle.body_reader.specs.declared.just_or_until.JustOrUntil.{JustOrUntil}
 use Rattle.body_reader.specs.Between.{EachGave}
@@ -20,8 +18,8 @@ use Rattle.multipart.specs.declared.error.PartError.{PartError}
 use Rattle.multipart.specs.declared.error.PartError.TheVariants as part
 use Rattle.multipart.specs.declared.reader.Limits.{Limits}
 use Rattle.multipart.specs.declared.reader.Stand.TheVariants.{Preamble, Head, Part}
-use Rattle.multipart.specs.Head.{IsPartHead}
-use Rattle.multipart.specs.Multipart.{CollectsHead, EndsHead, FormState, GoesOnFromHead, LeavesText, NextPart, PassesText, codes, head_error, is_full, part_error, turned}
+use Rattle.multipart.specs.Head.{IsPartHead, RefusesPiece}
+use Rattle.multipart.specs.Multipart.{CollectsOn, EndsHead, FormState, GoesOnFromHead, LeavesText, NextPart, PassesText, TurnsLast, codes, head_most, is_full, part_error, turned}
 use Rattle.parts.specs.Sections.{BehindText, InHead, InSection, InText, NextFails, PassedAll, Turn}
 
 -- what comes of going on behind a text
@@ -57,6 +55,16 @@ module _ {S : Type 0} (remaining : S → Option (List ℕ)) (texts heads : JustO
       (inside, none.2, GaveNothingOnce-after first s.reader t.body.reader gave none.1)
   no_payload text s t (why.Io e) most inside gave none =
       (inside, inl (none.1, FaultedOnce-after first s.reader t.body.reader gave e none.0))
+
+  refused_fails : (text : List ℕ) (most : Limits) (e : PartError) (t : FormState S StdPolicy)
+      → InHead texts heads first turns text t → RefusesPiece texts.until.delimiter (head_most most (length turns))
+      (handed_of t.body) (take t.body.known t.body.reader.block.bytes) e → NextFails texts heads first turns text most e t
+  refused_fails text most part.Truncated t inside bad = absurd bad
+  refused_fails text most (part.Io e) t inside bad = absurd bad
+  refused_fails text most part.Boundary t inside bad = (inside, bad)
+  refused_fails text most part.LongHead t inside bad = (inside, bad)
+  refused_fails text most part.ManyParts t inside bad = (inside, bad)
+  refused_fails text most part.Memory t inside bad = (inside, bad)
 
   -- calls in the text stay in it
   pub inside_on : (before : List ℕ) (m t : FormState S StdPolicy) (payload : List ℕ)
@@ -100,15 +108,13 @@ module _ {S : Type 0} (remaining : S → Option (List ℕ)) (texts heads : JustO
               )
         ])
 
-    module _ (b : Body S) (drains : Drains remaining std_read_rules (codes s.body.coding) s.body (Ok tt) b) where
+    module _ (b : Body S) (h : JustOrUntil) (drains : Drains remaining std_read_rules (codes s.body.coding) s.body (Ok tt) b)
+        (last : TurnsLast (is_full s) s.other h) where
       abbrev behind : FormState S StdPolicy
-      behind = turned (record s { body = b; head = [] }) Head
+      behind = turned (record s { body = b; head = []; other = h }) Head
 
       text_whole : IsBody (codes texts) b.taken (handed_of b)
       text_whole = subst (λ c. TookWholeBody (codes c) b) is.coding drains.answers.1
-
-      text_order : ReadsInOrder first (before ++ b.taken) b.reader
-      text_order = order_on remaining first before s.body.coding s.body b drains.payload drains.went is.order
 
       text_gave : EachGave first b.reader
       text_gave = EachGave-joins first s.body.reader b.reader gave drains.answers.0
@@ -120,15 +126,20 @@ module _ {S : Type 0} (remaining : S → Option (List ℕ)) (texts heads : JustO
       abbrev Comes : Result Bool PartError → FormState S StdPolicy → Type 0
       Comes answer t = ComesBehind texts heads first turns (handed_of b) s.limits answer t
 
+      still_heads : (full : Bool) → is_full s ≡ full → TurnsLast full s.other h → s.parts < s.limits.parts → h ≡ s.other
+      still_heads true is' last' less = absurd (omega (arith, leb-true _ _ is', less))
+      still_heads false is' last' less = last'
+
       -- a head, which is whole or not
-      module _ {answer : Result (Unit {0}) (CollectError (Unit {0}))} {t : FormState S StdPolicy}
-          (head : CollectsHead remaining std_read_rules behind answer t) where
+      module _ {answer : Result (Unit {0}) PartError} {t : FormState S StdPolicy}
+          (head : CollectsOn remaining std_read_rules behind answer t) where
         said_is : t.head ≡ handed_of t.body
-        said_is = head.1.collected ∙ sym head.1.went.handed
+        said_is = head.1.collected ∙ sym head.1.takes.went.handed
 
         head_order : ReadsInOrder first ((before ++ b.taken) ++ t.body.taken) t.body.reader
-        head_order = order_on remaining first (before ++ b.taken) s.other behind.body t.body head.1.payload head.1.went
-            (subst (λ l. ReadsInOrder first l b.reader) (sym (append-nil (before ++ b.taken))) text_order)
+        head_order = order_on remaining first (before ++ b.taken) h behind.body t.body head.1.payload head.1.takes.went
+            (subst (λ l. ReadsInOrder first l b.reader) (sym (append-nil (before ++ b.taken)))
+            (order_on remaining first before s.body.coding s.body b drains.payload drains.went is.order))
 
         abbrev behind_text : BehindText texts heads first turns (handed_of b) t.body.taken t.body.reader
         behind_text = record {
@@ -142,90 +153,74 @@ module _ {S : Type 0} (remaining : S → Option (List ℕ)) (texts heads : JustO
         head_gave : EachGave b.reader t.body.reader → EachGave first t.body.reader
         head_gave gave' = EachGave-joins first b.reader t.body.reader text_gave gave'
 
-        in_head : InHead texts heads first turns (handed_of b) t
-        in_head = record {
+        stops : (w : BodyError (Unit {0})) → NoPayload (codes h) behind.body w t.body → Comes (Err (part_error w)) t
+        stops w none = no_payload (handed_of b) behind.body t w s.limits (inr behind_text) text_gave
+            (subst (λ c. NoPayload (codes c) behind.body w t.body) (sym head.1.takes.went.coding) none)
+
+        in_head : 0 < t.body.known → EachGave b.reader t.body.reader → InHead texts heads first turns (handed_of b) t
+        in_head some gave' = record {
           behind = behind_text;
-          inside = subst (λ c. IsBodyReader (codes c) t.body) is.other head.1.whole;
+          coding = subst (λ x. TurnsLast (is_full x) heads t.body.coding) (sym head.0)
+              (subst (λ c. TurnsLast (is_full s) heads c) (sym head.1.takes.went.coding)
+              (subst (λ c. TurnsLast (is_full s) c h) is.other last));
+          inside = subst (λ c. IsBodyReader (codes c) t.body) (sym head.1.takes.went.coding) head.1.takes.whole;
+          some = some;
+          gave = head_gave gave';
         }
 
-        -- some of it is more than it may have
-        too_long : (full : Bool) → nat_le s.limits.parts s.parts ≡ full → 0 < t.body.known
-            → (if full then 0 else s.limits.head) < length t.head + t.body.known → EachGave b.reader t.body.reader
-            → Comes (Err (if full then part.ManyParts else part.LongHead)) t
-        too_long true few some long gave' =
-            (in_head, omega (arith, is.counted, leb-true _ _ few), inl some, head_gave gave')
-        too_long false few some long gave' =
-            (in_head, some, omega (arith, long, ap length said_is), head_gave gave')
+        refused : (e : PartError) → InHead texts heads first turns (handed_of b) t
+            → RefusesPiece b.coding.until.delimiter (head_most s.limits s.parts) t.head
+            (take t.body.known t.body.reader.block.bytes) e → Comes (Err e) t
+        refused e inside why = refused_fails (handed_of b) s.limits e t inside (rw (← boundary, ← said_is, ← is.counted) why)
 
-        no_memory : (full : Bool) → 0 < t.body.known → length t.head + t.body.known ≤ (if full then 0 else s.limits.head)
-            → EachGave b.reader t.body.reader → Comes (Err part.Memory) t
-        no_memory true some fits gave' = absurd (omega (arith, some, fits))
-        no_memory false some fits gave' = (in_head, some, omega (arith, fits, ap length said_is), head_gave gave')
+      fails : (e : PartError) (t : FormState S StdPolicy) → CollectsOn remaining std_read_rules behind (Err e) t → Comes (Err e) t
+      fails e t head = elim head.1.ends [
+        | inl none ↦ subst (λ x. Comes (Err x) t) (sym none.1) (stops head none.0 none.2)
+        | inr bad ↦ refused head e (in_head head bad.1 bad.0) bad.2
+      ]
 
-      fails : (why : CollectError (Unit {0})) (t : FormState S StdPolicy)
-          → CollectsHead remaining std_read_rules behind (Err why) t → Comes (Err (head_error (is_full behind) why)) t
-      fails (collect.Body w) t head = no_payload (handed_of b) behind.body t w s.limits (inr (behind_text head)) text_gave
-          (subst (λ c. NoPayload (codes c) behind.body w t.body) (sym head.1.went.coding) head.1.ends)
-      fails collect.Unwanted t head = (
-        in_head head,
-        (λ is_head. head.1.ends.1 (subst (λ d. IsPartHead d t.head) (sym boundary)
-            (subst (IsPartHead texts.until.delimiter) (sym (said_is head)) is_head))),
-        head_gave head head.1.ends.0,
-      )
-      fails collect.TooLong t head =
-          too_long head (is_full behind) refl head.1.ends.1 head.1.ends.2 head.1.ends.0
-      fails collect.Memory t head =
-          no_memory head (is_full behind) head.1.ends.1 head.1.ends.2 head.1.ends.0
-
-      module _ {m : FormState S StdPolicy} (head : CollectsHead remaining std_read_rules behind (Ok tt) m) where
-        head_whole : IsBody (codes heads) m.body.taken (handed_of m.body)
-        head_whole = subst (λ c. TookWholeBody (codes c) m.body) is.other head.1.ends.1
-
-        ends : (answer : Result Bool PartError) (t : FormState S StdPolicy) → EndsHead m answer t
-            → Comes answer t
-        ends (Ok true) t end = subst (Comes (Ok true)) (sym end.2) (
-          (before ++ b.taken) ++ m.body.taken,
-          record {
-            stands = inr refl;
-            coding = ap (λ x. x.other) head.0 ∙ drains.went.coding ∙ is.coding;
-            other = head.1.went.coding ∙ is.other;
-            counted = omega (arith, is.counted, ap (λ x. x.parts) head.0);
-            parts = (
-              before,
-              b.taken,
-              m.body.taken,
-              append_assoc before b.taken m.body.taken,
-              is.parts,
-              text_whole,
+      module _ {m : FormState S StdPolicy} (head : CollectsOn remaining std_read_rules behind (Ok tt) m) where
+        ends : (more : Bool) (t : FormState S StdPolicy) → EndsHead m more t → Comes (Ok more) t
+        ends true t end =
+            let same = still_heads (is_full s) refl last
+            (omega (arith, end.1, ap (λ x. x.parts) head.0, ap (λ x. x.limits.parts) head.0)) ∙ is.other in
+            subst (Comes (Ok true)) (sym end.2) (
+              (before ++ b.taken) ++ m.body.taken,
               record {
-                whole = subst (λ l. IsBody (codes heads) m.body.taken l) (sym (said_is head)) head_whole;
-                is_head = subst (λ d. IsPartHead d m.head) boundary head.1.ends.2;
-                no_end = end.0;
+                stands = inr refl;
+                coding = ap (λ x. x.other) head.0 ∙ drains.went.coding ∙ is.coding;
+                other = head.1.takes.went.coding ∙ same;
+                counted = omega (arith, is.counted, ap (λ x. x.parts) head.0);
+                parts = (
+                  before,
+                  b.taken,
+                  m.body.taken,
+                  append_assoc before b.taken m.body.taken,
+                  is.parts,
+                  text_whole,
+                  record {
+                    whole = rw (said_is head) (subst (λ c. TookWholeBody (codes c) m.body) same head.1.ends.1);
+                    is_head = subst (λ d. IsPartHead d m.head) boundary head.1.is_head;
+                    no_end = end.0;
+                  },
+                );
+                order = subst (λ l. ReadsInOrder first l m.body.reader) (sym (append-nil ((before ++ b.taken) ++ m.body.taken)))
+                    (head_order head);
               },
-            );
-            order = subst (λ l. ReadsInOrder first l m.body.reader) (sym (append-nil ((before ++ b.taken) ++ m.body.taken)))
-                (head_order head);
-          },
-          head_gave head head.1.ends.0,
-          refl,
-          refl,
-          ap (λ x. x.limits) head.0,
-        )
-        ends (Ok false) t end = subst (Comes (Ok false)) (sym end.1) (
+              head_gave head head.1.ends.0,
+              refl,
+              refl,
+              ap (λ x. x.limits) head.0,
+            )
+        ends false t end = subst (Comes (Ok false)) (sym end.1) (
           subst (λ l. BehindText texts heads first turns (handed_of b) l m.body.reader) end.0 (behind_text head),
           head_gave head head.1.ends.0,
         )
-        ends (Err e) t end = subst (λ x. Comes (Err x) t) (sym end.2) (subst (Comes (Err part.ManyParts)) (sym end.3) (
-          in_head head,
-          omega (arith, is.counted, end.1, ap (λ x. x.parts) head.0, ap (λ x. x.limits.parts) head.0),
-          inr (head_whole, end.0),
-          head_gave head head.1.ends.0,
-        ))
 
       goes_on : (answer : Result Bool PartError) (t : FormState S StdPolicy)
           → GoesOnFromHead remaining std_read_rules behind answer t → Comes answer t
-      goes_on answer t (inl (m, head, end)) = ends head answer t end
-      goes_on answer t (inr (why, head, same)) = subst (λ x. Comes x t) (sym same) (fails why t head)
+      goes_on answer t (inl (m, more, head, end, same)) = subst (λ x. Comes x t) (sym same) (ends head more t end)
+      goes_on answer t (inr (e, head, same)) = subst (λ x. Comes x t) (sym same) (fails e t head)
 
     -- what comes of going on to the next part: the text is this, and where it had ended it is what had come
     abbrev NextComes : Result Bool PartError → FormState S StdPolicy → Type 0
@@ -234,10 +229,10 @@ module _ {S : Type 0} (remaining : S → Option (List ℕ)) (texts heads : JustO
 
     passes : (answer : Result Bool PartError) (t : FormState S StdPolicy)
         → PassesText remaining std_read_rules s answer t → NextComes answer t
-    passes answer t (inl (m, (b, drains, same), goes)) = (
+    passes answer t (inl (m, (b, h, drains, last, same), goes)) = (
       handed_of b,
       (λ whole. ap handed_of (drains.ended whole)),
-      goes_on b drains answer t (subst (λ x. GoesOnFromHead remaining std_read_rules x answer t) same goes),
+      goes_on b h drains last answer t (subst (λ x. GoesOnFromHead remaining std_read_rules x answer t) same goes),
     )
     passes answer t (inr (e, same, leaves)) = (
       handed_of t.body,

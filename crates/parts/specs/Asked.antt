@@ -1,5 +1,5 @@
 -- What a run does that words ask for.
-use Rattle.std.specs.Prelude.{◌≡◌, ◌<◌, ◌≤◌, ◌+◌, ◌⊎◌, ℕ, List, [], ◌∷◌, ◌++◌, codes as text_codes, length, Option, Result, Err, OnOk, MatchResult}
+use Rattle.std.specs.Prelude.{◌≡◌, ◌<◌, ◌≤◌, ◌+◌, ◌⊎◌, ℕ, List, [], ◌∷◌, ◌++◌, codes as text_codes, length, false, Option, Result, Err, OnOk, MatchResult}
 use Rattle.std.specs.declared.io.Error.{Error}
 use Rattle.redux_buffer.specs.Faults.{MetInterrupts}
 use Rattle.body_reader.specs.Coding.{IsBody}
@@ -122,7 +122,7 @@ module _ {S T : Type 0} (tells : T → StreamLog) (trace : T → T → Type 0)
     pub s : FormState S StdPolicy
     pub u : Buffered T StdPolicy
     pub begun : IsBegun s.body.reader boundary run_limits s
-    pub codings : AreCodings s.body.coding s.other
+    pub codings : AreCodings false s.body.coding s.other
     pub none_read : s.body.reader.block.bytes ≡ []
     pub none_written : u.block.bytes ≡ []
     pub read_from : s.body.reader.log ≡ read

@@ -4,7 +4,7 @@ use Rattle.std.specs.declared.io.Error.{Error}
 use Rattle.std.specs.declared.io.ErrorKind.TheVariants.{Other}
 use Rattle.multipart.specs.declared.error.PartError.{PartError}
 use Rattle.multipart.specs.declared.error.PartError.TheVariants as part
-use Rattle.std.specs.Prelude.{◌≡◌, ◌≢◌, ℕ, ◌^◌, ◌+◌, ◌-◌, ◌<◌, ◌≤◌, ◌⊎◌, List, [], ◌∷◌, ◌++◌, length, min, All, codes as text_codes, decimal, if◌then◌else◌, map, nat_lt, unwrap_or, Option, Some, Result, Ok, Err, IfErr, IfOk, MatchResult, OnOk}
+use Rattle.std.specs.Prelude.{◌≡◌, ◌≢◌, ℕ, ◌^◌, ◌+◌, ◌-◌, ◌<◌, ◌≤◌, ◌⊎◌, List, [], ◌∷◌, ◌++◌, length, min, take, All, codes as text_codes, decimal, if◌then◌else◌, map, nat_lt, unwrap_or, Option, Some, Result, Ok, Err, IfErr, IfOk, MatchResult, OnOk}
 use Rattle.std.specs.Option.{option_and_then}
 use Rattle.redux_buffer.specs.Faults.{MetInterrupts}
 use Rattle.body_reader.specs.Between.{EachGave, FaultedOnce, GaveNothingOnce}
@@ -17,8 +17,8 @@ use Rattle.buffer_redux.specs.Buffered.{Buffered}
 use Rattle.buffer_redux.specs.Policy.{std_read_rules, std_write_rules}
 use Rattle.buffer_redux.specs.StreamLog.{StreamLog}
 use Rattle.buffer_redux.specs.declared.policy.StdPolicy.{StdPolicy}
-use Rattle.multipart.specs.Head.{IsPartHead, field_of, parameter_of}
-use Rattle.multipart.specs.Multipart.{FormState, codes, hyphens}
+use Rattle.multipart.specs.Head.{IsPartHead, RefusesPiece, field_of, parameter_of}
+use Rattle.multipart.specs.Multipart.{FormState, TurnsLast, codes, head_most, hyphens, is_full}
 use Rattle.multipart.specs.declared.reader.Limits.{Limits}
 use Rattle.multipart.specs.declared.reader.Stand.TheVariants.{Preamble, Part}
 use Rattle.parts.specs.declared.error.RunError.{RunError}
@@ -104,30 +104,24 @@ module _ (texts heads : JustOrUntil) where
       InSection t = ((before : List ℕ) × InText before t × (text ≡ handed_of t.body))
           ⊎ BehindText text t.body.taken t.body.reader
 
-      -- in a head
+      -- in a head, of which some that is buffered is refused
       pub record InHead (t : FormState S Q) : Type 0 where
         pub behind : BehindText text t.body.taken t.body.reader
-        pub inside : IsBodyReader (codes heads) t.body
+        pub coding : TurnsLast (is_full t) heads t.body.coding
+        pub inside : IsBodyReader (codes t.body.coding) t.body
+        pub some : 0 < t.body.known
+        pub gave : EachGave first t.body.reader
 
       -- why no part comes next: the stream ended within a text or a head, or failed there, or the text is longer than a run
-      -- counts; the head begins otherwise than the line of a boundary ends, or a boundary stands in it; it is too long with what
-      -- more of it is buffered, or memory for that was refused; or there are as many parts as these, and some of a head is
-      -- buffered, or it is whole, and is not the two hyphens
+      -- counts; or what is buffered of a head is refused, also as there are as many parts as these
       abbrev pub NextFails : Limits → PartError → FormState S Q → Type 0
       NextFails limits part.Truncated t =
           InSection t × EndsEarly (codes t.body.coding) t.body × GaveNothingOnce first t.body.reader
       NextFails limits (part.Io e) t = InSection t
           × ((EndsEarly (codes t.body.coding) t.body × FaultedOnce first e t.body.reader)
           ⊎ ((error_kind e ≡ Other) × (2 ^ 64 - 1 ≤ length (handed_of t.body)) × EachGave first t.body.reader))
-      NextFails limits part.Boundary t =
-          InHead t × (¬ IsPartHead texts.until.delimiter (handed_of t.body)) × EachGave first t.body.reader
-      NextFails limits part.LongHead t = InHead t × (0 < t.body.known)
-          × (limits.head < length (handed_of t.body) + t.body.known) × EachGave first t.body.reader
-      NextFails limits part.ManyParts t = InHead t × (limits.parts ≤ length turns)
-          × ((0 < t.body.known) ⊎ (IsBody (codes heads) t.body.taken (handed_of t.body) × (t.body.taken ≢ hyphens)))
-          × EachGave first t.body.reader
-      NextFails limits part.Memory t = InHead t × (0 < t.body.known)
-          × (length (handed_of t.body) + t.body.known ≤ limits.head) × EachGave first t.body.reader
+      NextFails limits e t = InHead t × RefusesPiece texts.until.delimiter (head_most limits (length turns)) (handed_of t.body)
+          (take t.body.known t.body.reader.block.bytes) e
 
 -- in a part, to which the bytes before it lead
 pub record InPart {S : Type 0} (s t : FormState S StdPolicy) : Type 0 where

@@ -281,7 +281,7 @@ fn fails(alloc: Global, bytes: &[u8], piece: usize, why: &str) -> io::Result<boo
 }
 
 // Bytes, and why their parts end.
-static WRONG: [(&[u8], &str); 15] = [
+static WRONG: [(&[u8], &str); 17] = [
     (
         b"--bc\r\n\r\n",
         "a boundary is not alone in its line, or in a head",
@@ -320,6 +320,8 @@ static WRONG: [(&[u8], &str); 15] = [
     (b"--b\r\n\r\n\r\n--b\r\n\r\n", "there are too many parts"),
     (b"--b\r\n\r\n\r\n--b\r\nA", "there are too many parts"),
     (b"--b\r\n\r\n\r\n--b ", "there are too many parts"),
+    (b"--b\r\n\r\n\r\n--b\r", "there are too many parts"),
+    (b"--b\r\n\r\n\r\n--b-a", "there are too many parts"),
     (b"--b\r\n\r\n\r\n--bc", "there are too many parts"),
 ];
 

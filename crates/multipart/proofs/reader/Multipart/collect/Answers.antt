@@ -1,11 +1,11 @@
--- The clause of the head, read through the view, by what is asked of it before each piece.
-use Rattle.std.proofs.Common.{refl, rules}
-use Rattle.body_reader.specs.BodyReaderLaws.{Collects-of}
+-- What is collected goes on with what came of the head before.
+use Rattle.std.proofs.Common.{◌∙◌, ap, sym}
+use Rattle.multipart.specs.Multipart.{head_most}
+use Rattle.multipart.proofs.Turning.{head_on}
 use Rattle.multipart.proofs.reader.Multipart.collect.Goals as goal
 
-pub returns : goal.returns
-returns g c = rw (← c.self.view_is) (
-  refl,
-  Collects-of g.R.TellRead.remaining g.P.ReaderPolicy.rules _ (λ all more says. search rules) _ _ _ _ _ _
-      (rw (c.most-most.ensures, ← c.self.view_is) at c.collect.ensures.collects),
-)
+pub invariant_of-self : goal.invariant_of-self
+invariant_of-self g c =
+    let stand = ap (λ x. x.stand) c.self.view_is ∙ c.requires.head in
+    rw stand (head_on _ _ _ (rw stand at c.self.invariant)
+    (rw (c.most-most.ensures ∙ ap (λ x. head_most x.limits x.parts) (sym c.self.view_is)) at c.collect.ensures))

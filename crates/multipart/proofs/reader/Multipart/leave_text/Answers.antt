@@ -1,6 +1,7 @@
 -- Where the text was drained the codings change places behind it, and else it stands in it still.
-use Rattle.std.proofs.Common.{◌∙◌, ap, inl, inr, refl}
+use Rattle.std.proofs.Common.{◌∙◌, ap, inl, inr, refl, sym}
 use Rattle.std.proofs.lemmas.Result.{err_from_is_err_and}
+use Rattle.multipart.specs.Multipart.{is_full}
 use Rattle.multipart.proofs.reader.Multipart.leave_text.Goals as goal
 
 pub returns-in_err-drain : goal.returns-in_err-drain
@@ -11,8 +12,10 @@ returns-in_err-drain g c =
 pub returns : goal.returns
 returns g c = rw (← c.self.view_is) (
   c.drain.new.self,
+  c.turn_last.new.heads,
   c.in_ok-drain.ensures.drains,
-  rw (c.begin_next.ensures.begun, c.begin_next.ensures.before, c.clear.ensures.items) refl,
+  (rw (c.is_full-full.ensures ∙ ap is_full (sym c.self.view_is)) at c.turn_last.ensures),
+  rw (c.begin_next.ensures.begun, c.begin_next.ensures.before, c.clear.ensures) refl,
 )
 
 pub invariant_of-self : goal.invariant_of-self
