@@ -4,7 +4,8 @@ use Rattle.std.specs.declared.io.Error.{Error}
 use Rattle.std.specs.declared.io.ErrorKind.TheVariants.{Other}
 use Rattle.multipart.specs.declared.error.PartError.{PartError}
 use Rattle.multipart.specs.declared.error.PartError.TheVariants as part
-use Rattle.std.specs.Prelude.{◌≡◌, ◌≢◌, ℕ, ◌^◌, ◌+◌, ◌-◌, ◌<◌, ◌≤◌, ◌⊎◌, List, [], ◌∷◌, ◌++◌, length, min, take, All, codes as text_codes, decimal, if◌then◌else◌, map, nat_lt, unwrap_or, Option, Some, Result, Ok, Err, IfErr, IfOk, MatchResult, OnOk}
+use Rattle.std.specs.Prelude.{◌≡◌, ◌≢◌, ℕ, ◌^◌, ◌+◌, ◌-◌, ◌<◌, ◌≤◌, ◌⊎◌, List, [], ◌∷◌, ◌++◌, length, min, take, All, codes as text_codes, decimal, if◌then◌else◌, map, unwrap_or, Option, Some, Result, Ok, Err, IfErr, IfOk, MatchResult, OnOk}
+use Rattle.std.specs.Char.{is_ascii_control}
 use Rattle.std.specs.Option.{option_and_then}
 use Rattle.redux_buffer.specs.Faults.{MetInterrupts}
 use Rattle.body_reader.specs.Between.{EachGave, FaultedOnce, GaveNothingOnce}
@@ -40,9 +41,9 @@ SaysName name head = said_of (text_codes "name") head ≡ Some name
 abbrev pub NoneNamed : List ℕ → List Turn → Type 0
 NoneNamed name turns = All (λ turn. ¬ SaysName name turn.head) turns
 
--- a byte as it is printed: one below a blank, as a tab or a line feed, is a `?`
+-- a byte as it is printed: a control byte, as a tab or a line feed, is a `?`
 abbrev pub printed : ℕ → ℕ
-printed byte = if nat_lt byte 32 then 63 else byte
+printed byte = if is_ascii_control byte then 63 else byte
 
 -- what is said, as it is printed, or `-`, and a tab
 abbrev pub column : Option (List ℕ) → List ℕ

@@ -58,11 +58,11 @@ fn put_printed<W: TellWrite>(text: &[u8], target: &mut BufWriter<W>) -> io::Resu
     Ok(())
 }
 
-// A byte as it is printed: one below a blank, as a tab or a line feed, is a `?`.
+// A byte as it is printed: a control byte, as a tab or a line feed, is a `?`.
 fn printed(byte: u8) -> u8
     ensures { result ≡ printed byte }
 {
-    if byte < b' ' { b'?' } else { byte }
+    if byte.is_ascii_control() { b'?' } else { byte }
 }
 
 fn or_hyphen<'a>(said: Option<&'a [u8]>) -> &'a [u8]
