@@ -1,5 +1,5 @@
 -- How a head begins, its fields, and the parameters of a value.
-use Rattle.std.specs.Prelude.{◌≡◌, ℕ, ◌+◌, ◌-◌, ◌<◌, ◌≤◌, ◌==◌, ◌||◌, ◌&&◌, List, [], ◌∷◌, ◌++◌, length, take, drop, Bool, false, IsTrue, not, if◌then◌else◌, nat_eq, IsSomeAnd, Option, None, slice_index, slice_index_or, find, position, take_while}
+use Rattle.std.specs.Prelude.{◌≡◌, ℕ, ◌+◌, ◌-◌, ◌<◌, ◌≤◌, ◌==◌, ◌||◌, ◌&&◌, List, [], ◌∷◌, ◌++◌, length, take, drop, Bool, false, IsTrue, not, if◌then◌else◌, nat_eq, IsSomeAnd, Option, None, slice_index, slice_index_or, find, position}
 use Rattle.std.specs.Borrow.{Bor}
 use Rattle.std.specs.Char.{is_ascii_whitespace}
 use Rattle.std.specs.List.{filter_map, onto_first, prefix_len, starts_with, suffix_len}
@@ -86,14 +86,14 @@ cut began place [] = [] ∷ []
 cut began place (byte ∷ rest) = if closes began place byte then [] ∷ cut began began rest
     else onto_first byte (cut began (next_place place byte) rest)
 
--- what is said behind `=`: what stands in quotes, or up to a blank
+-- what is said behind `=`: what stands in quotes, or else all
 abbrev pub unquoted : List ℕ → List ℕ
-unquoted text = if starts_with nat_eq text (34 ∷ []) then slice_index_or (cut Quoted Quoted (drop 1 text)) 0 []
-    else take_while (λ byte. not (is_blank byte)) text
+unquoted text =
+    if starts_with nat_eq text (34 ∷ []) then slice_index_or (cut Quoted Quoted (drop 1 text)) 0 [] else text
 
 -- a piece as a parameter: its name before the first `=`, and what it says behind it
 abbrev pub as_parameter : List ℕ → Option (List ℕ × List ℕ)
-as_parameter piece = option_map (λ p. (trimmed p.0, unquoted p.1)) (split_once 61 piece)
+as_parameter piece = option_map (λ p. (trimmed p.0, unquoted (trimmed p.1))) (split_once 61 piece)
 
 -- what the first parameter of this name says: they stand behind the first `;`
 abbrev pub parameter_of : List ℕ → List ℕ → Option (List ℕ)

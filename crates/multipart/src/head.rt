@@ -1,5 +1,5 @@
 //! Fields in the head of a part, and what their parameters say.
-ghost use Rattle.std.specs.Prelude.{◌≡◌, ◌<◌, ◌≤◌, ◌==◌, [], ◌∷◌, length, not, position, IfSome};
+ghost use Rattle.std.specs.Prelude.{◌≡◌, ◌<◌, ◌≤◌, ◌==◌, [], ◌∷◌, length, position, IfSome};
 ghost use Rattle.std.specs.List.{prefix_len};
 ghost use Rattle.std.specs.Option.{option_copied, option_map, option_map_or};
 ghost use Rattle.multipart.specs.Head.{as_field, as_parameter, texts_of, cut, ends_line, field_of, is_blank, closes, is_opening, head_lines, parameter_of, next_place, split_once, unquoted};
@@ -145,22 +145,14 @@ fn split_closed(text: &[u8], began: Place) -> (&[u8], Option<&[u8]>)
     (text, None)
 }
 
-// What is said behind `=`: what stands in quotes, as it stands, or up to a blank.
+// What is said behind `=`: what stands in quotes, as it stands, or else all.
 fn unquoted(text: &[u8]) -> &[u8]
     ensures { result.now ≡ unquoted text.now }
 {
     if text.starts_with(b"\"") {
         return split_closed(&text[1..], Place::Quoted).0;
     }
-    &text[..word_len(text)]
-}
-
-// How many bytes stand before the first blank.
-fn word_len(text: &[u8]) -> usize
-    ensures value { result ≡ prefix_len (λ byte. not (is_blank byte)) text.now }
-    ensures within { result ≤ length text.now }
-{
-    text.iter().take_while(|byte| !is_blank(**byte)).count()
+    text
 }
 
 // A piece as a parameter: its name, and what it says.
@@ -168,11 +160,11 @@ fn as_parameter(piece: &[u8]) -> Option<(&[u8], &[u8])>
     ensures { option_map texts_of result ≡ as_parameter piece.now }
 {
     let (name, said) = split_once(piece, b'=')?;
-    Some((name.trim_ascii(), unquoted(said)))
+    Some((name.trim_ascii(), unquoted(said.trim_ascii())))
 }
 
 /// What a parameter of a field's value says, as `name` of `form-data; name="a"`: what stands between its quotes, as it stands,
-/// or up to the next `;` or blank.
+/// or up to the next `;`, without white space around it.
 pub fn parameter<'a>(value: &'a [u8], name: &[u8]) -> Option<&'a [u8]>
     ensures value { option_copied result ≡ parameter_of value.now name.now }
 {
