@@ -52,21 +52,17 @@ trimmed text = let front = drop (prefix_len is_ascii_whitespace text) text in
     take (length front - suffix_len is_ascii_whitespace front) front
 
 -- what stands before the first such byte, and what behind it
-abbrev pub split_once : ℕ → List ℕ → Option (List ℕ × List ℕ)
-split_once byte text = option_map (λ at. (take at text, drop (at + 1) text)) (position (λ here. here == byte) text)
-
--- a line as a field: its name before the first colon, its value behind it
-abbrev pub as_field : List ℕ → Option (List ℕ × List ℕ)
-as_field line = option_map (λ f. (f.0, trimmed f.1)) (split_once 58 line)
+abbrev pub as_pair : ℕ → List ℕ → Option (List ℕ × List ℕ)
+as_pair byte text = option_map (λ at. (take at text, trimmed (drop (at + 1) text))) (position (λ here. here == byte) text)
 
 -- of parts, those that are a name and what is said of it, what the first of this name says, whatever the case of its letters
 abbrev pub first_among : (List ℕ → Option (List ℕ × List ℕ)) → List ℕ → List (List ℕ) → Option (List ℕ)
 first_among as_pair name parts =
     option_map (λ pair. pair.1) (find (λ pair. str_eq_ignore_ascii_case pair.0 name) (filter_map as_pair parts))
 
--- the value of the first field of this name
+-- the value of the first field of this name, which stands before a colon
 abbrev pub field_of : List ℕ → List ℕ → Option (List ℕ)
-field_of head name = first_among as_field name (head_lines head)
+field_of head name = first_among (as_pair 58) name (head_lines head)
 
 -- where the byte behind one stands: a quote begins and ends quotes, and in them a backslash takes the next byte with it
 abbrev pub next_place : Place → ℕ → Place
@@ -93,7 +89,7 @@ unquoted text =
 
 -- a piece as a parameter: its name before the first `=`, and what it says behind it
 abbrev pub as_parameter : List ℕ → Option (List ℕ × List ℕ)
-as_parameter piece = option_map (λ p. (trimmed p.0, unquoted (trimmed p.1))) (split_once 61 piece)
+as_parameter piece = option_map (λ p. (trimmed p.0, unquoted p.1)) (as_pair 61 piece)
 
 -- what the first parameter of this name says: they stand behind the first `;`
 abbrev pub parameter_of : List ℕ → List ℕ → Option (List ℕ)

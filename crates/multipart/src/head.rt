@@ -2,7 +2,7 @@
 ghost use Rattle.std.specs.Prelude.{◌≡◌, ◌<◌, ◌≤◌, ◌==◌, [], ◌∷◌, length, position, IfSome};
 ghost use Rattle.std.specs.List.{prefix_len};
 ghost use Rattle.std.specs.Option.{option_copied, option_map, option_map_or};
-ghost use Rattle.multipart.specs.Head.{as_field, as_parameter, texts_of, cut, ends_line, field_of, is_blank, closes, is_opening, head_lines, parameter_of, next_place, split_once, unquoted};
+ghost use Rattle.multipart.specs.Head.{as_pair, as_parameter, texts_of, cut, ends_line, field_of, is_blank, closes, is_opening, head_lines, parameter_of, next_place, unquoted};
 
 // Whether a byte is a space or a tab.
 fn is_blank(byte: u8) -> bool
@@ -49,14 +49,12 @@ fn split_line(text: &[u8]) -> (&[u8], Option<&[u8]>)
     (text, None)
 }
 
-// What stands before the first such byte, and what behind it.
-fn split_once(text: &[u8], byte: u8) -> Option<(&[u8], &[u8])>
-    ensures { option_map texts_of result ≡ split_once byte text.now }
+// What stands before the first such byte, and behind it, without white space around that.
+fn as_pair(text: &[u8], byte: u8) -> Option<(&[u8], &[u8])>
+    ensures { option_map texts_of result ≡ as_pair byte text.now }
 {
-    match place_of(text, byte) {
-        Some(at) => Some((&text[..at], &text[at + 1..])),
-        None => None,
-    }
+    let at = place_of(text, byte)?;
+    Some((&text[..at], text[at + 1..].trim_ascii()))
 }
 
 // Where the first such byte stands.
@@ -67,14 +65,6 @@ fn place_of(text: &[u8], byte: u8) -> Option<usize>
     text.iter().position(|here| *here == byte)
 }
 
-// A line as a field: its name, and its value.
-fn as_field(line: &[u8]) -> Option<(&[u8], &[u8])>
-    ensures { option_map texts_of result ≡ as_field line.now }
-{
-    let (name, value) = split_once(line, b':')?;
-    Some((name, value.trim_ascii()))
-}
-
 /// The value of the first field of this name, whatever the case of its letters, in a head as
 /// [`head`](crate::Multipart::head) lends it.
 pub fn field<'a>(head: &'a [u8], name: &[u8]) -> Option<&'a [u8]>
@@ -83,7 +73,7 @@ pub fn field<'a>(head: &'a [u8], name: &[u8]) -> Option<&'a [u8]>
     let mut left = Some(head);
     while let Some(text) = left {
         let (line, rest) = split_line(text);
-        if let Some((found, value)) = as_field(line) {
+        if let Some((found, value)) = as_pair(line, b':') {
             if found.eq_ignore_ascii_case(name) {
                 return Some(value);
             }
@@ -159,8 +149,8 @@ fn unquoted(text: &[u8]) -> &[u8]
 fn as_parameter(piece: &[u8]) -> Option<(&[u8], &[u8])>
     ensures { option_map texts_of result ≡ as_parameter piece.now }
 {
-    let (name, said) = split_once(piece, b'=')?;
-    Some((name.trim_ascii(), unquoted(said.trim_ascii())))
+    let (name, said) = as_pair(piece, b'=')?;
+    Some((name.trim_ascii(), unquoted(said)))
 }
 
 /// What a parameter of a field's value says, as `name` of `form-data; name="a"`: what stands between its quotes, as it stands,

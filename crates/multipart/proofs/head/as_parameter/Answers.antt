@@ -8,7 +8,6 @@ use Rattle.multipart.proofs.head.as_parameter.Goals as goal
 pub returns : goal.returns
 returns c =
     let found = trim_ascii_is c.in_ok-name.name.now c.trim_ascii.result.now _ refl c.trim_ascii.ensures.value in
-    let said = trim_ascii_is c.in_ok-name.said.now c.trim_ascii-2.result.now _ refl c.trim_ascii-2.ensures.value in
     ap (λ n. Some (n, c.unquoted.result.now)) found
-    ∙ ap (λ s. Some (trimmed c.in_ok-name.name.now, s)) (c.unquoted.ensures ∙ ap unquoted said)
-    ∙ ap (option_map (λ p. (trimmed p.0, unquoted (trimmed p.1)))) c.in_ok-name.ensures
+    ∙ ap (λ s. Some (trimmed c.in_ok-name.name.now, s)) c.unquoted.ensures
+    ∙ ap (option_map (λ p. (trimmed p.0, unquoted p.1))) c.in_ok-name.ensures
