@@ -1,24 +1,24 @@
 -- Answers, one after another.
-use Rattle.std.proofs.Common.{IfSome, ◌≡◌, ◌⊎◌, ℕ, ◌+◌, Bool, true, false, List, [], ◌++◌, length, Option, None, Some, Result, Ok, Err, IfErr, sym, subst, inl, inr, refl, arith, append-nil}
-use Rattle.requests.proofs.Names.{All-nil, answered, AnswersEach, AnswersWhole, BadRequest, Begun, Begun-message, Begun-went, Both, Buffered, call_at, called, early_refusal, Ending, ending_of, EndsOnce, EndsUntaken, Error, FailsLast, faults_of, Heads, InBody, Inside, InsideGoes, Io, is_called, is_known, is_large, IsHead, IsLastTurn, IsMessage, IsPartTaken, IsRest, IsSentLast, IsToBeRefused, LargeBody, left_of, MayFollow, Message, OnlyInterrupts, Over, ParsedHead, Place, PutsText, ReaderState, refusal, Refusal, refused, RunEndsBy, RunsToLast, sending_of, sent_till, StdPolicy, stream_at, StreamLog, StreamWent-joins, StreamWent-none, TakeFails, TakesWhole, Truncated, Unbuffered, Unread, Untaken, usual, WritesParts, WritesPromptly, Wrong}
+use Rattle.std.proofs.Common.{IfSome, ◌≡◌, ℕ, Bool, true, false, List, [], ◌++◌, length, Option, None, Some, Result, Ok, Err, sym, subst, inl, inr, refl, arith}
+use Rattle.requests.proofs.Names.{All-nil, answered, AnswersEach, AnswersWhole, AwaitsBody, BadRequest, Begun, Begun-message, Begun-went, Both, Buffered, CallsFor, early_refusal, Ending, ending_of, EndsOnce, EndsUntaken, Error, faults_of, HandsOutInOrder-none, heads, Heads, InBody, Inside, InsideGoes, Io, is_known, is_large, IsAwaited, IsHead, IsLastTurn, IsMessage, IsOpen, IsPartTaken, IsRest, IsToBeRefused, LargeBody, left_of, MayFollow, Message, OnlyInterrupts, Over, ParsedHead, Place, ReaderState, refusal, Refusal, RunEndsBy, RunsToLast, sending_of, sent_till, StdPolicy, stream_at, StreamLog, StreamWent-joins, StreamWent-none, TakeFails, TakesWhole, Truncated, Unbuffered, Unread, Untaken, usual, WritesParts, WritesPromptly, Wrong}
 use Rattle.requests.specs.declared.Ending.TheVariants as stop
 use Rattle.requests.specs.declared.taking.Untaken.TheVariants.{Body, Large, Unsent, Many}
 use Rattle.requests.proofs.Reading.{IsMany-still, IsToBeRefused-still, FailsInRead-still, begun_once, begun_steady, is_part, joined, part_went}
-use Rattle.requests.proofs.Sending.{WritesPromptly-after, WritesPromptly-none, WritesPromptly-parts}
+use Rattle.requests.proofs.Sending.{WritesPromptly-none, WritesPromptly-on}
 
 module _ {W : Type 0} {tells : W → StreamLog} {trace : W → W → Type 0} where
-  pub FailsLast-of : {w v w' : Buffered W StdPolicy} {text front part : List ℕ} (Last : List ℕ → Type 0)
-      (sending : Result (Unit {0}) Error) → text ≡ front ++ part → (part ≡ []) ⊎ Last part
-      → PutsText tells trace w front (Ok tt) v
-      → PutsText tells trace v part sending w' → IfErr sending (λ e. FailsLast tells trace Last w text e w')
-  FailsLast-of Last (Ok x) equal last put puts = tt
-  FailsLast-of {w} {v} {w'} {text} {front} {part} Last (Err e) equal last put puts =
-      record { front = front; part = part; equal = equal; last = last; before = v; put = put; fails = puts }
+  -- more of a body is asked for only where its head settles no refusal
+  awaits : {R : Type 0} → ((u : W) → trace u u) → ((u v x : W) → trace u v → trace v x → trace u x) → (head : List ℕ)
+      (said : ParsedHead) {a b : Both R W} (sending : Result (Unit {0}) Error) → early_refusal (is_known head) said ≡ None
+      → WritesPromptly tells trace (IsAwaited said.extent) a sending b
+      → WritesPromptly tells trace (AwaitsBody head said) a sending b
+  awaits none joins head said {a} {b} sending open' = WritesPromptly-on joins (IsAwaited said.extent) (AwaitsBody head said) a a b
+      sending (HandsOutInOrder-none a.0) (λ more is. (open', is)) (WritesPromptly-none (AwaitsBody head said) none a)
 
   module _ {R : Type 0} {remaining : R → Option (List ℕ)} where
     -- no turn was taken
     pub no_turn : ((u : W) → trace u u) → (a : Both R W) → AnswersEach remaining tells trace [] a a
-    no_turn none a = (StreamWent-none remaining a.0, WritesPromptly-none none a)
+    no_turn none a = (StreamWent-none remaining a.0, WritesPromptly-none (IsOpen (heads usual)) none a)
 
     module _ (none : (u : W) → trace u u) {s : Unbuffered R} {w w' : Buffered W StdPolicy} (taken handed : List ℕ)
         (place : Place R) (part : IsPartTaken place taken handed)
@@ -26,8 +26,7 @@ module _ {W : Type 0} {tells : W → StreamLog} {trace : W → W → Type 0} whe
       -- a run of one turn, in which one message went, or none
       pub RunsToLast-one : (last : List Message) (refuses : Option Refusal) → IfSome refuses (IsToBeRefused s place handed)
           → (ending : Ending)
-          → IsLastTurn remaining tells trace last taken (call_at place ++ refused refuses) (IsSentLast taken refuses place) (s, w)
-          (sending_of ending) (stream_at place, w')
+          → IsLastTurn remaining tells trace last taken place refuses (s, w) (sending_of ending) (stream_at place, w')
           → RunEndsBy remaining tells trace s last taken handed refuses place w' ending
           → RunsToLast remaining tells trace s w place ending w'
       RunsToLast-one last refuses wrong ending turn ends = record {
@@ -44,8 +43,7 @@ module _ {W : Type 0} {tells : W → StreamLog} {trace : W → W → Type 0} whe
 
       -- what comes is refused, before a message went
       pub RunsToLast-refused : (why : Refusal) (sending : Result (Unit {0}) Error)
-          → IsLastTurn remaining tells trace [] taken (call_at place ++ refusal why) (IsSentLast taken (Some why) place) (s, w)
-          sending (stream_at place, w')
+          → IsLastTurn remaining tells trace [] taken place (Some why) (s, w) sending (stream_at place, w')
           → IsToBeRefused s place handed why → OnlyInterrupts (faults_of s) (faults_of (stream_at place))
           → RunsToLast remaining tells trace s w place (ending_of sending) w'
       RunsToLast-refused why (Ok x) turn wrong met =
@@ -53,59 +51,52 @@ module _ {W : Type 0} {tells : W → StreamLog} {trace : W → W → Type 0} whe
       RunsToLast-refused why (Err e) turn wrong met =
           RunsToLast-one [] (Some why) wrong (stop.Unsent e) turn (met, inl (All-nil (MayFollow true)))
 
-    module _ (joins : (u v x : W) → trace u v → trace v x → trace u x) where
+    module _ (none : (u : W) → trace u u) (joins : (u v x : W) → trace u v → trace v x → trace u x) {b : InBody R}
+        (open' : early_refusal (is_known b.head) b.said ≡ None) where
       -- one did in part, and this is why
-      module _ (none : (u : W) → trace u u) {s : ReaderState R Heads} {b t : InBody R} {handed : List ℕ}
-          (begun : Begun remaining s b)
+      module _ {s : ReaderState R Heads} {t : InBody R} {handed : List ℕ} (begun : Begun remaining s b)
           (limits : b.limits ≡ usual)
           (goes : InsideGoes remaining b handed t) {w u : Buffered W StdPolicy}
-          (call : WritesPromptly tells trace (left_of s, w) (called (is_called (is_known b.head) b.said)) (Ok tt)
-          (b.stream, u)) where
-        called_here : WritesPromptly tells trace (left_of s, w) (call_at (Inside t)) (Ok tt) (b.stream, u)
-        called_here = subst (λ x. WritesPromptly tells trace (left_of s, w) (called (is_called (is_known t.head) x)) (Ok tt)
-            (b.stream, u)) (sym goes.said)
-            (subst (λ h. WritesPromptly tells trace (left_of s, w) (called (is_called (is_known h) b.said)) (Ok tt) (b.stream, u))
-            (sym goes.head) call)
+          (call : CallsFor remaining tells trace b.head b.said (left_of s, w) (Ok tt) (b.stream, u)) where
+        still : (P : List ℕ → ParsedHead → Type 0) → P b.head b.said → P t.head t.said
+        still P is = subst (λ x. P t.head x) (sym goes.said) (subst (λ h. P h b.said) (sym goes.head) is)
+
+        called_here : CallsFor remaining tells trace t.head t.said (left_of s, w) (Ok tt) (b.stream, u)
+        called_here = still (λ h x. CallsFor remaining tells trace h x (left_of s, w) (Ok tt) (b.stream, u)) call
+
+        awaits_here : (sending : Result (Unit {0}) Error) (v : Buffered W StdPolicy)
+            → WritesPromptly tells trace (IsAwaited b.said.extent) (b.stream, u) sending (t.stream, v)
+            → WritesPromptly tells trace (AwaitsBody t.head t.said) (b.stream, u) sending (t.stream, v)
+        awaits_here sending v on =
+            still (λ h x. WritesPromptly tells trace (AwaitsBody h x) (b.stream, u) sending (t.stream, v))
+            (awaits none joins b.head b.said sending open' on)
 
         refused_torn : {v w' : Buffered W StdPolicy} (why : Refusal) (answer : Result (Unit {0}) Error)
             → EndsOnce b.stream.log.reads t.stream.log.reads → OnlyInterrupts (faults_of b.stream) (faults_of t.stream)
-            → IsToBeRefused b.stream (Inside t) handed why → WritesPromptly tells trace (b.stream, u) [] (Ok tt) (t.stream, v)
+            → IsToBeRefused b.stream (Inside t) handed why
+            → WritesPromptly tells trace (IsAwaited b.said.extent) (b.stream, u) (Ok tt) (t.stream, v)
             → WritesParts tells trace v (refusal why) answer w'
             → RunsToLast remaining tells trace (left_of s) w (Inside t) (ending_of answer) w'
         refused_torn {v} {w'} why answer once reads torn on parts =
-            let first : WritesPromptly tells trace (left_of s, w) (call_at (Inside t)) (Ok tt) (t.stream, v) =
-            subst (λ l. WritesPromptly tells trace (left_of s, w) l (Ok tt) (t.stream, v)) (append-nil (call_at (Inside t)))
-            (WritesPromptly-after joins (left_of s, w) (b.stream, u) (t.stream, v) (call_at (Inside t)) [] (Ok tt) called_here
-            on) in
-            let then = WritesPromptly-parts t.stream parts in
             RunsToLast-refused none (b.head ++ goes.takes.wire) handed (Inside t) (is_part begun limits goes)
-            (begun_once begun t.stream once) why answer (
-              part_went begun goes,
-              WritesPromptly-after joins (left_of s, w) (t.stream, v) (t.stream, w') (call_at (Inside t)) (refusal why) answer
-                  first then,
-              FailsLast-of (IsSentLast (b.head ++ goes.takes.wire) (Some why) (Inside t)) answer refl (inr refl) first.puts
-                  then.puts,
-            )
+            (begun_once begun t.stream once) why answer
+            (part_went begun goes, inr ((b.stream, u), called_here, (v, awaits_here (Ok tt) v on, parts)))
             (IsToBeRefused-still (begun_steady begun) (Inside t) handed why torn)
             (joined (begun_steady begun) t.stream reads)
 
         -- nothing is refused, and the run ends so
         stops : {v : Buffered W StdPolicy} (ending : Ending) → EndsOnce b.stream.log.reads t.stream.log.reads
-            → WritesPromptly tells trace (b.stream, u) [] (sending_of ending) (t.stream, v)
+            → WritesPromptly tells trace (IsAwaited b.said.extent) (b.stream, u) (sending_of ending) (t.stream, v)
             → RunEndsBy remaining tells trace (left_of s) [] (b.head ++ goes.takes.wire) handed None (Inside t) v ending
             → RunsToLast remaining tells trace (left_of s) w (Inside t) ending v
         stops {v} ending once on ends =
             RunsToLast-one none (b.head ++ goes.takes.wire) handed (Inside t) (is_part begun limits goes)
-            (begun_once begun t.stream once) [] None tt ending (
-              part_went begun goes,
-              WritesPromptly-after joins (left_of s, w) (b.stream, u) (t.stream, v) (call_at (Inside t)) []
-                  (sending_of ending) called_here on,
-              FailsLast-of (IsSentLast (b.head ++ goes.takes.wire) None (Inside t)) (sending_of ending) refl (inl refl)
-                  called_here.puts on.puts,
-            ) ends
+            (begun_once begun t.stream once) [] None tt ending
+            (part_went begun goes, inr ((b.stream, u), called_here, awaits_here (sending_of ending) v on)) ends
 
         pub torn_answered : {v w' : Buffered W StdPolicy} (why : Untaken) (ending : Ending) → TakeFails b.stream handed why t v
-            → WritesPromptly tells trace (b.stream, u) [] (sent_till why) (t.stream, v) → EndsUntaken tells trace v why ending w'
+            → WritesPromptly tells trace (IsAwaited b.said.extent) (b.stream, u) (sent_till why) (t.stream, v)
+            → EndsUntaken tells trace v why ending w'
             → RunsToLast remaining tells trace (left_of s) w (Inside t) ending w'
         torn_answered (Body (Wrong why)) ending (once, reads, torn) on (answer, is, parts) =
             rw is (refused_torn BadRequest answer once reads torn on parts)
@@ -130,17 +121,15 @@ module _ {W : Type 0} {tells : W → StreamLog} {trace : W → W → Type 0} whe
         ))
 
       -- one did, whole, and its payload was counted
-      pub one_answered : {s : ReaderState R Heads} {b : InBody R} {t : Unbuffered R} {len : ℕ} {known : Bool} {said : ParsedHead}
+      pub one_answered : {s : ReaderState R Heads} {t : Unbuffered R} {len : ℕ} {known : Bool} {said : ParsedHead}
           {w u v w' : Buffered W StdPolicy} {sending : Result (Unit {0}) Error} → Begun remaining s b → b.limits ≡ usual
           → (whole : TakesWhole remaining b t len) → said ≡ b.said → known ≡ is_known b.head
-          → early_refusal (is_known b.head) b.said ≡ None
-          → WritesPromptly tells trace (left_of s, w) (called (is_called (is_known b.head) b.said)) (Ok tt) (b.stream, u)
-          → WritesPromptly tells trace (b.stream, u) [] (Ok tt) (t, v)
+          → CallsFor remaining tells trace b.head b.said (left_of s, w) (Ok tt) (b.stream, u)
+          → WritesPromptly tells trace (IsAwaited b.said.extent) (b.stream, u) (Ok tt) (t, v)
           → WritesParts tells trace v (answered known said len) sending w'
           → AnswersWhole remaining tells trace (b.head, whole.1) (left_of s, w) sending (t, w')
-      one_answered {s} {b} {t} {len} {known} {said} {w} {u} {v} {w'} {sending} begun limits (wire, payload, went, is, many, small)
-          same
-          method open' call on parts =
+      one_answered {s} {t} {len} {known} {said} {w} {u} {v} {w'} {sending} begun limits (wire, payload, went, is, many, small)
+          same method call on parts =
           let bytes = b.head ++ wire in
           let message = subst (λ l. (m : IsMessage l (b.head ++ wire) b.head payload) × (m.wire ≡ wire) × (m.text.said ≡ b.said))
           limits
@@ -149,10 +138,6 @@ module _ {W : Type 0} {tells : W → StreamLog} {trace : W → W → Type 0} whe
           let taken : is_large message.0.text.said.extent (length message.0.wire) (length payload) ≡ false =
           rw (message.2, message.1) (rw begun.taken at small) in
           let answer : answered known said len ≡ answered (is_known b.head) b.said (length payload) = rw (method, same, many) in
-          let calls = called (is_called (is_known b.head) b.said) in
-          let first : WritesPromptly tells trace (left_of s, w) calls (Ok tt) (t, v) =
-          subst (λ l. WritesPromptly tells trace (left_of s, w) l (Ok tt) (t, v)) (append-nil calls)
-          (WritesPromptly-after joins (left_of s, w) (b.stream, u) (t, v) calls [] (Ok tt) call on) in
           record {
             bytes = bytes;
             is = (message.0, taken);
@@ -160,7 +145,9 @@ module _ {W : Type 0} {tells : W → StreamLog} {trace : W → W → Type 0} whe
             said = b.said;
             head = head;
             open' = open';
+            begun = (b.stream, u);
+            calls = call;
             before = v;
-            calls = first;
+            reads = awaits none joins b.head b.said (Ok tt) open' on;
             answers = subst (λ l. WritesParts tells trace v l sending w') answer parts;
           }

@@ -1,11 +1,10 @@
 -- What was sent before a further head was asked for.
-use Rattle.std.proofs.Common.{◌≡◌, ◌∙◌, ◌<◌, ◌+◌, ℕ, Bool, true, false, MatchBool, List, [], ◌∷◌, ◌++◌, length, Option, None, Some, Ok, Err, inl, inr, ap, refl, sym, subst, arith, length-append}
-use Rattle.requests.proofs.Names.{AskedIn, AskedWhere, AsksForMore, AsksNone-settled, BadHead, BeginsRest, Buffered, empty_reads, Error, HandsOutInOrder, Heads, heads, heads_lawful, InBody, IsOpen, IsRest, IsSettled, left_of, NextAnswer, NextPiece, nil_from_length, NoEnd, PiecesWent-stream, PiecesWent-unasked, ReaderState, rest, RunsShort, SendsUnless, StdPolicy, StreamLog, Unbuffered, usual, WritesOnlyHeld, WritesPromptly}
+use Rattle.std.proofs.Common.{◌≡◌, ◌∙◌, ◌<◌, ◌+◌, ℕ, Bool, true, false, MatchBool, List, [], ◌∷◌, ◌++◌, length, Option, None, Some, Result, Ok, Err, inl, inr, ap, refl, sym, subst, arith, length-append}
+use Rattle.requests.proofs.Names.{AskedIn, AskedOver, AskedWhere, AsksForMore, AsksNone-settled, BadHead, BeginsRest, Buffered, empty_reads, Error, HandsOutInOrder, Heads, heads, heads_lawful, InBody, InsideGoes, IsOpen, IsRest, IsSettled, left_of, NextAnswer, NextPiece, nil_from_length, NoEnd, PiecesWent-stream, PiecesWent-unasked, ReaderState, rest, RunsShort, SendsUnless, StdPolicy, StreamLog, Unbuffered, usual, WritesOnlyHeld, WritesPromptly}
 use Rattle.buffer_redux.specs.AskingLaws.{AskedWhere-of}
 use Rattle.codec.specs.declared.NextError.TheVariants as why
-use Rattle.codec.specs.GrammarLaws.{open_none}
-use Rattle.requests.proofs.Sending.{WritesPromptly-after, WritesPromptly-asked, WritesPromptly-read, WritesPromptly-unsent, sent_then}
-use Rattle.requests.proofs.Reading.{wrong_unasked}
+use Rattle.requests.proofs.Sending.{WritesPromptly-asked, WritesPromptly-on, WritesPromptly-read, WritesPromptly-unsent, sent_then}
+use Rattle.requests.proofs.Reading.{begins_on, wrong_unasked}
 
 -- under the usual limits heads are the usual ones
 pub usually : {R : Type 0} {remaining : R → Option (List ℕ)} {s t : ReaderState R Heads} {answer : NextAnswer BadHead}
@@ -57,10 +56,10 @@ settled_where s t same (Err (why.Io e)) next = absurd (omega (
 -- and where nothing is settled the stream is asked
 asks_where : {R : Type 0} {remaining : R → Option (List ℕ)} (s t : ReaderState R Heads) (answer : NextAnswer BadHead)
     → NextPiece remaining (heads usual) s answer t → (¬ (IsSettled (heads usual) s))
-    → s.reader.log.reads.asks < t.reader.log.reads.asks
+    → AskedOver (IsOpen (heads usual)) (left_of s) (left_of t)
 asks_where s t answer next unsettled = elim next.asked [
   | inl same ↦ absurd (unsettled (settled_where s t same answer next))
-  | inr over ↦ over.1.some
+  | inr over ↦ over.1
 ]
 
 -- a body of which something is buffered, and can't be handed out, isn't asked for
@@ -87,45 +86,57 @@ module _ {R W : Type 0} {remaining : R → Option (List ℕ)} {tells : W → Str
   pub comes : (s : ReaderState R Heads) (w v : Buffered W StdPolicy)
       → SendsUnless tells trace (IsSettled (heads usual) s) w (Ok tt) v
       → (answer : NextAnswer BadHead) (t : ReaderState R Heads) → NextPiece remaining (heads usual) s answer t
-      → WritesOnlyHeld tells trace (left_of s, w) (left_of t, v)
+      → WritesOnlyHeld tells trace (IsOpen (heads usual)) (left_of s, w) (left_of t, v)
   comes s w v sends answer t next =
       let still : IsSettled (heads usual) s → t.reader.log ≡ s.reader.log = λ settled.
       AsksNone-settled remaining (heads usual) (heads_lawful usual) s settled answer t next in
       record {
-        writes = WritesPromptly-asked none (left_of s) (left_of t) w v
-            (PiecesWent-stream remaining (heads usual).most s t next.bytes next.went).order sends (open_where s)
+        writes = WritesPromptly-asked (IsOpen (heads usual)) none (left_of s) (left_of t) w v
+            (PiecesWent-stream remaining (heads usual).most s t next.bytes next.went).order sends
             (asks_where s t answer next) still;
         asked = elim (sent_then w v sends) [ inl settled ↦ inl (still settled) | inr all ↦ inr all ];
       }
 
--- where nothing is left nothing is settled
-open_behind : {R : Type 0} (m : Unbuffered R) → (¬ (0 < length m.left)) → IsOpen (heads usual) m.left
-open_behind m lacks = subst (IsOpen (heads usual)) (sym (nil_from_length m.left (omega (arith, lacks))))
-    (open_none (heads usual) (heads_lawful usual))
+-- a body of which nothing is buffered, and that goes on, is asked for
+empty_asked : {R : Type 0} {slice : ℕ} (m t : InBody R) (into : List ℕ) → m.stream.left ≡ [] → 0 < length into
+    → (¬ (IsRest m.rest [] [])) → AskedWhere (AskedIn m.rest slice t.stream.log.reads.offer) m.stream t.stream
+    → AsksForMore m.stream m.rest into t.stream → AskedOver (BeginsRest m.rest []) m.stream t.stream
+empty_asked {slice = slice} m t into empty room goes_on asked asks =
+    elim (AskedWhere-of (AskedIn m.rest slice t.stream.log.reads.offer) (BeginsRest m.rest []) m.stream t.stream
+    (λ more ask. ask.goes_on) asked) [
+      | inl same ↦ absurd (omega (arith, asks empty room goes_on, ap (λ l. l.reads.asks) same))
+      | inr over ↦ over
+    ]
 
-module _ {R W : Type 0} {tells : W → StreamLog} {trace : W → W → Type 0} (none : (u : W) → trace u u)
-    (joins : (u v x : W) → trace u v → trace v x → trace u x) where
+module _ {R W : Type 0} {remaining : R → Option (List ℕ)} {tells : W → StreamLog} {trace : W → W → Type 0}
+    (none : (u : W) → trace u u) (joins : (u v x : W) → trace u v → trace v x → trace u x) (b m : InBody R)
+    (goes : InsideGoes remaining b [] m) (same : m.stream.log ≡ b.stream.log) (w v : Buffered W StdPolicy) where
+  -- more of the body behind bytes that were no payload
+  behind_none : (t : Unbuffered R) (sending : Result (Unit {0}) Error)
+      → WritesPromptly tells trace (BeginsRest m.rest []) (m.stream, w) sending (t, v)
+      → WritesPromptly tells trace (BeginsRest b.rest []) (b.stream, w) sending (t, v)
+  behind_none t sending = WritesPromptly-on joins (BeginsRest m.rest []) (BeginsRest b.rest []) (b.stream, w) (m.stream, w)
+      (t, v) sending goes.takes.went.order (λ more on. begins_on goes (m.stream.left ++ more) on)
+      (WritesPromptly-read (BeginsRest b.rest []) none w goes.takes.went.order same)
+
   -- what was held couldn't be sent where no more of a body is buffered
-  pub unsent_empty : {bytes : List ℕ} (e : Error) (s m : Unbuffered R) (w v : Buffered W StdPolicy)
-      → HandsOutInOrder s bytes m → m.log ≡ s.log
-      → SendsUnless tells trace (0 < length m.left) w (Err e) v → WritesPromptly tells trace (s, w) [] (Err e) (m, v)
-  unsent_empty e s m w v order same sends =
-      WritesPromptly-after joins (s, w) (m, w) (m, v) [] [] (Err e) (WritesPromptly-read none w order same)
-      (WritesPromptly-unsent none m w v e sends (open_behind m))
+  pub unsent_empty : (e : Error) → SendsUnless tells trace (0 < length m.stream.left) w (Err e) v
+      → WritesPromptly tells trace (BeginsRest b.rest []) (b.stream, w) (Err e) (m.stream, v)
+  unsent_empty e sends = behind_none m.stream (Err e) (WritesPromptly-unsent (BeginsRest m.rest []) none m.stream w v e sends
+      (λ lacks. inl (nil_from_length m.stream.left (omega (arith, lacks)))))
 
   -- or it was, and then the stream was asked for more
-  pub comes_inside : {slice : ℕ} {first then : List ℕ} (count : ℕ) (out into : List ℕ) (s : Unbuffered R) (m t : InBody R)
-      (w v : Buffered W StdPolicy) → HandsOutInOrder s first m.stream → HandsOutInOrder m.stream then t.stream
-      → m.stream.log ≡ s.log → SendsUnless tells trace (0 < length m.stream.left) w (Ok tt) v → count ≡ 0 → 0 < length out
+  pub comes_inside : {slice : ℕ} {then : List ℕ} (count : ℕ) (out into : List ℕ) (t : InBody R)
+      → HandsOutInOrder m.stream then t.stream
+      → SendsUnless tells trace (0 < length m.stream.left) w (Ok tt) v → count ≡ 0 → 0 < length out
       → (¬ (IsRest m.rest [] [])) → RunsShort (length out) count m.rest m.stream.left
       → AskedWhere (AskedIn m.rest slice t.stream.log.reads.offer) m.stream t.stream
-      → 0 < length into → AsksForMore m.stream m.rest into t.stream → WritesOnlyHeld tells trace (s, w) (t.stream, v)
-  comes_inside count out into s m t w v order on same sends zero some goes_on short asked room asks =
+      → 0 < length into → AsksForMore m.stream m.rest into t.stream
+      → WritesOnlyHeld tells trace (BeginsRest b.rest []) (b.stream, w) (t.stream, v)
+  comes_inside count out into t on sends zero some goes_on short asked room asks =
       let still = shown_unasked count out m t zero some goes_on short asked in
       record {
-        writes = WritesPromptly-after joins (s, w) (m.stream, w) (t.stream, v) [] [] (Ok tt)
-            (WritesPromptly-read none w order same)
-            (WritesPromptly-asked none m.stream t.stream w v on sends (open_behind m.stream)
-            (λ lacks. asks (nil_from_length m.stream.left (omega (arith, lacks))) room goes_on) still);
+        writes = behind_none t.stream (Ok tt) (WritesPromptly-asked (BeginsRest m.rest []) none m.stream t.stream w v on sends
+            (λ lacks. empty_asked m t into (nil_from_length m.stream.left (omega (arith, lacks))) room goes_on asked asks) still);
         asked = elim (sent_then w v sends) [ inl shown ↦ inl (still shown ∙ same) | inr all ↦ inr all ];
       }

@@ -1,6 +1,6 @@
 -- Which bodies are too large.
 use Rattle.std.proofs.Common.{◌≡◌, ℕ, ◌+◌, ◌-◌, ◌*◌, ◌^◌, ◌≤◌, ◌⊎◌, ◌||◌, nat_lt, min, Bool, false, List, [], Option, ◌++◌, length, sym, ap, subst, inl, inr, ◌∙◌, refl, arith}
-use Rattle.requests.proofs.Names.{Backward, body_of, cases_lt, InBody, InsideGoes, is_large, IsNewlyLarge, le-ltb, lt-ltb, max_payload, usual}
+use Rattle.requests.proofs.Names.{Backward, BeginsRest, body_of, cases_lt, InBody, InsideGoes, is_large, IsAwaited, IsNewlyLarge, le-ltb, lt-ltb, max_payload, Onward, usual}
 use Rattle.messages.specs.declared.head.Extent.{Extent}
 use Rattle.messages.specs.declared.head.Extent.TheVariants.{Sized, Chunked}
 
@@ -48,3 +48,21 @@ fresh_behind {b = b} {m = m} payload last first whole goes small more noted =
           (subst (λ l. Backward b.rest l payload m.rest) wire goes.takes.backward),
       small,
     )
+
+-- more of the body is awaited behind what was read of it, where that goes on and isn't too large
+pub awaited : {S : Type 0} {remaining : S → Option (List ℕ)} {b m : InBody S} (payload : List ℕ) → b.taken ≡ []
+    → b.rest ≡ body_of usual b.said.extent → (goes : InsideGoes remaining b payload m)
+    → is_large b.said.extent (length m.taken) (length payload) ≡ false → (bytes : List ℕ) → BeginsRest m.rest [] bytes
+    → IsAwaited b.said.extent (goes.takes.wire ++ bytes)
+awaited {b = b} {m = m} payload first whole goes small bytes on =
+    let wire : m.taken ≡ goes.takes.wire = goes.taken ∙ ap (λ l. l ++ goes.takes.wire) first in
+    record {
+      front = goes.takes.wire;
+      behind = bytes;
+      equal = refl;
+      payload = payload;
+      rest = m.rest;
+      onward = subst (λ r. Onward r goes.takes.wire payload m.rest) whole goes.takes.onward;
+      small = subst (λ l. is_large b.said.extent (length l) (length payload) ≡ false) wire small;
+      more = on;
+    }

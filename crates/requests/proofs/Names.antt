@@ -1,9 +1,9 @@
 -- The names that proofs take from other crates, in one place.
-pub use Rattle.buffer_redux.specs.Asking.{AskedWhere}
+pub use Rattle.buffer_redux.specs.Asking.{AskedOver, AskedWhere}
 pub use Rattle.buffer_redux.specs.Buffered.{Buffered}
 pub use Rattle.buffer_redux.specs.StreamLog.{StreamLog}
 pub use Rattle.buffer_redux.specs.Unbuffer.{HandsOutInOrder, StreamWent, Unbuffered}
-pub use Rattle.buffer_redux.specs.UnbufferLaws.{StreamWent-joins, StreamWent-none}
+pub use Rattle.buffer_redux.specs.UnbufferLaws.{HandsOutInOrder-none, StreamWent-joins, StreamWent-none}
 pub use Rattle.buffer_redux.specs.WriteParts.{WritesParts}
 pub use Rattle.buffer_redux.specs.declared.policy.StdPolicy.{StdPolicy}
 pub use Rattle.codec.specs.Grammar.{IsOpen}
@@ -22,10 +22,10 @@ pub use Rattle.messages.specs.declared.head.Heads.{Heads}
 pub use Rattle.messages.specs.declared.head.ParsedHead.{ParsedHead}
 pub use Rattle.programs.specs.Streams.{AllSent, EndsOnce}
 pub use Rattle.redux_buffer.specs.Faults.{FaultAfterInterrupts, FaultAfterInterrupts-after, MetInterrupts, MetInterrupts-joins, MetInterrupts-none, OnlyInterrupts, OnlyInterrupts-joins, OnlyInterrupts-none, OnlyInterrupts-one, SendErrorCaused-after}
-pub use Rattle.requests.specs.Answers.{AnswersEach, AnswersWhole, call_at, Closes, Continues, EndedBeforeHead, ending_of, ends_of, EndsUntaken, FailsInRead, FailsLast, FailsOn, FailsToRead, faults_of, HadToAsk, IsAnswer, IsClosed, IsLastTurn, IsMany, IsPartTaken, IsSentLast, IsTaken, IsToBeRefused, MayFollow, NoMoreAnswered, only_line_ends, ReadsSome, ReadsSteadily, RunEndsBy, RunsToLast, sending_of, sent_till, sent_with, stream_at, TakeFails, TakesWhole, unfinished}
-pub use Rattle.requests.specs.Large.{is_large, IsNewlyLarge, max_payload, TurnsLarge}
-pub use Rattle.requests.specs.Sending.{Both, IsHeld, IsStep, Prompt, PutsText, PutStops, SendsForRoom, SendsUnless, StepsAlong, WritesOnlyHeld, WritesPromptly}
-pub use Rattle.requests.specs.Texts.{answered, called, early_refusal, is_called, is_known, refusal, refusal_of, refused, waits}
+pub use Rattle.requests.specs.Answers.{AnswersEach, AnswersPart, AnswersWhole, AwaitsBody, CallsFor, Closes, Continues, EndedBeforeHead, ending_of, ends_of, EndsUntaken, FailsInRead, FailsOn, FailsToRead, faults_of, HadToAsk, IsAnswer, IsClosed, IsLastTurn, IsMany, IsPartTaken, IsTaken, IsToBeRefused, MayFollow, NoMoreAnswered, only_line_ends, ReadsSome, ReadsSteadily, Refuses, RunEndsBy, RunsToLast, sending_of, sent_till, sent_with, stream_at, TakeFails, TakesWhole, unfinished}
+pub use Rattle.requests.specs.Large.{is_large, IsAwaited, IsNewlyLarge, max_payload, TurnsLarge}
+pub use Rattle.requests.specs.Sending.{AsksUnsettled, Both, IsHeld, IsStep, IsUnsettled, Prompt, PutsText, PutStops, SendsForRoom, SendsUnless, StepsAlong, WritesOnlyHeld, WritesPromptly}
+pub use Rattle.requests.specs.Texts.{answered, called, early_refusal, is_called, is_known, refusal, refusal_of, waits}
 pub use Rattle.requests.specs.declared.Ending.{Ending}
 pub use Rattle.requests.specs.declared.Ending.TheVariants.{Over, Unread, Unsent}
 pub use Rattle.requests.specs.declared.Place.{Place}

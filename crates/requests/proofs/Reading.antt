@@ -159,6 +159,15 @@ module _ {S : Type 0} (s m : Unbuffered S) (t : InBody S) (same : m.log ≡ s.lo
   sent_so (Err Large) f = elim f [ ]
   sent_so (Err Many) f = elim f [ ]
 
+-- what begins the rest behind bytes that were no payload begins it with them
+pub begins_on : {S : Type 0} {remaining : S → Option (List ℕ)} {b m : InBody S} (goes : InsideGoes remaining b [] m)
+    (bytes : List ℕ) → BeginsRest m.rest [] bytes → BeginsRest b.rest [] (goes.takes.wire ++ bytes)
+begins_on {b = b} {m = m} goes bytes on = record {
+  rest = on.rest;
+  onward = Onward-joins b.rest m.rest on.rest goes.takes.wire bytes [] [] goes.takes.onward on.onward;
+  more = on.more;
+}
+
 -- a read behind bytes that were no payload, and for which nothing was asked, asks where they and what comes begin the rest
 pub asked_before : {S : Type 0} {remaining : S → Option (List ℕ)} {slice offer : ℕ} {b m : InBody S} (t : Unbuffered S)
     → m.stream.log ≡ b.stream.log → InsideGoes remaining b [] m → AskedWhere (AskedIn m.rest slice offer) m.stream t
@@ -166,17 +175,12 @@ pub asked_before : {S : Type 0} {remaining : S → Option (List ℕ)} {slice off
 asked_before t same goes (inl none) = inl (none ∙ same)
 asked_before {b = b} {m = m} t same goes (inr over) =
     let left = handed_unasked goes.takes.went.order same in
-    let on = over.such.goes_on in
     inr (record {
       came = over.came;
       given = over.given ∙ ap (λ l. l.reads.given ++ (over.came ++ t.log.reads.latest)) same;
-      such = record {
-        rest = on.rest;
-        onward = subst (λ l. Onward b.rest l [] on.rest)
-            (sym (append_assoc goes.takes.wire m.stream.left over.came) ∙ ap (λ l. l ++ over.came) left)
-            (Onward-joins b.rest m.rest on.rest goes.takes.wire (m.stream.left ++ over.came) [] [] goes.takes.onward on.onward);
-        more = on.more;
-      };
+      such = subst (BeginsRest b.rest [])
+          (sym (append_assoc goes.takes.wire m.stream.left over.came) ∙ ap (λ l. l ++ over.came) left)
+          (begins_on goes (m.stream.left ++ over.came) over.such.goes_on);
       some = omega (arith, over.some, ap (λ l. l.reads.asks) same);
       asks = omega (arith, over.asks, ap (λ l. l.reads.asks) same);
     })

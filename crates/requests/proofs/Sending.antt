@@ -1,21 +1,66 @@
 -- What is written and sent, one after another.
-use Rattle.std.proofs.Common.{◌≡◌, ℕ, ◌<◌, ◌⊎◌, List, [], ◌∷◌, ◌++◌, length, Result, Ok, Err, OnOk, IfErr, sym, ap, subst, inl, inr, refl, arith, length-append}
-use Rattle.requests.proofs.Names.{AllSent, Both, Buffered, cases_lt, Error, HandsOutInOrder, heads, IsHeld, IsOpen, IsStep, MetInterrupts, MetInterrupts-joins, MetInterrupts-none, nil_from_length, Prompt, PutsText, PutStops, SendErrorCaused-after, SendsForRoom, SendsUnless, StdPolicy, StepsAlong, StreamLog, Unbuffered, usual, WritesParts, WritesPromptly}
+use Rattle.std.proofs.Common.{◌≡◌, ℕ, ◌⊎◌, List, [], ◌∷◌, ◌++◌, length, Result, Ok, Err, OnOk, IfErr, sym, ap, subst, inl, inr, ◌∙◌, refl, arith, append_assoc, append-nil, length-append}
+use Rattle.requests.proofs.Names.{AllSent, AskedOver, AsksUnsettled, Both, Buffered, cases_lt, Error, HandsOutInOrder, IsHeld, IsStep, IsUnsettled, MetInterrupts, MetInterrupts-joins, MetInterrupts-none, nil_from_length, Prompt, PutsText, PutStops, SendErrorCaused-after, SendsForRoom, SendsUnless, StdPolicy, StepsAlong, StreamLog, Unbuffered, WritesParts, WritesPromptly}
 use Rattle.buffer_redux.specs.BufWriter.{WasFlushed}
 use Rattle.buffer_redux.specs.Policy.{std_write_rules}
 use Rattle.buffer_redux.specs.Block.{usable}
 use Rattle.buffer_redux.specs.WritePartsLaws.{WritesParts-met}
 use Rattle.buffer_redux.specs.WritesAlongLaws.{BegunAlong-of, FrontAlong-after, WasFlushed-along, WritesAlong-none}
 
--- steps behind others
-StepsAlong-joins : {R W : Type 0} (tells : W → StreamLog) (trace : W → W → Type 0) (a m b : Both R W)
-    (answer : Result (Unit {0}) Error) (first then : List (Both R W))
-    → StepsAlong tells trace a first (Ok tt) m → StepsAlong tells trace m then answer b
-    → StepsAlong tells trace a (then ++ first) answer b
-StepsAlong-joins tells trace a m b answer first [] p (same, well) =
-    subst (λ r. StepsAlong tells trace a first r b) (sym well) (subst (StepsAlong tells trace a first (Ok tt)) same p)
-StepsAlong-joins tells trace a m b answer first (x ∷ earlier) p (before, step) =
-    (StepsAlong-joins tells trace a m x (Ok tt) first earlier p before, step)
+-- steps behind others, from where the stream had handed these bytes out: what is open then is so behind those
+module _ {R W : Type 0} (tells : W → StreamLog) (trace : W → W → Type 0) (P Q : List ℕ → Type 0) (a m : Both R W)
+    {bytes : List ℕ} (order : HandsOutInOrder a.0 bytes m.0)
+    (so : (more : List ℕ) → P (m.0.left ++ more) → Q (bytes ++ (m.0.left ++ more))) where
+  open_on : (came : List ℕ) → P (m.0.left ++ came) → Q (a.0.left ++ (order.got ++ came))
+  open_on came is = subst Q
+      (sym (append_assoc bytes m.0.left came) ∙ ap (λ l. l ++ came) order.equal ∙ append_assoc a.0.left order.got came)
+      (so came is)
+
+  given_on : (given behind : List ℕ) → given ≡ m.0.log.reads.given ++ behind
+      → given ≡ a.0.log.reads.given ++ (order.got ++ behind)
+  given_on given behind is =
+      is ∙ ap (λ l. l ++ behind) order.given ∙ append_assoc a.0.log.reads.given order.got behind
+
+  asks_on : (s t : Unbuffered R) → AsksUnsettled P m.0 s t → AsksUnsettled Q a.0 s t
+  asks_on s t asked = record {
+    hands = asked.hands;
+    asks = asked.asks;
+    came = order.got ++ asked.came;
+    given = given_on t.log.reads.given (asked.came ++ t.log.reads.latest) asked.given
+        ∙ ap (λ l. a.0.log.reads.given ++ l) (sym (append_assoc order.got asked.came t.log.reads.latest));
+    open' = open_on asked.came asked.open';
+  }
+
+  unsettled_on : (s : Unbuffered R) → IsUnsettled P m.0 s → IsUnsettled Q a.0 s
+  unsettled_on s (inl none) = inl none
+  unsettled_on s (inr (came, given, is)) =
+      inr (order.got ++ came, given_on s.log.reads.given came given, open_on came is)
+
+  IsStep-on : (x y : Both R W) (answer : Result (Unit {0}) Error) → IsStep tells trace P m.0 x answer y
+      → IsStep tells trace Q a.0 x answer y
+  IsStep-on x y answer (inl (well, same, inl hands)) = inl (well, same, inl hands)
+  IsStep-on x y answer (inl (well, same, inr (all, asked))) = inl (well, same, inr (all, asks_on x.0 y.0 asked))
+  IsStep-on x y (Ok r) (inr (some, flushed, asked)) = inr (some, flushed, asks_on x.0 y.0 asked)
+  IsStep-on x y (Err e) (inr (some, flushed, (is, same))) = inr (some, flushed, (unsettled_on x.0 is, same))
+
+  StepsAlong-joins : (b : Both R W) (answer : Result (Unit {0}) Error) (first then : List (Both R W))
+      → StepsAlong tells trace Q a first (Ok tt) m → StepsAlong tells trace P m then answer b
+      → StepsAlong tells trace Q a (then ++ first) answer b
+  StepsAlong-joins b answer first [] p (same, well) =
+      subst (λ r. StepsAlong tells trace Q a first r b) (sym well) (subst (StepsAlong tells trace Q a first (Ok tt)) same p)
+  StepsAlong-joins b answer first (x ∷ earlier) p (before, step) =
+      (StepsAlong-joins x (Ok tt) first earlier p before, IsStep-on x b answer step)
+
+-- a stream that was asked was so from here on
+asks_here : {R : Type 0} (Open : List ℕ → Type 0) {bytes : List ℕ} (s t : Unbuffered R) → HandsOutInOrder s bytes t
+    → AskedOver Open s t → AsksUnsettled Open s s t
+asks_here Open {bytes} s t order over = record {
+  hands = (bytes, order);
+  asks = over.some;
+  came = over.came;
+  given = over.given;
+  open' = over.such;
+}
 
 module _ {W : Type 0} {tells : W → StreamLog} {trace : W → W → Type 0} where
   -- a flush
@@ -36,7 +81,7 @@ module _ {W : Type 0} {tells : W → StreamLog} {trace : W → W → Type 0} whe
   }
 
   -- parts
-  PutsText-parts : (w v : Buffered W StdPolicy) (bytes : List ℕ) (answer : Result (Unit {0}) Error)
+  pub PutsText-parts : (w v : Buffered W StdPolicy) (bytes : List ℕ) (answer : Result (Unit {0}) Error)
       → WritesParts tells trace w bytes answer v → PutsText tells trace w bytes answer v
   PutsText-parts w v bytes (Ok x) p = record {
     front = p.along;
@@ -104,83 +149,84 @@ module _ {W : Type 0} {tells : W → StreamLog} {trace : W → W → Type 0} whe
             inl (SendErrorCaused-after w.log.writes v.log.writes w'.log.writes e p.met stopped)
         later (Err e) (inr (room, few, refused)) = inr (room, omega (arith, few, length-append a b), refused)
 
-  module _ {R : Type 0} where
-    Prompt-one : (a : Both R W) (answer : Result (Unit {0}) Error) (b : Both R W) → IsStep tells trace a answer b
-        → Prompt tells trace a answer b
-    Prompt-one a answer b step = record { between = a ∷ []; steps = ((refl, refl), step) }
+    -- text that was written behind a flush, or there was none
+    pub PutsText-put : (w v w' : Buffered W StdPolicy) (text : List ℕ) (sending : Result (Unit {0}) Error)
+        → PutsText tells trace w [] (Ok tt) v → SendsForRoom tells trace v text sending w'
+        → PutsText tells trace w text sending w'
+    PutsText-put w v w' text sending p (inl (lacks, well, same)) = rw (lacks, well, same) p
+    PutsText-put w v w' text sending p (inr parts) =
+        PutsText-after w v w' [] text sending p (PutsText-parts v w' text sending parts)
 
-    Prompt-joins : (a m : Both R W) (answer : Result (Unit {0}) Error) (b : Both R W) → Prompt tells trace a (Ok tt) m
-        → Prompt tells trace m answer b → Prompt tells trace a answer b
-    Prompt-joins a m answer b p q = record {
-      between = q.between ++ p.between;
-      steps = StepsAlong-joins tells trace a m b answer p.between q.between p.steps q.steps;
-    }
+  module _ {R : Type 0} (Open : List ℕ → Type 0) where
+    Prompt-one : (a : Both R W) (sending : Result (Unit {0}) Error) (b : Both R W) → IsStep tells trace Open a.0 a sending b
+        → Prompt tells trace Open a sending b
+    Prompt-one a sending b step = record { between = a ∷ []; steps = ((refl, refl), step) }
 
-    -- text that was written while nobody was asked
-    pub WritesPromptly-parts : (s : Unbuffered R) {w w' : Buffered W StdPolicy} {text : List ℕ}
-        {putting : Result (Unit {0}) Error} → WritesParts tells trace w text putting w'
-        → WritesPromptly tells trace (s, w) text putting (s, w')
-    WritesPromptly-parts s {w} {w'} {text} {putting} parts = record {
-      puts = PutsText-parts w w' text putting parts;
-      prompt = Prompt-one (s, w) putting (s, w') (inr (inl (refl, (text, inr parts))));
+    -- and then the stream handed out some of what it has, and nothing was written
+    pub WritesPromptly-then : {a : Both R W} {s t : Unbuffered R} {bytes : List ℕ} {w : Buffered W StdPolicy}
+        → WritesPromptly tells trace Open a (Ok tt) (s, w) → HandsOutInOrder s bytes t → t.log ≡ s.log
+        → WritesPromptly tells trace Open a (Ok tt) (t, w)
+    WritesPromptly-then {a} {s} {t} {bytes} {w} p order same = record {
+      puts = p.puts;
+      prompt = record {
+        between = (s, w) ∷ p.prompt.between;
+        steps = (p.prompt.steps, inl (refl, refl, inl ((bytes, order), same)));
+      };
     }
 
     module _ (none : (u : W) → trace u u) where
-      pub WritesPromptly-none : (a : Both R W) → WritesPromptly tells trace a [] (Ok tt) a
+      pub WritesPromptly-none : (a : Both R W) → WritesPromptly tells trace Open a (Ok tt) a
       WritesPromptly-none a = record { puts = PutsText-none none a.1; prompt = record { between = []; steps = (refl, refl) } }
 
-      -- or there was none
-      pub WritesPromptly-put : (s : Unbuffered R) {w w' : Buffered W StdPolicy} {text : List ℕ}
-          {putting : Result (Unit {0}) Error} → SendsForRoom tells trace w text putting w'
-          → WritesPromptly tells trace (s, w) text putting (s, w')
-      WritesPromptly-put s {w} (inl (lacks, well, same)) = rw (lacks, well, same) (WritesPromptly-none (s, w))
-      WritesPromptly-put s (inr parts) = WritesPromptly-parts s parts
-
-      -- the stream handed out some of what it has, and nothing was written
       pub WritesPromptly-read : {s t : Unbuffered R} {bytes : List ℕ} (w : Buffered W StdPolicy) → HandsOutInOrder s bytes t
-          → t.log ≡ s.log → WritesPromptly tells trace (s, w) [] (Ok tt) (t, w)
-      WritesPromptly-read {s} {t} {bytes} w order same = record {
-        puts = PutsText-none none w;
-        prompt = Prompt-one (s, w) (Ok tt) (t, w) (inl (refl, refl, inl ((bytes, order), same)));
-      }
+          → t.log ≡ s.log → WritesPromptly tells trace Open (s, w) (Ok tt) (t, w)
+      WritesPromptly-read {s} w = WritesPromptly-then (WritesPromptly-none (s, w))
 
       -- what was held was sent, where the stream is to be asked, and then that was asked
       pub WritesPromptly-asked : {P : Type 0} (s t : Unbuffered R) {bytes : List ℕ} (w v : Buffered W StdPolicy)
-          → HandsOutInOrder s bytes t → SendsUnless tells trace P w (Ok tt) v → ((¬ P) → IsOpen (heads usual) s.left)
-          → ((¬ P) → s.log.reads.asks < t.log.reads.asks) → (P → t.log ≡ s.log)
-          → WritesPromptly tells trace (s, w) [] (Ok tt) (t, v)
-      WritesPromptly-asked s t w v order (inl (settled, well, same)) open' asks still =
+          → HandsOutInOrder s bytes t → SendsUnless tells trace P w (Ok tt) v → ((¬ P) → AskedOver Open s t)
+          → (P → t.log ≡ s.log) → WritesPromptly tells trace Open (s, w) (Ok tt) (t, v)
+      WritesPromptly-asked s t w v order (inl (settled, well, same)) asked still =
           rw same (WritesPromptly-read w order (still settled))
-      WritesPromptly-asked s t {bytes} w v order (inr (unsettled, inl (all, well, same))) open' asks still = record {
+      WritesPromptly-asked s t w v order (inr (unsettled, inl (all, well, same))) asked still = record {
         puts = subst (PutsText tells trace w [] (Ok tt)) (sym same) (PutsText-none none w);
-        prompt = Prompt-one (s, w) (Ok tt) (t, v)
-            (inl (refl, same, inr (all, (open' unsettled, (bytes, order), asks unsettled))));
+        prompt = Prompt-one (s, w) (Ok tt) (t, v) (inl (refl, same, inr (all, asks_here Open s t order (asked unsettled))));
       }
-      WritesPromptly-asked s t {bytes} w v order (inr (unsettled, inr (some, flushed))) open' asks still = record {
+      WritesPromptly-asked s t w v order (inr (unsettled, inr (some, flushed))) asked still = record {
         puts = PutsText-flushed w v (Ok tt) flushed;
-        prompt = Prompt-one (s, w) (Ok tt) (t, v)
-            (inr (inr (some, flushed, (open' unsettled, (bytes, order), asks unsettled))));
+        prompt = Prompt-one (s, w) (Ok tt) (t, v) (inr (some, flushed, asks_here Open s t order (asked unsettled)));
       }
 
       -- that failed, and the stream wasn't asked
       pub WritesPromptly-unsent : {P : Type 0} (s : Unbuffered R) (w v : Buffered W StdPolicy) (e : Error)
-          → SendsUnless tells trace P w (Err e) v → ((¬ P) → IsOpen (heads usual) s.left)
-          → WritesPromptly tells trace (s, w) [] (Err e) (s, v)
+          → SendsUnless tells trace P w (Err e) v → ((¬ P) → (s.left ≡ []) ⊎ Open s.left)
+          → WritesPromptly tells trace Open (s, w) (Err e) (s, v)
       WritesPromptly-unsent s w v e (inl (settled, well, same)) open' = absurd (cc)
       WritesPromptly-unsent s w v e (inr (unsettled, inl (all, well, same))) open' = absurd (cc)
-      WritesPromptly-unsent s w v e (inr (unsettled, inr (some, flushed))) open' = record {
-        puts = PutsText-flushed w v (Err e) flushed;
-        prompt = Prompt-one (s, w) (Err e) (s, v) (inr (inr (some, flushed, (open' unsettled, refl))));
-      }
+      WritesPromptly-unsent s w v e (inr (unsettled, inr (some, flushed))) open' =
+          let there : IsUnsettled Open s s = elim (open' unsettled) [
+            | inl none ↦ inl none
+            | inr is ↦ inr ([], sym (append-nil s.log.reads.given), subst Open (sym (append-nil s.left)) is)
+          ] in
+          record {
+            puts = PutsText-flushed w v (Err e) flushed;
+            prompt = Prompt-one (s, w) (Err e) (s, v) (inr (some, flushed, (there, refl)));
+          }
 
-    module _ (joins : (u v x : W) → trace u v → trace v x → trace u x) where
-      pub WritesPromptly-after : (a m b : Both R W) (x y : List ℕ) (putting : Result (Unit {0}) Error)
-          → WritesPromptly tells trace a x (Ok tt) m → WritesPromptly tells trace m y putting b
-          → WritesPromptly tells trace a (x ++ y) putting b
-      WritesPromptly-after a m b x y putting p q = record {
-        puts = PutsText-after joins a.1 m.1 b.1 x y putting p.puts q.puts;
-        prompt = Prompt-joins a m putting b p.prompt q.prompt;
-      }
+  module _ {R : Type 0} (joins : (u v x : W) → trace u v → trace v x → trace u x) (P Q : List ℕ → Type 0) where
+    -- more of that behind what the stream had handed out
+    pub WritesPromptly-on : (a m b : Both R W) {bytes : List ℕ} (sending : Result (Unit {0}) Error) → HandsOutInOrder a.0 bytes m.0
+        → ((more : List ℕ) → P (m.0.left ++ more) → Q (bytes ++ (m.0.left ++ more)))
+        → WritesPromptly tells trace Q a (Ok tt) m → WritesPromptly tells trace P m sending b
+        → WritesPromptly tells trace Q a sending b
+    WritesPromptly-on a m b sending order so p q = record {
+      puts = PutsText-after joins a.1 m.1 b.1 [] [] sending p.puts q.puts;
+      prompt = record {
+        between = q.prompt.between ++ p.prompt.between;
+        steps = StepsAlong-joins tells trace P Q a m order so b sending p.prompt.between q.prompt.between p.prompt.steps
+            q.prompt.steps;
+      };
+    }
 
 -- what was to be sent was, where the stream was asked
 pub sent_then : {W : Type 0} {tells : W → StreamLog} {trace : W → W → Type 0} {P : Type 0} (w v : Buffered W StdPolicy)

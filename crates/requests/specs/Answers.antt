@@ -32,9 +32,9 @@ use Rattle.requests.specs.declared.Ending.TheVariants as stop
 use Rattle.requests.specs.declared.Ending.TheVariants.{Over, Unread}
 use Rattle.requests.specs.declared.taking.Untaken.{Untaken}
 use Rattle.requests.specs.declared.taking.Untaken.TheVariants.{Body, Large, Unsent, Many}
-use Rattle.requests.specs.Large.{TurnsLarge, is_large}
-use Rattle.requests.specs.Sending.{Both, PutsText, SendsHeld, WritesPromptly}
-use Rattle.requests.specs.Texts.{answered, called, early_refusal, is_called, is_known, refusal, refusal_of, refused}
+use Rattle.requests.specs.Large.{IsAwaited, TurnsLarge, is_large}
+use Rattle.requests.specs.Sending.{Both, SendsForRoom, SendsHeld, WritesPromptly}
+use Rattle.requests.specs.Texts.{answered, called, early_refusal, is_called, is_known, refusal, refusal_of}
 
 -- the answer to a message: 200, and how much payload all of its body has; or 501, or 417
 abbrev pub IsAnswer : Message → List ℕ → Type 0
@@ -68,11 +68,6 @@ pub record ReadsSteadily {S : Type 0} (s t : Unbuffered S) : Type 0 where
 abbrev pub stream_at : {S : Type 0} → Place S → Unbuffered S
 stream_at (Before requests) = left_of requests
 stream_at (Inside body) = body.stream
-
--- the call for the body that the reader stands in
-abbrev pub call_at : {S : Type 0} → Place S → List ℕ
-call_at (Before requests) = []
-call_at (Inside body) = called (is_called (is_known body.head) body.said)
 
 -- these are ends of lines alone, and so empty lines, which say nothing (RFC 9112, section 2.2)
 abbrev pub only_line_ends : List ℕ → Bool
@@ -183,24 +178,6 @@ abbrev pub sent_with : {A : Type 0} → Result A Untaken → Result (Unit {0}) E
 sent_with (Ok a) = Ok tt
 sent_with (Err e) = sent_till e
 
--- this is sent last behind whole messages and their answers, where the reader stands there: a refusal, or the call for a body of
--- which nothing was taken
-abbrev pub IsSentLast : {S : Type 0} → List ℕ → Option Refusal → Place S → List ℕ → Type 0
-IsSentLast taken (Some why) place text = text ≡ refusal why
-IsSentLast taken None (Before requests) text = ⊥
-IsSentLast taken None (Inside body) text = (text ≡ call_at (Inside body)) × (taken ≡ body.head)
-
--- of this text all but such a last part was taken in, and then taking that in failed; or a flush did, behind the whole text
-pub record FailsLast {W : Type 0} (tells : W → StreamLog) (trace : W → W → Type 0) (Last : List ℕ → Type 0)
-    (w : Buffered W StdPolicy) (text : List ℕ) (e : Error) (w' : Buffered W StdPolicy) : Type 0 where
-  pub front : List ℕ
-  pub part : List ℕ
-  pub equal : text ≡ front ++ part
-  pub last : (part ≡ []) ⊎ Last part
-  pub before : Buffered W StdPolicy
-  pub put : PutsText tells trace w front (Ok tt) before
-  pub fails : PutsText tells trace before part (Err e) w'
-
 -- what is sent behind a refusal, or a fault, ends so
 abbrev pub ending_of : Result (Unit {0}) Error → Ending
 ending_of (Ok x) = Over
@@ -231,9 +208,22 @@ EndsSent tells trace stop.Many w answer w' = (sending : Result (Unit {0}) Error)
 EndsSent tells trace (Unread e) w answer w' = (answer ≡ Err e) × (w' ≡ w)
 EndsSent tells trace (stop.Unsent e) w answer w' = (answer ≡ Err e) × (w' ≡ w)
 
+-- more of the body behind this head is to be asked for: neither the head nor these bytes of the body settle an answer
+abbrev pub AwaitsBody : List ℕ → ParsedHead → List ℕ → Type 0
+AwaitsBody head said bytes = (early_refusal (is_known head) said ≡ None) × IsAwaited said.extent bytes
+
 module _ {R W : Type 0} (remaining : R → Option (List ℕ)) (tells : W → StreamLog) (trace : W → W → Type 0) where
-  -- this message went, whose head settles no refusal of it, and its body was called for, where the client waits; and then it was
-  -- answered, or that failed
+  -- a head went, and nothing was asked for once it was whole; and then its body was called for, where the client waits, or that
+  -- failed
+  pub record CallsFor (head : List ℕ) (said : ParsedHead) (a : Both R W) (putting : Result (Unit {0}) Error) (b : Both R W)
+      : Type 0 where
+    pub went : StreamWent remaining a.0 head b.0
+    pub before : Buffered W StdPolicy
+    pub comes : WritesPromptly tells trace (IsOpen (heads usual)) a (Ok tt) (b.0, before)
+    pub call : SendsForRoom tells trace before (called (is_called (is_known head) said)) putting b.1
+
+  -- this message went, whose head settles no refusal of it; its body was called for, and then asked for till it was whole; and
+  -- then it was answered, or that failed
   pub record AnswersWhole (m : Message) (a : Both R W) (sending : Result (Unit {0}) Error) (b : Both R W) : Type 0 where
     pub bytes : List ℕ
     pub is : IsTaken m bytes
@@ -241,35 +231,48 @@ module _ {R W : Type 0} (remaining : R → Option (List ℕ)) (tells : W → Str
     pub said : ParsedHead
     pub head : IsHead usual m.0 said
     pub open' : early_refusal (is_known m.0) said ≡ None
+    pub begun : Both R W
+    pub calls : CallsFor m.0 said a (Ok tt) begun
     pub before : Buffered W StdPolicy
-    pub calls : WritesPromptly tells trace a (called (is_called (is_known m.0) said)) (Ok tt) (b.0, before)
+    pub reads : WritesPromptly tells trace (AwaitsBody m.0 said) begun (Ok tt) (b.0, before)
     pub answers : WritesParts tells trace before (answered (is_known m.0) said (length m.1)) sending b.1
 
   -- each of these went and was answered so, before a byte of the next was taken. So what went is the messages, and what was
   -- taken in is the answer to each, in their order (`AnswersEach-whole`)
   abbrev pub AnswersEach : List Message → Both R W → Both R W → Type 0
-  AnswersEach [] a b = StreamWent remaining a.0 [] b.0 × WritesPromptly tells trace a [] (Ok tt) b
+  AnswersEach [] a b = StreamWent remaining a.0 [] b.0 × WritesPromptly tells trace (IsOpen (heads usual)) a (Ok tt) b
   AnswersEach (m ∷ later) a b = (c : Both R W) × AnswersWhole m a (Ok tt) c × AnswersEach later c b
 
-  -- the last turn: none went whole, but these bytes, and this text was written, and where sending failed, it did in such a last
-  -- part of it; or one did, and was answered, or that failed, and nothing else
-  abbrev pub IsLastTurn : List Message → List ℕ → List ℕ → (List ℕ → Type 0) → Both R W → Result (Unit {0}) Error → Both R W
+  -- so much was asked for, or sending what is held failed; or then this was refused, or that failed
+  abbrev pub Refuses : (List ℕ → Type 0) → Option Refusal → Both R W → Result (Unit {0}) Error → Both R W → Type 0
+  Refuses Open None a sending b = WritesPromptly tells trace Open a sending b
+  Refuses Open (Some why) a sending b = (before : Buffered W StdPolicy)
+      × WritesPromptly tells trace Open a (Ok tt) (b.0, before) × WritesParts tells trace before (refusal why) sending b.1
+
+  -- no message went whole, where the reader stands there: a head is asked for, and it is refused at once; or it came, and its
+  -- body is called for, and then asked for, and that is refused at once; or the call failed
+  abbrev pub AnswersPart : Place R → Option Refusal → Both R W → Result (Unit {0}) Error → Both R W → Type 0
+  AnswersPart (Before requests) refuses a sending b = Refuses (IsOpen (heads usual)) refuses a sending b
+  AnswersPart (Inside body) refuses a sending b = ((refuses ≡ None) × CallsFor body.head body.said a sending b)
+      ⊎ ((begun : Both R W) × CallsFor body.head body.said a (Ok tt) begun
+      × Refuses (AwaitsBody body.head body.said) refuses begun sending b)
+
+  -- the last turn: none went whole, but these bytes; or one did, and was answered, or that failed, and nothing else
+  abbrev pub IsLastTurn : List Message → List ℕ → Place R → Option Refusal → Both R W → Result (Unit {0}) Error → Both R W
       → Type 0
-  IsLastTurn [] taken text Last a sending b =
-      StreamWent remaining a.0 taken b.0 × WritesPromptly tells trace a text sending b
-      × IfErr sending (λ e. FailsLast tells trace Last a.1 text e b.1)
-  IsLastTurn (m ∷ []) taken text Last a sending b = AnswersWhole m a sending b × (taken ≡ []) × (text ≡ [])
-  IsLastTurn (m ∷ n ∷ later) taken text Last a sending b = ⊥
+  IsLastTurn [] taken place refuses a sending b = StreamWent remaining a.0 taken b.0 × AnswersPart place refuses a sending b
+  IsLastTurn (m ∷ []) taken place refuses a sending b = AnswersWhole m a sending b × (taken ≡ []) × (refuses ≡ None)
+  IsLastTurn (m ∷ n ∷ later) taken place refuses a sending b = ⊥
 
   -- in turns: each of these messages was answered before more was taken, and then came the last turn
-  pub record AnswersInTurns (messages : List Message) (a : Both R W) (taken text : List ℕ) (Last : List ℕ → Type 0)
-      (sending : Result (Unit {0}) Error) (b : Both R W) : Type 0 where
+  pub record AnswersInTurns (messages : List Message) (a : Both R W) (taken : List ℕ) (place : Place R)
+      (refuses : Option Refusal) (sending : Result (Unit {0}) Error) (b : Both R W) : Type 0 where
     pub front : List Message
     pub last : List Message
     pub all : messages ≡ front ++ last
     pub between : Both R W
     pub each : AnswersEach front a between
-    pub turn : IsLastTurn last taken text Last between sending b
+    pub turn : IsLastTurn last taken place refuses between sending b
 
   -- messages went, each was answered in its turn, and another may follow
   pub record Continues (s : Unbuffered R) (w : Buffered W StdPolicy) (t : Unbuffered R) (w' : Buffered W StdPolicy) : Type 0 where
@@ -301,8 +304,7 @@ module _ {R W : Type 0} (remaining : R → Option (List ℕ)) (tells : W → Str
     pub handed : List ℕ
     pub part : IsPartTaken place taken handed
     pub refuses : Option Refusal
-    pub turns : AnswersInTurns messages (s, w) taken (call_at place ++ refused refuses) (IsSentLast taken refuses place)
-        (sending_of ending) (stream_at place, w')
+    pub turns : AnswersInTurns messages (s, w) taken place refuses (sending_of ending) (stream_at place, w')
     pub once : EndsOnce s.log.reads (stream_at place).log.reads
     pub wrong : IfSome refuses (IsToBeRefused s place handed)
     pub ends : RunEndsBy s messages taken handed refuses place w' ending

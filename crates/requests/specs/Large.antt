@@ -3,7 +3,7 @@ use Rattle.std.specs.Prelude.{◌≡◌, ℕ, ◌+◌, ◌*◌, ◌≤◌, ◌�
 use Rattle.messages.specs.declared.head.Extent.{Extent}
 use Rattle.messages.specs.declared.head.Extent.TheVariants.{Sized, Chunked}
 use Rattle.messages.specs.Limits.{usual}
-use Rattle.messages.specs.Messages.{Backward, Rest, body_of}
+use Rattle.messages.specs.Messages.{Backward, BeginsRest, Onward, Rest, body_of}
 
 -- the most payload, of 2 ^ 40 bytes
 abbrev pub max_payload : ℕ
@@ -28,3 +28,14 @@ IsNewlyLarge extent latest taken handed = ((taken ≡ []) × (handed ≡ []))
 pub record TurnsLarge (extent : Extent) (latest taken handed : List ℕ) : Type 0 where
   pub large : IsTrue (is_large extent (length taken) (length handed))
   pub fresh : IsNewlyLarge extent latest taken handed
+
+-- these bytes begin a body, which goes on behind them, and without the last of them, which are no payload, they aren't too large
+pub record IsAwaited (extent : Extent) (bytes : List ℕ) : Type 0 where
+  pub front : List ℕ
+  pub behind : List ℕ
+  pub equal : bytes ≡ front ++ behind
+  pub payload : List ℕ
+  pub rest : Rest
+  pub onward : Onward (body_of usual extent) front payload rest
+  pub small : is_large extent (length front) (length payload) ≡ false
+  pub more : BeginsRest rest [] behind

@@ -1,5 +1,5 @@
 -- What is written, and when it is sent.
-use Rattle.std.specs.Prelude.{◌≡◌, ℕ, ◌<◌, ◌≤◌, ◌⊎◌, List, [], ◌∷◌, length, Result, Ok, MatchResult, OnOk, IfErr}
+use Rattle.std.specs.Prelude.{◌≡◌, ℕ, ◌<◌, ◌≤◌, ◌⊎◌, List, [], ◌∷◌, ◌++◌, length, Result, Ok, MatchResult, OnOk, IfErr}
 use Rattle.std.specs.declared.io.Error.{Error}
 use Rattle.redux_buffer.specs.Faults.{MetInterrupts, SendErrorCaused}
 use Rattle.redux_buffer.specs.GrowError.{GrowthFailed}
@@ -10,9 +10,6 @@ use Rattle.buffer_redux.specs.StreamLog.{StreamLog}
 use Rattle.buffer_redux.specs.Unbuffer.{HandsOutInOrder, Unbuffered}
 use Rattle.buffer_redux.specs.WriteParts.{WritesParts}
 use Rattle.buffer_redux.specs.declared.policy.StdPolicy.{StdPolicy}
-use Rattle.codec.specs.Grammar.{IsOpen}
-use Rattle.messages.specs.Heads.{heads}
-use Rattle.messages.specs.Limits.{usual}
 use Rattle.programs.specs.Streams.{AllSent}
 
 -- what the writer has buffered is all that wasn't sent
@@ -58,38 +55,45 @@ Both R W = Unbuffered R × Buffered W StdPolicy
 abbrev pub HandsOutSome : {R : Type 0} → Unbuffered R → Unbuffered R → Type 0
 HandsOutSome s t = (bytes : List ℕ) × HandsOutInOrder s bytes t
 
--- it was asked first, where what is buffered of it settles nothing
-abbrev pub AsksUnsettled : {R : Type 0} → Unbuffered R → Unbuffered R → Type 0
-AsksUnsettled s t = IsOpen (heads usual) s.left × HandsOutSome s t × (s.log.reads.asks < t.log.reads.asks)
+-- it handed out some, and was asked, for the last time where what was left of it at first, and what had come, settled nothing
+pub record AsksUnsettled {R : Type 0} (Open : List ℕ → Type 0) (first s t : Unbuffered R) : Type 0 where
+  pub hands : HandsOutSome s t
+  pub asks : s.log.reads.asks < t.log.reads.asks
+  pub came : List ℕ
+  pub given : t.log.reads.given ≡ first.log.reads.given ++ (came ++ t.log.reads.latest)
+  pub open' : Open (first.left ++ came)
 
-module _ {R W : Type 0} (tells : W → StreamLog) (trace : W → W → Type 0) where
-  -- nothing is written, and the stream hands out some of what is buffered of it, or is asked, where all that was written was
-  -- received and flushed; or a text is written, or none, and it hands out nothing; or what is held is sent, where it is to be
-  -- asked, and then it is, or that failed, and nothing else is done
-  abbrev pub IsStep : Both R W → Result (Unit {0}) Error → Both R W → Type 0
-  IsStep (s, w) answer (t, v) =
-      ((answer ≡ Ok tt) × (v ≡ w) × ((HandsOutSome s t × (t.log ≡ s.log)) ⊎ (AllSent w × AsksUnsettled s t)))
-      ⊎ ((t ≡ s) × ((text : List ℕ) × SendsForRoom tells trace w text answer v))
+-- nothing is buffered of it, or what was left of it at first, and what came, settles nothing
+abbrev pub IsUnsettled : {R : Type 0} → (List ℕ → Type 0) → Unbuffered R → Unbuffered R → Type 0
+IsUnsettled Open first s = (s.left ≡ [])
+    ⊎ ((came : List ℕ) × (s.log.reads.given ≡ first.log.reads.given ++ came) × Open (first.left ++ came))
+
+module _ {R W : Type 0} (tells : W → StreamLog) (trace : W → W → Type 0) (Open : List ℕ → Type 0) where
+  -- the stream hands out some of what is buffered of it, or is asked, where all that was written was received and flushed; or
+  -- what is held is sent, where it is to be asked, and then it is, or that failed, and nothing else is done
+  abbrev pub IsStep : Unbuffered R → Both R W → Result (Unit {0}) Error → Both R W → Type 0
+  IsStep first (s, w) answer (t, v) =
+      ((answer ≡ Ok tt) × (v ≡ w) × ((HandsOutSome s t × (t.log ≡ s.log)) ⊎ (AllSent w × AsksUnsettled Open first s t)))
       ⊎ ((0 < length w.block.bytes) × WasFlushed tells trace w answer v
-      × MatchResult answer (λ _. AsksUnsettled s t) (λ e. IsOpen (heads usual) s.left × (t ≡ s)))
+      × MatchResult answer (λ _. AsksUnsettled Open first s t) (λ e. IsUnsettled Open first s × (t ≡ s)))
 
   -- such steps, by way of these, of which the last is first; each went well but the last, which was answered so
   abbrev pub StepsAlong : Both R W → List (Both R W) → Result (Unit {0}) Error → Both R W → Type 0
   StepsAlong a [] answer b = (a ≡ b) × (answer ≡ Ok tt)
-  StepsAlong a (m ∷ earlier) answer b = StepsAlong a earlier (Ok tt) m × IsStep m answer b
+  StepsAlong a (m ∷ earlier) answer b = StepsAlong a earlier (Ok tt) m × IsStep a.0 m answer b
 
-  -- no step does both, hand out and write. So the stream was asked only where what it had settles nothing, and nothing was held
-  -- back; and each flush sends something, and stands directly before an ask, with nothing handed out between, unless it fails
+  -- so the stream was asked only where what had come settled nothing, and nothing was held back; and each flush sends something,
+  -- and stands directly before an ask, with nothing handed out between, unless it fails
   pub record Prompt (a : Both R W) (answer : Result (Unit {0}) Error) (b : Both R W) : Type 0 where
     pub between : List (Both R W)
     pub steps : StepsAlong a between answer b
 
-  -- and meanwhile this text was taken in
-  pub record WritesPromptly (a : Both R W) (text : List ℕ) (putting : Result (Unit {0}) Error) (b : Both R W) : Type 0 where
-    pub puts : PutsText tells trace a.1 text putting b.1
-    pub prompt : Prompt a putting b
+  -- and nothing was written but what had been held
+  pub record WritesPromptly (a : Both R W) (sending : Result (Unit {0}) Error) (b : Both R W) : Type 0 where
+    pub puts : PutsText tells trace a.1 [] sending b.1
+    pub prompt : Prompt a sending b
 
-  -- nothing was written but what had been held, and where the stream was asked that had been sent
+  -- and where the stream was asked that had been sent
   pub record WritesOnlyHeld (a b : Both R W) : Type 0 where
-    pub writes : WritesPromptly a [] (Ok tt) b
+    pub writes : WritesPromptly a (Ok tt) b
     pub asked : (b.0.log ≡ a.0.log) ⊎ AllSent b.1

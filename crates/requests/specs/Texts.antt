@@ -28,10 +28,6 @@ refusal Unknown = codes "HTTP/1.1 501 Not Implemented\r\nContent-Length: 0\r\nCo
 refusal OtherVersion =
     codes "HTTP/1.1 505 HTTP Version Not Supported\r\nContent-Length: 0\r\nConnection: close\r\n\r\n"
 
-abbrev pub refused : Option Refusal → List ℕ
-refused (Some why) = refusal why
-refused None = []
-
 -- by which status what is no head is refused (RFC 9110, section 15; RFC 6585, section 5; RFC 9112, sections 3 and 6.1)
 abbrev pub refusal_of : BadHead → Refusal
 refusal_of BareEnd = BadRequest

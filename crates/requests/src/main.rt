@@ -4,9 +4,10 @@
 //! `100-continue`, before the body if the client waits (`early_refusal`); and else 100 before it. What comes and is no request is
 //! refused by the status that RFC 9112 has for it (`refusal_of`); 400 is for a body that is none, or ends early, and 413 for one
 //! that is too large (`is_large`); and then no more comes. It ends behind a request after which none may follow, and where the
-//! stream does. It asks the stream only where what it has settles nothing, and all that it answered was sent, and sends only
-//! there, for room, and at the end (`Prompt`). Each request is answered before more is taken (`AnswersInTurns`); where a read
-//! fails it had to be made (`HadToAsk`), and where sending does, nothing was taken behind what failed (`IsSentLast`).
+//! stream does. It asks the stream only for more of a head, or of a body behind the call, that settles nothing yet (`CallsFor`,
+//! `AwaitsBody`), where all that it wrote was sent, and sends only there, for room, and at the end (`Prompt`). Each request is
+//! answered before more is taken (`AnswersInTurns`); where a read fails it had to be made (`HadToAsk`), and where sending does,
+//! nothing was taken behind what failed (`AnswersPart`).
 #![tactic(auto)]
 
 mod limits;
@@ -18,6 +19,7 @@ ghost use Rattle.std.specs.declared.io.Error.{Error};
 ghost use Rattle.redux_buffer.specs.Faults.{IsInterrupt};
 ghost use Rattle.buffer_redux.specs.Buffered.{Buffered};
 ghost use Rattle.buffer_redux.specs.declared.policy.StdPolicy.{StdPolicy};
+ghost use Rattle.codec.specs.Grammar.{IsOpen};
 ghost use Rattle.codec.specs.NextPiece.{NextPiece};
 ghost use Rattle.codec.specs.PieceReader.{IsSettled, ReaderState, left_of};
 ghost use Rattle.messages.specs.declared.head.Heads.{Heads};
@@ -25,8 +27,8 @@ ghost use Rattle.messages.specs.Heads.{heads};
 ghost use Rattle.messages.specs.Limits.{usual};
 ghost use Rattle.messages.specs.Messages.{Begun, body_of, stop_answer};
 ghost use Rattle.requests.specs.Sending.{IsHeld, SendsUnless, WritesOnlyHeld, WritesPromptly};
-ghost use Rattle.requests.specs.Answers.{AnswersTurn, EndsSent, EndsUntaken, ServesRequests, ending_of, only_line_ends, sending_of};
-ghost use Rattle.requests.specs.Texts.{called, early_refusal, is_called, is_known};
+ghost use Rattle.requests.specs.Answers.{AnswersTurn, CallsFor, EndsSent, EndsUntaken, ServesRequests, ending_of, only_line_ends, sending_of};
+ghost use Rattle.requests.specs.Texts.{early_refusal, is_known};
 
 use crate::taking::{Untaken, take_whole};
 use crate::writing::{
@@ -172,7 +174,7 @@ fn stopped<R: TellRead, W: TellWrite>(
     ensures limits { IfOk result (λ next. next.decoder.0 ≡ usual) }
     ensures turns { (s : ReaderState R Heads) (w : Buffered W StdPolicy) → s.ended ≡ false
         → NextPiece R.remaining (heads usual) s (stop_answer stop) requests
-        → WritesOnlyHeld W.log W.trace (left_of s, w) (left_of requests, writer.old)
+        → WritesOnlyHeld W.log W.trace (IsOpen (heads usual)) (left_of s, w) (left_of requests, writer.old)
         → AnswersTurn R.remaining W.log W.trace (left_of s) w result writer.new }
 {
     if is_interrupt(&stop) {
@@ -233,7 +235,7 @@ fn answer_body<R: TellRead, W: TellWrite>(
     requires rest { body.rest ≡ body_of usual body.said.extent }
     ensures limits { IfOk result (λ next. next.decoder.0 ≡ usual) }
     ensures turns { (s : ReaderState R Heads) (w : Buffered W StdPolicy) → Begun R.remaining s body
-        → WritesPromptly W.log W.trace (left_of s, w) [] (Ok tt) (body.stream, writer.old)
+        → WritesPromptly W.log W.trace (IsOpen (heads usual)) (left_of s, w) (Ok tt) (body.stream, writer.old)
         → AnswersTurn R.remaining W.log W.trace (left_of s) w result writer.new }
 {
     let said = body.said();
@@ -261,8 +263,7 @@ fn answer_called<R: TellRead, W: TellWrite>(
     requires open { early_refusal (is_known body.head) body.said ≡ None }
     ensures limits { IfOk result (λ next. next.decoder.0 ≡ usual) }
     ensures turns { (s : ReaderState R Heads) (w : Buffered W StdPolicy) → Begun R.remaining s body
-        → WritesPromptly W.log W.trace (left_of s, w) (called (is_called (is_known body.head) body.said)) (Ok tt)
-        (body.stream, writer.old)
+        → CallsFor R.remaining W.log W.trace body.head body.said (left_of s, w) (Ok tt) (body.stream, writer.old)
         → AnswersTurn R.remaining W.log W.trace (left_of s) w result writer.new }
 {
     let said = body.said();

@@ -6,7 +6,7 @@ ghost use Rattle.codec.specs.PieceReader.{left_of};
 ghost use Rattle.messages.specs.Limits.{usual};
 ghost use Rattle.messages.specs.Messages.{AskedIn, AsksForMore, BeginsRest, InsideGoes, IsRest, body_of};
 ghost use Rattle.requests.specs.Answers.{FailsOn, FailsToRead, ReadsSome, ReadsSteadily, TakeFails, TakesWhole, sent_till, sent_with, unfinished};
-ghost use Rattle.requests.specs.Large.{is_large};
+ghost use Rattle.requests.specs.Large.{IsAwaited, is_large};
 ghost use Rattle.requests.specs.Sending.{IsHeld, SendsUnless, WritesPromptly};
 
 use crate::limits::is_large;
@@ -45,8 +45,10 @@ pub fn take_whole<R: TellRead, W: TellWrite>(
     ensures part { IfErr result (λ e. (handed : List ℕ) × InsideGoes R.remaining body handed e.0
         × TakeFails body.stream handed e.1 e.0 writer.new) }
     ensures writes { MatchResult result
-        (λ r. WritesPromptly W.log W.trace (body.stream, writer.old) [] (Ok tt) (left_of r.1, writer.new))
-        (λ e. WritesPromptly W.log W.trace (body.stream, writer.old) [] (sent_till e.1) (e.0.stream, writer.new)) }
+        (λ r. WritesPromptly W.log W.trace (IsAwaited body.said.extent) (body.stream, writer.old) (Ok tt)
+        (left_of r.1, writer.new))
+        (λ e. WritesPromptly W.log W.trace (IsAwaited body.said.extent) (body.stream, writer.old) (sent_till e.1)
+        (e.0.stream, writer.new)) }
 {
     let mut body = body;
     match payload_len(&mut body, writer) {
@@ -83,8 +85,8 @@ fn payload_len<R: TellRead, W: TellWrite>(
     ensures ended { OnOk result (IsRest body.new.rest [] []) }
     ensures small { IfOk result (λ len. is_large body.new.said.extent (length body.new.taken) len ≡ false) }
     ensures steady { OnOk result (ReadsSteadily body.old.stream body.new.stream) }
-    ensures writes { WritesPromptly W.log W.trace (body.old.stream, writer.old) [] (sent_with result)
-        (body.new.stream, writer.new) }
+    ensures writes { WritesPromptly W.log W.trace (IsAwaited body.old.said.extent) (body.old.stream, writer.old)
+        (sent_with result) (body.new.stream, writer.new) }
 {
     let extent = body.said().extent;
     let mut out = [0; 4096];
@@ -121,8 +123,8 @@ fn read_on<R: TellRead, W: TellWrite>(
     ensures reads { IfOk result (λ n. ReadsSome body.old.stream n body.new) }
     ensures fails { IfErr result (λ e. FailsOn body.old.stream e body.new writer.new) }
     ensures asked { AskedWhere (BeginsRest body.old.rest []) body.old.stream body.new.stream }
-    ensures writes { WritesPromptly W.log W.trace (body.old.stream, writer.old) [] (sent_with result)
-        (body.new.stream, writer.new) }
+    ensures writes { WritesPromptly W.log W.trace (BeginsRest body.old.rest []) (body.old.stream, writer.old)
+        (sent_with result) (body.new.stream, writer.new) }
 {
     let count = body.read_buffered(out);
     if count > 0 {

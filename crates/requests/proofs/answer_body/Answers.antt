@@ -1,10 +1,10 @@
 -- What the head settles is told at once; else the call is written while nobody is asked, and where either fails no byte of the
 -- body was taken.
-use Rattle.std.proofs.Common.{◌≡◌, ◌∙◌, ap, length, length-append, Bool, true, false, ◌&&◌, if◌then◌else◌, [], ◌++◌, Option, None, Some, Err, Ok, arith, append-nil, refl, inl, inr, subst, sym}
-use Rattle.requests.proofs.Names.{All-nil, call_at, called, early_refusal, Inside, InsideGoes-none, is_called, is_known, IsSentLast, left_of, MayFollow, nil_from_length, refusal, Refusal, RunsToLast, SendsForRoom, Unknown, Unmet, Unsent, waits, WritesPromptly}
-use Rattle.requests.proofs.Answering.{FailsLast-of, RunsToLast-one, RunsToLast-refused}
+use Rattle.std.proofs.Common.{◌≡◌, ◌∙◌, ap, Bool, true, false, ◌&&◌, if◌then◌else◌, [], ◌++◌, Option, None, Some, Err, Ok, arith, refl, inl, inr, subst, sym}
+use Rattle.requests.proofs.Names.{All-nil, AwaitsBody, Begun-went, called, early_refusal, Inside, InsideGoes-none, is_called, is_known, left_of, MayFollow, Refusal, RunsToLast, SendsForRoom, Unknown, Unmet, Unsent, waits}
+use Rattle.requests.proofs.Answering.{RunsToLast-one, RunsToLast-refused}
 use Rattle.requests.proofs.Reading.{begun_steady, is_part, part_went}
-use Rattle.requests.proofs.Sending.{WritesPromptly-after, WritesPromptly-parts, WritesPromptly-put}
+use Rattle.requests.proofs.Sending.{PutsText-none, PutsText-put, WritesPromptly-none}
 use Rattle.requests.proofs.answer_body.Goals as goal
 use Rattle.requests.proofs.answer_body.Goals.{After-early_refusal}
 
@@ -32,7 +32,8 @@ settled g c = c.early_refusal.ensures ∙ ap (early_refusal c.is_known.result) c
 
 pub answer_called-requires-clause-held : goal.answer_called-requires-clause-held
 answer_called-requires-clause-held g c =
-    (WritesPromptly-put g.met.W.TellWrite.trace_none c.args.body.stream c.in-Ok.ensures).puts.held c.requires.held
+    (PutsText-put g.met.W.TellWrite.trace_joins c.args.writer.now c.args.writer.now c.call_for_body.new.writer _ (Ok tt)
+    (PutsText-none g.met.W.TellWrite.trace_none c.args.writer.now) c.in-Ok.ensures).held c.requires.held
 
 pub answer_called-requires-clause-open : goal.answer_called-requires-clause-open
 answer_called-requires-clause-open g c =
@@ -49,31 +50,32 @@ text g c none =
 
 pub returns-in-Ok-clause-turns : goal.returns-in-Ok-clause-turns
 returns-in-Ok-clause-turns g c = λ s w begun writes.
-    let b = c.args.body in
-    let call = subst (λ l. SendsForRoom g.W.Tell.log g.W.TellWrite.trace c.args.writer.now l (Ok tt) c.call_for_body.new.writer)
-    (text g (goal.at.returns-in-Ok-clause-turns g c).After-early_refusal c.in-None.is) c.in-Ok.ensures in
-    c.answer_called.ensures.turns s w begun
-    (WritesPromptly-after g.met.W.TellWrite.trace_joins (_, w) (b.stream, c.args.writer.now)
-    (b.stream, c.call_for_body.new.writer) [] (call_at (Inside b)) (Ok tt) writes
-    (WritesPromptly-put g.met.W.TellWrite.trace_none b.stream call))
+    c.answer_called.ensures.turns s w begun (record {
+      went = Begun-went g.R.TellRead.remaining s c.args.body begun;
+      before = c.args.writer.now;
+      comes = writes;
+      call = subst (λ l. SendsForRoom g.W.Tell.log g.W.TellWrite.trace c.args.writer.now l (Ok tt) c.call_for_body.new.writer)
+          (text g (goal.at.returns-in-Ok-clause-turns g c).After-early_refusal c.in-None.is) c.in-Ok.ensures;
+    })
 
 pub returns-in-Err-clause-turns : goal.returns-in-Err-clause-turns
 returns-in-Err-clause-turns g c = λ s w begun writes.
     let b = c.args.body in
     let none = InsideGoes-none g.R.TellRead.remaining b in
-    let empty : none.takes.wire ≡ [] = nil_from_length none.takes.wire
-    (omega (arith, ap length none.taken, length-append b.taken none.takes.wire)) in
-    let call = subst (λ l. SendsForRoom g.W.Tell.log g.W.TellWrite.trace c.args.writer.now l (Err c.in-Err.e)
-    c.call_for_body.new.writer)
-    (text g (goal.at.returns-in-Err-clause-turns g c).After-early_refusal c.in-None.is ∙ sym (append-nil _)) c.in-Err.ensures in
-    let put = WritesPromptly-put g.met.W.TellWrite.trace_none b.stream call in
     RunsToLast-one g.met.W.TellWrite.trace_none (b.head ++ none.takes.wire) [] (Inside b) (is_part begun c.requires.limits none)
     (omega (arith, (begun_steady begun).ends)) [] None tt (Unsent c.in-Err.e) (
       part_went begun none,
-      WritesPromptly-after g.met.W.TellWrite.trace_joins (_, w) (b.stream, c.args.writer.now)
-          (b.stream, c.call_for_body.new.writer) [] (call_at (Inside b) ++ []) (Err c.in-Err.e) writes put,
-      FailsLast-of (IsSentLast (b.head ++ none.takes.wire) None (Inside b)) (Err c.in-Err.e) refl
-          (inr (append-nil _, ap (λ l. b.head ++ l) empty ∙ append-nil b.head)) writes.puts put.puts,
+      inl (
+        refl,
+        record {
+          went = Begun-went g.R.TellRead.remaining s b begun;
+          before = c.args.writer.now;
+          comes = writes;
+          call = subst (λ l. SendsForRoom g.W.Tell.log g.W.TellWrite.trace c.args.writer.now l (Err c.in-Err.e)
+              c.call_for_body.new.writer)
+              (text g (goal.at.returns-in-Err-clause-turns g c).After-early_refusal c.in-None.is) c.in-Err.ensures;
+        },
+      ),
     ) ((begun_steady begun).faults, inl (All-nil (MayFollow true)))
 
 pub returns-in-Some-clause-turns : goal.returns-in-Some-clause-turns
@@ -82,18 +84,25 @@ returns-in-Some-clause-turns g c = λ s w begun writes.
     let why = c.in-Some.why in
     let none = InsideGoes-none g.R.TellRead.remaining b in
     let is = sym (settled g (goal.at.returns-in-Some-clause-turns g c).After-early_refusal) ∙ c.in-Some.is in
-    let front : call_at (Inside b) ++ refusal why ≡ refusal why =
-    ap (λ x. called x ++ refusal why) (no_call (waits b.said) (is_known b.head) b.said.met why is) in
-    let says = WritesPromptly-parts b.stream c.refuse.ensures in
+    let front : called (is_called (is_known b.head) b.said) ≡ [] =
+    ap called (no_call (waits b.said) (is_known b.head) b.said.met why is) in
     subst (λ x. RunsToLast g.R.TellRead.remaining g.W.Tell.log g.W.TellWrite.trace (left_of s) w (Inside b) x c.refuse.new.writer)
     (sym c.ending_of-ending.ensures)
     (RunsToLast-refused g.met.W.TellWrite.trace_none (b.head ++ none.takes.wire) [] (Inside b)
     (is_part begun c.requires.limits none) (omega (arith, (begun_steady begun).ends)) why c.refuse.result (
       part_went begun none,
-      subst (λ l. WritesPromptly g.W.Tell.log g.W.TellWrite.trace (left_of s, w) l c.refuse.result
-          (b.stream, c.refuse.new.writer)) (sym front)
-          (WritesPromptly-after g.met.W.TellWrite.trace_joins (_, w) (b.stream, c.args.writer.now)
-          (b.stream, c.refuse.new.writer) [] (refusal why) c.refuse.result writes says),
-      FailsLast-of (IsSentLast (b.head ++ none.takes.wire) (Some why) (Inside b)) c.refuse.result front (inr refl) writes.puts
-          says.puts,
+      inr (
+        (b.stream, c.args.writer.now),
+        record {
+          went = Begun-went g.R.TellRead.remaining s b begun;
+          before = c.args.writer.now;
+          comes = writes;
+          call = inl (front, refl, refl);
+        },
+        (
+          c.args.writer.now,
+          WritesPromptly-none (AwaitsBody b.head b.said) g.met.W.TellWrite.trace_none (b.stream, c.args.writer.now),
+          c.refuse.ensures,
+        ),
+      ),
     ) (inr (inr (is, c.requires.first))) (begun_steady begun).faults)

@@ -24,8 +24,8 @@ returns-then-said-clause-turns g c = λ s w begun call.
         messages = (b.head, whole.1) ∷ [];
         each = (
           (left_of c.in-Ok.requests, c.answer_whole.new.writer),
-          one_answered g.met.W.TellWrite.trace_joins begun c.requires.limits whole c.said-said.ensures.value
-              (c.is_known-known.ensures ∙ ap is_known c.head.ensures) c.requires.open call c.in-Ok.ensures.writes
+          one_answered g.met.W.TellWrite.trace_none g.met.W.TellWrite.trace_joins c.requires.open begun c.requires.limits whole
+              c.said-said.ensures.value (c.is_known-known.ensures ∙ ap is_known c.head.ensures) call c.in-Ok.ensures.writes
               c.in-Ok-answer_whole.ensures,
           no_turn g.met.W.TellWrite.trace_none (left_of c.in-Ok.requests, c.answer_whole.new.writer),
         );
@@ -41,8 +41,8 @@ returns-else-said-clause-turns g c = λ s w begun call.
     let head = subst (λ l. IsHead l b.head b.said) c.requires.limits begun.is in
     let whole = c.in-Ok.ensures.whole in
     let reads = steadily (begun_steady begun) c.in-Ok.ensures.steady in
-    let one = one_answered g.met.W.TellWrite.trace_joins begun c.requires.limits whole c.said-said.ensures.value
-    (c.is_known-known.ensures ∙ ap is_known c.head.ensures) c.requires.open call c.in-Ok.ensures.writes
+    let one = one_answered g.met.W.TellWrite.trace_none g.met.W.TellWrite.trace_joins c.requires.open begun c.requires.limits
+    whole c.said-said.ensures.value (c.is_known-known.ensures ∙ ap is_known c.head.ensures) call c.in-Ok.ensures.writes
     c.in-Ok-answer_whole.ensures in
     RunsToLast-one g.met.W.TellWrite.trace_none [] [] (Before c.in-Ok.requests) (refl, refl) (omega (arith, reads.ends))
     ((b.head, c.in-Ok.ensures.whole.1) ∷ []) None tt Over (one, refl, refl) (
@@ -60,8 +60,8 @@ returns-in-Err-answer_whole-clause-turns g c = λ s w begun call.
     let b = c.args.body in
     let head = subst (λ l. IsHead l b.head b.said) c.requires.limits begun.is in
     let reads = steadily (begun_steady begun) c.in-Ok.ensures.steady in
-    let one = one_answered g.met.W.TellWrite.trace_joins begun c.requires.limits c.in-Ok.ensures.whole c.said-said.ensures.value
-    (c.is_known-known.ensures ∙ ap is_known c.head.ensures) c.requires.open call c.in-Ok.ensures.writes
+    let one = one_answered g.met.W.TellWrite.trace_none g.met.W.TellWrite.trace_joins c.requires.open begun c.requires.limits
+    c.in-Ok.ensures.whole c.said-said.ensures.value (c.is_known-known.ensures ∙ ap is_known c.head.ensures) call c.in-Ok.ensures.writes
     c.in-Err-answer_whole.ensures in
     RunsToLast-one g.met.W.TellWrite.trace_none [] [] (Before c.in-Ok.requests) (refl, refl) (omega (arith, reads.ends))
     ((b.head, c.in-Ok.ensures.whole.1) ∷ []) None tt (Unsent c.in-Err-answer_whole.e) (one, refl, refl)
@@ -70,6 +70,5 @@ returns-in-Err-answer_whole-clause-turns g c = λ s w begun call.
 pub returns-in-Err-clause-turns : goal.returns-in-Err-clause-turns
 returns-in-Err-clause-turns g c = λ s w begun call.
     let part = c.in-Err.ensures.part in
-    torn_answered g.met.W.TellWrite.trace_joins g.met.W.TellWrite.trace_none begun c.requires.limits part.1 call c.in-Err.why
-    c.unended-ending.result
-    part.2 c.in-Err.ensures.writes c.unended-ending.ensures
+    torn_answered g.met.W.TellWrite.trace_none g.met.W.TellWrite.trace_joins c.requires.open begun c.requires.limits part.1 call
+    c.in-Err.why c.unended-ending.result part.2 c.in-Err.ensures.writes c.unended-ending.ensures

@@ -1,10 +1,10 @@
 -- Where no head is settled what is held is sent first, so the stream is asked with nothing held.
-use Rattle.std.proofs.Common.{true, [], Ok, Err, None, sym, subst, inl, refl, arith}
-use Rattle.requests.proofs.Names.{All-nil, Before, IsSentLast, left_of, MayFollow, StreamWent-none, Unsent, WritesPromptly}
-use Rattle.requests.proofs.Answering.{FailsLast-of, RunsToLast-one}
+use Rattle.std.proofs.Common.{true, [], Ok, None, sym, subst, inl, inr, refl, arith}
+use Rattle.requests.proofs.Names.{All-nil, Before, heads, IsOpen, left_of, MayFollow, StreamWent-none, Unsent, usual, WritesPromptly}
+use Rattle.requests.proofs.Answering.{RunsToLast-one}
 use Rattle.requests.proofs.Coming.{comes, open_where, usually}
 use Rattle.requests.proofs.Reading.{begun_whole, none_met}
-use Rattle.requests.proofs.Sending.{PutsText-none, WritesPromptly-unsent}
+use Rattle.requests.proofs.Sending.{WritesPromptly-unsent}
 use Rattle.requests.proofs.answer_next.Goals as goal
 
 pub answer_body-requires-clause-held : goal.answer_body-requires-clause-held
@@ -22,8 +22,8 @@ returns-in-Ok-next-clause-turns g c =
     let came = comes g.met.W.TellWrite.trace_none c.args.requests c.args.writer.now
     c.send_to_ask.new.writer c.in-Ok.ensures _ begun.behind (usually c.requires.limits begun.next) in
     c.answer_body.ensures.turns c.args.requests c.args.writer.now begun
-    (subst (λ u. WritesPromptly g.W.Tell.log g.W.TellWrite.trace (left_of c.args.requests, c.args.writer.now) [] (Ok tt)
-    (u, c.send_to_ask.new.writer)) (sym begun.stream) came.writes)
+    (subst (λ u. WritesPromptly g.W.Tell.log g.W.TellWrite.trace (IsOpen (heads usual)) (left_of c.args.requests, c.args.writer.now)
+    (Ok tt) (u, c.send_to_ask.new.writer)) (sym begun.stream) came.writes)
 
 pub returns-in-Err-next-clause-turns : goal.returns-in-Err-next-clause-turns
 returns-in-Err-next-clause-turns g c =
@@ -35,12 +35,9 @@ returns-in-Err-next-clause-turns g c =
 pub returns-in-Err-clause-turns : goal.returns-in-Err-clause-turns
 returns-in-Err-clause-turns g c =
     let s = left_of c.args.requests in
-    let sent = WritesPromptly-unsent g.met.W.TellWrite.trace_none s c.args.writer.now c.send_to_ask.new.writer c.in-Err.e
-    c.in-Err.ensures (open_where c.args.requests) in
     RunsToLast-one g.met.W.TellWrite.trace_none [] [] (Before c.args.requests) (refl, refl) (omega arith) [] None tt
     (Unsent c.in-Err.e) (
       StreamWent-none g.R.TellRead.remaining s,
-      sent,
-      FailsLast-of (IsSentLast [] None (Before c.args.requests)) (Err c.in-Err.e) refl (inl refl)
-          (PutsText-none g.met.W.TellWrite.trace_none c.args.writer.now) sent.puts,
+      WritesPromptly-unsent (IsOpen (heads usual)) g.met.W.TellWrite.trace_none s c.args.writer.now c.send_to_ask.new.writer
+          c.in-Err.e c.in-Err.ensures (λ unsettled. inr (open_where c.args.requests unsettled)),
     ) (none_met refl, inl (All-nil (MayFollow true)))

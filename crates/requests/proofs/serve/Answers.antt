@@ -1,6 +1,6 @@
 -- What a turn answered joins what was answered before, and each turn counts a message or an interruption.
 use Rattle.std.proofs.Common.{[], ◌++◌, None, true, refl, sym, append-nil, arith, length-append}
-use Rattle.requests.proofs.Names.{All-append, All-nil, left_of, MayFollow, StreamWent-none}
+use Rattle.requests.proofs.Names.{All-append, All-nil, heads, IsOpen, left_of, MayFollow, StreamWent-none, usual}
 use Rattle.requests.specs.declared.Ending.TheVariants.{Many}
 use Rattle.requests.proofs.Answering.{no_turn}
 use Rattle.requests.proofs.Reading.{steadily, steady_none}
@@ -38,7 +38,7 @@ loop-message-preserved g c =
         reads = steadily a.reads b.reads;
       };
       turns = omega (arith, before.turns, c.in-Ok.ensures.turns.1, length-append a.messages b.messages);
-      held = wrote.5.puts.held before.held;
+      held = wrote.5.held before.held;
       limits = c.in-Ok.ensures.limits;
     }
 
@@ -76,8 +76,8 @@ returns g c =
           each = before.goes.each;
           turn = (
             StreamWent-none g.R.TellRead.remaining (left_of c.loop-message.next),
-            WritesPromptly-none g.met.W.TellWrite.trace_none (left_of c.loop-message.next, c.loop-message.writer),
-            tt,
+            WritesPromptly-none (IsOpen (heads usual)) g.met.W.TellWrite.trace_none
+                (left_of c.loop-message.next, c.loop-message.writer),
           );
         };
         once = omega (arith, before.goes.reads.ends);

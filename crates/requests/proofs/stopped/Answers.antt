@@ -1,10 +1,9 @@
 -- Where no head came nothing went: an interruption is counted and goes on, and all else ends the run.
-use Rattle.std.proofs.Common.{None, ◌∙◌, IsTrue, [], ◌∷◌, Some, true, false, ap, length, subst, sym, inl, inr, refl, arith, length-append}
-use Rattle.requests.proofs.Names.{All-nil, Before, faults_of, IsSentLast, left_of, MayFollow, MetEnd-once, never_cut, only_line_ends, OnlyInterrupts-none, OnlyInterrupts-one, Over, refusal_of, RunsToLast, Unread}
+use Rattle.std.proofs.Common.{None, ◌∙◌, IsTrue, [], ◌∷◌, true, ap, length, subst, sym, inl, inr, refl, arith, length-append}
+use Rattle.requests.proofs.Names.{All-nil, Before, faults_of, left_of, MayFollow, MetEnd-once, never_cut, only_line_ends, OnlyInterrupts-none, OnlyInterrupts-one, Over, refusal_of, RunsToLast, Unread}
 use Rattle.messages.specs.declared.requests.Stop.TheVariants.{Bad}
-use Rattle.requests.proofs.Answering.{FailsLast-of, RunsToLast-one, RunsToLast-refused}
+use Rattle.requests.proofs.Answering.{RunsToLast-one, RunsToLast-refused}
 use Rattle.requests.proofs.Reading.{failed_behind, none_met, nothing_went}
-use Rattle.requests.proofs.Sending.{WritesPromptly-after, WritesPromptly-parts}
 use Rattle.requests.proofs.stopped.Goals as goal
 
 pub returns-then-is_interrupt-clause-turns : goal.returns-then-is_interrupt-clause-turns
@@ -29,7 +28,7 @@ returns-in-Ended-clause-turns g c = λ s w told next comes.
     let ended = rw c.in-Ended.is at next in
     let met = MetEnd-once s c.args.requests told ended.answers.4 in
     RunsToLast-one g.met.W.TellWrite.trace_none [] [] (Before c.args.requests) (refl, refl) (omega (arith, met)) [] None tt Over
-    (nothing_went ended ended.answers.0, comes.writes, tt) (
+    (nothing_went ended ended.answers.0, comes.writes) (
       none_met ended.answers.2,
       inr (All-nil (MayFollow true), inr (omega (arith, met), subst (λ l. IsTrue (only_line_ends l)) (sym ended.answers.1) refl)),
     )
@@ -43,7 +42,7 @@ returns-then-is_blank_end-clause-turns g c = λ s w told next comes.
       | inr end ↦
           (let met = MetEnd-once s c.args.requests told end.3 in
           RunsToLast-one g.met.W.TellWrite.trace_none [] [] (Before c.args.requests) (refl, refl) (omega (arith, met)) [] None tt
-          Over (nothing_went cut cut.answers.0, comes.writes, tt) (
+          Over (nothing_went cut cut.answers.0, comes.writes) (
             none_met cut.answers.1,
             inr (
               All-nil (MayFollow true),
@@ -57,21 +56,13 @@ returns-in-Bad-clause-turns g c = λ s w told next comes.
     let bad = rw c.in-Bad.is at next in
     let sending = c.refuse.result in
     let why = c.refusal_of.result in
-    let v = c.args.writer.now in
-    let t = left_of c.args.requests in
-    let then = WritesPromptly-parts t c.refuse.ensures in
     subst (λ x. RunsToLast g.R.TellRead.remaining g.W.Tell.log g.W.TellWrite.trace (left_of s) w (Before c.args.requests) x
     c.refuse.new.writer) (sym c.ending_of-ending.ensures) (RunsToLast-refused g.met.W.TellWrite.trace_none [] []
     (Before c.args.requests) (refl, refl)
     (elim bad.answers.3 [
       | inl wrong ↦ omega (arith, wrong.1)
       | inr cut ↦ omega (arith, MetEnd-once s c.args.requests told cut.3)
-    ]) why sending (
-      nothing_went bad bad.answers.0,
-      WritesPromptly-after g.met.W.TellWrite.trace_joins (left_of s, w) (t, v) (t, c.refuse.new.writer) [] _ sending
-          comes.writes then,
-      FailsLast-of (IsSentLast [] (Some why) (Before c.args.requests)) sending refl (inr refl) comes.writes.puts then.puts,
-    )
+    ]) why sending (nothing_went bad bad.answers.0, (c.args.writer.now, comes.writes, c.refuse.ensures))
     (elim bad.answers.3 [
       | inl wrong ↦ inl (_, wrong.0, c.refusal_of.ensures)
       | inr cut ↦ inr (
@@ -89,7 +80,7 @@ returns-in-Io-clause-turns g c = λ s w told next comes.
     let fault = rw c.in-Io.is at next in
     let answers = fault.answers in
     RunsToLast-one g.met.W.TellWrite.trace_none [] [] (Before c.args.requests) (refl, refl) (omega (arith, answers.4)) [] None tt
-    (Unread c.in-Io.e) (nothing_went fault answers.0, comes.writes, tt) (
+    (Unread c.in-Io.e) (nothing_went fault answers.0, comes.writes) (
       (
         failed_behind _ _ _ c.in-Io.e (OnlyInterrupts-none (faults_of (left_of s))) answers.2,
         λ is. absurd (let odd = c.is_interrupt.ensures.no c.in-Io.e c.in-Io.is is in cc),

@@ -1,9 +1,9 @@
 -- The payload of each read joins what came before, which wasn't too large before the last read.
-use Rattle.std.proofs.Common.{◌≡◌, ◌∙◌, ℕ, zero, suc, ◌+◌, ◌<◌, ◌≤◌, ◌⊎◌, List, [], ◌++◌, length, take, Option, ap, arith, inl, inr, length-append, refl, subst, sym}
-use Rattle.requests.proofs.Names.{InBody, InsideGoes, InsideGoes-joins, InsideGoes-none, is_large, length-take-le, TurnsLarge}
-use Rattle.requests.proofs.Large.{fresh_behind, tested}
+use Rattle.std.proofs.Common.{◌≡◌, ◌∙◌, ℕ, zero, suc, ◌+◌, ◌<◌, ◌≤◌, ◌⊎◌, List, [], ◌++◌, length, take, Option, Ok, Result, false, ap, arith, inl, inr, length-append, refl, subst, sym}
+use Rattle.requests.proofs.Names.{BeginsRest, body_of, Buffered, Error, InBody, InsideGoes, InsideGoes-joins, InsideGoes-none, is_large, IsAwaited, length-take-le, sent_till, StdPolicy, StreamLog, TurnsLarge, Unbuffered, usual, WritesPromptly}
+use Rattle.requests.proofs.Large.{awaited, fresh_behind, tested}
 use Rattle.requests.proofs.Reading.{TakeFails-of, had_to_ask, steadily, steady_none}
-use Rattle.requests.proofs.Sending.{WritesPromptly-after, WritesPromptly-none}
+use Rattle.requests.proofs.Sending.{WritesPromptly-none, WritesPromptly-on}
 use Rattle.requests.proofs.taking.payload_len.Goals as goal
 
 -- one read more
@@ -22,6 +22,18 @@ latest_of : {latest : List ℕ} (count : ℕ) (out : List ℕ) → count ≤ len
 latest_of zero out bound few noted = inl refl
 latest_of (suc n) out bound few noted =
     inr (sym (noted (omega arith)), omega (arith, length-take-le (suc n) out bound, few))
+
+-- and it was asked for as more of the body is
+asks_on : {R W : Type 0} {remaining : R → Option (List ℕ)} {tells : W → StreamLog} {trace : W → W → Type 0}
+    (joins : (u v x : W) → trace u v → trace v x → trace u x) {b m : InBody R} {t : Unbuffered R} {payload : List ℕ}
+    {w u v : Buffered W StdPolicy} (sending : Result (Unit {0}) Error) → b.taken ≡ [] → b.rest ≡ body_of usual b.said.extent
+    → InsideGoes remaining b payload m → is_large b.said.extent (length m.taken) (length payload) ≡ false
+    → WritesPromptly tells trace (IsAwaited b.said.extent) (b.stream, w) (Ok tt) (m.stream, u)
+    → WritesPromptly tells trace (BeginsRest m.rest []) (m.stream, u) sending (t, v)
+    → WritesPromptly tells trace (IsAwaited b.said.extent) (b.stream, w) sending (t, v)
+asks_on joins {b} {m} {t} {payload} {w} {u} {v} sending first whole goes small =
+    WritesPromptly-on joins (BeginsRest m.rest []) (IsAwaited b.said.extent) (b.stream, w) (m.stream, u) (t, v) sending
+    goes.takes.went.order (λ more on. awaited payload first whole goes small (m.stream.left ++ more) on)
 
 pub returns-then-is_large-clause-goes : goal.returns-then-is_large-clause-goes
 returns-then-is_large-clause-goes g c =
@@ -47,7 +59,7 @@ loop-read-init g c =
       many = refl;
       steady = steady_none (refl, refl);
       turns = omega arith;
-      writes = WritesPromptly-none g.met.W.TellWrite.trace_none (b.stream, c.args.writer.now);
+      writes = WritesPromptly-none (IsAwaited b.said.extent) g.met.W.TellWrite.trace_none (b.stream, c.args.writer.now);
       held = c.requires.held;
       small = tested _ b.said.extent _ _ b.taken [] _ c.is_large.ensures (ap (λ x. x.extent) c.said-extent.ensures.value)
           c.taken.ensures refl ∙ c.if-is_large.false;
@@ -68,7 +80,8 @@ loop-read-preserved g c =
         | inl ended ↦ (let odd = c.is_done.ensures.ended.1 ended in absurd (cc))
         | inr some ↦ omega (arith, some, before.turns, before.many, more.1)
       ];
-      writes = WritesPromptly-after g.met.W.TellWrite.trace_joins _ _ _ [] [] _ before.writes read.writes;
+      writes = asks_on g.met.W.TellWrite.trace_joins (Ok tt) c.requires.first c.requires.rest before.goes before.small
+          before.writes read.writes;
       held = read.writes.puts.held before.held;
       small = tested _ c.args.body.now.said.extent _ _ c.read_on.new.body.taken all _ c.is_large-in-loop-read.ensures
           (ap (λ x. x.extent) c.said-extent.ensures.value) c.taken-in-loop-read.ensures more.1 ∙ c.if-is_large-2.false;
@@ -99,7 +112,9 @@ returns-then-is_large-2-clause-goes g c =
 
 pub returns-then-is_large-2-clause-writes : goal.returns-then-is_large-2-clause-writes
 returns-then-is_large-2-clause-writes g c =
-    WritesPromptly-after g.met.W.TellWrite.trace_joins _ _ _ [] [] _ c.loop-read.invariant.writes c.in-Ok.ensures.writes
+    let before = c.loop-read.invariant in
+    asks_on g.met.W.TellWrite.trace_joins (Ok tt) c.requires.first c.requires.rest before.goes before.small before.writes
+    c.in-Ok.ensures.writes
 
 pub returns-then-is_done-clause-goes : goal.returns-then-is_done-clause-goes
 returns-then-is_done-clause-goes g c =
@@ -124,7 +139,9 @@ returns-then-is_done-clause-steady g c = steadily c.loop-read.invariant.steady c
 
 pub returns-then-is_done-clause-writes : goal.returns-then-is_done-clause-writes
 returns-then-is_done-clause-writes g c =
-    WritesPromptly-after g.met.W.TellWrite.trace_joins _ _ _ [] [] _ c.loop-read.invariant.writes c.in-Ok.ensures.writes
+    let before = c.loop-read.invariant in
+    asks_on g.met.W.TellWrite.trace_joins (Ok tt) c.requires.first c.requires.rest before.goes before.small before.writes
+    c.in-Ok.ensures.writes
 
 pub returns-in-Err-clause-goes : goal.returns-in-Err-clause-goes
 returns-in-Err-clause-goes g c =
@@ -138,4 +155,6 @@ returns-in-Err-clause-goes g c =
 
 pub returns-in-Err-clause-writes : goal.returns-in-Err-clause-writes
 returns-in-Err-clause-writes g c =
-    WritesPromptly-after g.met.W.TellWrite.trace_joins _ _ _ [] [] _ c.loop-read.invariant.writes c.in-Err.ensures.writes
+    let before = c.loop-read.invariant in
+    asks_on g.met.W.TellWrite.trace_joins (sent_till c.in-Err.e) c.requires.first c.requires.rest before.goes before.small
+    before.writes c.in-Err.ensures.writes

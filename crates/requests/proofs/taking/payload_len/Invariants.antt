@@ -1,5 +1,5 @@
-use Rattle.std.proofs.Common.{◌≡◌, ℕ, ◌+◌, ◌≤◌, false, List, [], length, Ok}
-use Rattle.requests.proofs.Names.{faults_of, InsideGoes, is_large, IsHeld, ReadsSteadily, WritesPromptly}
+use Rattle.std.proofs.Common.{◌≡◌, ℕ, ◌+◌, ◌≤◌, false, List, length, Ok}
+use Rattle.requests.proofs.Names.{faults_of, InsideGoes, is_large, IsAwaited, IsHeld, ReadsSteadily, WritesPromptly}
 use Rattle.requests.proofs.taking.payload_len.Given as goal
 
 -- this payload was read, which isn't too large, and each turn read some of it, or was interrupted
@@ -10,8 +10,8 @@ invariant-loop-read g l = record {
   many : l.len ≡ length payload;
   steady : ReadsSteadily l.initial.body.stream l.body.stream;
   turns : l._read + length (faults_of l.initial.body.stream) ≤ length payload + length (faults_of l.body.stream);
-  writes : WritesPromptly g.W.Tell.log g.W.TellWrite.trace (l.initial.body.stream, l.initial.writer) [] (Ok tt)
-      (l.body.stream, l.writer);
+  writes : WritesPromptly g.W.Tell.log g.W.TellWrite.trace (IsAwaited l.initial.body.said.extent)
+      (l.initial.body.stream, l.initial.writer) (Ok tt) (l.body.stream, l.writer);
   held : IsHeld l.writer;
   small : is_large l.initial.body.said.extent (length l.body.taken) (length payload) ≡ false;
 }

@@ -1,8 +1,8 @@
 -- Where no more of the body comes it has ended, so to finish it the stream is asked for nothing.
-use Rattle.std.proofs.Common.{[], ◌++◌, Ok}
-use Rattle.requests.proofs.Names.{InsideGoes-joins, left_of}
+use Rattle.std.proofs.Common.{◌++◌}
+use Rattle.requests.proofs.Names.{InsideGoes-joins, IsAwaited, left_of}
 use Rattle.requests.proofs.Reading.{TakeFails-behind, unasked, unasked_log, unfinished_sent, whole_taken}
-use Rattle.requests.proofs.Sending.{WritesPromptly-after, WritesPromptly-read}
+use Rattle.requests.proofs.Sending.{WritesPromptly-then}
 use Rattle.requests.proofs.taking.take_whole.Goals as goal
 
 pub returns-in-Ok-finish-clause-whole : goal.returns-in-Ok-finish-clause-whole
@@ -15,11 +15,8 @@ pub returns-in-Ok-finish-clause-writes : goal.returns-in-Ok-finish-clause-writes
 returns-in-Ok-finish-clause-writes g c =
     let m = c.payload_len.new.body in
     let t = left_of c.in-Ok-finish.requests in
-    let v = c.payload_len.new.writer in
-    WritesPromptly-after g.met.W.TellWrite.trace_joins (c.args.body.stream, c.args.writer.now) (m.stream, v) (t, v) [] [] (Ok tt)
-    c.in-Ok.ensures.writes (WritesPromptly-read g.met.W.TellWrite.trace_none v
-    c.in-Ok-finish.ensures.ends.went.order
-    (unasked_log m.stream t m.rest c.in-Ok.ensures.ended c.in-Ok-finish.ensures.asked))
+    WritesPromptly-then (IsAwaited c.args.body.said.extent) c.in-Ok.ensures.writes c.in-Ok-finish.ensures.ends.went.order
+    (unasked_log m.stream t m.rest c.in-Ok.ensures.ended c.in-Ok-finish.ensures.asked)
 
 pub returns-in-Err-finish-clause-part : goal.returns-in-Err-finish-clause-part
 returns-in-Err-finish-clause-part g c =
@@ -37,10 +34,7 @@ pub returns-in-Err-finish-clause-writes : goal.returns-in-Err-finish-clause-writ
 returns-in-Err-finish-clause-writes g c =
     let m = c.payload_len.new.body in
     let t = c.in-Err-finish.body in
-    let v = c.payload_len.new.writer in
     rw (c.unfinished.ensures, unfinished_sent c.in-Err-finish.e)
-    (WritesPromptly-after g.met.W.TellWrite.trace_joins (c.args.body.stream, c.args.writer.now) (m.stream, v) (t.stream, v) [] []
-    (Ok tt)
-    c.in-Ok.ensures.writes (WritesPromptly-read g.met.W.TellWrite.trace_none v
+    (WritesPromptly-then (IsAwaited c.args.body.said.extent) c.in-Ok.ensures.writes
     c.in-Err-finish.ensures.ends.1.takes.went.order
-    (unasked_log m.stream t.stream m.rest c.in-Ok.ensures.ended c.in-Err-finish.ensures.asked)))
+    (unasked_log m.stream t.stream m.rest c.in-Ok.ensures.ended c.in-Err-finish.ensures.asked))
